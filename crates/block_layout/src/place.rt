@@ -1,0 +1,46 @@
+//! Objects, pointers and locations.
+
+/// A shared object. Sizes are in bytes; block 0 is indefinite; number 0 is null.
+#[derive(Clone, Copy, PartialEq, Eq, Debug)]
+pub struct ObjectRef {
+    pub number: u32,
+    pub total: u32,
+    pub block: u32,
+    pub home: u32,
+    /// The number, in the program's list of shapes, of the shape of one leaf element.
+    pub shape: u32,
+    /// The sum of the sizes of all objects with lower numbers.
+    pub base: u32,
+}
+
+/// A pointer-to-shared. Null has zeros throughout.
+#[derive(Clone, Copy, PartialEq, Eq, Debug)]
+pub struct SharedPtr {
+    pub object: ObjectRef,
+    pub thread: u32,
+    pub phase: u32,
+    pub offset: i64,
+}
+
+/// A pointer-to-local.
+#[derive(Clone, Copy, PartialEq, Eq, Debug)]
+pub enum LocalPtr {
+    Null,
+    Private {
+        object: u64,
+        offset: i64,
+    },
+    Shared {
+        object: ObjectRef,
+        thread: u32,
+        offset: i64,
+    },
+}
+
+/// A location of the shared memory: a byte offset in the piece of an object that lies on a thread.
+#[derive(Clone, Copy, PartialEq, Eq, Debug)]
+pub struct Loc {
+    pub object: u32,
+    pub thread: u32,
+    pub offset: u32,
+}

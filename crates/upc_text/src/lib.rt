@@ -1,0 +1,8 @@
+//! Places in a source, refusals, and the outside: what is read, what is written, and how each may fail.
+#![tactic(auto)]
+
+mod place;
+mod text;
+
+pub use place::{Code, Place, Refusal};
+pub use text::Text;
