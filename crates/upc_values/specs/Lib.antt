@@ -1,0 +1,9 @@
+pub mod Lists
+pub mod Scalars
+pub mod Records
+pub mod Outcomes
+pub mod Drain
+pub mod Legal
+pub mod Strands
+pub mod Ends
+pub mod Sound

@@ -1,0 +1,40 @@
+-- When locations and scalars are the same, and the value that a cell begins with.
+use Rattle.std.specs.Prelude.{ℤ, pos, negsuc, ◌≤ℤ◌, ◌==◌, Bool, true, false, ◌&&◌}
+use Rattle.std.specs.Ordering.{int_eq}
+use Rattle.block_layout.specs.declared.place.Loc.{Loc}
+use Rattle.block_layout.specs.declared.place.ObjectRef.{ObjectRef}
+use Rattle.block_layout.specs.declared.place.SharedPtr.{SharedPtr}
+use Rattle.upc_values.specs.declared.scalar.Scalar.{Scalar}
+use Rattle.upc_values.specs.declared.scalar.Scalar.TheVariants.{Int, Shared, Lock}
+
+-- one location
+abbrev pub same_loc : Loc → Loc → Bool
+same_loc l k = (l.object == k.object) && ((l.thread == k.thread) && (l.offset == k.offset))
+
+-- one object, field by field
+abbrev pub same_object : ObjectRef → ObjectRef → Bool
+same_object a b =
+    (a.number == b.number)
+    && ((a.total == b.total)
+        && ((a.block == b.block) && ((a.home == b.home) && ((a.shape == b.shape) && (a.base == b.base)))))
+
+-- one pointer-to-shared, field by field
+abbrev pub same_pointer : SharedPtr → SharedPtr → Bool
+same_pointer p q =
+    same_object p.object q.object
+    && ((p.thread == q.thread) && ((p.phase == q.phase) && int_eq p.offset q.offset))
+
+-- one scalar
+abbrev pub same_scalar : Scalar → Scalar → Bool
+same_scalar (Int a) (Int b) = int_eq a b
+same_scalar (Shared p) (Shared q) = same_pointer p q
+same_scalar (Lock a) (Lock b) = a == b
+same_scalar v w = false
+
+-- an int is from -2^31 to 2^31 - 1
+abbrev pub IsInt : ℤ → Type 0
+IsInt v = (negsuc 2147483647 ≤ℤ v) × (v ≤ℤ pos 2147483647)
+
+-- an object without an initialiser begins with 0 (C99 6.7.8)
+abbrev pub zero : Scalar
+zero = Int (pos 0)

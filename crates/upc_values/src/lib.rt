@@ -1,0 +1,17 @@
+//! What threads do and what the memory answers: scalars, actions and replies, records, histories and journals.
+#![tactic(auto)]
+
+mod action;
+mod journal;
+mod listing;
+mod order;
+mod record;
+mod scalar;
+
+pub use action::{Action, Actions, Reply};
+pub use block_layout::{Kind, Loc, LocalPtr, ObjectRef, Shape, SharedPtr};
+pub use journal::{Entries, Entry, Journal, Strand, Strands};
+pub use listing::Listing;
+pub use order::{Op, Order, OrderList, Orders};
+pub use record::{End, Item, Items, ToldEnd};
+pub use scalar::{Args, Mark, Scalar, Value};
