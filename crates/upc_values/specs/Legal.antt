@@ -11,7 +11,7 @@ use Rattle.upc_values.specs.declared.action.Reply.{Reply}
 use Rattle.upc_values.specs.declared.action.Reply.TheVariants.{Done, Value}
 use Rattle.upc_values.specs.declared.journal.Entry.{Entry}
 use Rattle.upc_values.specs.Lists.{Each}
-use Rattle.upc_values.specs.Scalars.{same_loc, zero, IsInt}
+use Rattle.upc_values.specs.Scalars.{same_loc, zero, is_int}
 use Rattle.upc_values.specs.Drain.{last_written, entries_of}
 
 -- what a run begins with: the number of threads, and the shared cells, each of type int and 0
@@ -71,9 +71,9 @@ has_cell l [] = false
 has_cell l (k ∷ ks) = cond (same_loc k l) true (has_cell l ks)
 
 -- the value is an int
-abbrev pub IsIntValue : Scalar → Type 0
-IsIntValue (Int v) = IsInt v
-IsIntValue v = ⊥
+abbrev pub is_int_value : Scalar → Bool
+is_int_value (Int v) = is_int v
+is_int_value v = false
 
 -- the mark carries no value
 abbrev pub IsPlain : Mark → Type 0
@@ -83,7 +83,7 @@ IsPlain m = Unit {0}
 -- the action may be asked for: a location is a cell, and a value fits it
 abbrev pub IsWellFormed : Opening → List Entry → Action → Type 0
 IsWellFormed o before (Read l s) = has_cell l o.cells ≡ true
-IsWellFormed o before (Write l v s) = (has_cell l o.cells ≡ true) × IsIntValue v
+IsWellFormed o before (Write l v s) = (has_cell l o.cells ≡ true) × (is_int_value v ≡ true)
 IsWellFormed o before Fence = Unit {0}
 IsWellFormed o before Beat = Unit {0}
 IsWellFormed o before (Notify m) = IsPlain m

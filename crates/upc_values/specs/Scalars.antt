@@ -1,5 +1,5 @@
 -- When locations and scalars are the same, and the value that a cell begins with.
-use Rattle.std.specs.Prelude.{ℤ, pos, negsuc, ◌≤ℤ◌, ◌==◌, Bool, true, false, ◌&&◌}
+use Rattle.std.specs.Prelude.{ℤ, pos, negsuc, int_le, ◌==◌, Bool, false, ◌&&◌}
 use Rattle.std.specs.Ordering.{int_eq}
 use Rattle.block_layout.specs.declared.place.Loc.{Loc}
 use Rattle.block_layout.specs.declared.place.ObjectRef.{ObjectRef}
@@ -32,8 +32,8 @@ same_scalar (Lock a) (Lock b) = a == b
 same_scalar v w = false
 
 -- an int is from -2^31 to 2^31 - 1
-abbrev pub IsInt : ℤ → Type 0
-IsInt v = (negsuc 2147483647 ≤ℤ v) × (v ≤ℤ pos 2147483647)
+abbrev pub is_int : ℤ → Bool
+is_int v = int_le (negsuc 2147483647) v && int_le v (pos 2147483647)
 
 -- an object without an initialiser begins with 0 (C99 6.7.8)
 abbrev pub zero : Scalar

@@ -2,6 +2,7 @@
 #![tactic(auto)]
 
 mod action;
+mod copy;
 mod journal;
 mod listing;
 mod order;
@@ -9,6 +10,7 @@ mod record;
 mod scalar;
 
 pub use action::{Action, Actions, Reply};
+pub use copy::{copy_action, copy_scalar};
 pub use block_layout::{Kind, Loc, LocalPtr, ObjectRef, Shape, SharedPtr};
 pub use journal::{Entries, Entry, Journal, Strand, Strands};
 pub use listing::Listing;
