@@ -5,4 +5,5 @@ mod place;
 mod text;
 
 pub use place::{Code, Place, Refusal};
+pub use std::alloc::AllocError as OutOfMemory;
 pub use text::Text;
