@@ -12,7 +12,7 @@ use Rattle.upc_values.specs.declared.action.Reply.TheVariants.{Done, Value}
 use Rattle.upc_values.specs.declared.journal.Entry.{Entry}
 use Rattle.upc_values.specs.Lists.{Each}
 use Rattle.upc_values.specs.Scalars.{same_loc, zero, is_int}
-use Rattle.upc_values.specs.Drain.{last_written, entries_of}
+use Rattle.upc_values.specs.Drain.{last_written}
 
 -- what a run begins with: the number of threads, and the shared cells, each of type int and 0
 pub record Opening : Type 0 where

@@ -16,7 +16,7 @@ abbrev pub same_object : ObjectRef → ObjectRef → Bool
 same_object a b =
     (a.number == b.number)
     && ((a.total == b.total)
-        && ((a.block == b.block) && ((a.home == b.home) && ((a.shape == b.shape) && (a.base == b.base)))))
+    && ((a.block == b.block) && ((a.home == b.home) && ((a.shape == b.shape) && (a.base == b.base)))))
 
 -- one pointer-to-shared, field by field
 abbrev pub same_pointer : SharedPtr → SharedPtr → Bool

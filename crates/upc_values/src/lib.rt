@@ -10,8 +10,8 @@ mod record;
 mod scalar;
 
 pub use action::{Action, Actions, Reply};
-pub use copy::{copy_action, copy_scalar};
 pub use block_layout::{Kind, Loc, LocalPtr, ObjectRef, Shape, SharedPtr};
+pub use copy::{copy_action, copy_scalar};
 pub use journal::{Entries, Entry, Journal, Strand, Strands};
 pub use listing::Listing;
 pub use order::{Op, Order, OrderList, Orders};
