@@ -1,0 +1,1 @@
+int main(){while (MYTHREAD) {upc_barrier;} return 0;}

@@ -1,0 +1,1 @@
+strict shared int x; int main(){x = 2147483647 + 1; return 0;}

@@ -1,0 +1,7 @@
+strict shared int x;
+int main() {
+  x = THREADS;
+  upc_barrier;
+  printf("%d\n", x);
+  return 0;
+}
