@@ -3,7 +3,8 @@ use Rattle.std.specs.Prelude.{ℕ, ◌+◌, ◌-◌, ◌^◌, min, List, Option,
 use Rattle.std.specs.Option.{option_map}
 use Rattle.std.specs.Str.{bytes_eq}
 
--- Sources in memory: the files with their names, the numbers of the calls that fail, the most bytes of a call, and the counts of calls and of faults.
+-- Sources in memory: the files with their names, the numbers of the calls that fail, the most bytes of a call, and
+-- the counts of calls and of faults.
 pub record Files : Type 0 where
   pub held : List (List ℕ × List ℕ)
   pub fails : List ℕ
@@ -11,7 +12,8 @@ pub record Files : Type 0 where
   pub calls : ℕ
   pub faults : ℕ
 
--- A sink in memory: the bytes taken, the numbers of the calls that fail, the most bytes of a call, and the counts of calls and of faults.
+-- A sink in memory: the bytes taken, the numbers of the calls that fail, the most bytes of a call, and the counts
+-- of calls and of faults.
 pub record Output : Type 0 where
   pub bytes : List ℕ
   pub fails : List ℕ

@@ -1,7 +1,8 @@
 -- What the outside tells of itself: the bytes of its names, the bytes that it took, and its counts of faults.
 use Rattle.std.specs.Prelude.{◌≡◌, ℕ, ◌-◌, ◌^◌, ◌<◌, ◌≤◌, ◌⊎◌, Option, None, Some, IfSome, List, ◌++◌, length, take, drop}
 
--- A count rose in a call: it is greater after the call than before, or stands after it at the last value of 64 bits, where it stays.
+-- A count rose in a call: it is greater after the call than before, or stands after it at the last value of 64 bits,
+-- where it stays.
 abbrev pub Rose : ℕ → ℕ → Type 0
 Rose before after = (before < after) ⊎ (after ≡ 2 ^ 64 - 1)
 

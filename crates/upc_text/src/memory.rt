@@ -1,7 +1,7 @@
 //! Sources and sinks in memory, whose calls fail where it was said.
-ghost use Rattle.std.specs.Prelude.{◌≡◌, ◌<◌, ◌≤◌, ◌↔◌, ◌⊎◌, ◌-◌, ℕ, List, [], ◌∷◌, ◌++◌, length, take, drop, min, Some, Contains, IfOk, OnOk, OnErr, IsErr, IsNone, IfSome};
+ghost use Rattle.std.specs.Prelude.{◌≡◌, ◌<◌, ◌≤◌, ◌↔◌, ◌⊎◌, [], ◌∷◌, ◌++◌, length, take, drop, min, Some, Contains, IfOk, OnOk, OnErr, IsErr, IsNone, IfSome};
 ghost use Rattle.std.specs.Option.{option_copied};
-ghost use Rattle.upc_text.specs.Outside.{Rose, StandsAt, EndsBy, taken_with};
+ghost use Rattle.upc_text.specs.Outside.{StandsAt, EndsBy};
 ghost use Rattle.upc_text.specs.Memory.{held_under, one_more, given};
 
 use crate::{Failed, OutOfMemory, Sink, Sources, Text};
@@ -65,7 +65,12 @@ impl Model for MemFiles {
 
     ghost Value = { Files };
 
-    ghost view = { λ s. record { held = s.files.items; fails = s.failing.items; most = s.at_most; calls = s.count; faults = s.fault_count } };
+    ghost view = { λ s. record {
+        held = s.files.items;
+        fails = s.failing.items;
+        most = s.at_most;
+        calls = s.count;
+        faults = s.fault_count } };
 
     ghost invariant = { λ s. 0 < s.at_most };
 }
@@ -75,7 +80,8 @@ impl MemFiles {
     /// gives more than `most` bytes.
     pub fn make(alloc: Global, fails: &[u64], most: usize) -> Result<MemFiles, OutOfMemory>
         requires { 0 < most }
-        ensures { IfOk result (λ files. files ≡ record { held = []; fails = fails.now; most = most; calls = 0; faults = 0 }) }
+        ensures { IfOk result (λ files. files ≡ record {
+            held = []; fails = fails.now; most = most; calls = 0; faults = 0 }) }
     {
         Ok(MemFiles {
             files: Vec::new(alloc),
@@ -89,7 +95,8 @@ impl MemFiles {
     /// Adds a file. The name was not added before. After want of memory nothing is added.
     pub fn add(&mut self, name: &str, bytes: &[u8]) -> Result<(), OutOfMemory>
         requires { IsNone (held_under self.old.held name.now) }
-        ensures ok { OnOk result (self.new ≡ record self.old { held = self.old.held ++ (name.now, bytes.now) ∷ [] }) }
+        ensures ok { OnOk result (self.new ≡ record self.old {
+            held = self.old.held ++ (name.now, bytes.now) ∷ [] }) }
         ensures err { OnErr result (self.new ≡ self.old) }
         ensures told { OnOk result (held_under self.new.held name.now ≡ Some bytes.now) }
     {
@@ -108,10 +115,14 @@ impl Sources for MemFiles {
         ensures placed { IfOk result (λ n. StandsAt (held_under self.old.held name.now) at (take n buf.new)) }
         ensures end { IfOk result (λ n. n ≡ 0 → EndsBy (held_under self.old.held name.now) at) }
         ensures counts { self.old.faults ≤ self.new.faults }
-        ensures fails { IsErr result ↔ (Contains self.old.fails (one_more self.old.calls) ⊎ IsNone (held_under self.old.held name.now)) }
-        ensures given { IfOk result (λ n. IfSome (held_under self.old.held name.now) (λ bytes. n ≡ given bytes at (length buf.old) self.old.most)) }
+        ensures fails { IsErr result ↔ (Contains self.old.fails (one_more self.old.calls)
+            ⊎ IsNone (held_under self.old.held name.now)) }
+        ensures given { IfOk result (λ n. IfSome (held_under self.old.held name.now)
+            (λ bytes. n ≡ given bytes at (length buf.old) self.old.most)) }
         ensures ok { OnOk result (self.new ≡ record self.old { calls = one_more self.old.calls }) }
-        ensures err { OnErr result (self.new ≡ record self.old { calls = one_more self.old.calls; faults = one_more self.old.faults }) }
+        ensures err { OnErr result (self.new ≡ record self.old {
+            calls = one_more self.old.calls;
+            faults = one_more self.old.faults }) }
     {
         self.count = self.count.saturating_add(1);
         match held_under(self.files.as_slice(), name) {
@@ -142,7 +153,12 @@ impl Model for MemSink {
 
     ghost Value = { Output };
 
-    ghost view = { λ s. record { bytes = s.kept.items; fails = s.failing.items; most = s.at_most; calls = s.count; faults = s.fault_count } };
+    ghost view = { λ s. record {
+        bytes = s.kept.items;
+        fails = s.failing.items;
+        most = s.at_most;
+        calls = s.count;
+        faults = s.fault_count } };
 
     ghost invariant = { λ s. 0 < s.at_most };
 }
@@ -152,7 +168,8 @@ impl MemSink {
     /// takes more than `most` bytes. A call that finds no memory fails too.
     pub fn make(alloc: Global, fails: &[u64], most: usize) -> Result<MemSink, OutOfMemory>
         requires { 0 < most }
-        ensures { IfOk result (λ sink. sink ≡ record { bytes = []; fails = fails.now; most = most; calls = 0; faults = 0 }) }
+        ensures { IfOk result (λ sink. sink ≡ record {
+            bytes = []; fails = fails.now; most = most; calls = 0; faults = 0 }) }
     {
         Ok(MemSink {
             kept: Vec::new(alloc),
@@ -182,8 +199,12 @@ impl Sink for MemSink {
         ensures counts { self.old.faults ≤ self.new.faults }
         ensures fails { Contains self.old.fails (one_more self.old.calls) → IsErr result }
         ensures given { IfOk result (λ n. n ≡ min (length piece.now) self.old.most) }
-        ensures ok { IfOk result (λ n. self.new ≡ record self.old { bytes = self.old.bytes ++ take n piece.now; calls = one_more self.old.calls }) }
-        ensures err { OnErr result (self.new ≡ record self.old { calls = one_more self.old.calls; faults = one_more self.old.faults }) }
+        ensures ok { IfOk result (λ n. self.new ≡ record self.old {
+            bytes = self.old.bytes ++ take n piece.now;
+            calls = one_more self.old.calls }) }
+        ensures err { OnErr result (self.new ≡ record self.old {
+            calls = one_more self.old.calls;
+            faults = one_more self.old.faults }) }
     {
         self.count = self.count.saturating_add(1);
         let count = piece.len().min(self.at_most);

@@ -1,6 +1,6 @@
 //! Sources and a sink that never fail.
-ghost use Rattle.std.specs.Prelude.{◌≡◌, ◌<◌, ◌≤◌, ℕ, List, [], ◌∷◌, ◌++◌, length, take, Some, None, Ok, unwrap_or, IfOk, OnOk, OnErr, IsOk, IsNone, IsOkAnd};
-ghost use Rattle.upc_text.specs.Outside.{Rose, StandsAt, EndsBy, taken_with};
+ghost use Rattle.std.specs.Prelude.{◌≡◌, ◌<◌, ◌≤◌, ℕ, List, [], ◌∷◌, ◌++◌, length, take, Some, None, Ok, unwrap_or, IfOk, OnOk, OnErr, IsNone, IsOkAnd};
+ghost use Rattle.upc_text.specs.Outside.{StandsAt};
 ghost use Rattle.upc_text.specs.Memory.{held_under, given};
 
 use crate::memory::{copy_from, held_under, push_file};
@@ -50,8 +50,10 @@ impl Sources for SureFiles {
 
     fn read_at(&mut self, name: &str, at: u64, buf: &mut [u8]) -> Result<usize, Failed>
         ensures bound { IfOk result (λ n. n ≤ length buf.new) }
-        ensures placed { IfOk result (λ n. StandsAt (Some (unwrap_or (held_under self.old name.now) [])) at (take n buf.new)) }
-        ensures given { result ≡ Ok (given (unwrap_or (held_under self.old name.now) []) at (length buf.old) (length buf.old)) }
+        ensures placed { IfOk result (λ n.
+            StandsAt (Some (unwrap_or (held_under self.old name.now) [])) at (take n buf.new)) }
+        ensures given { let bytes = unwrap_or (held_under self.old name.now) [] in
+            result ≡ Ok (given bytes at (length buf.old) (length buf.old)) }
         ensures held { self.new ≡ self.old }
     {
         let bytes = held_under(self.files.as_slice(), name).unwrap_or(&[]);

@@ -18,12 +18,15 @@ fn room_for(alloc: Global, count: usize) -> Result<Vec<u8>, OutOfMemory>
     vec![in alloc; 0; count]
 }
 
-/// All bytes of the name, up to the end of the input.
+/// All bytes of the name, up to the end of the input. `TooLong` comes exactly where there are more than
+/// `SOURCE_LIMIT` of them, unless a read fails or memory runs out first.
 pub fn read_all<S: Sources>(alloc: Global, files: &mut S, name: &str) -> Result<Vec<u8>, ReadEnd>
     ensures whole { IfOk result (λ bytes. IsWhole (S.bytes_of files.old name.now) bytes.items) }
     ensures limit { IfOk result (λ bytes. length bytes.items ≤ SOURCE_LIMIT) }
-    ensures too_long { IsErrOf result ReadEnd.TooLong → IsLonger (S.bytes_of files.old name.now) SOURCE_LIMIT }
-    ensures fault { IsErrOf result ReadEnd.ReadFault → Rose (S.faults files.old name.now) (S.faults files.new name.now) }
+    ensures too_long { IsErrOf result ReadEnd.TooLong
+        → IsLonger (S.bytes_of files.old name.now) SOURCE_LIMIT }
+    ensures fault { IsErrOf result ReadEnd.ReadFault
+        → Rose (S.faults files.old name.now) (S.faults files.new name.now) }
     ensures counts { (other : List ℕ) → S.faults files.old other ≤ S.faults files.new other }
     ensures same { (other : List ℕ) → S.bytes_of files.new other ≡ S.bytes_of files.old other }
 {
@@ -40,7 +43,8 @@ pub fn read_all<S: Sources>(alloc: Global, files: &mut S, name: &str) -> Result<
     Err(ReadEnd::TooLong)
 }
 
-/// Appends all bytes to the sink. After `Failed` it has taken the first of them, as far as it came. It takes no memory.
+/// Appends all bytes to the sink. After `Failed` it has taken the first of them, as far as it came. It takes no
+/// memory.
 pub fn put_all<O: Sink>(sink: &mut O, bytes: &[u8]) -> Result<(), Failed>
     ensures ok { OnOk result (O.taken sink.new ≡ taken_with (O.taken sink.old) bytes.now) }
     ensures prefix { OnErr result (TookPrefix (O.taken sink.old) (O.taken sink.new) bytes.now) }
