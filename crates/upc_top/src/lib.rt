@@ -5,6 +5,8 @@ mod deliver;
 mod done;
 mod judge;
 mod status;
+#[cfg(test)]
+mod tests;
 mod text;
 mod top;
 mod verdict;
