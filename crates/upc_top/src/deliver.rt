@@ -1,0 +1,123 @@
+//! How a verdict is written.
+
+ghost use Rattle.std.specs.Prelude.{◌≡◌, ◌<◌, ◌^◌, None, IfOk, IfSome, length};
+ghost use Rattle.upc_top.specs.Verdicts;
+ghost use Rattle.upc_top.specs.Verdicts.{text_of, line_of, refusal_of, journal_of, without_memory};
+ghost use Rattle.upc_top.specs.Delivery.{Delivered, Delivers};
+
+use crate::done::Done;
+use crate::status::status_of;
+use crate::text::{output_text, refusal_text, run_text};
+use crate::verdict::Verdict;
+use std::alloc::{AllocError, Global};
+use upc_text::{Sink, put_all};
+
+fn text_for(alloc: Global, verdict: &Verdict) -> Result<Vec<u8>, AllocError>
+    ensures { IfOk result (λ text. text.items ≡ text_of verdict.now) }
+{
+    match verdict {
+        Verdict::Ran(journal) => output_text(alloc, journal.history.as_slice()),
+        _ => Ok(Vec::new(alloc)),
+    }
+}
+
+fn line_for(alloc: Global, verdict: &Verdict) -> Result<Vec<u8>, AllocError>
+    requires { IfSome (journal_of verdict.now) (λ j. length j.strands < 2 ^ 32) }
+    ensures { IfOk result (λ line. line.items ≡ line_of verdict.now) }
+{
+    match verdict {
+        Verdict::Usage => Vec::from_slice(alloc, b"upc: usage\n"),
+        Verdict::ReadFault => Vec::from_slice(alloc, b"upc: read fault\n"),
+        Verdict::TooLong => Vec::from_slice(alloc, b"upc: source too long\n"),
+        Verdict::Refused(refusal) => refusal_text(alloc, *refusal),
+        Verdict::Ran(journal) => run_text(alloc, journal),
+        Verdict::NoMemory(_) => Vec::from_slice(alloc, b"upc: no memory\n"),
+    }
+}
+
+// The status of a verdict that was written whole.
+fn status_for(verdict: &Verdict) -> u8
+    requires { IfSome (journal_of verdict.now) (λ j. length j.strands < 2 ^ 32) }
+    ensures { result ≡ Verdicts.status_for verdict.now }
+{
+    match verdict {
+        Verdict::Usage => 100,
+        Verdict::ReadFault => 102,
+        Verdict::TooLong => 110,
+        Verdict::Refused(_) => 101,
+        Verdict::Ran(journal) => status_of(journal),
+        Verdict::NoMemory(_) => 104,
+    }
+}
+
+// What is handed out of a verdict, with this status.
+fn done(verdict: Verdict, status: u8) -> Done
+    ensures status { result.status ≡ status }
+    ensures refusal { result.refusal ≡ refusal_of verdict }
+    ensures journal { result.journal ≡ journal_of verdict }
+    ensures orders { result.orders ≡ None }
+{
+    let (refusal, journal) = match verdict {
+        Verdict::Refused(refusal) => (Some(refusal), None),
+        Verdict::Ran(journal) => (None, Some(journal)),
+        Verdict::NoMemory(journal) => (None, journal),
+        _ => (None, None),
+    };
+    Done {
+        status,
+        refusal,
+        journal,
+        orders: None,
+    }
+}
+
+// The text, and then the line.
+fn send<O: Sink, E: Sink>(
+    verdict: &Verdict,
+    text: &[u8],
+    line: &[u8],
+    out: &mut O,
+    err: &mut E,
+) -> u8
+    requires few { IfSome (journal_of verdict.now) (λ j. length j.strands < 2 ^ 32) }
+    requires text { text.now ≡ text_of verdict.now }
+    requires line { line.now ≡ line_of verdict.now }
+    ensures { Delivered verdict.now (record { taken_before = O.taken out.old; taken_after = O.taken out.new; faults_before = O.faults out.old; faults_after = O.faults out.new }) (record { taken_before = E.taken err.old; taken_after = E.taken err.new; faults_before = E.faults err.old; faults_after = E.faults err.new }) result }
+{
+    if put_all(out, text).is_err() {
+        return 103;
+    }
+    if put_all(err, line).is_err() {
+        return 103;
+    }
+    status_for(verdict)
+}
+
+fn without_memory(verdict: Verdict) -> Verdict
+    ensures { result ≡ without_memory verdict }
+{
+    match verdict {
+        Verdict::Ran(journal) => Verdict::NoMemory(Some(journal)),
+        Verdict::NoMemory(journal) => Verdict::NoMemory(journal),
+        _ => Verdict::NoMemory(None),
+    }
+}
+
+/// Writes what a verdict says. Where memory is wanting for it, that is the verdict.
+pub fn deliver<O: Sink, E: Sink>(alloc: Global, verdict: Verdict, out: &mut O, err: &mut E) -> Done
+    requires few { IfSome (journal_of verdict) (λ j. length j.strands < 2 ^ 32) }
+    ensures delivers { Delivers verdict (record { taken_before = O.taken out.old; taken_after = O.taken out.new; faults_before = O.faults out.old; faults_after = O.faults out.new }) (record { taken_before = E.taken err.old; taken_after = E.taken err.new; faults_before = E.faults err.old; faults_after = E.faults err.new }) result }
+    ensures orders { result.orders ≡ None }
+{
+    match (text_for(alloc, &verdict), line_for(alloc, &verdict)) {
+        (Ok(text), Ok(line)) => {
+            let status = send(&verdict, text.as_slice(), line.as_slice(), out, err);
+            done(verdict, status)
+        }
+        _ => {
+            let verdict = without_memory(verdict);
+            let status = send(&verdict, &[], b"upc: no memory\n", out, err);
+            done(verdict, status)
+        }
+    }
+}

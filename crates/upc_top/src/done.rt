@@ -1,0 +1,17 @@
+//! What the top call hands out.
+
+use upc_text::Refusal;
+use upc_values::{Journal, Orders};
+
+/// What the top call did.
+#[derive(Drop)]
+pub struct Done {
+    /// The status that the program ends with.
+    pub status: u8,
+    /// Why the source was refused.
+    pub refusal: Option<Refusal>,
+    /// The run, wherever one was had.
+    pub journal: Option<Journal>,
+    /// The orders of the run's operations.
+    pub orders: Option<Orders>,
+}

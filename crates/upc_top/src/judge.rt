@@ -1,0 +1,60 @@
+//! From the words to what the top call comes to.
+
+ghost use Rattle.std.specs.Prelude.{◌≡◌, ◌≤◌, map, string_bytes};
+ghost use Rattle.upc_top.specs.Verdicts.{Caused, ComesFrom};
+
+use crate::verdict::Verdict;
+use crate::words::read_words;
+use first_language::read_first;
+use serial_core::{Limits, run_by};
+use std::alloc::Global;
+use std::sync::Wait;
+use upc_text::{Code, Place, ReadEnd, Refusal, Sources, read_all};
+
+// The ticks that each thread is allowed.
+const BUDGET: u64 = 100_000_000;
+
+// The items that all threads' records may have.
+const ITEMS: u64 = 4_194_304;
+
+// Runs a source with so many threads.
+fn run_source<R: Wait>(rt: &R, alloc: Global, threads: u32, source: &[u8]) -> Verdict
+    requires least { 1 ≤ threads }
+    requires most { threads ≤ 32 }
+    ensures { ComesFrom threads source.now result }
+{
+    let program = match read_first(alloc, source) {
+        Ok(Some(program)) => program,
+        Ok(None) => {
+            return Verdict::Refused(Refusal {
+                place: Place { line: 1, column: 1 },
+                code: Code::Syntax,
+            });
+        }
+        Err(_) => return Verdict::NoMemory(None),
+    };
+    let limits = Limits {
+        threads,
+        budget: BUDGET,
+        actions: ITEMS / u64::from(threads),
+    };
+    match run_by(rt, alloc, &program, limits, &[]) {
+        Ok(journal) => Verdict::Ran(journal),
+        Err(_) => Verdict::NoMemory(None),
+    }
+}
+
+/// What the words and the file come to.
+pub fn judge<R: Wait, S: Sources>(rt: &R, alloc: Global, words: &[String], files: &mut S) -> Verdict
+    ensures { Caused (map string_bytes words.now) (record { told = S.bytes_of files.old; before = S.faults files.old; after = S.faults files.new }) result }
+{
+    let Some(call) = read_words(words) else {
+        return Verdict::Usage;
+    };
+    match read_all(alloc, files, call.file) {
+        Ok(source) => run_source(rt, alloc, call.threads, source.as_slice()),
+        Err(ReadEnd::ReadFault) => Verdict::ReadFault,
+        Err(ReadEnd::TooLong) => Verdict::TooLong,
+        Err(ReadEnd::Memory) => Verdict::NoMemory(None),
+    }
+}

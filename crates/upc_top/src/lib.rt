@@ -1,0 +1,16 @@
+//! The top call: from the words of the command line and the bytes of a file to output, a status and a journal.
+#![tactic(auto)]
+
+mod deliver;
+mod done;
+mod judge;
+mod status;
+#[cfg(test)]
+mod tests;
+mod text;
+mod top;
+mod verdict;
+mod words;
+
+pub use done::Done;
+pub use top::upc_main;

@@ -1,0 +1,35 @@
+//! The top call.
+
+ghost use Rattle.std.specs.Prelude.{◌≡◌, map, string_bytes, None};
+ghost use Rattle.upc_top.specs.Delivery.{Answered, RefusesOtherWords, IsComplete};
+
+use crate::deliver::deliver;
+use crate::done::Done;
+use crate::judge::judge;
+use std::alloc::Global;
+use std::sync::Wait;
+use upc_text::{Gate, Sink, Sources};
+
+/// Reads the words, reads the file, runs its program, and writes what that gives: the program's output to `out`, a
+/// line on any other ending to `err`. The status is 0 to 99 where the program ended by itself; 100 where the words are
+/// refused; 101 where the source is; 102 where a read failed; 103 where a write failed; 104 where memory was wanting;
+/// 105 for a run error; 106 for a deadlock; 107 and 108 where a thread reached its limit of ticks or of items; 110
+/// where the file has more than 1,048,576 bytes.
+pub fn upc_main<R: Wait, S: Sources, O: Sink, E: Sink, G: Gate>(
+    rt: &R,
+    alloc: Global,
+    words: &[String],
+    files: &mut S,
+    out: &mut O,
+    err: &mut E,
+    gate: &G,
+) -> Done
+    ensures answered { Answered (map string_bytes words.now) (record { told = S.bytes_of files.old; before = S.faults files.old; after = S.faults files.new }) (record { taken_before = O.taken out.old; taken_after = O.taken out.new; faults_before = O.faults out.old; faults_after = O.faults out.new }) (record { taken_before = E.taken err.old; taken_after = E.taken err.new; faults_before = E.faults err.old; faults_after = E.faults err.new }) result }
+    ensures words { RefusesOtherWords (map string_bytes words.now) result }
+    ensures complete { IsComplete (map string_bytes words.now) (record { told = S.bytes_of files.old; before = S.faults files.old; after = S.faults files.new }) (record { taken_before = O.taken out.old; taken_after = O.taken out.new; faults_before = O.faults out.old; faults_after = O.faults out.new }) (record { taken_before = E.taken err.old; taken_after = E.taken err.new; faults_before = E.faults err.old; faults_after = E.faults err.new }) result }
+    ensures orders { result.orders ≡ None }
+{
+    let _ = gate;
+    let verdict = judge(rt, alloc, words, files);
+    deliver(alloc, verdict, out, err)
+}

@@ -1,0 +1,21 @@
+//! What the top call comes to, before it is written.
+
+use upc_text::Refusal;
+use upc_values::Journal;
+
+/// What the top call comes to.
+#[derive(Drop)]
+pub enum Verdict {
+    /// The words are refused.
+    Usage,
+    /// A read of the file failed.
+    ReadFault,
+    /// The file has more bytes than a source may have.
+    TooLong,
+    /// The source is refused.
+    Refused(Refusal),
+    /// The source ran.
+    Ran(Journal),
+    /// Memory was wanting, perhaps after a run.
+    NoMemory(Option<Journal>),
+}
