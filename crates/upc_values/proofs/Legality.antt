@@ -8,16 +8,12 @@ use Rattle.upc_values.specs.declared.action.Action.TheVariants as asked
 use Rattle.upc_values.specs.declared.action.Reply.{Reply}
 use Rattle.upc_values.specs.declared.action.Reply.TheVariants.{Done, Value}
 use Rattle.upc_values.specs.declared.journal.Entry.{Entry}
-use Rattle.upc_values.specs.Lists.{Each}
 use Rattle.upc_values.specs.Scalars.{same_loc, zero}
+use Rattle.upc_values.proofs.Lists.{each-push}
 use Rattle.upc_values.specs.Drain.{entry_of, written, or_else, last_written}
 use Rattle.upc_values.specs.Legal.{Opening, value_or, waits, all_notified, reply, IsLegalFrom, IsLegal, is_int_value, IsWellFormed, AreWellFormedFrom, AreWellFormed, EachBelow}
 use Rattle.upc_values.specs.Outcomes.{fits}
 use Rattle.upc_values.specs.Strands.{may_wait}
-
-pub each-push : {X : Type 0} (P : X → Type 0) (xs : List X) (x : X) → Each P xs → P x → Each P (xs ++ x ∷ [])
-each-push P [] x h p = (p, tt)
-each-push P (y ∷ xs) x h p = (h.0, each-push P xs x h.1 p)
 
 legal-from_push : (o : Opening) (before es : List Entry) (e : Entry) → IsLegalFrom o before es
     → reply o (before ++ es) e.thread e.action ≡ Some e.reply → IsLegalFrom o before (es ++ e ∷ [])
