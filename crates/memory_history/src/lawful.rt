@@ -7,8 +7,8 @@ ghost use Rattle.upc_values.specs.Legal.{Opening, EachBelow};
 
 use upc_values::{Action, Entry, Loc, Reply, Scalar};
 
-/// The most threads that a history may have.
-pub const MOST_THREADS: usize = 32;
+// The most threads that a history may have.
+const MOST_THREADS: usize = 32;
 
 // What the action writes to the location.
 fn written(loc: Loc, action: &Action) -> Option<Scalar>
@@ -21,8 +21,7 @@ fn written(loc: Loc, action: &Action) -> Option<Scalar>
 }
 
 // What was last written to the location, looking back from the end.
-
-fn last_written(loc: Loc, entries: &[Entry]) -> Option<Scalar>
+pub(crate) fn last_written(loc: Loc, entries: &[Entry]) -> Option<Scalar>
     ensures { result ≡ drain.last_written loc entries.now }
 {
     for at in (0..entries.len()).rev() {

@@ -1,12 +1,14 @@
 //! The shared memory as a history.
 
-ghost use Rattle.std.specs.Prelude.{◌≡◌, ℕ, ◌<◌, ◌≤◌, ◌^◌, [], length, true, IfOk, OnErr, IfSome, is_some};
+ghost use Rattle.std.specs.Prelude.{◌≡◌, ℕ, ◌<◌, ◌≤◌, ◌^◌, [], length, true, ◌↔◌, IsTrue, IfOk, OnErr, IfSome, is_some};
 ghost use Rattle.upc_values.specs.Legal as legal;
 ghost use Rattle.upc_values.specs.Legal.{Opening, IsLegal, IsWellFormed, AreWellFormed, EachBelow};
 ghost use Rattle.upc_values.specs.Waits.{WaitsFollow};
 ghost use Rattle.upc_values.specs.Outcomes.{fits};
+ghost use Rattle.upc_values.specs.Strands.{may_wait};
 ghost use Rattle.memory_history.specs.World.{answer_of, performed};
 
+use crate::formed::{has_cell, is_int, is_plain};
 use crate::lawful::reply;
 use crate::step::Step;
 use std::alloc::{AllocError, Global};
@@ -52,13 +54,13 @@ impl World {
 
     /// Acts on the history: the lawful reply, with one entry appended, or `Disabled` where there is none. After want of
     /// memory, which also comes where there would be 2^62 entries, the history is as it was.
-    #[tactic(auto, using(crate::proofs::More::more))]
     pub fn perform(&mut self, thread: u32, index: u32, action: &Action) -> Result<Step, AllocError>
         requires below { thread < self.old.0.threads }
         requires formed { IsWellFormed self.old.0 self.old.1 action.now }
         ensures reply { IfOk result (λ s. answer_of s ≡ legal.reply self.old.0 self.old.1 thread action.now) }
         ensures fits { IfOk result (λ s. IfSome (answer_of s) (λ r. fits action.now r ≡ true)) }
         ensures entries { IfOk result (λ s. self.new.1 ≡ performed self.old.1 thread index action.now (answer_of s)) }
+        ensures disabled { IfOk result (λ s. answer_of s ≡ None → may_wait action.now ≡ true) }
         ensures opening { self.new.0 ≡ self.old.0 }
         ensures err { OnErr result (self.new.1 ≡ self.old.1) }
     {
@@ -76,6 +78,25 @@ impl World {
             reply,
         })?;
         Ok(Step::Done(reply))
+    }
+
+    /// Whether the action may be asked for now: its location is a cell, its value fits that cell, and the language built
+    /// so far has it. It takes no memory.
+    pub fn is_well_formed(&self, action: &Action) -> bool
+        ensures { IsTrue result ↔ IsWellFormed self.now.0 self.now.1 action.now }
+    {
+        match action {
+            Action::Read { loc, .. } => has_cell(*loc, self.cells.as_slice()),
+            Action::Write { loc, value, .. } => {
+                has_cell(*loc, self.cells.as_slice()) && is_int(value)
+            }
+            Action::Notify(mark) => is_plain(mark),
+            Action::Wait(mark) => is_plain(mark),
+            Action::Fence => true,
+            Action::Beat => true,
+            Action::Print(_) => true,
+            _ => false,
+        }
     }
 
     /// Whether the action has a lawful reply now. It takes no memory.

@@ -1,7 +1,7 @@
 use Rattle.std.proofs.Common.{rules, ◌≡◌, ◌+◌, ◌<◌, ◌^◌, ◌++◌, [], ◌∷◌, length, None, Some, refl, sym, ap, subst, ◌∙◌}
 use Rattle.upc_values.specs.Drain.{entry_of}
 use Rattle.upc_values.specs.Legal.{Opening, reply, IsWellFormed}
-use Rattle.upc_values.proofs.Legality.{lawful-fits}
+use Rattle.upc_values.proofs.Legality.{lawful-fits, unlawful-waits}
 use Rattle.memory_history.specs.World.{IsKept}
 use Rattle.memory_history.proofs.More.{kept-push}
 use Rattle.memory_history.proofs.world.World.perform.Goals as goal
@@ -33,3 +33,8 @@ returns-clause-fits c =
     let f : IsWellFormed o es a = subst (λ w. IsWellFormed w.0 w.1 a) (sym c.self.view_is) c.requires.formed in
     let r : reply o es c.args.thread a ≡ Some c.in-Some.reply = sym (sym c.in-Some.is ∙ c.reply.ensures o refl ∙ ap (λ l. reply o l c.args.thread a) c.as_slice.ensures.value) in
     lawful-fits o es c.args.thread a c.in-Some.reply c.self.invariant.formed f r
+
+pub returns-in_default-clause-disabled : goal.returns-in_default-clause-disabled
+returns-in_default-clause-disabled c = λ _.
+    unlawful-waits c.args.self.now.0 c.args.self.now.1 c.args.thread c.args.action.now c.requires.formed
+    (sym (returns-in_default-clause-reply c))
