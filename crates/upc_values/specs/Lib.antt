@@ -7,3 +7,5 @@ pub mod Legal
 pub mod Strands
 pub mod Ends
 pub mod Sound
+pub mod Waits
+pub mod Agrees
