@@ -3,6 +3,7 @@
 
 mod kind;
 mod place;
+pub mod run_error;
 
 pub use kind::{Cells, Kind, Shape};
 pub use place::{Loc, LocalPtr, ObjectRef, SharedPtr};
