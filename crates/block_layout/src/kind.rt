@@ -1,5 +1,7 @@
 //! What a cell holds, and the cells of an element.
 
+ghost use Rattle.std.specs.Prelude.{◌≡◌, length};
+
 use std::marker::Model;
 
 /// What a cell holds.
@@ -33,6 +35,36 @@ impl Model for Cells {
     ghost Value = { List (ℕ × Kind) };
 
     ghost view = { λ c. c.list.items };
+}
+
+impl Cells {
+    /// The cells of a list. Takes no memory.
+    pub fn from_vec(list: Vec<(u32, Kind)>) -> Cells
+        ensures { result ≡ list.items }
+    {
+        Cells { list }
+    }
+
+    /// The list back. Takes no memory.
+    pub fn into_vec(self) -> Vec<(u32, Kind)>
+        ensures { result.items ≡ self }
+    {
+        self.list
+    }
+
+    /// The cells in order.
+    pub fn as_slice(&self) -> &[(u32, Kind)]
+        ensures { result.now ≡ self.now }
+    {
+        self.list.as_slice()
+    }
+
+    /// How many cells there are.
+    pub fn len(&self) -> usize
+        ensures { result ≡ length self.now }
+    {
+        self.list.len()
+    }
 }
 
 /// An element: its size in bytes, at least 1, and its cells, which lie inside it, ascending and without overlap.
