@@ -1,5 +1,5 @@
 -- Where the elements of a shared array with a block of at least 1 lie (UPC 6.5.1.1, 6.5.2.1). Blocks go to the threads in turn, from thread 0 on.
-use Rattle.std.specs.Prelude.{ℕ, ◌*◌, ◌/◌, ◌<◌, ◌^◌, ◌≡◌, ℤ, pos, neg_ℤ, ◌+ℤ◌, ◌*ℤ◌, ◌≤ℤ◌}
+use Rattle.std.specs.Prelude.{ℕ, ◌*◌, ◌/◌, ◌<◌, ◌^◌, ◌≡◌, ◌&&◌, Bool, int_le, ℤ, pos, neg_ℤ, ◌+ℤ◌, ◌*ℤ◌, ◌≤ℤ◌}
 use Rattle.block_layout.specs.Floor.{floor_div, floor_mod}
 
 -- The thread of an element: its block's number, modulo the number of threads.
@@ -24,3 +24,6 @@ OneBlockPerThread n block threads =
 pub record InRange (z : ℤ) : Type 0 where
   pub least : neg_ℤ (pos (2 ^ 40)) ≤ℤ z
   pub most : z ≤ℤ pos (2 ^ 40)
+
+abbrev pub in_range : ℤ → Bool
+in_range z = int_le (neg_ℤ (pos (2 ^ 40))) z && int_le z (pos (2 ^ 40))

@@ -1,6 +1,8 @@
 -- Which element of an object a pointer-to-shared names (UPC 6.4.2, 6.5.1.1).
-use Rattle.std.specs.Prelude.{ℕ, zero, suc, ◌≡◌, ◌<◌, ℤ, pos, ◌+ℤ◌, ◌*ℤ◌}
+use Rattle.std.specs.Prelude.{ℕ, zero, suc, ◌≡◌, ◌<◌, ◌==◌, ◌&&◌, Bool, ℤ, pos, ◌+ℤ◌, ◌*ℤ◌}
+use Rattle.block_layout.specs.declared.place.ObjectRef.{ObjectRef}
 use Rattle.block_layout.specs.declared.place.SharedPtr.{SharedPtr}
+use Rattle.std.specs.Ordering.{int_eq}
 use Rattle.block_layout.specs.Places.{thread_at, phase_at, offset_at}
 
 -- The null pointer has zeros throughout.
@@ -15,6 +17,19 @@ null =
 
 abbrev pub IsNull : SharedPtr → Type 0
 IsNull p = p ≡ null
+
+-- The tests of these equalities.
+abbrev pub same_object : ObjectRef → ObjectRef → Bool
+same_object a b =
+    a.number == b.number && a.total == b.total && a.block == b.block && a.home == b.home
+    && a.shape == b.shape && a.base == b.base
+
+abbrev pub same_pointer : SharedPtr → SharedPtr → Bool
+same_pointer p q =
+    same_object p.object q.object && p.thread == q.thread && p.phase == q.phase && int_eq p.offset q.offset
+
+abbrev pub is_null : SharedPtr → Bool
+is_null p = same_pointer p null
 
 -- The phase of an element. With block 0, which is indefinite, each phase is 0.
 abbrev pub element_phase : ℤ → ℕ → ℕ

@@ -1,7 +1,7 @@
 //! Objects, pointers and locations.
 
-ghost use Rattle.std.specs.Prelude.{◌↔◌, IsTrue};
-ghost use Rattle.block_layout.specs.Pointers.{IsNull};
+ghost use Rattle.std.specs.Prelude.{◌≡◌, ◌↔◌, IsTrue};
+ghost use Rattle.block_layout.specs.Pointers.{IsNull, is_null};
 
 /// A shared object. Sizes are in bytes; block 0 is indefinite; number 0 is null.
 #[derive(Clone, Copy, PartialEq, Eq, Debug)]
@@ -43,7 +43,8 @@ impl SharedPtr {
 
     /// Whether the pointer is null: all its numbers are 0.
     pub fn is_null(&self) -> bool
-        ensures { IsTrue result ↔ IsNull self.now }
+        ensures value { result ≡ is_null self.now }
+        ensures exact { IsTrue result ↔ IsNull self.now }
     {
         *self == SharedPtr::NULL
     }

@@ -1,0 +1,5 @@
+//! Arithmetic of pointers-to-shared (UPC 6.4.2, 6.4.3).
+#![tactic(auto)]
+
+mod row;
+mod step;
