@@ -4,10 +4,11 @@ use Rattle.std.proofs.Math.IntN.{ℤ, pos, negsuc, ◌+ℤ◌, ◌-ℤ◌, ◌*�
 use Rattle.std.proofs.lemmas.Int.{ints}
 use Rattle.block_layout.specs.Floor.{floor_div, floor_mod}
 use Rattle.block_layout.specs.Places.{thread_at, phase_at, offset_at}
+use Rattle.block_layout.proofs.Pointers.{pointer-fields}
 use Rattle.block_layout.specs.declared.place.SharedPtr.{SharedPtr}
 use Rattle.block_layout.specs.Pointers.{StandsFor, element_phase, element_offset}
 use Rattle.shared_pointers.specs.Ranges.{IsPhase}
-use Rattle.shared_pointers.specs.Steps.{LiesBehind, moved, moved_by_blocks, element_in_row, row_offset}
+use Rattle.shared_pointers.specs.Steps.{LiesBehind, apart, moved, moved_by_blocks, element_in_row, row_offset}
 use Rattle.block_layout.proofs.Numbers.{floor_div-unique, floor_mod-unique, floor_mod-below, floor-sum, mul-sum, mul-twice, row-below, by_row, floor_div-twice}
 
 -- The element t blocks of b and ph further in row R.
@@ -78,18 +79,18 @@ moved-blocks p i e d b s T k stands =
     let offset : p.offset ≡ offset_at e (suc b) s T +ℤ d = stands.offset in
     let phase : pos (p.phase * s) ≡ pos (phase_at e (suc b) * s) = ap (λ n. pos (n * s)) stands.phase in
     record {
-        thread = λ _. rw (← same) (sym (thread-further from R (suc b) T h k));
-        phase = rw (← same) (sym (phase-further from R (suc b) T h k));
-        offset = rw (← same, offset-further from R (suc b) s T h k) (omega (arith, ints, offset, phase, offset-parts e (suc b) s T));
+      thread = λ _. rw (← same) (sym (thread-further from R (suc b) T h k));
+      phase = rw (← same) (sym (phase-further from R (suc b) T h k));
+      offset = rw (← same, offset-further from R (suc b) s T h k) (omega (arith, ints, offset, phase, offset-parts e (suc b) s T));
     }
 
 moved-along : (p : SharedPtr) (i e d : ℤ) (s T : ℕ) → StandsFor p e d 0 s T → StandsFor (moved p i 0 s T) (e +ℤ i) d 0 s T
 moved-along p i e d s T stands =
     let offset : p.offset ≡ e *ℤ pos s +ℤ d = stands.offset in
     record {
-        thread = λ h. absurd (omega (arith, h));
-        phase = stands.phase;
-        offset = omega (arith, ints, offset, mul-sum e i s);
+      thread = λ h. absurd (omega (arith, h));
+      phase = stands.phase;
+      offset = omega (arith, ints, offset, mul-sum e i s);
     }
 
 -- A pointer moved by i stands for the element i on, with the same shift.
@@ -108,7 +109,64 @@ moved-thread p i (suc b) s T h = absurd (omega (arith, h))
 pub moved-behind : (p : SharedPtr) (i : ℤ) (b s T : ℕ) → 0 < T → LiesBehind p (moved p i b s T) i b s T
 moved-behind p i b s T k =
     record {
-        object = moved-object p i b s T;
-        thread = moved-thread p i b s T;
-        element = λ e d. moved-stands p i e d b s T k;
+      object = moved-object p i b s T;
+      thread = moved-thread p i b s T;
+      element = λ e d. moved-stands p i e d b s T k;
     }
+
+-- A pointer stands for the element in its row, with the shift of its row.
+first-blocks : (p : SharedPtr) (e : ℤ) (b s T : ℕ) → in_row (pos 0) p.thread p.phase (suc b) T ≡ e → p.thread < T → p.phase < suc b → StandsFor p e (row_offset p s) (suc b) s T
+first-blocks p e b s T here h k =
+    let thread : thread_at e (suc b) T ≡ p.thread = subst (λ (z : ℤ). thread_at z (suc b) T ≡ p.thread) here (thread-in_row (pos 0) p.thread p.phase (suc b) T h k) in
+    let phase : phase_at e (suc b) ≡ p.phase = subst (λ (z : ℤ). phase_at z (suc b) ≡ p.phase) here (phase-in_row (pos 0) p.thread p.phase (suc b) T h k) in
+    let row : floor_div e (suc b * T) ≡ pos 0 = subst (λ (z : ℤ). floor_div z (suc b * T) ≡ pos 0) here (row-in_row (pos 0) p.thread p.phase (suc b) T h k) in
+    let bytes : offset_at e (suc b) s T ≡ pos (p.phase * s) = rw (row, phase) (omega (arith, ints)) in
+    record {
+      thread = λ _. sym thread;
+      phase = sym phase;
+      offset = omega (arith, ints, bytes);
+    }
+
+-- Every pointer stands for some element with some shift.
+pub stands-somewhere : (p : SharedPtr) (b s T : ℕ) → p.thread < T → IsPhase p.phase b → (e : ℤ) × ((d : ℤ) × StandsFor p e d b s T)
+stands-somewhere p zero s T h k = (pos 0, (p.offset, record { thread = λ l. absurd (omega (arith, l)); phase = k; offset = omega (arith, ints) }))
+stands-somewhere p (suc b) s T h k = (pos (element_in_row p (suc b)), (row_offset p s, first-blocks p (pos (element_in_row p (suc b))) b s T (omega (arith, ints)) h k))
+
+-- Two pointers of one object, with an indefinite block on one thread, that stand for one element with one shift are equal.
+pub stands-unique : (q r : SharedPtr) (e d : ℤ) (b s T : ℕ) → q.object ≡ r.object → (b ≡ 0 → q.thread ≡ r.thread) → StandsFor q e d b s T → StandsFor r e d b s T → q ≡ r
+stands-unique q r e d zero s T same thread h k = pointer-fields q r same (thread refl) (h.phase ∙ sym k.phase) (h.offset ∙ sym k.offset)
+stands-unique q r e d (suc b) s T same thread h k =
+    let some : 0 < suc b = omega arith in
+    pointer-fields q r same (h.thread some ∙ sym (k.thread some)) (h.phase ∙ sym k.phase) (h.offset ∙ sym k.offset)
+
+-- A pointer moved by x lies x apart.
+apart-along : (p : SharedPtr) (x : ℤ) (s T : ℕ) → 0 < s → apart (moved p x 0 s T) p 0 s T ≡ x
+apart-along p x s T h = floor_div-unique (p.offset +ℤ x *ℤ pos s -ℤ p.offset) x 0 s h (omega (arith, ints))
+
+some_product : (b s : ℕ) → 0 < s → 0 < suc b * s
+some_product b s h = omega arith
+
+apart-blocks : (p : SharedPtr) (x : ℤ) (b s T : ℕ) → 0 < s → 0 < T → apart (moved p x (suc b) s T) p (suc b) s T ≡ x
+apart-blocks p x b s T h k =
+    let some : 0 < suc b = omega arith in
+    let e : ℤ = pos (element_in_row p (suc b)) +ℤ x in
+    let R : ℤ = floor_div e (suc b * T) in
+    let q : SharedPtr = moved_by_blocks p x (suc b) s T in
+    let bytes : R *ℤ pos (suc b * s) +ℤ pos 0 ≡ row_offset q s -ℤ row_offset p s = omega (arith, ints, offset-parts e (suc b) s T, mul-twice R (suc b) s) in
+    let rows : floor_div (row_offset q s -ℤ row_offset p s) (suc b * s) ≡ R = floor_div-unique (row_offset q s -ℤ row_offset p s) R 0 (suc b * s) (some_product b s h) bytes in
+    rw rows (omega (arith, ints, as_in_row e (suc b) T some k, mul-twice R (suc b) T))
+
+pub apart-moved : (p : SharedPtr) (x : ℤ) (b s T : ℕ) → 0 < s → 0 < T → apart (moved p x b s T) p b s T ≡ x
+apart-moved p x zero s T h k = apart-along p x s T h
+apart-moved p x (suc b) s T h k = apart-blocks p x b s T h k
+
+-- Only the pointer moved by x lies x elements behind.
+pub behind-moved : (p q : SharedPtr) (x : ℤ) (b s T : ℕ) → p.thread < T → IsPhase p.phase b → LiesBehind p q x b s T → q ≡ moved p x b s T
+behind-moved p q x b s T h k behind =
+    let some : (e : ℤ) × ((d : ℤ) × StandsFor p e d b s T) = stands-somewhere p b s T h k in
+    let there : LiesBehind p (moved p x b s T) x b s T = moved-behind p x b s T (omega arith) in
+    stands-unique q (moved p x b s T) (some.0 +ℤ x) some.1.0 b s T
+    (behind.object ∙ sym there.object)
+    (λ z. behind.thread z ∙ sym (there.thread z))
+    (behind.element some.0 some.1.0 some.1.1)
+    (there.element some.0 some.1.0 some.1.1)

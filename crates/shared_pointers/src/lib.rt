@@ -3,3 +3,5 @@
 
 mod row;
 mod step;
+
+pub use step::advance;
