@@ -42,12 +42,16 @@ advanced p i block size threads =
     let q = moved p i block size threads in
     if is_null p then Err NULL_ACCESS else if in_range q.offset then Ok q else Err POINTER_RANGE
 
--- How many elements q would lie behind p: rows apart, and places in the row apart.
+-- How many elements q would lie behind p, with a block of at least 1: whole rows apart, and places in the row apart.
+abbrev pub apart_by_blocks : SharedPtr → SharedPtr → ℕ → ℕ → ℕ → ℤ
+apart_by_blocks q p block size threads =
+    floor_div (row_offset q size -ℤ row_offset p size) (block * size) *ℤ pos block *ℤ pos threads
+    +ℤ (pos (element_in_row q block) -ℤ pos (element_in_row p block))
+
+-- How many elements q would lie behind p.
 abbrev pub apart : SharedPtr → SharedPtr → ℕ → ℕ → ℕ → ℤ
 apart q p zero size threads = floor_div (q.offset -ℤ p.offset) size
-apart q p (suc b) size threads =
-    floor_div (row_offset q size -ℤ row_offset p size) (suc b * size) *ℤ pos (suc b) *ℤ pos threads
-    +ℤ (pos (element_in_row q (suc b)) -ℤ pos (element_in_row p (suc b)))
+apart q p (suc b) size threads = apart_by_blocks q p (suc b) size threads
 
 -- What `q - p` gives: the number x for which `p + x` is q, where there is one.
 abbrev pub difference : SharedPtr → SharedPtr → ℕ → ℕ → ℕ → Result ℤ ℕ
