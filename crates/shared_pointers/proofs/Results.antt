@@ -3,13 +3,15 @@ use Rattle.std.proofs.Common.{◌≡◌, ℕ, ◌<◌, ◌^◌, ◌↔◌, int_l
 use Rattle.std.proofs.Math.IntN.{ℤ, pos, neg_ℤ, ◌+ℤ◌}
 use Rattle.std.proofs.lemmas.Int.{ints}
 use Rattle.std.proofs.lemmas.Bool.{and_parts, and_from}
+use Rattle.std.specs.declared.cmp.Ordering.{Ordering}
+use Rattle.std.specs.Ordering.{int_cmp}
 use Rattle.block_layout.specs.declared.place.SharedPtr.{SharedPtr}
 use Rattle.block_layout.specs.declared.run_error.TheConstants.{NULL_ACCESS, POINTER_RANGE, POINTER_PAIR}
 use Rattle.block_layout.specs.Places.{InRange, in_range}
 use Rattle.block_layout.specs.Pointers.{StandsFor, IsNull, is_null, null, element_offset, same_pointer}
 use Rattle.block_layout.proofs.Pointers.{same_pointer-true, same_pointer-refl, null-false}
 use Rattle.shared_pointers.specs.Ranges.{IsPhase}
-use Rattle.shared_pointers.specs.Steps.{LiesBehind, moved, advanced, apart, difference}
+use Rattle.shared_pointers.specs.Steps.{LiesBehind, moved, advanced, apart, difference, order_of}
 use Rattle.shared_pointers.proofs.Elements.{moved-behind, moved-stands, behind-moved, apart-moved}
 
 -- The tests of null and of the range.
@@ -85,3 +87,19 @@ difference-exact q p x b s T r l k h g is = (
   λ e. found p q (apart q p b s T) x b s T (is_null p) (is_null q) (same_pointer q (moved p (apart q p b s T) b s T)) k refl refl refl (sym is ∙ e),
   λ all. is ∙ answered p q x b s T l k h g all,
 )
+
+-- ---- comparisons
+
+pub order-behind : (q p : SharedPtr) (x : ℤ) (b s T : ℕ) (r : Result Ordering ℕ) → 0 < s → 0 < T → p.thread < T → IsPhase p.phase b → r ≡ order_of (difference q p b s T) → ¬ (IsNull p) → ¬ (IsNull q) → LiesBehind p q x b s T → r ≡ Ok (int_cmp x (pos 0))
+order-behind q p x b s T r l k h g is n m behind = is ∙ ap order_of (answered p q x b s T l k h g (n, m, behind))
+
+pub order-ok : (q p : SharedPtr) (b s T : ℕ) (r : Result Ordering ℕ) → 0 < s → 0 < T → p.thread < T → IsPhase p.phase b → r ≡ order_of (difference q p b s T) → IfOk r (λ o. (x : ℤ) × ((¬ (IsNull p)) × (¬ (IsNull q)) × LiesBehind p q x b s T × (o ≡ int_cmp x (pos 0))))
+order-ok q p b s T r l k h g is =
+    subst (λ (v : Result Ordering ℕ). IfOk v (λ o. (x : ℤ) × ((¬ (IsNull p)) × (¬ (IsNull q)) × LiesBehind p q x b s T × (o ≡ int_cmp x (pos 0))))) (sym is)
+    (tested (difference q p b s T) refl)
+  where
+    tested : (d : Result ℤ ℕ) → d ≡ difference q p b s T → IfOk (order_of d) (λ o. (x : ℤ) × ((¬ (IsNull p)) × (¬ (IsNull q)) × LiesBehind p q x b s T × (o ≡ int_cmp x (pos 0))))
+    tested (Err code) e = tt
+    tested (Ok x) e =
+        let all : (¬ (IsNull p)) × (¬ (IsNull q)) × LiesBehind p q x b s T = (difference-exact q p x b s T (Ok x) l k h g e).0 refl in
+        (x, (all.0, all.1, all.2, refl))

@@ -1,6 +1,8 @@
 -- Pointer-to-shared arithmetic (UPC 6.4.2), by the elements that pointers stand for.
 use Rattle.std.specs.Prelude.{ℕ, zero, suc, ◌+◌, ◌*◌, ◌≡◌, ◌&&◌, not, if◌then◌else◌, ℤ, pos, ◌+ℤ◌, ◌-ℤ◌, ◌*ℤ◌, Result, Ok, Err}
 use Rattle.block_layout.specs.declared.place.SharedPtr.{SharedPtr}
+use Rattle.std.specs.declared.cmp.Ordering.{Ordering}
+use Rattle.std.specs.Ordering.{int_cmp}
 use Rattle.block_layout.specs.Floor.{floor_div}
 use Rattle.block_layout.specs.declared.run_error.TheConstants.{NULL_ACCESS, POINTER_RANGE, POINTER_PAIR}
 use Rattle.block_layout.specs.Places.{thread_at, phase_at, offset_at, in_range}
@@ -60,3 +62,8 @@ difference q p block size threads =
     if not (is_null p) && not (is_null q) && same_pointer q (moved p x block size threads)
     then Ok x
     else Err POINTER_PAIR
+
+-- What a comparison of pointers gives: their difference against 0.
+abbrev pub order_of : Result ℤ ℕ → Result Ordering ℕ
+order_of (Ok x) = Ok (int_cmp x (pos 0))
+order_of (Err code) = Err code

@@ -2,8 +2,14 @@
 #![tactic(auto)]
 
 mod apart;
+mod cast;
+mod compare;
+mod element;
 mod row;
 mod step;
 
 pub use apart::distance;
+pub use cast::{member, to_block, to_local};
+pub use compare::{order, same};
+pub use element::stands_for_some_element;
 pub use step::advance;
