@@ -52,7 +52,7 @@ same_pointer-refl p =
 
 pub null-false : (p : SharedPtr) → ¬ (IsNull p) → is_null p ≡ false
 null-false p n = tested (is_null p) (λ y. n (same_pointer-true p null y))
-    where
-        tested : (b : Bool) → ¬ (b ≡ true) → b ≡ false
-        tested true h = absurd (h refl)
-        tested false h = refl
+  where
+    tested : (b : Bool) → ¬ (b ≡ true) → b ≡ false
+    tested true h = absurd (h refl)
+    tested false h = refl

@@ -1,5 +1,6 @@
 -- The cells of an element.
-use Rattle.std.specs.Prelude.{ℕ, ◌+◌, ◌<◌, ◌≤◌, List, [], ◌∷◌}
+use Rattle.std.specs.List.{list_any}
+use Rattle.std.specs.Prelude.{Bool, true, false, ◌==◌, ◌&&◌, ℕ, ◌+◌, ◌<◌, ◌≤◌, List, [], ◌∷◌}
 use Rattle.block_layout.specs.declared.kind.Kind.{Kind}
 use Rattle.block_layout.specs.declared.kind.Kind.TheVariants.{Char, UChar, Short, UShort, Int, UInt, Long, ULong, Shared, Lock, Private}
 use Rattle.block_layout.specs.declared.kind.Shape.{Shape}
@@ -17,6 +18,25 @@ kind_size ULong = 8
 kind_size (Shared n b) = 16
 kind_size Lock = 16
 kind_size (Private n) = 8
+
+-- Whether two kinds are equal.
+abbrev pub same_kind : Kind → Kind → Bool
+same_kind Char Char = true
+same_kind UChar UChar = true
+same_kind Short Short = true
+same_kind UShort UShort = true
+same_kind Int Int = true
+same_kind UInt UInt = true
+same_kind Long Long = true
+same_kind ULong ULong = true
+same_kind (Shared n b) (Shared m c) = n == m && b == c
+same_kind Lock Lock = true
+same_kind (Private n) (Private m) = n == m
+same_kind a b = false
+
+-- Whether a cell of this kind begins at this byte of an element.
+abbrev pub has_cell : List (ℕ × Kind) → ℕ → Kind → Bool
+has_cell cells place kind = list_any (λ c. c.0 == place && same_kind c.1 kind) cells
 
 -- Each cell begins at or after the end of the one before it, the first at or after `from`, and ends within the size.
 abbrev pub CellsWithin : List (ℕ × Kind) → ℕ → ℕ → Type 0

@@ -1,6 +1,7 @@
 //! What a cell holds, and the cells of an element.
 
-ghost use Rattle.std.specs.Prelude.{◌≡◌, length};
+ghost use Rattle.std.specs.Prelude.{◌≡◌, ◌≤◌, ◌↔◌, IsTrue, Contains, length};
+ghost use Rattle.block_layout.specs.Shapes.{kind_size, same_kind, has_cell};
 
 use std::marker::Model;
 
@@ -20,6 +21,31 @@ pub enum Kind {
     Lock,
     /// A private pointer: the number of its type.
     Private(u32),
+}
+
+impl Kind {
+    /// The bytes of a cell of this kind.
+    pub fn size(self) -> u32
+        ensures value { result ≡ kind_size self }
+        ensures least { 1 ≤ result }
+        ensures most { result ≤ 16 }
+    {
+        match self {
+            Kind::Char | Kind::UChar => 1,
+            Kind::Short | Kind::UShort => 2,
+            Kind::Int | Kind::UInt => 4,
+            Kind::Long | Kind::ULong | Kind::Private(_) => 8,
+            Kind::Shared(_, _) | Kind::Lock => 16,
+        }
+    }
+
+    /// Whether the kind is another.
+    pub fn is(self, other: Kind) -> bool
+        ensures value { result ≡ same_kind self other }
+        ensures exact { IsTrue result ↔ (self ≡ other) }
+    {
+        self == other
+    }
 }
 
 /// Cells of an element: the byte offset and the kind of each. Contracts see the list.
@@ -57,6 +83,16 @@ impl Cells {
         ensures { result.now ≡ self.now }
     {
         self.list.as_slice()
+    }
+
+    /// Whether a cell of this kind begins at this byte of the element.
+    pub fn has(&self, place: u32, kind: Kind) -> bool
+        ensures value { result ≡ has_cell self.now place kind }
+        ensures exact { IsTrue result ↔ Contains self.now (place, kind) }
+    {
+        self.list
+            .iter()
+            .any(|cell| cell.0 == place && cell.1.is(kind))
     }
 
     /// How many cells there are.
