@@ -1,15 +1,15 @@
 -- A pointer moved by elements stands for the element that far on, and only that pointer does.
-use Rattle.std.proofs.Common.{◌≡◌, ℕ, zero, suc, ◌+◌, ◌-◌, ◌*◌, ◌/◌, ◌%◌, ◌<◌, ◌≤◌, refl, sym, ap, ◌∙◌, subst, arith}
-use Rattle.std.proofs.Math.IntN.{ℤ, pos, negsuc, ◌+ℤ◌, ◌-ℤ◌, ◌*ℤ◌}
+use Rattle.std.proofs.Common.{◌≡◌, ℕ, zero, suc, ◌+◌, ◌*◌, ◌<◌, refl, sym, ap, ◌∙◌, subst, arith}
+use Rattle.std.proofs.Math.IntN.{ℤ, pos, ◌+ℤ◌, ◌-ℤ◌, ◌*ℤ◌}
 use Rattle.std.proofs.lemmas.Int.{ints}
-use Rattle.block_layout.specs.Floor.{floor_div, floor_mod}
+use Rattle.block_layout.specs.Floor.{floor_div}
 use Rattle.block_layout.specs.Places.{thread_at, phase_at, offset_at}
 use Rattle.block_layout.proofs.Pointers.{pointer-fields}
 use Rattle.block_layout.specs.declared.place.SharedPtr.{SharedPtr}
-use Rattle.block_layout.specs.Pointers.{StandsFor, element_phase, element_offset}
+use Rattle.block_layout.specs.Pointers.{StandsFor}
 use Rattle.shared_pointers.specs.Ranges.{IsPhase}
 use Rattle.shared_pointers.specs.Steps.{LiesBehind, apart, moved, moved_by_blocks, element_in_row, row_offset}
-use Rattle.block_layout.proofs.Numbers.{floor_div-unique, floor_mod-unique, floor_mod-below, floor-sum, mul-sum, mul-twice, row-below, by_row, floor_div-twice}
+use Rattle.block_layout.proofs.Numbers.{floor_div-unique, floor_mod-unique, floor_mod-below, mul-sum, mul-twice, row-below, by_row, floor_div-twice}
 
 -- The element t blocks of b and ph further in row R.
 abbrev pub in_row : ℤ → ℕ → ℕ → ℕ → ℕ → ℤ

@@ -1,5 +1,5 @@
 -- The cell that a pointer-to-shared names.
-use Rattle.std.specs.Prelude.{ℕ, ◌+◌, ◌≤◌, ◌&&◌, Bool, not, if◌then◌else◌, ℤ, pos, ◌+ℤ◌, ◌≤ℤ◌, int_le, unsigned_abs, List, Contains, Result, Ok, Err}
+use Rattle.std.specs.Prelude.{ℕ, ◌&&◌, Bool, if◌then◌else◌, pos, ◌+ℤ◌, ◌≤ℤ◌, int_le, unsigned_abs, Result, Ok, Err}
 use Rattle.block_layout.specs.declared.kind.Kind.{Kind}
 use Rattle.block_layout.specs.declared.kind.Shape.{Shape}
 use Rattle.block_layout.specs.declared.place.SharedPtr.{SharedPtr}

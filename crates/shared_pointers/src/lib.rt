@@ -7,6 +7,8 @@ mod cast;
 mod compare;
 mod element;
 mod row;
+#[cfg(test)]
+mod rows;
 mod step;
 
 pub use access::cell;

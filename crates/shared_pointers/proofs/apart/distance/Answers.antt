@@ -1,4 +1,4 @@
-use Rattle.std.proofs.Common.{rules, ◌≡◌, arith}
+use Rattle.std.proofs.Common.{rules}
 use Rattle.shared_pointers.proofs.Results.{difference-exact}
 use Rattle.shared_pointers.proofs.apart.distance.Goals as goal
 

@@ -1,4 +1,4 @@
-use Rattle.std.proofs.Common.{rules, ◌≡◌, arith}
+use Rattle.std.proofs.Common.{rules}
 use Rattle.shared_pointers.proofs.Results.{advanced-behind, advanced-range}
 use Rattle.shared_pointers.proofs.step.advance.Goals as goal
 
