@@ -1,0 +1,90 @@
+-- The integer kinds, their ranges and conversions between them (C99 6.2.5, 6.3.1.3).
+use Rattle.std.specs.Prelude.{ℕ, ◌^◌, ◌≡◌, ◌&&◌, Bool, true, false, if◌then◌else◌, ℤ, pos, neg_ℤ, ◌+ℤ◌, ◌-ℤ◌, ◌*ℤ◌, ◌≤ℤ◌, ◌<ℤ◌, int_le, int_lt, Result, Ok, Err}
+use Rattle.block_layout.specs.Floor.{floor_mod}
+use Rattle.block_layout.specs.declared.kind.Kind.{Kind}
+use Rattle.block_layout.specs.declared.kind.Kind.TheVariants.{Char, UChar, Short, UShort, Int, UInt, Long, ULong, Shared, Lock, Private}
+use Rattle.block_layout.specs.declared.run_error.TheConstants.{SIGNED_OVERFLOW}
+
+-- The bits of an integer kind. A kind that is no integer has none.
+abbrev pub width : Kind → ℕ
+width Char = 8
+width UChar = 8
+width Short = 16
+width UShort = 16
+width Int = 32
+width UInt = 32
+width Long = 64
+width ULong = 64
+width (Shared n b) = 0
+width Lock = 0
+width (Private n) = 0
+
+-- Whether a kind has negative values. char has them.
+abbrev pub is_signed : Kind → Bool
+is_signed Char = true
+is_signed UChar = false
+is_signed Short = true
+is_signed UShort = false
+is_signed Int = true
+is_signed UInt = false
+is_signed Long = true
+is_signed ULong = false
+is_signed (Shared n b) = false
+is_signed Lock = false
+is_signed (Private n) = false
+
+-- The least value of a kind.
+abbrev pub least : Kind → ℤ
+least Char = neg_ℤ (pos (2 ^ 7))
+least UChar = pos 0
+least Short = neg_ℤ (pos (2 ^ 15))
+least UShort = pos 0
+least Int = neg_ℤ (pos (2 ^ 31))
+least UInt = pos 0
+least Long = neg_ℤ (pos (2 ^ 63))
+least ULong = pos 0
+least (Shared n b) = pos 0
+least Lock = pos 0
+least (Private n) = pos 0
+
+-- How many values a kind has.
+abbrev pub values : Kind → ℕ
+values kind = 2 ^ width kind
+
+-- A number lies in a kind's range.
+pub record InKind (v : ℤ) (kind : Kind) : Type 0 where
+  pub low : least kind ≤ℤ v
+  pub high : v <ℤ (least kind +ℤ pos (values kind))
+
+abbrev pub in_kind : Kind → ℤ → Bool
+in_kind kind v = int_le (least kind) v && int_lt v (least kind +ℤ pos (values kind))
+
+-- An integer kind.
+abbrev pub IsInteger : Kind → Type 0
+IsInteger (Shared n b) = ⊥
+IsInteger Lock = ⊥
+IsInteger (Private n) = ⊥
+IsInteger kind = Unit {0}
+
+-- An integer kind that promotion leaves as it is (C99 6.3.1.1).
+abbrev pub IsPromoted : Kind → Type 0
+IsPromoted Int = Unit {0}
+IsPromoted UInt = Unit {0}
+IsPromoted Long = Unit {0}
+IsPromoted ULong = Unit {0}
+IsPromoted kind = ⊥
+
+-- Two numbers differ by a multiple of the number of a kind's values.
+abbrev pub AreCongruent : ℤ → ℤ → Kind → Type 0
+AreCongruent a b kind = (m : ℤ) × (a ≡ b +ℤ m *ℤ pos (values kind))
+
+-- The number of a kind's range that is congruent to v.
+abbrev pub converted : Kind → ℤ → ℤ
+converted kind v = least kind +ℤ pos (floor_mod (v -ℤ least kind) (values kind))
+
+-- An exact result at a kind: an unsigned one is brought into the range, a signed one has to lie in it (C99 6.2.5, 6.5).
+abbrev pub brought : Kind → ℤ → Result ℤ ℕ
+brought kind v =
+    if is_signed kind
+    then (if in_kind kind v then Ok v else Err SIGNED_OVERFLOW)
+    else Ok (converted kind v)

@@ -1,0 +1,12 @@
+//! Integers of C's kinds: conversions and operators (C99 6.3, 6.5).
+#![tactic(auto)]
+
+mod arithmetic;
+#[cfg(test)]
+mod edges;
+mod integer;
+mod operator;
+
+pub use arithmetic::{binary, unary};
+pub use integer::convert;
+pub use operator::{BinOp, UnOp};
