@@ -1,0 +1,4 @@
+pub mod Walks
+pub mod Records
+pub mod Legality
+pub mod Scalars
