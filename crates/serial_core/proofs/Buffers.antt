@@ -16,7 +16,7 @@ use Rattle.upc_values.specs.Drain.{Walk, emptied, oldest_out, stored, passed, lo
 use Rattle.upc_values.specs.Legal.{Opening, reply, IsWellFormed, AreWellFormedFrom, AreWellFormed}
 use Rattle.upc_values.specs.Outcomes.{fits}
 use Rattle.upc_values.proofs.Walks.{emptied-same, room-left, room-made, entries_of-append, entries-own, entries-all}
-use Rattle.upc_values.proofs.Legality.{formed-grow, formed_from-append, int-fits, reply-fits, none-waits}
+use Rattle.upc_values.proofs.Replies.{formed-grow, formed_from-append, int-fits, reply-fits, none-waits}
 use Rattle.upc_values.proofs.Scalars.{same_scalar-refl}
 use Rattle.memory_history.specs.World.{performed}
 use Rattle.write_buffer.specs.declared.pending.Pending.{Pending}

@@ -1,4 +1,4 @@
 pub mod Walks
 pub mod Records
-pub mod Legality
+pub mod Replies
 pub mod Scalars
