@@ -1,6 +1,8 @@
 //! A stand-in for the shared memory's history, with its contracts.
 #![tactic(auto)]
 
+mod step;
 mod world;
 
-pub use world::{Step, World};
+pub use step::Step;
+pub use world::World;

@@ -1,6 +1,7 @@
 -- What commits and stores make of a buffer that holds a walk.
 use Rattle.std.proofs.Common.{◌≡◌, ℕ, ◌+◌, ◌<◌, ◌≤◌, Bool, true, false, cond, List, [], ◌∷◌, ◌++◌, length, map, Option, Some, None, refl, sym, ap, subst, ◌∙◌, append-nil, append_assoc, arith}
-use Rattle.std.specs.Prelude.{option_map}
+use Rattle.std.specs.Prelude.{option_map, IfSome}
+use Rattle.std.specs.Option.{option_or}
 use Rattle.std.proofs.lemmas.Bool.{and_from}
 use Rattle.std.proofs.lemmas.List.{length-append, length-map, map-append}
 use Rattle.block_layout.specs.declared.place.Loc.{Loc}
@@ -13,14 +14,15 @@ use Rattle.upc_values.specs.declared.journal.Entry.{Entry}
 use Rattle.upc_values.specs.Lists.{Each}
 use Rattle.upc_values.specs.Scalars.{same_loc}
 use Rattle.upc_values.specs.Drain.{Walk, emptied, oldest_out, stored, passed, looked_up, gone, or_else, last_written, entry_of, entries_of}
-use Rattle.upc_values.specs.Legal.{Opening, reply, IsWellFormed, AreWellFormedFrom, AreWellFormed}
+use Rattle.upc_values.specs.Legal.{Opening, reply, IsWellFormed}
 use Rattle.upc_values.specs.Outcomes.{fits}
 use Rattle.upc_values.proofs.Walks.{emptied-same, room-left, room-made, entries_of-append, entries-own, entries-all}
-use Rattle.upc_values.proofs.Replies.{formed-grow, formed_from-append, int-fits, reply-fits, none-waits}
+use Rattle.upc_values.proofs.Legality.{unlawful-waits}
+use Rattle.upc_values.proofs.Replies.{formed-grow, int-fits}
 use Rattle.upc_values.proofs.Scalars.{same_scalar-refl}
 use Rattle.memory_history.specs.World.{performed}
 use Rattle.write_buffer.specs.declared.pending.Pending.{Pending}
-use Rattle.write_buffer.specs.Buffer.{first_of_two, youngest, committed}
+use Rattle.write_buffer.specs.Buffer.{youngest, committed}
 use Rattle.serial_core.specs.declared.emit.Way.TheVariants.{Stores, Looks, Passes, Empties}
 use Rattle.serial_core.specs.Kept.{way_of, AreFormed, Holds, AllOf, Grew, Emitted, IsAnswer}
 
@@ -76,56 +78,32 @@ pub pending-grow : (o : Opening) (seen more : List Entry) (ps : List Pending) �
 pending-grow o seen more [] h = tt
 pending-grow o seen more (p ∷ ps) h = (formed-grow o seen more (Write p.loc p.value false) h.0, pending-grow o seen more ps h.1)
 
-pub grew-same : (o : Opening) (t : ℕ) (old new : List Entry) → new ≡ old → Grew o t old new
-grew-same o t old new h = record { more = []; is = h ∙ sym (append-nil old); all_own = tt; formed = tt }
+pub grew-same : (t : ℕ) (old new : List Entry) → new ≡ old → Grew t old new
+grew-same t old new h = record { more = []; is = h ∙ sym (append-nil old); all_own = tt }
 
-pub grew-then : (o : Opening) (t : ℕ) (old mid new : List Entry) → Grew o t mid new → Grew o t old mid → Grew o t old new
-grew-then o t old mid new g f = record {
+pub grew-then : (t : ℕ) (old mid new : List Entry) → Grew t mid new → Grew t old mid → Grew t old new
+grew-then t old mid new g f = record {
   more = f.more ++ g.more;
   is = g.is ∙ ap (λ l. l ++ g.more) f.is ∙ append_assoc old f.more g.more;
   all_own = each-append (λ e. e.thread ≡ t) f.more g.more f.all_own g.all_own;
-  formed = formed_from-append o old f.more g.more f.formed (subst (λ l. AreWellFormedFrom o l g.more) f.is g.formed);
 }
 
-pub grew-performed : (o : Opening) (t n : ℕ) (old new : List Entry) (a : Action) (found : Option Reply) → IsWellFormed o old a
-    → new ≡ performed old t n a found → Grew o t old new
-grew-performed o t n old new a None f h = grew-same o t old new h
-grew-performed o t n old new a (Some r) f h = record {
-  more = entry_of t n a r ∷ [];
-  is = h;
-  all_own = (refl, tt);
-  formed = (f, tt);
-}
+pub grew-performed : (t n : ℕ) (old new : List Entry) (a : Action) (found : Option Reply) → new ≡ performed old t n a found → Grew t old new
+grew-performed t n old new a None h = grew-same t old new h
+grew-performed t n old new a (Some r) h = record { more = entry_of t n a r ∷ []; is = h; all_own = (refl, tt) }
 
-pub formed-grew : (o : Opening) (t : ℕ) (old new : List Entry) → AreWellFormed o old → Grew o t old new → AreWellFormed o new
-formed-grew o t old new h g = subst (AreWellFormed o) (sym g.is) (formed_from-append o [] old g.more h g.formed)
-
-pub asked-grew : (o : Opening) (t : ℕ) (old new : List Entry) (a : Action) → IsWellFormed o old a → Grew o t old new → IsWellFormed o new a
+pub asked-grew : (o : Opening) (t : ℕ) (old new : List Entry) (a : Action) → IsWellFormed o old a → Grew t old new → IsWellFormed o new a
 asked-grew o t old new a h g = subst (λ l. IsWellFormed o l a) (sym g.is) (formed-grow o old g.more a h)
 
-pub pending-grew : (o : Opening) (t : ℕ) (old new : List Entry) (ps : List Pending) → AreFormed o old ps → Grew o t old new → AreFormed o new ps
-pending-grew o t old new ps h g = subst (λ l. AreFormed o l ps) (sym g.is) (pending-grow o old g.more ps h)
+pub ruleset grows = (grew-same, grew-performed)
 
-pub ruleset grows = (grew-same, grew-then, grew-performed)
+pub ruleset grown = (grew-same, grew-then, grew-performed)
 
 -- all pending are committed
 
 committed-own : (t : ℕ) (ps : List Pending) → AllOf t (map (committed t) ps)
 committed-own t [] = tt
 committed-own t (p ∷ ps) = (refl, committed-own t ps)
-
-committed-formed : (o : Opening) (t : ℕ) (seen : List Entry) (ps : List Pending) → AreFormed o seen ps → AreWellFormedFrom o seen (map (committed t) ps)
-committed-formed o t seen [] h = tt
-committed-formed o t seen (p ∷ ps) h =
-    (h.0, committed-formed o t (seen ++ committed t p ∷ []) ps (pending-grow o seen (committed t p ∷ []) ps h.1))
-
-pub grew-committed : (o : Opening) (t : ℕ) (seen : List Entry) (ps : List Pending) → AreFormed o seen ps → Grew o t seen (seen ++ map (committed t) ps)
-grew-committed o t seen ps h = record {
-  more = map (committed t) ps;
-  is = refl;
-  all_own = committed-own t ps;
-  formed = committed-formed o t seen ps h;
-}
 
 pub holds-emptied : (o : Opening) (t n : ℕ) (seen : List Entry) (ps : List Pending) (w : Walk) → Holds o t seen ps n w
     → Holds o t (seen ++ map (committed t) ps) [] n (emptied w)
@@ -231,7 +209,7 @@ value_of : Pending → Scalar
 value_of p = p.value
 
 first-value : (f : Option Pending) (b : Bool) (p : Pending)
-    → or_else (option_map (λ q. q.value) f) (cond b (Some p.value) None) ≡ option_map (λ q. q.value) (first_of_two f (cond b (Some p) None))
+    → or_else (option_map (λ q. q.value) f) (cond b (Some p.value) None) ≡ option_map (λ q. q.value) (option_or f (cond b (Some p) None))
 first-value (Some q) b p = refl
 first-value None true p = refl
 first-value None false p = refl
@@ -245,7 +223,7 @@ pub youngest-formed : (o : Opening) (seen : List Entry) (l : Loc) (ps : List Pen
     → IsWellFormed o seen (Write q.loc q.value false)
 youngest-formed o seen l [] q h e = absurd cc
 youngest-formed o seen l (p ∷ ps) q h e =
-    let G : Option Pending → Bool → Type 0 = λ f b. youngest l ps ≡ f → first_of_two f (cond b (Some p) None) ≡ Some q
+    let G : Option Pending → Bool → Type 0 = λ f b. youngest l ps ≡ f → option_or f (cond b (Some p) None) ≡ Some q
     → IsWellFormed o seen (Write q.loc q.value false) in
     let go : (f : Option Pending) (b : Bool) → G f b = λ f b. elim f as (λ f. G f b) [
       | Some g ↦ λ x y. youngest-formed o seen l ps q h.1 (x ∙ y)
@@ -316,11 +294,11 @@ emitted-empties o t n seen new a (Some r) w h is k =
     (subst (λ z. Holds o t z [] (n + 1) (passed (entry_of t n a r) (emptied w))) (sym is) (holds-pass o t n seen [] a r (emptied w) k))
 
 -- what the answer says of itself
-pub answer-is : (o : Opening) (t n : ℕ) (seen new : List Entry) (a : Action) (found : Option Reply) → AreWellFormed o seen
-    → IsWellFormed o seen a → found ≡ reply o seen t a → new ≡ performed seen t n a found → IsAnswer o t new a found
-answer-is o t n seen new a None h f e is =
-    (none-waits o seen t a f (sym e), subst (λ z. reply o z t a ≡ None) (sym is) (sym e))
-answer-is o t n seen new a (Some r) h f e is = reply-fits o seen t a r h f (sym e)
+pub answer-is : (o : Opening) (t n : ℕ) (seen new : List Entry) (a : Action) (found : Option Reply) → IsWellFormed o seen a
+    → found ≡ reply o seen t a → IfSome found (λ r. fits a r ≡ true) → new ≡ performed seen t n a found → IsAnswer o t new a found
+answer-is o t n seen new a None f e k is =
+    (unlawful-waits o seen t a f (sym e), subst (λ z. reply o z t a ≡ None) (sym is) (sym e))
+answer-is o t n seen new a (Some r) f e k is = k
 
 -- what the buffer's look-up found
 
@@ -360,3 +338,10 @@ forwarded-fits o i l v seen ps a formed h y =
     subst (λ b. fits b (Value v) ≡ true) (sym (looks-is a l h))
     (subst (λ u. fits (Read l false) (Value u) ≡ true) f.2
     (int-fits l false f.0.value (youngest-formed o seen l ps f.0 formed f.1).1))
+
+-- the buffer is emptied, as at an end
+pub holds-finished : (o : Opening) (t n : ℕ) (seen new : List Entry) (ps qs : List Pending) (w : Walk) → qs ≡ []
+    → new ≡ seen ++ map (committed t) ps → Holds o t seen ps n w → Holds o t new qs n (emptied w)
+holds-finished o t n seen new ps qs w none is k =
+    subst (λ l. Holds o t l qs n (emptied w)) (sym is)
+    (subst (λ l. Holds o t (seen ++ map (committed t) ps) l n (emptied w)) (sym none) (holds-emptied o t n seen ps w k))

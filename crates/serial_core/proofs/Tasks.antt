@@ -3,6 +3,7 @@ use Rattle.std.proofs.Common.{◌≡◌, ◌≢◌, ℕ, ◌+◌, ◌*◌, ◌<�
 use Rattle.std.specs.Prelude.{◌⊎◌}
 use Rattle.std.proofs.lemmas.Bool.{false≢true, cond-true, cond-false}
 use Rattle.std.proofs.lemmas.List.{length-append}
+use Rattle.std.proofs.Math.Nat.{mul-le-mul_left}
 use Rattle.upc_values.specs.declared.action.Action.{Action}
 use Rattle.upc_values.specs.declared.action.Action.TheVariants.{Beat}
 use Rattle.upc_values.specs.declared.action.Reply.{Reply}
@@ -32,7 +33,7 @@ use Rattle.write_buffer.specs.declared.pending.Pending.{Pending}
 use Rattle.write_buffer.specs.Buffer.{committed}
 use Rattle.serial_core.specs.declared.limits.Limits.{Limits}
 use Rattle.serial_core.specs.declared.task.Task.{Task}
-use Rattle.serial_core.specs.Kept.{Holds, AreFormed, meaning_of, outcome_of, IsRecord, Goes, HasEnd, settled, IsKept, AllOf, Grew, Emitted, IsAnswer, IsPausing, CanEnd, is_given, own_end}
+use Rattle.serial_core.specs.Kept.{AreLimits, Holds, AreFormed, meaning_of, outcome_of, IsRecord, Goes, HasEnd, settled, IsKept, AllOf, Grew, Emitted, IsAnswer, IsPausing, CanEnd, is_given, own_end}
 use Rattle.serial_core.proofs.Buffers.{holds-unemptied, holds-grow}
 
 -- the meaning of a task's source keeps what every meaning keeps
@@ -47,7 +48,7 @@ kept-asks o p seen k a h w =
     (kept-means o p seen k h).formed (replies_of k.items.items) seen a (sym (h.goes.wished (Act a) w).1)
 
 -- a stall is justified by what was seen when it was made
-justified-grew : (o : Opening) (t : ℕ) (seen later : List Entry) (want : Option Action) (xs : List Item) → Grew o t seen later
+justified-grew : (o : Opening) (t : ℕ) (seen later : List Entry) (want : Option Action) (xs : List Item) → Grew t seen later
     → AreJustified o t seen want [] xs → AreJustified o t later want [] xs
 justified-grew o t seen later want xs g h =
     subst (λ l. AreJustified o t l want [] xs) (sym g.is) (justified-grow o t seen g.more want [] xs h)
@@ -76,7 +77,7 @@ has-asked p t n b machine answer wish items w g q = elim g.asked [
 -- an action
 pub kept-did : (o : Opening) (p : First) (seen later : List Entry) (k m : Task) (a : Action) (r : Reply)
     → IsKept o p seen k → k.«end» ≡ None → k.wish ≡ Some (Act a) → length k.items.items < k.limits.actions
-    → Grew o k.thread seen later
+    → Grew k.thread seen later
     → ((w : Walk) → Holds o k.thread seen k.buffer k.next w → Emitted o k.thread later m.buffer k.next a (Some r) w)
     → fits a r ≡ true → m.items.items ≡ k.items.items ++ Did a r ∷ []
     → IsKept o p later record { machine = k.machine; thread = k.thread; limits = k.limits; items = m.items; buffer = m.buffer; next = k.next + 1; answer = Some r; wish = None; «end» = k.«end» }
@@ -132,7 +133,7 @@ kept-did o p seen later k m a r h opened wants room g em f is =
 -- a new stall
 pub kept-stall : (o : Opening) (p : First) (seen later : List Entry) (k m : Task) (a : Action)
     → IsKept o p seen k → k.«end» ≡ None → k.wish ≡ Some (Act a) → length k.items.items < k.limits.actions
-    → Grew o k.thread seen later
+    → Grew k.thread seen later
     → ((w : Walk) → Holds o k.thread seen k.buffer k.next w → Emitted o k.thread later m.buffer k.next a None w)
     → IsAnswer o k.thread later a None → is_stall (last_item k.items.items) ≡ false
     → m.items.items ≡ k.items.items ++ Stall ∷ []
@@ -183,7 +184,7 @@ kept-stall o p seen later k m a h opened wants room g em none still is =
 
 -- no stall after a stall
 pub kept-stay : (o : Opening) (p : First) (seen later : List Entry) (k m : Task) (a : Action)
-    → IsKept o p seen k → k.«end» ≡ None → k.wish ≡ Some (Act a) → Grew o k.thread seen later
+    → IsKept o p seen k → k.«end» ≡ None → k.wish ≡ Some (Act a) → Grew k.thread seen later
     → ((w : Walk) → Holds o k.thread seen k.buffer k.next w → Emitted o k.thread later m.buffer k.next a None w)
     → is_stall (last_item k.items.items) ≡ true → m.items.items ≡ k.items.items
     → IsKept o p later record { machine = k.machine; thread = k.thread; limits = k.limits; items = m.items; buffer = m.buffer; next = k.next; answer = k.answer; wish = Some (Act a); «end» = k.«end» }
@@ -218,7 +219,7 @@ own-ticks m items e h = refl
 
 -- an end of its own
 pub kept-closed : (o : Opening) (p : First) (seen later : List Entry) (k m : Task) (w : Wish) (e : End)
-    → IsKept o p seen k → k.«end» ≡ None → k.wish ≡ Some w → Grew o k.thread seen later
+    → IsKept o p seen k → k.«end» ≡ None → k.wish ≡ Some w → Grew k.thread seen later
     → ((z : Walk) → Holds o k.thread seen k.buffer k.next z → Holds o k.thread later m.buffer k.next (emptied z)) → m.buffer ≡ []
     → OwnEnd k.limits.actions (outcome_of p k).«end» k.items.items e → is_given e ≡ false
     → IsKept o p later record { machine = k.machine; thread = k.thread; limits = k.limits; items = k.items; buffer = m.buffer; next = k.next; answer = k.answer; wish = k.wish; «end» = Some e }
@@ -350,7 +351,7 @@ kept-ended o p seen k e h opened can =
 
 -- what others append changes nothing
 pub kept-grow : (o : Opening) (p : First) (t : ℕ) (seen later : List Entry) (k : Task) → IsKept o p seen k → (k.thread ≢ t)
-    → Grew o t seen later → IsKept o p later k
+    → Grew t seen later → IsKept o p later k
 kept-grow o p t seen later k h ne g = record {
   opened = h.opened;
   within = h.within;
@@ -370,6 +371,9 @@ kept-grow o p t seen later k h ne g = record {
   goes = h.goes;
   ended = h.ended;
 }
+
+pub few-actions : (l : Limits) → AreLimits l → l.actions < 2 ^ 32
+few-actions l h = let all = h.all in omega (arith, mul-le-mul_left l.actions h.some)
 
 -- a new task, of whose thread nothing was seen
 pub kept-new : (p : First) (seen : List Entry) (k : Task) → k.items.items ≡ [] → k.buffer ≡ [] → k.next ≡ 0 → k.answer ≡ None → k.wish ≡ None

@@ -11,7 +11,7 @@ use Rattle.upc_values.specs.declared.journal.Entry.{Entry}
 use Rattle.upc_values.specs.declared.journal.Strand.{Strand}
 use Rattle.upc_values.specs.Lists.{Each}
 use Rattle.upc_values.specs.Drain.{Walk, walked, entries_of, emptied, gone, entry_of}
-use Rattle.upc_values.specs.Legal.{Opening, reply, IsWellFormed, AreWellFormedFrom}
+use Rattle.upc_values.specs.Legal.{Opening, reply, IsWellFormed}
 use Rattle.upc_values.specs.Outcomes.{Outcome, wanted, fits}
 use Rattle.upc_values.specs.Records.{actions_of, replies_of, last_item, is_stall, is_beat, is_beat_item, beats}
 use Rattle.upc_values.specs.Strands.{StallsStand, AreJustified, strand_ticks, may_wait}
@@ -64,12 +64,11 @@ pub record Holds (o : Opening) (t : ℕ) (seen : List Entry) (pending : List Pen
 abbrev pub AllOf : ℕ → List Entry → Type 0
 AllOf t es = Each (λ e. e.thread ≡ t) es
 
--- the history grew by entries of t alone, each of them well formed
-pub record Grew (o : Opening) (t : ℕ) (old new : List Entry) : Type 0 where
+-- the history grew by entries of t alone
+pub record Grew (t : ℕ) (old new : List Entry) : Type 0 where
   pub more : List Entry
   pub is : new ≡ old ++ more
   pub all_own : AllOf t more
-  pub formed : AreWellFormedFrom o old more
 
 -- the buffer and the history after an action with this answer, where the walk had come to w
 abbrev pub Emitted : Opening → ℕ → List Entry → List Pending → ℕ → Action → Option Reply → Walk → Type 0

@@ -4,7 +4,7 @@ ghost use Rattle.std.specs.Prelude.{◌≡◌, ℕ, ◌<◌, ◌+◌, [], ◌∷
 ghost use Rattle.upc_values.specs.declared.action.Action.TheVariants.{Write};
 ghost use Rattle.upc_values.specs.declared.action.Reply.TheVariants.{Done};
 ghost use Rattle.upc_values.specs.Drain.{Walk, emptied, gone, entry_of};
-ghost use Rattle.upc_values.specs.Legal.{IsWellFormed, AreWellFormed};
+ghost use Rattle.upc_values.specs.Legal.{IsWellFormed};
 ghost use Rattle.memory_history.specs.World.{answer_of};
 ghost use Rattle.write_buffer.specs.Buffer.{committed};
 ghost use Rattle.serial_core.specs.Kept.{way_of, AreFormed, Holds, Grew, Emitted, IsAnswer};
@@ -45,7 +45,7 @@ fn commit(thread: u32, world: &mut World, write: Pending) -> Result<(), AllocErr
     requires below { thread < world.old.0.threads }
     requires formed { IsWellFormed world.old.0 world.old.1 (Write write.loc write.value false) }
     ensures one { IfOk result (λ _. world.new.1 ≡ world.old.1 ++ committed thread write ∷ []) }
-    ensures grew { Grew world.old.0 thread world.old.1 world.new.1 }
+    ensures grew { Grew thread world.old.1 world.new.1 }
     ensures opening { world.new.0 ≡ world.old.0 }
 {
     let action = Action::Write {
@@ -58,11 +58,12 @@ fn commit(thread: u32, world: &mut World, write: Pending) -> Result<(), AllocErr
 }
 
 /// All pending writes are committed, in order.
+#[tactic(auto, using(crate::proofs::Buffers::grown))]
 pub fn empty(thread: u32, world: &mut World, buffer: &mut WriteBuffer) -> Result<(), AllocError>
     requires below { thread < world.old.0.threads }
     requires formed { AreFormed world.old.0 world.old.1 buffer.old }
     ensures all { IfOk result (λ _. (buffer.new ≡ []) × (world.new.1 ≡ world.old.1 ++ map (committed thread) buffer.old)) }
-    ensures grew { Grew world.old.0 thread world.old.1 world.new.1 }
+    ensures grew { Grew thread world.old.1 world.new.1 }
     ensures opening { world.new.0 ≡ world.old.0 }
 {
     while let Some(oldest) = buffer.take_oldest() {
@@ -84,7 +85,7 @@ fn store(
     requires formed { AreFormed world.old.0 world.old.1 buffer.old }
     requires asked { IsWellFormed world.old.0 world.old.1 (Write loc value false) }
     ensures holds { IfOk result (λ _. (w : Walk) → Holds world.old.0 thread world.old.1 buffer.old next w → Holds world.old.0 thread world.new.1 buffer.new (next + 1) (gone (entry_of thread next (Write loc value false) Done) (Write loc value false) w)) }
-    ensures grew { Grew world.old.0 thread world.old.1 world.new.1 }
+    ensures grew { Grew thread world.old.1 world.new.1 }
     ensures opening { world.new.0 ≡ world.old.0 }
 {
     if let Some(oldest) = buffer.store(next, loc, value) {
@@ -104,11 +105,10 @@ pub fn emit(
 ) -> Result<Step, AllocError>
     requires below { thread < world.old.0.threads }
     requires pending { AreFormed world.old.0 world.old.1 buffer.old }
-    requires formed { AreWellFormed world.old.0 world.old.1 }
     requires asked { IsWellFormed world.old.0 world.old.1 action.now }
     ensures holds { IfOk result (λ s. (w : Walk) → Holds world.old.0 thread world.old.1 buffer.old next w → Emitted world.old.0 thread world.new.1 buffer.new next action.now (answer_of s) w) }
     ensures answer { IfOk result (λ s. IsAnswer world.old.0 thread world.new.1 action.now (answer_of s)) }
-    ensures grew { Grew world.old.0 thread world.old.1 world.new.1 }
+    ensures grew { Grew thread world.old.1 world.new.1 }
     ensures opening { world.new.0 ≡ world.old.0 }
 {
     match way_through(action) {

@@ -10,6 +10,7 @@ ghost use Rattle.upc_values.specs.Ends.{OwnEnd};
 ghost use Rattle.first_language.specs.declared.tree.First.{First};
 ghost use Rattle.first_language.specs.declared.machine.Wish.TheVariants.{Act};
 ghost use Rattle.first_language.specs.Meaning.{opening_of};
+ghost use Rattle.serial_core.specs.declared.task.Pause.TheVariants.{Finished};
 ghost use Rattle.serial_core.specs.Kept as kept;
 ghost use Rattle.serial_core.specs.Kept.{AreLimits, IsKept, IsSame, Grew, Paused, CanEnd, Adds, Waits, is_given, outcome_of, strand_of};
 
@@ -51,11 +52,20 @@ pub struct Task {
     end: Option<End>,
 }
 
+fn is_stall(item: &Item) -> bool
+    ensures { result ≡ records.is_stall (Some item.now) }
+{
+    matches!(item, Item::Stall)
+}
+
 // Whether the last item is a Stall.
 fn ends_with_stall(items: &[Item]) -> bool
     ensures { result ≡ records.is_stall (records.last_item items.now) }
 {
-    matches!(items.last(), Some(Item::Stall))
+    match items.last() {
+        Some(item) => is_stall(item),
+        None => false,
+    }
 }
 
 fn is_beat(action: &Action) -> bool
@@ -107,5 +117,79 @@ impl Task {
             wish: None,
             end: None,
         })
+    }
+    /// Does the private work up to the next wish, after which the task is ready. On a ready task it changes nothing.
+    pub fn work(&mut self, program: &First) -> Result<(), AllocError>
+        requires { self.old.«end» ≡ None }
+        ensures kept { IfOk result (λ _. (o : Opening) (seen : List Entry) → IsKept o program.now seen self.old → IsKept o program.now seen self.new) }
+        ensures ready { IfOk result (λ _. is_some self.new.wish ≡ true) }
+        ensures same { IfOk result (λ _. IsSame self.old self.new × (self.new.«end» ≡ None)) }
+        ensures items { IfOk result (λ _. self.new.items ≡ self.old.items) }
+        ensures unchanged { is_some self.old.wish ≡ true → self.new ≡ self.old }
+    {
+        if self.wish.is_none() {
+            let reply = self.answer.take();
+            let wish = self.machine.resume(program, reply)?;
+            self.wish = Some(wish);
+        }
+        Ok(())
+    }
+
+    // The buffer is emptied, and the task has its end.
+    fn close(&mut self, world: &mut World, end: End) -> Result<Pause, AllocError>
+        requires kept { (p : First) × IsKept world.old.0 p world.old.1 self.old }
+        requires ready { (self.old.«end» ≡ None) × (is_some self.old.wish ≡ true) }
+        requires own { (p : First) → IsKept world.old.0 p world.old.1 self.old → OwnEnd self.old.limits.actions (outcome_of p self.old).«end» self.old.items.items «end» }
+        requires comes { is_given «end» ≡ false }
+        ensures kept { IfOk result (λ _. (p : First) → IsKept world.old.0 p world.old.1 self.old → IsKept world.new.0 p world.new.1 self.new) }
+        ensures same { IsSame self.old self.new }
+        ensures grew { Grew self.old.thread world.old.1 world.new.1 }
+        ensures pause { IfOk result (λ p. (p ≡ Finished) × Paused p self.new) }
+        ensures items { self.new.items ≡ self.old.items }
+        ensures opening { world.new.0 ≡ world.old.0 }
+    {
+        empty(self.thread, world, &mut self.buffer)?;
+        self.end = Some(end);
+        Ok(Pause::Finished)
+    }
+
+    // Does the wanted action, or stalls before it.
+    fn act(&mut self, world: &mut World) -> Result<Pause, AllocError>
+        requires kept { (p : First) × IsKept world.old.0 p world.old.1 self.old }
+        requires ready { (self.old.«end» ≡ None) × ((a : Action) × (self.old.wish ≡ Some (Act a))) }
+        requires room { length self.old.items.items < self.old.limits.actions }
+        ensures kept { IfOk result (λ _. (p : First) → IsKept world.old.0 p world.old.1 self.old → IsKept world.new.0 p world.new.1 self.new) }
+        ensures same { IsSame self.old self.new }
+        ensures grew { Grew self.old.thread world.old.1 world.new.1 }
+        ensures pause { IfOk result (λ p. Paused p self.new) }
+        ensures adds { IfOk result (λ p. Adds p self.old.wish self.old.items.items self.new.items.items) }
+        ensures waits { IfOk result (λ p. Waits p world.new.0 world.new.1 self.new) }
+        ensures opening { world.new.0 ≡ world.old.0 }
+    {
+        self.items.reserve(1)?;
+        let stalls = ends_with_stall(self.items.as_slice());
+        let Some(Wish::Act(action)) = self.wish.take() else {
+            unreachable!()
+        };
+        match emit(self.thread, self.next, world, &mut self.buffer, &action)? {
+            Step::Done(reply) => {
+                let pause = if is_beat(&action) {
+                    Pause::Beat
+                } else {
+                    Pause::Going
+                };
+                self.items.push_reserved(Item::Did(action, reply));
+                self.next += 1;
+                self.answer = Some(reply);
+                Ok(pause)
+            }
+            Step::Disabled => {
+                self.wish = Some(Wish::Act(action));
+                if !stalls {
+                    self.items.push_reserved(Item::Stall);
+                }
+                Ok(Pause::Stalled)
+            }
+        }
     }
 }

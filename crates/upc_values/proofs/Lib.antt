@@ -1,3 +1,5 @@
+pub mod Legality
+pub mod Waits
 pub mod Walks
 pub mod Records
 pub mod Replies

@@ -7,3 +7,4 @@ pub mod Legal
 pub mod Strands
 pub mod Ends
 pub mod Sound
+pub mod Waits

@@ -2,7 +2,7 @@ use Rattle.std.proofs.Common.{[], sym, subst, ap, ◌∙◌}
 use Rattle.upc_values.specs.Drain.{emptied}
 use Rattle.memory_history.specs.World.{answer_of}
 use Rattle.serial_core.specs.Kept.{Holds, Emitted}
-use Rattle.serial_core.proofs.Buffers.{emitted-forwarded, forwarded-fits, emitted-looked, emitted-empties, found-none, answer-is, holds-emptied, grew-then, grew-performed, formed-grew, asked-grew}
+use Rattle.serial_core.proofs.Buffers.{emitted-forwarded, forwarded-fits, emitted-looked, emitted-empties, found-none, answer-is, holds-emptied, grew-then, grew-performed, asked-grew}
 use Rattle.serial_core.proofs.emit.emit.Goals as goal
 
 pub returns-in-Some-clause-holds : goal.returns-in-Some-clause-holds
@@ -25,7 +25,7 @@ pub returns-in_ok-step-in-None-clause-answer : goal.returns-in_ok-step-in-None-c
 returns-in_ok-step-in-None-clause-answer c =
     let e = c.in_ok-step-in-None.ensures in
     answer-is c.args.world.now.0 c.args.thread c.args.next c.args.world.now.1 c.perform.new.self.1 c.args.action.now
-    (answer_of c.in_ok-step-in-None.step) c.requires.formed c.requires.asked e.reply e.entries
+    (answer_of c.in_ok-step-in-None.step) c.requires.asked e.reply e.fits e.entries
 
 pub returns-in_ok-step-in-Empties-clause-holds : goal.returns-in_ok-step-in-Empties-clause-holds
 returns-in_ok-step-in-Empties-clause-holds c = λ w k.
@@ -42,13 +42,12 @@ returns-in_ok-step-in-Empties-clause-answer c =
     let o = c.args.world.now.0 in let t = c.args.thread in let mid = c.empty.new.world.1 in let a = c.args.action.now in
     let e = c.in_ok-step-in-Empties.ensures in let f = c.in_ok-empty-in-Empties.ensures in
     answer-is o t c.args.next mid c.perform-in-Empties.new.self.1 a (answer_of c.in_ok-step-in-Empties.step)
-    (formed-grew o t c.args.world.now.1 mid c.requires.formed f.grew) (asked-grew o t c.args.world.now.1 mid a c.requires.asked f.grew)
-    (e.reply ∙ ap (λ z. Rattle.upc_values.specs.Legal.reply z mid t a) f.opening) e.entries
+    (asked-grew o t c.args.world.now.1 mid a c.requires.asked f.grew)
+    (e.reply ∙ ap (λ z. Rattle.upc_values.specs.Legal.reply z mid t a) f.opening) e.fits e.entries
 
 pub returns-in_ok-step-in-Empties-clause-grew : goal.returns-in_ok-step-in-Empties-clause-grew
 returns-in_ok-step-in-Empties-clause-grew c =
-    let o = c.args.world.now.0 in let t = c.args.thread in let old = c.args.world.now.1 in let mid = c.empty.new.world.1 in let a = c.args.action.now in
-    let f = c.in_ok-empty-in-Empties.ensures in
-    grew-then o t old mid c.perform-in-Empties.new.self.1
-    (grew-performed o t c.args.next mid c.perform-in-Empties.new.self.1 a (answer_of c.in_ok-step-in-Empties.step)
-    (asked-grew o t old mid a c.requires.asked f.grew) c.in_ok-step-in-Empties.ensures.entries) f.grew
+    let t = c.args.thread in let mid = c.empty.new.world.1 in let new = c.perform-in-Empties.new.self.1 in
+    grew-then t c.args.world.now.1 mid new
+      (grew-performed t c.args.next mid new c.args.action.now (answer_of c.in_ok-step-in-Empties.step) c.in_ok-step-in-Empties.ensures.entries)
+      c.in_ok-empty-in-Empties.ensures.grew

@@ -15,12 +15,5 @@ loop-oldest-preserved c =
           ∙ ap (λ l. mid ++ map (committed t) l) (sym moved) ∙ h.all;
       formed = subst (λ l. AreFormed o l q) (sym s.one) (pending-grow o mid (committed t p ∷ []) q formed.1);
       opening = s.opening ∙ h.opening;
-      grew = grew-then o t c.args.world.now.1 mid c.commit.new.world.1
-          (subst (λ z. Grew z t mid c.commit.new.world.1) h.opening s.grew) h.grew;
+      grew = grew-then t c.args.world.now.1 mid c.commit.new.world.1 s.grew h.grew;
     }
-
-pub returns-in_err-commit-clause-grew : goal.returns-in_err-commit-clause-grew
-returns-in_err-commit-clause-grew c =
-    let t = c.args.thread in let h = c.loop-oldest.invariant in let s = c.in_err-commit.ensures in let mid = c.loop-oldest.world.1 in
-    grew-then c.args.world.now.0 t c.args.world.now.1 mid c.commit.new.world.1
-    (subst (λ z. Grew z t mid c.commit.new.world.1) h.opening s.grew) h.grew

@@ -8,7 +8,7 @@ invariant-loop-oldest l = record {
   all : l.world.1 ++ map (committed l.thread) l.buffer ≡ l.fn.world.1 ++ map (committed l.thread) l.fn.buffer;
   formed : AreFormed l.fn.world.0 l.world.1 l.buffer;
   opening : l.world.0 ≡ l.fn.world.0;
-  grew : Grew l.fn.world.0 l.thread l.fn.world.1 l.world.1;
+  grew : Grew l.thread l.fn.world.1 l.world.1;
 }
 
 abbrev pub decreases-loop-oldest : goal.decreases-loop-oldest
