@@ -1,6 +1,5 @@
 -- What a task keeps: at an action, at a stall, at its end, and while others append.
-use Rattle.std.proofs.Common.{◌≡◌, ◌≢◌, ℕ, ◌+◌, ◌*◌, ◌<◌, ◌≤◌, ◌^◌, Bool, true, false, cond, List, [], ◌∷◌, ◌++◌, length, map, Option, Some, None, is_some, refl, sym, ap, subst, ◌∙◌, append-nil, arith, inl, inr}
-use Rattle.std.specs.Prelude.{◌⊎◌}
+use Rattle.std.proofs.Common.{◌≡◌, ◌≢◌, ℕ, ◌+◌, ◌*◌, ◌<◌, ◌≤◌, ◌^◌, Bool, true, false, List, [], ◌∷◌, ◌++◌, length, map, Option, Some, None, is_some, refl, sym, ap, subst, ◌∙◌, append-nil, arith, inl, inr}
 use Rattle.std.proofs.lemmas.Bool.{false≢true, cond-true, cond-false}
 use Rattle.std.proofs.lemmas.List.{length-append}
 use Rattle.std.proofs.Math.Nat.{mul-le-mul_left}
@@ -9,16 +8,15 @@ use Rattle.upc_values.specs.declared.action.Action.TheVariants.{Beat}
 use Rattle.upc_values.specs.declared.action.Reply.{Reply}
 use Rattle.upc_values.specs.declared.record.Item.{Item}
 use Rattle.upc_values.specs.declared.record.Item.TheVariants.{Did, Stall}
-use Rattle.upc_values.specs.declared.record.ToldEnd.{ToldEnd}
 use Rattle.upc_values.specs.declared.record.ToldEnd.TheVariants as told
 use Rattle.upc_values.specs.declared.record.End.{End}
 use Rattle.upc_values.specs.declared.record.End.TheVariants as ends
 use Rattle.upc_values.specs.declared.journal.Entry.{Entry}
-use Rattle.upc_values.specs.Drain.{Walk, emptied, walked, gone, entry_of, entries_of, drain}
-use Rattle.upc_values.specs.Legal.{Opening, reply, IsWellFormed}
+use Rattle.upc_values.specs.Drain.{Walk, emptied, walked, gone, entry_of, entries_of}
+use Rattle.upc_values.specs.Legal.{Opening, IsWellFormed}
 use Rattle.upc_values.specs.Outcomes.{Outcome, wanted, fits, IsMeaning}
-use Rattle.upc_values.specs.Records.{actions_of, replies_of, last_item, is_stall, is_beat, is_beat_item, beats}
-use Rattle.upc_values.specs.Strands.{StallsStand, AreJustified, strand_ticks, may_wait}
+use Rattle.upc_values.specs.Records.{actions_of, replies_of, last_item, is_stall, is_beat_item, beats}
+use Rattle.upc_values.specs.Strands.{StallsStand, AreJustified, strand_ticks}
 use Rattle.upc_values.specs.Ends.{OwnEnd, is_pause}
 use Rattle.upc_values.proofs.Walks.{walked-push, paused-empty, stall-pauses, beat-pauses, emptied-same, entries-other}
 use Rattle.upc_values.proofs.Records.{last-push, actions-did, replies-did, actions-stall, replies-stall, stand-did, stand-stall, justified-did, justified-stall, justified-grow, beats-push, beat-of, stall-no_beat}
@@ -26,14 +24,13 @@ use Rattle.first_language.specs.declared.tree.First.{First}
 use Rattle.first_language.specs.declared.machine.Machine.{Machine}
 use Rattle.first_language.specs.declared.machine.Wish.{Wish}
 use Rattle.first_language.specs.declared.machine.Wish.TheVariants.{Act, Ended, Exit, Fault, Budget}
-use Rattle.first_language.specs.Meaning.{opening_of, meaning}
+use Rattle.first_language.specs.Meaning.{opening_of}
 use Rattle.first_language.specs.Machine.{Stands, HasAsked, Answers, listed, told_of}
 use Rattle.first_language.proofs.Laws.{meaning-laws}
-use Rattle.write_buffer.specs.declared.pending.Pending.{Pending}
 use Rattle.write_buffer.specs.Buffer.{committed}
 use Rattle.serial_core.specs.declared.limits.Limits.{Limits}
 use Rattle.serial_core.specs.declared.task.Task.{Task}
-use Rattle.serial_core.specs.Kept.{AreLimits, Holds, AreFormed, meaning_of, outcome_of, IsRecord, Goes, HasEnd, settled, IsKept, AllOf, Grew, Emitted, IsAnswer, IsPausing, CanEnd, is_given, own_end}
+use Rattle.serial_core.specs.Kept.{AreLimits, Holds, meaning_of, outcome_of, IsRecord, Goes, settled, IsKept, Grew, Emitted, IsAnswer, IsPausing, CanEnd, is_given, own_end}
 use Rattle.serial_core.proofs.Buffers.{holds-unemptied, holds-grow}
 
 -- the meaning of a task's source keeps what every meaning keeps

@@ -192,4 +192,83 @@ impl Task {
             }
         }
     }
+    /// Acts on the wish: at most one new item, and the commits that go with it. It does not resume the machine.
+    pub fn step(&mut self, world: &mut World) -> Result<Pause, AllocError>
+        requires kept { (p : First) × IsKept world.old.0 p world.old.1 self.old }
+        requires ready { (self.old.«end» ≡ None) × (is_some self.old.wish ≡ true) }
+        ensures kept { IfOk result (λ _. (p : First) → IsKept world.old.0 p world.old.1 self.old → IsKept world.new.0 p world.new.1 self.new) }
+        ensures same { IsSame self.old self.new }
+        ensures grew { Grew self.old.thread world.old.1 world.new.1 }
+        ensures pause { IfOk result (λ p. Paused p self.new) }
+        ensures adds { IfOk result (λ p. Adds p self.old.wish self.old.items.items self.new.items.items) }
+        ensures waits { IfOk result (λ p. Waits p world.new.0 world.new.1 self.new) }
+        ensures opening { world.new.0 ≡ world.old.0 }
+    {
+        let full = self.items.len() as u64 >= self.limits.actions;
+        let Some(wish) = &self.wish else {
+            unreachable!()
+        };
+        match own_end(wish, full) {
+            Some(end) => self.close(world, end),
+            None => self.act(world),
+        }
+    }
+
+    /// The action that waits for its reply, None exactly where there is none.
+    pub fn wanted(&self) -> Option<&Action>
+        ensures { MatchOption result ((a : Action) → self.now.wish ≡ Some (Act a) → ⊥) (λ a. self.now.wish ≡ Some (Act a.now)) }
+    {
+        match &self.wish {
+            Some(Wish::Act(action)) => Some(action),
+            _ => None,
+        }
+    }
+
+    /// The task's end, None exactly where it has none.
+    pub fn end(&self) -> Option<&End>
+        ensures { MatchOption result (self.now.«end» ≡ None) (λ e. self.now.«end» ≡ Some e.now) }
+    {
+        self.end.as_ref()
+    }
+
+    /// The number of the task's thread.
+    pub fn thread(&self) -> u32
+        ensures { result ≡ self.now.thread }
+    {
+        self.thread
+    }
+
+    /// Whether the task's last item is a Stall.
+    pub fn is_stalled(&self) -> bool
+        ensures { result ≡ records.is_stall (records.last_item self.now.items.items) }
+    {
+        ends_with_stall(self.items.as_slice())
+    }
+
+    /// Gives a task that stands at a Beat or a Stall its end: Halted, or at a Stall Deadlocked with the wanted action.
+    pub fn end_as(&mut self, end: End)
+        requires open { self.old.«end» ≡ None }
+        requires can { CanEnd self.old «end» }
+        ensures kept { (o : Opening) (p : First) (seen : List Entry) → IsKept o p seen self.old → IsKept o p seen self.new }
+        ensures is { self.new ≡ record self.old { «end» = Some «end» } }
+    {
+        self.end = Some(end);
+    }
+
+    /// The strand of a task that has its end. It takes no memory.
+    pub fn into_strand(self) -> Strand
+        requires { is_some self.«end» ≡ true }
+        ensures { (o : Opening) (p : First) (seen : List Entry) → IsKept o p seen self → result ≡ strand_of p self }
+    {
+        let ticks = self.machine.ticks();
+        let Task { items, end, .. } = self;
+        let Some(end) = end else {
+            unreachable!()
+        };
+        Strand {
+            items: Listing::from_vec(items),
+            ticks,
+            end,
+        }
+    }
 }

@@ -1,4 +1,4 @@
-use Rattle.std.proofs.Common.{◌≡◌, ap, ◌∙◌, sym}
+use Rattle.std.proofs.Common.{ap, ◌∙◌}
 use Rattle.upc_values.specs.Records.{is_stall}
 use Rattle.upc_values.proofs.Records.{last-get}
 use Rattle.serial_core.proofs.task.ends_with_stall.Goals as goal

@@ -6,7 +6,6 @@ use Rattle.upc_values.proofs.Records.{last-push}
 use Rattle.first_language.specs.declared.machine.Wish.TheVariants.{Act}
 use Rattle.memory_history.specs.World.{answer_of}
 use Rattle.serial_core.specs.declared.task.Task.{Task}
-use Rattle.serial_core.specs.declared.task.Pause.TheVariants.{Beat, Going}
 use Rattle.serial_core.specs.Kept.{IsKept, Emitted, IsAnswer, Paused}
 use Rattle.serial_core.proofs.Tasks.{kept-asks, kept-did, kept-stall, kept-stay}
 use Rattle.serial_core.proofs.task.Task.act.Goals as goal
