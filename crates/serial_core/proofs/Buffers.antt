@@ -25,12 +25,7 @@ use Rattle.write_buffer.specs.declared.pending.Pending.{Pending}
 use Rattle.write_buffer.specs.Buffer.{youngest, committed}
 use Rattle.serial_core.specs.declared.emit.Way.TheVariants.{Stores, Looks, Passes, Empties}
 use Rattle.serial_core.specs.Kept.{way_of, AreFormed, Holds, AllOf, Grew, Emitted, IsAnswer}
-
--- each, of a list and of another
-
-pub each-append : {X : Type 0} (P : X → Type 0) (xs ys : List X) → Each P xs → Each P ys → Each P (xs ++ ys)
-each-append P [] ys h k = k
-each-append P (x ∷ xs) ys h k = (h.0, each-append P xs ys h.1 k)
+use Rattle.serial_core.proofs.Lists.{each-append, cons-head}
 
 -- ways
 
@@ -153,9 +148,6 @@ holds-stored o t n l v seen ps qs w full is asked k =
       agrees = k.agrees;
       formed = subst (AreFormed o seen) is (each-append (λ q. IsWellFormed o seen (Write q.loc q.value false)) ps (p ∷ []) k.formed (asked, tt));
     })
-
-cons-head : {X : Type 0} (x y : X) (xs ys : List X) → x ∷ xs ≡ y ∷ ys → (x ≡ y) × (xs ≡ ys)
-cons-head x y xs ys h = (cc, cc)
 
 -- a relaxed write where the oldest leaves
 pub holds-overflown : (o : Opening) (t n : ℕ) (l : Loc) (v : Scalar) (seen : List Entry) (ps qs : List Pending) (f : Pending) (w : Walk)

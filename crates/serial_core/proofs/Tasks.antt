@@ -31,6 +31,8 @@ use Rattle.write_buffer.specs.Buffer.{committed}
 use Rattle.serial_core.specs.declared.limits.Limits.{Limits}
 use Rattle.serial_core.specs.declared.task.Task.{Task}
 use Rattle.serial_core.specs.Kept.{AreLimits, Holds, meaning_of, outcome_of, IsRecord, Goes, settled, IsKept, Grew, Emitted, IsAnswer, IsPausing, CanEnd, is_given, own_end}
+use Rattle.serial_core.proofs.Lists.{map-nil}
+use Rattle.serial_core.proofs.Options.{none-some, some-is}
 use Rattle.serial_core.proofs.Buffers.{holds-unemptied, holds-grow}
 
 -- the meaning of a task's source keeps what every meaning keeps
@@ -55,13 +57,6 @@ all-given : (o : Opening) (p : First) (seen : List Entry) (k : Task) (w : Wish) 
     → h.goes.given ≡ replies_of k.items.items
 all-given o p seen k w h q =
     sym (append-nil h.goes.given) ∙ ap (λ z. h.goes.given ++ listed z) (sym (h.goes.wished w q).0) ∙ h.goes.replies
-
-map-nil : {X Y : Type 0} (f : X → Y) (xs : List X) → map f xs ≡ [] → xs ≡ []
-map-nil f [] h = refl
-map-nil f (x ∷ xs) h = absurd cc
-
-pub none-some : {X : Type 0} (o : Option X) (x : X) → o ≡ None → o ≡ Some x → ⊥
-none-some o x h k = let z : None ≡ Some x = sym h ∙ k in absurd cc
 
 -- the machine has asked where it has said its wish
 has-asked : (p : First) (t n b : ℕ) (machine : Machine) (answer : Option Reply) (wish : Option Wish) (items : List Item) (w : Wish)
@@ -285,10 +280,6 @@ can-pauses : (k : Task) (e : End) → CanEnd k e → is_pause (last_item k.items
 can-pauses k ends.Halted c = pausing-is k c
 can-pauses k (ends.Deadlocked a) c = stall-pauses (last_item k.items.items) c.1
 can-pauses k e c = elim c [ ]
-
-pub some-is : {X : Type 0} (o : Option X) → is_some o ≡ true → (x : X) × (o ≡ Some x)
-some-is None h = absurd (false≢true h)
-some-is (Some x) h = (x, refl)
 
 -- the machine has asked where its task stands at a Beat or a Stall
 pausing-asked : (o : Opening) (p : First) (seen : List Entry) (k : Task) → IsKept o p seen k → IsPausing k → HasAsked k.machine

@@ -3,7 +3,9 @@
 
 mod emit;
 mod limits;
+mod run;
 mod task;
 
 pub use limits::Limits;
+pub use run::run_by;
 pub use task::{Pause, Task};

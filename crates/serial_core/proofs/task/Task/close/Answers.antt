@@ -1,7 +1,8 @@
 use Rattle.std.proofs.Common.{Some, sym, subst}
 use Rattle.serial_core.specs.declared.task.Task.{Task}
 use Rattle.serial_core.specs.Kept.{IsKept}
-use Rattle.serial_core.proofs.Tasks.{kept-closed, some-is}
+use Rattle.serial_core.proofs.Options.{some-is}
+use Rattle.serial_core.proofs.Tasks.{kept-closed}
 use Rattle.serial_core.proofs.Buffers.{holds-finished}
 use Rattle.serial_core.proofs.task.Task.close.Goals as goal
 
