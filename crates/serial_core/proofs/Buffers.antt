@@ -11,7 +11,6 @@ use Rattle.upc_values.specs.declared.action.Action.TheVariants.{Read, Write, Pri
 use Rattle.upc_values.specs.declared.action.Reply.{Reply}
 use Rattle.upc_values.specs.declared.action.Reply.TheVariants.{Done, Value}
 use Rattle.upc_values.specs.declared.journal.Entry.{Entry}
-use Rattle.upc_values.specs.Lists.{Each}
 use Rattle.upc_values.specs.Scalars.{same_loc}
 use Rattle.upc_values.specs.Drain.{Walk, emptied, oldest_out, stored, passed, looked_up, gone, or_else, last_written, entry_of, entries_of}
 use Rattle.upc_values.specs.Legal.{Opening, reply, IsWellFormed}

@@ -1,5 +1,5 @@
 -- What a task keeps: at an action, at a stall, at its end, and while others append.
-use Rattle.std.proofs.Common.{◌≡◌, ◌≢◌, ℕ, ◌+◌, ◌*◌, ◌<◌, ◌≤◌, ◌^◌, Bool, true, false, List, [], ◌∷◌, ◌++◌, length, map, Option, Some, None, is_some, refl, sym, ap, subst, ◌∙◌, append-nil, arith, inl, inr}
+use Rattle.std.proofs.Common.{◌≡◌, ◌≢◌, ℕ, ◌+◌, ◌*◌, ◌<◌, ◌≤◌, ◌^◌, Bool, true, false, List, [], ◌∷◌, ◌++◌, length, Option, Some, None, refl, sym, ap, subst, ◌∙◌, append-nil, arith, inl, inr}
 use Rattle.std.proofs.lemmas.Bool.{false≢true, cond-true, cond-false}
 use Rattle.std.proofs.lemmas.List.{length-append}
 use Rattle.std.proofs.Math.Nat.{mul-le-mul_left}
@@ -81,7 +81,7 @@ kept-did o p seen later k m a r h opened wants room g em f is =
     let want : wanted (outcome_of p k).«end» ≡ Some a = ap wanted wanting in
     let given : h.goes.given ≡ replies_of items = all-given o p seen k (Act a) h wants in
     let next : walked t m.items.items ≡ gone (entry_of t k.next a r) a w =
-      ap (walked t) is ∙ walked-push t items (Did a r) ∙ ap (λ z. gone (entry_of t z a r) a w) (sym hw.number) in
+    ap (walked t) is ∙ walked-push t items (Did a r) ∙ ap (λ z. gone (entry_of t z a r) a w) (sym hw.number) in
     let replies : replies_of m.items.items ≡ replies_of items ++ r ∷ [] = ap replies_of is ∙ replies-did items a r in
     let actions : actions_of m.items.items ≡ actions_of items ++ a ∷ [] = ap actions_of is ∙ actions-did items a r in
     let last : last_item m.items.items ≡ Some (Did a r) = ap last_item is ∙ last-push items (Did a r) in
@@ -93,15 +93,15 @@ kept-did o p seen later k m a r h opened wants room g em f is =
       budget = h.budget;
       small = h.small;
       holds = subst (λ e. Holds o t later m.buffer (k.next + 1) (settled e (walked t m.items.items))) (sym opened)
-        (subst (Holds o t later m.buffer (k.next + 1)) (sym next) (em w hw));
+          (subst (Holds o t later m.buffer (k.next + 1)) (sym next) (em w hw));
       few = (let before = h.few in omega arith);
       record_ok = record {
         did = ap (λ rs. (meaning_of p k rs).actions) replies ∙ law.goes (replies_of items) a r wanting f
-          ∙ ap (λ l. l ++ a ∷ []) h.record_ok.did ∙ sym actions;
+            ∙ ap (λ l. l ++ a ∷ []) h.record_ok.did ∙ sym actions;
         stalls = subst (StallsStand (wanted new.«end»)) (sym is)
-          (stand-did (wanted new.«end») items a r (subst (λ z. StallsStand z items) want h.record_ok.stalls));
+            (stand-did (wanted new.«end») items a r (subst (λ z. StallsStand z items) want h.record_ok.stalls));
         justified = subst (AreJustified o t later (wanted new.«end») []) (sym is)
-          (justified-did o t later (wanted new.«end») [] items a r
+            (justified-did o t later (wanted new.«end») [] items a r
             (justified-grew o t seen later (Some a) items g (subst (λ z. AreJustified o t seen z [] items) want h.record_ok.justified)));
         short = omega arith;
       };
@@ -113,10 +113,10 @@ kept-did o p seen later k m a r h opened wants room g em f is =
         wished = λ e q. absurd cc;
         idle = λ q. ap is_stall last;
         beats = λ b q.
-          let is_a_beat : a ≡ Beat = beat-of a r (sym (ap is_beat_item last) ∙ b) in
-          ap (λ l. (meaning_of p k l).ticks) given ∙ law.ticks (replies_of items) (wanting ∙ ap told.Wants is_a_beat)
-          ∙ ap (λ l. 1024 * (beats l + 1)) h.record_ok.did ∙ ap (λ z. 1024 * z) (sym (beats-push (actions_of items)))
-          ∙ ap (λ l. 1024 * beats l) (ap (λ b. actions_of items ++ b ∷ []) (sym is_a_beat) ∙ sym actions);
+            let is_a_beat : a ≡ Beat = beat-of a r (sym (ap is_beat_item last) ∙ b) in
+            ap (λ l. (meaning_of p k l).ticks) given ∙ law.ticks (replies_of items) (wanting ∙ ap told.Wants is_a_beat)
+            ∙ ap (λ l. 1024 * (beats l + 1)) h.record_ok.did ∙ ap (λ z. 1024 * z) (sym (beats-push (actions_of items)))
+            ∙ ap (λ l. 1024 * beats l) (ap (λ b. actions_of items ++ b ∷ []) (sym is_a_beat) ∙ sym actions);
         asked = inr (has-asked p t k.limits.threads k.limits.budget k.machine k.answer k.wish items (Act a) h.goes wants);
       };
       ended = λ e q. absurd (none-some k.«end» e opened q);
@@ -146,17 +146,17 @@ kept-stall o p seen later k m a h opened wants room g em none still is =
       budget = h.budget;
       small = h.small;
       holds = subst (λ e. Holds o t later m.buffer k.next (settled e (walked t m.items.items))) (sym opened)
-        (subst (Holds o t later m.buffer k.next) (sym (ap (walked t) is ∙ walked-push t items Stall)) ht);
+          (subst (Holds o t later m.buffer k.next) (sym (ap (walked t) is ∙ walked-push t items Stall)) ht);
       few = (let before = h.few in omega arith);
       record_ok = record {
         did = ap (λ z. z.actions) same ∙ h.record_ok.did ∙ sym actions;
         stalls = subst (λ z. StallsStand (wanted z.«end») m.items.items) (sym same)
-          (subst (StallsStand (wanted (outcome_of p k).«end»)) (sym is)
-          (subst (λ z. StallsStand z (items ++ Stall ∷ [])) (sym want)
+            (subst (StallsStand (wanted (outcome_of p k).«end»)) (sym is)
+            (subst (λ z. StallsStand z (items ++ Stall ∷ [])) (sym want)
             (stand-stall items a (subst (λ z. StallsStand z items) want h.record_ok.stalls) still none.0)));
         justified = subst (λ z. AreJustified o t later (wanted z.«end») [] m.items.items) (sym same)
-          (subst (AreJustified o t later (wanted (outcome_of p k).«end») []) (sym is)
-          (justified-stall o t later (wanted (outcome_of p k).«end») [] items
+            (subst (AreJustified o t later (wanted (outcome_of p k).«end») []) (sym is)
+            (justified-stall o t later (wanted (outcome_of p k).«end») [] items
             (justified-grew o t seen later (wanted (outcome_of p k).«end») items g h.record_ok.justified)
             (record { front = later; rest = []; is = sym (append-nil later); many = ap length ht.out; action = a; wants = want; none = none.1 })));
         short = omega arith;
@@ -184,7 +184,7 @@ kept-stay o p seen later k m a h opened wants g em stalls is =
     let t = k.thread in let items = k.items.items in let w = walked t items in let n = k.limits.threads in let b = k.limits.budget in
     let hw : Holds o t seen k.buffer k.next w = subst (λ e. Holds o t seen k.buffer k.next (settled e w)) opened h.holds in
     let ht : Holds o t later m.buffer k.next w =
-      holds-unemptied o t k.next later m.buffer w (paused-empty t items (stall-pauses (last_item items) stalls)) (em w hw) in
+    holds-unemptied o t k.next later m.buffer w (paused-empty t items (stall-pauses (last_item items) stalls)) (em w hw) in
     let P : List Item → Type 0 = λ ys. IsRecord o t k.limits.actions later (meaning_of p k (replies_of ys)) ys in
     let G : List Item → Type 0 = λ ys. Goes p t n b k.machine k.answer (Some (Act a)) ys in
     record {
@@ -193,7 +193,7 @@ kept-stay o p seen later k m a h opened wants g em stalls is =
       budget = h.budget;
       small = h.small;
       holds = subst (λ e. Holds o t later m.buffer k.next (settled e (walked t m.items.items))) (sym opened)
-        (subst (λ ys. Holds o t later m.buffer k.next (walked t ys)) (sym is) ht);
+          (subst (λ ys. Holds o t later m.buffer k.next (walked t ys)) (sym is) ht);
       few = subst (λ ys. k.next ≤ length ys) (sym is) h.few;
       record_ok = subst P (sym is) (record {
         did = h.record_ok.did;
@@ -233,14 +233,14 @@ kept-closed o p seen later k m wish e h opened wants g em empty own own_end =
       };
       goes = h.goes;
       ended = λ e' q.
-        let same : e ≡ e' = cc in
-        record {
-          empty = empty;
-          asked = has-asked p t k.limits.threads k.limits.budget k.machine k.answer k.wish items wish h.goes wants;
-          own = subst (OwnEnd k.limits.actions (outcome_of p k).«end» items) same own;
-          counted = ap (λ l. (meaning_of p k l).ticks) (all-given o p seen k wish h wants)
-            ∙ sym (own-ticks (outcome_of p k).ticks items e' (subst (λ z. is_given z ≡ false) same own_end));
-        };
+          let same : e ≡ e' = cc in
+          record {
+            empty = empty;
+            asked = has-asked p t k.limits.threads k.limits.budget k.machine k.answer k.wish items wish h.goes wants;
+            own = subst (OwnEnd k.limits.actions (outcome_of p k).«end» items) same own;
+            counted = ap (λ l. (meaning_of p k l).ticks) (all-given o p seen k wish h wants)
+                ∙ sym (own-ticks (outcome_of p k).ticks items e' (subst (λ z. is_given z ≡ false) same own_end));
+          };
     }
 
 -- the end that a wish is, is an end of its own
@@ -298,16 +298,17 @@ given-ticks o p seen k h (inr s) =
     let w = some-is k.wish s.1 in
     ap (λ l. (meaning_of p k l).ticks) (all-given o p seen k w.0 h w.1)
     ∙ sym (cond-false (is_beat_item (last_item k.items.items)) (1024 * beats (actions_of k.items.items)) (outcome_of p k).ticks
-        (stall-no_beat (last_item k.items.items) s.0))
+    (stall-no_beat (last_item k.items.items) s.0))
 
 given-end : (o : Opening) (p : First) (seen : List Entry) (k : Task) (e : End) (h : IsKept o p seen k) → CanEnd k e
     → HasAsked k.machine × OwnEnd k.limits.actions (outcome_of p k).«end» k.items.items e
-      × ((meaning_of p k h.goes.given).ticks ≡ strand_ticks e k.items.items (outcome_of p k).ticks)
+    × ((meaning_of p k h.goes.given).ticks ≡ strand_ticks e k.items.items (outcome_of p k).ticks)
 given-end o p seen k ends.Halted h c = (pausing-asked o p seen k h c, pausing-is k c, given-ticks o p seen k h c)
-given-end o p seen k (ends.Deadlocked a) h c =
-    (has-asked p k.thread k.limits.threads k.limits.budget k.machine k.answer k.wish k.items.items (Act a) h.goes c.0,
-     (sym (h.goes.wished (Act a) c.0).1, c.1),
-     ap (λ l. (meaning_of p k l).ticks) (all-given o p seen k (Act a) h c.0))
+given-end o p seen k (ends.Deadlocked a) h c = (
+  has-asked p k.thread k.limits.threads k.limits.budget k.machine k.answer k.wish k.items.items (Act a) h.goes c.0,
+  (sym (h.goes.wished (Act a) c.0).1, c.1),
+  ap (λ l. (meaning_of p k l).ticks) (all-given o p seen k (Act a) h c.0),
+)
 given-end o p seen k e h c = elim c [ ]
 
 -- an end that is given
@@ -328,13 +329,13 @@ kept-ended o p seen k e h opened can =
       record_ok = h.record_ok;
       goes = h.goes;
       ended = λ e' q.
-        let same : e ≡ e' = cc in
-        record {
-          empty = map-nil (committed t) k.buffer (hw.inside ∙ none);
-          asked = is.0;
-          own = subst (OwnEnd k.limits.actions (outcome_of p k).«end» items) same is.1;
-          counted = is.2 ∙ ap (λ z. strand_ticks z items (outcome_of p k).ticks) same;
-        };
+          let same : e ≡ e' = cc in
+          record {
+            empty = map-nil (committed t) k.buffer (hw.inside ∙ none);
+            asked = is.0;
+            own = subst (OwnEnd k.limits.actions (outcome_of p k).«end» items) same is.1;
+            counted = is.2 ∙ ap (λ z. strand_ticks z items (outcome_of p k).ticks) same;
+          };
     }
 
 -- what others append changes nothing
@@ -346,14 +347,14 @@ kept-grow o p t seen later k h ne g = record {
   budget = h.budget;
   small = h.small;
   holds = subst (λ l. Holds o k.thread l k.buffer k.next (settled k.«end» (walked k.thread k.items.items))) (sym g.is)
-    (holds-grow o k.thread k.next seen g.more k.buffer (settled k.«end» (walked k.thread k.items.items))
+      (holds-grow o k.thread k.next seen g.more k.buffer (settled k.«end» (walked k.thread k.items.items))
       (entries-other t k.thread g.more ne g.all_own) h.holds);
   few = h.few;
   record_ok = record {
     did = h.record_ok.did;
     stalls = h.record_ok.stalls;
     justified = subst (λ l. AreJustified o k.thread l (wanted (outcome_of p k).«end») [] k.items.items) (sym g.is)
-      (justified-grow o k.thread seen g.more (wanted (outcome_of p k).«end») [] k.items.items h.record_ok.justified);
+        (justified-grow o k.thread seen g.more (wanted (outcome_of p k).«end») [] k.items.items h.record_ok.justified);
     short = h.record_ok.short;
   };
   goes = h.goes;
@@ -377,9 +378,9 @@ kept-new p seen k items buffer next answer wish none stands within budget small 
       budget = budget;
       small = small;
       holds = subst (λ e. Holds o k.thread seen k.buffer k.next (settled e (walked k.thread k.items.items))) (sym none)
-        (subst (λ xs. Holds o k.thread seen k.buffer k.next (walked k.thread xs)) (sym items)
-        (subst (λ ps. Holds o k.thread seen ps k.next (walked k.thread [])) (sym buffer)
-        (record { out = seen_none; inside = refl; room = omega arith; number = next; agrees = refl; formed = tt })));
+          (subst (λ xs. Holds o k.thread seen k.buffer k.next (walked k.thread xs)) (sym items)
+          (subst (λ ps. Holds o k.thread seen ps k.next (walked k.thread [])) (sym buffer)
+          (record { out = seen_none; inside = refl; room = omega arith; number = next; agrees = refl; formed = tt })));
       few = omega arith;
       record_ok = subst R (sym items) (record { did = law.begins; stalls = tt; justified = tt; short = omega arith });
       goes = record {
@@ -399,10 +400,10 @@ kept-new p seen k items buffer next answer wish none stands within budget small 
 pub kept-worked : (o : Opening) (p : First) (seen : List Entry) (k m : Task) (w : Wish)
     → IsKept o p seen k → k.wish ≡ None → k.«end» ≡ None
     → ((given : List Reply) → Stands p k.thread k.limits.threads k.limits.budget given k.machine
-        → Answers p k.thread k.limits.threads k.limits.budget given k.answer → told_of w ≡ (meaning_of p k (given ++ listed k.answer)).«end»)
+    → Answers p k.thread k.limits.threads k.limits.budget given k.answer → told_of w ≡ (meaning_of p k (given ++ listed k.answer)).«end»)
     → ((given : List Reply) → Stands p k.thread k.limits.threads k.limits.budget given k.machine
-        → Answers p k.thread k.limits.threads k.limits.budget given k.answer
-        → Stands p k.thread k.limits.threads k.limits.budget (given ++ listed k.answer) m.machine)
+    → Answers p k.thread k.limits.threads k.limits.budget given k.answer
+    → Stands p k.thread k.limits.threads k.limits.budget (given ++ listed k.answer) m.machine)
     → HasAsked m.machine
     → IsKept o p seen record { machine = m.machine; thread = k.thread; limits = k.limits; items = k.items; buffer = k.buffer; next = k.next; answer = None; wish = Some w; «end» = k.«end» }
 kept-worked o p seen k m w h wish opened told stands asked =
@@ -421,7 +422,7 @@ kept-worked o p seen k m w h wish opened told stands asked =
         answered = tt;
         replies = append-nil (g.given ++ listed k.answer) ∙ g.replies;
         wished = λ v q. let same : w ≡ v = cc in
-          (refl, ap told_of (sym same) ∙ told g.given g.stands g.answered ∙ ap (λ l. (meaning_of p k l).«end») g.replies);
+            (refl, ap told_of (sym same) ∙ told g.given g.stands g.answered ∙ ap (λ l. (meaning_of p k l).«end») g.replies);
         idle = λ q. absurd cc;
         beats = λ b q. absurd cc;
         asked = inr asked;

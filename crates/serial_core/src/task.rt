@@ -79,13 +79,7 @@ fn own_end(wish: &Wish, full: bool) -> Option<End>
     ensures { result ≡ kept.own_end wish.now full }
 {
     match wish {
-        Wish::Act(_) => {
-            if full {
-                Some(End::ActionsFull)
-            } else {
-                None
-            }
-        }
+        Wish::Act(_) => { if full { Some(End::ActionsFull) } else { None } }
         Wish::Ended(value) => Some(End::Ended(*value)),
         Wish::Exit(value) => Some(End::Exit(*value)),
         Wish::Fault(code, place) => Some(End::Fault(*code, *place)),
@@ -262,9 +256,7 @@ impl Task {
     {
         let ticks = self.machine.ticks();
         let Task { items, end, .. } = self;
-        let Some(end) = end else {
-            unreachable!()
-        };
+        let Some(end) = end else { unreachable!() };
         Strand {
             items: Listing::from_vec(items),
             ticks,

@@ -49,5 +49,5 @@ pub returns-in_ok-step-in-Empties-clause-grew : goal.returns-in_ok-step-in-Empti
 returns-in_ok-step-in-Empties-clause-grew c =
     let t = c.args.thread in let mid = c.empty.new.world.1 in let new = c.perform-in-Empties.new.self.1 in
     grew-then t c.args.world.now.1 mid new
-      (grew-performed t c.args.next mid new c.args.action.now (answer_of c.in_ok-step-in-Empties.step) c.in_ok-step-in-Empties.ensures.entries)
-      c.in_ok-empty-in-Empties.ensures.grew
+    (grew-performed t c.args.next mid new c.args.action.now (answer_of c.in_ok-step-in-Empties.step) c.in_ok-step-in-Empties.ensures.entries)
+    c.in_ok-empty-in-Empties.ensures.grew

@@ -1,7 +1,5 @@
-use Rattle.std.proofs.Common.{◌≡◌, ℕ, ◌<◌, length, []}
-use Rattle.std.specs.Prelude.{slice_index_or}
+use Rattle.std.proofs.Common.{◌≡◌, length}
 use Rattle.upc_values.specs.Lists.{Numbered}
-use Rattle.first_language.specs.Meaning.{opening_of}
 use Rattle.serial_core.specs.Runs.{IsNew}
 use Rattle.serial_core.proofs.run.make_all.Given as goal
 

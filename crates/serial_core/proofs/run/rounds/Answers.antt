@@ -12,12 +12,12 @@ returns-then-is_some-clause-over g c =
     let yes : is_some c.stopped.result ≡ true = search rules in
     let u = match-some c.stopped.result (NoneStops ks) (λ u. (u < length ks) × ((d : Task) → Stops (slice_index_or ks u d))) yes c.stopped.ensures in
     over-halted o c.args.program.now seen ks c.halt_all.new.tasks.items u.0 c.in_ok-round_all.ensures.running c.in_ok-round_all.ensures.rested
-      u.1.0 u.1.1 c.halt_all.ensures
+    u.1.0 u.1.1 c.halt_all.ensures
 
 pub returns-then-all_ended-clause-over : goal.returns-then-all_ended-clause-over
 returns-then-all_ended-clause-over g c =
     over-ended c.round_all.new.world.0 c.args.program.now c.round_all.new.world.1 c.round_all.new.tasks.items
-      c.in_ok-round_all.ensures.running (c.all_ended.ensures c.if-all_ended.true)
+    c.in_ok-round_all.ensures.running (c.all_ended.ensures c.if-all_ended.true)
 
 pub returns-then-none_goes-clause-over : goal.returns-then-none_goes-clause-over
 returns-then-none_goes-clause-over g c =
@@ -25,4 +25,4 @@ returns-then-none_goes-clause-over g c =
     let no : is_some c.stopped.result ≡ false = search rules in
     let quiet = match-none c.stopped.result (NoneStops ks) (λ u. (u < length ks) × ((d : Task) → Stops (slice_index_or ks u d))) no c.stopped.ensures in
     over-locked o c.args.program.now seen ks c.lock_all.new.tasks.items c.in_ok-round_all.ensures.running
-      (c.none_goes.ensures c.if-none_goes.true) quiet c.in_ok-lock_all.ensures
+    (c.none_goes.ensures c.if-none_goes.true) quiet c.in_ok-lock_all.ensures

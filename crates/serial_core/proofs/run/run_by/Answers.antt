@@ -1,10 +1,9 @@
-use Rattle.std.proofs.Common.{◌≡◌, List, map, refl, sym, subst, ap, ◌∙◌}
+use Rattle.std.proofs.Common.{◌≡◌, List, refl, sym, subst, ap, ◌∙◌}
 use Rattle.block_layout.specs.declared.place.Loc.{Loc}
 use Rattle.upc_values.specs.declared.journal.Journal.{Journal}
 use Rattle.upc_values.specs.Legal.{Opening, IsLegal, AreWellFormed, EachBelow}
 use Rattle.upc_values.specs.Waits.{WaitsFollow}
 use Rattle.first_language.specs.Meaning.{opening_of}
-use Rattle.serial_core.specs.Kept.{strand_of}
 use Rattle.serial_core.specs.Runs.{IsOver}
 use Rattle.serial_core.proofs.Running.{over-sound, same-trans}
 use Rattle.serial_core.proofs.run.run_by.Goals as goal
@@ -22,7 +21,7 @@ returns-clause-sound g c =
     let formed : AreWellFormed o j.history = subst (AreWellFormed o) (sym took.taken) (subst (λ z. AreWellFormed z w.1) opened took.formed) in
     let below : EachBelow o.threads j.history = subst (EachBelow o.threads) (sym took.taken) (subst (λ z. EachBelow z.threads w.1) opened took.below) in
     over-sound o p l ks ms j over legal formed below (same-trans ks c.pick_all.new.tasks.items ms picked.same went.same) start.limits refl refl
-      (c.from_vec.ensures ∙ c.strands_of-strands.ensures w.0 p w.1 went.over.tasks)
+    (c.from_vec.ensures ∙ c.strands_of-strands.ensures w.0 p w.1 went.over.tasks)
 
 pub returns-clause-waits : goal.returns-clause-waits
 returns-clause-waits g c =

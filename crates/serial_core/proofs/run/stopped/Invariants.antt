@@ -1,4 +1,4 @@
-use Rattle.std.proofs.Common.{◌≡◌, ℕ, ◌<◌, length, Some, false}
+use Rattle.std.proofs.Common.{◌≡◌, ℕ, ◌<◌, Some, false}
 use Rattle.std.specs.Prelude.{slice_index_or}
 use Rattle.upc_values.specs.declared.record.End.{End}
 use Rattle.serial_core.specs.declared.task.Task.{Task}

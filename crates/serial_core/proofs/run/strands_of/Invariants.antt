@@ -1,4 +1,4 @@
-use Rattle.std.proofs.Common.{◌≡◌, ℕ, ◌≤◌, ◌++◌, List, length, map, vec_capacity}
+use Rattle.std.proofs.Common.{◌≡◌, ◌≤◌, ◌++◌, List, length, map, vec_capacity}
 use Rattle.std.specs.Vec.Iter.{into_iter_items}
 use Rattle.upc_values.specs.declared.journal.Entry.{Entry}
 use Rattle.upc_values.specs.Lists.{Numbered}
@@ -14,5 +14,5 @@ invariant-loop-task l = record {
   many : length l.strands.items ≡ length l.yielded;
   room : length l.fn.tasks.items ≤ vec_capacity l.strands;
   made : (o : Opening) (p : First) (seen : List Entry) → Numbered (λ i k. IsAt o p seen i k) l.fn.tasks.items
-    → l.strands.items ≡ map (strand_of p) l.yielded;
+      → l.strands.items ≡ map (strand_of p) l.yielded;
 }

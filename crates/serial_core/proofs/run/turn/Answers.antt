@@ -1,5 +1,4 @@
-use Rattle.std.proofs.Common.{◌≡◌, ◌<◌, ℕ, sym, subst, ap, ◌∙◌, set}
-use Rattle.first_language.specs.declared.tree.First.{First}
+use Rattle.std.proofs.Common.{◌≡◌, sym, subst, ◌∙◌, set}
 use Rattle.serial_core.specs.declared.task.Task.{Task}
 use Rattle.serial_core.specs.Kept.{IsKept, Grew}
 use Rattle.serial_core.specs.Runs.{IsAt, IsRunning}
@@ -20,6 +19,6 @@ returns-clause-running c =
     let thread : c.work.new.self.thread ≡ t = w.same.0.thread ∙ old.thread in
     let m : Task = c.step.new.self in let later = c.step.new.world.1 in
     subst (λ z. IsRunning z p later (set c.args.tasks.now.items t m)) (sym s.opening)
-      (running-set o p t seen later c.args.tasks.now.items m c.requires.running c.requires.at.0 (subst (λ j. Grew j seen later) thread s.grew)
-        (record { thread = s.same.thread ∙ thread; kept = subst (λ z. IsKept z p later m) s.opening (s.kept p (w.kept o seen old.kept)) })
-        (paused-own c.in_ok-pause.pause m s.pause))
+    (running-set o p t seen later c.args.tasks.now.items m c.requires.running c.requires.at.0 (subst (λ j. Grew j seen later) thread s.grew)
+    (record { thread = s.same.thread ∙ thread; kept = subst (λ z. IsKept z p later m) s.opening (s.kept p (w.kept o seen old.kept)) })
+    (paused-own c.in_ok-pause.pause m s.pause))

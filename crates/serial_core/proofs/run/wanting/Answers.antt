@@ -1,5 +1,3 @@
-use Rattle.std.proofs.Common.{rules, ◌≡◌, ◌<◌, true, false, is_some, sym, ap, subst, ◌∙◌}
-use Rattle.upc_values.specs.Legal.{reply}
 use Rattle.serial_core.proofs.Tasks.{kept-asks}
 use Rattle.serial_core.proofs.run.wanting.Goals as goal
 

@@ -27,9 +27,9 @@ returns-after-is_beat-clause-kept c = λ p h.
     subst (λ o. IsKept o p later z) (sym e.opening)
     (subst (λ w. let x : Task = record y { wish = w } in IsKept o p later x) (sym c.in-Some-Act.ensures.after)
     (kept-did o p seen later k m a r h c.requires.ready.0 wants c.requires.room e.grew
-      (λ w hw. subst (λ s. Emitted o k.thread later c.emit.new.buffer k.next a (answer_of s) w) c.in-Done.is (e.holds w hw))
-      (subst (λ s. IsAnswer o k.thread later a (answer_of s)) c.in-Done.is e.answer)
-      (search rules)))
+    (λ w hw. subst (λ s. Emitted o k.thread later c.emit.new.buffer k.next a (answer_of s) w) c.in-Done.is (e.holds w hw))
+    (subst (λ s. IsAnswer o k.thread later a (answer_of s)) c.in-Done.is e.answer)
+    (search rules)))
 
 pub returns-after-is_beat-clause-pause : goal.returns-after-is_beat-clause-pause
 returns-after-is_beat-clause-pause c =
@@ -37,9 +37,9 @@ returns-after-is_beat-clause-pause c =
     let z : Task = record k { items = c.push_reserved.new.self; buffer = c.emit.new.buffer; next = k.next + 1; answer = Some c.in-Done.reply; wish = c.take.new.self } in
     elim c.if-is_beat.branch [
       | then-is_beat w ↦
-        let is : c.push_reserved.new.self.items ≡ k.items.items ++ Did a c.in-Done.reply ∷ [] = search rules in
-        let b : is_beat a ≡ true = sym c.is_beat.ensures ∙ w.if-is_beat.true in
-        subst (λ q. Paused q z) (sym w.pause-is)
+          let is : c.push_reserved.new.self.items ≡ k.items.items ++ Did a c.in-Done.reply ∷ [] = search rules in
+          let b : is_beat a ≡ true = sym c.is_beat.ensures ∙ w.if-is_beat.true in
+          subst (λ q. Paused q z) (sym w.pause-is)
           (c.requires.ready.0, inl (ap is_beat_item (ap last_item is ∙ last-push k.items.items (Did a c.in-Done.reply)) ∙ b, c.in-Some-Act.ensures.after))
       | else-is_beat w ↦ subst (λ q. Paused q z) (sym w.pause-is) c.requires.ready.0
     ]
@@ -53,9 +53,9 @@ returns-then-not-stalls-clause-kept c = λ p h.
     let stalls : is_stall (last_item k.items.items) ≡ false = search rules in
     subst (λ o. IsKept o p later z) (sym e.opening)
     (kept-stall o p seen later k m a h c.requires.ready.0 (search rules) c.requires.room e.grew
-      (λ w hw. subst (λ s. Emitted o k.thread later c.emit.new.buffer k.next a (answer_of s) w) c.in-Disabled.is (e.holds w hw))
-      (subst (λ s. IsAnswer o k.thread later a (answer_of s)) c.in-Disabled.is e.answer) stalls
-      (search rules))
+    (λ w hw. subst (λ s. Emitted o k.thread later c.emit.new.buffer k.next a (answer_of s) w) c.in-Disabled.is (e.holds w hw))
+    (subst (λ s. IsAnswer o k.thread later a (answer_of s)) c.in-Disabled.is e.answer) stalls
+    (search rules))
 
 pub returns-then-not-stalls-clause-pause : goal.returns-then-not-stalls-clause-pause
 returns-then-not-stalls-clause-pause c =
@@ -78,5 +78,5 @@ returns-else-not-stalls-clause-kept c = λ p h.
     let stalls : is_stall (last_item k.items.items) ≡ true = search rules in
     subst (λ o. IsKept o p later z) (sym e.opening)
     (kept-stay o p seen later k m a h c.requires.ready.0 (search rules) e.grew
-      (λ w hw. subst (λ s. Emitted o k.thread later c.emit.new.buffer k.next a (answer_of s) w) c.in-Disabled.is (e.holds w hw)) stalls
-      (search rules))
+    (λ w hw. subst (λ s. Emitted o k.thread later c.emit.new.buffer k.next a (answer_of s) w) c.in-Disabled.is (e.holds w hw)) stalls
+    (search rules))

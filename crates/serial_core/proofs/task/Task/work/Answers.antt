@@ -14,9 +14,9 @@ returns-in_ok-wish-clause-kept c = λ o seen h.
     let z : Task = record m { answer = None; wish = Some w } in
     let took = c.take-reply.ensures.value in
     subst (λ a. let x : Task = record z { answer = a } in IsKept o p seen x) (sym c.take-reply.ensures.after)
-      (kept-worked o p seen k m w h (search rules) c.requires
-        (λ given st an. subst (λ r. told_of w ≡ (meaning p t n b (given ++ listed r)).«end») took
-          (e.told t n b given st (subst (Answers p t n b given) (sym took) an)))
-        (λ given st an. subst (λ r. Stands p t n b (given ++ listed r) m.machine) took
-          (e.stands t n b given st (subst (Answers p t n b given) (sym took) an)))
-        e.asked)
+    (kept-worked o p seen k m w h (search rules) c.requires
+    (λ given st an. subst (λ r. told_of w ≡ (meaning p t n b (given ++ listed r)).«end») took
+    (e.told t n b given st (subst (Answers p t n b given) (sym took) an)))
+    (λ given st an. subst (λ r. Stands p t n b (given ++ listed r) m.machine) took
+    (e.stands t n b given st (subst (Answers p t n b given) (sym took) an)))
+    e.asked)
