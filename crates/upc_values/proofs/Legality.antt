@@ -1,5 +1,6 @@
 -- One more entry: a legal history whose entries were well formed stays so.
-use Rattle.std.proofs.Common.{◌≡◌, ℕ, ◌<◌, true, false, Bool, cond, List, [], ◌∷◌, ◌++◌, Option, Some, None, refl, sym, subst, append_assoc, append-nil}
+use Rattle.std.proofs.Common.{◌≡◌, ℕ, ◌<◌, true, false, Bool, cond, List, [], ◌∷◌, ◌++◌, ◌+◌, length, take, drop, get_or, take-append-drop, Option, Some, None, refl, sym, ap, subst, ◌∙◌, append_assoc, append-nil}
+use Rattle.std.proofs.lemmas.List.{drop_more, take_more}
 use Rattle.block_layout.specs.declared.place.Loc.{Loc}
 use Rattle.upc_values.specs.declared.scalar.Scalar.{Scalar}
 use Rattle.upc_values.specs.declared.scalar.Scalar.TheVariants.{Int}
@@ -8,16 +9,12 @@ use Rattle.upc_values.specs.declared.action.Action.TheVariants as asked
 use Rattle.upc_values.specs.declared.action.Reply.{Reply}
 use Rattle.upc_values.specs.declared.action.Reply.TheVariants.{Done, Value}
 use Rattle.upc_values.specs.declared.journal.Entry.{Entry}
-use Rattle.upc_values.specs.Lists.{Each}
 use Rattle.upc_values.specs.Scalars.{same_loc, zero}
+use Rattle.upc_values.proofs.Lists.{each-push}
 use Rattle.upc_values.specs.Drain.{entry_of, written, or_else, last_written}
 use Rattle.upc_values.specs.Legal.{Opening, value_or, waits, all_notified, reply, IsLegalFrom, IsLegal, is_int_value, IsWellFormed, AreWellFormedFrom, AreWellFormed, EachBelow}
 use Rattle.upc_values.specs.Outcomes.{fits}
 use Rattle.upc_values.specs.Strands.{may_wait}
-
-pub each-push : {X : Type 0} (P : X → Type 0) (xs : List X) (x : X) → Each P xs → P x → Each P (xs ++ x ∷ [])
-each-push P [] x h p = (p, tt)
-each-push P (y ∷ xs) x h p = (h.0, each-push P xs x h.1 p)
 
 legal-from_push : (o : Opening) (before es : List Entry) (e : Entry) → IsLegalFrom o before es
     → reply o (before ++ es) e.thread e.action ≡ Some e.reply → IsLegalFrom o before (es ++ e ∷ [])
@@ -51,6 +48,13 @@ pub below-push : (n : ℕ) (es : List Entry) (t i : ℕ) (a : Action) (r : Reply
     → EachBelow n es → t < n → EachBelow n (es ++ entry_of t i a r ∷ [])
 below-push n es t i a r h b = each-push (λ e. e.thread < n) es (entry_of t i a r) h b
 
+-- where entry i, which is e, is of one of the first n threads, one more is
+pub below-more : (n : ℕ) (es : List Entry) (i : ℕ) (e : Entry) → EachBelow n (take i es) → i < length es → e ≡ get_or es i e
+    → e.thread < n → EachBelow n (take (i + 1) es)
+below-more n es i e h lt is b =
+    subst (EachBelow n) (sym (take_more es i e lt ∙ ap (λ x. take i es ++ x ∷ []) (sym is)))
+    (each-push (λ x. x.thread < n) (take i es) e h b)
+
 -- each entry of a legal history has the lawful reply after the entries before it
 legal-from_at : (o : Opening) (before front rest : List Entry) (e : Entry) → IsLegalFrom o before (front ++ e ∷ rest)
     → reply o (before ++ front) e.thread e.action ≡ Some e.reply
@@ -62,6 +66,23 @@ legal-from_at o before (x ∷ front) rest e h =
 pub legal-at : (o : Opening) (front rest : List Entry) (e : Entry) → IsLegal o (front ++ e ∷ rest)
     → reply o front e.thread e.action ≡ Some e.reply
 legal-at o front rest e h = legal-from_at o [] front rest e h
+
+-- the same of entry i, which is e
+pub legal-get : (o : Opening) (es : List Entry) (i : ℕ) (e : Entry) → IsLegal o es → i < length es → e ≡ get_or es i e
+    → reply o (take i es) e.thread e.action ≡ Some e.reply
+legal-get o es i e h lt is =
+    let split : es ≡ take i es ++ get_or es i e ∷ drop (i + 1) es =
+    sym (take-append-drop i es) ∙ ap (λ l. take i es ++ l) (drop_more es i e lt) in
+    let split_e : es ≡ take i es ++ e ∷ drop (i + 1) es =
+    split ∙ ap (λ x. take i es ++ x ∷ drop (i + 1) es) (sym is) in
+    legal-at o (take i es) (drop (i + 1) es) e (subst (IsLegal o) split_e h)
+
+-- where entry i, which is e, is lawful after those before it, one more is legal
+pub legal-more : (o : Opening) (es : List Entry) (i : ℕ) (e : Entry) → IsLegal o (take i es) → i < length es
+    → e ≡ get_or es i e → reply o (take i es) e.thread e.action ≡ Some e.reply → IsLegal o (take (i + 1) es)
+legal-more o es i e h lt is r =
+    subst (IsLegal o) (sym (take_more es i e lt ∙ ap (λ x. take i es ++ x ∷ []) (sym is)))
+    (legal-from_push o [] (take i es) e h r)
 
 -- a well-formed action that has no lawful reply is a Lock or a Wait
 pub unlawful-waits : (o : Opening) (before : List Entry) (t : ℕ) (a : Action) → IsWellFormed o before a

@@ -1,4 +1,5 @@
 pub mod Legality
+pub mod Lists
 pub mod Waits
 pub mod Walks
 pub mod Records

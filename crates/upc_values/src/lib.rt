@@ -13,7 +13,7 @@ mod scalar;
 pub use action::{Action, Actions, Reply};
 pub use block_layout::{Kind, Loc, LocalPtr, ObjectRef, Shape, SharedPtr};
 pub use copy::{copy_action, copy_scalar};
-pub use equal::{same_loc, same_scalar};
+pub use equal::{same_action, same_loc, same_reply, same_scalar};
 pub use journal::{Entries, Entry, Journal, Strand, Strands};
 pub use listing::Listing;
 pub use order::{Op, Order, OrderList, Orders};

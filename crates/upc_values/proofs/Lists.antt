@@ -1,0 +1,21 @@
+-- What holds of each member of a list.
+use Rattle.std.proofs.Common.{ℕ, ◌<◌, List, [], ◌∷◌, ◌++◌, length, get_or, take, arith}
+use Rattle.upc_values.specs.Lists.{Each}
+
+pub each-push : {X : Type 0} (P : X → Type 0) (xs : List X) (x : X) → Each P xs → P x → Each P (xs ++ x ∷ [])
+each-push P [] x h p = (p, tt)
+each-push P (y ∷ xs) x h p = (h.0, each-push P xs x h.1 p)
+
+pub each-at : {X : Type 0} (P : X → Type 0) (xs : List X) (i : ℕ) (d : X) → Each P xs → i < length xs → P (get_or xs i d)
+each-at P [] i d h lt = absurd (omega arith)
+each-at P (x ∷ xs) ℕ.zero d h lt = h.0
+each-at P (x ∷ xs) (ℕ.suc i) d h lt = each-at P xs i d h.1 (omega arith)
+
+pub each-grow : {X : Type 0} (P Q : X → Type 0) (xs : List X) → ((x : X) → P x → Q x) → Each P xs → Each Q xs
+each-grow P Q [] f h = tt
+each-grow P Q (x ∷ xs) f h = (f x h.0, each-grow P Q xs f h.1)
+
+pub each-take : {X : Type 0} (P : X → Type 0) (n : ℕ) (xs : List X) → Each P xs → Each P (take n xs)
+each-take P ℕ.zero xs h = tt
+each-take P (ℕ.suc n) [] h = tt
+each-take P (ℕ.suc n) (x ∷ xs) h = (h.0, each-take P n xs h.1)
