@@ -1,0 +1,6 @@
+pub mod Tree
+pub mod Course
+pub mod Postfix
+pub mod Meaning
+pub mod Ahead
+pub mod Machine

@@ -1,0 +1,12 @@
+//! The first language: a small part of UPC, from its source to a machine that runs it reply by reply.
+#![tactic(auto)]
+
+mod instr;
+mod machine;
+mod tree;
+
+pub use instr::{Instr, Operator};
+
+pub use std::alloc::AllocError as OutOfMemory;
+pub use machine::{Machine, Wish};
+pub use tree::First;
