@@ -1,5 +1,5 @@
 -- What a machine has still to do.
-use Rattle.std.specs.Prelude.{ℕ, ◌≡◌, ℤ, pos, ◌+◌, ◌≤◌, nat_le, ◌++◌, cond, List, [], ◌∷◌, Bool, true, false}
+use Rattle.std.specs.Prelude.{ℕ, ◌≡◌, ℤ, pos, ◌+◌, ◌-◌, ◌≤◌, nat_le, length, take, slice_index_or, ◌++◌, cond, List, [], ◌∷◌, Bool, true, false}
 use Rattle.std.specs.Ordering.{int_eq}
 use Rattle.upc_values.specs.declared.scalar.Scalar.TheVariants.{Int}
 use Rattle.upc_values.specs.declared.action.Action.TheVariants as a
@@ -76,14 +76,10 @@ AreTimely budget n (Step x ∷ k) = AreTimely budget (behind x n) k
 
 -- the last operand, or 0, and the operands before it
 abbrev pub last_of : List ℤ → ℤ
-last_of [] = pos 0
-last_of (x ∷ []) = x
-last_of (x ∷ y ∷ ys) = last_of (y ∷ ys)
+last_of xs = slice_index_or xs (length xs - 1) (pos 0)
 
 abbrev pub front_of : List ℤ → List ℤ
-front_of [] = []
-front_of (x ∷ []) = []
-front_of (x ∷ y ∷ ys) = x ∷ front_of (y ∷ ys)
+front_of xs = take (length xs - 1) xs
 
 -- on a thread, of so many threads, with a budget of ticks; whether each variable is strict
 module _ (thread threads budget : ℕ) (strict : List Bool) where

@@ -4,3 +4,4 @@ pub mod Postfix
 pub mod Meaning
 pub mod Ahead
 pub mod Machine
+pub mod Turns

@@ -3,6 +3,7 @@
 
 mod instr;
 mod machine;
+mod step;
 mod tree;
 
 pub use instr::{Instr, Operator};

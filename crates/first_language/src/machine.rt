@@ -16,6 +16,15 @@ pub enum Wish {
     Budget,
 }
 
+/// What one step came to.
+#[derive(Drop)]
+pub(crate) enum Turn {
+    Moved,
+    /// It took the reply.
+    Answered,
+    Wishes(Wish),
+}
+
 /// A thread's machine.
 #[derive(Drop)]
 pub struct Machine {
