@@ -1,2 +1,4 @@
 pub mod Courses
 pub mod Settles
+pub mod Turns
+pub mod Codes

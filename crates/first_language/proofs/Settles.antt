@@ -5,9 +5,8 @@ use Rattle.first_language.specs.declared.instr.Instr.{Instr}
 use Rattle.first_language.specs.declared.instr.Instr.TheVariants as i
 use Rattle.upc_values.specs.declared.scalar.Mark.TheVariants.{Absent}
 use Rattle.first_language.specs.Tree.{Expr, Number, Variable, Mythread, Threads, Binary, Stmt, Assign, Barrier, Fence, Print, While, Block, End, Then}
-use Rattle.first_language.specs.Course.{Course, Gives, Over, Asks, bind, ask}
+use Rattle.first_language.specs.Course.{Course, Gives, Over, Asks, Spent, bind, ask}
 use Rattle.std.specs.Ordering.{int_eq}
-use Rattle.upc_values.specs.declared.record.ToldEnd.TheVariants.{OutOfTicks}
 use Rattle.first_language.specs.Meaning.{value, statements, statement, operate, beat, check, tick, turns}
 use Rattle.first_language.specs.Ahead.{Item, Evaluate, Do, Step, Choose, Again, code_items, EndsWith, AreClosed, AreTimely, behind, left_by, last_of, front_of}
 use Rattle.first_language.proofs.Courses.{bind-bind, bind-same, bind-cond}
@@ -154,11 +153,11 @@ module _ (code : List Instr) (t n b : ℕ) (strict : List Bool) where
 
   turn-loop : (left : ℕ) (c : Expr) (d : Block) (go : ℕ → Course ℤ) (m : ℕ) →
       bind (turns b (suc left) (value t n b strict c) (statements t n b strict d) m) (λ u o. go o)
-      ≡ cond (nat_le b m) (Over OutOfTicks m) (turn left c d (m + 1) go)
+      ≡ cond (nat_le b m) (Over Spent m) (turn left c d (m + 1) go)
   turn-loop left c d go m =
       bind-bind (tick b m) _ (λ u o. go o)
-      ∙ bind-cond (nat_le b m) (Over OutOfTicks m) (bind (beat (m + 1)) (λ u l. check b l)) _
-      ∙ ap (λ z. cond (nat_le b m) (Over OutOfTicks m) z)
+      ∙ bind-cond (nat_le b m) (Over Spent m) (bind (beat (m + 1)) (λ u l. check b l)) _
+      ∙ ap (λ z. cond (nat_le b m) (Over Spent m) z)
           (bind-same (bind (beat (m + 1)) (λ u l. check b l)) _ _ (λ u l.
             bind-bind (value t n b strict c l) _ (λ w o. go o)
             ∙ bind-same (value t n b strict c l) _ _ (λ x j.
@@ -168,7 +167,7 @@ module _ (code : List Instr) (t n b : ℕ) (strict : List Bool) where
   -- a loop at its beginning: it may take as many turns as there are ticks
   begin-loop : (q : ℕ) (c : Expr) (d : Block) (go : ℕ → Course ℤ) (m : ℕ) → q ≡ b →
       bind (turns b q (value t n b strict c) (statements t n b strict d) m) (λ u o. go o)
-      ≡ cond (nat_le b m) (Over OutOfTicks m) (turn (q - 1) c d (m + 1) go)
+      ≡ cond (nat_le b m) (Over Spent m) (turn (q - 1) c d (m + 1) go)
   begin-loop zero c d go m e =
       let none : nat_le b m ≡ true = subst (λ z. nat_le z m ≡ true) e (le-leb 0 m (omega arith)) in
       rw none refl
@@ -180,9 +179,9 @@ module _ (code : List Instr) (t n b : ℕ) (strict : List Bool) where
       left_by t n b strict (Step i.Tick ∷ Step i.Beat ∷ Step i.Check ∷ Evaluate c ∷ Choose (b - 1) c d ∷ Do ss ∷ k) xs m
       ≡ left_by t n b strict (Do (Then (While c d) ss) ∷ k) xs m
   while-same c d ss k xs m =
-      bind-cond (nat_le b m) (Over OutOfTicks m) (Gives xs (m + 1))
+      bind-cond (nat_le b m) (Over Spent m) (Gives xs (m + 1))
         (λ ys o. left_by t n b strict (Step i.Beat ∷ Step i.Check ∷ Evaluate c ∷ Choose (b - 1) c d ∷ Do ss ∷ k) ys o)
-      ∙ ap (λ z. cond (nat_le b m) (Over OutOfTicks m) z) (turn-steps (b - 1) c d (Do ss ∷ k) xs (m + 1))
+      ∙ ap (λ z. cond (nat_le b m) (Over Spent m) z) (turn-steps (b - 1) c d (Do ss ∷ k) xs (m + 1))
       ∙ sym (begin-loop b c d (λ o. left_by t n b strict (Do ss ∷ k) xs o) m refl)
       ∙ sym (bind-bind (turns b b (value t n b strict c) (statements t n b strict d) m)
           (λ u o. statements t n b strict ss o) (λ u o. left_by t n b strict k xs o))
@@ -241,7 +240,7 @@ module _ (code : List Instr) (t n b : ℕ) (strict : List Bool) where
   -- a loop behind its body goes on as at its tick
   pub again-same : (left : ℕ) (c : Expr) (d : Block) (k : List Item) (xs : List ℤ) (m : ℕ) → b ≤ m + left →
       left_by t n b strict (Again left c d ∷ k) xs m
-      ≡ cond (nat_le b m) (Over OutOfTicks m)
+      ≡ cond (nat_le b m) (Over Spent m)
           (left_by t n b strict (Step i.Beat ∷ Step i.Check ∷ Evaluate c ∷ Choose (left - 1) c d ∷ k) xs (m + 1))
   again-same zero c d k xs m h =
       let none : nat_le b m ≡ true = le-leb b m (omega arith) in
@@ -249,4 +248,4 @@ module _ (code : List Instr) (t n b : ℕ) (strict : List Bool) where
   again-same (suc left) c d k xs m h =
       let less : suc left - 1 ≡ left = omega arith in
       turn-loop left c d (λ o. left_by t n b strict k xs o) m
-      ∙ rw less (ap (λ z. cond (nat_le b m) (Over OutOfTicks m) z) (sym (turn-steps left c d k xs (m + 1))))
+      ∙ rw less (ap (λ z. cond (nat_le b m) (Over Spent m) z) (sym (turn-steps left c d k xs (m + 1))))

@@ -3,11 +3,10 @@ use Rattle.std.specs.Prelude.{ℕ, ◌≡◌, ℤ, pos, ◌+◌, ◌-◌, ◌≤
 use Rattle.std.specs.Ordering.{int_eq}
 use Rattle.upc_values.specs.declared.scalar.Scalar.TheVariants.{Int}
 use Rattle.upc_values.specs.declared.action.Action.TheVariants as a
-use Rattle.upc_values.specs.declared.record.ToldEnd.TheVariants.{OutOfTicks}
 use Rattle.first_language.specs.declared.instr.Instr.{Instr}
 use Rattle.first_language.specs.declared.instr.Instr.TheVariants as i
 use Rattle.first_language.specs.Tree.{Expr, Block}
-use Rattle.first_language.specs.Course.{Course, Gives, Over, Asks, bind, ask}
+use Rattle.first_language.specs.Course.{Course, Gives, Over, Asks, Spent, bind, ask}
 use Rattle.first_language.specs.Postfix.{code_expr, code_block, size_expr, size_block}
 use Rattle.first_language.specs.Meaning.{value, statements, turns, operate, fetch, beat, check, line_of, loc_of, is_strict}
 
@@ -99,7 +98,7 @@ module _ (thread threads budget : ℕ) (strict : List Bool) where
   does i.Fence xs n = bind (ask a.Fence n) (λ u m. Gives xs m)
   does i.Beat xs n = bind (beat n) (λ u m. Gives xs m)
   does i.Check xs n = bind (check budget n) (λ u m. Gives xs m)
-  does i.Tick xs n = cond (nat_le budget n) (Over OutOfTicks n) (Gives xs (n + 1))
+  does i.Tick xs n = cond (nat_le budget n) (Over Spent n) (Gives xs (n + 1))
   does (i.Test k) xs n = Gives xs n
   does (i.Back k) xs n = Gives xs n
 

@@ -1,5 +1,5 @@
 -- Where a machine stands in what its thread does.
-use Rattle.std.specs.Prelude.{ℕ, ◌≡◌, ℤ, pos, ◌++◌, true, List, [], ◌∷◌, length, Option, Some, None}
+use Rattle.std.specs.Prelude.{ℕ, ◌≡◌, ℤ, pos, ◌++◌, Bool, true, List, [], ◌∷◌, length, Option, Some, None}
 use Rattle.upc_values.specs.declared.action.Action.{Action}
 use Rattle.upc_values.specs.declared.action.Reply.{Reply}
 use Rattle.upc_values.specs.declared.record.ToldEnd.{ToldEnd}
@@ -10,7 +10,7 @@ use Rattle.first_language.specs.declared.tree.First.{First}
 use Rattle.first_language.specs.declared.machine.Wish.{Wish}
 use Rattle.first_language.specs.declared.machine.Wish.TheVariants.{Act, Ended, Exit, Fault, Budget}
 use Rattle.first_language.specs.declared.machine.Machine.{Machine}
-use Rattle.first_language.specs.Course.{Course, Gives, Over, Asks}
+use Rattle.first_language.specs.Course.{Course, Gives, Over, Asks, told_stop}
 use Rattle.first_language.specs.Meaning.{course, meaning}
 use Rattle.first_language.specs.Ahead.{Item, code_items, AreClosed, AreTimely, left_by}
 
@@ -30,7 +30,7 @@ ticks_of (Asks a n after) = n
 
 abbrev pub end_of : Course ℤ → ToldEnd
 end_of (Gives v n) = told.Ended v
-end_of (Over e n) = e
+end_of (Over e n) = told_stop e
 end_of (Asks a n after) = told.Wants a
 
 -- by these replies, each of which fits, the first course comes to the second
@@ -40,18 +40,30 @@ Comes (Gives v n) (r ∷ rs) d = ⊥
 Comes (Over e n) (r ∷ rs) d = ⊥
 Comes (Asks a n after) (r ∷ rs) d = (fits a r ≡ true) × Comes (after r) rs d
 
+-- a course goes on by a reply, where it asks and one is given
+abbrev pub advance : Course ℤ → Option Reply → Course ℤ
+advance (Gives v n) reply = Gives v n
+advance (Over e n) reply = Over e n
+advance (Asks a n after) None = Asks a n after
+advance (Asks a n after) (Some r) = after r
+
+-- at this place of the code, with these operands and ticks, thread t of n has this course still before it
+pub record Continues (code : List Instr) (strict : List Bool) (t n b : ℕ) (place : ℕ) (xs : List ℤ) (ticks : ℕ)
+    (c : Course ℤ) : Type 0 where
+  pub items : List Item
+  pub front : List Instr
+  pub joins : code ≡ front ++ code_items items
+  pub stands : length front ≡ place
+  pub closed : AreClosed code items
+  pub timely : AreTimely b ticks items
+  pub course : left_by t n b strict items xs ticks ≡ c
+
 -- the machine of thread t of n, with budget b, has this course still before it
 pub record Runs (p : First) (t n b : ℕ) (m : Machine) (c : Course ℤ) : Type 0 where
   pub thread : m.thread ≡ pos t
   pub threads : m.threads ≡ pos n
   pub budget : m.budget ≡ b
-  pub items : List Item
-  pub front : List Instr
-  pub joins : p.code.items ≡ front ++ code_items items
-  pub place : length front ≡ m.position
-  pub closed : AreClosed p.code.items items
-  pub timely : AreTimely b m.ticks items
-  pub course : left_by t n b p.strict.items items m.operands.items m.ticks ≡ c
+  pub continues : Continues p.code.items p.strict.items t n b m.position m.operands.items m.ticks c
 
 -- the machine has had just these replies, in order: program, thread, threads, budget, replies
 unfoldable pub Stands : First → ℕ → ℕ → ℕ → List Reply → Machine → Type 0

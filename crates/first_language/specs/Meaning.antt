@@ -10,8 +10,6 @@ use Rattle.upc_values.specs.declared.action.Action.{Action}
 use Rattle.upc_values.specs.declared.action.Action.TheVariants as a
 use Rattle.upc_values.specs.declared.action.Reply.{Reply}
 use Rattle.upc_values.specs.declared.action.Reply.TheVariants.{Value}
-use Rattle.upc_values.specs.declared.record.ToldEnd.{ToldEnd}
-use Rattle.upc_values.specs.declared.record.ToldEnd.TheVariants.{Fault, OutOfTicks}
 use Rattle.upc_values.specs.Scalars.{is_int}
 use Rattle.upc_values.specs.Legal.{Opening}
 use Rattle.upc_values.specs.Outcomes.{Outcome}
@@ -19,7 +17,7 @@ use Rattle.first_language.specs.declared.instr.Operator.{Operator}
 use Rattle.first_language.specs.declared.instr.Operator.TheVariants.{Plus, Minus, Times}
 use Rattle.first_language.specs.declared.tree.First.{First}
 use Rattle.first_language.specs.Tree.{Expr, Number, Variable, Mythread, Threads, Binary, Stmt, Assign, Barrier, Fence, Print, While, Block, End, Then, Program}
-use Rattle.first_language.specs.Course.{Course, Gives, Over, Asks, bind, ask, outcome_after}
+use Rattle.first_language.specs.Course.{Course, Gives, Over, Asks, Faults, Spent, bind, ask, outcome_after}
 use Rattle.first_language.specs.Postfix.{read}
 
 -- the exact result
@@ -30,7 +28,7 @@ exact Times x y = x *ℤ y
 
 -- a result that is no int is a run error at the expression (C99 6.5 paragraph 5)
 abbrev pub operate : Operator → Place → ℤ → ℤ → ℕ → Course ℤ
-operate op place x y n = cond (is_int (exact op x y)) (Gives (exact op x y) n) (Over (Fault 1 place) n)
+operate op place x y n = cond (is_int (exact op x y)) (Gives (exact op x y) n) (Over (Faults 1 place) n)
 
 -- the location of a variable, from 1
 abbrev pub loc_of : ℕ → Loc
@@ -60,15 +58,15 @@ beat n = cond (n % 1024 == 0) (ask a.Beat n) (Gives tt n)
 
 -- the end where the ticks are the budget
 abbrev pub check : ℕ → ℕ → Course (Unit {0})
-check budget n = cond (n == budget) (Over OutOfTicks n) (Gives tt n)
+check budget n = cond (n == budget) (Over Spent n) (Gives tt n)
 
 -- a tick, where some are left: the count goes up by one; then the Beat, then the end
 abbrev pub tick : ℕ → ℕ → Course (Unit {0})
-tick budget n = cond (nat_le budget n) (Over OutOfTicks n) (bind (beat (n + 1)) (λ u m. check budget m))
+tick budget n = cond (nat_le budget n) (Over Spent n) (bind (beat (n + 1)) (λ u m. check budget m))
 
 -- a loop: a tick, then the condition; where it is not 0, the body, and again. No thread takes more turns than its budget
 abbrev pub turns : ℕ → ℕ → (ℕ → Course ℤ) → (ℕ → Course (Unit {0})) → ℕ → Course (Unit {0})
-turns budget zero condition body n = Over OutOfTicks n
+turns budget zero condition body n = Over Spent n
 turns budget (suc left) condition body n =
     bind (tick budget n) (λ u m.
       bind (condition m) (λ x k.

@@ -1,5 +1,5 @@
 -- What a machine does at one step.
-use Rattle.std.specs.Prelude.{ℕ, ◌≡◌, ℤ, pos, Bool, List, Option, Some, None}
+use Rattle.std.specs.Prelude.{ℕ, ◌≡◌, ◌≤◌, ◌<◌, ◌+◌, ◌-◌, ◌*◌, ℤ, pos, Bool, List, length, Option, Some, None}
 use Rattle.upc_values.specs.declared.action.Action.{Action}
 use Rattle.upc_values.specs.declared.action.Reply.{Reply}
 use Rattle.upc_values.specs.declared.record.ToldEnd.{ToldEnd}
@@ -9,9 +9,10 @@ use Rattle.first_language.specs.declared.machine.Turn.TheVariants.{Moved, Answer
 use Rattle.first_language.specs.Course.{Course, Gives, Over, Asks}
 use Rattle.first_language.specs.declared.instr.Instr.{Instr}
 use Rattle.first_language.specs.declared.machine.Machine.{Machine}
-use Rattle.first_language.specs.Course.{bind, ask}
+use Rattle.first_language.specs.declared.tree.First.{First}
+use Rattle.first_language.specs.Course.{bind, ask, told_stop}
 use Rattle.first_language.specs.Ahead.{does}
-use Rattle.first_language.specs.Machine.{told_of}
+use Rattle.first_language.specs.Machine.{told_of, Runs, advance, end_of, ticks_of}
 
 -- it goes on, with these operands and ticks; it does so by the reply; or it tells a wish
 pub data Next : Type 0 where
@@ -22,13 +23,13 @@ pub data Next : Type 0 where
 -- behind a reply
 abbrev pub taken : Course (List ℤ) → Next
 taken (Gives xs n) = Takes xs n
-taken (Over e n) = Tells e
+taken (Over e n) = Tells (told_stop e)
 taken (Asks a n after) = Tells (Wants a)
 
 -- what a step comes to with a reply, or without one
 abbrev pub next_by : Course (List ℤ) → Option Reply → Next
 next_by (Gives xs n) reply = Moves xs n
-next_by (Over e n) reply = Tells e
+next_by (Over e n) reply = Tells (told_stop e)
 next_by (Asks a n after) None = Tells (Wants a)
 next_by (Asks a n after) (Some r) = taken (after r)
 
@@ -49,12 +50,13 @@ Acts t n strict x reply before turn after =
     → seen turn after.operands.items after.ticks
       ≡ next_by (does t n before.budget strict x before.operands.items before.ticks) reply
 
--- all but the operands and the ticks stays
+-- all but the operands and the ticks stays, and no tick is lost
 pub record Keeps (before after : Machine) : Type 0 where
   pub thread : after.thread ≡ before.thread
   pub threads : after.threads ≡ before.threads
   pub budget : after.budget ≡ before.budget
   pub position : after.position ≡ before.position
+  pub ticks : before.ticks ≤ after.ticks
 
 -- at a wish the machine rests
 abbrev pub Rests : Turn → Machine → Machine → Type 0
@@ -62,3 +64,19 @@ Rests (Wishes w) before after =
     (after.operands.items ≡ before.operands.items) × (after.ticks ≡ before.ticks)
 Rests Moved before after = Unit {0}
 Rests Answered before after = Unit {0}
+
+-- what a turn does to the course that is before a machine
+abbrev pub Leads : First → ℕ → ℕ → ℕ → Turn → Option Reply → Machine → Course ℤ → Type 0
+Leads p t n b Moved reply after c = Runs p t n b after c
+Leads p t n b Answered reply after c = Runs p t n b after (advance c reply)
+Leads p t n b (Wishes w) reply after c =
+    Runs p t n b after c × (advance c reply ≡ c) × (end_of c ≡ told_of w) × (ticks_of c ≡ after.ticks)
+
+-- what a machine may still do between two wishes: each way back spends a tick
+abbrev pub weight : ℕ → Machine → ℕ
+weight size m = (m.budget - m.ticks) * (size + 1) + (size - m.position)
+
+abbrev pub Lightens : ℕ → Turn → Machine → Machine → Type 0
+Lightens size Moved before after = weight size after < weight size before
+Lightens size Answered before after = weight size after < weight size before
+Lightens size (Wishes w) before after = Unit {0}
