@@ -2,3 +2,5 @@ pub mod Courses
 pub mod Settles
 pub mod Turns
 pub mod Codes
+pub mod Machines
+pub mod Replies

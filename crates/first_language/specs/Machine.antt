@@ -65,6 +65,13 @@ pub record Runs (p : First) (t n b : ℕ) (m : Machine) (c : Course ℤ) : Type 
   pub budget : m.budget ≡ b
   pub continues : Continues p.code.items p.strict.items t n b m.position m.operands.items m.ticks c
 
+-- by a reply, or without one, a machine comes to a wish
+abbrev pub Resumes : First → Option Reply → Machine → Wish → Machine → Type 0
+Resumes p reply before w after =
+    (t n b : ℕ) (c : Course ℤ) → Runs p t n b before c
+    → Runs p t n b after (advance c reply)
+      × (end_of (advance c reply) ≡ told_of w) × (ticks_of (advance c reply) ≡ after.ticks)
+
 -- the machine has had just these replies, in order: program, thread, threads, budget, replies
 unfoldable pub Stands : First → ℕ → ℕ → ℕ → List Reply → Machine → Type 0
 Stands p t n b given m =

@@ -65,6 +65,22 @@ Rests (Wishes w) before after =
 Rests Moved before after = Unit {0}
 Rests Answered before after = Unit {0}
 
+-- the thread, the number of threads and the budget stay
+pub record SameThread (before after : Machine) : Type 0 where
+  pub thread : after.thread ≡ before.thread
+  pub threads : after.threads ≡ before.threads
+  pub budget : after.budget ≡ before.budget
+
+-- a step forward, or a rest at a wish
+abbrev pub Advances : Turn → Machine → Machine → Type 0
+Advances (Wishes w) before after =
+    (after.position ≡ before.position) × (after.operands.items ≡ before.operands.items) × (after.ticks ≡ before.ticks)
+Advances Moved before after = after.position ≡ before.position + 1
+Advances Answered before after = after.position ≡ before.position + 1
+
+abbrev pub Forwards : Turn → Machine → Machine → Type 0
+Forwards turn before after = SameThread before after × Advances turn before after
+
 -- what a turn does to the course that is before a machine
 abbrev pub Leads : First → ℕ → ℕ → ℕ → Turn → Option Reply → Machine → Course ℤ → Type 0
 Leads p t n b Moved reply after c = Runs p t n b after c

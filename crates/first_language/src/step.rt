@@ -17,14 +17,14 @@ use upc_text::{Place, Text};
 use upc_values::{Action, Loc, Reply, Scalar};
 
 // The last operand, or 0.
-fn top(operands: &[i32]) -> i32
+pub(crate) fn top(operands: &[i32]) -> i32
     ensures { result ≡ last_of operands.now }
 {
     operands.last().copied().unwrap_or(0)
 }
 
 // Takes the last operand off.
-fn pop(operands: &mut Vec<i32>) -> i32
+pub(crate) fn pop(operands: &mut Vec<i32>) -> i32
     ensures last { result ≡ last_of operands.old.items }
     ensures front { operands.new.items ≡ front_of operands.old.items }
 {
