@@ -4,3 +4,5 @@ pub mod Turns
 pub mod Codes
 pub mod Machines
 pub mod Replies
+pub mod Keeps
+pub mod Laws
