@@ -5,3 +5,4 @@ pub mod Meaning
 pub mod Ahead
 pub mod Machine
 pub mod Turns
+pub mod Words

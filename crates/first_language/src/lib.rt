@@ -4,7 +4,9 @@
 mod instr;
 mod machine;
 mod step;
+mod token;
 mod tree;
+mod words;
 
 pub use instr::{Instr, Operator};
 
