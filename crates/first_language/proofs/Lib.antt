@@ -6,3 +6,4 @@ pub mod Machines
 pub mod Replies
 pub mod Keeps
 pub mod Laws
+pub mod Digits

@@ -6,3 +6,4 @@ pub mod Ahead
 pub mod Machine
 pub mod Turns
 pub mod Words
+pub mod Scan

@@ -3,6 +3,7 @@
 
 mod instr;
 mod machine;
+mod scan;
 mod step;
 mod token;
 mod tree;
