@@ -38,7 +38,7 @@ use Rattle.serial_core.proofs.Buffers.{holds-unemptied, holds-grow}
 -- the meaning of a task's source keeps what every meaning keeps
 pub kept-means : (o : Opening) (p : First) (seen : List Entry) (k : Task) → IsKept o p seen k → IsMeaning o (meaning_of p k)
 kept-means o p seen k h =
-    subst (λ z. IsMeaning z (meaning_of p k)) (sym h.opened) (meaning-laws p k.thread k.limits.threads k.limits.budget h.within h.budget)
+    subst (λ z. IsMeaning z (meaning_of p k)) (sym h.opened) (meaning-laws p k.thread k.limits.threads k.limits.budget h.within h.threads h.budget)
 
 -- what a task wishes to do may be asked for
 pub kept-asks : (o : Opening) (p : First) (seen : List Entry) (k : Task) (a : Action) → IsKept o p seen k → k.wish ≡ Some (Act a)
@@ -90,6 +90,7 @@ kept-did o p seen later k m a r h opened wants room g em f is =
     record {
       opened = h.opened;
       within = h.within;
+      threads = h.threads;
       budget = h.budget;
       small = h.small;
       holds = subst (λ e. Holds o t later m.buffer (k.next + 1) (settled e (walked t m.items.items))) (sym opened)
@@ -143,6 +144,7 @@ kept-stall o p seen later k m a h opened wants room g em none still is =
     record {
       opened = h.opened;
       within = h.within;
+      threads = h.threads;
       budget = h.budget;
       small = h.small;
       holds = subst (λ e. Holds o t later m.buffer k.next (settled e (walked t m.items.items))) (sym opened)
@@ -190,6 +192,7 @@ kept-stay o p seen later k m a h opened wants g em stalls is =
     record {
       opened = h.opened;
       within = h.within;
+      threads = h.threads;
       budget = h.budget;
       small = h.small;
       holds = subst (λ e. Holds o t later m.buffer k.next (settled e (walked t m.items.items))) (sym opened)
@@ -221,6 +224,7 @@ kept-closed o p seen later k m wish e h opened wants g em empty own own_end =
     record {
       opened = h.opened;
       within = h.within;
+      threads = h.threads;
       budget = h.budget;
       small = h.small;
       holds = em w hw;
@@ -322,6 +326,7 @@ kept-ended o p seen k e h opened can =
     record {
       opened = h.opened;
       within = h.within;
+      threads = h.threads;
       budget = h.budget;
       small = h.small;
       holds = subst (Holds o t seen k.buffer k.next) (sym (emptied-same w none)) hw;
@@ -344,6 +349,7 @@ pub kept-grow : (o : Opening) (p : First) (t : ℕ) (seen later : List Entry) (k
 kept-grow o p t seen later k h ne g = record {
   opened = h.opened;
   within = h.within;
+  threads = h.threads;
   budget = h.budget;
   small = h.small;
   holds = subst (λ l. Holds o k.thread l k.buffer k.next (settled k.«end» (walked k.thread k.items.items))) (sym g.is)
@@ -366,15 +372,16 @@ few-actions l h = let all = h.all in omega (arith, mul-le-mul_left l.actions h.s
 
 -- a new task, of whose thread nothing was seen
 pub kept-new : (p : First) (seen : List Entry) (k : Task) → k.items.items ≡ [] → k.buffer ≡ [] → k.next ≡ 0 → k.answer ≡ None → k.wish ≡ None
-    → k.«end» ≡ None → Stands p k.thread k.limits.threads k.limits.budget [] k.machine → k.thread < k.limits.threads → 1 ≤ k.limits.budget
-    → k.limits.actions < 2 ^ 32 → entries_of k.thread seen ≡ [] → IsKept (opening_of p k.limits.threads) p seen k
-kept-new p seen k items buffer next answer wish none stands within budget small seen_none =
+    → k.«end» ≡ None → Stands p k.thread k.limits.threads k.limits.budget [] k.machine → k.thread < k.limits.threads → k.limits.threads ≤ 32
+    → 1 ≤ k.limits.budget → k.limits.actions < 2 ^ 32 → entries_of k.thread seen ≡ [] → IsKept (opening_of p k.limits.threads) p seen k
+kept-new p seen k items buffer next answer wish none stands within threads budget small seen_none =
     let o : Opening = opening_of p k.limits.threads in
-    let law : IsMeaning o (meaning_of p k) = meaning-laws p k.thread k.limits.threads k.limits.budget within budget in
+    let law : IsMeaning o (meaning_of p k) = meaning-laws p k.thread k.limits.threads k.limits.budget within threads budget in
     let R : List Item → Type 0 = λ xs. IsRecord o k.thread k.limits.actions seen (meaning_of p k (replies_of xs)) xs in
     record {
       opened = refl;
       within = within;
+      threads = threads;
       budget = budget;
       small = small;
       holds = subst (λ e. Holds o k.thread seen k.buffer k.next (settled e (walked k.thread k.items.items))) (sym none)
@@ -411,6 +418,7 @@ kept-worked o p seen k m w h wish opened told stands asked =
     record {
       opened = h.opened;
       within = h.within;
+      threads = h.threads;
       budget = h.budget;
       small = h.small;
       holds = h.holds;

@@ -124,6 +124,7 @@ settled (Some e) w = emptied w
 pub record IsKept (o : Opening) (p : First) (seen : List Entry) (k : Task) : Type 0 where
   pub opened : o ≡ opening_of p k.limits.threads
   pub within : k.thread < k.limits.threads
+  pub threads : k.limits.threads ≤ 32
   pub budget : 1 ≤ k.limits.budget
   pub small : k.limits.actions < 2 ^ 32
   pub holds : Holds o k.thread seen k.buffer k.next (settled k.«end» (walked k.thread k.items.items))
