@@ -41,3 +41,8 @@ pub numbered-at : {X : Type 0} (P : ℕ → X → Type 0) (xs ys : List X) (x : 
 numbered-at P xs ys x h =
     let many : length (xs ++ x ∷ ys) ≡ length xs + length (x ∷ ys) = length-append xs (x ∷ ys) in
     subst (P (length xs)) (get_or_at xs x ys x (length xs) refl) (h (length xs) x (omega arith))
+
+-- some member of a list that has one
+pub some-of : {X : Type 0} (xs : List X) (i : ℕ) → i < length xs → X
+some-of [] i h = absurd (omega arith)
+some-of (x ∷ xs) i h = x

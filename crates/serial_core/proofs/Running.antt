@@ -22,7 +22,11 @@ use Rattle.serial_core.specs.declared.task.Pause.{Pause}
 use Rattle.serial_core.specs.declared.task.Pause.TheVariants as pauses
 use Rattle.serial_core.specs.Kept.{IsKept, IsSame, Grew, Paused, is_given, meaning_of, outcome_of, settled, Holds, end_or, strand_of}
 use Rattle.serial_core.specs.Runs.{IsAt, HasOwnEnd, IsRunning, IsStart, IsNew, AreSame, Rested, Stops, Wanting, Given, IsOver, AreEach, halted, halted_end, locked, locked_end, CanLock}
-use Rattle.serial_core.proofs.Lists.{numbered-map, both}
+use Rattle.std.proofs.lemmas.List.Sums.{count_by_more_yes, count_by_more_no}
+use Rattle.std.proofs.Common.{take, ◌+◌}
+use Rattle.std.specs.Prelude.{not}
+use Rattle.serial_core.specs.Runs.{IsOpenAt, is_open, open_among}
+use Rattle.serial_core.proofs.Lists.{numbered-map, both, some-of}
 use Rattle.serial_core.proofs.Options.{none-some}
 use Rattle.serial_core.proofs.Tasks.{kept-grow, kept-ended}
 
@@ -260,3 +264,11 @@ start-of src l ks many new = record {
   };
   limits = λ i d lt. (new i d lt).limits;
 }
+
+-- one task more, with and without an end
+pub open-more : (ks : List Task) (i : ℕ) → i < length ks → IsOpenAt ks i → open_among (take (i + 1) ks) ≡ open_among (take i ks) + 1
+open-more ks i lt h = let d = some-of ks i lt in count_by_more_yes is_open ks i d lt (ap (λ z. not (is_some z)) (h d))
+
+pub ended-more : (ks : List Task) (i : ℕ) → i < length ks → ((d : Task) → is_some (get_or ks i d).«end» ≡ true)
+    → open_among (take (i + 1) ks) ≡ open_among (take i ks)
+ended-more ks i lt h = let d = some-of ks i lt in count_by_more_no is_open ks i d lt (ap not (h d))

@@ -134,6 +134,14 @@ pub record IsKept (o : Opening) (p : First) (seen : List Entry) (k : Task) : Typ
   pub ended : (e : End) → k.«end» ≡ Some e
       → HasEnd k.limits.actions (meaning_of p k goes.given).ticks k.buffer k.machine (outcome_of p k) k.items.items e
 
+-- whatever its source, a task that was kept over the one world is kept over the other
+abbrev pub Keeps : Opening × List Entry → Task → Opening × List Entry → Task → Type 0
+Keeps w k x m = (p : First) → IsKept w.0 p w.1 k → IsKept x.0 p x.1 m
+
+-- over the same entries a task of the source p stays kept
+abbrev pub StaysKept : First → Task → Task → Type 0
+StaysKept p k m = (o : Opening) (seen : List Entry) → IsKept o p seen k → IsKept o p seen m
+
 -- the same thread and limits
 pub record IsSame (k m : Task) : Type 0 where
   pub thread : m.thread ≡ k.thread

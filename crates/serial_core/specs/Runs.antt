@@ -1,5 +1,5 @@
 -- What a run of tasks keeps.
-use Rattle.std.specs.Prelude.{ℕ, ◌≡◌, ◌≢◌, ◌<◌, true, false, List, [], length, slice_index_or, Option, Some, None, is_some}
+use Rattle.std.specs.Prelude.{ℕ, ◌≡◌, ◌≢◌, ◌<◌, true, false, List, [], length, slice_index_or, Option, Some, None, is_some, Bool, not, count_by, take, ◌%◌}
 use Rattle.upc_values.specs.declared.action.Action.{Action}
 use Rattle.upc_values.specs.declared.record.End.{End}
 use Rattle.upc_values.specs.declared.record.End.TheVariants.{Halted, Deadlocked}
@@ -52,6 +52,19 @@ pub record AreSame (ks ms : List Task) : Type 0 where
 abbrev pub IsOpenAt : List Task → ℕ → Type 0
 IsOpenAt ks i = (d : Task) → (slice_index_or ks i d).«end» ≡ None
 
+abbrev pub is_open : Task → Bool
+is_open k = not (is_some k.«end»)
+
+-- how many tasks have no end
+abbrev pub open_among : List Task → ℕ
+open_among ks = count_by is_open ks
+
+-- the task that a pick chooses: of those without an end, by number of thread, the one at the pick modulo their number
+pub record IsChosen (ks : List Task) (pick at : ℕ) : Type 0 where
+  pub within : at < length ks
+  pub opened : IsOpenAt ks at
+  pub number : open_among (take at ks) ≡ pick % open_among ks
+
 -- the other tasks are as they were
 abbrev pub OthersStay : ℕ → List Task → List Task → Type 0
 OthersStay i ks ms = (j : ℕ) (d : Task) → (j ≢ i) → slice_index_or ms j d ≡ slice_index_or ks j d
@@ -63,6 +76,10 @@ Rested k = k.«end» ≡ None → IsPausing k
 -- the task's end ends the run
 abbrev pub Stops : Task → Type 0
 Stops k = (e : End) × (k.«end» ≡ Some e) × (stops e ≡ true)
+
+-- the end of the task of thread u ends the run
+abbrev pub StopsAt : List Task → ℕ → Type 0
+StopsAt ks u = (u < length ks) × ((d : Task) → Stops (slice_index_or ks u d))
 
 -- no task's end ends the run
 abbrev pub NoneStops : List Task → Type 0

@@ -1,9 +1,9 @@
 //! What an action does to a write buffer and the history.
 
-ghost use Rattle.std.specs.Prelude.{◌≡◌, ℕ, ◌<◌, ◌+◌, [], ◌∷◌, ◌++◌, false, true, Some, IfOk, OnErr, length, map};
+ghost use Rattle.std.specs.Prelude.{◌≡◌, ◌<◌, [], ◌∷◌, ◌++◌, false, Some, IfOk, map};
 ghost use Rattle.upc_values.specs.declared.action.Action.TheVariants.{Write};
 ghost use Rattle.upc_values.specs.declared.action.Reply.TheVariants.{Done};
-ghost use Rattle.upc_values.specs.Drain.{Walk, emptied, gone, entry_of};
+ghost use Rattle.upc_values.specs.Drain.{Walk};
 ghost use Rattle.upc_values.specs.Legal.{IsWellFormed};
 ghost use Rattle.memory_history.specs.World.{answer_of};
 ghost use Rattle.write_buffer.specs.Buffer.{committed};
@@ -14,16 +14,15 @@ use std::alloc::AllocError;
 use upc_values::{Action, Loc, Reply, Scalar};
 use write_buffer::{Pending, WriteBuffer};
 
-/// How an action goes by the write buffer.
+// How an action goes by the write buffer.
 #[derive(Clone, Copy)]
-pub enum Way {
+enum Way {
     Stores(Loc, Scalar),
     Looks(Loc),
     Passes,
     Empties,
 }
 
-// How an action goes by the buffer.
 fn way_through(action: &Action) -> Way
     ensures { result ≡ way_of action.now }
 {
@@ -62,7 +61,8 @@ fn commit(thread: u32, world: &mut World, write: Pending) -> Result<(), AllocErr
 pub fn empty(thread: u32, world: &mut World, buffer: &mut WriteBuffer) -> Result<(), AllocError>
     requires below { thread < world.old.0.threads }
     requires formed { AreFormed world.old.0 world.old.1 buffer.old }
-    ensures all { IfOk result (λ _. (buffer.new ≡ []) × (world.new.1 ≡ world.old.1 ++ map (committed thread) buffer.old)) }
+    ensures all { IfOk result (λ _.
+        (buffer.new ≡ []) × (world.new.1 ≡ world.old.1 ++ map (committed thread) buffer.old)) }
     ensures grew { Grew thread world.old.1 world.new.1 }
     ensures opening { world.new.0 ≡ world.old.0 }
 {
@@ -84,7 +84,9 @@ fn store(
     requires below { thread < world.old.0.threads }
     requires formed { AreFormed world.old.0 world.old.1 buffer.old }
     requires asked { IsWellFormed world.old.0 world.old.1 (Write loc value false) }
-    ensures holds { IfOk result (λ _. (w : Walk) → Holds world.old.0 thread world.old.1 buffer.old next w → Holds world.old.0 thread world.new.1 buffer.new (next + 1) (gone (entry_of thread next (Write loc value false) Done) (Write loc value false) w)) }
+    ensures holds { IfOk result (λ _. (w : Walk)
+        → Holds world.old.0 thread world.old.1 buffer.old next w
+        → Emitted world.old.0 thread world.new.1 buffer.new next (Write loc value false) (Some Done) w) }
     ensures grew { Grew thread world.old.1 world.new.1 }
     ensures opening { world.new.0 ≡ world.old.0 }
 {
@@ -94,7 +96,7 @@ fn store(
     Ok(())
 }
 
-/// Acts on the buffer and the history: the reply, or nothing but the emptied buffer where the action is not legal.
+/// Acts on the buffer and the history: the reply, or only an emptied buffer where the action is not legal.
 #[tactic(auto, using(crate::proofs::Buffers::grows))]
 pub fn emit(
     thread: u32,
@@ -106,7 +108,9 @@ pub fn emit(
     requires below { thread < world.old.0.threads }
     requires pending { AreFormed world.old.0 world.old.1 buffer.old }
     requires asked { IsWellFormed world.old.0 world.old.1 action.now }
-    ensures holds { IfOk result (λ s. (w : Walk) → Holds world.old.0 thread world.old.1 buffer.old next w → Emitted world.old.0 thread world.new.1 buffer.new next action.now (answer_of s) w) }
+    ensures holds { IfOk result (λ s. (w : Walk)
+        → Holds world.old.0 thread world.old.1 buffer.old next w
+        → Emitted world.old.0 thread world.new.1 buffer.new next action.now (answer_of s) w) }
     ensures answer { IfOk result (λ s. IsAnswer world.old.0 thread world.new.1 action.now (answer_of s)) }
     ensures grew { Grew thread world.old.1 world.new.1 }
     ensures opening { world.new.0 ≡ world.old.0 }

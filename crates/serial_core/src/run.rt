@@ -1,6 +1,6 @@
 //! Runs of all tasks on one thread.
 
-ghost use Rattle.std.specs.Prelude.{◌≡◌, ◌≢◌, ℕ, ◌<◌, ◌≤◌, ◌*◌, List, [], true, false, Some, None, is_some, IfOk, MatchOption, length, map, slice_index_or, vec_capacity};
+ghost use Rattle.std.specs.Prelude.{◌≡◌, ◌≢◌, ℕ, ◌<◌, ◌≤◌, ◌*◌, List, [], true, false, Some, None, is_some, IfOk, IfSome, IsNone, MatchOption, length, map, slice_index_or, vec_capacity};
 ghost use Rattle.upc_values.specs.declared.record.End.{End};
 ghost use Rattle.upc_values.specs.declared.journal.Entry.{Entry};
 ghost use Rattle.upc_values.specs.Lists.{Numbered};
@@ -12,7 +12,7 @@ ghost use Rattle.first_language.specs.declared.tree.First.{First};
 ghost use Rattle.first_language.specs.Meaning.{meaning, opening_of};
 ghost use Rattle.serial_core.specs.declared.task.Task.{Task};
 ghost use Rattle.serial_core.specs.Kept.{AreLimits, IsKept, Paused, strand_of};
-ghost use Rattle.serial_core.specs.Runs.{IsAt, IsRunning, IsStart, AreSame, IsOpenAt, OthersStay, Rested, Stops, NoneStops, Wanting, IsOver, AreEach, halted, locked, CanLock};
+ghost use Rattle.serial_core.specs.Runs.{IsAt, IsRunning, IsStart, AreSame, IsOpenAt, OthersStay, IsChosen, open_among, Rested, Stops, StopsAt, NoneStops, Wanting, IsOver, AreEach, halted, locked, CanLock};
 
 use crate::limits::Limits;
 use crate::task::{Pause, Task};
@@ -89,7 +89,7 @@ fn is_open(tasks: &Vec<Task>, at: usize) -> bool
     ensures no { result ≡ false → (d : Task) → is_some (slice_index_or tasks.now.items at d).«end» ≡ true }
 {
     let task = &tasks[at];
-    task.end().is_none()
+    !task.has_ended()
 }
 
 // One task goes on, if it has no end.
@@ -149,7 +149,7 @@ fn stops(task: &Task) -> bool
 
 // A task whose end ends the run.
 fn stopped(tasks: &Vec<Task>) -> Option<usize>
-    ensures { MatchOption result (NoneStops tasks.now.items) (λ u. (u < length tasks.now.items) × ((d : Task) → Stops (slice_index_or tasks.now.items u d))) }
+    ensures { MatchOption result (NoneStops tasks.now.items) (StopsAt tasks.now.items) }
 {
     for at in 0..tasks.len() {
         let task = &tasks[at];
@@ -177,7 +177,8 @@ fn wanting(task: &Task, world: &World) -> bool
 // Whether each task without an end wants what is not legal now.
 fn none_goes(tasks: &Vec<Task>, world: &World) -> bool
     requires { (p : First) × IsRunning world.now.0 p world.now.1 tasks.now.items }
-    ensures { result ≡ true → Numbered (λ _ k. k.«end» ≡ None → Wanting world.now.0 world.now.1 k) tasks.now.items }
+    ensures { result ≡ true
+        → Numbered (λ _ k. k.«end» ≡ None → Wanting world.now.0 world.now.1 k) tasks.now.items }
 {
     for at in 0..tasks.len() {
         if is_open(tasks, at) {
@@ -206,7 +207,7 @@ fn halt(task: &mut Task)
     requires { Rested task.old }
     ensures { task.new ≡ halted task.old }
 {
-    if task.end().is_none() {
+    if !task.has_ended() {
         task.end_as(End::Halted);
     }
 }
@@ -216,7 +217,7 @@ fn lock(alloc: Global, task: &mut Task) -> Result<(), AllocError>
     requires { task.old.«end» ≡ None → CanLock task.old }
     ensures { IfOk result (λ _. task.new ≡ locked task.old) }
 {
-    if task.end().is_some() {
+    if task.has_ended() {
         return Ok(());
     }
     let Some(action) = task.wanted() else {
@@ -276,16 +277,24 @@ fn rounds<R: Wait>(
     unreachable!()
 }
 
-// The task without an end that a pick chooses.
-fn chosen(tasks: &Vec<Task>, pick: u32) -> Option<usize>
-    ensures { MatchOption result (Unit {0}) (λ at. (at < length tasks.now.items) × IsOpenAt tasks.now.items at) }
+fn count_open(tasks: &Vec<Task>) -> usize
+    ensures { result ≡ open_among tasks.now.items }
 {
     let mut live = 0usize;
     for at in 0..tasks.len() {
         if is_open(tasks, at) {
-            live = live.wrapping_add(1);
+            live += 1;
         }
     }
+    live
+}
+
+// The task without an end that a pick chooses, none where all have their ends.
+fn chosen(tasks: &Vec<Task>, pick: u32) -> Option<usize>
+    ensures none { IsNone result → open_among tasks.now.items ≡ 0 }
+    ensures some { IfSome result (λ at. IsChosen tasks.now.items pick at) }
+{
+    let live = count_open(tasks);
     if live == 0 {
         return None;
     }
@@ -298,7 +307,7 @@ fn chosen(tasks: &Vec<Task>, pick: u32) -> Option<usize>
             left -= 1;
         }
     }
-    None
+    unreachable!()
 }
 
 // One step for each pick, while no end ends the run.
@@ -328,7 +337,8 @@ fn pick_all(
 fn strands_of(tasks: Vec<Task>, mut strands: Vec<Strand>) -> Vec<Strand>
     requires room { (strands.items ≡ []) × (length tasks.items ≤ vec_capacity strands) }
     requires ended { Numbered (λ _ k. is_some k.«end» ≡ true) tasks.items }
-    ensures { (o : Opening) (p : First) (seen : List Entry) → Numbered (λ i k. IsAt o p seen i k) tasks.items → result.items ≡ map (strand_of p) tasks.items }
+    ensures { (o : Opening) (p : First) (seen : List Entry) → Numbered (λ i k. IsAt o p seen i k) tasks.items
+        → result.items ≡ map (strand_of p) tasks.items }
 {
     for task in tasks {
         strands.push_reserved(task.into_strand());
@@ -337,10 +347,12 @@ fn strands_of(tasks: Vec<Task>, mut strands: Vec<Strand>) -> Vec<Strand>
 }
 
 /// Runs the program on one thread of the machine, in an order that the picks choose. Each pick is taken modulo the
-/// number of threads without an end, and chooses among them in order of number; the chosen one is given one step. After
-/// the picks, rounds go by number of thread: in each, every thread without an end goes on to a Beat, a Stall or its
-/// end. The journal is sound: each thread's record is what its source gives on the recorded replies, and one legal
-/// history takes it as its write buffer drains.
+/// number of threads without an end, and chooses among them by number; the chosen one is given one step. Once an end
+/// ends the run, or where all threads have ended, the other picks are passed over. Then rounds go by number of thread:
+/// in each, every thread without an end goes on to a Beat, a Stall or its end.
+///
+/// The journal is sound: each thread's record is what its source comes to on the recorded replies, and one legal
+/// history takes these records as the write buffers drain.
 pub fn run_by<R: Wait>(
     rt: &R,
     alloc: Global,
@@ -351,8 +363,10 @@ pub fn run_by<R: Wait>(
     requires threads { (1 ≤ limits.threads) × (limits.threads ≤ 32) }
     requires budget { (1 ≤ limits.budget) × (limits.budget ≤ 1000000000000) }
     requires actions { (1 ≤ limits.actions) × (limits.threads * limits.actions ≤ 8388608) }
-    ensures sound { IfOk result (λ j. IsSound (opening_of program.now limits.threads) (λ t. meaning program.now t limits.threads limits.budget) j) }
-    ensures limits { IfOk result (λ j. (j.threads ≡ limits.threads) × (j.budget ≡ limits.budget) × (j.actions ≡ limits.actions)) }
+    ensures sound { IfOk result (λ j. IsSound (opening_of program.now limits.threads)
+        (λ t. meaning program.now t limits.threads limits.budget) j) }
+    ensures limits { IfOk result (λ j. (j.threads ≡ limits.threads) × (j.budget ≡ limits.budget)
+        × (j.actions ≡ limits.actions)) }
     ensures waits { IfOk result (λ j. WaitsFollow limits.threads j.history) }
 {
     let cells = program.cells(alloc)?;

@@ -1,6 +1,6 @@
 //! A task: a thread's machine, which acts on the history through its write buffer.
 
-ghost use Rattle.std.specs.Prelude.{◌≡◌, ℕ, ◌<◌, ◌≤◌, ◌^◌, List, [], true, false, Bool, Some, None, is_some, IfOk, IfSome, MatchOption, length};
+ghost use Rattle.std.specs.Prelude.{◌≡◌, ℕ, ◌<◌, ◌≤◌, ◌^◌, List, [], true, false, Bool, Some, None, is_some, IfOk, IfSome, IsNone, length, option_copied};
 ghost use Rattle.upc_values.specs.declared.action.Action.{Action};
 ghost use Rattle.upc_values.specs.declared.journal.Entry.{Entry};
 ghost use Rattle.upc_values.specs.Drain.{entries_of};
@@ -12,7 +12,7 @@ ghost use Rattle.first_language.specs.declared.machine.Wish.TheVariants.{Act};
 ghost use Rattle.first_language.specs.Meaning.{opening_of};
 ghost use Rattle.serial_core.specs.declared.task.Pause.TheVariants.{Finished};
 ghost use Rattle.serial_core.specs.Kept as kept;
-ghost use Rattle.serial_core.specs.Kept.{AreLimits, IsKept, IsSame, Grew, Paused, CanEnd, Adds, Waits, is_given, outcome_of, strand_of};
+ghost use Rattle.serial_core.specs.Kept.{AreLimits, IsKept, Keeps, StaysKept, IsSame, Grew, Paused, CanEnd, Adds, Waits, is_given, outcome_of, strand_of};
 
 use crate::emit::{emit, empty};
 use crate::limits::Limits;
@@ -37,8 +37,8 @@ pub enum Pause {
 
 /// A thread's machine, its record, its write buffer and its end.
 ///
-/// A task is ready where it has a wish that has not been answered; a new task is not ready. After a call has answered
-/// want of memory a task is only dropped.
+/// A task is ready where it has a wish that has not been answered; a new task is not ready. After a call has
+/// answered want of memory a task is only dropped.
 #[derive(Drop)]
 pub struct Task {
     machine: Machine,
@@ -97,7 +97,8 @@ impl Task {
     ) -> Result<Task, AllocError>
         requires limits { AreLimits limits }
         requires thread { thread < limits.threads }
-        ensures kept { IfOk result (λ k. (seen : List Entry) → entries_of thread seen ≡ [] → IsKept (opening_of program.now limits.threads) program.now seen k) }
+        ensures kept { IfOk result (λ k. (seen : List Entry) → entries_of thread seen ≡ []
+            → IsKept (opening_of program.now limits.threads) program.now seen k) }
         ensures new { IfOk result (λ k. (k.thread ≡ thread) × (k.limits ≡ limits) × (k.«end» ≡ None)) }
     {
         Ok(Task {
@@ -112,10 +113,10 @@ impl Task {
             end: None,
         })
     }
-    /// Does the private work up to the next wish, after which the task is ready. On a ready task it changes nothing.
+    /// Does the private work up to the next wish, after which the task is ready. A ready task stays as it is.
     pub fn work(&mut self, program: &First) -> Result<(), AllocError>
         requires { self.old.«end» ≡ None }
-        ensures kept { IfOk result (λ _. (o : Opening) (seen : List Entry) → IsKept o program.now seen self.old → IsKept o program.now seen self.new) }
+        ensures kept { IfOk result (λ _. StaysKept program.now self.old self.new) }
         ensures ready { IfOk result (λ _. is_some self.new.wish ≡ true) }
         ensures same { IfOk result (λ _. IsSame self.old self.new × (self.new.«end» ≡ None)) }
         ensures items { IfOk result (λ _. self.new.items ≡ self.old.items) }
@@ -133,9 +134,10 @@ impl Task {
     fn close(&mut self, world: &mut World, end: End) -> Result<Pause, AllocError>
         requires kept { (p : First) × IsKept world.old.0 p world.old.1 self.old }
         requires ready { (self.old.«end» ≡ None) × (is_some self.old.wish ≡ true) }
-        requires own { (p : First) → IsKept world.old.0 p world.old.1 self.old → OwnEnd self.old.limits.actions (outcome_of p self.old).«end» self.old.items.items «end» }
+        requires own { (p : First) → IsKept world.old.0 p world.old.1 self.old
+            → OwnEnd self.old.limits.actions (outcome_of p self.old).«end» self.old.items.items «end» }
         requires comes { is_given «end» ≡ false }
-        ensures kept { IfOk result (λ _. (p : First) → IsKept world.old.0 p world.old.1 self.old → IsKept world.new.0 p world.new.1 self.new) }
+        ensures kept { IfOk result (λ _. Keeps world.old self.old world.new self.new) }
         ensures same { IsSame self.old self.new }
         ensures grew { Grew self.old.thread world.old.1 world.new.1 }
         ensures pause { IfOk result (λ p. (p ≡ Finished) × Paused p self.new) }
@@ -150,9 +152,10 @@ impl Task {
     // Does the wanted action, or stalls before it.
     fn act(&mut self, world: &mut World) -> Result<Pause, AllocError>
         requires kept { (p : First) × IsKept world.old.0 p world.old.1 self.old }
-        requires ready { (self.old.«end» ≡ None) × ((a : Action) × (self.old.wish ≡ Some (Act a))) }
+        requires open { self.old.«end» ≡ None }
+        requires wants { (a : Action) × (self.old.wish ≡ Some (Act a)) }
         requires room { length self.old.items.items < self.old.limits.actions }
-        ensures kept { IfOk result (λ _. (p : First) → IsKept world.old.0 p world.old.1 self.old → IsKept world.new.0 p world.new.1 self.new) }
+        ensures kept { IfOk result (λ _. Keeps world.old self.old world.new self.new) }
         ensures same { IsSame self.old self.new }
         ensures grew { Grew self.old.thread world.old.1 world.new.1 }
         ensures pause { IfOk result (λ p. Paused p self.new) }
@@ -186,11 +189,11 @@ impl Task {
             }
         }
     }
-    /// Acts on the wish: at most one new item, and the commits that go with it. It does not resume the machine.
+    /// Acts on the wish: at most one new item, and the commits that go with it. The machine is not resumed.
     pub fn step(&mut self, world: &mut World) -> Result<Pause, AllocError>
         requires kept { (p : First) × IsKept world.old.0 p world.old.1 self.old }
         requires ready { (self.old.«end» ≡ None) × (is_some self.old.wish ≡ true) }
-        ensures kept { IfOk result (λ _. (p : First) → IsKept world.old.0 p world.old.1 self.old → IsKept world.new.0 p world.new.1 self.new) }
+        ensures kept { IfOk result (λ _. Keeps world.old self.old world.new self.new) }
         ensures same { IsSame self.old self.new }
         ensures grew { Grew self.old.thread world.old.1 world.new.1 }
         ensures pause { IfOk result (λ p. Paused p self.new) }
@@ -210,7 +213,8 @@ impl Task {
 
     /// The action that waits for its reply, None exactly where there is none.
     pub fn wanted(&self) -> Option<&Action>
-        ensures { MatchOption result ((a : Action) → self.now.wish ≡ Some (Act a) → ⊥) (λ a. self.now.wish ≡ Some (Act a.now)) }
+        ensures none { IsNone result → (a : Action) → self.now.wish ≡ Some (Act a) → ⊥ }
+        ensures some { IfSome result (λ a. self.now.wish ≡ Some (Act a.now)) }
     {
         match &self.wish {
             Some(Wish::Act(action)) => Some(action),
@@ -220,9 +224,16 @@ impl Task {
 
     /// The task's end, None exactly where it has none.
     pub fn end(&self) -> Option<&End>
-        ensures { MatchOption result (self.now.«end» ≡ None) (λ e. self.now.«end» ≡ Some e.now) }
+        ensures { option_copied result ≡ self.now.«end» }
     {
         self.end.as_ref()
+    }
+
+    /// Whether the task has its end.
+    pub fn has_ended(&self) -> bool
+        ensures { result ≡ is_some self.now.«end» }
+    {
+        self.end.is_some()
     }
 
     /// The number of the task's thread.
@@ -239,11 +250,11 @@ impl Task {
         ends_with_stall(self.items.as_slice())
     }
 
-    /// Gives a task that stands at a Beat or a Stall its end: Halted, or at a Stall Deadlocked with the wanted action.
+    /// Gives a task that stands at a Beat or a Stall its end: Halted, or at a Stall Deadlocked with what it wants.
     pub fn end_as(&mut self, end: End)
         requires open { self.old.«end» ≡ None }
         requires can { CanEnd self.old «end» }
-        ensures kept { (o : Opening) (p : First) (seen : List Entry) → IsKept o p seen self.old → IsKept o p seen self.new }
+        ensures kept { (p : First) → StaysKept p self.old self.new }
         ensures is { self.new ≡ record self.old { «end» = Some «end» } }
     {
         self.end = Some(end);

@@ -26,7 +26,7 @@ returns-after-is_beat-clause-kept c = λ p h.
     let y : Task = record z { wish = None } in
     subst (λ o. IsKept o p later z) (sym e.opening)
     (subst (λ w. let x : Task = record y { wish = w } in IsKept o p later x) (sym c.in-Some-Act.ensures.after)
-    (kept-did o p seen later k m a r h c.requires.ready.0 wants c.requires.room e.grew
+    (kept-did o p seen later k m a r h c.requires.«open» wants c.requires.room e.grew
     (λ w hw. subst (λ s. Emitted o k.thread later c.emit.new.buffer k.next a (answer_of s) w) c.in-Done.is (e.holds w hw))
     (subst (λ s. IsAnswer o k.thread later a (answer_of s)) c.in-Done.is e.answer)
     (search rules)))
@@ -40,8 +40,8 @@ returns-after-is_beat-clause-pause c =
           let is : c.push_reserved.new.self.items ≡ k.items.items ++ Did a c.in-Done.reply ∷ [] = search rules in
           let b : is_beat a ≡ true = sym c.is_beat.ensures ∙ w.if-is_beat.true in
           subst (λ q. Paused q z) (sym w.pause-is)
-          (c.requires.ready.0, inl (ap is_beat_item (ap last_item is ∙ last-push k.items.items (Did a c.in-Done.reply)) ∙ b, c.in-Some-Act.ensures.after))
-      | else-is_beat w ↦ subst (λ q. Paused q z) (sym w.pause-is) c.requires.ready.0
+          (c.requires.«open», inl (ap is_beat_item (ap last_item is ∙ last-push k.items.items (Did a c.in-Done.reply)) ∙ b, c.in-Some-Act.ensures.after))
+      | else-is_beat w ↦ subst (λ q. Paused q z) (sym w.pause-is) c.requires.«open»
     ]
 
 pub returns-then-not-stalls-clause-kept : goal.returns-then-not-stalls-clause-kept
@@ -52,7 +52,7 @@ returns-then-not-stalls-clause-kept c = λ p h.
     let z : Task = record m { wish = Some (Act a) } in
     let stalls : is_stall (last_item k.items.items) ≡ false = search rules in
     subst (λ o. IsKept o p later z) (sym e.opening)
-    (kept-stall o p seen later k m a h c.requires.ready.0 (search rules) c.requires.room e.grew
+    (kept-stall o p seen later k m a h c.requires.«open» (search rules) c.requires.room e.grew
     (λ w hw. subst (λ s. Emitted o k.thread later c.emit.new.buffer k.next a (answer_of s) w) c.in-Disabled.is (e.holds w hw))
     (subst (λ s. IsAnswer o k.thread later a (answer_of s)) c.in-Disabled.is e.answer) stalls
     (search rules))
@@ -60,7 +60,7 @@ returns-then-not-stalls-clause-kept c = λ p h.
 pub returns-then-not-stalls-clause-pause : goal.returns-then-not-stalls-clause-pause
 returns-then-not-stalls-clause-pause c =
     let is : c.push_reserved-then-not-stalls.new.self.items ≡ c.args.self.now.items.items ++ Stall ∷ [] = search rules in
-    (c.requires.ready.0, inr (ap is_stall (ap last_item is ∙ last-push c.args.self.now.items.items Stall), refl))
+    (c.requires.«open», inr (ap is_stall (ap last_item is ∙ last-push c.args.self.now.items.items Stall), refl))
 
 pub returns-then-not-stalls-clause-waits : goal.returns-then-not-stalls-clause-waits
 returns-then-not-stalls-clause-waits c =
@@ -77,6 +77,6 @@ returns-else-not-stalls-clause-kept c = λ p h.
     let z : Task = record m { wish = Some (Act a) } in
     let stalls : is_stall (last_item k.items.items) ≡ true = search rules in
     subst (λ o. IsKept o p later z) (sym e.opening)
-    (kept-stay o p seen later k m a h c.requires.ready.0 (search rules) e.grew
+    (kept-stay o p seen later k m a h c.requires.«open» (search rules) e.grew
     (λ w hw. subst (λ s. Emitted o k.thread later c.emit.new.buffer k.next a (answer_of s) w) c.in-Disabled.is (e.holds w hw)) stalls
     (search rules))
