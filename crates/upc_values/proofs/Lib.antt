@@ -3,3 +3,7 @@ pub mod Legality
 pub mod Lists
 pub mod Places
 pub mod Waits
+pub mod Walks
+pub mod Records
+pub mod Replies
+pub mod Scalars

@@ -1,0 +1,16 @@
+//! The first language: a small part of UPC, from its source to a machine that runs it reply by reply.
+#![tactic(auto)]
+
+mod instr;
+mod machine;
+mod scan;
+mod step;
+mod token;
+mod tree;
+mod words;
+
+pub use instr::{Instr, Operator};
+
+pub use std::alloc::AllocError as OutOfMemory;
+pub use machine::{Machine, Wish};
+pub use tree::First;

@@ -1,0 +1,338 @@
+-- What commits and stores make of a buffer that holds a walk.
+use Rattle.std.proofs.Common.{◌≡◌, ℕ, ◌+◌, ◌<◌, ◌≤◌, Bool, true, false, cond, List, [], ◌∷◌, ◌++◌, length, map, Option, Some, None, refl, sym, ap, subst, ◌∙◌, append-nil, append_assoc, arith}
+use Rattle.std.specs.Prelude.{option_map, IfSome}
+use Rattle.std.specs.Option.{option_or}
+use Rattle.std.proofs.lemmas.Bool.{and_from}
+use Rattle.std.proofs.lemmas.List.{length-append, length-map, map-append}
+use Rattle.block_layout.specs.declared.place.Loc.{Loc}
+use Rattle.upc_values.specs.declared.scalar.Scalar.{Scalar}
+use Rattle.upc_values.specs.declared.action.Action.{Action}
+use Rattle.upc_values.specs.declared.action.Action.TheVariants.{Read, Write, Print}
+use Rattle.upc_values.specs.declared.action.Reply.{Reply}
+use Rattle.upc_values.specs.declared.action.Reply.TheVariants.{Done, Value}
+use Rattle.upc_values.specs.declared.journal.Entry.{Entry}
+use Rattle.upc_values.specs.Scalars.{same_loc}
+use Rattle.upc_values.specs.Drain.{Walk, emptied, oldest_out, stored, passed, looked_up, gone, or_else, last_written, entry_of, entries_of}
+use Rattle.upc_values.specs.Legal.{Opening, reply, IsWellFormed}
+use Rattle.upc_values.specs.Outcomes.{fits}
+use Rattle.upc_values.proofs.Walks.{emptied-same, room-left, room-made, entries_of-append, entries-own, entries-all}
+use Rattle.upc_values.proofs.Legality.{unlawful-waits}
+use Rattle.upc_values.proofs.Replies.{formed-grow, int-fits}
+use Rattle.upc_values.proofs.Scalars.{same_scalar-refl}
+use Rattle.memory_history.specs.World.{performed}
+use Rattle.write_buffer.specs.declared.pending.Pending.{Pending}
+use Rattle.write_buffer.specs.Buffer.{youngest, committed}
+use Rattle.serial_core.specs.declared.emit.Way.TheVariants.{Stores, Looks, Passes, Empties}
+use Rattle.serial_core.specs.Kept.{way_of, AreFormed, Holds, AllOf, Grew, Emitted, IsAnswer}
+use Rattle.serial_core.proofs.Lists.{each-append, cons-head}
+
+-- ways
+
+pub stores-is : (a : Action) (l : Loc) (v : Scalar) → way_of a ≡ Stores l v → a ≡ Write l v false
+stores-is (Write k u false) l v h = let p : k ≡ l = cc in let q : u ≡ v = cc in cc
+stores-is (Write k u true) l v h = absurd cc
+stores-is (Read k false) l v h = absurd cc
+stores-is (Read k true) l v h = absurd cc
+stores-is a l v h = absurd cc
+
+pub looks-is : (a : Action) (l : Loc) → way_of a ≡ Looks l → a ≡ Read l false
+looks-is (Read k false) l h = let p : k ≡ l = cc in cc
+looks-is (Read k true) l h = absurd cc
+looks-is (Write k u false) l h = absurd cc
+looks-is (Write k u true) l h = absurd cc
+looks-is a l h = absurd cc
+
+pub passes-gone : (a : Action) (e : Entry) (w : Walk) → way_of a ≡ Passes → gone e a w ≡ passed e w
+passes-gone (Print x) e w h = refl
+passes-gone (Read k false) e w h = absurd cc
+passes-gone (Read k true) e w h = absurd cc
+passes-gone (Write k u false) e w h = absurd cc
+passes-gone (Write k u true) e w h = absurd cc
+passes-gone a e w h = absurd cc
+
+passes-reply : (o : Opening) (seen : List Entry) (t : ℕ) (a : Action) → way_of a ≡ Passes → reply o seen t a ≡ Some Done
+passes-reply o seen t (Print x) h = refl
+passes-reply o seen t (Read k false) h = absurd cc
+passes-reply o seen t (Read k true) h = absurd cc
+passes-reply o seen t (Write k u false) h = absurd cc
+passes-reply o seen t (Write k u true) h = absurd cc
+passes-reply o seen t a h = absurd cc
+
+pub empties-gone : (a : Action) (e : Entry) (w : Walk) → way_of a ≡ Empties → gone e a w ≡ passed e (emptied w)
+empties-gone (Read k false) e w h = absurd cc
+empties-gone (Read k true) e w h = refl
+empties-gone (Write k u false) e w h = absurd cc
+empties-gone (Write k u true) e w h = refl
+empties-gone (Print x) e w h = absurd cc
+empties-gone a e w h = refl
+
+-- growth
+
+pub pending-grow : (o : Opening) (seen more : List Entry) (ps : List Pending) → AreFormed o seen ps → AreFormed o (seen ++ more) ps
+pending-grow o seen more [] h = tt
+pending-grow o seen more (p ∷ ps) h = (formed-grow o seen more (Write p.loc p.value false) h.0, pending-grow o seen more ps h.1)
+
+pub grew-same : (t : ℕ) (old new : List Entry) → new ≡ old → Grew t old new
+grew-same t old new h = record { more = []; is = h ∙ sym (append-nil old); all_own = tt }
+
+pub grew-then : (t : ℕ) (old mid new : List Entry) → Grew t mid new → Grew t old mid → Grew t old new
+grew-then t old mid new g f = record {
+  more = f.more ++ g.more;
+  is = g.is ∙ ap (λ l. l ++ g.more) f.is ∙ append_assoc old f.more g.more;
+  all_own = each-append (λ e. e.thread ≡ t) f.more g.more f.all_own g.all_own;
+}
+
+pub grew-performed : (t n : ℕ) (old new : List Entry) (a : Action) (found : Option Reply) → new ≡ performed old t n a found → Grew t old new
+grew-performed t n old new a None h = grew-same t old new h
+grew-performed t n old new a (Some r) h = record { more = entry_of t n a r ∷ []; is = h; all_own = (refl, tt) }
+
+pub asked-grew : (o : Opening) (t : ℕ) (old new : List Entry) (a : Action) → IsWellFormed o old a → Grew t old new → IsWellFormed o new a
+asked-grew o t old new a h g = subst (λ l. IsWellFormed o l a) (sym g.is) (formed-grow o old g.more a h)
+
+pub ruleset grows = (grew-same, grew-performed)
+
+pub ruleset grown = (grew-same, grew-then, grew-performed)
+
+-- all pending are committed
+
+committed-own : (t : ℕ) (ps : List Pending) → AllOf t (map (committed t) ps)
+committed-own t [] = tt
+committed-own t (p ∷ ps) = (refl, committed-own t ps)
+
+pub holds-emptied : (o : Opening) (t n : ℕ) (seen : List Entry) (ps : List Pending) (w : Walk) → Holds o t seen ps n w
+    → Holds o t (seen ++ map (committed t) ps) [] n (emptied w)
+holds-emptied o t n seen ps w k = record {
+  out = entries_of-append t seen (map (committed t) ps)
+      ∙ ap (λ l. entries_of t seen ++ l) (entries-all t (map (committed t) ps) (committed-own t ps))
+      ∙ ap (λ l. l ++ map (committed t) ps) k.out ∙ ap (λ l. w.emitted ++ l) k.inside;
+  inside = refl;
+  room = omega arith;
+  number = k.number;
+  agrees = k.agrees;
+  formed = tt;
+}
+
+-- an empty buffer and an emptied walk are what a Stall after a Stall finds
+pub holds-unemptied : (o : Opening) (t n : ℕ) (seen : List Entry) (ps : List Pending) (w : Walk) → w.pending ≡ []
+    → Holds o t seen ps n (emptied w) → Holds o t seen ps n w
+holds-unemptied o t n seen ps w h k = subst (Holds o t seen ps n) (emptied-same w h) k
+
+pub holds-grow : (o : Opening) (t n : ℕ) (seen more : List Entry) (ps : List Pending) (w : Walk) → entries_of t more ≡ []
+    → Holds o t seen ps n w → Holds o t (seen ++ more) ps n w
+holds-grow o t n seen more ps w h k = record {
+  out = entries_of-append t seen more ∙ ap (λ l. entries_of t seen ++ l) h ∙ append-nil (entries_of t seen) ∙ k.out;
+  inside = k.inside;
+  room = k.room;
+  number = k.number;
+  agrees = k.agrees;
+  formed = pending-grow o seen more ps k.formed;
+}
+
+-- a relaxed write where there is room
+pub holds-stored : (o : Opening) (t n : ℕ) (l : Loc) (v : Scalar) (seen : List Entry) (ps qs : List Pending) (w : Walk)
+    → (length ps ≡ 64 → ⊥) → ps ++ record { index = n; loc = l; value = v } ∷ [] ≡ qs → IsWellFormed o seen (Write l v false)
+    → Holds o t seen ps n w → Holds o t seen qs (n + 1) (gone (entry_of t n (Write l v false) Done) (Write l v false) w)
+holds-stored o t n l v seen ps qs w full is asked k =
+    let p : Pending = record { index = n; loc = l; value = v } in
+    let e : Entry = entry_of t n (Write l v false) Done in
+    let many : length (map (committed t) ps) ≡ length ps = length-map ps (committed t) in
+    let many2 : length (map (committed t) ps) ≡ length w.pending = ap length k.inside in
+    let room : length ps ≤ 64 = k.room in
+    let few : length w.pending < 64 = omega (arith, full) in
+    subst (λ z. Holds o t seen qs (n + 1) (stored e z)) (sym (room-left w few)) (record {
+      out = k.out;
+      inside = ap (map (committed t)) (sym is) ∙ map-append (committed t) ps (p ∷ []) ∙ ap (λ z. z ++ e ∷ []) k.inside;
+      room = (let l1 = ap length (sym is) in let l2 = length-append ps (p ∷ []) in omega (arith, l1, l2));
+      number = ap (λ m. m + 1) k.number;
+      agrees = k.agrees;
+      formed = subst (AreFormed o seen) is (each-append (λ q. IsWellFormed o seen (Write q.loc q.value false)) ps (p ∷ []) k.formed (asked, tt));
+    })
+
+-- a relaxed write where the oldest leaves
+pub holds-overflown : (o : Opening) (t n : ℕ) (l : Loc) (v : Scalar) (seen : List Entry) (ps qs : List Pending) (f : Pending) (w : Walk)
+    → length ps ≡ 64 → ps ++ record { index = n; loc = l; value = v } ∷ [] ≡ f ∷ qs → IsWellFormed o seen (Write l v false)
+    → Holds o t seen ps n w
+    → Holds o t (seen ++ committed t f ∷ []) qs (n + 1) (gone (entry_of t n (Write l v false) Done) (Write l v false) w)
+holds-overflown o t n l v seen ps qs f w full is asked k =
+    let p : Pending = record { index = n; loc = l; value = v } in
+    let e : Entry = entry_of t n (Write l v false) Done in
+    let many : length (map (committed t) ps) ≡ length ps = length-map ps (committed t) in
+    let many2 : length (map (committed t) ps) ≡ length w.pending = ap length k.inside in
+    let all : 64 ≤ length w.pending = omega arith in
+    let both : w.pending ++ e ∷ [] ≡ committed t f ∷ map (committed t) qs =
+    ap (λ z. z ++ e ∷ []) (sym k.inside) ∙ sym (map-append (committed t) ps (p ∷ [])) ∙ ap (map (committed t)) is in
+    let formed : AreFormed o seen (f ∷ qs) = subst (AreFormed o seen) is
+    (each-append (λ q. IsWellFormed o seen (Write q.loc q.value false)) ps (p ∷ []) k.formed (asked, tt)) in
+    let few : length qs ≤ 64 = (let l1 = ap length is in let l2 = length-append ps (p ∷ []) in omega (arith, l1, l2)) in
+    let go : (es : List Entry) → w.pending ≡ es → Holds o t (seen ++ committed t f ∷ []) qs (n + 1) (stored e (oldest_out es w)) =
+    λ es. elim es as (λ es. w.pending ≡ es → Holds o t (seen ++ committed t f ∷ []) qs (n + 1) (stored e (oldest_out es w))) [
+      | [] ↦ λ q. (let z : length w.pending ≡ 0 = ap length q in absurd (omega arith))
+      | g ∷ gs ↦ λ q.
+          let parts = cons-head g (committed t f) (gs ++ e ∷ []) (map (committed t) qs) (ap (λ z. z ++ e ∷ []) (sym q) ∙ both) in
+          record {
+            out = entries_of-append t seen (committed t f ∷ []) ∙ ap (λ z. entries_of t seen ++ z) (entries-own t (committed t f) refl)
+                ∙ ap (λ z. z ++ committed t f ∷ []) k.out ∙ ap (λ z. w.emitted ++ z ∷ []) (sym parts.0);
+            inside = sym parts.1;
+            room = few;
+            number = ap (λ m. m + 1) k.number;
+            agrees = k.agrees;
+            formed = pending-grow o seen (committed t f ∷ []) qs formed.1;
+          }
+    ] in
+    subst (λ z. Holds o t (seen ++ committed t f ∷ []) qs (n + 1) (stored e z)) (sym (room-made w all)) (go w.pending refl)
+
+-- an entry that passes
+pub holds-pass : (o : Opening) (t n : ℕ) (seen : List Entry) (ps : List Pending) (a : Action) (r : Reply) (w : Walk) → Holds o t seen ps n w
+    → Holds o t (seen ++ entry_of t n a r ∷ []) ps (n + 1) (passed (entry_of t n a r) w)
+holds-pass o t n seen ps a r w k = record {
+  out = entries_of-append t seen (entry_of t n a r ∷ []) ∙ ap (λ l. entries_of t seen ++ l) (entries-own t (entry_of t n a r) refl)
+      ∙ ap (λ l. l ++ entry_of t n a r ∷ []) k.out;
+  inside = k.inside;
+  room = k.room;
+  number = ap (λ m. m + 1) k.number;
+  agrees = k.agrees;
+  formed = pending-grow o seen (entry_of t n a r ∷ []) ps k.formed;
+}
+
+-- reads of pending writes
+
+value_of : Pending → Scalar
+value_of p = p.value
+
+first-value : (f : Option Pending) (b : Bool) (p : Pending)
+    → or_else (option_map (λ q. q.value) f) (cond b (Some p.value) None) ≡ option_map (λ q. q.value) (option_or f (cond b (Some p) None))
+first-value (Some q) b p = refl
+first-value None true p = refl
+first-value None false p = refl
+
+pub last-youngest : (t : ℕ) (l : Loc) (ps : List Pending) → last_written l (map (committed t) ps) ≡ option_map (λ q. q.value) (youngest l ps)
+last-youngest t l [] = refl
+last-youngest t l (p ∷ ps) =
+    ap (λ f. or_else f (cond (same_loc p.loc l) (Some p.value) None)) (last-youngest t l ps) ∙ first-value (youngest l ps) (same_loc p.loc l) p
+
+pub youngest-formed : (o : Opening) (seen : List Entry) (l : Loc) (ps : List Pending) (q : Pending) → AreFormed o seen ps → youngest l ps ≡ Some q
+    → IsWellFormed o seen (Write q.loc q.value false)
+youngest-formed o seen l [] q h e = absurd cc
+youngest-formed o seen l (p ∷ ps) q h e =
+    let G : Option Pending → Bool → Type 0 = λ f b. youngest l ps ≡ f → option_or f (cond b (Some p) None) ≡ Some q
+    → IsWellFormed o seen (Write q.loc q.value false) in
+    let go : (f : Option Pending) (b : Bool) → G f b = λ f b. elim f as (λ f. G f b) [
+      | Some g ↦ λ x y. youngest-formed o seen l ps q h.1 (x ∙ y)
+      | None ↦ elim b as (λ b. G None b) [
+        | true ↦ λ x y. let same : p ≡ q = cc in subst (λ z. IsWellFormed o seen (Write z.loc z.value false)) same h.0
+        | false ↦ λ x y. absurd cc
+      ]
+    ] in
+    go (youngest l ps) (same_loc p.loc l) refl e
+
+-- a relaxed read that a pending write answers
+pub holds-forwarded : (o : Opening) (t n : ℕ) (l : Loc) (seen : List Entry) (ps : List Pending) (q : Pending) (w : Walk) → youngest l ps ≡ Some q
+    → Holds o t seen ps n w
+    → Holds o t seen ps (n + 1) (gone (entry_of t n (Read l false) (Value q.value)) (Read l false) w)
+holds-forwarded o t n l seen ps q w h k =
+    let e : Entry = entry_of t n (Read l false) (Value q.value) in
+    let found : last_written l w.pending ≡ Some q.value =
+    ap (last_written l) (sym k.inside) ∙ last-youngest t l ps ∙ ap (option_map (λ q. q.value)) h in
+    subst (λ f. Holds o t seen ps (n + 1) (looked_up e f w)) (sym found) (record {
+      out = k.out;
+      inside = k.inside;
+      room = k.room;
+      number = ap (λ m. m + 1) k.number;
+      agrees = and_from w.agrees (Rattle.upc_values.specs.Scalars.same_scalar q.value q.value) k.agrees (same_scalar-refl q.value);
+      formed = k.formed;
+    })
+
+-- a relaxed read that no pending write answers
+pub holds-looked : (o : Opening) (t n : ℕ) (l : Loc) (seen : List Entry) (ps : List Pending) (r : Reply) (w : Walk) → youngest l ps ≡ None
+    → Holds o t seen ps n w
+    → Holds o t (seen ++ entry_of t n (Read l false) r ∷ []) ps (n + 1) (gone (entry_of t n (Read l false) r) (Read l false) w)
+holds-looked o t n l seen ps r w h k =
+    let e : Entry = entry_of t n (Read l false) r in
+    let found : last_written l w.pending ≡ None =
+    ap (last_written l) (sym k.inside) ∙ last-youngest t l ps ∙ ap (option_map (λ q. q.value)) h in
+    subst (λ f. Holds o t (seen ++ e ∷ []) ps (n + 1) (looked_up e f w)) (sym found) (holds-pass o t n seen ps (Read l false) r w k)
+
+-- what an action by itself makes, by its way
+
+pub emitted-looked : (o : Opening) (t n : ℕ) (l : Loc) (seen new : List Entry) (ps : List Pending) (a : Action) (found : Option Reply) (w : Walk)
+    → way_of a ≡ Looks l → youngest l ps ≡ None → found ≡ reply o seen t a → new ≡ performed seen t n a found
+    → Holds o t seen ps n w → Emitted o t new ps n a found w
+emitted-looked o t n l seen new ps a found w h y f is k =
+    let same : a ≡ Read l false = looks-is a l h in
+    let G : Option Reply → Action → Type 0 = λ g a. g ≡ reply o seen t a → new ≡ performed seen t n a g → Emitted o t new ps n a g w in
+    let go : (g : Option Reply) → G g (Read l false) = λ g. elim g as (λ g. G g (Read l false)) [
+      | None ↦ λ p q. absurd cc
+      | Some r ↦ λ p q. subst (λ z. Holds o t z ps (n + 1) (gone (entry_of t n (Read l false) r) (Read l false) w)) (sym q)
+          (holds-looked o t n l seen ps r w y k)
+    ] in
+    subst (G found) (sym same) (go found) f is
+
+pub emitted-passed : (o : Opening) (t n : ℕ) (seen new : List Entry) (ps : List Pending) (a : Action) (found : Option Reply) (w : Walk)
+    → way_of a ≡ Passes → found ≡ reply o seen t a → new ≡ performed seen t n a found
+    → Holds o t seen ps n w → Emitted o t new ps n a found w
+emitted-passed o t n seen new ps a found w h f is k =
+    let some : found ≡ Some Done = f ∙ passes-reply o seen t a h in
+    let new_is : new ≡ seen ++ entry_of t n a Done ∷ [] = is ∙ ap (performed seen t n a) some in
+    subst (λ g. Emitted o t new ps n a g w) (sym some)
+    (subst (λ z. Holds o t new ps (n + 1) z) (sym (passes-gone a (entry_of t n a Done) w h))
+    (subst (λ z. Holds o t z ps (n + 1) (passed (entry_of t n a Done) w)) (sym new_is) (holds-pass o t n seen ps a Done w k)))
+
+pub emitted-empties : (o : Opening) (t n : ℕ) (seen new : List Entry) (a : Action) (found : Option Reply) (w : Walk)
+    → way_of a ≡ Empties → new ≡ performed seen t n a found → Holds o t seen [] n (emptied w) → Emitted o t new [] n a found w
+emitted-empties o t n seen new a None w h is k = subst (λ z. Holds o t z [] n (emptied w)) (sym is) k
+emitted-empties o t n seen new a (Some r) w h is k =
+    subst (λ z. Holds o t new [] (n + 1) z) (sym (empties-gone a (entry_of t n a r) w h))
+    (subst (λ z. Holds o t z [] (n + 1) (passed (entry_of t n a r) (emptied w))) (sym is) (holds-pass o t n seen [] a r (emptied w) k))
+
+-- what the answer says of itself
+pub answer-is : (o : Opening) (t n : ℕ) (seen new : List Entry) (a : Action) (found : Option Reply) → IsWellFormed o seen a
+    → found ≡ reply o seen t a → IfSome found (λ r. fits a r ≡ true) → new ≡ performed seen t n a found → IsAnswer o t new a found
+answer-is o t n seen new a None f e k is =
+    (unlawful-waits o seen t a f (sym e), subst (λ z. reply o z t a ≡ None) (sym is) (sym e))
+answer-is o t n seen new a (Some r) f e k is = k
+
+-- what the buffer's look-up found
+
+abbrev pub hit : ℕ → Scalar → Option (ℕ × Scalar)
+hit i v = Some (i, v)
+
+abbrev pub hit_of : Pending → ℕ × Scalar
+hit_of p = (p.index, p.value)
+
+abbrev pub hits : Option Pending → Option (ℕ × Scalar)
+hits o = option_map hit_of o
+
+found-some : (o : Option Pending) (i : ℕ) (v : Scalar) → hit i v ≡ hits o
+    → (q : Pending) × (o ≡ Some q) × (q.value ≡ v)
+found-some None i v h = absurd cc
+found-some (Some q) i v h =
+    let x : ℕ × Scalar = (i, v) in let z : x ≡ hit_of q = cc in (q, refl, sym (ap (λ y. y.1) z))
+
+pub found-none : (o : Option Pending) → None ≡ hits o → o ≡ None
+found-none None h = refl
+found-none (Some q) h = absurd cc
+
+pub emitted-forwarded : (o : Opening) (t n i : ℕ) (l : Loc) (v : Scalar) (seen : List Entry) (ps : List Pending) (a : Action) (w : Walk)
+    → way_of a ≡ Looks l → hit i v ≡ hits (youngest l ps)
+    → Holds o t seen ps n w → Holds o t seen ps (n + 1) (gone (entry_of t n a (Value v)) a w)
+emitted-forwarded o t n i l v seen ps a w h y k =
+    let f = found-some (youngest l ps) i v y in
+    subst (λ b. Holds o t seen ps (n + 1) (gone (entry_of t n b (Value v)) b w)) (sym (looks-is a l h))
+    (subst (λ u. Holds o t seen ps (n + 1) (gone (entry_of t n (Read l false) (Value u)) (Read l false) w)) f.2
+    (holds-forwarded o t n l seen ps f.0 w f.1 k))
+
+pub forwarded-fits : (o : Opening) (i : ℕ) (l : Loc) (v : Scalar) (seen : List Entry) (ps : List Pending) (a : Action)
+    → AreFormed o seen ps → way_of a ≡ Looks l → hit i v ≡ hits (youngest l ps)
+    → fits a (Value v) ≡ true
+forwarded-fits o i l v seen ps a formed h y =
+    let f = found-some (youngest l ps) i v y in
+    subst (λ b. fits b (Value v) ≡ true) (sym (looks-is a l h))
+    (subst (λ u. fits (Read l false) (Value u) ≡ true) f.2
+    (int-fits l false f.0.value (youngest-formed o seen l ps f.0 formed f.1).1))
+
+-- the buffer is emptied, as at an end
+pub holds-finished : (o : Opening) (t n : ℕ) (seen new : List Entry) (ps qs : List Pending) (w : Walk) → qs ≡ []
+    → new ≡ seen ++ map (committed t) ps → Holds o t seen ps n w → Holds o t new qs n (emptied w)
+holds-finished o t n seen new ps qs w none is k =
+    subst (λ l. Holds o t l qs n (emptied w)) (sym is)
+    (subst (λ l. Holds o t (seen ++ map (committed t) ps) l n (emptied w)) (sym none) (holds-emptied o t n seen ps w k))

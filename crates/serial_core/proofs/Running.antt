@@ -1,0 +1,274 @@
+-- A run of tasks: at a step, at its end, and as a journal.
+use Rattle.std.proofs.Common.{◌≡◌, ◌≢◌, ℕ, ◌<◌, true, false, List, map, length, Option, Some, None, is_some, refl, sym, ap, subst, ◌∙◌, inl, inr, get_or, set, get_or-set_same, get_or-set_other}
+use Rattle.std.proofs.lemmas.Bool.{cases_eq, false≢true}
+use Rattle.std.proofs.lemmas.List.{length-set, length-map, get_or-map}
+use Rattle.upc_values.specs.declared.action.Action.{Action}
+use Rattle.upc_values.specs.declared.record.End.{End}
+use Rattle.upc_values.specs.declared.record.End.TheVariants.{Ended, Fault, Budget, ActionsFull, Exit, Halted, Deadlocked}
+use Rattle.upc_values.specs.declared.journal.Entry.{Entry}
+use Rattle.upc_values.specs.declared.journal.Journal.{Journal}
+use Rattle.upc_values.specs.Lists.{Numbered}
+use Rattle.upc_values.specs.Drain.{walked}
+use Rattle.upc_values.specs.Legal.{Opening, reply, IsLegal, AreWellFormed, EachBelow}
+use Rattle.upc_values.specs.Ends.{stops, settles, SharedEnd, OwnEnd}
+use Rattle.upc_values.specs.Sound.{IsStrand, IsSound}
+use Rattle.first_language.specs.declared.tree.First.{First}
+use Rattle.first_language.specs.declared.machine.Wish.{Wish}
+use Rattle.first_language.specs.declared.machine.Wish.TheVariants.{Act}
+use Rattle.first_language.specs.Meaning.{meaning}
+use Rattle.serial_core.specs.declared.limits.Limits.{Limits}
+use Rattle.serial_core.specs.declared.task.Task.{Task}
+use Rattle.serial_core.specs.declared.task.Pause.{Pause}
+use Rattle.serial_core.specs.declared.task.Pause.TheVariants as pauses
+use Rattle.serial_core.specs.Kept.{IsKept, IsSame, Grew, Paused, is_given, meaning_of, outcome_of, settled, Holds, end_or, strand_of}
+use Rattle.serial_core.specs.Runs.{IsAt, HasOwnEnd, IsRunning, IsStart, IsNew, AreSame, Rested, Stops, Wanting, Given, IsOver, AreEach, halted, halted_end, locked, locked_end, CanLock}
+use Rattle.std.proofs.lemmas.List.Sums.{count_by_more_yes, count_by_more_no}
+use Rattle.std.proofs.Common.{take, ◌+◌}
+use Rattle.std.specs.Prelude.{not}
+use Rattle.serial_core.specs.Runs.{IsOpenAt, is_open, open_among}
+use Rattle.serial_core.proofs.Lists.{numbered-map, both, some-of}
+use Rattle.serial_core.proofs.Options.{none-some}
+use Rattle.serial_core.proofs.Tasks.{kept-grow, kept-ended}
+
+at-grow : (op : Opening) (src : First) (i t : ℕ) (seen later : List Entry) (k : Task) → (i ≢ t) → Grew t seen later → IsAt op src seen i k → IsAt op src later i k
+at-grow op src i t seen later k ne g h = record { thread = h.thread; kept = kept-grow op src t seen later k h.kept (λ q. ne (sym h.thread ∙ q)) g }
+
+pub paused-own : (p : Pause) (k : Task) → Paused p k → HasOwnEnd k
+paused-own pauses.Going k h e q = absurd (let z : Some e ≡ None = sym q ∙ h in cc)
+paused-own pauses.Beat k h e q = absurd (let z : Some e ≡ None = sym q ∙ h.0 in cc)
+paused-own pauses.Stalled k h e q = absurd (let z : Some e ≡ None = sym q ∙ h.0 in cc)
+paused-own pauses.Finished k h e q = let z : h.0 ≡ e = cc in subst (λ f. is_given f ≡ false) z h.2
+
+pub running-set : (op : Opening) (src : First) (t : ℕ) (seen later : List Entry) (ks : List Task) (k : Task) → IsRunning op src seen ks → t < length ks → Grew t seen later → IsAt op src later t k → HasOwnEnd k → IsRunning op src later (set ks t k)
+running-set op src t seen later ks k r lt g a o = record {
+  many = length-set ks t k ∙ r.many;
+  tasks = λ i d l. elim (cases_eq i t) as (λ z. IsAt op src later i (get_or (set ks t k) i d)) [
+    | inl e ↦ subst (λ j. IsAt op src later j (get_or (set ks t k) j d)) (sym e) (subst (IsAt op src later t) (sym (get_or-set_same ks t k d lt)) a)
+    | inr ne ↦ subst (IsAt op src later i) (sym (get_or-set_other ks t i k d ne)) (at-grow op src i t seen later (get_or ks i d) ne g (r.tasks i d (subst (λ m. i < m) (length-set ks t k) l)))
+  ];
+  own = λ i d l. elim (cases_eq i t) as (λ z. HasOwnEnd (get_or (set ks t k) i d)) [
+    | inl e ↦ subst (λ j. HasOwnEnd (get_or (set ks t k) j d)) (sym e) (subst HasOwnEnd (sym (get_or-set_same ks t k d lt)) o)
+    | inr ne ↦ subst HasOwnEnd (sym (get_or-set_other ks t i k d ne)) (r.own i d (subst (λ m. i < m) (length-set ks t k) l))
+  ];
+}
+
+-- what f makes of each, where it makes a task that keeps its thread, limit and invariant
+each-at : (f : Task → Task) (op : Opening) (src : First) (seen : List Entry) (ks ms : List Task) → AreEach f ks ms → ((i : ℕ) (d : Task) → i < length ks → IsAt op src seen i (f (get_or ks i d))) → Numbered (λ i k. IsAt op src seen i k) ms
+each-at f op src seen ks ms e h i d lt = let l : i < length ks = subst (λ m. i < m) e.many lt in subst (IsAt op src seen i) (sym (e.each i d l)) (h i d l)
+
+same-end : (k : Task) (o : Option End) → k.«end» ≡ o → k ≡ record k { «end» = o }
+same-end k o q = ap (λ z. let m : Task = record k { «end» = z } in m) q
+
+at-halted : (op : Opening) (src : First) (i : ℕ) (seen : List Entry) (k : Task) → IsAt op src seen i k → Rested k → IsAt op src seen i (halted k)
+at-halted op src i seen k a r =
+    let go : (o : Option End) → k.«end» ≡ o → IsAt op src seen i (record k { «end» = halted_end o }) =
+    λ o. elim o as (λ o. k.«end» ≡ o → IsAt op src seen i (record k { «end» = halted_end o })) [
+      | None ↦ λ q. record { thread = a.thread; kept = kept-ended op src seen k Halted a.kept q (r q) }
+      | Some e ↦ λ q. subst (IsAt op src seen i) (same-end k (Some e) q) a
+    ] in
+    go k.«end» refl
+
+locked-some : (w : Option Wish) (e : End) → Some e ≡ locked_end w (Some e)
+locked-some None e = refl
+locked-some (Some w) e = refl
+
+at-locked : (op : Opening) (src : First) (i : ℕ) (seen : List Entry) (k : Task) → IsAt op src seen i k → (k.«end» ≡ None → CanLock k) → IsAt op src seen i (locked k)
+at-locked op src i seen k a r =
+    let go : (o : Option End) → k.«end» ≡ o → IsAt op src seen i (record k { «end» = locked_end k.wish o }) =
+    λ o. elim o as (λ o. k.«end» ≡ o → IsAt op src seen i (record k { «end» = locked_end k.wish o })) [
+      | None ↦ λ q. let c = r q in subst (λ w. IsAt op src seen i (record k { «end» = locked_end w None })) (sym c.1)
+          (record { thread = a.thread; kept = kept-ended op src seen k (Deadlocked c.0) a.kept q (c.1, c.2) })
+      | Some e ↦ λ q. subst (IsAt op src seen i) (same-end k (Some e) q ∙ ap (λ z. let m : Task = record k { «end» = z } in m) (locked-some k.wish e)) a
+    ] in
+    go k.«end» refl
+
+given-own : (op : Opening) (seen : List Entry) (ms : List Task) (i : ℕ) (e : End) → is_given e ≡ false → Given op seen ms i e
+given-own op seen ms i Halted h = absurd (false≢true (sym h))
+given-own op seen ms i (Deadlocked a) h = absurd (false≢true (sym h))
+given-own op seen ms i e h = tt
+
+halted-ended : (o : Option End) → is_some (halted_end o) ≡ true
+halted-ended None = refl
+halted-ended (Some e) = refl
+
+stops-halted : (k : Task) → Stops k → Stops (halted k)
+stops-halted k s = (s.0, ap halted_end s.1, s.2)
+
+pub over-halted : (op : Opening) (src : First) (seen : List Entry) (ks ms : List Task) (u : ℕ) → IsRunning op src seen ks → Numbered (λ j k. Rested k) ks → u < length ks → ((d : Task) → Stops (get_or ks u d)) → AreEach halted ks ms → IsOver op src seen ms
+over-halted op src seen ks ms u r rested ul stop e = record {
+  many = e.many ∙ r.many;
+  tasks = each-at halted op src seen ks ms e (λ i d l. at-halted op src i seen (get_or ks i d) (r.tasks i d l) (rested i d l));
+  ended = λ i d lt. ap (λ k. is_some k.«end») (e.each i d (subst (λ m. i < m) e.many lt)) ∙ halted-ended (get_or ks i d).«end»;
+  given = λ i d lt f q.
+      let l : i < length ks = subst (λ m. i < m) e.many lt in let k = get_or ks i d in
+      let q' : halted_end k.«end» ≡ Some f = sym (ap (λ z. z.«end») (e.each i d l)) ∙ q in
+      let P : Option End → Type 0 = λ o. k.«end» ≡ o → halted_end o ≡ Some f → Given op seen ms i f in
+      let go : (o : Option End) → P o = λ o. elim o as P [
+        | None ↦ λ a b. let h : Halted ≡ f = cc in subst (Given op seen ms i) h (record {
+          other = u;
+          differs = λ z. let s = stop d in let bad : Some s.0 ≡ None = sym s.1 ∙ ap (λ j. (get_or ks j d).«end») z ∙ a in absurd cc;
+          within = subst (λ m. u < m) (sym e.many) ul;
+          stopped = λ d'. subst Stops (sym (e.each u d' ul)) (stops-halted (get_or ks u d') (stop d'));
+        })
+        | Some g ↦ λ a b. let h : g ≡ f = cc in subst (Given op seen ms i) h (given-own op seen ms i g (r.own i d l g a))
+      ] in go k.«end» refl q';
+}
+
+own-settles : (e : End) → is_given e ≡ false → stops e ≡ false → settles e ≡ true
+own-settles (Ended v) g h = refl
+own-settles (Fault c p) g h = absurd (false≢true (sym h))
+own-settles Budget g h = absurd (false≢true (sym h))
+own-settles ActionsFull g h = absurd (false≢true (sym h))
+own-settles (Exit v) g h = absurd (false≢true (sym h))
+own-settles Halted g h = absurd (false≢true (sym g))
+own-settles (Deadlocked a) g h = refl
+
+locked-ended : (w : Option Wish) (o : Option End) → (o ≡ None → (a : Action) × (w ≡ Some (Act a))) → is_some (locked_end w o) ≡ true
+locked-ended w (Some e) h = ap is_some (sym (locked-some w e))
+locked-ended w None h = let c = h refl in ap (λ z. is_some (locked_end z None)) c.1
+
+locked-settles : (w : Option Wish) (o : Option End) (f : End) → (o ≡ None → (a : Action) × (w ≡ Some (Act a))) → ((g : End) → o ≡ Some g → (is_given g ≡ false) × (stops g ≡ false)) → locked_end w o ≡ Some f → settles f ≡ true
+locked-settles w (Some e) f h k q = let z : Some e ≡ Some f = locked-some w e ∙ q in let y : e ≡ f = cc in let p = k e refl in subst (λ g. settles g ≡ true) y (own-settles e p.0 p.1)
+locked-settles w None f h k q = let c = h refl in let z : Some (Deadlocked c.0) ≡ Some f = ap (λ y. locked_end y None) (sym c.1) ∙ q in let y : Deadlocked c.0 ≡ f = cc in subst (λ g. settles g ≡ true) y refl
+
+pub over-locked : (op : Opening) (src : First) (seen : List Entry) (ks ms : List Task) → IsRunning op src seen ks → Numbered (λ j k. k.«end» ≡ None → Wanting op seen k) ks → Numbered (λ j k. (e : End) → k.«end» ≡ Some e → stops e ≡ false) ks → AreEach locked ks ms → IsOver op src seen ms
+over-locked op src seen ks ms r want quiet e = record {
+  many = e.many ∙ r.many;
+  tasks = each-at locked op src seen ks ms e (λ i d l. at-locked op src i seen (get_or ks i d) (r.tasks i d l) (λ q. let w = want i d l q in (w.action, w.wish_is, w.stalled)));
+  ended = λ i d lt. let l : i < length ks = subst (λ m. i < m) e.many lt in
+      ap (λ k. is_some k.«end») (e.each i d l) ∙ locked-ended (get_or ks i d).wish (get_or ks i d).«end» (λ q. let w = want i d l q in (w.action, w.wish_is));
+  given = λ i d lt f q.
+      let l : i < length ks = subst (λ m. i < m) e.many lt in let k = get_or ks i d in
+      let q' : locked_end k.wish k.«end» ≡ Some f = sym (ap (λ z. z.«end») (e.each i d l)) ∙ q in
+      let all : Numbered (λ j m. (f : End) → m.«end» ≡ Some f → settles f ≡ true) ms = λ j d' lj f' qj.
+      let ll : j < length ks = subst (λ m. j < m) e.many lj in
+      locked-settles (get_or ks j d').wish (get_or ks j d').«end» f' (λ z. let w = want j d' ll z in (w.action, w.wish_is))
+      (λ g z. (r.own j d' ll g z, quiet j d' ll g z)) (sym (ap (λ z. z.«end») (e.each j d' ll)) ∙ qj) in
+      let P : Option End → Type 0 = λ o. k.«end» ≡ o → locked_end k.wish o ≡ Some f → Given op seen ms i f in
+      let go : (o : Option End) → P o = λ o. elim o as P [
+        | None ↦ λ a b. let w = want i d l a in
+            let h : Deadlocked w.action ≡ f = (let z : Some (Deadlocked w.action) ≡ Some f = ap (λ y. locked_end y None) (sym w.wish_is) ∙ b in cc) in
+            subst (Given op seen ms i) h (subst (λ t. reply op seen t w.action ≡ None) (r.tasks i d l).thread w.none, all)
+        | Some g ↦ λ a b. let h : g ≡ f = (let z : Some g ≡ Some f = locked-some k.wish g ∙ b in cc) in subst (Given op seen ms i) h (given-own op seen ms i g (r.own i d l g a))
+      ] in go k.«end» refl q';
+}
+
+pub over-ended : (op : Opening) (src : First) (seen : List Entry) (ks : List Task) → IsRunning op src seen ks → Numbered (λ j k. is_some k.«end» ≡ true) ks → IsOver op src seen ks
+over-ended op src seen ks r ended = record {
+  many = r.many;
+  tasks = r.tasks;
+  ended = ended;
+  given = λ i d lt f q. given-own op seen ks i f (r.own i d lt f q);
+}
+
+-- a strand of a task
+strand-own : (op : Opening) (src : First) (seen : List Entry) (k : Task) (e : End) → IsKept op src seen k → k.«end» ≡ Some e
+    → IsStrand op k.thread k.limits.actions seen (meaning_of src k) (strand_of src k)
+strand-own op src seen k e h q =
+    let he = h.ended e q in let ends : end_or k.«end» ≡ e = ap end_or q in
+    let hw = subst (λ z. Holds op k.thread seen k.buffer k.next (settled z (walked k.thread k.items.items))) q h.holds in
+    record {
+      conforms = record { actions = h.record_ok.did; stalls = h.record_ok.stalls; ticks = refl };
+      agrees = hw.agrees;
+      drains = hw.out;
+      justified = h.record_ok.justified;
+      short = h.record_ok.short;
+      «end» = subst (OwnEnd k.limits.actions (outcome_of src k).«end» k.items.items) (sym ends) he.own;
+    }
+
+some-end : (o : Option End) → is_some o ≡ true → (e : End) × (o ≡ Some e)
+some-end None h = absurd (false≢true h)
+some-end (Some e) h = (e, refl)
+
+strand-at : (op : Opening) (src : First) (l : Limits) (i : ℕ) (seen : List Entry) (k : Task) → IsAt op src seen i k → is_some k.«end» ≡ true
+    → k.limits ≡ l → IsStrand op i l.actions seen (meaning src i l.threads l.budget) (strand_of src k)
+strand-at op src l i seen k a h q = let e = some-end k.«end» h in
+    subst (λ t. IsStrand op t l.actions seen (meaning src t l.threads l.budget) (strand_of src k)) a.thread
+    (subst (λ m. IsStrand op k.thread m.actions seen (meaning src k.thread m.threads m.budget) (strand_of src k)) q
+    (strand-own op src seen k e.0 a.kept e.1))
+
+settled-strand : (k : Task) → ((f : End) → k.«end» ≡ Some f → settles f ≡ true) → is_some k.«end» ≡ true → settles (end_or k.«end») ≡ true
+settled-strand k h s = let e = some-end k.«end» s in ap (λ o. settles (end_or o)) e.1 ∙ h e.0 e.1
+
+shared-end : (op : Opening) (src : First) (j : Journal) (ms : List Task) (i : ℕ) (k : Task) (e : End) → j.strands ≡ map (strand_of src) ms
+    → Numbered (λ i k. is_some k.«end» ≡ true) ms → Given op j.history ms i e → SharedEnd op j i e
+shared-end op src j ms i k Halted s ended h = record {
+  other = h.other;
+  differs = h.differs;
+  within = subst (λ l. h.other < length l) (sym s) (subst (λ m. h.other < m) (sym (length-map ms (strand_of src))) h.within);
+  stopped = λ d. let st = h.stopped k in
+      ap (λ l. stops (get_or l h.other d).«end») s ∙ ap (λ z. stops z.«end») (get_or-map (strand_of src) ms h.other k d h.within)
+      ∙ ap (λ o. stops (end_or o)) st.1 ∙ st.2;
+}
+shared-end op src j ms i k (Deadlocked a) s ended h = (
+  h.0,
+  subst (Numbered (λ u s. settles s.«end» ≡ true)) (sym s)
+      (numbered-map (strand_of src) (λ u m. ((f : End) → m.«end» ≡ Some f → settles f ≡ true) × (is_some m.«end» ≡ true)) (λ u s. settles s.«end» ≡ true)
+      (λ u m p. settled-strand m p.0 p.1) ms (both (λ u m. (f : End) → m.«end» ≡ Some f → settles f ≡ true) (λ u m. is_some m.«end» ≡ true) ms h.1 ended)),
+)
+shared-end op src j ms i k (Ended v) s ended h = tt
+shared-end op src j ms i k (Fault c p) s ended h = tt
+shared-end op src j ms i k Budget s ended h = tt
+shared-end op src j ms i k ActionsFull s ended h = tt
+shared-end op src j ms i k (Exit v) s ended h = tt
+
+-- the journal of a run that is over is sound
+pub over-sound : (op : Opening) (src : First) (l : Limits) (ks ms : List Task) (j : Journal) → IsOver op src j.history ms → IsLegal op j.history
+    → AreWellFormed op j.history → EachBelow op.threads j.history → AreSame ks ms → Numbered (λ i k. k.limits ≡ l) ks
+    → j.threads ≡ op.threads → j.actions ≡ l.actions → j.strands ≡ map (strand_of src) ms
+    → IsSound op (λ t. meaning src t l.threads l.budget) j
+over-sound op src l ks ms j o legal formed below same limits threads actions s = record {
+  threads = threads;
+  many = ap length s ∙ length-map ms (strand_of src) ∙ o.many;
+  below = below;
+  legal = legal;
+  formed = formed;
+  strands = subst (λ n. Numbered (λ t s. IsStrand op t n j.history (meaning src t l.threads l.budget) s) j.strands) (sym actions)
+      (subst (Numbered (λ t s. IsStrand op t l.actions j.history (meaning src t l.threads l.budget) s)) (sym s)
+      (numbered-map (strand_of src) (λ i k. IsAt op src j.history i k × (is_some k.«end» ≡ true) × (k.limits ≡ l))
+      (λ t s. IsStrand op t l.actions j.history (meaning src t l.threads l.budget) s)
+      (λ i k p. strand-at op src l i j.history k p.0 p.1 p.2) ms
+      (λ i d lt. let few : i < length ks = subst (λ m. i < m) same.many lt in
+      (o.tasks i d lt, o.ended i d lt, (same.each i d few).limits ∙ limits i d few))));
+  ends = subst (Numbered (λ t s. SharedEnd op j t s.«end»)) (sym s)
+      (numbered-map (strand_of src) (λ i k. SharedEnd op j i (end_or k.«end»)) (λ t s. SharedEnd op j t s.«end») (λ i k p. p) ms
+      (λ i d lt. let e = some-end (get_or ms i d).«end» (o.ended i d lt) in
+      subst (λ z. SharedEnd op j i (end_or z)) (sym e.1) (shared-end op src j ms i d e.0 s o.ended (o.given i d lt e.0 e.1))));
+}
+
+pub same-trans : (ks ls ms : List Task) → AreSame ks ls → AreSame ls ms → AreSame ks ms
+same-trans ks ls ms s e = record {
+  many = e.many ∙ s.many;
+  each = λ i d l. let a = s.each i d l in let b = e.each i d (subst (λ m. i < m) (sym s.many) l) in
+      record { thread = b.thread ∙ a.thread; limits = b.limits ∙ a.limits };
+}
+
+pub same-refl : (ks : List Task) → AreSame ks ks
+same-refl ks = record { many = refl; each = λ i d l. record { thread = refl; limits = refl } }
+
+-- the same, after ends were given
+pub same-each : (f : Task → Task) (ks ls ms : List Task) → ((k : Task) → IsSame k (f k)) → AreSame ks ls → AreEach f ls ms → AreSame ks ms
+same-each f ks ls ms h s e = record {
+  many = e.many ∙ s.many;
+  each = λ i d l. let a = s.each i d l in let b = h (get_or ls i d) in let q = e.each i d (subst (λ m. i < m) (sym s.many) l) in
+      subst (IsSame (get_or ks i d)) (sym q) (record { thread = b.thread ∙ a.thread; limits = b.limits ∙ a.limits });
+}
+
+-- a run that begins
+pub start-of : (src : First) (l : Limits) (ks : List Task) → length ks ≡ l.threads → Numbered (λ i k. IsNew src l i k) ks → IsStart src l ks
+start-of src l ks many new = record {
+  running = record {
+    many = many;
+    tasks = λ i d lt. record { thread = (new i d lt).thread; kept = (new i d lt).kept };
+    own = λ i d lt e q. absurd (none-some (get_or ks i d).«end» e (new i d lt).opened q);
+  };
+  limits = λ i d lt. (new i d lt).limits;
+}
+
+-- one task more, with and without an end
+pub open-more : (ks : List Task) (i : ℕ) → i < length ks → IsOpenAt ks i → open_among (take (i + 1) ks) ≡ open_among (take i ks) + 1
+open-more ks i lt h = let d = some-of ks i lt in count_by_more_yes is_open ks i d lt (ap (λ z. not (is_some z)) (h d))
+
+pub ended-more : (ks : List Task) (i : ℕ) → i < length ks → ((d : Task) → is_some (get_or ks i d).«end» ≡ true)
+    → open_among (take (i + 1) ks) ≡ open_among (take i ks)
+ended-more ks i lt h = let d = some-of ks i lt in count_by_more_no is_open ks i d lt (ap not (h d))

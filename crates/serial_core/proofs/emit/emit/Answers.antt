@@ -1,0 +1,53 @@
+use Rattle.std.proofs.Common.{[], sym, subst, ap, ◌∙◌}
+use Rattle.upc_values.specs.Drain.{emptied}
+use Rattle.memory_history.specs.World.{answer_of}
+use Rattle.serial_core.specs.Kept.{Holds, Emitted}
+use Rattle.serial_core.proofs.Buffers.{emitted-forwarded, forwarded-fits, emitted-looked, emitted-empties, found-none, answer-is, holds-emptied, grew-then, grew-performed, asked-grew}
+use Rattle.serial_core.proofs.emit.emit.Goals as goal
+
+pub returns-in-Some-clause-holds : goal.returns-in-Some-clause-holds
+returns-in-Some-clause-holds c = λ w k.
+    emitted-forwarded c.args.world.now.0 c.args.thread c.args.next c.in-Some.field-0-0 c.in-Looks.loc c.in-Some.value c.args.world.now.1 c.args.buffer.now
+    c.args.action.now w (sym c.in-Looks.ensures) c.in-Some.ensures.youngest k
+
+pub returns-in-Some-clause-answer : goal.returns-in-Some-clause-answer
+returns-in-Some-clause-answer c =
+    forwarded-fits c.args.world.now.0 c.in-Some.field-0-0 c.in-Looks.loc c.in-Some.value c.args.world.now.1 c.args.buffer.now c.args.action.now
+    c.requires.pending (sym c.in-Looks.ensures) c.in-Some.ensures.youngest
+
+pub returns-in_ok-step-in-None-clause-holds : goal.returns-in_ok-step-in-None-clause-holds
+returns-in_ok-step-in-None-clause-holds c = λ w k.
+    let e = c.in_ok-step-in-None.ensures in
+    emitted-looked c.args.world.now.0 c.args.thread c.args.next c.in-Looks.loc c.args.world.now.1 c.perform.new.self.1 c.args.buffer.now c.args.action.now
+    (answer_of c.in_ok-step-in-None.step) w (sym c.in-Looks.ensures) (found-none _ c.in-None.ensures.youngest) e.reply e.entries k
+
+pub returns-in_ok-step-in-None-clause-answer : goal.returns-in_ok-step-in-None-clause-answer
+returns-in_ok-step-in-None-clause-answer c =
+    let e = c.in_ok-step-in-None.ensures in
+    answer-is c.args.world.now.0 c.args.thread c.args.next c.args.world.now.1 c.perform.new.self.1 c.args.action.now
+    (answer_of c.in_ok-step-in-None.step) c.requires.asked e.reply e.fits e.entries
+
+pub returns-in_ok-step-in-Empties-clause-holds : goal.returns-in_ok-step-in-Empties-clause-holds
+returns-in_ok-step-in-Empties-clause-holds c = λ w k.
+    let o = c.args.world.now.0 in let t = c.args.thread in let n = c.args.next in let ps = c.args.buffer.now in
+    let all = c.in_ok-empty-in-Empties.ensures.all in
+    let mid : Holds o t c.empty.new.world.1 [] n (emptied w) =
+    subst (λ l. Holds o t l [] n (emptied w)) (sym all.1) (holds-emptied o t n c.args.world.now.1 ps w k) in
+    subst (λ p. Emitted o t c.perform-in-Empties.new.self.1 p n c.args.action.now (answer_of c.in_ok-step-in-Empties.step) w) (sym all.0)
+    (emitted-empties o t n c.empty.new.world.1 c.perform-in-Empties.new.self.1 c.args.action.now (answer_of c.in_ok-step-in-Empties.step) w
+    (sym c.in-Empties.ensures) c.in_ok-step-in-Empties.ensures.entries mid)
+
+pub returns-in_ok-step-in-Empties-clause-answer : goal.returns-in_ok-step-in-Empties-clause-answer
+returns-in_ok-step-in-Empties-clause-answer c =
+    let o = c.args.world.now.0 in let t = c.args.thread in let mid = c.empty.new.world.1 in let a = c.args.action.now in
+    let e = c.in_ok-step-in-Empties.ensures in let f = c.in_ok-empty-in-Empties.ensures in
+    answer-is o t c.args.next mid c.perform-in-Empties.new.self.1 a (answer_of c.in_ok-step-in-Empties.step)
+    (asked-grew o t c.args.world.now.1 mid a c.requires.asked f.grew)
+    (e.reply ∙ ap (λ z. Rattle.upc_values.specs.Legal.reply z mid t a) f.opening) e.fits e.entries
+
+pub returns-in_ok-step-in-Empties-clause-grew : goal.returns-in_ok-step-in-Empties-clause-grew
+returns-in_ok-step-in-Empties-clause-grew c =
+    let t = c.args.thread in let mid = c.empty.new.world.1 in let new = c.perform-in-Empties.new.self.1 in
+    grew-then t c.args.world.now.1 mid new
+    (grew-performed t c.args.next mid new c.args.action.now (answer_of c.in_ok-step-in-Empties.step) c.in_ok-step-in-Empties.ensures.entries)
+    c.in_ok-empty-in-Empties.ensures.grew

@@ -1,0 +1,12 @@
+use Rattle.std.proofs.Common.{◌≡◌, ℕ, ◌<◌, ◌≤◌, length}
+use Rattle.std.specs.Prelude.{slice_index_or}
+use Rattle.serial_core.specs.declared.task.Task.{Task}
+use Rattle.serial_core.specs.Runs.{locked}
+use Rattle.serial_core.proofs.run.lock_all.Given as goal
+
+abbrev pub invariant-loop-at : goal.invariant-loop-at
+invariant-loop-at l = record {
+  many : length l.tasks.items ≡ length l.initial.tasks.items;
+  done : (i : ℕ) (d : Task) → i < l.at → slice_index_or l.tasks.items i d ≡ locked (slice_index_or l.initial.tasks.items i d);
+  left : (i : ℕ) (d : Task) → l.at ≤ i → slice_index_or l.tasks.items i d ≡ slice_index_or l.initial.tasks.items i d;
+}

@@ -1,0 +1,7 @@
+use Rattle.std.proofs.Common.{◌≡◌, length}
+use Rattle.upc_values.specs.Lists.{Numbered}
+use Rattle.serial_core.specs.Runs.{IsNew}
+use Rattle.serial_core.proofs.run.make_all.Given as goal
+
+abbrev pub invariant-loop-thread : goal.invariant-loop-thread
+invariant-loop-thread l = (length l.tasks.items ≡ l.thread) × Numbered (λ i k. IsNew l.program l.limits i k) l.tasks.items

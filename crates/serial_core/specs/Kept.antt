@@ -1,0 +1,209 @@
+-- What a task keeps, over a prefix of the history that has all entries of its own.
+use Rattle.std.specs.Prelude.{ℕ, ◌≡◌, ◌+◌, ◌*◌, ◌<◌, ◌≤◌, ◌^◌, Bool, true, false, cond, List, [], ◌∷◌, ◌++◌, length, map, Option, Some, None, is_some, ◌⊎◌}
+use Rattle.upc_values.specs.declared.action.Action.{Action}
+use Rattle.upc_values.specs.declared.action.Action.TheVariants.{Read, Write, Print}
+use Rattle.upc_values.specs.declared.action.Reply.{Reply}
+use Rattle.upc_values.specs.declared.record.Item.{Item}
+use Rattle.upc_values.specs.declared.record.Item.TheVariants.{Did, Stall}
+use Rattle.upc_values.specs.declared.record.End.{End}
+use Rattle.upc_values.specs.declared.record.End.TheVariants as ends
+use Rattle.upc_values.specs.declared.journal.Entry.{Entry}
+use Rattle.upc_values.specs.declared.journal.Strand.{Strand}
+use Rattle.upc_values.specs.Lists.{Each}
+use Rattle.upc_values.specs.Drain.{Walk, walked, entries_of, emptied, gone, entry_of}
+use Rattle.upc_values.specs.Legal.{Opening, reply, IsWellFormed}
+use Rattle.upc_values.specs.Outcomes.{Outcome, wanted, fits}
+use Rattle.upc_values.specs.Records.{actions_of, replies_of, last_item, is_stall, is_beat, is_beat_item, beats}
+use Rattle.upc_values.specs.Strands.{StallsStand, AreJustified, strand_ticks, may_wait}
+use Rattle.upc_values.specs.Ends.{OwnEnd}
+use Rattle.first_language.specs.declared.tree.First.{First}
+use Rattle.first_language.specs.declared.machine.Machine.{Machine}
+use Rattle.first_language.specs.declared.machine.Wish.{Wish}
+use Rattle.first_language.specs.declared.machine.Wish.TheVariants.{Act, Ended, Exit, Fault, Budget}
+use Rattle.first_language.specs.Meaning.{opening_of, meaning}
+use Rattle.first_language.specs.Machine.{Stands, HasAsked, Answers, listed, told_of}
+use Rattle.write_buffer.specs.declared.pending.Pending.{Pending}
+use Rattle.write_buffer.specs.Buffer.{committed}
+use Rattle.serial_core.specs.declared.emit.Way.{Way}
+use Rattle.serial_core.specs.declared.emit.Way.TheVariants.{Stores, Looks, Passes, Empties}
+use Rattle.serial_core.specs.declared.limits.Limits.{Limits}
+use Rattle.serial_core.specs.declared.task.Task.{Task}
+use Rattle.serial_core.specs.declared.task.Pause.{Pause}
+use Rattle.serial_core.specs.declared.task.Pause.TheVariants as pauses
+
+-- what a run may be limited to: 1 to 32 threads, up to 10^12 ticks, and 8,388,608 items over all threads
+pub record AreLimits (l : Limits) : Type 0 where
+  pub some : 1 ≤ l.threads
+  pub threads : l.threads ≤ 32
+  pub ticks : 1 ≤ l.budget
+  pub budget : l.budget ≤ 1000000000000
+  pub items : 1 ≤ l.actions
+  pub all : l.threads * l.actions ≤ 8388608
+
+-- how an action goes by the write buffer
+abbrev pub way_of : Action → Way
+way_of (Write l v false) = Stores l v
+way_of (Read l false) = Looks l
+way_of (Print x) = Passes
+way_of a = Empties
+
+-- the pending writes may be asked for after the entries seen
+abbrev pub AreFormed : Opening → List Entry → List Pending → Type 0
+AreFormed o seen ps = Each (λ p. IsWellFormed o seen (Write p.loc p.value false)) ps
+
+-- t's entries among those seen, its buffer and the number of its next action are those of the walk
+pub record Holds (o : Opening) (t : ℕ) (seen : List Entry) (pending : List Pending) (next : ℕ) (w : Walk) : Type 0 where
+  pub out : entries_of t seen ≡ w.emitted
+  pub inside : map (committed t) pending ≡ w.pending
+  pub room : length pending ≤ 64
+  pub number : next ≡ w.next
+  pub agrees : w.agrees ≡ true
+  pub formed : AreFormed o seen pending
+
+-- all entries are t's
+abbrev pub AllOf : ℕ → List Entry → Type 0
+AllOf t es = Each (λ e. e.thread ≡ t) es
+
+-- the history grew by entries of t alone
+pub record Grew (t : ℕ) (old new : List Entry) : Type 0 where
+  pub more : List Entry
+  pub is : new ≡ old ++ more
+  pub all_own : AllOf t more
+
+-- the buffer and the history after an action with this answer, where the walk had come to w
+abbrev pub Emitted : Opening → ℕ → List Entry → List Pending → ℕ → Action → Option Reply → Walk → Type 0
+Emitted o t seen pending next a None w = Holds o t seen pending next (emptied w)
+Emitted o t seen pending next a (Some r) w = Holds o t seen pending (next + 1) (gone (entry_of t next a r) a w)
+
+-- what an answer says of itself: a reply fits, and with none the action may wait and is not legal now
+abbrev pub IsAnswer : Opening → ℕ → List Entry → Action → Option Reply → Type 0
+IsAnswer o t seen a None = (may_wait a ≡ true) × (reply o seen t a ≡ None)
+IsAnswer o t seen a (Some r) = fits a r ≡ true
+
+-- the meaning of the task's source, where the source is p
+abbrev pub meaning_of : First → Task → List Reply → Outcome
+meaning_of p k = meaning p k.thread k.limits.threads k.limits.budget
+
+-- what the source comes to on the replies of the record
+abbrev pub outcome_of : First → Task → Outcome
+outcome_of p k = meaning_of p k (replies_of k.items.items)
+
+-- a record that may stand in a strand of t, after the entries seen, where its source has the outcome
+pub record IsRecord (o : Opening) (t actions : ℕ) (seen : List Entry) (outcome : Outcome) (items : List Item) : Type 0 where
+  pub did : outcome.actions ≡ actions_of items
+  pub stalls : StallsStand (wanted outcome.«end») items
+  pub justified : AreJustified o t seen (wanted outcome.«end») [] items
+  pub short : length items ≤ actions
+
+-- what the machine, and the reply that it has not taken yet, are to the record
+pub record Goes (p : First) (t n b : ℕ) (machine : Machine) (answer : Option Reply) (wish : Option Wish) (items : List Item) : Type 0 where
+  pub given : List Reply
+  pub stands : Stands p t n b given machine
+  pub answered : Answers p t n b given answer
+  pub replies : given ++ listed answer ≡ replies_of items
+  pub wished : (w : Wish) → wish ≡ Some w
+      → (answer ≡ None) × (told_of w ≡ (meaning p t n b (replies_of items)).«end»)
+  pub idle : wish ≡ None → is_stall (last_item items) ≡ false
+  pub beats : is_beat_item (last_item items) ≡ true → wish ≡ None
+      → (meaning p t n b given).ticks ≡ 1024 * beats (actions_of items)
+  pub asked : ((items ≡ []) × (wish ≡ None)) ⊎ HasAsked machine
+
+-- a task has its end: its buffer is empty, the end is one that the outcome allows, and the ticks are those of a strand
+pub record HasEnd (actions ticks : ℕ) (pending : List Pending) (machine : Machine) (outcome : Outcome) (items : List Item) (e : End) : Type 0 where
+  pub empty : pending ≡ []
+  pub asked : HasAsked machine
+  pub own : OwnEnd actions outcome.«end» items e
+  pub counted : ticks ≡ strand_ticks e items outcome.ticks
+
+-- at its end a thread has emptied its buffer
+abbrev pub settled : Option End → Walk → Walk
+settled None w = w
+settled (Some e) w = emptied w
+
+-- what a task keeps between two calls, where its source is p and the entries seen have all its own
+pub record IsKept (o : Opening) (p : First) (seen : List Entry) (k : Task) : Type 0 where
+  pub opened : o ≡ opening_of p k.limits.threads
+  pub within : k.thread < k.limits.threads
+  pub threads : k.limits.threads ≤ 32
+  pub budget : 1 ≤ k.limits.budget
+  pub small : k.limits.actions < 2 ^ 32
+  pub holds : Holds o k.thread seen k.buffer k.next (settled k.«end» (walked k.thread k.items.items))
+  pub few : k.next ≤ length k.items.items
+  pub record_ok : IsRecord o k.thread k.limits.actions seen (outcome_of p k) k.items.items
+  pub goes : Goes p k.thread k.limits.threads k.limits.budget k.machine k.answer k.wish k.items.items
+  pub ended : (e : End) → k.«end» ≡ Some e
+      → HasEnd k.limits.actions (meaning_of p k goes.given).ticks k.buffer k.machine (outcome_of p k) k.items.items e
+
+-- whatever its source, a task that was kept over the one world is kept over the other
+abbrev pub Keeps : Opening × List Entry → Task → Opening × List Entry → Task → Type 0
+Keeps w k x m = (p : First) → IsKept w.0 p w.1 k → IsKept x.0 p x.1 m
+
+-- over the same entries a task of the source p stays kept
+abbrev pub StaysKept : First → Task → Task → Type 0
+StaysKept p k m = (o : Opening) (seen : List Entry) → IsKept o p seen k → IsKept o p seen m
+
+-- the same thread and limits
+pub record IsSame (k m : Task) : Type 0 where
+  pub thread : m.thread ≡ k.thread
+  pub limits : m.limits ≡ k.limits
+
+-- the task stands at a Beat whose answer its machine has not taken, or at a Stall
+abbrev pub IsPausing : Task → Type 0
+IsPausing k =
+    ((is_beat_item (last_item k.items.items) ≡ true) × (k.wish ≡ None))
+    ⊎ ((is_stall (last_item k.items.items) ≡ true) × (is_some k.wish ≡ true))
+
+-- an end that a task is given, and does not come to by itself
+abbrev pub is_given : End → Bool
+is_given ends.Halted = true
+is_given (ends.Deadlocked a) = true
+is_given e = false
+
+-- how a task stands after a step with this pause
+abbrev pub Paused : Pause → Task → Type 0
+Paused pauses.Going k = k.«end» ≡ None
+Paused pauses.Beat k = (k.«end» ≡ None) × IsPausing k
+Paused pauses.Stalled k = (k.«end» ≡ None) × IsPausing k
+Paused pauses.Finished k = (e : End) × (k.«end» ≡ Some e) × (is_given e ≡ false)
+
+-- the task may be given this end
+abbrev pub CanEnd : Task → End → Type 0
+CanEnd k ends.Halted = IsPausing k
+CanEnd k (ends.Deadlocked a) = (k.wish ≡ Some (Act a)) × (is_stall (last_item k.items.items) ≡ true)
+CanEnd k e = ⊥
+
+-- the end that a wish is, or that comes where the record is full
+abbrev pub own_end : Wish → Bool → Option End
+own_end (Act a) full = cond full (Some ends.ActionsFull) None
+own_end (Ended v) full = Some (ends.Ended v)
+own_end (Exit v) full = Some (ends.Exit v)
+own_end (Fault c p) full = Some (ends.Fault c p)
+own_end Budget full = Some ends.Budget
+
+-- what a record gained in a step with this pause, where the task had this wish
+abbrev pub Adds : Pause → Option Wish → List Item → List Item → Type 0
+Adds pauses.Going wish xs ys =
+    (a : Action) × (r : Reply) × (is_beat a ≡ false) × (wish ≡ Some (Act a)) × (ys ≡ xs ++ Did a r ∷ [])
+Adds pauses.Beat wish xs ys =
+    (a : Action) × (r : Reply) × (is_beat a ≡ true) × (wish ≡ Some (Act a)) × (ys ≡ xs ++ Did a r ∷ [])
+Adds pauses.Stalled wish xs ys = (ys ≡ xs) ⊎ (ys ≡ xs ++ Stall ∷ [])
+Adds pauses.Finished wish xs ys = ys ≡ xs
+
+-- a task that stalled wants what is not legal now
+abbrev pub Waits : Pause → Opening → List Entry → Task → Type 0
+Waits pauses.Stalled o seen k =
+    (a : Action) × (k.wish ≡ Some (Act a)) × (is_stall (last_item k.items.items) ≡ true)
+    × (reply o seen k.thread a ≡ None)
+Waits p o seen k = Unit {0}
+
+abbrev pub end_or : Option End → End
+end_or (Some e) = e
+end_or None = ends.Halted
+
+-- the strand of a task that has its end
+abbrev pub strand_of : First → Task → Strand
+strand_of p k = record {
+  items = k.items.items;
+  ticks = strand_ticks (end_or k.«end») k.items.items (outcome_of p k).ticks;
+  «end» = end_or k.«end»;
+}

@@ -1,0 +1,140 @@
+-- What a run of tasks keeps.
+use Rattle.std.specs.Prelude.{ℕ, ◌≡◌, ◌≢◌, ◌<◌, true, false, List, [], length, slice_index_or, Option, Some, None, is_some, Bool, not, count_by, take, ◌%◌}
+use Rattle.upc_values.specs.declared.action.Action.{Action}
+use Rattle.upc_values.specs.declared.record.End.{End}
+use Rattle.upc_values.specs.declared.record.End.TheVariants.{Halted, Deadlocked}
+use Rattle.upc_values.specs.declared.journal.Entry.{Entry}
+use Rattle.upc_values.specs.Lists.{Numbered}
+use Rattle.upc_values.specs.Records.{is_stall, last_item}
+use Rattle.upc_values.specs.Legal.{Opening, reply}
+use Rattle.upc_values.specs.Ends.{stops, settles}
+use Rattle.first_language.specs.declared.tree.First.{First}
+use Rattle.first_language.specs.declared.machine.Wish.{Wish}
+use Rattle.first_language.specs.declared.machine.Wish.TheVariants.{Act}
+use Rattle.first_language.specs.Meaning.{opening_of}
+use Rattle.serial_core.specs.declared.limits.Limits.{Limits}
+use Rattle.serial_core.specs.declared.task.Task.{Task}
+use Rattle.serial_core.specs.Kept.{IsKept, IsSame, IsPausing, is_given}
+
+-- the task of thread i, after the entries seen
+pub record IsAt (o : Opening) (p : First) (seen : List Entry) (i : ℕ) (k : Task) : Type 0 where
+  pub thread : k.thread ≡ i
+  pub kept : IsKept o p seen k
+
+-- a task was not given its end
+abbrev pub HasOwnEnd : Task → Type 0
+HasOwnEnd k = (e : End) → k.«end» ≡ Some e → is_given e ≡ false
+
+-- a run of p that goes on: one task for each thread, and none was given its end
+pub record IsRunning (o : Opening) (p : First) (seen : List Entry) (ks : List Task) : Type 0 where
+  pub many : length ks ≡ o.threads
+  pub tasks : Numbered (λ i k. IsAt o p seen i k) ks
+  pub own : Numbered (λ i k. HasOwnEnd k) ks
+
+-- a new task of thread i
+pub record IsNew (p : First) (l : Limits) (i : ℕ) (k : Task) : Type 0 where
+  pub thread : k.thread ≡ i
+  pub limits : k.limits ≡ l
+  pub opened : k.«end» ≡ None
+  pub kept : IsKept (opening_of p l.threads) p [] k
+
+-- a run of p that begins
+pub record IsStart (p : First) (l : Limits) (ks : List Task) : Type 0 where
+  pub running : IsRunning (opening_of p l.threads) p [] ks
+  pub limits : Numbered (λ i k. k.limits ≡ l) ks
+
+-- the same threads and limits
+pub record AreSame (ks ms : List Task) : Type 0 where
+  pub many : length ms ≡ length ks
+  pub each : (i : ℕ) (d : Task) → i < length ks → IsSame (slice_index_or ks i d) (slice_index_or ms i d)
+
+-- the task of thread i has no end
+abbrev pub IsOpenAt : List Task → ℕ → Type 0
+IsOpenAt ks i = (d : Task) → (slice_index_or ks i d).«end» ≡ None
+
+abbrev pub is_open : Task → Bool
+is_open k = not (is_some k.«end»)
+
+-- how many tasks have no end
+abbrev pub open_among : List Task → ℕ
+open_among ks = count_by is_open ks
+
+-- the task that a pick chooses: of those without an end, by number of thread, the one at the pick modulo their number
+pub record IsChosen (ks : List Task) (pick at : ℕ) : Type 0 where
+  pub within : at < length ks
+  pub opened : IsOpenAt ks at
+  pub number : open_among (take at ks) ≡ pick % open_among ks
+
+-- the other tasks are as they were
+abbrev pub OthersStay : ℕ → List Task → List Task → Type 0
+OthersStay i ks ms = (j : ℕ) (d : Task) → (j ≢ i) → slice_index_or ms j d ≡ slice_index_or ks j d
+
+-- a round leaves a task at its end, a Beat or a Stall
+abbrev pub Rested : Task → Type 0
+Rested k = k.«end» ≡ None → IsPausing k
+
+-- the task's end ends the run
+abbrev pub Stops : Task → Type 0
+Stops k = (e : End) × (k.«end» ≡ Some e) × (stops e ≡ true)
+
+-- the end of the task of thread u ends the run
+abbrev pub StopsAt : List Task → ℕ → Type 0
+StopsAt ks u = (u < length ks) × ((d : Task) → Stops (slice_index_or ks u d))
+
+-- no task's end ends the run
+abbrev pub NoneStops : List Task → Type 0
+NoneStops ks = Numbered (λ i k. (e : End) → k.«end» ≡ Some e → stops e ≡ false) ks
+
+-- the task wants what is not legal
+pub record Wanting (o : Opening) (seen : List Entry) (k : Task) : Type 0 where
+  pub action : Action
+  pub wish_is : k.wish ≡ Some (Act action)
+  pub stalled : is_stall (last_item k.items.items) ≡ true
+  pub none : reply o seen k.thread action ≡ None
+
+-- another task's end ends the run
+pub record Another (i : ℕ) (ks : List Task) : Type 0 where
+  pub other : ℕ
+  pub differs : other ≢ i
+  pub within : other < length ks
+  pub stopped : (d : Task) → Stops (slice_index_or ks other d)
+
+-- what the whole run says of an end of thread i
+abbrev pub Given : Opening → List Entry → List Task → ℕ → End → Type 0
+Given o seen ks i Halted = Another i ks
+Given o seen ks i (Deadlocked a) =
+    (reply o seen i a ≡ None) × Numbered (λ u m. (f : End) → m.«end» ≡ Some f → settles f ≡ true) ks
+Given o seen ks i e = Unit {0}
+
+-- a run of p that is over
+pub record IsOver (o : Opening) (p : First) (seen : List Entry) (ks : List Task) : Type 0 where
+  pub many : length ks ≡ o.threads
+  pub tasks : Numbered (λ i k. IsAt o p seen i k) ks
+  pub ended : Numbered (λ i k. is_some k.«end» ≡ true) ks
+  pub given : Numbered (λ i k. (e : End) → k.«end» ≡ Some e → Given o seen ks i e) ks
+
+-- each task became what f makes of it
+pub record AreEach (f : Task → Task) (ks ms : List Task) : Type 0 where
+  pub many : length ms ≡ length ks
+  pub each : (i : ℕ) (d : Task) → i < length ks → slice_index_or ms i d ≡ f (slice_index_or ks i d)
+
+abbrev pub halted_end : Option End → Option End
+halted_end None = Some Halted
+halted_end (Some e) = Some e
+
+-- the task with the end Halted, where it had none
+abbrev pub halted : Task → Task
+halted k = record k { «end» = halted_end k.«end» }
+
+abbrev pub locked_end : Option Wish → Option End → Option End
+locked_end w (Some e) = Some e
+locked_end (Some (Act a)) None = Some (Deadlocked a)
+locked_end w None = None
+
+-- the task with the end Deadlocked, where it had none
+abbrev pub locked : Task → Task
+locked k = record k { «end» = locked_end k.wish k.«end» }
+
+-- the task may be given the end Deadlocked
+abbrev pub CanLock : Task → Type 0
+CanLock k = (a : Action) × (k.wish ≡ Some (Act a)) × (is_stall (last_item k.items.items) ≡ true)

@@ -1,0 +1,387 @@
+//! Runs of all tasks on one thread.
+
+ghost use Rattle.std.specs.Prelude.{◌≡◌, ◌≢◌, ℕ, ◌<◌, ◌≤◌, ◌*◌, List, [], true, false, Some, None, is_some, IfOk, IfSome, IsNone, MatchOption, length, map, slice_index_or, vec_capacity};
+ghost use Rattle.upc_values.specs.declared.record.End.{End};
+ghost use Rattle.upc_values.specs.declared.journal.Entry.{Entry};
+ghost use Rattle.upc_values.specs.Lists.{Numbered};
+ghost use Rattle.upc_values.specs.Legal.{Opening};
+ghost use Rattle.upc_values.specs.Ends as ends;
+ghost use Rattle.upc_values.specs.Sound.{IsSound};
+ghost use Rattle.upc_values.specs.Waits.{WaitsFollow};
+ghost use Rattle.first_language.specs.declared.tree.First.{First};
+ghost use Rattle.first_language.specs.Meaning.{meaning, opening_of};
+ghost use Rattle.serial_core.specs.declared.task.Task.{Task};
+ghost use Rattle.serial_core.specs.Kept.{AreLimits, IsKept, Paused, strand_of};
+ghost use Rattle.serial_core.specs.Runs.{IsAt, IsRunning, IsStart, AreSame, IsOpenAt, OthersStay, IsChosen, open_among, Rested, Stops, StopsAt, NoneStops, Wanting, IsOver, AreEach, halted, locked, CanLock};
+
+use crate::limits::Limits;
+use crate::task::{Pause, Task};
+use first_language::First;
+use memory_history::World;
+use std::alloc::{AllocError, Global};
+use std::sync::Wait;
+use upc_values::{End, Journal, Listing, Strand, copy_action};
+
+// One task for each thread.
+fn make_all(alloc: Global, program: &First, limits: Limits) -> Result<Vec<Task>, AllocError>
+    requires { AreLimits limits }
+    ensures { IfOk result (λ tasks. IsStart program.now limits tasks.items) }
+{
+    let mut tasks = Vec::new(alloc);
+    for thread in 0..limits.threads {
+        let task = Task::make(alloc, program, thread, limits)?;
+        tasks.push(task)?;
+    }
+    Ok(tasks)
+}
+
+// One task goes on by one step.
+fn turn(
+    program: &First,
+    tasks: &mut Vec<Task>,
+    world: &mut World,
+    at: usize,
+) -> Result<Pause, AllocError>
+    requires running { IsRunning world.old.0 program.now world.old.1 tasks.old.items }
+    requires at { (at < length tasks.old.items) × IsOpenAt tasks.old.items at }
+    ensures running { IfOk result (λ _. IsRunning world.new.0 program.now world.new.1 tasks.new.items) }
+    ensures same { IfOk result (λ _. AreSame tasks.old.items tasks.new.items) }
+    ensures others { IfOk result (λ _. OthersStay at tasks.old.items tasks.new.items) }
+    ensures pause { IfOk result (λ p. (d : Task) → Paused p (slice_index_or tasks.new.items at d)) }
+    ensures opening { IfOk result (λ _. world.new.0 ≡ world.old.0) }
+{
+    let task = &mut tasks[at];
+    task.work(program)?;
+    let pause = task.step(world)?;
+    Ok(pause)
+}
+
+// One task goes on to a Beat, a Stall or its end.
+fn round<R: Wait>(
+    rt: &R,
+    program: &First,
+    tasks: &mut Vec<Task>,
+    world: &mut World,
+    at: usize,
+) -> Result<(), AllocError>
+    requires running { IsRunning world.old.0 program.now world.old.1 tasks.old.items }
+    requires at { (at < length tasks.old.items) × IsOpenAt tasks.old.items at }
+    ensures running { IfOk result (λ _. IsRunning world.new.0 program.now world.new.1 tasks.new.items) }
+    ensures same { IfOk result (λ _. AreSame tasks.old.items tasks.new.items) }
+    ensures others { IfOk result (λ _. OthersStay at tasks.old.items tasks.new.items) }
+    ensures rested { IfOk result (λ _. (d : Task) → Rested (slice_index_or tasks.new.items at d)) }
+    ensures opening { IfOk result (λ _. world.new.0 ≡ world.old.0) }
+{
+    for _ in rt.forever() {
+        match turn(program, tasks, world, at)? {
+            Pause::Going => {}
+            Pause::Beat => return Ok(()),
+            Pause::Stalled => return Ok(()),
+            Pause::Finished => return Ok(()),
+        }
+    }
+    unreachable!()
+}
+
+fn is_open(tasks: &Vec<Task>, at: usize) -> bool
+    requires { at < length tasks.now.items }
+    ensures yes { result ≡ true → IsOpenAt tasks.now.items at }
+    ensures no { result ≡ false → (d : Task) → is_some (slice_index_or tasks.now.items at d).«end» ≡ true }
+{
+    let task = &tasks[at];
+    !task.has_ended()
+}
+
+// One task goes on, if it has no end.
+fn visit<R: Wait>(
+    rt: &R,
+    program: &First,
+    tasks: &mut Vec<Task>,
+    world: &mut World,
+    at: usize,
+) -> Result<(), AllocError>
+    requires running { IsRunning world.old.0 program.now world.old.1 tasks.old.items }
+    requires at { at < length tasks.old.items }
+    ensures running { IfOk result (λ _. IsRunning world.new.0 program.now world.new.1 tasks.new.items) }
+    ensures same { IfOk result (λ _. AreSame tasks.old.items tasks.new.items) }
+    ensures others { IfOk result (λ _. OthersStay at tasks.old.items tasks.new.items) }
+    ensures rested { IfOk result (λ _. (d : Task) → Rested (slice_index_or tasks.new.items at d)) }
+    ensures opening { IfOk result (λ _. world.new.0 ≡ world.old.0) }
+{
+    if is_open(tasks, at) {
+        round(rt, program, tasks, world, at)?;
+    }
+    Ok(())
+}
+
+// A round of all tasks, by number of thread.
+fn round_all<R: Wait>(
+    rt: &R,
+    program: &First,
+    tasks: &mut Vec<Task>,
+    world: &mut World,
+) -> Result<(), AllocError>
+    requires { IsRunning world.old.0 program.now world.old.1 tasks.old.items }
+    ensures running { IfOk result (λ _. IsRunning world.new.0 program.now world.new.1 tasks.new.items) }
+    ensures same { IfOk result (λ _. AreSame tasks.old.items tasks.new.items) }
+    ensures rested { IfOk result (λ _. Numbered (λ _ k. Rested k) tasks.new.items) }
+    ensures opening { IfOk result (λ _. world.new.0 ≡ world.old.0) }
+{
+    let many = tasks.len();
+    for at in 0..many {
+        visit(rt, program, tasks, world, at)?;
+    }
+    Ok(())
+}
+
+fn stops(task: &Task) -> bool
+    ensures yes { result ≡ true → Stops task.now }
+    ensures no { result ≡ false → (e : End) → task.now.«end» ≡ Some e → ends.stops e ≡ false }
+{
+    match task.end() {
+        Some(End::Fault(_, _)) => true,
+        Some(End::Budget) => true,
+        Some(End::ActionsFull) => true,
+        Some(End::Exit(_)) => true,
+        _ => false,
+    }
+}
+
+// A task whose end ends the run.
+fn stopped(tasks: &Vec<Task>) -> Option<usize>
+    ensures { MatchOption result (NoneStops tasks.now.items) (StopsAt tasks.now.items) }
+{
+    for at in 0..tasks.len() {
+        let task = &tasks[at];
+        if stops(task) {
+            return Some(at);
+        }
+    }
+    None
+}
+
+// Whether the task wants what is not legal now.
+fn wanting(task: &Task, world: &World) -> bool
+    requires { (p : First) × IsKept world.now.0 p world.now.1 task.now }
+    ensures { result ≡ true → Wanting world.now.0 world.now.1 task.now }
+{
+    if !task.is_stalled() {
+        return false;
+    }
+    match task.wanted() {
+        Some(action) => !world.is_legal(task.thread(), action),
+        None => false,
+    }
+}
+
+// Whether each task without an end wants what is not legal now.
+fn none_goes(tasks: &Vec<Task>, world: &World) -> bool
+    requires { (p : First) × IsRunning world.now.0 p world.now.1 tasks.now.items }
+    ensures { result ≡ true
+        → Numbered (λ _ k. k.«end» ≡ None → Wanting world.now.0 world.now.1 k) tasks.now.items }
+{
+    for at in 0..tasks.len() {
+        if is_open(tasks, at) {
+            let task = &tasks[at];
+            if !wanting(task, world) {
+                return false;
+            }
+        }
+    }
+    true
+}
+
+fn all_ended(tasks: &Vec<Task>) -> bool
+    ensures { result ≡ true → Numbered (λ _ k. is_some k.«end» ≡ true) tasks.now.items }
+{
+    for at in 0..tasks.len() {
+        if is_open(tasks, at) {
+            return false;
+        }
+    }
+    true
+}
+
+// Another task ended the run.
+fn halt(task: &mut Task)
+    requires { Rested task.old }
+    ensures { task.new ≡ halted task.old }
+{
+    if !task.has_ended() {
+        task.end_as(End::Halted);
+    }
+}
+
+// The task is deadlocked, if it has no end.
+fn lock(alloc: Global, task: &mut Task) -> Result<(), AllocError>
+    requires { task.old.«end» ≡ None → CanLock task.old }
+    ensures { IfOk result (λ _. task.new ≡ locked task.old) }
+{
+    if task.has_ended() {
+        return Ok(());
+    }
+    let Some(action) = task.wanted() else {
+        unreachable!()
+    };
+    let action = copy_action(alloc, action)?;
+    task.end_as(End::Deadlocked(action));
+    Ok(())
+}
+
+fn halt_all(tasks: &mut Vec<Task>)
+    requires { Numbered (λ _ k. Rested k) tasks.old.items }
+    ensures { AreEach halted tasks.old.items tasks.new.items }
+{
+    for at in 0..tasks.len() {
+        halt(&mut tasks[at]);
+    }
+}
+
+fn lock_all(alloc: Global, tasks: &mut Vec<Task>) -> Result<(), AllocError>
+    requires { Numbered (λ _ k. k.«end» ≡ None → CanLock k) tasks.old.items }
+    ensures { IfOk result (λ _. AreEach locked tasks.old.items tasks.new.items) }
+{
+    for at in 0..tasks.len() {
+        lock(alloc, &mut tasks[at])?;
+    }
+    Ok(())
+}
+
+// Rounds by number of thread, until the run is over.
+fn rounds<R: Wait>(
+    rt: &R,
+    alloc: Global,
+    program: &First,
+    tasks: &mut Vec<Task>,
+    world: &mut World,
+) -> Result<(), AllocError>
+    requires { IsRunning world.old.0 program.now world.old.1 tasks.old.items }
+    ensures over { IfOk result (λ _. IsOver world.new.0 program.now world.new.1 tasks.new.items) }
+    ensures same { IfOk result (λ _. AreSame tasks.old.items tasks.new.items) }
+    ensures opening { IfOk result (λ _. world.new.0 ≡ world.old.0) }
+{
+    for _ in rt.forever() {
+        round_all(rt, program, tasks, world)?;
+        if stopped(tasks).is_some() {
+            halt_all(tasks);
+            return Ok(());
+        }
+        if all_ended(tasks) {
+            return Ok(());
+        }
+        if none_goes(tasks, world) {
+            lock_all(alloc, tasks)?;
+            return Ok(());
+        }
+    }
+    unreachable!()
+}
+
+fn count_open(tasks: &Vec<Task>) -> usize
+    ensures { result ≡ open_among tasks.now.items }
+{
+    let mut live = 0usize;
+    for at in 0..tasks.len() {
+        if is_open(tasks, at) {
+            live += 1;
+        }
+    }
+    live
+}
+
+// The task without an end that a pick chooses, none where all have their ends.
+fn chosen(tasks: &Vec<Task>, pick: u32) -> Option<usize>
+    ensures none { IsNone result → open_among tasks.now.items ≡ 0 }
+    ensures some { IfSome result (λ at. IsChosen tasks.now.items pick at) }
+{
+    let live = count_open(tasks);
+    if live == 0 {
+        return None;
+    }
+    let mut left = pick as usize % live;
+    for at in 0..tasks.len() {
+        if is_open(tasks, at) {
+            if left == 0 {
+                return Some(at);
+            }
+            left -= 1;
+        }
+    }
+    unreachable!()
+}
+
+// One step for each pick, while no end ends the run.
+fn pick_all(
+    program: &First,
+    tasks: &mut Vec<Task>,
+    world: &mut World,
+    picks: &[u32],
+) -> Result<(), AllocError>
+    requires { IsRunning world.old.0 program.now world.old.1 tasks.old.items }
+    ensures running { IfOk result (λ _. IsRunning world.new.0 program.now world.new.1 tasks.new.items) }
+    ensures same { IfOk result (λ _. AreSame tasks.old.items tasks.new.items) }
+    ensures opening { IfOk result (λ _. world.new.0 ≡ world.old.0) }
+{
+    for pick in picks {
+        if stopped(tasks).is_some() {
+            return Ok(());
+        }
+        let Some(at) = chosen(tasks, *pick) else {
+            return Ok(());
+        };
+        turn(program, tasks, world, at)?;
+    }
+    Ok(())
+}
+
+fn strands_of(tasks: Vec<Task>, mut strands: Vec<Strand>) -> Vec<Strand>
+    requires room { (strands.items ≡ []) × (length tasks.items ≤ vec_capacity strands) }
+    requires ended { Numbered (λ _ k. is_some k.«end» ≡ true) tasks.items }
+    ensures { (o : Opening) (p : First) (seen : List Entry) → Numbered (λ i k. IsAt o p seen i k) tasks.items
+        → result.items ≡ map (strand_of p) tasks.items }
+{
+    for task in tasks {
+        strands.push_reserved(task.into_strand());
+    }
+    strands
+}
+
+/// Runs the program on one thread of the machine, in an order that the picks choose. Each pick is taken modulo the
+/// number of threads without an end, and chooses among them by number; the chosen one is given one step. Once an end
+/// ends the run, or where all threads have ended, the other picks are passed over. Then rounds go by number of thread:
+/// in each, every thread without an end goes on to a Beat, a Stall or its end.
+///
+/// The journal is sound: each thread's record is what its source comes to on the recorded replies, and one legal
+/// history takes these records as the write buffers drain.
+pub fn run_by<R: Wait>(
+    rt: &R,
+    alloc: Global,
+    program: &First,
+    limits: Limits,
+    picks: &[u32],
+) -> Result<Journal, AllocError>
+    requires threads { (1 ≤ limits.threads) × (limits.threads ≤ 32) }
+    requires budget { (1 ≤ limits.budget) × (limits.budget ≤ 1000000000000) }
+    requires actions { (1 ≤ limits.actions) × (limits.threads * limits.actions ≤ 8388608) }
+    ensures sound { IfOk result (λ j. IsSound (opening_of program.now limits.threads)
+        (λ t. meaning program.now t limits.threads limits.budget) j) }
+    ensures limits { IfOk result (λ j. (j.threads ≡ limits.threads) × (j.budget ≡ limits.budget)
+        × (j.actions ≡ limits.actions)) }
+    ensures waits { IfOk result (λ j. WaitsFollow limits.threads j.history) }
+{
+    let cells = program.cells(alloc)?;
+    let mut world = World::make(alloc, cells.as_slice(), limits.threads)?;
+    let mut tasks = make_all(alloc, program, limits)?;
+    let strands = Vec::with_capacity(alloc, tasks.len())?;
+    pick_all(program, &mut tasks, &mut world, picks)?;
+    rounds(rt, alloc, program, &mut tasks, &mut world)?;
+    let strands = strands_of(tasks, strands);
+    let history = world.take_history();
+    Ok(Journal {
+        threads: limits.threads,
+        budget: limits.budget,
+        actions: limits.actions,
+        strands: Listing::from_vec(strands),
+        history,
+    })
+}

@@ -1,0 +1,277 @@
+//! A task: a thread's machine, which acts on the history through its write buffer.
+
+ghost use Rattle.std.specs.Prelude.{◌≡◌, ℕ, ◌<◌, ◌≤◌, ◌^◌, List, [], true, false, Bool, Some, None, is_some, IfOk, IfSome, IsNone, length, option_copied};
+ghost use Rattle.upc_values.specs.declared.action.Action.{Action};
+ghost use Rattle.upc_values.specs.declared.journal.Entry.{Entry};
+ghost use Rattle.upc_values.specs.Drain.{entries_of};
+ghost use Rattle.upc_values.specs.Legal.{Opening, AreWellFormed};
+ghost use Rattle.upc_values.specs.Records as records;
+ghost use Rattle.upc_values.specs.Ends.{OwnEnd};
+ghost use Rattle.first_language.specs.declared.tree.First.{First};
+ghost use Rattle.first_language.specs.declared.machine.Wish.TheVariants.{Act};
+ghost use Rattle.first_language.specs.Meaning.{opening_of};
+ghost use Rattle.serial_core.specs.declared.task.Pause.TheVariants.{Finished};
+ghost use Rattle.serial_core.specs.Kept as kept;
+ghost use Rattle.serial_core.specs.Kept.{AreLimits, IsKept, Keeps, StaysKept, IsSame, Grew, Paused, CanEnd, Adds, Waits, is_given, outcome_of, strand_of};
+
+use crate::emit::{emit, empty};
+use crate::limits::Limits;
+use first_language::{First, Machine, Wish};
+use memory_history::{Step, World};
+use std::alloc::{AllocError, Global};
+use upc_values::{Action, End, Item, Listing, Reply, Strand};
+use write_buffer::WriteBuffer;
+
+/// How a task stands after a step.
+#[derive(Clone, Copy, PartialEq, Eq, Debug)]
+pub enum Pause {
+    /// It did an action that is no Beat.
+    Going,
+    /// It did a Beat.
+    Beat,
+    /// It stands at a Stall: what it wishes to do is not legal now.
+    Stalled,
+    /// It has its end.
+    Finished,
+}
+
+/// A thread's machine, its record, its write buffer and its end.
+///
+/// A task is ready where it has a wish that has not been answered; a new task is not ready. After a call has
+/// answered want of memory a task is only dropped.
+#[derive(Drop)]
+pub struct Task {
+    machine: Machine,
+    thread: u32,
+    limits: Limits,
+    items: Vec<Item>,
+    buffer: WriteBuffer,
+    next: u32,
+    answer: Option<Reply>,
+    wish: Option<Wish>,
+    end: Option<End>,
+}
+
+fn is_stall(item: &Item) -> bool
+    ensures { result ≡ records.is_stall (Some item.now) }
+{
+    matches!(item, Item::Stall)
+}
+
+// Whether the last item is a Stall.
+fn ends_with_stall(items: &[Item]) -> bool
+    ensures { result ≡ records.is_stall (records.last_item items.now) }
+{
+    match items.last() {
+        Some(item) => is_stall(item),
+        None => false,
+    }
+}
+
+fn is_beat(action: &Action) -> bool
+    ensures { result ≡ records.is_beat action.now }
+{
+    matches!(action, Action::Beat)
+}
+
+// The end that a wish is, or that comes where it is an action and the record is full.
+fn own_end(wish: &Wish, full: bool) -> Option<End>
+    ensures { result ≡ kept.own_end wish.now full }
+{
+    match wish {
+        Wish::Act(_) => { if full { Some(End::ActionsFull) } else { None } }
+        Wish::Ended(value) => Some(End::Ended(*value)),
+        Wish::Exit(value) => Some(End::Exit(*value)),
+        Wish::Fault(code, place) => Some(End::Fault(*code, *place)),
+        Wish::Budget => Some(End::Budget),
+    }
+}
+
+impl Task {
+    /// A task that has done nothing.
+    pub fn make(
+        alloc: Global,
+        program: &First,
+        thread: u32,
+        limits: Limits,
+    ) -> Result<Task, AllocError>
+        requires limits { AreLimits limits }
+        requires thread { thread < limits.threads }
+        ensures kept { IfOk result (λ k. (seen : List Entry) → entries_of thread seen ≡ []
+            → IsKept (opening_of program.now limits.threads) program.now seen k) }
+        ensures new { IfOk result (λ k. (k.thread ≡ thread) × (k.limits ≡ limits) × (k.«end» ≡ None)) }
+    {
+        Ok(Task {
+            machine: Machine::make(alloc, program, thread, limits.threads, limits.budget)?,
+            thread,
+            limits,
+            items: Vec::new(alloc),
+            buffer: WriteBuffer::make(alloc)?,
+            next: 0,
+            answer: None,
+            wish: None,
+            end: None,
+        })
+    }
+    /// Does the private work up to the next wish, after which the task is ready. A ready task stays as it is.
+    pub fn work(&mut self, program: &First) -> Result<(), AllocError>
+        requires { self.old.«end» ≡ None }
+        ensures kept { IfOk result (λ _. StaysKept program.now self.old self.new) }
+        ensures ready { IfOk result (λ _. is_some self.new.wish ≡ true) }
+        ensures same { IfOk result (λ _. IsSame self.old self.new × (self.new.«end» ≡ None)) }
+        ensures items { IfOk result (λ _. self.new.items ≡ self.old.items) }
+        ensures unchanged { is_some self.old.wish ≡ true → self.new ≡ self.old }
+    {
+        if self.wish.is_none() {
+            let reply = self.answer.take();
+            let wish = self.machine.resume(program, reply)?;
+            self.wish = Some(wish);
+        }
+        Ok(())
+    }
+
+    // The buffer is emptied, and the task has its end.
+    fn close(&mut self, world: &mut World, end: End) -> Result<Pause, AllocError>
+        requires kept { (p : First) × IsKept world.old.0 p world.old.1 self.old }
+        requires ready { (self.old.«end» ≡ None) × (is_some self.old.wish ≡ true) }
+        requires own { (p : First) → IsKept world.old.0 p world.old.1 self.old
+            → OwnEnd self.old.limits.actions (outcome_of p self.old).«end» self.old.items.items «end» }
+        requires comes { is_given «end» ≡ false }
+        ensures kept { IfOk result (λ _. Keeps world.old self.old world.new self.new) }
+        ensures same { IsSame self.old self.new }
+        ensures grew { Grew self.old.thread world.old.1 world.new.1 }
+        ensures pause { IfOk result (λ p. (p ≡ Finished) × Paused p self.new) }
+        ensures items { self.new.items ≡ self.old.items }
+        ensures opening { world.new.0 ≡ world.old.0 }
+    {
+        empty(self.thread, world, &mut self.buffer)?;
+        self.end = Some(end);
+        Ok(Pause::Finished)
+    }
+
+    // Does the wanted action, or stalls before it.
+    fn act(&mut self, world: &mut World) -> Result<Pause, AllocError>
+        requires kept { (p : First) × IsKept world.old.0 p world.old.1 self.old }
+        requires open { self.old.«end» ≡ None }
+        requires wants { (a : Action) × (self.old.wish ≡ Some (Act a)) }
+        requires room { length self.old.items.items < self.old.limits.actions }
+        ensures kept { IfOk result (λ _. Keeps world.old self.old world.new self.new) }
+        ensures same { IsSame self.old self.new }
+        ensures grew { Grew self.old.thread world.old.1 world.new.1 }
+        ensures pause { IfOk result (λ p. Paused p self.new) }
+        ensures adds { IfOk result (λ p. Adds p self.old.wish self.old.items.items self.new.items.items) }
+        ensures waits { IfOk result (λ p. Waits p world.new.0 world.new.1 self.new) }
+        ensures opening { world.new.0 ≡ world.old.0 }
+    {
+        self.items.reserve(1)?;
+        let stalls = ends_with_stall(self.items.as_slice());
+        let Some(Wish::Act(action)) = self.wish.take() else {
+            unreachable!()
+        };
+        match emit(self.thread, self.next, world, &mut self.buffer, &action)? {
+            Step::Done(reply) => {
+                let pause = if is_beat(&action) {
+                    Pause::Beat
+                } else {
+                    Pause::Going
+                };
+                self.items.push_reserved(Item::Did(action, reply));
+                self.next += 1;
+                self.answer = Some(reply);
+                Ok(pause)
+            }
+            Step::Disabled => {
+                self.wish = Some(Wish::Act(action));
+                if !stalls {
+                    self.items.push_reserved(Item::Stall);
+                }
+                Ok(Pause::Stalled)
+            }
+        }
+    }
+    /// Acts on the wish: at most one new item, and the commits that go with it. The machine is not resumed.
+    pub fn step(&mut self, world: &mut World) -> Result<Pause, AllocError>
+        requires kept { (p : First) × IsKept world.old.0 p world.old.1 self.old }
+        requires ready { (self.old.«end» ≡ None) × (is_some self.old.wish ≡ true) }
+        ensures kept { IfOk result (λ _. Keeps world.old self.old world.new self.new) }
+        ensures same { IsSame self.old self.new }
+        ensures grew { Grew self.old.thread world.old.1 world.new.1 }
+        ensures pause { IfOk result (λ p. Paused p self.new) }
+        ensures adds { IfOk result (λ p. Adds p self.old.wish self.old.items.items self.new.items.items) }
+        ensures waits { IfOk result (λ p. Waits p world.new.0 world.new.1 self.new) }
+        ensures opening { world.new.0 ≡ world.old.0 }
+    {
+        let full = self.items.len() as u64 >= self.limits.actions;
+        let Some(wish) = &self.wish else {
+            unreachable!()
+        };
+        match own_end(wish, full) {
+            Some(end) => self.close(world, end),
+            None => self.act(world),
+        }
+    }
+
+    /// The action that waits for its reply, None exactly where there is none.
+    pub fn wanted(&self) -> Option<&Action>
+        ensures none { IsNone result → (a : Action) → self.now.wish ≡ Some (Act a) → ⊥ }
+        ensures some { IfSome result (λ a. self.now.wish ≡ Some (Act a.now)) }
+    {
+        match &self.wish {
+            Some(Wish::Act(action)) => Some(action),
+            _ => None,
+        }
+    }
+
+    /// The task's end, None exactly where it has none.
+    pub fn end(&self) -> Option<&End>
+        ensures { option_copied result ≡ self.now.«end» }
+    {
+        self.end.as_ref()
+    }
+
+    /// Whether the task has its end.
+    pub fn has_ended(&self) -> bool
+        ensures { result ≡ is_some self.now.«end» }
+    {
+        self.end.is_some()
+    }
+
+    /// The number of the task's thread.
+    pub fn thread(&self) -> u32
+        ensures { result ≡ self.now.thread }
+    {
+        self.thread
+    }
+
+    /// Whether the task's last item is a Stall.
+    pub fn is_stalled(&self) -> bool
+        ensures { result ≡ records.is_stall (records.last_item self.now.items.items) }
+    {
+        ends_with_stall(self.items.as_slice())
+    }
+
+    /// Gives a task that stands at a Beat or a Stall its end: Halted, or at a Stall Deadlocked with what it wants.
+    pub fn end_as(&mut self, end: End)
+        requires open { self.old.«end» ≡ None }
+        requires can { CanEnd self.old «end» }
+        ensures kept { (p : First) → StaysKept p self.old self.new }
+        ensures is { self.new ≡ record self.old { «end» = Some «end» } }
+    {
+        self.end = Some(end);
+    }
+
+    /// The strand of a task that has its end. It takes no memory.
+    pub fn into_strand(self) -> Strand
+        requires { is_some self.«end» ≡ true }
+        ensures { (o : Opening) (p : First) (seen : List Entry) → IsKept o p seen self → result ≡ strand_of p self }
+    {
+        let ticks = self.machine.ticks();
+        let Task { items, end, .. } = self;
+        let Some(end) = end else { unreachable!() };
+        Strand {
+            items: Listing::from_vec(items),
+            ticks,
+            end,
+        }
+    }
+}
