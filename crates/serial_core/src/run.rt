@@ -6,6 +6,7 @@ ghost use Rattle.upc_values.specs.declared.journal.Entry.{Entry};
 ghost use Rattle.upc_values.specs.Lists.{Numbered};
 ghost use Rattle.upc_values.specs.Legal.{Opening};
 ghost use Rattle.upc_values.specs.Ends as ends;
+ghost use Rattle.upc_values.specs.Ends.{AreSpent};
 ghost use Rattle.upc_values.specs.Sound.{IsSound};
 ghost use Rattle.upc_values.specs.Waits.{WaitsFollow};
 ghost use Rattle.first_language.specs.declared.tree.First.{First};
@@ -368,6 +369,7 @@ pub fn run_by<R: Wait>(
     ensures limits { IfOk result (λ j. (j.threads ≡ limits.threads) × (j.budget ≡ limits.budget)
         × (j.actions ≡ limits.actions)) }
     ensures waits { IfOk result (λ j. WaitsFollow limits.threads j.history) }
+    ensures spent { IfOk result (λ j. AreSpent limits.budget j.strands) }
 {
     let cells = program.cells(alloc)?;
     let mut world = World::make(alloc, cells.as_slice(), limits.threads)?;

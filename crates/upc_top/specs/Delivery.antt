@@ -3,7 +3,7 @@ use Rattle.std.specs.Prelude.{ℕ, ◌≡◌, ◌≤◌, ◌⊎◌, List, [], le
 use Rattle.upc_text.specs.declared.whole.TheConstants.{SOURCE_LIMIT}
 use Rattle.upc_text.specs.Outside.{Rose, taken_with, TookPrefix}
 use Rattle.upc_values.specs.declared.journal.Journal.{Journal}
-use Rattle.first_language.specs.declared.First.{First}
+use Rattle.first_language.specs.declared.tree.First.{First}
 use Rattle.first_language.specs.Source.{IsSource}
 use Rattle.upc_top.specs.declared.verdict.Verdict.{Verdict}
 use Rattle.upc_top.specs.declared.done.Done.{Done}

@@ -5,8 +5,10 @@ use Rattle.upc_text.specs.declared.place.Code.TheVariants.{Syntax}
 use Rattle.upc_text.specs.Outside.{Rose, IsWhole, IsLonger}
 use Rattle.upc_text.specs.declared.whole.TheConstants.{SOURCE_LIMIT}
 use Rattle.upc_values.specs.declared.journal.Journal.{Journal}
+use Rattle.upc_values.specs.Ends.{AreSpent}
 use Rattle.upc_values.specs.Sound.{IsSound}
-use Rattle.first_language.specs.declared.First.{First}
+use Rattle.upc_values.specs.Waits.{WaitsFollow}
+use Rattle.first_language.specs.declared.tree.First.{First}
 use Rattle.first_language.specs.Source.{IsSource}
 use Rattle.first_language.specs.Meaning.{meaning, opening_of}
 use Rattle.upc_top.specs.declared.verdict.Verdict.{Verdict}
@@ -20,11 +22,14 @@ pub record Reading : Type 0 where
   pub before : List ℕ → ℕ
   pub after : List ℕ → ℕ
 
--- the journal is a sound run of the program
+-- the journal is a sound run of the program; each thread's p-th wait stands after the p-th notify of all threads, and a
+-- thread that came to its budget has had that many ticks
 pub record IsRun (threads : ℕ) (p : First) (j : Journal) : Type 0 where
   pub budget_is : j.budget ≡ budget
   pub actions_is : j.actions ≡ actions threads
   pub sound : IsSound (opening_of p threads) (λ t. meaning p t threads budget) j
+  pub waits : WaitsFollow threads j.history
+  pub spent : AreSpent budget j.strands
 
 -- the bytes are the source of a program, of which the journal is a sound run
 pub record RanFrom (threads : ℕ) (bytes : List ℕ) (j : Journal) : Type 0 where

@@ -54,3 +54,7 @@ SharedEnd o j t Halted = AnotherStops t j.strands
 SharedEnd o j t (Deadlocked a) =
     (reply o j.history t a ≡ None) × Numbered (λ u s. settles s.«end» ≡ true) j.strands
 SharedEnd o j t e = Unit {0}
+
+-- each strand whose end is Budget has had its budget of ticks
+abbrev pub AreSpent : ℕ → List Strand → Type 0
+AreSpent budget strands = Numbered (λ t s. s.«end» ≡ Budget → s.ticks ≡ budget) strands

@@ -6,6 +6,7 @@ use Rattle.upc_values.specs.Waits.{WaitsFollow}
 use Rattle.first_language.specs.Meaning.{opening_of}
 use Rattle.serial_core.specs.Runs.{IsOver}
 use Rattle.serial_core.proofs.Running.{over-sound, same-trans}
+use Rattle.serial_core.proofs.Spending.{sound-spent}
 use Rattle.serial_core.proofs.run.run_by.Goals as goal
 
 pub returns-clause-sound : goal.returns-clause-sound
@@ -31,3 +32,9 @@ returns-clause-waits g c =
     let opening_with : List Loc → Opening = λ cells. record { threads = l.threads; cells = cells } in
     let opened : w.0 ≡ o = went.opening ∙ picked.opening ∙ c.in_ok-world.ensures.opening ∙ ap opening_with (c.as_slice.ensures.value ∙ c.in_ok-cells.ensures) in
     subst (WaitsFollow l.threads) (sym took.taken) (subst (λ z. WaitsFollow z.threads w.1) opened took.waits)
+
+pub returns-clause-spent : goal.returns-clause-spent
+returns-clause-spent g c =
+    let l = c.args.limits in
+    let j : Journal = record { threads = l.threads; budget = l.budget; actions = l.actions; strands = c.from_vec.result; history = c.take_history-history.result } in
+    sound-spent c.args.program.now l.threads l.budget j c.requires.budget.0 (returns-clause-sound g c)
