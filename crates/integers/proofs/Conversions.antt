@@ -1,5 +1,5 @@
 -- Conversions are congruent, and results are brought into range.
-use Rattle.std.proofs.Common.{◌≡◌, ℕ, ◌*◌, ◌≤◌, ◌^◌, Result, sym, ap, ◌∙◌, subst, arith, unsigned_abs, int_rem, ◌≤ℤ◌}
+use Rattle.std.proofs.Common.{◌≡◌, ℕ, ◌*◌, ◌≤◌, ◌^◌, Result, sym, ap, ◌∙◌, subst, arith, unsigned_abs, IsTrue, IsErrOf, ◌↔◌, int_rem, ◌≤ℤ◌}
 use Rattle.std.proofs.Math.IntN.{ℤ, pos, negsuc, neg_ℤ, ◌-ℤ◌, ◌*ℤ◌}
 use Rattle.std.proofs.lemmas.Int.{ints}
 use Rattle.std.proofs.lemmas.Nat.{pow_pos}
@@ -7,7 +7,8 @@ use borrow.Author.Differences.{neg_is}
 use Rattle.block_layout.specs.Floor.{floor_div}
 use Rattle.block_layout.proofs.Numbers.{floor-sum}
 use Rattle.block_layout.specs.declared.kind.Kind.{Kind}
-use Rattle.integers.specs.Integers.{width, values, least, AreCongruent, converted, brought, InKind}
+use Rattle.integers.specs.Integers.{width, values, least, AreCongruent, converted, brought, InKind, IsLost, is_signed}
+use Rattle.block_layout.specs.declared.run_error.TheConstants.{SIGNED_OVERFLOW}
 use Rattle.integers.specs.Operators.{RightFits}
 use Rattle.integers.specs.declared.operator.BinOp.{BinOp}
 use Rattle.integers.specs.declared.operator.BinOp.TheVariants.{ShiftLeft, ShiftRight}
@@ -78,3 +79,24 @@ pub right-near : (op : BinOp) (kind : Kind) (b : ℤ) → RightFits op kind b �
 right-near ShiftLeft kind b h = omega (arith, ints, h.0, h.1)
 right-near ShiftRight kind b h = omega (arith, ints, h.0, h.1)
 right-near op kind b h = kind-near b kind h
+
+-- The complement of a signed value is one.
+complement-in_kind : (a : ℤ) (kind : Kind) → InKind a kind → IsTrue (is_signed kind) → InKind (neg_ℤ a -ℤ pos 1) kind
+complement-in_kind a Char h s = record { low = omega (arith, ints, h.high); high = omega (arith, ints, h.low) }
+complement-in_kind a Short h s = record { low = omega (arith, ints, h.high); high = omega (arith, ints, h.low) }
+complement-in_kind a Int h s = record { low = omega (arith, ints, h.high); high = omega (arith, ints, h.low) }
+complement-in_kind a Long h s = record { low = omega (arith, ints, h.high); high = omega (arith, ints, h.low) }
+complement-in_kind a UChar h s = absurd (cc)
+complement-in_kind a UShort h s = absurd (cc)
+complement-in_kind a UInt h s = absurd (cc)
+complement-in_kind a ULong h s = absurd (cc)
+complement-in_kind a (Shared n b) h s = absurd (cc)
+complement-in_kind a Lock h s = absurd (cc)
+complement-in_kind a (Private n) h s = absurd (cc)
+
+pub complement-not_lost : (a : ℤ) (kind : Kind) → InKind a kind → ¬ (IsLost kind (neg_ℤ a -ℤ pos 1))
+complement-not_lost a kind h lost = lost.1 (complement-in_kind a kind h lost.0)
+
+-- Where a result is lost, by another form of it.
+pub lost-as : (kind : Kind) (r : Result ℤ ℕ) (v w : ℤ) → (IsErrOf r SIGNED_OVERFLOW ↔ IsLost kind v) → v ≡ w → (IsErrOf r SIGNED_OVERFLOW ↔ IsLost kind w)
+lost-as kind r v w h same = subst (λ (z : ℤ). IsErrOf r SIGNED_OVERFLOW ↔ IsLost kind z) same h

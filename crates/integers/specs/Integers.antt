@@ -1,5 +1,5 @@
 -- The integer kinds, their ranges and conversions between them (C99 6.2.5, 6.3.1.3).
-use Rattle.std.specs.Prelude.{ℕ, ◌^◌, ◌≡◌, ◌&&◌, Bool, true, false, if◌then◌else◌, ℤ, pos, neg_ℤ, ◌+ℤ◌, ◌-ℤ◌, ◌*ℤ◌, ◌≤ℤ◌, ◌<ℤ◌, int_le, int_lt, Result, Ok, Err}
+use Rattle.std.specs.Prelude.{IsTrue, ℕ, ◌^◌, ◌≡◌, ◌&&◌, Bool, true, false, if◌then◌else◌, ℤ, pos, neg_ℤ, ◌+ℤ◌, ◌-ℤ◌, ◌*ℤ◌, ◌≤ℤ◌, ◌<ℤ◌, int_le, int_lt, Result, Ok, Err}
 use Rattle.block_layout.specs.Floor.{floor_mod}
 use Rattle.block_layout.specs.declared.kind.Kind.{Kind}
 use Rattle.block_layout.specs.declared.kind.Kind.TheVariants.{Char, UChar, Short, UShort, Int, UInt, Long, ULong, Shared, Lock, Private}
@@ -88,3 +88,7 @@ brought kind v =
     if is_signed kind
     then (if in_kind kind v then Ok v else Err SIGNED_OVERFLOW)
     else Ok (converted kind v)
+
+-- The exact result of a signed kind is none of its values.
+abbrev pub IsLost : Kind → ℤ → Type 0
+IsLost kind v = IsTrue (is_signed kind) × (¬ (InKind v kind))

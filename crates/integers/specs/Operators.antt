@@ -1,5 +1,5 @@
 -- The operators on integers of a promoted kind (C99 6.5.3.3, 6.5.5 to 6.5.12).
-use Rattle.std.specs.Prelude.{ℕ, ◌^◌, ◌&&◌, not, Bool, if◌then◌else◌, ℤ, pos, neg_ℤ, ◌+ℤ◌, ◌-ℤ◌, ◌*ℤ◌, ◌≤ℤ◌, ◌<ℤ◌, int_le, int_lt, int_div, int_rem, unsigned_abs, bit_and, bit_or, bit_xor, Result, Ok, Err}
+use Rattle.std.specs.Prelude.{◌≢◌, ◌⊎◌, IsTrue, ℕ, ◌^◌, ◌&&◌, not, Bool, if◌then◌else◌, ℤ, pos, neg_ℤ, ◌+ℤ◌, ◌-ℤ◌, ◌*ℤ◌, ◌≤ℤ◌, ◌<ℤ◌, int_le, int_lt, int_div, int_rem, unsigned_abs, bit_and, bit_or, bit_xor, Result, Ok, Err}
 use Rattle.std.specs.Ordering.{int_eq}
 use Rattle.block_layout.specs.Floor.{floor_div, floor_mod}
 use Rattle.block_layout.specs.declared.kind.Kind.{Kind}
@@ -9,7 +9,7 @@ use Rattle.integers.specs.declared.operator.BinOp.{BinOp}
 use Rattle.integers.specs.declared.operator.BinOp.TheVariants.{Multiply, Divide, Remainder, Add, Subtract, ShiftLeft, ShiftRight, Less, Greater, LessOrEqual, GreaterOrEqual, Equal, NotEqual, BitAnd, BitXor, BitOr}
 use Rattle.integers.specs.declared.operator.UnOp.{UnOp}
 use Rattle.integers.specs.declared.operator.UnOp.TheVariants.{Plus, Minus, Complement, Not}
-use Rattle.integers.specs.Integers.{width, values, in_kind, InKind, converted, brought}
+use Rattle.integers.specs.Integers.{IsLost, width, values, in_kind, InKind, converted, brought}
 
 -- A comparison gives the int 1 or 0 (C99 6.5.8, 6.5.9).
 abbrev pub truth : Bool → ℤ
@@ -91,8 +91,25 @@ abbrev pub unary_kind : UnOp → Kind → Kind
 unary_kind Not kind = Int
 unary_kind op kind = kind
 
--- A division, and a shift.
+-- `/` and `%`.
 abbrev pub IsDivision : BinOp → Type 0
 IsDivision Divide = Unit {0}
 IsDivision Remainder = Unit {0}
 IsDivision op = ⊥
+
+-- Where a signed result does not fit: the exact result is lost, the quotient of a remainder is none, or a negative value is shifted left.
+abbrev pub Overflows : BinOp → Kind → ℤ → ℤ → Type 0
+Overflows Multiply kind a b = IsLost kind (a *ℤ b)
+Overflows Add kind a b = IsLost kind (a +ℤ b)
+Overflows Subtract kind a b = IsLost kind (a -ℤ b)
+Overflows Divide kind a b = (b ≢ pos 0) × IsLost kind (int_div a b)
+Overflows Remainder kind a b = (b ≢ pos 0) × (¬ (InKind (int_div a b) kind))
+Overflows ShiftLeft kind a b =
+    (a <ℤ pos 0) ⊎ (IsTrue (is_count kind b) × IsLost kind (a *ℤ pos (2 ^ unsigned_abs b)))
+Overflows op kind a b = ⊥
+
+-- Where a shift has no count below the width. A negative value is not shifted left by any count.
+abbrev pub LacksCount : BinOp → Kind → ℤ → ℤ → Type 0
+LacksCount ShiftLeft kind a b = (pos 0 ≤ℤ a) × (¬ (IsTrue (is_count kind b)))
+LacksCount ShiftRight kind a b = ¬ (IsTrue (is_count kind b))
+LacksCount op kind a b = ⊥

@@ -1,8 +1,8 @@
 //! What operators give at integers.
 
-ghost use Rattle.std.specs.Prelude.{◌≡◌, ◌≢◌, ◌≤◌, ◌<◌, ◌^◌, ◌↔◌, ◌⊎◌, false, pos, ◌*ℤ◌, ◌≤ℤ◌, ◌<ℤ◌, int_div, int_rem, unsigned_abs, IsTrue, IfOk, IfErr, IsErrOf};
-ghost use Rattle.integers.specs.Integers.{width, is_signed, InKind, IsPromoted, converted, brought};
-ghost use Rattle.integers.specs.Operators.{truth, bits_of, is_count, quotient_of, remainder_of, left_shift_of, right_shift_of, binary_of, unary_of, binary_kind, unary_kind, RightFits, IsDivision};
+ghost use Rattle.std.specs.Prelude.{◌≡◌, ◌≢◌, ◌≤◌, ◌<◌, ◌^◌, ◌↔◌, ◌⊎◌, false, pos, ◌*ℤ◌, ◌≤ℤ◌, ◌<ℤ◌, int_div, int_rem, neg_ℤ, unsigned_abs, IsTrue, IfOk, IfErr, IsErrOf};
+ghost use Rattle.integers.specs.Integers.{IsLost, width, is_signed, InKind, IsPromoted, converted, brought};
+ghost use Rattle.integers.specs.Operators.{truth, bits_of, is_count, quotient_of, remainder_of, left_shift_of, right_shift_of, binary_of, unary_of, binary_kind, unary_kind, RightFits, IsDivision, Overflows, LacksCount};
 
 use crate::integer::{bring, is_signed, lies_in, rest, values_of, wrap};
 use crate::operator::{BinOp, UnOp};
@@ -18,7 +18,10 @@ pub fn binary(op: BinOp, kind: Kind, a: i128, b: i128) -> Result<i128, u8>
     requires right { RightFits op kind b }
     ensures value { result ≡ binary_of op kind a b }
     ensures range { IfOk result (λ r. InKind r (binary_kind op kind)) }
+    ensures overflow { IsErrOf result SIGNED_OVERFLOW ↔ Overflows op kind a b }
     ensures zero { IsErrOf result ZERO_DIVISOR ↔ (IsDivision op × (b ≡ pos 0)) }
+    ensures count { IsErrOf result SHIFT_RANGE ↔ LacksCount op kind a b }
+    ensures codes { IfErr result (λ code. (code ≡ SIGNED_OVERFLOW) ⊎ (code ≡ ZERO_DIVISOR) ⊎ (code ≡ SHIFT_RANGE)) }
 {
     match op {
         BinOp::Multiply => product(kind, a, b),
@@ -48,6 +51,7 @@ pub fn unary(op: UnOp, kind: Kind, a: i128) -> Result<i128, u8>
     requires operand { InKind a kind }
     ensures value { result ≡ unary_of op kind a }
     ensures range { IfOk result (λ r. InKind r (unary_kind op kind)) }
+    ensures overflow { IsErrOf result SIGNED_OVERFLOW ↔ ((op ≡ UnOp.Minus) × IsLost kind (neg_ℤ a)) }
     ensures code { IfErr result (λ code. code ≡ SIGNED_OVERFLOW) }
 {
     match op {
@@ -80,6 +84,7 @@ fn product(kind: Kind, a: i128, b: i128) -> Result<i128, u8>
     requires right { InKind b kind }
     ensures value { result ≡ brought kind (a *ℤ b) }
     ensures range { IfOk result (λ r. InKind r kind) }
+    ensures overflow { IsErrOf result SIGNED_OVERFLOW ↔ IsLost kind (a *ℤ b) }
     ensures code { IfErr result (λ code. code ≡ SIGNED_OVERFLOW) }
 {
     if is_signed(kind) {
@@ -116,7 +121,9 @@ fn quotient(kind: Kind, a: i128, b: i128) -> Result<i128, u8>
     requires right { InKind b kind }
     ensures value { result ≡ quotient_of kind a b }
     ensures range { IfOk result (λ r. InKind r kind) }
+    ensures overflow { IsErrOf result SIGNED_OVERFLOW ↔ Overflows BinOp.Divide kind a b }
     ensures zero { IsErrOf result ZERO_DIVISOR ↔ (b ≡ pos 0) }
+    ensures codes { IfErr result (λ code. (code ≡ SIGNED_OVERFLOW) ⊎ (code ≡ ZERO_DIVISOR)) }
 {
     if b == 0 {
         return Err(ZERO_DIVISOR);
@@ -140,7 +147,9 @@ fn remainder(kind: Kind, a: i128, b: i128) -> Result<i128, u8>
     requires right { InKind b kind }
     ensures value { result ≡ remainder_of kind a b }
     ensures range { IfOk result (λ r. InKind r kind) }
+    ensures overflow { IsErrOf result SIGNED_OVERFLOW ↔ Overflows BinOp.Remainder kind a b }
     ensures zero { IsErrOf result ZERO_DIVISOR ↔ (b ≡ pos 0) }
+    ensures codes { IfErr result (λ code. (code ≡ SIGNED_OVERFLOW) ⊎ (code ≡ ZERO_DIVISOR)) }
 {
     if b == 0 {
         return Err(ZERO_DIVISOR);
@@ -165,6 +174,8 @@ fn shift_left(kind: Kind, a: i128, b: i128) -> Result<i128, u8>
     requires left { InKind a kind }
     ensures value { result ≡ left_shift_of kind a b }
     ensures range { IfOk result (λ r. InKind r kind) }
+    ensures overflow { IsErrOf result SIGNED_OVERFLOW ↔ Overflows BinOp.ShiftLeft kind a b }
+    ensures count { IsErrOf result SHIFT_RANGE ↔ LacksCount BinOp.ShiftLeft kind a b }
     ensures codes { IfErr result (λ code. (code ≡ SIGNED_OVERFLOW) ⊎ (code ≡ SHIFT_RANGE)) }
 {
     if a < 0 {
@@ -196,6 +207,7 @@ fn shift_right(kind: Kind, a: i128, b: i128) -> Result<i128, u8>
     requires left { InKind a kind }
     ensures value { result ≡ right_shift_of kind a b }
     ensures range { IfOk result (λ r. InKind r kind) }
+    ensures count { IsErrOf result SHIFT_RANGE ↔ LacksCount BinOp.ShiftRight kind a b }
     ensures codes { IfErr result (λ code. code ≡ SHIFT_RANGE) }
 {
     if !is_count(kind, b) {

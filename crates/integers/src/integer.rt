@@ -1,8 +1,8 @@
 //! The ranges of the integer kinds, and conversions.
 
-ghost use Rattle.std.specs.Prelude.{◌≡◌, ◌≤◌, ◌<◌, ◌^◌, ◌↔◌, pos, unsigned_abs, IsTrue, IfOk, IfErr};
+ghost use Rattle.std.specs.Prelude.{◌≡◌, ◌≤◌, ◌<◌, ◌^◌, ◌↔◌, pos, unsigned_abs, IsTrue, IfOk, IfErr, IsErrOf};
 ghost use Rattle.block_layout.specs.Floor.{floor_mod};
-ghost use Rattle.integers.specs.Integers.{is_signed, least, values, in_kind, InKind, IsInteger, AreCongruent, converted, brought};
+ghost use Rattle.integers.specs.Integers.{IsLost, is_signed, least, values, in_kind, InKind, IsInteger, AreCongruent, converted, brought};
 
 use block_layout::Kind;
 use block_layout::run_error::SIGNED_OVERFLOW;
@@ -35,6 +35,7 @@ pub fn bring(kind: Kind, v: i128) -> Result<i128, u8>
     requires { unsigned_abs v ≤ 2 ^ 126 }
     ensures value { result ≡ brought kind v }
     ensures range { IfOk result (λ r. InKind r kind) }
+    ensures overflow { IsErrOf result SIGNED_OVERFLOW ↔ IsLost kind v }
     ensures code { IfErr result (λ code. code ≡ SIGNED_OVERFLOW) }
 {
     if !is_signed(kind) {

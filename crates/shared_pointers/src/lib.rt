@@ -7,9 +7,9 @@ mod cast;
 mod compare;
 mod element;
 mod row;
-#[cfg(test)]
-mod rows;
 mod step;
+#[cfg(test)]
+mod tests;
 
 pub use access::cell;
 pub use apart::distance;
