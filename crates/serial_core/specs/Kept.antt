@@ -189,6 +189,12 @@ Adds pauses.Beat wish xs ys =
 Adds pauses.Stalled wish xs ys = (ys ≡ xs) ⊎ (ys ≡ xs ++ Stall ∷ [])
 Adds pauses.Finished wish xs ys = ys ≡ xs
 
+-- what a step with this pause leaves of the wish: none after an action, else the same
+abbrev pub Leaves : Pause → Option Wish → Option Wish → Type 0
+Leaves pauses.Going wish left = left ≡ None
+Leaves pauses.Beat wish left = left ≡ None
+Leaves p wish left = left ≡ wish
+
 -- a task that stalled wants what is not legal now
 abbrev pub Waits : Pause → Opening → List Entry → Task → Type 0
 Waits pauses.Stalled o seen k =

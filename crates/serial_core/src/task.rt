@@ -12,7 +12,7 @@ ghost use Rattle.first_language.specs.declared.machine.Wish.TheVariants.{Act};
 ghost use Rattle.first_language.specs.Meaning.{opening_of};
 ghost use Rattle.serial_core.specs.declared.task.Pause.TheVariants.{Finished};
 ghost use Rattle.serial_core.specs.Kept as kept;
-ghost use Rattle.serial_core.specs.Kept.{AreLimits, IsKept, Keeps, StaysKept, IsSame, Grew, Paused, CanEnd, Adds, Waits, is_given, outcome_of, strand_of};
+ghost use Rattle.serial_core.specs.Kept.{AreLimits, IsKept, Keeps, StaysKept, IsSame, Grew, Paused, CanEnd, Adds, Leaves, Waits, is_given, outcome_of, strand_of};
 
 use crate::emit::{emit, empty};
 use crate::limits::Limits;
@@ -113,6 +113,7 @@ impl Task {
             end: None,
         })
     }
+
     /// Does the private work up to the next wish, after which the task is ready. A ready task stays as it is.
     pub fn work(&mut self, program: &First) -> Result<(), AllocError>
         requires { self.old.«end» ≡ None }
@@ -141,7 +142,7 @@ impl Task {
         ensures same { IsSame self.old self.new }
         ensures grew { Grew self.old.thread world.old.1 world.new.1 }
         ensures pause { IfOk result (λ p. (p ≡ Finished) × Paused p self.new) }
-        ensures items { self.new.items ≡ self.old.items }
+        ensures items { (self.new.items ≡ self.old.items) × (self.new.wish ≡ self.old.wish) }
         ensures opening { world.new.0 ≡ world.old.0 }
     {
         empty(self.thread, world, &mut self.buffer)?;
@@ -160,6 +161,7 @@ impl Task {
         ensures grew { Grew self.old.thread world.old.1 world.new.1 }
         ensures pause { IfOk result (λ p. Paused p self.new) }
         ensures adds { IfOk result (λ p. Adds p self.old.wish self.old.items.items self.new.items.items) }
+        ensures leaves { IfOk result (λ p. Leaves p self.old.wish self.new.wish) }
         ensures waits { IfOk result (λ p. Waits p world.new.0 world.new.1 self.new) }
         ensures opening { world.new.0 ≡ world.old.0 }
     {
@@ -189,6 +191,7 @@ impl Task {
             }
         }
     }
+
     /// Acts on the wish: at most one new item, and the commits that go with it. The machine is not resumed.
     pub fn step(&mut self, world: &mut World) -> Result<Pause, AllocError>
         requires kept { (p : First) × IsKept world.old.0 p world.old.1 self.old }
@@ -198,6 +201,7 @@ impl Task {
         ensures grew { Grew self.old.thread world.old.1 world.new.1 }
         ensures pause { IfOk result (λ p. Paused p self.new) }
         ensures adds { IfOk result (λ p. Adds p self.old.wish self.old.items.items self.new.items.items) }
+        ensures leaves { IfOk result (λ p. Leaves p self.old.wish self.new.wish) }
         ensures waits { IfOk result (λ p. Waits p world.new.0 world.new.1 self.new) }
         ensures opening { world.new.0 ≡ world.old.0 }
     {
