@@ -7,3 +7,6 @@ pub mod Legal
 pub mod Strands
 pub mod Ends
 pub mod Sound
+pub mod Operations
+pub mod Orders
+pub mod Consistent

@@ -2,6 +2,7 @@
 #![tactic(auto)]
 
 mod action;
+mod consistent;
 mod copy;
 mod journal;
 mod listing;
@@ -11,6 +12,7 @@ mod scalar;
 
 pub use action::{Action, Actions, Reply};
 pub use block_layout::{Kind, Loc, LocalPtr, ObjectRef, Shape, SharedPtr};
+pub use consistent::orders_are_consistent;
 pub use copy::{copy_action, copy_scalar};
 pub use journal::{Entries, Entry, Journal, Strand, Strands};
 pub use listing::Listing;

@@ -1,0 +1,10 @@
+pub mod Lists
+pub mod Sameness
+pub mod Plain
+pub mod Values
+pub mod Commits
+pub mod Growth
+pub mod Numbering
+pub mod Own
+pub mod Placement
+pub mod Consistency
