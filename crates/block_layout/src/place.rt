@@ -1,5 +1,8 @@
 //! Objects, pointers and locations.
 
+ghost use Rattle.std.specs.Prelude.{◌≡◌, ◌↔◌, IsTrue};
+ghost use Rattle.block_layout.specs.Pointers.{IsNull, is_null};
+
 /// A shared object. Sizes are in bytes; block 0 is indefinite; number 0 is null.
 #[derive(Clone, Copy, PartialEq, Eq, Debug)]
 pub struct ObjectRef {
@@ -20,6 +23,31 @@ pub struct SharedPtr {
     pub thread: u32,
     pub phase: u32,
     pub offset: i64,
+}
+
+impl SharedPtr {
+    /// The null pointer-to-shared.
+    pub const NULL: SharedPtr = SharedPtr {
+        object: ObjectRef {
+            number: 0,
+            total: 0,
+            block: 0,
+            home: 0,
+            shape: 0,
+            base: 0,
+        },
+        thread: 0,
+        phase: 0,
+        offset: 0,
+    };
+
+    /// Whether the pointer is null: all its numbers are 0.
+    pub fn is_null(&self) -> bool
+        ensures value { result ≡ is_null self.now }
+        ensures exact { IsTrue result ↔ IsNull self.now }
+    {
+        *self == SharedPtr::NULL
+    }
 }
 
 /// A pointer-to-local.

@@ -1,0 +1,5 @@
+pub mod Floor
+pub mod Places
+pub mod Pieces
+pub mod Pointers
+pub mod Shapes

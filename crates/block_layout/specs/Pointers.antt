@@ -1,0 +1,48 @@
+-- Which element of an object a pointer-to-shared names (UPC 6.4.2, 6.5.1.1).
+use Rattle.std.specs.Prelude.{ℕ, zero, suc, ◌≡◌, ◌<◌, ◌==◌, ◌&&◌, Bool, ℤ, pos, ◌+ℤ◌, ◌*ℤ◌}
+use Rattle.block_layout.specs.declared.place.ObjectRef.{ObjectRef}
+use Rattle.block_layout.specs.declared.place.SharedPtr.{SharedPtr}
+use Rattle.std.specs.Ordering.{int_eq}
+use Rattle.block_layout.specs.Places.{thread_at, phase_at, offset_at}
+
+-- The null pointer has zeros throughout.
+abbrev pub null : SharedPtr
+null =
+    record {
+      object = record { number = 0; total = 0; block = 0; home = 0; shape = 0; base = 0 };
+      thread = 0;
+      phase = 0;
+      offset = pos 0;
+    }
+
+abbrev pub IsNull : SharedPtr → Type 0
+IsNull p = p ≡ null
+
+-- The tests of these equalities.
+abbrev pub same_object : ObjectRef → ObjectRef → Bool
+same_object a b =
+    a.number == b.number && a.total == b.total && a.block == b.block && a.home == b.home
+    && a.shape == b.shape && a.base == b.base
+
+abbrev pub same_pointer : SharedPtr → SharedPtr → Bool
+same_pointer p q =
+    same_object p.object q.object && p.thread == q.thread && p.phase == q.phase && int_eq p.offset q.offset
+
+abbrev pub is_null : SharedPtr → Bool
+is_null p = same_pointer p null
+
+-- The phase of an element. With block 0, which is indefinite, each phase is 0.
+abbrev pub element_phase : ℤ → ℕ → ℕ
+element_phase e zero = 0
+element_phase e (suc b) = phase_at e (suc b)
+
+-- The byte offset of an element on its thread. With block 0 all elements follow one another there.
+abbrev pub element_offset : ℤ → ℕ → ℕ → ℕ → ℤ
+element_offset e zero size threads = e *ℤ pos size
+element_offset e (suc b) size threads = offset_at e (suc b) size threads
+
+-- A pointer to elements of this block and size stands for element e with shift d: thread and phase are the element's, and the offset is the element's plus d. With block 0 the thread may be any. A pointer made from a declared array has shift 0.
+pub record StandsFor (p : SharedPtr) (e d : ℤ) (block size threads : ℕ) : Type 0 where
+  pub thread : 0 < block → p.thread ≡ thread_at e block threads
+  pub phase : p.phase ≡ element_phase e block
+  pub offset : p.offset ≡ element_offset e block size threads +ℤ d

@@ -1,0 +1,29 @@
+-- Members, casts and equality of pointers-to-shared (UPC 6.4.2, 6.4.3, 6.4.4).
+use Rattle.std.specs.Prelude.{ℕ, ◌==◌, ◌&&◌, Bool, if◌then◌else◌, pos, ◌+ℤ◌, Result, Ok, Err}
+use Rattle.std.specs.Ordering.{int_eq}
+use Rattle.block_layout.specs.declared.place.SharedPtr.{SharedPtr}
+use Rattle.block_layout.specs.declared.place.LocalPtr.{LocalPtr}
+use Rattle.block_layout.specs.declared.place.LocalPtr.TheVariants.{Null, Shared}
+use Rattle.block_layout.specs.declared.run_error.TheConstants.{NULL_ACCESS, NOT_LOCAL, POINTER_RANGE}
+use Rattle.block_layout.specs.Places.{in_range}
+use Rattle.block_layout.specs.Pointers.{is_null, same_object}
+
+-- The pointer to the member at this offset of the struct that p points to.
+abbrev pub member_pointer : SharedPtr → ℕ → SharedPtr
+member_pointer p offset = record p { phase = 0; offset = p.offset +ℤ pos offset }
+
+-- What `&p->m` gives: that pointer, where its offset is in range.
+abbrev pub member_of : SharedPtr → ℕ → Result SharedPtr ℕ
+member_of p offset =
+    if is_null p
+    then Err NULL_ACCESS
+    else if in_range (p.offset +ℤ pos offset) then Ok (member_pointer p offset) else Err POINTER_RANGE
+
+-- What a cast to pointer-to-local gives on thread `me`.
+abbrev pub local_of : SharedPtr → ℕ → Result LocalPtr ℕ
+local_of p me =
+    if is_null p then Ok Null else if p.thread == me then Ok (Shared p.object p.thread p.offset) else Err NOT_LOCAL
+
+-- What `p == q` gives: the same bytes of the same object, whatever the phases.
+abbrev pub same_target : SharedPtr → SharedPtr → Bool
+same_target p q = same_object p.object q.object && p.thread == q.thread && int_eq p.offset q.offset

@@ -1,0 +1,69 @@
+-- Pointer-to-shared arithmetic (UPC 6.4.2), by the elements that pointers stand for.
+use Rattle.std.specs.Prelude.{ℕ, zero, suc, ◌+◌, ◌*◌, ◌≡◌, ◌&&◌, not, if◌then◌else◌, ℤ, pos, ◌+ℤ◌, ◌-ℤ◌, ◌*ℤ◌, Result, Ok, Err}
+use Rattle.block_layout.specs.declared.place.SharedPtr.{SharedPtr}
+use Rattle.std.specs.declared.cmp.Ordering.{Ordering}
+use Rattle.std.specs.Ordering.{int_cmp}
+use Rattle.block_layout.specs.Floor.{floor_div}
+use Rattle.block_layout.specs.declared.run_error.TheConstants.{NULL_ACCESS, POINTER_RANGE, POINTER_PAIR}
+use Rattle.block_layout.specs.Places.{thread_at, phase_at, offset_at, in_range}
+use Rattle.block_layout.specs.Pointers.{StandsFor, is_null, same_pointer}
+
+-- q lies x elements behind p: in p's object, with an indefinite block on p's thread, q stands for the element of p plus x, with p's shift.
+pub record LiesBehind (p q : SharedPtr) (x : ℤ) (block size threads : ℕ) : Type 0 where
+  pub object : q.object ≡ p.object
+  pub thread : block ≡ 0 → q.thread ≡ p.thread
+  pub element : (e d : ℤ) → StandsFor p e d block size threads → StandsFor q (e +ℤ x) d block size threads
+
+-- The element that a pointer stands for, counted from the first element of the row of blocks in which it lies.
+abbrev pub element_in_row : SharedPtr → ℕ → ℕ
+element_in_row p block = p.thread * block + p.phase
+
+-- The bytes that lie on the pointer's thread before the row of blocks in which it lies.
+abbrev pub row_offset : SharedPtr → ℕ → ℤ
+row_offset p size = p.offset -ℤ pos (p.phase * size)
+
+-- The pointer that lies i elements behind p, with a block of at least 1.
+abbrev pub moved_by_blocks : SharedPtr → ℤ → ℕ → ℕ → ℕ → SharedPtr
+moved_by_blocks p i block size threads =
+    let e = pos (element_in_row p block) +ℤ i in
+    record {
+      object = p.object;
+      thread = thread_at e block threads;
+      phase = phase_at e block;
+      offset = offset_at e block size threads +ℤ row_offset p size;
+    }
+
+-- The pointer that lies i elements behind p.
+abbrev pub moved : SharedPtr → ℤ → ℕ → ℕ → ℕ → SharedPtr
+moved p i zero size threads = record p { offset = p.offset +ℤ i *ℤ pos size }
+moved p i (suc b) size threads = moved_by_blocks p i (suc b) size threads
+
+-- What `p + i` gives: the pointer moved, where its offset is in range.
+abbrev pub advanced : SharedPtr → ℤ → ℕ → ℕ → ℕ → Result SharedPtr ℕ
+advanced p i block size threads =
+    let q = moved p i block size threads in
+    if is_null p then Err NULL_ACCESS else if in_range q.offset then Ok q else Err POINTER_RANGE
+
+-- How many elements q would lie behind p, with a block of at least 1: whole rows apart, and places in the row apart.
+abbrev pub apart_by_blocks : SharedPtr → SharedPtr → ℕ → ℕ → ℕ → ℤ
+apart_by_blocks q p block size threads =
+    floor_div (row_offset q size -ℤ row_offset p size) (block * size) *ℤ pos block *ℤ pos threads
+    +ℤ (pos (element_in_row q block) -ℤ pos (element_in_row p block))
+
+-- How many elements q would lie behind p.
+abbrev pub apart : SharedPtr → SharedPtr → ℕ → ℕ → ℕ → ℤ
+apart q p zero size threads = floor_div (q.offset -ℤ p.offset) size
+apart q p (suc b) size threads = apart_by_blocks q p (suc b) size threads
+
+-- What `q - p` gives: the number x for which `p + x` is q, where there is one.
+abbrev pub difference : SharedPtr → SharedPtr → ℕ → ℕ → ℕ → Result ℤ ℕ
+difference q p block size threads =
+    let x = apart q p block size threads in
+    if not (is_null p) && not (is_null q) && same_pointer q (moved p x block size threads)
+    then Ok x
+    else Err POINTER_PAIR
+
+-- What a comparison of pointers gives: their difference against 0.
+abbrev pub order_of : Result ℤ ℕ → Result Ordering ℕ
+order_of (Ok x) = Ok (int_cmp x (pos 0))
+order_of (Err code) = Err code
