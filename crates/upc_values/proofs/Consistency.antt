@@ -14,7 +14,7 @@ use Rattle.upc_values.specs.Operations.{Operation}
 use Rattle.upc_values.specs.Legal.{Opening, reply, IsLegalFrom, EachBelow}
 use Rattle.upc_values.specs.Consistent.{FollowsBuffers, same_place, conflict, KeepsProgram, IsConsistent, AreConsistent}
 use Rattle.upc_values.specs.Lists.{Each}
-use Rattle.upc_values.proofs.Lists.{precedes-has, has-filter, filter-has, each-has, each-front, each-back, each-weaker, has-cases, pairs-weaker, pairs-at, pairs-from, precedes-total, Distinct, precedes-strict, precedes-trans, precedes-filter, filter-precedes, distinct-classes, filter-flat, flat-agree}
+use Rattle.upc_values.proofs.Membership.{precedes-has, has-filter, filter-has, each-has, each-front, each-back, each-weaker, has-cases, pairs-weaker, pairs-at, pairs-from, precedes-total, Distinct, precedes-strict, precedes-trans, precedes-filter, filter-precedes, distinct-classes, filter-flat, flat-agree}
 use Rattle.upc_values.proofs.Numbering.{counted, numbered-placing}
 use Rattle.upc_values.proofs.Growth.{ops, all_ops}
 use Rattle.upc_values.proofs.Own.{Placed, IsOld, Kept, kept-placing, own}

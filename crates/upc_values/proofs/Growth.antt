@@ -19,7 +19,7 @@ use Rattle.upc_values.specs.Drain.{or_else, written, entry_of}
 use Rattle.upc_values.specs.Lists.{Each}
 use Rattle.upc_values.specs.Consistent.{same_place, conflict}
 use Rattle.upc_values.proofs.Sameness.{same_loc-true, same_loc-other}
-use Rattle.upc_values.proofs.Lists.{each-append, each-weaker}
+use Rattle.upc_values.proofs.Membership.{each-append, each-weaker}
 
 -- the operations of commits, end to end
 abbrev pub ops : List Commit → List Operation

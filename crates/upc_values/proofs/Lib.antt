@@ -1,4 +1,4 @@
-pub mod Lists
+pub mod Membership
 pub mod Sameness
 pub mod Plain
 pub mod Values

@@ -12,7 +12,7 @@ use Rattle.upc_values.specs.Orders.{Placing, begun, all_out, pending_value, read
 use Rattle.upc_values.specs.Drain.{entry_of}
 use Rattle.upc_values.specs.Lists.{Each}
 use Rattle.upc_values.specs.Consistent.{conflict}
-use Rattle.upc_values.proofs.Lists.{each-append, each-front, each-back, each-weaker, pairs-insert, has-left, has-right, has-cases}
+use Rattle.upc_values.proofs.Membership.{each-append, each-front, each-back, each-weaker, pairs-insert, has-left, has-right, has-cases}
 use Rattle.upc_values.proofs.Numbering.{number-roomy}
 use Rattle.upc_values.proofs.Growth.{ops, all_ops, Grows, IsPending, ops-all_out, item_ops, grows-moved, pending-moved}
 

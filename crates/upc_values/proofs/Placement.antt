@@ -13,7 +13,7 @@ use Rattle.upc_values.specs.Consistent.{FollowsBuffers, ReadsLast}
 use Rattle.upc_values.proofs.Values.{StandsFor, EachStands, AreAnsweredFrom, global-reads, matches-none, reads-filter}
 use Rattle.upc_values.proofs.Commits.{AllStand, sound-placing}
 use Rattle.upc_values.proofs.Numbering.{counted, numbered-placing}
-use Rattle.upc_values.proofs.Lists.{has-filter}
+use Rattle.upc_values.proofs.Membership.{has-filter}
 use Rattle.upc_values.proofs.Plain.{entries_in, drain-plain, agrees-plain}
 
 counted-none : (e : Entry) (cs : List Commit) → counted e.index cs ≡ 0 → Has (map (λ c. c.entry) cs) e → ⊥
