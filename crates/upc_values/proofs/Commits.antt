@@ -12,7 +12,7 @@ use Rattle.upc_values.specs.declared.journal.Entry.{Entry}
 use Rattle.upc_values.specs.Operations.{Place, Cell, Operation, accesses_of, accesses}
 use Rattle.upc_values.specs.Orders.{Commit, commit_of, Placing, begun, all_out, first_out, roomy, put_in, put_out, pending_value, changed, with_read, read_in, moved, moved_from, placing}
 use Rattle.upc_values.specs.Drain.{or_else, written, is_value, entry_of}
-use Rattle.upc_values.specs.Legal.{value_or}
+use Rattle.upc_values.specs.Scalars.{value_or}
 use Rattle.upc_values.specs.Consistent.{same_place, last_write, initial_at, ReadsLastFrom}
 use Rattle.upc_values.proofs.Sameness.{same_scalar-true}
 use Rattle.upc_values.proofs.Values.{last_write-append, last_write-read, last_write-after_read, reads-append, IsStored, StandsFor, cell-accesses}

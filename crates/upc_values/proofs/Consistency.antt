@@ -1,19 +1,24 @@
 -- The orders of a journal are consistent.
-use Rattle.std.proofs.Common.{◌≡◌, ◌≢◌, ℕ, ◌*◌, ◌+◌, ◌<◌, ◌≤◌, ◌==◌, ◌&&◌, ◌||◌, Bool, true, false, cond, List, [], ◌∷◌, ◌++◌, map, filter, flat_map, Some, refl, sym, ap, ◌∙◌, subst, append-nil, eq-eqb, eqb-true, arith, inl, inr}
+use Rattle.std.proofs.Common.{◌≡◌, ◌≢◌, ℕ, ◌*◌, ◌+◌, ◌<◌, ◌≤◌, ◌==◌, ◌&&◌, ◌||◌, Bool, true, false, cond, List, [], ◌∷◌, ◌++◌, map, filter, flat_map, Option, Some, None, refl, sym, ap, ◌∙◌, subst, append_assoc, append-nil, eq-eqb, eqb-true, arith, inl, inr}
 use Rattle.std.proofs.lemmas.Bool.{cond_both, false≢true, cond-true, cases_order}
 use Rattle.block_layout.specs.declared.place.Loc.{Loc}
 use Rattle.upc_values.specs.declared.scalar.Scalar.{Scalar}
 use Rattle.upc_values.specs.declared.action.Action.{Action}
 use Rattle.upc_values.specs.declared.action.Action.TheVariants.{Read, Write}
 use Rattle.upc_values.specs.declared.action.Reply.{Reply}
-use Rattle.upc_values.specs.Scalars.{zero}
+use Rattle.upc_values.specs.declared.action.Reply.TheVariants.{Value}
+use Rattle.upc_values.specs.Scalars.{zero, value_or}
+use Rattle.upc_values.specs.Drain.{or_else, last_written}
+use Rattle.upc_values.specs.Consistent.{begins}
+use Rattle.upc_values.proofs.Beginnings.{initial-stays}
 use Rattle.upc_values.specs.declared.journal.Entry.{Entry}
 use Rattle.upc_values.specs.declared.journal.Journal.{Journal}
-use Rattle.upc_values.specs.Orders.{record_of, Commit, placing, Has, Precedes, Pairwise, operations_at, placed, global_order, thread_order, is_shown, operations_of, IsOf, rank, name_of, StrictOrder, As_placed, As_written, Through}
+use Rattle.upc_values.specs.Orders.{record_of, Commit, placing, operations_at, placed, global_order, thread_order, is_shown, operations_of, IsOf, rank, name_of, StrictOrder, As_placed, As_written, Through}
 use Rattle.upc_values.specs.Operations.{Operation}
-use Rattle.upc_values.specs.Legal.{Opening, reply, IsLegalFrom, EachBelow}
+use Rattle.upc_values.specs.Openings.{Opening, initial_of}
+use Rattle.upc_values.specs.History.{objects, reply, valued, IsLegalFrom, EachBelow}
 use Rattle.upc_values.specs.Consistent.{FollowsBuffers, same_place, conflict, KeepsProgram, IsConsistent, AreConsistent}
-use Rattle.upc_values.specs.Lists.{Each}
+use Rattle.upc_values.specs.Lists.{Each, Has, Precedes, Pairwise}
 use Rattle.upc_values.proofs.Membership.{precedes-has, has-filter, filter-has, each-has, each-front, each-back, each-weaker, has-cases, pairs-weaker, pairs-at, pairs-from, precedes-total, Distinct, precedes-strict, precedes-trans, precedes-filter, filter-precedes, distinct-classes, filter-flat, flat-agree}
 use Rattle.upc_values.proofs.Numbering.{counted, numbered-placing}
 use Rattle.upc_values.proofs.Growth.{ops, all_ops}
@@ -206,15 +211,28 @@ module _ (j : Journal) (f : FollowsBuffers j) where
       }
 
 -- a lawful reply gives a read its value, and a write Done
-answered : (o : Opening) (before : List Entry) (t : ℕ) (a : Action) (r : Reply) → reply o before t a ≡ Some r → IsAnswered (λ l. zero) before a r
-answered o before t (Read l s) r h = cc
-answered o before t (Write l v s) r h = cc
-answered o before t a r h = tt
+read-answered : (o : Opening) (before rest : List Entry) (l : Loc) (r : Reply) (w i : Option Scalar) → last_written l before ≡ w → initial_of o (objects o before) l ≡ i → valued (or_else w i) ≡ Some r → r ≡ Value (value_or (last_written l before) (begins o (before ++ rest) l))
+read-answered o before rest l r (Some v) i e f h =
+    let k : Value v ≡ r = cc in
+    sym k ∙ ap (λ z. Value (value_or z (begins o (before ++ rest) l))) (sym e)
+read-answered o before rest l r None (Some v) e f h =
+    let k : Value v ≡ r = cc in
+    let m = initial-stays o before rest l v f in
+    sym k ∙ ap (λ z. Value (value_or z zero)) (sym m) ∙ ap (λ z. Value (value_or z (begins o (before ++ rest) l))) (sym e)
+read-answered o before rest l r None None e f h = cc
 
-all-answered : (o : Opening) (before es : List Entry) → IsLegalFrom o before es → AreAnsweredFrom (λ l. zero) before es
-all-answered o before [] h = tt
-all-answered o before (e ∷ es) h =
-    (answered o before e.thread e.action e.reply h.0, all-answered o (before ++ e ∷ []) es h.1)
+answered : (o : Opening) (before rest : List Entry) (t : ℕ) (a : Action) (r : Reply) → reply o before t a ≡ Some r → IsAnswered (begins o (before ++ rest)) before a r
+answered o before rest t (Read l s) r h =
+    read-answered o before rest l r (last_written l before) (initial_of o (objects o before) l) refl refl h
+answered o before rest t (Write l v s) r h = cc
+answered o before rest t a r h = tt
+
+all-answered : (o : Opening) (before es whole : List Entry) → before ++ es ≡ whole → IsLegalFrom o before es → AreAnsweredFrom (begins o whole) before es
+all-answered o before [] whole q h = tt
+all-answered o before (e ∷ es) whole q h = (
+  subst (λ z. IsAnswered (begins o z) before e.action e.reply) q (answered o before (e ∷ es) e.thread e.action e.reply h.0),
+  all-answered o (before ++ e ∷ []) es whole (append_assoc before (e ∷ []) es ∙ q) h.1,
+)
 
 pub all-consistent : AreConsistent
-all-consistent j o f legal = consistent j f (λ l. zero) (all-answered o [] j.history legal)
+all-consistent j o f legal = consistent j f (begins o j.history) (all-answered o [] j.history j.history refl legal)

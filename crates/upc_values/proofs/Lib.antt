@@ -7,4 +7,5 @@ pub mod Growth
 pub mod Numbering
 pub mod Own
 pub mod Placement
+pub mod Beginnings
 pub mod Consistency

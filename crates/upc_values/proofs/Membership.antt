@@ -2,8 +2,7 @@
 use Rattle.std.proofs.Common.{◌≡◌, ◌≢◌, ℕ, Bool, true, false, List, [], ◌∷◌, ◌++◌, filter, flat_map, ◌⊎◌, refl, sym, ap, ◌∙◌, subst, inl, inr}
 use Rattle.std.proofs.lemmas.Bool.{cond_both, cond-true, cond-false, cases_Bool}
 use Rattle.std.proofs.lemmas.List.Elements.{filter-append}
-use Rattle.upc_values.specs.Orders.{Has, Precedes, Pairwise}
-use Rattle.upc_values.specs.Lists.{Each}
+use Rattle.upc_values.specs.Lists.{Each, Has, Precedes, Pairwise}
 
 module _ {X : Type 0} where
   pub has-left : (xs ys : List X) (x : X) → Has xs x → Has (xs ++ ys) x

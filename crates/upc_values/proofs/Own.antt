@@ -8,9 +8,9 @@ use Rattle.upc_values.specs.declared.record.Item.{Item}
 use Rattle.upc_values.specs.declared.record.Item.TheVariants.{Did, Stall}
 use Rattle.upc_values.specs.declared.journal.Entry.{Entry}
 use Rattle.upc_values.specs.Operations.{Access, Nothing, Reads, Writes, Writes_sync, Reads_sync, Writes_and_reads_sync, access, Operation, operations_by, accesses_of}
-use Rattle.upc_values.specs.Orders.{Placing, begun, all_out, pending_value, read_in, moved, moved_from, placing, Has, Pairwise, operations_from, rank}
+use Rattle.upc_values.specs.Orders.{Placing, begun, all_out, pending_value, read_in, moved, moved_from, placing, operations_from, rank}
 use Rattle.upc_values.specs.Drain.{entry_of}
-use Rattle.upc_values.specs.Lists.{Each}
+use Rattle.upc_values.specs.Lists.{Each, Has, Pairwise}
 use Rattle.upc_values.specs.Consistent.{conflict}
 use Rattle.upc_values.proofs.Membership.{each-append, each-front, each-back, each-weaker, pairs-insert, has-left, has-right, has-cases}
 use Rattle.upc_values.proofs.Numbering.{number-roomy}

@@ -5,16 +5,17 @@ use Rattle.block_layout.specs.declared.place.Loc.{Loc}
 use Rattle.upc_values.specs.declared.scalar.Scalar.{Scalar}
 use Rattle.upc_values.specs.declared.journal.Entry.{Entry}
 use Rattle.upc_values.specs.declared.journal.Journal.{Journal}
-use Rattle.upc_values.specs.Orders.{no_strand, record_of, Commit, placing, Has, operations_at, placed, global_order, is_shown, thread_order}
+use Rattle.upc_values.specs.Orders.{no_strand, record_of, Commit, placing, operations_at, placed, global_order, is_shown, thread_order}
 use Rattle.upc_values.specs.Operations.{Operation}
 use Rattle.upc_values.specs.Drain.{entries_of}
-use Rattle.upc_values.specs.Legal.{EachBelow}
+use Rattle.upc_values.specs.History.{EachBelow}
 use Rattle.upc_values.specs.Consistent.{FollowsBuffers, ReadsLast}
 use Rattle.upc_values.proofs.Values.{StandsFor, EachStands, AreAnsweredFrom, global-reads, matches-none, reads-filter}
 use Rattle.upc_values.proofs.Commits.{AllStand, sound-placing}
 use Rattle.upc_values.proofs.Numbering.{counted, numbered-placing}
 use Rattle.upc_values.proofs.Membership.{has-filter}
 use Rattle.upc_values.proofs.Plain.{entries_in, drain-plain, agrees-plain}
+use Rattle.upc_values.specs.Lists.{Has}
 
 counted-none : (e : Entry) (cs : List Commit) → counted e.index cs ≡ 0 → Has (map (λ c. c.entry) cs) e → ⊥
 counted-none e [] h m = m

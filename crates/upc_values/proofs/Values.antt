@@ -11,7 +11,7 @@ use Rattle.upc_values.specs.declared.journal.Entry.{Entry}
 use Rattle.upc_values.specs.Operations.{Access, Nothing, Reads, Writes, Writes_sync, Reads_sync, Writes_and_reads_sync, access, Place, Cell, Sync, Operation, write_at, operations_by, accesses_of, accesses}
 use Rattle.upc_values.specs.Scalars.{zero}
 use Rattle.upc_values.specs.Drain.{or_else, written, last_written}
-use Rattle.upc_values.specs.Legal.{value_or}
+use Rattle.upc_values.specs.Scalars.{value_or}
 use Rattle.upc_values.specs.Consistent.{same_place, last_write, initial_at, ReadsLastFrom}
 
 pub or_else-none : (o : Option Scalar) → or_else o None ≡ o

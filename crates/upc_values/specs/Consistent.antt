@@ -2,13 +2,15 @@
 use Rattle.std.specs.Prelude.{ℕ, ◌≡◌, ◌≢◌, ◌<◌, Bool, true, false, ◌&&◌, ◌||◌, cond, List, [], ◌∷◌, ◌++◌, length, ◌⊎◌, Option, Some, None}
 use Rattle.block_layout.specs.declared.place.Loc.{Loc}
 use Rattle.upc_values.specs.declared.scalar.Scalar.{Scalar}
+use Rattle.upc_values.specs.declared.journal.Entry.{Entry}
 use Rattle.upc_values.specs.declared.journal.Journal.{Journal}
-use Rattle.upc_values.specs.Scalars.{same_loc, zero}
-use Rattle.upc_values.specs.Lists.{Numbered}
+use Rattle.upc_values.specs.Scalars.{same_loc, zero, value_or}
+use Rattle.upc_values.specs.Lists.{Numbered, Has, Pairwise}
 use Rattle.upc_values.specs.Drain.{walked, drain, entries_of, or_else}
-use Rattle.upc_values.specs.Legal.{Opening, value_or, IsLegal, EachBelow}
+use Rattle.upc_values.specs.Openings.{Opening, initial_of}
+use Rattle.upc_values.specs.History.{objects, IsLegal, EachBelow}
 use Rattle.upc_values.specs.Operations.{Place, Cell, Sync, Operation}
-use Rattle.upc_values.specs.Orders.{Has, Pairwise, IsOf, StrictOrder, thread_order, is_shown, name_of, rank}
+use Rattle.upc_values.specs.Orders.{IsOf, StrictOrder, thread_order, is_shown, name_of, rank}
 
 abbrev pub same_place : Place → Place → Bool
 same_place (Cell l) (Cell k) = same_loc l k
@@ -76,8 +78,12 @@ pub record FollowsBuffers (j : Journal) : Type 0 where
   pub agrees : Numbered (λ t s. (walked t s.items).agrees ≡ true) j.strands
   pub drains : Numbered (λ t s. entries_of t j.history ≡ drain t s.items) j.strands
 
+-- what a location begins with, in a run with this opening and history
+abbrev pub begins : Opening → List Entry → Loc → Scalar
+begins o history l = value_or (initial_of o (objects o history) l) zero
+
 -- the orders of a journal whose history takes the buffers' entries and is legal from the opening are consistent
 abbrev pub AreConsistent : Type 0
 AreConsistent =
     (j : Journal) (o : Opening) → FollowsBuffers j → IsLegal o j.history
-    → IsConsistent (λ l. zero) j.threads (IsOf j) (StrictOrder j) (thread_order j)
+    → IsConsistent (begins o j.history) j.threads (IsOf j) (StrictOrder j) (thread_order j)

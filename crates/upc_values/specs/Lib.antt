@@ -10,3 +10,9 @@ pub mod Sound
 pub mod Operations
 pub mod Orders
 pub mod Consistent
+pub mod Integers
+pub mod Shapes
+pub mod Calls
+pub mod Openings
+pub mod History
+pub mod Formed

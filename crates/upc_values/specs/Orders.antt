@@ -1,6 +1,6 @@
 -- The orders of a journal's operations: each entry of the history stands for its own operations and for the reads that
 -- its pending write has answered.
-use Rattle.std.specs.Prelude.{ℕ, ◌≡◌, ◌+◌, ◌*◌, ◌<◌, ◌==◌, nat_lt, Bool, true, false, ◌&&◌, ◌||◌, cond, List, [], ◌∷◌, ◌++◌, length, filter, ◌⊎◌, Option, Some, None, is_some, slice_index_or}
+use Rattle.std.specs.Prelude.{ℕ, ◌≡◌, ◌+◌, ◌*◌, ◌<◌, ◌==◌, nat_lt, Bool, true, false, ◌&&◌, ◌||◌, cond, List, [], ◌∷◌, ◌++◌, length, filter, Option, Some, None, is_some, slice_index_or}
 use Rattle.std.specs.List.{flat_map}
 use Rattle.block_layout.specs.declared.place.Loc.{Loc}
 use Rattle.upc_values.specs.declared.scalar.Scalar.{Scalar}
@@ -13,24 +13,9 @@ use Rattle.upc_values.specs.declared.journal.Entry.{Entry}
 use Rattle.upc_values.specs.declared.journal.Strand.{Strand}
 use Rattle.upc_values.specs.declared.journal.Journal.{Journal}
 use Rattle.upc_values.specs.declared.order.Op.{Op}
-use Rattle.upc_values.specs.Lists.{Each}
+use Rattle.upc_values.specs.Lists.{Has, Precedes}
 use Rattle.upc_values.specs.Drain.{entry_of, written, or_else, is_value}
 use Rattle.upc_values.specs.Operations.{Operation, accesses}
-
--- the list has the element
-abbrev pub Has : {X : Type 0} → List X → X → Type 0
-Has [] x = ⊥
-Has (y ∷ ys) x = (y ≡ x) ⊎ Has ys x
-
--- a stands before b in the list
-abbrev pub Precedes : {X : Type 0} → List X → X → X → Type 0
-Precedes [] a b = ⊥
-Precedes (x ∷ xs) a b = ((x ≡ a) × Has xs b) ⊎ Precedes xs a b
-
--- each element is so related to each that stands after it
-abbrev pub Pairwise : {X : Type 0} → (X → X → Type 0) → List X → Type 0
-Pairwise R [] = Unit {0}
-Pairwise R (x ∷ xs) = Each (R x) xs × Pairwise R xs
 
 -- an entry, with the operations that stand in its place: its own, then those of the reads whose source it is
 pub record Commit : Type 0 where

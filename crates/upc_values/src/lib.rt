@@ -4,6 +4,7 @@
 mod action;
 mod consistent;
 mod copy;
+mod integer;
 mod journal;
 mod listing;
 mod order;
@@ -14,6 +15,7 @@ pub use action::{Action, Actions, Reply};
 pub use block_layout::{Kind, Loc, LocalPtr, ObjectRef, Shape, SharedPtr};
 pub use consistent::orders_are_consistent;
 pub use copy::{copy_action, copy_scalar};
+pub use integer::{BinOp, UnOp};
 pub use journal::{Entries, Entry, Journal, Strand, Strands};
 pub use listing::Listing;
 pub use order::{Op, Order, OrderList, Orders};
