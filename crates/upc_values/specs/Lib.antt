@@ -16,3 +16,9 @@ pub mod Calls
 pub mod Openings
 pub mod History
 pub mod Formed
+pub mod Expansion
+pub mod Views
+pub mod Copying
+pub mod Reductions
+pub mod Expansions
+pub mod Collective
