@@ -9,3 +9,5 @@ pub mod Own
 pub mod Placement
 pub mod Beginnings
 pub mod Consistency
+mod Rows
+mod CallRows
