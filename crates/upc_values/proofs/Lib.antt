@@ -1,6 +1,6 @@
 pub mod Membership
 pub mod Sameness
-pub mod Plain
+pub mod Drained
 pub mod Values
 pub mod Commits
 pub mod Growth
@@ -9,5 +9,5 @@ pub mod Own
 pub mod Placement
 pub mod Beginnings
 pub mod Consistency
-mod Rows
+mod OrderRows
 mod CallRows

@@ -14,7 +14,7 @@ use Rattle.upc_values.proofs.Values.{StandsFor, EachStands, AreAnsweredFrom, glo
 use Rattle.upc_values.proofs.Commits.{AllStand, sound-placing}
 use Rattle.upc_values.proofs.Numbering.{counted, numbered-placing}
 use Rattle.upc_values.proofs.Membership.{has-filter}
-use Rattle.upc_values.proofs.Plain.{entries_in, drain-plain, agrees-plain}
+use Rattle.upc_values.proofs.Drained.{entries_in, drain-plain, agrees-plain}
 use Rattle.upc_values.specs.Lists.{Has}
 
 counted-none : (e : Entry) (cs : List Commit) → counted e.index cs ≡ 0 → Has (map (λ c. c.entry) cs) e → ⊥

@@ -8,7 +8,11 @@ mod integer;
 mod journal;
 mod listing;
 mod order;
+#[cfg(test)]
+mod plain;
 mod record;
+#[cfg(test)]
+mod rows;
 mod scalar;
 
 pub use action::{Action, Actions, Reply};
