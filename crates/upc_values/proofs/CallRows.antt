@@ -1,5 +1,5 @@
 -- Worked rows on locks, allocations, collective calls and copies, computed by the definitions themselves.
-use Rattle.std.specs.Prelude.{ℕ, ◌≡◌, pos, negsuc, true, false, List, [], ◌∷◌, ◌++◌, Option, Some, None}
+use Rattle.std.specs.Prelude.{ℕ, ◌≡◌, pos, negsuc, true, false, List, [], ◌∷◌, ◌++◌, map, Option, Some, None}
 use Rattle.std.proofs.Common.{refl}
 use Rattle.block_layout.specs.declared.place.Loc.{Loc}
 use Rattle.block_layout.specs.declared.place.ObjectRef.{ObjectRef}
@@ -21,7 +21,10 @@ use Rattle.upc_values.specs.Openings.{Opening}
 use Rattle.upc_values.specs.History.{reply}
 use Rattle.upc_values.specs.Expansion.{Expansion, Gives, Fails, Reads, Asks, Loads, Stores, value_in}
 use Rattle.upc_values.specs.Copying.{copy, set, shared_area, local_area}
-use Rattle.upc_values.specs.Expansions.{collective}
+use Rattle.upc_values.specs.Expansions.{Part, parts, collective}
+use Rattle.upc_values.specs.Calls.{Gather, Gather_all, Exchange}
+use Rattle.upc_values.specs.Views.{location, byte_at, destination}
+use Rattle.upc_values.specs.Collective.{source_byte}
 
 -- two threads, no declared objects, elements of type int
 abbrev opening : Opening
@@ -235,3 +238,51 @@ memset-one = refl
 -- upc_memput from a private object that has ended
 memput-ended : trace (copy 4 ints None (shared_area d) (local_area (Private 3 (pos 0))) 4) [] ≡ ([], 6)
 memput-ended = refl
+
+-- the exchange of two threads' blocks of two ints: what goes where, by the call's parts and by its bytes
+abbrev b : SharedPtr
+b = start_of (record { number = 1; total = 16; block = 8; home = 0; shape = 0; base = 0 })
+
+abbrev c : SharedPtr
+c = start_of (record { number = 2; total = 16; block = 8; home = 0; shape = 0; base = 16 })
+
+abbrev spots : List Part → List (Loc × Loc)
+spots xs = map (λ x. (location x.into, location x.from)) xs
+
+exchange-parts : spots (parts 2 ints 1 Exchange c b 4) ≡ (loc 2 1 0, loc 1 0 4) ∷ (loc 2 1 4, loc 1 1 4) ∷ []
+exchange-parts = refl
+
+exchange-bytes : map (λ x. source_byte Exchange 2 4 x) (0 ∷ 3 ∷ 4 ∷ 8 ∷ 12 ∷ []) ≡ 0 ∷ 3 ∷ 8 ∷ 4 ∷ 12 ∷ []
+exchange-bytes = refl
+
+exchange-begins : location (byte_at c (destination Exchange 2 4).block 2 8) ≡ loc 2 1 0
+exchange-begins = refl
+
+gather-all-parts : spots (parts 2 ints 1 Gather_all c b 4) ≡ (loc 2 1 0, loc 1 0 0) ∷ (loc 2 1 4, loc 1 1 0) ∷ []
+gather-all-parts = refl
+
+gather-parts : spots (parts 2 ints 0 Gather c b 4) ≡ (loc 2 0 0, loc 1 0 0) ∷ (loc 2 0 4, loc 1 1 0) ∷ []
+gather-parts = refl
+
+-- permute: element i of the permutation is the thread that gets block i
+abbrev q : SharedPtr
+q = start_of (record { number = 3; total = 8; block = 4; home = 0; shape = 0; base = 32 })
+
+abbrev swap : List Scalar
+swap = Shared c ∷ Shared b ∷ Shared q ∷ int 4 ∷ int 9 ∷ []
+
+permute-row : trace (collective 2 ints 0 10 swap) (Done ∷ Value (int 1) ∷ Value (int 0) ∷ Value (int 7) ∷ Done ∷ []) ≡ (act.Meet 10 swap ∷ act.Read (loc 3 0 0) false ∷ act.Read (loc 3 1 0) false ∷ act.Read (loc 1 1 0) false ∷ act.Write (loc 2 0 0) (int 7) false ∷ [], 0)
+permute-row = refl
+
+permute-twice : trace (collective 2 ints 0 10 swap) (Done ∷ Value (int 1) ∷ Value (int 1) ∷ []) ≡ (act.Meet 10 swap ∷ act.Read (loc 3 0 0) false ∷ act.Read (loc 3 1 0) false ∷ [], 22)
+permute-twice = refl
+
+-- with no bytes a permute still reads its permutation, and a scatter does nothing more than meet
+abbrev none : List Scalar
+none = Shared c ∷ Shared b ∷ Shared q ∷ int 0 ∷ int 9 ∷ []
+
+permute-none : trace (collective 2 ints 0 10 none) (Done ∷ Value (int 1) ∷ Value (int 0) ∷ []) ≡ (act.Meet 10 none ∷ act.Read (loc 3 0 0) false ∷ act.Read (loc 3 1 0) false ∷ [], 0)
+permute-none = refl
+
+prefix-row : trace (collective 2 ints 0 12 (Shared c ∷ Shared b ∷ int 2 ∷ int 3 ∷ int 2 ∷ int 4 ∷ int 9 ∷ [])) (Done ∷ Value (int 2) ∷ Done ∷ Value (int 3) ∷ Done ∷ Value (int 4) ∷ Done ∷ []) ≡ (act.Meet 12 (Shared c ∷ Shared b ∷ int 2 ∷ int 3 ∷ int 2 ∷ int 4 ∷ int 9 ∷ []) ∷ act.Read (loc 1 0 0) false ∷ act.Write (loc 2 0 0) (int 2) false ∷ act.Read (loc 1 0 4) false ∷ act.Write (loc 2 0 4) (int 6) false ∷ act.Read (loc 1 1 0) false ∷ act.Write (loc 2 1 0) (int 24) false ∷ [], 0)
+prefix-row = refl

@@ -11,3 +11,4 @@ pub mod Beginnings
 pub mod Consistency
 mod OrderRows
 mod CallRows
+mod NumberRows

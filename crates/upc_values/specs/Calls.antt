@@ -1,10 +1,19 @@
 -- What a collective call asks for, by its number and arguments.
-use Rattle.std.specs.Prelude.{ℕ, ◌==◌, nat_lt, ℤ, unsigned_abs, Bool, ◌&&◌, cond, List, [], ◌∷◌}
+use Rattle.std.specs.Prelude.{ℕ, ◌==◌, nat_lt, ℤ, unsigned_abs, Bool, ◌&&◌, cond, List, [], ◌∷◌, Option, Some, None}
 use Rattle.block_layout.specs.declared.place.SharedPtr.{SharedPtr}
 use Rattle.block_layout.specs.declared.kind.Kind.TheVariants as kind
 use Rattle.upc_values.specs.declared.scalar.Scalar.{Scalar}
 use Rattle.upc_values.specs.declared.scalar.Scalar.TheVariants.{Int, Shared, Lock}
+use Rattle.upc_values.specs.Lists.{under}
 use Rattle.upc_values.specs.Integers.{in_kind}
+
+-- how blocks are copied (UPC 7.3)
+pub data Way : Type 0 where
+  Broadcast : Way
+  Scatter : Way
+  Gather : Way
+  Gather_all : Way
+  Exchange : Way
 
 pub data Call : Type 0 where
   -- 1: upc_all_alloc (UPC 7.2.2)
@@ -15,13 +24,13 @@ pub data Call : Type 0 where
   Frees : (p : SharedPtr) → Call
   -- 4: upc_all_lock_free (UPC 7.2.4)
   Frees_lock : (l : ℕ) → Call
-  -- 5 to 9: broadcast, scatter, gather, gather_all, exchange (UPC 7.3)
-  Copies : (call : ℕ) (dst src : SharedPtr) (n : ℕ) (flags : ℤ) → Call
-  -- 10: permute (UPC 7.3)
+  -- 5 to 9: upc_all_broadcast, scatter, gather, gather_all, exchange (UPC 7.3)
+  Copies : (way : Way) (dst src : SharedPtr) (n : ℕ) (flags : ℤ) → Call
+  -- 10: upc_all_permute (UPC 7.3)
   Permutes : (dst src perm : SharedPtr) (n : ℕ) (flags : ℤ) → Call
-  -- 11: reduce (UPC 7.3)
+  -- 11: upc_all_reduce (UPC 7.3)
   Reduces : (dst src : SharedPtr) (op : ℤ) (nelems blk kind : ℕ) (flags : ℤ) → Call
-  -- 12: prefix_reduce (UPC 7.3)
+  -- 12: upc_all_prefix_reduce (UPC 7.3)
   Reduces_prefixes : (dst src : SharedPtr) (op : ℤ) (nelems blk kind : ℕ) (flags : ℤ) → Call
   -- no call of these
   Other : Call
@@ -33,6 +42,14 @@ is_size v = in_kind kind.ULong v
 abbrev pub is_int : ℤ → Bool
 is_int v = in_kind kind.Int v
 
+abbrev pub way_of : ℕ → Option Way
+way_of c = under c ((5, Broadcast) ∷ (6, Scatter) ∷ (7, Gather) ∷ (8, Gather_all) ∷ (9, Exchange) ∷ [])
+
+abbrev pub copies : Option Way → SharedPtr → SharedPtr → ℕ → ℤ → Call
+copies (Some w) dst src n f = Copies w dst src n f
+copies None dst src n f = Other
+
+-- the call with this number and these arguments, whose numbers are in their types' ranges
 abbrev pub call_of : ℕ → List Scalar → Call
 call_of c (Int n ∷ Int b ∷ Int s ∷ []) =
     cond ((c == 1) && (is_size n && (is_size b && is_size s)))
@@ -41,7 +58,7 @@ call_of c [] = cond (c == 2) Makes_lock Other
 call_of c (Shared p ∷ []) = cond (c == 3) (Frees p) Other
 call_of c (Lock l ∷ []) = cond (c == 4) (Frees_lock l) Other
 call_of c (Shared dst ∷ Shared src ∷ Int n ∷ Int f ∷ []) =
-    cond ((nat_lt 4 c && nat_lt c 10) && (is_size n && is_int f)) (Copies c dst src (unsigned_abs n) f) Other
+    cond (is_size n && is_int f) (copies (way_of c) dst src (unsigned_abs n) f) Other
 call_of c (Shared dst ∷ Shared src ∷ Shared perm ∷ Int n ∷ Int f ∷ []) =
     cond ((c == 10) && (is_size n && is_int f)) (Permutes dst src perm (unsigned_abs n) f) Other
 call_of c (Shared dst ∷ Shared src ∷ Int op ∷ Int n ∷ Int b ∷ Int k ∷ Int f ∷ []) =

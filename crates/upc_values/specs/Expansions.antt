@@ -1,5 +1,5 @@
 -- The collective calls 5 to 12 as what each thread does (UPC 7.3): tests, one Meet, a barrier, the work, a barrier.
-use Rattle.std.specs.Prelude.{ℕ, ◌+◌, ◌*◌, ◌/◌, ◌%◌, ◌==◌, nat_lt, ℤ, pos, int_le, int_lt, unsigned_abs, Bool, false, not, ◌&&◌, ◌||◌, cond, List, [], ◌∷◌, ◌++◌, map, Option, Some, None, is_none, Result, Ok, Err}
+use Rattle.std.specs.Prelude.{ℕ, ◌+◌, ◌*◌, ◌/◌, ◌%◌, ◌==◌, nat_lt, ℤ, pos, int_le, int_lt, unsigned_abs, Bool, true, false, not, ◌&&◌, ◌||◌, cond, List, [], ◌∷◌, ◌++◌, map, Option, Some, None, is_none, Result, Ok, Err}
 use Rattle.std.specs.List.{list_any, range_with_len, position_or_len}
 use Rattle.std.specs.Ordering.{int_eq}
 use Rattle.block_layout.specs.declared.place.SharedPtr.{SharedPtr}
@@ -12,11 +12,11 @@ use Rattle.block_layout.specs.Shapes.{kind_size}
 use Rattle.upc_values.specs.declared.scalar.Scalar.{Scalar}
 use Rattle.upc_values.specs.declared.scalar.Scalar.TheVariants.{Int}
 use Rattle.upc_values.specs.declared.action.Action.TheVariants as act
-use Rattle.upc_values.specs.Calls.{Call, Copies, Permutes, Reduces, Reduces_prefixes, call_of}
+use Rattle.upc_values.specs.Calls.{Way, Broadcast, Scatter, Gather, Gather_all, Exchange, Call, Copies, Permutes, Reduces, Reduces_prefixes, call_of}
 use Rattle.upc_values.specs.History.{each_thread}
 use Rattle.upc_values.specs.Reductions.{Reduction, reduction, step, element_kind}
 use Rattle.upc_values.specs.Expansion.{Expansion, Gives, Fails, Reads, nothing, bind, does, barrier, each_in_turn, gathered, refused_by}
-use Rattle.upc_values.specs.Views.{from_phase_0, with_block, element, location, location_behind, leaves_range, leaves_piece, cuts_cell, cells_within, same_cells, shape_at, is_cell}
+use Rattle.upc_values.specs.Views.{destination, source, byte_at, from_phase_0, with_block, element, location, location_behind, leaves_range, leaves_piece, cuts_cell, cells_within, same_cells, shape_at, is_cell}
 
 -- flags: at most one of NOSYNC 1, MYSYNC 2 and ALLSYNC 4, and so of those of the exit, which are 8 times as much
 abbrev pub is_sync : ℕ → Bool
@@ -36,16 +36,23 @@ exit f = cond (unsigned_abs f / 8 == 1) nothing barrier
 abbrev pub is_large : ℕ → Bool
 is_large n = nat_lt 16777216 n
 
-abbrev pub is_elsewhere : SharedPtr → Bool
-is_elsewhere p = not (p.thread == 0)
+-- the destination begins on thread 0, but for a gather; the source does, but for a broadcast and a scatter
+abbrev pub is_destination : Way → SharedPtr → Bool
+is_destination Gather p = true
+is_destination w p = p.thread == 0
 
--- the arguments of calls 5 to 10: the destination is on thread 0 but for a gather, the source is but for a broadcast and
--- a scatter
-abbrev pub are_copy_args : ℕ → SharedPtr → SharedPtr → ℕ → ℤ → Bool
-are_copy_args c dst src n f =
-    are_flags f
-    && (not (is_large n)
-    && ((not (is_elsewhere dst) || (c == 7)) && (not (is_elsewhere src) || ((c == 5) || (c == 6)))))
+abbrev pub is_source : Way → SharedPtr → Bool
+is_source Broadcast p = true
+is_source Scatter p = true
+is_source w p = p.thread == 0
+
+abbrev pub are_copy_args : Way → SharedPtr → SharedPtr → ℕ → ℤ → Bool
+are_copy_args w dst src n f = are_flags f && (not (is_large n) && (is_destination w dst && is_source w src))
+
+-- those of a permute, and its permutation, do
+abbrev pub are_permute_args : SharedPtr → SharedPtr → SharedPtr → ℕ → ℤ → Bool
+are_permute_args dst src perm n f =
+    are_flags f && (not (is_large n) && ((dst.thread == 0) && ((src.thread == 0) && (perm.thread == 0))))
 
 -- the arguments of calls 11 and 12: with a block, the phase is below it
 abbrev pub is_phase : SharedPtr → ℕ → Bool
@@ -61,7 +68,7 @@ are_reduction_args src op n blk f =
 abbrev pub is_aligned : SharedPtr → SharedPtr → ℕ → Bool
 is_aligned dst src blk = (dst.thread == src.thread) && ((blk == 0) || (dst.phase == src.phase))
 
--- where a part of n bytes is copied from, and where to
+-- where a part of n bytes is copied to, and where from
 pub record Part : Type 0 where
   pub into : SharedPtr
   pub from : SharedPtr
@@ -74,27 +81,31 @@ module _ (threads : ℕ) (shapes : List Shape) (me : ℕ) where
   abbrev pub all_threads : List ℕ
   all_threads = range_with_len 0 threads
 
-  -- byte x of a view with this block
-  abbrev pub at : SharedPtr → ℕ → ℕ → SharedPtr
-  at p block x = element (from_phase_0 p) block 1 threads x
+  -- byte x of the destination, and of the source, of a copying call
+  abbrev pub into : Way → SharedPtr → ℕ → ℕ → SharedPtr
+  into w dst n x = byte_at dst (destination w threads n).block threads x
 
-  -- the parts of n bytes that the thread copies, by call
-  abbrev pub parts : ℕ → SharedPtr → SharedPtr → ℕ → List Part
-  parts c dst src n =
-      -- broadcast: the source to its block
-      cond (c == 5) (part (at dst n (me * n)) (at src 0 0) ∷ [])
-      -- scatter: its part of the source to its block
-      (cond (c == 6) (part (at dst n (me * n)) (at src 0 (me * n)) ∷ [])
-      -- gather: the thread of the destination copies each block to its part
-      (cond (c == 7)
-      (cond (dst.thread == me) (map (λ i. part (at dst 0 (i * n)) (at src n (i * n))) all_threads) [])
-      -- gather_all: each block to its part of the thread's block
-      (cond (c == 8)
-      (map (λ i. part (at dst (n * threads) (me * (n * threads) + i * n)) (at src n (i * n))) all_threads)
-      -- exchange: the thread's part of each block to that block's part of the thread's
-      (map
-      (λ j. part (at dst (n * threads) (me * (n * threads) + j * n)) (at src (n * threads) (j * (n * threads) + me * n)))
-      all_threads))))
+  abbrev pub from : Way → SharedPtr → ℕ → ℕ → SharedPtr
+  from w src n x = byte_at src (source w threads n).block threads x
+
+  -- n bytes from this byte of the source go to this byte of the destination
+  abbrev pub goes : Way → SharedPtr → SharedPtr → ℕ → ℕ → ℕ → Part
+  goes w dst src n y x = part (into w dst n x) (from w src n y)
+
+  -- the parts of n bytes that the thread copies
+  abbrev pub parts : Way → SharedPtr → SharedPtr → ℕ → List Part
+  -- the source to the thread's block
+  parts Broadcast dst src n = goes Broadcast dst src n 0 (me * n) ∷ []
+  -- the thread's part of the source to its block
+  parts Scatter dst src n = goes Scatter dst src n (me * n) (me * n) ∷ []
+  -- each block to its part, by the thread of the destination
+  parts Gather dst src n = cond (dst.thread == me) (map (λ i. goes Gather dst src n (i * n) (i * n)) all_threads) []
+  -- each block to its part of the thread's block
+  parts Gather_all dst src n =
+      map (λ i. goes Gather_all dst src n (i * n) (me * (n * threads) + i * n)) all_threads
+  -- the thread's part of each block to that block's part of the thread's
+  parts Exchange dst src n =
+      map (λ j. goes Exchange dst src n (j * (n * threads) + me * n) (me * (n * threads) + j * n)) all_threads
 
   -- n bytes at a pointer
   abbrev pub outside : ℕ → SharedPtr → Bool
@@ -160,12 +171,13 @@ module _ (threads : ℕ) (shapes : List Shape) (me : ℕ) where
   is_at t vs = list_any (λ v. int_eq v (pos t)) vs
 
   abbrev pub chosen : SharedPtr → SharedPtr → ℕ → List ℤ → Part
-  chosen dst src n vs = part (at dst n (me * n)) (at src n (position_or_len (λ v. int_eq v (pos me)) vs * n))
+  chosen dst src n vs =
+      part (byte_at dst n threads (me * n)) (byte_at src n threads (position_or_len (λ v. int_eq v (pos me)) vs * n))
 
   abbrev pub permute : SharedPtr → SharedPtr → SharedPtr → ℕ → Expansion (Unit {0})
   permute dst src perm n =
       let ps = permutation perm in
-      let own = at dst n (me * n) in
+      let own = byte_at dst n threads (me * n) in
       let some = not (n == 0) in
       refused_by
       ((list_any (leaves_range 1) ps || (some && leaves_range n own), POINTER_RANGE)
@@ -214,7 +226,7 @@ module _ (threads : ℕ) (shapes : List Shape) (me : ℕ) where
 
   -- the work of a call on this thread
   abbrev pub work : Call → Expansion (Unit {0})
-  work (Copies c dst src n f) = some_bytes n (move n (parts c dst src n))
+  work (Copies w dst src n f) = some_bytes n (move n (parts w dst src n))
   work (Permutes dst src perm n f) = permute dst src perm n
   work (Reduces dst src op n blk k f) =
       cond (dst.thread == me)
@@ -230,11 +242,11 @@ module _ (threads : ℕ) (shapes : List Shape) (me : ℕ) where
 
   -- the tests of a call's arguments, in order, and its flags
   abbrev pub tests : Call → List (Bool × ℕ)
-  tests (Copies c dst src n f) =
-      (is_null dst || is_null src, NULL_ACCESS) ∷ (not (are_copy_args c dst src n f), LIBRARY_ARGS) ∷ []
+  tests (Copies w dst src n f) =
+      (is_null dst || is_null src, NULL_ACCESS) ∷ (not (are_copy_args w dst src n f), LIBRARY_ARGS) ∷ []
   tests (Permutes dst src perm n f) =
       (is_null dst || (is_null src || is_null perm), NULL_ACCESS)
-      ∷ (not (are_copy_args 10 dst src n f) || is_elsewhere perm, LIBRARY_ARGS) ∷ []
+      ∷ (not (are_permute_args dst src perm n f), LIBRARY_ARGS) ∷ []
   tests (Reduces dst src op n blk k f) =
       (is_null dst || is_null src, NULL_ACCESS) ∷ (not (are_reduction_args src op n blk f), LIBRARY_ARGS) ∷ []
   tests (Reduces_prefixes dst src op n blk k f) =
@@ -243,7 +255,7 @@ module _ (threads : ℕ) (shapes : List Shape) (me : ℕ) where
   tests call = []
 
   abbrev pub flags_of : Call → ℤ
-  flags_of (Copies c dst src n f) = f
+  flags_of (Copies w dst src n f) = f
   flags_of (Permutes dst src perm n f) = f
   flags_of (Reduces dst src op n blk k f) = f
   flags_of (Reduces_prefixes dst src op n blk k f) = f

@@ -51,7 +51,7 @@ may_call o es (Allocates n b s) = is_some (slice_get o.shapes s) && ((n * b == 0
 may_call o es Makes_lock = true
 may_call o es (Frees p) = knows o es p
 may_call o es (Frees_lock l) = nat_le l (locks es)
-may_call o es (Copies c dst src n f) = knows o es dst && knows o es src
+may_call o es (Copies w dst src n f) = knows o es dst && knows o es src
 may_call o es (Permutes dst src perm n f) = knows o es dst && (knows o es src && knows o es perm)
 may_call o es (Reduces dst src op n b k f) = knows o es dst && knows o es src
 may_call o es (Reduces_prefixes dst src op n b k f) = knows o es dst && knows o es src

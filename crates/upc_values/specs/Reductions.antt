@@ -1,10 +1,11 @@
 -- The operators of reductions (UPC 7.3): their numbers, and the values that they build from left to right.
-use Rattle.std.specs.Prelude.{ℕ, ℤ, pos, not, ◌&&◌, ◌||◌, cond, List, [], ◌∷◌, Option, Some, None, Result, Ok, Err, slice_index_or}
+use Rattle.std.specs.Prelude.{ℕ, ℤ, pos, int_lt, unsigned_abs, not, ◌&&◌, ◌||◌, cond, List, [], ◌∷◌, Option, None, Result, Ok, Err, slice_index_or}
 use Rattle.std.specs.Int.{int_min, int_max}
 use Rattle.std.specs.Ordering.{int_eq}
 use Rattle.block_layout.specs.declared.kind.Kind.{Kind}
 use Rattle.block_layout.specs.declared.kind.Kind.TheVariants.{Char, UChar, Short, UShort, Int, UInt, Long, ULong}
 use Rattle.upc_values.specs.declared.integer.BinOp.TheVariants.{Add, Multiply, And, Or, Xor}
+use Rattle.upc_values.specs.Lists.{under}
 use Rattle.upc_values.specs.Integers.{promoted, converted, truth, binary}
 
 -- the types of elements, by number: those of the calls that end in C UC S US I UI L UL
@@ -23,17 +24,13 @@ pub data Reduction : Type 0 where
   Least : Reduction
   Greatest : Reduction
 
--- an operator by its number, in this list
-abbrev pub among : ℤ → List (ℕ × Reduction) → Option Reduction
-among n [] = None
-among n (x ∷ xs) = cond (int_eq n (pos x.0)) (Some x.1) (among n xs)
-
--- UPC_ADD, UPC_MULT, UPC_AND, UPC_OR, UPC_XOR, UPC_LOGAND, UPC_LOGOR, UPC_MIN, UPC_MAX
+-- UPC_ADD, UPC_MULT, UPC_AND, UPC_OR, UPC_XOR, UPC_LOGAND, UPC_LOGOR, UPC_MIN, UPC_MAX, by their numbers
 abbrev pub reduction : ℤ → Option Reduction
 reduction n =
-    among n
+    cond (int_lt n (pos 0)) None
+    (under (unsigned_abs n)
     ((1, Sum) ∷ (2, Product) ∷ (4, Bits_and) ∷ (8, Bits_or) ∷ (16, Bits_xor) ∷ (32, Both) ∷ (64, Either)
-    ∷ (128, Least) ∷ (256, Greatest) ∷ [])
+    ∷ (128, Least) ∷ (256, Greatest) ∷ []))
 
 -- what an operator gives on two numbers of a promoted kind (C99 6.5)
 abbrev pub reduced : Reduction → Kind → ℤ → ℤ → Result ℤ ℕ

@@ -1,5 +1,5 @@
 -- The cells of objects, and which values fit them.
-use Rattle.std.specs.Prelude.{ℕ, ◌%◌, ◌==◌, nat_lt, pos, Bool, true, false, ◌||◌, cond, List, [], ◌∷◌, Option, Some, None, slice_get}
+use Rattle.std.specs.Prelude.{ℕ, ◌%◌, ◌==◌, nat_lt, pos, Bool, true, false, ◌||◌, cond, List, Option, Some, None, slice_get}
 use Rattle.block_layout.specs.declared.place.ObjectRef.{ObjectRef}
 use Rattle.block_layout.specs.declared.place.Loc.{Loc}
 use Rattle.block_layout.specs.declared.kind.Kind.{Kind}
@@ -9,16 +9,12 @@ use Rattle.block_layout.specs.Pieces.{piece_of}
 use Rattle.block_layout.specs.Pointers.{null}
 use Rattle.upc_values.specs.declared.scalar.Scalar.{Scalar}
 use Rattle.upc_values.specs.declared.scalar.Scalar.TheVariants.{Int, Shared, Lock}
+use Rattle.upc_values.specs.Lists.{under}
 use Rattle.upc_values.specs.Integers.{in_kind}
-
--- the kind of the cell among these that begins at this byte
-abbrev pub kind_among : List (ℕ × Kind) → ℕ → Option Kind
-kind_among [] x = None
-kind_among (c ∷ cells) x = cond (c.0 == x) (Some c.1) (kind_among cells x)
 
 -- the kind of the cell that begins at this byte, where elements of this shape follow one another (C99 6.2.5)
 abbrev pub kind_at : Option Shape → ℕ → Option Kind
-kind_at (Some s) x = kind_among s.cells (x % s.size)
+kind_at (Some s) x = under (x % s.size) s.cells
 kind_at None x = None
 
 -- the kind of the cell at a location, if there is one: inside the piece of its thread (UPC 6.5.1.1)

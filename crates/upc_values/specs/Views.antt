@@ -9,6 +9,7 @@ use Rattle.block_layout.specs.Pieces.{piece_of}
 use Rattle.block_layout.specs.Places.{thread_at, phase_at, offset_at, in_range}
 use Rattle.block_layout.specs.Shapes.{kind_size, same_kind}
 use Rattle.upc_values.specs.Shapes.{kind_at}
+use Rattle.upc_values.specs.Calls.{Way, Broadcast, Scatter, Gather, Gather_all, Exchange}
 
 -- the pointer with phase 0
 abbrev pub from_phase_0 : SharedPtr → SharedPtr
@@ -85,3 +86,30 @@ shape_at shapes p = slice_get shapes p.object.shape
 -- a cell of this kind begins at the pointer
 abbrev pub is_cell : List Shape → Kind → SharedPtr → Bool
 is_cell shapes k p = is_kind k (kind_at (shape_at shapes p) (unsigned_abs p.offset))
+
+-- an array of char that a call sees: its block and its bytes
+pub record View : Type 0 where
+  pub block : ℕ
+  pub bytes : ℕ
+
+abbrev pub view : ℕ → ℕ → View
+view block bytes = record { block = block; bytes = bytes }
+
+-- the destination and the source of a copying call in which each thread has n bytes (UPC 7.3)
+abbrev pub destination : Way → ℕ → ℕ → View
+destination Broadcast threads n = view n (n * threads)
+destination Scatter threads n = view n (n * threads)
+destination Gather threads n = view 0 (n * threads)
+destination Gather_all threads n = view (n * threads) (n * threads * threads)
+destination Exchange threads n = view (n * threads) (n * threads * threads)
+
+abbrev pub source : Way → ℕ → ℕ → View
+source Broadcast threads n = view 0 n
+source Scatter threads n = view 0 (n * threads)
+source Gather threads n = view n (n * threads)
+source Gather_all threads n = view n (n * threads)
+source Exchange threads n = view (n * threads) (n * threads * threads)
+
+-- the pointer to byte x of an array of char with this block
+abbrev pub byte_at : SharedPtr → ℕ → ℕ → ℕ → SharedPtr
+byte_at p block threads x = element (from_phase_0 p) block 1 threads x
