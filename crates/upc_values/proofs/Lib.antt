@@ -7,3 +7,17 @@ pub mod Walks
 pub mod Records
 pub mod Replies
 pub mod Scalars
+pub mod Membership
+pub mod Sameness
+pub mod Drained
+pub mod Values
+pub mod Commits
+pub mod Growth
+pub mod Numbering
+pub mod Own
+pub mod Placement
+pub mod Beginnings
+pub mod Consistency
+mod OrderRows
+mod CallRows
+mod NumberRows

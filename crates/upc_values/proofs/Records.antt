@@ -84,9 +84,10 @@ pub justified-stall : (o : Opening) (t : ℕ) (es : List Entry) (want : Option A
 justified-stall o t es want before [] h k = (subst (λ l. IsJustified o t es l want) (append-nil before) k, tt)
 justified-stall o t es want before (Did b s ∷ xs) h k =
     justified-stall o t es want (before ++ Did b s ∷ []) xs h (subst (λ l. IsJustified o t es l want) (sym (append_assoc before (Did b s ∷ []) xs)) k)
-justified-stall o t es want before (Stall ∷ xs) h k =
-    (subst (IsJustified o t es before) (sym (next-stall want xs)) h.0,
-    justified-stall o t es want (before ++ Stall ∷ []) xs h.1 (subst (λ l. IsJustified o t es l want) (sym (append_assoc before (Stall ∷ []) xs)) k))
+justified-stall o t es want before (Stall ∷ xs) h k = (
+  subst (IsJustified o t es before) (sym (next-stall want xs)) h.0,
+  justified-stall o t es want (before ++ Stall ∷ []) xs h.1 (subst (λ l. IsJustified o t es l want) (sym (append_assoc before (Stall ∷ []) xs)) k),
+)
 
 is_justified-grow : (o : Opening) (t : ℕ) (es more : List Entry) (before : List Item) (next : Option Action) → IsJustified o t es before next → IsJustified o t (es ++ more) before next
 is_justified-grow o t es more before next h = record {

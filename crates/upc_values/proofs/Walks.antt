@@ -44,7 +44,7 @@ beat-pauses o h = cond_both (is_stall o) true (is_beat_item o) (λ b. b ≡ true
 pub emptied-same : (w : Walk) → w.pending ≡ [] → emptied w ≡ w
 emptied-same w h =
     let P : List Entry → List Entry → Type 0 =
-      λ es ps. emptied w ≡ record { next = w.next; emitted = es; pending = ps; agrees = w.agrees } in
+    λ es ps. emptied w ≡ record { next = w.next; emitted = es; pending = ps; agrees = w.agrees } in
     subst (λ ps. P w.emitted ps) (sym h)
     (subst (λ es. P es []) (ap (λ ps. w.emitted ++ ps) h ∙ append-nil w.emitted) refl)
 
@@ -65,7 +65,7 @@ entries-own t e h = cond-true (e.thread == t) (e ∷ []) [] (eq-eqb e.thread t h
 entries-skip : (t : ℕ) (e : Entry) (es : List Entry) → (e.thread ≢ t) → entries_of t (e ∷ es) ≡ entries_of t es
 entries-skip t e es h =
     cond-false (e.thread == t) (e ∷ entries_of t es) (entries_of t es)
-      (false_from_ne_true (e.thread == t) (λ q. h (eqb-true e.thread t q)))
+    (false_from_ne_true (e.thread == t) (λ q. h (eqb-true e.thread t q)))
 
 -- all entries are t's
 pub entries-all : (t : ℕ) (es : List Entry) → Each (λ e. e.thread ≡ t) es → entries_of t es ≡ es

@@ -9,3 +9,17 @@ pub mod Ends
 pub mod Sound
 pub mod Waits
 pub mod Agrees
+pub mod Operations
+pub mod Orders
+pub mod Consistent
+pub mod Shapes
+pub mod Calls
+pub mod Openings
+pub mod History
+pub mod Formed
+pub mod Expansion
+pub mod Views
+pub mod Copying
+pub mod Reductions
+pub mod Expansions
+pub mod Collective

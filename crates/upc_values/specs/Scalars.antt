@@ -1,5 +1,5 @@
 -- When locations and scalars are the same, and the value that a cell begins with.
-use Rattle.std.specs.Prelude.{ℤ, pos, negsuc, int_le, ◌==◌, Bool, false, ◌&&◌}
+use Rattle.std.specs.Prelude.{ℤ, pos, negsuc, int_le, ◌==◌, Bool, false, ◌&&◌, Option, Some, None}
 use Rattle.std.specs.Ordering.{int_eq}
 use Rattle.block_layout.specs.declared.place.Loc.{Loc}
 use Rattle.block_layout.specs.declared.place.ObjectRef.{ObjectRef}
@@ -38,3 +38,8 @@ is_int v = int_le (negsuc 2147483647) v && int_le v (pos 2147483647)
 -- an object without an initialiser begins with 0 (C99 6.7.8)
 abbrev pub zero : Scalar
 zero = Int (pos 0)
+
+-- the value, if there is one, else the other
+abbrev pub value_or : Option Scalar → Scalar → Scalar
+value_or (Some v) d = v
+value_or None d = d

@@ -3,24 +3,30 @@
 
 mod action;
 mod agree;
+mod consistent;
 mod copy;
 mod equal;
 mod journal;
 mod listing;
 mod order;
+#[cfg(test)]
+mod plain;
 mod record;
+#[cfg(test)]
+mod rows;
 mod scalar;
+#[cfg(test)]
+mod tests;
 
 pub use action::{Action, Actions, Reply};
 pub use agree::agrees;
 pub use block_layout::{Kind, Loc, LocalPtr, ObjectRef, Shape, SharedPtr};
+pub use consistent::orders_are_consistent;
 pub use copy::{copy_action, copy_scalar};
 pub use equal::{same_action, same_loc, same_reply, same_scalar};
+pub use integers::{BinOp, UnOp, binary, convert, unary};
 pub use journal::{Entries, Entry, Journal, Strand, Strands};
 pub use listing::Listing;
 pub use order::{Op, Order, OrderList, Orders};
 pub use record::{End, Item, Items, ToldEnd};
 pub use scalar::{Args, Mark, Scalar, Value};
-
-#[cfg(test)]
-mod tests;

@@ -1,0 +1,270 @@
+-- The collective calls 5 to 12 as what each thread does (UPC 7.3): tests, one Meet, a barrier, the work, a barrier.
+use Rattle.std.specs.Prelude.{ℕ, ◌+◌, ◌*◌, ◌/◌, ◌%◌, ◌==◌, nat_lt, ℤ, pos, int_le, int_lt, unsigned_abs, Bool, true, false, not, ◌&&◌, ◌||◌, cond, List, [], ◌∷◌, ◌++◌, map, Option, Some, None, is_none, Result, Ok, Err}
+use Rattle.std.specs.List.{list_any, range_with_len, position_or_len}
+use Rattle.std.specs.Ordering.{int_eq}
+use Rattle.block_layout.specs.declared.place.SharedPtr.{SharedPtr}
+use Rattle.block_layout.specs.declared.kind.Kind.{Kind}
+use Rattle.block_layout.specs.declared.kind.Kind.TheVariants as kind
+use Rattle.block_layout.specs.declared.kind.Shape.{Shape}
+use Rattle.block_layout.specs.declared.run_error.TheConstants.{NULL_ACCESS, OUT_OF_OBJECT, POINTER_RANGE, CELL_TYPE, LIBRARY_ARGS}
+use Rattle.block_layout.specs.Pointers.{is_null}
+use Rattle.block_layout.specs.Shapes.{kind_size}
+use Rattle.upc_values.specs.declared.scalar.Scalar.{Scalar}
+use Rattle.upc_values.specs.declared.scalar.Scalar.TheVariants.{Int}
+use Rattle.upc_values.specs.declared.action.Action.TheVariants as act
+use Rattle.upc_values.specs.Calls.{Way, Broadcast, Scatter, Gather, Gather_all, Exchange, Call, Copies, Permutes, Reduces, Reduces_prefixes, call_of}
+use Rattle.upc_values.specs.History.{each_thread}
+use Rattle.upc_values.specs.Reductions.{Reduction, reduction, step, element_kind}
+use Rattle.upc_values.specs.Expansion.{Expansion, Gives, Fails, Reads, nothing, bind, does, barrier, each_in_turn, gathered, refused_by}
+use Rattle.upc_values.specs.Views.{destination, source, byte_at, from_phase_0, with_block, element, location, location_behind, leaves_range, leaves_piece, cuts_cell, cells_within, same_cells, shape_at, is_cell}
+
+-- flags: at most one of NOSYNC 1, MYSYNC 2 and ALLSYNC 4, and so of those of the exit, which are 8 times as much
+abbrev pub is_sync : ℕ → Bool
+is_sync f = (f == 0) || ((f == 1) || ((f == 2) || (f == 4)))
+
+abbrev pub are_flags : ℤ → Bool
+are_flags f = int_le (pos 0) f && (int_lt f (pos 64) && (is_sync (unsigned_abs f % 8) && is_sync (unsigned_abs f / 8)))
+
+-- the barrier at the entry, and at the exit, unless the flags say NOSYNC
+abbrev pub entry : ℤ → Expansion (Unit {0})
+entry f = cond (unsigned_abs f % 8 == 1) nothing barrier
+
+abbrev pub exit : ℤ → Expansion (Unit {0})
+exit f = cond (unsigned_abs f / 8 == 1) nothing barrier
+
+-- sizes of at most 16,777,216
+abbrev pub is_large : ℕ → Bool
+is_large n = nat_lt 16777216 n
+
+-- the destination begins on thread 0, but for a gather; the source does, but for a broadcast and a scatter
+abbrev pub is_destination : Way → SharedPtr → Bool
+is_destination Gather p = true
+is_destination w p = p.thread == 0
+
+abbrev pub is_source : Way → SharedPtr → Bool
+is_source Broadcast p = true
+is_source Scatter p = true
+is_source w p = p.thread == 0
+
+abbrev pub are_copy_args : Way → SharedPtr → SharedPtr → ℕ → ℤ → Bool
+are_copy_args w dst src n f = are_flags f && (not (is_large n) && (is_destination w dst && is_source w src))
+
+-- those of a permute, and its permutation, do
+abbrev pub are_permute_args : SharedPtr → SharedPtr → SharedPtr → ℕ → ℤ → Bool
+are_permute_args dst src perm n f =
+    are_flags f && (not (is_large n) && ((dst.thread == 0) && ((src.thread == 0) && (perm.thread == 0))))
+
+-- the arguments of calls 11 and 12: with a block, the phase is below it
+abbrev pub is_phase : SharedPtr → ℕ → Bool
+is_phase p blk = (blk == 0) || nat_lt p.phase blk
+
+abbrev pub are_reduction_args : SharedPtr → ℤ → ℕ → ℕ → ℤ → Bool
+are_reduction_args src op n blk f =
+    are_flags f
+    && (not (is_none (reduction op))
+    && (not (n == 0) && (not (is_large n) && (not (is_large blk) && is_phase src blk))))
+
+-- in a prefix reduction the destination begins at the same element as the source
+abbrev pub is_aligned : SharedPtr → SharedPtr → ℕ → Bool
+is_aligned dst src blk = (dst.thread == src.thread) && ((blk == 0) || (dst.phase == src.phase))
+
+-- where a part of n bytes is copied to, and where from
+pub record Part : Type 0 where
+  pub into : SharedPtr
+  pub from : SharedPtr
+
+abbrev pub part : SharedPtr → SharedPtr → Part
+part into from = record { into = into; from = from }
+
+-- thread `me` of so many, with the program's shapes
+module _ (threads : ℕ) (shapes : List Shape) (me : ℕ) where
+  abbrev pub all_threads : List ℕ
+  all_threads = range_with_len 0 threads
+
+  -- byte x of the destination, and of the source, of a copying call
+  abbrev pub into : Way → SharedPtr → ℕ → ℕ → SharedPtr
+  into w dst n x = byte_at dst (destination w threads n).block threads x
+
+  abbrev pub from : Way → SharedPtr → ℕ → ℕ → SharedPtr
+  from w src n x = byte_at src (source w threads n).block threads x
+
+  -- n bytes from this byte of the source go to this byte of the destination
+  abbrev pub goes : Way → SharedPtr → SharedPtr → ℕ → ℕ → ℕ → Part
+  goes w dst src n y x = part (into w dst n x) (from w src n y)
+
+  -- the parts of n bytes that the thread copies
+  abbrev pub parts : Way → SharedPtr → SharedPtr → ℕ → List Part
+  -- the source to the thread's block
+  parts Broadcast dst src n = goes Broadcast dst src n 0 (me * n) ∷ []
+  -- the thread's part of the source to its block
+  parts Scatter dst src n = goes Scatter dst src n (me * n) (me * n) ∷ []
+  -- each block to its part, by the thread of the destination
+  parts Gather dst src n = cond (dst.thread == me) (map (λ i. goes Gather dst src n (i * n) (i * n)) all_threads) []
+  -- each block to its part of the thread's block
+  parts Gather_all dst src n =
+      map (λ i. goes Gather_all dst src n (i * n) (me * (n * threads) + i * n)) all_threads
+  -- the thread's part of each block to that block's part of the thread's
+  parts Exchange dst src n =
+      map (λ j. goes Exchange dst src n (j * (n * threads) + me * n) (me * (n * threads) + j * n)) all_threads
+
+  -- n bytes at a pointer
+  abbrev pub outside : ℕ → SharedPtr → Bool
+  outside n p = leaves_piece threads n p
+
+  abbrev pub cut : ℕ → SharedPtr → Bool
+  cut n p = cuts_cell (shape_at shapes p) (unsigned_abs p.offset) n
+
+  abbrev pub cells : ℕ → SharedPtr → List (ℕ × Kind)
+  cells n p = cells_within (shape_at shapes p) (unsigned_abs p.offset) n
+
+  -- cells are cut, or differ in place or kind
+  abbrev pub differ : ℕ → Part → Bool
+  differ n x = cut n x.into || (cut n x.from || not (same_cells (cells n x.into) (cells n x.from)))
+
+  -- cells are read and written one by one, ascending
+  abbrev pub copied : ℕ → Part → Expansion (Unit {0})
+  copied n x =
+      each_in_turn
+      (λ c. Reads (location_behind x.from c.0) c.1 (λ v. does (act.Write (location_behind x.into c.0) v false)))
+      (cells n x.into)
+
+  -- the work of calls 5 to 9: all ranges are tested, then the parts are copied
+  abbrev pub move : ℕ → List Part → Expansion (Unit {0})
+  move n xs =
+      refused_by
+      ((list_any (λ x. leaves_range n x.into || leaves_range n x.from) xs, POINTER_RANGE)
+      ∷ (list_any (λ x. outside n x.into || outside n x.from) xs, OUT_OF_OBJECT)
+      ∷ (list_any (differ n) xs, CELL_TYPE)
+      ∷ [])
+      (each_in_turn (copied n) xs)
+
+  abbrev pub some_bytes : ℕ → Expansion (Unit {0}) → Expansion (Unit {0})
+  some_bytes n work = cond (n == 0) nothing work
+
+  -- an element of a view, read as an integer
+  abbrev pub number_of : Scalar → ℤ
+  number_of (Int v) = v
+  number_of v = pos 0
+
+  abbrev pub number_at : Kind → SharedPtr → Expansion ℤ
+  number_at k p = Reads (location p) k (λ v. Gives (number_of v))
+
+  abbrev pub number_put : SharedPtr → ℤ → Expansion (Unit {0})
+  number_put p v = does (act.Write (location p) (Int v) false)
+
+  -- the elements of a view, each a cell of this kind
+  abbrev pub are_cells : Kind → List SharedPtr → Expansion (Unit {0}) → Expansion (Unit {0})
+  are_cells k ps go =
+      refused_by
+      ((list_any (leaves_range 1) ps, POINTER_RANGE)
+      ∷ (list_any (outside (kind_size k)) ps, OUT_OF_OBJECT)
+      ∷ (list_any (λ p. not (is_cell shapes k p)) ps, CELL_TYPE)
+      ∷ [])
+      go
+
+  -- call 10: the permutation is read whole, ascending; it has each thread's number; the thread copies the block of the
+  -- one that has its own
+  abbrev pub permutation : SharedPtr → List SharedPtr
+  permutation perm = map (λ i. element (from_phase_0 perm) 1 4 threads i) all_threads
+
+  abbrev pub is_at : ℕ → List ℤ → Bool
+  is_at t vs = list_any (λ v. int_eq v (pos t)) vs
+
+  abbrev pub chosen : SharedPtr → SharedPtr → ℕ → List ℤ → Part
+  chosen dst src n vs =
+      part (byte_at dst n threads (me * n)) (byte_at src n threads (position_or_len (λ v. int_eq v (pos me)) vs * n))
+
+  abbrev pub permute : SharedPtr → SharedPtr → SharedPtr → ℕ → Expansion (Unit {0})
+  permute dst src perm n =
+      let ps = permutation perm in
+      let own = byte_at dst n threads (me * n) in
+      let some = not (n == 0) in
+      refused_by
+      ((list_any (leaves_range 1) ps || (some && leaves_range n own), POINTER_RANGE)
+      ∷ (list_any (outside 4) ps || (some && outside n own), OUT_OF_OBJECT)
+      ∷ (list_any (λ p. not (is_cell shapes kind.Int p)) ps || (some && cut n own), CELL_TYPE)
+      ∷ [])
+      (bind (gathered (number_at kind.Int) ps) (λ vs.
+      cond (each_thread threads (λ t. is_at t vs))
+      (some_bytes n (move n (chosen dst src n vs ∷ [])))
+      (Fails LIBRARY_ARGS)))
+
+  -- element i of the view of a reduction's operand
+  abbrev pub operand : SharedPtr → ℕ → ℕ → ℕ → SharedPtr
+  operand p blk k i = element (with_block p blk) blk (kind_size (element_kind k)) threads i
+
+  abbrev pub operands : SharedPtr → ℕ → ℕ → ℕ → List SharedPtr
+  operands p blk k n = map (operand p blk k) (range_with_len 0 n)
+
+  abbrev pub outcome : Result ℤ ℕ → Expansion ℤ
+  outcome (Ok v) = Gives v
+  outcome (Err c) = Fails c
+
+  -- the value so far and one more element
+  abbrev pub joined : Option Reduction → Kind → Option ℤ → ℤ → Expansion ℤ
+  joined op k None v = Gives v
+  joined None k (Some a) v = Fails LIBRARY_ARGS
+  joined (Some op) k (Some a) v = outcome (step op k a v)
+
+  -- call 11: all elements are read, ascending, and their value is written once
+  abbrev pub total : Option Reduction → Kind → Option ℤ → SharedPtr → List SharedPtr → Expansion (Unit {0})
+  total op k (Some a) dst [] = number_put dst a
+  total op k None dst [] = nothing
+  total op k a dst (p ∷ ps) =
+      bind (number_at k p) (λ v. bind (joined op k a v) (λ b. total op k (Some b) dst ps))
+
+  -- call 12: each element is read, and the value so far is written, ascending
+  abbrev pub totals : Option Reduction → Kind → Option ℤ → List Part → Expansion (Unit {0})
+  totals op k a [] = nothing
+  totals op k a (x ∷ xs) =
+      bind (number_at k x.from) (λ v.
+      bind (joined op k a v) (λ b. bind (number_put x.into b) (λ u. totals op k (Some b) xs)))
+
+  abbrev pub paired : List SharedPtr → List SharedPtr → List Part
+  paired (p ∷ ps) (q ∷ qs) = part p q ∷ paired ps qs
+  paired ps qs = []
+
+  -- the work of a call on this thread
+  abbrev pub work : Call → Expansion (Unit {0})
+  work (Copies w dst src n f) = some_bytes n (move n (parts w dst src n))
+  work (Permutes dst src perm n f) = permute dst src perm n
+  work (Reduces dst src op n blk k f) =
+      cond (dst.thread == me)
+      (are_cells (element_kind k) (dst ∷ operands src blk k n)
+      (total (reduction op) (element_kind k) None dst (operands src blk k n)))
+      nothing
+  work (Reduces_prefixes dst src op n blk k f) =
+      cond (dst.thread == me)
+      (are_cells (element_kind k) (operands dst blk k n ++ operands src blk k n)
+      (totals (reduction op) (element_kind k) None (paired (operands dst blk k n) (operands src blk k n))))
+      nothing
+  work call = nothing
+
+  -- the tests of a call's arguments, in order, and its flags
+  abbrev pub tests : Call → List (Bool × ℕ)
+  tests (Copies w dst src n f) =
+      (is_null dst || is_null src, NULL_ACCESS) ∷ (not (are_copy_args w dst src n f), LIBRARY_ARGS) ∷ []
+  tests (Permutes dst src perm n f) =
+      (is_null dst || (is_null src || is_null perm), NULL_ACCESS)
+      ∷ (not (are_permute_args dst src perm n f), LIBRARY_ARGS) ∷ []
+  tests (Reduces dst src op n blk k f) =
+      (is_null dst || is_null src, NULL_ACCESS) ∷ (not (are_reduction_args src op n blk f), LIBRARY_ARGS) ∷ []
+  tests (Reduces_prefixes dst src op n blk k f) =
+      (is_null dst || is_null src, NULL_ACCESS)
+      ∷ (not (are_reduction_args src op n blk f && (is_phase dst blk && is_aligned dst src blk)), LIBRARY_ARGS) ∷ []
+  tests call = []
+
+  abbrev pub flags_of : Call → ℤ
+  flags_of (Copies w dst src n f) = f
+  flags_of (Permutes dst src perm n f) = f
+  flags_of (Reduces dst src op n blk k f) = f
+  flags_of (Reduces_prefixes dst src op n blk k f) = f
+  flags_of call = pos 0
+
+  -- what the thread does in collective call c, from 5 to 12, with these arguments
+  abbrev pub collective : ℕ → List Scalar → Expansion (Unit {0})
+  collective c args =
+      let call = call_of c args in
+      let f = flags_of call in
+      refused_by (tests call)
+      (bind (does (act.Meet c args)) (λ u. bind (entry f) (λ v. bind (work call) (λ w. exit f))))

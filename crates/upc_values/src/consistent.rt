@@ -1,0 +1,9 @@
+//! The orders of every journal are consistent.
+
+ghost use Rattle.upc_values.specs.Consistent.{AreConsistent};
+
+/// A law (UPC Appendix B): where a journal's history takes each record as its write buffer drains, and is legal from an
+/// opening, the strict order and the thread orders make its operations UPC consistent.
+pub fn orders_are_consistent()
+    ensures { AreConsistent }
+{}
