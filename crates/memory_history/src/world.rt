@@ -80,8 +80,8 @@ impl World {
         Ok(Step::Done(reply))
     }
 
-    /// Whether the action may be asked for now: its location is a cell, its value fits that cell, and the language built
-    /// so far has it. It takes no memory.
+    /// Whether the action may be asked for now: it is a Read or a Write whose location is a cell and whose value fits it,
+    /// a Fence, a Beat, a Print, or a Notify or Wait whose mark carries no value. It takes no memory.
     pub fn is_well_formed(&self, action: &Action) -> bool
         ensures { IsTrue result ↔ IsWellFormed self.now.0 self.now.1 action.now }
     {

@@ -1,5 +1,7 @@
+pub mod Agreeing
 pub mod Legality
 pub mod Lists
+pub mod Places
 pub mod Waits
 pub mod Walks
 pub mod Records

@@ -1,5 +1,7 @@
 -- What holds of each member of a list.
-use Rattle.std.proofs.Common.{ℕ, ◌<◌, List, [], ◌∷◌, ◌++◌, length, get_or, take, arith}
+use Rattle.std.proofs.Common.{◌≡◌, ◌+◌, sym, subst, ◌∙◌, inl, inr, ℕ, ◌<◌, List, [], ◌∷◌, ◌++◌, length, get_or, take, arith}
+use Rattle.std.proofs.lemmas.Bool.{cases_eq}
+use Rattle.std.proofs.lemmas.List.{get_or_default}
 use Rattle.upc_values.specs.Lists.{Each}
 
 pub each-push : {X : Type 0} (P : X → Type 0) (xs : List X) (x : X) → Each P xs → P x → Each P (xs ++ x ∷ [])
@@ -19,3 +21,12 @@ pub each-take : {X : Type 0} (P : X → Type 0) (n : ℕ) (xs : List X) → Each
 each-take P ℕ.zero xs h = tt
 each-take P (ℕ.suc n) [] h = tt
 each-take P (ℕ.suc n) (x ∷ xs) h = (h.0, each-take P n xs h.1)
+
+-- what holds of each member below i, and of member i, which is x, holds of each below i + 1
+pub below-more : {X : Type 0} (P : ℕ → X → Type 0) (xs : List X) (i : ℕ) (x : X) → i < length xs → x ≡ get_or xs i x
+    → ((k : ℕ) (d : X) → k < i → P k (get_or xs k d)) → P i x → (k : ℕ) (d : X) → k < i + 1 → P k (get_or xs k d)
+below-more P xs i x lt is h p k d b =
+    elim (cases_eq k i) [
+      | inl e ↦ subst (λ j. P j (get_or xs j d)) (sym e) (subst (P i) (is ∙ get_or_default xs i x d lt) p)
+      | inr ne ↦ h k d (omega arith)
+    ]

@@ -8,3 +8,4 @@ pub mod Strands
 pub mod Ends
 pub mod Sound
 pub mod Waits
+pub mod Agrees

@@ -1,4 +1,4 @@
--- What a write buffer holds: relaxed writes that are not committed yet, oldest first.
+-- What a write buffer holds: relaxed writes that other threads do not see yet (UPC 5.1.2.3), oldest first.
 use Rattle.std.specs.Prelude.{ℕ, Bool, cond, List, [], ◌∷◌, Option, Some, None}
 use Rattle.std.specs.Option.{option_or}
 use Rattle.block_layout.specs.declared.place.Loc.{Loc}

@@ -56,8 +56,8 @@ impl WriteBuffer {
         oldest
     }
 
-    #[tactic(auto, using(crate::proofs::Youngest::looking_back))]
     /// The number and the value of the youngest pending write of the location, none where there is none.
+    #[tactic(auto, using(crate::proofs::Youngest::looking_back))]
     pub fn forward(&self, loc: Loc) -> Option<(u32, Scalar)>
         ensures youngest { result ≡ option_map (λ p. (p.index, p.value)) (youngest loc self.now) }
         ensures none { IsNone result ↔ All (λ p. scalars.same_loc p.loc loc ≡ false) self.now }
