@@ -5,6 +5,8 @@ mod emit;
 mod limits;
 mod run;
 mod task;
+#[cfg(test)]
+mod tests;
 
 pub use limits::Limits;
 pub use run::run_by;
