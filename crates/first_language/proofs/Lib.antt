@@ -7,3 +7,4 @@ pub mod Replies
 pub mod Keeps
 pub mod Laws
 pub mod Digits
+pub mod Scans
