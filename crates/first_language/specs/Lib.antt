@@ -7,3 +7,5 @@ pub mod Machine
 pub mod Turns
 pub mod Words
 pub mod Scan
+pub mod Syntax
+pub mod Source
