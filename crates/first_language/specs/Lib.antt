@@ -9,3 +9,4 @@ pub mod Words
 pub mod Scan
 pub mod Syntax
 pub mod Source
+pub mod Parse
