@@ -8,3 +8,5 @@ pub mod Keeps
 pub mod Laws
 pub mod Digits
 pub mod Scans
+pub mod Eats
+pub mod Complete

@@ -1,0 +1,101 @@
+-- Each proper tree is read from its tokens.
+use Rattle.std.proofs.Common.{◌≡◌, ℕ, zero, suc, ◌+◌, ◌-◌, ◌<◌, ◌≤◌, nat_le, Bool, true, false, cond, ◌&&◌, List, [], ◌∷◌, ◌++◌, get_or, length, Option, Some, None, refl, sym, ◌∙◌, ap, subst, arith}
+use Rattle.upc_text.specs.declared.place.Place.{Place}
+use Rattle.first_language.specs.declared.token.Fixed.{Fixed}
+use Rattle.first_language.specs.declared.token.Fixed.TheVariants as f
+use Rattle.first_language.specs.declared.token.Kind.TheVariants as k
+use Rattle.first_language.specs.declared.token.Token.{Token}
+use Rattle.first_language.specs.Syntax.{Atom, Number, Variable, Mythread, Threads, Group, Factors, Alone, By, More, Done, Add, Subtract, Sum, Terms, Statement, Assign, Barrier, Fence, Print, While, Statements, End, Then, fixed, spell_atom, spell_factors, spell_more, spell_sum, spell_statement, spell_statements, proper_atom, proper_factors, proper_more, proper_sum, proper_statement, proper_statements}
+use Rattle.first_language.specs.Parse as p
+use Rattle.first_language.specs.Parse.{◌>>=◌, eat, inside, within, variable_of}
+use Rattle.first_language.proofs.Keeps.{both}
+
+module _ (names : List (List ℕ)) where
+  -- a tree has no fewer tokens than what follows it
+  mutual
+    longer_atom : (a : Atom) (rest : List Token) → length rest ≤ length (spell_atom names a rest)
+    longer_atom (Number q x) rest = omega arith
+    longer_atom (Variable q v) rest = omega arith
+    longer_atom (Mythread q) rest = omega arith
+    longer_atom (Threads q) rest = omega arith
+    longer_atom (Group q s r) rest = omega (arith, longer_sum s (fixed f.RParen r ∷ rest))
+
+    longer_factors : (fs : Factors) (rest : List Token) → length rest ≤ length (spell_factors names fs rest)
+    longer_factors Alone rest = omega arith
+    longer_factors (By q a fs) rest = omega (arith, longer_atom a (spell_factors names fs rest), longer_factors fs rest)
+
+    longer_more : (m : More) (rest : List Token) → length rest ≤ length (spell_more names m rest)
+    longer_more Done rest = omega arith
+    longer_more (Add q a fs m) rest =
+        omega (arith, longer_atom a (spell_factors names fs (spell_more names m rest)), longer_factors fs (spell_more names m rest), longer_more m rest)
+    longer_more (Subtract q a fs m) rest =
+        omega (arith, longer_atom a (spell_factors names fs (spell_more names m rest)), longer_factors fs (spell_more names m rest), longer_more m rest)
+
+    longer_sum : (s : Sum) (rest : List Token) → length rest ≤ length (spell_sum names s rest)
+    longer_sum (Terms a fs m) rest =
+        omega (arith, longer_atom a (spell_factors names fs (spell_more names m rest)), longer_factors fs (spell_more names m rest), longer_more m rest)
+
+  -- what follows a sum goes on with none of its operators
+  pub record IsClosed (rest : List Token) : Type 0 where
+    pub star : eat f.Star rest ≡ None
+    pub plus : eat f.Plus rest ≡ None
+    pub minus : eat f.Minus rest ≡ None
+
+  no_star : (m : More) (rest : List Token) → eat f.Star rest ≡ None → eat f.Star (spell_more names m rest) ≡ None
+  no_star Done rest h = h
+  no_star (Add q a fs m) rest h = refl
+  no_star (Subtract q a fs m) rest h = refl
+
+  -- each declared name is found
+  module _ (found : (v : ℕ) → (nat_le 1 v && nat_le v (length names)) ≡ true → variable_of names (get_or names (v - 1) []) ≡ Some v) where
+    mutual
+      unfolding inside p.factors p.more
+      complete_atom : (a : Atom) (n : ℕ) (rest : List Token) → proper_atom (length names) n a ≡ true →
+          p.atom names (inside names n) (spell_atom names a rest) ≡ Some (a, rest)
+      complete_atom (Number q x) n rest h = rw h refl
+      complete_atom (Variable q v) n rest h = rw (found v h) refl
+      complete_atom (Mythread q) n rest h = refl
+      complete_atom (Threads q) n rest h = refl
+      complete_atom (Group q s r) zero rest h = absurd cc
+      complete_atom (Group q s r) (suc n) rest h =
+          rw (complete_inside s n (fixed f.RParen r ∷ rest) (record { star = refl; plus = refl; minus = refl }) h) refl
+
+      complete_inside : (s : Sum) (n : ℕ) (rest : List Token) → IsClosed rest → proper_sum (length names) n s ≡ true →
+          inside names (suc n) (spell_sum names s rest) ≡ Some (s, rest)
+      complete_inside (Terms a fs m) n rest c h =
+          let q = both (proper_atom (length names) n a) (proper_factors (length names) n fs && proper_more (length names) n m) h in
+          let r = both (proper_factors (length names) n fs) (proper_more (length names) n m) q.1 in
+          rw (complete_atom a n (spell_factors names fs (spell_more names m rest)) q.0,
+              complete_factors fs n (length (spell_factors names fs (spell_more names m rest))) (spell_more names m rest) (no_star m rest c.star) r.0 (omega arith),
+              complete_more m n (length (spell_more names m rest)) rest c r.1 (omega arith)) refl
+
+      complete_factors : (fs : Factors) (n count : ℕ) (rest : List Token) → eat f.Star rest ≡ None → proper_factors (length names) n fs ≡ true →
+          length (spell_factors names fs rest) ≤ count → p.factors names (inside names n) count (spell_factors names fs rest) ≡ Some (fs, rest)
+      complete_factors Alone n zero rest c h g = refl
+      complete_factors Alone n (suc count) rest c h g = rw c refl
+      complete_factors (By q a fs) n zero rest c h g = absurd (omega arith)
+      complete_factors (By q a fs) n (suc count) rest c h g =
+          let r = both (proper_atom (length names) n a) (proper_factors (length names) n fs) h in
+          rw (complete_atom a n (spell_factors names fs rest) r.0,
+              complete_factors fs n count rest c r.1 (omega (arith, longer_atom a (spell_factors names fs rest)))) refl
+
+      complete_more : (m : More) (n count : ℕ) (rest : List Token) → IsClosed rest → proper_more (length names) n m ≡ true →
+          length (spell_more names m rest) ≤ count → p.more names (inside names n) count (spell_more names m rest) ≡ Some (m, rest)
+      complete_more Done n zero rest c h g = refl
+      complete_more Done n (suc count) rest c h g = rw (c.plus, c.minus) refl
+      complete_more (Add q a fs m) n zero rest c h g = absurd (omega arith)
+      complete_more (Add q a fs m) n (suc count) rest c h g =
+          let r = both (proper_atom (length names) n a) (proper_factors (length names) n fs && proper_more (length names) n m) h in
+          let e = both (proper_factors (length names) n fs) (proper_more (length names) n m) r.1 in
+          let tail = spell_factors names fs (spell_more names m rest) in
+          rw (complete_atom a n tail r.0,
+              complete_factors fs n (length tail) (spell_more names m rest) (no_star m rest c.star) e.0 (omega arith),
+              complete_more m n count rest c e.1 (omega (arith, longer_atom a tail, longer_factors fs (spell_more names m rest)))) refl
+      complete_more (Subtract q a fs m) n zero rest c h g = absurd (omega arith)
+      complete_more (Subtract q a fs m) n (suc count) rest c h g =
+          let r = both (proper_atom (length names) n a) (proper_factors (length names) n fs && proper_more (length names) n m) h in
+          let e = both (proper_factors (length names) n fs) (proper_more (length names) n m) r.1 in
+          let tail = spell_factors names fs (spell_more names m rest) in
+          rw (complete_atom a n tail r.0,
+              complete_factors fs n (length tail) (spell_more names m rest) (no_star m rest c.star) e.0 (omega arith),
+              complete_more m n count rest c e.1 (omega (arith, longer_atom a tail, longer_factors fs (spell_more names m rest)))) refl
