@@ -35,6 +35,20 @@ module _ (names : List (List ℕ)) where
     longer_sum (Terms a fs m) rest =
         omega (arith, longer_atom a (spell_factors names fs (spell_more names m rest)), longer_factors fs (spell_more names m rest), longer_more m rest)
 
+  mutual
+    longer_statement : (s : Statement) (rest : List Token) → suc (length rest) ≤ length (spell_statement names s rest)
+    longer_statement (Assign q v r s x) rest = omega (arith, longer_sum s (fixed f.Semicolon x ∷ rest))
+    longer_statement (Barrier q r) rest = omega arith
+    longer_statement (Fence q r) rest = omega arith
+    longer_statement (Print q r c d s x y) rest = omega (arith, longer_sum s (fixed f.RParen x ∷ fixed f.Semicolon y ∷ rest))
+    longer_statement (While q r s x b c y) rest =
+        omega (arith, longer_sum s (fixed f.RParen x ∷ fixed f.LBrace b ∷ spell_statements names c (fixed f.RBrace y ∷ rest)),
+          longer_statements c (fixed f.RBrace y ∷ rest))
+
+    longer_statements : (ss : Statements) (rest : List Token) → length rest ≤ length (spell_statements names ss rest)
+    longer_statements End rest = omega arith
+    longer_statements (Then s ss) rest = omega (arith, longer_statement s (spell_statements names ss rest), longer_statements ss rest)
+
   -- what follows a sum goes on with none of its operators
   pub record IsClosed (rest : List Token) : Type 0 where
     pub star : eat f.Star rest ≡ None
@@ -99,3 +113,33 @@ module _ (names : List (List ℕ)) where
           rw (complete_atom a n tail r.0,
               complete_factors fs n (length tail) (spell_more names m rest) (no_star m rest c.star) e.0 (omega arith),
               complete_more m n count rest c e.1 (omega (arith, longer_atom a tail, longer_factors fs (spell_more names m rest)))) refl
+
+    mutual
+      unfolding within p.statements
+      complete_statement : (s : Statement) (l : ℕ) (rest : List Token) → proper_statement (length names) 64 l s ≡ true →
+          (ss : Statements) (tail : List Token) (count : ℕ) → p.statements names (within names l) count rest ≡ Some (ss, tail) →
+          p.statements names (within names l) (suc count) (spell_statement names s rest) ≡ Some (Then s ss, tail)
+      complete_statement (Assign q v r s x) l rest h ss tail count e =
+          let b = both (nat_le 1 v && nat_le v (length names)) (proper_sum (length names) 64 s) h in
+          rw (found v b.0, complete_inside s 64 (fixed f.Semicolon x ∷ rest) (record { star = refl; plus = refl; minus = refl }) b.1, e) refl
+      complete_statement (Barrier q r) l rest h ss tail count e = rw e refl
+      complete_statement (Fence q r) l rest h ss tail count e = rw e refl
+      complete_statement (Print q r c d s x y) l rest h ss tail count e =
+          rw (complete_inside s 64 (fixed f.RParen x ∷ fixed f.Semicolon y ∷ rest) (record { star = refl; plus = refl; minus = refl }) h, e) refl
+      complete_statement (While q r s x b c y) zero rest h ss tail count e = absurd cc
+      complete_statement (While q r s x b c y) (suc l) rest h ss tail count e =
+          let g = both (proper_sum (length names) 64 s) (proper_statements (length names) 64 l c) h in
+          rw (complete_inside s 64 (fixed f.RParen x ∷ fixed f.LBrace b ∷ spell_statements names c (fixed f.RBrace y ∷ rest)) (record { star = refl; plus = refl; minus = refl }) g.0,
+              complete_statements c l (length (spell_statements names c (fixed f.RBrace y ∷ rest))) (fixed f.RBrace y) rest refl g.1 (omega arith),
+              e) refl
+
+      complete_statements : (ss : Statements) (l count : ℕ) (t : Token) (rest : List Token) → p.ends t.kind ≡ true →
+          proper_statements (length names) 64 l ss ≡ true → length (spell_statements names ss (t ∷ rest)) ≤ count →
+          p.statements names (within names l) count (spell_statements names ss (t ∷ rest)) ≡ Some (ss, t ∷ rest)
+      complete_statements End l zero t rest c h g = refl
+      complete_statements End l (suc count) t rest c h g = rw c refl
+      complete_statements (Then s ss) l zero t rest c h g = absurd (omega (arith, longer_statement s (spell_statements names ss (t ∷ rest))))
+      complete_statements (Then s ss) l (suc count) t rest c h g =
+          let b = both (proper_statement (length names) 64 l s) (proper_statements (length names) 64 l ss) h in
+          complete_statement s l (spell_statements names ss (t ∷ rest)) b.0 ss (t ∷ rest) count
+            (complete_statements ss l count t rest c b.1 (omega (arith, longer_statement s (spell_statements names ss (t ∷ rest)))))

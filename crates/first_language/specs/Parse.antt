@@ -55,6 +55,10 @@ abbrev pub eat : Fixed → Parser Place
 eat f [] = None
 eat f (t ∷ ts) = cond (is_fixed f t.kind) (Some (t.place, ts)) None
 
+-- statements end before 'return' and '}'
+abbrev pub ends : Kind → Bool
+ends kind = cond (is_fixed f.Return kind) true (is_fixed f.RBrace kind)
+
 -- nothing has this tree
 abbrev pub nothing : {A : Type 0} → Parser A
 nothing ts = None
@@ -145,10 +149,6 @@ module _ (names : List (List ℕ)) where
     statement_by (k.Number x) p ts = None
     statement_by (k.Name n) p ts = variable_of n >>= λ v. assign v p ts
     statement_by (k.Fixed g) p ts = fixed_statement g p ts
-
-    -- statements end before 'return' and '}'
-    abbrev pub ends : Kind → Bool
-    ends kind = cond (is_fixed f.Return kind) true (is_fixed f.RBrace kind)
 
     -- at most so many statements
     unfoldable pub statements : ℕ → Parser Statements
