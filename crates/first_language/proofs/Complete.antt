@@ -5,10 +5,11 @@ use Rattle.first_language.specs.declared.token.Fixed.{Fixed}
 use Rattle.first_language.specs.declared.token.Fixed.TheVariants as f
 use Rattle.first_language.specs.declared.token.Kind.TheVariants as k
 use Rattle.first_language.specs.declared.token.Token.{Token}
-use Rattle.first_language.specs.Syntax.{Atom, Number, Variable, Mythread, Threads, Group, Factors, Alone, By, More, Done, Add, Subtract, Sum, Terms, Statement, Assign, Barrier, Fence, Print, While, Statements, End, Then, fixed, spell_atom, spell_factors, spell_more, spell_sum, spell_statement, spell_statements, proper_atom, proper_factors, proper_more, proper_sum, proper_statement, proper_statements}
+use Rattle.first_language.specs.Syntax.{Atom, Number, Variable, Mythread, Threads, Group, Factors, Alone, By, More, Done, Add, Subtract, Sum, Terms, Statement, Assign, Barrier, Fence, Print, While, Statements, End, Then, fixed, spell_atom, spell_factors, spell_more, spell_sum, spell_statement, spell_statements, proper_atom, proper_factors, proper_more, proper_sum, proper_statement, proper_statements, Qualifier, Strict, Relaxed, Unqualified, Declaration, Source, spell_qualifier, spell_declaration, spell_declarations, spell_void, spell_body, spell, names_of, is_among, are_new, proper}
 use Rattle.first_language.specs.Parse as p
 use Rattle.first_language.specs.Parse.{◌>>=◌, eat, inside, within, variable_of}
 use Rattle.first_language.proofs.Keeps.{both}
+use Rattle.first_language.proofs.Names.{fresh, found_new, length-names_of}
 
 module _ (names : List (List ℕ)) where
   -- a tree has no fewer tokens than what follows it
@@ -143,3 +144,75 @@ module _ (names : List (List ℕ)) where
           let b = both (proper_statement (length names) 64 l s) (proper_statements (length names) 64 l ss) h in
           complete_statement s l (spell_statements names ss (t ∷ rest)) b.0 ss (t ∷ rest) count
             (complete_statements ss l count t rest c b.1 (omega (arith, longer_statement s (spell_statements names ss (t ∷ rest)))))
+
+-- ---- declarations
+
+qualifier_read : (q : Qualifier) (a : Place) (rest : List Token) →
+    p.qualifier (spell_qualifier q (fixed f.Shared a ∷ rest)) ≡ Some (q, fixed f.Shared a ∷ rest)
+qualifier_read (Strict x) a rest = refl
+qualifier_read (Relaxed x) a rest = refl
+qualifier_read Unqualified a rest = refl
+
+declared_read : (names : List (List ℕ)) (d : Declaration) (rest : List Token) → is_among d.name names ≡ false →
+    p.declared names d.qualifier
+      (fixed f.Shared d.shared ∷ fixed f.Int d.int ∷ record { kind = k.Name d.name; place = d.at } ∷ fixed f.Semicolon d.semicolon ∷ rest)
+    ≡ Some (d, rest)
+declared_read names d rest h = rw h refl
+
+longer_qualifier : (q : Qualifier) (rest : List Token) → length rest ≤ length (spell_qualifier q rest)
+longer_qualifier (Strict x) rest = omega arith
+longer_qualifier (Relaxed x) rest = omega arith
+longer_qualifier Unqualified rest = omega arith
+
+complete_declarations : (ds : List Declaration) (count : ℕ) (names : List (List ℕ)) (rest : List Token) → p.qualifier rest ≡ None →
+    are_new names ds ≡ true → length ds ≤ count → p.declarations count names (spell_declarations ds rest) ≡ Some (ds, rest)
+unfolding p.declarations
+complete_declarations [] zero names rest c h g = refl
+complete_declarations [] (suc count) names rest c h g = rw c refl
+complete_declarations (d ∷ ds) zero names rest c h g = absurd (omega arith)
+complete_declarations (d ∷ ds) (suc count) names rest c h g =
+    let b = fresh (is_among d.name names) (are_new (names ++ d.name ∷ []) ds) h in
+    rw (qualifier_read d.qualifier d.shared _, declared_read names d (spell_declarations ds rest) b.0,
+        complete_declarations ds count (names ++ d.name ∷ []) rest c b.1 (omega arith)) refl
+
+longer_declarations : (ds : List Declaration) (rest : List Token) → length ds ≤ length (spell_declarations ds rest)
+longer_declarations [] rest = omega arith
+longer_declarations (d ∷ ds) rest =
+    omega (arith, longer_declarations ds rest, longer_qualifier d.qualifier
+      (fixed f.Shared d.shared ∷ fixed f.Int d.int ∷ record { kind = k.Name d.name; place = d.at } ∷ fixed f.Semicolon d.semicolon
+        ∷ spell_declarations ds rest))
+
+void_read : (v : Option Place) (q : Place) (rest : List Token) →
+    p.maybe (eat f.Void (spell_void v (fixed f.RParen q ∷ rest))) (spell_void v (fixed f.RParen q ∷ rest)) ≡ Some (v, fixed f.RParen q ∷ rest)
+void_read None q rest = refl
+void_read (Some x) q rest = refl
+
+within-suc : (names : List (List ℕ)) (n : ℕ) (ts : List Token) →
+    within names (suc n) ts ≡ p.statements names (within names n) (length ts) ts
+unfolding within
+within-suc names n ts = refl
+
+complete_body : (names : List (List ℕ)) (u : Source) →
+    ((v : ℕ) → (nat_le 1 v && nat_le v (length names)) ≡ true → variable_of names (get_or names (v - 1) []) ≡ Some v) →
+    proper_statements (length names) 64 64 u.statements ≡ true → proper_sum (length names) 64 u.result ≡ true →
+    p.body names u.declarations (spell_body names u) ≡ Some (u, [])
+complete_body names u found h g =
+    let tail = fixed f.Semicolon u.semicolon ∷ fixed f.RBrace u.rbrace ∷ [] in
+    let rest = spell_sum names u.result tail in
+    rw (void_read u.void u.rparen (fixed f.LBrace u.lbrace ∷ spell_statements names u.statements (fixed f.Return u.return ∷ rest)),
+        within-suc names 64 (spell_statements names u.statements (fixed f.Return u.return ∷ rest)),
+        complete_statements names found u.statements 64 (length (spell_statements names u.statements (fixed f.Return u.return ∷ rest)))
+          (fixed f.Return u.return) rest refl h (omega arith),
+        complete_inside names found u.result 64 tail (record { star = refl; plus = refl; minus = refl }) g) refl
+
+-- a proper tree is read from its tokens
+pub complete : (u : Source) → proper u ≡ true → p.source (spell u) ≡ Some u
+unfolding p.source
+complete u h =
+    let names = names_of u.declarations in
+    let a = both (are_new [] u.declarations)
+        (proper_statements (length u.declarations) 64 64 u.statements && proper_sum (length u.declarations) 64 u.result) h in
+    let b = both (proper_statements (length u.declarations) 64 64 u.statements) (proper_sum (length u.declarations) 64 u.result) a.1 in
+    let size = length-names_of u.declarations in
+    rw (complete_declarations u.declarations (length (spell u)) [] (spell_body names u) refl a.0 (longer_declarations u.declarations (spell_body names u)),
+        complete_body names u (found_new u.declarations a.0) (rw size b.0) (rw size b.1)) refl

@@ -10,3 +10,4 @@ pub mod Digits
 pub mod Scans
 pub mod Eats
 pub mod Complete
+pub mod Names

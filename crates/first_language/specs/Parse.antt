@@ -59,6 +59,11 @@ eat f (t ∷ ts) = cond (is_fixed f t.kind) (Some (t.place, ts)) None
 abbrev pub ends : Kind → Bool
 ends kind = cond (is_fixed f.Return kind) true (is_fixed f.RBrace kind)
 
+-- a token that may stand there
+abbrev pub maybe : Option (Place × List Token) → Parser (Option Place)
+maybe None ts = Some (None, ts)
+maybe (Some x) ts = Some (Some x.0, x.1)
+
 -- nothing has this tree
 abbrev pub nothing : {A : Type 0} → Parser A
 nothing ts = None
@@ -163,14 +168,10 @@ module _ (names : List (List ℕ)) where
   within zero = nothing
   within (suc n) = λ ts. statements (within n) (length ts) ts
 
-  abbrev pub void : Option (Place × List Token) → Parser (Option Place)
-  void None ts = Some (None, ts)
-  void (Some x) ts = Some (Some x.0, x.1)
-
   -- what follows the declarations
   abbrev pub body : List Declaration → Parser Source
   body ds ts =
-      eat f.Int ts >>= λ a. eat f.Main a.1 >>= λ b. eat f.LParen b.1 >>= λ c. void (eat f.Void c.1) c.1 >>= λ d.
+      eat f.Int ts >>= λ a. eat f.Main a.1 >>= λ b. eat f.LParen b.1 >>= λ c. maybe (eat f.Void c.1) c.1 >>= λ d.
         eat f.RParen d.1 >>= λ e. eat f.LBrace e.1 >>= λ g. within 65 g.1 >>= λ ss. eat f.Return ss.1 >>= λ r.
           whole_sum r.1 >>= λ s. eat f.Semicolon s.1 >>= λ x. eat f.RBrace x.1 >>= λ y.
             Some (record {
@@ -179,13 +180,15 @@ module _ (names : List (List ℕ)) where
 
 -- ---- declarations
 
+abbrev pub name_by : List (List ℕ) → Kind → Place → List Token → Option ((List ℕ × Place) × List Token)
+name_by names (k.Name n) p ts = cond (is_among n names) None (Some ((n, p), ts))
+name_by names (k.Fixed g) p ts = None
+name_by names (k.Number x) p ts = None
+
+-- a name that is not declared yet
 abbrev pub new_name : List (List ℕ) → List Token → Option ((List ℕ × Place) × List Token)
 new_name names [] = None
 new_name names (t ∷ ts) = name_by names t.kind t.place ts
-  where
-    name_by : List (List ℕ) → Kind → Place → List Token → Option ((List ℕ × Place) × List Token)
-    name_by names (k.Name n) p ts = cond (is_among n names) None (Some ((n, p), ts))
-    name_by names kind p ts = None
 
 abbrev pub declared : List (List ℕ) → Qualifier → Parser Declaration
 declared names q ts =
