@@ -11,3 +11,4 @@ pub mod Scans
 pub mod Eats
 pub mod Complete
 pub mod Names
+pub mod Sound
