@@ -329,3 +329,199 @@ module _ (names : List (List ℕ)) where
   sound_main ts x h =
       let s = sound_within 65 ts x h in
       record { text = s.text; fine = sym (within_more 64 x.0) ∙ s.fine }
+
+-- ---- declarations
+
+sound_maybe : (ts : List Token) (o : Option (Place × List Token)) → eat f.Void ts ≡ o → (x : Option Place × List Token) → p.maybe o ts ≡ Some x →
+    ts ≡ spell_void x.0 x.1
+sound_maybe ts None e x h =
+    let pair : Option Place × List Token = (None, ts) in
+    ap (λ (z : Option Place × List Token). spell_void z.0 z.1) (some_same pair x h)
+sound_maybe ts (Some y) e x h =
+    let pair : Option Place × List Token = (Some y.0, y.1) in
+    eat_sound f.Void ts y e ∙ ap (λ (z : Option Place × List Token). spell_void z.0 z.1) (some_same pair x h)
+
+qualified : (t : Token) (ts : List Token) (q r s : Bool) → p.is_fixed f.Strict t.kind ≡ q → p.is_fixed f.Relaxed t.kind ≡ r →
+    (x : Qualifier × List Token) →
+    cond q (Some (Strict t.place, ts)) (cond r (Some (Relaxed t.place, ts)) (cond s (Some (Unqualified, t ∷ ts)) None)) ≡ Some x →
+    t ∷ ts ≡ spell_qualifier x.0 x.1
+qualified t ts true r s e g x h =
+    let pair : Qualifier × List Token = (Strict t.place, ts) in
+    ap (λ z. z ∷ ts) (token_of f.Strict t e) ∙ ap (λ (z : Qualifier × List Token). spell_qualifier z.0 z.1) (some_same pair x h)
+qualified t ts false true s e g x h =
+    let pair : Qualifier × List Token = (Relaxed t.place, ts) in
+    ap (λ z. z ∷ ts) (token_of f.Relaxed t g) ∙ ap (λ (z : Qualifier × List Token). spell_qualifier z.0 z.1) (some_same pair x h)
+qualified t ts false false true e g x h =
+    let pair : Qualifier × List Token = (Unqualified, t ∷ ts) in
+    ap (λ (z : Qualifier × List Token). spell_qualifier z.0 z.1) (some_same pair x h)
+qualified t ts false false false e g x h = absurd cc
+
+sound_qualifier : (ts : List Token) (x : Qualifier × List Token) → p.qualifier ts ≡ Some x → ts ≡ spell_qualifier x.0 x.1
+sound_qualifier [] x h = absurd cc
+sound_qualifier (t ∷ ts) x h =
+    qualified t ts (p.is_fixed f.Strict t.kind) (p.is_fixed f.Relaxed t.kind) (p.is_fixed f.Shared t.kind) refl refl x h
+
+-- a new name stood there
+record Named (names : List (List ℕ)) (ts : List Token) (x : (List ℕ × Place) × List Token) : Type 0 where
+  text : ts ≡ record { kind = k.Name x.0.0; place = x.0.1 } ∷ x.1
+  fresh : is_among x.0.0 names ≡ false
+
+named_kind : (names : List (List ℕ)) (kind : Kind) (q : Place) (ts : List Token) (x : (List ℕ × Place) × List Token) →
+    p.name_by names kind q ts ≡ Some x → Named names (record { kind = kind; place = q } ∷ ts) x
+named_kind names (k.Name n) q ts x h = step (is_among n names) refl h
+  where
+    step : (z : Bool) → is_among n names ≡ z → cond z None (Some ((n, q), ts)) ≡ Some x → Named names (record { kind = k.Name n; place = q } ∷ ts) x
+    step true e g = absurd cc
+    step false e g =
+        let pair : (List ℕ × Place) × List Token = ((n, q), ts) in
+        subst (λ (y : (List ℕ × Place) × List Token). Named names (record { kind = k.Name n; place = q } ∷ ts) y) (some_same pair x g)
+          (record { text = refl; fresh = e })
+named_kind names (k.Fixed g) q ts x h = absurd cc
+named_kind names (k.Number v) q ts x h = absurd cc
+
+named : (names : List (List ℕ)) (ts : List Token) (x : (List ℕ × Place) × List Token) → p.new_name names ts ≡ Some x → Named names ts x
+named names [] x h = absurd cc
+named names (t ∷ ts) x h = named_kind names t.kind t.place ts x h
+
+-- a declaration behind its qualifier
+record Declared (names : List (List ℕ)) (q : Qualifier) (ts : List Token) (x : Declaration × List Token) : Type 0 where
+  text : spell_qualifier q ts ≡ spell_declaration x.0 x.1
+  fresh : is_among x.0.name names ≡ false
+
+sound_declared : (names : List (List ℕ)) (q : Qualifier) (ts : List Token) (x : Declaration × List Token) → p.declared names q ts ≡ Some x →
+    Declared names q ts x
+sound_declared names q ts x h =
+    let a = both (eat f.Shared ts) _ x h in
+    let b = both (eat f.Int a.value.1) _ x a.then in
+    let c = both (p.new_name names b.value.1) _ x b.then in
+    let d = both (eat f.Semicolon c.value.1) _ x c.then in
+    let n = named names b.value.1 c.value c.first in
+    subst (λ (y : Declaration × List Token). Declared names q ts y) (some_same _ x d.then)
+      (record {
+        text = ap (spell_qualifier q)
+            (eat_sound f.Shared ts a.value a.first
+             ∙ ap (λ z. fixed f.Shared a.value.0 ∷ z) (eat_sound f.Int a.value.1 b.value b.first
+               ∙ ap (λ z. fixed f.Int b.value.0 ∷ z) (n.text
+                 ∙ ap (λ z. record { kind = k.Name c.value.0.0; place = c.value.0.1 } ∷ z) (eat_sound f.Semicolon c.value.1 d.value d.first))));
+        fresh = n.fresh })
+
+abbrev SaidDeclarations : List (List ℕ) → List Token → List Declaration × List Token → Type 0
+SaidDeclarations names ts x = Said spell_declarations (are_new names) ts x
+
+declarations_found : (count : ℕ) → ((names : List (List ℕ)) (ts : List Token) (x : List Declaration × List Token) → p.declarations count names ts ≡ Some x → SaidDeclarations names ts x) →
+    (names : List (List ℕ)) (ts : List Token) (o : Option (Qualifier × List Token)) → p.qualifier ts ≡ o → (x : List Declaration × List Token) →
+    p.declarations_by (p.declarations count) names o ts ≡ Some x → SaidDeclarations names ts x
+declarations_found count others names ts None e x h = said _ _ _ ([], ts) x h (record { text = refl; fine = refl })
+declarations_found count others names ts (Some q) e x h =
+    let a = both (p.declared names q.0 q.1) _ x h in
+    let b = both (p.declarations count (names ++ a.value.0.name ∷ []) a.value.1) _ x a.then in
+    let d = sound_declared names q.0 q.1 a.value a.first in
+    let r = others (names ++ a.value.0.name ∷ []) a.value.1 b.value b.first in
+    said _ _ _ (a.value.0 ∷ b.value.0, b.value.1) x b.then
+      (record {
+        text = sound_qualifier ts q e ∙ d.text ∙ ap (spell_declaration a.value.0) r.text;
+        fine = rw d.fresh r.fine })
+
+sound_declarations : (count : ℕ) (names : List (List ℕ)) (ts : List Token) (x : List Declaration × List Token) → p.declarations count names ts ≡ Some x →
+    SaidDeclarations names ts x
+unfolding p.declarations
+sound_declarations zero names ts x h = said _ _ _ ([], ts) x h (record { text = refl; fine = refl })
+sound_declarations (suc count) names ts x h =
+    declarations_found count (sound_declarations count) names ts (p.qualifier ts) refl x h
+
+-- what stands behind the declarations
+record SaidBody (names : List (List ℕ)) (ds : List Declaration) (ts : List Token) (x : Source × List Token) : Type 0 where
+  text : x.1 ≡ [] → ts ≡ spell_body names x.0
+  same : x.0.declarations ≡ ds
+  statements : proper_statements (length names) 64 64 x.0.statements ≡ true
+  result : proper_sum (length names) 64 x.0.result ≡ true
+
+spell_head : p.Head → List Token → List Token
+spell_head h rest =
+    fixed f.Int h.int ∷ fixed f.Main h.main ∷ fixed f.LParen h.lparen
+    ∷ spell_void h.void (fixed f.RParen h.rparen ∷ fixed f.LBrace h.lbrace ∷ rest)
+
+sound_head : (ts : List Token) (x : p.Head × List Token) → p.head ts ≡ Some x → ts ≡ spell_head x.0 x.1
+unfolding spell_head
+sound_head ts x h =
+    let a = both (eat f.Int ts) _ x h in
+    let b = both (eat f.Main a.value.1) _ x a.then in
+    let c = both (eat f.LParen b.value.1) _ x b.then in
+    let d = both (p.maybe (eat f.Void c.value.1) c.value.1) _ x c.then in
+    let e = both (eat f.RParen d.value.1) _ x d.then in
+    let g = both (eat f.LBrace e.value.1) _ x e.then in
+    eat_sound f.Int ts a.value a.first
+    ∙ ap (λ z. fixed f.Int a.value.0 ∷ z) (eat_sound f.Main a.value.1 b.value b.first
+      ∙ ap (λ z. fixed f.Main b.value.0 ∷ z) (eat_sound f.LParen b.value.1 c.value c.first
+        ∙ ap (λ z. fixed f.LParen c.value.0 ∷ z) (sound_maybe c.value.1 (eat f.Void c.value.1) refl d.value d.first
+          ∙ ap (spell_void d.value.0) (eat_sound f.RParen d.value.1 e.value e.first
+            ∙ ap (λ z. fixed f.RParen e.value.0 ∷ z) (eat_sound f.LBrace e.value.1 g.value g.first)))))
+    ∙ ap (λ (z : p.Head × List Token). spell_head z.0 z.1) (some_same _ x g.then)
+
+-- the end of main, and what it says of the source
+record SaidEnding (names : List (List ℕ)) (ds : List Declaration) (h : p.Head) (ss : Statements) (ts : List Token) (x : Source × List Token) : Type 0 where
+  text : x.1 ≡ [] → ts ≡ fixed f.Return x.0.return ∷ spell_sum names x.0.result (fixed f.Semicolon x.0.semicolon ∷ fixed f.RBrace x.0.rbrace ∷ [])
+  head : spell_head h (spell_statements names ss ts) ≡ spell_head (record { int = x.0.int; main = x.0.main; lparen = x.0.lparen; void = x.0.void; rparen = x.0.rparen; lbrace = x.0.lbrace }) (spell_statements names x.0.statements ts)
+  statements : x.0.statements ≡ ss
+  same : x.0.declarations ≡ ds
+  result : proper_sum (length names) 64 x.0.result ≡ true
+
+sound_ending : (names : List (List ℕ)) (ds : List Declaration) (h : p.Head) (ss : Statements) (ts : List Token) (x : Source × List Token) →
+    p.ending names ds h ss ts ≡ Some x → SaidEnding names ds h ss ts x
+sound_ending names ds h ss ts x e =
+    let j = both (eat f.Return ts) _ x e in
+    let l = both (p.whole_sum names j.value.1) _ x j.then in
+    let m = both (eat f.Semicolon l.value.1) _ x l.then in
+    let n = both (eat f.RBrace m.value.1) _ x m.then in
+    let s = sound_whole names j.value.1 l.value l.first in
+    subst (λ (y : Source × List Token). SaidEnding names ds h ss ts y) (some_same _ x n.then)
+      (record {
+        text = λ last.
+            eat_sound f.Return ts j.value j.first
+            ∙ ap (λ z. fixed f.Return j.value.0 ∷ z) (s.text
+              ∙ ap (spell_sum names l.value.0) (eat_sound f.Semicolon l.value.1 m.value m.first
+                ∙ ap (λ z. fixed f.Semicolon m.value.0 ∷ z) (eat_sound f.RBrace m.value.1 n.value n.first
+                  ∙ ap (λ z. fixed f.RBrace n.value.0 ∷ z) last)));
+        head = refl; statements = refl; same = refl; result = s.fine })
+
+sound_body : (names : List (List ℕ)) (ds : List Declaration) (ts : List Token) (x : Source × List Token) → p.body names ds ts ≡ Some x →
+    SaidBody names ds ts x
+unfolding spell_head
+sound_body names ds ts x h =
+    let a = both (p.head ts) _ x h in
+    let b = both (within names 65 a.value.1) _ x a.then in
+    let ss = sound_main names a.value.1 b.value b.first in
+    let e = sound_ending names ds a.value.0 b.value.0 b.value.1 x b.then in
+    record {
+      text = λ last.
+          sound_head ts a.value a.first
+          ∙ ap (spell_head a.value.0) ss.text
+          ∙ e.head
+          ∙ ap (λ z. spell_head (record { int = x.0.int; main = x.0.main; lparen = x.0.lparen; void = x.0.void; rparen = x.0.rparen; lbrace = x.0.lbrace }) (spell_statements names x.0.statements z)) (e.text last);
+      same = e.same;
+      statements = subst (λ z. proper_statements (length names) 64 64 z ≡ true) (sym e.statements) ss.fine;
+      result = e.result;
+    }
+
+whole_read : (o : Option (Source × List Token)) (u : Source) → p.whole o ≡ Some u → o ≡ Some (u, [])
+whole_read None u h = absurd cc
+whole_read (Some (v, [])) u h = let same : v ≡ u = cc in ap (λ z. Some (z, [])) same
+whole_read (Some (v, t ∷ ts)) u h = absurd cc
+
+-- what is read from tokens is a proper tree that has these tokens
+pub sound : (ts : List Token) (u : Source) → p.source ts ≡ Some u → (spell u ≡ ts) × (proper u ≡ true)
+unfolding p.source
+sound ts u h =
+    let o = whole_read _ u h in
+    let a = both (p.declarations (length ts) [] ts) _ (u, []) o in
+    let d = sound_declarations (length ts) [] ts a.value a.first in
+    let b = sound_body (names_of a.value.0) a.value.0 a.value.1 (u, []) a.then in
+    let size = length-names_of u.declarations in
+    let names : names_of a.value.0 ≡ names_of u.declarations = ap names_of (sym b.same) in
+    (sym (d.text
+        ∙ ap (spell_declarations a.value.0) (b.text refl)
+        ∙ ap (λ z. spell_declarations z (spell_body (names_of z) u)) (sym b.same)),
+     and_true _ _ (subst (λ z. are_new [] z ≡ true) (sym b.same) d.fine)
+       (and_true _ _
+         (subst (λ z. proper_statements z 64 64 u.statements ≡ true) (ap length names ∙ size) b.statements)
+         (subst (λ z. proper_sum z 64 u.result ≡ true) (ap length names ∙ size) b.result)))

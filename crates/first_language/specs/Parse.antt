@@ -64,6 +64,21 @@ abbrev pub maybe : Option (Place × List Token) → Parser (Option Place)
 maybe None ts = Some (None, ts)
 maybe (Some x) ts = Some (Some x.0, x.1)
 
+-- the tokens up to the statements of main
+pub record Head : Type 0 where
+  pub int : Place
+  pub main : Place
+  pub lparen : Place
+  pub void : Option Place
+  pub rparen : Place
+  pub lbrace : Place
+
+abbrev pub head : Parser Head
+head ts =
+    eat f.Int ts >>= λ a. eat f.Main a.1 >>= λ b. eat f.LParen b.1 >>= λ c. maybe (eat f.Void c.1) c.1 >>= λ d.
+      eat f.RParen d.1 >>= λ e. eat f.LBrace e.1 >>= λ g.
+        Some (record { int = a.0; main = b.0; lparen = c.0; void = d.0; rparen = e.0; lbrace = g.0 }, g.1)
+
 -- nothing has this tree
 abbrev pub nothing : {A : Type 0} → Parser A
 nothing ts = None
@@ -168,15 +183,17 @@ module _ (names : List (List ℕ)) where
   within zero = nothing
   within (suc n) = λ ts. statements (within n) (length ts) ts
 
+  -- the end of main
+  abbrev pub ending : List Declaration → Head → Statements → Parser Source
+  ending ds h ss ts =
+      eat f.Return ts >>= λ r. whole_sum r.1 >>= λ s. eat f.Semicolon s.1 >>= λ x. eat f.RBrace x.1 >>= λ y.
+        Some (record {
+          declarations = ds; int = h.int; main = h.main; lparen = h.lparen; void = h.void; rparen = h.rparen; lbrace = h.lbrace;
+          statements = ss; return = r.0; result = s.0; semicolon = x.0; rbrace = y.0 }, y.1)
+
   -- what follows the declarations
   abbrev pub body : List Declaration → Parser Source
-  body ds ts =
-      eat f.Int ts >>= λ a. eat f.Main a.1 >>= λ b. eat f.LParen b.1 >>= λ c. maybe (eat f.Void c.1) c.1 >>= λ d.
-        eat f.RParen d.1 >>= λ e. eat f.LBrace e.1 >>= λ g. within 65 g.1 >>= λ ss. eat f.Return ss.1 >>= λ r.
-          whole_sum r.1 >>= λ s. eat f.Semicolon s.1 >>= λ x. eat f.RBrace x.1 >>= λ y.
-            Some (record {
-              declarations = ds; int = a.0; main = b.0; lparen = c.0; void = d.0; rparen = e.0; lbrace = g.0;
-              statements = ss.0; return = r.0; result = s.0; semicolon = x.0; rbrace = y.0 }, y.1)
+  body ds ts = head ts >>= λ h. within 65 h.1 >>= λ ss. ending ds h.0 ss.0 ss.1
 
 -- ---- declarations
 
