@@ -10,3 +10,4 @@ pub mod Scan
 pub mod Syntax
 pub mod Source
 pub mod Parse
+pub mod Emit

@@ -6,6 +6,7 @@ mod machine;
 mod scan;
 mod step;
 mod token;
+mod tokens;
 mod tree;
 mod words;
 
