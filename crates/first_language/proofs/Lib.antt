@@ -12,3 +12,4 @@ pub mod Eats
 pub mod Complete
 pub mod Names
 pub mod Sound
+pub mod Emits

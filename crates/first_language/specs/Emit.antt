@@ -4,7 +4,10 @@ use Rattle.upc_text.specs.declared.place.Place.{Place}
 use Rattle.first_language.specs.declared.token.Token.{Token}
 use Rattle.first_language.specs.declared.instr.Instr.{Instr}
 use Rattle.first_language.specs.declared.instr.Instr.TheVariants as i
+use Rattle.first_language.specs.declared.instr.Operator.{Operator}
 use Rattle.first_language.specs.declared.instr.Operator.TheVariants as o
+use Rattle.first_language.specs.declared.token.Fixed.TheVariants as f
+use Rattle.first_language.specs.Parse.{eat}
 use Rattle.first_language.specs.Syntax.{Atom, Factors, Alone, By, More, Done, Add, Subtract, Sum, Statement, Statements, expr_atom, expr_factors, expr_sum, stmt_of, block_of, place_of}
 use Rattle.first_language.specs.Postfix.{code_expr, code_stmt, code_block}
 
@@ -63,3 +66,10 @@ ParsedAt emit at o None ts old new = o ≡ None
 abbrev pub Eaten : Option (Place × List Token) → Option Place → List Token → List Token → Type 0
 Eaten o (Some p) old new = o ≡ Some (p, new)
 Eaten o None old new = (o ≡ None) × (new ≡ old)
+
+-- a sign was eaten
+abbrev pub Signed : List Token → Option Operator → List Token → Type 0
+Signed ts (Some o.Plus) new = (p : Place) × (eat f.Plus ts ≡ Some (p, new))
+Signed ts (Some o.Minus) new = (p : Place) × (eat f.Plus ts ≡ None) × (eat f.Minus ts ≡ Some (p, new))
+Signed ts (Some o.Times) new = ⊥
+Signed ts None new = (eat f.Plus ts ≡ None) × (eat f.Minus ts ≡ None) × (new ≡ ts)

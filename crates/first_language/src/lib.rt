@@ -5,6 +5,7 @@ mod instr;
 mod machine;
 mod scan;
 mod step;
+mod sums;
 mod token;
 mod tokens;
 mod tree;
