@@ -200,6 +200,28 @@ module _ (names : List (List ℕ)) where
   while_fits zero q r s x b ss y h g = g
   while_fits (suc l) q r s x b ss y h g = and_true _ _ h g
 
+  abbrev spell_opening : p.Opening → List Token → List Token
+  spell_opening o rest =
+      fixed f.LParen o.lparen ∷ spell_sum names o.condition (fixed f.RParen o.rparen ∷ fixed f.LBrace o.lbrace ∷ rest)
+
+  abbrev proper_opening : p.Opening → Bool
+  proper_opening o = proper_sum (length names) 64 o.condition
+
+  sound_opening : (ts : List Token) (x : p.Opening × List Token) → p.opening names ts ≡ Some x → Said spell_opening proper_opening ts x
+  sound_opening ts x h =
+      let a = both (eat f.LParen ts) _ x h in
+      let b = both (p.whole_sum names a.value.1) _ x a.then in
+      let c = both (eat f.RParen b.value.1) _ x b.then in
+      let d = both (eat f.LBrace c.value.1) _ x c.then in
+      let s = sound_whole a.value.1 b.value b.first in
+      said spell_opening proper_opening ts _ x d.then
+        (record {
+          text = eat_sound f.LParen ts a.value a.first
+              ∙ ap (λ z. fixed f.LParen a.value.0 ∷ z) (s.text
+                ∙ ap (spell_sum names b.value.0) (eat_sound f.RParen b.value.1 c.value c.first
+                  ∙ ap (λ z. fixed f.RParen c.value.0 ∷ z) (eat_sound f.LBrace c.value.1 d.value d.first)));
+          fine = s.fine })
+
   abbrev SoundWithin : ℕ → Type 0
   SoundWithin l = (ts : List Token) (x : Statements × List Token) → within names l ts ≡ Some x → Said (spell_statements names) (fits_within l) ts x
 
@@ -248,24 +270,17 @@ module _ (names : List (List ℕ)) where
     sound_loop : (q : Place) (ts : List Token) (x : Statement × List Token) → p.loop names (within names l) q ts ≡ Some x →
         SaidStatement (fixed f.While q ∷ ts) x
     sound_loop q ts x h =
-        let a = both (eat f.LParen ts) _ x h in
-        let b = both (p.whole_sum names a.value.1) _ x a.then in
-        let c = both (eat f.RParen b.value.1) _ x b.then in
-        let d = both (eat f.LBrace c.value.1) _ x c.then in
-        let e = both (within names l d.value.1) _ x d.then in
+        let o = both (p.opening names ts) _ x h in
+        let e = both (within names l o.value.1) _ x o.then in
         let g = both (eat f.RBrace e.value.1) _ x e.then in
-        let s = sound_whole a.value.1 b.value b.first in
-        let r = inner d.value.1 e.value e.first in
-        said _ _ _ (While q a.value.0 b.value.0 c.value.0 d.value.0 e.value.0 g.value.0, g.value.1) x g.then
+        let s = sound_opening ts o.value o.first in
+        let r = inner o.value.1 e.value e.first in
+        said _ _ _ (While q o.value.0.lparen o.value.0.condition o.value.0.rparen o.value.0.lbrace e.value.0 g.value.0, g.value.1) x g.then
           (record {
             text = ap (λ z. fixed f.While q ∷ z)
-                (eat_sound f.LParen ts a.value a.first
-                 ∙ ap (λ z. fixed f.LParen a.value.0 ∷ z) (s.text
-                   ∙ ap (spell_sum names b.value.0) (eat_sound f.RParen b.value.1 c.value c.first
-                     ∙ ap (λ z. fixed f.RParen c.value.0 ∷ z) (eat_sound f.LBrace c.value.1 d.value d.first
-                       ∙ ap (λ z. fixed f.LBrace d.value.0 ∷ z) (r.text
-                         ∙ ap (spell_statements names e.value.0) (eat_sound f.RBrace e.value.1 g.value g.first))))));
-            fine = while_fits l q a.value.0 b.value.0 c.value.0 d.value.0 e.value.0 g.value.0 s.fine r.fine })
+                (s.text ∙ ap (spell_opening o.value.0) (r.text
+                  ∙ ap (spell_statements names e.value.0) (eat_sound f.RBrace e.value.1 g.value g.first)));
+            fine = while_fits l q o.value.0.lparen o.value.0.condition o.value.0.rparen o.value.0.lbrace e.value.0 g.value.0 s.fine r.fine })
 
     sound_fixed_statement : (g : Fixed) (q : Place) (ts : List Token) (x : Statement × List Token) →
         p.fixed_statement names (within names l) g q ts ≡ Some x → SaidStatement (fixed g q ∷ ts) x

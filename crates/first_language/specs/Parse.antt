@@ -79,6 +79,13 @@ head ts =
       eat f.RParen d.1 >>= λ e. eat f.LBrace e.1 >>= λ g.
         Some (record { int = a.0; main = b.0; lparen = c.0; void = d.0; rparen = e.0; lbrace = g.0 }, g.1)
 
+-- '(' sum ')' '{'
+pub record Opening : Type 0 where
+  pub lparen : Place
+  pub condition : Sum
+  pub rparen : Place
+  pub lbrace : Place
+
 -- nothing has this tree
 abbrev pub nothing : {A : Type 0} → Parser A
 nothing ts = None
@@ -142,6 +149,12 @@ module _ (names : List (List ℕ)) where
   abbrev pub whole_sum : Parser Sum
   whole_sum ts = inside 65 ts
 
+  -- the tokens between 'while' and the statements of a loop
+  abbrev pub opening : Parser Opening
+  opening ts =
+      eat f.LParen ts >>= λ q. whole_sum q.1 >>= λ s. eat f.RParen s.1 >>= λ r. eat f.LBrace r.1 >>= λ x.
+        Some (record { lparen = q.0; condition = s.0; rparen = r.0; lbrace = x.0 }, x.1)
+
   -- the statements of a loop are read by `inner`
   module _ (inner : Parser Statements) where
     abbrev pub assign : ℕ → Place → Parser Statement
@@ -155,8 +168,8 @@ module _ (names : List (List ℕ)) where
 
     abbrev pub loop : Place → Parser Statement
     loop p ts =
-        eat f.LParen ts >>= λ q. whole_sum q.1 >>= λ s. eat f.RParen s.1 >>= λ r. eat f.LBrace r.1 >>= λ x. inner x.1 >>= λ b.
-          eat f.RBrace b.1 >>= λ y. Some (While p q.0 s.0 r.0 x.0 b.0 y.0, y.1)
+        opening ts >>= λ o. inner o.1 >>= λ b. eat f.RBrace b.1 >>= λ y.
+          Some (While p o.0.lparen o.0.condition o.0.rparen o.0.lbrace b.0 y.0, y.1)
 
     abbrev pub fixed_statement : Fixed → Place → Parser Statement
     fixed_statement f.Barrier p ts = eat f.Semicolon ts >>= λ q. Some (Barrier p q.0, q.1)
