@@ -13,3 +13,4 @@ pub mod Complete
 pub mod Names
 pub mod Sound
 pub mod Emits
+pub mod Writes

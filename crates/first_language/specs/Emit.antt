@@ -1,5 +1,5 @@
 -- What the parser answers, and the steps that it writes.
-use Rattle.std.specs.Prelude.{◌≡◌, ℕ, Bool, true, false, List, [], ◌∷◌, ◌++◌, Option, Some, None}
+use Rattle.std.specs.Prelude.{◌≡◌, ℕ, length, Bool, true, false, List, [], ◌∷◌, ◌++◌, Option, Some, None}
 use Rattle.upc_text.specs.declared.place.Place.{Place}
 use Rattle.first_language.specs.declared.token.Token.{Token}
 use Rattle.first_language.specs.declared.instr.Instr.{Instr}
@@ -7,7 +7,7 @@ use Rattle.first_language.specs.declared.instr.Instr.TheVariants as i
 use Rattle.first_language.specs.declared.instr.Operator.{Operator}
 use Rattle.first_language.specs.declared.instr.Operator.TheVariants as o
 use Rattle.first_language.specs.declared.token.Fixed.TheVariants as f
-use Rattle.first_language.specs.Parse.{eat}
+use Rattle.first_language.specs.Parse.{eat, ends, Opening}
 use Rattle.first_language.specs.Syntax.{Atom, Factors, Alone, By, More, Done, Add, Subtract, Sum, Statement, Statements, expr_atom, expr_factors, expr_sum, stmt_of, block_of, place_of}
 use Rattle.first_language.specs.Postfix.{code_expr, code_stmt, code_block}
 
@@ -73,3 +73,24 @@ Signed ts (Some o.Plus) new = (p : Place) × (eat f.Plus ts ≡ Some (p, new))
 Signed ts (Some o.Minus) new = (p : Place) × (eat f.Plus ts ≡ None) × (eat f.Minus ts ≡ Some (p, new))
 Signed ts (Some o.Times) new = ⊥
 Signed ts None new = (eat f.Plus ts ≡ None) × (eat f.Minus ts ≡ None) × (new ≡ ts)
+
+-- a loop was opened, and its condition has so many steps
+pub record GotOpening (o : Option (Opening × List Token)) (count : ℕ) (ts : List Token) (old new : List Instr) : Type 0 where
+  pub tree : Opening
+  pub read : o ≡ Some (tree, ts)
+  pub code : new ≡ old ++ i.Tick ∷ i.Beat ∷ i.Check ∷ emit_sum tree.condition
+  pub count_is : count ≡ length (emit_sum tree.condition)
+
+abbrev pub Opened : Option (Opening × List Token) → Option ℕ → List Token → List Instr → List Instr → Type 0
+Opened o (Some n) ts old new = GotOpening o n ts old new
+Opened o None ts old new = o ≡ None
+
+-- statements end where these tokens begin
+abbrev pub AtEnd : List Token → Type 0
+AtEnd [] = Unit {0}
+AtEnd (t ∷ ts) = ends t.kind ≡ true
+
+-- the first token of a statement was taken, or the tokens stay
+abbrev pub Begun : List Token → Option Token → List Token → Type 0
+Begun old (Some t) new = (old ≡ t ∷ new) × (ends t.kind ≡ false)
+Begun old None new = AtEnd old × (new ≡ old)

@@ -4,6 +4,7 @@
 mod instr;
 mod machine;
 mod scan;
+mod statements;
 mod step;
 mod sums;
 mod token;
