@@ -14,3 +14,6 @@ pub mod Names
 pub mod Sound
 pub mod Emits
 pub mod Writes
+pub mod Postfixes
+pub mod Formed
+pub mod Heads

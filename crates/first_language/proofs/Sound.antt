@@ -25,7 +25,7 @@ pub said : {A : Type 0} (spelled : A → List Token → List Token) (is_proper :
     Some x ≡ Some y → Said spelled is_proper ts x → Said spelled is_proper ts y
 said spelled is_proper ts x y e h = subst (λ z. Said spelled is_proper ts z) (some_same x y e) h
 
-and_true : (q r : Bool) → q ≡ true → r ≡ true → (q && r) ≡ true
+pub and_true : (q r : Bool) → q ≡ true → r ≡ true → (q && r) ≡ true
 and_true q r h g = rw (h, g) refl
 
 chosen : {A : Type 0} (q : Bool) (x y : A) → cond q (Some x) None ≡ Some y → (q ≡ true) × (Some x ≡ Some y)

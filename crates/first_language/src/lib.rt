@@ -4,6 +4,7 @@
 mod instr;
 mod machine;
 mod scan;
+mod source;
 mod statements;
 mod step;
 mod sums;

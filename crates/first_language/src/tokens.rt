@@ -1,10 +1,11 @@
 //! The tokens that are left.
 
-ghost use Rattle.std.specs.Prelude.{◌≡◌, ◌≤◌, nat_eq, length, position};
+ghost use Rattle.std.specs.Prelude.{◌≡◌, ◌≤◌, nat_eq, length, position, is_some};
+ghost use Rattle.std.specs.Option.{option_copied};
 ghost use Rattle.std.specs.Cmp.Lexicographic.{pointwise};
 ghost use Rattle.first_language.specs.Parse as spec;
 ghost use Rattle.first_language.specs.Parse.{number_of, is_fixed};
-ghost use Rattle.first_language.specs.Emit.{Eaten};
+ghost use Rattle.first_language.specs.Emit.{Eaten, Taken};
 
 use crate::token::{Fixed, Kind, Token};
 use upc_text::{Place, Text};
@@ -43,6 +44,29 @@ pub(crate) fn eat(tokens: &mut Tokens<'_>, fixed: Fixed) -> Option<Place>
             } else {
                 None
             }
+        }
+    }
+}
+
+/// Whether this token comes next.
+pub(crate) fn stands(tokens: &Tokens<'_>, fixed: Fixed) -> bool
+    ensures { result ≡ is_some (spec.eat fixed tokens.now.rest.now) }
+{
+    match tokens.rest {
+        [] => false,
+        [first, ..] => is_fixed(fixed, &first.kind),
+    }
+}
+
+/// Takes the next token.
+pub(crate) fn next<'a>(tokens: &mut Tokens<'a>) -> Option<&'a Token>
+    ensures { Taken tokens.old.rest.now (option_copied result) tokens.new.rest.now }
+{
+    match tokens.rest {
+        [] => None,
+        [first, rest @ ..] => {
+            tokens.rest = rest;
+            Some(first)
         }
     }
 }
