@@ -17,3 +17,4 @@ pub mod Writes
 pub mod Postfixes
 pub mod Formed
 pub mod Heads
+pub mod Sources

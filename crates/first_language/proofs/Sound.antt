@@ -518,6 +518,10 @@ sound_body names ds ts x h =
       result = e.result;
     }
 
+pub body_declarations : (names : List (List ℕ)) (ds : List Declaration) (ts : List Token) (x : Source × List Token) → p.body names ds ts ≡ Some x →
+    x.0.declarations ≡ ds
+body_declarations names ds ts x h = (sound_body names ds ts x h).same
+
 whole_read : (o : Option (Source × List Token)) (u : Source) → p.whole o ≡ Some u → o ≡ Some (u, [])
 whole_read None u h = absurd cc
 whole_read (Some (v, [])) u h = let same : v ≡ u = cc in ap (λ z. Some (z, [])) same

@@ -8,8 +8,8 @@ use Rattle.first_language.specs.declared.instr.Operator.{Operator}
 use Rattle.first_language.specs.declared.instr.Operator.TheVariants as o
 use Rattle.first_language.specs.declared.token.Fixed.TheVariants as f
 use Rattle.first_language.specs.Parse.{eat, ends, Opening}
-use Rattle.first_language.specs.Syntax.{Atom, Factors, Alone, By, More, Done, Add, Subtract, Sum, Statement, Statements, Qualifier, Declaration, Source, is_strict, expr_atom, expr_factors, expr_sum, stmt_of, block_of, place_of}
-use Rattle.first_language.specs.Postfix.{code_expr, code_stmt, code_block, code_program}
+use Rattle.first_language.specs.Syntax.{Atom, Factors, Alone, By, More, Done, Add, Subtract, Sum, Statement, Statements,  expr_atom, expr_factors, expr_sum, stmt_of, block_of, place_of}
+use Rattle.first_language.specs.Postfix.{code_expr, code_stmt, code_block}
 
 abbrev pub emit_atom : Atom → List Instr
 emit_atom a = code_expr (expr_atom a) []
@@ -99,21 +99,3 @@ AtEnd (t ∷ ts) = ends t.kind ≡ true
 abbrev pub Begun : List Token → Option Token → List Token → Type 0
 Begun old (Some t) new = (old ≡ t ∷ new) × (ends t.kind ≡ false)
 Begun old None new = AtEnd old × (new ≡ old)
-
-abbrev pub emit_source : Source → List Instr
-emit_source u = code_program (block_of u.statements) (expr_sum u.result)
-
--- what a declaration begins with was taken, or nothing was
-abbrev pub Qualified : Option (Qualifier × List Token) → Option Bool → List Token → List Token → Type 0
-Qualified o (Some strict) old new = (q : Qualifier) × (o ≡ Some (q, new)) × (is_strict q ≡ strict)
-Qualified o None old new = (o ≡ None) × (new ≡ old)
-
--- a new name was taken
-abbrev pub NewName : Option ((List ℕ × Place) × List Token) → Option (List ℕ) → List Token → Type 0
-NewName o (Some name) ts = (p : Place) × (o ≡ Some ((name, p), ts))
-NewName o None ts = o ≡ None
-
--- a declaration was read, with this qualifier and name
-abbrev pub Declares : Option (Declaration × List Token) → Qualifier → Option (List ℕ) → List Token → Type 0
-Declares o q (Some name) ts = (d : Declaration) × (o ≡ Some (d, ts)) × (d.name ≡ name) × (d.qualifier ≡ q)
-Declares o q None ts = o ≡ None

@@ -11,3 +11,4 @@ pub mod Syntax
 pub mod Source
 pub mod Parse
 pub mod Emit
+pub mod Heads

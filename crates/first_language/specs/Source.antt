@@ -1,5 +1,5 @@
 -- The sources of the first language.
-use Rattle.std.specs.Prelude.{ℕ, ◌≡◌, ◌≤◌, true, List, length, Some}
+use Rattle.std.specs.Prelude.{ℕ, ◌≡◌, ◌≤◌, true, List, length, Option, Some}
 use Rattle.first_language.specs.declared.tree.First.{First}
 use Rattle.first_language.specs.Scan.{tokens_of}
 use Rattle.first_language.specs.Syntax.{Source, spell, proper, program}
@@ -14,3 +14,9 @@ pub record IsTree (bytes : List ℕ) (u : Source) : Type 0 where
 -- a source whose tree is this program's
 unfoldable pub IsSource : List ℕ → First → Type 0
 IsSource bytes p = (u : Source) × IsTree bytes u × (program_of p ≡ program u)
+
+-- the program is that of the tree that was read
+pub record IsProgram (o : Option Source) (p : First) : Type 0 where
+  pub tree : Source
+  pub read : o ≡ Some tree
+  pub program_is : program_of p ≡ program tree

@@ -17,4 +17,5 @@ pub use instr::{Instr, Operator};
 
 pub use std::alloc::AllocError as OutOfMemory;
 pub use machine::{Machine, Wish};
+pub use source::{one_tree, read_first};
 pub use tree::First;

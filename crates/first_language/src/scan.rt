@@ -179,7 +179,8 @@ fn skip(bytes: &[u8], count: usize) -> &[u8]
 /// The tokens of a source, if each of its bytes belongs to one or is blank.
 pub(crate) fn tokens_of(alloc: Global, source: &[u8]) -> Result<Option<Vec<Token>>, AllocError>
     requires { length source.now ≤ 1048576 }
-    ensures { IfOk result (λ o. MatchOption o (spec.tokens_of source.now ≡ None) (λ v. spec.tokens_of source.now ≡ Some v.items)) }
+    ensures read { IfOk result (λ o. MatchOption o (spec.tokens_of source.now ≡ None) (λ v. spec.tokens_of source.now ≡ Some v.items)) }
+    ensures few { IfOk result (λ o. IfSome o (λ v. length v.items ≤ 1048576)) }
 {
     let mut tokens = Vec::new(alloc);
     let mut rest = source;
