@@ -8,3 +8,14 @@ pub mod Keeps
 pub mod Laws
 pub mod Digits
 pub mod Budget
+pub mod Scans
+pub mod Eats
+pub mod Complete
+pub mod Names
+pub mod Sound
+pub mod Emits
+pub mod Writes
+pub mod Postfixes
+pub mod Formed
+pub mod Heads
+pub mod Sources

@@ -7,3 +7,8 @@ pub mod Machine
 pub mod Turns
 pub mod Words
 pub mod Scan
+pub mod Syntax
+pub mod Source
+pub mod Parse
+pub mod Emit
+pub mod Heads

@@ -57,9 +57,10 @@ mark_of b =
       (cond (b == 61) (Some Equal) (cond (b == 59) (Some Semicolon) (cond (b == 44) (Some Comma) (cond (b == 43) (Some Plus)
         (cond (b == 45) (Some Minus) (cond (b == 42) (Some Star) None)))))))))
 
--- the token that stands first, and its length; there is one only if some token has this spelling
-abbrev pub front_of : ℕ → List ℕ → Option (Kind × ℕ)
-front_of b bs =
+-- the token that stands first, and its length, if some token is spelled so
+abbrev pub front_of : List ℕ → Option (Kind × ℕ)
+front_of [] = None
+front_of (b ∷ bs) =
     cond (is_part b)
       (option_map (λ x. (x, length (take_while is_part (b ∷ bs)))) (run_of (take_while is_part (b ∷ bs))))
       (cond (starts_with nat_eq (b ∷ bs) (codes "\"%d\\n\"")) (Some (k.Fixed Format, 6))
@@ -85,7 +86,7 @@ tokens_from zero p bs = Some []
 tokens_from (suc n) p [] = Some []
 tokens_from (suc n) p (b ∷ bs) =
     cond (is_blank b) (tokens_from n (place_behind b p) bs)
-      (behind (front_of b bs) p (λ q m. tokens_from n q (drop m (b ∷ bs))))
+      (behind (front_of (b ∷ bs)) p (λ q m. tokens_from n q (drop m (b ∷ bs))))
 
 -- the tokens of a source
 unfoldable pub tokens_of : List ℕ → Option (List Token)

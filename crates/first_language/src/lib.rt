@@ -4,8 +4,12 @@
 mod instr;
 mod machine;
 mod scan;
+mod source;
+mod statements;
 mod step;
+mod sums;
 mod token;
+mod tokens;
 mod tree;
 mod words;
 
@@ -13,4 +17,5 @@ pub use instr::{Instr, Operator};
 
 pub use std::alloc::AllocError as OutOfMemory;
 pub use machine::{Machine, Wish};
+pub use source::{one_tree, read_first};
 pub use tree::First;

@@ -1,6 +1,6 @@
 //! From bytes to tokens.
 
-ghost use Rattle.std.specs.Prelude.{◌≡◌, ◌<◌, ◌≤◌, ◌^◌, ◌∷◌, [], ℕ, List, IfOk, MatchOption, length, take, take_while, true, false, None, Some, pos};
+ghost use Rattle.std.specs.Prelude.{◌≡◌, ◌<◌, ◌≤◌, ◌+◌, ℕ, IfOk, IfSome, MatchOption, length, take, drop, take_while, true, false, None, Some, pos};
 ghost use Rattle.std.specs.List.{list_all};
 ghost use Rattle.first_language.specs.Words.{fixed_word};
 ghost use Rattle.first_language.specs.Scan as spec;
@@ -122,4 +122,84 @@ fn mark_of(b: u8) -> Option<Fixed>
         b'*' => Some(Fixed::Star),
         _ => None,
     }
+}
+
+// The token that stands first, and its length.
+fn front_of(alloc: Global, bytes: &[u8]) -> Result<Option<(Kind, usize)>, AllocError>
+    ensures token { IfOk result (λ o. o ≡ spec.front_of bytes.now) }
+    ensures within { IfOk result (λ o. IfSome o (λ x. (1 ≤ x.1) × (x.1 ≤ length bytes.now))) }
+{
+    let [first, ..] = bytes else {
+        return Ok(None);
+    };
+    if is_part(*first) {
+        let count = run_len(bytes);
+        let Some(kind) = run_of(alloc, &bytes[..count])? else {
+            return Ok(None);
+        };
+        return Ok(Some((kind, count)));
+    }
+    if bytes.starts_with(b"\"%d\\n\"") {
+        return Ok(Some((Kind::Fixed(Fixed::Format), 6)));
+    }
+    let Some(mark) = mark_of(*first) else {
+        return Ok(None);
+    };
+    Ok(Some((Kind::Fixed(mark), 1)))
+}
+
+fn place_behind(b: u8, place: Place) -> Place
+    requires line { place.line < 4294967295 }
+    requires column { place.column < 4294967295 }
+    ensures behind { result ≡ place_behind b place }
+    ensures line { result.line ≤ place.line + 1 }
+    ensures column { result.column ≤ place.column + 1 }
+{
+    if b == 10 {
+        Place {
+            line: place.line + 1,
+            column: 1,
+        }
+    } else {
+        Place {
+            line: place.line,
+            column: place.column + 1,
+        }
+    }
+}
+
+// The bytes behind the first so many.
+fn skip(bytes: &[u8], count: usize) -> &[u8]
+    requires { count ≤ length bytes.now }
+    ensures { result.now ≡ drop count bytes.now }
+{
+    &bytes[count..]
+}
+
+/// The tokens of a source, if each of its bytes belongs to one or is blank.
+pub(crate) fn tokens_of(alloc: Global, source: &[u8]) -> Result<Option<Vec<Token>>, AllocError>
+    requires { length source.now ≤ 1048576 }
+    ensures read { IfOk result (λ o. MatchOption o (spec.tokens_of source.now ≡ None) (λ v. spec.tokens_of source.now ≡ Some v.items)) }
+    ensures few { IfOk result (λ o. IfSome o (λ v. length v.items ≤ 1048576)) }
+{
+    let mut tokens = Vec::new(alloc);
+    let mut rest = source;
+    let mut place = Place { line: 1, column: 1 };
+    for _turn in 0..source.len() {
+        let [first, ..] = rest else {
+            return Ok(Some(tokens));
+        };
+        if is_blank(*first) {
+            place = place_behind(*first, place);
+            rest = skip(rest, 1);
+            continue;
+        }
+        let Some((kind, count)) = front_of(alloc, rest)? else {
+            return Ok(None);
+        };
+        tokens.push(Token { kind, place })?;
+        place.column += count as u32;
+        rest = skip(rest, count);
+    }
+    Ok(Some(tokens))
 }
