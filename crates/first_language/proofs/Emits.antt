@@ -61,7 +61,7 @@ module _ (names : List (List ℕ)) (inner : p.Parser Sum) where
         read = rw (e, h, a.read, z.read) refl;
         code = joined code (emit_atom a.tree) now (emit_factors q z.tree) new (i.Operate o.Times q)
             (g ∙ ap (λ k. k ++ i.Operate o.Times q ∷ []) a.code) z.code
-          ∙ ap (λ k. code ++ k) (sym (code_expr-append (expr_atom a.tree) [] (i.Operate o.Times q ∷ emit_factors q z.tree)));
+            ∙ ap (λ k. code ++ k) (sym (code_expr-append (expr_atom a.tree) [] (i.Operate o.Times q ∷ emit_factors q z.tree)));
       }
 
   -- the steps of a term are those of its first factor, and those of the others
@@ -85,9 +85,9 @@ module _ (names : List (List ℕ)) (inner : p.Parser Sum) where
             ∙ append_assoc code (emit_atom a.tree) (emit_factors q z.tree)
             ∙ ap (λ k. code ++ (emit_atom a.tree ++ emit_factors k z.tree)) a.place
             ∙ ap (λ k. code ++ k)
-                (sym (factors_code (place_of a.tree) (expr_atom a.tree) z.tree []
-                  ∙ ap (code_expr (expr_atom a.tree)) (append-nil (emit_factors (place_of a.tree) z.tree))
-                  ∙ code_expr-append (expr_atom a.tree) [] (emit_factors (place_of a.tree) z.tree)));
+            (sym (factors_code (place_of a.tree) (expr_atom a.tree) z.tree []
+            ∙ ap (code_expr (expr_atom a.tree)) (append-nil (emit_factors (place_of a.tree) z.tree))
+            ∙ code_expr-append (expr_atom a.tree) [] (emit_factors (place_of a.tree) z.tree)));
       }
 
   pub term_fail : (q : Place) (ts ts' : List Token) (code code' : List Instr) →
@@ -130,7 +130,7 @@ module _ (names : List (List ℕ)) (inner : p.Parser Sum) where
         read = rw (e, s.1, a.read, z.read) refl;
         code = joined code (emit_term a.tree) now (emit_more q z.tree) new (i.Operate o.Plus q)
             (g ∙ ap (λ k. k ++ i.Operate o.Plus q ∷ []) a.code) z.code
-          ∙ ap (λ k. code ++ k) (sym (code_expr-append (expr_factors (place_of a.tree.0) (expr_atom a.tree.0) a.tree.1) [] (i.Operate o.Plus q ∷ emit_more q z.tree)));
+            ∙ ap (λ k. code ++ k) (sym (code_expr-append (expr_factors (place_of a.tree.0) (expr_atom a.tree.0) a.tree.1) [] (i.Operate o.Plus q ∷ emit_more q z.tree)));
       }
   more_pass o.Minus q r c d rest ts ts' code code' now e s a g false last new z = rw (e, s.1, s.2, a.read, z) refl
   more_pass o.Minus q r c d rest ts ts' code code' now e s a g true last new z =
@@ -139,7 +139,7 @@ module _ (names : List (List ℕ)) (inner : p.Parser Sum) where
         read = rw (e, s.1, s.2, a.read, z.read) refl;
         code = joined code (emit_term a.tree) now (emit_more q z.tree) new (i.Operate o.Minus q)
             (g ∙ ap (λ k. k ++ i.Operate o.Minus q ∷ []) a.code) z.code
-          ∙ ap (λ k. code ++ k) (sym (code_expr-append (expr_factors (place_of a.tree.0) (expr_atom a.tree.0) a.tree.1) [] (i.Operate o.Minus q ∷ emit_more q z.tree)));
+            ∙ ap (λ k. code ++ k) (sym (code_expr-append (expr_factors (place_of a.tree.0) (expr_atom a.tree.0) a.tree.1) [] (i.Operate o.Minus q ∷ emit_more q z.tree)));
       }
   more_pass o.Times q r c d rest ts ts' code code' now e s a g ok last new z = absurd s
 
@@ -167,9 +167,9 @@ module _ (names : List (List ℕ)) (inner : p.Parser Sum) where
             ∙ append_assoc code (emit_term a.tree) (emit_more q z.tree)
             ∙ ap (λ k. code ++ (emit_term a.tree ++ emit_more k z.tree)) a.place
             ∙ ap (λ k. code ++ k)
-                (sym (more_code (place_of a.tree.0) e z.tree []
-                  ∙ ap (code_expr e) (append-nil (emit_more (place_of a.tree.0) z.tree))
-                  ∙ code_expr-append e [] (emit_more (place_of a.tree.0) z.tree)));
+            (sym (more_code (place_of a.tree.0) e z.tree []
+            ∙ ap (code_expr e) (append-nil (emit_more (place_of a.tree.0) z.tree))
+            ∙ code_expr-append e [] (emit_more (place_of a.tree.0) z.tree)));
       }
 
   pub sum_none : (ts : List Token) → p.term names inner ts ≡ None → p.sum names inner ts ≡ None

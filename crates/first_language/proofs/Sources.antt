@@ -88,7 +88,7 @@ pub whole_read : (ts ts' last : List Token) (found : Declared) (code : List Inst
     GotBody (p.body found.names.items g.tree ts') code last → last ≡ [] → WholeRead ts found.strict.items code
 whole_read ts ts' last found code g b h =
     let reads : p.body (names_of g.tree) g.tree ts' ≡ Some (b.tree, []) =
-        ap (λ z. p.body z g.tree ts') (sym g.names_are) ∙ b.read ∙ ap (λ z. Some (b.tree, z)) h in
+    ap (λ z. p.body z g.tree ts') (sym g.names_are) ∙ b.read ∙ ap (λ z. Some (b.tree, z)) h in
     let same : b.tree.declarations ≡ g.tree = body_declarations (names_of g.tree) g.tree ts' (b.tree, []) reads in
     record {
       tree = b.tree;

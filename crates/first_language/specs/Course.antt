@@ -39,4 +39,4 @@ outcome_after done (Over e n) replies = record { actions = done; ticks = n; «en
 outcome_after done (Asks a n after) [] = record { actions = done; ticks = n; «end» = Wants a }
 outcome_after done (Asks a n after) (r ∷ replies) =
     cond (fits a r) (outcome_after (done ++ a ∷ []) (after r) replies)
-        (record { actions = done; ticks = n; «end» = Misfit (length done) })
+    (record { actions = done; ticks = n; «end» = Misfit (length done) })

@@ -69,9 +69,9 @@ abbrev pub turns : ℕ → ℕ → (ℕ → Course ℤ) → (ℕ → Course (Uni
 turns budget zero condition body n = Over Spent n
 turns budget (suc left) condition body n =
     bind (tick budget n) (λ u m.
-      bind (condition m) (λ x k.
-        cond (int_eq x (pos 0)) (Gives tt k)
-          (bind (body k) (λ w l. turns budget left condition body l))))
+    bind (condition m) (λ x k.
+    cond (int_eq x (pos 0)) (Gives tt k)
+    (bind (body k) (λ w l. turns budget left condition body l))))
 
 -- on a thread, of so many threads, with a budget of ticks; whether each variable is strict
 module _ (thread threads budget : ℕ) (strict : List Bool) where
@@ -103,11 +103,11 @@ module _ (thread threads budget : ℕ) (strict : List Bool) where
   abbrev pub course_of : Block → Expr → Course ℤ
   course_of b e =
       bind (ask (a.Notify Start) 0) (λ u k.
-        bind (ask (a.Wait Start) k) (λ u l.
-          bind (statements b l) (λ u m.
-            bind (value e m) (λ x o.
-              bind (ask (a.Notify Finish) o) (λ u p.
-                bind (ask (a.Wait Finish) p) (λ u q. Gives x q))))))
+      bind (ask (a.Wait Start) k) (λ u l.
+      bind (statements b l) (λ u m.
+      bind (value e m) (λ x o.
+      bind (ask (a.Notify Finish) o) (λ u p.
+      bind (ask (a.Wait Finish) p) (λ u q. Gives x q))))))
 
 -- the tree of a source
 abbrev pub program_of : First → Program

@@ -48,7 +48,7 @@ abbrev pub Acts : ℕ → ℕ → List Bool → Instr → Option Reply → Machi
 Acts t n strict x reply before turn after =
     before.thread ≡ pos t → before.threads ≡ pos n
     → seen turn after.operands.items after.ticks
-      ≡ next_by (does t n before.budget strict x before.operands.items before.ticks) reply
+    ≡ next_by (does t n before.budget strict x before.operands.items before.ticks) reply
 
 -- all but the operands and the ticks stays, and no tick is lost
 pub record Keeps (before after : Machine) : Type 0 where

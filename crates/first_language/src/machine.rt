@@ -127,7 +127,12 @@ impl Machine {
     }
 
     // A step that is no jump, and to the place behind it.
-    fn forward(&mut self, program: &First, instr: Instr, reply: Option<Reply>) -> Result<Turn, AllocError>
+    fn forward(
+        &mut self,
+        program: &First,
+        instr: Instr,
+        reply: Option<Reply>,
+    ) -> Result<Turn, AllocError>
         requires { self.old.position < length program.now.code.items }
         ensures acts { IfOk result (λ turn. (t n : ℕ) → Acts t n program.now.strict.items instr reply self.old turn self.new) }
         ensures keeps { IfOk result (λ turn. Forwards turn self.old self.new) }

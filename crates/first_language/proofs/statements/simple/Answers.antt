@@ -10,8 +10,8 @@ map_ok (Err e) P Q f h = tt
 pub returns-in-Some : goal.returns-in-Some
 returns-in-Some c =
     rw c.in-Name.is (map_ok c.assign.result _ _
-      (λ ok h inner p other. named_parsed c.args.names.now inner c.in-Name.name c.in-Some.v p c.args.tokens.now.rest.now ok _ _ _ (sym c.in-Some.ensures) (h inner p))
-      c.assign.ensures)
+    (λ ok h inner p other. named_parsed c.args.names.now inner c.in-Name.name c.in-Some.v p c.args.tokens.now.rest.now ok _ _ _ (sym c.in-Some.ensures) (h inner p))
+    c.assign.ensures)
 
 pub returns-in-Fixed : goal.returns-in-Fixed
 returns-in-Fixed c =
