@@ -8,7 +8,7 @@ use Rattle.first_language.specs.declared.token.Token.{Token}
 use Rattle.first_language.specs.Syntax.{Atom, Number, Variable, Mythread, Threads, Group, Factors, Alone, By, More, Done, Add, Subtract, Sum, Terms, Statement, Assign, Barrier, Fence, Print, While, Statements, End, Then, fixed, spell_atom, spell_factors, spell_more, spell_sum, spell_statement, spell_statements, proper_atom, proper_factors, proper_more, proper_sum, proper_statement, proper_statements, Qualifier, Strict, Relaxed, Unqualified, Declaration, Source, spell_qualifier, spell_declaration, spell_declarations, spell_void, spell_body, spell, names_of, is_among, are_new, proper}
 use Rattle.first_language.specs.Parse as p
 use Rattle.first_language.specs.Parse.{◌>>=◌, eat, inside, within, variable_of}
-use Rattle.first_language.proofs.Keeps.{both}
+use Rattle.first_language.proofs.Logic.{both}
 use Rattle.first_language.proofs.Names.{fresh, found_new, length-names_of}
 
 module _ (names : List (List ℕ)) where

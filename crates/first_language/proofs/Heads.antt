@@ -16,11 +16,9 @@ use Rattle.first_language.specs.Postfix.{code_expr, code_block}
 use Rattle.first_language.specs.Emit.{Got, Eaten, emit_sum, emit_statements}
 use Rattle.first_language.specs.Heads.{Qualified, NewName, Declares, GotDeclarations, DeclaredAll, GotEnding, GotBody}
 use Rattle.first_language.proofs.Codes.{code_expr-append, code_block-append}
+use Rattle.first_language.proofs.Logic.{some_same}
 
 -- ---- qualifiers
-
-some_same : {A : Type 0} (x y : A) → Some x ≡ Some y → x ≡ y
-some_same x y h = cc
 
 abbrev made_strict : Place × List Token → Option (Qualifier × List Token)
 made_strict x = Some (Strict x.0, x.1)

@@ -18,6 +18,7 @@ use Rattle.first_language.specs.declared.instr.Operator.{Operator}
 use Rattle.first_language.specs.Tree.{Expr, Number, Variable, Mythread, Threads, Binary, Stmt, Assign, Barrier, Fence, Print, While, Block, End, Then, is_formed_expr, is_formed_stmt, is_formed_block}
 use Rattle.first_language.specs.Course.{Course, Gives, Over, Asks, Faults, Spent, bind, ask}
 use Rattle.first_language.specs.Meaning.{value, statement, statements, turns, tick, beat, check, operate, exact, fetch, int_of, loc_of, is_strict, line_of, locs, course_of}
+use Rattle.first_language.proofs.Logic.{both}
 
 -- the Beats behind an action
 abbrev pub count : Action → ℕ → ℕ
@@ -49,12 +50,6 @@ pub keeps_ask : (o : Opening) (k n : ℕ) (x : Action) → ((before : List Entry
     n / 1024 ≡ k → Keeps {A = Unit {0}} o (λ u m j. m / 1024 ≡ j) k (ask x n)
 keeps_ask o k n x formed plain h =
     (formed, λ e. absurd cc, λ r. rw plain h)
-
-pub both : (p q : Bool) → (p && q) ≡ true → (p ≡ true) × (q ≡ true)
-both true true h = (refl, refl)
-both true false h = (refl, h)
-both false true h = (h, refl)
-both false false h = (h, h)
 
 -- ---- the cells
 

@@ -14,7 +14,8 @@ use Rattle.first_language.specs.Course.{Course, Gives, Over, Asks, Stop, Faults,
 use Rattle.first_language.specs.Postfix.{read}
 use Rattle.first_language.specs.Tree.{is_formed_block, is_formed_expr}
 use Rattle.first_language.specs.Meaning.{course, meaning, cells_of, opening_of}
-use Rattle.first_language.proofs.Keeps.{Keeps, count, both, Timed, keeps_course}
+use Rattle.first_language.proofs.Keeps.{Keeps, count, Timed, keeps_course}
+use Rattle.first_language.proofs.Logic.{both}
 
 actions_first : (done : List Action) (c : Course ℤ) → (outcome_after done c []).actions ≡ done
 actions_first done (Gives v n) = refl

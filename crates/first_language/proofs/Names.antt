@@ -9,7 +9,7 @@ use Rattle.std.proofs.lemmas.List.Quantifiers.{position-Some}
 use Rattle.std.proofs.Math.Seq.{get_or-append_seam}
 use Rattle.first_language.specs.Syntax.{Declaration, is_among, are_new, names_of}
 use Rattle.first_language.specs.Parse.{variable_of}
-use Rattle.first_language.proofs.Keeps.{both}
+use Rattle.first_language.proofs.Logic.{both}
 use Rattle.first_language.proofs.Eats as opt
 
 pub text_refl : (a : List ℕ) → pointwise nat_eq a a ≡ true

@@ -12,21 +12,16 @@ use Rattle.first_language.specs.Parse as p
 use Rattle.first_language.specs.Parse.{◌>>=◌, eat, inside, within, variable_of}
 use Rattle.first_language.proofs.Eats.{Both, both, eat_sound, token_of}
 use Rattle.first_language.proofs.Names.{variable_sound, length-names_of}
+use Rattle.first_language.proofs.Logic.{and_true, some_same}
 
 -- the tokens are those of a proper tree, and then the rest
 pub record Said {A : Type 0} (spelled : A → List Token → List Token) (is_proper : A → Bool) (ts : List Token) (x : A × List Token) : Type 0 where
   pub text : ts ≡ spelled x.0 x.1
   pub fine : is_proper x.0 ≡ true
 
-some_same : {A : Type 0} (x y : A) → Some x ≡ Some y → x ≡ y
-some_same x y h = cc
-
 pub said : {A : Type 0} (spelled : A → List Token → List Token) (is_proper : A → Bool) (ts : List Token) (x y : A × List Token) →
     Some x ≡ Some y → Said spelled is_proper ts x → Said spelled is_proper ts y
 said spelled is_proper ts x y e h = subst (λ z. Said spelled is_proper ts z) (some_same x y e) h
-
-pub and_true : (q r : Bool) → q ≡ true → r ≡ true → (q && r) ≡ true
-and_true q r h g = rw (h, g) refl
 
 chosen : {A : Type 0} (q : Bool) (x y : A) → cond q (Some x) None ≡ Some y → (q ≡ true) × (Some x ≡ Some y)
 chosen true x y h = (refl, h)

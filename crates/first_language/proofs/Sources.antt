@@ -12,14 +12,12 @@ use Rattle.first_language.specs.Postfix.{Read, read, code_program}
 use Rattle.first_language.specs.Heads.{GotDeclarations, GotBody, emit_source}
 use Rattle.first_language.specs.Meaning.{program_of}
 use Rattle.first_language.specs.Source.{IsTree, IsSource, IsProgram}
-use Rattle.first_language.proofs.Keeps.{both}
+use Rattle.first_language.proofs.Logic.{both}
 use Rattle.first_language.proofs.Sound.{sound, body_declarations}
 use Rattle.first_language.proofs.Complete.{complete}
 use Rattle.first_language.proofs.Formed.{formed_main}
 use Rattle.first_language.proofs.Postfixes.{read_program}
-
-some_same : {A : Type 0} (x y : A) → Some x ≡ Some y → x ≡ y
-some_same x y h = cc
+use Rattle.first_language.proofs.Logic.{some_same}
 
 -- a source has one tree
 pub one_tree : (bytes : List ℕ) (u v : Source) → IsTree bytes u → IsTree bytes v → u ≡ v

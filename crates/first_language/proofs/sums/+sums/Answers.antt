@@ -4,10 +4,7 @@ use Rattle.first_language.specs.Parse as spec
 use Rattle.first_language.specs.Emit.{Parsed, emit_factors, emit_more, emit_sum}
 use Rattle.first_language.proofs.Emits.{Carries, carries_self, factors_stop, factors_spent, factors_fail, factors_pass, term_got, term_fail, term_none, more_stop, more_spent, more_fail, more_pass, sum_parsed, sum_none, inside_none, inside_is}
 use Rattle.first_language.proofs.sums.+sums.Goals as goal
-
-map_ok : {A E : Type 0} (r : Result A E) (P Q : A → Type 0) → ((x : A) → P x → Q x) → IfOk r P → IfOk r Q
-map_ok (Ok x) P Q f h = f x h
-map_ok (Err e) P Q f h = tt
+use Rattle.first_language.proofs.Logic.{map_ok}
 
 pub inside-returns-then-depth-eq0 : goal.inside-returns-then-depth-eq0
 inside-returns-then-depth-eq0 t c = inside_none c.args.names.now c.args.depth c.args.tokens.now.rest.now (omega arith)

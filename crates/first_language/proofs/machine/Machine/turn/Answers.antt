@@ -8,10 +8,7 @@ use Rattle.first_language.specs.Ahead.{is_plain, last_of}
 use Rattle.first_language.specs.Machine.{advance, end_of, ticks_of}
 use Rattle.first_language.proofs.Machines.{leads_test, leads_back, leads_end, leads_plain, plain_of, runs_same}
 use Rattle.first_language.proofs.machine.Machine.turn.Goals as goal
-
-both_ok : {A E : Type 0} (r : Result A E) (P Q R : A → Type 0) → ((x : A) → P x → Q x → R x) → IfOk r P → IfOk r Q → IfOk r R
-both_ok (Ok x) P Q R f h g = f x h g
-both_ok (Err e) P Q R f h g = tt
+use Rattle.first_language.proofs.Logic.{both_ok}
 
 pub returns-then-self-len-clause-leads : goal.returns-then-self-len-clause-leads
 returns-then-self-len-clause-leads c = λ t n b d w.
