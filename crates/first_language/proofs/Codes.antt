@@ -1,5 +1,5 @@
 -- How many steps the parts of a program have.
-use Rattle.std.proofs.Common.{◌≡◌, ℕ, ◌+◌, ◌++◌, List, [], ◌∷◌, refl, sym, ◌∙◌, ap, append_assoc, length, length-append, arith}
+use Rattle.std.proofs.Common.{◌≡◌, ◌+◌, ◌++◌, List, ◌∷◌, refl, ◌∙◌, ap, length, arith}
 use Rattle.first_language.specs.declared.instr.Instr.{Instr}
 use Rattle.first_language.specs.declared.instr.Instr.TheVariants as i
 use Rattle.first_language.specs.Tree.{Expr, Number, Variable, Mythread, Threads, Binary, Stmt, Assign, Barrier, Fence, Print, While, Block, End, Then}

@@ -1,11 +1,10 @@
 -- Each proper tree is read from its tokens.
-use Rattle.std.proofs.Common.{◌≡◌, ℕ, zero, suc, ◌+◌, ◌-◌, ◌<◌, ◌≤◌, nat_le, Bool, true, false, cond, ◌&&◌, List, [], ◌∷◌, ◌++◌, get_or, length, Option, Some, None, refl, sym, ◌∙◌, ap, subst, arith}
+use Rattle.std.proofs.Common.{◌≡◌, ℕ, zero, suc, ◌-◌, ◌≤◌, nat_le, true, false, ◌&&◌, List, [], ◌∷◌, ◌++◌, get_or, length, Option, Some, None, refl, arith}
 use Rattle.upc_text.specs.declared.place.Place.{Place}
-use Rattle.first_language.specs.declared.token.Fixed.{Fixed}
 use Rattle.first_language.specs.declared.token.Fixed.TheVariants as f
 use Rattle.first_language.specs.declared.token.Kind.TheVariants as k
 use Rattle.first_language.specs.declared.token.Token.{Token}
-use Rattle.first_language.specs.Syntax.{Atom, Number, Variable, Mythread, Threads, Group, Factors, Alone, By, More, Done, Add, Subtract, Sum, Terms, Statement, Assign, Barrier, Fence, Print, While, Statements, End, Then, fixed, spell_atom, spell_factors, spell_more, spell_sum, spell_statement, spell_statements, proper_atom, proper_factors, proper_more, proper_sum, proper_statement, proper_statements, Qualifier, Strict, Relaxed, Unqualified, Declaration, Source, spell_qualifier, spell_declaration, spell_declarations, spell_void, spell_body, spell, names_of, is_among, are_new, proper}
+use Rattle.first_language.specs.Syntax.{Atom, Number, Variable, Mythread, Threads, Group, Factors, Alone, By, More, Done, Add, Subtract, Sum, Terms, Statement, Assign, Barrier, Fence, Print, While, Statements, End, Then, fixed, spell_atom, spell_factors, spell_more, spell_sum, spell_statement, spell_statements, proper_atom, proper_factors, proper_more, proper_sum, proper_statement, proper_statements, Qualifier, Strict, Relaxed, Unqualified, Declaration, Source, spell_qualifier, spell_declarations, spell_void, spell_body, spell, names_of, is_among, are_new, proper}
 use Rattle.first_language.specs.Parse as p
 use Rattle.first_language.specs.Parse.{◌>>=◌, eat, inside, within, variable_of}
 use Rattle.first_language.proofs.Logic.{both}

@@ -1,5 +1,5 @@
 -- The steps that the parser of sums writes.
-use Rattle.std.proofs.Common.{◌≡◌, ℕ, zero, suc, ◌+◌, ◌-◌, ◌<◌, ◌≤◌, Bool, true, false, List, [], ◌∷◌, ◌++◌, length, Option, Some, None, refl, sym, ◌∙◌, ap, subst, append_assoc, append-nil, arith}
+use Rattle.std.proofs.Common.{◌≡◌, ℕ, zero, suc, Bool, true, false, List, [], ◌∷◌, ◌++◌, length, Option, Some, None, refl, sym, ◌∙◌, ap, append_assoc, append-nil}
 use Rattle.upc_text.specs.declared.place.Place.{Place}
 use Rattle.first_language.specs.declared.instr.Instr.{Instr}
 use Rattle.first_language.specs.declared.instr.Instr.TheVariants as i
@@ -8,11 +8,11 @@ use Rattle.first_language.specs.declared.instr.Operator.TheVariants as o
 use Rattle.first_language.specs.declared.token.Fixed.TheVariants as f
 use Rattle.first_language.specs.declared.token.Token.{Token}
 use Rattle.first_language.specs.Tree as t
-use Rattle.first_language.specs.Syntax.{Atom, Group, Factors, Alone, By, More, Done, Add, Subtract, Sum, Terms, place_of, expr_atom, expr_factors, expr_more, expr_sum}
+use Rattle.first_language.specs.Syntax.{Factors, Alone, By, More, Done, Add, Subtract, Sum, Terms, place_of, expr_atom, expr_factors, expr_more}
 use Rattle.first_language.specs.Parse as p
 use Rattle.first_language.specs.Parse.{eat, inside}
 use Rattle.first_language.specs.Postfix.{code_expr}
-use Rattle.first_language.specs.Emit.{Got, GotAt, Parsed, ParsedAt, Signed, emit_atom, emit_factors, emit_term, emit_more, emit_sum, term_place}
+use Rattle.first_language.specs.Emit.{Got, GotAt, Parsed, Signed, emit_atom, emit_factors, emit_term, emit_more, emit_sum, term_place}
 use Rattle.first_language.proofs.Codes.{code_expr-append}
 
 -- what parsing the rest answers, with the steps so far, is what parsing the whole answers

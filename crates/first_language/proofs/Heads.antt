@@ -1,11 +1,10 @@
 -- The head of a source.
-use Rattle.std.proofs.Common.{◌≡◌, ℕ, zero, suc, ◌+◌, ◌-◌, ◌<◌, ◌≤◌, Bool, true, false, cond, is_some, List, [], ◌∷◌, ◌++◌, length, Option, Some, None, refl, sym, ◌∙◌, ap, subst, append_assoc, append-nil, arith}
+use Rattle.std.proofs.Common.{◌≡◌, ℕ, zero, suc, Bool, true, false, cond, is_some, List, [], ◌∷◌, ◌++◌, Option, Some, None, refl, sym, ◌∙◌, ap, subst, append_assoc, append-nil}
 use Rattle.upc_text.specs.declared.place.Place.{Place}
-use Rattle.first_language.specs.declared.token.Fixed.{Fixed}
 use Rattle.first_language.specs.declared.token.Fixed.TheVariants as f
 use Rattle.first_language.specs.declared.token.Kind.TheVariants as k
 use Rattle.first_language.specs.declared.token.Token.{Token}
-use Rattle.first_language.specs.Syntax.{Qualifier, Strict, Relaxed, Unqualified, Declaration, Statements, Source, expr_sum, block_of, is_strict, is_among, names_of, stricts_of}
+use Rattle.first_language.specs.Syntax.{Qualifier, Strict, Relaxed, Unqualified, Declaration, Statements, expr_sum, block_of, is_strict, is_among, names_of, stricts_of}
 use Rattle.first_language.specs.Parse as p
 use Rattle.first_language.specs.Parse.{eat, is_fixed, inside, within}
 use Rattle.upc_values.specs.declared.scalar.Mark.TheVariants.{Start, Finish}
@@ -14,7 +13,7 @@ use Rattle.first_language.specs.declared.instr.Instr.TheVariants as i
 use Rattle.first_language.specs.declared.source.Declared.{Declared}
 use Rattle.first_language.specs.Postfix.{code_expr, code_block}
 use Rattle.first_language.specs.Emit.{Got, Eaten, emit_sum, emit_statements}
-use Rattle.first_language.specs.Heads.{Qualified, NewName, Declares, GotDeclarations, DeclaredAll, GotEnding, GotBody}
+use Rattle.first_language.specs.Heads.{Declares, GotDeclarations, DeclaredAll, GotEnding, GotBody}
 use Rattle.first_language.proofs.Codes.{code_expr-append, code_block-append}
 use Rattle.first_language.proofs.Logic.{some_same}
 

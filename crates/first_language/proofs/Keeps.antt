@@ -1,11 +1,10 @@
 -- What every course of a program keeps: its actions may be asked for, and its Beats come at multiples of 1,024 ticks.
-use Rattle.std.proofs.Common.{◌≡◌, ℕ, ℤ, pos, suc, zero, ◌+◌, ◌-◌, ◌*◌, ◌/◌, ◌%◌, ◌==◌, ◌<◌, ◌≤◌, nat_le, List, [], ◌∷◌, ◌++◌, length, Bool, true, false, cond, ◌&&◌, refl, sym, ◌∙◌, ap, subst, arith, le-leb, leb-true, eq-eqb, eqb-true, ◌≢◌, inl, inr}
+use Rattle.std.proofs.Common.{◌≡◌, ℕ, ℤ, pos, suc, zero, ◌+◌, ◌*◌, ◌/◌, ◌%◌, ◌==◌, ◌<◌, ◌≤◌, nat_le, List, [], ◌∷◌, ◌++◌, length, Bool, true, false, cond, ◌&&◌, refl, arith, le-leb, leb-true, eq-eqb, eqb-true, ◌≢◌, inl, inr}
 use Rattle.std.proofs.lemmas.Bool.{cases_lt, eqb-false}
 use Rattle.std.specs.Ordering.{int_eq}
 use Rattle.block_layout.specs.declared.place.Loc.{Loc}
 use Rattle.upc_text.specs.declared.place.Place.{Place}
 use Rattle.upc_values.specs.declared.scalar.Scalar.TheVariants.{Int, Shared, Lock}
-use Rattle.upc_values.specs.declared.scalar.Mark.TheVariants.{Absent, Start, Finish}
 use Rattle.upc_values.specs.declared.action.Action.{Action}
 use Rattle.upc_values.specs.declared.action.Action.TheVariants as a
 use Rattle.upc_values.specs.declared.action.Reply.{Reply}
@@ -17,7 +16,7 @@ use Rattle.upc_values.specs.Legal.{Opening, IsWellFormed, has_cell}
 use Rattle.first_language.specs.declared.instr.Operator.{Operator}
 use Rattle.first_language.specs.Tree.{Expr, Number, Variable, Mythread, Threads, Binary, Stmt, Assign, Barrier, Fence, Print, While, Block, End, Then, is_formed_expr, is_formed_stmt, is_formed_block}
 use Rattle.first_language.specs.Course.{Course, Gives, Over, Asks, Faults, Spent, bind, ask}
-use Rattle.first_language.specs.Meaning.{value, statement, statements, turns, tick, beat, check, operate, exact, fetch, int_of, loc_of, is_strict, line_of, locs, course_of}
+use Rattle.first_language.specs.Meaning.{value, statement, statements, turns, tick, beat, operate, exact, int_of, loc_of, is_strict, line_of, locs, course_of}
 use Rattle.first_language.proofs.Logic.{both}
 
 -- the Beats behind an action

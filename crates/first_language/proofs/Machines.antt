@@ -1,5 +1,5 @@
 -- What the calls of a machine do to the course that is before it.
-use Rattle.std.proofs.Common.{◌≡◌, ℕ, ℤ, pos, ◌+◌, ◌-◌, ◌<◌, ◌≤◌, nat_le, min, List, length, get_or, Bool, true, false, Option, Some, None, refl, sym, ◌∙◌, ap, subst, arith}
+use Rattle.std.proofs.Common.{◌≡◌, ℕ, ℤ, pos, ◌+◌, ◌-◌, ◌<◌, ◌≤◌, nat_le, min, List, length, get_or, Bool, true, false, Option, None, refl, sym, ◌∙◌, ap, subst}
 use Rattle.std.specs.Ordering.{int_eq}
 use Rattle.upc_values.specs.declared.action.Reply.{Reply}
 use Rattle.first_language.specs.declared.instr.Instr.{Instr}

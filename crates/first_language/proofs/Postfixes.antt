@@ -1,6 +1,6 @@
 -- The tree that a postfix form was made from is the one that is read from it.
-use Rattle.std.proofs.Common.{◌≡◌, ℕ, ℤ, List, [], ◌∷◌, Bool, true, false, ◌&&◌, length, ◌+◌, refl, sym, ◌∙◌, ap, subst}
-use Rattle.upc_values.specs.declared.scalar.Mark.TheVariants.{Absent, Start, Finish}
+use Rattle.std.proofs.Common.{◌≡◌, List, [], ◌∷◌, ◌+◌, refl, sym, ◌∙◌, ap}
+use Rattle.upc_values.specs.declared.scalar.Mark.TheVariants.{Finish}
 use Rattle.first_language.specs.declared.instr.Instr.{Instr}
 use Rattle.first_language.specs.declared.instr.Instr.TheVariants as i
 use Rattle.first_language.specs.Tree.{Expr, Number, Variable, Mythread, Threads, Binary, Stmt, Assign, Barrier, Fence, Print, While, Block, End, Then}

@@ -1,20 +1,19 @@
 -- What a machine that stands by replies tells of the meaning on them.
-use Rattle.std.proofs.Common.{◌≡◌, ℕ, ℤ, pos, ◌++◌, List, [], ◌∷◌, Option, Some, None, true, cond, refl, sym, ◌∙◌, ap, subst, append-nil}
+use Rattle.std.proofs.Common.{◌≡◌, ℕ, ℤ, pos, ◌++◌, List, [], ◌∷◌, Option, Some, None, true, refl, sym, ◌∙◌, ap, subst, append-nil}
 use Rattle.upc_values.specs.declared.action.Action.{Action}
 use Rattle.upc_values.specs.declared.action.Reply.{Reply}
 use Rattle.upc_values.specs.declared.scalar.Mark.TheVariants.{Start, Finish}
-use Rattle.upc_values.specs.declared.record.ToldEnd.{ToldEnd}
 use Rattle.upc_values.specs.declared.record.ToldEnd.TheVariants as told
 use Rattle.upc_values.specs.Outcomes.{fits}
 use Rattle.first_language.specs.declared.instr.Instr.TheVariants as i
 use Rattle.first_language.specs.declared.tree.First.{First}
 use Rattle.first_language.specs.declared.machine.Machine.{Machine}
 use Rattle.first_language.specs.declared.machine.Wish.{Wish}
-use Rattle.first_language.specs.Course.{Course, Gives, Over, Asks, Stop, Faults, Spent, told_stop, outcome_after}
+use Rattle.first_language.specs.Course.{Course, Gives, Over, Asks, Faults, Spent, outcome_after}
 use Rattle.first_language.specs.Postfix.{read}
 use Rattle.first_language.specs.Meaning.{course, meaning}
 use Rattle.first_language.specs.Ahead.{Step, Do, Evaluate}
-use Rattle.first_language.specs.Machine.{Comes, Runs, Resumes, Stands, HasAsked, Answers, advance, end_of, ticks_of, told_of, listed}
+use Rattle.first_language.specs.Machine.{Comes, Resumes, Stands, HasAsked, Answers, advance, end_of, ticks_of, told_of, listed}
 use Rattle.first_language.specs.Turns.{SameThread}
 use Rattle.first_language.proofs.Machines.{runs_same, advance-none}
 

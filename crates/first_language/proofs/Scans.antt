@@ -1,5 +1,5 @@
 -- One turn of the scan.
-use Rattle.std.proofs.Common.{◌≡◌, ℕ, zero, suc, ◌+◌, ◌-◌, ◌<◌, ◌≤◌, List, [], ◌∷◌, ◌++◌, drop, Option, Some, None, Bool, true, false, cond, sym, ap, refl, ◌∙◌, get_or, length, drop-cons, append-nil, append_assoc, arith}
+use Rattle.std.proofs.Common.{◌≡◌, ℕ, zero, suc, ◌+◌, ◌-◌, ◌<◌, ◌≤◌, List, [], ◌∷◌, ◌++◌, drop, Option, Some, None, true, false, sym, ap, refl, ◌∙◌, get_or, length, append-nil, append_assoc, arith}
 use Rattle.std.specs.Option.{option_map}
 use Rattle.upc_text.specs.declared.place.Place.{Place}
 use Rattle.first_language.specs.declared.token.Kind.{Kind}

@@ -1,13 +1,13 @@
 -- What is left, with its first part opened up until a step stands first.
-use Rattle.std.proofs.Common.{◌≡◌, ℕ, ℤ, pos, ◌+◌, ◌≤◌, ◌++◌, List, [], ◌∷◌, Bool, true, false, refl, sym, ◌∙◌, ap, append_assoc, cond, suc, zero, ◌-◌, nat_le, arith, subst, le-leb, length, length-append}
+use Rattle.std.proofs.Common.{◌≡◌, ℕ, ℤ, pos, ◌+◌, ◌≤◌, ◌++◌, List, [], ◌∷◌, Bool, true, refl, sym, ◌∙◌, ap, append_assoc, cond, suc, zero, ◌-◌, nat_le, arith, subst, le-leb, length, length-append}
 use Rattle.std.proofs.Math.Seq.{get_or-append_seam, take-append_seam}
 use Rattle.first_language.specs.declared.instr.Instr.{Instr}
 use Rattle.first_language.specs.declared.instr.Instr.TheVariants as i
 use Rattle.upc_values.specs.declared.scalar.Mark.TheVariants.{Absent}
 use Rattle.first_language.specs.Tree.{Expr, Number, Variable, Mythread, Threads, Binary, Stmt, Assign, Barrier, Fence, Print, While, Block, End, Then}
-use Rattle.first_language.specs.Course.{Course, Gives, Over, Asks, Spent, bind, ask}
+use Rattle.first_language.specs.Course.{Course, Gives, Over, Spent, bind}
 use Rattle.std.specs.Ordering.{int_eq}
-use Rattle.first_language.specs.Meaning.{value, statements, statement, operate, beat, check, tick, turns}
+use Rattle.first_language.specs.Meaning.{value, statements, operate, beat, check, tick, turns}
 use Rattle.first_language.specs.Ahead.{Item, Evaluate, Do, Step, Choose, Again, code_items, EndsWith, AreClosed, AreTimely, behind, left_by, last_of, front_of}
 use Rattle.first_language.proofs.Courses.{bind-bind, bind-same, bind-cond}
 

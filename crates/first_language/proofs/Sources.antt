@@ -1,16 +1,15 @@
 -- What is read from a source.
-use Rattle.std.proofs.Common.{◌≡◌, ℕ, ◌+◌, ◌<◌, ◌≤◌, ◌^◌, suc, Bool, true, false, ◌&&◌, List, [], ◌∷◌, ◌++◌, length, Option, Some, None, refl, sym, ◌∙◌, ap, subst, arith, ◌==◌, eqb-true}
+use Rattle.std.proofs.Common.{◌≡◌, ℕ, ◌<◌, ◌≤◌, suc, Bool, true, false, ◌&&◌, List, [], ◌∷◌, length, Some, None, refl, sym, ◌∙◌, ap, arith, ◌==◌, eqb-true}
 use Rattle.first_language.specs.declared.instr.Instr.{Instr}
 use Rattle.first_language.specs.declared.source.Declared.{Declared}
 use Rattle.first_language.specs.declared.token.Token.{Token}
 use Rattle.first_language.specs.declared.tree.First.{First}
 use Rattle.first_language.specs.Tree.{is_formed, Program}
 use Rattle.first_language.specs.Scan.{tokens_of}
-use Rattle.first_language.specs.Syntax.{Source, Declaration, spell, proper, program, names_of, stricts_of, proper_statements, proper_sum, block_of, expr_sum, are_new}
+use Rattle.first_language.specs.Syntax.{Source, Declaration, spell, names_of, stricts_of, proper_statements, proper_sum, block_of, expr_sum, are_new}
 use Rattle.first_language.specs.Parse as p
 use Rattle.first_language.specs.Postfix.{Read, read, code_program}
 use Rattle.first_language.specs.Heads.{GotDeclarations, GotBody, emit_source}
-use Rattle.first_language.specs.Meaning.{program_of}
 use Rattle.first_language.specs.Source.{IsTree, IsSource, IsProgram}
 use Rattle.first_language.proofs.Logic.{both}
 use Rattle.first_language.proofs.Sound.{sound, body_declarations}

@@ -1,5 +1,5 @@
 -- What one step does to the course that is before a machine.
-use Rattle.std.proofs.Common.{◌≡◌, ℕ, ℤ, pos, ◌+◌, ◌-◌, ◌*◌, ◌%◌, ◌==◌, nat_le, min, ◌≤◌, ◌<◌, ◌++◌, List, [], ◌∷◌, Bool, true, false, cond, Option, Some, None, refl, sym, ◌∙◌, ap, subst, append_assoc, length, length-append, get_or, arith}
+use Rattle.std.proofs.Common.{◌≡◌, ℕ, ℤ, pos, ◌+◌, ◌-◌, ◌%◌, ◌==◌, nat_le, min, ◌≤◌, ◌<◌, ◌++◌, List, [], ◌∷◌, Bool, true, false, cond, Option, Some, None, refl, sym, ◌∙◌, ap, subst, append_assoc, length, length-append, get_or, arith}
 use Rattle.std.proofs.Math.Seq.{get_or-append_seam}
 use Rattle.std.specs.Ordering.{int_eq}
 use Rattle.upc_values.specs.declared.action.Action.{Action}
@@ -14,9 +14,9 @@ use Rattle.first_language.specs.Tree.{Expr, Block}
 use Rattle.first_language.specs.Postfix.{code_block, size_block}
 use Rattle.first_language.proofs.Codes.{code_block-append, length-code_block, length-code_turn}
 use Rattle.first_language.specs.Meaning.{exact}
-use Rattle.first_language.specs.Ahead.{Item, Evaluate, Do, Step, Choose, Again, code_items, code_turn, EndsWith, AreClosed, AreTimely, behind, is_plain, way_back, left_by, last_of, front_of, does}
+use Rattle.first_language.specs.Ahead.{Item, Evaluate, Do, Step, Choose, Again, code_items, code_turn, AreClosed, AreTimely, behind, is_plain, way_back, left_by, last_of, front_of, does}
 use Rattle.first_language.specs.Machine.{Continues, advance, end_of, ticks_of, told_of}
-use Rattle.first_language.specs.Turns.{Next, Moves, Takes, Tells, seen, next_by, taken}
+use Rattle.first_language.specs.Turns.{Moves, Takes, Tells, seen, next_by, taken}
 use Rattle.upc_values.specs.declared.record.ToldEnd.TheVariants.{Wants}
 use Rattle.first_language.proofs.Settles.{IsStep, Settled, settle, again-same, timely_more}
 

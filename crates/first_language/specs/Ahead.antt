@@ -6,7 +6,7 @@ use Rattle.upc_values.specs.declared.action.Action.TheVariants as a
 use Rattle.first_language.specs.declared.instr.Instr.{Instr}
 use Rattle.first_language.specs.declared.instr.Instr.TheVariants as i
 use Rattle.first_language.specs.Tree.{Expr, Block}
-use Rattle.first_language.specs.Course.{Course, Gives, Over, Asks, Spent, bind, ask}
+use Rattle.first_language.specs.Course.{Course, Gives, Over, Spent, bind, ask}
 use Rattle.first_language.specs.Postfix.{code_expr, code_block, size_expr, size_block}
 use Rattle.first_language.specs.Meaning.{value, statements, turns, operate, fetch, beat, check, line_of, loc_of, is_strict}
 

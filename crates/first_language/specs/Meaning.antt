@@ -1,12 +1,11 @@
 -- The meaning of a program (C99 6.5, 6.8; UPC 6.5.1, 6.6.1): what a thread does, whatever it is answered.
-use Rattle.std.specs.Prelude.{ℕ, zero, suc, ℤ, pos, ◌+ℤ◌, ◌-ℤ◌, ◌*ℤ◌, ◌==◌, nat_le, ◌+◌, ◌-◌, ◌%◌, ◌++◌, Bool, true, false, cond, List, [], ◌∷◌, length, slice_index_or}
+use Rattle.std.specs.Prelude.{ℕ, zero, suc, ℤ, pos, ◌+ℤ◌, ◌-ℤ◌, ◌*ℤ◌, ◌==◌, nat_le, ◌+◌, ◌-◌, ◌%◌, ◌++◌, Bool, false, cond, List, [], ◌∷◌, length, slice_index_or}
 use Rattle.std.specs.Fmt.{signed_decimal}
 use Rattle.std.specs.Ordering.{int_eq}
 use Rattle.block_layout.specs.declared.place.Loc.{Loc}
 use Rattle.upc_text.specs.declared.place.Place.{Place}
 use Rattle.upc_values.specs.declared.scalar.Scalar.TheVariants.{Int}
 use Rattle.upc_values.specs.declared.scalar.Mark.TheVariants.{Absent, Start, Finish}
-use Rattle.upc_values.specs.declared.action.Action.{Action}
 use Rattle.upc_values.specs.declared.action.Action.TheVariants as a
 use Rattle.upc_values.specs.declared.action.Reply.{Reply}
 use Rattle.upc_values.specs.declared.action.Reply.TheVariants.{Value}

@@ -6,7 +6,6 @@ use Rattle.upc_text.specs.declared.place.Place.{Place}
 use Rattle.upc_values.specs.Scalars.{is_int}
 use Rattle.first_language.specs.declared.token.Fixed.{Fixed}
 use Rattle.first_language.specs.declared.token.Fixed.TheVariants as f
-use Rattle.first_language.specs.declared.token.Kind.{Kind}
 use Rattle.first_language.specs.declared.token.Kind.TheVariants as k
 use Rattle.first_language.specs.declared.token.Token.{Token}
 use Rattle.first_language.specs.declared.instr.Operator.TheVariants as o

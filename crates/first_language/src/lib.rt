@@ -15,7 +15,6 @@ mod tokens;
 mod tree;
 mod words;
 
-pub use instr::{Instr, Operator};
 pub use machine::{Machine, Wish};
 pub use source::{one_tree, read_first};
 pub use std::alloc::AllocError as OutOfMemory;

@@ -68,7 +68,6 @@ impl Machine {
         requires budget { 1 ≤ budget }
         ensures { IfOk result (λ m. Stands program.now thread threads budget [] m) }
     {
-        let _ = program.code.len();
         Ok(Machine {
             thread: thread as i32,
             threads: threads as i32,

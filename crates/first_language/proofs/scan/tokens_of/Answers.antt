@@ -1,5 +1,5 @@
-use Rattle.std.proofs.Common.{◌≡◌, ◌≤◌, ◌<◌, ◌+◌, ◌-◌, [], Some, None, false, length, drop, get_or, sym, ◌∙◌, arith, refl, ap, length-drop, length-append, ◌∷◌}
-use Rattle.first_language.specs.Scan.{tokens_of, front_of, place_behind}
+use Rattle.std.proofs.Common.{◌≡◌, ◌-◌, [], Some, None, length, drop, get_or, sym, ◌∙◌, arith, ap, length-drop, length-append, ◌∷◌}
+use Rattle.first_language.specs.Scan.{tokens_of, front_of}
 use Rattle.first_language.proofs.Scans.{at_end, at_last, at_blank, at_nothing, at_token, first_and_rest, nothing_left, prepended-nil}
 use Rattle.first_language.proofs.scan.tokens_of.Goals as goal
 

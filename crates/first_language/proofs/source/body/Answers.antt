@@ -1,4 +1,3 @@
-use Rattle.std.proofs.Common.{sym, ◌∙◌}
 use Rattle.first_language.proofs.Heads.{body_fails, body_got}
 use Rattle.first_language.proofs.source.body.Goals as goal
 

@@ -1,6 +1,5 @@
-use Rattle.std.proofs.Common.{◌≡◌, ◌+◌, ◌-◌, ◌<◌, ◌≤◌, suc, [], ◌∷◌, length, None, Some, Option, List, ℕ, arith, refl, sym, ◌∙◌, ap, length-append}
+use Rattle.std.proofs.Common.{◌≡◌, ◌+◌, ◌-◌, suc, [], ◌∷◌, length, None, Some, arith, refl, length-append}
 use Rattle.first_language.specs.Parse as spec
-use Rattle.first_language.specs.Syntax.{Qualifier}
 use Rattle.first_language.proofs.Heads.{adds_self, no_more, none_after, declared_fails, declared_passes}
 use Rattle.first_language.proofs.source.declarations.Goals as goal
 

@@ -1,5 +1,4 @@
-use Rattle.std.proofs.Common.{◌≡◌, false, sym, ◌∙◌, List, ℕ}
-use Rattle.first_language.specs.Syntax.{is_among}
+use Rattle.std.proofs.Common.{sym, ◌∙◌}
 use Rattle.first_language.proofs.Heads.{name_new}
 use Rattle.first_language.proofs.source.new_name.Goals as goal
 

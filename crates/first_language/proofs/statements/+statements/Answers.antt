@@ -1,8 +1,7 @@
-use Rattle.std.proofs.Common.{◌≡◌, ℕ, suc, ◌+◌, ◌-◌, ◌<◌, ◌≤◌, length, Bool, true, false, None, Some, Option, Result, Ok, Err, IfOk, sym, ◌∙◌, refl, ap, subst, arith}
-use Rattle.first_language.specs.declared.token.Token.{Token}
+use Rattle.std.proofs.Common.{◌≡◌, suc, ◌+◌, ◌-◌, length, true, false, arith}
 use Rattle.first_language.specs.Parse as spec
-use Rattle.first_language.specs.Emit.{Parsed, Begun, emit_statement, emit_statements}
-use Rattle.first_language.proofs.Emits.{Carries, carries_self}
+use Rattle.first_language.specs.Emit.{emit_statements}
+use Rattle.first_language.proofs.Emits.{carries_self}
 use Rattle.first_language.proofs.Writes.{none_left, none_more, one_fails, one_passes, loop_got, within_none, within_is}
 use Rattle.first_language.proofs.statements.+statements.Goals as goal
 

@@ -1,4 +1,3 @@
-use Rattle.std.proofs.Common.{Result, Ok, Err, IfOk}
 use Rattle.first_language.proofs.statements.by_word.Goals as goal
 use Rattle.first_language.proofs.Logic.{map_ok}
 

@@ -1,4 +1,4 @@
-use Rattle.std.proofs.Common.{Result, Ok, Err, IfOk, sym, ap}
+use Rattle.std.proofs.Common.{sym, ap}
 use Rattle.first_language.specs.declared.token.Kind.TheVariants as k
 use Rattle.first_language.proofs.Writes.{named_parsed}
 use Rattle.first_language.proofs.statements.simple.Goals as goal

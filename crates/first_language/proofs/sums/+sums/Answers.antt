@@ -1,8 +1,7 @@
-use Rattle.std.proofs.Common.{◌≡◌, ℕ, suc, ◌+◌, ◌-◌, ◌<◌, ◌≤◌, length, Bool, true, false, None, Some, Result, Ok, Err, IfOk, sym, ◌∙◌, refl, ap, subst, arith}
-use Rattle.first_language.specs.declared.instr.Operator.{Operator}
+use Rattle.std.proofs.Common.{◌≡◌, suc, ◌+◌, ◌-◌, length, true, false, arith}
 use Rattle.first_language.specs.Parse as spec
-use Rattle.first_language.specs.Emit.{Parsed, emit_factors, emit_more, emit_sum}
-use Rattle.first_language.proofs.Emits.{Carries, carries_self, factors_stop, factors_spent, factors_fail, factors_pass, term_got, term_fail, term_none, more_stop, more_spent, more_fail, more_pass, sum_parsed, sum_none, inside_none, inside_is}
+use Rattle.first_language.specs.Emit.{emit_factors, emit_more}
+use Rattle.first_language.proofs.Emits.{carries_self, factors_stop, factors_spent, factors_fail, factors_pass, term_got, more_stop, more_spent, more_fail, more_pass, sum_parsed, inside_none, inside_is}
 use Rattle.first_language.proofs.sums.+sums.Goals as goal
 use Rattle.first_language.proofs.Logic.{map_ok}
 

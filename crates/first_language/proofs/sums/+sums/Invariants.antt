@@ -1,6 +1,4 @@
-use Rattle.std.proofs.Common.{◌≡◌, ◌+◌, ◌-◌, ◌*◌, ℕ, List, length, Bool}
-use Rattle.first_language.specs.declared.instr.Instr.{Instr}
-use Rattle.first_language.specs.declared.token.Token.{Token}
+use Rattle.std.proofs.Common.{◌+◌, ◌-◌, ◌*◌, length}
 use Rattle.first_language.specs.Parse as spec
 use Rattle.first_language.specs.Emit.{emit_factors, emit_more}
 use Rattle.first_language.proofs.Emits.{Carries}

@@ -1,4 +1,3 @@
-use Rattle.std.proofs.Common.{◌≡◌, ℕ, IfOk, Result, Ok, Err}
 use Rattle.first_language.proofs.machine.Machine.act.Goals as goal
 use Rattle.first_language.proofs.Logic.{map_ok}
 

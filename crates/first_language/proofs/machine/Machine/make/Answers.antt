@@ -1,4 +1,4 @@
-use Rattle.std.proofs.Common.{◌<◌, ◌^◌, refl, arith, w32}
+use Rattle.std.proofs.Common.{◌<◌, refl, arith, w32}
 use Rattle.std.proofs.Math.Facts.{to_z_pos}
 use Rattle.first_language.proofs.Replies.{stands_first}
 use Rattle.first_language.proofs.machine.Machine.make.Goals as goal

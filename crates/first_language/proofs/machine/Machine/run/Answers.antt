@@ -1,4 +1,4 @@
-use Rattle.std.proofs.Common.{◌≡◌, ℕ, subst}
+use Rattle.std.proofs.Common.{subst}
 use Rattle.first_language.specs.declared.machine.Turn.{Turn}
 use Rattle.first_language.specs.Turns.{Leads}
 use Rattle.first_language.proofs.Machines.{reaches_self, reaches_moved, reaches_answered, reaches_wish}

@@ -1,5 +1,4 @@
-use Rattle.std.proofs.Common.{◌≡◌, ◌<◌, ◌≤◌, ◌+◌, ◌-◌, ℕ, pos, length, min, get_or, true, Result, Ok, Err, IfOk, arith, rules, ap, sym, ◌∙◌, refl, subst, w32, to_z, of_z}
-use Rattle.std.specs.Ordering.{int_eq}
+use Rattle.std.proofs.Common.{◌≡◌, ◌<◌, ◌≤◌, ◌+◌, ◌-◌, length, min, get_or, true, arith, rules, ap, sym, ◌∙◌, refl, subst, w32, to_z, of_z}
 use Rattle.std.proofs.Math.Facts.{to_z-of_z}
 use Rattle.upc_values.specs.declared.record.ToldEnd.TheVariants.{Ended}
 use Rattle.first_language.specs.declared.instr.Instr.{Instr}
