@@ -1,5 +1,5 @@
 -- How many steps the parts of a program have.
-use Rattle.std.proofs.Common.{◌≡◌, ℕ, ◌+◌, ◌++◌, List, [], ◌∷◌, refl, sym, ◌∙◌, ap, append_assoc, length, length-append, arith}
+use Rattle.std.proofs.Common.{◌≡◌, ◌+◌, ◌++◌, List, ◌∷◌, refl, ◌∙◌, ap, length, arith}
 use Rattle.first_language.specs.declared.instr.Instr.{Instr}
 use Rattle.first_language.specs.declared.instr.Instr.TheVariants as i
 use Rattle.first_language.specs.Tree.{Expr, Number, Variable, Mythread, Threads, Binary, Stmt, Assign, Barrier, Fence, Print, While, Block, End, Then}
@@ -30,9 +30,11 @@ mutual
   length-code_stmt Fence rest = omega arith
   length-code_stmt (Print e) rest = omega (arith, length-code_expr e (i.Print ∷ rest))
   length-code_stmt (While c b) rest =
-      omega (arith,
+      omega (
+        arith,
         length-code_expr c (i.Test (size_block b + 1) ∷ code_block b (i.Back (size_expr c + size_block b + 3) ∷ rest)),
-        length-code_block b (i.Back (size_expr c + size_block b + 3) ∷ rest))
+        length-code_block b (i.Back (size_expr c + size_block b + 3) ∷ rest),
+      )
 
   pub length-code_block : (b : Block) (rest : List Instr) → length (code_block b rest) ≡ size_block b + length rest
   length-code_block End rest = omega arith
@@ -46,9 +48,9 @@ mutual
   code_stmt-append (Print e) xs rest = code_expr-append e (i.Print ∷ xs) rest
   code_stmt-append (While c b) xs rest =
       ap (λ z. i.Tick ∷ i.Beat ∷ i.Check ∷ code_expr c (i.Test (size_block b + 1) ∷ z))
-        (code_block-append b (i.Back (size_expr c + size_block b + 3) ∷ xs) rest)
+      (code_block-append b (i.Back (size_expr c + size_block b + 3) ∷ xs) rest)
       ∙ ap (λ z. i.Tick ∷ i.Beat ∷ i.Check ∷ z)
-        (code_expr-append c (i.Test (size_block b + 1) ∷ code_block b (i.Back (size_expr c + size_block b + 3) ∷ xs)) rest)
+      (code_expr-append c (i.Test (size_block b + 1) ∷ code_block b (i.Back (size_expr c + size_block b + 3) ∷ xs)) rest)
 
   pub code_block-append : (b : Block) (xs rest : List Instr) → code_block b (xs ++ rest) ≡ code_block b xs ++ rest
   code_block-append End xs rest = refl
@@ -58,6 +60,8 @@ mutual
 pub length-code_turn : (c : Expr) (b : Block) (rest : List Instr) →
     length (code_turn c b rest) ≡ way_back c b + 1 + length rest
 length-code_turn c b rest =
-    omega (arith,
+    omega (
+      arith,
       length-code_expr c (i.Test (size_block b + 1) ∷ code_block b (i.Back (way_back c b) ∷ rest)),
-      length-code_block b (i.Back (way_back c b) ∷ rest))
+      length-code_block b (i.Back (way_back c b) ∷ rest),
+    )

@@ -1,6 +1,5 @@
 -- What `bind` keeps.
 use Rattle.std.proofs.Common.{◌≡◌, ℕ, Bool, true, false, cond, refl, ap}
-use Rattle.upc_values.specs.declared.action.Reply.{Reply}
 use Rattle.first_language.specs.Course.{Course, Gives, Over, Asks, bind}
 
 -- one thing after another, however they are grouped

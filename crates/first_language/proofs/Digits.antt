@@ -1,5 +1,5 @@
 -- Decimal numbers.
-use Rattle.std.proofs.Common.{◌≡◌, ℕ, suc, ◌+◌, ◌-◌, ◌*◌, ◌<◌, ◌≤◌, List, [], ◌∷◌, drop, get_or, length, drop-cons, add-one, sym, ap, refl, ◌∙◌, arith}
+use Rattle.std.proofs.Common.{◌≡◌, ℕ, ◌+◌, ◌-◌, ◌*◌, ◌<◌, ◌≤◌, List, [], ◌∷◌, drop, get_or, length, drop-cons, add-one, refl, arith}
 use Rattle.first_language.specs.Scan.{value_from}
 
 -- further digits make a number no less

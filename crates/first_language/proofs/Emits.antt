@@ -1,5 +1,5 @@
 -- The steps that the parser of sums writes.
-use Rattle.std.proofs.Common.{◌≡◌, ℕ, zero, suc, ◌+◌, ◌-◌, ◌<◌, ◌≤◌, Bool, true, false, List, [], ◌∷◌, ◌++◌, length, Option, Some, None, refl, sym, ◌∙◌, ap, subst, append_assoc, append-nil, arith}
+use Rattle.std.proofs.Common.{◌≡◌, ℕ, zero, suc, Bool, true, false, List, [], ◌∷◌, ◌++◌, length, Option, Some, None, refl, sym, ◌∙◌, ap, append_assoc, append-nil}
 use Rattle.upc_text.specs.declared.place.Place.{Place}
 use Rattle.first_language.specs.declared.instr.Instr.{Instr}
 use Rattle.first_language.specs.declared.instr.Instr.TheVariants as i
@@ -8,11 +8,11 @@ use Rattle.first_language.specs.declared.instr.Operator.TheVariants as o
 use Rattle.first_language.specs.declared.token.Fixed.TheVariants as f
 use Rattle.first_language.specs.declared.token.Token.{Token}
 use Rattle.first_language.specs.Tree as t
-use Rattle.first_language.specs.Syntax.{Atom, Group, Factors, Alone, By, More, Done, Add, Subtract, Sum, Terms, place_of, expr_atom, expr_factors, expr_more, expr_sum}
+use Rattle.first_language.specs.Syntax.{Factors, Alone, By, More, Done, Add, Subtract, Sum, Terms, place_of, expr_atom, expr_factors, expr_more}
 use Rattle.first_language.specs.Parse as p
 use Rattle.first_language.specs.Parse.{eat, inside}
 use Rattle.first_language.specs.Postfix.{code_expr}
-use Rattle.first_language.specs.Emit.{Got, GotAt, Parsed, ParsedAt, Signed, emit_atom, emit_factors, emit_term, emit_more, emit_sum, term_place}
+use Rattle.first_language.specs.Emit.{Got, GotAt, Parsed, Signed, emit_atom, emit_factors, emit_term, emit_more, emit_sum, term_place}
 use Rattle.first_language.proofs.Codes.{code_expr-append}
 
 -- what parsing the rest answers, with the steps so far, is what parsing the whole answers
@@ -61,7 +61,7 @@ module _ (names : List (List ℕ)) (inner : p.Parser Sum) where
         read = rw (e, h, a.read, z.read) refl;
         code = joined code (emit_atom a.tree) now (emit_factors q z.tree) new (i.Operate o.Times q)
             (g ∙ ap (λ k. k ++ i.Operate o.Times q ∷ []) a.code) z.code
-          ∙ ap (λ k. code ++ k) (sym (code_expr-append (expr_atom a.tree) [] (i.Operate o.Times q ∷ emit_factors q z.tree)));
+            ∙ ap (λ k. code ++ k) (sym (code_expr-append (expr_atom a.tree) [] (i.Operate o.Times q ∷ emit_factors q z.tree)));
       }
 
   -- the steps of a term are those of its first factor, and those of the others
@@ -85,9 +85,9 @@ module _ (names : List (List ℕ)) (inner : p.Parser Sum) where
             ∙ append_assoc code (emit_atom a.tree) (emit_factors q z.tree)
             ∙ ap (λ k. code ++ (emit_atom a.tree ++ emit_factors k z.tree)) a.place
             ∙ ap (λ k. code ++ k)
-                (sym (factors_code (place_of a.tree) (expr_atom a.tree) z.tree []
-                  ∙ ap (code_expr (expr_atom a.tree)) (append-nil (emit_factors (place_of a.tree) z.tree))
-                  ∙ code_expr-append (expr_atom a.tree) [] (emit_factors (place_of a.tree) z.tree)));
+            (sym (factors_code (place_of a.tree) (expr_atom a.tree) z.tree []
+            ∙ ap (code_expr (expr_atom a.tree)) (append-nil (emit_factors (place_of a.tree) z.tree))
+            ∙ code_expr-append (expr_atom a.tree) [] (emit_factors (place_of a.tree) z.tree)));
       }
 
   pub term_fail : (q : Place) (ts ts' : List Token) (code code' : List Instr) →
@@ -130,7 +130,7 @@ module _ (names : List (List ℕ)) (inner : p.Parser Sum) where
         read = rw (e, s.1, a.read, z.read) refl;
         code = joined code (emit_term a.tree) now (emit_more q z.tree) new (i.Operate o.Plus q)
             (g ∙ ap (λ k. k ++ i.Operate o.Plus q ∷ []) a.code) z.code
-          ∙ ap (λ k. code ++ k) (sym (code_expr-append (expr_factors (place_of a.tree.0) (expr_atom a.tree.0) a.tree.1) [] (i.Operate o.Plus q ∷ emit_more q z.tree)));
+            ∙ ap (λ k. code ++ k) (sym (code_expr-append (expr_factors (place_of a.tree.0) (expr_atom a.tree.0) a.tree.1) [] (i.Operate o.Plus q ∷ emit_more q z.tree)));
       }
   more_pass o.Minus q r c d rest ts ts' code code' now e s a g false last new z = rw (e, s.1, s.2, a.read, z) refl
   more_pass o.Minus q r c d rest ts ts' code code' now e s a g true last new z =
@@ -139,7 +139,7 @@ module _ (names : List (List ℕ)) (inner : p.Parser Sum) where
         read = rw (e, s.1, s.2, a.read, z.read) refl;
         code = joined code (emit_term a.tree) now (emit_more q z.tree) new (i.Operate o.Minus q)
             (g ∙ ap (λ k. k ++ i.Operate o.Minus q ∷ []) a.code) z.code
-          ∙ ap (λ k. code ++ k) (sym (code_expr-append (expr_factors (place_of a.tree.0) (expr_atom a.tree.0) a.tree.1) [] (i.Operate o.Minus q ∷ emit_more q z.tree)));
+            ∙ ap (λ k. code ++ k) (sym (code_expr-append (expr_factors (place_of a.tree.0) (expr_atom a.tree.0) a.tree.1) [] (i.Operate o.Minus q ∷ emit_more q z.tree)));
       }
   more_pass o.Times q r c d rest ts ts' code code' now e s a g ok last new z = absurd s
 
@@ -167,9 +167,9 @@ module _ (names : List (List ℕ)) (inner : p.Parser Sum) where
             ∙ append_assoc code (emit_term a.tree) (emit_more q z.tree)
             ∙ ap (λ k. code ++ (emit_term a.tree ++ emit_more k z.tree)) a.place
             ∙ ap (λ k. code ++ k)
-                (sym (more_code (place_of a.tree.0) e z.tree []
-                  ∙ ap (code_expr e) (append-nil (emit_more (place_of a.tree.0) z.tree))
-                  ∙ code_expr-append e [] (emit_more (place_of a.tree.0) z.tree)));
+            (sym (more_code (place_of a.tree.0) e z.tree []
+            ∙ ap (code_expr e) (append-nil (emit_more (place_of a.tree.0) z.tree))
+            ∙ code_expr-append e [] (emit_more (place_of a.tree.0) z.tree)));
       }
 
   pub sum_none : (ts : List Token) → p.term names inner ts ≡ None → p.sum names inner ts ≡ None

@@ -1,12 +1,11 @@
 -- A proper tree gives a program whose variables are declared and whose numbers are ints.
-use Rattle.std.proofs.Common.{◌≡◌, ℕ, zero, suc, Bool, true, false, ◌&&◌, List, [], ◌∷◌, length, nat_le, refl, sym, ◌∙◌, ap}
+use Rattle.std.proofs.Common.{◌≡◌, ℕ, zero, suc, true, ◌&&◌, nat_le, refl}
 use Rattle.upc_text.specs.declared.place.Place.{Place}
-use Rattle.upc_values.specs.Scalars.{is_int}
 use Rattle.first_language.specs.Tree as t
 use Rattle.first_language.specs.Tree.{is_formed_expr, is_formed_stmt, is_formed_block, is_formed}
 use Rattle.first_language.specs.Syntax.{Atom, Number, Variable, Mythread, Threads, Group, Factors, Alone, By, More, Done, Add, Subtract, Sum, Terms, Statement, Assign, Barrier, Fence, Print, While, Statements, End, Then, proper_atom, proper_factors, proper_more, proper_sum, proper_statement, proper_statements, expr_atom, expr_factors, expr_more, expr_sum, stmt_of, block_of, place_of}
-use Rattle.first_language.proofs.Keeps.{both}
-use Rattle.first_language.proofs.Sound.{and_true}
+use Rattle.first_language.proofs.Logic.{both}
+use Rattle.first_language.proofs.Logic.{and_true}
 
 mutual
   formed_atom : (m n : ℕ) (a : Atom) → proper_atom m n a ≡ true → is_formed_expr m (expr_atom a) ≡ true

@@ -1,11 +1,10 @@
 -- The head of a source.
-use Rattle.std.proofs.Common.{◌≡◌, ℕ, zero, suc, ◌+◌, ◌-◌, ◌<◌, ◌≤◌, Bool, true, false, cond, is_some, List, [], ◌∷◌, ◌++◌, length, Option, Some, None, refl, sym, ◌∙◌, ap, subst, append_assoc, append-nil, arith}
+use Rattle.std.proofs.Common.{◌≡◌, ℕ, zero, suc, Bool, true, false, cond, is_some, List, [], ◌∷◌, ◌++◌, Option, Some, None, refl, sym, ◌∙◌, ap, subst, append_assoc, append-nil}
 use Rattle.upc_text.specs.declared.place.Place.{Place}
-use Rattle.first_language.specs.declared.token.Fixed.{Fixed}
 use Rattle.first_language.specs.declared.token.Fixed.TheVariants as f
 use Rattle.first_language.specs.declared.token.Kind.TheVariants as k
 use Rattle.first_language.specs.declared.token.Token.{Token}
-use Rattle.first_language.specs.Syntax.{Qualifier, Strict, Relaxed, Unqualified, Declaration, Statements, Source, expr_sum, block_of, is_strict, is_among, names_of, stricts_of}
+use Rattle.first_language.specs.Syntax.{Qualifier, Strict, Relaxed, Unqualified, Declaration, Statements, expr_sum, block_of, is_strict, is_among, names_of, stricts_of}
 use Rattle.first_language.specs.Parse as p
 use Rattle.first_language.specs.Parse.{eat, is_fixed, inside, within}
 use Rattle.upc_values.specs.declared.scalar.Mark.TheVariants.{Start, Finish}
@@ -14,13 +13,11 @@ use Rattle.first_language.specs.declared.instr.Instr.TheVariants as i
 use Rattle.first_language.specs.declared.source.Declared.{Declared}
 use Rattle.first_language.specs.Postfix.{code_expr, code_block}
 use Rattle.first_language.specs.Emit.{Got, Eaten, emit_sum, emit_statements}
-use Rattle.first_language.specs.Heads.{Qualified, NewName, Declares, GotDeclarations, DeclaredAll, GotEnding, GotBody}
+use Rattle.first_language.specs.Heads.{Declares, GotDeclarations, DeclaredAll, GotEnding, GotBody}
 use Rattle.first_language.proofs.Codes.{code_expr-append, code_block-append}
+use Rattle.first_language.proofs.Logic.{some_same}
 
 -- ---- qualifiers
-
-some_same : {A : Type 0} (x y : A) → Some x ≡ Some y → x ≡ y
-some_same x y h = cc
 
 abbrev made_strict : Place × List Token → Option (Qualifier × List Token)
 made_strict x = Some (Strict x.0, x.1)
@@ -152,9 +149,10 @@ pub head_got : (a b c e g : Place) (d : Option Place) (ts ts1 ts2 ts3 ts4 ts5 la
     eat f.Int ts ≡ Some (a, ts1) → eat f.Main ts1 ≡ Some (b, ts2) → eat f.LParen ts2 ≡ Some (c, ts3) →
     Eaten (eat f.Void ts3) d ts3 ts4 → eat f.RParen ts4 ≡ Some (e, ts5) → eat f.LBrace ts5 ≡ Some (g, last) →
     (x : p.Head) × (p.head ts ≡ Some (x, last))
-head_got a b c e g d ts ts1 ts2 ts3 ts4 ts5 last h1 h2 h3 h4 h5 h6 =
-    (record { int = a; main = b; lparen = c; void = d; rparen = e; lbrace = g },
-     rw (h1, h2, h3, maybe_eaten (eat f.Void ts3) d ts3 ts4 h4, h5, h6) refl)
+head_got a b c e g d ts ts1 ts2 ts3 ts4 ts5 last h1 h2 h3 h4 h5 h6 = (
+  record { int = a; main = b; lparen = c; void = d; rparen = e; lbrace = g },
+  rw (h1, h2, h3, maybe_eaten (eat f.Void ts3) d ts3 ts4 h4, h5, h6) refl,
+)
 
 pub head_fails : (a b c : Place) (d : Option Place) (ts ts1 ts2 ts3 ts4 : List Token) →
     eat f.Int ts ≡ Some (a, ts1) → eat f.Main ts1 ≡ Some (b, ts2) → eat f.LParen ts2 ≡ Some (c, ts3) →
@@ -175,8 +173,19 @@ ending_got names ds h ss a b c ts ts1 ts2 ts3 last old now more new h1 s h2 h3 g
     let close = i.Notify Finish ∷ i.Wait Finish ∷ [] in
     record {
       tree = record {
-        declarations = ds; int = h.int; main = h.main; lparen = h.lparen; void = h.void; rparen = h.rparen; lbrace = h.lbrace;
-        statements = ss; return = a; result = s.tree; semicolon = b; rbrace = c };
+        declarations = ds;
+        int = h.int;
+        main = h.main;
+        lparen = h.lparen;
+        void = h.void;
+        rparen = h.rparen;
+        lbrace = h.lbrace;
+        statements = ss;
+        return = a;
+        result = s.tree;
+        semicolon = b;
+        rbrace = c;
+      };
       read = rw (h1, s.read, h2, h3) refl;
       statements = refl;
       code = e ∙ ap (λ z. z ++ i.Wait Finish ∷ []) g ∙ append_assoc now (i.Notify Finish ∷ []) (i.Wait Finish ∷ [])
@@ -195,7 +204,7 @@ pub body_got : (names : List (List ℕ)) (ds : List Declaration) (h : p.Head) (t
 body_got names ds h ts ts1 ts2 last none one two now code h1 e1 e2 e3 s g =
     let close = code_expr (expr_sum g.tree.result) (i.Notify Finish ∷ i.Wait Finish ∷ []) in
     let start : two ≡ i.Notify Start ∷ i.Wait Start ∷ [] =
-        e3 ∙ ap (λ z. z ++ i.Wait Start ∷ []) e2 ∙ ap (λ z. (z ++ i.Notify Start ∷ []) ++ i.Wait Start ∷ []) e1 in
+    e3 ∙ ap (λ z. z ++ i.Wait Start ∷ []) e2 ∙ ap (λ z. (z ++ i.Notify Start ∷ []) ++ i.Wait Start ∷ []) e1 in
     record {
       tree = g.tree;
       read = rw (h1, s.read, g.read) refl;

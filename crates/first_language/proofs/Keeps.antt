@@ -1,11 +1,10 @@
 -- What every course of a program keeps: its actions may be asked for, and its Beats come at multiples of 1,024 ticks.
-use Rattle.std.proofs.Common.{◌≡◌, ℕ, ℤ, pos, suc, zero, ◌+◌, ◌-◌, ◌*◌, ◌/◌, ◌%◌, ◌==◌, ◌<◌, ◌≤◌, nat_le, List, [], ◌∷◌, ◌++◌, length, Bool, true, false, cond, ◌&&◌, refl, sym, ◌∙◌, ap, subst, arith, le-leb, leb-true, eq-eqb, eqb-true, ◌≢◌, inl, inr}
+use Rattle.std.proofs.Common.{◌≡◌, ℕ, ℤ, pos, suc, zero, ◌+◌, ◌*◌, ◌/◌, ◌%◌, ◌==◌, ◌<◌, ◌≤◌, nat_le, List, [], ◌∷◌, ◌++◌, length, Bool, true, false, cond, ◌&&◌, refl, arith, le-leb, leb-true, eq-eqb, eqb-true, ◌≢◌, inl, inr}
 use Rattle.std.proofs.lemmas.Bool.{cases_lt, eqb-false}
 use Rattle.std.specs.Ordering.{int_eq}
 use Rattle.block_layout.specs.declared.place.Loc.{Loc}
 use Rattle.upc_text.specs.declared.place.Place.{Place}
 use Rattle.upc_values.specs.declared.scalar.Scalar.TheVariants.{Int, Shared, Lock}
-use Rattle.upc_values.specs.declared.scalar.Mark.TheVariants.{Absent, Start, Finish}
 use Rattle.upc_values.specs.declared.action.Action.{Action}
 use Rattle.upc_values.specs.declared.action.Action.TheVariants as a
 use Rattle.upc_values.specs.declared.action.Reply.{Reply}
@@ -17,7 +16,8 @@ use Rattle.upc_values.specs.Legal.{Opening, IsWellFormed, has_cell}
 use Rattle.first_language.specs.declared.instr.Operator.{Operator}
 use Rattle.first_language.specs.Tree.{Expr, Number, Variable, Mythread, Threads, Binary, Stmt, Assign, Barrier, Fence, Print, While, Block, End, Then, is_formed_expr, is_formed_stmt, is_formed_block}
 use Rattle.first_language.specs.Course.{Course, Gives, Over, Asks, Faults, Spent, bind, ask}
-use Rattle.first_language.specs.Meaning.{value, statement, statements, turns, tick, beat, check, operate, exact, fetch, int_of, loc_of, is_strict, line_of, locs, course_of}
+use Rattle.first_language.specs.Meaning.{value, statement, statements, turns, tick, beat, operate, exact, int_of, loc_of, is_strict, line_of, locs, course_of}
+use Rattle.first_language.proofs.Logic.{both}
 
 -- the Beats behind an action
 abbrev pub count : Action → ℕ → ℕ
@@ -50,12 +50,6 @@ pub keeps_ask : (o : Opening) (k n : ℕ) (x : Action) → ((before : List Entry
 keeps_ask o k n x formed plain h =
     (formed, λ e. absurd cc, λ r. rw plain h)
 
-pub both : (p q : Bool) → (p && q) ≡ true → (p ≡ true) × (q ≡ true)
-both true true h = (refl, refl)
-both true false h = (refl, h)
-both false true h = (h, refl)
-both false false h = (h, h)
-
 -- ---- the cells
 
 has_cell-append : (l : Loc) (xs ys : List Loc) → has_cell l ys ≡ true → has_cell l (xs ++ ys) ≡ true
@@ -80,11 +74,11 @@ same_loc-refl v = rw (eq-eqb v v refl) refl
 pub has_locs : (n v : ℕ) → 1 ≤ v → v ≤ n → has_cell (loc_of v) (locs n) ≡ true
 has_locs zero v h g = absurd (omega arith)
 has_locs (suc n) v h g = elim (cases_lt n v) [
-    inl more ↦
+  | inl more ↦
       let same : v ≡ suc n = omega arith in
       rw same (has_cell-append (loc_of (suc n)) (locs n) (loc_of (suc n) ∷ []) (rw (same_loc-refl (suc n)) refl))
   | inr less ↦ has_cell-more (loc_of v) (locs n) (loc_of (suc n) ∷ []) (has_locs n v h less)
-  ]
+]
 
 -- ---- ints
 
@@ -135,24 +129,24 @@ module _ (o : Opening) (t threads budget : ℕ) (strict : List Bool) (cells : o.
   keeps_value (Binary op place l r) n k h g =
       let b = both (is_formed_expr (length strict) l) (is_formed_expr (length strict) r) h in
       keeps_bind o Timed Timed k (value t threads budget strict l n) _ (keeps_value l n k b.0 g)
-        (λ x m j f. keeps_bind o Timed Timed j (value t threads budget strict r m) _ (keeps_value r m j b.1 f.1)
-          (λ y i q d. keeps_operate op place x y i q d.1))
+      (λ x m j f. keeps_bind o Timed Timed j (value t threads budget strict r m) _ (keeps_value r m j b.1 f.1)
+      (λ y i q d. keeps_operate op place x y i q d.1))
 
   keeps_beat : (n k : ℕ) → n / 1024 ≡ k → Keeps o Kept k (beat (n + 1))
   keeps_beat n k g =
       keeps_cond o Kept k ((n + 1) % 1024 == 0) (ask a.Beat (n + 1)) (Gives tt (n + 1))
-        (λ h.
-          let whole : (n + 1) % 1024 ≡ 0 = eqb-true ((n + 1) % 1024) 0 h in
-          (λ before. tt, λ e. omega arith, λ r. omega arith))
-        (λ h.
-          let part : (n + 1) % 1024 ≢ 0 = eqb-false ((n + 1) % 1024) 0 h in
-          omega arith)
+      (λ h.
+      let whole : (n + 1) % 1024 ≡ 0 = eqb-true ((n + 1) % 1024) 0 h in
+      (λ before. tt, λ e. omega arith, λ r. omega arith))
+      (λ h.
+      let part : (n + 1) % 1024 ≢ 0 = eqb-false ((n + 1) % 1024) 0 h in
+      omega arith)
 
   keeps_tick : (n k : ℕ) → n / 1024 ≡ k → Keeps o Kept k (tick budget n)
   keeps_tick n k g =
       keeps_cond o Kept k (nat_le budget n) (Over Spent n) _ (λ h. tt)
-        (λ h. keeps_bind o Kept Kept k (beat (n + 1)) _ (keeps_beat n k g)
-          (λ u m j f. keeps_cond o Kept j (m == budget) (Over Spent m) (Gives tt m) (λ e. tt) (λ e. f)))
+      (λ h. keeps_bind o Kept Kept k (beat (n + 1)) _ (keeps_beat n k g)
+      (λ u m j f. keeps_cond o Kept j (m == budget) (Over Spent m) (Gives tt m) (λ e. tt) (λ e. f)))
 
   keeps_turns : (left : ℕ) (c : ℕ → Course ℤ) (b : ℕ → Course (Unit {0})) →
       ((n k : ℕ) → n / 1024 ≡ k → Keeps o Timed k (c n)) → ((n k : ℕ) → n / 1024 ≡ k → Keeps o Kept k (b n)) →
@@ -160,10 +154,10 @@ module _ (o : Opening) (t threads budget : ℕ) (strict : List Bool) (cells : o.
   keeps_turns zero c b hc hb n k g = tt
   keeps_turns (suc left) c b hc hb n k g =
       keeps_bind o Kept Kept k (tick budget n) _ (keeps_tick n k g)
-        (λ u m j f. keeps_bind o Timed Kept j (c m) _ (hc m j f)
-          (λ x i q d. keeps_cond o Kept q (int_eq x (pos 0)) _ _ (λ e. d.1)
-            (λ e. keeps_bind o Kept Kept q (b i) _ (hb i q d.1)
-              (λ w l p z. keeps_turns left c b hc hb l p z))))
+      (λ u m j f. keeps_bind o Timed Kept j (c m) _ (hc m j f)
+      (λ x i q d. keeps_cond o Kept q (int_eq x (pos 0)) _ _ (λ e. d.1)
+      (λ e. keeps_bind o Kept Kept q (b i) _ (hb i q d.1)
+      (λ w l p z. keeps_turns left c b hc hb l p z))))
 
   mutual
     keeps_statement : (s : Stmt) (n k : ℕ) → is_formed_stmt (length strict) s ≡ true → n / 1024 ≡ k →
@@ -171,16 +165,16 @@ module _ (o : Opening) (t threads budget : ℕ) (strict : List Bool) (cells : o.
     keeps_statement (Assign v e) n k h g =
         let b = both (nat_le 1 v && nat_le v (length strict)) (is_formed_expr (length strict) e) h in
         keeps_bind o Timed Kept k (value t threads budget strict e n) _ (keeps_value e n k b.1 g)
-          (λ x m j f. keeps_ask o j m (a.Write (loc_of v) (Int x) (is_strict strict v)) (λ before. (declared v b.0, f.0)) refl f.1)
+        (λ x m j f. keeps_ask o j m (a.Write (loc_of v) (Int x) (is_strict strict v)) (λ before. (declared v b.0, f.0)) refl f.1)
     keeps_statement Barrier n k h g = (λ before. tt, λ e. absurd cc, λ r. (λ before. tt, λ e. absurd cc, λ q. g))
     keeps_statement Fence n k h g = keeps_ask o k n a.Fence (λ before. tt) refl g
     keeps_statement (Print e) n k h g =
         keeps_bind o Timed Kept k (value t threads budget strict e n) _ (keeps_value e n k h g)
-          (λ x m j f. keeps_ask o j m (a.Print (line_of x)) (λ before. tt) refl f.1)
+        (λ x m j f. keeps_ask o j m (a.Print (line_of x)) (λ before. tt) refl f.1)
     keeps_statement (While c b) n k h g =
         let q = both (is_formed_expr (length strict) c) (is_formed_block (length strict) b) h in
         keeps_turns budget (value t threads budget strict c) (statements t threads budget strict b)
-          (λ m j f. keeps_value c m j q.0 f) (λ m j f. keeps_statements b m j q.1 f) n k g
+        (λ m j f. keeps_value c m j q.0 f) (λ m j f. keeps_statements b m j q.1 f) n k g
 
     keeps_statements : (b : Block) (n k : ℕ) → is_formed_block (length strict) b ≡ true → n / 1024 ≡ k →
         Keeps o Kept k (statements t threads budget strict b n)
@@ -188,13 +182,20 @@ module _ (o : Opening) (t threads budget : ℕ) (strict : List Bool) (cells : o.
     keeps_statements (Then s ss) n k h g =
         let q = both (is_formed_stmt (length strict) s) (is_formed_block (length strict) ss) h in
         keeps_bind o Kept Kept k (statement t threads budget strict s n) _ (keeps_statement s n k q.0 g)
-          (λ u m j f. keeps_statements ss m j q.1 f)
+        (λ u m j f. keeps_statements ss m j q.1 f)
 
   -- a whole program
   pub keeps_course : (b : Block) (e : Expr) → is_formed_block (length strict) b ≡ true → is_formed_expr (length strict) e ≡ true →
       Keeps o Timed 0 (course_of t threads budget strict b e)
-  keeps_course b e h g =
-      (λ before. tt, λ c. absurd cc, λ r. (λ before. tt, λ c. absurd cc, λ q.
-        keeps_bind o Kept Timed 0 (statements t threads budget strict b 0) _ (keeps_statements b 0 0 h (omega arith)) (λ u m j f.
+  keeps_course b e h g = (
+    λ before. tt,
+    λ c. absurd cc,
+    λ r. (
+      λ before. tt,
+      λ c. absurd cc,
+      λ q.
+          keeps_bind o Kept Timed 0 (statements t threads budget strict b 0) _ (keeps_statements b 0 0 h (omega arith)) (λ u m j f.
           keeps_bind o Timed Timed j (value t threads budget strict e m) _ (keeps_value e m j g f) (λ x n i z.
-            (λ before. tt, λ c. absurd cc, λ s. (λ before. tt, λ c. absurd cc, λ w. z))))))
+          (λ before. tt, λ c. absurd cc, λ s. (λ before. tt, λ c. absurd cc, λ w. z)))),
+    ),
+  )

@@ -1,9 +1,8 @@
 -- What every meaning of a source keeps.
-use Rattle.std.proofs.Common.{◌≡◌, ℕ, ℤ, ◌+◌, ◌*◌, ◌<◌, ◌≤◌, List, [], ◌∷◌, ◌++◌, length, Bool, true, false, cond, ◌&&◌, refl, sym, ◌∙◌, ap, subst, arith}
+use Rattle.std.proofs.Common.{◌≡◌, ℕ, ℤ, ◌+◌, ◌*◌, ◌<◌, ◌≤◌, List, [], ◌∷◌, ◌++◌, length, Bool, true, false, cond, refl, sym, ◌∙◌, ap, subst}
 use Rattle.upc_values.specs.declared.action.Action.{Action}
 use Rattle.upc_values.specs.declared.action.Action.TheVariants.{Beat}
 use Rattle.upc_values.specs.declared.action.Reply.{Reply}
-use Rattle.upc_values.specs.declared.record.ToldEnd.{ToldEnd}
 use Rattle.upc_values.specs.declared.record.ToldEnd.TheVariants as told
 use Rattle.upc_values.specs.declared.journal.Entry.{Entry}
 use Rattle.upc_values.specs.Records.{beats, is_beat}
@@ -14,7 +13,8 @@ use Rattle.first_language.specs.Course.{Course, Gives, Over, Asks, Stop, Faults,
 use Rattle.first_language.specs.Postfix.{read}
 use Rattle.first_language.specs.Tree.{is_formed_block, is_formed_expr}
 use Rattle.first_language.specs.Meaning.{course, meaning, cells_of, opening_of}
-use Rattle.first_language.proofs.Keeps.{Keeps, count, both, Timed, keeps_course}
+use Rattle.first_language.proofs.Keeps.{Keeps, count, Timed, keeps_course}
+use Rattle.first_language.proofs.Logic.{both}
 
 actions_first : (done : List Action) (c : Course ℤ) → (outcome_after done c []).actions ≡ done
 actions_first done (Gives v n) = refl
@@ -81,7 +81,7 @@ beat_ticks o (q ∷ rs) done (Gives v n) k h g e = absurd cc
 beat_ticks o (q ∷ rs) done (Over s n) k h g e = absurd (no_stop s Beat e)
 beat_ticks o (q ∷ rs) done (Asks b n after) k h g e =
     step (fits b q) _ _ Beat (λ x. x.ticks ≡ 1024 * (beats x.actions + 1)) e (λ m. cc)
-      (λ f. beat_ticks o rs (done ++ b ∷ []) (after q) (count b k) (h.2 q) (beats-push done b ∙ ap (count b) g) f)
+    (λ f. beat_ticks o rs (done ++ b ∷ []) (after q) (count b k) (h.2 q) (beats-push done b ∙ ap (count b) g) f)
 
 asked_formed : (o : Opening) (rs : List Reply) (done : List Action) (c : Course ℤ) (k : ℕ) (before : List Entry) (a : Action) →
     Keeps o Timed k c → (outcome_after done c rs).«end» ≡ told.Wants a → IsWellFormed o before a
@@ -94,13 +94,13 @@ asked_formed o (q ∷ rs) done (Gives v n) k before a h e = absurd cc
 asked_formed o (q ∷ rs) done (Over s n) k before a h e = absurd (no_stop s a e)
 asked_formed o (q ∷ rs) done (Asks b n after) k before a h e =
     step (fits b q) _ _ a (λ x. IsWellFormed o before a) e (λ m. cc)
-      (λ f. asked_formed o rs (done ++ b ∷ []) (after q) (count b k) before a (h.2 q) f)
+    (λ f. asked_formed o rs (done ++ b ∷ []) (after q) (count b k) before a (h.2 q) f)
 
 keeps_source : (p : First) (t n b : ℕ) → t < n → n ≤ 32 → Keeps (opening_of p n) Timed 0 (course p t n b)
 unfolding cells_of
 keeps_source p t n b h few =
     let f = both (is_formed_block (length p.strict.items) (read p.code.items).block)
-        (is_formed_expr (length p.strict.items) (read p.code.items).result) p.formed in
+    (is_formed_expr (length p.strict.items) (read p.code.items).result) p.formed in
     keeps_course (opening_of p n) t n b p.strict.items refl few h (read p.code.items).block (read p.code.items).result f.0 f.1
 
 -- the meaning of a source on thread t of at most 32, with a budget

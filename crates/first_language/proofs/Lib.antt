@@ -1,3 +1,4 @@
+pub mod Logic
 pub mod Courses
 pub mod Settles
 pub mod Turns

@@ -1,5 +1,5 @@
 -- What the calls of a machine do to the course that is before it.
-use Rattle.std.proofs.Common.{◌≡◌, ℕ, ℤ, pos, ◌+◌, ◌-◌, ◌<◌, ◌≤◌, nat_le, min, List, length, get_or, Bool, true, false, Option, Some, None, refl, sym, ◌∙◌, ap, subst, arith}
+use Rattle.std.proofs.Common.{◌≡◌, ℕ, ℤ, pos, ◌+◌, ◌-◌, ◌<◌, ◌≤◌, nat_le, min, List, length, get_or, Bool, true, false, Option, None, refl, sym, ◌∙◌, ap, subst}
 use Rattle.std.specs.Ordering.{int_eq}
 use Rattle.upc_values.specs.declared.action.Reply.{Reply}
 use Rattle.first_language.specs.declared.instr.Instr.{Instr}
@@ -26,7 +26,7 @@ continues_at : (code : List Instr) (strict : List Bool) (t n b : ℕ) (q q' : �
     q' ≡ q → xs' ≡ xs → k' ≡ k → Continues code strict t n b q xs k c → Continues code strict t n b q' xs' k' c
 continues_at code strict t n b q q' xs xs' k k' c e f g w =
     subst (λ z. Continues code strict t n b z xs' k' c) (sym e)
-      (subst (λ z. Continues code strict t n b q z k' c) (sym f) (subst (λ z. Continues code strict t n b q xs z c) (sym g) w))
+    (subst (λ z. Continues code strict t n b q z k' c) (sym f) (subst (λ z. Continues code strict t n b q xs z c) (sym g) w))
 
 pub runs_by : (p : First) (t n b : ℕ) (m m' : Machine) (c d : Course ℤ) → Runs p t n b m c → SameThread m m' →
     Continues p.code.items p.strict.items t n b m'.position m'.operands.items m'.ticks d → Runs p t n b m' d
@@ -41,8 +41,8 @@ pub runs_same : (p : First) (t n b : ℕ) (m m' : Machine) (c : Course ℤ) → 
     m'.position ≡ m.position → m'.operands.items ≡ m.operands.items → m'.ticks ≡ m.ticks → Runs p t n b m' c
 runs_same p t n b m m' c w same e f g =
     runs_by p t n b m m' c c w same
-      (continues_at p.code.items p.strict.items t n b m.position m'.position m.operands.items m'.operands.items m.ticks m'.ticks c e f g
-        w.continues)
+    (continues_at p.code.items p.strict.items t n b m.position m'.position m.operands.items m'.operands.items m.ticks m'.ticks c e f g
+    w.continues)
 
 leads_after : (p : First) (t n b : ℕ) (turn : Turn) (reply : Option Reply) (m m' : Machine) (c : Course ℤ) →
     Runs p t n b m c → SameThread m m' → Advances turn m m' →
@@ -50,10 +50,10 @@ leads_after : (p : First) (t n b : ℕ) (turn : Turn) (reply : Option Reply) (m 
     Leads p t n b turn reply m' c
 leads_after p t n b Moved reply m m' c w same to after =
     runs_by p t n b m m' c c w same
-      (subst (λ z. Continues p.code.items p.strict.items t n b z m'.operands.items m'.ticks c) (sym to) after)
+    (subst (λ z. Continues p.code.items p.strict.items t n b z m'.operands.items m'.ticks c) (sym to) after)
 leads_after p t n b Answered reply m m' c w same to after =
     runs_by p t n b m m' c (advance c reply) w same
-      (subst (λ z. Continues p.code.items p.strict.items t n b z m'.operands.items m'.ticks (advance c reply)) (sym to) after)
+    (subst (λ z. Continues p.code.items p.strict.items t n b z m'.operands.items m'.ticks (advance c reply)) (sym to) after)
 leads_after p t n b (Wishes wish) reply m m' c w same to after =
     (runs_same p t n b m m' c w same to.0 to.1 to.2, after.0, after.1, after.2 ∙ sym to.2)
 
@@ -62,11 +62,11 @@ pub leads_plain : (p : First) (t n b : ℕ) (x : Instr) (turn : Turn) (reply : O
     Acts t n p.strict.items x reply m turn m' → Forwards turn m m' → Leads p t n b turn reply m' c
 leads_plain p t n b x turn reply m m' c w below e h acts to =
     let s : seen turn m'.operands.items m'.ticks
-            ≡ next_by (does t n b p.strict.items x m.operands.items m.ticks) reply =
-        acts w.thread w.threads ∙ ap (λ z. next_by (does t n z p.strict.items x m.operands.items m.ticks) reply) w.budget in
+    ≡ next_by (does t n b p.strict.items x m.operands.items m.ticks) reply =
+    acts w.thread w.threads ∙ ap (λ z. next_by (does t n z p.strict.items x m.operands.items m.ticks) reply) w.budget in
     leads_after p t n b turn reply m m' c w to.0 to.1
-      (plain p.code.items p.strict.items t n b x turn reply m.position m.operands.items m'.operands.items m'.ticks m.ticks c
-        w.continues below e h s)
+    (plain p.code.items p.strict.items t n b x turn reply m.position m.operands.items m'.operands.items m'.ticks m.ticks c
+    w.continues below e h s)
 
 pub leads_test : (p : First) (t n b count : ℕ) (m m' : Machine) (c : Course ℤ) →
     Runs p t n b m c → m.position < length p.code.items → i.Test count ≡ get_or p.code.items m.position (i.Test count) →
@@ -76,13 +76,14 @@ pub leads_test : (p : First) (t n b count : ℕ) (m m' : Machine) (c : Course �
 leads_test p t n b count m m' c w below e zero other operands same ticks =
     let s = tested p.code.items p.strict.items t n b count m.position m.operands.items m.ticks c w.continues below e in
     let go : (z : Bool) → int_eq (last_of m.operands.items) (pos 0) ≡ z
-            → Continues p.code.items p.strict.items t n b m'.position m'.operands.items m'.ticks c =
-        λ z. elim z as (λ z. int_eq (last_of m.operands.items) (pos 0) ≡ z
-            → Continues p.code.items p.strict.items t n b m'.position m'.operands.items m'.ticks c) [
-          true ↦ λ h. continues_at p.code.items p.strict.items t n b _ m'.position _ m'.operands.items m.ticks m'.ticks c
-              (zero h) operands ticks (s.1 h)
-        | false ↦ λ h. continues_at p.code.items p.strict.items t n b _ m'.position _ m'.operands.items m.ticks m'.ticks c
-              (other h) operands ticks (s.0 h) ] in
+    → Continues p.code.items p.strict.items t n b m'.position m'.operands.items m'.ticks c =
+    λ z. elim z as (λ z. int_eq (last_of m.operands.items) (pos 0) ≡ z
+    → Continues p.code.items p.strict.items t n b m'.position m'.operands.items m'.ticks c) [
+      | true ↦ λ h. continues_at p.code.items p.strict.items t n b _ m'.position _ m'.operands.items m.ticks m'.ticks c
+          (zero h) operands ticks (s.1 h)
+      | false ↦ λ h. continues_at p.code.items p.strict.items t n b _ m'.position _ m'.operands.items m.ticks m'.ticks c
+          (other h) operands ticks (s.0 h)
+    ] in
     runs_by p t n b m m' c c w same (go (int_eq (last_of m.operands.items) (pos 0)) refl)
 
 pub leads_back : (p : First) (t n b count : ℕ) (turn : Turn) (reply : Option Reply) (m m' : Machine) (c : Course ℤ) →
@@ -95,19 +96,21 @@ leads_back p t n b count turn reply m m' c w below e spent more rests operands s
     let s = returned p.code.items p.strict.items t n b count m.position m.operands.items m.ticks c w.continues below e in
     let own : nat_le m.budget m.ticks ≡ nat_le b m.ticks = ap (λ z. nat_le z m.ticks) w.budget in
     let go : (z : Bool) → nat_le m.budget m.ticks ≡ z → Leads p t n b turn reply m' c =
-        λ z. elim z as (λ z. nat_le m.budget m.ticks ≡ z → Leads p t n b turn reply m' c) [
-          true ↦ λ h.
-            let over : c ≡ Over Spent m.ticks = s.0 (sym own ∙ h) in
-            subst (λ (x : Turn). Leads p t n b x reply m' c) (sym (spent h))
-              (runs_same p t n b m m' c w same (rests h).0 operands (rests h).1,
-               subst (λ (x : Course ℤ). advance x reply ≡ x) (sym over) refl,
-               ap end_of over,
-               ap ticks_of over ∙ sym (rests h).1)
-        | false ↦ λ h.
-            subst (λ (x : Turn). Leads p t n b x reply m' c) (sym (more h).0)
-              (runs_by p t n b m m' c c w same
-                (continues_at p.code.items p.strict.items t n b _ m'.position _ m'.operands.items _ m'.ticks c
-                  (more h).1 operands (more h).2 (s.1 (sym own ∙ h)))) ] in
+    λ z. elim z as (λ z. nat_le m.budget m.ticks ≡ z → Leads p t n b turn reply m' c) [
+      | true ↦ λ h.
+          let over : c ≡ Over Spent m.ticks = s.0 (sym own ∙ h) in
+          subst (λ (x : Turn). Leads p t n b x reply m' c) (sym (spent h)) (
+            runs_same p t n b m m' c w same (rests h).0 operands (rests h).1,
+            subst (λ (x : Course ℤ). advance x reply ≡ x) (sym over) refl,
+            ap end_of over,
+            ap ticks_of over ∙ sym (rests h).1,
+          )
+      | false ↦ λ h.
+          subst (λ (x : Turn). Leads p t n b x reply m' c) (sym (more h).0)
+          (runs_by p t n b m m' c c w same
+          (continues_at p.code.items p.strict.items t n b _ m'.position _ m'.operands.items _ m'.ticks c
+          (more h).1 operands (more h).2 (s.1 (sym own ∙ h))))
+    ] in
     go (nat_le m.budget m.ticks) refl
 
 pub leads_end : (p : First) (t n b : ℕ) (reply : Option Reply) (m : Machine) (c : Course ℤ) → Runs p t n b m c →

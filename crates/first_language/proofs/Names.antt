@@ -1,6 +1,6 @@
 -- Names that are declared once are found.
-use Rattle.std.proofs.Common.{◌≡◌, ℕ, zero, suc, ◌+◌, ◌-◌, ◌<◌, ◌≤◌, nat_eq, nat_le, nat_lt, Bool, true, false, cond, ◌&&◌, ◌||◌, List, [], ◌∷◌, ◌++◌, get_or, length, position, Option, Some, None, refl, sym, ◌∙◌, ap, subst, arith, eqb-true, eq-eqb, leb-true, le-leb, append_assoc, append-nil, length-append, inl, inr}
-use Rattle.std.specs.List.{list_any, position_or_len}
+use Rattle.std.proofs.Common.{◌≡◌, ℕ, zero, suc, ◌+◌, ◌-◌, ◌<◌, ◌≤◌, nat_eq, nat_le, nat_lt, Bool, true, false, cond, ◌&&◌, ◌||◌, List, [], ◌∷◌, ◌++◌, get_or, length, position, Some, refl, sym, ap, subst, arith, eqb-true, eq-eqb, leb-true, le-leb, append_assoc, append-nil, length-append, inl, inr}
+use Rattle.std.specs.List.{position_or_len}
 use Rattle.std.specs.Cmp.Lexicographic.{pointwise}
 use Rattle.std.proofs.lemmas.Bool.{cases_lt, lt-ltb}
 use Rattle.std.proofs.lemmas.List.{get_or_append_left}
@@ -9,7 +9,7 @@ use Rattle.std.proofs.lemmas.List.Quantifiers.{position-Some}
 use Rattle.std.proofs.Math.Seq.{get_or-append_seam}
 use Rattle.first_language.specs.Syntax.{Declaration, is_among, are_new, names_of}
 use Rattle.first_language.specs.Parse.{variable_of}
-use Rattle.first_language.proofs.Keeps.{both}
+use Rattle.first_language.proofs.Logic.{both}
 use Rattle.first_language.proofs.Eats as opt
 
 pub text_refl : (a : List ℕ) → pointwise nat_eq a a ≡ true
@@ -30,17 +30,17 @@ position_at : {X : Type 0} (p : X → Bool) (xs : List X) (i : ℕ) (d : X) → 
     ((k : ℕ) → k < i → p (get_or xs k d) ≡ false) → position p xs ≡ Some i
 position_at p xs i d h e before =
     let same : position_or_len p xs ≡ i =
-        elim (cases_lt (position_or_len p xs) i) [
-          inl less ↦
-            let yes' : p (get_or xs (position_or_len p xs) d) ≡ true = passes_at_first p xs d (omega arith) in
-            let not' = before (position_or_len p xs) less in
-            absurd cc
-        | inr more ↦
-            elim (cases_lt i (position_or_len p xs)) [
-              inl less ↦ let not' = fails_before_first p xs i d less in absurd cc
+    elim (cases_lt (position_or_len p xs) i) [
+      | inl less ↦
+          let yes' : p (get_or xs (position_or_len p xs) d) ≡ true = passes_at_first p xs d (omega arith) in
+          let not' = before (position_or_len p xs) less in
+          absurd cc
+      | inr more ↦
+          elim (cases_lt i (position_or_len p xs)) [
+            | inl less ↦ let not' = fails_before_first p xs i d less in absurd cc
             | inr least ↦ omega arith
-            ]
-        ] in
+          ]
+    ] in
     let within : nat_lt i (length xs) ≡ true = lt-ltb i (length xs) h in
     rw (same, within) refl
 
@@ -67,20 +67,20 @@ found_distinct names d v h =
     let high : v ≤ length names = leb-true v (length names) b.1 in
     let back : v - 1 + 1 ≡ v = omega arith in
     rw (position_at (λ n. pointwise nat_eq n (get_or names (v - 1) [])) names (v - 1) [] (omega arith) (text_refl (get_or names (v - 1) []))
-        (λ k g. d k (v - 1) g (omega arith))) (ap Some back)
+    (λ k g. d k (v - 1) g (omega arith))) (ap Some back)
 
 distinct_push : (xs : List (List ℕ)) (name : List ℕ) → AreDistinct xs → is_among name xs ≡ false → AreDistinct (xs ++ name ∷ [])
 unfolding AreDistinct
 distinct_push xs name d h i j less within =
     let size = length-append xs (name ∷ []) in
     elim (cases_lt j (length xs)) [
-      inl low ↦
-        let low_i : i < length xs = omega arith in
-        rw (get_or_append_left xs (name ∷ []) [] i low_i, get_or_append_left xs (name ∷ []) [] j low) (d i j less low)
-    | inr high ↦
-        let last : j ≡ length xs = omega arith in
-        let low_i : i < length xs = omega arith in
-        rw (get_or_append_left xs (name ∷ []) [] i low_i, last, get_or-append_seam xs name [] []) (none_among name xs i h low_i)
+      | inl low ↦
+          let low_i : i < length xs = omega arith in
+          rw (get_or_append_left xs (name ∷ []) [] i low_i, get_or_append_left xs (name ∷ []) [] j low) (d i j less low)
+      | inr high ↦
+          let last : j ≡ length xs = omega arith in
+          let low_i : i < length xs = omega arith in
+          rw (get_or_append_left xs (name ∷ []) [] i low_i, last, get_or-append_seam xs name [] []) (none_among name xs i h low_i)
     ]
 
 pub fresh : (q r : Bool) → cond q false r ≡ true → (q ≡ false) × (r ≡ true)
@@ -92,7 +92,7 @@ distinct_all [] xs h d = subst AreDistinct (sym (append-nil xs)) d
 distinct_all (x ∷ ds) xs h d =
     let b = fresh (is_among x.name xs) (are_new (xs ++ x.name ∷ []) ds) h in
     subst AreDistinct (append_assoc xs (x.name ∷ []) (names_of ds))
-      (distinct_all ds (xs ++ x.name ∷ []) b.1 (distinct_push xs x.name d b.0))
+    (distinct_all ds (xs ++ x.name ∷ []) b.1 (distinct_push xs x.name d b.0))
 
 -- each of the declared names is found under its number
 pub found_new : (ds : List Declaration) → are_new [] ds ≡ true → (v : ℕ) → (nat_le 1 v && nat_le v (length (names_of ds))) ≡ true →

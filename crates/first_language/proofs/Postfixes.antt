@@ -1,6 +1,6 @@
 -- The tree that a postfix form was made from is the one that is read from it.
-use Rattle.std.proofs.Common.{◌≡◌, ℕ, ℤ, List, [], ◌∷◌, Bool, true, false, ◌&&◌, length, ◌+◌, refl, sym, ◌∙◌, ap, subst}
-use Rattle.upc_values.specs.declared.scalar.Mark.TheVariants.{Absent, Start, Finish}
+use Rattle.std.proofs.Common.{◌≡◌, List, [], ◌∷◌, ◌+◌, refl, sym, ◌∙◌, ap}
+use Rattle.upc_values.specs.declared.scalar.Mark.TheVariants.{Finish}
 use Rattle.first_language.specs.declared.instr.Instr.{Instr}
 use Rattle.first_language.specs.declared.instr.Instr.TheVariants as i
 use Rattle.first_language.specs.Tree.{Expr, Number, Variable, Mythread, Threads, Binary, Stmt, Assign, Barrier, Fence, Print, While, Block, End, Then}
@@ -37,6 +37,7 @@ reads_expr (Binary op place l r) rest es b ls =
 
 mutual
   unfolding parts join
+
   reads_stmt : (s : Stmt) (rest : List Instr) (es : List Expr) (b : Block) (ls : List (Expr × Block)) →
       read_from (code_stmt s rest) (parts es b ls) ≡ read_from rest (parts es (and_then b s) ls)
   reads_stmt (Assign v e) rest es b ls = reads_expr e (i.Assign v ∷ rest) es b ls
@@ -62,5 +63,5 @@ pub read_program : (b : Block) (e : Expr) → read (code_program b e) ≡ record
 unfolding read parts join result_of
 read_program b e =
     ap result_of
-      (reads_block b (code_expr e (i.Notify Finish ∷ i.Wait Finish ∷ [])) [] End []
-       ∙ reads_expr e (i.Notify Finish ∷ i.Wait Finish ∷ []) [] (join End b) [])
+    (reads_block b (code_expr e (i.Notify Finish ∷ i.Wait Finish ∷ [])) [] End []
+    ∙ reads_expr e (i.Notify Finish ∷ i.Wait Finish ∷ []) [] (join End b) [])

@@ -1,20 +1,19 @@
 -- What a machine that stands by replies tells of the meaning on them.
-use Rattle.std.proofs.Common.{◌≡◌, ℕ, ℤ, pos, ◌++◌, List, [], ◌∷◌, Option, Some, None, true, cond, refl, sym, ◌∙◌, ap, subst, append-nil}
+use Rattle.std.proofs.Common.{◌≡◌, ℕ, ℤ, pos, ◌++◌, List, [], ◌∷◌, Option, Some, None, true, refl, sym, ◌∙◌, ap, subst, append-nil}
 use Rattle.upc_values.specs.declared.action.Action.{Action}
 use Rattle.upc_values.specs.declared.action.Reply.{Reply}
 use Rattle.upc_values.specs.declared.scalar.Mark.TheVariants.{Start, Finish}
-use Rattle.upc_values.specs.declared.record.ToldEnd.{ToldEnd}
 use Rattle.upc_values.specs.declared.record.ToldEnd.TheVariants as told
 use Rattle.upc_values.specs.Outcomes.{fits}
 use Rattle.first_language.specs.declared.instr.Instr.TheVariants as i
 use Rattle.first_language.specs.declared.tree.First.{First}
 use Rattle.first_language.specs.declared.machine.Machine.{Machine}
 use Rattle.first_language.specs.declared.machine.Wish.{Wish}
-use Rattle.first_language.specs.Course.{Course, Gives, Over, Asks, Stop, Faults, Spent, told_stop, outcome_after}
+use Rattle.first_language.specs.Course.{Course, Gives, Over, Asks, Faults, Spent, outcome_after}
 use Rattle.first_language.specs.Postfix.{read}
 use Rattle.first_language.specs.Meaning.{course, meaning}
 use Rattle.first_language.specs.Ahead.{Step, Do, Evaluate}
-use Rattle.first_language.specs.Machine.{Comes, Runs, Resumes, Stands, HasAsked, Answers, advance, end_of, ticks_of, told_of, listed}
+use Rattle.first_language.specs.Machine.{Comes, Resumes, Stands, HasAsked, Answers, advance, end_of, ticks_of, told_of, listed}
 use Rattle.first_language.specs.Turns.{SameThread}
 use Rattle.first_language.proofs.Machines.{runs_same, advance-none}
 
@@ -67,12 +66,12 @@ pub comes_more : (p : First) (t n b : ℕ) (given : List Reply) (reply : Option 
 unfolding meaning
 comes_more p t n b given None d h g =
     subst (λ (x : List Reply). Comes (course p t n b) x (advance d None)) (sym (append-nil given))
-      (subst (λ (x : Course ℤ). Comes (course p t n b) given x) (sym (advance-none d)) h)
+    (subst (λ (x : Course ℤ). Comes (course p t n b) given x) (sym (advance-none d)) h)
 comes_more p t n b given (Some r) d h g =
     let wants : end_of d ≡ told.Wants g.0 = sym (comes_end given [] (course p t n b) d h) ∙ g.1 in
     let s : AsksFor g.0 d = asks_for d g.0 wants in
     subst (λ (x : Course ℤ). Comes (course p t n b) (given ++ r ∷ []) (advance x (Some r))) (sym s.is)
-      (comes_one given (course p t n b) d g.0 s.ticks s.after r h s.is g.2)
+    (comes_one given (course p t n b) d g.0 s.ticks s.after r h s.is g.2)
 
 pub told_by : (p : First) (t n b : ℕ) (given : List Reply) (reply : Option Reply) (m m' : Machine) (w : Wish) →
     Resumes p reply m w m' → Stands p t n b given m → Answers p t n b given reply →
@@ -102,19 +101,23 @@ asked_by m h = h
 pub stands_first : (p : First) (t n b : ℕ) (m : Machine) → m.thread ≡ pos t → m.threads ≡ pos n → m.budget ≡ b →
     m.position ≡ 0 → m.operands.items ≡ [] → m.ticks ≡ 0 → Stands p t n b [] m
 unfolding Stands
-stands_first p t n b m e f g h k l =
-    (course p t n b, refl,
-     record {
-       thread = e; threads = f; budget = g;
-       continues = record {
-         items = Step (i.Notify Start) ∷ Step (i.Wait Start) ∷ Do (read p.code.items).block ∷ Evaluate (read p.code.items).result
-             ∷ Step (i.Notify Finish) ∷ Step (i.Wait Finish) ∷ [];
-         front = [];
-         joins = sym p.postfix;
-         stands = sym h;
-         closed = (refl, (refl, (refl, (refl, tt))));
-         timely = tt;
-         course = rw (k, l) refl;
-       };
-     },
-     sym l)
+stands_first p t n b m e f g h k l = (
+  course p t n b,
+  refl,
+  record {
+    thread = e;
+    threads = f;
+    budget = g;
+    continues = record {
+      items = Step (i.Notify Start) ∷ Step (i.Wait Start) ∷ Do (read p.code.items).block ∷ Evaluate (read p.code.items).result
+          ∷ Step (i.Notify Finish) ∷ Step (i.Wait Finish) ∷ [];
+      front = [];
+      joins = sym p.postfix;
+      stands = sym h;
+      closed = (refl, (refl, (refl, (refl, tt))));
+      timely = tt;
+      course = rw (k, l) refl;
+    };
+  },
+  sym l,
+)

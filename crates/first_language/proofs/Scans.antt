@@ -1,5 +1,5 @@
 -- One turn of the scan.
-use Rattle.std.proofs.Common.{◌≡◌, ℕ, zero, suc, ◌+◌, ◌-◌, ◌<◌, ◌≤◌, List, [], ◌∷◌, ◌++◌, drop, Option, Some, None, Bool, true, false, cond, sym, ap, refl, ◌∙◌, get_or, length, drop-cons, append-nil, append_assoc, arith}
+use Rattle.std.proofs.Common.{◌≡◌, ℕ, zero, suc, ◌+◌, ◌-◌, ◌<◌, ◌≤◌, List, [], ◌∷◌, ◌++◌, drop, Option, Some, None, true, false, sym, ap, refl, ◌∙◌, get_or, length, append-nil, append_assoc, arith}
 use Rattle.std.specs.Option.{option_map}
 use Rattle.upc_text.specs.declared.place.Place.{Place}
 use Rattle.first_language.specs.declared.token.Kind.{Kind}
@@ -36,7 +36,7 @@ pub at_nothing : (xs : List Token) (e t : ℕ) (p : Place) (b : ℕ) (bs all : L
 at_nothing xs e t p b bs all h same solid none =
     let front : front_of (b ∷ bs) ≡ None = ap front_of (sym same) ∙ none in
     rw (same, left e t h, solid)
-      (ap (λ o. prepended xs (behind o p (λ q m. tokens_from (e - (t + 1)) q (drop m (b ∷ bs))))) front)
+    (ap (λ o. prepended xs (behind o p (λ q m. tokens_from (e - (t + 1)) q (drop m (b ∷ bs))))) front)
 
 pub at_token : (xs : List Token) (e t : ℕ) (p : Place) (b : ℕ) (bs all : List ℕ) (k : Kind) (m : ℕ) → t < e → all ≡ b ∷ bs →
     is_blank b ≡ false → front_of all ≡ Some (k, m) →
@@ -45,8 +45,8 @@ pub at_token : (xs : List Token) (e t : ℕ) (p : Place) (b : ℕ) (bs all : Lis
 at_token xs e t p b bs all k m h same solid some =
     let front : front_of (b ∷ bs) ≡ Some (k, m) = ap front_of (sym same) ∙ some in
     rw (same, left e t h, solid)
-      (ap (λ o. prepended xs (behind o p (λ q m. tokens_from (e - (t + 1)) q (drop m (b ∷ bs))))) front
-       ∙ prepended-push xs (record { kind = k; place = p }) (tokens_from (e - (t + 1)) (place_on m p) (drop m (b ∷ bs))))
+    (ap (λ o. prepended xs (behind o p (λ q m. tokens_from (e - (t + 1)) q (drop m (b ∷ bs))))) front
+    ∙ prepended-push xs (record { kind = k; place = p }) (tokens_from (e - (t + 1)) (place_on m p) (drop m (b ∷ bs))))
 
 pub first_and_rest : (all : List ℕ) → 1 ≤ length all → all ≡ get_or all 0 0 ∷ drop 1 all
 first_and_rest [] h = absurd (omega arith)

@@ -1,5 +1,5 @@
 -- What is read is a proper tree of the tokens.
-use Rattle.std.proofs.Common.{◌≡◌, ℕ, zero, suc, ◌+◌, ◌-◌, nat_le, Bool, true, false, cond, ◌&&◌, List, [], ◌∷◌, ◌++◌, get_or, length, Option, Some, None, refl, sym, ◌∙◌, ap, subst}
+use Rattle.std.proofs.Common.{◌≡◌, ℕ, zero, suc, ◌-◌, nat_le, Bool, true, false, cond, ◌&&◌, List, [], ◌∷◌, ◌++◌, get_or, length, Option, Some, None, refl, sym, ◌∙◌, ap, subst}
 use Rattle.upc_text.specs.declared.place.Place.{Place}
 use Rattle.upc_values.specs.Scalars.{is_int}
 use Rattle.first_language.specs.declared.token.Fixed.{Fixed}
@@ -10,23 +10,18 @@ use Rattle.first_language.specs.declared.token.Token.{Token}
 use Rattle.first_language.specs.Syntax.{Atom, Number, Variable, Mythread, Threads, Group, Factors, Alone, By, More, Done, Add, Subtract, Sum, Terms, Statement, Assign, Barrier, Fence, Print, While, Statements, End, Then, fixed, spell_atom, spell_factors, spell_more, spell_sum, spell_statement, spell_statements, proper_atom, proper_factors, proper_more, proper_sum, proper_statement, proper_statements, Qualifier, Strict, Relaxed, Unqualified, Declaration, Source, spell_qualifier, spell_declaration, spell_declarations, spell_void, spell_body, spell, names_of, is_among, are_new, proper}
 use Rattle.first_language.specs.Parse as p
 use Rattle.first_language.specs.Parse.{◌>>=◌, eat, inside, within, variable_of}
-use Rattle.first_language.proofs.Eats.{Both, both, eat_sound, token_of}
+use Rattle.first_language.proofs.Eats.{both, eat_sound, token_of}
 use Rattle.first_language.proofs.Names.{variable_sound, length-names_of}
+use Rattle.first_language.proofs.Logic.{and_true, some_same}
 
 -- the tokens are those of a proper tree, and then the rest
 pub record Said {A : Type 0} (spelled : A → List Token → List Token) (is_proper : A → Bool) (ts : List Token) (x : A × List Token) : Type 0 where
   pub text : ts ≡ spelled x.0 x.1
   pub fine : is_proper x.0 ≡ true
 
-some_same : {A : Type 0} (x y : A) → Some x ≡ Some y → x ≡ y
-some_same x y h = cc
-
 pub said : {A : Type 0} (spelled : A → List Token → List Token) (is_proper : A → Bool) (ts : List Token) (x y : A × List Token) →
     Some x ≡ Some y → Said spelled is_proper ts x → Said spelled is_proper ts y
 said spelled is_proper ts x y e h = subst (λ z. Said spelled is_proper ts z) (some_same x y e) h
-
-pub and_true : (q r : Bool) → q ≡ true → r ≡ true → (q && r) ≡ true
-and_true q r h g = rw (h, g) refl
 
 chosen : {A : Type 0} (q : Bool) (x y : A) → cond q (Some x) None ≡ Some y → (q ≡ true) × (Some x ≡ Some y)
 chosen true x y h = (refl, h)
@@ -55,9 +50,10 @@ module _ (names : List (List ℕ)) where
         let s = inner ts b.value b.first in
         let e = eat_sound f.RParen b.value.1 c.value c.first in
         said (spell_atom names) (proper_atom (length names) n) (fixed f.LParen q ∷ ts) (Group q b.value.0 c.value.0, c.value.1) x c.then
-          (record {
-            text = ap (λ z. fixed f.LParen q ∷ z) (s.text ∙ ap (spell_sum names b.value.0) e);
-            fine = group_fits n q b.value.0 c.value.0 s.fine })
+        (record {
+          text = ap (λ z. fixed f.LParen q ∷ z) (s.text ∙ ap (spell_sum names b.value.0) e);
+          fine = group_fits n q b.value.0 c.value.0 s.fine;
+        })
 
     sound_fixed : (g : Fixed) (q : Place) (ts : List Token) (x : Atom × List Token) → p.fixed_atom names (inside names n) g q ts ≡ Some x →
         Said (spell_atom names) (proper_atom (length names) n) (fixed g q ∷ ts) x
@@ -75,7 +71,7 @@ module _ (names : List (List ℕ)) where
         let b = both (variable_of names m) _ x h in
         let v = variable_sound names m b.value b.first in
         said _ _ _ (Variable q b.value, ts) x b.then
-          (record { text = ap (λ z. record { kind = k.Name z; place = q } ∷ ts) v.0; fine = v.1 })
+        (record { text = ap (λ z. record { kind = k.Name z; place = q } ∷ ts) v.0; fine = v.1 })
     sound_kind (k.Fixed g) q ts x h = sound_fixed g q ts x h
 
     sound_atom : (ts : List Token) (x : Atom × List Token) → p.atom names (inside names n) ts ≡ Some x →
@@ -97,9 +93,10 @@ module _ (names : List (List ℕ)) where
         let s = sound_atom y.1 a.value a.first in
         let r = others a.value.1 b.value b.first in
         said _ _ _ (By y.0 a.value.0 b.value.0, b.value.1) x b.then
-          (record {
-            text = q ∙ ap (λ z. fixed f.Star y.0 ∷ z) (s.text ∙ ap (spell_atom names a.value.0) r.text);
-            fine = and_true _ _ s.fine r.fine })
+        (record {
+          text = q ∙ ap (λ z. fixed f.Star y.0 ∷ z) (s.text ∙ ap (spell_atom names a.value.0) r.text);
+          fine = and_true _ _ s.fine r.fine;
+        })
 
     sound_factors : (count : ℕ) (ts : List Token) (x : Factors × List Token) → p.factors names (inside names n) count ts ≡ Some x → SaidFactors ts x
     unfolding p.factors
@@ -120,7 +117,7 @@ module _ (names : List (List ℕ)) where
         let s = sound_atom ts a.value a.first in
         let r = sound_factors (length a.value.1) a.value.1 b.value b.first in
         said spell_term proper_term ts ((a.value.0, b.value.0), b.value.1) x b.then
-          (record { text = s.text ∙ ap (spell_atom names a.value.0) r.text; fine = and_true _ _ s.fine r.fine })
+        (record { text = s.text ∙ ap (spell_atom names a.value.0) r.text; fine = and_true _ _ s.fine r.fine })
 
     abbrev SaidMore : List Token → More × List Token → Type 0
     SaidMore ts x = Said (spell_more names) (proper_more (length names) n) ts x
@@ -140,9 +137,10 @@ module _ (names : List (List ℕ)) where
         let s = sound_term y.1 a.value a.first in
         let r = others a.value.1 b.value b.first in
         said _ _ _ (Add y.0 a.value.0.0 a.value.0.1 b.value.0, b.value.1) x b.then
-          (record {
-            text = q ∙ ap (λ z. fixed f.Plus y.0 ∷ z) (s.text ∙ ap (spell_term a.value.0) r.text);
-            fine = triple _ _ _ s.fine r.fine })
+        (record {
+          text = q ∙ ap (λ z. fixed f.Plus y.0 ∷ z) (s.text ∙ ap (spell_term a.value.0) r.text);
+          fine = triple _ _ _ s.fine r.fine;
+        })
     more_found count others ts None (Some y) e g x h =
         let a = both (p.term names (inside names n) y.1) _ x h in
         let b = both (p.more names (inside names n) count a.value.1) _ x a.then in
@@ -150,9 +148,10 @@ module _ (names : List (List ℕ)) where
         let s = sound_term y.1 a.value a.first in
         let r = others a.value.1 b.value b.first in
         said _ _ _ (Subtract y.0 a.value.0.0 a.value.0.1 b.value.0, b.value.1) x b.then
-          (record {
-            text = q ∙ ap (λ z. fixed f.Minus y.0 ∷ z) (s.text ∙ ap (spell_term a.value.0) r.text);
-            fine = triple _ _ _ s.fine r.fine })
+        (record {
+          text = q ∙ ap (λ z. fixed f.Minus y.0 ∷ z) (s.text ∙ ap (spell_term a.value.0) r.text);
+          fine = triple _ _ _ s.fine r.fine;
+        })
     more_found count others ts None None e g x h = said _ _ _ (Done, ts) x h (record { text = refl; fine = refl })
 
     sound_more : (count : ℕ) (ts : List Token) (x : More × List Token) → p.more names (inside names n) count ts ≡ Some x → SaidMore ts x
@@ -169,7 +168,7 @@ module _ (names : List (List ℕ)) where
         let s = sound_term ts a.value a.first in
         let r = sound_more (length a.value.1) a.value.1 b.value b.first in
         said _ _ _ (Terms a.value.0.0 a.value.0.1 b.value.0, b.value.1) x b.then
-          (record { text = s.text ∙ ap (spell_term a.value.0) r.text; fine = triple _ _ _ s.fine r.fine })
+        (record { text = s.text ∙ ap (spell_term a.value.0) r.text; fine = triple _ _ _ s.fine r.fine })
 
   sound_inside : (n : ℕ) → SoundSum n
   unfolding inside fits_inside
@@ -215,12 +214,13 @@ module _ (names : List (List ℕ)) where
       let d = both (eat f.LBrace c.value.1) _ x c.then in
       let s = sound_whole a.value.1 b.value b.first in
       said spell_opening proper_opening ts _ x d.then
-        (record {
-          text = eat_sound f.LParen ts a.value a.first
-              ∙ ap (λ z. fixed f.LParen a.value.0 ∷ z) (s.text
-                ∙ ap (spell_sum names b.value.0) (eat_sound f.RParen b.value.1 c.value c.first
-                  ∙ ap (λ z. fixed f.RParen c.value.0 ∷ z) (eat_sound f.LBrace c.value.1 d.value d.first)));
-          fine = s.fine })
+      (record {
+        text = eat_sound f.LParen ts a.value a.first
+            ∙ ap (λ z. fixed f.LParen a.value.0 ∷ z) (s.text
+            ∙ ap (spell_sum names b.value.0) (eat_sound f.RParen b.value.1 c.value c.first
+            ∙ ap (λ z. fixed f.RParen c.value.0 ∷ z) (eat_sound f.LBrace c.value.1 d.value d.first)));
+        fine = s.fine;
+      })
 
   abbrev SoundWithin : ℕ → Type 0
   SoundWithin l = (ts : List Token) (x : Statements × List Token) → within names l ts ≡ Some x → Said (spell_statements names) (fits_within l) ts x
@@ -240,11 +240,12 @@ module _ (names : List (List ℕ)) where
         let i = eat_sound f.Equal ts a.value a.first in
         let j = eat_sound f.Semicolon b.value.1 c.value c.first in
         said _ _ _ (Assign q v a.value.0 b.value.0 c.value.0, c.value.1) x c.then
-          (record {
-            text = ap (λ z. record { kind = k.Name z; place = q } ∷ ts) e
-                ∙ ap (λ z. record { kind = k.Name (get_or names (v - 1) []); place = q } ∷ z)
-                    (i ∙ ap (λ z. fixed f.Equal a.value.0 ∷ z) (s.text ∙ ap (spell_sum names b.value.0) j));
-            fine = and_true _ _ d s.fine })
+        (record {
+          text = ap (λ z. record { kind = k.Name z; place = q } ∷ ts) e
+              ∙ ap (λ z. record { kind = k.Name (get_or names (v - 1) []); place = q } ∷ z)
+              (i ∙ ap (λ z. fixed f.Equal a.value.0 ∷ z) (s.text ∙ ap (spell_sum names b.value.0) j));
+          fine = and_true _ _ d s.fine;
+        })
 
     sound_print : (q : Place) (ts : List Token) (x : Statement × List Token) → p.print names (within names l) q ts ≡ Some x →
         SaidStatement (fixed f.Printf q ∷ ts) x
@@ -257,15 +258,16 @@ module _ (names : List (List ℕ)) where
         let g = both (eat f.Semicolon e.value.1) _ x e.then in
         let s = sound_whole c.value.1 d.value d.first in
         said _ _ _ (Print q a.value.0 b.value.0 c.value.0 d.value.0 e.value.0 g.value.0, g.value.1) x g.then
-          (record {
-            text = ap (λ z. fixed f.Printf q ∷ z)
-                (eat_sound f.LParen ts a.value a.first
-                 ∙ ap (λ z. fixed f.LParen a.value.0 ∷ z) (eat_sound f.Format a.value.1 b.value b.first
-                   ∙ ap (λ z. fixed f.Format b.value.0 ∷ z) (eat_sound f.Comma b.value.1 c.value c.first
-                     ∙ ap (λ z. fixed f.Comma c.value.0 ∷ z) (s.text
-                       ∙ ap (spell_sum names d.value.0) (eat_sound f.RParen d.value.1 e.value e.first
-                         ∙ ap (λ z. fixed f.RParen e.value.0 ∷ z) (eat_sound f.Semicolon e.value.1 g.value g.first))))));
-            fine = s.fine })
+        (record {
+          text = ap (λ z. fixed f.Printf q ∷ z)
+              (eat_sound f.LParen ts a.value a.first
+              ∙ ap (λ z. fixed f.LParen a.value.0 ∷ z) (eat_sound f.Format a.value.1 b.value b.first
+              ∙ ap (λ z. fixed f.Format b.value.0 ∷ z) (eat_sound f.Comma b.value.1 c.value c.first
+              ∙ ap (λ z. fixed f.Comma c.value.0 ∷ z) (s.text
+              ∙ ap (spell_sum names d.value.0) (eat_sound f.RParen d.value.1 e.value e.first
+              ∙ ap (λ z. fixed f.RParen e.value.0 ∷ z) (eat_sound f.Semicolon e.value.1 g.value g.first))))));
+          fine = s.fine;
+        })
 
     sound_loop : (q : Place) (ts : List Token) (x : Statement × List Token) → p.loop names (within names l) q ts ≡ Some x →
         SaidStatement (fixed f.While q ∷ ts) x
@@ -276,22 +278,23 @@ module _ (names : List (List ℕ)) where
         let s = sound_opening ts o.value o.first in
         let r = inner o.value.1 e.value e.first in
         said _ _ _ (While q o.value.0.lparen o.value.0.condition o.value.0.rparen o.value.0.lbrace e.value.0 g.value.0, g.value.1) x g.then
-          (record {
-            text = ap (λ z. fixed f.While q ∷ z)
-                (s.text ∙ ap (spell_opening o.value.0) (r.text
-                  ∙ ap (spell_statements names e.value.0) (eat_sound f.RBrace e.value.1 g.value g.first)));
-            fine = while_fits l q o.value.0.lparen o.value.0.condition o.value.0.rparen o.value.0.lbrace e.value.0 g.value.0 s.fine r.fine })
+        (record {
+          text = ap (λ z. fixed f.While q ∷ z)
+              (s.text ∙ ap (spell_opening o.value.0) (r.text
+              ∙ ap (spell_statements names e.value.0) (eat_sound f.RBrace e.value.1 g.value g.first)));
+          fine = while_fits l q o.value.0.lparen o.value.0.condition o.value.0.rparen o.value.0.lbrace e.value.0 g.value.0 s.fine r.fine;
+        })
 
     sound_fixed_statement : (g : Fixed) (q : Place) (ts : List Token) (x : Statement × List Token) →
         p.fixed_statement names (within names l) g q ts ≡ Some x → SaidStatement (fixed g q ∷ ts) x
     sound_fixed_statement f.Barrier q ts x h =
         let a = both (eat f.Semicolon ts) _ x h in
         said _ _ _ (Barrier q a.value.0, a.value.1) x a.then
-          (record { text = ap (λ z. fixed f.Barrier q ∷ z) (eat_sound f.Semicolon ts a.value a.first); fine = refl })
+        (record { text = ap (λ z. fixed f.Barrier q ∷ z) (eat_sound f.Semicolon ts a.value a.first); fine = refl })
     sound_fixed_statement f.Fence q ts x h =
         let a = both (eat f.Semicolon ts) _ x h in
         said _ _ _ (Fence q a.value.0, a.value.1) x a.then
-          (record { text = ap (λ z. fixed f.Fence q ∷ z) (eat_sound f.Semicolon ts a.value a.first); fine = refl })
+        (record { text = ap (λ z. fixed f.Fence q ∷ z) (eat_sound f.Semicolon ts a.value a.first); fine = refl })
     sound_fixed_statement f.Printf q ts x h = sound_print q ts x h
     sound_fixed_statement f.While q ts x h = sound_loop q ts x h
     sound_fixed_statement g q ts x h = absurd cc
@@ -311,7 +314,7 @@ module _ (names : List (List ℕ)) where
     one_more : (count : ℕ) → ((ts : List Token) (x : Statements × List Token) → p.statements names (within names l) count ts ≡ Some x → SaidStatements ts x) →
         (t : Token) (ts : List Token) (q : Bool) (x : Statements × List Token) →
         cond q (Some (End, t ∷ ts))
-          (p.statement_by names (within names l) t.kind t.place ts >>= λ s. p.statements names (within names l) count s.1 >>= λ ss. Some (Then s.0 ss.0, ss.1)) ≡ Some x →
+        (p.statement_by names (within names l) t.kind t.place ts >>= λ s. p.statements names (within names l) count s.1 >>= λ ss. Some (Then s.0 ss.0, ss.1)) ≡ Some x →
         SaidStatements (t ∷ ts) x
     one_more count others t ts true x h = said _ _ _ (End, t ∷ ts) x h (record { text = refl; fine = refl })
     one_more count others t ts false x h =
@@ -320,7 +323,7 @@ module _ (names : List (List ℕ)) where
         let s = sound_statement t.kind t.place ts a.value a.first in
         let r = others a.value.1 b.value b.first in
         said _ _ _ (Then a.value.0 b.value.0, b.value.1) x b.then
-          (record { text = s.text ∙ ap (spell_statement names a.value.0) r.text; fine = and_true _ _ s.fine r.fine })
+        (record { text = s.text ∙ ap (spell_statement names a.value.0) r.text; fine = and_true _ _ s.fine r.fine })
 
     sound_statements : (count : ℕ) (ts : List Token) (x : Statements × List Token) → p.statements names (within names l) count ts ≡ Some x → SaidStatements ts x
     unfolding p.statements
@@ -390,7 +393,7 @@ named_kind names (k.Name n) q ts x h = step (is_among n names) refl h
     step false e g =
         let pair : (List ℕ × Place) × List Token = ((n, q), ts) in
         subst (λ (y : (List ℕ × Place) × List Token). Named names (record { kind = k.Name n; place = q } ∷ ts) y) (some_same pair x g)
-          (record { text = refl; fresh = e })
+        (record { text = refl; fresh = e })
 named_kind names (k.Fixed g) q ts x h = absurd cc
 named_kind names (k.Number v) q ts x h = absurd cc
 
@@ -412,13 +415,14 @@ sound_declared names q ts x h =
     let d = both (eat f.Semicolon c.value.1) _ x c.then in
     let n = named names b.value.1 c.value c.first in
     subst (λ (y : Declaration × List Token). Declared names q ts y) (some_same _ x d.then)
-      (record {
-        text = ap (spell_qualifier q)
-            (eat_sound f.Shared ts a.value a.first
-             ∙ ap (λ z. fixed f.Shared a.value.0 ∷ z) (eat_sound f.Int a.value.1 b.value b.first
-               ∙ ap (λ z. fixed f.Int b.value.0 ∷ z) (n.text
-                 ∙ ap (λ z. record { kind = k.Name c.value.0.0; place = c.value.0.1 } ∷ z) (eat_sound f.Semicolon c.value.1 d.value d.first))));
-        fresh = n.fresh })
+    (record {
+      text = ap (spell_qualifier q)
+          (eat_sound f.Shared ts a.value a.first
+          ∙ ap (λ z. fixed f.Shared a.value.0 ∷ z) (eat_sound f.Int a.value.1 b.value b.first
+          ∙ ap (λ z. fixed f.Int b.value.0 ∷ z) (n.text
+          ∙ ap (λ z. record { kind = k.Name c.value.0.0; place = c.value.0.1 } ∷ z) (eat_sound f.Semicolon c.value.1 d.value d.first))));
+      fresh = n.fresh;
+    })
 
 abbrev SaidDeclarations : List (List ℕ) → List Token → List Declaration × List Token → Type 0
 SaidDeclarations names ts x = Said spell_declarations (are_new names) ts x
@@ -433,9 +437,10 @@ declarations_found count others names ts (Some q) e x h =
     let d = sound_declared names q.0 q.1 a.value a.first in
     let r = others (names ++ a.value.0.name ∷ []) a.value.1 b.value b.first in
     said _ _ _ (a.value.0 ∷ b.value.0, b.value.1) x b.then
-      (record {
-        text = sound_qualifier ts q e ∙ d.text ∙ ap (spell_declaration a.value.0) r.text;
-        fine = rw d.fresh r.fine })
+    (record {
+      text = sound_qualifier ts q e ∙ d.text ∙ ap (spell_declaration a.value.0) r.text;
+      fine = rw d.fresh r.fine;
+    })
 
 sound_declarations : (count : ℕ) (names : List (List ℕ)) (ts : List Token) (x : List Declaration × List Token) → p.declarations count names ts ≡ Some x →
     SaidDeclarations names ts x
@@ -467,10 +472,10 @@ sound_head ts x h =
     let g = both (eat f.LBrace e.value.1) _ x e.then in
     eat_sound f.Int ts a.value a.first
     ∙ ap (λ z. fixed f.Int a.value.0 ∷ z) (eat_sound f.Main a.value.1 b.value b.first
-      ∙ ap (λ z. fixed f.Main b.value.0 ∷ z) (eat_sound f.LParen b.value.1 c.value c.first
-        ∙ ap (λ z. fixed f.LParen c.value.0 ∷ z) (sound_maybe c.value.1 (eat f.Void c.value.1) refl d.value d.first
-          ∙ ap (spell_void d.value.0) (eat_sound f.RParen d.value.1 e.value e.first
-            ∙ ap (λ z. fixed f.RParen e.value.0 ∷ z) (eat_sound f.LBrace e.value.1 g.value g.first)))))
+    ∙ ap (λ z. fixed f.Main b.value.0 ∷ z) (eat_sound f.LParen b.value.1 c.value c.first
+    ∙ ap (λ z. fixed f.LParen c.value.0 ∷ z) (sound_maybe c.value.1 (eat f.Void c.value.1) refl d.value d.first
+    ∙ ap (spell_void d.value.0) (eat_sound f.RParen d.value.1 e.value e.first
+    ∙ ap (λ z. fixed f.RParen e.value.0 ∷ z) (eat_sound f.LBrace e.value.1 g.value g.first)))))
     ∙ ap (λ (z : p.Head × List Token). spell_head z.0 z.1) (some_same _ x g.then)
 
 -- the end of main, and what it says of the source
@@ -490,14 +495,18 @@ sound_ending names ds h ss ts x e =
     let n = both (eat f.RBrace m.value.1) _ x m.then in
     let s = sound_whole names j.value.1 l.value l.first in
     subst (λ (y : Source × List Token). SaidEnding names ds h ss ts y) (some_same _ x n.then)
-      (record {
-        text = λ last.
-            eat_sound f.Return ts j.value j.first
-            ∙ ap (λ z. fixed f.Return j.value.0 ∷ z) (s.text
-              ∙ ap (spell_sum names l.value.0) (eat_sound f.Semicolon l.value.1 m.value m.first
-                ∙ ap (λ z. fixed f.Semicolon m.value.0 ∷ z) (eat_sound f.RBrace m.value.1 n.value n.first
-                  ∙ ap (λ z. fixed f.RBrace n.value.0 ∷ z) last)));
-        head = refl; statements = refl; same = refl; result = s.fine })
+    (record {
+      text = λ last.
+          eat_sound f.Return ts j.value j.first
+          ∙ ap (λ z. fixed f.Return j.value.0 ∷ z) (s.text
+          ∙ ap (spell_sum names l.value.0) (eat_sound f.Semicolon l.value.1 m.value m.first
+          ∙ ap (λ z. fixed f.Semicolon m.value.0 ∷ z) (eat_sound f.RBrace m.value.1 n.value n.first
+          ∙ ap (λ z. fixed f.RBrace n.value.0 ∷ z) last)));
+      head = refl;
+      statements = refl;
+      same = refl;
+      result = s.fine;
+    })
 
 sound_body : (names : List (List ℕ)) (ds : List Declaration) (ts : List Token) (x : Source × List Token) → p.body names ds ts ≡ Some x →
     SaidBody names ds ts x
@@ -536,11 +545,12 @@ sound ts u h =
     let d = sound_declarations (length ts) [] ts a.value a.first in
     let b = sound_body (names_of a.value.0) a.value.0 a.value.1 (u, []) a.then in
     let size = length-names_of u.declarations in
-    let names : names_of a.value.0 ≡ names_of u.declarations = ap names_of (sym b.same) in
-    (sym (d.text
-        ∙ ap (spell_declarations a.value.0) (b.text refl)
-        ∙ ap (λ z. spell_declarations z (spell_body (names_of z) u)) (sym b.same)),
-     and_true _ _ (subst (λ z. are_new [] z ≡ true) (sym b.same) d.fine)
-       (and_true _ _
-         (subst (λ z. proper_statements z 64 64 u.statements ≡ true) (ap length names ∙ size) b.statements)
-         (subst (λ z. proper_sum z 64 u.result ≡ true) (ap length names ∙ size) b.result)))
+    let names : names_of a.value.0 ≡ names_of u.declarations = ap names_of (sym b.same) in (
+      sym (d.text
+          ∙ ap (spell_declarations a.value.0) (b.text refl)
+          ∙ ap (λ z. spell_declarations z (spell_body (names_of z) u)) (sym b.same)),
+      and_true _ _ (subst (λ z. are_new [] z ≡ true) (sym b.same) d.fine)
+          (and_true _ _
+          (subst (λ z. proper_statements z 64 64 u.statements ≡ true) (ap length names ∙ size) b.statements)
+          (subst (λ z. proper_sum z 64 u.result ≡ true) (ap length names ∙ size) b.result)),
+    )

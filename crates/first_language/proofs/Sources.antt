@@ -1,25 +1,22 @@
 -- What is read from a source.
-use Rattle.std.proofs.Common.{◌≡◌, ℕ, ◌+◌, ◌<◌, ◌≤◌, ◌^◌, suc, Bool, true, false, ◌&&◌, List, [], ◌∷◌, ◌++◌, length, Option, Some, None, refl, sym, ◌∙◌, ap, subst, arith, ◌==◌, eqb-true}
+use Rattle.std.proofs.Common.{◌≡◌, ℕ, ◌<◌, ◌≤◌, suc, Bool, true, false, ◌&&◌, List, [], ◌∷◌, length, Some, None, refl, sym, ◌∙◌, ap, arith, ◌==◌, eqb-true}
 use Rattle.first_language.specs.declared.instr.Instr.{Instr}
 use Rattle.first_language.specs.declared.source.Declared.{Declared}
 use Rattle.first_language.specs.declared.token.Token.{Token}
 use Rattle.first_language.specs.declared.tree.First.{First}
 use Rattle.first_language.specs.Tree.{is_formed, Program}
 use Rattle.first_language.specs.Scan.{tokens_of}
-use Rattle.first_language.specs.Syntax.{Source, Declaration, spell, proper, program, names_of, stricts_of, proper_statements, proper_sum, block_of, expr_sum, are_new}
+use Rattle.first_language.specs.Syntax.{Source, Declaration, spell, names_of, stricts_of, proper_statements, proper_sum, block_of, expr_sum, are_new}
 use Rattle.first_language.specs.Parse as p
 use Rattle.first_language.specs.Postfix.{Read, read, code_program}
 use Rattle.first_language.specs.Heads.{GotDeclarations, GotBody, emit_source}
-use Rattle.first_language.specs.Meaning.{program_of}
 use Rattle.first_language.specs.Source.{IsTree, IsSource, IsProgram}
-use Rattle.first_language.proofs.Keeps.{both}
+use Rattle.first_language.proofs.Logic.{both}
 use Rattle.first_language.proofs.Sound.{sound, body_declarations}
 use Rattle.first_language.proofs.Complete.{complete}
 use Rattle.first_language.proofs.Formed.{formed_main}
 use Rattle.first_language.proofs.Postfixes.{read_program}
-
-some_same : {A : Type 0} (x y : A) → Some x ≡ Some y → x ≡ y
-some_same x y h = cc
+use Rattle.first_language.proofs.Logic.{some_same}
 
 -- a source has one tree
 pub one_tree : (bytes : List ℕ) (u v : Source) → IsTree bytes u → IsTree bytes v → u ≡ v
@@ -88,7 +85,7 @@ pub whole_read : (ts ts' last : List Token) (found : Declared) (code : List Inst
     GotBody (p.body found.names.items g.tree ts') code last → last ≡ [] → WholeRead ts found.strict.items code
 whole_read ts ts' last found code g b h =
     let reads : p.body (names_of g.tree) g.tree ts' ≡ Some (b.tree, []) =
-        ap (λ z. p.body z g.tree ts') (sym g.names_are) ∙ b.read ∙ ap (λ z. Some (b.tree, z)) h in
+    ap (λ z. p.body z g.tree ts') (sym g.names_are) ∙ b.read ∙ ap (λ z. Some (b.tree, z)) h in
     let same : b.tree.declarations ≡ g.tree = body_declarations (names_of g.tree) g.tree ts' (b.tree, []) reads in
     record {
       tree = b.tree;

@@ -1,5 +1,5 @@
 -- What one step does to the course that is before a machine.
-use Rattle.std.proofs.Common.{◌≡◌, ℕ, ℤ, pos, ◌+◌, ◌-◌, ◌*◌, ◌%◌, ◌==◌, nat_le, min, ◌≤◌, ◌<◌, ◌++◌, List, [], ◌∷◌, Bool, true, false, cond, Option, Some, None, refl, sym, ◌∙◌, ap, subst, append_assoc, length, length-append, get_or, arith}
+use Rattle.std.proofs.Common.{◌≡◌, ℕ, ℤ, pos, ◌+◌, ◌-◌, ◌%◌, ◌==◌, nat_le, min, ◌≤◌, ◌<◌, ◌++◌, List, [], ◌∷◌, Bool, true, false, cond, Option, Some, None, refl, sym, ◌∙◌, ap, subst, append_assoc, length, length-append, get_or, arith}
 use Rattle.std.proofs.Math.Seq.{get_or-append_seam}
 use Rattle.std.specs.Ordering.{int_eq}
 use Rattle.upc_values.specs.declared.action.Action.{Action}
@@ -14,9 +14,9 @@ use Rattle.first_language.specs.Tree.{Expr, Block}
 use Rattle.first_language.specs.Postfix.{code_block, size_block}
 use Rattle.first_language.proofs.Codes.{code_block-append, length-code_block, length-code_turn}
 use Rattle.first_language.specs.Meaning.{exact}
-use Rattle.first_language.specs.Ahead.{Item, Evaluate, Do, Step, Choose, Again, code_items, code_turn, EndsWith, AreClosed, AreTimely, behind, is_plain, way_back, left_by, last_of, front_of, does}
+use Rattle.first_language.specs.Ahead.{Item, Evaluate, Do, Step, Choose, Again, code_items, code_turn, AreClosed, AreTimely, behind, is_plain, way_back, left_by, last_of, front_of, does}
 use Rattle.first_language.specs.Machine.{Continues, advance, end_of, ticks_of, told_of}
-use Rattle.first_language.specs.Turns.{Next, Moves, Takes, Tells, seen, next_by, taken}
+use Rattle.first_language.specs.Turns.{Moves, Takes, Tells, seen, next_by, taken}
 use Rattle.upc_values.specs.declared.record.ToldEnd.TheVariants.{Wants}
 use Rattle.first_language.proofs.Settles.{IsStep, Settled, settle, again-same, timely_more}
 
@@ -187,11 +187,11 @@ module _ (code : List Instr) (strict : List Bool) (t n b : ℕ) where
   plain-at (Step y ∷ r) h front x turn reply q xs ys i k c joins stands closed timely course below e plain s =
       let same : x ≡ y = at_place code front (code_items r) y x q joins stands e in
       let seen_by : seen turn ys i ≡ next_by (does t n b strict y xs k) reply =
-          s ∙ ap (λ z. next_by (does t n b strict z xs k) reply) same in
+      s ∙ ap (λ z. next_by (does t n b strict z xs k) reply) same in
       after-step turn y r front reply q ys i k c joins stands closed.1 timely
-        (subst (λ z. Fate turn z reply (λ zs m. left_by t n b strict r zs m) ys i k (behind y k)) course
-          (fate (does t n b strict y xs k) reply (λ zs m. left_by t n b strict r zs m) turn ys i k (behind y k)
-            seen_by (does_stands t n b strict y xs k)))
+      (subst (λ z. Fate turn z reply (λ zs m. left_by t n b strict r zs m) ys i k (behind y k)) course
+      (fate (does t n b strict y xs k) reply (λ zs m. left_by t n b strict r zs m) turn ys i k (behind y k)
+      seen_by (does_stands t n b strict y xs k)))
   plain-at (Choose left d f ∷ r) h front x turn reply q xs ys i k c joins stands closed timely course below e plain s =
       let same = at_place code front _ _ x q joins stands e in
       let wrong : false ≡ true = ap is_plain (sym same) ∙ plain in
@@ -208,7 +208,7 @@ module _ (code : List Instr) (strict : List Bool) (t n b : ℕ) where
   plain x turn reply q xs ys i k c w below e p s =
       let o : Opened q xs k c = opened q xs k c w in
       plain-at o.continues.items o.head o.continues.front x turn reply q xs ys i k c o.continues.joins o.continues.stands
-        o.continues.closed o.continues.timely o.continues.course below e p s
+      o.continues.closed o.continues.timely o.continues.course below e p s
 
   ended-at : (items : List Item) → IsStep items → (front : List Instr) (q : ℕ) (xs : List ℤ) (k : ℕ) (c : Course ℤ) →
       code ≡ front ++ code_items items → length front ≡ q → left_by t n b strict items xs k ≡ c → length code ≤ q →
@@ -250,7 +250,7 @@ module _ (code : List Instr) (strict : List Bool) (t n b : ℕ) where
   passed left d f r front q xs k c joins stands closed timely course holds =
       let body : List Instr = code_block f (i.Back (way_back d f) ∷ []) in
       let parts : code_block f (i.Back (way_back d f) ∷ code_items r) ≡ body ++ code_items r =
-          code_block-append f (i.Back (way_back d f) ∷ []) (code_items r) in
+      code_block-append f (i.Back (way_back d f) ∷ []) (code_items r) in
       record {
         items = r;
         front = front ++ i.Test (size_block f + 1) ∷ body;
@@ -272,7 +272,7 @@ module _ (code : List Instr) (strict : List Bool) (t n b : ℕ) where
       q + 1 + (size_block f + 1) ≡ beyond q (size_block f + 1)
   far_enough front f d r q joins stands =
       let e : length code ≡ length front + length (i.Test (size_block f + 1) ∷ code_block f (i.Back (way_back d f) ∷ r)) =
-          ap length joins ∙ length-append front _ in
+      ap length joins ∙ length-append front _ in
       omega (arith, length-code_block f (i.Back (way_back d f) ∷ r))
 
   -- what a test comes to
@@ -293,11 +293,12 @@ module _ (code : List Instr) (strict : List Bool) (t n b : ℕ) where
       absurd cc
   tested-at (Choose left d f ∷ r) h front m q xs k c joins stands closed timely course below e =
       let same = at_place code front _ _ (i.Test m) q joins stands e in
-      let far : size_block f + 1 ≡ m = cc in
-      (chosen left d f r front q xs k c joins stands closed timely course,
-       λ holds. subst (λ z. Continues code strict t n b z (front_of xs) k c)
-         (far_enough front f d (code_items r) q joins stands ∙ ap (beyond q) far)
-         (passed left d f r front q xs k c joins stands closed timely course holds))
+      let far : size_block f + 1 ≡ m = cc in (
+        chosen left d f r front q xs k c joins stands closed timely course,
+        λ holds. subst (λ z. Continues code strict t n b z (front_of xs) k c)
+            (far_enough front f d (code_items r) q joins stands ∙ ap (beyond q) far)
+            (passed left d f r front q xs k c joins stands closed timely course holds),
+      )
   tested-at (Again left d f ∷ r) h front m q xs k c joins stands closed timely course below e =
       let same = at_place code front _ _ (i.Test m) q joins stands e in
       absurd cc
@@ -307,7 +308,7 @@ module _ (code : List Instr) (strict : List Bool) (t n b : ℕ) where
   tested m q xs k c w below e =
       let o : Opened q xs k c = opened q xs k c w in
       tested-at o.continues.items o.head o.continues.front m q xs k c o.continues.joins o.continues.stands
-        o.continues.closed o.continues.timely o.continues.course below e
+      o.continues.closed o.continues.timely o.continues.course below e
 
   -- what a way back comes to
   abbrev pub Returned : ℕ → ℕ → List ℤ → ℕ → Course ℤ → Type 0
@@ -327,17 +328,18 @@ module _ (code : List Instr) (strict : List Bool) (t n b : ℕ) where
       Returned (way_back d f) q xs k c
   turned left d f r front q xs k c joins stands closed timely course =
       let again = again-same code t n b strict left d f r xs k timely.0 in
-      let body : Course ℤ = left_by t n b strict (Step i.Beat ∷ Step i.Check ∷ Evaluate d ∷ Choose (left - 1) d f ∷ r) xs (k + 1) in
-      (λ holds. sym course ∙ again ∙ ap (λ z. cond z (Over Spent k) body) holds,
-       λ fails. record {
-         items = Step i.Beat ∷ Step i.Check ∷ Evaluate d ∷ Choose (left - 1) d f ∷ r;
-         front = closed.0.front;
-         joins = closed.0.joins;
-         stands = back_place front closed.0.front (code_items r) d f q joins stands closed.0.joins;
-         closed = (refl, (refl, closed));
-         timely = (omega (arith, timely.0), timely_more code t n b strict r k (k + 1) (omega arith) timely.1);
-         course = sym (again ∙ ap (λ z. cond z (Over Spent k) body) fails) ∙ course;
-       })
+      let body : Course ℤ = left_by t n b strict (Step i.Beat ∷ Step i.Check ∷ Evaluate d ∷ Choose (left - 1) d f ∷ r) xs (k + 1) in (
+        λ holds. sym course ∙ again ∙ ap (λ z. cond z (Over Spent k) body) holds,
+        λ fails. record {
+          items = Step i.Beat ∷ Step i.Check ∷ Evaluate d ∷ Choose (left - 1) d f ∷ r;
+          front = closed.0.front;
+          joins = closed.0.joins;
+          stands = back_place front closed.0.front (code_items r) d f q joins stands closed.0.joins;
+          closed = (refl, (refl, closed));
+          timely = (omega (arith, timely.0), timely_more code t n b strict r k (k + 1) (omega arith) timely.1);
+          course = sym (again ∙ ap (λ z. cond z (Over Spent k) body) fails) ∙ course;
+        },
+      )
 
   returned-at : (items : List Item) → IsStep items → (front : List Instr) (m q : ℕ) (xs : List ℤ) (k : ℕ) (c : Course ℤ) →
       code ≡ front ++ code_items items → length front ≡ q → AreClosed code items → AreTimely b k items →
@@ -362,4 +364,4 @@ module _ (code : List Instr) (strict : List Bool) (t n b : ℕ) where
   returned m q xs k c w below e =
       let o : Opened q xs k c = opened q xs k c w in
       returned-at o.continues.items o.head o.continues.front m q xs k c o.continues.joins o.continues.stands
-        o.continues.closed o.continues.timely o.continues.course below e
+      o.continues.closed o.continues.timely o.continues.course below e

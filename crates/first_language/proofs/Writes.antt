@@ -1,5 +1,5 @@
 -- The steps that the parser of statements writes.
-use Rattle.std.proofs.Common.{◌≡◌, ℕ, zero, suc, ◌+◌, ◌-◌, ◌<◌, ◌≤◌, Bool, true, false, cond, List, [], ◌∷◌, ◌++◌, length, Option, Some, None, refl, sym, ◌∙◌, ap, subst, append_assoc, append-nil, arith}
+use Rattle.std.proofs.Common.{◌≡◌, ℕ, zero, suc, ◌+◌, Bool, true, false, List, [], ◌∷◌, ◌++◌, length, Some, None, refl, sym, ◌∙◌, ap, append_assoc, append-nil, arith}
 use Rattle.upc_text.specs.declared.place.Place.{Place}
 use Rattle.first_language.specs.declared.instr.Instr.{Instr}
 use Rattle.first_language.specs.declared.instr.Instr.TheVariants as i
@@ -7,7 +7,7 @@ use Rattle.first_language.specs.declared.token.Fixed.TheVariants as f
 use Rattle.first_language.specs.declared.token.Kind.TheVariants as k
 use Rattle.first_language.specs.declared.token.Token.{Token}
 use Rattle.first_language.specs.Tree as t
-use Rattle.first_language.specs.Syntax.{Statement, Assign, Print, While, Statements, End, Then, expr_sum, stmt_of, block_of}
+use Rattle.first_language.specs.Syntax.{Assign, Print, While, Statements, End, Then, expr_sum, stmt_of, block_of}
 use Rattle.first_language.specs.Parse as p
 use Rattle.first_language.specs.Parse.{◌>>=◌, eat, ends, inside, within, variable_of}
 use Rattle.first_language.specs.Postfix.{code_expr, code_stmt, code_block, size_expr, size_block}

@@ -6,7 +6,7 @@ use Rattle.upc_values.specs.declared.action.Action.TheVariants as a
 use Rattle.first_language.specs.declared.instr.Instr.{Instr}
 use Rattle.first_language.specs.declared.instr.Instr.TheVariants as i
 use Rattle.first_language.specs.Tree.{Expr, Block}
-use Rattle.first_language.specs.Course.{Course, Gives, Over, Asks, Spent, bind, ask}
+use Rattle.first_language.specs.Course.{Course, Gives, Over, Spent, bind, ask}
 use Rattle.first_language.specs.Postfix.{code_expr, code_block, size_expr, size_block}
 use Rattle.first_language.specs.Meaning.{value, statements, turns, operate, fetch, beat, check, line_of, loc_of, is_strict}
 
@@ -110,9 +110,9 @@ module _ (thread threads budget : ℕ) (strict : List Bool) where
   left_by (Step x ∷ k) xs n = bind (does x xs n) (λ ys m. left_by k ys m)
   left_by (Choose left c b ∷ k) xs n =
       cond (int_eq (last_of xs) (pos 0)) (left_by k (front_of xs) n)
-        (bind (statements thread threads budget strict b n) (λ u m.
-          bind (turns budget left (value thread threads budget strict c) (statements thread threads budget strict b) m)
-            (λ w l. left_by k (front_of xs) l)))
+      (bind (statements thread threads budget strict b n) (λ u m.
+      bind (turns budget left (value thread threads budget strict c) (statements thread threads budget strict b) m)
+      (λ w l. left_by k (front_of xs) l)))
   left_by (Again left c b ∷ k) xs n =
       bind (turns budget left (value thread threads budget strict c) (statements thread threads budget strict b) n)
-        (λ w l. left_by k xs l)
+      (λ w l. left_by k xs l)

@@ -1,5 +1,5 @@
 -- What a thread does: it gives a value, ends, or asks for an action and goes on by the reply.
-use Rattle.std.specs.Prelude.{ℕ, ℤ, ◌+◌, Bool, true, false, cond, List, [], ◌∷◌, ◌++◌, length}
+use Rattle.std.specs.Prelude.{ℕ, ℤ, cond, List, [], ◌∷◌, ◌++◌, length}
 use Rattle.upc_values.specs.declared.action.Action.{Action}
 use Rattle.upc_values.specs.declared.action.Reply.{Reply}
 use Rattle.upc_values.specs.declared.record.ToldEnd.{ToldEnd}
@@ -39,4 +39,4 @@ outcome_after done (Over e n) replies = record { actions = done; ticks = n; «en
 outcome_after done (Asks a n after) [] = record { actions = done; ticks = n; «end» = Wants a }
 outcome_after done (Asks a n after) (r ∷ replies) =
     cond (fits a r) (outcome_after (done ++ a ∷ []) (after r) replies)
-        (record { actions = done; ticks = n; «end» = Misfit (length done) })
+    (record { actions = done; ticks = n; «end» = Misfit (length done) })

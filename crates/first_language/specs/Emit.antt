@@ -8,7 +8,7 @@ use Rattle.first_language.specs.declared.instr.Operator.{Operator}
 use Rattle.first_language.specs.declared.instr.Operator.TheVariants as o
 use Rattle.first_language.specs.declared.token.Fixed.TheVariants as f
 use Rattle.first_language.specs.Parse.{eat, ends, Opening}
-use Rattle.first_language.specs.Syntax.{Atom, Factors, Alone, By, More, Done, Add, Subtract, Sum, Statement, Statements,  expr_atom, expr_factors, expr_sum, stmt_of, block_of, place_of}
+use Rattle.first_language.specs.Syntax.{Atom, Factors, Alone, By, More, Done, Add, Subtract, Sum, Statement, Statements, expr_atom, expr_factors, expr_sum, stmt_of, block_of, place_of}
 use Rattle.first_language.specs.Postfix.{code_expr, code_stmt, code_block}
 
 abbrev pub emit_atom : Atom → List Instr

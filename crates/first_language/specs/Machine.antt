@@ -70,7 +70,7 @@ abbrev pub Resumes : First → Option Reply → Machine → Wish → Machine →
 Resumes p reply before w after =
     (t n b : ℕ) (c : Course ℤ) → Runs p t n b before c
     → Runs p t n b after (advance c reply)
-      × (end_of (advance c reply) ≡ told_of w) × (ticks_of (advance c reply) ≡ after.ticks)
+    × (end_of (advance c reply) ≡ told_of w) × (ticks_of (advance c reply) ≡ after.ticks)
 
 -- the machine has had just these replies, in order: program, thread, threads, budget, replies
 unfoldable pub Stands : First → ℕ → ℕ → ℕ → List Reply → Machine → Type 0

@@ -1,12 +1,11 @@
 -- The meaning of a program (C99 6.5, 6.8; UPC 6.5.1, 6.6.1): what a thread does, whatever it is answered.
-use Rattle.std.specs.Prelude.{ℕ, zero, suc, ℤ, pos, ◌+ℤ◌, ◌-ℤ◌, ◌*ℤ◌, ◌==◌, nat_le, ◌+◌, ◌-◌, ◌%◌, ◌++◌, Bool, true, false, cond, List, [], ◌∷◌, length, slice_index_or}
+use Rattle.std.specs.Prelude.{ℕ, zero, suc, ℤ, pos, ◌+ℤ◌, ◌-ℤ◌, ◌*ℤ◌, ◌==◌, nat_le, ◌+◌, ◌-◌, ◌%◌, ◌++◌, Bool, false, cond, List, [], ◌∷◌, length, slice_index_or}
 use Rattle.std.specs.Fmt.{signed_decimal}
 use Rattle.std.specs.Ordering.{int_eq}
 use Rattle.block_layout.specs.declared.place.Loc.{Loc}
 use Rattle.upc_text.specs.declared.place.Place.{Place}
 use Rattle.upc_values.specs.declared.scalar.Scalar.TheVariants.{Int}
 use Rattle.upc_values.specs.declared.scalar.Mark.TheVariants.{Absent, Start, Finish}
-use Rattle.upc_values.specs.declared.action.Action.{Action}
 use Rattle.upc_values.specs.declared.action.Action.TheVariants as a
 use Rattle.upc_values.specs.declared.action.Reply.{Reply}
 use Rattle.upc_values.specs.declared.action.Reply.TheVariants.{Value}
@@ -69,9 +68,9 @@ abbrev pub turns : ℕ → ℕ → (ℕ → Course ℤ) → (ℕ → Course (Uni
 turns budget zero condition body n = Over Spent n
 turns budget (suc left) condition body n =
     bind (tick budget n) (λ u m.
-      bind (condition m) (λ x k.
-        cond (int_eq x (pos 0)) (Gives tt k)
-          (bind (body k) (λ w l. turns budget left condition body l))))
+    bind (condition m) (λ x k.
+    cond (int_eq x (pos 0)) (Gives tt k)
+    (bind (body k) (λ w l. turns budget left condition body l))))
 
 -- on a thread, of so many threads, with a budget of ticks; whether each variable is strict
 module _ (thread threads budget : ℕ) (strict : List Bool) where
@@ -103,11 +102,11 @@ module _ (thread threads budget : ℕ) (strict : List Bool) where
   abbrev pub course_of : Block → Expr → Course ℤ
   course_of b e =
       bind (ask (a.Notify Start) 0) (λ u k.
-        bind (ask (a.Wait Start) k) (λ u l.
-          bind (statements b l) (λ u m.
-            bind (value e m) (λ x o.
-              bind (ask (a.Notify Finish) o) (λ u p.
-                bind (ask (a.Wait Finish) p) (λ u q. Gives x q))))))
+      bind (ask (a.Wait Start) k) (λ u l.
+      bind (statements b l) (λ u m.
+      bind (value e m) (λ x o.
+      bind (ask (a.Notify Finish) o) (λ u p.
+      bind (ask (a.Wait Finish) p) (λ u q. Gives x q))))))
 
 -- the tree of a source
 abbrev pub program_of : First → Program

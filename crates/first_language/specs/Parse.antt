@@ -76,8 +76,8 @@ pub record Head : Type 0 where
 abbrev pub head : Parser Head
 head ts =
     eat f.Int ts >>= λ a. eat f.Main a.1 >>= λ b. eat f.LParen b.1 >>= λ c. maybe (eat f.Void c.1) c.1 >>= λ d.
-      eat f.RParen d.1 >>= λ e. eat f.LBrace e.1 >>= λ g.
-        Some (record { int = a.0; main = b.0; lparen = c.0; void = d.0; rparen = e.0; lbrace = g.0 }, g.1)
+    eat f.RParen d.1 >>= λ e. eat f.LBrace e.1 >>= λ g.
+    Some (record { int = a.0; main = b.0; lparen = c.0; void = d.0; rparen = e.0; lbrace = g.0 }, g.1)
 
 -- '(' sum ')' '{'
 pub record Opening : Type 0 where
@@ -153,7 +153,7 @@ module _ (names : List (List ℕ)) where
   abbrev pub opening : Parser Opening
   opening ts =
       eat f.LParen ts >>= λ q. whole_sum q.1 >>= λ s. eat f.RParen s.1 >>= λ r. eat f.LBrace r.1 >>= λ x.
-        Some (record { lparen = q.0; condition = s.0; rparen = r.0; lbrace = x.0 }, x.1)
+      Some (record { lparen = q.0; condition = s.0; rparen = r.0; lbrace = x.0 }, x.1)
 
   -- the statements of a loop are read by `inner`
   module _ (inner : Parser Statements) where
@@ -164,12 +164,12 @@ module _ (names : List (List ℕ)) where
     abbrev pub print : Place → Parser Statement
     print p ts =
         eat f.LParen ts >>= λ q. eat f.Format q.1 >>= λ r. eat f.Comma r.1 >>= λ c. whole_sum c.1 >>= λ s.
-          eat f.RParen s.1 >>= λ x. eat f.Semicolon x.1 >>= λ y. Some (Print p q.0 r.0 c.0 s.0 x.0 y.0, y.1)
+        eat f.RParen s.1 >>= λ x. eat f.Semicolon x.1 >>= λ y. Some (Print p q.0 r.0 c.0 s.0 x.0 y.0, y.1)
 
     abbrev pub loop : Place → Parser Statement
     loop p ts =
         opening ts >>= λ o. inner o.1 >>= λ b. eat f.RBrace b.1 >>= λ y.
-          Some (While p o.0.lparen o.0.condition o.0.rparen o.0.lbrace b.0 y.0, y.1)
+        Some (While p o.0.lparen o.0.condition o.0.rparen o.0.lbrace b.0 y.0, y.1)
 
     abbrev pub fixed_statement : Fixed → Place → Parser Statement
     fixed_statement f.Barrier p ts = eat f.Semicolon ts >>= λ q. Some (Barrier p q.0, q.1)
@@ -189,7 +189,7 @@ module _ (names : List (List ℕ)) where
     statements (suc n) [] = Some (End, [])
     statements (suc n) (t ∷ ts) =
         cond (ends t.kind) (Some (End, t ∷ ts))
-          (statement_by t.kind t.place ts >>= λ s. statements n s.1 >>= λ ss. Some (Then s.0 ss.0, ss.1))
+        (statement_by t.kind t.place ts >>= λ s. statements n s.1 >>= λ ss. Some (Then s.0 ss.0, ss.1))
 
   -- the statements of a loop inside at most n - 1 more loops
   unfoldable pub within : ℕ → Parser Statements
@@ -200,9 +200,23 @@ module _ (names : List (List ℕ)) where
   abbrev pub ending : List Declaration → Head → Statements → Parser Source
   ending ds h ss ts =
       eat f.Return ts >>= λ r. whole_sum r.1 >>= λ s. eat f.Semicolon s.1 >>= λ x. eat f.RBrace x.1 >>= λ y.
-        Some (record {
-          declarations = ds; int = h.int; main = h.main; lparen = h.lparen; void = h.void; rparen = h.rparen; lbrace = h.lbrace;
-          statements = ss; return = r.0; result = s.0; semicolon = x.0; rbrace = y.0 }, y.1)
+      Some (
+        record {
+          declarations = ds;
+          int = h.int;
+          main = h.main;
+          lparen = h.lparen;
+          void = h.void;
+          rparen = h.rparen;
+          lbrace = h.lbrace;
+          statements = ss;
+          return = r.0;
+          result = s.0;
+          semicolon = x.0;
+          rbrace = y.0;
+        },
+        y.1,
+      )
 
   -- what follows the declarations
   abbrev pub body : List Declaration → Parser Source
@@ -223,15 +237,15 @@ new_name names (t ∷ ts) = name_by names t.kind t.place ts
 abbrev pub declared : List (List ℕ) → Qualifier → Parser Declaration
 declared names q ts =
     eat f.Shared ts >>= λ a. eat f.Int a.1 >>= λ b. new_name names b.1 >>= λ c. eat f.Semicolon c.1 >>= λ d.
-      Some (record { qualifier = q; shared = a.0; int = b.0; at = c.0.1; name = c.0.0; semicolon = d.0 }, d.1)
+    Some (record { qualifier = q; shared = a.0; int = b.0; at = c.0.1; name = c.0.0; semicolon = d.0 }, d.1)
 
 -- what a declaration begins with
 abbrev pub qualifier : List Token → Option (Qualifier × List Token)
 qualifier [] = None
 qualifier (t ∷ ts) =
     cond (is_fixed f.Strict t.kind) (Some (Strict t.place, ts))
-      (cond (is_fixed f.Relaxed t.kind) (Some (Relaxed t.place, ts))
-        (cond (is_fixed f.Shared t.kind) (Some (Unqualified, t ∷ ts)) None))
+    (cond (is_fixed f.Relaxed t.kind) (Some (Relaxed t.place, ts))
+    (cond (is_fixed f.Shared t.kind) (Some (Unqualified, t ∷ ts)) None))
 
 -- at most so many declarations, where these names are declared
 abbrev pub declarations_by : (List (List ℕ) → Parser (List Declaration)) → List (List ℕ) → Option (Qualifier × List Token) → Parser (List Declaration)

@@ -1,7 +1,6 @@
 -- The postfix form of a program, and the tree that a postfix form has.
-use Rattle.std.specs.Prelude.{ℕ, ℤ, pos, ◌+◌, List, [], ◌∷◌}
-use Rattle.upc_values.specs.declared.scalar.Mark.{Mark}
-use Rattle.upc_values.specs.declared.scalar.Mark.TheVariants.{Absent, Start, Finish, Given}
+use Rattle.std.specs.Prelude.{ℕ, pos, ◌+◌, List, [], ◌∷◌}
+use Rattle.upc_values.specs.declared.scalar.Mark.TheVariants.{Absent, Start, Finish}
 use Rattle.first_language.specs.declared.instr.Instr.{Instr}
 use Rattle.first_language.specs.declared.instr.Instr.TheVariants as i
 use Rattle.first_language.specs.Tree.{Expr, Number, Variable, Mythread, Threads, Binary, Stmt, Assign, Barrier, Fence, Print, While, Block, End, Then}
@@ -41,7 +40,7 @@ abbrev mutual
   code_stmt (While c b) rest =
       i.Tick ∷ i.Beat ∷ i.Check
       ∷ code_expr c (i.Test (size_block b + 1)
-          ∷ code_block b (i.Back (size_expr c + size_block b + 3) ∷ rest))
+      ∷ code_block b (i.Back (size_expr c + size_block b + 3) ∷ rest))
 
   pub code_block : Block → List Instr → List Instr
   code_block End rest = rest
@@ -93,7 +92,9 @@ read_step i.Threads p = push_expr p Threads
 read_step (i.Operate op place) p =
     record {
       exprs = Binary op place (first_expr (other_exprs p.exprs)) (first_expr p.exprs) ∷ other_exprs (other_exprs p.exprs);
-      block = p.block; loops = p.loops }
+      block = p.block;
+      loops = p.loops;
+    }
 read_step (i.Assign v) p = push_stmt p (other_exprs p.exprs) (Assign v (first_expr p.exprs))
 read_step i.Print p = push_stmt p (other_exprs p.exprs) (Print (first_expr p.exprs))
 read_step i.Fence p = push_stmt p p.exprs Fence

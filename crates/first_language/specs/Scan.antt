@@ -1,5 +1,5 @@
 -- The tokens of a source (C99 6.4): words and numbers are as long as they can be; blanks stand between them. No comments.
-use Rattle.std.specs.Prelude.{ℕ, zero, suc, ℤ, pos, ◌+◌, ◌-◌, ◌*◌, ◌==◌, nat_le, nat_lt, nat_eq, Bool, true, false, cond, ◌&&◌, ◌||◌, List, [], ◌∷◌, ◌++◌, length, take, drop, take_while, codes, Option, Some, None}
+use Rattle.std.specs.Prelude.{ℕ, zero, suc, ℤ, pos, ◌+◌, ◌-◌, ◌*◌, ◌==◌, nat_le, nat_lt, nat_eq, Bool, true, false, cond, ◌&&◌, ◌||◌, List, [], ◌∷◌, length, drop, take_while, codes, Option, Some, None}
 use Rattle.std.specs.List.{list_all, starts_with}
 use Rattle.std.specs.Option.{option_map}
 use Rattle.upc_text.specs.declared.place.Place.{Place}
@@ -38,7 +38,7 @@ is_plain (b ∷ c ∷ bs) = cond (b == 48) false true
 abbrev pub number_of : List ℕ → Option ℤ
 number_of w =
     cond (list_all is_digit w && (is_plain w && nat_le (value_from 0 w) 2147483647))
-      (Some (pos (value_from 0 w))) None
+    (Some (pos (value_from 0 w))) None
 
 -- a word of the language, or a name of at most 255 bytes
 abbrev pub word_of : Option Fixed → List ℕ → Option Kind
@@ -54,17 +54,17 @@ run_of (b ∷ bs) =
 abbrev pub mark_of : ℕ → Option Fixed
 mark_of b =
     cond (b == 40) (Some LParen) (cond (b == 41) (Some RParen) (cond (b == 123) (Some LBrace) (cond (b == 125) (Some RBrace)
-      (cond (b == 61) (Some Equal) (cond (b == 59) (Some Semicolon) (cond (b == 44) (Some Comma) (cond (b == 43) (Some Plus)
-        (cond (b == 45) (Some Minus) (cond (b == 42) (Some Star) None)))))))))
+    (cond (b == 61) (Some Equal) (cond (b == 59) (Some Semicolon) (cond (b == 44) (Some Comma) (cond (b == 43) (Some Plus)
+    (cond (b == 45) (Some Minus) (cond (b == 42) (Some Star) None)))))))))
 
 -- the token that stands first, and its length, if some token is spelled so
 abbrev pub front_of : List ℕ → Option (Kind × ℕ)
 front_of [] = None
 front_of (b ∷ bs) =
     cond (is_part b)
-      (option_map (λ x. (x, length (take_while is_part (b ∷ bs)))) (run_of (take_while is_part (b ∷ bs))))
-      (cond (starts_with nat_eq (b ∷ bs) (codes "\"%d\\n\"")) (Some (k.Fixed Format, 6))
-        (option_map (λ f. (k.Fixed f, 1)) (mark_of b)))
+    (option_map (λ x. (x, length (take_while is_part (b ∷ bs)))) (run_of (take_while is_part (b ∷ bs))))
+    (cond (starts_with nat_eq (b ∷ bs) (codes "\"%d\\n\"")) (Some (k.Fixed Format, 6))
+    (option_map (λ f. (k.Fixed f, 1)) (mark_of b)))
 
 -- the place behind a blank: a line ends at byte 10
 abbrev pub place_behind : ℕ → Place → Place
@@ -86,7 +86,7 @@ tokens_from zero p bs = Some []
 tokens_from (suc n) p [] = Some []
 tokens_from (suc n) p (b ∷ bs) =
     cond (is_blank b) (tokens_from n (place_behind b p) bs)
-      (behind (front_of (b ∷ bs)) p (λ q m. tokens_from n q (drop m (b ∷ bs))))
+    (behind (front_of (b ∷ bs)) p (λ q m. tokens_from n q (drop m (b ∷ bs))))
 
 -- the tokens of a source
 unfoldable pub tokens_of : List ℕ → Option (List Token)

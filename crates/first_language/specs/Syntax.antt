@@ -6,7 +6,6 @@ use Rattle.upc_text.specs.declared.place.Place.{Place}
 use Rattle.upc_values.specs.Scalars.{is_int}
 use Rattle.first_language.specs.declared.token.Fixed.{Fixed}
 use Rattle.first_language.specs.declared.token.Fixed.TheVariants as f
-use Rattle.first_language.specs.declared.token.Kind.{Kind}
 use Rattle.first_language.specs.declared.token.Kind.TheVariants as k
 use Rattle.first_language.specs.declared.token.Token.{Token}
 use Rattle.first_language.specs.declared.instr.Operator.TheVariants as o
@@ -135,8 +134,8 @@ spell_qualifier Unqualified rest = rest
 abbrev pub spell_declaration : Declaration → List Token → List Token
 spell_declaration d rest =
     spell_qualifier d.qualifier
-      (fixed f.Shared d.shared ∷ fixed f.Int d.int ∷ record { kind = k.Name d.name; place = d.at }
-        ∷ fixed f.Semicolon d.semicolon ∷ rest)
+    (fixed f.Shared d.shared ∷ fixed f.Int d.int ∷ record { kind = k.Name d.name; place = d.at }
+    ∷ fixed f.Semicolon d.semicolon ∷ rest)
 
 abbrev pub spell_declarations : List Declaration → List Token → List Token
 spell_declarations [] rest = rest
@@ -155,8 +154,8 @@ abbrev pub spell_body : List (List ℕ) → Source → List Token
 spell_body names u =
     fixed f.Int u.int ∷ fixed f.Main u.main ∷ fixed f.LParen u.lparen
     ∷ spell_void u.void (fixed f.RParen u.rparen ∷ fixed f.LBrace u.lbrace
-        ∷ spell_statements names u.statements (fixed f.Return u.return
-            ∷ spell_sum names u.result (fixed f.Semicolon u.semicolon ∷ fixed f.RBrace u.rbrace ∷ [])))
+    ∷ spell_statements names u.statements (fixed f.Return u.return
+    ∷ spell_sum names u.result (fixed f.Semicolon u.semicolon ∷ fixed f.RBrace u.rbrace ∷ [])))
 
 abbrev pub spell : Source → List Token
 spell u = spell_declarations u.declarations (spell_body (names_of u.declarations) u)

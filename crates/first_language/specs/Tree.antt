@@ -1,5 +1,5 @@
 -- The tree of a program of the first language, with parentheses left out.
-use Rattle.std.specs.Prelude.{ℕ, ℤ, ◌≤◌, nat_le, Bool, true, ◌&&◌, List}
+use Rattle.std.specs.Prelude.{ℕ, ℤ, nat_le, Bool, true, ◌&&◌, List}
 use Rattle.upc_text.specs.declared.place.Place.{Place}
 use Rattle.upc_values.specs.Scalars.{is_int}
 use Rattle.first_language.specs.declared.instr.Operator.{Operator}

@@ -1,5 +1,5 @@
 -- What a machine does at one step.
-use Rattle.std.specs.Prelude.{ℕ, ◌≡◌, ◌≤◌, ◌<◌, ◌+◌, ◌-◌, ◌*◌, ℤ, pos, Bool, List, length, Option, Some, None}
+use Rattle.std.specs.Prelude.{ℕ, ◌≡◌, ◌≤◌, ◌<◌, ◌+◌, ◌-◌, ◌*◌, ℤ, pos, Bool, List, Option, Some, None}
 use Rattle.upc_values.specs.declared.action.Action.{Action}
 use Rattle.upc_values.specs.declared.action.Reply.{Reply}
 use Rattle.upc_values.specs.declared.record.ToldEnd.{ToldEnd}
@@ -48,7 +48,7 @@ abbrev pub Acts : ℕ → ℕ → List Bool → Instr → Option Reply → Machi
 Acts t n strict x reply before turn after =
     before.thread ≡ pos t → before.threads ≡ pos n
     → seen turn after.operands.items after.ticks
-      ≡ next_by (does t n before.budget strict x before.operands.items before.ticks) reply
+    ≡ next_by (does t n before.budget strict x before.operands.items before.ticks) reply
 
 -- all but the operands and the ticks stays, and no tick is lost
 pub record Keeps (before after : Machine) : Type 0 where

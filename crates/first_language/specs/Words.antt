@@ -1,5 +1,5 @@
 -- The words of the first language, and the words that are no names (C99 6.4.1; UPC 6.1).
-use Rattle.std.specs.Prelude.{ℕ, Bool, List, [], ◌∷◌, codes, find, Option, nat_eq}
+use Rattle.std.specs.Prelude.{ℕ, Bool, List, [], codes, find, Option, nat_eq}
 use Rattle.std.specs.List.{list_any}
 use Rattle.std.specs.Cmp.Lexicographic.{pointwise}
 use Rattle.first_language.specs.declared.token.Fixed.{Fixed}

@@ -5,7 +5,7 @@ use upc_values::Mark;
 
 /// The operators of a sum.
 #[derive(Clone, Copy, PartialEq, Eq, Debug)]
-pub enum Operator {
+pub(crate) enum Operator {
     Plus,
     Minus,
     Times,
@@ -13,7 +13,7 @@ pub enum Operator {
 
 /// One step. Values stand on a stack of operands.
 #[derive(Clone, Copy, PartialEq, Eq, Debug)]
-pub enum Instr {
+pub(crate) enum Instr {
     /// Pushes an int.
     Number(i32),
     /// Reads the shared variable of this number, and pushes what it holds.

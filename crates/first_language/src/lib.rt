@@ -8,14 +8,14 @@ mod source;
 mod statements;
 mod step;
 mod sums;
+#[cfg(test)]
+mod tests;
 mod token;
 mod tokens;
 mod tree;
 mod words;
 
-pub use instr::{Instr, Operator};
-
-pub use std::alloc::AllocError as OutOfMemory;
 pub use machine::{Machine, Wish};
 pub use source::{one_tree, read_first};
+pub use std::alloc::AllocError as OutOfMemory;
 pub use tree::First;

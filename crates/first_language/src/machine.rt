@@ -68,7 +68,6 @@ impl Machine {
         requires budget { 1 ≤ budget }
         ensures { IfOk result (λ m. Stands program.now thread threads budget [] m) }
     {
-        let _ = program.code.len();
         Ok(Machine {
             thread: thread as i32,
             threads: threads as i32,
@@ -127,7 +126,12 @@ impl Machine {
     }
 
     // A step that is no jump, and to the place behind it.
-    fn forward(&mut self, program: &First, instr: Instr, reply: Option<Reply>) -> Result<Turn, AllocError>
+    fn forward(
+        &mut self,
+        program: &First,
+        instr: Instr,
+        reply: Option<Reply>,
+    ) -> Result<Turn, AllocError>
         requires { self.old.position < length program.now.code.items }
         ensures acts { IfOk result (λ turn. (t n : ℕ) → Acts t n program.now.strict.items instr reply self.old turn self.new) }
         ensures keeps { IfOk result (λ turn. Forwards turn self.old self.new) }

@@ -76,7 +76,11 @@ fn value_of(digits: &[u8]) -> Option<i32>
 fn number_of(word: &[u8]) -> Option<i32>
     ensures { result ≡ number_of word.now }
 {
-    if are_digits(word) && is_plain(word) { value_of(word) } else { None }
+    if are_digits(word) && is_plain(word) {
+        value_of(word)
+    } else {
+        None
+    }
 }
 
 fn word_of(alloc: Global, word: &[u8]) -> Result<Option<Kind>, AllocError>

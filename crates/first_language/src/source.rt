@@ -8,11 +8,11 @@ ghost use Rattle.first_language.specs.Syntax.{is_among, Qualifier, Source};
 ghost use Rattle.first_language.specs.Heads.{NewName, Declares, Qualified, Headed, EndsMain, BodyRead, DeclaredAll};
 
 use crate::instr::Instr;
+use crate::scan::tokens_of;
 use crate::statements::within;
 use crate::sums::inside;
 use crate::token::{Fixed, Kind, Token};
 use crate::tokens::{Tokens, eat, next, stands};
-use crate::scan::tokens_of;
 use crate::tree::First;
 use std::alloc::{AllocError, Global};
 use upc_text::Text;
@@ -41,7 +41,11 @@ fn qualifier(tokens: &mut Tokens<'_>) -> Option<bool>
     if let Some(_) = eat(tokens, Fixed::Relaxed) {
         return Some(false);
     }
-    if stands(tokens, Fixed::Shared) { Some(false) } else { None }
+    if stands(tokens, Fixed::Shared) {
+        Some(false)
+    } else {
+        None
+    }
 }
 
 // A name that is not declared yet.

@@ -239,11 +239,7 @@ fn fence(tokens: &mut Tokens<'_>, code: &mut Vec<Instr>) -> Result<bool, AllocEr
     Ok(true)
 }
 
-fn print(
-    names: &[Text],
-    tokens: &mut Tokens<'_>,
-    code: &mut Vec<Instr>,
-) -> Result<bool, AllocError>
+fn print(names: &[Text], tokens: &mut Tokens<'_>, code: &mut Vec<Instr>) -> Result<bool, AllocError>
     requires { length names.now ≤ 1048576 }
     ensures { IfOk result (λ ok. (inner : _) (p : _) → Parsed emit_statement (spec.print names.now inner p tokens.old.rest.now) ok tokens.new.rest.now code.old.items code.new.items) }
 {

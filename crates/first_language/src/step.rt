@@ -72,8 +72,16 @@ fn loc_of(variable: u32) -> Loc
 fn is_strict(strict: &[bool], variable: u32) -> bool
     ensures { result ≡ is_strict strict.now variable }
 {
-    let index = if variable == 0 { 0 } else { variable as usize - 1 };
-    if index < strict.len() { strict[index] } else { false }
+    let index = if variable == 0 {
+        0
+    } else {
+        variable as usize - 1
+    };
+    if index < strict.len() {
+        strict[index]
+    } else {
+        false
+    }
 }
 
 // The int in decimal, and a line end.
@@ -205,13 +213,21 @@ impl Machine {
     fn beat(&self, reply: Option<Reply>) -> Turn
         ensures { (t n : ℕ) (strict : _) → Acts t n strict Beat reply self.now result self.now }
     {
-        if self.ticks % 1024 == 0 { asks(Action::Beat, reply) } else { Turn::Moved }
+        if self.ticks % 1024 == 0 {
+            asks(Action::Beat, reply)
+        } else {
+            Turn::Moved
+        }
     }
 
     fn check(&self) -> Turn
         ensures { (t n : ℕ) (strict : _) (reply : _) → Acts t n strict Check reply self.now result self.now }
     {
-        if self.ticks == self.budget { Turn::Wishes(Wish::Budget) } else { Turn::Moved }
+        if self.ticks == self.budget {
+            Turn::Wishes(Wish::Budget)
+        } else {
+            Turn::Moved
+        }
     }
 }
 
@@ -231,5 +247,9 @@ fn last_two(operands: &[i32]) -> (i32, i32)
     ensures right { result.1 ≡ last_of operands.now }
 {
     let count = operands.len();
-    if count < 2 { (0, top(operands)) } else { (operands[count - 2], operands[count - 1]) }
+    if count < 2 {
+        (0, top(operands))
+    } else {
+        (operands[count - 2], operands[count - 1])
+    }
 }

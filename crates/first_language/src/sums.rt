@@ -83,7 +83,11 @@ fn term(
 {
     match atom(names, depth, tokens, code)? {
         None => Ok(None),
-        Some(place) => if factors(names, depth, place, tokens, code)? { Ok(Some(place)) } else { Ok(None) },
+        Some(place) => if factors(names, depth, place, tokens, code)? {
+            Ok(Some(place))
+        } else {
+            Ok(None)
+        },
     }
 }
 

@@ -83,7 +83,11 @@ pub(crate) fn variable_of(names: &[Text], name: &Text) -> Option<u32>
     ensures { result ≡ spec.variable_of names.now name.now }
 {
     match index_of(names, name.as_slice()) {
-        Some(index) => if index < names.len() { Some(index as u32 + 1) } else { None },
+        Some(index) => if index < names.len() {
+            Some(index as u32 + 1)
+        } else {
+            None
+        },
         None => None,
     }
 }

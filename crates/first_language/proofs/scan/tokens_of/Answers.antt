@@ -1,5 +1,5 @@
-use Rattle.std.proofs.Common.{◌≡◌, ◌≤◌, ◌<◌, ◌+◌, ◌-◌, [], Some, None, false, length, drop, get_or, sym, ◌∙◌, arith, refl, ap, length-drop, length-append, ◌∷◌}
-use Rattle.first_language.specs.Scan.{tokens_of, front_of, place_behind}
+use Rattle.std.proofs.Common.{◌≡◌, ◌-◌, [], Some, None, length, drop, get_or, sym, ◌∙◌, arith, ap, length-drop, length-append, ◌∷◌}
+use Rattle.first_language.specs.Scan.{tokens_of, front_of}
 use Rattle.first_language.proofs.Scans.{at_end, at_last, at_blank, at_nothing, at_token, first_and_rest, nothing_left, prepended-nil}
 use Rattle.first_language.proofs.scan.tokens_of.Goals as goal
 
@@ -18,13 +18,13 @@ unfolding tokens_of
 returns-in_default-clause-read c =
     sym c.loop-turn.invariant.same
     ∙ at_end c.loop-turn.tokens.items (length c.args.source.now - c.loop-turn._turn) c.loop-turn.place c.loop-turn.rest.now
-        (nothing_left c.loop-turn.rest.now c.in_default.len_below)
+    (nothing_left c.loop-turn.rest.now c.in_default.len_below)
 
 pub loop-turn-preserved-then-is_blank : goal.loop-turn-preserved-then-is_blank
 loop-turn-preserved-then-is_blank c =
     let rest = c.loop-turn.rest.now in
     let step = at_blank c.loop-turn.tokens.items (length c.args.source.now) c.loop-turn._turn c.loop-turn.place (get_or rest 0 0) (drop 1 rest) rest
-        c.loop-turn-test.true (first_and_rest rest c.in-len1-up.len_at_least) (sym c.is_blank.ensures ∙ c.if-is_blank.true) in
+    c.loop-turn-test.true (first_and_rest rest c.in-len1-up.len_at_least) (sym c.is_blank.ensures ∙ c.if-is_blank.true) in
     record {
       same = rw (c.skip-rest.ensures, c.place_behind-place.ensures.behind) (sym step ∙ c.loop-turn.invariant.same);
       few = omega (arith, c.loop-turn.invariant.few);
@@ -39,15 +39,15 @@ returns-in_default-2-clause-read c =
     let none : front_of rest ≡ None = sym c.in_ok-kind.ensures.token ∙ c.in_default-2.is in
     sym c.loop-turn.invariant.same
     ∙ at_nothing c.loop-turn.tokens.items (length c.args.source.now) c.loop-turn._turn c.loop-turn.place (get_or rest 0 0) (drop 1 rest) rest
-        c.loop-turn-test.true (first_and_rest rest c.in-len1-up.len_at_least) (sym c.is_blank.ensures ∙ c.if-is_blank.false) none
+    c.loop-turn-test.true (first_and_rest rest c.in-len1-up.len_at_least) (sym c.is_blank.ensures ∙ c.if-is_blank.false) none
 
 pub loop-turn-preserved : goal.loop-turn-preserved
 loop-turn-preserved c =
     let rest = c.loop-turn.rest.now in
     let some : front_of rest ≡ Some (c.in-Some.kind, c.in-Some.count) = sym c.in_ok-kind.ensures.token ∙ c.in-Some.is in
     let step = at_token c.loop-turn.tokens.items (length c.args.source.now) c.loop-turn._turn c.loop-turn.place (get_or rest 0 0) (drop 1 rest) rest
-        c.in-Some.kind c.in-Some.count
-        c.loop-turn-test.true (first_and_rest rest c.in-len1-up.len_at_least) (sym c.is_blank.ensures ∙ c.if-is_blank.false) some in
+    c.in-Some.kind c.in-Some.count
+    c.loop-turn-test.true (first_and_rest rest c.in-len1-up.len_at_least) (sym c.is_blank.ensures ∙ c.if-is_blank.false) some in
     let within = rw c.in-Some.is at c.in_ok-kind.ensures.within in
     record {
       same = rw (c.skip-rest-in-loop-turn.ensures, c.in_ok-push.ensures.items) (sym step ∙ c.loop-turn.invariant.same);

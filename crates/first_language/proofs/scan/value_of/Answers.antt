@@ -1,5 +1,4 @@
-use Rattle.std.proofs.Common.{◌≡◌, ◌+◌, ◌-◌, ◌*◌, ◌≤◌, drop, get_or, arith, sym, ◌∙◌}
-use Rattle.first_language.specs.Scan.{value_from}
+use Rattle.std.proofs.Common.{◌+◌, ◌-◌, ◌*◌, drop, get_or, arith, sym, ◌∙◌}
 use Rattle.first_language.proofs.Digits.{value_from-least, value_from-step}
 use Rattle.first_language.proofs.scan.value_of.Goals as goal
 

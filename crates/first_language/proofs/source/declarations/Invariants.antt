@@ -1,4 +1,4 @@
-use Rattle.std.proofs.Common.{◌≡◌, ◌-◌, ◌≤◌, [], length}
+use Rattle.std.proofs.Common.{◌-◌, ◌≤◌, [], length}
 use Rattle.first_language.specs.Parse as spec
 use Rattle.first_language.proofs.Heads.{Adds}
 use Rattle.first_language.proofs.source.declarations.Given as goal

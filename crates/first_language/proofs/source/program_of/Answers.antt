@@ -1,4 +1,4 @@
-use Rattle.std.proofs.Common.{◌≡◌, ◌<◌, ◌≤◌, ◌+◌, [], length, List, arith, sym, ◌∙◌, refl, ap}
+use Rattle.std.proofs.Common.{sym, ◌∙◌}
 use Rattle.first_language.proofs.Sources.{declarations_none, body_none, more_left, whole_read, whole_postfix, whole_formed, whole_program, few_strict, is_empty, not_empty}
 use Rattle.first_language.proofs.source.program_of.Goals as goal
 

@@ -1,4 +1,4 @@
-use Rattle.std.proofs.Common.{◌≡◌, ◌≤◌, [], length, List, ℕ, None, Some, Option, Result, Ok, Err, IfOk, MatchOption, arith, sym, ◌∙◌, ap}
+use Rattle.std.proofs.Common.{◌≡◌, ◌≤◌, length, List, ℕ, None, Some, Option, Result, Ok, Err, IfOk, MatchOption, arith, sym, ◌∙◌, ap}
 use Rattle.first_language.specs.declared.tree.First.{First}
 use Rattle.first_language.specs.declared.token.Token.{Token}
 use Rattle.first_language.specs.Parse as spec

@@ -1,8 +1,7 @@
-use Rattle.std.proofs.Common.{◌≡◌, ℕ, suc, ◌+◌, ◌-◌, ◌<◌, ◌≤◌, length, Bool, true, false, None, Some, Option, Result, Ok, Err, IfOk, sym, ◌∙◌, refl, ap, subst, arith}
-use Rattle.first_language.specs.declared.token.Token.{Token}
+use Rattle.std.proofs.Common.{◌≡◌, suc, ◌+◌, ◌-◌, length, true, false, arith}
 use Rattle.first_language.specs.Parse as spec
-use Rattle.first_language.specs.Emit.{Parsed, Begun, emit_statement, emit_statements}
-use Rattle.first_language.proofs.Emits.{Carries, carries_self}
+use Rattle.first_language.specs.Emit.{emit_statements}
+use Rattle.first_language.proofs.Emits.{carries_self}
 use Rattle.first_language.proofs.Writes.{none_left, none_more, one_fails, one_passes, loop_got, within_none, within_is}
 use Rattle.first_language.proofs.statements.+statements.Goals as goal
 
@@ -22,33 +21,33 @@ statements-loop-turn-init t c =
 pub statements-returns-in_default : goal.statements-returns-in_default
 statements-returns-in_default t c =
     c.loop-turn.invariant true c.begin.new.tokens.rest.now c.loop-turn.code.items
-      (none_left c.args.names.now (spec.within c.args.names.now c.args.depth) (length c.args.tokens.now.rest.now - c.loop-turn._turn)
-        c.loop-turn.tokens.rest.now c.begin.new.tokens.rest.now c.loop-turn.code.items c.in_default.ensures.0 c.in_default.ensures.1)
+    (none_left c.args.names.now (spec.within c.args.names.now c.args.depth) (length c.args.tokens.now.rest.now - c.loop-turn._turn)
+    c.loop-turn.tokens.rest.now c.begin.new.tokens.rest.now c.loop-turn.code.items c.in_default.ensures.0 c.in_default.ensures.1)
 
 pub statements-returns : goal.statements-returns
 statements-returns t c =
     c.loop-turn.invariant true c.loop-turn.tokens.rest.now c.loop-turn.code.items
-      (none_more c.args.names.now (spec.within c.args.names.now c.args.depth) (length c.args.tokens.now.rest.now - c.loop-turn._turn)
-        c.loop-turn.tokens.rest.now c.loop-turn.code.items (omega arith))
+    (none_more c.args.names.now (spec.within c.args.names.now c.args.depth) (length c.args.tokens.now.rest.now - c.loop-turn._turn)
+    c.loop-turn.tokens.rest.now c.loop-turn.code.items (omega arith))
 
 pub statements-returns-then-not-branch : goal.statements-returns-then-not-branch
 statements-returns-then-not-branch t c =
     let more : length c.args.tokens.now.rest.now - c.loop-turn._turn ≡ suc (length c.args.tokens.now.rest.now - (c.loop-turn._turn + 1)) = omega arith in
     let none = rw c.if-not-branch.true at c.in_ok-statement.ensures in
     c.loop-turn.invariant false c.statement.new.tokens.rest.now c.statement.new.code.items
-      (one_fails c.args.names.now (spec.within c.args.names.now c.args.depth) (length c.args.tokens.now.rest.now - c.loop-turn._turn)
-        (length c.args.tokens.now.rest.now - (c.loop-turn._turn + 1)) c.in-Some.first.now c.loop-turn.tokens.rest.now c.begin.new.tokens.rest.now more
-        c.in-Some.ensures.0 c.in-Some.ensures.1 none)
+    (one_fails c.args.names.now (spec.within c.args.names.now c.args.depth) (length c.args.tokens.now.rest.now - c.loop-turn._turn)
+    (length c.args.tokens.now.rest.now - (c.loop-turn._turn + 1)) c.in-Some.first.now c.loop-turn.tokens.rest.now c.begin.new.tokens.rest.now more
+    c.in-Some.ensures.0 c.in-Some.ensures.1 none)
 
 pub statements-loop-turn-preserved : goal.statements-loop-turn-preserved
 statements-loop-turn-preserved t c =
     let more : length c.args.tokens.now.rest.now - c.loop-turn._turn ≡ suc (length c.args.tokens.now.rest.now - (c.loop-turn._turn + 1)) = omega arith in
     let got = rw c.if-not-branch.false at c.in_ok-statement.ensures in
     λ ok ts new h. c.loop-turn.invariant ok ts new
-      (one_passes c.args.names.now (spec.within c.args.names.now c.args.depth) (length c.args.tokens.now.rest.now - c.loop-turn._turn)
-        (length c.args.tokens.now.rest.now - (c.loop-turn._turn + 1)) c.in-Some.first.now c.loop-turn.tokens.rest.now c.begin.new.tokens.rest.now
-        c.statement.new.tokens.rest.now c.loop-turn.code.items c.statement.new.code.items more
-        c.in-Some.ensures.0 c.in-Some.ensures.1 got ok ts new h)
+    (one_passes c.args.names.now (spec.within c.args.names.now c.args.depth) (length c.args.tokens.now.rest.now - c.loop-turn._turn)
+    (length c.args.tokens.now.rest.now - (c.loop-turn._turn + 1)) c.in-Some.first.now c.loop-turn.tokens.rest.now c.begin.new.tokens.rest.now
+    c.statement.new.tokens.rest.now c.loop-turn.code.items c.statement.new.code.items more
+    c.in-Some.ensures.0 c.in-Some.ensures.1 got ok ts new h)
 
 pub repeat-returns : goal.repeat-returns
 repeat-returns t c =
@@ -56,5 +55,5 @@ repeat-returns t c =
     let body = rw c.if-not-branch.false at c.in_ok-within.ensures in
     let closed = rw c.as_slice.ensures.value at c.in_ok-close.ensures in
     λ p. loop_got c.args.names.now (spec.within c.args.names.now c.args.depth) p c.in-Some-eat.field-0 c.in-Some.condition c.args.tokens.now.rest.now
-      c.opening.new.tokens.rest.now c.within.new.tokens.rest.now c.eat.new.tokens.rest.now c.args.code.now.items c.opening.new.code.items
-      c.new-body.result.items c.within.new.code.items c.close.new.code.items opened c.new-body.ensures.items body c.in-Some-eat.ensures closed
+    c.opening.new.tokens.rest.now c.within.new.tokens.rest.now c.eat.new.tokens.rest.now c.args.code.now.items c.opening.new.code.items
+    c.new-body.result.items c.within.new.code.items c.close.new.code.items opened c.new-body.ensures.items body c.in-Some-eat.ensures closed

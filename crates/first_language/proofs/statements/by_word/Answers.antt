@@ -1,9 +1,5 @@
-use Rattle.std.proofs.Common.{Result, Ok, Err, IfOk}
 use Rattle.first_language.proofs.statements.by_word.Goals as goal
-
-map_ok : {A E : Type 0} (r : Result A E) (P Q : A → Type 0) → ((x : A) → P x → Q x) → IfOk r P → IfOk r Q
-map_ok (Ok x) P Q f h = f x h
-map_ok (Err e) P Q f h = tt
+use Rattle.first_language.proofs.Logic.{map_ok}
 
 pub returns-in-Barrier : goal.returns-in-Barrier
 returns-in-Barrier c =

@@ -1,17 +1,14 @@
-use Rattle.std.proofs.Common.{Result, Ok, Err, IfOk, sym, ap}
+use Rattle.std.proofs.Common.{sym, ap}
 use Rattle.first_language.specs.declared.token.Kind.TheVariants as k
 use Rattle.first_language.proofs.Writes.{named_parsed}
 use Rattle.first_language.proofs.statements.simple.Goals as goal
-
-map_ok : {A E : Type 0} (r : Result A E) (P Q : A → Type 0) → ((x : A) → P x → Q x) → IfOk r P → IfOk r Q
-map_ok (Ok x) P Q f h = f x h
-map_ok (Err e) P Q f h = tt
+use Rattle.first_language.proofs.Logic.{map_ok}
 
 pub returns-in-Some : goal.returns-in-Some
 returns-in-Some c =
     rw c.in-Name.is (map_ok c.assign.result _ _
-      (λ ok h inner p other. named_parsed c.args.names.now inner c.in-Name.name c.in-Some.v p c.args.tokens.now.rest.now ok _ _ _ (sym c.in-Some.ensures) (h inner p))
-      c.assign.ensures)
+    (λ ok h inner p other. named_parsed c.args.names.now inner c.in-Name.name c.in-Some.v p c.args.tokens.now.rest.now ok _ _ _ (sym c.in-Some.ensures) (h inner p))
+    c.assign.ensures)
 
 pub returns-in-Fixed : goal.returns-in-Fixed
 returns-in-Fixed c =

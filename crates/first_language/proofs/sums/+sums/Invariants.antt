@@ -1,6 +1,4 @@
-use Rattle.std.proofs.Common.{◌≡◌, ◌+◌, ◌-◌, ◌*◌, ℕ, List, length, Bool}
-use Rattle.first_language.specs.declared.instr.Instr.{Instr}
-use Rattle.first_language.specs.declared.token.Token.{Token}
+use Rattle.std.proofs.Common.{◌+◌, ◌-◌, ◌*◌, length}
 use Rattle.first_language.specs.Parse as spec
 use Rattle.first_language.specs.Emit.{emit_factors, emit_more}
 use Rattle.first_language.proofs.Emits.{Carries}
@@ -30,9 +28,9 @@ decreases-group l = 8 * l.depth + 2
 abbrev pub invariant-factors-loop-turn : goal.invariant-factors-loop-turn
 invariant-factors-loop-turn l =
     Carries (emit_factors l.place) (spec.factors l.names (spec.inside l.names l.depth) (l._turn-end - l._turn) l.tokens.rest.now)
-      (spec.factors l.names (spec.inside l.names l.depth) (length l.fn.tokens.rest.now) l.fn.tokens.rest.now) l.code.items l.fn.code.items
+    (spec.factors l.names (spec.inside l.names l.depth) (length l.fn.tokens.rest.now) l.fn.tokens.rest.now) l.code.items l.fn.code.items
 
 abbrev pub invariant-more-loop-turn : goal.invariant-more-loop-turn
 invariant-more-loop-turn l =
     Carries (emit_more l.place) (spec.more l.names (spec.inside l.names l.depth) (l._turn-end - l._turn) l.tokens.rest.now)
-      (spec.more l.names (spec.inside l.names l.depth) (length l.fn.tokens.rest.now) l.fn.tokens.rest.now) l.code.items l.fn.code.items
+    (spec.more l.names (spec.inside l.names l.depth) (length l.fn.tokens.rest.now) l.fn.tokens.rest.now) l.code.items l.fn.code.items

@@ -1,9 +1,5 @@
-use Rattle.std.proofs.Common.{◌≡◌, ℕ, IfOk, Result, Ok, Err}
 use Rattle.first_language.proofs.machine.Machine.act.Goals as goal
-
-map_ok : {A E : Type 0} (r : Result A E) (P Q : A → Type 0) → ((x : A) → P x → Q x) → IfOk r P → IfOk r Q
-map_ok (Ok x) P Q f h = f x h
-map_ok (Err e) P Q f h = tt
+use Rattle.first_language.proofs.Logic.{map_ok}
 
 pub returns-in-Operate-clause-acts : goal.returns-in-Operate-clause-acts
 returns-in-Operate-clause-acts c =

@@ -1,4 +1,4 @@
-use Rattle.std.proofs.Common.{◌≡◌, ℕ, ℤ, length}
+use Rattle.std.proofs.Common.{ℕ, ℤ, length}
 use Rattle.first_language.specs.Course.{Course}
 use Rattle.first_language.specs.Machine.{Runs, advance}
 use Rattle.first_language.specs.Turns.{weight}
