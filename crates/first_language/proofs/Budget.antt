@@ -71,7 +71,7 @@ check-beat low budget m l h =
 spends-tick : (budget n : ℕ) → n < budget → Spends (n + 1) budget (tick budget n)
 spends-tick budget n h =
     spends-choice (n + 1) budget (nat_le budget n) (Over Spent n) (bind (beat (n + 1)) (λ u m. check budget m))
-      (λ e. absurd (not_reached budget n h e)) (λ e. check-beat (n + 1) budget (n + 1) (omega arith) (omega arith))
+    (λ e. absurd (not_reached budget n h e)) (λ e. check-beat (n + 1) budget (n + 1) (omega arith) (omega arith))
 
 -- a loop with turns enough
 spends-turns : (budget left : ℕ) (condition : ℕ → Course ℤ) (body : ℕ → Course (Unit {0}))
@@ -80,13 +80,13 @@ spends-turns : (budget left : ℕ) (condition : ℕ → Course ℤ) (body : ℕ 
 spends-turns budget zero condition body fc fb n h l = absurd (omega arith)
 spends-turns budget (suc left) condition body fc fb n h l =
     spends-lower n (n + 1) budget (turns budget (suc left) condition body n) (omega arith)
-      (spends-bind (n + 1) budget (tick budget n) _ (spends-tick budget n h) (λ u m lm hm.
-        spends-lower (n + 1) m budget _ lm
-          (spends-bind m budget (condition m) _ (fc m hm) (λ x k lk hk.
-            spends-choice m budget (int_eq x (pos 0)) (Gives tt k) _ (λ e. (lk, hk)) (λ e.
-              spends-lower m k budget _ lk
-                (spends-bind k budget (body k) _ (fb k hk) (λ w j lj hj.
-                  spends-lower k j budget _ lj (spends-turns budget left condition body fc fb j hj (let a1 : n + 1 ≤ m = lm in omega arith)))))))))
+    (spends-bind (n + 1) budget (tick budget n) _ (spends-tick budget n h) (λ u m lm hm.
+    spends-lower (n + 1) m budget _ lm
+    (spends-bind m budget (condition m) _ (fc m hm) (λ x k lk hk.
+    spends-choice m budget (int_eq x (pos 0)) (Gives tt k) _ (λ e. (lk, hk)) (λ e.
+    spends-lower m k budget _ lk
+    (spends-bind k budget (body k) _ (fb k hk) (λ w j lj hj.
+    spends-lower k j budget _ lj (spends-turns budget left condition body fc fb j hj (let a1 : n + 1 ≤ m = lm in omega arith)))))))))
 
 module _ (t n b : ℕ) (strict : List Bool) where
   spends-value : (e : Expr) (k : ℕ) → k < b → Spends k b (value t n b strict e k)
@@ -96,8 +96,8 @@ module _ (t n b : ℕ) (strict : List Bool) where
   spends-value Threads k h = (omega arith, h)
   spends-value (Binary op place l r) k h =
       spends-bind k b (value t n b strict l k) _ (spends-value l k h) (λ x m lm hm.
-        spends-lower k m b _ lm (spends-bind m b (value t n b strict r m) _ (spends-value r m hm) (λ y j lj hj.
-          spends-choice m b (is_int (exact op x y)) (Gives (exact op x y) j) (Over (Faults 1 place) j) (λ e. (lj, hj)) (λ e. tt))))
+      spends-lower k m b _ lm (spends-bind m b (value t n b strict r m) _ (spends-value r m hm) (λ y j lj hj.
+      spends-choice m b (is_int (exact op x y)) (Gives (exact op x y) j) (Over (Faults 1 place) j) (λ e. (lj, hj)) (λ e. tt))))
 
   mutual
     spends-statement : (s : Stmt) (k : ℕ) → k < b → Spends k b (statement t n b strict s k)
@@ -114,12 +114,12 @@ module _ (t n b : ℕ) (strict : List Bool) where
     spends-statements End k h = (omega arith, h)
     spends-statements (Then s ss) k h =
         spends-bind k b (statement t n b strict s k) _ (spends-statement s k h) (λ u m lm hm.
-          spends-lower k m b _ lm (spends-statements ss m hm))
+        spends-lower k m b _ lm (spends-statements ss m hm))
 
   spends-course : (ss : Block) (e : Expr) → 1 ≤ b → Spends 0 b (course_of t n b strict ss e)
   spends-course ss e h = λ r. λ q.
       spends-bind 0 b (statements t n b strict ss 0) _ (spends-statements ss 0 (omega arith)) (λ u m lm hm.
-        spends-bind 0 b (value t n b strict e m) _ (spends-lower 0 m b _ lm (spends-value e m hm)) (λ x k lk hk. λ p. λ o. (lk, hk)))
+      spends-bind 0 b (value t n b strict e m) _ (spends-lower 0 m b _ lm (spends-value e m hm)) (λ x k lk hk. λ p. λ o. (lk, hk)))
 
 abbrev misfit : List Action → ℕ → Outcome
 misfit done n = record { actions = done; ticks = n; «end» = told.Misfit (length done) }
@@ -132,7 +132,7 @@ out_of_ticks low budget rs done (Over Spent n) h e = h
 out_of_ticks low budget [] done (Asks x n after) h e = absurd cc
 out_of_ticks low budget (r ∷ rs) done (Asks x n after) h e =
     elim (fits x r) as (λ z. (cond z (outcome_after (done ++ x ∷ []) (after r) rs) (misfit done n)).«end» ≡ told.OutOfTicks
-        → (cond z (outcome_after (done ++ x ∷ []) (after r) rs) (misfit done n)).ticks ≡ budget) [
+    → (cond z (outcome_after (done ++ x ∷ []) (after r) rs) (misfit done n)).ticks ≡ budget) [
       | true ↦ λ f. out_of_ticks low budget rs (done ++ x ∷ []) (after r) (h r) f
       | false ↦ λ f. absurd cc
     ] e

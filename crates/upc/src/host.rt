@@ -36,7 +36,8 @@ impl<'a, R: Files + AllocGlobal> HostFiles<'a, R> {
         ensures bound { IfOk result (λ n. n ≤ length buf.new) }
         ensures faults { self.new.faults ≡ self.old.faults }
     {
-        let stands = matches!(&self.opened, Some(opened) if opened.name.as_str() == name && opened.at == at);
+        let stands =
+            matches!(&self.opened, Some(opened) if opened.name.as_str() == name && opened.at == at);
         if !stands {
             let mut file = fs::open(self.rt, name)?;
             if at > 0 {
@@ -58,6 +59,7 @@ impl<'a, R: Files + AllocGlobal> HostFiles<'a, R> {
 
 impl<R: Files + AllocGlobal> Sources for HostFiles<'_, R> {
     ghost bytes_of = { λ _ _. None };
+
     ghost faults = { λ s _. s.faults };
 
     fn read_at(&mut self, name: &str, at: u64, buf: &mut [u8]) -> Result<usize, Failed> {
@@ -87,6 +89,7 @@ impl<W: Write> HostSink<W> {
 
 impl<W: Write> Sink for HostSink<W> {
     ghost taken = { λ _. None };
+
     ghost faults = { λ s. s.faults };
 
     fn put(&mut self, piece: &[u8]) -> Result<usize, Failed> {
