@@ -1,6 +1,10 @@
 //! From bytes to tokens (C99 6.4, and the words of UPC).
 #![tactic(auto)]
 
+mod bytes;
+mod gaps;
+mod marks;
 mod token;
+mod words;
 
 pub use token::{NumberKind, Punct, Token, TokenKind, Word};
