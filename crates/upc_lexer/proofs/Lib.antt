@@ -1,3 +1,5 @@
 pub mod Lists
 pub mod WordTable
 pub mod MarkTable
+pub mod Values
+pub mod NumberLemmas

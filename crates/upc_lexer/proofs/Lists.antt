@@ -63,3 +63,12 @@ falls_at f (x ∷ xs) d zero zero h le lt = omega arith
 falls_at f (x ∷ xs) d zero (suc k) h le lt = le_of (AllPass-from_list_all (λ y. leb (f y) (f x)) xs (and_left _ _ h) k d (omega arith))
 falls_at f (x ∷ xs) d (suc j) zero h le lt = absurd (omega arith)
 falls_at f (x ∷ xs) d (suc j) (suc k) h le lt = falls_at f xs d j k (and_right _ _ h) (omega arith) (omega arith)
+
+-- a run that stops is the whole front
+pub run_is : (p : ℕ → Bool) (xs ys : List ℕ) → list_all p xs ≡ true → StopsAt p ys → prefix_len p (xs ++ ys) ≡ length xs
+run_is p [] [] h st = refl
+run_is p [] (y ∷ ys) h st = rw st refl
+run_is p (x ∷ xs) ys h st =
+    let here : p x ≡ true = and_left (p x) _ h in
+    let rest = run_is p xs ys (and_right (p x) _ h) st in
+    rw (here, rest) (omega arith)

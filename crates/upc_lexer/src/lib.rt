@@ -4,6 +4,7 @@
 mod bytes;
 mod gaps;
 mod marks;
+mod numbers;
 mod token;
 mod words;
 
