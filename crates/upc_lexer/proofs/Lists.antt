@@ -1,7 +1,8 @@
 -- Lists: runs, and two fronts of one list.
-use Rattle.std.proofs.Common.{◌≡◌, ℕ, ◌+◌, ◌-◌, ◌<◌, ◌≤◌, zero, suc, Bool, true, false, cond, ◌||◌, ◌&&◌, List, [], ◌∷◌, ◌++◌, length, get_or, take, drop, append-nil, refl, sym, ap, leb, ◌∙◌, subst, ◌⊎◌, inl, inr, arith}
+use Rattle.std.proofs.Common.{◌≡◌, ℕ, ◌+◌, ◌-◌, ◌<◌, ◌≤◌, zero, suc, Bool, true, false, cond, ◌||◌, ◌&&◌, List, [], ◌∷◌, ◌++◌, length, get_or, take, drop, append-nil, refl, sym, ap, leb, eqb, ◌∙◌, subst, ◌⊎◌, inl, inr, arith}
+use Rattle.std.proofs.lemmas.List.{take_all, length-drop}
 use Rattle.std.proofs.lemmas.List.Sums.{AllPass-from_list_all}
-use Rattle.std.proofs.lemmas.Bool.Decides.{nat_tests}
+use Rattle.std.proofs.lemmas.Bool.Decides.{nat_tests, eqb_tells}
 use Rattle.std.specs.List.{list_all, prefix_len}
 use Rattle.upc_lexer.specs.Gaps.{StopsAt}
 
@@ -72,3 +73,11 @@ run_is p (x ∷ xs) ys h st =
     let here : p x ≡ true = and_left (p x) _ h in
     let rest = run_is p xs ys (and_right (p x) _ h) st in
     rw (here, rest) (omega arith)
+
+-- what a pattern `[a, b, rest @ ..]` calls the rest
+pub rest_is : (n : ℕ) (xs : List ℕ) → take (length xs - n) (drop n xs) ≡ drop n xs
+rest_is n xs = take_all (length xs - n) (drop n xs) (omega (arith, length-drop n xs))
+
+-- numbers that differ fail the test
+pub eqb-no : (a b : ℕ) → (a ≡ b → ⊥) → eqb a b ≡ false
+eqb-no a b h = elim (eqb_tells a b) [ inl t ↦ absurd (h t.1) | inr t ↦ t.0 ]

@@ -1,5 +1,7 @@
 -- Blanks and comments (C99 6.4, 6.4.9).
-use Rattle.std.specs.Prelude.{◌≡◌, ℕ, Bool, true, false, ◌||◌, ◌&&◌, ◌==◌, List, [], ◌∷◌, ◌++◌, codes}
+use Rattle.std.specs.Prelude.{◌≡◌, ℕ, Bool, true, false, ◌||◌, ◌&&◌, ◌==◌, List, [], ◌∷◌, ◌++◌, ◌<◌, ◌≤◌, length, take, drop, codes}
+use Rattle.upc_lexer.specs.declared.gaps.Gap.{Gap}
+use Rattle.upc_lexer.specs.declared.gaps.Gap.TheVariants.{Taken, Unclosed, Absent}
 use Rattle.std.specs.List.{list_all}
 use Rattle.upc_lexer.specs.Bytes.{is_blank, is_in_line}
 
@@ -26,8 +28,18 @@ opens_comment [] = false
 opens_comment (a ∷ []) = false
 opens_comment (a ∷ b ∷ rest) = a == 47 && (b == 47 || b == 42)
 
--- a comment begins here that nothing closes
-pub record IsUnclosed (bytes : List ℕ) : Type 0 where
+-- no blank and no whole comment begins here
+abbrev pub NoGap : List ℕ → Type 0
+NoGap bytes = (text rest : List ℕ) → bytes ≡ text ++ rest → IsGap text rest → ⊥
+
+-- what the code finds at the front of the bytes
+abbrev pub FindsGap : List ℕ → Gap → Type 0
+FindsGap bytes (Taken n) = (0 < n) × (n ≤ length bytes) × IsGap (take n bytes) (drop n bytes)
+FindsGap bytes Unclosed = (opens_comment bytes ≡ true) × NoGap bytes
+FindsGap bytes Absent = (opens_comment bytes ≡ false) × NoGap bytes
+
+-- the bytes are the rest of a comment, up to the first `*/`
+pub record IsCommentEnd (bytes : List ℕ) : Type 0 where
   pub body : List ℕ
-  pub opened : bytes ≡ codes "/*" ++ body
-  pub unclosed : Closes body → ⊥
+  pub ended : bytes ≡ body ++ codes "*/"
+  pub first : Closes (body ++ codes "*") → ⊥

@@ -1,5 +1,5 @@
 -- Character constants and string literals (C99 6.4.4.4, 6.4.5).
-use Rattle.std.specs.Prelude.{◌≡◌, ℕ, Bool, true, false, not, ◌||◌, ◌&&◌, nat_le, ◌==◌, if◌then◌else◌, List, [], ◌∷◌, ◌++◌, Option, Some, None, option_map, option_and_then, ◌⊎◌}
+use Rattle.std.specs.Prelude.{◌≡◌, ℕ, Bool, true, false, not, ◌||◌, ◌&&◌, nat_le, ◌==◌, if◌then◌else◌, List, [], ◌∷◌, ◌++◌, Option, Some, None, option_map, option_and_then, ◌⊎◌, ◌≤◌, length, take, drop}
 
 -- the byte that `\` and this one stand for: \n \t \r \a \b \f \v \\ \' \" \? \0
 abbrev pub escape : ℕ → Option ℕ
@@ -40,3 +40,24 @@ pub record IsString (text value : List ℕ) : Type 0 where
   pub inside : List ℕ
   pub quoted : text ≡ 34 ∷ inside ++ 34 ∷ []
   pub spelled : string_value inside ≡ Some value
+
+-- one byte of a string's value, and how many bytes spell it
+abbrev pub spelled_at : List ℕ → Option (ℕ × ℕ)
+spelled_at [] = None
+spelled_at (a ∷ []) = if is_plain_string a then Some (a, 1) else None
+spelled_at (a ∷ b ∷ rest) = if a == 92 then option_map (λ c. (c, 2)) (escape b) else (if is_plain_string a then Some (a, 1) else None)
+
+-- so many bytes of the front may stand between two `"`, with this value, and no more
+pub record IsStringBody (bytes value : List ℕ) (n : ℕ) : Type 0 where
+  pub within : n ≤ length bytes
+  pub value_is : string_value (take n bytes) ≡ Some value
+  pub stops : spelled_at (drop n bytes) ≡ None
+
+-- what the code finds at the front of the bytes
+abbrev pub FindsCharacter : List ℕ → Option (ℕ × ℕ) → Type 0
+FindsCharacter bytes None = (text rest : List ℕ) (value : ℕ) → bytes ≡ text ++ rest → IsCharacter text value → ⊥
+FindsCharacter bytes (Some r) = (r.1 ≤ length bytes) × IsCharacter (take r.1 bytes) r.0
+
+abbrev pub FindsString : List ℕ → Option (List ℕ × ℕ) → Type 0
+FindsString bytes None = (text rest value : List ℕ) → bytes ≡ text ++ rest → IsString text value → ⊥
+FindsString bytes (Some r) = (r.1 ≤ length bytes) × IsString (take r.1 bytes) r.0

@@ -5,6 +5,7 @@ mod bytes;
 mod gaps;
 mod marks;
 mod numbers;
+mod strings;
 mod token;
 mod words;
 
