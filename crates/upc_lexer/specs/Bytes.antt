@@ -1,5 +1,5 @@
 -- The classes of bytes (C99 5.2.1, 6.4).
-use Rattle.std.specs.Prelude.{ℕ, Bool, ◌||◌, ◌&&◌, nat_le, ◌==◌}
+use Rattle.std.specs.Prelude.{ℕ, Bool, not, ◌||◌, ◌&&◌, nat_le, ◌==◌}
 
 -- a letter or `_` (C99 6.4.2.1)
 abbrev pub is_letter : ℕ → Bool
@@ -22,4 +22,4 @@ is_blank b = (nat_le 9 b && nat_le b 13) || b == 32
 
 -- not the end of a line, which is byte 10
 abbrev pub is_in_line : ℕ → Bool
-is_in_line b = nat_le b 9 || nat_le 11 b
+is_in_line b = not (b == 10)

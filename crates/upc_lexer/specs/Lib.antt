@@ -5,3 +5,6 @@ pub mod Marks
 pub mod Numbers
 pub mod Strings
 pub mod NumberParts
+pub mod Places
+pub mod Names
+pub mod Tokens
