@@ -5,3 +5,5 @@ pub mod Values
 pub mod NumberLemmas
 pub mod GapLemmas
 pub mod StringLemmas
+pub mod MarkHeads
+pub mod TokenHeads

@@ -134,10 +134,10 @@ some_of_map : (v : List ℕ) (r : Option (List ℕ)) (w : List ℕ) → option_m
 some_of_map v None w e = absurd cc
 some_of_map v (Some x) w e = (x, refl)
 
-none_of_map : (v : List ℕ) (r : Option (List ℕ)) (w : List ℕ) → r ≡ None → option_map (λ x. v ++ x) r ≡ Some w → ⊥
+pub none_of_map : (v : List ℕ) (r : Option (List ℕ)) (w : List ℕ) → r ≡ None → option_map (λ x. v ++ x) r ≡ Some w → ⊥
 none_of_map v r w n e = let f = rw n at e in cc
 
-quote_no_value : (ms : List ℕ) → string_value (34 ∷ ms) ≡ None
+pub quote_no_value : (ms : List ℕ) → string_value (34 ∷ ms) ≡ None
 quote_no_value [] = refl
 quote_no_value (m ∷ ms) = refl
 
