@@ -7,3 +7,4 @@ pub mod GapLemmas
 pub mod StringLemmas
 pub mod MarkHeads
 pub mod TokenHeads
+pub mod FoundLemmas

@@ -8,3 +8,4 @@ pub mod NumberParts
 pub mod Places
 pub mod Names
 pub mod Tokens
+pub mod Found

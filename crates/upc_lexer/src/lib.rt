@@ -3,6 +3,7 @@
 
 mod bytes;
 mod gaps;
+mod lexemes;
 mod marks;
 mod numbers;
 mod strings;
