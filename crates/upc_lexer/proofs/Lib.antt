@@ -8,3 +8,4 @@ pub mod StringLemmas
 pub mod MarkHeads
 pub mod TokenHeads
 pub mod FoundLemmas
+pub mod NameLemmas

@@ -9,3 +9,4 @@ pub mod Places
 pub mod Names
 pub mod Tokens
 pub mod Found
+pub mod Steps

@@ -4,10 +4,15 @@
 mod bytes;
 mod gaps;
 mod lexemes;
+mod lexing;
 mod marks;
+mod names;
 mod numbers;
+mod places;
 mod strings;
 mod token;
 mod words;
 
+pub use lexing::{Lexed, lex};
+pub use names::Names;
 pub use token::{NumberKind, Punct, Token, TokenKind, Word};
