@@ -1,24 +1,30 @@
 -- What the code finds at the front of some bytes is the token there.
-use Rattle.std.proofs.Common.{◌≡◌, ℕ, ◌+◌, ◌-◌, ◌<◌, ◌≤◌, zero, suc, Bool, true, false, cond, eqb, ◌||◌, ◌&&◌, List, [], ◌∷◌, ◌++◌, length, get_or, take, drop, refl, sym, ap, ◌∙◌, subst, arith}
+use Rattle.std.proofs.Common.{◌≡◌, ℕ, ◌+◌, ◌-◌, ◌<◌, ◌≤◌, zero, suc, Bool, true, false, cond, eqb, ◌||◌, ◌&&◌, List, [], ◌∷◌, ◌++◌, length, get_or, take, drop, append-nil, Some, None, refl, sym, ap, ◌∙◌, subst, arith}
 use Rattle.std.proofs.lemmas.Bool.Decides.{nat_tests}
 use Rattle.std.proofs.lemmas.List.{take-append-drop, length-take}
 use Rattle.std.proofs.lemmas.List.Sums.{prefix_len-le-length}
-use Rattle.std.specs.List.{list_all, prefix_len}
+use Rattle.std.specs.List.{list_all, prefix_len, slice_get}
 use Rattle.upc_text.specs.declared.place.Code.{Code}
 use Rattle.upc_text.specs.declared.place.Code.TheVariants.{Lex, Limit, Directive, Profile, Syntax, Typing}
-use Rattle.upc_lexer.specs.declared.token.Punct.{Punct}
+use Rattle.upc_lexer.specs.declared.token.Punct.{Punct as AMark}
 use Rattle.upc_lexer.specs.declared.token.NumberKind.{NumberKind}
-use Rattle.upc_lexer.specs.declared.token.Word.{Word}
+use Rattle.upc_lexer.specs.declared.token.Word.{Word as AWord}
 use Rattle.upc_lexer.specs.Bytes.{is_letter, is_digit, is_name_byte, is_number_byte}
-use Rattle.upc_lexer.specs.Gaps.{StopsAt, opens_comment}
+use Rattle.upc_lexer.specs.Gaps.{IsGap, StopsAt, opens_comment}
 use Rattle.upc_lexer.specs.Marks.{mark_bytes}
 use Rattle.upc_lexer.specs.Words.{word_bytes}
 use Rattle.upc_lexer.specs.Numbers.{IsNumber, RefusesNumber}
 use Rattle.upc_lexer.specs.Strings.{IsCharacter, IsString}
-use Rattle.upc_lexer.specs.Tokens.{is_name, begins_number, is_number, IsLongest, IsLexeme, IsPlainName, NoLexeme, Refuses, nothing, no_constant, no_type, long_name, long_string}
+use Rattle.upc_lexer.specs.Tokens.{gap, lexeme, Spells, is_name, begins_number, is_number, IsLongest, IsLexeme, IsPlainName, NoLexeme, Refuses, nothing, no_constant, no_type, long_name, long_string}
+use Rattle.upc_text.specs.declared.place.Place.{Place}
+use Rattle.upc_lexer.specs.declared.token.Token.{Token}
+use Rattle.upc_lexer.specs.declared.token.TokenKind.{TokenKind}
+use Rattle.upc_lexer.specs.declared.token.TokenKind.TheVariants.{Name, Word, Number, Character, Str, Punct, Pragma}
+use Rattle.upc_lexer.specs.Names.{insert_name}
+use Rattle.upc_lexer.specs.Steps.{Steps, token_of, names_with}
 use Rattle.upc_lexer.specs.Found.{IsGapless}
 use Rattle.upc_lexer.proofs.Lists.{run_passes, run_stops, and_left, and_right}
-use Rattle.upc_lexer.proofs.TokenHeads.{name_longest, number_longest, character_longest, string_longest, mark_longest, no_character, no_string_here, no_mark}
+use Rattle.upc_lexer.proofs.TokenHeads.{no_token, name_longest, number_longest, character_longest, string_longest, mark_longest, no_character, no_string_here, no_mark}
 
 pub made_lexeme : (n : ℕ) (bytes : List ℕ) → IsGapless bytes → IsLongest (take n bytes) (drop n bytes) → IsLexeme (take n bytes) (drop n bytes)
 made_lexeme n bytes g l = record { no_comment = rw take-append-drop g.no_comment; longest = l }
@@ -50,10 +56,10 @@ name_found (b ∷ bs) n lt g l e =
       length_is = omega (arith, length-take n (b ∷ bs), within);
     }
 
-pub plain_name : (bytes : List ℕ) (n : ℕ) → NameFound bytes n → ((w : Word) → take n bytes ≡ word_bytes w → ⊥) → IsPlainName (take n bytes)
+pub plain_name : (bytes : List ℕ) (n : ℕ) → NameFound bytes n → ((w : AWord) → take n bytes ≡ word_bytes w → ⊥) → IsPlainName (take n bytes)
 plain_name bytes n f none = record { is_spelled = f.is_spelled; no_word = none }
 
-pub name_too_long : (bytes : List ℕ) (n : ℕ) → NameFound bytes n → ((w : Word) → take n bytes ≡ word_bytes w → ⊥) → 255 < n → Refuses bytes (Limit 6)
+pub name_too_long : (bytes : List ℕ) (n : ℕ) → NameFound bytes n → ((w : AWord) → take n bytes ≡ word_bytes w → ⊥) → 255 < n → Refuses bytes (Limit 6)
 name_too_long bytes n f none lt = long_name (take n bytes) (drop n bytes) refl (sym (take-append-drop n bytes)) f.lexeme (plain_name bytes n f none) (omega (arith, f.length_is))
 
 number_on : (b : ℕ) (bs : List ℕ) → begins_number (b ∷ bs) ≡ true → is_number_byte b ≡ true
@@ -92,7 +98,7 @@ number_found (b ∷ bs) n g h e =
 
 pub number_refused : (bytes : List ℕ) (n : ℕ) (code : Code) → NumberFound bytes n → RefusesNumber (take n bytes) code → Refuses bytes code
 number_refused bytes n Lex f r = no_constant (take n bytes) (drop n bytes) refl (sym (take-append-drop n bytes)) f.lexeme f.is_spelled r
-number_refused bytes n (Limit m) f r = no_type (take n bytes) (drop n bytes) (ap Limit r.0) (sym (take-append-drop n bytes)) f.lexeme r.1
+number_refused bytes n (Limit m) f r = no_type (take n bytes) (drop n bytes) (ap Limit r.0) (sym (take-append-drop n bytes)) f.lexeme f.is_spelled r.1
 number_refused bytes n Directive f r = absurd r
 number_refused bytes n (Profile m) f r = absurd r
 number_refused bytes n Syntax f r = absurd r
@@ -122,14 +128,41 @@ pub string_absent : (bytes : List ℕ) → 0 < length bytes → IsGapless bytes 
 string_absent [] lt g q none = absurd (omega arith)
 string_absent (b ∷ bs) lt g q none = refused (b ∷ bs) lt g (no_string_here b bs q none)
 
-pub mark_absent : (bytes : List ℕ) → 0 < length bytes → IsGapless bytes → is_letter (get_or bytes 0 0) ≡ false → begins_number bytes ≡ false → (get_or bytes 0 0 ≡ 39 → ⊥) → (get_or bytes 0 0 ≡ 34 → ⊥) → ((q : Punct) → take (length (mark_bytes q)) bytes ≡ mark_bytes q → ⊥) → Refuses bytes Lex
+pub mark_absent : (bytes : List ℕ) → 0 < length bytes → IsGapless bytes → is_letter (get_or bytes 0 0) ≡ false → begins_number bytes ≡ false → (get_or bytes 0 0 ≡ 39 → ⊥) → (get_or bytes 0 0 ≡ 34 → ⊥) → ((q : AMark) → take (length (mark_bytes q)) bytes ≡ mark_bytes q → ⊥) → Refuses bytes Lex
 mark_absent [] lt g l d q s none = absurd (omega arith)
 mark_absent (b ∷ bs) lt g l d q s none = refused (b ∷ bs) lt g (no_mark b bs l d q s none)
 
-pub mark_found : (bytes : List ℕ) (n : ℕ) (m : Punct) → IsGapless bytes → begins_number bytes ≡ false → take n bytes ≡ mark_bytes m → n ≡ length (mark_bytes m) → ((q : Punct) → take (length (mark_bytes q)) bytes ≡ mark_bytes q → length (mark_bytes q) ≤ n) → (n ≤ length bytes) × IsLexeme (take n bytes) (drop n bytes)
+pub mark_found : (bytes : List ℕ) (n : ℕ) (m : AMark) → IsGapless bytes → begins_number bytes ≡ false → take n bytes ≡ mark_bytes m → n ≡ length (mark_bytes m) → ((q : AMark) → take (length (mark_bytes q)) bytes ≡ mark_bytes q → length (mark_bytes q) ≤ n) → (n ≤ length bytes) × IsLexeme (take n bytes) (drop n bytes)
 mark_found bytes n m g d e k longest =
     let text : length (take n bytes) ≡ n = ap length e ∙ sym k in
     let whole : begins_number (take n bytes ++ drop n bytes) ≡ false = rw take-append-drop d in
     (omega (arith, length-take n bytes, text),
      made_lexeme n bytes g (mark_longest (take n bytes) (drop n bytes) m e whole
        (λ q f. rw text (longest q (subst (λ xs. take (length (mark_bytes q)) xs ≡ mark_bytes q) (take-append-drop n bytes) f)))))
+
+some_lexeme : (n : ℕ) (bytes : List ℕ) → IsLexeme (take n bytes) (drop n bytes) → 0 < n
+some_lexeme zero bytes h = absurd (no_token h.longest.spelled)
+some_lexeme (suc n) bytes h = omega arith
+
+-- a piece is taken
+pub took_gap : (bytes : List ℕ) (n at : ℕ) (place : Place) (tokens : List Token) (names : List (List ℕ)) → 0 < n → n ≤ length bytes → IsGap (take n bytes) (drop n bytes) → Steps bytes n at place tokens names tokens names
+took_gap bytes n at place tokens names lt le h = record { piece = gap (take n bytes); some = lt; within = le; text_is = refl; stands = h; tokens_are = sym (append-nil tokens); names_are = refl }
+
+pub took_name : (bytes : List ℕ) (n at number : ℕ) (place : Place) (old_tokens tokens : List Token) (old_names names : List (List ℕ)) → n ≤ length bytes → IsLexeme (take n bytes) (drop n bytes) → IsPlainName (take n bytes) → n ≤ 255 → slice_get names number ≡ Some (take n bytes) → names ≡ insert_name old_names (take n bytes) → tokens ≡ old_tokens ++ token_of (Name number) at n place ∷ [] → Steps bytes n at place old_tokens old_names tokens names
+took_name bytes n at number place old_tokens tokens old_names names le lex plain short found grown more =
+    let text : length (take n bytes) ≡ n = omega (arith, length-take n bytes) in
+    record { piece = lexeme (take n bytes) (Name number); some = some_lexeme n bytes lex; within = le; text_is = refl; stands = (lex, (plain, omega (arith, text), found)); tokens_are = rw text more; names_are = grown }
+
+no_name : (kind : TokenKind) (text : List ℕ) (names : List (List ℕ)) → Spells [] kind text → names_with names (lexeme text kind) ≡ names
+no_name (Name n) text names h = let e = h.2 in absurd cc
+no_name (Word w) text names h = refl
+no_name (Number v k) text names h = refl
+no_name (Character v) text names h = refl
+no_name (Str v) text names h = refl
+no_name (Punct m) text names h = refl
+no_name (Pragma b) text names h = refl
+
+pub took_token : (bytes : List ℕ) (n at : ℕ) (kind : TokenKind) (place : Place) (old_tokens tokens : List Token) (names : List (List ℕ)) → n ≤ length bytes → IsLexeme (take n bytes) (drop n bytes) → ((names : List (List ℕ)) → Spells names kind (take n bytes)) → tokens ≡ old_tokens ++ token_of kind at n place ∷ [] → Steps bytes n at place old_tokens names tokens names
+took_token bytes n at kind place old_tokens tokens names le lex spells more =
+    let text : length (take n bytes) ≡ n = omega (arith, length-take n bytes) in
+    record { piece = lexeme (take n bytes) kind; some = some_lexeme n bytes lex; within = le; text_is = refl; stands = (lex, spells names); tokens_are = rw text more; names_are = sym (no_name kind (take n bytes) names (spells [])) }

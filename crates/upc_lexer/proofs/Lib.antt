@@ -9,3 +9,5 @@ pub mod MarkHeads
 pub mod TokenHeads
 pub mod FoundLemmas
 pub mod NameLemmas
+pub mod CutLemmas
+pub mod Sorts

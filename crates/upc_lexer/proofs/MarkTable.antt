@@ -1,5 +1,7 @@
 -- Every mark stands in the table.
-use Rattle.std.proofs.Common.{◌≡◌, ℕ, ◌<◌, ◌≤◌, length, get_or, refl, subst, lit<}
+use Rattle.std.proofs.Common.{◌≡◌, ℕ, ◌<◌, ◌≤◌, List, Option, Some, map, length, get_or, refl, sym, ap, ◌∙◌, subst, lit<}
+use Rattle.std.specs.List.{position}
+use Rattle.upc_lexer.specs.Names.{is_same}
 use Rattle.upc_lexer.specs.Marks.{mark_bytes}
 use Rattle.upc_lexer.proofs.Lists.{falls_at}
 use Rattle.upc_lexer.specs.declared.marks.TheConstants.{MARKS}
@@ -159,3 +161,62 @@ pub no_longer : (k : ℕ) (q : Punct) → k ≤ place q → length (mark_bytes q
 no_longer k q le =
     subst (λ x. length (mark_bytes x) ≤ length (mark_bytes (get_or MARKS k LBracket))) (found q)
     (falls_at (λ x. length (mark_bytes x)) MARKS LBracket k (place q) refl le (within q))
+
+-- it stands there alone
+abbrev place_of : List ℕ → Option ℕ
+place_of text = position (is_same text) (map mark_bytes MARKS)
+
+placed : (x : Punct) → place_of (mark_bytes x) ≡ Some (place x)
+placed ShiftLeftEqual = refl
+placed ShiftRightEqual = refl
+placed Arrow = refl
+placed PlusPlus = refl
+placed MinusMinus = refl
+placed ShiftLeft = refl
+placed ShiftRight = refl
+placed LessEqual = refl
+placed GreaterEqual = refl
+placed EqualEqual = refl
+placed NotEqual = refl
+placed AndAnd = refl
+placed OrOr = refl
+placed StarEqual = refl
+placed SlashEqual = refl
+placed PercentEqual = refl
+placed PlusEqual = refl
+placed MinusEqual = refl
+placed AmpersandEqual = refl
+placed CaretEqual = refl
+placed BarEqual = refl
+placed HashHash = refl
+placed LBracket = refl
+placed RBracket = refl
+placed LParen = refl
+placed RParen = refl
+placed LBrace = refl
+placed RBrace = refl
+placed Dot = refl
+placed Ampersand = refl
+placed Star = refl
+placed Plus = refl
+placed Minus = refl
+placed Tilde = refl
+placed Exclamation = refl
+placed Slash = refl
+placed Percent = refl
+placed Less = refl
+placed Greater = refl
+placed Caret = refl
+placed Bar = refl
+placed Question = refl
+placed Colon = refl
+placed Semicolon = refl
+placed Equal = refl
+placed Comma = refl
+placed Hash = refl
+
+pub one_spelling : (x y : Punct) → mark_bytes x ≡ mark_bytes y → x ≡ y
+one_spelling x y e =
+    let same : Some (place x) ≡ Some (place y) = sym (placed x) ∙ ap place_of e ∙ placed y in
+    let at : place x ≡ place y = cc in
+    sym (found x) ∙ ap (λ k. get_or MARKS k LBracket) at ∙ found y

@@ -27,14 +27,14 @@ pub data Head (text : List ℕ) (b : ℕ) (bs : List ℕ) : Type 0 where
   a_string : (v : List ℕ) → b ≡ 34 → IsString text v → Head text b bs
   a_mark : (m : Punct) → is_mark_head b ≡ true → text ≡ mark_bytes m → Head text b bs
 
-no_token : IsToken [] → ⊥
+pub no_token : IsToken [] → ⊥
 no_token (name h) = cc
 no_token (number h) = cc
 no_token (character v h) = elim h [ inl p ↦ let e = p.0 in cc | inr p ↦ let e = p.1 in cc ]
 no_token (string v h) = let e = h.quoted in cc
 no_token (mark m e) = let f : is_mark_like [] ≡ true = subst (λ t. is_mark_like t ≡ true) (sym e) (like m) in cc
 
-character_head : (a : ℕ) (text : List ℕ) (v : ℕ) → IsCharacter (a ∷ text) v → a ≡ 39
+pub character_head : (a : ℕ) (text : List ℕ) (v : ℕ) → IsCharacter (a ∷ text) v → a ≡ 39
 character_head a text v h = elim h [ inl p ↦ let e = p.0 in cc | inr p ↦ let e = p.1 in cc ]
 
 -- the head of a token at the front of some bytes
@@ -49,34 +49,34 @@ head (a ∷ text) rest b bs e (mark m h) =
     let l : is_mark_like (a ∷ text) ≡ true = subst (λ t. is_mark_like t ≡ true) (sym h) (like m) in
     a_mark m (subst (λ x. is_mark_head x ≡ true) (sym same) (and_left (is_mark_head a) _ l)) h
 
-letter_no_number : (b : ℕ) (bs : List ℕ) → is_letter b ≡ true → begins_number (b ∷ bs) ≡ true → ⊥
+pub letter_no_number : (b : ℕ) (bs : List ℕ) → is_letter b ≡ true → begins_number (b ∷ bs) ≡ true → ⊥
 letter_no_number b [] h g = grind (arith, nat_tests)
 letter_no_number b (c ∷ bs) h g = grind (arith, nat_tests)
 
-letter_no_39 : (b : ℕ) → is_letter b ≡ true → b ≡ 39 → ⊥
+pub letter_no_39 : (b : ℕ) → is_letter b ≡ true → b ≡ 39 → ⊥
 letter_no_39 b h e = grind (arith, nat_tests)
 
-letter_no_34 : (b : ℕ) → is_letter b ≡ true → b ≡ 34 → ⊥
+pub letter_no_34 : (b : ℕ) → is_letter b ≡ true → b ≡ 34 → ⊥
 letter_no_34 b h e = grind (arith, nat_tests)
 
-letter_no_mark : (b : ℕ) → is_letter b ≡ true → is_mark_head b ≡ true → ⊥
+pub letter_no_mark : (b : ℕ) → is_letter b ≡ true → is_mark_head b ≡ true → ⊥
 letter_no_mark b h e = grind (arith, nat_tests)
 
-number_no_39 : (b : ℕ) (bs : List ℕ) → begins_number (b ∷ bs) ≡ true → b ≡ 39 → ⊥
+pub number_no_39 : (b : ℕ) (bs : List ℕ) → begins_number (b ∷ bs) ≡ true → b ≡ 39 → ⊥
 number_no_39 b [] h e = grind (arith, nat_tests)
 number_no_39 b (c ∷ bs) h e = grind (arith, nat_tests)
 
-number_no_34 : (b : ℕ) (bs : List ℕ) → begins_number (b ∷ bs) ≡ true → b ≡ 34 → ⊥
+pub number_no_34 : (b : ℕ) (bs : List ℕ) → begins_number (b ∷ bs) ≡ true → b ≡ 34 → ⊥
 number_no_34 b [] h e = grind (arith, nat_tests)
 number_no_34 b (c ∷ bs) h e = grind (arith, nat_tests)
 
-mark_no_39 : (b : ℕ) → is_mark_head b ≡ true → b ≡ 39 → ⊥
+pub mark_no_39 : (b : ℕ) → is_mark_head b ≡ true → b ≡ 39 → ⊥
 mark_no_39 b h e = grind (arith, nat_tests)
 
-mark_no_34 : (b : ℕ) → is_mark_head b ≡ true → b ≡ 34 → ⊥
+pub mark_no_34 : (b : ℕ) → is_mark_head b ≡ true → b ≡ 34 → ⊥
 mark_no_34 b h e = grind (arith, nat_tests)
 
-mark_no_number : (m : Punct) (text : List ℕ) → begins_number text ≡ true → text ≡ mark_bytes m → ⊥
+pub mark_no_number : (m : Punct) (text : List ℕ) → begins_number text ≡ true → text ≡ mark_bytes m → ⊥
 mark_no_number m [] h e = cc
 mark_no_number m (b ∷ bs) h e =
     let l : is_mark_like (b ∷ bs) ≡ true = subst (λ t. is_mark_like t ≡ true) (sym e) (like m) in
@@ -121,7 +121,7 @@ number_longest b bs rest l all st = record { spelled = number (rw (l, all) refl)
           | a_mark q x n ↦ mark_no_number q (b ∷ (bs ++ m ∷ more)) longer n
         ]
 
-plain_no_92 : (v : ℕ) → is_plain_character v ≡ true → v ≡ 92 → ⊥
+pub plain_no_92 : (v : ℕ) → is_plain_character v ≡ true → v ≡ 92 → ⊥
 plain_no_92 v h e = grind (arith, nat_tests)
 
 character_text : (text rest : List ℕ) (v w : ℕ) → IsCharacter text v → IsCharacter (text ++ rest) w → 0 < length rest → ⊥
@@ -178,7 +178,7 @@ string_longest (b ∷ bs) rest v h = record { spelled = string v h; most = λ mo
       | a_mark m x n ↦ mark_no_34 b x quote
     ] }
 
-mark_start : (m : Punct) (b : ℕ) (bs : List ℕ) → b ∷ bs ≡ mark_bytes m → is_mark_head b ≡ true
+pub mark_start : (m : Punct) (b : ℕ) (bs : List ℕ) → b ∷ bs ≡ mark_bytes m → is_mark_head b ≡ true
 mark_start m b bs e = and_left (is_mark_head b) _ (subst (λ t. is_mark_like t ≡ true) (sym e) (like m))
 
 front_taken : (text rest : List ℕ) (m : Punct) → text ≡ mark_bytes m → take (length (mark_bytes m)) (text ++ rest) ≡ mark_bytes m

@@ -1,5 +1,10 @@
 -- Every word stands in the table.
-use Rattle.std.proofs.Common.{◌≡◌, ℕ, ◌<◌, get_or, refl, lit<}
+use Rattle.std.proofs.Common.{◌≡◌, ℕ, ◌<◌, true, List, Option, Some, map, get_or, refl, sym, ap, ◌∙◌, subst, lit<}
+use Rattle.std.specs.List.{position}
+use Rattle.upc_lexer.specs.Bytes.{is_letter}
+use Rattle.upc_lexer.specs.Names.{is_same}
+use Rattle.upc_lexer.specs.Tokens.{is_name}
+use Rattle.upc_lexer.specs.Words.{word_bytes}
 use Rattle.upc_lexer.specs.declared.words.TheConstants.{WORDS}
 use Rattle.upc_lexer.specs.declared.token.Word.{Word}
 use Rattle.upc_lexer.specs.declared.token.Word.TheVariants.{Break, Case, Char, Const, Continue, Default, Do, Else, For, If, Int, Long, Return, Short, Signed, Sizeof, Static, Struct, Switch, Unsigned, Void, While, Shared, Strict, Relaxed, Mythread, Threads, UpcMaxBlockSize, UpcBarrier, UpcBlocksizeof, UpcElemsizeof, UpcFence, UpcForall, UpcLocalsizeof, UpcNotify, UpcWait, SizeT, PtrdiffT, UpcLockT, UpcOpT, UpcFlagT, Auto, Double, Enum, Extern, Float, Goto, Inline, Register, Restrict, Typedef, Union, Volatile, Bool, Complex, Imaginary}
@@ -178,3 +183,130 @@ found Volatile = refl
 found Bool = refl
 found Complex = refl
 found Imaginary = refl
+
+-- it stands there alone
+abbrev place_of : List ℕ → Option ℕ
+place_of text = position (is_same text) (map word_bytes WORDS)
+
+placed : (x : Word) → place_of (word_bytes x) ≡ Some (place x)
+placed Break = refl
+placed Case = refl
+placed Char = refl
+placed Const = refl
+placed Continue = refl
+placed Default = refl
+placed Do = refl
+placed Else = refl
+placed For = refl
+placed If = refl
+placed Int = refl
+placed Long = refl
+placed Return = refl
+placed Short = refl
+placed Signed = refl
+placed Sizeof = refl
+placed Static = refl
+placed Struct = refl
+placed Switch = refl
+placed Unsigned = refl
+placed Void = refl
+placed While = refl
+placed Shared = refl
+placed Strict = refl
+placed Relaxed = refl
+placed Mythread = refl
+placed Threads = refl
+placed UpcMaxBlockSize = refl
+placed UpcBarrier = refl
+placed UpcBlocksizeof = refl
+placed UpcElemsizeof = refl
+placed UpcFence = refl
+placed UpcForall = refl
+placed UpcLocalsizeof = refl
+placed UpcNotify = refl
+placed UpcWait = refl
+placed SizeT = refl
+placed PtrdiffT = refl
+placed UpcLockT = refl
+placed UpcOpT = refl
+placed UpcFlagT = refl
+placed Auto = refl
+placed Double = refl
+placed Enum = refl
+placed Extern = refl
+placed Float = refl
+placed Goto = refl
+placed Inline = refl
+placed Register = refl
+placed Restrict = refl
+placed Typedef = refl
+placed Union = refl
+placed Volatile = refl
+placed Bool = refl
+placed Complex = refl
+placed Imaginary = refl
+
+pub one_spelling : (x y : Word) → word_bytes x ≡ word_bytes y → x ≡ y
+one_spelling x y e =
+    let same : Some (place x) ≡ Some (place y) = sym (placed x) ∙ ap place_of e ∙ placed y in
+    let at : place x ≡ place y = cc in
+    sym (found x) ∙ ap (λ k. get_or WORDS k Break) at ∙ found y
+
+-- a word begins as a name does
+pub word_is_name : (w : Word) → is_name (word_bytes w) ≡ true
+word_is_name Break = refl
+word_is_name Case = refl
+word_is_name Char = refl
+word_is_name Const = refl
+word_is_name Continue = refl
+word_is_name Default = refl
+word_is_name Do = refl
+word_is_name Else = refl
+word_is_name For = refl
+word_is_name If = refl
+word_is_name Int = refl
+word_is_name Long = refl
+word_is_name Return = refl
+word_is_name Short = refl
+word_is_name Signed = refl
+word_is_name Sizeof = refl
+word_is_name Static = refl
+word_is_name Struct = refl
+word_is_name Switch = refl
+word_is_name Unsigned = refl
+word_is_name Void = refl
+word_is_name While = refl
+word_is_name Shared = refl
+word_is_name Strict = refl
+word_is_name Relaxed = refl
+word_is_name Mythread = refl
+word_is_name Threads = refl
+word_is_name UpcMaxBlockSize = refl
+word_is_name UpcBarrier = refl
+word_is_name UpcBlocksizeof = refl
+word_is_name UpcElemsizeof = refl
+word_is_name UpcFence = refl
+word_is_name UpcForall = refl
+word_is_name UpcLocalsizeof = refl
+word_is_name UpcNotify = refl
+word_is_name UpcWait = refl
+word_is_name SizeT = refl
+word_is_name PtrdiffT = refl
+word_is_name UpcLockT = refl
+word_is_name UpcOpT = refl
+word_is_name UpcFlagT = refl
+word_is_name Auto = refl
+word_is_name Double = refl
+word_is_name Enum = refl
+word_is_name Extern = refl
+word_is_name Float = refl
+word_is_name Goto = refl
+word_is_name Inline = refl
+word_is_name Register = refl
+word_is_name Restrict = refl
+word_is_name Typedef = refl
+word_is_name Union = refl
+word_is_name Volatile = refl
+word_is_name Bool = refl
+word_is_name Complex = refl
+word_is_name Imaginary = refl

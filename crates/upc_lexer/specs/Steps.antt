@@ -10,10 +10,14 @@ use Rattle.upc_lexer.specs.Names.{firsts, insert_name}
 use Rattle.upc_lexer.specs.Tokens.{Piece, gap, lexeme, text_of, joined, names_in, tokens_in, IsPiece, Cuts, Refuses, RefusedAt}
 use Rattle.upc_lexer.specs.Places.{place_after}
 
+-- a token of so many bytes, which begins so far behind the source's beginning, at this place
+abbrev pub token_of : TokenKind → ℕ → ℕ → Place → Token
+token_of kind at n place = record { kind = kind; start = at; end = at + n; place = place }
+
 -- the tokens of a piece that begins so many bytes behind the source's beginning, at this place
 abbrev pub tokens_of : ℕ → Place → Piece → List Token
 tokens_of at place (gap text) = []
-tokens_of at place (lexeme text kind) = record { kind = kind; start = at; end = at + length text; place = place } ∷ []
+tokens_of at place (lexeme text kind) = token_of kind at (length text) place ∷ []
 
 -- the names with those of a piece
 abbrev pub names_with : List (List ℕ) → Piece → List (List ℕ)

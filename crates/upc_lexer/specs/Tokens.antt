@@ -123,7 +123,7 @@ NoLexeme bytes = (text rest : List ℕ) → bytes ≡ text ++ rest → IsLexeme 
 pub data Refuses (bytes : List ℕ) (code : Code) : Type 0 where
   nothing : code ≡ Lex → bytes ≢ [] → NoGap bytes → NoLexeme bytes → Refuses bytes code
   no_constant : (text rest : List ℕ) → code ≡ Lex → bytes ≡ text ++ rest → IsLexeme text rest → is_number text ≡ true → IsNoConstant text → Refuses bytes code
-  no_type : (text rest : List ℕ) → code ≡ Limit 2 → bytes ≡ text ++ rest → IsLexeme text rest → HasNoType text → Refuses bytes code
+  no_type : (text rest : List ℕ) → code ≡ Limit 2 → bytes ≡ text ++ rest → IsLexeme text rest → is_number text ≡ true → HasNoType text → Refuses bytes code
   long_name : (text rest : List ℕ) → code ≡ Limit 6 → bytes ≡ text ++ rest → IsLexeme text rest → IsPlainName text → 255 < length text → Refuses bytes code
   long_string : (text rest value : List ℕ) → code ≡ Limit 6 → bytes ≡ text ++ rest → IsLexeme text rest → IsString text value → 4095 < length value → Refuses bytes code
 

@@ -1,8 +1,8 @@
 //! A source, cut into tokens.
-ghost use Rattle.std.specs.Prelude.{◌≡◌, ◌+◌, ◌<◌, ◌≤◌, length, take, drop, IfOk, IfErr};
+ghost use Rattle.std.specs.Prelude.{◌≡◌, ◌+◌, ◌<◌, ◌≤◌, ◌∷◌, [], ◌++◌, length, IfOk, IfErr, OnOk};
 ghost use Rattle.upc_lexer.specs.Tokens.{AreTokensOf};
 ghost use Rattle.upc_lexer.specs.Found.{IsGapless};
-ghost use Rattle.upc_lexer.specs.Steps.{Steps, StopsHere, StopsSource};
+ghost use Rattle.upc_lexer.specs.Steps.{Steps, StopsHere, StopsSource, token_of};
 
 use crate::gaps::{Gap, gap_at};
 use crate::lexemes::{Found, lexeme_at};
@@ -10,13 +10,36 @@ use crate::names::Names;
 use crate::places::place_behind;
 use crate::token::{Token, TokenKind};
 use std::alloc::Global;
-use upc_text::{Code, Place, Refusal, Stop};
+use upc_text::{Code, OutOfMemory, Place, Refusal, Stop};
 
 /// The tokens of a source, and its names.
 #[derive(Drop)]
 pub struct Lexed {
     pub tokens: Vec<Token>,
     pub names: Names,
+}
+
+/// Adds a token of so many bytes at the end.
+fn push_token(
+    lexed: &mut Lexed,
+    kind: TokenKind,
+    at: usize,
+    length: usize,
+    place: Place,
+) -> Result<(), OutOfMemory>
+    requires { at + length < 4294967296 }
+    ensures tokens { OnOk result (lexed.new.tokens.items ≡ lexed.old.tokens.items ++ token_of kind at length place ∷ []) }
+    ensures names { OnOk result (lexed.new.names ≡ lexed.old.names) }
+{
+    let start = at as u32;
+    let end = (at + length) as u32;
+    lexed.tokens.push(Token {
+        kind,
+        start,
+        end,
+        place,
+    })?;
+    Ok(())
 }
 
 /// Takes the token at the front of the bytes, and gives its length.
@@ -34,23 +57,18 @@ fn take_token(
     ensures ok { IfOk result (λ n. Steps bytes.now n at place lexed.old.tokens.items lexed.old.names lexed.new.tokens.items lexed.new.names) }
     ensures err { IfErr result (StopsHere bytes.now place) }
 {
-    let (kind, length) = match lexeme_at(alloc, bytes)? {
+    match lexeme_at(alloc, bytes)? {
         Ok(Found::Name(length)) => {
             let number = lexed.names.insert(alloc, &bytes[..length])?;
-            (TokenKind::Name(number as u32), length)
+            push_token(lexed, TokenKind::Name(number as u32), at, length, place)?;
+            Ok(length)
         }
-        Ok(Found::Token(kind, length)) => (kind, length),
-        Err(code) => return Err(Stop::Refused(Refusal { place, code })),
-    };
-    let start = at as u32;
-    let end = (at + length) as u32;
-    lexed.tokens.push(Token {
-        kind,
-        start,
-        end,
-        place,
-    })?;
-    Ok(length)
+        Ok(Found::Token(kind, length)) => {
+            push_token(lexed, kind, at, length, place)?;
+            Ok(length)
+        }
+        Err(code) => Err(Stop::Refused(Refusal { place, code })),
+    }
 }
 
 /// Takes what is at the front of the bytes, and gives its length.
