@@ -11,3 +11,4 @@ pub mod FoundLemmas
 pub mod NameLemmas
 pub mod CutLemmas
 pub mod Sorts
+pub mod OneCut
