@@ -12,3 +12,4 @@ pub mod NameLemmas
 pub mod CutLemmas
 pub mod Sorts
 pub mod OneCut
+pub mod OneList

@@ -144,7 +144,7 @@ end_stuck names (lexeme t k) r e h = no_token (subst IsToken (empty_front t r e)
 number_sort : (text : List ℕ) → is_number text ≡ true → IsSort text of_number
 number_sort text h = and_left (begins_number text) _ h
 
-two_sorts : (text : List ℕ) (s t : Sort) → IsSort text s → IsSort text t → (s ≡ t → ⊥) → ⊥
+pub two_sorts : (text : List ℕ) (s t : Sort) → IsSort text s → IsSort text t → (s ≡ t → ⊥) → ⊥
 two_sorts text s t h g n = n (sort_once text s t h g)
 
 -- a number that is no constant, or has no type, spells no kind; nor does a name or a string that is too long
@@ -247,12 +247,12 @@ code_once_by bytes c d (present w) (absent y k) = absurd (k w.text w.rest w.byte
 code_once_by bytes c d (present v) (present w) =
     wrong_once w.text c d (subst (λ t. Wrong t c) (lexeme_once v.text w.text v.rest w.rest v.stands w.stands (sym v.bytes_are ∙ w.bytes_are)) v.wrong) w.wrong
 
-code_once : (bytes : List ℕ) (c d : Code) → Refuses bytes c → Refuses bytes d → c ≡ d
+pub code_once : (bytes : List ℕ) (c d : Code) → Refuses bytes c → Refuses bytes d → c ≡ d
 code_once bytes c d h g = code_once_by bytes c d (why bytes c h) (why bytes d g)
 
 -- ---- two cuts of one source
 
-abbrev SameCut : List (List ℕ) → List (List ℕ) → List Piece → List Piece → Type 0
+abbrev pub SameCut : List (List ℕ) → List (List ℕ) → List Piece → List Piece → Type 0
 SameCut n m [] [] = Unit {0}
 SameCut n m [] (q ∷ qs) = ⊥
 SameCut n m (p ∷ ps) [] = ⊥
@@ -267,7 +267,7 @@ split t r s q xs ys h e = rest_same t s (xs ++ r) (ys ++ q) h (sym (append_assoc
 front_of : (t r s q : List ℕ) (xs ys : List ℕ) → (t ++ xs) ++ r ≡ (s ++ ys) ++ q → t ++ (xs ++ r) ≡ s ++ (ys ++ q)
 front_of t r s q xs ys e = sym (append_assoc t xs r) ∙ e ∙ append_assoc s ys q
 
-compare : (n m : List (List ℕ)) (ps qs : List Piece) (r q : List ℕ) → Stuck r → Stuck q → Cuts n ps r → Cuts m qs q → joined ps ++ r ≡ joined qs ++ q → SameCut n m ps qs × (r ≡ q)
+pub compare : (n m : List (List ℕ)) (ps qs : List Piece) (r q : List ℕ) → Stuck r → Stuck q → Cuts n ps r → Cuts m qs q → joined ps ++ r ≡ joined qs ++ q → SameCut n m ps qs × (r ≡ q)
 compare n m [] [] r q a b h g e = (tt, e)
 compare n m [] (p ∷ qs) r q a b h g e = absurd (a m p (joined qs ++ q) (e ∙ append_assoc (text_of p) (joined qs) q) g.0)
 compare n m (p ∷ ps) [] r q a b h g e = absurd (b n p (joined ps ++ r) (sym e ∙ append_assoc (text_of p) (joined ps) r) h.0)
@@ -282,7 +282,7 @@ compare n m (lexeme t k ∷ ps) (lexeme s l ∷ qs) r q a b h g e =
     let rest = compare n m ps qs r q a b h.1 g.1 (split t r s q (joined ps) (joined qs) same e) in
     ((same, h.0.1, g.0.1, rest.0), rest.1)
 
-joined_same : (n m : List (List ℕ)) (ps qs : List Piece) → SameCut n m ps qs → joined ps ≡ joined qs
+pub joined_same : (n m : List (List ℕ)) (ps qs : List Piece) → SameCut n m ps qs → joined ps ≡ joined qs
 joined_same n m [] [] h = refl
 joined_same n m [] (q ∷ qs) h = absurd h
 joined_same n m (p ∷ ps) [] h = absurd h
@@ -291,83 +291,3 @@ joined_same n m (gap t ∷ ps) (lexeme s l ∷ qs) h = absurd h
 joined_same n m (lexeme t k ∷ ps) (gap s ∷ qs) h = absurd h
 joined_same n m (lexeme t k ∷ ps) (lexeme s l ∷ qs) h = ap (λ x. x ++ joined ps) h.0 ∙ ap (λ x. s ++ x) (joined_same n m ps qs h.3)
 
--- ---- names
-
-abbrev is_named : TokenKind → Bool
-is_named (Name n) = true
-is_named kind = false
-
-named_plain : (names : List (List ℕ)) (kind : TokenKind) (text : List ℕ) → IsPlainName text → Spells names kind text → is_named kind ≡ true
-named_plain names (Name n) text h g = refl
-named_plain names (Word w) text h g = absurd (h.no_word w g)
-named_plain names (Number v k) text h g = absurd (two_sorts text of_name of_number h.is_spelled (spelled_sort names (Number v k) text g) (λ e. cc))
-named_plain names (Character v) text h g = absurd (two_sorts text of_name of_character h.is_spelled (spelled_sort names (Character v) text g) (λ e. cc))
-named_plain names (Str v) text h g = absurd (two_sorts text of_name of_string h.is_spelled (spelled_sort names (Str v) text g) (λ e. cc))
-named_plain names (Punct m) text h g = absurd (two_sorts text of_name of_mark h.is_spelled (spelled_sort names (Punct m) text g) (λ e. cc))
-named_plain names (Pragma b) text h g = absurd g
-
-named_if : (n m : List (List ℕ)) (k l : TokenKind) (text : List ℕ) → Spells n k text → Spells m l text → is_named k ≡ is_named l
-named_if ns ms (Name i) l text h g = sym (named_plain ms l text h.0 g)
-named_if ns ms (Word w) (Name i) text h g = named_plain ns (Word w) text g.0 h
-named_if ns ms (Word w) (Word x) text h g = refl
-named_if ns ms (Word w) (Number u o) text h g = refl
-named_if ns ms (Word w) (Character u) text h g = refl
-named_if ns ms (Word w) (Str u) text h g = refl
-named_if ns ms (Word w) (Punct y) text h g = refl
-named_if ns ms (Word w) (Pragma c) text h g = refl
-named_if ns ms (Number v k) (Name i) text h g = named_plain ns (Number v k) text g.0 h
-named_if ns ms (Number v k) (Word x) text h g = refl
-named_if ns ms (Number v k) (Number u o) text h g = refl
-named_if ns ms (Number v k) (Character u) text h g = refl
-named_if ns ms (Number v k) (Str u) text h g = refl
-named_if ns ms (Number v k) (Punct y) text h g = refl
-named_if ns ms (Number v k) (Pragma c) text h g = refl
-named_if ns ms (Character v) (Name i) text h g = named_plain ns (Character v) text g.0 h
-named_if ns ms (Character v) (Word x) text h g = refl
-named_if ns ms (Character v) (Number u o) text h g = refl
-named_if ns ms (Character v) (Character u) text h g = refl
-named_if ns ms (Character v) (Str u) text h g = refl
-named_if ns ms (Character v) (Punct y) text h g = refl
-named_if ns ms (Character v) (Pragma c) text h g = refl
-named_if ns ms (Str v) (Name i) text h g = named_plain ns (Str v) text g.0 h
-named_if ns ms (Str v) (Word x) text h g = refl
-named_if ns ms (Str v) (Number u o) text h g = refl
-named_if ns ms (Str v) (Character u) text h g = refl
-named_if ns ms (Str v) (Str u) text h g = refl
-named_if ns ms (Str v) (Punct y) text h g = refl
-named_if ns ms (Str v) (Pragma c) text h g = refl
-named_if ns ms (Punct m) (Name i) text h g = named_plain ns (Punct m) text g.0 h
-named_if ns ms (Punct m) (Word x) text h g = refl
-named_if ns ms (Punct m) (Number u o) text h g = refl
-named_if ns ms (Punct m) (Character u) text h g = refl
-named_if ns ms (Punct m) (Str u) text h g = refl
-named_if ns ms (Punct m) (Punct y) text h g = refl
-named_if ns ms (Punct m) (Pragma c) text h g = refl
-named_if ns ms (Pragma b) (Name i) text h g = named_plain ns (Pragma b) text g.0 h
-named_if ns ms (Pragma b) (Word x) text h g = refl
-named_if ns ms (Pragma b) (Number u o) text h g = refl
-named_if ns ms (Pragma b) (Character u) text h g = refl
-named_if ns ms (Pragma b) (Str u) text h g = refl
-named_if ns ms (Pragma b) (Punct y) text h g = refl
-named_if ns ms (Pragma b) (Pragma c) text h g = refl
-
-names_cons : (t : List ℕ) (k : TokenKind) (ps : List Piece) → names_in (lexeme t k ∷ ps) ≡ cond (is_named k) (t ∷ names_in ps) (names_in ps)
-names_cons t (Name n) ps = refl
-names_cons t (Word w) ps = refl
-names_cons t (Number v k) ps = refl
-names_cons t (Character v) ps = refl
-names_cons t (Str v) ps = refl
-names_cons t (Punct m) ps = refl
-names_cons t (Pragma b) ps = refl
-
-names_same : (n m : List (List ℕ)) (ps qs : List Piece) → SameCut n m ps qs → names_in ps ≡ names_in qs
-names_same n m [] [] h = refl
-names_same n m [] (q ∷ qs) h = absurd h
-names_same n m (p ∷ ps) [] h = absurd h
-names_same n m (gap t ∷ ps) (gap s ∷ qs) h = names_same n m ps qs h.1
-names_same n m (gap t ∷ ps) (lexeme s l ∷ qs) h = absurd h
-names_same n m (lexeme t k ∷ ps) (gap s ∷ qs) h = absurd h
-names_same n m (lexeme t k ∷ ps) (lexeme s l ∷ qs) h =
-    let rest = names_same n m ps qs h.3 in
-    let named : is_named k ≡ is_named l = named_if n m k l s (subst (Spells n k) h.0 h.1) h.2 in
-    names_cons t k ps ∙ ap (λ b. cond b (t ∷ names_in ps) (names_in ps)) named ∙ ap (λ x. cond (is_named l) (x ∷ names_in ps) (names_in ps)) h.0 ∙ ap (λ xs. cond (is_named l) (s ∷ xs) xs) rest ∙ sym (names_cons s l qs)

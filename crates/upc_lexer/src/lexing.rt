@@ -1,6 +1,8 @@
 //! A source, cut into tokens.
-ghost use Rattle.std.specs.Prelude.{◌≡◌, ◌+◌, ◌<◌, ◌≤◌, ◌∷◌, [], ◌++◌, length, IfOk, IfErr, OnOk};
-ghost use Rattle.upc_lexer.specs.Tokens.{AreTokensOf};
+ghost use Rattle.std.specs.Prelude.{◌≡◌, ◌+◌, ◌<◌, ◌≤◌, ◌∷◌, [], ◌++◌, List, ℕ, length, IfOk, IfErr, OnOk};
+ghost use Rattle.upc_lexer.specs.Tokens.{AreTokensOf, RefusedAt};
+ghost use Rattle.upc_lexer.specs.declared.token.Token.{Token as Item};
+ghost use Rattle.upc_text.specs.declared.place.Refusal.{Refusal as Reason};
 ghost use Rattle.upc_lexer.specs.Found.{IsGapless};
 ghost use Rattle.upc_lexer.specs.Steps.{Steps, StopsHere, StopsSource, token_of};
 
@@ -118,4 +120,12 @@ pub fn lex(alloc: Global, source: &[u8]) -> Result<Lexed, Stop>
         at += length;
     }
     Ok(lexed)
+}
+
+/// A source has one list of tokens and names, or is refused once, and never both.
+pub fn one_cut()
+    ensures tokens { (source : List ℕ) (ts us : List Item) (n m : List (List ℕ)) → AreTokensOf source ts n → AreTokensOf source us m → (ts ≡ us) × (n ≡ m) }
+    ensures refusal { (source : List ℕ) (r q : Reason) → RefusedAt source r → RefusedAt source q → r ≡ q }
+    ensures either { (source : List ℕ) (ts : List Item) (n : List (List ℕ)) (r : Reason) → AreTokensOf source ts n → RefusedAt source r → ⊥ }
+{
 }

@@ -13,6 +13,6 @@ mod strings;
 mod token;
 mod words;
 
-pub use lexing::{Lexed, lex};
+pub use lexing::{Lexed, lex, one_cut};
 pub use names::Names;
 pub use token::{NumberKind, Punct, Token, TokenKind, Word};
