@@ -1,22 +1,20 @@
 -- A source that is cut up to a place, and one piece more.
-use Rattle.std.proofs.Common.{◌≡◌, ℕ, ◌+◌, ◌-◌, ◌<◌, ◌≤◌, zero, suc, Bool, true, false, cond, eqb, List, [], ◌∷◌, ◌++◌, append-nil, append_assoc, length, take, drop, Option, Some, None, refl, sym, ap, ◌∙◌, subst, arith, length-append, length-take, length-drop}
+use Rattle.std.proofs.Common.{◌≡◌, ℕ, ◌+◌, ◌≤◌, suc, Bool, true, false, eqb, List, [], ◌∷◌, ◌++◌, append-nil, append_assoc, length, take, drop, refl, sym, ap, ◌∙◌, subst, arith, length-append, length-take, length-drop}
 use Rattle.std.proofs.Math.Seq.{take-add}
 use Rattle.std.proofs.lemmas.List.{take-append-drop, take_all, drop_all, drop-drop}
 use Rattle.std.proofs.lemmas.List.Sums.{count_by-le-length, suffix_len-le-length}
-use Rattle.std.specs.List.{list_any, slice_get}
+use Rattle.std.specs.List.{list_any}
 use Rattle.upc_text.specs.declared.place.Place.{Place}
-use Rattle.upc_text.specs.declared.place.Refusal.{Refusal}
 use Rattle.upc_text.specs.declared.faults.Stop.{Stop}
 use Rattle.upc_text.specs.declared.faults.Stop.TheVariants.{Refused, Memory}
 use Rattle.upc_lexer.specs.declared.token.Token.{Token}
 use Rattle.upc_lexer.specs.declared.token.TokenKind.{TokenKind}
 use Rattle.upc_lexer.specs.declared.token.TokenKind.TheVariants.{Name, Word, Number, Character, Str, Punct, Pragma}
 use Rattle.upc_lexer.specs.Bytes.{is_in_line}
-use Rattle.upc_lexer.specs.Gaps.{IsGap}
 use Rattle.upc_lexer.specs.Names.{is_same, firsts, insert_name}
 use Rattle.upc_lexer.specs.Places.{place_after}
-use Rattle.upc_lexer.specs.Tokens.{Piece, gap, lexeme, text_of, joined, names_in, token_at, tokens_in, IsLexeme, IsPlainName, Spells, IsPiece, Cuts, AreTokensOf, RefusedAt}
-use Rattle.upc_lexer.specs.Steps.{token_of, tokens_of, names_with, Steps, StopsHere, StopsSource, IsCutTo}
+use Rattle.upc_lexer.specs.Tokens.{Piece, gap, lexeme, text_of, joined, names_in, token_at, tokens_in, Spells, IsPiece, Cuts, AreTokensOf}
+use Rattle.upc_lexer.specs.Steps.{tokens_of, names_with, Steps, StopsHere, StopsSource, IsCutTo}
 use Rattle.upc_lexer.proofs.NameLemmas.{firsts-push, slice_get-append}
 
 pub joined-push : (ps : List Piece) (p : Piece) → joined (ps ++ p ∷ []) ≡ joined ps ++ text_of p
@@ -151,6 +149,7 @@ cut_refused source at tokens names place (Refused refusal) h s = record {
 cut_refused source at tokens names place Memory h s = tt
 
 pub column_few : (source : List ℕ) (at : ℕ) (place : Place) → place ≡ place_after (take at source) → (place.line ≤ 1 + length source) × (place.column ≤ 1 + length source)
-column_few source at place e =
-    (omega (arith, ap (λ (p : Place). p.line) e, count_by-le-length (λ b. eqb b 10) (take at source), length-take at source),
-     omega (arith, ap (λ (p : Place). p.column) e, suffix_len-le-length is_in_line (take at source), length-take at source))
+column_few source at place e = (
+  omega (arith, ap (λ (p : Place). p.line) e, count_by-le-length (λ b. eqb b 10) (take at source), length-take at source),
+  omega (arith, ap (λ (p : Place). p.column) e, suffix_len-le-length is_in_line (take at source), length-take at source),
+)

@@ -1,5 +1,5 @@
 -- What the code finds at the front of some bytes is the token there.
-use Rattle.std.proofs.Common.{◌≡◌, ℕ, ◌+◌, ◌-◌, ◌<◌, ◌≤◌, zero, suc, Bool, true, false, cond, eqb, ◌||◌, ◌&&◌, List, [], ◌∷◌, ◌++◌, length, get_or, take, drop, append-nil, Some, None, refl, sym, ap, ◌∙◌, subst, arith}
+use Rattle.std.proofs.Common.{◌≡◌, ℕ, ◌<◌, ◌≤◌, zero, suc, Bool, true, false, List, [], ◌∷◌, ◌++◌, length, get_or, take, drop, append-nil, Some, refl, sym, ap, ◌∙◌, subst, arith}
 use Rattle.std.proofs.lemmas.Bool.Decides.{nat_tests}
 use Rattle.std.proofs.lemmas.List.{take-append-drop, length-take}
 use Rattle.std.proofs.lemmas.List.Sums.{prefix_len-le-length}
@@ -7,13 +7,12 @@ use Rattle.std.specs.List.{list_all, prefix_len, slice_get}
 use Rattle.upc_text.specs.declared.place.Code.{Code}
 use Rattle.upc_text.specs.declared.place.Code.TheVariants.{Lex, Limit, Directive, Profile, Syntax, Typing}
 use Rattle.upc_lexer.specs.declared.token.Punct.{Punct as AMark}
-use Rattle.upc_lexer.specs.declared.token.NumberKind.{NumberKind}
 use Rattle.upc_lexer.specs.declared.token.Word.{Word as AWord}
 use Rattle.upc_lexer.specs.Bytes.{is_letter, is_digit, is_name_byte, is_number_byte}
-use Rattle.upc_lexer.specs.Gaps.{IsGap, StopsAt, opens_comment}
+use Rattle.upc_lexer.specs.Gaps.{IsGap}
 use Rattle.upc_lexer.specs.Marks.{mark_bytes}
 use Rattle.upc_lexer.specs.Words.{word_bytes}
-use Rattle.upc_lexer.specs.Numbers.{IsNumber, RefusesNumber}
+use Rattle.upc_lexer.specs.Numbers.{RefusesNumber}
 use Rattle.upc_lexer.specs.Strings.{IsCharacter, IsString}
 use Rattle.upc_lexer.specs.Tokens.{gap, lexeme, Spells, is_name, begins_number, is_number, IsLongest, IsLexeme, IsPlainName, NoLexeme, Refuses, nothing, no_constant, no_type, long_name, long_string}
 use Rattle.upc_text.specs.declared.place.Place.{Place}
@@ -23,7 +22,7 @@ use Rattle.upc_lexer.specs.declared.token.TokenKind.TheVariants.{Name, Word, Num
 use Rattle.upc_lexer.specs.Names.{insert_name}
 use Rattle.upc_lexer.specs.Steps.{Steps, token_of, names_with}
 use Rattle.upc_lexer.specs.Found.{IsGapless}
-use Rattle.upc_lexer.proofs.Lists.{run_passes, run_stops, and_left, and_right}
+use Rattle.upc_lexer.proofs.Lists.{run_passes, run_stops}
 use Rattle.upc_lexer.proofs.TokenHeads.{no_token, name_longest, number_longest, character_longest, string_longest, mark_longest, no_character, no_string_here, no_mark}
 
 pub made_lexeme : (n : ℕ) (bytes : List ℕ) → IsGapless bytes → IsLongest (take n bytes) (drop n bytes) → IsLexeme (take n bytes) (drop n bytes)
@@ -135,10 +134,11 @@ mark_absent (b ∷ bs) lt g l d q s none = refused (b ∷ bs) lt g (no_mark b bs
 pub mark_found : (bytes : List ℕ) (n : ℕ) (m : AMark) → IsGapless bytes → begins_number bytes ≡ false → take n bytes ≡ mark_bytes m → n ≡ length (mark_bytes m) → ((q : AMark) → take (length (mark_bytes q)) bytes ≡ mark_bytes q → length (mark_bytes q) ≤ n) → (n ≤ length bytes) × IsLexeme (take n bytes) (drop n bytes)
 mark_found bytes n m g d e k longest =
     let text : length (take n bytes) ≡ n = ap length e ∙ sym k in
-    let whole : begins_number (take n bytes ++ drop n bytes) ≡ false = rw take-append-drop d in
-    (omega (arith, length-take n bytes, text),
-     made_lexeme n bytes g (mark_longest (take n bytes) (drop n bytes) m e whole
-       (λ q f. rw text (longest q (subst (λ xs. take (length (mark_bytes q)) xs ≡ mark_bytes q) (take-append-drop n bytes) f)))))
+    let whole : begins_number (take n bytes ++ drop n bytes) ≡ false = rw take-append-drop d in (
+      omega (arith, length-take n bytes, text),
+      made_lexeme n bytes g (mark_longest (take n bytes) (drop n bytes) m e whole
+          (λ q f. rw text (longest q (subst (λ xs. take (length (mark_bytes q)) xs ≡ mark_bytes q) (take-append-drop n bytes) f)))),
+    )
 
 some_lexeme : (n : ℕ) (bytes : List ℕ) → IsLexeme (take n bytes) (drop n bytes) → 0 < n
 some_lexeme zero bytes h = absurd (no_token h.longest.spelled)

@@ -1,5 +1,5 @@
 -- How marks begin.
-use Rattle.std.proofs.Common.{◌≡◌, ℕ, Bool, true, false, not, ◌&&◌, ◌||◌, List, [], ◌∷◌, eqb, refl}
+use Rattle.std.proofs.Common.{◌≡◌, ℕ, Bool, true, false, not, ◌&&◌, List, [], ◌∷◌, eqb, refl}
 use Rattle.upc_lexer.specs.declared.token.Punct.{Punct}
 use Rattle.upc_lexer.specs.declared.token.Punct.TheVariants.{ShiftLeftEqual, ShiftRightEqual, Arrow, PlusPlus, MinusMinus, ShiftLeft, ShiftRight, LessEqual, GreaterEqual, EqualEqual, NotEqual, AndAnd, OrOr, StarEqual, SlashEqual, PercentEqual, PlusEqual, MinusEqual, AmpersandEqual, CaretEqual, BarEqual, HashHash, LBracket, RBracket, LParen, RParen, LBrace, RBrace, Dot, Ampersand, Star, Plus, Minus, Tilde, Exclamation, Slash, Percent, Less, Greater, Caret, Bar, Question, Colon, Semicolon, Equal, Comma, Hash}
 use Rattle.upc_lexer.specs.Bytes.{is_letter, is_digit, is_blank}

@@ -1,5 +1,5 @@
 -- A number is taken apart in one way.
-use Rattle.std.proofs.Common.{◌≡◌, ℕ, ◌+◌, ◌-◌, ◌*◌, ◌^◌, ◌<◌, ◌≤◌, zero, suc, Bool, true, false, cond, eqb, leb, ◌||◌, ◌&&◌, List, [], ◌∷◌, ◌++◌, length, get_or, take, drop, append-nil, append_assoc, Option, Some, None, refl, sym, ap, ◌∙◌, subst, ◌⊎◌, inl, inr, arith}
+use Rattle.std.proofs.Common.{◌≡◌, ℕ, ◌<◌, ◌≤◌, zero, suc, Bool, true, false, cond, eqb, leb, ◌||◌, List, [], ◌∷◌, ◌++◌, length, take, drop, append_assoc, Some, None, refl, sym, ap, ◌∙◌, subst, ◌⊎◌, inl, inr, arith}
 use Rattle.std.proofs.Math.Seq.{take-append_seam, drop-append_seam}
 use Rattle.std.proofs.lemmas.List.{take-append-drop}
 use Rattle.std.proofs.lemmas.Bool.Decides.{nat_tests}
@@ -11,7 +11,7 @@ use Rattle.upc_lexer.specs.declared.numbers.Suffix.{Suffix}
 use Rattle.upc_lexer.specs.declared.token.NumberKind.{NumberKind}
 use Rattle.upc_lexer.specs.declared.token.NumberKind.TheVariants.{Int, UInt, Long, ULong}
 use Rattle.upc_lexer.specs.Gaps.{StopsAt}
-use Rattle.upc_lexer.specs.Numbers.{kind_of, kinds_by, greatest, value_in, IsNumber, HasNoType, IsNoConstant, is_digit_in, begins, is_u, is_l, suffix_of, IsPrefix, IsConstant}
+use Rattle.upc_lexer.specs.Numbers.{kind_of, kinds_by, greatest, value_in, IsNumber, HasNoType, IsNoConstant, is_digit_in, begins, suffix_of, IsPrefix, IsConstant}
 use Rattle.upc_lexer.specs.NumberParts.{base_of, prefix_length, behind_prefix, digit_count, digits_of, tail_of}
 use Rattle.upc_lexer.proofs.Lists.{run_is, run_passes, and_left, and_right}
 
@@ -156,19 +156,19 @@ count_within text = prefix_len-le-length (is_digit_in (base_of text)) (behind_pr
 
 pub made : (text : List ℕ) (s : Suffix) → 0 < digit_count text → suffix_of (tail_of text) ≡ Some s → IsConstant text (base_of text) (digits_of text) s
 made text s lt e = elim (begins_so text) [
-    | hexed x rest t p b ↦
-        let pre : IsPrefix Hexadecimal (take 2 text) = elim p [ inl q ↦ inl (rw (t, q) refl) | inr q ↦ inr (rw (t, q) refl) ] in
-        let begun = begun_front Hexadecimal (digit_count text) (behind_prefix text) lt (count_within text) (some_begun (digit_count text) (behind_prefix text) lt (count_within text)) in
-        subst (λ base. IsConstant text base (digits_of text) s) (sym b) (made_by text s Hexadecimal b pre begun e)
-    | zeroed rest t b ↦
-        let first : begins Octal (behind_prefix text) ≡ true = rw b (rw t refl) in
-        let begun = begun_front Octal (digit_count text) (behind_prefix text) lt (count_within text) first in
-        subst (λ base. IsConstant text base (digits_of text) s) (sym b) (made_by text s Octal b refl begun e)
-    | other st b ↦
-        let stops : StopsAt (λ d. eqb d 48) (behind_prefix text) = rw b st in
-        let begun = begun_front Decimal (digit_count text) (behind_prefix text) lt (count_within text) (stop_begun (digit_count text) (behind_prefix text) lt (count_within text) stops) in
-        subst (λ base. IsConstant text base (digits_of text) s) (sym b) (made_by text s Decimal b refl begun e)
-  ]
+  | hexed x rest t p b ↦
+      let pre : IsPrefix Hexadecimal (take 2 text) = elim p [ inl q ↦ inl (rw (t, q) refl) | inr q ↦ inr (rw (t, q) refl) ] in
+      let begun = begun_front Hexadecimal (digit_count text) (behind_prefix text) lt (count_within text) (some_begun (digit_count text) (behind_prefix text) lt (count_within text)) in
+      subst (λ base. IsConstant text base (digits_of text) s) (sym b) (made_by text s Hexadecimal b pre begun e)
+  | zeroed rest t b ↦
+      let first : begins Octal (behind_prefix text) ≡ true = rw b (rw t refl) in
+      let begun = begun_front Octal (digit_count text) (behind_prefix text) lt (count_within text) first in
+      subst (λ base. IsConstant text base (digits_of text) s) (sym b) (made_by text s Octal b refl begun e)
+  | other st b ↦
+      let stops : StopsAt (λ d. eqb d 48) (behind_prefix text) = rw b st in
+      let begun = begun_front Decimal (digit_count text) (behind_prefix text) lt (count_within text) (stop_begun (digit_count text) (behind_prefix text) lt (count_within text) stops) in
+      subst (λ base. IsConstant text base (digits_of text) s) (sym b) (made_by text s Decimal b refl begun e)
+]
 
 nonempty : (base : Base) (digits : List ℕ) → begins base digits ≡ true → 0 < length digits
 nonempty base [] h = absurd cc

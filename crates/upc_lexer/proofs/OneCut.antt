@@ -1,28 +1,21 @@
 -- A source is cut in one way.
-use Rattle.std.proofs.Common.{◌≡◌, ℕ, ◌+◌, ◌-◌, ◌<◌, ◌≤◌, zero, suc, Bool, true, false, not, cond, eqb, ◌||◌, ◌&&◌, List, [], ◌∷◌, ◌++◌, filter, length, get_or, take, drop, append-nil, append_assoc, Option, Some, None, refl, sym, ap, ◌∙◌, subst, ◌⊎◌, inl, inr, arith, length-append}
+use Rattle.std.proofs.Common.{◌≡◌, ℕ, ◌<◌, Bool, true, false, List, [], ◌∷◌, ◌++◌, length, take, append-nil, append_assoc, refl, sym, ap, ◌∙◌, subst, inl, inr, arith}
 use Rattle.std.proofs.Math.Seq.{take-append_seam}
 use Rattle.std.proofs.lemmas.Bool.Decides.{nat_tests}
-use Rattle.std.specs.List.{list_all, list_any, slice_get, prefix_len}
+use Rattle.std.specs.List.{list_all, prefix_len}
 use Rattle.upc_text.specs.declared.place.Code.{Code}
-use Rattle.upc_text.specs.declared.place.Refusal.{Refusal}
 use Rattle.upc_text.specs.declared.place.Code.TheVariants.{Lex, Limit}
-use Rattle.upc_lexer.specs.declared.token.Token.{Token}
 use Rattle.upc_lexer.specs.declared.token.TokenKind.{TokenKind}
 use Rattle.upc_lexer.specs.declared.token.TokenKind.TheVariants.{Name, Word, Number, Character, Str, Punct, Pragma}
-use Rattle.upc_lexer.specs.Bytes.{is_blank, is_letter, is_digit, is_in_line}
-use Rattle.upc_lexer.specs.Gaps.{IsGap, blank, line, block, Closes, NoGap, StopsAt, opens_comment}
-use Rattle.upc_lexer.specs.Names.{is_same, firsts}
+use Rattle.upc_lexer.specs.Bytes.{is_blank, is_letter, is_in_line}
+use Rattle.upc_lexer.specs.Gaps.{IsGap, blank, line, block, Closes, StopsAt, opens_comment}
 use Rattle.upc_lexer.specs.Numbers.{HasNoType, IsNoConstant}
 use Rattle.upc_lexer.specs.Strings.{IsString}
-use Rattle.upc_lexer.specs.Places.{place_after}
-use Rattle.upc_lexer.specs.Tokens.{Piece, gap, lexeme, text_of, joined, names_in, token_at, tokens_in, begins_number, is_number, IsToken, IsLongest, IsLexeme, IsPlainName, Spells, IsPiece, Cuts, AreTokensOf, NoLexeme, Refuses, nothing, no_constant, no_type, long_name, long_string, RefusedAt}
-use Rattle.upc_lexer.proofs.Lists.{head_is, and_left, and_right, fronts, run_is}
+use Rattle.upc_lexer.specs.Tokens.{Piece, gap, lexeme, text_of, joined, begins_number, is_number, IsToken, IsLexeme, IsPlainName, Spells, IsPiece, Cuts, NoLexeme, Refuses, nothing, no_constant, no_type, long_name, long_string}
+use Rattle.upc_lexer.proofs.Lists.{head_is, and_left, fronts, run_is}
 use Rattle.upc_lexer.proofs.MarkHeads.{is_mark_head}
-use Rattle.upc_lexer.proofs.NameLemmas.{is_same-refl, same_is}
-use Rattle.upc_lexer.proofs.TokenHeads.{Head, a_name, a_number, a_character, a_string, a_mark, head, no_token}
-use Rattle.upc_lexer.proofs.Sorts.{SameNumber, Sort, IsSort, of_name, of_number, of_character, of_string, of_mark, sort_once, sort_of, spelled_sort, character_once, string_once, number_once, typed_or_not}
-use Rattle.upc_lexer.proofs.WordTable.{one_spelling}
-use Rattle.upc_lexer.proofs.MarkTable.{one_spelling as one_mark}
+use Rattle.upc_lexer.proofs.TokenHeads.{a_name, a_number, a_character, a_string, a_mark, head, no_token}
+use Rattle.upc_lexer.proofs.Sorts.{Sort, IsSort, of_name, of_number, of_character, of_string, of_mark, sort_once, spelled_sort, string_once, typed_or_not}
 
 -- ---- gaps
 
@@ -46,9 +39,9 @@ body_front xs ys vs ws (a ∷ b ∷ more) n e f =
 
 body_same : (xs ys vs ws : List ℕ) → (Closes (xs ++ 42 ∷ []) → ⊥) → (Closes (ys ++ 42 ∷ []) → ⊥) → xs ++ 42 ∷ 47 ∷ vs ≡ ys ++ 42 ∷ 47 ∷ ws → xs ≡ ys
 body_same xs ys vs ws n m e = elim (fronts xs (42 ∷ 47 ∷ vs) ys (42 ∷ 47 ∷ ws) e) [
-    | inl l ↦ body_front xs ys vs ws l.more m l.front l.back
-    | inr l ↦ sym (body_front ys xs ws vs l.more n l.front l.back)
-  ]
+  | inl l ↦ body_front xs ys vs ws l.more m l.front l.back
+  | inr l ↦ sym (body_front ys xs ws vs l.more n l.front l.back)
+]
 
 blank_no_slash : (b : ℕ) → is_blank b ≡ true → b ≡ 47 → ⊥
 blank_no_slash b h e = grind (arith, nat_tests)
@@ -112,9 +105,9 @@ longer s t r q (m ∷ more) h g front back = absurd (h.longest.most (m ∷ more)
 
 pub lexeme_once : (s t r q : List ℕ) → IsLexeme s r → IsLexeme t q → s ++ r ≡ t ++ q → s ≡ t
 lexeme_once s t r q h g e = elim (fronts s r t q e) [
-    | inl l ↦ longer s t r q l.more h g l.front l.back
-    | inr l ↦ sym (longer t s q r l.more g h l.front l.back)
-  ]
+  | inl l ↦ longer s t r q l.more h g l.front l.back
+  | inr l ↦ sym (longer t s q r l.more g h l.front l.back)
+]
 
 rest_same : (s t r q : List ℕ) → s ≡ t → s ++ r ≡ t ++ q → r ≡ q
 rest_same [] [] r q h e = e
@@ -290,4 +283,3 @@ joined_same n m (gap t ∷ ps) (gap s ∷ qs) h = ap (λ x. x ++ joined ps) h.0 
 joined_same n m (gap t ∷ ps) (lexeme s l ∷ qs) h = absurd h
 joined_same n m (lexeme t k ∷ ps) (gap s ∷ qs) h = absurd h
 joined_same n m (lexeme t k ∷ ps) (lexeme s l ∷ qs) h = ap (λ x. x ++ joined ps) h.0 ∙ ap (λ x. s ++ x) (joined_same n m ps qs h.3)
-

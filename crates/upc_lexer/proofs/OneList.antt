@@ -1,27 +1,18 @@
 -- A source has one list of tokens, and one refusal.
-use Rattle.std.proofs.Common.{◌≡◌, ℕ, ◌+◌, ◌-◌, ◌<◌, ◌≤◌, zero, suc, Bool, true, false, not, cond, eqb, ◌||◌, ◌&&◌, List, [], ◌∷◌, ◌++◌, filter, length, get_or, take, drop, append-nil, append_assoc, Option, Some, None, refl, sym, ap, ◌∙◌, subst, ◌⊎◌, inl, inr, arith, length-append}
-use Rattle.std.proofs.Math.Seq.{take-append_seam}
-use Rattle.std.proofs.lemmas.Bool.Decides.{nat_tests}
-use Rattle.std.specs.List.{list_all, list_any, slice_get, prefix_len}
+use Rattle.std.proofs.Common.{◌≡◌, ℕ, zero, suc, Bool, true, false, not, cond, ◌||◌, List, [], ◌∷◌, ◌++◌, filter, length, append-nil, Some, refl, sym, ap, ◌∙◌, subst, arith}
+use Rattle.std.specs.List.{list_any, slice_get}
 use Rattle.upc_text.specs.declared.place.Code.{Code}
 use Rattle.upc_text.specs.declared.place.Refusal.{Refusal}
-use Rattle.upc_text.specs.declared.place.Code.TheVariants.{Lex, Limit}
 use Rattle.upc_lexer.specs.declared.token.Token.{Token}
 use Rattle.upc_lexer.specs.declared.token.TokenKind.{TokenKind}
 use Rattle.upc_lexer.specs.declared.token.TokenKind.TheVariants.{Name, Word, Number, Character, Str, Punct, Pragma}
-use Rattle.upc_lexer.specs.Bytes.{is_blank, is_letter, is_digit, is_in_line}
-use Rattle.upc_lexer.specs.Gaps.{IsGap, blank, line, block, Closes, NoGap, StopsAt, opens_comment}
 use Rattle.upc_lexer.specs.Names.{is_same, firsts}
-use Rattle.upc_lexer.specs.Numbers.{HasNoType, IsNoConstant}
-use Rattle.upc_lexer.specs.Strings.{IsString}
 use Rattle.upc_lexer.specs.Places.{place_after}
-use Rattle.upc_lexer.specs.Tokens.{Piece, gap, lexeme, text_of, joined, names_in, token_at, tokens_in, begins_number, is_number, IsToken, IsLongest, IsLexeme, IsPlainName, Spells, IsPiece, Cuts, AreTokensOf, NoLexeme, Refuses, nothing, no_constant, no_type, long_name, long_string, RefusedAt}
-use Rattle.upc_lexer.proofs.Lists.{head_is, and_left, and_right, fronts, run_is}
-use Rattle.upc_lexer.proofs.MarkHeads.{is_mark_head}
-use Rattle.upc_lexer.proofs.NameLemmas.{is_same-refl, same_is}
-use Rattle.upc_lexer.proofs.TokenHeads.{Head, a_name, a_number, a_character, a_string, a_mark, head, no_token}
-use Rattle.upc_lexer.proofs.Sorts.{SameNumber, Sort, IsSort, of_name, of_number, of_character, of_string, of_mark, sort_once, sort_of, spelled_sort, character_once, string_once, number_once, typed_or_not}
-use Rattle.upc_lexer.proofs.OneCut.{SameCut, Stuck, compare, joined_same, end_stuck, refused_stuck, code_once, two_sorts}
+use Rattle.upc_lexer.specs.Tokens.{Piece, gap, lexeme, joined, names_in, tokens_in, IsToken, IsPlainName, Spells, AreTokensOf, Refuses, nothing, no_constant, no_type, long_name, long_string, RefusedAt}
+use Rattle.upc_lexer.proofs.NameLemmas.{is_same-refl}
+use Rattle.upc_lexer.proofs.TokenHeads.{no_token}
+use Rattle.upc_lexer.proofs.Sorts.{of_name, of_number, of_character, of_string, of_mark, spelled_sort, character_once, string_once, number_once}
+use Rattle.upc_lexer.proofs.OneCut.{SameCut, compare, joined_same, end_stuck, refused_stuck, code_once, two_sorts}
 use Rattle.upc_lexer.proofs.WordTable.{one_spelling}
 use Rattle.upc_lexer.proofs.MarkTable.{one_spelling as one_mark}
 

@@ -1,9 +1,8 @@
 -- A text spells one sort of token, and one kind.
-use Rattle.std.proofs.Common.{◌≡◌, ℕ, ◌+◌, ◌-◌, ◌<◌, ◌≤◌, zero, suc, Bool, true, false, not, cond, eqb, ◌||◌, ◌&&◌, List, [], ◌∷◌, ◌++◌, length, get_or, take, drop, append-nil, append_assoc, Option, Some, None, refl, sym, ap, ◌∙◌, subst, ◌⊎◌, inl, inr, arith, length-append}
+use Rattle.std.proofs.Common.{◌≡◌, ℕ, true, eqb, List, [], ◌∷◌, ◌++◌, length, Some, None, refl, sym, ap, ◌∙◌, inl, inr, arith, length-append}
 use Rattle.std.proofs.lemmas.Bool.Decides.{nat_tests}
-use Rattle.std.specs.List.{list_all, slice_get}
+use Rattle.std.specs.List.{list_all}
 use Rattle.upc_lexer.specs.declared.token.Punct.{Punct as AMark}
-use Rattle.upc_lexer.specs.declared.token.Word.{Word as AWord}
 use Rattle.upc_lexer.specs.declared.token.NumberKind.{NumberKind}
 use Rattle.upc_lexer.specs.declared.token.TokenKind.{TokenKind}
 use Rattle.upc_lexer.specs.declared.token.TokenKind.TheVariants.{Name, Word, Number, Character, Str, Punct, Pragma}
@@ -12,16 +11,14 @@ use Rattle.upc_lexer.specs.declared.numbers.Base.TheVariants.{Decimal, Octal, He
 use Rattle.upc_lexer.specs.declared.numbers.Suffix.{Suffix}
 use Rattle.upc_lexer.specs.Bytes.{is_letter, is_digit}
 use Rattle.upc_lexer.specs.Marks.{mark_bytes}
-use Rattle.upc_lexer.specs.Words.{word_bytes}
-use Rattle.upc_lexer.specs.Numbers.{is_digit_in, begins, kind_of, value_in, IsConstant, IsNumber, HasNoType, IsNoConstant}
-use Rattle.upc_lexer.specs.Strings.{escape, is_plain_character, string_value, IsCharacter, IsString}
-use Rattle.upc_lexer.specs.Tokens.{is_name, begins_number, is_number, IsToken, name, number, character, string, mark, IsPlainName, Spells}
-use Rattle.upc_lexer.proofs.Lists.{head_is, and_left, and_right, fronts}
+use Rattle.upc_lexer.specs.Numbers.{is_digit_in, begins, kind_of, value_in, IsConstant, IsNumber, HasNoType}
+use Rattle.upc_lexer.specs.Strings.{escape, string_value, IsCharacter, IsString}
+use Rattle.upc_lexer.specs.Tokens.{is_name, begins_number, character, string, mark, Spells}
+use Rattle.upc_lexer.proofs.Lists.{head_is, and_left}
 use Rattle.upc_lexer.proofs.MarkHeads.{is_mark_head}
 use Rattle.upc_lexer.proofs.NumberLemmas.{only}
-use Rattle.upc_lexer.proofs.TokenHeads.{Head, a_name, a_number, a_character, a_string, a_mark, head, no_token, letter_no_number, letter_no_39, letter_no_34, letter_no_mark, number_no_39, number_no_34, mark_no_39, mark_no_34, mark_no_number, character_head, mark_start, plain_no_92}
-use Rattle.upc_lexer.proofs.WordTable.{word_is_name, one_spelling}
-use Rattle.upc_lexer.proofs.MarkTable.{one_spelling as one_mark}
+use Rattle.upc_lexer.proofs.TokenHeads.{no_token, letter_no_number, letter_no_39, letter_no_34, letter_no_mark, number_no_39, number_no_34, mark_no_39, mark_no_34, mark_no_number, character_head, mark_start, plain_no_92}
+use Rattle.upc_lexer.proofs.WordTable.{word_is_name}
 
 pub data Sort : Type 0 where
   of_name : Sort
@@ -135,17 +132,17 @@ some_number e = cc
 -- a character constant and a string have one value each
 pub character_once : (text : List ℕ) (v w : ℕ) → IsCharacter text v → IsCharacter text w → v ≡ w
 character_once text v w h g = elim h [
-    | inl p ↦ elim g [
-        | inl q ↦ (head_is (head_is (sym p.0 ∙ q.0)).1).0
-        | inr q ↦ absurd (plain_no_92 v p.1 (head_is (head_is (sym p.0 ∙ q.1)).1).0)
-      ]
-    | inr p ↦ elim g [
-        | inl q ↦ absurd (plain_no_92 w q.1 (sym (head_is (head_is (sym p.1 ∙ q.0)).1).0))
-        | inr q ↦
-            let e : p.0 ≡ q.0 = (head_is (head_is (head_is (sym p.1 ∙ q.1)).1).1).0 in
-            some_number (sym p.2 ∙ ap escape e ∙ q.2)
-      ]
+  | inl p ↦ elim g [
+    | inl q ↦ (head_is (head_is (sym p.0 ∙ q.0)).1).0
+    | inr q ↦ absurd (plain_no_92 v p.1 (head_is (head_is (sym p.0 ∙ q.1)).1).0)
   ]
+  | inr p ↦ elim g [
+    | inl q ↦ absurd (plain_no_92 w q.1 (sym (head_is (head_is (sym p.1 ∙ q.0)).1).0))
+    | inr q ↦
+        let e : p.0 ≡ q.0 = (head_is (head_is (head_is (sym p.1 ∙ q.1)).1).1).0 in
+        some_number (sym p.2 ∙ ap escape e ∙ q.2)
+  ]
+]
 
 some_list : {v w : List ℕ} → Some v ≡ Some w → v ≡ w
 some_list e = cc

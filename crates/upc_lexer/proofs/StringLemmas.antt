@@ -1,5 +1,5 @@
 -- What a string literal's bytes stand for.
-use Rattle.std.proofs.Common.{◌≡◌, ℕ, ◌+◌, ◌-◌, ◌<◌, ◌≤◌, zero, suc, Bool, true, false, cond, eqb, List, [], ◌∷◌, ◌++◌, length, get_or, take, drop, append-nil, append_assoc, add-one, Option, Some, None, refl, sym, ap, ◌∙◌, subst, inl, inr, arith}
+use Rattle.std.proofs.Common.{◌≡◌, ℕ, ◌+◌, ◌<◌, ◌≤◌, zero, suc, Bool, true, false, eqb, List, [], ◌∷◌, ◌++◌, length, get_or, take, drop, append_assoc, Option, Some, None, refl, sym, ap, ◌∙◌, subst, inl, inr, arith}
 use Rattle.std.proofs.lemmas.Bool.Decides.{nat_tests}
 use Rattle.std.proofs.Math.Seq.{take-add, take-suc}
 use Rattle.std.proofs.lemmas.List.{take-append-drop}
@@ -60,11 +60,11 @@ append_by : (n : ℕ) (xs ys v : List ℕ) → length xs ≤ n → string_value 
 append_by n [] ys v le e = let v_is : [] ≡ v = cc in rw (← v_is) (map_nothing (string_value ys))
 append_by zero (a ∷ xs) ys v le e = absurd (omega arith)
 append_by (suc n) (a ∷ xs) ys v le e = elim (starts a xs v e) [
-    | plain w p f is ↦ rw is (one_append a (xs ++ ys) v p ∙ ap (option_map (λ w. a ∷ w)) (append_by n xs ys w (omega arith) f) ∙ map_twice a w (string_value ys))
-    | escaped b c more w p s r f g is ↦
-        let short : length more ≤ n = omega (arith, ap length r) in
-        rw (is, r) (escape_append a b c (more ++ ys) p s f ∙ ap (option_map (λ w. c ∷ w)) (append_by n more ys w short g) ∙ map_twice c w (string_value ys))
-  ]
+  | plain w p f is ↦ rw is (one_append a (xs ++ ys) v p ∙ ap (option_map (λ w. a ∷ w)) (append_by n xs ys w (omega arith) f) ∙ map_twice a w (string_value ys))
+  | escaped b c more w p s r f g is ↦
+      let short : length more ≤ n = omega (arith, ap length r) in
+      rw (is, r) (escape_append a b c (more ++ ys) p s f ∙ ap (option_map (λ w. c ∷ w)) (append_by n more ys w short g) ∙ map_twice c w (string_value ys))
+]
 
 pub value_append : (xs ys v : List ℕ) → string_value xs ≡ Some v → string_value (xs ++ ys) ≡ option_map (λ w. v ++ w) (string_value ys)
 value_append xs ys v e = append_by (length xs) xs ys v (omega arith) e
@@ -126,9 +126,9 @@ spelled_escape a b c rest p e s n = let f = rw (p, e, s) at n in cc
 -- a text with a value begins with a plain byte or an escape, whatever is behind it
 some_spelled : (a : ℕ) (rest v more : List ℕ) → string_value (a ∷ rest) ≡ Some v → spelled_at (a ∷ (rest ++ more)) ≡ None → ⊥
 some_spelled a rest v more h n = elim (starts a rest v h) [
-    | plain w p f is ↦ spelled_plain a (rest ++ more) p n
-    | escaped b c tail w p s r f g is ↦ spelled_escape a b c (tail ++ more) p s f (subst (λ xs. spelled_at (a ∷ (xs ++ more)) ≡ None) r n)
-  ]
+  | plain w p f is ↦ spelled_plain a (rest ++ more) p n
+  | escaped b c tail w p s r f g is ↦ spelled_escape a b c (tail ++ more) p s f (subst (λ xs. spelled_at (a ∷ (xs ++ more)) ≡ None) r n)
+]
 
 some_of_map : (v : List ℕ) (r : Option (List ℕ)) (w : List ℕ) → option_map (λ x. v ++ x) r ≡ Some w → (x : List ℕ) × (r ≡ Some x)
 some_of_map v None w e = absurd cc

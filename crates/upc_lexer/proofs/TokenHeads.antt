@@ -1,14 +1,14 @@
 -- The first bytes of a token tell its sort, and what the longest is.
-use Rattle.std.proofs.Common.{◌≡◌, ℕ, ◌+◌, ◌-◌, ◌<◌, ◌≤◌, zero, suc, Bool, true, false, not, cond, eqb, leb, ◌||◌, ◌&&◌, None, List, [], ◌∷◌, ◌++◌, length, get_or, take, drop, append-nil, append_assoc, add-one, refl, sym, ap, ◌∙◌, subst, ◌⊎◌, inl, inr, arith, length-append}
+use Rattle.std.proofs.Common.{◌≡◌, ℕ, ◌<◌, ◌≤◌, Bool, true, false, None, List, [], ◌∷◌, ◌++◌, length, take, append-nil, append_assoc, refl, sym, ap, ◌∙◌, subst, inl, inr, arith, length-append}
 use Rattle.std.proofs.lemmas.Bool.Decides.{nat_tests}
 use Rattle.std.proofs.Math.Seq.{take-append_seam}
 use Rattle.std.specs.List.{list_all}
 use Rattle.upc_lexer.specs.declared.token.Punct.{Punct}
-use Rattle.upc_lexer.specs.Bytes.{is_letter, is_digit, is_blank, is_name_byte, is_number_byte}
-use Rattle.upc_lexer.specs.Gaps.{StopsAt, opens_comment}
+use Rattle.upc_lexer.specs.Bytes.{is_letter, is_name_byte, is_number_byte}
+use Rattle.upc_lexer.specs.Gaps.{StopsAt}
 use Rattle.upc_lexer.specs.Marks.{mark_bytes}
 use Rattle.upc_lexer.specs.Strings.{is_plain_character, string_value, IsCharacter, IsString}
-use Rattle.upc_lexer.specs.Tokens.{is_name, begins_number, is_number, IsToken, name, number, character, string, mark, IsLongest, IsLexeme, NoLexeme}
+use Rattle.upc_lexer.specs.Tokens.{is_name, begins_number, is_number, IsToken, name, number, character, string, mark, IsLongest, NoLexeme}
 use Rattle.upc_lexer.proofs.Lists.{fronts, head_is, and_left, and_right}
 use Rattle.upc_lexer.proofs.StringLemmas.{value_append, quote_no_value, none_of_map}
 use Rattle.upc_lexer.proofs.MarkHeads.{is_mark_head, is_mark_like, like}
@@ -126,29 +126,32 @@ plain_no_92 v h e = grind (arith, nat_tests)
 
 character_text : (text rest : List ℕ) (v w : ℕ) → IsCharacter text v → IsCharacter (text ++ rest) w → 0 < length rest → ⊥
 character_text text rest v w h g lt = elim h [
-    | inl p ↦ elim g [
-        | inl q ↦ omega (arith, ap length p.0, ap length q.0, length-append text rest)
-        | inr q ↦
-            let two : 39 ∷ v ∷ 39 ∷ rest ≡ 39 ∷ 92 ∷ q.0 ∷ 39 ∷ [] = ap (λ t. t ++ rest) (sym p.0) ∙ q.1 in
-            plain_no_92 v p.1 (head_is (head_is two).1).0
-      ]
-    | inr p ↦ elim g [
-        | inl q ↦ omega (arith, ap length p.1, ap length q.0, length-append text rest)
-        | inr q ↦ omega (arith, ap length p.1, ap length q.1, length-append text rest)
-      ]
+  | inl p ↦ elim g [
+    | inl q ↦ omega (arith, ap length p.0, ap length q.0, length-append text rest)
+    | inr q ↦
+        let two : 39 ∷ v ∷ 39 ∷ rest ≡ 39 ∷ 92 ∷ q.0 ∷ 39 ∷ [] = ap (λ t. t ++ rest) (sym p.0) ∙ q.1 in
+        plain_no_92 v p.1 (head_is (head_is two).1).0
   ]
+  | inr p ↦ elim g [
+    | inl q ↦ omega (arith, ap length p.1, ap length q.0, length-append text rest)
+    | inr q ↦ omega (arith, ap length p.1, ap length q.1, length-append text rest)
+  ]
+]
 
 pub character_longest : (text rest : List ℕ) (v : ℕ) → IsCharacter text v → IsLongest text rest
 character_longest [] rest v h = absurd (no_token (character v h))
-character_longest (b ∷ bs) rest v h = record { spelled = character v h; most = λ more after e lt t.
-    let quote : b ≡ 39 = character_head b bs v h in
-    elim (head (b ∷ bs ++ more) [] b (bs ++ more) (sym (append-nil (b ∷ bs ++ more))) t) [
-      | a_name x n ↦ letter_no_39 b x quote
-      | a_number x n ↦ number_no_39 b (bs ++ more) x quote
-      | a_character w x n ↦ character_text (b ∷ bs) more v w h n lt
-      | a_string w x n ↦ omega (arith, quote, x)
-      | a_mark q x n ↦ mark_no_39 b x quote
-    ] }
+character_longest (b ∷ bs) rest v h = record {
+  spelled = character v h;
+  most = λ more after e lt t.
+      let quote : b ≡ 39 = character_head b bs v h in
+      elim (head (b ∷ bs ++ more) [] b (bs ++ more) (sym (append-nil (b ∷ bs ++ more))) t) [
+        | a_name x n ↦ letter_no_39 b x quote
+        | a_number x n ↦ number_no_39 b (bs ++ more) x quote
+        | a_character w x n ↦ character_text (b ∷ bs) more v w h n lt
+        | a_string w x n ↦ omega (arith, quote, x)
+        | a_mark q x n ↦ mark_no_39 b x quote
+      ];
+}
 
 string_text : (text more v w : List ℕ) → IsString text v → IsString (text ++ more) w → 0 < length more → ⊥
 string_text text more v w h g lt =
@@ -168,15 +171,18 @@ string_text text more v w h g lt =
 
 pub string_longest : (text rest v : List ℕ) → IsString text v → IsLongest text rest
 string_longest [] rest v h = absurd (no_token (string v h))
-string_longest (b ∷ bs) rest v h = record { spelled = string v h; most = λ more after e lt t.
-    let quote : b ≡ 34 = (head_is h.quoted).0 in
-    elim (head (b ∷ bs ++ more) [] b (bs ++ more) (sym (append-nil (b ∷ bs ++ more))) t) [
-      | a_name x n ↦ letter_no_34 b x quote
-      | a_number x n ↦ number_no_34 b (bs ++ more) x quote
-      | a_character w x n ↦ omega (arith, quote, x)
-      | a_string w x n ↦ string_text (b ∷ bs) more v w h n lt
-      | a_mark m x n ↦ mark_no_34 b x quote
-    ] }
+string_longest (b ∷ bs) rest v h = record {
+  spelled = string v h;
+  most = λ more after e lt t.
+      let quote : b ≡ 34 = (head_is h.quoted).0 in
+      elim (head (b ∷ bs ++ more) [] b (bs ++ more) (sym (append-nil (b ∷ bs ++ more))) t) [
+        | a_name x n ↦ letter_no_34 b x quote
+        | a_number x n ↦ number_no_34 b (bs ++ more) x quote
+        | a_character w x n ↦ omega (arith, quote, x)
+        | a_string w x n ↦ string_text (b ∷ bs) more v w h n lt
+        | a_mark m x n ↦ mark_no_34 b x quote
+      ];
+}
 
 pub mark_start : (m : Punct) (b : ℕ) (bs : List ℕ) → b ∷ bs ≡ mark_bytes m → is_mark_head b ≡ true
 mark_start m b bs e = and_left (is_mark_head b) _ (subst (λ t. is_mark_like t ≡ true) (sym e) (like m))
@@ -186,43 +192,46 @@ front_taken text rest m e = rw (← e) (take-append_seam text rest)
 
 pub mark_longest : (text rest : List ℕ) (m : Punct) → text ≡ mark_bytes m → begins_number (text ++ rest) ≡ false → ((q : Punct) → take (length (mark_bytes q)) (text ++ rest) ≡ mark_bytes q → length (mark_bytes q) ≤ length text) → IsLongest text rest
 mark_longest [] rest m e digit longest = absurd (no_token (mark m e))
-mark_longest (b ∷ bs) rest m e digit longest = record { spelled = mark m e; most = λ more after f lt t.
-    let start = mark_start m b bs e in
-    let whole : b ∷ (bs ++ rest) ≡ (b ∷ bs ++ more) ++ after = ap (λ r. b ∷ bs ++ r) f ∙ sym (append_assoc (b ∷ bs) more after) in
-    elim (head (b ∷ bs ++ more) after b (bs ++ rest) whole t) [
-      | a_name x n ↦ letter_no_mark b x start
-      | a_number x n ↦ true_false (sym x ∙ digit)
-      | a_character w x n ↦ mark_no_39 b start x
-      | a_string w x n ↦ mark_no_34 b start x
-      | a_mark q x n ↦
-          let taken : take (length (mark_bytes q)) (b ∷ (bs ++ rest)) ≡ mark_bytes q = rw whole (front_taken (b ∷ bs ++ more) after q n) in
-          omega (arith, longest q taken, ap length n, length-append (b ∷ bs) more)
-    ] }
+mark_longest (b ∷ bs) rest m e digit longest = record {
+  spelled = mark m e;
+  most = λ more after f lt t.
+      let start = mark_start m b bs e in
+      let whole : b ∷ (bs ++ rest) ≡ (b ∷ bs ++ more) ++ after = ap (λ r. b ∷ bs ++ r) f ∙ sym (append_assoc (b ∷ bs) more after) in
+      elim (head (b ∷ bs ++ more) after b (bs ++ rest) whole t) [
+        | a_name x n ↦ letter_no_mark b x start
+        | a_number x n ↦ true_false (sym x ∙ digit)
+        | a_character w x n ↦ mark_no_39 b start x
+        | a_string w x n ↦ mark_no_34 b start x
+        | a_mark q x n ↦
+            let taken : take (length (mark_bytes q)) (b ∷ (bs ++ rest)) ≡ mark_bytes q = rw whole (front_taken (b ∷ bs ++ more) after q n) in
+            omega (arith, longest q taken, ap length n, length-append (b ∷ bs) more)
+      ];
+}
 
 -- where no token begins
 pub no_character : (b : ℕ) (bs : List ℕ) → b ≡ 39 → ((text rest : List ℕ) (v : ℕ) → b ∷ bs ≡ text ++ rest → IsCharacter text v → ⊥) → NoLexeme (b ∷ bs)
 no_character b bs quote none text rest e h = elim (head text rest b bs e h.longest.spelled) [
-    | a_name x n ↦ letter_no_39 b x quote
-    | a_number x n ↦ number_no_39 b bs x quote
-    | a_character v x n ↦ none text rest v e n
-    | a_string v x n ↦ omega (arith, quote, x)
-    | a_mark m x n ↦ mark_no_39 b x quote
-  ]
+  | a_name x n ↦ letter_no_39 b x quote
+  | a_number x n ↦ number_no_39 b bs x quote
+  | a_character v x n ↦ none text rest v e n
+  | a_string v x n ↦ omega (arith, quote, x)
+  | a_mark m x n ↦ mark_no_39 b x quote
+]
 
 pub no_string_here : (b : ℕ) (bs : List ℕ) → b ≡ 34 → ((text rest v : List ℕ) → b ∷ bs ≡ text ++ rest → IsString text v → ⊥) → NoLexeme (b ∷ bs)
 no_string_here b bs quote none text rest e h = elim (head text rest b bs e h.longest.spelled) [
-    | a_name x n ↦ letter_no_34 b x quote
-    | a_number x n ↦ number_no_34 b bs x quote
-    | a_character v x n ↦ omega (arith, quote, x)
-    | a_string v x n ↦ none text rest v e n
-    | a_mark m x n ↦ mark_no_34 b x quote
-  ]
+  | a_name x n ↦ letter_no_34 b x quote
+  | a_number x n ↦ number_no_34 b bs x quote
+  | a_character v x n ↦ omega (arith, quote, x)
+  | a_string v x n ↦ none text rest v e n
+  | a_mark m x n ↦ mark_no_34 b x quote
+]
 
 pub no_mark : (b : ℕ) (bs : List ℕ) → is_letter b ≡ false → begins_number (b ∷ bs) ≡ false → (b ≡ 39 → ⊥) → (b ≡ 34 → ⊥) → ((q : Punct) → take (length (mark_bytes q)) (b ∷ bs) ≡ mark_bytes q → ⊥) → NoLexeme (b ∷ bs)
 no_mark b bs letter digit quote quotes none text rest e h = elim (head text rest b bs e h.longest.spelled) [
-    | a_name x n ↦ true_false (sym x ∙ letter)
-    | a_number x n ↦ true_false (sym x ∙ digit)
-    | a_character v x n ↦ quote x
-    | a_string v x n ↦ quotes x
-    | a_mark m x n ↦ none m (rw e (front_taken text rest m n))
-  ]
+  | a_name x n ↦ true_false (sym x ∙ letter)
+  | a_number x n ↦ true_false (sym x ∙ digit)
+  | a_character v x n ↦ quote x
+  | a_string v x n ↦ quotes x
+  | a_mark m x n ↦ none m (rw e (front_taken text rest m n))
+]

@@ -1,7 +1,6 @@
 -- Every word stands in the table.
-use Rattle.std.proofs.Common.{◌≡◌, ℕ, ◌<◌, true, List, Option, Some, map, get_or, refl, sym, ap, ◌∙◌, subst, lit<}
+use Rattle.std.proofs.Common.{◌≡◌, ℕ, ◌<◌, true, List, Option, Some, map, get_or, refl, sym, ap, ◌∙◌, lit<}
 use Rattle.std.specs.List.{position}
-use Rattle.upc_lexer.specs.Bytes.{is_letter}
 use Rattle.upc_lexer.specs.Names.{is_same}
 use Rattle.upc_lexer.specs.Tokens.{is_name}
 use Rattle.upc_lexer.specs.Words.{word_bytes}

@@ -1,10 +1,9 @@
 -- What the code finds at the front of some bytes.
 use Rattle.std.specs.Prelude.{◌≡◌, ℕ, ◌≤◌, false, List, length, take, drop}
-use Rattle.upc_text.specs.declared.place.Code.{Code}
 use Rattle.upc_lexer.specs.declared.lexemes.Found.{Found}
 use Rattle.upc_lexer.specs.declared.lexemes.Found.TheVariants.{Name, Token}
 use Rattle.upc_lexer.specs.Gaps.{opens_comment, NoGap}
-use Rattle.upc_lexer.specs.Tokens.{IsLexeme, IsPlainName, Spells, Refuses}
+use Rattle.upc_lexer.specs.Tokens.{IsLexeme, IsPlainName, Spells}
 
 -- neither a blank nor a comment is at the front
 pub record IsGapless (bytes : List ℕ) : Type 0 where

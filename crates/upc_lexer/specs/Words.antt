@@ -1,5 +1,5 @@
 -- How each word is spelled (C99 6.4.1; UPC 6.1), and the type words.
-use Rattle.std.specs.Prelude.{◌≡◌, ℕ, List, codes}
+use Rattle.std.specs.Prelude.{ℕ, List, codes}
 use Rattle.upc_lexer.specs.declared.token.Word.{Word}
 use Rattle.upc_lexer.specs.declared.token.Word.TheVariants.{Break, Case, Char, Const, Continue, Default, Do, Else, For, If, Int, Long, Return, Short, Signed, Sizeof, Static, Struct, Switch, Unsigned, Void, While, Shared, Strict, Relaxed, Mythread, Threads, UpcMaxBlockSize, UpcBarrier, UpcBlocksizeof, UpcElemsizeof, UpcFence, UpcForall, UpcLocalsizeof, UpcNotify, UpcWait, SizeT, PtrdiffT, UpcLockT, UpcOpT, UpcFlagT, Auto, Double, Enum, Extern, Float, Goto, Inline, Register, Restrict, Typedef, Union, Volatile, Bool, Complex, Imaginary}
 

@@ -40,10 +40,7 @@ fn begins_number(bytes: &[u8]) -> bool
 fn name_length(bytes: &[u8]) -> usize
     ensures { result ≡ prefix_len is_name_byte bytes.now }
 {
-    bytes
-        .iter()
-        .take_while(|byte| is_name_byte(**byte))
-        .count()
+    bytes.iter().take_while(|byte| is_name_byte(**byte)).count()
 }
 
 /// How many bytes of numbers stand at the front.

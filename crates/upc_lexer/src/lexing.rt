@@ -127,5 +127,4 @@ pub fn one_cut()
     ensures tokens { (source : List ℕ) (ts us : List Item) (n m : List (List ℕ)) → AreTokensOf source ts n → AreTokensOf source us m → (ts ≡ us) × (n ≡ m) }
     ensures refusal { (source : List ℕ) (r q : Reason) → RefusedAt source r → RefusedAt source q → r ≡ q }
     ensures either { (source : List ℕ) (ts : List Item) (n : List (List ℕ)) (r : Reason) → AreTokensOf source ts n → RefusedAt source r → ⊥ }
-{
-}
+{}

@@ -10,6 +10,8 @@ mod names;
 mod numbers;
 mod places;
 mod strings;
+#[cfg(test)]
+mod tests;
 mod token;
 mod words;
 

@@ -100,12 +100,30 @@ fn suffix_of(text: &[u8]) -> Option<Suffix>
     ensures { result ≡ suffix_of text.now }
 {
     match text {
-        [] => Some(Suffix { unsigned: false, long: false }),
-        [a] if is_u(*a) => Some(Suffix { unsigned: true, long: false }),
-        [a] if is_l(*a) => Some(Suffix { unsigned: false, long: true }),
-        [a, b] if is_u(*a) && is_l(*b) || is_l(*a) && is_u(*b) => Some(Suffix { unsigned: true, long: true }),
-        [a, b] if is_ll(*a, *b) => Some(Suffix { unsigned: false, long: true }),
-        [a, b, c] if is_u(*a) && is_ll(*b, *c) || is_ll(*a, *b) && is_u(*c) => Some(Suffix { unsigned: true, long: true }),
+        [] => Some(Suffix {
+            unsigned: false,
+            long: false,
+        }),
+        [a] if is_u(*a) => Some(Suffix {
+            unsigned: true,
+            long: false,
+        }),
+        [a] if is_l(*a) => Some(Suffix {
+            unsigned: false,
+            long: true,
+        }),
+        [a, b] if is_u(*a) && is_l(*b) || is_l(*a) && is_u(*b) => Some(Suffix {
+            unsigned: true,
+            long: true,
+        }),
+        [a, b] if is_ll(*a, *b) => Some(Suffix {
+            unsigned: false,
+            long: true,
+        }),
+        [a, b, c] if is_u(*a) && is_ll(*b, *c) || is_ll(*a, *b) && is_u(*c) => Some(Suffix {
+            unsigned: true,
+            long: true,
+        }),
         _ => None,
     }
 }

@@ -1,4 +1,3 @@
-use Rattle.std.proofs.Common.{◌≡◌, ◌-◌, get_or, arith, rules}
 use Rattle.upc_lexer.proofs.GapLemmas.{not_closed, ends_at}
 use Rattle.upc_lexer.proofs.gaps.comment_length.Goals as goal
 

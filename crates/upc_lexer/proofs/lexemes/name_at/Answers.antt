@@ -1,4 +1,4 @@
-use Rattle.std.proofs.Common.{◌≡◌, ℕ, length, take, arith}
+use Rattle.std.proofs.Common.{arith}
 use Rattle.upc_lexer.proofs.FoundLemmas.{name_found, plain_name, name_too_long}
 use Rattle.upc_lexer.proofs.lexemes.name_at.Goals as goal
 

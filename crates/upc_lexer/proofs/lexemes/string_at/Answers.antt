@@ -1,4 +1,4 @@
-use Rattle.std.proofs.Common.{Some, None, subst, arith}
+use Rattle.std.proofs.Common.{Some, subst, arith}
 use Rattle.upc_lexer.specs.Strings.{FindsString}
 use Rattle.upc_lexer.proofs.FoundLemmas.{string_found, string_too_long, string_absent}
 use Rattle.upc_lexer.proofs.lexemes.string_at.Goals as goal

@@ -1,8 +1,8 @@
-use Rattle.std.proofs.Common.{◌≡◌, ◌+◌, ◌-◌, ◌≤◌, ℕ, List, ◌++◌, length, take, drop, sym, ap, ◌∙◌, subst, arith, length-drop, length-take}
+use Rattle.std.proofs.Common.{◌-◌, ℕ, List, ◌++◌, length, take, drop, ap, ◌∙◌, subst, arith, length-drop, length-take}
 use Rattle.upc_lexer.specs.Places.{place_after}
 use Rattle.upc_lexer.specs.Steps.{Steps}
 use Rattle.upc_lexer.proofs.Lists.{rest_is}
-use Rattle.upc_lexer.proofs.CutLemmas.{cut_more, all_cut, cut_refused, column_few}
+use Rattle.upc_lexer.proofs.CutLemmas.{cut_more, column_few}
 use Rattle.upc_lexer.proofs.lexing.lex.Goals as goal
 
 pub place_behind-place-requires-clause-column : goal.place_behind-place-requires-clause-column

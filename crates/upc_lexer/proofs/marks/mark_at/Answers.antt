@@ -1,7 +1,6 @@
-use Rattle.std.proofs.Common.{◌≡◌, inl, inr, ℕ, ◌<◌, ◌≤◌, length, take, get_or, ap, sym, ◌∙◌, subst, arith}
+use Rattle.std.proofs.Common.{◌≡◌, inl, inr, ◌<◌, length, take, ap, sym, subst, arith}
 use Rattle.std.proofs.lemmas.Bool.{cases_lt}
 use Rattle.upc_lexer.specs.declared.token.Punct.{Punct as Mark}
-use Rattle.upc_lexer.specs.declared.token.Punct.TheVariants.{LBracket}
 use Rattle.upc_lexer.specs.Marks.{mark_bytes}
 use Rattle.upc_lexer.proofs.MarkTable as table
 use Rattle.upc_lexer.proofs.marks.mark_at.Goals as goal

@@ -1,4 +1,4 @@
-use Rattle.std.proofs.Common.{◌≡◌, ◌<◌, ◌≤◌, ℕ, None, refl, sym, ◌∙◌, ap, arith}
+use Rattle.std.proofs.Common.{◌≡◌, None, refl, sym, ◌∙◌, ap, arith}
 use Rattle.std.proofs.lemmas.List.Sums.{prefix_len-le-length}
 use Rattle.upc_lexer.specs.Numbers.{is_digit_in, value_in, kind_of}
 use Rattle.upc_lexer.proofs.NumberLemmas.{found, no_digit_found, no_tail_found, number_found, no_type_found, too_great}
@@ -30,5 +30,5 @@ pub returns-in-None-clause-err : goal.returns-in-None-clause-err
 returns-in-None-clause-err c =
     let f = found _ _ _ _ _ _ c.split_base-base.ensures.base c.split_base-base.ensures.rest c.digit_count-count.ensures c.split_at.ensures.front c.split_at.ensures.back in
     let none : kind_of c.split_base-base.result.0 c.in-Some.suffix (value_in c.split_base-base.result.0 c.split_at.result.0.now) ≡ None =
-        ap (kind_of c.split_base-base.result.0 c.in-Some.suffix) (sym c.in-Some-value_in.ensures.1) ∙ sym c.in-None.ensures in
+    ap (kind_of c.split_base-base.result.0 c.in-Some.suffix) (sym c.in-Some-value_in.ensures.1) ∙ sym c.in-None.ensures in
     (refl, no_type_found _ _ _ _ _ _ f (omega arith) c.in-Some.ensures none)

@@ -1,6 +1,6 @@
-use Rattle.std.proofs.Common.{rules, ◌≡◌, ◌<◌, ◌≤◌, ◌^◌, ℕ, ◌+◌, ◌*◌, length, take, get_or, subst, sym, ◌∙◌, ap, arith}
+use Rattle.std.proofs.Common.{◌≡◌, ◌*◌, take, ◌∙◌, ap, arith}
 use Rattle.std.proofs.lemmas.List.{take_all}
-use Rattle.upc_lexer.specs.Numbers.{radix, digit_value, value_in}
+use Rattle.upc_lexer.specs.Numbers.{value_in}
 use Rattle.upc_lexer.proofs.Values.{next_value}
 use Rattle.upc_lexer.proofs.numbers.value_in.Goals as goal
 

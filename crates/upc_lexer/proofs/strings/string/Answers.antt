@@ -1,5 +1,4 @@
-use Rattle.std.proofs.Common.{rules, ◌≡◌, ◌+◌, ◌-◌, ◌≤◌, ◌<◌, ℕ, Bool, false, eqb, Some, length, take, drop, get_or, arith, sym, ap, ◌∙◌, subst, length-drop, refl}
-use Rattle.upc_lexer.specs.Strings.{IsStringBody}
+use Rattle.std.proofs.Common.{rules, ◌≡◌, length, get_or, arith, ap, length-drop}
 use Rattle.upc_lexer.proofs.Lists.{rest_is, eqb-no}
 use Rattle.upc_lexer.proofs.StringLemmas.{string_found, string_absent, stops_past, stops_here}
 use Rattle.upc_lexer.proofs.strings.string.Goals as goal
@@ -7,9 +6,10 @@ use Rattle.upc_lexer.proofs.strings.string.Goals.{else-length-inside-via-then-le
 
 pub returns-then-inside-length-eq34 : goal.returns-then-inside-length-eq34
 returns-then-inside-length-eq34 c =
-    let quote : get_or c.args.bytes.now 0 0 ≡ 34 = search rules in
-    (omega (arith, c.if-length-inside.true, ap length (rest_is 1 c.args.bytes.now), length-drop 1 c.args.bytes.now),
-     string_found c.args.bytes.now _ c.in_ok-value.value c.in_ok-value.length c.in-34.len_at_least quote (rest_is 1 c.args.bytes.now) c.in_ok-value.ensures c.if-length-inside.true c.if-inside-length-eq34.true)
+    let quote : get_or c.args.bytes.now 0 0 ≡ 34 = search rules in (
+      omega (arith, c.if-length-inside.true, ap length (rest_is 1 c.args.bytes.now), length-drop 1 c.args.bytes.now),
+      string_found c.args.bytes.now _ c.in_ok-value.value c.in_ok-value.length c.in-34.len_at_least quote (rest_is 1 c.args.bytes.now) c.in_ok-value.ensures c.if-length-inside.true c.if-inside-length-eq34.true,
+    )
 
 pub returns-else-length-inside : goal.returns-else-length-inside
 returns-else-length-inside c =

@@ -1,5 +1,5 @@
-use Rattle.std.proofs.Common.{◌≡◌, ◌+◌, ◌≤◌, ℕ, Some, length, take, drop, arith, sym, ap, ◌∙◌, length-drop}
-use Rattle.upc_lexer.specs.Strings.{spelled_at, string_value}
+use Rattle.std.proofs.Common.{Some, drop, arith, sym, ap, ◌∙◌, length-drop}
+use Rattle.upc_lexer.specs.Strings.{spelled_at}
 use Rattle.upc_lexer.proofs.Lists.{rest_is}
 use Rattle.upc_lexer.proofs.StringLemmas.{spells, value_more}
 use Rattle.upc_lexer.proofs.strings.string_body.Goals as goal

@@ -1,7 +1,5 @@
-use Rattle.std.proofs.Common.{◌≡◌, ℕ, List, ◌∷◌, [], ◌++◌, false, map, length, Some, slice_get, sym, ap, ◌∙◌, subst, arith}
-use Rattle.std.specs.List.{list_any}
+use Rattle.std.proofs.Common.{map, sym, ◌∙◌}
 use Rattle.std.proofs.lemmas.List.{length-map}
-use Rattle.upc_lexer.specs.Names.{is_same, insert_name}
 use Rattle.upc_lexer.proofs.NameLemmas.{found_at, last_at, insert_present, insert_absent, any-map, new_key}
 use Rattle.upc_lexer.proofs.names.Names.insert.Goals as goal
 
