@@ -1,0 +1,5 @@
+pub mod Spelling
+pub mod Replacing
+pub mod Directives
+pub mod Expansion
+pub mod Table

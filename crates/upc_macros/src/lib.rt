@@ -1,0 +1,6 @@
+//! Directives, and the replacement of macros (C99 6.10).
+#![tactic(auto)]
+
+mod output;
+mod spelling;
+mod table;
