@@ -3,3 +3,4 @@ pub mod Replacing
 pub mod Directives
 pub mod Expansion
 pub mod Table
+pub mod Walk

@@ -1,5 +1,5 @@
 -- The table of macros in the code: where their tokens stand among the source's.
-use Rattle.std.specs.Prelude.{◌≡◌, ℕ, ◌-◌, ◌+◌, ◌<◌, ◌≤◌, List, [], ◌∷◌, ◌++◌, Option, Some, None, option_map, is_some, map, length, take, drop, count_by, slice_get, slice_index_or, flat_map}
+use Rattle.std.specs.Prelude.{◌≡◌, ℕ, suc, ◌-◌, ◌+◌, ◌<◌, ◌≤◌, List, [], ◌∷◌, ◌++◌, Option, Some, None, option_map, map, length, take, drop, slice_get, slice_index_or, flat_map}
 use Rattle.upc_text.specs.declared.place.Place.{Place}
 use Rattle.upc_text.specs.declared.place.Refusal.{Refusal}
 use Rattle.upc_text.specs.declared.faults.Stop.{Stop}
@@ -41,8 +41,11 @@ pub record IsBody (tokens : List Token) (b : Body) : Type 0 where
 abbrev pub AreBodies : List Token → List (Option Body) → Type 0
 AreBodies tokens table = (n : ℕ) (b : Body) → slice_get table n ≡ Some (Some b) → IsBody tokens b
 
+-- how many macros there are
 abbrev pub macro_count : List (Option Body) → ℕ
-macro_count table = count_by is_some table
+macro_count [] = 0
+macro_count (None ∷ table) = macro_count table
+macro_count (Some b ∷ table) = suc (macro_count table)
 
 -- the items are tokens that pass, and they were put at the end
 pub record Takes (old new : List Token) (its : List Item) : Type 0 where

@@ -1,6 +1,8 @@
 //! Directives, and the replacement of macros (C99 6.10).
 #![tactic(auto)]
 
+mod lines;
 mod output;
 mod spelling;
 mod table;
+mod walk;
