@@ -1,3 +1,5 @@
 pub mod Tables
 pub mod Refusals
 pub mod WalkLemmas
+pub mod TextLemmas
+pub mod DirectiveLemmas

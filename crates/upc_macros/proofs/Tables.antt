@@ -34,7 +34,7 @@ get-set (z ∷ xs) (suc n) zero x y e = inl e
 get-set (z ∷ xs) (suc n) (suc m) x y e = get-set xs n m x y e
 
 -- the macro of a token, by the table
-found_at : (tokens : List Token) (table : List (Option Body)) (n : ℕ) (b : Option Body) → slice_get table n ≡ Some b → slice_index_or (seen tokens table) n None ≡ option_map (body_tokens tokens) b
+pub found_at : (tokens : List Token) (table : List (Option Body)) (n : ℕ) (b : Option Body) → slice_get table n ≡ Some b → slice_index_or (seen tokens table) n None ≡ option_map (body_tokens tokens) b
 found_at tokens [] n b e = absurd cc
 found_at tokens (c ∷ table) zero b e = ap (option_map (body_tokens tokens)) (some_is e)
   where

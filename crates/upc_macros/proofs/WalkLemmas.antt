@@ -53,7 +53,7 @@ rest_end tokens f le = let k : f.body.end - f.next ≡ 0 = omega arith in rw k r
 
 -- ---- a token that is no macro
 
-replaced_plain : (depth : ℕ) (source : List ℕ) (macros : Macros) (t : Token) → body_of macros t ≡ None → replaced depth source macros t ≡ plain source t ∷ []
+pub replaced_plain : (depth : ℕ) (source : List ℕ) (macros : Macros) (t : Token) → body_of macros t ≡ None → replaced depth source macros t ≡ plain source t ∷ []
 replaced_plain zero source macros t e = refl
 replaced_plain (suc depth) source macros t e = rw e refl
 
@@ -99,7 +99,7 @@ work_plain tokens depth table f fs t lt le e none =
 abbrev pub entered : ℕ → Body → Frame
 entered n b = record { name = n; next = b.begin; body = b }
 
-replaced_macro : (depth : ℕ) (source : List ℕ) (macros : Macros) (t : Token) (n : ℕ) (body : List Token) → t.kind ≡ Name n → body_of macros t ≡ Some body → replaced (suc depth) source macros t ≡ flat_map (replaced depth source (without macros (Name n))) body
+pub replaced_macro : (depth : ℕ) (source : List ℕ) (macros : Macros) (t : Token) (n : ℕ) (body : List Token) → t.kind ≡ Name n → body_of macros t ≡ Some body → replaced (suc depth) source macros t ≡ flat_map (replaced depth source (without macros (Name n))) body
 replaced_macro depth source macros t n body k e = rw (e, k) refl
 
 steps_macro : (depth : ℕ) (macros : Macros) (t : Token) (n : ℕ) (body : List Token) → t.kind ≡ Name n → body_of macros t ≡ Some body → steps (suc depth) macros t ≡ 2 + total (steps depth (without macros (Name n))) body

@@ -4,3 +4,4 @@ pub mod Directives
 pub mod Expansion
 pub mod Table
 pub mod Walk
+pub mod Effects

@@ -63,3 +63,7 @@ StopsIn before its Memory = Unit {0}
 abbrev pub NamesNoMacro : List (Option Body) → TokenKind → Type 0
 NamesNoMacro table (Name n) = slice_get table n ≡ Some None
 NamesNoMacro table kind = Unit {0}
+
+-- tokens of a source of so many bytes, in order
+abbrev pub AreOrdered : ℕ → List Token → Type 0
+AreOrdered limit ts = (names : ℕ) × AreInOrder limit names ts

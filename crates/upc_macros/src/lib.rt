@@ -1,6 +1,7 @@
 //! Directives, and the replacement of macros (C99 6.10).
 #![tactic(auto)]
 
+mod directives;
 mod lines;
 mod output;
 mod spelling;
