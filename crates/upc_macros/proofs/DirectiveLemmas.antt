@@ -11,9 +11,9 @@ use Rattle.upc_macros.specs.Replacing.{Macros, name_number}
 use Rattle.std.specs.Cmp.Lexicographic.{pointwise}
 use Rattle.upc_lexer.specs.declared.token.Token.{Token}
 use Rattle.upc_macros.specs.Spelling.{between, spelling, is_spelled, are_alike, last_end}
-use Rattle.std.proofs.lemmas.List.{get_or-take, get_or-drop}
+use Rattle.std.proofs.lemmas.List.{get_or-take, get_or-drop, take_all}
 use Rattle.upc_macros.specs.Table.{IsNumbered, IsWithin, AreInOrder}
-use Rattle.upc_macros.specs.Directives.{Effect, header_effect, include_effect, macro_name, has_parameters, define_name, define_effect}
+use Rattle.upc_macros.specs.Directives.{Effect, header_effect, include_effect, macro_name, has_parameters, define_name, define_effect, undefine_effect, access_effect, pragma_effect, effect_of}
 
 and_left : (a b : Bool) → (a && b) ≡ true → a ≡ true
 and_left true b h = refl
@@ -125,3 +125,28 @@ number_below names n (Pragma b) e h = absurd cc
 -- the number of a name is one of the source's
 pub macro_below : (source : List ℕ) (names : ℕ) (t : Token) (n : ℕ) → macro_name source t ≡ Some n → IsNumbered names t.kind → n < names
 macro_below source names t n e h = number_below names n t.kind (name_is source t n (is_spelled source t (codes "NULL")) e) h
+
+pub rest_is : (n : ℕ) (ts : List Token) → take (length ts - n) (drop n ts) ≡ drop n ts
+rest_is n ts = take_all (length ts - n) (drop n ts) (omega (arith, length-drop n ts))
+
+pub pragma_upc : (source : List ℕ) (line : List Token) (first : Token) → 1 ≤ length line → first ≡ get_or line 0 first → is_spelled source first (codes "upc") ≡ true → access_effect source (take (length line - 1) (drop 1 line)) ≡ pragma_effect source line
+pragma_upc source [] first le e h = absurd (omega arith)
+pragma_upc source (t ∷ ts) first le e h =
+    let here : is_spelled source t (codes "upc") ≡ true = subst (λ x. is_spelled source x (codes "upc") ≡ true) e h in
+    rw (rest_is 1 (t ∷ ts), here) refl
+
+-- the words of directives, one after another
+pub effect_include : (source : List ℕ) (macros : Macros) (line : List Token) (t : Token) (ts : List Token) → line ≡ t ∷ ts → is_spelled source t (codes "include") ≡ true → include_effect source ts ≡ effect_of source macros line
+effect_include source macros line t ts e a = rw (e, a) refl
+
+pub effect_define : (source : List ℕ) (macros : Macros) (line : List Token) (t : Token) (ts : List Token) → line ≡ t ∷ ts → is_spelled source t (codes "include") ≡ false → is_spelled source t (codes "define") ≡ true → define_effect source macros ts ≡ effect_of source macros line
+effect_define source macros line t ts e a b = rw (e, a, b) refl
+
+pub effect_undef : (source : List ℕ) (macros : Macros) (line : List Token) (t : Token) (ts : List Token) → line ≡ t ∷ ts → is_spelled source t (codes "include") ≡ false → is_spelled source t (codes "define") ≡ false → is_spelled source t (codes "undef") ≡ true → undefine_effect source ts ≡ effect_of source macros line
+effect_undef source macros line t ts e a b c = rw (e, a, b, c) refl
+
+pub effect_pragma : (source : List ℕ) (macros : Macros) (line : List Token) (t : Token) (ts : List Token) → line ≡ t ∷ ts → is_spelled source t (codes "include") ≡ false → is_spelled source t (codes "define") ≡ false → is_spelled source t (codes "undef") ≡ false → is_spelled source t (codes "pragma") ≡ true → pragma_effect source ts ≡ effect_of source macros line
+effect_pragma source macros line t ts e a b c d = rw (e, a, b, c, d) refl
+
+pub effect_none : (source : List ℕ) (macros : Macros) (line : List Token) (t : Token) (ts : List Token) → line ≡ t ∷ ts → is_spelled source t (codes "include") ≡ false → is_spelled source t (codes "define") ≡ false → is_spelled source t (codes "undef") ≡ false → is_spelled source t (codes "pragma") ≡ false → None ≡ effect_of source macros line
+effect_none source macros line t ts e a b c d = rw (e, a, b, c, d) refl

@@ -5,3 +5,4 @@ pub mod Expansion
 pub mod Table
 pub mod Walk
 pub mod Effects
+pub mod Lines

@@ -4,7 +4,7 @@ ghost use Rattle.std.specs.Option.{option_map, ForSome};
 ghost use Rattle.upc_lexer.specs.declared.token.Token.{Token as Item};
 ghost use Rattle.upc_macros.specs.Spelling.{are_alike, between};
 ghost use Rattle.upc_macros.specs.Directives.{header_effect, include_effect, macro_name, has_parameters, define_effect, define_name, undefine_effect, access_effect, pragma_effect, effect_of};
-ghost use Rattle.upc_macros.specs.Effects.{effect_seen, IsChange};
+ghost use Rattle.upc_macros.specs.Effects.{effect_seen, IsChange, IsKeyword};
 ghost use Rattle.upc_macros.specs.Table.{seen, AreInOrder, AreOrdered, AreBodies, IsBody, IsWithin, body_tokens};
 
 use crate::spelling::spelling;
@@ -24,7 +24,8 @@ pub(crate) enum Effect {
 
 /// What it does to include this header.
 fn header_effect(text: &[u8]) -> Option<Effect>
-    ensures { (tokens : List Item) → option_map (effect_seen tokens) result ≡ header_effect text.now }
+    ensures effect { (tokens : List Item) → option_map (effect_seen tokens) result ≡ header_effect text.now }
+    ensures within { (tokens : List Item) (names : ℕ) → IfSome result (IsChange tokens names) }
 {
     if text == b"<upc_strict.h>".as_slice() {
         Some(Effect::Pragma(true))
@@ -43,7 +44,8 @@ fn header_effect(text: &[u8]) -> Option<Effect>
 
 fn include_effect(source: &[u8], line: &[Token]) -> Option<Effect>
     requires { AreOrdered (length source.now) line.now }
-    ensures { (tokens : List Item) → option_map (effect_seen tokens) result ≡ include_effect source.now line.now }
+    ensures effect { (tokens : List Item) → option_map (effect_seen tokens) result ≡ include_effect source.now line.now }
+    ensures within { (tokens : List Item) (names : ℕ) → IfSome result (IsChange tokens names) }
 {
     let [first, ..] = line else {
         return None;
@@ -98,7 +100,8 @@ fn are_alike(source: &[u8], old: &[Token], new: &[Token]) -> bool
 
 fn undefine_effect(source: &[u8], line: &[Token]) -> Option<Effect>
     requires { AreOrdered (length source.now) line.now }
-    ensures { (tokens : List Item) → option_map (effect_seen tokens) result ≡ undefine_effect source.now line.now }
+    ensures effect { (tokens : List Item) → option_map (effect_seen tokens) result ≡ undefine_effect source.now line.now }
+    ensures within { (tokens : List Item) (names : ℕ) → AreInOrder (length source.now) names line.now → IfSome result (IsChange tokens names) }
 {
     let [name] = line else {
         return None;
@@ -111,7 +114,8 @@ fn undefine_effect(source: &[u8], line: &[Token]) -> Option<Effect>
 
 fn access_effect(source: &[u8], line: &[Token]) -> Option<Effect>
     requires { AreOrdered (length source.now) line.now }
-    ensures { (tokens : List Item) → option_map (effect_seen tokens) result ≡ access_effect source.now line.now }
+    ensures effect { (tokens : List Item) → option_map (effect_seen tokens) result ≡ access_effect source.now line.now }
+    ensures within { (tokens : List Item) (names : ℕ) → IfSome result (IsChange tokens names) }
 {
     let [access] = line else {
         return None;
@@ -128,7 +132,8 @@ fn access_effect(source: &[u8], line: &[Token]) -> Option<Effect>
 
 fn pragma_effect(source: &[u8], line: &[Token]) -> Option<Effect>
     requires { AreOrdered (length source.now) line.now }
-    ensures { (tokens : List Item) → option_map (effect_seen tokens) result ≡ pragma_effect source.now line.now }
+    ensures effect { (tokens : List Item) → option_map (effect_seen tokens) result ≡ pragma_effect source.now line.now }
+    ensures within { (tokens : List Item) (names : ℕ) → IfSome result (IsChange tokens names) }
 {
     match line {
         [] => None,
@@ -197,5 +202,61 @@ fn define_effect(
     match macro_name(source, name) {
         Some(number) => definition(source, tokens, macros[number], number, body),
         None => None,
+    }
+}
+
+/// The words that directives begin with.
+enum Keyword {
+    Include,
+    Define,
+    Undef,
+    Pragma,
+    Other,
+}
+
+fn first_word(source: &[u8], token: &Token) -> Keyword
+    requires forward { token.now.start ≤ token.now.end }
+    requires within { token.now.end ≤ length source.now }
+    ensures { IsKeyword source.now token.now result }
+{
+    let text = spelling(source, token);
+    if text == b"include".as_slice() {
+        Keyword::Include
+    } else if text == b"define".as_slice() {
+        Keyword::Define
+    } else if text == b"undef".as_slice() {
+        Keyword::Undef
+    } else if text == b"pragma".as_slice() {
+        Keyword::Pragma
+    } else {
+        Keyword::Other
+    }
+}
+
+/// What the directive does whose tokens behind the `#` are those from `begin` up to `end`: `None` if it is none.
+pub(crate) fn effect_of(
+    source: &[u8],
+    tokens: &[Token],
+    macros: &[Option<Body>],
+    begin: usize,
+    end: usize,
+) -> Option<Effect>
+    requires tokens { AreInOrder (length source.now) (length macros.now) tokens.now }
+    requires bodies { AreBodies tokens.now macros.now }
+    requires forward { begin ≤ end }
+    requires within { end ≤ length tokens.now }
+    ensures effect { option_map (effect_seen tokens.now) result ≡ effect_of source.now (seen tokens.now macros.now) (take (end - begin) (drop begin tokens.now)) }
+    ensures within { IfSome result (IsChange tokens.now (length macros.now)) }
+{
+    if begin == end {
+        return Some(Effect::Nothing);
+    }
+    let line = &tokens[begin + 1..end];
+    match first_word(source, &tokens[begin]) {
+        Keyword::Include => include_effect(source, line),
+        Keyword::Define => define_effect(source, tokens, macros, begin + 1, end),
+        Keyword::Undef => undefine_effect(source, line),
+        Keyword::Pragma => pragma_effect(source, line),
+        Keyword::Other => None,
     }
 }

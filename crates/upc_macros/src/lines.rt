@@ -1,9 +1,11 @@
 //! Lines, and what they become.
 ghost use Rattle.std.specs.Prelude.{◌≡◌, ◌<◌, ◌≤◌, ◌∷◌, Some, None, length, take, drop, slice_index_or, IfErr, OnOk};
-ghost use Rattle.upc_macros.specs.Expansion.{is_hash, text_items, lines_of, effect_items, macros_after};
-ghost use Rattle.upc_macros.specs.Directives.{effect_of};
+ghost use Rattle.upc_macros.specs.Expansion.{is_hash, text_items, lines_of, macros_after};
+ghost use Rattle.upc_macros.specs.Lines.{line_effect, line_items};
 ghost use Rattle.upc_macros.specs.Table.{seen, AreInOrder, AreBodies, Takes, StopsIn};
 
+use crate::directives::{Effect, effect_of};
+use crate::output::emit;
 use crate::table::Body;
 use crate::walk::replace;
 use std::alloc::Global;
@@ -42,4 +44,64 @@ fn text_line(
         replace(alloc, source, tokens, macros, token, expanded)?;
     }
     Ok(())
+}
+
+/// Does what the directive says whose `#` has the index `begin`, and whose tokens end before `end`.
+fn directive_line(
+    source: &[u8],
+    tokens: &[Token],
+    macros: &mut Vec<Option<Body>>,
+    begin: usize,
+    end: usize,
+    expanded: &mut Vec<Token>,
+) -> Result<(), Stop>
+    requires tokens { AreInOrder (length source.now) (length macros.old.items) tokens.now }
+    requires bodies { AreBodies tokens.now macros.old.items }
+    requires forward { begin < end }
+    requires within { end ≤ length tokens.now }
+    ensures length { OnOk result (length macros.new.items ≡ length macros.old.items) }
+    ensures bodies { OnOk result (AreBodies tokens.now macros.new.items) }
+    ensures macros { OnOk result (seen tokens.now macros.new.items ≡ macros_after (seen tokens.now macros.old.items) (line_effect source.now tokens.now macros.old.items begin end)) }
+    ensures ok { OnOk result (Takes expanded.old.items expanded.new.items (line_items source.now tokens.now macros.old.items begin end)) }
+    ensures err { IfErr result (StopsIn (length expanded.old.items) (line_items source.now tokens.now macros.old.items begin end)) }
+{
+    let hash = &tokens[begin];
+    let place = hash.place;
+    match effect_of(source, tokens, macros.as_slice(), begin + 1, end) {
+        None => Err(Stop::Refused(Refusal {
+            place,
+            code: Code::Directive,
+        })),
+        Some(Effect::Nothing) => Ok(()),
+        Some(Effect::Pragma(strict)) => {
+            let token = Token {
+                kind: TokenKind::Pragma(strict),
+                start: hash.start,
+                end: tokens[end - 1].end,
+                place,
+            };
+            emit(expanded, token)
+        }
+        Some(Effect::Define(number, body)) => {
+            macros[number] = Some(body);
+            Ok(())
+        }
+        Some(Effect::Undefine(number)) => {
+            macros[number] = None;
+            Ok(())
+        }
+    }
+}
+
+/// How many tokens of the first's line stand at the front.
+fn line_length(rest: &[Token]) -> usize
+    requires { 0 < length rest.now }
+    ensures some { 0 < result }
+    ensures within { result ≤ length rest.now }
+    ensures lines { lines_of rest.now ≡ take result rest.now ∷ lines_of (drop result rest.now) }
+{
+    let line = rest[0].place.line;
+    rest.iter()
+        .take_while(|token| token.place.line == line)
+        .count()
 }

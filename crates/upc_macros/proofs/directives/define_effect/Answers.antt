@@ -1,4 +1,4 @@
-use Rattle.std.proofs.Common.{◌≡◌, ◌<◌, Some, None, ◌∙◌, ap, sym, subst, length, get_or, arith}
+use Rattle.std.proofs.Common.{◌≡◌, ◌+◌, ◌<◌, Some, None, ◌∙◌, ap, sym, subst, length, get_or, arith}
 use Rattle.upc_lexer.specs.declared.token.Token.{Token}
 use Rattle.upc_macros.specs.Directives.{define_name}
 use Rattle.upc_macros.specs.Table.{seen, IsWithin, body_tokens}
@@ -27,7 +27,7 @@ returns-in-Some-clause-effect c =
     let below = macro_below c.args.source.now (length c.args.macros.now) c.index-tokens-begin.result c.in-Some.number (sym c.in-Some.ensures) here.numbered in
     let line = part_first c.args.tokens.now c.args.begin c.args.end c.index-tokens-begin.result lt c.requires.within c.index-tokens-begin.is in
     let old = found_at c.args.tokens.now c.args.macros.now c.in-Some.number (get_or c.args.macros.now c.in-Some.number None) (at_index c.args.macros.now c.in-Some.number below) in
-    c.definition.ensures.effect ∙ ap (λ o. define_name c.args.source.now o c.in-Some.number _) (sym old)
+    c.definition.ensures.effect ∙ ap (λ o. define_name c.args.source.now o c.in-Some.number (body_tokens c.args.tokens.now (record { begin = c.args.begin + 1; end = c.args.end }))) (sym old)
     ∙ sym (define_some c.args.source.now (seen c.args.tokens.now c.args.macros.now) _ c.index-tokens-begin.result _ c.in-Some.number line (sym c.if-has_parameters.ensures) (sym c.in-Some.ensures))
 
 pub returns-in-None-clause-effect : goal.returns-in-None-clause-effect
