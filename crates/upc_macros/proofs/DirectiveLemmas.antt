@@ -48,7 +48,7 @@ alike_no source (a ∷ xs) (b ∷ ys) zero x y lt le e f h = rw (← e, ← f, h
 alike_no source (a ∷ xs) (b ∷ ys) (suc i) x y lt le e f h = rw (alike_no source xs ys i x y (omega arith) (omega arith) e f h) (and_false (alike source a b))
 
 -- the last of some tokens
-last_is : (t : Token) (ts : List Token) (x : Token) → x ≡ get_or (t ∷ ts) (length ts) x → last_end t ts ≡ x.end
+pub last_is : (t : Token) (ts : List Token) (x : Token) → x ≡ get_or (t ∷ ts) (length ts) x → last_end t ts ≡ x.end
 last_is t [] x e = ap (λ (y : Token). y.end) (sym e)
 last_is t (u ∷ us) x e = last_is u us x e
 

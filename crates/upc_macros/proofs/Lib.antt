@@ -3,3 +3,5 @@ pub mod Refusals
 pub mod WalkLemmas
 pub mod TextLemmas
 pub mod DirectiveLemmas
+pub mod LineLemmas
+pub mod Order

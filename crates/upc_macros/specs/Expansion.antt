@@ -1,8 +1,10 @@
 -- The expansion of the tokens of a source, line by line.
-use Rattle.std.specs.Prelude.{ℕ, ◌+◌, nat_le, Bool, true, false, ◌==◌, List, [], ◌∷◌, ◌++◌, Option, Some, None, length, map, replicate, slice_set, if◌then◌else◌}
+use Rattle.std.specs.Prelude.{◌≡◌, ℕ, ◌+◌, nat_le, Bool, true, false, ◌==◌, List, [], ◌∷◌, ◌++◌, Option, Some, None, length, map, replicate, slice_set, if◌then◌else◌}
 use Rattle.upc_text.specs.declared.place.Place.{Place}
 use Rattle.upc_text.specs.declared.place.Refusal.{Refusal}
 use Rattle.upc_text.specs.declared.place.Code.TheVariants.{Directive, Profile, Limit}
+use Rattle.upc_text.specs.declared.faults.Stop.{Stop}
+use Rattle.upc_text.specs.declared.faults.Stop.TheVariants.{Refused, Memory}
 use Rattle.upc_lexer.specs.declared.token.Token.{Token}
 use Rattle.upc_lexer.specs.declared.token.TokenKind.{TokenKind}
 use Rattle.upc_lexer.specs.declared.token.TokenKind.TheVariants as kind
@@ -109,3 +111,13 @@ abbrev pub first_refusal : ℕ → List Item → Option Refusal
 first_refusal before [] = None
 first_refusal before (bad place ∷ rest) = Some (record { place = place; code = Directive })
 first_refusal before (given t ∷ rest) = or_first (token_refusal before t) (first_refusal (1 + before) rest)
+
+-- the tokens are the whole expansion, and none of them is refused
+pub record IsExpansion (source : List ℕ) (tokens : List Token) (names : ℕ) (out : List Token) : Type 0 where
+  pub items_are : expansion source tokens names ≡ map given out
+  pub passes : first_refusal 0 (expansion source tokens names) ≡ None
+
+-- the expansion is refused there, or there was no memory
+abbrev pub StopsExpansion : List ℕ → List Token → ℕ → Stop → Type 0
+StopsExpansion source tokens names (Refused refusal) = first_refusal 0 (expansion source tokens names) ≡ Some refusal
+StopsExpansion source tokens names Memory = Unit {0}

@@ -7,3 +7,5 @@ mod output;
 mod spelling;
 mod table;
 mod walk;
+
+pub use lines::expand;
