@@ -62,17 +62,19 @@ include_is source (t ∷ ts) first last le e f =
 -- tokens in order stay so in a part
 pub part_ordered : (limit names : ℕ) (ts : List Token) (a n : ℕ) → AreInOrder limit names ts → a + n ≤ length ts → AreInOrder limit names (take n (drop a ts))
 part_ordered limit names ts a n h le = record {
-    each = λ k d lt. subst (IsWithin limit names) (at k d lt) (h.each (a + k) d (inside k lt));
-    order = λ j k d le' lt.
+  each = λ k d lt. subst (IsWithin limit names) (at k d lt) (h.each (a + k) d (inside k lt));
+  order = λ j k d le' lt.
       let first : (get_or ts (a + j) d).start ≡ (get_or (take n (drop a ts)) j d).start = ap (λ (t : Token). t.start) (at j d (omega arith)) in
       let last : (get_or ts (a + k) d).end ≡ (get_or (take n (drop a ts)) k d).end = ap (λ (t : Token). t.end) (at k d lt) in
       omega (arith, first, last, h.order (a + j) (a + k) d (omega arith) (inside k lt));
-  }
+}
   where
     size : length (take n (drop a ts)) ≡ n
     size = omega (arith, length-take n (drop a ts), length-drop a ts)
+
     inside : (k : ℕ) → k < length (take n (drop a ts)) → a + k < length ts
     inside k lt = omega (arith, size)
+
     at : (k : ℕ) (d : Token) → k < length (take n (drop a ts)) → get_or ts (a + k) d ≡ get_or (take n (drop a ts)) k d
     at k d lt = let small : k < n = omega (arith, size) in sym (get_or-take n (drop a ts) k d small ∙ get_or-drop a ts k d)
 

@@ -29,9 +29,9 @@ use Rattle.upc_macros.proofs.DirectiveLemmas.{part_first, last_is}
 
 differ : (a b n : ℕ) → eqb b n ≡ false → n ≡ a → eqb a b ≡ false
 differ a b n h e = elim (eqb_tells a b) [
-    | inl t ↦ absurd (true_false (sym (eq-eqb b n (sym (e ∙ t.1))) ∙ h))
-    | inr t ↦ t.0
-  ]
+  | inl t ↦ absurd (true_false (sym (eq-eqb b n (sym (e ∙ t.1))) ∙ h))
+  | inr t ↦ t.0
+]
   where
     true_false : true ≡ false → ⊥
     true_false f = cc
@@ -131,20 +131,22 @@ hash_stopped_if (Err y) source tokens line table old begin end t e h lt f s = ha
 
 pub start : (source : List ℕ) (tokens : List Token) (names : ℕ) (table : List (Option Body)) → table ≡ replicate names None → IsExpandedTo source tokens names 0 table []
 start source tokens names table e = record {
-    its = [];
-    taken = record { tokens = []; new_is = refl; items_are = refl; passes = refl };
-    whole = ap (λ m. items source m (lines_of tokens)) (sym (ap (seen tokens) e ∙ none_seen names));
-    within = omega arith;
-    same_length = ap length e ∙ none_length names;
-    bodies = λ n b h. absurd (none_in names n b (ap (λ t. slice_get t n) (sym e) ∙ h));
-  }
+  its = [];
+  taken = record { tokens = []; new_is = refl; items_are = refl; passes = refl };
+  whole = ap (λ m. items source m (lines_of tokens)) (sym (ap (seen tokens) e ∙ none_seen names));
+  within = omega arith;
+  same_length = ap length e ∙ none_length names;
+  bodies = λ n b h. absurd (none_in names n b (ap (λ t. slice_get t n) (sym e) ∙ h));
+}
   where
     none_seen : (n : ℕ) → seen tokens (replicate n None) ≡ replicate n None
     none_seen zero = refl
     none_seen (suc n) = ap (λ l. None ∷ l) (none_seen n)
+
     none_length : (n : ℕ) → length (replicate {A = Option Body} n None) ≡ n
     none_length zero = refl
     none_length (suc n) = ap (λ n. suc n) (none_length n)
+
     none_in : (k n : ℕ) (b : Body) → slice_get (replicate {A = Option Body} k None) n ≡ Some (Some b) → ⊥
     none_in zero n b h = cc
     none_in (suc k) zero b h = cc

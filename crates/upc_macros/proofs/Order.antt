@@ -32,11 +32,12 @@ follows limit names front (gap text ∷ ps) h le =
     weaker limit (length names) (length front) (length (front ++ text)) (tokens_in (front ++ text) ps) (omega (arith, length-append front text))
     (follows limit names (front ++ text) ps h.1 (omega (arith, length-append front text, length-append text (joined ps))))
 follows limit names front (lexeme text kind ∷ ps) h le =
-    let size : length (front ++ text) ≡ length front + length text = length-append front text in
-    (omega arith,
-     record { forward = omega arith; within = omega (arith, length-append text (joined ps)); numbered = numbered names kind text h.0.1 },
-     weaker limit (length names) (length front + length text) (length (front ++ text)) (tokens_in (front ++ text) ps) (omega (arith, size))
-       (follows limit names (front ++ text) ps h.1 (omega (arith, size, length-append text (joined ps)))))
+    let size : length (front ++ text) ≡ length front + length text = length-append front text in (
+      omega arith,
+      record { forward = omega arith; within = omega (arith, length-append text (joined ps)); numbered = numbered names kind text h.0.1 },
+      weaker limit (length names) (length front + length text) (length (front ++ text)) (tokens_in (front ++ text) ps) (omega (arith, size))
+          (follows limit names (front ++ text) ps h.1 (omega (arith, size, length-append text (joined ps)))),
+    )
 
 each_of : (limit names from : ℕ) (ts : List Token) → Follows limit names from ts → (k : ℕ) (d : Token) → k < length ts → IsWithin limit names (get_or ts k d)
 each_of limit names from [] h k d lt = absurd (omega arith)

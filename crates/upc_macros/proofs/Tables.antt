@@ -74,18 +74,18 @@ back_count (Some c ∷ table) (suc n) b = omega (arith, back_count table n b)
 
 pub back_bodies : (tokens : List Token) (table : List (Option Body)) (n : ℕ) (b : Body) → AreBodies tokens table → IsBody tokens b → AreBodies tokens (set table n (Some b))
 back_bodies tokens table n b h g m c e = elim (get-set table n m (Some b) (Some c) e) [
-    | inl f ↦ h m c f
-    | inr f ↦ subst (IsBody tokens) (sym (some_is f)) g
-  ]
+  | inl f ↦ h m c f
+  | inr f ↦ subst (IsBody tokens) (sym (some_is f)) g
+]
   where
     some_is : Some c ≡ Some b → c ≡ b
     some_is e = cc
 
 pub taken_bodies : (tokens : List Token) (table : List (Option Body)) (n : ℕ) → AreBodies tokens table → AreBodies tokens (set table n None)
 taken_bodies tokens table n h m c e = elim (get-set table n m None (Some c) e) [
-    | inl f ↦ h m c f
-    | inr f ↦ absurd cc
-  ]
+  | inl f ↦ h m c f
+  | inr f ↦ absurd cc
+]
 
 pub count_within : (table : List (Option Body)) → macro_count table ≤ length table
 count_within [] = omega arith

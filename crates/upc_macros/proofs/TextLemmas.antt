@@ -59,14 +59,14 @@ one_item source macros t = append-nil (token_items source macros t)
 pub text_more : (source : List ℕ) (tokens : List Token) (table : List (Option Body)) (line : List Token) (i : ℕ) (t : Token) (old mid new : List Token) → i < length line → t ≡ get_or line i t → is_hash t.kind ≡ false → Takes old mid (text_items source (seen tokens table) (take i line)) → Takes mid new (placed_items t.place (replaced (length table) source (seen tokens table) t)) → Takes old new (text_items source (seen tokens table) (take (i + 1) line))
 text_more source tokens table line i t old mid new lt e h k l =
     let items : text_items source (seen tokens table) (take (i + 1) line) ≡ text_items source (seen tokens table) (take i line) ++ placed_items t.place (replaced (length table) source (seen tokens table) t) =
-        ap (text_items source (seen tokens table)) (front_more line i t lt e) ∙ text_items-append source (seen tokens table) (take i line) (t ∷ []) ∙ ap (λ l. text_items source (seen tokens table) (take i line) ++ l) (one_item source (seen tokens table) t ∙ no_hash_items source tokens table t h) in
+    ap (text_items source (seen tokens table)) (front_more line i t lt e) ∙ text_items-append source (seen tokens table) (take i line) (t ∷ []) ∙ ap (λ l. text_items source (seen tokens table) (take i line) ++ l) (one_item source (seen tokens table) t ∙ no_hash_items source tokens table t h) in
     subst (Takes old new) (sym items) (takes_append old mid new _ _ k l)
 
 -- a token that stops it
 stops_at : (source : List ℕ) (macros : Macros) (line : List Token) (i : ℕ) (t : Token) (old mid : List Token) (its : List Item) (stop : Stop) → i < length line → t ≡ get_or line i t → token_items source macros t ≡ its → Takes old mid (text_items source macros (take i line)) → StopsIn (length mid) its stop → StopsIn (length old) (text_items source macros line) stop
 stops_at source macros line i t old mid its stop lt e f k s =
     let items : text_items source macros line ≡ text_items source macros (take i line) ++ (its ++ text_items source macros (drop (suc i) line)) =
-        ap (text_items source macros) (split_at line i t lt e) ∙ text_items-append source macros (take i line) (t ∷ drop (suc i) line) ∙ ap (λ l. text_items source macros (take i line) ++ (l ++ text_items source macros (drop (suc i) line))) f in
+    ap (text_items source macros) (split_at line i t lt e) ∙ text_items-append source macros (take i line) (t ∷ drop (suc i) line) ∙ ap (λ l. text_items source macros (take i line) ++ (l ++ text_items source macros (drop (suc i) line))) f in
     subst (λ l. StopsIn (length old) l stop) (sym items) (stops_later old mid _ _ stop k (stops_before (length mid) its _ stop s))
 
 pub text_stops : (source : List ℕ) (tokens : List Token) (table : List (Option Body)) (line : List Token) (i : ℕ) (t : Token) (old mid : List Token) (stop : Stop) → i < length line → t ≡ get_or line i t → is_hash t.kind ≡ false → Takes old mid (text_items source (seen tokens table) (take i line)) → StopsIn (length mid) (placed_items t.place (replaced (length table) source (seen tokens table) t)) stop → StopsIn (length old) (text_items source (seen tokens table) line) stop

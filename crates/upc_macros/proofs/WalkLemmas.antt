@@ -108,15 +108,15 @@ steps_macro depth macros t n body k e = rw (e, k) refl
 pending_macro : (source : List ℕ) (tokens : List Token) (depth : ℕ) (table : List (Option Body)) (f : Frame) (fs : List Frame) (t : Token) (n : ℕ) (b : Body) → rest_of tokens f ≡ t ∷ rest_of tokens (next_frame f) → t.kind ≡ Name n → slice_get table n ≡ Some (Some b) → pending source tokens (suc depth) table (f ∷ fs) ≡ pending source tokens depth (set table n None) (entered n b ∷ next_frame f ∷ fs)
 pending_macro source tokens depth table f fs t n b r k e =
     let inner : replaced (suc depth) source (seen tokens table) t ≡ flat_map (replaced depth source (seen tokens (set table n None))) (body_tokens tokens b) =
-        replaced_macro depth source (seen tokens table) t n (body_tokens tokens b) k (names_some tokens table t n b k e)
-        ∙ ap (λ m. flat_map (replaced depth source m) (body_tokens tokens b)) (sym (seen-taken tokens table n)) in
+    replaced_macro depth source (seen tokens table) t n (body_tokens tokens b) k (names_some tokens table t n b k e)
+    ∙ ap (λ m. flat_map (replaced depth source m) (body_tokens tokens b)) (sym (seen-taken tokens table n)) in
     rw (set-back table n (Some b) None e, r, inner) (append_assoc (flat_map (replaced depth source (seen tokens (set table n None))) (body_tokens tokens b)) (flat_map (replaced (suc depth) source (seen tokens table)) (rest_of tokens (next_frame f))) (pending source tokens (suc (suc depth)) (put_back table f) fs))
 
 work_macro : (tokens : List Token) (depth : ℕ) (table : List (Option Body)) (f : Frame) (fs : List Frame) (t : Token) (n : ℕ) (b : Body) → rest_of tokens f ≡ t ∷ rest_of tokens (next_frame f) → t.kind ≡ Name n → slice_get table n ≡ Some (Some b) → work tokens depth (set table n None) (entered n b ∷ next_frame f ∷ fs) < work tokens (suc depth) table (f ∷ fs)
 work_macro tokens depth table f fs t n b r k e =
     let inner : steps (suc depth) (seen tokens table) t ≡ 2 + total (steps depth (seen tokens (set table n None))) (body_tokens tokens b) =
-        steps_macro depth (seen tokens table) t n (body_tokens tokens b) k (names_some tokens table t n b k e)
-        ∙ ap (λ m. 2 + total (steps depth m) (body_tokens tokens b)) (sym (seen-taken tokens table n)) in
+    steps_macro depth (seen tokens table) t n (body_tokens tokens b) k (names_some tokens table t n b k e)
+    ∙ ap (λ m. 2 + total (steps depth m) (body_tokens tokens b)) (sym (seen-taken tokens table n)) in
     rw (set-back table n (Some b) None e, r, inner) (omega arith)
 
 -- there is a macro less, so one may lie deeper

@@ -164,7 +164,11 @@ fn definition(
     match old {
         None => Some(Effect::Define(number, body)),
         Some(old) => {
-            if are_alike(source, &tokens[old.begin..old.end], &tokens[body.begin..body.end]) {
+            if are_alike(
+                source,
+                &tokens[old.begin..old.end],
+                &tokens[body.begin..body.end],
+            ) {
                 Some(Effect::Nothing)
             } else {
                 None

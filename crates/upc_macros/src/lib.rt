@@ -6,6 +6,8 @@ mod lines;
 mod output;
 mod spelling;
 mod table;
+#[cfg(test)]
+mod tests;
 mod walk;
 
 pub use lines::expand;

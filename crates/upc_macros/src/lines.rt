@@ -154,15 +154,7 @@ pub fn expand(alloc: Global, source: &[u8], lexed: &Lexed) -> Result<Vec<Token>,
     let mut at = 0;
     while at < tokens.len() {
         let end = at + line_length(&tokens[at..]);
-        expand_line(
-            alloc,
-            source,
-            tokens,
-            &mut macros,
-            at,
-            end,
-            &mut expanded,
-        )?;
+        expand_line(alloc, source, tokens, &mut macros, at, end, &mut expanded)?;
         at = end;
     }
     Ok(expanded)

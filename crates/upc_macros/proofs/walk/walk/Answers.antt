@@ -23,7 +23,7 @@ loop-frame-preserved-in-Some c =
     let w = c.loop-frame.invariant.walk in
     let stack = reverse-push c.loop-frame.stack.items c.push.new.self.items (next_frame c.loop-frame.frame) c.in_ok-push-in-Some.ensures.items in
     let within : c.in-Some.name < length c.loop-frame.macros.items =
-        subst (λ n. c.in-Some.name < n) (sym c.loop-frame.invariant.same) (name_within (length c.args.macros.now.items) c.in-Some.name c.index-tokens-frame.result.kind c.in-Some.ensures.kind (subst (λ t. IsNumbered (length c.args.macros.now.items) t.kind) (sym c.index-tokens-frame.is) (c.requires.tokens.each c.loop-frame.frame.next c.index-tokens-frame.result (omega (arith, w.frames_are.0.body.within))).numbered)) in
+    subst (λ n. c.in-Some.name < n) (sym c.loop-frame.invariant.same) (name_within (length c.args.macros.now.items) c.in-Some.name c.index-tokens-frame.result.kind c.in-Some.ensures.kind (subst (λ t. IsNumbered (length c.args.macros.now.items) t.kind) (sym c.index-tokens-frame.is) (c.requires.tokens.each c.loop-frame.frame.next c.index-tokens-frame.result (omega (arith, w.frames_are.0.body.within))).numbered)) in
     record {
       same = ap length c.in-Some.ensures.taken ∙ length-set c.loop-frame.macros.items c.in-Some.name None ∙ c.loop-frame.invariant.same;
       walk = rw (c.in-Some.ensures.taken, stack) (step_enter c.args.source.now c.args.tokens.now c.args.place c.args.expanded.now.items _ _ c.loop-frame.macros.items c.loop-frame.frame (reverse c.loop-frame.stack.items) c.loop-frame.expanded.items c.index-tokens-frame.result c.in-Some.name c.in-Some.body w c.if-frame.true c.index-tokens-frame.is c.in-Some.ensures.kind within c.in-Some.ensures.body);
