@@ -1,5 +1,5 @@
 -- What directives do.
-use Rattle.std.proofs.Common.{◌≡◌, ℕ, ◌+◌, ◌-◌, ◌<◌, ◌≤◌, zero, suc, Bool, true, false, cond, not, ◌&&◌, List, [], ◌∷◌, ◌++◌, length, map, get_or, take, drop, add-one, length-take, length-drop, Option, Some, None, refl, sym, ap, ◌∙◌, subst, arith}
+use Rattle.std.proofs.Common.{◌≡◌, ℕ, ◌+◌, ◌-◌, ◌<◌, ◌≤◌, zero, suc, Bool, true, false, cond, not, ◌&&◌, List, [], ◌∷◌, length, get_or, take, drop, add-one, length-take, length-drop, Option, Some, None, refl, sym, ap, ◌∙◌, subst, arith}
 use Rattle.std.specs.Prelude.{nat_eq, codes}
 use Rattle.std.specs.List.{slice_get, slice_index_or}
 use Rattle.std.proofs.lemmas.Option.{slice_get-get_or}
@@ -13,7 +13,7 @@ use Rattle.upc_lexer.specs.declared.token.Token.{Token}
 use Rattle.upc_macros.specs.Spelling.{between, spelling, is_spelled, are_alike, last_end}
 use Rattle.std.proofs.lemmas.List.{get_or-take, get_or-drop, take_all}
 use Rattle.upc_macros.specs.Table.{IsNumbered, IsWithin, AreInOrder}
-use Rattle.upc_macros.specs.Directives.{Effect, header_effect, include_effect, macro_name, has_parameters, define_name, define_effect, undefine_effect, access_effect, pragma_effect, effect_of}
+use Rattle.upc_macros.specs.Directives.{header_effect, include_effect, macro_name, has_parameters, define_name, define_effect, undefine_effect, access_effect, pragma_effect, effect_of}
 
 and_left : (a b : Bool) → (a && b) ≡ true → a ≡ true
 and_left true b h = refl

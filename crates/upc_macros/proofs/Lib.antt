@@ -5,3 +5,4 @@ pub mod TextLemmas
 pub mod DirectiveLemmas
 pub mod LineLemmas
 pub mod Order
+pub mod DepthLemmas

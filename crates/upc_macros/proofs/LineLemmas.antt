@@ -1,23 +1,22 @@
 -- Lines, and what they become.
-use Rattle.std.proofs.Common.{◌≡◌, ℕ, ◌+◌, ◌-◌, ◌<◌, ◌≤◌, zero, suc, Bool, true, false, cond, eqb, List, [], ◌∷◌, ◌++◌, length, map, get_or, take, drop, set, append-nil, append_assoc, add-one, length-append, length-take, length-drop, Option, Some, None, Result, Ok, Err, OnOk, IfErr, refl, sym, ap, ◌∙◌, subst, inl, inr, arith}
+use Rattle.std.proofs.Common.{◌≡◌, ℕ, ◌+◌, ◌-◌, ◌<◌, ◌≤◌, zero, suc, Bool, true, false, cond, eqb, List, [], ◌∷◌, ◌++◌, length, map, get_or, take, drop, set, append-nil, append_assoc, length-take, length-drop, Option, Some, None, Result, Ok, Err, OnOk, IfErr, refl, sym, ap, ◌∙◌, subst, inl, inr, arith}
 use Rattle.std.specs.Prelude.{replicate}
 use Rattle.std.specs.List.{slice_get, prefix_len}
 use Rattle.std.specs.Option.{option_map}
 use Rattle.std.proofs.Math.Seq.{drop-cons}
 use Rattle.std.proofs.lemmas.Bool.Decides.{eqb_tells}
 use Rattle.std.proofs.lemmas.Bool.{eqb-true, eq-eqb}
-use Rattle.std.proofs.lemmas.List.{take_all, drop_all, drop-drop, get_or-take, get_or-drop}
+use Rattle.std.proofs.lemmas.List.{drop_all, drop-drop, get_or-take, get_or-drop}
 use Rattle.upc_text.specs.declared.faults.Stop.{Stop}
 use Rattle.upc_text.specs.declared.faults.Stop.TheVariants.{Refused, Memory}
 use Rattle.upc_lexer.specs.declared.token.Token.{Token}
-use Rattle.upc_lexer.specs.declared.token.TokenKind.{TokenKind}
 use Rattle.upc_lexer.specs.declared.token.TokenKind.TheVariants.{Pragma}
 use Rattle.upc_macros.specs.declared.table.Body.{Body}
 use Rattle.upc_macros.specs.Spelling.{last_end}
 use Rattle.upc_macros.specs.Replacing.{Macros}
-use Rattle.upc_macros.specs.Directives.{Effect, pragma, define, undefine, effect_of}
-use Rattle.upc_macros.specs.Expansion.{Item, given, bad, is_hash, onto, lines_of, text_items, effect_items, macros_after, items, expansion, pragma_token, first_refusal, IsExpansion, StopsExpansion}
-use Rattle.upc_macros.specs.Table.{seen, body_tokens, IsBody, AreBodies, Takes, StopsIn}
+use Rattle.upc_macros.specs.Directives.{pragma, define, undefine, effect_of}
+use Rattle.upc_macros.specs.Expansion.{given, is_hash, onto, lines_of, text_items, effect_items, macros_after, items, expansion, first_refusal, IsExpansion, StopsExpansion}
+use Rattle.upc_macros.specs.Table.{seen, body_tokens, AreBodies, Takes, StopsIn}
 use Rattle.upc_macros.specs.declared.directives.Effect.{Effect as Change}
 use Rattle.upc_macros.specs.Effects.{effect_seen}
 use Rattle.upc_macros.specs.Lines.{behind_hash, line_effect, hash_items, line_items, LineDone, LineStops, IsExpandedTo}

@@ -1,14 +1,13 @@
 -- The table of macros.
-use Rattle.std.proofs.Common.{◌≡◌, ℕ, ◌+◌, ◌-◌, ◌<◌, ◌≤◌, zero, suc, Bool, true, false, cond, List, [], ◌∷◌, ◌++◌, length, map, get_or, take, drop, set, Option, Some, None, refl, sym, ap, ◌∙◌, subst, ◌⊎◌, inl, inr, arith}
-use Rattle.std.specs.Prelude.{count_by, is_some}
-use Rattle.std.specs.Option.{option_map, option_and_then}
+use Rattle.std.proofs.Common.{◌≡◌, ℕ, ◌+◌, ◌≤◌, zero, suc, List, [], ◌∷◌, length, map, set, Option, Some, None, refl, sym, ap, subst, ◌⊎◌, inl, inr, arith}
+use Rattle.std.specs.Option.{option_map}
 use Rattle.std.specs.List.{slice_get, slice_index_or}
 use Rattle.upc_lexer.specs.declared.token.Token.{Token}
 use Rattle.upc_lexer.specs.declared.token.TokenKind.{TokenKind}
 use Rattle.upc_lexer.specs.declared.token.TokenKind.TheVariants.{Name, Word, Number, Character, Str, Punct, Pragma}
 use Rattle.upc_macros.specs.declared.table.Body.{Body}
-use Rattle.upc_macros.specs.Replacing.{Macros, name_number, body_of, without}
-use Rattle.upc_macros.specs.Table.{IsNumbered, body_tokens, seen, IsBody, AreBodies, macro_count, NamesNoMacro}
+use Rattle.upc_macros.specs.Replacing.{body_of, without}
+use Rattle.upc_macros.specs.Table.{body_tokens, seen, IsBody, AreBodies, macro_count, NamesNoMacro}
 
 pub map-set : {A B : Type 0} (f : A → B) (xs : List A) (n : ℕ) (x : A) → map f (set xs n x) ≡ set (map f xs) n (f x)
 map-set f [] n x = refl

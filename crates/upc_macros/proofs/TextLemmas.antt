@@ -1,20 +1,17 @@
 -- What tokens and lines of text become.
-use Rattle.std.proofs.Common.{◌≡◌, ℕ, ◌+◌, ◌-◌, ◌<◌, ◌≤◌, zero, suc, Bool, true, false, cond, List, [], ◌∷◌, ◌++◌, length, map, get_or, take, drop, set, append-nil, append_assoc, add-one, length-append, Option, Some, None, refl, sym, ap, ◌∙◌, subst, arith}
-use Rattle.std.specs.Prelude.{flat_map}
+use Rattle.std.proofs.Common.{◌≡◌, ℕ, ◌+◌, ◌-◌, ◌<◌, ◌≤◌, suc, true, false, List, [], ◌∷◌, ◌++◌, length, get_or, take, drop, set, append-nil, append_assoc, add-one, Option, Some, None, refl, sym, ap, ◌∙◌, subst, arith}
 use Rattle.std.specs.List.{slice_get}
 use Rattle.std.proofs.Math.Seq.{drop-cons, take-suc}
 use Rattle.std.proofs.Math.ListN.{length-set}
 use Rattle.std.proofs.lemmas.List.{length-map, take-append-drop, take_all}
-use Rattle.upc_text.specs.declared.place.Place.{Place}
 use Rattle.upc_text.specs.declared.place.Code.TheVariants.{Directive}
 use Rattle.upc_text.specs.declared.faults.Stop.{Stop}
-use Rattle.upc_text.specs.declared.faults.Stop.TheVariants.{Refused, Memory}
+use Rattle.upc_text.specs.declared.faults.Stop.TheVariants.{Refused}
 use Rattle.upc_lexer.specs.declared.token.Token.{Token}
-use Rattle.upc_lexer.specs.declared.token.TokenKind.{TokenKind}
-use Rattle.upc_lexer.specs.declared.token.TokenKind.TheVariants.{Name, Word, Number, Character, Str, Punct, Pragma}
+use Rattle.upc_lexer.specs.declared.token.TokenKind.TheVariants.{Name}
 use Rattle.upc_macros.specs.declared.table.Body.{Body}
-use Rattle.upc_macros.specs.Replacing.{Macros, plain, replaced, placed}
-use Rattle.upc_macros.specs.Expansion.{Item, given, bad, is_hash, token_items, text_items, first_refusal}
+use Rattle.upc_macros.specs.Replacing.{Macros, plain, replaced}
+use Rattle.upc_macros.specs.Expansion.{Item, bad, is_hash, token_items, text_items, first_refusal}
 use Rattle.upc_macros.specs.Table.{seen, NamesNoMacro, macro_count, Takes, StopsIn}
 use Rattle.upc_macros.specs.Walk.{placed_items, pending}
 use Rattle.upc_macros.proofs.Tables.{names_none, names_some, seen-taken, taken_count, count_within}

@@ -1,11 +1,10 @@
 -- Directives (C99 6.10, without conditions and macros with parameters; UPC 6.1.1, 7.1).
-use Rattle.std.specs.Prelude.{◌≡◌, ℕ, Bool, true, false, ◌||◌, ◌&&◌, ◌==◌, not, List, [], ◌∷◌, Option, Some, None, option_map, slice_index_or, codes, if◌then◌else◌, nat_eq}
+use Rattle.std.specs.Prelude.{ℕ, Bool, true, false, ◌||◌, ◌&&◌, ◌==◌, List, [], ◌∷◌, Option, Some, None, option_map, slice_index_or, codes, if◌then◌else◌, nat_eq}
 use Rattle.std.specs.Cmp.Lexicographic.{pointwise}
 use Rattle.upc_lexer.specs.declared.token.Token.{Token}
 use Rattle.upc_lexer.specs.declared.token.TokenKind.{TokenKind}
-use Rattle.upc_lexer.specs.declared.token.TokenKind.TheVariants.{Name, Word, Number, Character, Str, Punct, Pragma}
-use Rattle.upc_lexer.specs.declared.token.Punct.{Punct as Mark}
-use Rattle.upc_lexer.specs.declared.token.Punct.TheVariants.{LParen, Hash}
+use Rattle.upc_lexer.specs.declared.token.TokenKind.TheVariants.{Punct}
+use Rattle.upc_lexer.specs.declared.token.Punct.TheVariants.{LParen}
 use Rattle.upc_macros.specs.Spelling.{between, is_spelled, are_alike, last_end}
 use Rattle.upc_macros.specs.Replacing.{Macros, name_number}
 

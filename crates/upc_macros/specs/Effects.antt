@@ -1,7 +1,6 @@
 -- What the code says that a directive does.
-use Rattle.std.specs.Prelude.{◌≡◌, ℕ, ◌<◌, Bool, true, false, codes, List, Option, Some, None, length}
+use Rattle.std.specs.Prelude.{◌≡◌, ℕ, ◌<◌, true, false, codes, List}
 use Rattle.upc_lexer.specs.declared.token.Token.{Token}
-use Rattle.upc_macros.specs.declared.table.Body.{Body}
 use Rattle.upc_macros.specs.declared.directives.Effect.{Effect as Change}
 use Rattle.upc_macros.specs.declared.directives.Effect.TheVariants.{Nothing, Pragma, Define, Undefine}
 use Rattle.upc_macros.specs.declared.directives.Keyword.{Keyword}

@@ -13,7 +13,7 @@ use Rattle.upc_lexer.specs.declared.token.Word.TheVariants.{Auto, Double, Enum, 
 use Rattle.upc_lexer.specs.declared.token.Punct.TheVariants.{Hash}
 use Rattle.upc_macros.specs.Spelling.{last_end}
 use Rattle.upc_macros.specs.Replacing.{Macros, replaced, placed}
-use Rattle.upc_macros.specs.Directives.{Effect, nothing, pragma, define, undefine, effect_of}
+use Rattle.upc_macros.specs.Directives.{Effect, pragma, define, undefine, effect_of}
 
 -- a token put before lines: into the first if it is of that line, else a line of its own
 abbrev pub onto : Token → List (List Token) → List (List Token)

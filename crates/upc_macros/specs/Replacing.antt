@@ -2,7 +2,7 @@
 use Rattle.std.specs.Prelude.{ℕ, zero, suc, List, [], ◌∷◌, Option, Some, None, option_and_then, slice_index_or, slice_set, flat_map, codes, if◌then◌else◌}
 use Rattle.upc_lexer.specs.declared.token.Token.{Token}
 use Rattle.upc_lexer.specs.declared.token.TokenKind.{TokenKind}
-use Rattle.upc_lexer.specs.declared.token.TokenKind.TheVariants.{Name, Word, Number, Character, Str, Punct, Pragma}
+use Rattle.upc_lexer.specs.declared.token.TokenKind.TheVariants.{Name, Number}
 use Rattle.upc_lexer.specs.declared.token.NumberKind.TheVariants.{Int}
 use Rattle.upc_text.specs.declared.place.Place.{Place}
 use Rattle.upc_macros.specs.Spelling.{is_spelled}
@@ -40,3 +40,9 @@ replaced (suc depth) source macros t = or_replaced (body_of macros t) (plain sou
 -- the place of a token that comes from a macro is that of the macro's use
 abbrev pub placed : Place → Token → Token
 placed place t = record t { place = place }
+
+-- how many names are macros
+abbrev pub defined_count : Macros → ℕ
+defined_count [] = 0
+defined_count (None ∷ macros) = defined_count macros
+defined_count (Some body ∷ macros) = suc (defined_count macros)

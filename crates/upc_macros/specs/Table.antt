@@ -1,7 +1,5 @@
 -- The table of macros in the code: where their tokens stand among the source's.
-use Rattle.std.specs.Prelude.{◌≡◌, ℕ, suc, ◌-◌, ◌+◌, ◌<◌, ◌≤◌, List, [], ◌∷◌, ◌++◌, Option, Some, None, option_map, map, length, take, drop, slice_get, slice_index_or, flat_map}
-use Rattle.upc_text.specs.declared.place.Place.{Place}
-use Rattle.upc_text.specs.declared.place.Refusal.{Refusal}
+use Rattle.std.specs.Prelude.{◌≡◌, ℕ, suc, ◌-◌, ◌<◌, ◌≤◌, List, [], ◌∷◌, ◌++◌, Option, Some, None, option_map, map, length, take, drop, slice_get, slice_index_or}
 use Rattle.upc_text.specs.declared.faults.Stop.{Stop}
 use Rattle.upc_text.specs.declared.faults.Stop.TheVariants.{Refused, Memory}
 use Rattle.upc_lexer.specs.declared.token.Token.{Token}

@@ -1,10 +1,10 @@
 -- What is still to be put out while macros lie in one another.
-use Rattle.std.specs.Prelude.{◌≡◌, ℕ, suc, ◌-◌, ◌+◌, ◌<◌, ◌≤◌, List, [], ◌∷◌, ◌++◌, Option, Some, None, map, length, take, drop, slice_get, slice_set, flat_map, sum_by, reverse}
+use Rattle.std.specs.Prelude.{◌≡◌, ℕ, suc, ◌-◌, ◌+◌, ◌<◌, ◌≤◌, List, [], ◌∷◌, ◌++◌, Option, Some, None, map, length, take, drop, slice_set, flat_map}
 use Rattle.upc_text.specs.declared.place.Place.{Place}
 use Rattle.upc_lexer.specs.declared.token.Token.{Token}
 use Rattle.upc_macros.specs.declared.table.Body.{Body}
 use Rattle.upc_macros.specs.declared.walk.Frame.{Frame}
-use Rattle.upc_macros.specs.Replacing.{Macros, placed, replaced}
+use Rattle.upc_macros.specs.Replacing.{placed, replaced}
 use Rattle.upc_macros.specs.Expansion.{Item, given, first_refusal}
 use Rattle.upc_macros.specs.Table.{seen, IsBody, AreBodies, macro_count}
 

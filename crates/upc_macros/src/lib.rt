@@ -10,4 +10,4 @@ mod table;
 mod tests;
 mod walk;
 
-pub use lines::expand;
+pub use lines::{depth_is_enough, expand};

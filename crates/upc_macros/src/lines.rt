@@ -1,8 +1,10 @@
 //! Lines, and what they become.
-ghost use Rattle.std.specs.Prelude.{◌≡◌, ◌+◌, ◌-◌, ◌<◌, ◌≤◌, ◌∷◌, ◌==◌, length, take, drop, IfOk, IfErr, OnOk};
+ghost use Rattle.std.specs.Prelude.{◌≡◌, ◌+◌, ◌-◌, ◌<◌, ◌≤◌, ◌∷◌, ◌==◌, ℕ, List, length, take, drop, IfOk, IfErr, OnOk};
 ghost use Rattle.std.specs.List.{prefix_len};
 ghost use Rattle.upc_macros.specs.Expansion.{is_hash, text_items, lines_of, macros_after, IsExpansion, StopsExpansion};
 ghost use Rattle.upc_lexer.specs.Tokens.{AreTokensOf};
+ghost use Rattle.upc_lexer.specs.declared.token.Token.{Token as Item};
+ghost use Rattle.upc_macros.specs.Replacing.{Macros, replaced};
 ghost use Rattle.upc_macros.specs.Lines.{line_effect, line_items, LineDone, LineStops};
 ghost use Rattle.upc_macros.specs.Table.{seen, AreInOrder, AreBodies, Takes, StopsIn};
 
@@ -159,3 +161,8 @@ pub fn expand(alloc: Global, source: &[u8], lexed: &Lexed) -> Result<Vec<Token>,
     }
     Ok(expanded)
 }
+
+/// The bound on how deep macros lie in one another bounds nothing: more depth than there are names changes no token.
+pub fn depth_is_enough()
+    ensures { (depth : ℕ) (source : List ℕ) (macros : Macros) (t : Item) → length macros ≤ depth → replaced depth source macros t ≡ replaced (length macros) source macros t }
+{}

@@ -1,5 +1,4 @@
-use Rattle.std.proofs.Common.{◌≡◌, ◌+◌, ◌<◌, Some, None, ◌∙◌, ap, sym, subst, length, get_or, arith}
-use Rattle.upc_lexer.specs.declared.token.Token.{Token}
+use Rattle.std.proofs.Common.{◌+◌, ◌<◌, Some, None, ◌∙◌, ap, sym, subst, length, get_or, arith}
 use Rattle.upc_macros.specs.Directives.{define_name}
 use Rattle.upc_macros.specs.Table.{seen, IsWithin, body_tokens}
 use Rattle.upc_macros.proofs.Tables.{found_at}

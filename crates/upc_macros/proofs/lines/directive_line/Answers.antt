@@ -1,4 +1,4 @@
-use Rattle.std.proofs.Common.{◌≡◌, Some, OnOk, List, [], sym, ap, ◌∙◌, subst}
+use Rattle.std.proofs.Common.{OnOk, List, subst}
 use Rattle.upc_macros.specs.declared.directives.Effect.TheVariants.{Pragma, Define, Undefine}
 use Rattle.upc_macros.specs.Effects.{IsChange}
 use Rattle.upc_macros.specs.Expansion.{Item}

@@ -1,14 +1,13 @@
 use Rattle.std.specs.Prelude.{replicate}
 use Rattle.upc_macros.specs.declared.table.Body.{Body}
-use Rattle.std.proofs.Common.{Option, None, rules, ◌≡◌, ◌+◌, ◌-◌, ◌<◌, ◌≤◌, ℕ, List, ◌∷◌, ◌∙◌, refl, sym, ap, subst, length, take, drop, arith}
+use Rattle.std.proofs.Common.{Option, None, rules, ◌≡◌, ◌+◌, ◌-◌, ◌≤◌, ℕ, List, ◌∷◌, ◌∙◌, ap, subst, length, take, drop, arith}
 use Rattle.std.proofs.lemmas.Result.{err_from_is_err_and}
 use Rattle.upc_lexer.specs.declared.token.Token.{Token}
 use Rattle.upc_macros.specs.Expansion.{lines_of, StopsExpansion}
-use Rattle.upc_macros.specs.Table.{AreInOrder}
-use Rattle.upc_macros.specs.Lines.{IsExpandedTo, LineDone, LineStops}
+use Rattle.upc_macros.specs.Lines.{LineDone, LineStops}
 use Rattle.upc_macros.proofs.Order.{tokens_in_order}
 use Rattle.upc_macros.proofs.DirectiveLemmas.{rest_is}
-use Rattle.upc_macros.proofs.LineLemmas.{start, line_more, line_refused, finish}
+use Rattle.upc_macros.proofs.LineLemmas.{start, line_more, line_refused}
 use Rattle.upc_macros.proofs.lines.expand.Goals as goal
 
 pub loop-at-init : goal.loop-at-init

@@ -1,4 +1,4 @@
-use Rattle.std.proofs.Common.{◌≡◌, ◌<◌, ◌∙◌, sym, ap, length, arith}
+use Rattle.std.proofs.Common.{◌<◌, ◌∙◌, sym, ap, length, arith}
 use Rattle.upc_lexer.specs.declared.token.Token.{Token}
 use Rattle.upc_macros.specs.Expansion.{is_hash}
 use Rattle.upc_macros.proofs.DirectiveLemmas.{part_first}

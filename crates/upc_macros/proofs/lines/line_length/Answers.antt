@@ -1,4 +1,4 @@
-use Rattle.std.proofs.Common.{◌≡◌, ℕ, eqb, ◌∙◌, sym, ap, subst, ◌≤◌, length}
+use Rattle.std.proofs.Common.{eqb, ◌∙◌, sym, ap}
 use Rattle.std.specs.List.{prefix_len}
 use Rattle.std.proofs.lemmas.List.Sums.{prefix_len-le-length}
 use Rattle.upc_lexer.specs.declared.token.Token.{Token}

@@ -1,10 +1,9 @@
-use Rattle.std.proofs.Common.{◌≡◌, true, false, List, [], ◌∷◌, Some, None, length, take, sym, ap, ◌∙◌, subst, refl}
+use Rattle.std.proofs.Common.{length, sym, ◌∙◌, subst}
 use Rattle.std.proofs.lemmas.Result.{err_from_is_err_and}
-use Rattle.upc_macros.specs.Expansion.{is_hash, text_items}
 use Rattle.upc_macros.specs.Replacing.{replaced}
 use Rattle.upc_macros.specs.Table.{seen, Takes, StopsIn}
 use Rattle.upc_macros.specs.Walk.{placed_items}
-use Rattle.upc_macros.proofs.TextLemmas.{text_more, text_stops, text_hash, text_all}
+use Rattle.upc_macros.proofs.TextLemmas.{text_more, text_stops, text_hash}
 use Rattle.upc_macros.proofs.lines.text_line.Goals as goal
 
 pub returns-then-is_hash-clause-err : goal.returns-then-is_hash-clause-err

@@ -1,9 +1,7 @@
-use Rattle.std.proofs.Common.{◌≡◌, ◌-◌, List, [], ◌∷◌, Some, None, OnOk, IfErr, length, sym, ap, ◌∙◌, subst, refl}
+use Rattle.std.proofs.Common.{[], ◌∷◌, Some, None, OnOk, IfErr, length, ◌∙◌, subst}
 use Rattle.std.proofs.lemmas.Result.{on_ok_weaker}
-use Rattle.upc_lexer.specs.declared.token.Token.{Token}
-use Rattle.upc_macros.specs.Replacing.{plain, placed, replaced}
 use Rattle.upc_macros.specs.Expansion.{given}
-use Rattle.upc_macros.specs.Table.{seen, Takes, StopsIn}
+use Rattle.upc_macros.specs.Table.{Takes, StopsIn}
 use Rattle.upc_macros.specs.Walk.{placed_items}
 use Rattle.upc_macros.proofs.Tables.{set-back}
 use Rattle.upc_macros.proofs.TextLemmas.{whole_macro, whole_plain, some_left}

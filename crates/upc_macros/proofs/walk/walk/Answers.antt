@@ -1,15 +1,12 @@
-use Rattle.std.proofs.Common.{◌≡◌, ◌+◌, ◌-◌, ◌<◌, ◌≤◌, ℕ, suc, List, [], ◌∷◌, ◌++◌, length, set, get_or, take, append-nil, Some, None, sym, ap, ◌∙◌, subst, arith}
+use Rattle.std.proofs.Common.{◌≡◌, ◌-◌, ◌<◌, suc, [], ◌∷◌, length, take, append-nil, Some, None, sym, ap, ◌∙◌, subst, arith}
 use Rattle.std.proofs.Math.ListN.{length-set}
 use Rattle.std.specs.Prelude.{reverse}
 use Rattle.std.proofs.lemmas.Result.{err_from_is_err_and}
-use Rattle.upc_lexer.specs.declared.token.Token.{Token}
-use Rattle.upc_macros.specs.declared.table.Body.{Body}
-use Rattle.upc_macros.specs.declared.walk.Frame.{Frame}
 use Rattle.upc_macros.specs.Replacing.{placed, plain}
 use Rattle.upc_macros.specs.Expansion.{given}
-use Rattle.upc_macros.specs.Table.{IsNumbered, NamesNoMacro, Takes, StopsIn}
+use Rattle.upc_macros.specs.Table.{IsNumbered, Takes, StopsIn}
 use Rattle.upc_macros.specs.Walk.{pending, put_back, IsWalk}
-use Rattle.upc_macros.proofs.WalkLemmas.{work, next_frame, entered, step_plain, work_plain, step_enter, work_enter, step_leave, work_leave, finish, stop_plain, reverse-push, name_within}
+use Rattle.upc_macros.proofs.WalkLemmas.{next_frame, step_plain, work_plain, step_enter, work_enter, step_leave, finish, stop_plain, reverse-push, name_within}
 use Rattle.upc_macros.proofs.walk.walk.Goals as goal
 
 pub loop-frame-smaller-in-Some : goal.loop-frame-smaller-in-Some
