@@ -1,13 +1,8 @@
 -- Pieces that follow one another.
-use Rattle.std.proofs.Common.{◌≡◌, ℕ, ◌+◌, ◌-◌, ◌<◌, ◌≤◌, Option, None, Some, List, [], ◌++◌, length, take, drop, refl, subst, sym, ◌∙◌, ap, append_assoc, arith}
+use Rattle.std.proofs.Common.{◌≡◌, ℕ, ◌+◌, ◌-◌, ◌≤◌, Option, None, Some, List, ◌++◌, length, take, drop, refl, subst, sym, ◌∙◌, ap, append_assoc, arith}
 use Rattle.std.proofs.Math.Seq.{take-add}
-use Rattle.std.proofs.lemmas.List.{take_all, length-take, append-nil, length-append, length-drop}
-use Rattle.upc_text.specs.Outside.{StandsAt, EndsBy, IsWhole, IsLonger, taken_with}
-
--- to take nothing changes nothing
-pub taken_with-nil : (told : Option (List ℕ)) → taken_with told [] ≡ told
-taken_with-nil None = refl
-taken_with-nil (Some bytes) = ap (λ b. Some b) (append-nil bytes)
+use Rattle.std.proofs.lemmas.List.{take_all, length-append, length-drop}
+use Rattle.upc_text.specs.Outside.{StandsAt, taken_with}
 
 -- two pieces, one after the other, are one
 pub taken_with-twice :
@@ -32,20 +27,6 @@ StandsAt-more (Some bytes) xs piece front behind =
     ∙ ap (λ p. take (length xs) bytes ++ p) behind
     ∙ sym (take-add (length xs) (length piece) bytes)
     ∙ ap (λ n. take n bytes) (sym (length-append xs piece))
-
--- the first bytes up to the end are all
-pub IsWhole-at_end :
-    (told : Option (List ℕ)) (xs : List ℕ) → StandsAt told 0 xs → EndsBy told (length xs) → IsWhole told xs
-IsWhole-at_end None xs front ends = ends
-IsWhole-at_end (Some bytes) xs front ends = front ∙ take_all (length xs) bytes ends
-
--- where there are first bytes, there are as many
-pub IsLonger-front :
-    (told : Option (List ℕ)) (xs : List ℕ) (most : ℕ) → StandsAt told 0 xs → most < length xs →
-    IsLonger told most
-IsLonger-front None xs most front h = tt
-IsLonger-front (Some bytes) xs most front h =
-    omega (arith, ap length front, length-take (length xs) bytes)
 
 -- a slice from a place on is what stands behind that place
 pub rest_from : (bytes : List ℕ) (done : ℕ) → take (length bytes - done) (drop done bytes) ≡ drop done bytes

@@ -66,11 +66,12 @@ impl Model for MemFiles {
     ghost Value = { Files };
 
     ghost view = { λ s. record {
-        held = s.files.items;
-        fails = s.failing.items;
-        most = s.at_most;
-        calls = s.count;
-        faults = s.fault_count } };
+      held = s.files.items;
+      fails = s.failing.items;
+      most = s.at_most;
+      calls = s.count;
+      faults = s.fault_count;
+    } };
 
     ghost invariant = { λ s. 0 < s.at_most };
 }
@@ -81,7 +82,12 @@ impl MemFiles {
     pub fn make(alloc: Global, fails: &[u64], most: usize) -> Result<MemFiles, OutOfMemory>
         requires { 0 < most }
         ensures { IfOk result (λ files. files ≡ record {
-            held = []; fails = fails.now; most = most; calls = 0; faults = 0 }) }
+          held = [];
+          fails = fails.now;
+          most = most;
+          calls = 0;
+          faults = 0;
+        }) }
     {
         Ok(MemFiles {
             files: Vec::new(alloc),
@@ -96,7 +102,8 @@ impl MemFiles {
     pub fn add(&mut self, name: &str, bytes: &[u8]) -> Result<(), OutOfMemory>
         requires { IsNone (held_under self.old.held name.now) }
         ensures ok { OnOk result (self.new ≡ record self.old {
-            held = self.old.held ++ (name.now, bytes.now) ∷ [] }) }
+          held = self.old.held ++ (name.now, bytes.now) ∷ [];
+        }) }
         ensures err { OnErr result (self.new ≡ self.old) }
         ensures told { OnOk result (held_under self.new.held name.now ≡ Some bytes.now) }
     {
@@ -121,8 +128,9 @@ impl Sources for MemFiles {
             (λ bytes. n ≡ given bytes at (length buf.old) self.old.most)) }
         ensures ok { OnOk result (self.new ≡ record self.old { calls = one_more self.old.calls }) }
         ensures err { OnErr result (self.new ≡ record self.old {
-            calls = one_more self.old.calls;
-            faults = one_more self.old.faults }) }
+          calls = one_more self.old.calls;
+          faults = one_more self.old.faults;
+        }) }
     {
         self.count = self.count.saturating_add(1);
         match held_under(self.files.as_slice(), name) {
@@ -154,11 +162,12 @@ impl Model for MemSink {
     ghost Value = { Output };
 
     ghost view = { λ s. record {
-        bytes = s.kept.items;
-        fails = s.failing.items;
-        most = s.at_most;
-        calls = s.count;
-        faults = s.fault_count } };
+      bytes = s.kept.items;
+      fails = s.failing.items;
+      most = s.at_most;
+      calls = s.count;
+      faults = s.fault_count;
+    } };
 
     ghost invariant = { λ s. 0 < s.at_most };
 }
@@ -169,7 +178,12 @@ impl MemSink {
     pub fn make(alloc: Global, fails: &[u64], most: usize) -> Result<MemSink, OutOfMemory>
         requires { 0 < most }
         ensures { IfOk result (λ sink. sink ≡ record {
-            bytes = []; fails = fails.now; most = most; calls = 0; faults = 0 }) }
+          bytes = [];
+          fails = fails.now;
+          most = most;
+          calls = 0;
+          faults = 0;
+        }) }
     {
         Ok(MemSink {
             kept: Vec::new(alloc),
@@ -200,11 +214,13 @@ impl Sink for MemSink {
         ensures fails { Contains self.old.fails (one_more self.old.calls) → IsErr result }
         ensures given { IfOk result (λ n. n ≡ min (length piece.now) self.old.most) }
         ensures ok { IfOk result (λ n. self.new ≡ record self.old {
-            bytes = self.old.bytes ++ take n piece.now;
-            calls = one_more self.old.calls }) }
+          bytes = self.old.bytes ++ take n piece.now;
+          calls = one_more self.old.calls;
+        }) }
         ensures err { OnErr result (self.new ≡ record self.old {
-            calls = one_more self.old.calls;
-            faults = one_more self.old.faults }) }
+          calls = one_more self.old.calls;
+          faults = one_more self.old.faults;
+        }) }
     {
         self.count = self.count.saturating_add(1);
         let count = piece.len().min(self.at_most);
