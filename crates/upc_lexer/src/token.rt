@@ -12,7 +12,7 @@ pub struct Token {
 }
 
 /// What a token is, with what it carries.
-#[derive(Drop)]
+#[derive(Debug, Drop)]
 pub enum TokenKind {
     /// The number of the name among the source's names, in order of first appearance.
     Name(u32),

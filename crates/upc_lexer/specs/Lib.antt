@@ -1,0 +1,12 @@
+pub mod Bytes
+pub mod Gaps
+pub mod Words
+pub mod Marks
+pub mod Numbers
+pub mod Strings
+pub mod NumberParts
+pub mod Places
+pub mod Names
+pub mod Tokens
+pub mod Found
+pub mod Steps

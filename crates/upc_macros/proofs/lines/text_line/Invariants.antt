@@ -1,0 +1,10 @@
+use Rattle.std.proofs.Common.{◌≡◌, take}
+use Rattle.upc_macros.specs.Expansion.{text_items}
+use Rattle.upc_macros.specs.Table.{seen, Takes}
+use Rattle.upc_macros.proofs.lines.text_line.Given as goal
+
+abbrev pub invariant-loop-token : goal.invariant-loop-token
+invariant-loop-token l = record {
+  macros : l.macros.items ≡ l.fn.macros.items;
+  taken : Takes l.fn.expanded.items l.expanded.items (text_items l.source (seen l.tokens l.fn.macros.items) (take l.token-index l.line));
+}

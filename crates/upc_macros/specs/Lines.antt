@@ -1,0 +1,43 @@
+-- A directive in the code: it has the tokens from one index up to another.
+use Rattle.std.specs.Prelude.{◌≡◌, ℕ, ◌+◌, ◌-◌, ◌≤◌, List, [], ◌∷◌, ◌++◌, Option, length, take, drop}
+use Rattle.upc_lexer.specs.declared.token.Token.{Token}
+use Rattle.upc_macros.specs.declared.table.Body.{Body}
+use Rattle.upc_macros.specs.Directives.{Effect, effect_of}
+use Rattle.upc_text.specs.declared.faults.Stop.{Stop}
+use Rattle.upc_macros.specs.Expansion.{Item, effect_items, items, lines_of, expansion}
+use Rattle.upc_macros.specs.Table.{seen, AreBodies, Takes, StopsIn}
+
+abbrev pub behind_hash : List Token → ℕ → ℕ → List Token
+behind_hash tokens begin end = take (end - (begin + 1)) (drop (begin + 1) tokens)
+
+abbrev pub line_effect : List ℕ → List Token → List (Option Body) → ℕ → ℕ → Option Effect
+line_effect source tokens table begin end = effect_of source (seen tokens table) (behind_hash tokens begin end)
+
+-- the items of the line whose first token is given
+abbrev pub hash_items : List ℕ → List Token → List (Option Body) → ℕ → ℕ → List Token → List Item
+hash_items source tokens table begin end [] = []
+hash_items source tokens table begin end (hash ∷ rest) = effect_items hash (behind_hash tokens begin end) (line_effect source tokens table begin end)
+
+abbrev pub line_items : List ℕ → List Token → List (Option Body) → ℕ → ℕ → List Item
+line_items source tokens table begin end = hash_items source tokens table begin end (drop begin tokens)
+
+-- a line was expanded: its items were put out, and the macros are as they are behind it
+pub record LineDone (source : List ℕ) (tokens line : List Token) (table later : List (Option Body)) (old new : List Token) : Type 0 where
+  pub its : List Item
+  pub taken : Takes old new its
+  pub items_are : (lines : List (List Token)) → items source (seen tokens table) (line ∷ lines) ≡ its ++ items source (seen tokens later) lines
+  pub same_length : length later ≡ length table
+  pub bodies : AreBodies tokens later
+
+-- it was refused, or there was no memory
+abbrev pub LineStops : List ℕ → List Token → List Token → List (Option Body) → List Token → Stop → Type 0
+LineStops source tokens line table old stop = (lines : List (List Token)) → StopsIn (length old) (items source (seen tokens table) (line ∷ lines)) stop
+
+-- the tokens up to an index are expanded
+pub record IsExpandedTo (source : List ℕ) (tokens : List Token) (names at : ℕ) (table : List (Option Body)) (out : List Token) : Type 0 where
+  pub its : List Item
+  pub taken : Takes [] out its
+  pub whole : expansion source tokens names ≡ its ++ items source (seen tokens table) (lines_of (drop at tokens))
+  pub within : at ≤ length tokens
+  pub same_length : length table ≡ names
+  pub bodies : AreBodies tokens table

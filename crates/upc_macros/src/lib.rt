@@ -1,0 +1,13 @@
+//! Directives, and the replacement of macros (C99 6.10).
+#![tactic(auto)]
+
+mod directives;
+mod lines;
+mod output;
+mod spelling;
+mod table;
+#[cfg(test)]
+mod tests;
+mod walk;
+
+pub use lines::{depth_is_enough, expand};
