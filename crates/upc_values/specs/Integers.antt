@@ -66,6 +66,7 @@ truth b = cond b (pos 1) (pos 0)
 abbrev pub bits : Kind → ℤ → ℕ
 bits k v = floor_mod v (2 ^ width k)
 
+-- an operator on each bit (C99 6.5.10 to 6.5.12)
 abbrev pub by_bits : (ℕ → ℕ → ℕ) → Kind → ℤ → ℤ → Result ℤ ℕ
 by_bits f k a b = Ok (converted k (pos (f (bits k a) (bits k b))))
 
