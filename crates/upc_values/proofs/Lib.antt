@@ -12,3 +12,8 @@ pub mod Consistency
 mod OrderRows
 mod CallRows
 mod NumberRows
+pub mod Agreeing
+pub mod Legality
+pub mod Lists
+pub mod Places
+pub mod Waits

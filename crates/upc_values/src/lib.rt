@@ -2,8 +2,10 @@
 #![tactic(auto)]
 
 mod action;
+mod agree;
 mod consistent;
 mod copy;
+mod equal;
 mod integer;
 mod journal;
 mod listing;
@@ -14,11 +16,15 @@ mod record;
 #[cfg(test)]
 mod rows;
 mod scalar;
+#[cfg(test)]
+mod tests;
 
 pub use action::{Action, Actions, Reply};
+pub use agree::agrees;
 pub use block_layout::{Kind, Loc, LocalPtr, ObjectRef, Shape, SharedPtr};
 pub use consistent::orders_are_consistent;
 pub use copy::{copy_action, copy_scalar};
+pub use equal::{same_action, same_loc, same_reply, same_scalar};
 pub use integer::{BinOp, UnOp};
 pub use journal::{Entries, Entry, Journal, Strand, Strands};
 pub use listing::Listing;

@@ -1,0 +1,18 @@
+//! The shared memory as one history of all threads' entries: the lawful reply of an action after it, and its one entry.
+#![tactic(auto)]
+
+mod formed;
+mod lawful;
+mod legal;
+mod step;
+mod walk;
+mod world;
+
+pub use lawful::reply;
+pub use legal::is_legal_history;
+pub use step::Step;
+pub use walk::drain;
+pub use world::World;
+
+#[cfg(test)]
+mod tests;

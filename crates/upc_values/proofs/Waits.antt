@@ -1,0 +1,46 @@
+-- Waits follow notifies in every legal history.
+use Rattle.std.proofs.Common.{◌≡◌, ℕ, ◌<◌, nat_lt, Bool, true, false, ◌&&◌, cond, List, Some, None, refl, sym, subst, arith}
+use Rattle.std.proofs.Common.{inl, inr}
+use Rattle.std.proofs.lemmas.Bool.{false≢true, ltb-true, cases_eq}
+use Rattle.upc_values.specs.declared.action.Action.{Action}
+use Rattle.upc_values.specs.declared.action.Action.TheVariants.{Wait}
+use Rattle.upc_values.specs.declared.action.Reply.{Reply}
+use Rattle.upc_values.specs.declared.action.Reply.TheVariants.{Done}
+use Rattle.upc_values.specs.declared.journal.Entry.{Entry}
+use Rattle.upc_values.specs.Legal.{Opening, is_wait, notifies, waits, all_notified, reply, IsLegal}
+use Rattle.upc_values.specs.Waits.{WaitsFollow}
+use Rattle.upc_values.proofs.Legality.{legal-at}
+
+both-left : (a b : Bool) → (a && b) ≡ true → a ≡ true
+both-left true b h = refl
+both-left false b h = cc
+
+both-right : (a b : Bool) → (a && b) ≡ true → b ≡ true
+both-right true b h = h
+both-right false b h = cc
+
+some-true : (b : Bool) (q r : Reply) → cond b (Some q) None ≡ Some r → b ≡ true
+some-true true q r h = refl
+some-true false q r h = cc
+
+-- all of the first n have notified: each has
+pub all_notified-each : (n p : ℕ) (es : List Entry) → all_notified n p es ≡ true → (u : ℕ) → u < n → p < notifies u es
+all_notified-each ℕ.zero p es h u b = absurd (omega arith)
+all_notified-each (ℕ.suc n) p es h u b =
+    let last : p < notifies n es = ltb-true p (notifies n es) (both-left (nat_lt p (notifies n es)) (all_notified n p es) h) in
+    elim (cases_eq u n) [
+      | inl e ↦ subst (λ v. p < notifies v es) (sym e) last
+      | inr ne ↦ all_notified-each n p es (both-right (nat_lt p (notifies n es)) (all_notified n p es) h) u (omega arith)
+    ]
+
+wait-lawful : (o : Opening) (before : List Entry) (t : ℕ) (a : Action) (r : Reply) → is_wait a ≡ true
+    → reply o before t a ≡ Some r → (u : ℕ) → u < o.threads → waits t before < notifies u before
+wait-lawful o before t (Wait m) r w h u b =
+    all_notified-each o.threads (waits t before) before
+    (some-true (all_notified o.threads (waits t before) before) Done r h) u b
+wait-lawful o before t a r w h u b = absurd (false≢true w)
+
+-- the p-th wait of each thread stands after the p-th notify of all threads
+pub legal-waits_follow : (o : Opening) (history : List Entry) → IsLegal o history → WaitsFollow o.threads history
+legal-waits_follow o history h front rest e is w u b =
+    wait-lawful o front e.thread e.action e.reply w (legal-at o front rest e (subst (IsLegal o) is h)) u b

@@ -1,0 +1,23 @@
+use Rattle.std.proofs.Common.{rules, ◌≡◌, ◌<◌, ◌≤◌, length, get_or}
+use Rattle.std.proofs.lemmas.Bool.{false≢true}
+use Rattle.upc_values.proofs.Places.{in-from_place, in-at_place, in-past}
+use Rattle.upc_values.proofs.agree.is_at.Goals as goal
+
+pub returns-in-Some : goal.returns-in-Some
+returns-in-Some c =
+    let items = c.args.items.now in
+    let e = c.args.entry.now in
+    let p = c.args.place in
+    let x = c.in-Some.item.now in
+    let lt : p.at < length items = search rules in
+    let is : x ≡ get_or items p.at x = search rules in (
+      λ h. in-from_place items e p.at p.number x c.requires lt is (c.is_did_as.ensures.0 h),
+      λ q. c.is_did_as.ensures.1 (in-at_place items e p.at p.number x c.requires lt is q),
+    )
+
+pub returns-in-None : goal.returns-in-None
+returns-in-None c =
+    let items = c.args.items.now in
+    let p = c.args.place in
+    let past : length items ≤ p.at = search rules in
+    (λ h. absurd (false≢true h), λ q. absurd (in-past items c.args.entry.now p.at p.number c.requires past q))
