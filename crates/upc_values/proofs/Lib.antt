@@ -9,6 +9,8 @@ pub mod Own
 pub mod Placement
 pub mod Beginnings
 pub mod Consistency
+pub mod Parts
+pub mod Unmade
 mod OrderRows
 mod CallRows
 mod NumberRows

@@ -24,8 +24,8 @@ source_byte Gather threads n x = x
 source_byte Gather_all threads n x = x % (n * threads)
 source_byte Exchange threads n x =
     let t = x / (n * threads) in
-    let j = x % (n * threads) / n in
-    j * (n * threads) + t * n + x % n
+    let y = x % (n * threads) in
+    y / n * (n * threads) + t * n + y % n
 
 -- each byte of the destination holds what its byte of the source held; where no cell begins, nothing
 abbrev pub AreCopied : ℕ → Way → SharedPtr → SharedPtr → ℕ → Holding → Holding → Type 0
