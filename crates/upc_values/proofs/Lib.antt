@@ -11,6 +11,7 @@ pub mod Beginnings
 pub mod Consistency
 pub mod Parts
 pub mod Unmade
+pub mod SoundOrders
 mod OrderRows
 mod CallRows
 mod NumberRows

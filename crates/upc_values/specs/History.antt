@@ -166,7 +166,7 @@ gives_up l a c r = false
 abbrev pub is_given_up : ℕ → List Entry → Bool
 is_given_up l es = is_any (λ before e. gives_up l e.action (led before e) e.reply) es
 
--- every thread's j-th Meet was answered Done
+-- the entry is there, and was answered Done
 abbrev pub is_done : Option Entry → Bool
 is_done (Some e) = elim e.reply [ Done ↦ true | _ ↦ false ]
 is_done None = false
