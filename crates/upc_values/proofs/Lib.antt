@@ -18,6 +18,9 @@ pub mod Own
 pub mod Placement
 pub mod Beginnings
 pub mod Consistency
+pub mod Parts
+pub mod Unmade
+pub mod SoundOrders
 mod OrderRows
 mod CallRows
 mod NumberRows

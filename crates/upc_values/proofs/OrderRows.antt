@@ -1,6 +1,6 @@
 -- Worked rows of docs/DEFINITIONS.md, computed by the definitions themselves.
-use Rattle.std.specs.Prelude.{ℕ, ◌≡◌, ◌+◌, ◌*◌, pos, false, List, [], ◌∷◌, ◌++◌, map, slice_index_or}
-use Rattle.std.proofs.Common.{refl}
+use Rattle.std.specs.Prelude.{ℕ, ◌≡◌, ◌<◌, ◌+◌, ◌*◌, pos, true, false, List, [], ◌∷◌, ◌++◌, map, slice_index_or}
+use Rattle.std.proofs.Common.{refl, arith}
 use Rattle.block_layout.specs.declared.place.Loc.{Loc}
 use Rattle.block_layout.specs.declared.place.ObjectRef.{ObjectRef}
 use Rattle.block_layout.specs.declared.kind.Kind.TheVariants as kind
@@ -15,11 +15,15 @@ use Rattle.upc_values.specs.declared.record.End.TheVariants.{Ended}
 use Rattle.upc_values.specs.declared.journal.Entry.{Entry}
 use Rattle.upc_values.specs.declared.journal.Strand.{Strand}
 use Rattle.upc_values.specs.declared.journal.Journal.{Journal}
-use Rattle.upc_values.specs.Drain.{drain, entry_of}
+use Rattle.upc_values.specs.Drain.{drain, entry_of, walked, entries_of}
+use Rattle.upc_values.proofs.Consistency.{all-consistent}
 use Rattle.upc_values.specs.Operations.{Operation}
-use Rattle.upc_values.specs.Orders.{thread_order}
+use Rattle.upc_values.specs.Orders.{thread_order, IsOf, StrictOrder}
+use Rattle.upc_values.specs.Scalars.{zero}
+use Rattle.upc_values.specs.Lists.{Pairwise}
+use Rattle.upc_values.specs.Consistent.{ReadsLast, KeepsProgram, IsConsistent, begins}
 use Rattle.upc_values.specs.Openings.{Opening}
-use Rattle.upc_values.specs.History.{IsLegal}
+use Rattle.upc_values.specs.History.{IsLegal, EachBelow}
 
 -- two shared ints, x and y
 abbrev int_at : ℕ → ℕ → ObjectRef
@@ -108,3 +112,49 @@ numbers a (ℕ.suc n) = a ∷ numbers (a + 1) n
 
 full-drain : map (λ e. e.index) (drain 0 (program (stores 65 ++ Did (Read (var 2) false) (Value (int 0)) ∷ Did Fence Done ∷ []))) ≡ 0 ∷ 1 ∷ 2 ∷ 67 ∷ numbers 3 64 ++ 68 ∷ 69 ∷ 70 ∷ []
 full-drain = refl
+
+-- what is not consistent: a forwarded read of another value than its source's
+abbrev forwarding_wrong : List (List Item)
+forwarding_wrong =
+    program (Did (Write (var 1) (int 1) false) Done ∷ Did (Read (var 1) false) (Value (int 2)) ∷ [])
+    ∷ program (Did (Write (var 1) (int 2) false) Done ∷ []) ∷ []
+
+wrong-value : ReadsLast (λ l. zero) (thread_order (journal forwarding_wrong forwarded) 0) → ⊥
+wrong-value h = let e : int 2 ≡ int 1 = h.1.1.1.1.1.1.1.0 refl in cc
+
+-- strict accesses in the order of the history above, against program order
+abbrev buffering_strict : List (List Item)
+buffering_strict =
+    program (Did (Write (var 1) (int 1) true) Done ∷ Did (Read (var 2) true) (Value (int 0)) ∷ [])
+    ∷ program (Did (Write (var 2) (int 1) true) Done ∷ Did (Read (var 1) true) (Value (int 0)) ∷ []) ∷ []
+
+wrong-order : Pairwise (KeepsProgram 0) (thread_order (journal buffering_strict buffered) 0) → ⊥
+wrong-order h = let e : 7 < 4 = h.1.1.1.1.0.1.0 refl refl refl in omega arith
+
+-- so store buffering, with both reads 0, is consistent: the law holds of it
+abbrev buffered_journal : Journal
+buffered_journal = journal buffering buffered
+
+buffered-agrees : (i : ℕ) (d : Strand) → i < 2 → (walked i (slice_index_or (map strand buffering) i d).items).agrees ≡ true
+buffered-agrees ℕ.zero d h = refl
+buffered-agrees (ℕ.suc ℕ.zero) d h = refl
+buffered-agrees (ℕ.suc (ℕ.suc i)) d h = absurd (omega arith)
+
+buffered-drains : (i : ℕ) (d : Strand) → i < 2 → entries_of i (history_of buffering buffered) ≡ drain i (slice_index_or (map strand buffering) i d).items
+buffered-drains ℕ.zero d h = refl
+buffered-drains (ℕ.suc ℕ.zero) d h = refl
+buffered-drains (ℕ.suc (ℕ.suc i)) d h = absurd (omega arith)
+
+zero-below : 0 < 2
+zero-below = omega arith
+
+one-below : 1 < 2
+one-below = omega arith
+
+buffered-below : EachBelow 2 (history_of buffering buffered)
+buffered-below = (zero-below, (one-below, (zero-below, (one-below, (zero-below, (one-below, (zero-below, (zero-below, (one-below, (one-below, (zero-below, (one-below, tt))))))))))))
+
+buffered-consistent : IsConsistent (begins opening (history_of buffering buffered)) 2 (IsOf buffered_journal) (StrictOrder buffered_journal) (thread_order buffered_journal)
+buffered-consistent =
+    all-consistent buffered_journal opening
+    (record { many = refl; below = buffered-below; agrees = buffered-agrees; drains = buffered-drains }) buffered-legal

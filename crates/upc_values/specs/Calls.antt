@@ -15,6 +15,7 @@ pub data Way : Type 0 where
   Gather_all : Way
   Exchange : Way
 
+-- a collective call, with its arguments
 pub data Call : Type 0 where
   -- 1: upc_all_alloc (UPC 7.2.2)
   Allocates : (nblocks nbytes shape : ℕ) → Call
@@ -35,16 +36,19 @@ pub data Call : Type 0 where
   -- no call of these
   Other : Call
 
--- a size_t, and an int
+-- a size_t
 abbrev pub is_size : ℤ → Bool
 is_size v = in_kind kind.ULong v
 
+-- an int
 abbrev pub is_int : ℤ → Bool
 is_int v = in_kind kind.Int v
 
+-- the way of copying, by number of call
 abbrev pub way_of : ℕ → Option Way
 way_of c = under c ((5, Broadcast) ∷ (6, Scatter) ∷ (7, Gather) ∷ (8, Gather_all) ∷ (9, Exchange) ∷ [])
 
+-- a call that copies in this way
 abbrev pub copies : Option Way → SharedPtr → SharedPtr → ℕ → ℤ → Call
 copies (Some w) dst src n f = Copies w dst src n f
 copies None dst src n f = Other

@@ -24,8 +24,8 @@ source_byte Gather threads n x = x
 source_byte Gather_all threads n x = x % (n * threads)
 source_byte Exchange threads n x =
     let t = x / (n * threads) in
-    let j = x % (n * threads) / n in
-    j * (n * threads) + t * n + x % n
+    let y = x % (n * threads) in
+    y / n * (n * threads) + t * n + y % n
 
 -- each byte of the destination holds what its byte of the source held; where no cell begins, nothing
 abbrev pub AreCopied : ℕ → Way → SharedPtr → SharedPtr → ℕ → Holding → Holding → Type 0
@@ -43,17 +43,20 @@ ArePermuted threads dst src perm n before after =
     → before (location (element (from_phase_0 perm) 1 4 threads i)) ≡ Some (Int (pos t))
     → after (location (byte_at dst n threads (t * n + r))) ≡ before (location (byte_at src n threads (i * n + r)))
 
--- element i of a reduction's operand, and the numbers of the first n
+-- element i of a reduction's operand
 abbrev pub operand_at : ℕ → SharedPtr → ℕ → ℕ → ℕ → Loc
 operand_at threads p blk k i = location (element (with_block p blk) blk (kind_size (element_kind k)) threads i)
 
+-- the number that is held
 abbrev pub number_in : Option Scalar → ℤ
 number_in (Some (Int v)) = v
 number_in v = pos 0
 
+-- the numbers of a reduction's operand
 abbrev pub numbers : ℕ → SharedPtr → ℕ → ℕ → ℕ → Holding → List ℤ
 numbers threads src blk k n before = map (λ i. number_in (before (operand_at threads src blk k i))) (range_with_len 0 n)
 
+-- what the operator gives, if there is one
 abbrev pub folded_by : Option Reduction → ℕ → List ℤ → Option (Result ℤ ℕ)
 folded_by (Some op) k vs = Some (folded op (element_kind k) vs)
 folded_by None k vs = None

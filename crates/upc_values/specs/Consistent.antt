@@ -12,6 +12,7 @@ use Rattle.upc_values.specs.History.{objects, IsLegal, EachBelow}
 use Rattle.upc_values.specs.Operations.{Place, Cell, Sync, Operation}
 use Rattle.upc_values.specs.Orders.{IsOf, StrictOrder, thread_order, is_shown, name_of, rank}
 
+-- one place
 abbrev pub same_place : Place → Place → Bool
 same_place (Cell l) (Cell k) = same_loc l k
 same_place Sync Sync = true
@@ -34,6 +35,7 @@ ReadsLastFrom initial before (o ∷ os) =
     (o.write ≡ false → o.value ≡ value_or (last_write o.place before) (initial_at initial o.place))
     × ReadsLastFrom initial (before ++ o ∷ []) os
 
+-- so in a whole order
 abbrev pub ReadsLast : (Loc → Scalar) → List Operation → Type 0
 ReadsLast initial order = ReadsLastFrom initial [] order
 

@@ -23,6 +23,7 @@ pub data Area : Type 0 where
   In_shared : (p : SharedPtr) → Area
   In_private : (object : ℕ) (offset : ℤ) → Area
 
+-- a null pointer leads nowhere
 abbrev pub shared_area : SharedPtr → Area
 shared_area p = cond (is_null p) Nowhere (In_shared p)
 
@@ -33,6 +34,7 @@ local_area (Private object offset) = In_private object offset
 local_area (Shared object thread offset) =
     In_shared (record { object = object; thread = thread; phase = 0; offset = offset })
 
+-- nowhere
 abbrev pub is_nowhere : Area → Bool
 is_nowhere Nowhere = true
 is_nowhere a = false
@@ -43,33 +45,38 @@ filled c k = Int (converted k (pos (c * ((256 ^ kind_size k - 1) / 255))))
 
 -- so many threads, the program's shapes, and the shape of the private object that the call names, if it has not ended
 module _ (threads : ℕ) (shapes : List Shape) (private : Option Shape) where
-  -- n bytes leave the piece of their thread, or the private object
+  -- n bytes leave the piece of their thread
   abbrev pub leaves_shared : ℕ → Area → Bool
   leaves_shared n (In_shared p) = leaves_piece threads n p
   leaves_shared n a = false
 
+  -- n bytes lie inside an object of this shape
   abbrev pub is_inside : Option Shape → ℤ → ℕ → Bool
   is_inside (Some s) offset n = is_within offset n s.size
   is_inside None offset n = false
 
+  -- n bytes leave the private object, or it has ended
   abbrev pub leaves_private : ℕ → Area → Bool
   leaves_private n (In_private object offset) = not (is_inside private offset n)
   leaves_private n a = false
 
-  -- the shape whose cells lie there, and the byte at which the area begins
+  -- the shape whose cells lie there
   abbrev pub shape_in : Area → Option Shape
   shape_in Nowhere = None
   shape_in (In_shared p) = shape_at shapes p
   shape_in (In_private object offset) = private
 
+  -- the byte at which the area begins
   abbrev pub first_byte : Area → ℕ
   first_byte Nowhere = 0
   first_byte (In_shared p) = unsigned_abs p.offset
   first_byte (In_private object offset) = unsigned_abs offset
 
+  -- a cell is cut at either end
   abbrev pub is_cut : ℕ → Area → Bool
   is_cut n a = cuts_cell (shape_in a) (first_byte a) n
 
+  -- the cells in n bytes
   abbrev pub cells : ℕ → Area → List (ℕ × Kind)
   cells n a = cells_within (shape_in a) (first_byte a) n
 

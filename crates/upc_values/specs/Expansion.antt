@@ -11,6 +11,7 @@ use Rattle.upc_values.specs.declared.action.Action.TheVariants as act
 use Rattle.upc_values.specs.declared.action.Reply.{Reply}
 use Rattle.upc_values.specs.declared.action.Reply.TheVariants.{Value, Refused}
 
+-- a library call, from one moment on
 pub data Expansion (A : Type 0) : Type 0 where
   Gives : (value : A) → Expansion A
   -- a run error, by its code
@@ -78,6 +79,7 @@ after_reply (Asks a after) r = after r
 after_reply (Loads p k after) r = after (value_in r)
 after_reply (Stores p k v after) r = after
 
+-- so after replies, in order
 abbrev pub after_replies : {A : Type 0} → Expansion A → List Reply → Expansion A
 after_replies x [] = x
 after_replies x (r ∷ rs) = after_replies (after_reply x r) rs

@@ -1,5 +1,5 @@
 -- The collective calls 5 to 12 as what each thread does (UPC 7.3): tests, one Meet, a barrier, the work, a barrier.
-use Rattle.std.specs.Prelude.{ℕ, ◌+◌, ◌*◌, ◌/◌, ◌%◌, ◌==◌, nat_lt, ℤ, pos, int_le, int_lt, unsigned_abs, Bool, true, false, not, ◌&&◌, ◌||◌, cond, List, [], ◌∷◌, ◌++◌, map, Option, Some, None, is_none, Result, Ok, Err}
+use Rattle.std.specs.Prelude.{ℕ, ◌+◌, ◌*◌, ◌/◌, ◌%◌, ◌==◌, nat_lt, ℤ, pos, int_le, int_lt, unsigned_abs, Bool, true, false, not, ◌&&◌, ◌||◌, cond, List, [], ◌∷◌, ◌++◌, map, Option, Some, is_none, Result, Ok, Err}
 use Rattle.std.specs.List.{list_any, range_with_len, position_or_len}
 use Rattle.std.specs.Ordering.{int_eq}
 use Rattle.block_layout.specs.declared.place.SharedPtr.{SharedPtr}
@@ -18,17 +18,19 @@ use Rattle.upc_values.specs.Reductions.{Reduction, reduction, step, element_kind
 use Rattle.upc_values.specs.Expansion.{Expansion, Gives, Fails, Reads, nothing, bind, does, barrier, each_in_turn, gathered, refused_by}
 use Rattle.upc_values.specs.Views.{destination, source, byte_at, from_phase_0, with_block, element, location, location_behind, leaves_range, leaves_piece, cuts_cell, cells_within, same_cells, shape_at, is_cell}
 
--- flags: at most one of NOSYNC 1, MYSYNC 2 and ALLSYNC 4, and so of those of the exit, which are 8 times as much
+-- a group of flags: none, or NOSYNC 1, MYSYNC 2 or ALLSYNC 4; those of the exit are 8 times as much
 abbrev pub is_sync : ℕ → Bool
 is_sync f = (f == 0) || ((f == 1) || ((f == 2) || (f == 4)))
 
+-- flags: at most one of each group, and no other bits
 abbrev pub are_flags : ℤ → Bool
 are_flags f = int_le (pos 0) f && (int_lt f (pos 64) && (is_sync (unsigned_abs f % 8) && is_sync (unsigned_abs f / 8)))
 
--- the barrier at the entry, and at the exit, unless the flags say NOSYNC
+-- the barrier at the entry, unless the flags say NOSYNC
 abbrev pub entry : ℤ → Expansion (Unit {0})
 entry f = cond (unsigned_abs f % 8 == 1) nothing barrier
 
+-- the barrier at the exit
 abbrev pub exit : ℤ → Expansion (Unit {0})
 exit f = cond (unsigned_abs f / 8 == 1) nothing barrier
 
@@ -36,28 +38,31 @@ exit f = cond (unsigned_abs f / 8 == 1) nothing barrier
 abbrev pub is_large : ℕ → Bool
 is_large n = nat_lt 16777216 n
 
--- the destination begins on thread 0, but for a gather; the source does, but for a broadcast and a scatter
+-- the destination begins on thread 0, but for a gather
 abbrev pub is_destination : Way → SharedPtr → Bool
 is_destination Gather p = true
 is_destination w p = p.thread == 0
 
+-- the source begins on thread 0, but for a broadcast and a scatter
 abbrev pub is_source : Way → SharedPtr → Bool
 is_source Broadcast p = true
 is_source Scatter p = true
 is_source w p = p.thread == 0
 
+-- the arguments of calls 5 to 9
 abbrev pub are_copy_args : Way → SharedPtr → SharedPtr → ℕ → ℤ → Bool
 are_copy_args w dst src n f = are_flags f && (not (is_large n) && (is_destination w dst && is_source w src))
 
--- those of a permute, and its permutation, do
+-- the arguments of call 10
 abbrev pub are_permute_args : SharedPtr → SharedPtr → SharedPtr → ℕ → ℤ → Bool
 are_permute_args dst src perm n f =
     are_flags f && (not (is_large n) && ((dst.thread == 0) && ((src.thread == 0) && (perm.thread == 0))))
 
--- the arguments of calls 11 and 12: with a block, the phase is below it
+-- with a block, the phase of an operand is below it
 abbrev pub is_phase : SharedPtr → ℕ → Bool
 is_phase p blk = (blk == 0) || nat_lt p.phase blk
 
+-- the arguments of calls 11 and 12: a known operator, at least one element, sizes in range
 abbrev pub are_reduction_args : SharedPtr → ℤ → ℕ → ℕ → ℤ → Bool
 are_reduction_args src op n blk f =
     are_flags f
@@ -73,18 +78,21 @@ pub record Part : Type 0 where
   pub into : SharedPtr
   pub from : SharedPtr
 
+-- a part that goes from there to here
 abbrev pub part : SharedPtr → SharedPtr → Part
 part into from = record { into = into; from = from }
 
 -- thread `me` of so many, with the program's shapes
 module _ (threads : ℕ) (shapes : List Shape) (me : ℕ) where
+  -- the numbers of all threads
   abbrev pub all_threads : List ℕ
   all_threads = range_with_len 0 threads
 
-  -- byte x of the destination, and of the source, of a copying call
+  -- byte x of the destination of a copying call
   abbrev pub into : Way → SharedPtr → ℕ → ℕ → SharedPtr
   into w dst n x = byte_at dst (destination w threads n).block threads x
 
+  -- byte x of the source
   abbrev pub from : Way → SharedPtr → ℕ → ℕ → SharedPtr
   from w src n x = byte_at src (source w threads n).block threads x
 
@@ -107,13 +115,15 @@ module _ (threads : ℕ) (shapes : List Shape) (me : ℕ) where
   parts Exchange dst src n =
       map (λ j. goes Exchange dst src n (j * (n * threads) + me * n) (me * (n * threads) + j * n)) all_threads
 
-  -- n bytes at a pointer
+  -- n bytes at a pointer leave the piece of their thread
   abbrev pub outside : ℕ → SharedPtr → Bool
   outside n p = leaves_piece threads n p
 
+  -- n bytes at a pointer cut a cell
   abbrev pub cut : ℕ → SharedPtr → Bool
   cut n p = cuts_cell (shape_at shapes p) (unsigned_abs p.offset) n
 
+  -- the cells in n bytes at a pointer
   abbrev pub cells : ℕ → SharedPtr → List (ℕ × Kind)
   cells n p = cells_within (shape_at shapes p) (unsigned_abs p.offset) n
 
@@ -138,6 +148,7 @@ module _ (threads : ℕ) (shapes : List Shape) (me : ℕ) where
       ∷ [])
       (each_in_turn (copied n) xs)
 
+  -- work on at least one byte
   abbrev pub some_bytes : ℕ → Expansion (Unit {0}) → Expansion (Unit {0})
   some_bytes n work = cond (n == 0) nothing work
 
@@ -146,9 +157,11 @@ module _ (threads : ℕ) (shapes : List Shape) (me : ℕ) where
   number_of (Int v) = v
   number_of v = pos 0
 
+  -- the read of an element
   abbrev pub number_at : Kind → SharedPtr → Expansion ℤ
   number_at k p = Reads (location p) k (λ v. Gives (number_of v))
 
+  -- the write of an element
   abbrev pub number_put : SharedPtr → ℤ → Expansion (Unit {0})
   number_put p v = does (act.Write (location p) (Int v) false)
 
@@ -162,64 +175,72 @@ module _ (threads : ℕ) (shapes : List Shape) (me : ℕ) where
       ∷ [])
       go
 
-  -- call 10: the permutation is read whole, ascending; it has each thread's number; the thread copies the block of the
-  -- one that has its own
+  -- call 10: the elements of the permutation, one for each thread
   abbrev pub permutation : SharedPtr → List SharedPtr
   permutation perm = map (λ i. element (from_phase_0 perm) 1 4 threads i) all_threads
 
+  -- thread t's number is in the list
   abbrev pub is_at : ℕ → List ℤ → Bool
   is_at t vs = list_any (λ v. int_eq v (pos t)) vs
 
+  -- the block of the element that has the thread's number goes to the thread's block
   abbrev pub chosen : SharedPtr → SharedPtr → ℕ → List ℤ → Part
   chosen dst src n vs =
       part (byte_at dst n threads (me * n)) (byte_at src n threads (position_or_len (λ v. int_eq v (pos me)) vs * n))
 
+  -- the tests of the permutation and of the thread's block, the permutation, the test of it, the copy
   abbrev pub permute : SharedPtr → SharedPtr → SharedPtr → ℕ → Expansion (Unit {0})
   permute dst src perm n =
       let ps = permutation perm in
       let own = byte_at dst n threads (me * n) in
       let some = not (n == 0) in
+      let go : List ℤ → Expansion (Unit {0}) = λ vs. some_bytes n (move n (chosen dst src n vs ∷ [])) in
       refused_by
       ((list_any (leaves_range 1) ps || (some && leaves_range n own), POINTER_RANGE)
       ∷ (list_any (outside 4) ps || (some && outside n own), OUT_OF_OBJECT)
       ∷ (list_any (λ p. not (is_cell shapes kind.Int p)) ps || (some && cut n own), CELL_TYPE)
       ∷ [])
       (bind (gathered (number_at kind.Int) ps) (λ vs.
-      cond (each_thread threads (λ t. is_at t vs))
-      (some_bytes n (move n (chosen dst src n vs ∷ [])))
-      (Fails LIBRARY_ARGS)))
+      refused_by ((not (each_thread threads (λ t. is_at t vs)), LIBRARY_ARGS) ∷ []) (go vs)))
 
   -- element i of the view of a reduction's operand
   abbrev pub operand : SharedPtr → ℕ → ℕ → ℕ → SharedPtr
   operand p blk k i = element (with_block p blk) blk (kind_size (element_kind k)) threads i
 
+  -- the elements of an operand
   abbrev pub operands : SharedPtr → ℕ → ℕ → ℕ → List SharedPtr
   operands p blk k n = map (operand p blk k) (range_with_len 0 n)
 
+  -- a value, or a run error
   abbrev pub outcome : Result ℤ ℕ → Expansion ℤ
   outcome (Ok v) = Gives v
   outcome (Err c) = Fails c
 
-  -- the value so far and one more element
-  abbrev pub joined : Option Reduction → Kind → Option ℤ → ℤ → Expansion ℤ
-  joined op k None v = Gives v
-  joined None k (Some a) v = Fails LIBRARY_ARGS
-  joined (Some op) k (Some a) v = outcome (step op k a v)
-
-  -- call 11: all elements are read, ascending, and their value is written once
-  abbrev pub total : Option Reduction → Kind → Option ℤ → SharedPtr → List SharedPtr → Expansion (Unit {0})
-  total op k (Some a) dst [] = number_put dst a
-  total op k None dst [] = nothing
+  -- call 11: all elements are read, ascending, and joined to the value so far, which is written once
+  abbrev pub total : Reduction → Kind → ℤ → SharedPtr → List SharedPtr → Expansion (Unit {0})
+  total op k a dst [] = number_put dst a
   total op k a dst (p ∷ ps) =
-      bind (number_at k p) (λ v. bind (joined op k a v) (λ b. total op k (Some b) dst ps))
+      bind (number_at k p) (λ v. bind (outcome (step op k a v)) (λ b. total op k b dst ps))
 
-  -- call 12: each element is read, and the value so far is written, ascending
-  abbrev pub totals : Option Reduction → Kind → Option ℤ → List Part → Expansion (Unit {0})
+  -- so from the first element on
+  abbrev pub reduce : Option Reduction → Kind → SharedPtr → List SharedPtr → Expansion (Unit {0})
+  reduce (Some op) k dst (p ∷ ps) = bind (number_at k p) (λ v. total op k v dst ps)
+  reduce op k dst ps = nothing
+
+  -- call 12: each element is read and joined, and the value so far is written, ascending
+  abbrev pub totals : Reduction → Kind → ℤ → List Part → Expansion (Unit {0})
   totals op k a [] = nothing
   totals op k a (x ∷ xs) =
       bind (number_at k x.from) (λ v.
-      bind (joined op k a v) (λ b. bind (number_put x.into b) (λ u. totals op k (Some b) xs)))
+      bind (outcome (step op k a v)) (λ b. bind (number_put x.into b) (λ u. totals op k b xs)))
 
+  -- so from the first element on, which is written as it is
+  abbrev pub reduce_prefixes : Option Reduction → Kind → List Part → Expansion (Unit {0})
+  reduce_prefixes (Some op) k (x ∷ xs) =
+      bind (number_at k x.from) (λ v. bind (number_put x.into v) (λ u. totals op k v xs))
+  reduce_prefixes op k xs = nothing
+
+  -- destination and source, element by element
   abbrev pub paired : List SharedPtr → List SharedPtr → List Part
   paired (p ∷ ps) (q ∷ qs) = part p q ∷ paired ps qs
   paired ps qs = []
@@ -229,18 +250,17 @@ module _ (threads : ℕ) (shapes : List Shape) (me : ℕ) where
   work (Copies w dst src n f) = some_bytes n (move n (parts w dst src n))
   work (Permutes dst src perm n f) = permute dst src perm n
   work (Reduces dst src op n blk k f) =
-      cond (dst.thread == me)
-      (are_cells (element_kind k) (dst ∷ operands src blk k n)
-      (total (reduction op) (element_kind k) None dst (operands src blk k n)))
-      nothing
+      let from = operands src blk k n in
+      let reduction = reduce (reduction op) (element_kind k) dst from in
+      cond (dst.thread == me) (are_cells (element_kind k) (dst ∷ from) reduction) nothing
   work (Reduces_prefixes dst src op n blk k f) =
-      cond (dst.thread == me)
-      (are_cells (element_kind k) (operands dst blk k n ++ operands src blk k n)
-      (totals (reduction op) (element_kind k) None (paired (operands dst blk k n) (operands src blk k n))))
-      nothing
+      let into = operands dst blk k n in
+      let from = operands src blk k n in
+      let reduction = reduce_prefixes (reduction op) (element_kind k) (paired into from) in
+      cond (dst.thread == me) (are_cells (element_kind k) (into ++ from) reduction) nothing
   work call = nothing
 
-  -- the tests of a call's arguments, in order, and its flags
+  -- the tests of a call's arguments, in order
   abbrev pub tests : Call → List (Bool × ℕ)
   tests (Copies w dst src n f) =
       (is_null dst || is_null src, NULL_ACCESS) ∷ (not (are_copy_args w dst src n f), LIBRARY_ARGS) ∷ []
@@ -254,6 +274,7 @@ module _ (threads : ℕ) (shapes : List Shape) (me : ℕ) where
       ∷ (not (are_reduction_args src op n blk f && (is_phase dst blk && is_aligned dst src blk)), LIBRARY_ARGS) ∷ []
   tests call = []
 
+  -- the flags of a call
   abbrev pub flags_of : Call → ℤ
   flags_of (Copies w dst src n f) = f
   flags_of (Permutes dst src perm n f) = f

@@ -18,10 +18,11 @@ use Rattle.upc_values.specs.Calls.{Call, Allocates, Makes_lock, Frees, Frees_loc
 use Rattle.upc_values.specs.Openings.{Opening, cell_of, is_named}
 use Rattle.upc_values.specs.History.{objects, locks}
 
--- a pointer is null or names an object of the history; a lock is null or made
+-- a pointer is null or names an object of the history
 abbrev pub knows : Opening → List Entry → SharedPtr → Bool
 knows o es p = is_named o.threads (objects o es) p
 
+-- so of a value: a pointer, or a lock that is null or made
 abbrev pub is_known : Opening → List Entry → Scalar → Bool
 is_known o es (Int v) = true
 is_known o es (Shared p) = knows o es p
@@ -77,6 +78,7 @@ may_ask o es (act.Meet c args) = may_call o es (call_of c args)
 may_ask o es (act.Print x) = true
 may_ask o es (act.Exit v) = true
 
+-- an action is well formed after a history where it may be asked for
 abbrev pub IsWellFormed : Opening → List Entry → Action → Type 0
 IsWellFormed o es a = may_ask o es a ≡ true
 
@@ -86,6 +88,7 @@ AreWellFormedFrom o before [] = Unit {0}
 AreWellFormedFrom o before (e ∷ es) =
     IsWellFormed o before e.action × AreWellFormedFrom o (before ++ e ∷ []) es
 
+-- so of a whole history
 abbrev pub AreWellFormed : Opening → List Entry → Type 0
 AreWellFormed o history = AreWellFormedFrom o [] history
 

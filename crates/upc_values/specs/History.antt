@@ -1,7 +1,8 @@
 -- One history of all threads' entries: what it has made, and the one lawful reply of each action after it.
 use Rattle.std.specs.Prelude.{ℕ, ◌≡◌, ◌<◌, ◌+◌, ◌*◌, ◌==◌, nat_lt, pos, Bool, true, false, not, ◌&&◌, ◌||◌, cond, List, [], ◌∷◌, ◌++◌, length, Option, Some, None, is_some, is_none, slice_get}
-use Rattle.std.specs.List.{filter, filter_map, list_any, count_by}
+use Rattle.std.specs.List.{last_or, filter, filter_map, list_any, count_by}
 use Rattle.std.specs.Ordering.{int_eq}
+use Rattle.block_layout.specs.declared.place.Loc.{Loc}
 use Rattle.block_layout.specs.declared.place.ObjectRef.{ObjectRef}
 use Rattle.block_layout.specs.declared.place.SharedPtr.{SharedPtr}
 use Rattle.block_layout.specs.declared.run_error.TheConstants.{BARRIER_MISMATCH, LOCK_AGAIN, LOCK_NOT_HELD, LOCK_FREED, BAD_FREE, COLLECTIVE_MISMATCH, SHARED_SPACE}
@@ -27,6 +28,7 @@ picked_from test before [] = []
 picked_from test before (e ∷ es) =
     cond (test before e) (e ∷ picked_from test (before ++ e ∷ []) es) (picked_from test (before ++ e ∷ []) es)
 
+-- so of a whole history
 abbrev pub picked : (List Entry → Entry → Bool) → List Entry → List Entry
 picked test es = picked_from test [] es
 
@@ -39,15 +41,17 @@ abbrev pub each_thread : ℕ → (ℕ → Bool) → Bool
 each_thread ℕ.zero test = true
 each_thread (ℕ.suc n) test = test n && each_thread n test
 
--- collective calls: what a thread's Meet asks for, and the Meets of a thread
+-- collective calls: what a thread's Meet asks for
 abbrev pub asked : Action → Call
 asked (act.Meet c args) = call_of c args
 asked a = Call.Other
 
+-- a collective call
 abbrev pub is_meet : Action → Bool
 is_meet (act.Meet c args) = true
 is_meet a = false
 
+-- the collective calls of a thread, in order
 abbrev pub meets : ℕ → List Entry → List Entry
 meets t es = filter (λ e. is_meet e.action) (entries_of t es)
 
@@ -55,6 +59,7 @@ meets t es = filter (λ e. is_meet e.action) (entries_of t es)
 abbrev pub is_meet_of : ℕ → List Entry → Entry → Bool
 is_meet_of j before e = is_meet e.action && (length (meets e.thread before) == j)
 
+-- an entry with the entries before it
 pub record Lead : Type 0 where
   pub before : List Entry
   pub entry : Entry
@@ -65,6 +70,7 @@ leader_from j before [] = None
 leader_from j before (e ∷ es) =
     cond (is_meet_of j before e) (Some (record { before = before; entry = e })) (leader_from j (before ++ e ∷ []) es)
 
+-- so of a whole history
 abbrev pub leader : ℕ → List Entry → Option Lead
 leader j es = leader_from j [] es
 
@@ -83,6 +89,7 @@ makes (act.Alloc n b h s) c = true
 makes a (Allocates n b s) = true
 makes a c = false
 
+-- the object that an entry names in its reply
 abbrev pub object_of : Entry → Option ObjectRef
 object_of e = elim (pointer_of e.reply) [ Some p ↦ Some p.object | None ↦ None ]
 
@@ -126,6 +133,7 @@ releases n (act.Free p) c Done = p.object.number == n
 releases n a (Frees p) Done = not (is_null p) && (p.object.number == n)
 releases n a c r = false
 
+-- something has released the object
 abbrev pub is_released : ℕ → List Entry → Bool
 is_released n es = is_any (λ before e. releases n e.action (led before e) e.reply) es
 
@@ -144,6 +152,7 @@ makes_lock act.LockMake c = true
 makes_lock a Makes_lock = true
 makes_lock a c = false
 
+-- how many locks there are
 abbrev pub locks : List Entry → ℕ
 locks es = length (picked (λ before e. makes_lock e.action (led before e)) es)
 
@@ -153,14 +162,16 @@ gives_up l (act.LockFree k) c Done = k == l
 gives_up l a (Frees_lock k) Done = k == l
 gives_up l a c r = false
 
+-- something has given the lock up
 abbrev pub is_given_up : ℕ → List Entry → Bool
 is_given_up l es = is_any (λ before e. gives_up l e.action (led before e) e.reply) es
 
--- every thread's j-th Meet was answered Done
+-- the entry is there, and was answered Done
 abbrev pub is_done : Option Entry → Bool
 is_done (Some e) = elim e.reply [ Done ↦ true | _ ↦ false ]
 is_done None = false
 
+-- every thread has met in the j-th call, with reply Done
 abbrev pub all_met : Opening → ℕ → List Entry → Bool
 all_met o j es = each_thread o.threads (λ u. is_done (slice_get (meets u es) j))
 
@@ -173,44 +184,65 @@ is_freed o l es =
     && (not (is_meet e.action) || all_met o (length (meets e.thread before)) es))
     es
 
--- the holder of a lock: the thread of the last entry that takes it or lets it go, if that one takes it (UPC 7.2.4)
-abbrev pub holds_after : ℕ → Entry → Option ℕ → Action → Reply → Option ℕ
-holds_after l e held (act.Lock k) Done = cond (k == l) (Some e.thread) held
-holds_after l e held (act.Attempt k) (Flag true) = cond (k == l) (Some e.thread) held
-holds_after l e held (act.Unlock k) Done = cond (k == l) None held
-holds_after l e held a r = held
+-- an entry takes the lock or lets it go (UPC 7.2.4)
+abbrev pub turns : ℕ → Action → Reply → Bool
+turns l (act.Lock k) Done = k == l
+turns l (act.Attempt k) (Flag true) = k == l
+turns l (act.Unlock k) Done = k == l
+turns l a r = false
 
-abbrev pub holder_from : ℕ → Option ℕ → List Entry → Option ℕ
-holder_from l held [] = held
-holder_from l held (e ∷ es) = holder_from l (holds_after l e held e.action e.reply) es
+abbrev pub is_unlock : Action → Bool
+is_unlock (act.Unlock l) = true
+is_unlock a = false
 
+-- the thread that the lock is left with
+abbrev pub left_with : Option Entry → Option ℕ
+left_with (Some e) = cond (is_unlock e.action) None (Some e.thread)
+left_with None = None
+
+-- the holder of a lock: the thread of the last entry that takes it or lets it go, if that one takes it
 abbrev pub holder : ℕ → List Entry → Option ℕ
-holder l es = holder_from l None es
+holder l es = left_with (last_or None (filter (λ e. turns l e.action e.reply) es))
 
+-- a free lock is taken; the holder may not take it again; another waits
 abbrev pub lock_reply : ℕ → Option ℕ → Option Reply
 lock_reply t None = Some Done
 lock_reply t (Some u) = cond (t == u) (Some (Refused LOCK_AGAIN)) None
 
+-- the holder alone may let a lock go
 abbrev pub unlock_reply : ℕ → Option ℕ → Reply
 unlock_reply t None = Refused LOCK_NOT_HELD
 unlock_reply t (Some u) = cond (t == u) Done (Refused LOCK_NOT_HELD)
 
--- barriers: the marks of a thread's notifies, in order, and how many notifies and waits it has (UPC 6.6.1)
+-- barriers: the mark of a notify (UPC 6.6.1)
 abbrev pub mark_of : Entry → Option Mark
 mark_of e = elim e.action [ act.Notify m ↦ Some m | _ ↦ None ]
 
+-- the marks of a thread, in order
 abbrev pub marks : ℕ → List Entry → List Mark
 marks t es = filter_map mark_of (entries_of t es)
 
+-- a notify
+abbrev pub is_notify : Action → Bool
+is_notify (act.Notify m) = true
+is_notify a = false
+
+-- a wait
 abbrev pub is_wait : Action → Bool
 is_wait (act.Wait m) = true
 is_wait a = false
 
+-- how many notifies a thread has
 abbrev pub notifies : ℕ → List Entry → ℕ
-notifies t es = length (marks t es)
+notifies t es = count_by (λ e. (e.thread == t) && is_notify e.action) es
 
+-- how many waits a thread has
 abbrev pub waits : ℕ → List Entry → ℕ
 waits t es = count_by (λ e. (e.thread == t) && is_wait e.action) es
+
+-- each of the first n threads has more than p notifies
+abbrev pub all_notified : ℕ → ℕ → List Entry → Bool
+all_notified n p es = each_thread n (λ u. nat_lt p (notifies u es))
 
 -- marks agree unless both are present and differ
 abbrev pub agree : Mark → Mark → Bool
@@ -221,6 +253,7 @@ agree Finish Finish = true
 agree (Given a) (Given b) = int_eq a b
 agree m k = false
 
+-- so with a mark, if there is one
 abbrev pub agrees_with : Mark → Option Mark → Bool
 agrees_with m (Some k) = agree m k
 agrees_with m None = true
@@ -228,7 +261,7 @@ agrees_with m None = true
 -- the p-th wait of a thread comes after the p-th notify of all threads, whose marks must agree with its own (UPC 6.6.1)
 abbrev pub wait_reply : Opening → List Entry → ℕ → Mark → Option Reply
 wait_reply o es p m =
-    cond (each_thread o.threads (λ u. nat_lt p (notifies u es)))
+    cond (all_notified o.threads p es)
     (Some (cond (each_thread o.threads (λ u. agrees_with m (slice_get (marks u es) p))) Done (Refused BARRIER_MISMATCH)))
     None
 
@@ -240,11 +273,13 @@ led_reply o es (Frees p) = cond (is_null p) Done (free_reply es p)
 led_reply o es (Frees_lock l) = cond ((l == 0) || not (is_given_up l es)) Done (Refused LOCK_FREED)
 led_reply o es c = Done
 
+-- equal arguments, field by field
 abbrev pub same_list : List Scalar → List Scalar → Bool
 same_list [] [] = true
 same_list (v ∷ vs) (w ∷ ws) = same_scalar v w && same_list vs ws
 same_list vs ws = false
 
+-- one call with equal arguments
 abbrev pub same_call : ℕ → List Scalar → Action → Bool
 same_call c args (act.Meet d brgs) = (c == d) && same_list args brgs
 same_call c args a = false
@@ -256,14 +291,19 @@ meet_reply o es t c args (Some w) =
     cond (same_call c args w.entry.action && (notifies t es == notifies w.entry.thread w.before)) w.entry.reply
     (Refused COLLECTIVE_MISMATCH)
 
+-- the reply that gives a value, if there is one
 abbrev pub valued : Option Scalar → Option Reply
 valued (Some v) = Some (Value v)
 valued None = None
 
+-- what a location holds after these entries: the last value written to it, else what its cell began with
+abbrev pub held : Opening → List Entry → Loc → Option Scalar
+held o es l = or_else (last_written l es) (initial_of o (objects o es) l)
+
 -- the one lawful reply of the action by thread t after the entries before it, or none
 abbrev pub reply : Opening → List Entry → ℕ → Action → Option Reply
--- a read gives the last value written to its location, else what its cell began with
-reply o before t (act.Read l s) = valued (or_else (last_written l before) (initial_of o (objects o before) l))
+-- a read gives what its location holds
+reply o before t (act.Read l s) = valued (held o before l)
 reply o before t (act.Write l v s) = Some Done
 reply o before t act.Fence = Some Done
 reply o before t act.Beat = Some Done
@@ -290,6 +330,7 @@ IsLegalFrom o before [] = Unit {0}
 IsLegalFrom o before (e ∷ es) =
     (reply o before e.thread e.action ≡ Some e.reply) × IsLegalFrom o (before ++ e ∷ []) es
 
+-- a whole history is legal
 abbrev pub IsLegal : Opening → List Entry → Type 0
 IsLegal o history = IsLegalFrom o [] history
 

@@ -1,5 +1,6 @@
 pub mod Lists
 pub mod Scalars
+pub mod Shapes
 pub mod Records
 pub mod Outcomes
 pub mod Drain
@@ -12,7 +13,6 @@ pub mod Agrees
 pub mod Operations
 pub mod Orders
 pub mod Consistent
-pub mod Shapes
 pub mod Calls
 pub mod Openings
 pub mod History

@@ -42,6 +42,7 @@ abbrev pub given : Loc → List (Loc × Scalar) → Option Scalar
 given l [] = None
 given l (x ∷ xs) = cond (same_loc x.0 l) (Some x.1) (given l xs)
 
+-- so of a cell, if there is one
 abbrev pub blank_in : Option Kind → Option Scalar
 blank_in (Some k) = Some (blank k)
 blank_in None = None

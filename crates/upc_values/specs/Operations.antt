@@ -58,9 +58,11 @@ pub record Operation : Type 0 where
   pub place : Place
   pub value : Scalar
 
+-- a read by action i of thread t
 abbrev pub read_at : ℕ → ℕ → Place → Bool → Scalar → Operation
 read_at t i p s v = record { thread = t; index = i; write = false; strict = s; place = p; value = v }
 
+-- a write by action i of thread t
 abbrev pub write_at : ℕ → ℕ → Place → Bool → Scalar → Operation
 write_at t i p s v = record { thread = t; index = i; write = true; strict = s; place = p; value = v }
 
@@ -73,6 +75,7 @@ operations_by t i Writes_sync = write_at t i Sync true zero ∷ []
 operations_by t i Reads_sync = read_at t i Sync true zero ∷ []
 operations_by t i Writes_and_reads_sync = write_at t i Sync true zero ∷ read_at t i Sync true zero ∷ []
 
+-- the operations of an action with its reply
 abbrev pub accesses_of : ℕ → ℕ → Action → Reply → List Operation
 accesses_of t i a r = operations_by t i (access a r)
 

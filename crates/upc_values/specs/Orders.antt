@@ -22,6 +22,7 @@ pub record Commit : Type 0 where
   pub entry : Entry
   pub operations : List Operation
 
+-- an entry with its own operations
 abbrev pub commit_of : Entry → Commit
 commit_of e = record { entry = e; operations = accesses e }
 
@@ -32,6 +33,7 @@ pub record Placing : Type 0 where
   pub pending : List Commit
   pub agrees : Bool
 
+-- before the first item
 abbrev pub begun : Placing
 begun = record { next = 0; emitted = []; pending = []; agrees = true }
 
@@ -88,10 +90,12 @@ acted e (Read l false) w = read_in l e (pending_value l w.pending) w
 acted e (Print x) w = put_out e w
 acted e a w = put_out e (all_out w)
 
+-- one more item: a Stall empties the buffer
 abbrev pub moved : ℕ → Placing → Item → Placing
 moved t w Stall = all_out w
 moved t w (Did a r) = acted (entry_of t w.next a r) a w
 
+-- one item after another
 abbrev pub moved_from : ℕ → Placing → List Item → Placing
 moved_from t w [] = w
 moved_from t w (x ∷ xs) = moved_from t (moved t w x) xs
@@ -100,6 +104,7 @@ moved_from t w (x ∷ xs) = moved_from t (moved t w x) xs
 abbrev pub placing : ℕ → List Item → Placing
 placing t items = all_out (moved_from t begun items)
 
+-- where there is no strand
 abbrev pub no_strand : Strand
 no_strand = record { items = []; ticks = 0; «end» = Halted }
 
@@ -112,6 +117,7 @@ abbrev pub operations_at : ℕ → List Commit → List Operation
 operations_at n [] = []
 operations_at n (c ∷ cs) = cond (c.entry.index == n) c.operations (operations_at n cs)
 
+-- the operations that stand in an entry's place
 abbrev pub placed : Journal → Entry → List Operation
 placed j e = operations_at e.index (placing e.thread (record_of j e.thread)).emitted
 
@@ -123,6 +129,7 @@ global_order j = flat_map (placed j) j.history
 abbrev pub strict_list : Journal → List Operation
 strict_list j = filter (λ o. o.strict) (global_order j)
 
+-- an operation stands in thread t's order: its own ones, all writes, and all strict reads
 abbrev pub is_shown : ℕ → Operation → Bool
 is_shown t o = (o.thread == t) || (o.write || o.strict)
 
@@ -136,6 +143,7 @@ operations_from t n [] = []
 operations_from t n (Stall ∷ items) = operations_from t n items
 operations_from t n (Did a r ∷ items) = accesses (entry_of t n a r) ++ operations_from t (n + 1) items
 
+-- the operations of a thread, in program order
 abbrev pub operations_of : Journal → ℕ → List Operation
 operations_of j t = operations_from t 0 (record_of j t)
 

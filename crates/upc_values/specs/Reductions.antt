@@ -14,6 +14,7 @@ abbrev pub element_kind : ℕ → Kind
 element_kind k =
     slice_index_or (Char ∷ UChar ∷ Short ∷ UShort ∷ Int ∷ UInt ∷ Long ∷ ULong ∷ []) k Int
 
+-- what joins two values
 pub data Reduction : Type 0 where
   Sum : Reduction
   Product : Reduction
@@ -53,6 +54,7 @@ reduced Either k a b = Ok (truth (not (int_eq a (pos 0)) || not (int_eq b (pos 0
 reduced Least k a b = Ok (int_min a b)
 reduced Greatest k a b = Ok (int_max a b)
 
+-- a result brought back to the elements' type
 abbrev pub back_to : Kind → Result ℤ ℕ → Result ℤ ℕ
 back_to k (Ok v) = Ok (converted k v)
 back_to k (Err c) = Err c
@@ -66,10 +68,12 @@ abbrev pub step_from : Reduction → Kind → Result ℤ ℕ → ℤ → Result 
 step_from op k (Ok a) b = step op k a b
 step_from op k (Err c) b = Err c
 
+-- so on from a value
 abbrev pub folded_from : Reduction → Kind → Result ℤ ℕ → List ℤ → Result ℤ ℕ
 folded_from op k a [] = a
 folded_from op k a (v ∷ vs) = folded_from op k (step_from op k a v) vs
 
+-- so of all elements, of which the first is the value to begin with
 abbrev pub folded : Reduction → Kind → List ℤ → Result ℤ ℕ
 folded op k [] = Ok (pos 0)
 folded op k (v ∷ vs) = folded_from op k (Ok v) vs

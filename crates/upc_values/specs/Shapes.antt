@@ -39,6 +39,7 @@ fits_kind (Shared p) k = false
 fits_kind (Lock l) kind.Lock = true
 fits_kind (Lock l) k = false
 
+-- there is a cell, and the value fits it
 abbrev pub fits_cell : Scalar → Option Kind → Bool
 fits_cell v (Some k) = fits_kind v k
 fits_cell v None = false

@@ -37,6 +37,7 @@ element p (suc b) size threads i =
 abbrev pub location : SharedPtr → Loc
 location p = record { object = p.object.number; thread = p.thread; offset = unsigned_abs p.offset }
 
+-- the location so many bytes behind it
 abbrev pub location_behind : SharedPtr → ℕ → Loc
 location_behind p i = record { object = p.object.number; thread = p.thread; offset = unsigned_abs p.offset + i }
 
@@ -44,10 +45,11 @@ location_behind p i = record { object = p.object.number; thread = p.thread; offs
 abbrev pub is_within : ℤ → ℕ → ℕ → Bool
 is_within offset n room = int_le (pos 0) offset && int_le (offset +ℤ pos n) (pos room)
 
--- n bytes at a pointer: an offset among them leaves its range; or they leave the piece of their thread
+-- n bytes at a pointer: an offset among them leaves its range
 abbrev pub leaves_range : ℕ → SharedPtr → Bool
 leaves_range n p = not (in_range p.offset && in_range (p.offset +ℤ pos (n - 1)))
 
+-- n bytes at a pointer leave the piece of their thread
 abbrev pub leaves_piece : ℕ → ℕ → SharedPtr → Bool
 leaves_piece threads n p = not (is_within p.offset n (piece_of p.object p.thread threads))
 
@@ -60,11 +62,12 @@ cuts None x = false
 abbrev pub cuts_cell : Option Shape → ℕ → ℕ → Bool
 cuts_cell s x n = cuts s x || cuts s (x + n)
 
--- the cells in n bytes from this one on: how far behind it each begins, and its kind
+-- a cell, by how far behind the first byte it begins and by its kind
 abbrev pub placed_kind : ℕ → Option Kind → Option (ℕ × Kind)
 placed_kind i (Some k) = Some (i, k)
 placed_kind i None = None
 
+-- the cells in n bytes from this one on
 abbrev pub cells_within : Option Shape → ℕ → ℕ → List (ℕ × Kind)
 cells_within s x n = filter_map (λ i. placed_kind i (kind_at s (x + i))) (range_with_len 0 n)
 
@@ -92,10 +95,11 @@ pub record View : Type 0 where
   pub block : ℕ
   pub bytes : ℕ
 
+-- an array of char with this block and so many bytes
 abbrev pub view : ℕ → ℕ → View
 view block bytes = record { block = block; bytes = bytes }
 
--- the destination and the source of a copying call in which each thread has n bytes (UPC 7.3)
+-- the destination of a copying call in which each thread has n bytes (UPC 7.3)
 abbrev pub destination : Way → ℕ → ℕ → View
 destination Broadcast threads n = view n (n * threads)
 destination Scatter threads n = view n (n * threads)
@@ -103,6 +107,7 @@ destination Gather threads n = view 0 (n * threads)
 destination Gather_all threads n = view (n * threads) (n * threads * threads)
 destination Exchange threads n = view (n * threads) (n * threads * threads)
 
+-- the source
 abbrev pub source : Way → ℕ → ℕ → View
 source Broadcast threads n = view 0 n
 source Scatter threads n = view 0 (n * threads)
