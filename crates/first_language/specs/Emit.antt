@@ -26,7 +26,8 @@ emit_term t = code_expr (expr_factors (place_of t.0) (expr_atom t.0) t.1) []
 abbrev pub emit_more : Place → More → List Instr
 emit_more p Done = []
 emit_more p (Add q a fs m) = code_expr (expr_factors (place_of a) (expr_atom a) fs) (i.Operate o.Plus p ∷ emit_more p m)
-emit_more p (Subtract q a fs m) = code_expr (expr_factors (place_of a) (expr_atom a) fs) (i.Operate o.Minus p ∷ emit_more p m)
+emit_more p (Subtract q a fs m) = code_expr (expr_factors (place_of a) (expr_atom a) fs)
+    (i.Operate o.Minus p ∷ emit_more p m)
 
 abbrev pub emit_sum : Sum → List Instr
 emit_sum s = code_expr (expr_sum s) []
@@ -41,24 +42,28 @@ abbrev pub term_place : Atom × Factors → Place
 term_place t = place_of t.0
 
 -- a tree was read up to these tokens, and its steps were written
-pub record Got {A : Type 0} (emit : A → List Instr) (o : Option (A × List Token)) (ts : List Token) (old new : List Instr) : Type 0 where
+pub record Got {A : Type 0} (emit : A → List Instr) (o : Option (A × List Token)) (ts : List Token)
+    (old new : List Instr) : Type 0 where
   pub tree : A
   pub read : o ≡ Some (tree, ts)
   pub code : new ≡ old ++ emit tree
 
-abbrev pub Parsed : {A : Type 0} → (A → List Instr) → Option (A × List Token) → Bool → List Token → List Instr → List Instr → Type 0
+abbrev pub Parsed : {A : Type 0} → (A → List Instr) → Option (A × List Token) → Bool → List Token → List Instr
+    → List Instr → Type 0
 Parsed emit o true ts old new = Got emit o ts old new
 Parsed emit o false ts old new = o ≡ None
 
 -- the same, where the place of the first token is answered
-pub record GotAt {A : Type 0} (emit : A → List Instr) (at : A → Place) (o : Option (A × List Token)) (p : Place) (ts : List Token)
+pub record GotAt {A : Type 0} (emit : A → List Instr) (at : A → Place) (o : Option (A × List Token)) (p : Place)
+    (ts : List Token)
     (old new : List Instr) : Type 0 where
   pub tree : A
   pub read : o ≡ Some (tree, ts)
   pub place : p ≡ at tree
   pub code : new ≡ old ++ emit tree
 
-abbrev pub ParsedAt : {A : Type 0} → (A → List Instr) → (A → Place) → Option (A × List Token) → Option Place → List Token → List Instr → List Instr → Type 0
+abbrev pub ParsedAt : {A : Type 0} → (A → List Instr) → (A → Place) → Option (A × List Token) → Option Place
+    → List Token → List Instr → List Instr → Type 0
 ParsedAt emit at o (Some p) ts old new = GotAt emit at o p ts old new
 ParsedAt emit at o None ts old new = o ≡ None
 
@@ -80,7 +85,8 @@ Signed ts (Some o.Times) new = ⊥
 Signed ts None new = (eat f.Plus ts ≡ None) × (eat f.Minus ts ≡ None) × (new ≡ ts)
 
 -- a loop was opened, and its condition has so many steps
-pub record GotOpening (o : Option (Opening × List Token)) (count : ℕ) (ts : List Token) (old new : List Instr) : Type 0 where
+pub record GotOpening (o : Option (Opening × List Token)) (count : ℕ) (ts : List Token) (old new : List Instr) : Type
+    0 where
   pub tree : Opening
   pub read : o ≡ Some (tree, ts)
   pub code : new ≡ old ++ i.Tick ∷ i.Beat ∷ i.Check ∷ emit_sum tree.condition

@@ -30,13 +30,15 @@ Declares o q (Some name) ts = (d : Declaration) × (o ≡ Some (d, ts)) × (d.na
 Declares o q None ts = o ≡ None
 
 -- declarations were read: these names, and whether each is strict, were added to these
-pub record GotDeclarations (o : Option (List Declaration × List Token)) (found : Declared) (ts : List Token) (names : List (List ℕ)) (strict : List Bool) : Type 0 where
+pub record GotDeclarations (o : Option (List Declaration × List Token)) (found : Declared) (ts : List Token)
+    (names : List (List ℕ)) (strict : List Bool) : Type 0 where
   pub tree : List Declaration
   pub read : o ≡ Some (tree, ts)
   pub names_are : found.names.items ≡ names ++ names_of tree
   pub strict_are : found.strict.items ≡ strict ++ stricts_of tree
 
-abbrev pub DeclaredAll : Option (List Declaration × List Token) → Option Declared → List Token → List (List ℕ) → List Bool → Type 0
+abbrev pub DeclaredAll : Option (List Declaration × List Token) → Option Declared → List Token → List (List ℕ)
+    → List Bool → Type 0
 DeclaredAll o (Some found) ts names strict = GotDeclarations o found ts names strict
 DeclaredAll o None ts names strict = o ≡ None
 
@@ -46,7 +48,8 @@ Headed o true ts = (h : Head) × (o ≡ Some (h, ts))
 Headed o false ts = o ≡ None
 
 -- the end of main was read, behind these statements
-pub record GotEnding (o : Option (Source × List Token)) (ss : Statements) (ts : List Token) (old new : List Instr) : Type 0 where
+pub record GotEnding (o : Option (Source × List Token)) (ss : Statements) (ts : List Token) (old new : List Instr) :
+    Type 0 where
   pub tree : Source
   pub read : o ≡ Some (tree, ts)
   pub statements : tree.statements ≡ ss

@@ -248,7 +248,8 @@ qualifier (t ∷ ts) =
     (cond (is_fixed f.Shared t.kind) (Some (Unqualified, t ∷ ts)) None))
 
 -- at most so many declarations, where these names are declared
-abbrev pub declarations_by : (List (List ℕ) → Parser (List Declaration)) → List (List ℕ) → Option (Qualifier × List Token) → Parser (List Declaration)
+abbrev pub declarations_by : (List (List ℕ) → Parser (List Declaration)) → List (List ℕ)
+    → Option (Qualifier × List Token) → Parser (List Declaration)
 declarations_by others names None ts = Some ([], ts)
 declarations_by others names (Some q) ts =
     declared names q.0 q.1 >>= λ d. others (names ++ d.0.name ∷ []) d.1 >>= λ ds. Some (d.0 ∷ ds.0, ds.1)

@@ -91,7 +91,8 @@ read_step i.Mythread p = push_expr p Mythread
 read_step i.Threads p = push_expr p Threads
 read_step (i.Operate op place) p =
     record {
-      exprs = Binary op place (first_expr (other_exprs p.exprs)) (first_expr p.exprs) ∷ other_exprs (other_exprs p.exprs);
+      exprs = Binary op place (first_expr (other_exprs p.exprs)) (first_expr p.exprs) ∷ other_exprs
+          (other_exprs p.exprs);
       block = p.block;
       loops = p.loops;
     }

@@ -53,8 +53,10 @@ run_of (b ∷ bs) =
 
 abbrev pub mark_of : ℕ → Option Fixed
 mark_of b =
-    cond (b == 40) (Some LParen) (cond (b == 41) (Some RParen) (cond (b == 123) (Some LBrace) (cond (b == 125) (Some RBrace)
-    (cond (b == 61) (Some Equal) (cond (b == 59) (Some Semicolon) (cond (b == 44) (Some Comma) (cond (b == 43) (Some Plus)
+    cond (b == 40) (Some LParen) (cond (b == 41) (Some RParen)
+    (cond (b == 123) (Some LBrace) (cond (b == 125) (Some RBrace)
+    (cond (b == 61) (Some Equal) (cond (b == 59) (Some Semicolon)
+    (cond (b == 44) (Some Comma) (cond (b == 43) (Some Plus)
     (cond (b == 45) (Some Minus) (cond (b == 42) (Some Star) None)))))))))
 
 -- the token that stands first, and its length, if some token is spelled so

@@ -82,8 +82,12 @@ impl Machine {
     /// Goes on to the next action, or to the end. A reply answers the action that was asked for last; without one, the
     /// same is asked for again. After want of memory the machine is of no more use.
     pub fn resume(&mut self, program: &First, reply: Option<Reply>) -> Result<Wish, AllocError>
-        ensures told { IfOk result (λ w. (t n b : ℕ) (given : List Reply) → Stands program.now t n b given self.old → Answers program.now t n b given reply → told_of w ≡ (meaning program.now t n b (given ++ listed reply)).«end») }
-        ensures stands { IfOk result (λ _. (t n b : ℕ) (given : List Reply) → Stands program.now t n b given self.old → Answers program.now t n b given reply → Stands program.now t n b (given ++ listed reply) self.new) }
+        ensures told { IfOk result (λ w. (t n b : ℕ) (given : List Reply)
+            → Stands program.now t n b given self.old → Answers program.now t n b given reply
+            → told_of w ≡ (meaning program.now t n b (given ++ listed reply)).«end») }
+        ensures stands { IfOk result (λ _. (t n b : ℕ) (given : List Reply)
+            → Stands program.now t n b given self.old → Answers program.now t n b given reply
+            → Stands program.now t n b (given ++ listed reply) self.new) }
         ensures asked { IfOk result (λ _. HasAsked self.new) }
     {
         let wish = self.run(program, reply)?;
@@ -93,7 +97,8 @@ impl Machine {
 
     /// The ticks of the thread so far.
     pub fn ticks(&self) -> u64
-        ensures { HasAsked self.now → (p : First) (t n b : ℕ) (given : List Reply) → Stands p t n b given self.now → result ≡ (meaning p t n b given).ticks }
+        ensures { HasAsked self.now → (p : First) (t n b : ℕ) (given : List Reply)
+            → Stands p t n b given self.now → result ≡ (meaning p t n b given).ticks }
     {
         self.ticks
     }
@@ -112,8 +117,10 @@ impl Machine {
 
     // One step.
     fn turn(&mut self, program: &First, reply: Option<Reply>) -> Result<Turn, AllocError>
-        ensures leads { IfOk result (λ turn. (t n b : ℕ) (c : Course _) → Runs program.now t n b self.old c → Leads program.now t n b turn reply self.new c) }
-        ensures lightens { IfOk result (λ turn. Lightens (length program.now.code.items) turn self.old self.new) }
+        ensures leads { IfOk result (λ turn. (t n b : ℕ) (c : Course _)
+            → Runs program.now t n b self.old c → Leads program.now t n b turn reply self.new c) }
+        ensures lightens { IfOk result (λ turn. Lightens (length program.now.code.items) turn
+            self.old self.new) }
     {
         if self.position >= program.code.len() {
             return Ok(Turn::Wishes(Wish::Ended(top(self.operands.as_slice()))));
@@ -133,9 +140,11 @@ impl Machine {
         reply: Option<Reply>,
     ) -> Result<Turn, AllocError>
         requires { self.old.position < length program.now.code.items }
-        ensures acts { IfOk result (λ turn. (t n : ℕ) → Acts t n program.now.strict.items instr reply self.old turn self.new) }
+        ensures acts { IfOk result (λ turn. (t n : ℕ) → Acts t n program.now.strict.items instr
+            reply self.old turn self.new) }
         ensures keeps { IfOk result (λ turn. Forwards turn self.old self.new) }
-        ensures lightens { IfOk result (λ turn. Lightens (length program.now.code.items) turn self.old self.new) }
+        ensures lightens { IfOk result (λ turn. Lightens (length program.now.code.items) turn
+            self.old self.new) }
     {
         let turn = self.act(program.strict.as_slice(), instr, reply)?;
         if !matches!(turn, Turn::Wishes(_)) {
@@ -149,8 +158,11 @@ impl Machine {
         requires { self.old.position < size }
         ensures turn { result ≡ Turn.Moved }
         ensures lightens { Lightens size result self.old self.new }
-        ensures zero { int_eq (last_of self.old.operands.items) (pos 0) ≡ true → self.new.position ≡ self.old.position + 1 + min count (size - (self.old.position + 1)) }
-        ensures other { int_eq (last_of self.old.operands.items) (pos 0) ≡ false → self.new.position ≡ self.old.position + 1 }
+        ensures zero { int_eq (last_of self.old.operands.items) (pos 0) ≡ true
+            → self.new.position ≡ self.old.position + 1 + min count
+            (size - (self.old.position + 1)) }
+        ensures other { int_eq (last_of self.old.operands.items) (pos 0) ≡ false
+            → self.new.position ≡ self.old.position + 1 }
         ensures operands { self.new.operands.items ≡ front_of self.old.operands.items }
         ensures same { SameThread self.old self.new }
         ensures ticks { self.new.ticks ≡ self.old.ticks }
@@ -165,9 +177,13 @@ impl Machine {
 
     // Counts a tick and goes back, where ticks are left.
     fn back(&mut self, count: usize) -> Turn
-        ensures spent { nat_le self.old.budget self.old.ticks ≡ true → result ≡ Turn.Wishes Wish.Budget }
-        ensures more { nat_le self.old.budget self.old.ticks ≡ false → (result ≡ Turn.Moved) × (self.new.position ≡ self.old.position - count) × (self.new.ticks ≡ self.old.ticks + 1) }
-        ensures rests { nat_le self.old.budget self.old.ticks ≡ true → (self.new.position ≡ self.old.position) × (self.new.ticks ≡ self.old.ticks) }
+        ensures spent { nat_le self.old.budget self.old.ticks ≡ true
+            → result ≡ Turn.Wishes Wish.Budget }
+        ensures more { nat_le self.old.budget self.old.ticks ≡ false → (result ≡ Turn.Moved)
+            × (self.new.position ≡ self.old.position - count)
+            × (self.new.ticks ≡ self.old.ticks + 1) }
+        ensures rests { nat_le self.old.budget self.old.ticks ≡ true
+            → (self.new.position ≡ self.old.position) × (self.new.ticks ≡ self.old.ticks) }
         ensures operands { self.new.operands.items ≡ self.old.operands.items }
         ensures same { SameThread self.old self.new }
         ensures lightens { (size : ℕ) → Lightens size result self.old self.new }

@@ -60,7 +60,8 @@ fn is_plain(word: &[u8]) -> bool
 // The int of these digits, where it is one.
 fn value_of(digits: &[u8]) -> Option<i32>
     requires { list_all is_digit digits.now ≡ true }
-    ensures some { MatchOption result (2147483647 < value_from 0 digits.now) (λ x. (x ≡ pos (value_from 0 digits.now)) × (value_from 0 digits.now ≤ 2147483647)) }
+    ensures some { MatchOption result (2147483647 < value_from 0 digits.now)
+        (λ x. (x ≡ pos (value_from 0 digits.now)) × (value_from 0 digits.now ≤ 2147483647)) }
 {
     let mut value: u32 = 0;
     for digit in digits {
@@ -183,7 +184,8 @@ fn skip(bytes: &[u8], count: usize) -> &[u8]
 /// The tokens of a source, if each of its bytes belongs to one or is blank.
 pub(crate) fn tokens_of(alloc: Global, source: &[u8]) -> Result<Option<Vec<Token>>, AllocError>
     requires { length source.now ≤ 1048576 }
-    ensures read { IfOk result (λ o. MatchOption o (spec.tokens_of source.now ≡ None) (λ v. spec.tokens_of source.now ≡ Some v.items)) }
+    ensures read { IfOk result (λ o. MatchOption o (spec.tokens_of source.now ≡ None)
+        (λ v. spec.tokens_of source.now ≡ Some v.items)) }
     ensures few { IfOk result (λ o. IfSome o (λ v. length v.items ≤ 1048576)) }
 {
     let mut tokens = Vec::new(alloc);

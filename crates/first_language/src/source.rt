@@ -33,7 +33,8 @@ fn is_among(names: &[Text], name: &[u8]) -> bool
 
 // Whether a declaration begins here, and whether it is strict.
 fn qualifier(tokens: &mut Tokens<'_>) -> Option<bool>
-    ensures { Qualified (spec.qualifier tokens.old.rest.now) result tokens.old.rest.now tokens.new.rest.now }
+    ensures { Qualified (spec.qualifier tokens.old.rest.now) result tokens.old.rest.now
+        tokens.new.rest.now }
 {
     if let Some(_) = eat(tokens, Fixed::Strict) {
         return Some(true);
@@ -54,7 +55,8 @@ fn new_name(
     names: &[Text],
     tokens: &mut Tokens<'_>,
 ) -> Result<Option<Text>, AllocError>
-    ensures { IfOk result (λ name. NewName (spec.new_name names.now tokens.old.rest.now) name tokens.new.rest.now) }
+    ensures { IfOk result (λ name. NewName (spec.new_name names.now tokens.old.rest.now) name
+        tokens.new.rest.now) }
 {
     let Some(first) = next(tokens) else {
         return Ok(None);
@@ -76,7 +78,8 @@ fn declared_name(
     names: &[Text],
     tokens: &mut Tokens<'_>,
 ) -> Result<Option<Text>, AllocError>
-    ensures { IfOk result (λ name. (q : Qualifier) → Declares (spec.declared names.now q tokens.old.rest.now) q name tokens.new.rest.now) }
+    ensures { IfOk result (λ name. (q : Qualifier)
+        → Declares (spec.declared names.now q tokens.old.rest.now) q name tokens.new.rest.now) }
 {
     let Some(_) = eat(tokens, Fixed::Shared) else {
         return Ok(None);
@@ -96,7 +99,8 @@ fn declared_name(
 /// The declarations of a source.
 fn declarations(alloc: Global, tokens: &mut Tokens<'_>) -> Result<Option<Declared>, AllocError>
     requires { length tokens.old.rest.now ≤ 1048576 }
-    ensures read { IfOk result (λ o. DeclaredAll (spec.declarations (length tokens.old.rest.now) [] tokens.old.rest.now) o tokens.new.rest.now [] []) }
+    ensures read { IfOk result (λ o. DeclaredAll (spec.declarations (length tokens.old.rest.now) []
+        tokens.old.rest.now) o tokens.new.rest.now [] []) }
     ensures few { IfOk result (λ o. IfSome o (λ d. length d.names.items ≤ 1048576)) }
 {
     let mut found = Declared {
@@ -146,7 +150,9 @@ fn ending(
     code: &mut Vec<Instr>,
 ) -> Result<bool, AllocError>
     requires { length names.now ≤ 1048576 }
-    ensures { IfOk result (λ ok. (ds : _) (h : _) (ss : _) → EndsMain (spec.ending names.now ds h ss tokens.old.rest.now) ss ok tokens.new.rest.now code.old.items code.new.items) }
+    ensures { IfOk result (λ ok. (ds : _) (h : _) (ss : _)
+        → EndsMain (spec.ending names.now ds h ss tokens.old.rest.now) ss ok tokens.new.rest.now
+        code.old.items code.new.items) }
 {
     let Some(_) = eat(tokens, Fixed::Return) else {
         return Ok(false);
@@ -172,7 +178,8 @@ fn body(
     tokens: &mut Tokens<'_>,
 ) -> Result<Option<Vec<Instr>>, AllocError>
     requires { length names.now ≤ 1048576 }
-    ensures { IfOk result (λ o. (ds : _) → BodyRead (spec.body names.now ds tokens.old.rest.now) o tokens.new.rest.now) }
+    ensures { IfOk result (λ o. (ds : _) → BodyRead (spec.body names.now ds tokens.old.rest.now) o
+        tokens.new.rest.now) }
 {
     if !head(tokens) {
         return Ok(None);
@@ -192,7 +199,8 @@ fn body(
 // The program of these tokens.
 fn program_of(alloc: Global, tokens: &[Token]) -> Result<Option<First>, AllocError>
     requires { length tokens.now ≤ 1048576 }
-    ensures { IfOk result (λ o. MatchOption o (spec.source tokens.now ≡ None) (λ p. IsProgram (spec.source tokens.now) p)) }
+    ensures { IfOk result (λ o. MatchOption o (spec.source tokens.now ≡ None)
+        (λ p. IsProgram (spec.source tokens.now) p)) }
 {
     let mut left = Tokens { rest: tokens };
     let Some(declared) = declarations(alloc, &mut left)? else {
@@ -213,7 +221,8 @@ fn program_of(alloc: Global, tokens: &[Token]) -> Result<Option<First>, AllocErr
 /// The program of a source of the first language, or none where it is no such source. A source has at most 1,048,576
 /// bytes.
 pub fn read_first(alloc: Global, source: &[u8]) -> Result<Option<First>, AllocError>
-    ensures { IfOk result (λ o. MatchOption o ((p : First) → IsSource source.now p → ⊥) (λ p. IsSource source.now p)) }
+    ensures { IfOk result (λ o. MatchOption o ((p : First) → IsSource source.now p → ⊥)
+        (λ p. IsSource source.now p)) }
 {
     if source.len() > 1048576 {
         return Ok(None);

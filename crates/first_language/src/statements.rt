@@ -25,7 +25,9 @@ pub(crate) fn within(
     code: &mut Vec<Instr>,
 ) -> Result<bool, AllocError>
     requires { length names.now ≤ 1048576 }
-    ensures { IfOk result (λ ok. Parsed emit_statements (spec.within names.now depth tokens.old.rest.now) ok tokens.new.rest.now code.old.items code.new.items) }
+    ensures { IfOk result (λ ok. Parsed emit_statements
+        (spec.within names.now depth tokens.old.rest.now) ok tokens.new.rest.now code.old.items
+        code.new.items) }
 {
     if depth == 0 {
         return Ok(false);
@@ -41,7 +43,9 @@ fn statements(
     code: &mut Vec<Instr>,
 ) -> Result<bool, AllocError>
     requires { length names.now ≤ 1048576 }
-    ensures { IfOk result (λ ok. Parsed emit_statements (spec.statements names.now (spec.within names.now depth) (length tokens.old.rest.now) tokens.old.rest.now) ok tokens.new.rest.now code.old.items code.new.items) }
+    ensures { IfOk result (λ ok. Parsed emit_statements
+        (spec.statements names.now (spec.within names.now depth) (length tokens.old.rest.now)
+        tokens.old.rest.now) ok tokens.new.rest.now code.old.items code.new.items) }
 {
     for _turn in 0..tokens.rest.len() {
         let Some(first) = begin(tokens) else {
@@ -64,7 +68,10 @@ fn statement(
     code: &mut Vec<Instr>,
 ) -> Result<bool, AllocError>
     requires { length names.now ≤ 1048576 }
-    ensures { IfOk result (λ ok. Parsed emit_statement (spec.statement_by names.now (spec.within names.now depth) first.now.kind first.now.place tokens.old.rest.now) ok tokens.new.rest.now code.old.items code.new.items) }
+    ensures { IfOk result (λ ok. Parsed emit_statement
+        (spec.statement_by names.now (spec.within names.now depth) first.now.kind
+        first.now.place tokens.old.rest.now) ok tokens.new.rest.now code.old.items
+        code.new.items) }
 {
     match &first.kind {
         Kind::Fixed(Fixed::While) => repeat(names, depth, tokens, code),
@@ -81,7 +88,9 @@ fn repeat(
     code: &mut Vec<Instr>,
 ) -> Result<bool, AllocError>
     requires { length names.now ≤ 1048576 }
-    ensures { IfOk result (λ ok. (p : _) → Parsed emit_statement (spec.loop names.now (spec.within names.now depth) p tokens.old.rest.now) ok tokens.new.rest.now code.old.items code.new.items) }
+    ensures { IfOk result (λ ok. (p : _)
+        → Parsed emit_statement (spec.loop names.now (spec.within names.now depth) p
+        tokens.old.rest.now) ok tokens.new.rest.now code.old.items code.new.items) }
 {
     let Some(condition) = opening(names, tokens, code)? else {
         return Ok(false);
@@ -104,7 +113,8 @@ fn opening(
     code: &mut Vec<Instr>,
 ) -> Result<Option<usize>, AllocError>
     requires { length names.now ≤ 1048576 }
-    ensures { IfOk result (λ count. Opened (spec.opening names.now tokens.old.rest.now) count tokens.new.rest.now code.old.items code.new.items) }
+    ensures { IfOk result (λ count. Opened (spec.opening names.now tokens.old.rest.now) count
+        tokens.new.rest.now code.old.items code.new.items) }
 {
     let Some(_) = eat(tokens, Fixed::LParen) else {
         return Ok(None);
@@ -128,7 +138,8 @@ fn opening(
 // The body of a loop, between the choice and the way back.
 fn close(condition: usize, body: &[Instr], code: &mut Vec<Instr>) -> Result<(), AllocError>
     requires { condition ≤ length code.old.items }
-    ensures { OnOk result (code.new.items ≡ code.old.items ++ Test (length body.now + 1) ∷ (body.now ++ Back (condition + length body.now + 3) ∷ [])) }
+    ensures { OnOk result (code.new.items ≡ code.old.items ++ Test (length body.now + 1) ∷
+        (body.now ++ Back (condition + length body.now + 3) ∷ [])) }
 {
     code.push(Instr::Test(body.len() + 1))?;
     code.extend_from_slice(body)?;
@@ -166,7 +177,9 @@ fn simple(
     code: &mut Vec<Instr>,
 ) -> Result<bool, AllocError>
     requires { length names.now ≤ 1048576 }
-    ensures { IfOk result (λ ok. (inner : _) (p : _) → kind.now ≢ k.Fixed f.While → Parsed emit_statement (spec.statement_by names.now inner kind.now p tokens.old.rest.now) ok tokens.new.rest.now code.old.items code.new.items) }
+    ensures { IfOk result (λ ok. (inner : _) (p : _) → kind.now ≢ k.Fixed f.While
+        → Parsed emit_statement (spec.statement_by names.now inner kind.now p
+        tokens.old.rest.now) ok tokens.new.rest.now code.old.items code.new.items) }
 {
     match kind {
         Kind::Name(name) => match variable_of(names, name) {
@@ -186,7 +199,9 @@ fn by_word(
     code: &mut Vec<Instr>,
 ) -> Result<bool, AllocError>
     requires { length names.now ≤ 1048576 }
-    ensures { IfOk result (λ ok. (inner : _) (p : _) → word ≢ f.While → Parsed emit_statement (spec.fixed_statement names.now inner word p tokens.old.rest.now) ok tokens.new.rest.now code.old.items code.new.items) }
+    ensures { IfOk result (λ ok. (inner : _) (p : _) → word ≢ f.While
+        → Parsed emit_statement (spec.fixed_statement names.now inner word p
+        tokens.old.rest.now) ok tokens.new.rest.now code.old.items code.new.items) }
 {
     match word {
         Fixed::Barrier => barrier(tokens, code),
@@ -203,7 +218,9 @@ fn assign(
     code: &mut Vec<Instr>,
 ) -> Result<bool, AllocError>
     requires { length names.now ≤ 1048576 }
-    ensures { IfOk result (λ ok. (inner : _) (p : _) → Parsed emit_statement (spec.assign names.now inner v p tokens.old.rest.now) ok tokens.new.rest.now code.old.items code.new.items) }
+    ensures { IfOk result (λ ok. (inner : _) (p : _)
+        → Parsed emit_statement (spec.assign names.now inner v p tokens.old.rest.now) ok
+        tokens.new.rest.now code.old.items code.new.items) }
 {
     let Some(_) = eat(tokens, Fixed::Equal) else {
         return Ok(false);
@@ -219,7 +236,9 @@ fn assign(
 }
 
 fn barrier(tokens: &mut Tokens<'_>, code: &mut Vec<Instr>) -> Result<bool, AllocError>
-    ensures { IfOk result (λ ok. (names : _) (inner : _) (p : _) → Parsed emit_statement (spec.fixed_statement names inner f.Barrier p tokens.old.rest.now) ok tokens.new.rest.now code.old.items code.new.items) }
+    ensures { IfOk result (λ ok. (names : _) (inner : _) (p : _)
+        → Parsed emit_statement (spec.fixed_statement names inner f.Barrier p
+        tokens.old.rest.now) ok tokens.new.rest.now code.old.items code.new.items) }
 {
     let Some(_) = eat(tokens, Fixed::Semicolon) else {
         return Ok(false);
@@ -230,7 +249,9 @@ fn barrier(tokens: &mut Tokens<'_>, code: &mut Vec<Instr>) -> Result<bool, Alloc
 }
 
 fn fence(tokens: &mut Tokens<'_>, code: &mut Vec<Instr>) -> Result<bool, AllocError>
-    ensures { IfOk result (λ ok. (names : _) (inner : _) (p : _) → Parsed emit_statement (spec.fixed_statement names inner f.Fence p tokens.old.rest.now) ok tokens.new.rest.now code.old.items code.new.items) }
+    ensures { IfOk result (λ ok. (names : _) (inner : _) (p : _)
+        → Parsed emit_statement (spec.fixed_statement names inner f.Fence p tokens.old.rest.now)
+        ok tokens.new.rest.now code.old.items code.new.items) }
 {
     let Some(_) = eat(tokens, Fixed::Semicolon) else {
         return Ok(false);
@@ -241,7 +262,9 @@ fn fence(tokens: &mut Tokens<'_>, code: &mut Vec<Instr>) -> Result<bool, AllocEr
 
 fn print(names: &[Text], tokens: &mut Tokens<'_>, code: &mut Vec<Instr>) -> Result<bool, AllocError>
     requires { length names.now ≤ 1048576 }
-    ensures { IfOk result (λ ok. (inner : _) (p : _) → Parsed emit_statement (spec.print names.now inner p tokens.old.rest.now) ok tokens.new.rest.now code.old.items code.new.items) }
+    ensures { IfOk result (λ ok. (inner : _) (p : _)
+        → Parsed emit_statement (spec.print names.now inner p tokens.old.rest.now) ok
+        tokens.new.rest.now code.old.items code.new.items) }
 {
     let Some(_) = eat(tokens, Fixed::LParen) else {
         return Ok(false);

@@ -104,7 +104,8 @@ impl Machine {
         instr: Instr,
         reply: Option<Reply>,
     ) -> Result<Turn, AllocError>
-        ensures acts { IfOk result (λ turn. (t n : ℕ) → Acts t n strict.now instr reply self.old turn self.new) }
+        ensures acts { IfOk result (λ turn. (t n : ℕ) → Acts t n strict.now instr reply self.old
+            turn self.new) }
         ensures keeps { IfOk result (λ _. Keeps self.old self.new) }
         ensures rests { IfOk result (λ turn. Rests turn self.old self.new) }
     {
@@ -127,7 +128,8 @@ impl Machine {
     }
 
     fn push(&mut self, x: i32) -> Result<Turn, AllocError>
-        ensures acts { IfOk result (λ turn. seen turn self.new.operands.items self.new.ticks ≡ Moves (self.old.operands.items ++ x ∷ []) self.old.ticks) }
+        ensures acts { IfOk result (λ turn. seen turn self.new.operands.items self.new.ticks ≡ Moves
+            (self.old.operands.items ++ x ∷ []) self.old.ticks) }
         ensures keeps { IfOk result (λ _. Keeps self.old self.new) }
         ensures rests { IfOk result (λ turn. Rests turn self.old self.new) }
     {
@@ -137,7 +139,8 @@ impl Machine {
 
     // An operator on the last two operands.
     fn operate(&mut self, op: Operator, place: Place) -> Result<Turn, AllocError>
-        ensures acts { IfOk result (λ turn. (t n : ℕ) (strict : _) (reply : _) → Acts t n strict (Operate op place) reply self.old turn self.new) }
+        ensures acts { IfOk result (λ turn. (t n : ℕ) (strict : _) (reply : _)
+            → Acts t n strict (Operate op place) reply self.old turn self.new) }
         ensures keeps { IfOk result (λ _. Keeps self.old self.new) }
         ensures rests { IfOk result (λ turn. Rests turn self.old self.new) }
     {
@@ -153,7 +156,8 @@ impl Machine {
     }
 
     fn fetch(&mut self, strict: bool, v: u32, reply: Option<Reply>) -> Result<Turn, AllocError>
-        ensures acts { IfOk result (λ turn. (t n : ℕ) (all : _) → is_strict all v ≡ strict → Acts t n all (Variable v) reply self.old turn self.new) }
+        ensures acts { IfOk result (λ turn. (t n : ℕ) (all : _) → is_strict all v ≡ strict
+            → Acts t n all (Variable v) reply self.old turn self.new) }
         ensures keeps { IfOk result (λ _. Keeps self.old self.new) }
         ensures rests { IfOk result (λ turn. Rests turn self.old self.new) }
     {
@@ -170,7 +174,8 @@ impl Machine {
     }
 
     fn assign(&mut self, strict: bool, v: u32, reply: Option<Reply>) -> Turn
-        ensures acts { (t n : ℕ) (all : _) → is_strict all v ≡ strict → Acts t n all (Assign v) reply self.old result self.new }
+        ensures acts { (t n : ℕ) (all : _) → is_strict all v ≡ strict
+            → Acts t n all (Assign v) reply self.old result self.new }
         ensures keeps { Keeps self.old self.new }
         ensures rests { Rests result self.old self.new }
     {
@@ -184,7 +189,8 @@ impl Machine {
     }
 
     fn print(&mut self, reply: Option<Reply>) -> Result<Turn, AllocError>
-        ensures acts { IfOk result (λ turn. (t n : ℕ) (strict : _) → Acts t n strict Print reply self.old turn self.new) }
+        ensures acts { IfOk result (λ turn. (t n : ℕ) (strict : _) → Acts t n strict Print reply
+            self.old turn self.new) }
         ensures keeps { IfOk result (λ _. Keeps self.old self.new) }
         ensures rests { IfOk result (λ turn. Rests turn self.old self.new) }
     {
@@ -199,7 +205,8 @@ impl Machine {
 
     // Counts a tick, where some are left.
     fn tick(&mut self) -> Turn
-        ensures acts { (t n : ℕ) (strict : _) (reply : _) → Acts t n strict Tick reply self.old result self.new }
+        ensures acts { (t n : ℕ) (strict : _) (reply : _) → Acts t n strict Tick reply self.old
+            result self.new }
         ensures keeps { Keeps self.old self.new }
         ensures rests { Rests result self.old self.new }
     {
@@ -221,7 +228,8 @@ impl Machine {
     }
 
     fn check(&self) -> Turn
-        ensures { (t n : ℕ) (strict : _) (reply : _) → Acts t n strict Check reply self.now result self.now }
+        ensures { (t n : ℕ) (strict : _) (reply : _) → Acts t n strict Check reply self.now result
+            self.now }
     {
         if self.ticks == self.budget {
             Turn::Wishes(Wish::Budget)

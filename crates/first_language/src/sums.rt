@@ -22,7 +22,8 @@ pub(crate) fn inside(
     code: &mut Vec<Instr>,
 ) -> Result<bool, AllocError>
     requires { length names.now ≤ 1048576 }
-    ensures { IfOk result (λ ok. Parsed emit_sum (spec.inside names.now depth tokens.old.rest.now) ok tokens.new.rest.now code.old.items code.new.items) }
+    ensures { IfOk result (λ ok. Parsed emit_sum (spec.inside names.now depth tokens.old.rest.now)
+        ok tokens.new.rest.now code.old.items code.new.items) }
 {
     if depth == 0 {
         return Ok(false);
@@ -38,7 +39,8 @@ fn sum(
     code: &mut Vec<Instr>,
 ) -> Result<bool, AllocError>
     requires { length names.now ≤ 1048576 }
-    ensures { IfOk result (λ ok. Parsed emit_sum (spec.sum names.now (spec.inside names.now depth) tokens.old.rest.now) ok tokens.new.rest.now code.old.items code.new.items) }
+    ensures { IfOk result (λ ok. Parsed emit_sum (spec.sum names.now (spec.inside names.now depth)
+        tokens.old.rest.now) ok tokens.new.rest.now code.old.items code.new.items) }
 {
     match term(names, depth, tokens, code)? {
         None => Ok(false),
@@ -56,7 +58,9 @@ fn more(
     code: &mut Vec<Instr>,
 ) -> Result<bool, AllocError>
     requires { length names.now ≤ 1048576 }
-    ensures { IfOk result (λ ok. Parsed (emit_more place) (spec.more names.now (spec.inside names.now depth) (length tokens.old.rest.now) tokens.old.rest.now) ok tokens.new.rest.now code.old.items code.new.items) }
+    ensures { IfOk result (λ ok. Parsed (emit_more place)
+        (spec.more names.now (spec.inside names.now depth) (length tokens.old.rest.now)
+        tokens.old.rest.now) ok tokens.new.rest.now code.old.items code.new.items) }
 {
     for _turn in 0..tokens.rest.len() {
         let op = match sign(tokens) {
@@ -79,7 +83,9 @@ fn term(
     code: &mut Vec<Instr>,
 ) -> Result<Option<Place>, AllocError>
     requires { length names.now ≤ 1048576 }
-    ensures { IfOk result (λ at. ParsedAt emit_term term_place (spec.term names.now (spec.inside names.now depth) tokens.old.rest.now) at tokens.new.rest.now code.old.items code.new.items) }
+    ensures { IfOk result (λ at. ParsedAt emit_term term_place
+        (spec.term names.now (spec.inside names.now depth) tokens.old.rest.now) at
+        tokens.new.rest.now code.old.items code.new.items) }
 {
     match atom(names, depth, tokens, code)? {
         None => Ok(None),
@@ -101,7 +107,9 @@ fn factors(
     code: &mut Vec<Instr>,
 ) -> Result<bool, AllocError>
     requires { length names.now ≤ 1048576 }
-    ensures { IfOk result (λ ok. Parsed (emit_factors place) (spec.factors names.now (spec.inside names.now depth) (length tokens.old.rest.now) tokens.old.rest.now) ok tokens.new.rest.now code.old.items code.new.items) }
+    ensures { IfOk result (λ ok. Parsed (emit_factors place)
+        (spec.factors names.now (spec.inside names.now depth) (length tokens.old.rest.now)
+        tokens.old.rest.now) ok tokens.new.rest.now code.old.items code.new.items) }
 {
     for _turn in 0..tokens.rest.len() {
         let Some(_) = eat(tokens, Fixed::Star) else {
@@ -123,7 +131,9 @@ fn atom(
     code: &mut Vec<Instr>,
 ) -> Result<Option<Place>, AllocError>
     requires { length names.now ≤ 1048576 }
-    ensures { IfOk result (λ at. ParsedAt emit_atom place_of (spec.atom names.now (spec.inside names.now depth) tokens.old.rest.now) at tokens.new.rest.now code.old.items code.new.items) }
+    ensures { IfOk result (λ at. ParsedAt emit_atom place_of
+        (spec.atom names.now (spec.inside names.now depth) tokens.old.rest.now) at
+        tokens.new.rest.now code.old.items code.new.items) }
 {
     match tokens.rest {
         [] => Ok(None),
@@ -146,7 +156,9 @@ fn group(
     code: &mut Vec<Instr>,
 ) -> Result<Option<Place>, AllocError>
     requires { length names.now ≤ 1048576 }
-    ensures { IfOk result (λ at. ParsedAt emit_atom place_of (spec.group names.now (spec.inside names.now depth) place tokens.old.rest.now) at tokens.new.rest.now code.old.items code.new.items) }
+    ensures { IfOk result (λ at. ParsedAt emit_atom place_of
+        (spec.group names.now (spec.inside names.now depth) place tokens.old.rest.now) at
+        tokens.new.rest.now code.old.items code.new.items) }
 {
     if !inside(names, depth, tokens, code)? {
         return Ok(None);
@@ -165,7 +177,9 @@ fn leaf(
     code: &mut Vec<Instr>,
 ) -> Result<Option<Place>, AllocError>
     requires { length names.now ≤ 1048576 }
-    ensures { IfOk result (λ at. (inner : _) (rest : _) → kind.now ≢ k.Fixed f.LParen → ParsedAt emit_atom place_of (spec.atom_by names.now inner kind.now place rest) at rest code.old.items code.new.items) }
+    ensures { IfOk result (λ at. (inner : _) (rest : _) → kind.now ≢ k.Fixed f.LParen
+        → ParsedAt emit_atom place_of (spec.atom_by names.now inner kind.now place rest) at rest
+        code.old.items code.new.items) }
 {
     let step = match kind {
         Kind::Number(x) => Instr::Number(*x),

@@ -33,7 +33,8 @@ pub(crate) fn is_fixed(fixed: Fixed, kind: &Kind) -> bool
 
 /// Takes this token, if it comes next, and answers its place.
 pub(crate) fn eat(tokens: &mut Tokens<'_>, fixed: Fixed) -> Option<Place>
-    ensures { Eaten (spec.eat fixed tokens.old.rest.now) result tokens.old.rest.now tokens.new.rest.now }
+    ensures { Eaten (spec.eat fixed tokens.old.rest.now) result tokens.old.rest.now
+        tokens.new.rest.now }
 {
     match tokens.rest {
         [] => None,
