@@ -46,7 +46,9 @@ fn constants(rt: HostRuntime) -> Result<(), Fail> {
         ("1u", "1 UInt"),
         ("4294967296U", "4294967296 ULong"),
         ("1l", "1 Long"),
+        ("0x8000000000000000", "9223372036854775808 ULong"),
         ("0x8000000000000000L", "9223372036854775808 ULong"),
+        ("9223372036854775808u", "9223372036854775808 ULong"),
         ("1ul", "1 ULong"),
         ("1LU", "1 ULong"),
         ("1llu", "1 ULong"),
@@ -108,6 +110,8 @@ fn other_tokens(rt: HostRuntime) -> Result<(), Fail> {
 fn refusals(rt: HostRuntime) -> Result<(), Fail> {
     let rows = [
         ("a\n  @", "2:3 Lex"),
+        ("int @;", "1:5 Lex"),
+        ("int /* x", "1:5 Lex"),
         ("a b/*c\n", "1:4 Lex"),
         ("/*/", "1:1 Lex"),
         ("x 08", "1:3 Lex"),
@@ -121,9 +125,14 @@ fn refusals(rt: HostRuntime) -> Result<(), Fail> {
         ("'ab'", "1:1 Lex"),
         ("'\\x'", "1:1 Lex"),
         ("\"a\nb\"", "1:1 Lex"),
+        ("\"a", "1:1 Lex"),
         ("\"\\9\"", "1:1 Lex"),
         ("\ta 18446744073709551616", "1:4 Limit(2)"),
         ("9223372036854775808", "1:1 Limit(2)"),
+        (
+            "int main(void){return 18446744073709551616;}",
+            "1:23 Limit(2)",
+        ),
         ("0x10000000000000000", "1:1 Limit(2)"),
         ("@ 9223372036854775808", "1:1 Lex"),
     ];

@@ -85,6 +85,7 @@ fn refusals(rt: HostRuntime) -> Result<(), Fail> {
     let rows = [
         ("#define F(x) x", "1:1 Directive"),
         ("x\n  #if 1", "2:3 Directive"),
+        ("#error", "1:1 Directive"),
         ("x # y", "1:3 Directive"),
         ("#define int 1", "1:1 Directive"),
         ("#define NULL 1", "1:1 Directive"),
