@@ -6,10 +6,10 @@ use Rattle.upc_values.specs.declared.action.Action.TheVariants as a
 use Rattle.upc_values.specs.declared.action.Reply.{Reply}
 use Rattle.upc_values.specs.declared.record.ToldEnd.TheVariants as told
 use Rattle.upc_values.specs.declared.scalar.Mark.TheVariants.{Absent, Start, Finish}
-use Rattle.upc_values.specs.Outcomes.{Outcome, fits}
+use Rattle.upc_values.specs.Outcomes.{Outcome}
 use Rattle.first_language.specs.declared.tree.First.{First}
 use Rattle.first_language.specs.declared.instr.Operator.{Operator}
-use Rattle.first_language.specs.Course.{Course, Gives, Over, Asks, Stop, Faults, Spent, bind, ask, outcome_after}
+use Rattle.first_language.specs.Course.{Course, Gives, Over, Asks, Stop, Faults, Spent, bind, ask, fits, outcome_after}
 use Rattle.first_language.specs.Postfix.{read}
 use Rattle.first_language.specs.Tree.{Expr, Number, Variable, Mythread, Threads, Binary, Stmt, Assign, Barrier, Fence, Print, While, Block, End, Then}
 use Rattle.first_language.specs.Meaning.{exact, operate, beat, check, tick, turns, value, statement, statements, course_of, course, meaning}
@@ -124,16 +124,16 @@ module _ (t n b : ℕ) (strict : List Bool) where
 abbrev misfit : List Action → ℕ → Outcome
 misfit done n = record { actions = done; ticks = n; «end» = told.Misfit (length done) }
 
-out_of_ticks : (low budget : ℕ) (rs : List Reply) (done : List Action) (c : Course ℤ) → Spends low budget c
-    → (outcome_after done c rs).«end» ≡ told.OutOfTicks → (outcome_after done c rs).ticks ≡ budget
-out_of_ticks low budget rs done (Gives v n) h e = absurd cc
-out_of_ticks low budget rs done (Over (Faults c p) n) h e = absurd cc
-out_of_ticks low budget rs done (Over Spent n) h e = h
-out_of_ticks low budget [] done (Asks x n after) h e = absurd cc
-out_of_ticks low budget (r ∷ rs) done (Asks x n after) h e =
-    elim (fits x r) as (λ z. (cond z (outcome_after (done ++ x ∷ []) (after r) rs) (misfit done n)).«end» ≡ told.OutOfTicks
-    → (cond z (outcome_after (done ++ x ∷ []) (after r) rs) (misfit done n)).ticks ≡ budget) [
-      | true ↦ λ f. out_of_ticks low budget rs (done ++ x ∷ []) (after r) (h r) f
+out_of_ticks : (threads low budget : ℕ) (rs : List Reply) (done : List Action) (c : Course ℤ) → Spends low budget c
+    → (outcome_after threads done c rs).«end» ≡ told.OutOfTicks → (outcome_after threads done c rs).ticks ≡ budget
+out_of_ticks threads low budget rs done (Gives v n) h e = absurd cc
+out_of_ticks threads low budget rs done (Over (Faults c p) n) h e = absurd cc
+out_of_ticks threads low budget rs done (Over Spent n) h e = h
+out_of_ticks threads low budget [] done (Asks x n after) h e = absurd cc
+out_of_ticks threads low budget (r ∷ rs) done (Asks x n after) h e =
+    elim (fits threads x r) as (λ z. (cond z (outcome_after threads (done ++ x ∷ []) (after r) rs) (misfit done n)).«end» ≡ told.OutOfTicks
+    → (cond z (outcome_after threads (done ++ x ∷ []) (after r) rs) (misfit done n)).ticks ≡ budget) [
+      | true ↦ λ f. out_of_ticks threads low budget rs (done ++ x ∷ []) (after r) (h r) f
       | false ↦ λ f. absurd cc
     ] e
 
@@ -141,4 +141,4 @@ out_of_ticks low budget (r ∷ rs) done (Asks x n after) h e =
 pub spends-budget : (p : First) (t n b : ℕ) (rs : List Reply) → 1 ≤ b → (meaning p t n b rs).«end» ≡ told.OutOfTicks
     → (meaning p t n b rs).ticks ≡ b
 unfolding meaning
-spends-budget p t n b rs h e = out_of_ticks 0 b rs [] (course p t n b) (spends-course t n b p.strict.items (read p.code.items).block (read p.code.items).result h) e
+spends-budget p t n b rs h e = out_of_ticks n 0 b rs [] (course p t n b) (spends-course t n b p.strict.items (read p.code.items).block (read p.code.items).result h) e

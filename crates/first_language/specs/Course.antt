@@ -1,11 +1,14 @@
 -- What a thread does: it gives a value, ends, or asks for an action and goes on by the reply.
-use Rattle.std.specs.Prelude.{ℕ, ℤ, cond, List, [], ◌∷◌, ◌++◌, length}
+use Rattle.std.specs.Prelude.{ℕ, ℤ, Bool, cond, List, [], ◌∷◌, ◌++◌, length, Some}
 use Rattle.upc_values.specs.declared.action.Action.{Action}
 use Rattle.upc_values.specs.declared.action.Reply.{Reply}
 use Rattle.upc_values.specs.declared.record.ToldEnd.{ToldEnd}
 use Rattle.upc_values.specs.declared.record.ToldEnd.TheVariants.{Wants, Misfit, Ended, Fault, OutOfTicks}
 use Rattle.upc_text.specs.declared.place.Place.{Place}
-use Rattle.upc_values.specs.Outcomes.{Outcome, fits}
+use Rattle.block_layout.specs.declared.kind.Kind.TheVariants as kind
+use Rattle.block_layout.specs.declared.kind.Shape.{Shape}
+use Rattle.upc_values.specs.Outcomes.{Outcome}
+use Rattle.upc_values.specs.Formed as formed
 
 -- how a thread ends before main returns: by a run error, or where its ticks are spent
 pub data Stop : Type 0 where
@@ -32,11 +35,19 @@ bind (Asks a n after) go = Asks a n (λ r. bind (after r) go)
 abbrev pub ask : Action → ℕ → Course (Unit {0})
 ask a n = Asks a n (λ r. Gives tt n)
 
--- the outcome on a list of replies, where these actions were answered before
-abbrev pub outcome_after : List Action → Course ℤ → List Reply → Outcome
-outcome_after done (Gives v n) replies = record { actions = done; ticks = n; «end» = Ended v }
-outcome_after done (Over e n) replies = record { actions = done; ticks = n; «end» = told_stop e }
-outcome_after done (Asks a n after) [] = record { actions = done; ticks = n; «end» = Wants a }
-outcome_after done (Asks a n after) (r ∷ replies) =
-    cond (fits a r) (outcome_after (done ++ a ∷ []) (after r) replies)
+-- the shapes of shared objects: one int
+abbrev pub shapes : List Shape
+shapes = record { size = 4; cells = (0, kind.Int) ∷ [] } ∷ []
+
+-- the reply fits the action, on so many threads, where all that is read is of type int
+abbrev pub fits : ℕ → Action → Reply → Bool
+fits threads a r = formed.fits threads shapes (Some kind.Int) a r
+
+-- the outcome on a list of replies, on so many threads, where these actions were answered before
+abbrev pub outcome_after : ℕ → List Action → Course ℤ → List Reply → Outcome
+outcome_after threads done (Gives v n) replies = record { actions = done; ticks = n; «end» = Ended v }
+outcome_after threads done (Over e n) replies = record { actions = done; ticks = n; «end» = told_stop e }
+outcome_after threads done (Asks a n after) [] = record { actions = done; ticks = n; «end» = Wants a }
+outcome_after threads done (Asks a n after) (r ∷ replies) =
+    cond (fits threads a r) (outcome_after threads (done ++ a ∷ []) (after r) replies)
     (record { actions = done; ticks = n; «end» = Misfit (length done) })

@@ -5,10 +5,9 @@ pub mod Meaning
 pub mod Ahead
 pub mod Machine
 pub mod Turns
+pub mod Options
 pub mod Words
-pub mod Scan
-pub mod Syntax
-pub mod Source
-pub mod Parse
+pub mod Sums
+pub mod Statements
+pub mod Unit
 pub mod Emit
-pub mod Heads

@@ -4,13 +4,12 @@ use Rattle.upc_values.specs.declared.action.Action.{Action}
 use Rattle.upc_values.specs.declared.action.Reply.{Reply}
 use Rattle.upc_values.specs.declared.record.ToldEnd.{ToldEnd}
 use Rattle.upc_values.specs.declared.record.ToldEnd.TheVariants as told
-use Rattle.upc_values.specs.Outcomes.{fits}
 use Rattle.first_language.specs.declared.instr.Instr.{Instr}
 use Rattle.first_language.specs.declared.tree.First.{First}
 use Rattle.first_language.specs.declared.machine.Wish.{Wish}
 use Rattle.first_language.specs.declared.machine.Wish.TheVariants.{Act, Ended, Exit, Fault, Budget}
 use Rattle.first_language.specs.declared.machine.Machine.{Machine}
-use Rattle.first_language.specs.Course.{Course, Gives, Over, Asks, told_stop}
+use Rattle.first_language.specs.Course.{Course, Gives, Over, Asks, told_stop, fits}
 use Rattle.first_language.specs.Meaning.{course, meaning}
 use Rattle.first_language.specs.Ahead.{Item, code_items, AreClosed, AreTimely, left_by}
 
@@ -33,12 +32,12 @@ end_of (Gives v n) = told.Ended v
 end_of (Over e n) = told_stop e
 end_of (Asks a n after) = told.Wants a
 
--- by these replies, each of which fits, the first course comes to the second
-abbrev pub Comes : Course ℤ → List Reply → Course ℤ → Type 0
-Comes c [] d = c ≡ d
-Comes (Gives v n) (r ∷ rs) d = ⊥
-Comes (Over e n) (r ∷ rs) d = ⊥
-Comes (Asks a n after) (r ∷ rs) d = (fits a r ≡ true) × Comes (after r) rs d
+-- by these replies, each of which fits on so many threads, the first course comes to the second
+abbrev pub Comes : ℕ → Course ℤ → List Reply → Course ℤ → Type 0
+Comes threads c [] d = c ≡ d
+Comes threads (Gives v n) (r ∷ rs) d = ⊥
+Comes threads (Over e n) (r ∷ rs) d = ⊥
+Comes threads (Asks a n after) (r ∷ rs) d = (fits threads a r ≡ true) × Comes threads (after r) rs d
 
 -- a course goes on by a reply, where it asks and one is given
 abbrev pub advance : Course ℤ → Option Reply → Course ℤ
@@ -75,7 +74,7 @@ Resumes p reply before w after =
 -- the machine has had just these replies, in order: program, thread, threads, budget, replies
 unfoldable pub Stands : First → ℕ → ℕ → ℕ → List Reply → Machine → Type 0
 Stands p t n b given m =
-    (c : Course ℤ) × Comes (course p t n b) given c × Runs p t n b m c × (ticks_of c ≡ m.ticks)
+    (c : Course ℤ) × Comes n (course p t n b) given c × Runs p t n b m c × (ticks_of c ≡ m.ticks)
 
 -- the machine has been resumed
 unfoldable pub HasAsked : Machine → Type 0
@@ -88,4 +87,4 @@ listed (Some r) = r ∷ []
 -- the reply is none, or answers the action that the source wants
 abbrev pub Answers : First → ℕ → ℕ → ℕ → List Reply → Option Reply → Type 0
 Answers p t n b given None = Unit {0}
-Answers p t n b given (Some r) = (a : Action) × ((meaning p t n b given).«end» ≡ told.Wants a) × (fits a r ≡ true)
+Answers p t n b given (Some r) = (a : Action) × ((meaning p t n b given).«end» ≡ told.Wants a) × (fits n a r ≡ true)

@@ -1,8 +1,9 @@
 -- The meaning of a program (C99 6.5, 6.8; UPC 6.5.1, 6.6.1): what a thread does, whatever it is answered.
-use Rattle.std.specs.Prelude.{ℕ, zero, suc, ℤ, pos, ◌+ℤ◌, ◌-ℤ◌, ◌*ℤ◌, ◌==◌, nat_le, ◌+◌, ◌-◌, ◌%◌, ◌++◌, Bool, false, cond, List, [], ◌∷◌, length, slice_index_or}
+use Rattle.std.specs.Prelude.{ℕ, zero, suc, ℤ, pos, ◌+ℤ◌, ◌-ℤ◌, ◌*ℤ◌, ◌==◌, nat_le, ◌+◌, ◌-◌, ◌*◌, ◌%◌, ◌++◌, Bool, false, cond, List, [], ◌∷◌, length, slice_index_or}
 use Rattle.std.specs.Fmt.{signed_decimal}
 use Rattle.std.specs.Ordering.{int_eq}
 use Rattle.block_layout.specs.declared.place.Loc.{Loc}
+use Rattle.block_layout.specs.declared.place.ObjectRef.{ObjectRef}
 use Rattle.upc_text.specs.declared.place.Place.{Place}
 use Rattle.upc_values.specs.declared.scalar.Scalar.TheVariants.{Int}
 use Rattle.upc_values.specs.declared.scalar.Mark.TheVariants.{Absent, Start, Finish}
@@ -10,13 +11,13 @@ use Rattle.upc_values.specs.declared.action.Action.TheVariants as a
 use Rattle.upc_values.specs.declared.action.Reply.{Reply}
 use Rattle.upc_values.specs.declared.action.Reply.TheVariants.{Value}
 use Rattle.upc_values.specs.Scalars.{is_int}
-use Rattle.upc_values.specs.Legal.{Opening}
+use Rattle.upc_values.specs.Openings.{Opening}
 use Rattle.upc_values.specs.Outcomes.{Outcome}
 use Rattle.first_language.specs.declared.instr.Operator.{Operator}
 use Rattle.first_language.specs.declared.instr.Operator.TheVariants.{Plus, Minus, Times}
 use Rattle.first_language.specs.declared.tree.First.{First}
 use Rattle.first_language.specs.Tree.{Expr, Number, Variable, Mythread, Threads, Binary, Stmt, Assign, Barrier, Fence, Print, While, Block, End, Then, Program}
-use Rattle.first_language.specs.Course.{Course, Gives, Over, Asks, Faults, Spent, bind, ask, outcome_after}
+use Rattle.first_language.specs.Course.{Course, Gives, Over, Asks, Faults, Spent, bind, ask, shapes, outcome_after}
 use Rattle.first_language.specs.Postfix.{read}
 
 -- the exact result
@@ -120,17 +121,21 @@ course p thread threads budget =
 
 -- the outcome of a source: program, thread, threads, budget, replies
 unfoldable pub meaning : First → ℕ → ℕ → ℕ → List Reply → Outcome
-meaning p thread threads budget replies = outcome_after [] (course p thread threads budget) replies
+meaning p thread threads budget replies = outcome_after threads [] (course p thread threads budget) replies
 
--- the locations of the first n variables
-abbrev pub locs : ℕ → List Loc
-locs zero = []
-locs (suc n) = locs n ++ loc_of (suc n) ∷ []
+-- the object of a variable, from 1: one int on thread 0, behind those before it (UPC 6.5.1.1)
+abbrev pub object_of : ℕ → ObjectRef
+object_of v = record { number = v; total = 4; block = 4; home = 0; shape = 0; base = 4 * (v - 1) }
 
--- the shared cells of a source
-unfoldable pub cells_of : First → List Loc
-cells_of p = locs (length p.strict.items)
+-- the objects of the first n variables
+abbrev pub objects : ℕ → List ObjectRef
+objects zero = []
+objects (suc n) = objects n ++ object_of (suc n) ∷ []
 
--- what a run of it on so many threads begins with
+-- the shared objects of a source, in order of declaration
+unfoldable pub declared_of : First → List ObjectRef
+declared_of p = objects (length p.strict.items)
+
+-- what a run of it on so many threads begins with: each variable is 0 (C99 6.7.8)
 abbrev pub opening_of : First → ℕ → Opening
-opening_of p n = record { threads = n; cells = cells_of p }
+opening_of p n = record { threads = n; declared = declared_of p; initials = []; shapes = shapes }

@@ -1,32 +1,26 @@
--- The words of the first language, and the words that are no names (C99 6.4.1; UPC 6.1).
-use Rattle.std.specs.Prelude.{ℕ, Bool, List, [], codes, find, Option, nat_eq}
+-- The names that no variable may have.
+use Rattle.std.specs.Prelude.{ℕ, Bool, true, false, not, List, codes, Option, Some, None, nat_eq, slice_get}
 use Rattle.std.specs.List.{list_any}
 use Rattle.std.specs.Cmp.Lexicographic.{pointwise}
-use Rattle.first_language.specs.declared.token.Fixed.{Fixed}
-use Rattle.first_language.specs.declared.token.Fixed.TheVariants.{Int, Main, Void, Return, Strict, Relaxed, Shared, Mythread, Threads, Barrier, Fence, Printf, While}
-use Rattle.first_language.specs.declared.words.TheConstants.{WORDS, RESERVED}
+use Rattle.upc_tree.specs.declared.span.Name.{Name}
+use Rattle.first_language.specs.declared.words.TheConstants.{RESERVED}
 
--- how a word is spelled; other tokens have no letters
-abbrev pub word_bytes : Fixed → List ℕ
-word_bytes Int = codes "int"
-word_bytes Main = codes "main"
-word_bytes Void = codes "void"
-word_bytes Return = codes "return"
-word_bytes Strict = codes "strict"
-word_bytes Relaxed = codes "relaxed"
-word_bytes Shared = codes "shared"
-word_bytes Mythread = codes "MYTHREAD"
-word_bytes Threads = codes "THREADS"
-word_bytes Barrier = codes "upc_barrier"
-word_bytes Fence = codes "upc_fence"
-word_bytes Printf = codes "printf"
-word_bytes While = codes "while"
-word_bytes f = []
-
--- the word that is spelled so
-abbrev pub fixed_word : List ℕ → Option Fixed
-fixed_word text = find (λ f. pointwise nat_eq (word_bytes f) text) WORDS
-
--- the text is another word, or a name of the library
+-- the text is a name of the library (UPC 7), `main`, or `NULL`
 unfoldable pub is_reserved : List ℕ → Bool
 is_reserved text = list_any (λ r. pointwise nat_eq r.now text) RESERVED
+
+abbrev pub is_text : List ℕ → Option (List ℕ) → Bool
+is_text text None = false
+is_text text (Some name) = pointwise nat_eq name text
+
+abbrev pub is_free_text : Option (List ℕ) → Bool
+is_free_text None = false
+is_free_text (Some name) = not (is_reserved name)
+
+-- among these names, the name is spelled so
+abbrev pub is_named : List (List ℕ) → List ℕ → Name → Bool
+is_named names text name = is_text text (slice_get names name.number)
+
+-- among these names, the name is one that a variable may have
+abbrev pub is_free : List (List ℕ) → Name → Bool
+is_free names name = is_free_text (slice_get names name.number)

@@ -1,145 +1,239 @@
-//! The parser of statements. Each rule answers whether it applies, and writes the steps of what it reads.
+//! Statements: which of them the first language has, and the steps of each.
 
-ghost use Rattle.std.specs.Prelude.{◌≡◌, ◌≢◌, ◌≤◌, ◌+◌, ◌++◌, ◌∷◌, [], length, IfOk, OnOk};
-ghost use Rattle.first_language.specs.declared.token.Fixed.TheVariants as f;
-ghost use Rattle.first_language.specs.declared.token.Kind.TheVariants as k;
-ghost use Rattle.first_language.specs.declared.instr.Instr.TheVariants.{Test, Back};
-ghost use Rattle.first_language.specs.Parse as spec;
-ghost use Rattle.first_language.specs.Emit.{Parsed, emit_statement, emit_statements, Opened, Begun};
-ghost use Rattle.std.specs.Option.{option_copied};
+ghost use Rattle.std.specs.Prelude.{◌≡◌, ◌≤◌, ◌+◌, ◌++◌, ◌∷◌, [], length, map, Some, IfOk, OnOk};
+ghost use Rattle.upc_tree.specs.View.{view, view_arguments, view_next_expr};
+ghost use Rattle.upc_tree.specs.Lists.{next_exprs_of, block_items_of};
+ghost use Rattle.upc_tree.specs.ViewStatement.{view_value, view_test, view_statement, view_compound, view_block_item};
+ghost use Rattle.first_language.specs.declared.instr.Instr.TheVariants as i;
+ghost use Rattle.first_language.specs.Tree.{Fence};
+ghost use Rattle.first_language.specs.Statements as spec;
+ghost use Rattle.first_language.specs.Statements.{is_plain, is_format, is_printf, statement_of, body_of, block_of, items_of, item_of};
+ghost use Rattle.first_language.specs.Emit.{Writes, Opened, emit_expr, emit_stmt, emit_block};
 
 use crate::instr::Instr;
-use crate::sums::inside;
-use crate::token::{Fixed, Kind, Token};
-use crate::tokens::{Tokens, eat, is_fixed, variable_of};
+use crate::sums::{sum, variable_of};
+use crate::words::is_named;
+use indexmap::IndexSet;
 use std::alloc::AllocError;
-use upc_text::Text;
+use upc_lexer::Names;
+use upc_tree::{
+    Arguments, AssignMark, BarrierWord, BlockItem, Compound, Expr, NextExpr, Statement, Test,
+};
 use upc_values::Mark;
 
-/// The statements of a loop inside at most `depth` - 1 others.
-#[cycle(statements)]
-pub(crate) fn within(
-    names: &[Text],
-    depth: u32,
-    tokens: &mut Tokens<'_>,
-    code: &mut Vec<Instr>,
-) -> Result<bool, AllocError>
-    requires { length names.now ≤ 1048576 }
-    ensures { IfOk result (λ ok. Parsed emit_statements
-        (spec.within names.now depth tokens.old.rest.now) ok tokens.new.rest.now code.old.items
-        code.new.items) }
+fn is_plain(mark: AssignMark) -> bool
+    ensures { result ≡ is_plain mark }
 {
-    if depth == 0 {
-        return Ok(false);
-    }
-    statements(names, depth - 1, tokens, code)
+    matches!(mark, AssignMark::Assign)
 }
 
-#[cycle(statements)]
-fn statements(
-    names: &[Text],
-    depth: u32,
-    tokens: &mut Tokens<'_>,
-    code: &mut Vec<Instr>,
-) -> Result<bool, AllocError>
-    requires { length names.now ≤ 1048576 }
-    ensures { IfOk result (λ ok. Parsed emit_statements
-        (spec.statements names.now (spec.within names.now depth) (length tokens.old.rest.now)
-        tokens.old.rest.now) ok tokens.new.rest.now code.old.items code.new.items) }
+/// Whether the expression is the string "%d\n".
+fn is_format(e: &Expr) -> bool
+    ensures { result ≡ is_format (view e.now) }
 {
-    for _turn in 0..tokens.rest.len() {
-        let Some(first) = begin(tokens) else {
-            return Ok(true);
-        };
-        if !statement(names, depth, first, tokens, code)? {
-            return Ok(false);
+    match e {
+        Expr::Strings { first, more } => {
+            more.is_empty() && first.bytes.as_slice() == b"%d\n".as_slice()
         }
+        _ => false,
     }
+}
+
+fn is_printf(names: &Names, e: &Expr) -> bool
+    ensures { result ≡ is_printf names.now (view e.now) }
+{
+    match e {
+        Expr::Name(name) => is_named(names, b"printf", *name),
+        _ => false,
+    }
+}
+
+/// The variable that an expression names.
+fn target_of(variables: &IndexSet<u32>, e: &Expr) -> Option<u32>
+    requires { length variables.now.keys ≤ 1048576 }
+    ensures { result ≡ spec.target_of variables.now.keys (view e.now) }
+{
+    match e {
+        Expr::Name(name) => variable_of(variables, name.number),
+        _ => None,
+    }
+}
+
+/// Writes the steps of the one sum in a list.
+fn alone(
+    variables: &IndexSet<u32>,
+    more: &[NextExpr],
+    code: &mut Vec<Instr>,
+) -> Result<bool, AllocError>
+    requires { length variables.now.keys ≤ 1048576 }
+    ensures { IfOk result (λ ok. Writes emit_expr (spec.alone variables.now.keys
+        (next_exprs_of (map view_next_expr more.now))) ok code.old.items code.new.items) }
+{
+    match more {
+        [] => Ok(false),
+        [next] => sum(variables, &next.value, code),
+        [_first, _second, _more @ ..] => Ok(false),
+    }
+}
+
+/// Writes the steps of the sum in `("%d\n", sum)`.
+fn printed(
+    variables: &IndexSet<u32>,
+    arguments: &Arguments,
+    code: &mut Vec<Instr>,
+) -> Result<bool, AllocError>
+    requires { length variables.now.keys ≤ 1048576 }
+    ensures { IfOk result (λ ok. Writes emit_expr (spec.printed variables.now.keys
+        (view_arguments arguments.now)) ok code.old.items code.new.items) }
+{
+    match arguments {
+        Arguments::Filled { first, more, .. } => {
+            if !is_format(first) {
+                return Ok(false);
+            }
+            alone(variables, more.as_slice(), code)
+        }
+        Arguments::Empty { .. } => Ok(false),
+    }
+}
+
+/// Writes the steps of `printf("%d\n", sum)`.
+fn print(
+    names: &Names,
+    variables: &IndexSet<u32>,
+    callee: &Expr,
+    arguments: &Arguments,
+    code: &mut Vec<Instr>,
+) -> Result<bool, AllocError>
+    requires { length variables.now.keys ≤ 1048576 }
+    ensures { IfOk result (λ ok. Writes emit_stmt (spec.print_of names.now variables.now.keys
+        (view callee.now) (view_arguments arguments.now)) ok code.old.items code.new.items) }
+{
+    if !is_printf(names, callee) {
+        return Ok(false);
+    }
+    if !printed(variables, arguments, code)? {
+        return Ok(false);
+    }
+    code.push(Instr::Print)?;
     Ok(true)
 }
 
-// A statement that begins with this token.
-#[cycle(statements)]
-fn statement(
-    names: &[Text],
-    depth: u32,
-    first: &Token,
-    tokens: &mut Tokens<'_>,
+/// Writes the steps of `name = sum`.
+fn assignment(
+    variables: &IndexSet<u32>,
+    left: &Expr,
+    mark: AssignMark,
+    right: &Expr,
     code: &mut Vec<Instr>,
 ) -> Result<bool, AllocError>
-    requires { length names.now ≤ 1048576 }
-    ensures { IfOk result (λ ok. Parsed emit_statement
-        (spec.statement_by names.now (spec.within names.now depth) first.now.kind
-        first.now.place tokens.old.rest.now) ok tokens.new.rest.now code.old.items
-        code.new.items) }
+    requires { length variables.now.keys ≤ 1048576 }
+    ensures { IfOk result (λ ok. Writes emit_stmt (spec.assignment_of variables.now.keys
+        (view left.now) mark (view right.now)) ok code.old.items code.new.items) }
 {
-    match &first.kind {
-        Kind::Fixed(Fixed::While) => repeat(names, depth, tokens, code),
-        kind => simple(names, kind, tokens, code),
-    }
-}
-
-// A loop, behind its word.
-#[cycle(statements)]
-fn repeat(
-    names: &[Text],
-    depth: u32,
-    tokens: &mut Tokens<'_>,
-    code: &mut Vec<Instr>,
-) -> Result<bool, AllocError>
-    requires { length names.now ≤ 1048576 }
-    ensures { IfOk result (λ ok. (p : _)
-        → Parsed emit_statement (spec.loop names.now (spec.within names.now depth) p
-        tokens.old.rest.now) ok tokens.new.rest.now code.old.items code.new.items) }
-{
-    let Some(condition) = opening(names, tokens, code)? else {
-        return Ok(false);
-    };
-    let mut body = Vec::new(*code.allocator());
-    if !within(names, depth, tokens, &mut body)? {
+    if !is_plain(mark) {
         return Ok(false);
     }
-    let Some(_) = eat(tokens, Fixed::RBrace) else {
+    let Some(v) = target_of(variables, left) else {
         return Ok(false);
     };
-    close(condition, body.as_slice(), code)?;
+    if !sum(variables, right, code)? {
+        return Ok(false);
+    }
+    code.push(Instr::Assign(v))?;
     Ok(true)
 }
 
-// Up to the body of a loop; the number of steps of its condition.
+/// Writes the steps of an expression that is a statement.
+fn action(
+    names: &Names,
+    variables: &IndexSet<u32>,
+    e: &Expr,
+    code: &mut Vec<Instr>,
+) -> Result<bool, AllocError>
+    requires { length variables.now.keys ≤ 1048576 }
+    ensures { IfOk result (λ ok. Writes emit_stmt (spec.action_of names.now variables.now.keys
+        (view e.now)) ok code.old.items code.new.items) }
+{
+    match e {
+        Expr::Assign {
+            left,
+            mark,
+            right,
+            ..
+        } => assignment(variables, left, *mark, right, code),
+        Expr::Call {
+            callee,
+            arguments,
+            ..
+        } => print(names, variables, callee, arguments, code),
+        _ => Ok(false),
+    }
+}
+
+fn value(
+    names: &Names,
+    variables: &IndexSet<u32>,
+    e: &Option<Expr>,
+    code: &mut Vec<Instr>,
+) -> Result<bool, AllocError>
+    requires { length variables.now.keys ≤ 1048576 }
+    ensures { IfOk result (λ ok. Writes emit_stmt (spec.value_of names.now variables.now.keys
+        (view_value e.now)) ok code.old.items code.new.items) }
+{
+    match e {
+        None => Ok(false),
+        Some(e) => action(names, variables, e, code),
+    }
+}
+
+/// Writes the steps of `upc_barrier`.
+fn barrier(word: BarrierWord, e: &Option<Expr>, code: &mut Vec<Instr>) -> Result<bool, AllocError>
+    ensures { IfOk result (λ ok. Writes emit_stmt (spec.barrier_of word (view_value e.now)) ok
+        code.old.items code.new.items) }
+{
+    match (word, e) {
+        (BarrierWord::Barrier, None) => {
+            code.push(Instr::Notify(Mark::Absent))?;
+            code.push(Instr::Wait(Mark::Absent))?;
+            Ok(true)
+        }
+        _ => Ok(false),
+    }
+}
+
+fn fence(code: &mut Vec<Instr>) -> Result<bool, AllocError>
+    ensures { IfOk result (λ ok. Writes emit_stmt (Some Fence) ok code.old.items code.new.items) }
+{
+    code.push(Instr::Fence)?;
+    Ok(true)
+}
+
+/// Writes the steps of a loop up to its body, and answers how many its condition has.
 fn opening(
-    names: &[Text],
-    tokens: &mut Tokens<'_>,
+    variables: &IndexSet<u32>,
+    test: &Test,
     code: &mut Vec<Instr>,
 ) -> Result<Option<usize>, AllocError>
-    requires { length names.now ≤ 1048576 }
-    ensures { IfOk result (λ count. Opened (spec.opening names.now tokens.old.rest.now) count
-        tokens.new.rest.now code.old.items code.new.items) }
+    requires { length variables.now.keys ≤ 1048576 }
+    ensures { IfOk result (λ count. Opened (spec.test_of variables.now.keys (view_test test.now))
+        count code.old.items code.new.items) }
 {
-    let Some(_) = eat(tokens, Fixed::LParen) else {
-        return Ok(None);
-    };
     code.push(Instr::Tick)?;
     code.push(Instr::Beat)?;
     code.push(Instr::Check)?;
     let before = code.len();
-    if !inside(names, 65, tokens, code)? {
+    if !sum(variables, &test.value, code)? {
         return Ok(None);
     }
-    let Some(_) = eat(tokens, Fixed::RParen) else {
-        return Ok(None);
-    };
-    let Some(_) = eat(tokens, Fixed::LBrace) else {
-        return Ok(None);
-    };
     Ok(Some(code.len() - before))
 }
 
-// The body of a loop, between the choice and the way back.
+/// Writes the body of a loop, between the choice and the way back.
 fn close(condition: usize, body: &[Instr], code: &mut Vec<Instr>) -> Result<(), AllocError>
     requires { condition ≤ length code.old.items }
-    ensures { OnOk result (code.new.items ≡ code.old.items ++ Test (length body.now + 1) ∷
-        (body.now ++ Back (condition + length body.now + 3) ∷ [])) }
+    ensures { OnOk result (code.new.items ≡ code.old.items ++ i.Test (length body.now + 1) ∷
+        (body.now ++ i.Back (condition + length body.now + 3) ∷ [])) }
 {
     code.push(Instr::Test(body.len() + 1))?;
     code.extend_from_slice(body)?;
@@ -147,143 +241,138 @@ fn close(condition: usize, body: &[Instr], code: &mut Vec<Instr>) -> Result<(), 
     Ok(())
 }
 
-// Takes the first token of a statement, unless the statements end here.
-fn begin<'a>(tokens: &mut Tokens<'a>) -> Option<&'a Token>
-    ensures { Begun tokens.old.rest.now (option_copied result) tokens.new.rest.now }
+/// Writes the steps of a statement behind the others, and answers whether it is one of the language.
+#[cycle(statements)]
+fn statement(
+    names: &Names,
+    variables: &IndexSet<u32>,
+    s: &Statement,
+    code: &mut Vec<Instr>,
+) -> Result<bool, AllocError>
+    requires { length variables.now.keys ≤ 1048576 }
+    ensures { IfOk result (λ ok. Writes emit_stmt (statement_of names.now variables.now.keys
+        (view_statement s.now)) ok code.old.items code.new.items) }
 {
-    match tokens.rest {
-        [] => None,
-        [first, rest @ ..] => {
-            if ends(&first.kind) {
-                return None;
-            }
-            tokens.rest = rest;
-            Some(first)
+    match s {
+        Statement::Expression { value: e, .. } => value(names, variables, e, code),
+        Statement::While { test, body, .. } => repeat(names, variables, test, body, code),
+        Statement::Barrier { word, value: e, .. } => barrier(*word, e, code),
+        Statement::Fence { .. } => fence(code),
+        Statement::Compound(_)
+        | Statement::If { .. }
+        | Statement::Switch { .. }
+        | Statement::DoWhile { .. }
+        | Statement::For { .. }
+        | Statement::Forall { .. }
+        | Statement::Break { .. }
+        | Statement::Continue { .. }
+        | Statement::Return { .. } => Ok(false),
+    }
+}
+
+/// Writes the steps of a loop.
+#[cycle(statements)]
+fn repeat(
+    names: &Names,
+    variables: &IndexSet<u32>,
+    test: &Test,
+    inner: &Statement,
+    code: &mut Vec<Instr>,
+) -> Result<bool, AllocError>
+    requires { length variables.now.keys ≤ 1048576 }
+    ensures { IfOk result (λ ok. Writes emit_stmt (spec.loop_of variables.now.keys (view_test test.now)
+        (body_of names.now variables.now.keys (view_statement inner.now))) ok code.old.items code.new.items) }
+{
+    let Some(condition) = opening(variables, test, code)? else {
+        return Ok(false);
+    };
+    let mut steps = Vec::new(*code.allocator());
+    if !body(names, variables, inner, &mut steps)? {
+        return Ok(false);
+    }
+    close(condition, steps.as_slice(), code)?;
+    Ok(true)
+}
+
+/// Writes the steps of the body of a loop.
+#[cycle(statements)]
+fn body(
+    names: &Names,
+    variables: &IndexSet<u32>,
+    s: &Statement,
+    code: &mut Vec<Instr>,
+) -> Result<bool, AllocError>
+    requires { length variables.now.keys ≤ 1048576 }
+    ensures { IfOk result (λ ok. Writes emit_block (body_of names.now variables.now.keys
+        (view_statement s.now)) ok code.old.items code.new.items) }
+{
+    match s {
+        Statement::Compound(compound) => block(names, variables, compound, code),
+        Statement::Expression { .. }
+        | Statement::If { .. }
+        | Statement::Switch { .. }
+        | Statement::While { .. }
+        | Statement::DoWhile { .. }
+        | Statement::For { .. }
+        | Statement::Forall { .. }
+        | Statement::Break { .. }
+        | Statement::Continue { .. }
+        | Statement::Return { .. }
+        | Statement::Barrier { .. }
+        | Statement::Fence { .. } => Ok(false),
+    }
+}
+
+#[cycle(statements)]
+fn block(
+    names: &Names,
+    variables: &IndexSet<u32>,
+    compound: &Compound,
+    code: &mut Vec<Instr>,
+) -> Result<bool, AllocError>
+    requires { length variables.now.keys ≤ 1048576 }
+    ensures { IfOk result (λ ok. Writes emit_block (block_of names.now variables.now.keys
+        (view_compound compound.now)) ok code.old.items code.new.items) }
+{
+    if !compound.pragmas.is_empty() {
+        return Ok(false);
+    }
+    items(names, variables, compound.items.as_slice(), code)
+}
+
+/// Writes the steps of statements, one after another.
+#[cycle(statements)]
+pub(crate) fn items(
+    names: &Names,
+    variables: &IndexSet<u32>,
+    items: &[BlockItem],
+    code: &mut Vec<Instr>,
+) -> Result<bool, AllocError>
+    requires { length variables.now.keys ≤ 1048576 }
+    ensures { IfOk result (λ ok. Writes emit_block (items_of names.now variables.now.keys
+        (block_items_of (map view_block_item items.now))) ok code.old.items code.new.items) }
+{
+    for part in items {
+        if !item(names, variables, part, code)? {
+            return Ok(false);
         }
     }
+    Ok(true)
 }
 
-fn ends(kind: &Kind) -> bool
-    ensures { result ≡ spec.ends kind.now }
-{
-    is_fixed(Fixed::Return, kind) || is_fixed(Fixed::RBrace, kind)
-}
-
-// A statement other than a loop, behind its first token.
-fn simple(
-    names: &[Text],
-    kind: &Kind,
-    tokens: &mut Tokens<'_>,
+#[cycle(statements)]
+fn item(
+    names: &Names,
+    variables: &IndexSet<u32>,
+    item: &BlockItem,
     code: &mut Vec<Instr>,
 ) -> Result<bool, AllocError>
-    requires { length names.now ≤ 1048576 }
-    ensures { IfOk result (λ ok. (inner : _) (p : _) → kind.now ≢ k.Fixed f.While
-        → Parsed emit_statement (spec.statement_by names.now inner kind.now p
-        tokens.old.rest.now) ok tokens.new.rest.now code.old.items code.new.items) }
+    requires { length variables.now.keys ≤ 1048576 }
+    ensures { IfOk result (λ ok. Writes emit_stmt (item_of names.now variables.now.keys
+        (view_block_item item.now)) ok code.old.items code.new.items) }
 {
-    match kind {
-        Kind::Name(name) => match variable_of(names, name) {
-            None => Ok(false),
-            Some(v) => assign(names, v, tokens, code),
-        },
-        Kind::Fixed(word) => by_word(names, *word, tokens, code),
-        Kind::Number(_) => Ok(false),
+    match item {
+        BlockItem::Declaration(_) => Ok(false),
+        BlockItem::Statement(s) => statement(names, variables, s, code),
     }
-}
-
-// A statement that begins with a word other than `while`.
-fn by_word(
-    names: &[Text],
-    word: Fixed,
-    tokens: &mut Tokens<'_>,
-    code: &mut Vec<Instr>,
-) -> Result<bool, AllocError>
-    requires { length names.now ≤ 1048576 }
-    ensures { IfOk result (λ ok. (inner : _) (p : _) → word ≢ f.While
-        → Parsed emit_statement (spec.fixed_statement names.now inner word p
-        tokens.old.rest.now) ok tokens.new.rest.now code.old.items code.new.items) }
-{
-    match word {
-        Fixed::Barrier => barrier(tokens, code),
-        Fixed::Fence => fence(tokens, code),
-        Fixed::Printf => print(names, tokens, code),
-        _ => Ok(false),
-    }
-}
-
-fn assign(
-    names: &[Text],
-    v: u32,
-    tokens: &mut Tokens<'_>,
-    code: &mut Vec<Instr>,
-) -> Result<bool, AllocError>
-    requires { length names.now ≤ 1048576 }
-    ensures { IfOk result (λ ok. (inner : _) (p : _)
-        → Parsed emit_statement (spec.assign names.now inner v p tokens.old.rest.now) ok
-        tokens.new.rest.now code.old.items code.new.items) }
-{
-    let Some(_) = eat(tokens, Fixed::Equal) else {
-        return Ok(false);
-    };
-    if !inside(names, 65, tokens, code)? {
-        return Ok(false);
-    }
-    let Some(_) = eat(tokens, Fixed::Semicolon) else {
-        return Ok(false);
-    };
-    code.push(Instr::Assign(v))?;
-    Ok(true)
-}
-
-fn barrier(tokens: &mut Tokens<'_>, code: &mut Vec<Instr>) -> Result<bool, AllocError>
-    ensures { IfOk result (λ ok. (names : _) (inner : _) (p : _)
-        → Parsed emit_statement (spec.fixed_statement names inner f.Barrier p
-        tokens.old.rest.now) ok tokens.new.rest.now code.old.items code.new.items) }
-{
-    let Some(_) = eat(tokens, Fixed::Semicolon) else {
-        return Ok(false);
-    };
-    code.push(Instr::Notify(Mark::Absent))?;
-    code.push(Instr::Wait(Mark::Absent))?;
-    Ok(true)
-}
-
-fn fence(tokens: &mut Tokens<'_>, code: &mut Vec<Instr>) -> Result<bool, AllocError>
-    ensures { IfOk result (λ ok. (names : _) (inner : _) (p : _)
-        → Parsed emit_statement (spec.fixed_statement names inner f.Fence p tokens.old.rest.now)
-        ok tokens.new.rest.now code.old.items code.new.items) }
-{
-    let Some(_) = eat(tokens, Fixed::Semicolon) else {
-        return Ok(false);
-    };
-    code.push(Instr::Fence)?;
-    Ok(true)
-}
-
-fn print(names: &[Text], tokens: &mut Tokens<'_>, code: &mut Vec<Instr>) -> Result<bool, AllocError>
-    requires { length names.now ≤ 1048576 }
-    ensures { IfOk result (λ ok. (inner : _) (p : _)
-        → Parsed emit_statement (spec.print names.now inner p tokens.old.rest.now) ok
-        tokens.new.rest.now code.old.items code.new.items) }
-{
-    let Some(_) = eat(tokens, Fixed::LParen) else {
-        return Ok(false);
-    };
-    let Some(_) = eat(tokens, Fixed::Format) else {
-        return Ok(false);
-    };
-    let Some(_) = eat(tokens, Fixed::Comma) else {
-        return Ok(false);
-    };
-    if !inside(names, 65, tokens, code)? {
-        return Ok(false);
-    }
-    let Some(_) = eat(tokens, Fixed::RParen) else {
-        return Ok(false);
-    };
-    let Some(_) = eat(tokens, Fixed::Semicolon) else {
-        return Ok(false);
-    };
-    code.push(Instr::Print)?;
-    Ok(true)
 }

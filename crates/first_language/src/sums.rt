@@ -1,209 +1,154 @@
-//! The parser of sums. Each rule answers whether it applies, and writes the steps of what it reads.
+//! Sums: which expressions they are, and the steps of each.
 
-ghost use Rattle.std.specs.Prelude.{◌≡◌, ◌≢◌, ◌≤◌, length, IfOk};
-ghost use Rattle.first_language.specs.declared.token.Fixed.TheVariants as f;
-ghost use Rattle.first_language.specs.declared.token.Kind.TheVariants as k;
-ghost use Rattle.first_language.specs.Parse as spec;
-ghost use Rattle.first_language.specs.Syntax.{place_of};
-ghost use Rattle.first_language.specs.Emit.{Parsed, ParsedAt, emit_atom, emit_factors, emit_term, emit_more, emit_sum, term_place, Signed};
+ghost use Rattle.std.specs.Prelude.{◌≡◌, IfOk, length, ◌≤◌};
+ghost use Rattle.upc_tree.specs.View.{view};
+ghost use Rattle.first_language.specs.Sums as spec;
+ghost use Rattle.first_language.specs.Sums.{place_of, variable_of, operator_of, sum_of};
+ghost use Rattle.first_language.specs.Emit.{Writes, emit_expr};
 
 use crate::instr::{Instr, Operator};
-use crate::token::{Fixed, Kind};
-use crate::tokens::{Tokens, eat, variable_of};
+use indexmap::IndexSet;
 use std::alloc::AllocError;
-use upc_text::{Place, Text};
+use upc_lexer::NumberKind;
+use upc_text::Place;
+use upc_tree::{BinaryMark, ConstantWord, Expr};
 
-/// A sum inside parentheses, that nest at most `depth` - 1 deep in it.
-#[cycle(sums)]
-pub(crate) fn inside(
-    names: &[Text],
-    depth: u32,
-    tokens: &mut Tokens<'_>,
-    code: &mut Vec<Instr>,
-) -> Result<bool, AllocError>
-    requires { length names.now ≤ 1048576 }
-    ensures { IfOk result (λ ok. Parsed emit_sum (spec.inside names.now depth tokens.old.rest.now)
-        ok tokens.new.rest.now code.old.items code.new.items) }
+/// The place of the first token of an expression.
+pub(crate) fn place_of(e: &Expr) -> Place
+    ensures { result ≡ place_of (view e.now) }
 {
-    if depth == 0 {
-        return Ok(false);
-    }
-    sum(names, depth - 1, tokens, code)
-}
-
-#[cycle(sums)]
-fn sum(
-    names: &[Text],
-    depth: u32,
-    tokens: &mut Tokens<'_>,
-    code: &mut Vec<Instr>,
-) -> Result<bool, AllocError>
-    requires { length names.now ≤ 1048576 }
-    ensures { IfOk result (λ ok. Parsed emit_sum (spec.sum names.now (spec.inside names.now depth)
-        tokens.old.rest.now) ok tokens.new.rest.now code.old.items code.new.items) }
-{
-    match term(names, depth, tokens, code)? {
-        None => Ok(false),
-        Some(place) => more(names, depth, place, tokens, code),
-    }
-}
-
-// Further terms of a sum that begins at the place.
-#[cycle(sums)]
-fn more(
-    names: &[Text],
-    depth: u32,
-    place: Place,
-    tokens: &mut Tokens<'_>,
-    code: &mut Vec<Instr>,
-) -> Result<bool, AllocError>
-    requires { length names.now ≤ 1048576 }
-    ensures { IfOk result (λ ok. Parsed (emit_more place)
-        (spec.more names.now (spec.inside names.now depth) (length tokens.old.rest.now)
-        tokens.old.rest.now) ok tokens.new.rest.now code.old.items code.new.items) }
-{
-    for _turn in 0..tokens.rest.len() {
-        let op = match sign(tokens) {
-            None => return Ok(true),
-            Some(op) => op,
-        };
-        match term(names, depth, tokens, code)? {
-            None => return Ok(false),
-            Some(_) => code.push(Instr::Operate(op, place))?,
+    match e {
+        Expr::Name(name) => name.span.place,
+        Expr::Number { span, .. } | Expr::Character { span, .. } | Expr::Constant { span, .. } =>
+            span.place,
+        Expr::Strings { first, .. } => first.span.place,
+        Expr::Paren { open, .. } | Expr::Cast { open, .. } => open.place,
+        Expr::Subscript { base, .. } | Expr::Member { base, .. } | Expr::Postfix { base, .. } => {
+            place_of(base)
         }
+        Expr::Call { callee, .. } => place_of(callee),
+        Expr::Unary { at, .. } | Expr::SizeOfExpr { at, .. } | Expr::SizeOfType { at, .. } => {
+            at.place
+        }
+        Expr::Binary { left, .. } | Expr::Assign { left, .. } => place_of(left),
+        Expr::Conditional { test, .. } => place_of(test),
+        Expr::Comma { first, .. } => place_of(first),
     }
-    Ok(true)
 }
 
-#[cycle(sums)]
-fn term(
-    names: &[Text],
-    depth: u32,
-    tokens: &mut Tokens<'_>,
-    code: &mut Vec<Instr>,
-) -> Result<Option<Place>, AllocError>
-    requires { length names.now ≤ 1048576 }
-    ensures { IfOk result (λ at. ParsedAt emit_term term_place
-        (spec.term names.now (spec.inside names.now depth) tokens.old.rest.now) at
-        tokens.new.rest.now code.old.items code.new.items) }
+/// The number of a variable, from 1, by the number of its name.
+pub(crate) fn variable_of(variables: &IndexSet<u32>, number: u32) -> Option<u32>
+    requires { length variables.now.keys ≤ 1048576 }
+    ensures { result ≡ variable_of variables.now.keys number }
 {
-    match atom(names, depth, tokens, code)? {
-        None => Ok(None),
-        Some(place) => if factors(names, depth, place, tokens, code)? {
-            Ok(Some(place))
-        } else {
-            Ok(None)
-        },
+    match variables.get_index_of(&number) {
+        None => None,
+        Some(index) => Some(index as u32 + 1),
     }
 }
 
-// Further factors of a term that begins at the place.
+fn operator_of(mark: BinaryMark) -> Option<Operator>
+    ensures { result ≡ operator_of mark }
+{
+    match mark {
+        BinaryMark::Add => Some(Operator::Plus),
+        BinaryMark::Subtract => Some(Operator::Minus),
+        BinaryMark::Multiply => Some(Operator::Times),
+        _ => None,
+    }
+}
+
+/// Writes the steps of an expression behind the others, and answers whether it is a sum.
 #[cycle(sums)]
-fn factors(
-    names: &[Text],
-    depth: u32,
-    place: Place,
-    tokens: &mut Tokens<'_>,
+pub(crate) fn sum(
+    variables: &IndexSet<u32>,
+    e: &Expr,
     code: &mut Vec<Instr>,
 ) -> Result<bool, AllocError>
-    requires { length names.now ≤ 1048576 }
-    ensures { IfOk result (λ ok. Parsed (emit_factors place)
-        (spec.factors names.now (spec.inside names.now depth) (length tokens.old.rest.now)
-        tokens.old.rest.now) ok tokens.new.rest.now code.old.items code.new.items) }
-{
-    for _turn in 0..tokens.rest.len() {
-        let Some(_) = eat(tokens, Fixed::Star) else {
-            return Ok(true);
-        };
-        match atom(names, depth, tokens, code)? {
-            None => return Ok(false),
-            Some(_) => code.push(Instr::Operate(Operator::Times, place))?,
-        }
-    }
-    Ok(true)
-}
-
-#[cycle(sums)]
-fn atom(
-    names: &[Text],
-    depth: u32,
-    tokens: &mut Tokens<'_>,
-    code: &mut Vec<Instr>,
-) -> Result<Option<Place>, AllocError>
-    requires { length names.now ≤ 1048576 }
-    ensures { IfOk result (λ at. ParsedAt emit_atom place_of
-        (spec.atom names.now (spec.inside names.now depth) tokens.old.rest.now) at
-        tokens.new.rest.now code.old.items code.new.items) }
-{
-    match tokens.rest {
-        [] => Ok(None),
-        [first, rest @ ..] => {
-            tokens.rest = rest;
-            match &first.kind {
-                Kind::Fixed(Fixed::LParen) => group(names, depth, first.place, tokens, code),
-                kind => leaf(names, kind, first.place, code),
-            }
-        }
-    }
-}
-
-#[cycle(sums)]
-fn group(
-    names: &[Text],
-    depth: u32,
-    place: Place,
-    tokens: &mut Tokens<'_>,
-    code: &mut Vec<Instr>,
-) -> Result<Option<Place>, AllocError>
-    requires { length names.now ≤ 1048576 }
-    ensures { IfOk result (λ at. ParsedAt emit_atom place_of
-        (spec.group names.now (spec.inside names.now depth) place tokens.old.rest.now) at
-        tokens.new.rest.now code.old.items code.new.items) }
-{
-    if !inside(names, depth, tokens, code)? {
-        return Ok(None);
-    }
-    match eat(tokens, Fixed::RParen) {
-        None => Ok(None),
-        Some(_) => Ok(Some(place)),
-    }
-}
-
-// An atom of one token, other than a parenthesis.
-fn leaf(
-    names: &[Text],
-    kind: &Kind,
-    place: Place,
-    code: &mut Vec<Instr>,
-) -> Result<Option<Place>, AllocError>
-    requires { length names.now ≤ 1048576 }
-    ensures { IfOk result (λ at. (inner : _) (rest : _) → kind.now ≢ k.Fixed f.LParen
-        → ParsedAt emit_atom place_of (spec.atom_by names.now inner kind.now place rest) at rest
+    requires { length variables.now.keys ≤ 1048576 }
+    ensures { IfOk result (λ ok. Writes emit_expr (sum_of variables.now.keys (view e.now)) ok
         code.old.items code.new.items) }
 {
-    let step = match kind {
-        Kind::Number(x) => Instr::Number(*x),
-        Kind::Name(name) => match variable_of(names, name) {
-            None => return Ok(None),
-            Some(v) => Instr::Variable(v),
-        },
-        Kind::Fixed(Fixed::Mythread) => Instr::Mythread,
-        Kind::Fixed(Fixed::Threads) => Instr::Threads,
-        Kind::Fixed(_) => return Ok(None),
-    };
-    code.push(step)?;
-    Ok(Some(place))
+    match e {
+        Expr::Name(name) => variable(variables, name.number, code),
+        Expr::Number { value, kind, .. } => number(*value, *kind, code),
+        Expr::Constant { word, .. } => constant(*word, code),
+        Expr::Paren { inner, .. } => sum(variables, inner, code),
+        Expr::Binary {
+            left,
+            mark,
+            right,
+            ..
+        } => {
+            let Some(operator) = operator_of(*mark) else {
+                return Ok(false);
+            };
+            if !sum(variables, left, code)? {
+                return Ok(false);
+            }
+            if !sum(variables, right, code)? {
+                return Ok(false);
+            }
+            code.push(Instr::Operate(operator, place_of(left)))?;
+            Ok(true)
+        }
+        Expr::Character { .. }
+        | Expr::Strings { .. }
+        | Expr::Subscript { .. }
+        | Expr::Call { .. }
+        | Expr::Member { .. }
+        | Expr::Postfix { .. }
+        | Expr::Unary { .. }
+        | Expr::SizeOfExpr { .. }
+        | Expr::SizeOfType { .. }
+        | Expr::Cast { .. }
+        | Expr::Assign { .. }
+        | Expr::Conditional { .. }
+        | Expr::Comma { .. } => Ok(false),
+    }
 }
 
-// The sign that goes on with a sum.
-fn sign(tokens: &mut Tokens<'_>) -> Option<Operator>
-    ensures { Signed tokens.old.rest.now result tokens.new.rest.now }
+fn variable(
+    variables: &IndexSet<u32>,
+    number: u32,
+    code: &mut Vec<Instr>,
+) -> Result<bool, AllocError>
+    requires { length variables.now.keys ≤ 1048576 }
+    ensures { IfOk result (λ ok. Writes emit_expr (spec.named_sum variables.now.keys number) ok
+        code.old.items code.new.items) }
 {
-    if let Some(_) = eat(tokens, Fixed::Plus) {
-        return Some(Operator::Plus);
+    let Some(v) = variable_of(variables, number) else {
+        return Ok(false);
+    };
+    code.push(Instr::Variable(v))?;
+    Ok(true)
+}
+
+fn number(value: u64, kind: NumberKind, code: &mut Vec<Instr>) -> Result<bool, AllocError>
+    ensures { IfOk result (λ ok. Writes emit_expr (spec.number_of value kind) ok code.old.items
+        code.new.items) }
+{
+    match kind {
+        NumberKind::Int => {
+            if value > 2147483647 {
+                return Ok(false);
+            }
+            code.push(Instr::Number(value as i32))?;
+            Ok(true)
+        }
+        NumberKind::UInt | NumberKind::Long | NumberKind::ULong => Ok(false),
     }
-    if let Some(_) = eat(tokens, Fixed::Minus) {
-        return Some(Operator::Minus);
-    }
-    None
+}
+
+fn constant(word: ConstantWord, code: &mut Vec<Instr>) -> Result<bool, AllocError>
+    ensures { IfOk result (λ ok. Writes emit_expr (spec.constant_of word) ok code.old.items
+        code.new.items) }
+{
+    let step = match word {
+        ConstantWord::Mythread => Instr::Mythread,
+        ConstantWord::Threads => Instr::Threads,
+        ConstantWord::MaxBlockSize => return Ok(false),
+    };
+    code.push(step)?;
+    Ok(true)
 }

@@ -1,300 +1,209 @@
-//! Sources, and what a thread does by them.
+//! A tree, and what a thread does by it.
 
-ghost use Rattle.std.specs.Prelude.{◌≤◌};
-
-use crate::machine::{Machine, Wish};
-use crate::source::read_first;
+use crate::{First, Machine, Wish, first_of};
 use std::alloc::{AllocError, Global};
+use std::test::Fail;
+use upc_lexer::{Names, NumberKind, lex};
+use upc_text::{Place, Text};
+use upc_tree::{
+    Arguments, AssignMark, BinaryMark, BlockItem, Compound, Declaration, Declarator, Declared,
+    DeclaredList, Expr, External, Function, Initial, Layout, Name, NextExpr, Parameters, Qual,
+    Span, Spec, Statement, StringLiteral, Test, TypeWord, Unit, tokens_of,
+};
 use upc_values::{Action, Reply, Scalar};
 
-/// What a thread came to.
-#[derive(PartialEq, Eq, Debug, Clone, Copy)]
-enum Came {
-    /// It is no source.
-    Nowhere,
-    Ended(i32),
-    Fault(u8, u32, u32),
-    Budget(u64),
-    Elsewhere,
+const HERE: Span = Span {
+    start: 0,
+    end: 1,
+    place: Place { line: 1, column: 1 },
+};
+
+fn name(number: u32) -> Name {
+    Name { number, span: HERE }
 }
 
-/// What it printed, how many Beats it asked for, and what it came to.
-#[derive(Drop)]
-struct Run {
-    out: Vec<u8>,
-    beats: u32,
-    came: Came,
-}
-
-impl Run {
-    // Answers an action, as a memory does that only this thread uses.
-    fn answer(&mut self, cells: &mut Vec<i128>, action: &Action) -> Result<Reply, AllocError> {
-        match action {
-            Action::Read { loc, strict: _ } => {
-                let at = loc.object as usize;
-                if at < cells.len() {
-                    return Ok(Reply::Value(Scalar::Int(cells[at])));
-                }
-            }
-            Action::Write {
-                loc,
-                value: Scalar::Int(x),
-                strict: _,
-            } => {
-                let at = loc.object as usize;
-                if at < cells.len() {
-                    cells[at] = *x;
-                }
-            }
-            Action::Print(text) => self.out.extend_from_slice(text.as_slice())?,
-            Action::Beat => self.beats = self.beats.wrapping_add(1),
-            _ => {}
-        }
-        Ok(Reply::Done)
+fn int(value: u64) -> Expr {
+    Expr::Number {
+        value,
+        kind: NumberKind::Int,
+        span: HERE,
     }
 }
 
-// Thread 0 of 2 runs the source, with this budget.
-fn carry_out(alloc: Global, source: &[u8], budget: u64) -> Result<Run, AllocError>
-    requires { 1 ≤ budget }
-{
-    let mut run = Run {
-        out: Vec::new(alloc),
-        beats: 0,
-        came: Came::Nowhere,
+fn binary(alloc: Global, left: Expr, mark: BinaryMark, right: Expr) -> Result<Expr, Fail> {
+    Ok(Expr::Binary {
+        left: Box::new(alloc, left)?,
+        mark,
+        at: HERE,
+        right: Box::new(alloc, right)?,
+    })
+}
+
+// x = 6 * 7;
+fn assignment(alloc: Global) -> Result<BlockItem, Fail> {
+    let product = binary(alloc, int(6), BinaryMark::Multiply, int(7))?;
+    Ok(BlockItem::Statement(Statement::Expression {
+        value: Some(Expr::Assign {
+            left: Box::new(alloc, Expr::Name(name(0)))?,
+            mark: AssignMark::Assign,
+            at: HERE,
+            right: Box::new(alloc, product)?,
+        }),
+        semicolon: HERE,
+    }))
+}
+
+// while (x - 42) {}
+fn repeat(alloc: Global) -> Result<BlockItem, Fail> {
+    let value = binary(alloc, Expr::Name(name(0)), BinaryMark::Subtract, int(42))?;
+    let body = Statement::Compound(Compound {
+        open: HERE,
+        pragmas: Vec::new(alloc),
+        items: Vec::new(alloc),
+        close: HERE,
+    });
+    Ok(BlockItem::Statement(Statement::While {
+        word: HERE,
+        test: Test {
+            open: HERE,
+            value,
+            close: HERE,
+        },
+        body: Box::new(alloc, body)?,
+    }))
+}
+
+// printf("%d\n", x);
+fn print(alloc: Global) -> Result<BlockItem, Fail> {
+    let format = Expr::Strings {
+        first: StringLiteral {
+            bytes: Text::from_slice(alloc, b"%d\n")?,
+            span: HERE,
+        },
+        more: Vec::new(alloc),
     };
-    let Some(program) = read_first(alloc, source)? else {
-        return Ok(run);
+    let mut more = Vec::new(alloc);
+    more.push(NextExpr {
+        comma: HERE,
+        value: Expr::Name(name(0)),
+    })?;
+    Ok(BlockItem::Statement(Statement::Expression {
+        value: Some(Expr::Call {
+            callee: Box::new(alloc, Expr::Name(name(2)))?,
+            open: HERE,
+            arguments: Arguments::Filled {
+                first: Box::new(alloc, format)?,
+                more,
+                close: HERE,
+            },
+        }),
+        semicolon: HERE,
+    }))
+}
+
+// shared int x;
+fn declaration(alloc: Global) -> Result<External, Fail> {
+    let mut specs = Vec::new(alloc);
+    specs.push(Spec::Qual(Qual::Shared {
+        word: HERE,
+        layout: Layout::Absent,
+    }))?;
+    specs.push(Spec::Word {
+        word: TypeWord::Int,
+        span: HERE,
+    })?;
+    let first = Declared {
+        declarator: Declarator::Object {
+            pointers: Vec::new(alloc),
+            name: name(0),
+            sizes: Vec::new(alloc),
+        },
+        initial: Initial::Absent,
     };
-    run.came = Came::Elsewhere;
-    let mut cells = Vec::new(alloc);
-    cells.push(0i128)?;
-    for _cell in 0..program.cells(alloc)?.len() {
-        cells.push(0i128)?;
-    }
-    let mut machine = Machine::make(alloc, &program, 0, 2, budget)?;
+    Ok(External::Declaration(Declaration {
+        specs,
+        declared: Some(DeclaredList {
+            first,
+            more: Vec::new(alloc),
+        }),
+        semicolon: HERE,
+    }))
+}
+
+// int main() { .. return x; }
+fn main_function(alloc: Global) -> Result<External, Fail> {
+    let mut specs = Vec::new(alloc);
+    specs.push(Spec::Word {
+        word: TypeWord::Int,
+        span: HERE,
+    })?;
+    let mut items = Vec::new(alloc);
+    items.push(assignment(alloc)?)?;
+    items.push(repeat(alloc)?)?;
+    items.push(print(alloc)?)?;
+    items.push(BlockItem::Statement(Statement::Return {
+        word: HERE,
+        value: Some(Expr::Name(name(0))),
+        semicolon: HERE,
+    }))?;
+    Ok(External::Function(Function {
+        specs,
+        pointers: Vec::new(alloc),
+        name: name(1),
+        parameters: Parameters::Empty {
+            open: HERE,
+            close: HERE,
+        },
+        body: Compound {
+            open: HERE,
+            pragmas: Vec::new(alloc),
+            items,
+            close: HERE,
+        },
+    }))
+}
+
+// What is printed and returned by thread 0 of 1, over a memory that only it uses.
+fn carry_out(alloc: Global, program: &First) -> Result<(Vec<u8>, Option<i32>), AllocError> {
+    let mut out = Vec::new(alloc);
+    let mut cell = 0i128;
+    let mut machine = Machine::make(alloc, program, 0, 1, 1024)?;
     let mut reply = None;
-    for _turn in 0..1000000 {
-        match machine.resume(&program, reply)? {
-            Wish::Act(action) => reply = Some(run.answer(&mut cells, &action)?),
-            Wish::Ended(value) => {
-                run.came = Came::Ended(value);
-                return Ok(run);
+    for _turn in 0..1000 {
+        match machine.resume(program, reply)? {
+            Wish::Act(Action::Read { .. }) => reply = Some(Reply::Value(Scalar::Int(cell))),
+            Wish::Act(Action::Write { value, .. }) => {
+                if let Scalar::Int(x) = value {
+                    cell = x;
+                }
+                reply = Some(Reply::Done);
             }
-            Wish::Fault(number, place) => {
-                run.came = Came::Fault(number, place.line, place.column);
-                return Ok(run);
+            Wish::Act(Action::Print(text)) => {
+                out.extend_from_slice(text.as_slice())?;
+                reply = Some(Reply::Done);
             }
-            Wish::Budget => {
-                run.came = Came::Budget(machine.ticks());
-                return Ok(run);
-            }
-            Wish::Exit(_) => return Ok(run),
+            Wish::Act(_) => reply = Some(Reply::Done),
+            Wish::Ended(value) => return Ok((out, Some(value))),
+            Wish::Fault(_, _) | Wish::Budget | Wish::Exit(_) => return Ok((out, None)),
         }
     }
-    Ok(run)
-}
-
-// The text, so many times.
-fn repeated(alloc: Global, parts: &[(&str, usize)]) -> Result<Vec<u8>, AllocError> {
-    let mut text = Vec::new(alloc);
-    for (part, count) in parts {
-        for _time in 0..*count {
-            text.extend_from_slice(part.as_bytes())?;
-        }
-    }
-    Ok(text)
-}
-
-const SOURCES: [(&str, &str, Came); 22] = [
-    (
-        "strict shared int x;\nint main() {\n  x = 6 * 7;\n  upc_barrier;\n  printf(\"%d\\n\", x);\n  return 0;\n}\n",
-        "42\n",
-        Came::Ended(0),
-    ),
-    (
-        "strict shared int x; int main(){x = 2147483647 + 1; return 0;}",
-        "",
-        Came::Fault(1, 1, 37),
-    ),
-    (
-        "int main(void){return 2147483647 + 1;}",
-        "",
-        Came::Fault(1, 1, 23),
-    ),
-    (
-        "int main(){return\n 1 - 2147483647 * (3) - 2;}",
-        "",
-        Came::Fault(1, 2, 6),
-    ),
-    ("int main(void){return 100;}", "", Came::Ended(100)),
-    ("int main(){return 1 - 2 - 3;}", "", Came::Ended(-4)),
-    ("int main(){return 2 + 3 * 4;}", "", Came::Ended(14)),
-    ("int main(){return (2 + 3) * 4;}", "", Came::Ended(20)),
-    (
-        "int main(){return MYTHREAD + 10 * THREADS;}",
-        "",
-        Came::Ended(20),
-    ),
-    (
-        "shared int i; relaxed shared int s; int main(){i = 3; while (i) { s = s + i; i = i - 1; } printf(\"%d\\n\", s); upc_fence; return s;}",
-        "6\n",
-        Came::Ended(6),
-    ),
-    (
-        "shared int x; shared int y; int main(){y = 5; printf(\"%d\\n\", 0 - x - y); return 0;}",
-        "-5\n",
-        Came::Ended(0),
-    ),
-    (
-        "int main(void){while (1) {} return 0;}",
-        "",
-        Came::Budget(1024),
-    ),
-    (
-        "int main(){return 2147483647;}",
-        "",
-        Came::Ended(2147483647),
-    ),
-    ("int main(){return 2147483648;}", "", Came::Nowhere),
-    ("int main(){return 01;}", "", Came::Nowhere),
-    ("", "", Came::Nowhere),
-    ("int main(){return y;}", "", Came::Nowhere),
-    (
-        "shared int x; shared int x; int main(){return 0;}",
-        "",
-        Came::Nowhere,
-    ),
-    (
-        "shared int upc_lock; int main(){return 0;}",
-        "",
-        Came::Nowhere,
-    ),
-    ("intmain(){return 0;}", "", Came::Nowhere),
-    ("int main(){return 0;} }", "", Came::Nowhere),
-    ("int main(){return 1 + + 1;}", "", Came::Nowhere),
-];
-
-#[test]
-fn sources(rt: HostRuntime) {
-    let alloc = rt.alloc();
-    for (source, out, came) in SOURCES.iter() {
-        let run = carry_out(alloc, source.as_bytes(), 1024).expect(&rt, "memory");
-        assert!(rt; run.came == *came, "{source}: {:?}", run.came);
-        assert!(rt; run.out.as_slice() == out.as_bytes(), "{source}");
-        assert!(rt;
-            (run.beats == 1) == (*came == Came::Budget(1024)),
-            "{source}"
-        );
-    }
+    Ok((out, None))
 }
 
 #[test]
-fn bounds(rt: HostRuntime) {
+fn a_tree(rt: HostRuntime) -> Result<(), Fail> {
     let alloc = rt.alloc();
-    let rows = [
-        (
-            repeated(
-                alloc,
-                &[
-                    ("int main(){return ", 1),
-                    ("(", 64),
-                    ("7", 1),
-                    (")", 64),
-                    (";}", 1),
-                ],
-            ),
-            Came::Ended(7),
-        ),
-        (
-            repeated(
-                alloc,
-                &[
-                    ("int main(){return ", 1),
-                    ("(", 65),
-                    ("7", 1),
-                    (")", 65),
-                    (";}", 1),
-                ],
-            ),
-            Came::Nowhere,
-        ),
-        (
-            repeated(
-                alloc,
-                &[
-                    ("int main(){", 1),
-                    ("while(0){", 64),
-                    ("}", 64),
-                    ("return 7;}", 1),
-                ],
-            ),
-            Came::Ended(7),
-        ),
-        (
-            repeated(
-                alloc,
-                &[
-                    ("int main(){", 1),
-                    ("while(0){", 65),
-                    ("}", 65),
-                    ("return 7;}", 1),
-                ],
-            ),
-            Came::Nowhere,
-        ),
-        (
-            repeated(
-                alloc,
-                &[
-                    ("shared int ", 1),
-                    ("a", 255),
-                    ("; int main(){return 7;}", 1),
-                ],
-            ),
-            Came::Ended(7),
-        ),
-        (
-            repeated(
-                alloc,
-                &[
-                    ("shared int ", 1),
-                    ("a", 256),
-                    ("; int main(){return 7;}", 1),
-                ],
-            ),
-            Came::Nowhere,
-        ),
-        (
-            repeated(
-                alloc,
-                &[("int main(){return 0", 1), ("+1", 300000), (";}", 1)],
-            ),
-            Came::Ended(300000),
-        ),
-        (
-            repeated(
-                alloc,
-                &[
-                    ("int main(){", 1),
-                    ("upc_fence;", 100000),
-                    ("return 7;}", 1),
-                ],
-            ),
-            Came::Ended(7),
-        ),
-        (
-            repeated(alloc, &[("int main(){return 7;}", 1), (" ", 1048555)]),
-            Came::Ended(7),
-        ),
-        (
-            repeated(alloc, &[("int main(){return 7;}", 1), (" ", 1048556)]),
-            Came::Nowhere,
-        ),
-    ];
-    for (source, came) in rows {
-        let source = source.expect(&rt, "memory");
-        let run = carry_out(alloc, source.as_slice(), 1024).expect(&rt, "memory");
-        assert!(rt; run.came == came, "{:?} for {came:?}", run.came);
-    }
+    let names: Names = lex(alloc, b"x main printf")?.names;
+    let mut externals = Vec::new(alloc);
+    externals.push(declaration(alloc)?)?;
+    externals.push(main_function(alloc)?)?;
+    let unit = Unit { externals };
+    let tokens = tokens_of(alloc, &unit)?;
+    assert!(rt; tokens.len() <= 1_048_576);
+    let program = first_of(alloc, &names, &unit)?.expect(&rt, "a tree of the language");
+    assert_eq!(rt; program.declared(alloc)?.len(), 1);
+    let (out, value) = carry_out(alloc, &program)?;
+    assert_eq!(rt; out.as_slice(), b"42\n".as_slice());
+    assert_eq!(rt; value, Some(42));
+    Ok(())
 }

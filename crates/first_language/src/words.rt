@@ -1,77 +1,18 @@
-//! The words of the first language, and the words that are no names.
+//! The names that no variable may have, and names by their spelling.
 
-ghost use Rattle.std.specs.Prelude.{◌≡◌, nat_eq};
+ghost use Rattle.std.specs.Prelude.{◌≡◌, ℕ, List, nat_eq};
 ghost use Rattle.std.specs.List.{list_any};
 ghost use Rattle.std.specs.Cmp.Lexicographic.{pointwise};
-ghost use Rattle.first_language.specs.Words.{word_bytes, fixed_word, is_reserved};
+ghost use Rattle.first_language.specs.Words.{is_reserved, is_named, is_free};
 
-use crate::token::Fixed;
+use upc_lexer::Names;
+use upc_tree::Name;
 
-/// The tokens that are spelled as names are.
-pub(crate) const WORDS: [Fixed; 13] = [
-    Fixed::Int,
-    Fixed::Main,
-    Fixed::Void,
-    Fixed::Return,
-    Fixed::Strict,
-    Fixed::Relaxed,
-    Fixed::Shared,
-    Fixed::Mythread,
-    Fixed::Threads,
-    Fixed::Barrier,
-    Fixed::Fence,
-    Fixed::Printf,
-    Fixed::While,
-];
-
-/// The other keywords of C and UPC, the names of UPC's library, its operators and its flags, and NULL.
-pub(crate) const RESERVED: [&str; 104] = [
-    "break",
-    "case",
-    "char",
-    "const",
-    "continue",
-    "default",
-    "do",
-    "else",
-    "for",
-    "if",
-    "long",
-    "short",
-    "signed",
-    "sizeof",
-    "static",
-    "struct",
-    "switch",
-    "unsigned",
-    "UPC_MAX_BLOCK_SIZE",
-    "upc_blocksizeof",
-    "upc_elemsizeof",
-    "upc_forall",
-    "upc_localsizeof",
-    "upc_notify",
-    "upc_wait",
-    "size_t",
-    "ptrdiff_t",
-    "upc_lock_t",
-    "upc_op_t",
-    "upc_flag_t",
-    "auto",
-    "double",
-    "enum",
-    "extern",
-    "float",
-    "goto",
-    "inline",
-    "register",
-    "restrict",
-    "typedef",
-    "union",
-    "volatile",
-    "_Bool",
-    "_Complex",
-    "_Imaginary",
+/// `main`, NULL, and the names of the library: its functions, its operators and its flags (UPC 7).
+pub(crate) const RESERVED: [&str; 61] = [
+    "main",
     "NULL",
+    "printf",
     "upc_threadof",
     "upc_phaseof",
     "upc_addrfield",
@@ -132,36 +73,7 @@ pub(crate) const RESERVED: [&str; 104] = [
     "UPC_OUT_ALLSYNC",
 ];
 
-/// How a word is spelled; other tokens have no letters.
-fn spelling(word: Fixed) -> &'static [u8]
-    ensures { result.now ≡ word_bytes word }
-{
-    match word {
-        Fixed::Int => b"int",
-        Fixed::Main => b"main",
-        Fixed::Void => b"void",
-        Fixed::Return => b"return",
-        Fixed::Strict => b"strict",
-        Fixed::Relaxed => b"relaxed",
-        Fixed::Shared => b"shared",
-        Fixed::Mythread => b"MYTHREAD",
-        Fixed::Threads => b"THREADS",
-        Fixed::Barrier => b"upc_barrier",
-        Fixed::Fence => b"upc_fence",
-        Fixed::Printf => b"printf",
-        Fixed::While => b"while",
-        _ => b"",
-    }
-}
-
-/// The word that is spelled so, if there is one.
-pub(crate) fn fixed_word(text: &[u8]) -> Option<Fixed>
-    ensures { result ≡ fixed_word text.now }
-{
-    WORDS.iter().copied().find(|word| spelling(*word) == text)
-}
-
-/// Whether the text is one of the words that are no names.
+/// Whether the text is one of the names that no variable may have.
 pub(crate) fn is_reserved(text: &[u8]) -> bool
     ensures { result ≡ is_reserved text.now }
 {
@@ -172,4 +84,24 @@ fn is_among(text: &[u8], words: &[&str]) -> bool
     ensures { result ≡ list_any (λ word. pointwise nat_eq word.now text.now) words.now }
 {
     words.iter().any(|word| word.as_bytes() == text)
+}
+
+/// Whether the name is spelled so.
+pub(crate) fn is_named(names: &Names, text: &[u8], name: Name) -> bool
+    ensures { result ≡ is_named names.now text.now name }
+{
+    match names.get(name.number as usize) {
+        None => false,
+        Some(spelling) => spelling == text,
+    }
+}
+
+/// Whether a variable may have the name.
+pub(crate) fn is_free(names: &Names, name: Name) -> bool
+    ensures { result ≡ is_free names.now name }
+{
+    match names.get(name.number as usize) {
+        None => false,
+        Some(spelling) => !is_reserved(spelling),
+    }
 }

@@ -54,7 +54,7 @@ pub fn is_signed(kind: Kind) -> bool
     matches!(kind, Kind::Char | Kind::Short | Kind::Int | Kind::Long)
 }
 
-// Whether a number lies in the range of a kind.
+/// Whether a number lies in the range of a kind; a kind that is no integer has 0 alone.
 pub fn lies_in(kind: Kind, v: i128) -> bool
     ensures value { result ≡ in_kind kind v }
     ensures exact { IsTrue result ↔ InKind v kind }

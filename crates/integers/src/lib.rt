@@ -8,5 +8,5 @@ mod integer;
 mod operator;
 
 pub use arithmetic::{binary, unary};
-pub use integer::convert;
+pub use integer::{convert, lies_in};
 pub use operator::{BinOp, UnOp};

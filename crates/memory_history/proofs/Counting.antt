@@ -5,7 +5,7 @@ use Rattle.std.proofs.Common.{eqb-true}
 use Rattle.std.proofs.lemmas.List.{get_or-set_same, get_or-set_other, get_or-replicate, length-set}
 use Rattle.std.proofs.lemmas.List.Sums.{count_by_more_yes, count_by_more_no}
 use Rattle.upc_values.specs.declared.journal.Entry.{Entry}
-use Rattle.upc_values.specs.Legal.{is_notify, notifies}
+use Rattle.upc_values.specs.History.{is_notify, notifies}
 
 -- the notifies of each thread
 pub record AreCounts (counts : List ℕ) (es : List Entry) : Type 0 where

@@ -1,3 +1,4 @@
 pub mod Counting
 pub mod Looking
 pub mod More
+pub mod Cells

@@ -1,6 +1,7 @@
 //! The shared memory as one history of all threads' entries: the lawful reply of an action after it, and its one entry.
 #![tactic(auto)]
 
+mod beginning;
 mod formed;
 mod lawful;
 mod legal;
@@ -8,8 +9,7 @@ mod step;
 mod walk;
 mod world;
 
-pub use lawful::reply;
-pub use legal::is_legal_history;
+pub use beginning::Beginning;
 pub use step::Step;
 pub use walk::drain;
 pub use world::World;

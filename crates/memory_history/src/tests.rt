@@ -1,8 +1,14 @@
 //! Small histories and records, with what the definitions say of them.
 
-use crate::{Step, World, drain, is_legal_history};
+ghost use Rattle.std.specs.Prelude.{◌≡◌, [], ◌∷◌, IfOk};
+ghost use Rattle.block_layout.specs.declared.kind.Kind.TheVariants as kind;
+ghost use Rattle.upc_values.specs.Basic as basic;
+
+use crate::{Step, World, drain};
 use std::alloc::{AllocError, Global};
-use upc_values::{Action, Item, Loc, Mark, Reply, Scalar, copy_action};
+use upc_values::{
+    Action, Cells, Item, Kind, Loc, Mark, ObjectRef, Reply, Scalar, Shape, copy_action,
+};
 
 const X: Loc = Loc {
     object: 1,
@@ -32,7 +38,75 @@ fn int(value: i128) -> Reply {
     Reply::Value(Scalar::Int(value))
 }
 
-// Two threads: a wait is legal once both have notified, and a read gives the last write.
+// The shape of an int.
+fn ints(alloc: Global) -> Result<Vec<Shape>, AllocError>
+    ensures { IfOk result (λ shapes. shapes.items ≡ record { size = 4; cells = (0, kind.Int) ∷ [] } ∷ []) }
+{
+    let mut cells = Vec::new(alloc);
+    cells.push((0, Kind::Int))?;
+    let mut shapes = Vec::new(alloc);
+    shapes.push(Shape {
+        size: 4,
+        cells: Cells::from_vec(cells),
+    })?;
+    Ok(shapes)
+}
+
+const INT_X: ObjectRef = ObjectRef {
+    number: 1,
+    total: 4,
+    block: 4,
+    home: 0,
+    shape: 0,
+    base: 0,
+};
+
+const INT_Y: ObjectRef = ObjectRef {
+    number: 2,
+    total: 4,
+    block: 4,
+    home: 0,
+    shape: 0,
+    base: 4,
+};
+
+fn is_unvalued(mark: Mark) -> bool
+    ensures { result ≡ basic.is_unvalued mark }
+{
+    !matches!(mark, Mark::Given(_))
+}
+
+// Whether the action needs no lock, no new object, no collective call and no value at a barrier.
+fn is_basic(action: &Action) -> bool
+    ensures { result ≡ basic.is_basic action.now }
+{
+    match action {
+        Action::Notify(mark) => is_unvalued(*mark),
+        Action::Wait(mark) => is_unvalued(*mark),
+        Action::Read { .. } => true,
+        Action::Write { .. } => true,
+        Action::Fence => true,
+        Action::Beat => true,
+        Action::Print(_) => true,
+        _ => false,
+    }
+}
+
+// Two threads, X and Y, of which Y begins with 5.
+fn two(alloc: Global) -> Result<World, AllocError>
+    ensures { IfOk result (λ w. w.0.threads ≡ 2) }
+{
+    let shapes = ints(alloc)?;
+    World::make(
+        alloc,
+        &[INT_X, INT_Y],
+        &[(Y, Scalar::Int(5))],
+        shapes.as_slice(),
+        2,
+    )
+}
+
+// A wait is legal once both have notified, and a read gives the last write, else the initial value.
 #[test]
 fn world_of_two(rt: HostRuntime) -> Result<(), AllocError> {
     let done = Step::Done(Reply::Done);
@@ -42,22 +116,48 @@ fn world_of_two(rt: HostRuntime) -> Result<(), AllocError> {
         (1, 0, Action::Notify(Mark::Absent), done),
         (0, 1, Action::Wait(Mark::Absent), done),
         (1, 1, read(X, true), Step::Done(int(0))),
+        (1, 2, read(Y, true), Step::Done(int(5))),
         (0, 2, write(X, 7, true), done),
         (0, 3, write(Y, 8, false), done),
-        (1, 2, read(X, false), Step::Done(int(7))),
-        (1, 3, Action::Fence, done),
-        (1, 4, Action::Wait(Mark::Absent), done),
+        (1, 3, read(X, false), Step::Done(int(7))),
+        (1, 4, read(Y, false), Step::Done(int(8))),
+        (1, 5, Action::Fence, done),
+        (1, 6, Action::Wait(Mark::Absent), done),
     ];
-    let mut world = World::make(rt.alloc(), &[X, Y], 2)?;
+    let mut world = two(rt.alloc())?;
     for (thread, index, action, step) in &rows {
+        assert!(rt; is_basic(action));
         assert!(rt; world.is_well_formed(action));
         assert!(rt; *thread < world.threads());
         assert_eq!(rt; world.is_legal(*thread, action), *step != Step::Disabled);
         assert_eq!(rt; world.perform(*thread, *index, action)?, *step);
     }
-    assert_eq!(rt; world.cells().len(), 2);
-    assert_eq!(rt; world.len(), 9);
-    assert!(rt; is_legal_history(2, world.take_history().as_slice()));
+    assert_eq!(rt; world.beginning().declared().len(), 2);
+    assert_eq!(rt; world.len(), 11);
+    Ok(())
+}
+
+// What may be asked for: of a cell, with a value that fits it.
+#[test]
+fn asked_of_a_world(rt: HostRuntime) -> Result<(), AllocError> {
+    let rows = [
+        (read(X, false), true),
+        (read(Loc { offset: 2, ..X }, false), false),
+        (read(Loc { offset: 4, ..X }, false), false),
+        (read(Loc { thread: 1, ..X }, false), false),
+        (read(Loc { thread: 2, ..X }, false), false),
+        (read(Loc { object: 3, ..X }, false), false),
+        (read(Loc { object: 0, ..X }, false), false),
+        (write(X, 2_147_483_647, false), true),
+        (write(X, 2_147_483_648, false), false),
+        (Action::Fence, true),
+        (Action::Wait(Mark::Start), true),
+    ];
+    let world = two(rt.alloc())?;
+    for (action, asked) in &rows {
+        assert!(rt; is_basic(action));
+        assert_eq!(rt; world.is_well_formed(action), *asked);
+    }
     Ok(())
 }
 

@@ -2,7 +2,7 @@
 use Rattle.std.proofs.Common.{◌≡◌, ℕ, ◌+◌, ◌<◌, ◌≤◌, Bool, true, false, cond, List, [], ◌∷◌, ◌++◌, length, map, Option, Some, None, refl, sym, ap, subst, ◌∙◌, append-nil, append_assoc, arith}
 use Rattle.std.specs.Prelude.{option_map, IfSome}
 use Rattle.std.specs.Option.{option_or}
-use Rattle.std.proofs.lemmas.Bool.{and_from}
+use Rattle.std.proofs.lemmas.Bool.{and_from, false≢true}
 use Rattle.std.proofs.lemmas.List.{length-append, length-map, map-append}
 use Rattle.block_layout.specs.declared.place.Loc.{Loc}
 use Rattle.upc_values.specs.declared.scalar.Scalar.{Scalar}
@@ -13,12 +13,15 @@ use Rattle.upc_values.specs.declared.action.Reply.TheVariants.{Done, Value}
 use Rattle.upc_values.specs.declared.journal.Entry.{Entry}
 use Rattle.upc_values.specs.Scalars.{same_loc}
 use Rattle.upc_values.specs.Drain.{Walk, emptied, oldest_out, stored, passed, looked_up, gone, or_else, last_written, entry_of, entries_of}
-use Rattle.upc_values.specs.Legal.{Opening, reply, IsWellFormed}
-use Rattle.upc_values.specs.Outcomes.{fits}
+use Rattle.upc_values.specs.Openings.{Opening, IsOpening}
+use Rattle.upc_values.specs.History.{objects, reply}
+use Rattle.upc_values.specs.Formed.{IsWellFormed, fits_after}
 use Rattle.upc_values.proofs.Walks.{emptied-same, room-left, room-made, entries_of-append, entries-own, entries-all}
 use Rattle.upc_values.proofs.Legality.{unlawful-waits}
-use Rattle.upc_values.proofs.Replies.{formed-grow, int-fits}
+use Rattle.upc_values.proofs.Replies.{formed-grow, fits-grow}
+use Rattle.upc_values.proofs.Fitting.{written-fits}
 use Rattle.upc_values.proofs.Scalars.{same_scalar-refl}
+use Rattle.upc_values.proofs.Sameness.{same_loc-true}
 use Rattle.memory_history.specs.World.{performed}
 use Rattle.write_buffer.specs.declared.pending.Pending.{Pending}
 use Rattle.write_buffer.specs.Buffer.{youngest, committed}
@@ -255,13 +258,13 @@ holds-looked o t n l seen ps r w h k =
 -- what an action by itself makes, by its way
 
 pub emitted-looked : (o : Opening) (t n : ℕ) (l : Loc) (seen new : List Entry) (ps : List Pending) (a : Action) (found : Option Reply) (w : Walk)
-    → way_of a ≡ Looks l → youngest l ps ≡ None → found ≡ reply o seen t a → new ≡ performed seen t n a found
-    → Holds o t seen ps n w → Emitted o t new ps n a found w
-emitted-looked o t n l seen new ps a found w h y f is k =
+    → IsWellFormed o seen a → way_of a ≡ Looks l → youngest l ps ≡ None → found ≡ reply o seen t a
+    → new ≡ performed seen t n a found → Holds o t seen ps n w → Emitted o t new ps n a found w
+emitted-looked o t n l seen new ps a found w asked h y f is k =
     let same : a ≡ Read l false = looks-is a l h in
     let G : Option Reply → Action → Type 0 = λ g a. g ≡ reply o seen t a → new ≡ performed seen t n a g → Emitted o t new ps n a g w in
     let go : (g : Option Reply) → G g (Read l false) = λ g. elim g as (λ g. G g (Read l false)) [
-      | None ↦ λ p q. absurd cc
+      | None ↦ λ p q. absurd (false≢true (unlawful-waits o seen t (Read l false) (subst (IsWellFormed o seen) same asked) (sym p)))
       | Some r ↦ λ p q. subst (λ z. Holds o t z ps (n + 1) (gone (entry_of t n (Read l false) r) (Read l false) w)) (sym q)
           (holds-looked o t n l seen ps r w y k)
     ] in
@@ -286,10 +289,11 @@ emitted-empties o t n seen new a (Some r) w h is k =
 
 -- what the answer says of itself
 pub answer-is : (o : Opening) (t n : ℕ) (seen new : List Entry) (a : Action) (found : Option Reply) → IsWellFormed o seen a
-    → found ≡ reply o seen t a → IfSome found (λ r. fits a r ≡ true) → new ≡ performed seen t n a found → IsAnswer o t new a found
+    → found ≡ reply o seen t a → IfSome found (λ r. fits_after o seen a r ≡ true) → new ≡ performed seen t n a found → IsAnswer o t new a found
 answer-is o t n seen new a None f e k is =
     (unlawful-waits o seen t a f (sym e), subst (λ z. reply o z t a ≡ None) (sym is) (sym e))
-answer-is o t n seen new a (Some r) f e k is = k
+answer-is o t n seen new a (Some r) f e k is =
+    subst (λ z. fits_after o z a r ≡ true) (sym is) (fits-grow o seen (entry_of t n a r ∷ []) a r f k)
 
 -- what the buffer's look-up found
 
@@ -321,14 +325,28 @@ emitted-forwarded o t n i l v seen ps a w h y k =
     (subst (λ u. Holds o t seen ps (n + 1) (gone (entry_of t n (Read l false) (Value u)) (Read l false) w)) f.2
     (holds-forwarded o t n l seen ps f.0 w f.1 k))
 
-pub forwarded-fits : (o : Opening) (i : ℕ) (l : Loc) (v : Scalar) (seen : List Entry) (ps : List Pending) (a : Action)
-    → AreFormed o seen ps → way_of a ≡ Looks l → hit i v ≡ hits (youngest l ps)
-    → fits a (Value v) ≡ true
-forwarded-fits o i l v seen ps a formed h y =
+youngest-loc : (l : Loc) (ps : List Pending) (q : Pending) → youngest l ps ≡ Some q → q.loc ≡ l
+youngest-loc l [] q e = absurd cc
+youngest-loc l (p ∷ ps) q e =
+    let G : Option Pending → Bool → Type 0 =
+    λ f b. youngest l ps ≡ f → same_loc p.loc l ≡ b → option_or f (cond b (Some p) None) ≡ Some q → q.loc ≡ l in
+    let go : (f : Option Pending) (b : Bool) → G f b = λ f b. elim f as (λ f. G f b) [
+      | Some g ↦ λ x y z. youngest-loc l ps q (x ∙ z)
+      | None ↦ elim b as (λ b. G None b) [
+        | true ↦ λ x y z. let same : p ≡ q = cc in subst (λ w. w.loc ≡ l) same (same_loc-true p.loc l y)
+        | false ↦ λ x y z. absurd cc
+      ]
+    ] in
+    go (youngest l ps) (same_loc p.loc l) refl refl e
+
+pub forwarded-fits : (o : Opening) (i : ℕ) (l : Loc) (v : Scalar) (seen : List Entry) (ps : List Pending) (a : Action) → IsOpening o → objects o seen ≡ o.declared → AreFormed o seen ps → way_of a ≡ Looks l → hit i v ≡ hits (youngest l ps) → fits_after o seen a (Value v) ≡ true
+forwarded-fits o i l v seen ps a valid declared formed h y =
     let f = found-some (youngest l ps) i v y in
-    subst (λ b. fits b (Value v) ≡ true) (sym (looks-is a l h))
-    (subst (λ u. fits (Read l false) (Value u) ≡ true) f.2
-    (int-fits l false f.0.value (youngest-formed o seen l ps f.0 formed f.1).1))
+    let asked : IsWellFormed o seen (Write l f.0.value false) =
+    subst (λ k. IsWellFormed o seen (Write k f.0.value false)) (youngest-loc l ps f.0 f.1) (youngest-formed o seen l ps f.0 formed f.1) in
+    subst (λ b. fits_after o seen b (Value v) ≡ true) (sym (looks-is a l h))
+    (subst (λ u. fits_after o seen (Read l false) (Value u) ≡ true) f.2
+    (written-fits o seen l false false f.0.value valid declared asked))
 
 -- the buffer is emptied, as at an end
 pub holds-finished : (o : Opening) (t n : ℕ) (seen new : List Entry) (ps qs : List Pending) (w : Walk) → qs ≡ []

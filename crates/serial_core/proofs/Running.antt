@@ -9,7 +9,9 @@ use Rattle.upc_values.specs.declared.journal.Entry.{Entry}
 use Rattle.upc_values.specs.declared.journal.Journal.{Journal}
 use Rattle.upc_values.specs.Lists.{Numbered}
 use Rattle.upc_values.specs.Drain.{walked}
-use Rattle.upc_values.specs.Legal.{Opening, reply, IsLegal, AreWellFormed, EachBelow}
+use Rattle.upc_values.specs.Openings.{Opening}
+use Rattle.upc_values.specs.History.{reply, IsLegal, EachBelow}
+use Rattle.upc_values.specs.Formed.{AreWellFormed}
 use Rattle.upc_values.specs.Ends.{stops, settles, SharedEnd, OwnEnd}
 use Rattle.upc_values.specs.Sound.{IsStrand, IsSound}
 use Rattle.first_language.specs.declared.tree.First.{First}

@@ -13,8 +13,10 @@ use Rattle.upc_values.specs.declared.record.End.{End}
 use Rattle.upc_values.specs.declared.record.End.TheVariants as ends
 use Rattle.upc_values.specs.declared.journal.Entry.{Entry}
 use Rattle.upc_values.specs.Drain.{Walk, emptied, walked, gone, entry_of, entries_of}
-use Rattle.upc_values.specs.Legal.{Opening, IsWellFormed}
-use Rattle.upc_values.specs.Outcomes.{Outcome, wanted, fits, IsMeaning}
+use Rattle.upc_values.specs.Openings.{Opening}
+use Rattle.upc_values.specs.Basic.{is_basic}
+use Rattle.upc_values.specs.Formed.{IsWellFormed, fits_after}
+use Rattle.upc_values.specs.Outcomes.{Outcome, wanted, IsMeaning}
 use Rattle.upc_values.specs.Records.{actions_of, replies_of, last_item, is_stall, is_beat_item, beats}
 use Rattle.upc_values.specs.Strands.{StallsStand, AreJustified, strand_ticks}
 use Rattle.upc_values.specs.Ends.{OwnEnd, is_pause}
@@ -24,9 +26,11 @@ use Rattle.first_language.specs.declared.tree.First.{First}
 use Rattle.first_language.specs.declared.machine.Machine.{Machine}
 use Rattle.first_language.specs.declared.machine.Wish.{Wish}
 use Rattle.first_language.specs.declared.machine.Wish.TheVariants.{Act, Ended, Exit, Fault, Budget}
+use Rattle.first_language.specs.Course.{fits}
 use Rattle.first_language.specs.Meaning.{opening_of}
 use Rattle.first_language.specs.Machine.{Stands, HasAsked, Answers, listed, told_of}
-use Rattle.first_language.proofs.Laws.{meaning-laws}
+use Rattle.first_language.proofs.Laws.{meaning-laws, meaning-asked}
+use Rattle.first_language.proofs.Keeps.{IsAsked}
 use Rattle.write_buffer.specs.Buffer.{committed}
 use Rattle.serial_core.specs.declared.limits.Limits.{Limits}
 use Rattle.serial_core.specs.declared.task.Task.{Task}
@@ -45,6 +49,15 @@ pub kept-asks : (o : Opening) (p : First) (seen : List Entry) (k : Task) (a : Ac
     → IsWellFormed o seen a
 kept-asks o p seen k a h w =
     (kept-means o p seen k h).formed (replies_of k.items.items) seen a (sym (h.goes.wished (Act a) w).1)
+
+-- and is asked for
+kept-asked : (o : Opening) (p : First) (seen : List Entry) (k : Task) (a : Action) → IsKept o p seen k → (outcome_of p k).«end» ≡ told.Wants a → IsAsked o a
+kept-asked o p seen k a h e =
+    subst (λ z. IsAsked z a) (sym h.opened)
+    (meaning-asked p k.thread k.limits.threads k.limits.budget (replies_of k.items.items) a h.within h.threads e)
+
+pub kept-basic : (o : Opening) (p : First) (seen : List Entry) (k : Task) (a : Action) → IsKept o p seen k → k.wish ≡ Some (Act a) → is_basic a ≡ true
+kept-basic o p seen k a h w = (kept-asked o p seen k a h (sym (h.goes.wished (Act a) w).1)).basic
 
 -- a stall is justified by what was seen when it was made
 justified-grew : (o : Opening) (t : ℕ) (seen later : List Entry) (want : Option Action) (xs : List Item) → Grew t seen later
@@ -71,7 +84,7 @@ pub kept-did : (o : Opening) (p : First) (seen later : List Entry) (k m : Task) 
     → IsKept o p seen k → k.«end» ≡ None → k.wish ≡ Some (Act a) → length k.items.items < k.limits.actions
     → Grew k.thread seen later
     → ((w : Walk) → Holds o k.thread seen k.buffer k.next w → Emitted o k.thread later m.buffer k.next a (Some r) w)
-    → fits a r ≡ true → m.items.items ≡ k.items.items ++ Did a r ∷ []
+    → fits_after o later a r ≡ true → m.items.items ≡ k.items.items ++ Did a r ∷ []
     → IsKept o p later record { machine = k.machine; thread = k.thread; limits = k.limits; items = m.items; buffer = m.buffer; next = k.next + 1; answer = Some r; wish = None; «end» = k.«end» }
 kept-did o p seen later k m a r h opened wants room g em f is =
     let t = k.thread in let items = k.items.items in let w = walked t items in let law = kept-means o p seen k h in
@@ -97,7 +110,7 @@ kept-did o p seen later k m a r h opened wants room g em f is =
           (subst (Holds o t later m.buffer (k.next + 1)) (sym next) (em w hw));
       few = (let before = h.few in omega arith);
       record_ok = record {
-        did = ap (λ rs. (meaning_of p k rs).actions) replies ∙ law.goes (replies_of items) a r wanting f
+        did = ap (λ rs. (meaning_of p k rs).actions) replies ∙ law.goes (replies_of items) later a r wanting f
             ∙ ap (λ l. l ++ a ∷ []) h.record_ok.did ∙ sym actions;
         stalls = subst (StallsStand (wanted new.«end»)) (sym is)
             (stand-did (wanted new.«end») items a r (subst (λ z. StallsStand z items) want h.record_ok.stalls));
@@ -109,7 +122,11 @@ kept-did o p seen later k m a r h opened wants room g em f is =
       goes = record {
         given = h.goes.given;
         stands = h.goes.stands;
-        answered = (a, ap (λ rs. (meaning_of p k rs).«end») given ∙ wanting, f);
+        answered = (
+          a,
+          ap (λ rs. (meaning_of p k rs).«end») given ∙ wanting,
+          subst (λ z. fits z a r ≡ true) (ap (λ (z : Opening). z.threads) h.opened) ((kept-asked o p seen k a h wanting).fitting later r f),
+        );
         replies = ap (λ l. l ++ r ∷ []) given ∙ sym replies;
         wished = λ e q. absurd cc;
         idle = λ q. ap is_stall last;

@@ -11,8 +11,10 @@ use Rattle.upc_values.specs.declared.journal.Entry.{Entry}
 use Rattle.upc_values.specs.declared.journal.Strand.{Strand}
 use Rattle.upc_values.specs.Lists.{Each}
 use Rattle.upc_values.specs.Drain.{Walk, walked, entries_of, emptied, gone, entry_of}
-use Rattle.upc_values.specs.Legal.{Opening, reply, IsWellFormed}
-use Rattle.upc_values.specs.Outcomes.{Outcome, wanted, fits}
+use Rattle.upc_values.specs.Openings.{Opening}
+use Rattle.upc_values.specs.History.{reply}
+use Rattle.upc_values.specs.Formed.{IsWellFormed, fits_after}
+use Rattle.upc_values.specs.Outcomes.{Outcome, wanted}
 use Rattle.upc_values.specs.Records.{actions_of, replies_of, last_item, is_stall, is_beat, is_beat_item, beats}
 use Rattle.upc_values.specs.Strands.{StallsStand, AreJustified, strand_ticks, may_wait}
 use Rattle.upc_values.specs.Ends.{OwnEnd}
@@ -78,7 +80,7 @@ Emitted o t seen pending next a (Some r) w = Holds o t seen pending (next + 1) (
 -- what an answer says of itself: a reply fits, and with none the action may wait and is not legal now
 abbrev pub IsAnswer : Opening → ℕ → List Entry → Action → Option Reply → Type 0
 IsAnswer o t seen a None = (may_wait a ≡ true) × (reply o seen t a ≡ None)
-IsAnswer o t seen a (Some r) = fits a r ≡ true
+IsAnswer o t seen a (Some r) = fits_after o seen a r ≡ true
 
 -- the meaning of the task's source, where the source is p
 abbrev pub meaning_of : First → Task → List Reply → Outcome

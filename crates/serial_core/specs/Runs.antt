@@ -6,7 +6,8 @@ use Rattle.upc_values.specs.declared.record.End.TheVariants.{Halted, Deadlocked}
 use Rattle.upc_values.specs.declared.journal.Entry.{Entry}
 use Rattle.upc_values.specs.Lists.{Numbered}
 use Rattle.upc_values.specs.Records.{is_stall, last_item}
-use Rattle.upc_values.specs.Legal.{Opening, reply}
+use Rattle.upc_values.specs.Openings.{Opening}
+use Rattle.upc_values.specs.History.{reply}
 use Rattle.upc_values.specs.Ends.{stops, settles}
 use Rattle.first_language.specs.declared.tree.First.{First}
 use Rattle.first_language.specs.declared.machine.Wish.{Wish}

@@ -1,10 +1,11 @@
 //! What an action does to a write buffer and the history.
 
-ghost use Rattle.std.specs.Prelude.{◌≡◌, ◌<◌, [], ◌∷◌, ◌++◌, false, Some, IfOk, map};
+ghost use Rattle.std.specs.Prelude.{◌≡◌, ◌<◌, [], ◌∷◌, ◌++◌, true, false, Some, IfOk, map};
 ghost use Rattle.upc_values.specs.declared.action.Action.TheVariants.{Write};
 ghost use Rattle.upc_values.specs.declared.action.Reply.TheVariants.{Done};
 ghost use Rattle.upc_values.specs.Drain.{Walk};
-ghost use Rattle.upc_values.specs.Legal.{IsWellFormed};
+ghost use Rattle.upc_values.specs.Basic.{is_basic};
+ghost use Rattle.upc_values.specs.Formed.{IsWellFormed};
 ghost use Rattle.memory_history.specs.World.{answer_of};
 ghost use Rattle.write_buffer.specs.Buffer.{committed};
 ghost use Rattle.serial_core.specs.Kept.{way_of, AreFormed, Holds, Grew, Emitted, IsAnswer};
@@ -108,6 +109,7 @@ pub fn emit(
     requires below { thread < world.old.0.threads }
     requires pending { AreFormed world.old.0 world.old.1 buffer.old }
     requires asked { IsWellFormed world.old.0 world.old.1 action.now }
+    requires basic { is_basic action.now ≡ true }
     ensures holds { IfOk result (λ s. (w : Walk)
         → Holds world.old.0 thread world.old.1 buffer.old next w
         → Emitted world.old.0 thread world.new.1 buffer.new next action.now (answer_of s) w) }
@@ -121,7 +123,10 @@ pub fn emit(
             Ok(Step::Done(Reply::Done))
         }
         Way::Looks(loc) => match buffer.forward(loc) {
-            Some((_, value)) => Ok(Step::Done(Reply::Value(value))),
+            Some((_, value)) => {
+                world.keeps();
+                Ok(Step::Done(Reply::Value(value)))
+            }
             None => {
                 let step = world.perform(thread, next, action)?;
                 Ok(step)

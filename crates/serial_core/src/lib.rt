@@ -5,8 +5,6 @@ mod emit;
 mod limits;
 mod run;
 mod task;
-#[cfg(test)]
-mod tests;
 
 pub use limits::Limits;
 pub use run::run_by;

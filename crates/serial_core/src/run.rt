@@ -4,7 +4,7 @@ ghost use Rattle.std.specs.Prelude.{◌≡◌, ◌≢◌, ℕ, ◌<◌, ◌≤�
 ghost use Rattle.upc_values.specs.declared.record.End.{End};
 ghost use Rattle.upc_values.specs.declared.journal.Entry.{Entry};
 ghost use Rattle.upc_values.specs.Lists.{Numbered};
-ghost use Rattle.upc_values.specs.Legal.{Opening};
+ghost use Rattle.upc_values.specs.Openings.{Opening};
 ghost use Rattle.upc_values.specs.Ends as ends;
 ghost use Rattle.upc_values.specs.Ends.{AreSpent};
 ghost use Rattle.upc_values.specs.Sound.{IsSound};
@@ -371,8 +371,15 @@ pub fn run_by<R: Wait>(
     ensures waits { IfOk result (λ j. WaitsFollow limits.threads j.history) }
     ensures spent { IfOk result (λ j. AreSpent limits.budget j.strands) }
 {
-    let cells = program.cells(alloc)?;
-    let mut world = World::make(alloc, cells.as_slice(), limits.threads)?;
+    let declared = program.declared(alloc)?;
+    let shapes = First::shapes(alloc)?;
+    let mut world = World::make(
+        alloc,
+        declared.as_slice(),
+        &[],
+        shapes.as_slice(),
+        limits.threads,
+    )?;
     let mut tasks = make_all(alloc, program, limits)?;
     let strands = Vec::with_capacity(alloc, tasks.len())?;
     pick_all(program, &mut tasks, &mut world, picks)?;

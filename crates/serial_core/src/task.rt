@@ -4,7 +4,8 @@ ghost use Rattle.std.specs.Prelude.{◌≡◌, ℕ, ◌<◌, ◌≤◌, ◌^◌,
 ghost use Rattle.upc_values.specs.declared.action.Action.{Action};
 ghost use Rattle.upc_values.specs.declared.journal.Entry.{Entry};
 ghost use Rattle.upc_values.specs.Drain.{entries_of};
-ghost use Rattle.upc_values.specs.Legal.{Opening, AreWellFormed};
+ghost use Rattle.upc_values.specs.Openings.{Opening};
+ghost use Rattle.upc_values.specs.Formed.{AreWellFormed};
 ghost use Rattle.upc_values.specs.Records as records;
 ghost use Rattle.upc_values.specs.Ends.{OwnEnd};
 ghost use Rattle.first_language.specs.declared.tree.First.{First};

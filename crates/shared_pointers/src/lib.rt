@@ -5,6 +5,8 @@ mod access;
 mod apart;
 mod cast;
 mod compare;
+#[cfg(test)]
+mod counted;
 mod element;
 mod row;
 mod step;

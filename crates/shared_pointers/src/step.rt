@@ -3,7 +3,7 @@
 ghost use Rattle.std.specs.Prelude.{ℕ, ◌≡◌, ◌<◌, ◌≤◌, ◌^◌, ◌↔◌, ℤ, ◌+ℤ◌, IfOk, IfErr, IsErrOf, ◌⊎◌};
 ghost use Rattle.block_layout.specs.Places.{InRange};
 ghost use Rattle.block_layout.specs.Pointers.{IsNull, StandsFor, element_offset};
-ghost use Rattle.shared_pointers.specs.Ranges.{IsPointer, IsTarget, IsThreads, IsStep};
+ghost use Rattle.shared_pointers.specs.Ranges.{IsPhase, IsPointer, IsTarget, IsThreads, IsStep};
 ghost use Rattle.shared_pointers.specs.Steps.{LiesBehind, moved, moved_by_blocks, advanced};
 
 use crate::row::{element_in_row, row_offset};
@@ -24,6 +24,7 @@ pub fn advance(p: &SharedPtr, i: i128, block: u32, size: u32, threads: u32) -> R
     ensures value { result ≡ advanced p.now i block size threads }
     ensures null { IsErrOf result NULL_ACCESS ↔ IsNull p.now }
     ensures behind { IfOk result (λ q. LiesBehind p.now q i block size threads) }
+    ensures pointer { IfOk result (λ q. IsPointer q block threads) }
     // an offset out of range is that of the element `i` on
     ensures range { (e d : ℤ) → StandsFor p.now e d block size threads → (IsErrOf result POINTER_RANGE ↔ ((¬ (IsNull p.now)) × (¬ (InRange (element_offset (e +ℤ i) block size threads +ℤ d))))) }
     ensures codes { IfErr result (λ code. (code ≡ NULL_ACCESS) ⊎ (code ≡ POINTER_RANGE)) }
@@ -61,6 +62,8 @@ fn place_by_blocks(p: &SharedPtr, i: i128, block: u32, size: u32, threads: u32) 
     ensures thread { result.thread ≡ (moved_by_blocks p.now i block size threads).thread }
     ensures phase { result.phase ≡ (moved_by_blocks p.now i block size threads).phase }
     ensures offset { result.offset ≡ (moved_by_blocks p.now i block size threads).offset }
+    ensures below { result.thread < threads }
+    ensures in_block { result.phase < block }
 {
     let e = i128::from(element_in_row(p, block, threads)) + i;
     let thread = wide::thread_of(e, block, threads);
@@ -83,6 +86,8 @@ pub fn place_behind(p: &SharedPtr, i: i128, block: u32, size: u32, threads: u32)
     ensures thread { result.thread ≡ (moved p.now i block size threads).thread }
     ensures phase { result.phase ≡ (moved p.now i block size threads).phase }
     ensures offset { result.offset ≡ (moved p.now i block size threads).offset }
+    ensures below { result.thread < threads }
+    ensures in_block { IsPhase result.phase block }
 {
     if block != 0 {
         return place_by_blocks(p, i, block, size, threads);

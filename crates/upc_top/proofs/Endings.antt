@@ -9,6 +9,8 @@ use Rattle.upc_top.specs.declared.verdict.Verdict.{Verdict}
 use Rattle.upc_top.specs.declared.verdict.Verdict.TheVariants.{Usage, ReadFault, TooLong, Refused, Ran, NoMemory}
 use Rattle.upc_top.specs.Words.{AreTaken}
 use Rattle.upc_top.specs.Output.{status_of}
+use Rattle.upc_top.specs.Sources.{IsAccepted}
+use Rattle.upc_top.proofs.Readings.{never_both}
 use Rattle.upc_top.specs.Verdicts.{Reading, Caused, status_for, journal_of}
 use Rattle.upc_top.specs.Delivery.{Writing, Delivered, Delivered.Whole, Delivered.Out_broke, Delivered.Err_broke, Answered, RefusesOtherWords, Succeeds, IsComplete}
 
@@ -45,7 +47,7 @@ complete-by words r out err d (Refused refusal) c s j h =
     let e = one-file words h.threads c.threads h.file c.file h.taken c.taken in
     let P : List ℕ → Type 0 = λ f. IsWhole (r.told f) c.holds.bytes in
     let same = whole-is (r.told h.file) h.bytes c.holds.bytes h.told (subst P e c.holds.whole) in
-    absurd (c.holds.holds.none h.program (subst (λ b. Rattle.first_language.specs.Source.IsSource b h.program) (sym same) h.source))
+    absurd (never_both c.holds.bytes h.program refusal (subst (λ b. IsAccepted b h.program) (sym same) h.accepted) c.holds.holds)
 complete-by words r out err d (Ran journal) c s j h = inl (journal, j, s)
 complete-by words r out err d (NoMemory o) c s j h = inr s
 

@@ -1,2 +1,4 @@
 mod Lists
 mod Endings
+pub mod Readings
+pub mod Stages

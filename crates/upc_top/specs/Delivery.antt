@@ -4,9 +4,9 @@ use Rattle.upc_text.specs.declared.whole.TheConstants.{SOURCE_LIMIT}
 use Rattle.upc_text.specs.Outside.{Rose, taken_with, TookPrefix}
 use Rattle.upc_values.specs.declared.journal.Journal.{Journal}
 use Rattle.first_language.specs.declared.tree.First.{First}
-use Rattle.first_language.specs.Source.{IsSource}
 use Rattle.upc_top.specs.declared.verdict.Verdict.{Verdict}
 use Rattle.upc_top.specs.declared.done.Done.{Done}
+use Rattle.upc_top.specs.Sources.{IsAccepted}
 use Rattle.upc_top.specs.Words.{AreTaken}
 use Rattle.upc_top.specs.Output.{status_of}
 use Rattle.upc_top.specs.Verdicts.{Reading, Caused, text_of, line_of, status_for, refusal_of, journal_of, without_memory}
@@ -58,7 +58,7 @@ RefusesOtherWords words done =
     ((threads : ℕ) (file : List ℕ) → AreTaken words threads file → ⊥)
     → (done.status ≡ 100) ⊎ (done.status ≡ 103) ⊎ (done.status ≡ 104)
 
--- the words were taken, the file is told and is the source of a program, and nothing failed
+-- the words were taken, the file is told and is accepted as a program, and nothing failed
 pub record Succeeds (words : List (List ℕ)) (reading : Reading) (out err : Writing) : Type 0 where
   pub threads : ℕ
   pub file : List ℕ
@@ -67,7 +67,7 @@ pub record Succeeds (words : List (List ℕ)) (reading : Reading) (out err : Wri
   pub taken : AreTaken words threads file
   pub told : reading.told file ≡ Some bytes
   pub short : length bytes ≤ SOURCE_LIMIT
-  pub source : IsSource bytes program
+  pub accepted : IsAccepted bytes program
   pub read : Rose (reading.before file) (reading.after file) → ⊥
   pub out_written : Rose out.faults_before out.faults_after → ⊥
   pub err_written : Rose err.faults_before err.faults_after → ⊥

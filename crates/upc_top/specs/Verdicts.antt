@@ -1,7 +1,6 @@
 -- What the top call comes to, why, and what it then writes.
 use Rattle.std.specs.Prelude.{ℕ, ◌≡◌, List, [], Option, Some, None, codes}
 use Rattle.upc_text.specs.declared.place.Refusal.{Refusal}
-use Rattle.upc_text.specs.declared.place.Code.TheVariants.{Syntax}
 use Rattle.upc_text.specs.Outside.{Rose, IsWhole, IsLonger}
 use Rattle.upc_text.specs.declared.whole.TheConstants.{SOURCE_LIMIT}
 use Rattle.upc_values.specs.declared.journal.Journal.{Journal}
@@ -9,10 +8,10 @@ use Rattle.upc_values.specs.Ends.{AreSpent}
 use Rattle.upc_values.specs.Sound.{IsSound}
 use Rattle.upc_values.specs.Waits.{WaitsFollow}
 use Rattle.first_language.specs.declared.tree.First.{First}
-use Rattle.first_language.specs.Source.{IsSource}
 use Rattle.first_language.specs.Meaning.{meaning, opening_of}
 use Rattle.upc_top.specs.declared.verdict.Verdict.{Verdict}
 use Rattle.upc_top.specs.declared.verdict.Verdict.TheVariants.{Usage, ReadFault, TooLong, Refused, Ran, NoMemory}
+use Rattle.upc_top.specs.Sources.{IsAccepted, IsRefused}
 use Rattle.upc_top.specs.Words.{AreTaken, budget, actions}
 use Rattle.upc_top.specs.Output.{output, status_of, run_line, refusal_line}
 
@@ -31,18 +30,11 @@ pub record IsRun (threads : ℕ) (p : First) (j : Journal) : Type 0 where
   pub waits : WaitsFollow threads j.history
   pub spent : AreSpent budget j.strands
 
--- the bytes are the source of a program, of which the journal is a sound run
+-- the bytes are accepted as a program, of which the journal is a sound run
 pub record RanFrom (threads : ℕ) (bytes : List ℕ) (j : Journal) : Type 0 where
   pub program : First
-  pub source : IsSource bytes program
+  pub accepted : IsAccepted bytes program
   pub run : IsRun threads program j
-
--- the bytes are the source of no program, which is refused at its beginning
-pub record IsRefused (bytes : List ℕ) (r : Refusal) : Type 0 where
-  pub none : (p : First) → IsSource bytes p → ⊥
-  pub code : r.code ≡ Syntax
-  pub line : r.place.line ≡ 1
-  pub column : r.place.column ≡ 1
 
 -- what a source comes to that was read whole
 abbrev pub ComesFrom : ℕ → List ℕ → Verdict → Type 0

@@ -1,15 +1,15 @@
 //! From the words to what the top call comes to.
 
-ghost use Rattle.std.specs.Prelude.{◌≡◌, ◌≤◌, map, string_bytes};
+ghost use Rattle.std.specs.Prelude.{◌≡◌, ◌≤◌, length, map, string_bytes};
 ghost use Rattle.upc_top.specs.Verdicts.{Caused, ComesFrom};
 
+use crate::front::read_program;
 use crate::verdict::Verdict;
 use crate::words::read_words;
-use first_language::read_first;
 use serial_core::{Limits, run_by};
 use std::alloc::Global;
 use std::sync::Wait;
-use upc_text::{Code, Place, ReadEnd, Refusal, Sources, read_all};
+use upc_text::{ReadEnd, Sources, Stop, read_all};
 
 // The ticks that each thread is allowed.
 const BUDGET: u64 = 100_000_000;
@@ -21,17 +21,13 @@ const ITEMS: u64 = 4_194_304;
 fn run_source<R: Wait>(rt: &R, alloc: Global, threads: u32, source: &[u8]) -> Verdict
     requires least { 1 ≤ threads }
     requires most { threads ≤ 32 }
+    requires short { length source.now ≤ 1048576 }
     ensures { ComesFrom threads source.now result }
 {
-    let program = match read_first(alloc, source) {
-        Ok(Some(program)) => program,
-        Ok(None) => {
-            return Verdict::Refused(Refusal {
-                place: Place { line: 1, column: 1 },
-                code: Code::Syntax,
-            });
-        }
-        Err(_) => return Verdict::NoMemory(None),
+    let program = match read_program(alloc, source) {
+        Ok(program) => program,
+        Err(Stop::Refused(refusal)) => return Verdict::Refused(refusal),
+        Err(Stop::Memory) => return Verdict::NoMemory(None),
     };
     let limits = Limits {
         threads,

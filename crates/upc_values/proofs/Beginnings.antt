@@ -35,7 +35,7 @@ objects-append o before rest =
           ∙ sym (append_assoc o.declared (filter_map object_of (picked test before)) more),
     )
 
-cell-stays : (o : Opening) (xs ys : List ObjectRef) (l : Loc) (k : Kind) → cell_of o xs l ≡ Some k → cell_of o (xs ++ ys) l ≡ Some k
+pub cell-stays : (o : Opening) (xs ys : List ObjectRef) (l : Loc) (k : Kind) → cell_of o xs l ≡ Some k → cell_of o (xs ++ ys) l ≡ Some k
 cell-stays o xs ys l k h =
     let test : ObjectRef → Bool = λ x. x.number == l.object in
     let P : Option ObjectRef → Type 0 = λ z. find test xs ≡ z → cell_in o.threads o.shapes z l ≡ Some k → cell_of o (xs ++ ys) l ≡ Some k in

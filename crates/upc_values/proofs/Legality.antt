@@ -1,19 +1,18 @@
 -- One more entry: a legal history whose entries were well formed stays so.
-use Rattle.std.proofs.Common.{◌≡◌, ℕ, ◌<◌, true, false, Bool, cond, List, [], ◌∷◌, ◌++◌, ◌+◌, length, take, drop, get_or, take-append-drop, Option, Some, None, refl, sym, ap, subst, ◌∙◌, append_assoc, append-nil}
+use Rattle.std.proofs.Common.{◌≡◌, ℕ, ◌<◌, true, List, [], ◌∷◌, ◌++◌, ◌+◌, length, take, drop, get_or, take-append-drop, Option, Some, None, is_some, refl, sym, ap, subst, ◌∙◌, append_assoc, append-nil}
 use Rattle.std.proofs.lemmas.List.{drop_more, take_more}
 use Rattle.block_layout.specs.declared.place.Loc.{Loc}
+use Rattle.block_layout.specs.declared.kind.Kind.{Kind}
 use Rattle.upc_values.specs.declared.scalar.Scalar.{Scalar}
-use Rattle.upc_values.specs.declared.scalar.Scalar.TheVariants.{Int}
 use Rattle.upc_values.specs.declared.action.Action.{Action}
 use Rattle.upc_values.specs.declared.action.Action.TheVariants as asked
 use Rattle.upc_values.specs.declared.action.Reply.{Reply}
-use Rattle.upc_values.specs.declared.action.Reply.TheVariants.{Done, Value}
 use Rattle.upc_values.specs.declared.journal.Entry.{Entry}
-use Rattle.upc_values.specs.Scalars.{same_loc, zero}
 use Rattle.upc_values.proofs.Lists.{each-push}
-use Rattle.upc_values.specs.Drain.{entry_of, written, or_else, last_written}
-use Rattle.upc_values.specs.Legal.{Opening, value_or, waits, all_notified, reply, IsLegalFrom, IsLegal, is_int_value, IsWellFormed, AreWellFormedFrom, AreWellFormed, EachBelow}
-use Rattle.upc_values.specs.Outcomes.{fits}
+use Rattle.upc_values.specs.Drain.{entry_of, or_else, last_written}
+use Rattle.upc_values.specs.Openings.{Opening, cell_of, blank_in, given, initial_of}
+use Rattle.upc_values.specs.History.{objects, held, valued, reply, IsLegalFrom, IsLegal, EachBelow}
+use Rattle.upc_values.specs.Formed.{IsWellFormed, AreWellFormedFrom, AreWellFormed}
 use Rattle.upc_values.specs.Strands.{may_wait}
 
 legal-from_push : (o : Opening) (before es : List Entry) (e : Entry) → IsLegalFrom o before es
@@ -84,72 +83,40 @@ legal-more o es i e h lt is r =
     subst (IsLegal o) (sym (take_more es i e lt ∙ ap (λ x. take i es ++ x ∷ []) (sym is)))
     (legal-from_push o [] (take i es) e h r)
 
+-- a cell holds a value
+or_else-none : (a b : Option Scalar) → or_else a b ≡ None → b ≡ None
+or_else-none (Some v) b h = absurd cc
+or_else-none None b h = h
+
+blank-none : (k : Option Kind) → blank_in k ≡ None → is_some k ≡ true → ⊥
+blank-none (Some k) h s = cc
+blank-none None h s = cc
+
+valued-none : (v : Option Scalar) → valued v ≡ None → v ≡ None
+valued-none (Some v) h = absurd cc
+valued-none None h = refl
+
+held-some : (o : Opening) (before : List Entry) (l : Loc) → is_some (cell_of o (objects o before) l) ≡ true → valued (held o before l) ≡ None → ⊥
+held-some o before l f h =
+    blank-none (cell_of o (objects o before) l)
+    (or_else-none (given l o.initials) (blank_in (cell_of o (objects o before) l))
+    (or_else-none (last_written l before) (initial_of o (objects o before) l) (valued-none (held o before l) h))) f
+
 -- a well-formed action that has no lawful reply is a Lock or a Wait
-pub unlawful-waits : (o : Opening) (before : List Entry) (t : ℕ) (a : Action) → IsWellFormed o before a
-    → reply o before t a ≡ None → may_wait a ≡ true
+pub unlawful-waits : (o : Opening) (before : List Entry) (t : ℕ) (a : Action) → IsWellFormed o before a → reply o before t a ≡ None → may_wait a ≡ true
 unlawful-waits o before t (asked.Wait m) f h = refl
-unlawful-waits o before t (asked.Read l s) f h = cc
-unlawful-waits o before t (asked.Write l v s) f h = cc
-unlawful-waits o before t asked.Fence f h = cc
-unlawful-waits o before t asked.Beat f h = cc
-unlawful-waits o before t (asked.Notify m) f h = cc
-unlawful-waits o before t (asked.Print x) f h = cc
-unlawful-waits o before t a f h = absurd f
-
--- what a well-formed history holds is an int
-IsIntIn : Option Scalar → Type 0
-IsIntIn (Some v) = is_int_value v ≡ true
-IsIntIn None = Unit {0}
-
-if-int : (b : Bool) (v : Scalar) → is_int_value v ≡ true → IsIntIn (cond b (Some v) None)
-unfolding IsIntIn
-if-int true v h = h
-if-int false v h = tt
-
-or_else-int : (a b : Option Scalar) → IsIntIn a → IsIntIn b → IsIntIn (or_else a b)
-unfolding IsIntIn
-or_else-int (Some v) b h k = h
-or_else-int None b h k = k
-
-written-int : (o : Opening) (before : List Entry) (l : Loc) (a : Action) → IsWellFormed o before a → IsIntIn (written l a)
-unfolding IsIntIn
-written-int o before l (asked.Write k v s) f = if-int (same_loc k l) v f.1
-written-int o before l a f = tt
-
-last_written-int : (o : Opening) (before : List Entry) (l : Loc) (es : List Entry) → AreWellFormedFrom o before es → IsIntIn (last_written l es)
-unfolding IsIntIn
-last_written-int o before l [] h = tt
-last_written-int o before l (e ∷ es) h =
-    or_else-int (last_written l es) (written l e.action)
-    (last_written-int o (before ++ e ∷ []) l es h.1) (written-int o before l e.action h.0)
-
-read-fits : (l : Loc) (s : Bool) (v : Scalar) → is_int_value v ≡ true → fits (asked.Read l s) (Value v) ≡ true
-read-fits l s (Int v) h = h
-read-fits l s v h = h
-
-value-int : (v : Option Scalar) → IsIntIn v → is_int_value (value_or v zero) ≡ true
-unfolding IsIntIn
-value-int (Some v) h = h
-value-int None h = refl
-
-some-same : (q r : Reply) → Some q ≡ Some r → q ≡ r
-some-same q r h = cc
-
-cond-done : (b : Bool) (r : Reply) → cond b (Some Done) None ≡ Some r → Done ≡ r
-cond-done true r h = cc
-cond-done false r h = cc
-
--- the lawful reply fits
-pub lawful-fits : (o : Opening) (before : List Entry) (t : ℕ) (a : Action) (r : Reply) → AreWellFormed o before
-    → IsWellFormed o before a → reply o before t a ≡ Some r → fits a r ≡ true
-lawful-fits o before t (asked.Read l s) r h f e =
-    subst (λ q. fits (asked.Read l s) q ≡ true) (some-same (Value (value_or (last_written l before) zero)) r e)
-    (read-fits l s (value_or (last_written l before) zero) (value-int (last_written l before) (last_written-int o [] l before h)))
-lawful-fits o before t (asked.Wait m) r h f e =
-    subst (λ q. fits (asked.Wait m) q ≡ true) (cond-done (all_notified o.threads (waits t before) before) r e) refl
-lawful-fits o before t (asked.Write l v s) r h f e = subst (λ q. fits (asked.Write l v s) q ≡ true) (some-same Done r e) refl
-lawful-fits o before t asked.Fence r h f e = subst (λ q. fits asked.Fence q ≡ true) (some-same Done r e) refl
-lawful-fits o before t asked.Beat r h f e = subst (λ q. fits asked.Beat q ≡ true) (some-same Done r e) refl
-lawful-fits o before t (asked.Notify m) r h f e = subst (λ q. fits (asked.Notify m) q ≡ true) (some-same Done r e) refl
-lawful-fits o before t (asked.Print x) r h f e = subst (λ q. fits (asked.Print x) q ≡ true) (some-same Done r e) refl
-lawful-fits o before t a r h f e = absurd f
+unlawful-waits o before t (asked.Lock l) f h = refl
+unlawful-waits o before t (asked.Read l s) f h = absurd (held-some o before l f h)
+unlawful-waits o before t (asked.Write l v s) f h = absurd cc
+unlawful-waits o before t asked.Fence f h = absurd cc
+unlawful-waits o before t asked.Beat f h = absurd cc
+unlawful-waits o before t (asked.Notify m) f h = absurd cc
+unlawful-waits o before t (asked.Attempt l) f h = absurd cc
+unlawful-waits o before t (asked.Unlock l) f h = absurd cc
+unlawful-waits o before t asked.LockMake f h = absurd cc
+unlawful-waits o before t (asked.LockFree l) f h = absurd cc
+unlawful-waits o before t (asked.Alloc n b m s) f h = absurd cc
+unlawful-waits o before t (asked.Free p) f h = absurd cc
+unlawful-waits o before t (asked.Meet c args) f h = absurd cc
+unlawful-waits o before t (asked.Print x) f h = absurd cc
+unlawful-waits o before t (asked.Exit v) f h = absurd cc

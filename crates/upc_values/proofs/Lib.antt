@@ -20,6 +20,7 @@ pub mod Beginnings
 pub mod Consistency
 pub mod Parts
 pub mod Unmade
+pub mod Fitting
 pub mod SoundOrders
 mod OrderRows
 mod CallRows

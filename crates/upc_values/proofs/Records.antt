@@ -8,7 +8,7 @@ use Rattle.upc_values.specs.declared.action.Reply.{Reply}
 use Rattle.upc_values.specs.declared.record.Item.{Item}
 use Rattle.upc_values.specs.declared.record.Item.TheVariants.{Did, Stall}
 use Rattle.upc_values.specs.declared.journal.Entry.{Entry}
-use Rattle.upc_values.specs.Legal.{Opening}
+use Rattle.upc_values.specs.Openings.{Opening}
 use Rattle.upc_values.specs.Records.{actions_of, replies_of, last_from, last_item, is_stall, is_beat_item, beats}
 use Rattle.upc_values.specs.Strands.{first_is_stall, may_wait, MayWait, next_action, StallsStand, IsJustified, AreJustified}
 

@@ -3,7 +3,8 @@ use Rattle.std.proofs.Common.{ℕ, List, sym, ◌∙◌, subst}
 use Rattle.upc_values.specs.declared.action.Reply.{Reply}
 use Rattle.upc_values.specs.declared.journal.Journal.{Journal}
 use Rattle.upc_values.specs.Outcomes.{Outcome}
-use Rattle.upc_values.specs.Legal.{Opening, EachBelow}
+use Rattle.upc_values.specs.Openings.{Opening}
+use Rattle.upc_values.specs.History.{EachBelow}
 use Rattle.upc_values.specs.Sound.{IsSound}
 use Rattle.upc_values.specs.Consistent.{FollowsBuffers}
 

@@ -1,13 +1,15 @@
 -- Waits follow notifies in every legal history.
-use Rattle.std.proofs.Common.{◌≡◌, ℕ, ◌<◌, nat_lt, Bool, true, false, ◌&&◌, cond, List, Some, None, refl, sym, subst, arith}
+use Rattle.std.proofs.Common.{◌≡◌, ℕ, ◌<◌, nat_lt, Bool, true, false, ◌&&◌, cond, List, Some, None, slice_get, refl, sym, subst, arith}
 use Rattle.std.proofs.Common.{inl, inr}
 use Rattle.std.proofs.lemmas.Bool.{false≢true, ltb-true, cases_eq}
+use Rattle.block_layout.specs.declared.run_error.TheConstants.{BARRIER_MISMATCH}
 use Rattle.upc_values.specs.declared.action.Action.{Action}
 use Rattle.upc_values.specs.declared.action.Action.TheVariants.{Wait}
 use Rattle.upc_values.specs.declared.action.Reply.{Reply}
-use Rattle.upc_values.specs.declared.action.Reply.TheVariants.{Done}
+use Rattle.upc_values.specs.declared.action.Reply.TheVariants.{Done, Refused}
 use Rattle.upc_values.specs.declared.journal.Entry.{Entry}
-use Rattle.upc_values.specs.Legal.{Opening, is_wait, notifies, waits, all_notified, reply, IsLegal}
+use Rattle.upc_values.specs.Openings.{Opening}
+use Rattle.upc_values.specs.History.{each_thread, is_wait, notifies, waits, marks, agrees_with, all_notified, reply, IsLegal}
 use Rattle.upc_values.specs.Waits.{WaitsFollow}
 use Rattle.upc_values.proofs.Legality.{legal-at}
 
@@ -37,7 +39,8 @@ wait-lawful : (o : Opening) (before : List Entry) (t : ℕ) (a : Action) (r : Re
     → reply o before t a ≡ Some r → (u : ℕ) → u < o.threads → waits t before < notifies u before
 wait-lawful o before t (Wait m) r w h u b =
     all_notified-each o.threads (waits t before) before
-    (some-true (all_notified o.threads (waits t before) before) Done r h) u b
+    (some-true (all_notified o.threads (waits t before) before)
+    (cond (each_thread o.threads (λ u. agrees_with m (slice_get (marks u before) (waits t before)))) Done (Refused BARRIER_MISMATCH)) r h) u b
 wait-lawful o before t a r w h u b = absurd (false≢true w)
 
 -- the p-th wait of each thread stands after the p-th notify of all threads

@@ -10,7 +10,8 @@ use Rattle.upc_values.specs.declared.journal.Strand.{Strand}
 use Rattle.upc_values.specs.declared.journal.Journal.{Journal}
 use Rattle.upc_values.specs.Lists.{Numbered}
 use Rattle.upc_values.specs.Records.{last_item, is_stall, is_beat_item}
-use Rattle.upc_values.specs.Legal.{Opening, reply}
+use Rattle.upc_values.specs.Openings.{Opening}
+use Rattle.upc_values.specs.History.{reply}
 
 -- an end that ends the run
 abbrev pub stops : End → Bool

@@ -149,3 +149,12 @@ fits threads shapes k (act.Meet c args) r = fits_call threads shapes (call_of c 
 fits threads shapes k (act.Print x) Done = true
 fits threads shapes k (act.Exit v) Done = true
 fits threads shapes k a r = false
+
+-- the kind of the cell that an action reads after a history, where it reads one
+abbrev pub kind_read : Opening → List Entry → Action → Option Kind
+kind_read o es (act.Read l s) = cell_of o (objects o es) l
+kind_read o es a = None
+
+-- the reply fits the action after a history
+abbrev pub fits_after : Opening → List Entry → Action → Reply → Bool
+fits_after o es a r = fits o.threads o.shapes (kind_read o es a) a r

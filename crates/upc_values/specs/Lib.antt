@@ -4,7 +4,6 @@ pub mod Shapes
 pub mod Records
 pub mod Outcomes
 pub mod Drain
-pub mod Legal
 pub mod Strands
 pub mod Ends
 pub mod Sound
@@ -17,6 +16,7 @@ pub mod Calls
 pub mod Openings
 pub mod History
 pub mod Formed
+pub mod Basic
 pub mod Expansion
 pub mod Views
 pub mod Copying

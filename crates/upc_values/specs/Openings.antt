@@ -1,10 +1,11 @@
 -- What a run begins with.
-use Rattle.std.specs.Prelude.{ℕ, ◌≡◌, ◌≢◌, ◌<◌, ◌≤◌, ◌+◌, ◌%◌, ◌==◌, nat_lt, Bool, true, ◌&&◌, ◌||◌, cond, List, [], ◌∷◌, take, Option, Some, None, slice_get}
+use Rattle.std.specs.Prelude.{ℕ, ◌≡◌, ◌≢◌, ◌<◌, ◌≤◌, ◌+◌, ◌%◌, ◌==◌, nat_lt, Bool, true, false, ◌&&◌, ◌||◌, cond, List, [], ◌∷◌, take, Option, Some, None, slice_get}
 use Rattle.std.specs.List.{find, list_any, sum_by}
 use Rattle.block_layout.specs.declared.place.Loc.{Loc}
 use Rattle.block_layout.specs.declared.place.ObjectRef.{ObjectRef}
 use Rattle.block_layout.specs.declared.place.SharedPtr.{SharedPtr}
 use Rattle.block_layout.specs.declared.kind.Kind.{Kind}
+use Rattle.block_layout.specs.declared.kind.Kind.TheVariants as kind
 use Rattle.block_layout.specs.declared.kind.Shape.{Shape}
 use Rattle.block_layout.specs.Places.{in_range}
 use Rattle.block_layout.specs.Pointers.{is_null, same_object}
@@ -32,10 +33,19 @@ bytes_of objects = sum_by (λ o. o.total) objects
 abbrev pub cell_of : Opening → List ObjectRef → Loc → Option Kind
 cell_of o objects l = cell_in o.threads o.shapes (find (λ x. x.number == l.object) objects) l
 
+-- a pointer to a private object
+abbrev pub is_private : Kind → Bool
+is_private (kind.Private n) = true
+is_private k = false
+
 -- a pointer is null, or names one of the objects: that object in every field, a thread of the run, an offset in range
 abbrev pub is_named : ℕ → List ObjectRef → SharedPtr → Bool
 is_named threads objects p =
     is_null p || (list_any (same_object p.object) objects && (nat_lt p.thread threads && in_range p.offset))
+
+-- an element of a shared object, which holds no pointer to a private object
+abbrev pub IsSharable : Shape → Type 0
+IsSharable s = Each (λ c. is_private c.1 ≡ false) s.cells
 
 -- what the list gives the location
 abbrev pub given : Loc → List (Loc × Scalar) → Option Scalar
@@ -69,11 +79,12 @@ is_initial o (Int v) = true
 is_initial o (Shared p) = is_named o.threads o.declared p
 is_initial o (Lock l) = l == 0
 
--- an opening: 1 to 32 threads, at most 16,777,216 bytes, and at most one initial value for a cell, which fits it
+-- an opening: 1 to 32 threads, shapes of shared elements, at most 16,777,216 bytes, and at most one initial value for a cell, which fits it
 pub record IsOpening (o : Opening) : Type 0 where
   pub least : 0 < o.threads
   pub most : o.threads ≤ 32
   pub shapes : Each IsShape o.shapes
+  pub sharable : Each IsSharable o.shapes
   pub declared : Numbered (IsDeclared o) o.declared
   pub bytes : bytes_of o.declared ≤ 16777216
   pub once : Pairwise (λ x y. x.0 ≢ y.0) o.initials

@@ -9,7 +9,9 @@ use Rattle.upc_values.specs.Lists.{Numbered}
 use Rattle.upc_values.specs.Records.{replies_of}
 use Rattle.upc_values.specs.Outcomes.{Outcome, wanted}
 use Rattle.upc_values.specs.Drain.{walked, drain, entries_of}
-use Rattle.upc_values.specs.Legal.{Opening, IsLegal, AreWellFormed, EachBelow}
+use Rattle.upc_values.specs.Openings.{Opening}
+use Rattle.upc_values.specs.History.{IsLegal, EachBelow}
+use Rattle.upc_values.specs.Formed.{AreWellFormed}
 use Rattle.upc_values.specs.Strands.{Conforms, AreJustified}
 use Rattle.upc_values.specs.Ends.{OwnEnd, SharedEnd}
 

@@ -11,7 +11,8 @@ use Rattle.upc_values.specs.declared.journal.Strand.{Strand}
 use Rattle.upc_values.specs.Records.{actions_of, last_item, is_beat_item, beats}
 use Rattle.upc_values.specs.Outcomes.{Outcome, wanted}
 use Rattle.upc_values.specs.Drain.{drain, entries_of}
-use Rattle.upc_values.specs.Legal.{Opening, reply}
+use Rattle.upc_values.specs.Openings.{Opening}
+use Rattle.upc_values.specs.History.{reply}
 
 -- a Lock or a Wait alone may find no lawful reply
 abbrev pub may_wait : Action → Bool

@@ -1,7 +1,7 @@
 -- What a legal history says of barriers (UPC 6.6.1).
 use Rattle.std.specs.Prelude.{ℕ, ◌≡◌, ◌<◌, true, List, ◌∷◌, ◌++◌}
 use Rattle.upc_values.specs.declared.journal.Entry.{Entry}
-use Rattle.upc_values.specs.Legal.{is_wait, notifies, waits}
+use Rattle.upc_values.specs.History.{is_wait, notifies, waits}
 
 -- the p-th wait of each thread stands after the p-th notify of each of the first n threads: before a wait, each has
 -- more notifies than the waiting thread has waits

@@ -5,6 +5,7 @@ ghost use Rattle.std.specs.Prelude.{◌≡◌, IfOk};
 use crate::action::Action;
 use crate::listing::Listing;
 use crate::scalar::Scalar;
+use block_layout::{Cells, Shape};
 use std::alloc::{AllocError, Global};
 use upc_text::Text;
 
@@ -63,4 +64,14 @@ fn copy_args(alloc: Global, args: &Listing<Scalar>) -> Result<Listing<Scalar>, A
     ensures { IfOk result (λ b. b ≡ args.now) }
 {
     Ok(Listing::from_vec(args.as_slice().to_vec(alloc)?))
+}
+
+/// An equal shape.
+pub fn copy_shape(alloc: Global, shape: &Shape) -> Result<Shape, AllocError>
+    ensures { IfOk result (λ s. s ≡ shape.now) }
+{
+    Ok(Shape {
+        size: shape.size,
+        cells: Cells::from_vec(shape.cells.as_slice().to_vec(alloc)?),
+    })
 }

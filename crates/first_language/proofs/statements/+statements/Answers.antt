@@ -1,59 +1,42 @@
-use Rattle.std.proofs.Common.{◌≡◌, suc, ◌+◌, ◌-◌, length, true, false, arith}
-use Rattle.first_language.specs.Parse as spec
-use Rattle.first_language.specs.Emit.{emit_statements}
-use Rattle.first_language.proofs.Emits.{carries_self}
-use Rattle.first_language.proofs.Writes.{none_left, none_more, one_fails, one_passes, loop_got, within_none, within_is}
+use Rattle.std.proofs.Common.{◌≡◌, ◌<◌, ◌≤◌, ◌+◌, length, map, drop, [], true, false, arith, ap, ◌∙◌}
+use Rattle.std.proofs.lemmas.List.{drop_all}
+use Rattle.upc_tree.specs.Statement as s
+use Rattle.upc_tree.specs.ViewStatement.{view_statement, view_compound, view_test, view_block_item}
+use Rattle.upc_tree.proofs.StatementRows.{compound_is}
+use Rattle.first_language.specs.Statements.{body_of}
+use Rattle.first_language.proofs.Blocks.{loop_got, none_left, item_fails, item_passes}
+use Rattle.first_language.proofs.Logic.{drop_step}
 use Rattle.first_language.proofs.statements.+statements.Goals as goal
 
-pub within-returns-then-depth-eq0 : goal.within-returns-then-depth-eq0
-within-returns-then-depth-eq0 t c = within_none c.args.names.now c.args.depth c.args.tokens.now.rest.now (omega arith)
-
-pub within-returns : goal.within-returns
-within-returns t c =
-    let less : c.args.depth ≡ suc (c.args.depth - 1) = omega arith in
-    rw (within_is c.args.names.now c.args.depth (c.args.depth - 1) c.args.tokens.now.rest.now less) c.statements.ensures
-
-pub statements-loop-turn-init : goal.statements-loop-turn-init
-statements-loop-turn-init t c =
-    let all : length c.args.tokens.now.rest.now - 0 ≡ length c.args.tokens.now.rest.now = omega arith in
-    rw all (carries_self emit_statements (spec.statements c.args.names.now (spec.within c.args.names.now c.args.depth) (length c.args.tokens.now.rest.now) c.args.tokens.now.rest.now) c.args.code.now.items)
-
-pub statements-returns-in_default : goal.statements-returns-in_default
-statements-returns-in_default t c =
-    c.loop-turn.invariant true c.begin.new.tokens.rest.now c.loop-turn.code.items
-    (none_left c.args.names.now (spec.within c.args.names.now c.args.depth) (length c.args.tokens.now.rest.now - c.loop-turn._turn)
-    c.loop-turn.tokens.rest.now c.begin.new.tokens.rest.now c.loop-turn.code.items c.in_default.ensures.0 c.in_default.ensures.1)
-
-pub statements-returns : goal.statements-returns
-statements-returns t c =
-    c.loop-turn.invariant true c.loop-turn.tokens.rest.now c.loop-turn.code.items
-    (none_more c.args.names.now (spec.within c.args.names.now c.args.depth) (length c.args.tokens.now.rest.now - c.loop-turn._turn)
-    c.loop-turn.tokens.rest.now c.loop-turn.code.items (omega arith))
-
-pub statements-returns-then-not-branch : goal.statements-returns-then-not-branch
-statements-returns-then-not-branch t c =
-    let more : length c.args.tokens.now.rest.now - c.loop-turn._turn ≡ suc (length c.args.tokens.now.rest.now - (c.loop-turn._turn + 1)) = omega arith in
-    let none = rw c.if-not-branch.true at c.in_ok-statement.ensures in
-    c.loop-turn.invariant false c.statement.new.tokens.rest.now c.statement.new.code.items
-    (one_fails c.args.names.now (spec.within c.args.names.now c.args.depth) (length c.args.tokens.now.rest.now - c.loop-turn._turn)
-    (length c.args.tokens.now.rest.now - (c.loop-turn._turn + 1)) c.in-Some.first.now c.loop-turn.tokens.rest.now c.begin.new.tokens.rest.now more
-    c.in-Some.ensures.0 c.in-Some.ensures.1 none)
-
-pub statements-loop-turn-preserved : goal.statements-loop-turn-preserved
-statements-loop-turn-preserved t c =
-    let more : length c.args.tokens.now.rest.now - c.loop-turn._turn ≡ suc (length c.args.tokens.now.rest.now - (c.loop-turn._turn + 1)) = omega arith in
-    let got = rw c.if-not-branch.false at c.in_ok-statement.ensures in
-    λ ok ts new h. c.loop-turn.invariant ok ts new
-    (one_passes c.args.names.now (spec.within c.args.names.now c.args.depth) (length c.args.tokens.now.rest.now - c.loop-turn._turn)
-    (length c.args.tokens.now.rest.now - (c.loop-turn._turn + 1)) c.in-Some.first.now c.loop-turn.tokens.rest.now c.begin.new.tokens.rest.now
-    c.statement.new.tokens.rest.now c.loop-turn.code.items c.statement.new.code.items more
-    c.in-Some.ensures.0 c.in-Some.ensures.1 got ok ts new h)
+pub body-returns-in-Compound : goal.body-returns-in-Compound
+body-returns-in-Compound t c =
+    let v : view_statement c.args.s.now ≡ s.Block (view_compound c.in-Compound.compound) = ap view_statement c.in-Compound.is ∙ compound_is c.in-Compound.compound in
+    rw v c.block.ensures
 
 pub repeat-returns : goal.repeat-returns
 repeat-returns t c =
     let opened = rw c.in-Some.is at c.in_ok-condition.ensures in
-    let body = rw c.if-not-branch.false at c.in_ok-within.ensures in
+    let body = rw c.if-not-branch.false at c.in_ok-body.ensures in
     let closed = rw c.as_slice.ensures.value at c.in_ok-close.ensures in
-    λ p. loop_got c.args.names.now (spec.within c.args.names.now c.args.depth) p c.in-Some-eat.field-0 c.in-Some.condition c.args.tokens.now.rest.now
-    c.opening.new.tokens.rest.now c.within.new.tokens.rest.now c.eat.new.tokens.rest.now c.args.code.now.items c.opening.new.code.items
-    c.new-body.result.items c.within.new.code.items c.close.new.code.items opened c.new-body.ensures.items body c.in-Some-eat.ensures closed
+    loop_got c.args.variables.now.keys (view_test c.args.test.now) (body_of c.args.names.now c.args.variables.now.keys (view_statement c.args.inner.now)) c.in-Some.condition c.args.code.now.items c.opening.new.code.items
+    c.new-steps.result.items c.body.new.code.items c.close.new.code.items opened c.new-steps.ensures.items body closed
+
+pub items-returns-then-not-branch : goal.items-returns-then-not-branch
+items-returns-then-not-branch t c =
+    let within : c.loop-part.part-index < length c.args.items.now = omega arith in
+    let step = drop_step view_block_item c.args.items.now c.loop-part.part-index c.part-item.result c.part-item.result within c.part-item.is in
+    let none = rw c.if-not-branch.true at c.in_ok-item.ensures in
+    c.loop-part.invariant false c.loop-part.code.items (rw step (item_fails c.args.names.now c.args.variables.now.keys (view_block_item c.part-item.result) (map view_block_item (drop (c.loop-part.part-index + 1) c.args.items.now)) none))
+
+pub items-loop-part-preserved : goal.items-loop-part-preserved
+items-loop-part-preserved t c =
+    let within : c.loop-part.part-index < length c.args.items.now = omega arith in
+    let step = drop_step view_block_item c.args.items.now c.loop-part.part-index c.part-item.result c.part-item.result within c.part-item.is in
+    let got = rw c.if-not-branch.false at c.in_ok-item.ensures in
+    λ ok new h. c.loop-part.invariant ok new (rw step (item_passes c.args.names.now c.args.variables.now.keys (view_block_item c.part-item.result) (map view_block_item (drop (c.loop-part.part-index + 1) c.args.items.now)) c.loop-part.code.items c.item.new.code.items got ok new h))
+
+pub items-returns : goal.items-returns
+items-returns t c =
+    let least : length c.args.items.now ≤ c.loop-part.part-index = omega arith in
+    let none : map view_block_item (drop c.loop-part.part-index c.args.items.now) ≡ [] = ap (map view_block_item) (drop_all c.loop-part.part-index c.args.items.now least) in
+    c.loop-part.invariant true c.loop-part.code.items (rw none (none_left c.args.names.now c.args.variables.now.keys c.loop-part.code.items))

@@ -1,22 +1,12 @@
-use Rattle.std.proofs.Common.{◌+◌, ◌-◌, ◌*◌, length}
-use Rattle.first_language.specs.Parse as spec
-use Rattle.first_language.specs.Emit.{emit_statements}
-use Rattle.first_language.proofs.Emits.{Carries}
+use Rattle.std.proofs.Common.{map, drop}
+use Rattle.upc_tree.specs.Lists.{block_items_of}
+use Rattle.upc_tree.specs.ViewStatement.{view_block_item}
+use Rattle.first_language.specs.Statements.{items_of}
+use Rattle.first_language.specs.Emit.{emit_block}
+use Rattle.first_language.proofs.Writes.{Carries}
 use Rattle.first_language.proofs.statements.+statements.Given as goal
 
-abbrev pub decreases-within : goal.decreases-within
-decreases-within l = 4 * l.depth
-
-abbrev pub decreases-statements : goal.decreases-statements
-decreases-statements l = 4 * l.depth + 3
-
-abbrev pub decreases-statement : goal.decreases-statement
-decreases-statement l = 4 * l.depth + 2
-
-abbrev pub decreases-repeat : goal.decreases-repeat
-decreases-repeat l = 4 * l.depth + 1
-
-abbrev pub invariant-statements-loop-turn : goal.invariant-statements-loop-turn
-invariant-statements-loop-turn l =
-    Carries emit_statements (spec.statements l.names (spec.within l.names l.depth) (l._turn-end - l._turn) l.tokens.rest.now)
-    (spec.statements l.names (spec.within l.names l.depth) (length l.fn.tokens.rest.now) l.fn.tokens.rest.now) l.code.items l.fn.code.items
+abbrev pub invariant-items-loop-part : goal.invariant-items-loop-part
+invariant-items-loop-part l =
+    Carries emit_block (items_of l.names l.variables.keys (block_items_of (map view_block_item (drop l.part-index l.items))))
+    (items_of l.names l.variables.keys (block_items_of (map view_block_item l.items))) l.code.items l.fn.code.items

@@ -1,10 +1,10 @@
-use Rattle.first_language.proofs.Writes.{print_got}
+use Rattle.std.proofs.Common.{◌≡◌, sym, ◌∙◌}
+use Rattle.upc_tree.specs.View.{view, view_arguments}
+use Rattle.first_language.proofs.Blocks.{print_got}
 use Rattle.first_language.proofs.statements.print.Goals as goal
 
 pub returns : goal.returns
 returns c =
-    let sum = rw c.if-not-branch.false at c.in_ok-inside.ensures in
-    λ inner p. print_got c.args.names.now inner p c.in-Some.field-0 c.in-Some-eat.field-0 c.in-Some-eat-2.field-0 c.in-Some-eat-3.field-0 c.in-Some-eat-4.field-0
-    c.args.tokens.now.rest.now c.eat.new.tokens.rest.now c.eat-2.new.tokens.rest.now c.eat-3.new.tokens.rest.now
-    c.inside.new.tokens.rest.now c.eat-4.new.tokens.rest.now c.eat-5.new.tokens.rest.now c.args.code.now.items c.inside.new.code.items c.push.new.self.items
-    c.in-Some.ensures c.in-Some-eat.ensures c.in-Some-eat-2.ensures sum c.in-Some-eat-3.ensures c.in-Some-eat-4.ensures c.in_ok-push.ensures.items
+    let sum = rw c.if-not-branch.false at c.in_ok-printed.ensures in
+    print_got c.args.names.now c.args.variables.now.keys (view c.args.callee.now) (view_arguments c.args.arguments.now) c.args.code.now.items c.printed.new.code.items c.push.new.self.items
+    (sym c.is_printf.ensures ∙ c.if-not-is_printf.false) sum c.in_ok-push.ensures.items

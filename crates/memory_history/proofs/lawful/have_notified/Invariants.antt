@@ -1,5 +1,5 @@
 use Rattle.std.proofs.Common.{◌≡◌}
-use Rattle.upc_values.specs.Legal.{all_notified}
+use Rattle.upc_values.specs.History.{all_notified}
 use Rattle.memory_history.proofs.lawful.have_notified.Given as goal
 
 abbrev pub invariant-loop-thread : goal.invariant-loop-thread

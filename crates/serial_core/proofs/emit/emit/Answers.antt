@@ -1,8 +1,12 @@
-use Rattle.std.proofs.Common.{[], sym, subst, ap, ◌∙◌}
+use Rattle.std.proofs.Common.{◌≡◌, true, [], sym, subst, ap, ◌∙◌}
+use Rattle.std.specs.Prelude.{IfSome}
 use Rattle.upc_values.specs.Drain.{emptied}
+use Rattle.upc_values.specs.History.{reply}
+use Rattle.upc_values.specs.Formed.{IsWellFormed, fits_after}
+use Rattle.upc_values.proofs.Unmade.{basic-declared}
 use Rattle.memory_history.specs.World.{answer_of}
 use Rattle.serial_core.specs.Kept.{Holds, Emitted}
-use Rattle.serial_core.proofs.Buffers.{emitted-forwarded, forwarded-fits, emitted-looked, emitted-empties, found-none, answer-is, holds-emptied, grew-then, grew-performed, asked-grew}
+use Rattle.serial_core.proofs.Buffers.{emitted-forwarded, forwarded-fits, emitted-looked, emitted-passed, emitted-empties, found-none, answer-is, holds-emptied, grew-then, grew-performed, asked-grew}
 use Rattle.serial_core.proofs.emit.emit.Goals as goal
 
 pub returns-in-Some-clause-holds : goal.returns-in-Some-clause-holds
@@ -13,13 +17,13 @@ returns-in-Some-clause-holds c = λ w k.
 pub returns-in-Some-clause-answer : goal.returns-in-Some-clause-answer
 returns-in-Some-clause-answer c =
     forwarded-fits c.args.world.now.0 c.in-Some.field-0-0 c.in-Looks.loc c.in-Some.value c.args.world.now.1 c.args.buffer.now c.args.action.now
-    c.requires.pending (sym c.in-Looks.ensures) c.in-Some.ensures.youngest
+    c.keeps.ensures.opening (basic-declared c.args.world.now.0 c.args.world.now.1 c.keeps.ensures.basic) c.requires.pending (sym c.in-Looks.ensures) c.in-Some.ensures.youngest
 
 pub returns-in_ok-step-in-None-clause-holds : goal.returns-in_ok-step-in-None-clause-holds
 returns-in_ok-step-in-None-clause-holds c = λ w k.
     let e = c.in_ok-step-in-None.ensures in
     emitted-looked c.args.world.now.0 c.args.thread c.args.next c.in-Looks.loc c.args.world.now.1 c.perform.new.self.1 c.args.buffer.now c.args.action.now
-    (answer_of c.in_ok-step-in-None.step) w (sym c.in-Looks.ensures) (found-none _ c.in-None.ensures.youngest) e.reply e.entries k
+    (answer_of c.in_ok-step-in-None.step) w c.requires.asked (sym c.in-Looks.ensures) (found-none _ c.in-None.ensures.youngest) e.reply e.entries k
 
 pub returns-in_ok-step-in-None-clause-answer : goal.returns-in_ok-step-in-None-clause-answer
 returns-in_ok-step-in-None-clause-answer c =
@@ -43,7 +47,8 @@ returns-in_ok-step-in-Empties-clause-answer c =
     let e = c.in_ok-step-in-Empties.ensures in let f = c.in_ok-empty-in-Empties.ensures in
     answer-is o t c.args.next mid c.perform-in-Empties.new.self.1 a (answer_of c.in_ok-step-in-Empties.step)
     (asked-grew o t c.args.world.now.1 mid a c.requires.asked f.grew)
-    (e.reply ∙ ap (λ z. Rattle.upc_values.specs.Legal.reply z mid t a) f.opening) e.fits e.entries
+    (e.reply ∙ ap (λ z. reply z mid t a) f.opening)
+    (subst (λ z. IfSome (answer_of c.in_ok-step-in-Empties.step) (λ r. fits_after z mid a r ≡ true)) f.opening e.fits) e.entries
 
 pub returns-in_ok-step-in-Empties-clause-grew : goal.returns-in_ok-step-in-Empties-clause-grew
 returns-in_ok-step-in-Empties-clause-grew c =
@@ -51,3 +56,15 @@ returns-in_ok-step-in-Empties-clause-grew c =
     grew-then t c.args.world.now.1 mid new
     (grew-performed t c.args.next mid new c.args.action.now (answer_of c.in_ok-step-in-Empties.step) c.in_ok-step-in-Empties.ensures.entries)
     c.in_ok-empty-in-Empties.ensures.grew
+
+pub perform-requires-in-Empties-clause-formed : goal.perform-requires-in-Empties-clause-formed
+perform-requires-in-Empties-clause-formed c =
+    let f = c.in_ok-empty-in-Empties.ensures in let mid = c.empty.new.world.1 in let a = c.args.action.now in
+    subst (λ o. IsWellFormed o mid a) (sym f.opening)
+    (asked-grew c.args.world.now.0 c.args.thread c.args.world.now.1 mid a c.requires.asked f.grew)
+
+pub returns-in_ok-step-in-Passes-clause-holds : goal.returns-in_ok-step-in-Passes-clause-holds
+returns-in_ok-step-in-Passes-clause-holds c = λ w k.
+    let e = c.in_ok-step-in-Passes.ensures in
+    emitted-passed c.args.world.now.0 c.args.thread c.args.next c.args.world.now.1 c.perform-in-Passes.new.self.1 c.args.buffer.now
+    c.args.action.now (answer_of c.in_ok-step-in-Passes.step) w (sym c.in-Passes.ensures) e.reply e.entries k

@@ -2,7 +2,7 @@ use Rattle.std.proofs.Common.{◌≡◌, ◌≤◌, ◌++◌, List, length, map,
 use Rattle.std.specs.Vec.Iter.{into_iter_items}
 use Rattle.upc_values.specs.declared.journal.Entry.{Entry}
 use Rattle.upc_values.specs.Lists.{Numbered}
-use Rattle.upc_values.specs.Legal.{Opening}
+use Rattle.upc_values.specs.Openings.{Opening}
 use Rattle.first_language.specs.declared.tree.First.{First}
 use Rattle.serial_core.specs.Kept.{strand_of}
 use Rattle.serial_core.specs.Runs.{IsAt}

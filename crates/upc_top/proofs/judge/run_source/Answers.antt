@@ -1,14 +1,14 @@
 use Rattle.std.proofs.Common.{◌≡◌, ℕ, ◌/◌, ap, ◌∙◌, rules}
-use Rattle.first_language.specs.Source.{IsSource}
+use Rattle.upc_top.specs.Sources.{IsAccepted}
 use Rattle.upc_top.proofs.judge.run_source.Goals as goal
 
-pub returns-in-Ok : goal.returns-in-Ok
-returns-in-Ok g c =
-    let ran = c.in-Ok.ensures in
-    let source : IsSource c.args.source.now c.in-Ok-Some.program = search rules in
+pub returns-in-Ok-run_by : goal.returns-in-Ok-run_by
+returns-in-Ok-run_by g c =
+    let ran = c.in-Ok-run_by.ensures in
+    let accepted : IsAccepted c.args.source.now c.in-Ok.program = search rules in
     record {
-      program = c.in-Ok-Some.program;
-      source = source;
+      program = c.in-Ok.program;
+      accepted = accepted;
       run = record {
         budget_is = ran.limits.1;
         actions_is = ran.limits.2 ∙ ap (λ n. 4194304 / n) c.from.ensures;

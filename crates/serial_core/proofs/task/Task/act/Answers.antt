@@ -1,13 +1,13 @@
 use Rattle.std.proofs.Common.{rules, ◌≡◌, ◌+◌, ◌++◌, [], ◌∷◌, Some, None, true, false, sym, subst, ap, ◌∙◌, refl, inl, inr}
 use Rattle.upc_values.specs.declared.record.Item.TheVariants.{Did, Stall}
-use Rattle.upc_values.specs.Legal.{reply}
+use Rattle.upc_values.specs.History.{reply}
 use Rattle.upc_values.specs.Records.{is_stall, is_beat, is_beat_item, last_item}
 use Rattle.upc_values.proofs.Records.{last-push}
 use Rattle.first_language.specs.declared.machine.Wish.TheVariants.{Act}
 use Rattle.memory_history.specs.World.{answer_of}
 use Rattle.serial_core.specs.declared.task.Task.{Task}
 use Rattle.serial_core.specs.Kept.{IsKept, Emitted, IsAnswer, Paused}
-use Rattle.serial_core.proofs.Tasks.{kept-asks, kept-did, kept-stall, kept-stay}
+use Rattle.serial_core.proofs.Tasks.{kept-asks, kept-basic, kept-did, kept-stall, kept-stay}
 use Rattle.serial_core.proofs.task.Task.act.Goals as goal
 use Rattle.serial_core.proofs.task.Task.act.Goals.{then-is_beat, else-is_beat}
 
@@ -15,6 +15,11 @@ pub emit-requires-clause-asked : goal.emit-requires-clause-asked
 emit-requires-clause-asked c =
     let k = c.args.self.now in let h = c.requires.kept in
     kept-asks c.args.world.now.0 h.0 c.args.world.now.1 k c.in-Some-Act.action h.1 (search rules)
+
+pub emit-requires-clause-basic : goal.emit-requires-clause-basic
+emit-requires-clause-basic c =
+    let k = c.args.self.now in let h = c.requires.kept in
+    kept-basic c.args.world.now.0 h.0 c.args.world.now.1 k c.in-Some-Act.action h.1 (search rules)
 
 pub returns-after-is_beat-clause-kept : goal.returns-after-is_beat-clause-kept
 returns-after-is_beat-clause-kept c = λ p h.

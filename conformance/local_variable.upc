@@ -1,0 +1,1 @@
+int main(void){int i;return 0;}

@@ -1,0 +1,24 @@
+use Rattle.std.proofs.Common.{ap, ◌∙◌, rules, arith}
+use Rattle.std.proofs.lemmas.Grind.{common_steps}
+use Rattle.upc_tree.specs.ViewStatement.{view_statement}
+use Rattle.upc_tree.specs.Statement.{Statement}
+use Rattle.upc_tree.proofs.StatementRows.{compound_is, if_is, switch_is}
+use Rattle.affinity_checker.specs.Rules.{first}
+use Rattle.affinity_checker.specs.Breaches.{breaches}
+use Rattle.affinity_checker.proofs.Firsts.{first_append}
+use Rattle.affinity_checker.proofs.fault.+fault.Goals as goal
+
+pub statement_fault-returns-in-Compound : goal.statement_fault-returns-in-Compound
+statement_fault-returns-in-Compound t c =
+    let v = ap (λ (s : Statement). first (breaches s c.args.around)) (ap view_statement c.in-Compound.is ∙ compound_is c.in-Compound.compound) in
+    first_of (search rules, grind (arith, common_steps))
+
+pub statement_fault-returns-in-If : goal.statement_fault-returns-in-If
+statement_fault-returns-in-If t c =
+    let v = ap (λ (s : Statement). first (breaches s c.args.around)) (ap view_statement c.in-If.is ∙ if_is c.in-If.word c.in-If.test c.in-If.body c.in-If.more c.in-If.otherwise) in
+    first_of (search rules, grind (arith, common_steps, first_append))
+
+pub statement_fault-returns-in-Switch : goal.statement_fault-returns-in-Switch
+statement_fault-returns-in-Switch t c =
+    let v = ap (λ (s : Statement). first (breaches s c.args.around)) (ap view_statement c.in-Switch.is ∙ switch_is c.in-Switch.word c.in-Switch.test c.in-Switch.open c.in-Switch.body c.in-Switch.close) in
+    first_of (search rules, grind (arith, common_steps))

@@ -1,0 +1,61 @@
+-- All breaches of a source, as its nodes are finished: children before their parent, from left to right.
+use Rattle.std.specs.Prelude.{List, [], ◌∷◌, ◌++◌}
+use Rattle.upc_text.specs.declared.place.Refusal.{Refusal}
+use Rattle.upc_tree.specs.Statement.{Statement, Block, Value, If, Switch, While, DoWhile, For, Forall, Break, Continue, Return, Barrier, Fence, Compound, Braces, BlockItems, NoBlockItems, AndBlockItem, BlockItem, DeclarationItem, StatementItem, SwitchItems, NoSwitchItems, AndSwitchItem, SwitchItem, CaseItem, DefaultItem, SwitchStatement, ElseIfs, NoElseIfs, AndElseIf, Otherwise, NoOtherwise, Else}
+use Rattle.upc_tree.specs.Unit.{External, PragmaPart, DeclarationPart, FunctionPart}
+use Rattle.affinity_checker.specs.declared.around.Around.{Around}
+use Rattle.affinity_checker.specs.Rules.{in_loop, in_switch, in_forall, nothing, at_break, at_continue, at_return}
+
+abbrev mutual
+  pub breaches : Statement → Around → List Refusal
+  breaches (Block compound) a = in_compound compound a
+  breaches (Value value semicolon) a = []
+  breaches (If at test body more last) a = breaches body a ++ (in_else_ifs more a ++ in_otherwise last a)
+  breaches (Switch at test left body right) a = in_switch_items body (in_switch a)
+  breaches (While at test body) a = breaches body (in_loop a)
+  breaches (DoWhile at body until test semicolon) a = breaches body (in_loop a)
+  breaches (For at head body) a = breaches body (in_loop a)
+  breaches (Forall at head body) a = breaches body (in_forall a)
+  breaches (Break at semicolon) a = at_break a at.place
+  breaches (Continue at semicolon) a = at_continue a at.place
+  breaches (Return at value semicolon) a = at_return a at.place
+  breaches (Barrier kind at value semicolon) a = []
+  breaches (Fence at semicolon) a = []
+
+  pub in_compound : Compound → Around → List Refusal
+  in_compound (Braces left pragmas items right) a = in_block_items items a
+
+  pub in_block_items : BlockItems → Around → List Refusal
+  in_block_items NoBlockItems a = []
+  in_block_items (AndBlockItem item more) a = in_block_item item a ++ in_block_items more a
+
+  pub in_block_item : BlockItem → Around → List Refusal
+  in_block_item (DeclarationItem declaration) a = []
+  in_block_item (StatementItem statement) a = breaches statement a
+
+  pub in_switch_items : SwitchItems → Around → List Refusal
+  in_switch_items NoSwitchItems a = []
+  in_switch_items (AndSwitchItem item more) a = in_switch_item item a ++ in_switch_items more a
+
+  pub in_switch_item : SwitchItem → Around → List Refusal
+  in_switch_item (CaseItem at value colon) a = []
+  in_switch_item (DefaultItem at colon) a = []
+  in_switch_item (SwitchStatement statement) a = breaches statement a
+
+  pub in_else_ifs : ElseIfs → Around → List Refusal
+  in_else_ifs NoElseIfs a = []
+  in_else_ifs (AndElseIf other at test body more) a = breaches body a ++ in_else_ifs more a
+
+  pub in_otherwise : Otherwise → Around → List Refusal
+  in_otherwise NoOtherwise a = []
+  in_otherwise (Else at body) a = breaches body a
+
+abbrev pub in_external : External → List Refusal
+in_external (PragmaPart pragma) = []
+in_external (DeclarationPart declaration) = []
+in_external (FunctionPart _ _ _ _ body) = in_compound body nothing
+
+-- The breaches of a whole source.
+abbrev pub unit_breaches : List External → List Refusal
+unit_breaches [] = []
+unit_breaches (part ∷ more) = in_external part ++ unit_breaches more

@@ -1,0 +1,9 @@
+//! Where `break`, `continue` and `return` may stand (C99 6.8.6, UPC 6.6.2).
+#![tactic(auto, using(crate::proofs::Firsts::first_append))]
+
+mod around;
+mod fault;
+#[cfg(test)]
+mod tests;
+
+pub use fault::forall_fault;

@@ -1,0 +1,120 @@
+-- The types of values, and tests on types (C99 6.2.5, 6.3.2.1).
+use Rattle.std.specs.Prelude.{ℕ, Bool, true, false, not, ◌&&◌, ◌||◌, ◌==◌, ◌*◌, if◌then◌else◌, List, [], ◌∷◌, Option, Some, None}
+use Rattle.std.specs.List.{list_any}
+use Rattle.block_layout.specs.declared.kind.Kind.{Kind}
+use Rattle.upc_types.specs.declared.ctype.Access.TheVariants.{Unsaid}
+use Rattle.upc_types.specs.Types.{CType, Qualified, Base, Void, Integer, Struct, Array, Pointer, LockObject, base_of, block_of, Completed, Structs}
+use Rattle.upc_types.specs.Same.{same_base, same_block}
+
+-- The type of a value: an array turns into a pointer to its first element (C99 6.3.2.1).
+abbrev pub value_base : Base → Base
+value_base (Array element count) = Pointer element
+value_base b = b
+
+-- A type without qualifiers of its own.
+abbrev pub plainly : Base → CType
+plainly b = Qualified b false None Unsaid
+
+-- The type of the value of an expression, which has no qualifiers of its own.
+abbrev pub value_type : CType → CType
+value_type (Qualified b c s x) = plainly (value_base b)
+
+abbrev pub base_is_void : Base → Bool
+base_is_void Void = true
+base_is_void b = false
+
+abbrev pub base_is_array : Base → Bool
+base_is_array (Array element count) = true
+base_is_array b = false
+
+abbrev pub base_is_struct : Base → Bool
+base_is_struct (Struct number) = true
+base_is_struct b = false
+
+abbrev pub base_is_lock : Base → Bool
+base_is_lock LockObject = true
+base_is_lock b = false
+
+abbrev pub is_void : CType → Bool
+is_void t = base_is_void (base_of t)
+
+abbrev pub is_array : CType → Bool
+is_array t = base_is_array (base_of t)
+
+abbrev pub is_struct : CType → Bool
+is_struct t = base_is_struct (base_of t)
+
+abbrev pub is_lock : CType → Bool
+is_lock t = base_is_lock (base_of t)
+
+abbrev pub present : {A : Type 0} → Option A → Bool
+present None = false
+present (Some x) = true
+
+-- A shared type.
+abbrev pub is_shared : CType → Bool
+is_shared t = present (block_of t)
+
+-- The kind of an integer type.
+abbrev pub base_kind : Base → Option Kind
+base_kind (Integer kind) = Some kind
+base_kind b = None
+
+-- What a value of this type points to.
+abbrev pub base_target : Base → Option CType
+base_target (Pointer t) = Some t
+base_target (Array t count) = Some t
+base_target b = None
+
+-- The number of a struct type.
+abbrev pub base_struct : Base → Option ℕ
+base_struct (Struct number) = Some number
+base_struct b = None
+
+-- The type of the leaf elements of an array of arrays; another type itself.
+abbrev pub leaf_base : Base → Base
+leaf_base (Array (Qualified e c s x) count) = leaf_base e
+leaf_base b = b
+
+-- How many leaf elements an object has.
+abbrev pub leaves : Base → ℕ
+leaves (Array (Qualified e c s x) count) = count * leaves e
+leaves b = 1
+
+abbrev pub base_is_nested : Base → Bool
+base_is_nested (Array t count) = is_array t
+base_is_nested b = false
+
+-- An array of arrays.
+abbrev pub is_nested : CType → Bool
+is_nested t = base_is_nested (base_of t)
+
+-- void, or a lock itself.
+abbrev pub is_no_object : Base → Bool
+is_no_object b = base_is_void b || base_is_lock b
+
+-- Targets that are equal but for const and strict or relaxed (UPC 6.5.1.1): the same type, and the same block where shared.
+abbrev pub equal_targets : CType → CType → Bool
+equal_targets a b = same_block (block_of a) (block_of b) && same_base (base_of a) (base_of b)
+
+-- A pointer to a private object: it leads neither to a shared object nor to a lock.
+abbrev pub is_private_target : CType → Bool
+is_private_target (Qualified b c s x) = not (present s || base_is_lock b)
+
+-- An object of this type holds a pointer to a private object, where it is known which structs do.
+abbrev pub base_holds_private : (ℕ → Bool) → Base → Bool
+base_holds_private structs (Pointer t) = is_private_target t
+base_holds_private structs (Struct number) = structs number
+base_holds_private structs (Array (Qualified e c s x) count) = base_holds_private structs e
+base_holds_private structs b = false
+
+abbrev pub struct_holds_private : List Completed → ℕ → Bool
+struct_holds_private [] number = false
+struct_holds_private (c ∷ older) number =
+    if c.number == number
+    then list_any (λ m. base_holds_private (struct_holds_private older) (base_of m.ctype)) c.members
+    else struct_holds_private older number
+
+-- An object of this type holds a pointer to a private object, itself or in a member or an element.
+abbrev pub holds_private : Structs → CType → Bool
+holds_private structs t = base_holds_private (struct_holds_private structs.completed) (base_of t)

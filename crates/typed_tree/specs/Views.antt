@@ -1,0 +1,54 @@
+-- What contracts see of types, meanings and uses, without where they lie in memory.
+use Rattle.std.specs.Prelude.{map, Option, Some, None}
+use denote.Ref.{Bor}
+use Rattle.upc_types.specs.declared.ctype.CType as r
+use Rattle.upc_types.specs.Types.{CType}
+use Rattle.upc_types.specs.View.{view}
+use Rattle.typed_tree.specs.declared.meaning.Signature as s
+use Rattle.typed_tree.specs.declared.meaning.Meaning.{Meaning}
+use Rattle.typed_tree.specs.declared.meaning.Meaning.TheVariants as m
+use Rattle.typed_tree.specs.declared.meaning.Use.{Use}
+use Rattle.typed_tree.specs.declared.meaning.Use.TheVariants as u
+use Rattle.typed_tree.specs.declared.meaning.Formed as f
+use Rattle.typed_tree.specs.declared.meaning.Around as a
+use Rattle.typed_tree.specs.declared.tree.Expr as e
+use Rattle.typed_tree.specs.declared.tree.Arm as arm
+use Rattle.typed_tree.specs.Meanings as pure
+use Rattle.typed_tree.specs.Nodes as n
+use Rattle.typed_tree.specs.Nodes.{Attr, view_attr}
+
+abbrev pub view_target : Option (Bor r.CType) → Option CType
+view_target None = None
+view_target (Some t) = Some (view t.now)
+
+abbrev pub view_signature : s.Signature → pure.Signature
+view_signature x = record { result = view x.result; parameters = map view x.parameters.items }
+
+abbrev pub view_meaning : Meaning → pure.Meaning
+view_meaning m.Unknown = pure.Unknown
+view_meaning (m.Object t home) = pure.Object (view t.now) home
+view_meaning (m.Function signature) = pure.Function (view_signature signature.now)
+view_meaning (m.Library call) = pure.Library call
+view_meaning (m.Named constant) = pure.Named constant
+
+abbrev pub view_use : Use → n.Use
+view_use u.Plain = n.Plain
+view_use u.Called = n.Called
+view_use u.Indexed = n.Indexed
+view_use u.Measured = n.Measured
+view_use u.Prints = n.Prints
+view_use (u.Into t) = n.Into (view t.now)
+
+abbrev pub view_formed : f.Formed → n.Formed
+view_formed x = record { forms = x.forms; ctype = view x.ctype; sizes = x.sizes.items }
+
+abbrev pub view_around : a.Around → n.Around
+view_around x = record { result = view x.result.now; breaks = x.breaks; loops = x.loops; forall = x.forall }
+
+-- What an expression of the tree is.
+abbrev pub attr_seen : e.Expr → Attr
+attr_seen x = view_attr x.attr
+
+-- The condition of an arm.
+abbrev pub attr_tested : arm.Arm → Attr
+attr_tested x = view_attr x.test.attr

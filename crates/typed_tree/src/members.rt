@@ -1,0 +1,65 @@
+//! Members by their names.
+
+ghost use Rattle.std.specs.Prelude.{◌≡◌, ℕ, map, drop};
+ghost use Rattle.upc_types.specs.View.{view, view_base, view_member};
+ghost use Rattle.upc_types.specs.ViewStructs.{view_structs};
+ghost use Rattle.typed_tree.specs.Views.{view_target};
+ghost use Rattle.typed_tree.specs.Nodes as n;
+ghost use Rattle.typed_tree.specs.Nodes.{view_attr};
+ghost use Rattle.typed_tree.specs.Rules as r;
+ghost use Rattle.typed_tree.specs.Rules.{lowest};
+
+use crate::attribute::Attr;
+use crate::types::target_of;
+use upc_types::{Base, CType, Member, Structs};
+
+fn has_name(members: &[Member], name: &[u8]) -> bool
+    ensures { result ≡ r.has_name (map view_member members.now) name.now }
+{
+    for x in members {
+        if x.name.as_slice() == name {
+            return true;
+        }
+    }
+    false
+}
+
+fn names_member(structs: &Structs, t: &CType, name: &[u8]) -> bool
+    ensures { result ≡ r.names_member (view_structs structs.now) (view t.now) name.now }
+{
+    match &t.base {
+        Base::Struct(number) => has_name(structs.members(*number), name),
+        _ => false,
+    }
+}
+
+fn target_names(structs: &Structs, target: Option<&CType>, name: &[u8]) -> bool
+    ensures { result ≡ r.target_names (view_structs structs.now) (view_target target.entry) name.now }
+{
+    match target {
+        Some(t) => names_member(structs, t, name),
+        None => false,
+    }
+}
+
+/// `a.name`.
+pub fn member_of(structs: &Structs, a: &Attr, name: &[u8]) -> Option<u8>
+    ensures { (threads : ℕ) → result ≡ lowest (record { structs = view_structs structs.now; threads = threads }) (n.MemberOf (view_attr a.now) name.now) }
+{
+    if names_member(structs, &a.ctype, name) {
+        None
+    } else {
+        Some(19)
+    }
+}
+
+/// `a->name`.
+pub fn member_behind(structs: &Structs, a: &Attr, name: &[u8]) -> Option<u8>
+    ensures { (threads : ℕ) → result ≡ lowest (record { structs = view_structs structs.now; threads = threads }) (n.MemberBehind (view_attr a.now) name.now) }
+{
+    if target_names(structs, target_of(a), name) {
+        None
+    } else {
+        Some(19)
+    }
+}

@@ -1,0 +1,13 @@
+pub mod CompleteExpressions
+pub mod CompleteTypes
+pub mod Lists
+pub mod Listings
+pub mod Low
+pub mod Ran
+pub mod Rolled
+pub mod Sequence
+pub mod SoundExpressions
+pub mod SoundTypes
+pub mod Stops
+pub mod TableFacts
+pub mod Turns

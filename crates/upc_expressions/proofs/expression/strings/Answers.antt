@@ -1,0 +1,10 @@
+use Rattle.std.proofs.Common.{rules}
+use Rattle.upc_expressions.specs.Outcome.{starts}
+use Rattle.upc_expressions.specs.Tables.{is_string}
+use Rattle.upc_expressions.specs.Expression.{string, strings}
+use Rattle.upc_expressions.proofs.Ran.{ran_same}
+use Rattle.upc_expressions.proofs.expression.strings.Goals as goal
+
+pub returns : goal.returns
+unfolding strings
+returns c = ran_same (starts is_string) string _ (λ old new r p. search rules) c.args.tokens.now.rest.now c.many.result c.many.new.tokens.rest.now c.many.ensures

@@ -1,0 +1,5 @@
+pub mod Outcome
+pub mod Tables
+pub mod Ahead
+pub mod Expression
+pub mod Run

@@ -1,0 +1,533 @@
+//! Expressions (C99 6.5, UPC 6.4).
+
+ghost use Rattle.std.specs.Prelude.{◌≡◌, ◌≤◌, ◌<◌, nat_le, length};
+ghost use Rattle.upc_tree.specs.Expression.{height};
+ghost use Rattle.upc_tree.specs.Proper.{level};
+ghost use Rattle.upc_tree.specs.View.{view, view_arguments, view_next_expr, view_next_exprs};
+ghost use Rattle.upc_expressions.specs.Expression as spec;
+ghost use Rattle.upc_expressions.specs.Expression.{at_height};
+ghost use Rattle.upc_expressions.specs.Outcome.{span_of};
+ghost use Rattle.upc_expressions.specs.Run.{Reads, Nests, same};
+
+use crate::ahead::{Ahead, Sign, starts, starts_two};
+use crate::cursor::{Fail, Fault, Tokens, expect_punct, name, span_of};
+use crate::grammar::Grammar;
+use crate::items::many;
+use crate::make::{
+    arguments, assign, binary, call, cast, comma, conditional, member_of, paren, size_of_expr,
+    size_of_type, step, subscript, unary,
+};
+use crate::start::{
+    Joint, Prefix, Suffix, joint_level, joint_of, left_least, operand_level, prefix_of, suffix_of,
+};
+use std::alloc::Global;
+use upc_lexer::{Punct, Token, TokenKind, Word};
+use upc_tree::{
+    Arguments, ConstantWord, Expr, Name, NextExpr, SizeWord, Span, Spec, StringLiteral, UnaryMark,
+    expr_height,
+};
+
+/// Whether the tree is no higher than n.
+fn fits(e: &Expr, n: u32) -> bool
+    requires { n < 4294967295 }
+    ensures { result ≡ nat_le (height (view e.now)) n }
+{
+    expr_height(e) <= n
+}
+
+fn string(alloc: Global, tokens: &mut Tokens<'_>) -> Result<StringLiteral, Fail>
+    ensures { Reads same (spec.string tokens.old.rest.now) result tokens.new.rest.now }
+{
+    match tokens.rest {
+        [] => Err(Fail::Fault(Fault::NoTree)),
+        [first, rest @ ..] => match &first.kind {
+            TokenKind::Str(bytes) => {
+                tokens.rest = rest;
+                Ok(StringLiteral {
+                    bytes: bytes.copy(alloc)?,
+                    span: span_of(first),
+                })
+            }
+            _ => Err(Fail::Fault(Fault::NoTree)),
+        },
+    }
+}
+
+fn strings(alloc: Global, tokens: &mut Tokens<'_>) -> Result<Vec<StringLiteral>, Fail>
+    ensures { Reads (λ v. v.items) (spec.strings tokens.old.rest.now) result tokens.new.rest.now }
+{
+    many(
+        alloc,
+        tokens,
+        Ahead::One(Sign::String),
+        |t| string(alloc, t),
+    )
+}
+
+fn opens_type(rest: &[Token]) -> bool
+    ensures { result ≡ spec.opens_type rest.now }
+{
+    starts_two(Sign::Punct(Punct::LParen), Sign::Spec(false), rest)
+}
+
+fn level(e: &Expr) -> u8
+    ensures { result ≡ level (view e.now) }
+{
+    match e {
+        Expr::Comma { .. } => 0,
+        Expr::Assign { .. } => 1,
+        Expr::Conditional { .. } => 2,
+        Expr::Binary { mark, .. } => joint_level(Joint::Binary(*mark)),
+        Expr::Cast { .. } => 13,
+        Expr::Unary { .. } | Expr::SizeOfExpr { .. } | Expr::SizeOfType { .. } => 14,
+        _ => 15,
+    }
+}
+
+fn goes_on(least: u8, left: &Expr, joint: Joint) -> bool
+    ensures { result ≡ spec.goes_on least (view left.now) joint }
+{
+    least <= joint_level(joint) && left_least(joint) <= level(left)
+}
+
+impl<
+    F: Fn(Global, &mut Tokens<'_>, u32, u8) -> Result<Expr, Fail>,
+    G: Fn(Global, &mut Tokens<'_>, u32) -> Result<Spec, Fail>,
+> Grammar<F, G> {
+    #[tactic(auto, unfolding(crate::specs::Expression::next_expr))]
+    fn next_expr(&self, tokens: &mut Tokens<'_>, n: u32) -> Result<NextExpr, Fail>
+        requires within { n ≤ self.now.below }
+        requires nests { Nests self.now.below (F.pre self.now.expr) (F.post self.now.expr) (G.pre self.now.structure) (G.post self.now.structure) }
+        ensures { Reads view_next_expr (spec.next_expr (at_height n) tokens.old.rest.now) result tokens.new.rest.now }
+    {
+        let comma = expect_punct(tokens, Punct::Comma)?;
+        let value = self.expr(tokens, n, 1)?;
+        Ok(NextExpr { comma, value })
+    }
+
+    pub fn next_exprs(&self, tokens: &mut Tokens<'_>, n: u32) -> Result<Vec<NextExpr>, Fail>
+        requires within { n ≤ self.now.below }
+        requires nests { Nests self.now.below (F.pre self.now.expr) (F.post self.now.expr) (G.pre self.now.structure) (G.post self.now.structure) }
+        ensures { Reads view_next_exprs (spec.next_exprs (at_height n) tokens.old.rest.now) result tokens.new.rest.now }
+    {
+        many(
+            self.alloc,
+            tokens,
+            Ahead::One(Sign::Punct(Punct::Comma)),
+            |t| self.next_expr(t, n),
+        )
+    }
+
+    #[tactic(auto, unfolding(crate::specs::Expression::some_arguments))]
+    fn some_arguments(&self, tokens: &mut Tokens<'_>, n: u32) -> Result<Arguments, Fail>
+        requires within { n ≤ self.now.below }
+        requires nests { Nests self.now.below (F.pre self.now.expr) (F.post self.now.expr) (G.pre self.now.structure) (G.post self.now.structure) }
+        ensures { Reads view_arguments (spec.some_arguments (at_height n) tokens.old.rest.now) result tokens.new.rest.now }
+    {
+        let first = self.expr(tokens, n, 1)?;
+        let more = self.next_exprs(tokens, n)?;
+        let right = expect_punct(tokens, Punct::RParen)?;
+        Ok(arguments(self.alloc, first, more, right)?)
+    }
+
+    #[tactic(auto, unfolding(crate::specs::Expression::arguments))]
+    fn whole_arguments(&self, tokens: &mut Tokens<'_>, n: u32) -> Result<Arguments, Fail>
+        requires within { n ≤ self.now.below }
+        requires nests { Nests self.now.below (F.pre self.now.expr) (F.post self.now.expr) (G.pre self.now.structure) (G.post self.now.structure) }
+        ensures { Reads view_arguments (spec.arguments (at_height n) tokens.old.rest.now) result tokens.new.rest.now }
+    {
+        if starts(Sign::Punct(Punct::RParen), tokens.rest) {
+            let close = expect_punct(tokens, Punct::RParen)?;
+            return Ok(Arguments::Empty { close });
+        }
+        self.some_arguments(tokens, n)
+    }
+
+    fn arguments(&self, tokens: &mut Tokens<'_>, n: u32) -> Result<Arguments, Fail>
+        requires within { n ≤ self.now.below }
+        requires nests { Nests self.now.below (F.pre self.now.expr) (F.post self.now.expr) (G.pre self.now.structure) (G.post self.now.structure) }
+        ensures { Reads view_arguments ((at_height n).arguments tokens.old.rest.now) result tokens.new.rest.now }
+    {
+        if n == 0 {
+            return Err(Fail::Fault(Fault::TooHigh));
+        }
+        self.whole_arguments(tokens, n - 1)
+    }
+
+    #[tactic(auto, unfolding(crate::specs::Expression::unary))]
+    fn unary(
+        &self,
+        tokens: &mut Tokens<'_>,
+        n: u32,
+        mark: UnaryMark,
+        at: Span,
+    ) -> Result<Expr, Fail>
+        requires within { n ≤ self.now.below }
+        requires nests { Nests self.now.below (F.pre self.now.expr) (F.post self.now.expr) (G.pre self.now.structure) (G.post self.now.structure) }
+        ensures { Reads view (spec.unary (at_height n) mark at tokens.old.rest.now) result tokens.new.rest.now }
+    {
+        let operand = self.expr(tokens, n, operand_level(mark))?;
+        Ok(unary(self.alloc, mark, at, operand)?)
+    }
+
+    #[tactic(auto, unfolding(crate::specs::Expression::size_type))]
+    fn size_type(
+        &self,
+        tokens: &mut Tokens<'_>,
+        n: u32,
+        word: SizeWord,
+        at: Span,
+    ) -> Result<Expr, Fail>
+        requires within { n ≤ self.now.below }
+        requires nests { Nests self.now.below (F.pre self.now.expr) (F.post self.now.expr) (G.pre self.now.structure) (G.post self.now.structure) }
+        ensures { Reads view (spec.size_type (at_height n) word at tokens.old.rest.now) result tokens.new.rest.now }
+    {
+        let left = expect_punct(tokens, Punct::LParen)?;
+        let operand = self.type_name(tokens, n)?;
+        let right = expect_punct(tokens, Punct::RParen)?;
+        Ok(size_of_type(self.alloc, word, at, left, operand, right)?)
+    }
+
+    #[tactic(auto, unfolding(crate::specs::Expression::size_expr))]
+    fn size_expr(
+        &self,
+        tokens: &mut Tokens<'_>,
+        n: u32,
+        word: SizeWord,
+        at: Span,
+    ) -> Result<Expr, Fail>
+        requires within { n ≤ self.now.below }
+        requires nests { Nests self.now.below (F.pre self.now.expr) (F.post self.now.expr) (G.pre self.now.structure) (G.post self.now.structure) }
+        ensures { Reads view (spec.size_expr (at_height n) word at tokens.old.rest.now) result tokens.new.rest.now }
+    {
+        let operand = self.expr(tokens, n, 14)?;
+        Ok(size_of_expr(self.alloc, word, at, operand)?)
+    }
+
+    fn size(&self, tokens: &mut Tokens<'_>, n: u32, word: SizeWord, at: Span) -> Result<Expr, Fail>
+        requires within { n ≤ self.now.below }
+        requires nests { Nests self.now.below (F.pre self.now.expr) (F.post self.now.expr) (G.pre self.now.structure) (G.post self.now.structure) }
+        ensures { Reads view (spec.size (at_height n) word at tokens.old.rest.now) result tokens.new.rest.now }
+    {
+        if opens_type(tokens.rest) {
+            return self.size_type(tokens, n, word, at);
+        }
+        self.size_expr(tokens, n, word, at)
+    }
+
+    #[tactic(auto, unfolding(crate::specs::Expression::cast))]
+    fn cast(&self, tokens: &mut Tokens<'_>, n: u32) -> Result<Expr, Fail>
+        requires within { n ≤ self.now.below }
+        requires nests { Nests self.now.below (F.pre self.now.expr) (F.post self.now.expr) (G.pre self.now.structure) (G.post self.now.structure) }
+        ensures { Reads view (spec.cast (at_height n) tokens.old.rest.now) result tokens.new.rest.now }
+    {
+        let left = expect_punct(tokens, Punct::LParen)?;
+        let target = self.plain_type(tokens, n)?;
+        let right = expect_punct(tokens, Punct::RParen)?;
+        let operand = self.expr(tokens, n, 13)?;
+        Ok(cast(self.alloc, left, target, right, operand)?)
+    }
+
+    #[tactic(auto, unfolding(crate::specs::Expression::paren))]
+    fn paren(&self, tokens: &mut Tokens<'_>, n: u32, left: Span) -> Result<Expr, Fail>
+        requires within { n ≤ self.now.below }
+        requires nests { Nests self.now.below (F.pre self.now.expr) (F.post self.now.expr) (G.pre self.now.structure) (G.post self.now.structure) }
+        ensures { Reads view (spec.paren (at_height n) left tokens.old.rest.now) result tokens.new.rest.now }
+    {
+        let inner = self.expr(tokens, n, 0)?;
+        let right = expect_punct(tokens, Punct::RParen)?;
+        Ok(paren(self.alloc, left, inner, right)?)
+    }
+
+    fn primary_by<'a>(
+        &self,
+        tokens: &mut Tokens<'a>,
+        n: u32,
+        first: &Token,
+        rest: &'a [Token],
+    ) -> Result<Expr, Fail>
+        requires within { n ≤ self.now.below }
+        requires nests { Nests self.now.below (F.pre self.now.expr) (F.post self.now.expr) (G.pre self.now.structure) (G.post self.now.structure) }
+        ensures { Reads view (spec.primary_by (at_height n) first.now.kind (span_of first.now) rest.now) result tokens.new.rest.now }
+    {
+        let span = span_of(first);
+        match &first.kind {
+            TokenKind::Name(number) => {
+                tokens.rest = rest;
+                Ok(Expr::Name(Name {
+                    number: *number,
+                    span,
+                }))
+            }
+            TokenKind::Number { value, kind } => {
+                tokens.rest = rest;
+                Ok(Expr::Number {
+                    value: *value,
+                    kind: *kind,
+                    span,
+                })
+            }
+            TokenKind::Character(value) => {
+                tokens.rest = rest;
+                Ok(Expr::Character {
+                    value: *value,
+                    span,
+                })
+            }
+            TokenKind::Str(bytes) => {
+                tokens.rest = rest;
+                let bytes = bytes.copy(self.alloc)?;
+                let more = strings(self.alloc, tokens)?;
+                Ok(Expr::Strings {
+                    first: StringLiteral { bytes, span },
+                    more,
+                })
+            }
+            TokenKind::Word(Word::Mythread) => {
+                tokens.rest = rest;
+                Ok(Expr::Constant {
+                    word: ConstantWord::Mythread,
+                    span,
+                })
+            }
+            TokenKind::Word(Word::Threads) => {
+                tokens.rest = rest;
+                Ok(Expr::Constant {
+                    word: ConstantWord::Threads,
+                    span,
+                })
+            }
+            TokenKind::Word(Word::UpcMaxBlockSize) => {
+                tokens.rest = rest;
+                Ok(Expr::Constant {
+                    word: ConstantWord::MaxBlockSize,
+                    span,
+                })
+            }
+            TokenKind::Punct(Punct::LParen) => {
+                tokens.rest = rest;
+                self.paren(tokens, n, span)
+            }
+            _ => Err(Fail::Fault(Fault::NoTree)),
+        }
+    }
+
+    fn suffixed(
+        &self,
+        tokens: &mut Tokens<'_>,
+        n: u32,
+        suffix: Suffix,
+        base: Expr,
+        at: Span,
+    ) -> Result<Expr, Fail>
+        requires within { n ≤ self.now.below }
+        requires nests { Nests self.now.below (F.pre self.now.expr) (F.post self.now.expr) (G.pre self.now.structure) (G.post self.now.structure) }
+        ensures { Reads view (spec.suffixed n (at_height n) suffix (view base) at tokens.old.rest.now) result tokens.new.rest.now }
+    {
+        match suffix {
+            Suffix::Subscript => {
+                let index = self.expr(tokens, n, 0)?;
+                let right = expect_punct(tokens, Punct::RBracket)?;
+                if !fits(&base, n) {
+                    return Err(Fail::Fault(Fault::TooHigh));
+                }
+                Ok(subscript(self.alloc, base, at, index, right)?)
+            }
+            Suffix::Call => {
+                let arguments = self.arguments(tokens, n)?;
+                if !fits(&base, n) {
+                    return Err(Fail::Fault(Fault::TooHigh));
+                }
+                Ok(call(self.alloc, base, at, arguments)?)
+            }
+            Suffix::Member(mark) => {
+                let member = name(tokens)?;
+                if !fits(&base, n) {
+                    return Err(Fail::Fault(Fault::TooHigh));
+                }
+                Ok(member_of(self.alloc, base, mark, at, member)?)
+            }
+            Suffix::Step(mark) => {
+                if !fits(&base, n) {
+                    return Err(Fail::Fault(Fault::TooHigh));
+                }
+                Ok(step(self.alloc, base, mark, at)?)
+            }
+        }
+    }
+
+    fn postfix(&self, tokens: &mut Tokens<'_>, n: u32, mut base: Expr) -> Result<Expr, Fail>
+        requires within { n ≤ self.now.below }
+        requires nests { Nests self.now.below (F.pre self.now.expr) (F.post self.now.expr) (G.pre self.now.structure) (G.post self.now.structure) }
+        ensures { Reads view (spec.postfix n (at_height n) (length tokens.old.rest.now) (view base) tokens.old.rest.now) result tokens.new.rest.now }
+    {
+        for _turn in 0..tokens.rest.len() {
+            let [first, rest @ ..] = tokens.rest else {
+                return Ok(base);
+            };
+            let Some(suffix) = suffix_of(&first.kind) else {
+                return Ok(base);
+            };
+            tokens.rest = rest;
+            base = self.suffixed(tokens, n, suffix, base, span_of(first))?;
+        }
+        Ok(base)
+    }
+
+    #[tactic(auto, unfolding(crate::specs::Expression::primary))]
+    fn primary<'a>(
+        &self,
+        tokens: &mut Tokens<'a>,
+        n: u32,
+        first: &Token,
+        rest: &'a [Token],
+    ) -> Result<Expr, Fail>
+        requires within { n ≤ self.now.below }
+        requires nests { Nests self.now.below (F.pre self.now.expr) (F.post self.now.expr) (G.pre self.now.structure) (G.post self.now.structure) }
+        ensures { Reads view (spec.primary n (at_height n) first.now rest.now) result tokens.new.rest.now }
+    {
+        let base = self.primary_by(tokens, n, first, rest)?;
+        self.postfix(tokens, n, base)
+    }
+
+    #[tactic(auto, unfolding(crate::specs::Expression::first))]
+    fn first(&self, tokens: &mut Tokens<'_>, n: u32, least: u8) -> Result<Expr, Fail>
+        requires within { n ≤ self.now.below }
+        requires nests { Nests self.now.below (F.pre self.now.expr) (F.post self.now.expr) (G.pre self.now.structure) (G.post self.now.structure) }
+        ensures { Reads view (spec.first n (at_height n) least tokens.old.rest.now) result tokens.new.rest.now }
+    {
+        match tokens.rest {
+            [] => Err(Fail::Fault(Fault::NoTree)),
+            [first, rest @ ..] => match prefix_of(&first.kind) {
+                Prefix::Unary(mark) => {
+                    tokens.rest = rest;
+                    self.unary(tokens, n, mark, span_of(first))
+                }
+                Prefix::Size(word) => {
+                    tokens.rest = rest;
+                    self.size(tokens, n, word, span_of(first))
+                }
+                Prefix::Other => {
+                    if !opens_type(tokens.rest) {
+                        return self.primary(tokens, n, first, rest);
+                    }
+                    if least > 13 {
+                        tokens.rest = rest;
+                        return Err(Fail::Fault(Fault::NoTree));
+                    }
+                    self.cast(tokens, n)
+                }
+            },
+        }
+    }
+
+    #[tactic(auto, unfolding(crate::specs::Expression::joined_comma))]
+    fn joined_comma(&self, tokens: &mut Tokens<'_>, n: u32, left: Expr) -> Result<Expr, Fail>
+        requires within { n ≤ self.now.below }
+        requires nests { Nests self.now.below (F.pre self.now.expr) (F.post self.now.expr) (G.pre self.now.structure) (G.post self.now.structure) }
+        ensures { Reads view (spec.joined_comma n (at_height n) (view left) tokens.old.rest.now) result tokens.new.rest.now }
+    {
+        let more = self.next_exprs(tokens, n)?;
+        if !fits(&left, n) {
+            return Err(Fail::Fault(Fault::TooHigh));
+        }
+        Ok(comma(self.alloc, left, more)?)
+    }
+
+    #[tactic(auto, unfolding(crate::specs::Expression::conditional))]
+    fn conditional(
+        &self,
+        tokens: &mut Tokens<'_>,
+        n: u32,
+        left: Expr,
+        at: Span,
+    ) -> Result<Expr, Fail>
+        requires within { n ≤ self.now.below }
+        requires nests { Nests self.now.below (F.pre self.now.expr) (F.post self.now.expr) (G.pre self.now.structure) (G.post self.now.structure) }
+        ensures { Reads view (spec.conditional n (at_height n) (view left) at tokens.old.rest.now) result tokens.new.rest.now }
+    {
+        let chosen = self.expr(tokens, n, 0)?;
+        let colon = expect_punct(tokens, Punct::Colon)?;
+        let other = self.expr(tokens, n, 2)?;
+        if !fits(&left, n) {
+            return Err(Fail::Fault(Fault::TooHigh));
+        }
+        Ok(conditional(self.alloc, left, at, chosen, colon, other)?)
+    }
+
+    fn joined(
+        &self,
+        tokens: &mut Tokens<'_>,
+        n: u32,
+        joint: Joint,
+        left: Expr,
+    ) -> Result<Expr, Fail>
+        requires within { n ≤ self.now.below }
+        requires nests { Nests self.now.below (F.pre self.now.expr) (F.post self.now.expr) (G.pre self.now.structure) (G.post self.now.structure) }
+        ensures { Reads view (spec.joined_at n (at_height n) joint (view left) tokens.old.rest.now) result tokens.new.rest.now }
+    {
+        let [first, rest @ ..] = tokens.rest else {
+            return Err(Fail::Fault(Fault::NoTree));
+        };
+        let at = span_of(first);
+        match joint {
+            Joint::Comma => self.joined_comma(tokens, n, left),
+            Joint::Question => {
+                tokens.rest = rest;
+                self.conditional(tokens, n, left, at)
+            }
+            Joint::Assign(mark) => {
+                tokens.rest = rest;
+                let right = self.expr(tokens, n, 1)?;
+                if !fits(&left, n) {
+                    return Err(Fail::Fault(Fault::TooHigh));
+                }
+                Ok(assign(self.alloc, left, mark, at, right)?)
+            }
+            Joint::Binary(mark) => {
+                tokens.rest = rest;
+                let right = self.expr(tokens, n, joint_level(joint) + 1)?;
+                if !fits(&left, n) {
+                    return Err(Fail::Fault(Fault::TooHigh));
+                }
+                Ok(binary(self.alloc, left, mark, at, right)?)
+            }
+        }
+    }
+
+    fn climb(
+        &self,
+        tokens: &mut Tokens<'_>,
+        n: u32,
+        least: u8,
+        mut left: Expr,
+    ) -> Result<Expr, Fail>
+        requires within { n ≤ self.now.below }
+        requires nests { Nests self.now.below (F.pre self.now.expr) (F.post self.now.expr) (G.pre self.now.structure) (G.post self.now.structure) }
+        ensures { Reads view (spec.climb n (at_height n) (length tokens.old.rest.now) least (view left) tokens.old.rest.now) result tokens.new.rest.now }
+    {
+        for _turn in 0..tokens.rest.len() {
+            let [first, ..] = tokens.rest else {
+                return Ok(left);
+            };
+            let Some(joint) = joint_of(&first.kind) else {
+                return Ok(left);
+            };
+            if !goes_on(least, &left, joint) {
+                return Ok(left);
+            }
+            left = self.joined(tokens, n, joint, left)?;
+        }
+        Ok(left)
+    }
+
+    #[tactic(auto, unfolding(crate::specs::Expression::expr))]
+    pub fn whole(&self, tokens: &mut Tokens<'_>, n: u32, least: u8) -> Result<Expr, Fail>
+        requires within { n ≤ self.now.below }
+        requires nests { Nests self.now.below (F.pre self.now.expr) (F.post self.now.expr) (G.pre self.now.structure) (G.post self.now.structure) }
+        ensures { Reads view (spec.expr n (at_height n) least tokens.old.rest.now) result tokens.new.rest.now }
+    {
+        let left = self.first(tokens, n, least)?;
+        self.climb(tokens, n, least, left)
+    }
+}

@@ -1,0 +1,4 @@
+pub mod Tables
+pub mod Parse
+pub mod Run
+pub mod Answer

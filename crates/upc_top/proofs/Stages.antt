@@ -1,0 +1,54 @@
+-- What each stage of a source leads to.
+use Rattle.std.proofs.Common.{◌≡◌, ℕ, ◌≤◌, List, length, Option, Some, None, Err, Result, sym, ◌∙◌, ap, inl, inr, arith}
+use Rattle.std.specs.Prelude.{◌⊎◌}
+use Rattle.upc_text.specs.declared.place.Code.TheVariants.{Syntax, Profile, Limit}
+use Rattle.upc_text.specs.declared.place.Refusal.{Refusal}
+use Rattle.upc_text.specs.declared.faults.Stop.{Stop}
+use Rattle.upc_text.specs.declared.faults.Stop.TheVariants.{Refused, Memory}
+use Rattle.upc_lexer.specs.declared.token.Token.{Token}
+use Rattle.upc_lexer.specs.Steps.{StopsSource}
+use Rattle.upc_lexer.specs.Tokens.{AreTokensOf}
+use Rattle.upc_macros.specs.Expansion.{IsExpansion, StopsExpansion}
+use Rattle.upc_tree.specs.Unit.{External, ProperUnit, IsTree, tokens_of}
+use Rattle.upc_parser.specs.Answer.{RefusedBy, OnlyRefused}
+use Rattle.first_language.specs.declared.tree.First.{First}
+use Rattle.first_language.specs.Meaning.{program_of}
+use Rattle.first_language.specs.Unit.{first_program}
+use Rattle.upc_top.specs.Sources.{IsExpanded, IsRead, IsAccepted, HasNoTree, no_syntax, too_high, IsRefused, no_tokens, no_expansion, no_tree, no_first, IsAtTheBeginning, StopsReading}
+use Rattle.upc_top.proofs.Readings.{few_tokens}
+
+pub stops_lexing : (bytes : List ℕ) (s : Stop) → StopsSource bytes s → StopsReading bytes s
+stops_lexing bytes (Refused r) h = no_tokens h
+stops_lexing bytes Memory h = tt
+
+module _ (bytes : List ℕ) (tokens : List Token) (names : List (List ℕ)) (cut : AreTokensOf bytes tokens names) where
+  pub stops_expanding : (s : Stop) → StopsExpansion bytes tokens (length names) s → StopsReading bytes s
+  stops_expanding (Refused r) h = no_expansion tokens names cut h
+  stops_expanding Memory h = tt
+
+  module _ (expanded : List Token) (exp : IsExpansion bytes tokens (length names) expanded) where
+    pub expands : IsExpanded bytes names expanded
+    expands = record { tokens = tokens; cut = cut; expansion = exp }
+
+    pub reads : (u : List External) → IsTree expanded u → IsRead bytes names u
+    reads u h = record { expanded = expanded; expands = expands; grammar = h }
+
+    pub few_in : (u : List External) → IsTree expanded u → length (tokens_of u) ≤ 1048576
+    few_in u h = let few = few_tokens bytes tokens (length names) expanded exp in omega (arith, ap length h.spelled)
+
+    pub accepts : (u : List External) (p : First) → IsTree expanded u → first_program names u ≡ Some (program_of p) → IsAccepted bytes p
+    accepts u p h g = record { names = names; tree = u; read = reads u h; first = g }
+
+    pub refuses_tree : (u : List External) (r : Refusal) → IsTree expanded u → first_program names u ≡ None → r.code ≡ Profile 0 → IsAtTheBeginning r →
+        IsRefused bytes r
+    refuses_tree u r h g code place = no_first names u (reads u h) g code place
+
+    pub stops_parsing : (s : Stop) → (RefusedBy Syntax (Err s) → (u : List External) → ProperUnit u → tokens_of u ≡ expanded → ⊥) →
+        (RefusedBy (Limit 3) (Err s) → (256 ≤ length expanded) × ((u : List External) → IsTree expanded u → ⊥)) →
+        OnlyRefused expanded (Err s) → StopsReading bytes s
+    stops_parsing Memory f g h = tt
+    stops_parsing (Refused r) f g h =
+        elim h.0 [
+          | inl e ↦ no_tree names expanded expands (no_syntax e (f e)) h.1
+          | inr e ↦ let l = g e in no_tree names expanded expands (too_high e l.0 l.1) h.1
+        ]

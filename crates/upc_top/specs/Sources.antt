@@ -1,0 +1,63 @@
+-- What a source comes to on its way to a program: tokens, then their expansion, then the tree of that, then the program.
+use Rattle.std.specs.Prelude.{ℕ, ◌≡◌, ◌≤◌, List, length, Some, None}
+use Rattle.upc_text.specs.declared.place.Code.{Code}
+use Rattle.upc_text.specs.declared.place.Code.TheVariants.{Syntax, Profile, Limit}
+use Rattle.upc_text.specs.declared.place.Refusal.{Refusal}
+use Rattle.upc_text.specs.declared.faults.Stop.{Stop}
+use Rattle.upc_text.specs.declared.faults.Stop.TheVariants.{Refused, Memory}
+use Rattle.upc_lexer.specs.declared.token.Token.{Token}
+use Rattle.upc_lexer.specs.Tokens.{AreTokensOf, RefusedAt}
+use Rattle.upc_macros.specs.Expansion.{IsExpansion, StopsExpansion}
+use Rattle.upc_tree.specs.Unit.{External, ProperUnit, IsTree, tokens_of}
+use Rattle.upc_parser.specs.Answer.{HasPlace}
+use Rattle.first_language.specs.declared.tree.First.{First}
+use Rattle.first_language.specs.Meaning.{program_of}
+use Rattle.first_language.specs.Unit.{first_program}
+
+-- the bytes have tokens over these names, which expand to these
+pub record IsExpanded (bytes : List ℕ) (names : List (List ℕ)) (expanded : List Token) : Type 0 where
+  pub tokens : List Token
+  pub cut : AreTokensOf bytes tokens names
+  pub expansion : IsExpansion bytes tokens (length names) expanded
+
+-- these have this tree, a proper one of at most 256 levels
+pub record IsRead (bytes : List ℕ) (names : List (List ℕ)) (tree : List External) : Type 0 where
+  pub expanded : List Token
+  pub expands : IsExpanded bytes names expanded
+  pub grammar : IsTree expanded tree
+
+-- and the tree is one of the first language, with this program: the source is accepted
+pub record IsAccepted (bytes : List ℕ) (program : First) : Type 0 where
+  pub names : List (List ℕ)
+  pub tree : List External
+  pub read : IsRead bytes names tree
+  pub first : first_program names tree ≡ Some (program_of program)
+
+-- why expanded tokens have no tree: no proper tree of any height has them, or each that has them is too high
+pub data HasNoTree (expanded : List Token) (code : Code) : Type 0 where
+  no_syntax : code ≡ Syntax → ((u : List External) → ProperUnit u → tokens_of u ≡ expanded → ⊥) → HasNoTree expanded code
+  too_high : code ≡ Limit 3 → 256 ≤ length expanded → ((u : List External) → IsTree expanded u → ⊥) → HasNoTree expanded code
+
+-- at the beginning
+pub record IsAtTheBeginning (r : Refusal) : Type 0 where
+  pub line : r.place.line ≡ 1
+  pub column : r.place.column ≡ 1
+
+-- why a source is refused
+pub data IsRefused (bytes : List ℕ) (r : Refusal) : Type 0 where
+  -- it has no tokens
+  no_tokens : RefusedAt bytes r → IsRefused bytes r
+  -- its tokens have no expansion
+  no_expansion : (tokens : List Token) (names : List (List ℕ)) → AreTokensOf bytes tokens names
+      → StopsExpansion bytes tokens (length names) (Refused r) → IsRefused bytes r
+  -- the expanded tokens have no tree
+  no_tree : (names : List (List ℕ)) (expanded : List Token) → IsExpanded bytes names expanded
+      → HasNoTree expanded r.code → HasPlace expanded r.place → IsRefused bytes r
+  -- the tree is none of the first language
+  no_first : (names : List (List ℕ)) (tree : List External) → IsRead bytes names tree
+      → first_program names tree ≡ None → r.code ≡ Profile 0 → IsAtTheBeginning r → IsRefused bytes r
+
+-- the source is refused, or there was no memory
+abbrev pub StopsReading : List ℕ → Stop → Type 0
+StopsReading bytes (Refused r) = IsRefused bytes r
+StopsReading bytes Memory = Unit {0}

@@ -1,0 +1,10 @@
+pub mod Marks
+pub mod Tokens
+pub mod Expression
+pub mod Proper
+pub mod Declaration
+pub mod Statement
+pub mod Unit
+pub mod Lists
+pub mod View
+pub mod ViewStatement

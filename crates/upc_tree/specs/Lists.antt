@@ -1,0 +1,79 @@
+-- The lists of parts that trees hold, from plain lists.
+use Rattle.std.specs.Prelude.{ℕ, max, min, List, [], ◌∷◌}
+use Rattle.upc_lexer.specs.declared.token.Token.{Token}
+use Rattle.upc_tree.specs.declared.span.Span.{Span}
+use Rattle.upc_lexer.specs.declared.token.Punct.TheVariants as p
+use Rattle.upc_tree.specs.Tokens.{punct}
+use Rattle.upc_tree.specs.Expression.{spell_specs, spell_declarator, spell_next_declarators, height_specs, height_declarator, height_next_declarators, Expr, NextExprs, NoNextExprs, AndExpr, Specs, NoSpecs, AndSpec, Spec, Quals, NoQuals, AndQual, Qual, Pointers, NoPointers, AndPointer, Dimensions, NoDimensions, AndDimension, Members, NoMembers, AndMember, NextDeclarators, NoNextDeclarators, AndDeclarator, Declarator, NextParameters, NoNextParameters, AndParameter, Parameter}
+use Rattle.upc_tree.specs.Declaration.{Declared, NextDeclareds, NoNextDeclareds, AndDeclared}
+use Rattle.upc_tree.specs.Statement.{Test, Statement, BlockItem, BlockItems, NoBlockItems, AndBlockItem, SwitchItem, SwitchItems, NoSwitchItems, AndSwitchItem, ElseIfs, NoElseIfs, AndElseIf}
+
+-- each part's tokens, and what follows them
+abbrev pub spell_all : {X : Type 0} → (X → List Token → List Token) → List X → List Token → List Token
+spell_all spell [] rest = rest
+spell_all spell (x ∷ xs) rest = spell x (spell_all spell xs rest)
+
+-- the greatest height of a part, 0 where there is none
+abbrev pub highest : {X : Type 0} → (X → ℕ) → List X → ℕ
+highest height [] = 0
+highest height (x ∷ xs) = max (height x) (highest height xs)
+
+abbrev pub next_exprs_of : List (Span × Expr) → NextExprs
+next_exprs_of [] = NoNextExprs
+next_exprs_of (x ∷ xs) = AndExpr x.0 x.1 (next_exprs_of xs)
+
+abbrev pub specs_of : List Spec → Specs
+specs_of [] = NoSpecs
+specs_of (x ∷ xs) = AndSpec x (specs_of xs)
+
+abbrev pub quals_of : List Qual → Quals
+quals_of [] = NoQuals
+quals_of (x ∷ xs) = AndQual x (quals_of xs)
+
+abbrev pub pointers_of : List (Span × Quals) → Pointers
+pointers_of [] = NoPointers
+pointers_of (x ∷ xs) = AndPointer x.0 x.1 (pointers_of xs)
+
+abbrev pub dimensions_of : List (Span × Expr × Span) → Dimensions
+dimensions_of [] = NoDimensions
+dimensions_of (x ∷ xs) = AndDimension x.0 x.1 x.2 (dimensions_of xs)
+
+abbrev pub members_of : List (Specs × Declarator × NextDeclarators × Span) → Members
+members_of [] = NoMembers
+members_of (x ∷ xs) = AndMember x.0 x.1 x.2 x.3 (members_of xs)
+
+abbrev pub next_declarators_of : List (Span × Declarator) → NextDeclarators
+next_declarators_of [] = NoNextDeclarators
+next_declarators_of (x ∷ xs) = AndDeclarator x.0 x.1 (next_declarators_of xs)
+
+abbrev pub next_parameters_of : List (Span × Parameter) → NextParameters
+next_parameters_of [] = NoNextParameters
+next_parameters_of (x ∷ xs) = AndParameter x.0 x.1 (next_parameters_of xs)
+
+abbrev pub next_declareds_of : List (Span × Declared) → NextDeclareds
+next_declareds_of [] = NoNextDeclareds
+next_declareds_of (x ∷ xs) = AndDeclared x.0 x.1 (next_declareds_of xs)
+
+abbrev pub block_items_of : List BlockItem → BlockItems
+block_items_of [] = NoBlockItems
+block_items_of (x ∷ xs) = AndBlockItem x (block_items_of xs)
+
+abbrev pub switch_items_of : List SwitchItem → SwitchItems
+switch_items_of [] = NoSwitchItems
+switch_items_of (x ∷ xs) = AndSwitchItem x (switch_items_of xs)
+
+abbrev pub else_ifs_of : List (Span × Span × Test × Statement) → ElseIfs
+else_ifs_of [] = NoElseIfs
+else_ifs_of (x ∷ xs) = AndElseIf x.0 x.1 x.2 x.3 (else_ifs_of xs)
+
+-- the tokens of a line of members, and what follows them
+abbrev pub spell_member : Specs × Declarator × NextDeclarators × Span → List Token → List Token
+spell_member x rest = spell_specs x.0 (spell_declarator x.1 (spell_next_declarators x.2 (punct p.Semicolon x.3 ∷ rest)))
+
+-- the height of a line of members
+abbrev pub height_member : Specs × Declarator × NextDeclarators × Span → ℕ
+height_member x = max (height_specs x.0) (max (height_declarator x.1) (height_next_declarators x.2))
+
+-- a height, or the greatest number of 32 bits where it is greater
+abbrev pub capped : ℕ → ℕ
+capped n = min n 4294967295

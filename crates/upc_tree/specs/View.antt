@@ -1,0 +1,172 @@
+-- The trees of the code, seen without where they lie in memory: expressions and types.
+use Rattle.std.specs.Prelude.{map, Vec}
+use Rattle.std.specs.declared.alloc.Global.{Global}
+use Rattle.upc_tree.specs.declared.span.Span.{Span}
+use Rattle.upc_tree.specs.Lists.{next_exprs_of, specs_of, quals_of, pointers_of, dimensions_of, members_of, next_declarators_of, next_parameters_of}
+use Rattle.upc_tree.specs.declared.expression.Expr as e
+use Rattle.upc_tree.specs.declared.expression.Expr.{Expr, Row_of-NextExpr, end_of-NextExpr, more_of-NextExpr}
+use Rattle.upc_tree.specs.declared.expression.Arguments as a
+use Rattle.upc_tree.specs.declared.expression.Arguments.{Arguments}
+use Rattle.upc_tree.specs.declared.expression.NextExpr.{NextExpr}
+use Rattle.upc_tree.specs.declared.expression.TypeName.{TypeName, TypeName', Row_of-Spec, end_of-Spec, more_of-Spec, Row_of-Pointer, end_of-Pointer, more_of-Pointer, Row_of-Dimension, end_of-Dimension, more_of-Dimension, Row_of-Qual, end_of-Qual, more_of-Qual}
+use Rattle.upc_tree.specs.declared.expression.Spec as s
+use Rattle.upc_tree.specs.declared.expression.Spec.{Spec, Row_of-Member, end_of-Member, more_of-Member}
+use Rattle.upc_tree.specs.declared.expression.Qual as q
+use Rattle.upc_tree.specs.declared.expression.Qual.{Qual}
+use Rattle.upc_tree.specs.declared.expression.Layout as l
+use Rattle.upc_tree.specs.declared.expression.Layout.{Layout}
+use Rattle.upc_tree.specs.declared.expression.Pointer.{Pointer}
+use Rattle.upc_tree.specs.declared.expression.Dimension.{Dimension}
+use Rattle.upc_tree.specs.declared.expression.Member.{Member, Member', Row_of-NextDeclarator, end_of-NextDeclarator, more_of-NextDeclarator}
+use Rattle.upc_tree.specs.declared.expression.NextDeclarator.{NextDeclarator}
+use Rattle.upc_tree.specs.declared.expression.Declarator as d
+use Rattle.upc_tree.specs.declared.expression.Declarator.{Declarator}
+use Rattle.upc_tree.specs.declared.expression.Parameters as r
+use Rattle.upc_tree.specs.declared.expression.Parameters.{Parameters, Row_of-NextParameter, end_of-NextParameter, more_of-NextParameter}
+use Rattle.upc_tree.specs.declared.expression.NextParameter.{NextParameter, NextParameter'}
+use Rattle.upc_tree.specs.declared.expression.Parameter.{Parameter, Parameter'}
+use Rattle.upc_tree.specs.declared.expression.ParameterArray as y
+use Rattle.upc_tree.specs.declared.expression.ParameterArray.{ParameterArray}
+use Rattle.upc_tree.specs.Expression as t
+
+abbrev mutual
+  pub view : Expr → t.Expr
+  view (e.Name name) = t.Named name
+  view (e.Number value kind span) = t.Number value kind span
+  view (e.Character value span) = t.Character value span
+  view (e.Strings first more) = t.Strings first more.items
+  view (e.Constant word span) = t.Constant word span
+  view (e.Paren' left p inner right) = t.Paren left (view inner) right
+  view (e.Subscript' p base left o index right) = t.Subscript (view base) left (view index) right
+  view (e.Call' p callee left arguments) = t.Call (view callee) left (view_arguments arguments)
+  view (e.Member' p base mark at member) = t.MemberOf (view base) mark at member
+  view (e.Postfix' p base mark at) = t.Postfix (view base) mark at
+  view (e.Unary' mark at p operand) = t.Unary mark at (view operand)
+  view (e.SizeOfExpr' word at p operand) = t.SizeOfExpr word at (view operand)
+  view (e.SizeOfType' word at left p operand right) = t.SizeOfType word at left (view_type operand) right
+  view (e.Cast' left p target right o operand) = t.Cast left (view_type target) right (view operand)
+  view (e.Binary' p a mark at o b) = t.Binary (view a) mark at (view b)
+  view (e.Assign' p a mark at o b) = t.Assign (view a) mark at (view b)
+  view (e.Conditional' p test question o chosen colon n other) = t.Conditional (view test) question (view chosen) colon (view other)
+  view (e.Comma' p first shape more) = t.Comma (view first) (view_expr_row more)
+
+  pub view_expr_row : {m : _} → Row_of-NextExpr m → t.NextExprs
+  view_expr_row end_of-NextExpr = t.NoNextExprs
+  view_expr_row (more_of-NextExpr comma value more) = t.AndExpr comma (view value) (view_expr_row more)
+
+  pub view_arguments : Arguments → t.Arguments
+  view_arguments (a.Empty right) = t.NoArguments right
+  view_arguments (a.Filled' p first shape more right) = t.SomeArguments (view first) (view_expr_row more) right
+
+  pub view_type : TypeName → t.TypeName
+  view_type (TypeName' m specs n pointers o sizes) = t.Typed (view_spec_row specs) (view_pointer_row pointers) (view_dimension_row sizes)
+
+  pub view_spec_row : {m : _} → Row_of-Spec m → t.Specs
+  view_spec_row end_of-Spec = t.NoSpecs
+  view_spec_row (more_of-Spec spec more) = t.AndSpec (view_spec spec) (view_spec_row more)
+
+  pub view_spec : Spec → t.Spec
+  view_spec (s.Word word span) = t.WordSpec word span
+  view_spec (s.Qual qual) = t.QualSpec (view_qual qual)
+  view_spec (s.Tag word tag) = t.TagSpec word tag
+  view_spec (s.Struct' word tag left shape members right) = t.StructSpec word tag left (view_member_row members) right
+
+  pub view_qual_row : {m : _} → Row_of-Qual m → t.Quals
+  view_qual_row end_of-Qual = t.NoQuals
+  view_qual_row (more_of-Qual qual more) = t.AndQual (view_qual qual) (view_qual_row more)
+
+  pub view_qual : Qual → t.Qual
+  view_qual (q.Const word) = t.Const word
+  view_qual (q.Strict word) = t.Strict word
+  view_qual (q.Relaxed word) = t.Relaxed word
+  view_qual (q.Shared word layout) = t.Shared word (view_layout layout)
+
+  pub view_layout : Layout → t.Layout
+  view_layout l.Absent = t.NoLayout
+  view_layout (l.Indefinite left right) = t.IndefiniteLayout left right
+  view_layout (l.Star left star right) = t.StarLayout left star right
+  view_layout (l.Block' left p size right) = t.BlockLayout left (view size) right
+
+  pub view_pointer_row : {m : _} → Row_of-Pointer m → t.Pointers
+  view_pointer_row end_of-Pointer = t.NoPointers
+  view_pointer_row (more_of-Pointer star shape quals more) = t.AndPointer star (view_qual_row quals) (view_pointer_row more)
+
+  pub view_dimension_row : {m : _} → Row_of-Dimension m → t.Dimensions
+  view_dimension_row end_of-Dimension = t.NoDimensions
+  view_dimension_row (more_of-Dimension left size right more) = t.AndDimension left (view size) right (view_dimension_row more)
+
+  pub view_member_row : {m : _} → Row_of-Member m → t.Members
+  view_member_row end_of-Member = t.NoMembers
+  view_member_row (more_of-Member (Member' m specs first n next semicolon) more) =
+      t.AndMember (view_spec_row specs) (view_declarator first) (view_declarator_row next) semicolon (view_member_row more)
+
+  pub view_declarator_row : {m : _} → Row_of-NextDeclarator m → t.NextDeclarators
+  view_declarator_row end_of-NextDeclarator = t.NoNextDeclarators
+  view_declarator_row (more_of-NextDeclarator comma declarator more) = t.AndDeclarator comma (view_declarator declarator) (view_declarator_row more)
+
+  pub view_declarator : Declarator → t.Declarator
+  view_declarator (d.Object' m pointers name n sizes) = t.ObjectDeclarator (view_pointer_row pointers) name (view_dimension_row sizes)
+  view_declarator (d.Function' m pointers name parameters) = t.FunctionDeclarator (view_pointer_row pointers) name (view_parameters parameters)
+
+  pub view_parameters : Parameters → t.Parameters
+  view_parameters (r.Empty left right) = t.NoParameters left right
+  view_parameters (r.Void left word right) = t.VoidParameters left word right
+  view_parameters (r.Filled' left p first shape more right) = t.SomeParameters left (view_parameter first) (view_parameter_row more) right
+
+  pub view_parameter_row : {m : _} → Row_of-NextParameter m → t.NextParameters
+  view_parameter_row end_of-NextParameter = t.NoNextParameters
+  view_parameter_row (more_of-NextParameter (NextParameter' comma parameter) more) = t.AndParameter comma (view_parameter parameter) (view_parameter_row more)
+
+  pub view_parameter : Parameter → t.Parameter
+  view_parameter (Parameter' m specs n pointers name array) = t.Parametric (view_spec_row specs) (view_pointer_row pointers) name (view_array array)
+
+  pub view_array : ParameterArray → t.ParameterArray
+  view_array y.Absent = t.NoArray
+  view_array (y.Unsized left right) = t.UnsizedArray left right
+  view_array (y.Sized' left p size right) = t.SizedArray left (view size) right
+
+-- ---- parts of lists, as vectors hold them
+
+abbrev pub view_next_expr : NextExpr → Span × t.Expr
+view_next_expr x = (x.comma, view x.value)
+
+abbrev pub view_pointer : Pointer → Span × t.Quals
+view_pointer x = (x.star, quals_of (map view_qual x.quals.items))
+
+abbrev pub view_dimension : Dimension → Span × t.Expr × Span
+view_dimension x = (x.open, view x.size, x.close)
+
+abbrev pub view_member : Member → t.Specs × t.Declarator × t.NextDeclarators × Span
+view_member (Member' m specs first n next semicolon) = (view_spec_row specs, view_declarator first, view_declarator_row next, semicolon)
+
+abbrev pub view_next_declarator : NextDeclarator → Span × t.Declarator
+view_next_declarator x = (x.comma, view_declarator x.declarator)
+
+abbrev pub view_next_parameter : NextParameter → Span × t.Parameter
+view_next_parameter (NextParameter' comma parameter) = (comma, view_parameter parameter)
+
+-- ---- vectors of parts
+
+abbrev pub view_next_exprs : Vec NextExpr Global → t.NextExprs
+view_next_exprs v = next_exprs_of (map view_next_expr v.items)
+
+abbrev pub view_specs : Vec Spec Global → t.Specs
+view_specs v = specs_of (map view_spec v.items)
+
+abbrev pub view_quals : Vec Qual Global → t.Quals
+view_quals v = quals_of (map view_qual v.items)
+
+abbrev pub view_pointers : Vec Pointer Global → t.Pointers
+view_pointers v = pointers_of (map view_pointer v.items)
+
+abbrev pub view_dimensions : Vec Dimension Global → t.Dimensions
+view_dimensions v = dimensions_of (map view_dimension v.items)
+
+abbrev pub view_members : Vec Member Global → t.Members
+view_members v = members_of (map view_member v.items)
+
+abbrev pub view_next_declarators : Vec NextDeclarator Global → t.NextDeclarators
+view_next_declarators v = next_declarators_of (map view_next_declarator v.items)
+
+abbrev pub view_next_parameters : Vec NextParameter Global → t.NextParameters
+view_next_parameters v = next_parameters_of (map view_next_parameter v.items)

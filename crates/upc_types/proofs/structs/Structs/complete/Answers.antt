@@ -1,0 +1,21 @@
+use Rattle.std.proofs.Common.{◌≡◌, [], ◌∷◌, ◌++◌, map, reverse, length, ap, ◌∙◌, arith}
+use Rattle.std.proofs.lemmas.Grind.{common_steps}
+use Rattle.std.proofs.lemmas.List.{reverse-append, map-append, length-reverse, length-map}
+use Rattle.upc_types.specs.View.{view_completed, view_member}
+use Rattle.upc_types.specs.Types.{Completed}
+use Rattle.upc_types.specs.declared.structs.Completed as d
+use Rattle.upc_types.proofs.Places.{kept_more}
+use Rattle.upc_types.proofs.structs.Structs.complete.Goals as goal
+
+pub invariant_of-self-2 : goal.invariant_of-self-2
+invariant_of-self-2 c =
+    let xs = c.args.self.now.completed.items in
+    let cs = reverse (map view_completed xs) in
+    let ms = map view_member c.args.members.items in
+    let n : c.len-place.result ≡ length cs = grind (arith, common_steps, c.len-place.ensures, length-reverse (map view_completed xs), length-map xs view_completed) in
+    let x : Completed = record { number = c.args.number; members = ms } in
+    let y : d.Completed = record { number = c.args.number; members = c.args.members } in
+    let s : c.push.new.self.items ≡ xs ++ (y ∷ []) = c.in_ok-push.ensures.items ∙ ap (λ zs. zs ++ (y ∷ [])) c.reserve.ensures.items in
+    let e : reverse (map view_completed c.push.new.self.items) ≡ x ∷ cs =
+    ap (λ ys. reverse (map view_completed ys)) s ∙ ap reverse (map-append view_completed xs (y ∷ [])) ∙ reverse-append (map view_completed xs) (x ∷ []) in
+    record { kept = rw (e, n) (kept_more cs c.args.self.now.known.items c.args.number ms c.args.layout c.args.self.now.kept c.requires.declared c.requires.layout c.requires.fine) }

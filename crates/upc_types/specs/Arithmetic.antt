@@ -1,0 +1,45 @@
+-- The kind of the result of integer operators (C99 6.3.1.1, 6.3.1.8).
+use Rattle.std.specs.Prelude.{ℕ, nat_lt, nat_le, if◌then◌else◌}
+use Rattle.block_layout.specs.declared.kind.Kind.{Kind}
+use Rattle.block_layout.specs.declared.kind.Kind.TheVariants.{Char, UChar, Short, UShort, Int, UInt, Long, ULong}
+use Rattle.integers.specs.Integers.{width, is_signed}
+
+-- The conversion rank of an integer kind (C99 6.3.1.1), 0 of another.
+abbrev pub rank : Kind → ℕ
+rank Char = 1
+rank UChar = 1
+rank Short = 2
+rank UShort = 2
+rank Int = 3
+rank UInt = 3
+rank Long = 4
+rank ULong = 4
+rank kind = 0
+
+-- Integer promotion: int has every value of each kind of lower rank.
+abbrev pub promoted : Kind → Kind
+promoted kind = if nat_lt (rank kind) (rank Int) then Int else kind
+
+-- The unsigned kind of the same rank.
+abbrev pub unsigned_of : Kind → Kind
+unsigned_of Int = UInt
+unsigned_of Long = ULong
+unsigned_of kind = kind
+
+-- Of an unsigned and a signed kind (C99 6.3.1.8): the unsigned one where its rank is not lower; else the signed one where it has all
+-- values of the unsigned one, that is, where it is wider; else the unsigned kind of the signed one's rank.
+abbrev pub mixed : Kind → Kind → Kind
+mixed unsigned signed =
+    if nat_le (rank signed) (rank unsigned)
+    then unsigned
+    else (if nat_lt (width unsigned) (width signed) then signed else unsigned_of signed)
+
+-- The usual arithmetic conversions of promoted kinds (C99 6.3.1.8): one kind, the higher rank of two signed or two unsigned ones, or `mixed`.
+abbrev pub common : Kind → Kind → Kind
+common a b =
+    if is_signed a
+    then (if is_signed b then (if nat_le (rank b) (rank a) then a else b) else mixed b a)
+    else (if is_signed b then mixed a b else (if nat_le (rank b) (rank a) then a else b))
+
+abbrev pub usual : Kind → Kind → Kind
+usual a b = common (promoted a) (promoted b)

@@ -1,0 +1,128 @@
+-- Sizes and alignments (C99 6.5.3.4, 6.7.2.1), in bytes.
+use Rattle.std.specs.Prelude.{ℕ, ◌+◌, ◌-◌, ◌*◌, ◌/◌, max, nat_lt, nat_le, Bool, true, false, ◌==◌, ◌&&◌, if◌then◌else◌, List, [], ◌∷◌, length, map, Option, Some, None, is_some}
+use Rattle.block_layout.specs.Shapes.{kind_size}
+use Rattle.upc_types.specs.declared.layout.Layout.{Layout}
+use Rattle.upc_types.specs.declared.layout.Known.{Known}
+use Rattle.upc_types.specs.Types.{CType, Qualified, Base, Void, Integer, Struct, Array, Pointer, LockObject, base_of, Member, Completed, Structs}
+
+-- The alignment of a scalar is its size.
+abbrev pub scalar : ℕ → Layout
+scalar n = record { size = n; align = n }
+
+-- A type that is not complete has no size.
+abbrev pub no_layout : Layout
+no_layout = record { size = 0; align = 1 }
+
+-- The least multiple of the alignment that is at least n.
+abbrev pub aligned : ℕ → ℕ → ℕ
+aligned n align = (n + (align - 1)) / align * align
+
+-- Where the members end when each stands at the first place of its alignment behind the one before it.
+abbrev pub end_behind : ℕ → List Layout → ℕ
+end_behind end [] = end
+end_behind end (m ∷ ms) = end_behind (aligned end m.align + m.size) ms
+
+-- The widest alignment, at least 1.
+abbrev pub widest : ℕ → List Layout → ℕ
+widest least [] = least
+widest least (m ∷ ms) = widest (max least m.align) ms
+
+-- A struct is aligned as its widest member and padded at its end.
+abbrev pub struct_layout : List Layout → Layout
+struct_layout ms = record { size = aligned (end_behind 0 ms) (widest 1 ms); align = widest 1 ms }
+
+-- A pointer to a shared object or to a lock has 16 bytes, another 8.
+abbrev pub pointer_size : Base → Option ℕ → ℕ
+pointer_size LockObject shared = 16
+pointer_size b (Some block) = 16
+pointer_size b None = 8
+
+-- The layout of a type, where that of each struct is known. An array has the size of all its elements.
+abbrev pub base_layout : (ℕ → Layout) → Base → Layout
+base_layout structs Void = no_layout
+base_layout structs (Integer kind) = scalar (kind_size kind)
+base_layout structs (Struct number) = structs number
+base_layout structs (Array (Qualified e c s x) count) = record { size = count * (base_layout structs e).size; align = (base_layout structs e).align }
+base_layout structs (Pointer (Qualified target c s x)) = scalar (pointer_size target s)
+base_layout structs LockObject = no_layout
+
+-- Whether a type is complete, where it is known which structs are (C99 6.2.5).
+abbrev pub base_complete : (ℕ → Bool) → Base → Bool
+base_complete structs Void = false
+base_complete structs (Integer kind) = true
+base_complete structs (Struct number) = structs number
+base_complete structs (Array (Qualified e c s x) count) = nat_lt 0 count && base_complete structs e
+base_complete structs (Pointer target) = true
+base_complete structs LockObject = false
+
+abbrev pub member_layouts : (ℕ → Layout) → List Member → List Layout
+member_layouts structs ms = map (λ m. base_layout structs (base_of m.ctype)) ms
+
+abbrev pub layout_or_none : Option Known → Layout
+layout_or_none None = no_layout
+layout_or_none (Some k) = k.layout
+
+-- What is known of a struct: its place in the order of completion, from 0, and its layout. None where it is incomplete.
+abbrev pub known_in : List Completed → ℕ → Option Known
+known_in [] number = None
+known_in (c ∷ older) number =
+    if c.number == number
+    then Some record { place = length older; layout = struct_layout (member_layouts (λ n. layout_or_none (known_in older n)) c.members) }
+    else known_in older number
+
+abbrev pub layout_in : List Completed → ℕ → Layout
+layout_in completed number = layout_or_none (known_in completed number)
+
+abbrev pub complete_in : List Completed → ℕ → Bool
+complete_in completed number = is_some (known_in completed number)
+
+-- Whether a type is complete.
+abbrev pub is_complete : Structs → CType → Bool
+is_complete structs t = base_complete (complete_in structs.completed) (base_of t)
+
+-- The size of a type, 0 where it is incomplete.
+abbrev pub size : Structs → CType → ℕ
+size structs t = (base_layout (layout_in structs.completed) (base_of t)).size
+
+-- The alignment of a type.
+abbrev pub alignment : Structs → CType → ℕ
+alignment structs t = (base_layout (layout_in structs.completed) (base_of t)).align
+
+-- No object has more bytes.
+abbrev pub most_bytes : ℕ
+most_bytes = 16777216
+
+-- The layout of a type, None where it is incomplete or has more bytes than an object can have.
+abbrev pub base_within : List Completed → Base → Option Layout
+base_within completed b =
+    if base_complete (complete_in completed) b && nat_le (base_layout (layout_in completed) b).size most_bytes
+    then Some (base_layout (layout_in completed) b)
+    else None
+
+-- Whether each member has a complete type.
+abbrev pub all_complete : (ℕ → Bool) → List Member → Bool
+all_complete structs [] = true
+all_complete structs (m ∷ ms) = base_complete structs (base_of m.ctype) && all_complete structs ms
+
+-- The layout of a struct of these members, None where one is incomplete or the struct has more bytes than an object can have.
+abbrev pub members_within : List Completed → List Member → Option Layout
+members_within completed ms =
+    if all_complete (complete_in completed) ms && nat_le (struct_layout (member_layouts (layout_in completed) ms)).size most_bytes
+    then Some (struct_layout (member_layouts (layout_in completed) ms))
+    else None
+
+-- The layout of an array, where its element has this one.
+abbrev pub many : Option Layout → ℕ → Option Layout
+many None count = None
+many (Some e) count = if nat_lt 0 count && nat_le (count * e.size) most_bytes then Some record { size = count * e.size; align = e.align } else None
+
+-- The layout of a struct whose members up to `end`, of this widest alignment, are followed by these; None as in `members_within`.
+abbrev pub members_from : List Completed → ℕ → ℕ → List Member → Option Layout
+members_from completed end align ms =
+    if all_complete (complete_in completed) ms && nat_le (aligned (end_behind end (member_layouts (layout_in completed) ms)) (widest align (member_layouts (layout_in completed) ms))) most_bytes
+    then Some record { size = aligned (end_behind end (member_layouts (layout_in completed) ms)) (widest align (member_layouts (layout_in completed) ms)); align = widest align (member_layouts (layout_in completed) ms) }
+    else None
+
+-- The layout of a struct whose members end there, None where it has more bytes than an object can have.
+abbrev pub finished : ℕ → ℕ → Option Layout
+finished end align = if nat_le (aligned end align) most_bytes then Some record { size = aligned end align; align = align } else None

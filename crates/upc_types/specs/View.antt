@@ -1,0 +1,25 @@
+-- The types of the code, seen without where they lie in memory.
+use Rattle.std.specs.Prelude.{map}
+use Rattle.upc_types.specs.declared.ctype.CType as c
+use Rattle.upc_types.specs.declared.ctype.Base as b
+use Rattle.upc_types.specs.declared.ctype.Base.{Base}
+use Rattle.upc_types.specs.declared.structs.Member as m
+use Rattle.upc_types.specs.declared.structs.Completed as d
+use Rattle.upc_types.specs.Types as t
+
+abbrev pub view_base : Base → t.Base
+view_base b.Void = t.Void
+view_base (b.Integer kind) = t.Integer kind
+view_base (b.Struct number) = t.Struct number
+view_base (b.Array' p base constant shared access count) = t.Array (t.Qualified (view_base base) constant shared access) count
+view_base (b.Pointer' p base constant shared access) = t.Pointer (t.Qualified (view_base base) constant shared access)
+view_base b.LockObject = t.LockObject
+
+abbrev pub view : c.CType → t.CType
+view x = t.Qualified (view_base x.base) x.constant x.shared x.access
+
+abbrev pub view_member : m.Member → t.Member
+view_member x = record { name = x.name; ctype = view x.ctype }
+
+abbrev pub view_completed : d.Completed → t.Completed
+view_completed x = record { number = x.number; members = map view_member x.members.items }

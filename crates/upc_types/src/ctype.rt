@@ -1,0 +1,40 @@
+//! Types (C99 6.2.5, UPC 6.5.1).
+
+use block_layout::Kind;
+
+/// Whether a type says strict or relaxed (UPC 6.5.1.1).
+#[derive(Clone, Copy, PartialEq, Eq, Debug)]
+pub enum Access {
+    Unsaid,
+    Strict,
+    Relaxed,
+}
+
+/// A type with its qualifiers.
+#[cycle(types)]
+#[derive(Drop)]
+pub struct CType {
+    pub base: Base,
+    /// Whether it is const.
+    pub constant: bool,
+    /// Its block size in elements where it is shared, 0 for indefinite.
+    pub shared: Option<u32>,
+    pub access: Access,
+}
+
+/// A type without its qualifiers.
+#[cycle(types)]
+#[derive(Drop)]
+pub enum Base {
+    Void,
+    /// An integer type, by its kind.
+    Integer(Kind),
+    /// A struct, by its number.
+    Struct(u32),
+    /// An array with its number of elements. It has the qualifiers of its element.
+    Array(Box<CType>, u32),
+    /// A pointer: to shared where its target is shared, a lock pointer where its target is a lock, else private.
+    Pointer(Box<CType>),
+    /// What a lock pointer points to (UPC 7.2.4).
+    LockObject,
+}

@@ -1,0 +1,166 @@
+//! The structs of a program (C99 6.7.2.1).
+
+ghost use Rattle.std.specs.Prelude.{map, reverse};
+ghost use Rattle.upc_types.specs.View.{view_completed};
+ghost use Rattle.upc_types.specs.Kept.{IsKept};
+
+use crate::ctype::{Base, CType};
+use crate::layout::{
+    Known, Layout, MOST_BYTES, aligned, finished, many, pointer_size, scalar, wider,
+};
+use std::alloc::Global;
+use upc_text::{OutOfMemory, Text};
+
+/// A member of a struct.
+#[derive(Drop)]
+pub struct Member {
+    pub name: Text,
+    pub ctype: CType,
+}
+
+/// A struct with its members in order.
+#[derive(Drop)]
+pub struct Completed {
+    pub number: u32,
+    pub members: Vec<Member>,
+}
+
+/// What the numbers in types and in kinds stand for: structs, and targets of pointers.
+#[derive(Drop)]
+pub struct Structs {
+    known: Vec<Option<Known>>,
+    completed: Vec<Completed>,
+    targets: Vec<CType>,
+    ghost kept: { IsKept (reverse (map view_completed completed.items)) known.items },
+}
+
+impl Structs {
+    ghost use Rattle.std.specs.Prelude.{◌≡◌, ◌<◌, ◌∷◌, ◌+◌, [], IfOk, OnOk, OnErr, IfSome, Some, None, length, map};
+    ghost use Rattle.upc_types.specs.Layout.{base_within, members_within, known_in, base_complete, complete_in};
+    ghost use Rattle.upc_types.specs.Kept.{IsFine};
+    ghost use Rattle.upc_types.specs.Types as pure;
+    ghost use Rattle.upc_types.specs.Types.{with_members, members_of};
+    ghost use Rattle.upc_types.specs.View.{view_base, view_member};
+    ghost use Rattle.upc_types.specs.ViewStructs.{view_structs};
+
+    /// No struct.
+    pub fn new(alloc: Global) -> Structs
+        ensures { view_structs result ≡ record { declared = 0; completed = []; targets = [] } }
+    {
+        Structs {
+            known: Vec::new(alloc),
+            completed: Vec::new(alloc),
+            targets: Vec::new(alloc),
+        }
+    }
+
+    /// One more struct, which is incomplete; answers its number. After want of memory nothing is changed.
+    pub fn declare(&mut self) -> Result<u32, OutOfMemory>
+        ensures number { IfOk result (λ n. n ≡ (view_structs self.old).declared) }
+        ensures incomplete { IfOk result (λ n. known_in (view_structs self.new).completed n ≡ None) }
+        ensures ok { OnOk result (view_structs self.new ≡ record (view_structs self.old) { declared = (view_structs self.old).declared + 1 }) }
+        ensures err { OnErr result (view_structs self.new ≡ view_structs self.old) }
+    {
+        let number = u32::try_from(self.known.len()).map_err(|_| OutOfMemory)?;
+        self.known.push(None)?;
+        Ok(number)
+    }
+
+    /// The layout of a type, None where it is incomplete or has more bytes than an object can have. Takes no memory.
+    pub fn layout_of(&self, base: &Base) -> Option<Layout>
+        ensures value { result ≡ base_within (view_structs self.now).completed (view_base base.now) }
+        ensures fine { IfSome result IsFine }
+    {
+        match base {
+            Base::Void | Base::LockObject => None,
+            Base::Integer(kind) => Some(scalar(kind.size())),
+            Base::Struct(number) => self.struct_layout(*number),
+            Base::Array(element, count) => many(self.layout_of(&element.base), *count),
+            Base::Pointer(target) => Some(scalar(pointer_size(&target.base, target.shared))),
+        }
+    }
+
+    // What is known of a struct, None where it is incomplete.
+    fn known_of(&self, number: u32) -> Option<Known>
+        ensures { result ≡ known_in (view_structs self.now).completed number }
+    {
+        match self.known.get(number as usize) {
+            Some(known) => *known,
+            None => None,
+        }
+    }
+
+    // The layout of a struct, None where it is incomplete.
+    fn struct_layout(&self, number: u32) -> Option<Layout>
+        ensures value { result ≡ base_within (view_structs self.now).completed (pure.Struct number) }
+        ensures fine { IfSome result IsFine }
+    {
+        match self.known_of(number) {
+            Some(known) => Some(known.layout),
+            None => None,
+        }
+    }
+
+    /// The layout of a struct with these members, None where one is incomplete or there are more bytes than an object can
+    /// have. Takes no memory.
+    pub fn members_layout(&self, members: &[Member]) -> Option<Layout>
+        requires { 0 < length members.now }
+        ensures value { result ≡ members_within (view_structs self.now).completed (map view_member members.now) }
+        ensures fine { IfSome result IsFine }
+    {
+        let mut end = 0;
+        let mut align = 1;
+        for member in members {
+            let part = self.layout_of(&member.ctype.base)?;
+            end = aligned(end, part.align) + part.size;
+            if end > MOST_BYTES {
+                return None;
+            }
+            align = wider(align, part.align);
+        }
+        finished(end, align)
+    }
+
+    /// Completes a struct. After want of memory nothing is changed.
+    pub fn complete(
+        &mut self,
+        number: u32,
+        members: Vec<Member>,
+        layout: Layout,
+    ) -> Result<(), OutOfMemory>
+        requires declared { number < (view_structs self.old).declared }
+        requires incomplete { known_in (view_structs self.old).completed number ≡ None }
+        requires layout { members_within (view_structs self.old).completed (map view_member members.items) ≡ Some layout }
+        requires fine { IsFine layout }
+        ensures ok { OnOk result (view_structs self.new ≡ with_members (view_structs self.old) number (map view_member members.items)) }
+        ensures err { OnErr result (view_structs self.new ≡ view_structs self.old) }
+    {
+        self.completed.reserve(1)?;
+        let place = self.completed.len();
+        self.completed.push(Completed { number, members })?;
+        self.known[number as usize] = Some(Known { place, layout });
+        Ok(())
+    }
+
+    /// The members of a struct, none where it is incomplete or was not declared.
+    pub fn members(&self, number: u32) -> &[Member]
+        ensures { map view_member result.now ≡ members_of (view_structs self.now) number }
+    {
+        match self.known_of(number) {
+            Some(known) => self.completed[known.place].members.as_slice(),
+            None => &[],
+        }
+    }
+
+    /// Whether a type is complete (C99 6.2.5). Takes no memory.
+    pub fn is_complete(&self, base: &Base) -> bool
+        ensures { result ≡ base_complete (complete_in (view_structs self.now).completed) (view_base base.now) }
+    {
+        match base {
+            Base::Void | Base::LockObject => false,
+            Base::Integer(_) | Base::Pointer(_) => true,
+            Base::Struct(number) => self.known_of(*number).is_some(),
+            Base::Array(element, count) => *count > 0 && self.is_complete(&element.base),
+        }
+    }
+}
