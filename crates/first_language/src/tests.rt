@@ -170,11 +170,12 @@ fn carry_out(alloc: Global, program: &First) -> Result<(Vec<u8>, Option<i32>), A
     let mut machine = Machine::make(alloc, program, 0, 1, 1024)?;
     let mut reply = None;
     for _turn in 0..1000 {
-        match machine.resume(program, reply)? {
+        let wish = machine.resume(program, reply)?;
+        match &wish {
             Wish::Act(Action::Read { .. }) => reply = Some(Reply::Value(Scalar::Int(cell))),
             Wish::Act(Action::Write { value, .. }) => {
                 if let Scalar::Int(x) = value {
-                    cell = x;
+                    cell = *x;
                 }
                 reply = Some(Reply::Done);
             }
@@ -183,7 +184,7 @@ fn carry_out(alloc: Global, program: &First) -> Result<(Vec<u8>, Option<i32>), A
                 reply = Some(Reply::Done);
             }
             Wish::Act(_) => reply = Some(Reply::Done),
-            Wish::Ended(value) => return Ok((out, Some(value))),
+            Wish::Ended(value) => return Ok((out, Some(*value))),
             Wish::Fault(_, _) | Wish::Budget | Wish::Exit(_) => return Ok((out, None)),
         }
     }
