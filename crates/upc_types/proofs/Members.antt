@@ -51,7 +51,7 @@ base_some f h (Array (Qualified e c s x) n) = base_some f h e
 base_some f h (Pointer (Qualified t c s x)) = pointer_some t s
 base_some f h LockObject = omega arith
 
-widest_low : (ls : List Layout) (a : ℕ) → a ≤ widest a ls
+pub widest_low : (ls : List Layout) (a : ℕ) → a ≤ widest a ls
 widest_low [] a = omega arith
 widest_low (l ∷ ls) a = let h = widest_low ls (max a l.align) in omega arith
 

@@ -57,8 +57,8 @@ fine_one false k o h f = f
 
 -- What is kept once one more struct is complete.
 pub kept_more : (cs : List Completed) (known : List (Option Known)) (number : ℕ) (ms : List Member) (l : Layout) → IsKept cs known → number < length known →
-    members_within cs ms ≡ Some l → IsFine l → IsKept (record { number = number; members = ms } ∷ cs) (set known number (Some record { place = length cs; layout = l }))
-kept_more cs known number ms l kept h m f =
+    known_in cs number ≡ None → members_within cs ms ≡ Some l → IsFine l → IsKept (record { number = number; members = ms } ∷ cs) (set known number (Some record { place = length cs; layout = l }))
+kept_more cs known number ms l kept h a m f =
     let s = some_is (all_complete (complete_in cs) ms) (nat_le (struct_layout (member_layouts (layout_in cs) ms)).size most_bytes) (struct_layout (member_layouts (layout_in cs) ms)) l m in
     let k : Known = record { place = length cs; layout = l } in
     let j : Known = record { place = length cs; layout = struct_layout (member_layouts (layout_in cs) ms) } in
@@ -66,4 +66,5 @@ kept_more cs known number ms l kept h m f =
     record {
       each = λ n. each_one (number == n) number n known k (known_in cs n) refl h (kept.each n) ∙ ap (λ (x : Known). if number == n then Some x else known_in cs n) (sym e);
       fine = λ n. subst (λ (x : Known). ForSome (if number == n then Some x else known_in cs n) (λ (i : Known). IsFine i.layout)) (sym e) (fine_one (number == n) k (known_in cs n) f (kept.fine n));
+      ordered = rw (a, s.0) kept.ordered;
     }

@@ -1,13 +1,16 @@
 //! The structs of a program (C99 6.7.2.1).
 
-ghost use Rattle.std.specs.Prelude.{map, reverse};
+ghost use Rattle.std.specs.Prelude.{map, reverse, ◌≤◌, vec_len};
 ghost use Rattle.upc_types.specs.View.{view_completed};
 ghost use Rattle.upc_types.specs.Kept.{IsKept};
 
+use crate::copy::copy_type;
 use crate::ctype::{Base, CType};
 use crate::layout::{
     Known, Layout, MOST_BYTES, aligned, finished, many, pointer_size, scalar, wider,
 };
+use crate::targets::number_among;
+use block_layout::Kind;
 use std::alloc::Global;
 use upc_text::{OutOfMemory, Text};
 
@@ -32,15 +35,17 @@ pub struct Structs {
     completed: Vec<Completed>,
     targets: Vec<CType>,
     ghost kept: { IsKept (reverse (map view_completed completed.items)) known.items },
+    ghost numbered: { vec_len targets ≤ 4294967295 },
 }
 
 impl Structs {
-    ghost use Rattle.std.specs.Prelude.{◌≡◌, ◌<◌, ◌∷◌, ◌+◌, [], IfOk, OnOk, OnErr, IfSome, Some, None, length, map};
-    ghost use Rattle.upc_types.specs.Layout.{base_within, members_within, known_in, base_complete, complete_in};
+    ghost use Rattle.std.specs.Prelude.{◌≡◌, ◌<◌, ◌∷◌, ◌+◌, [], true, IfOk, OnOk, OnErr, IfSome, Some, None, length};
+    ghost use Rattle.upc_types.specs.Cells.{IsItsOwn, number_of, pointer_kind, with_target};
+    ghost use Rattle.upc_types.specs.Layout.{base_within, members_within, known_in, base_complete, base_layout, complete_in, layout_in, most_bytes};
     ghost use Rattle.upc_types.specs.Kept.{IsFine};
     ghost use Rattle.upc_types.specs.Types as pure;
     ghost use Rattle.upc_types.specs.Types.{with_members, members_of};
-    ghost use Rattle.upc_types.specs.View.{view_base, view_member};
+    ghost use Rattle.upc_types.specs.View.{view, view_base, view_member};
     ghost use Rattle.upc_types.specs.ViewStructs.{view_structs};
 
     /// No struct.
@@ -77,6 +82,19 @@ impl Structs {
             Base::Struct(number) => self.struct_layout(*number),
             Base::Array(element, count) => many(self.layout_of(&element.base), *count),
             Base::Pointer(target) => Some(scalar(pointer_size(&target.base, target.shared))),
+        }
+    }
+
+    // The layout of a complete type.
+    pub fn whole_layout(&self, base: &Base) -> Layout
+        requires complete { base_complete (complete_in (view_structs self.now).completed) (view_base base.now) ≡ true }
+        requires few { (base_layout (layout_in (view_structs self.now).completed) (view_base base.now)).size ≤ most_bytes }
+        ensures value { result ≡ base_layout (layout_in (view_structs self.now).completed) (view_base base.now) }
+        ensures fine { IsFine result }
+    {
+        match self.layout_of(base) {
+            Some(layout) => layout,
+            None => unreachable!(),
         }
     }
 
@@ -161,6 +179,46 @@ impl Structs {
             Base::Integer(_) | Base::Pointer(_) => true,
             Base::Struct(number) => self.known_of(*number).is_some(),
             Base::Array(element, count) => *count > 0 && self.is_complete(&element.base),
+        }
+    }
+
+    /// The number of the type of a pointer to this target, without its const, strict and relaxed: how many there are where it has none.
+    pub fn number_of(&self, target: &CType) -> u32
+        ensures value { result ≡ number_of (view_structs self.now).targets (view target.now) }
+        ensures most { result ≤ length (view_structs self.now).targets }
+        ensures own { IsItsOwn (view_structs self.now).targets (view target.now) result }
+    {
+        number_among(self.targets.as_slice(), target)
+    }
+
+    /// Gives the type of a pointer to this target a number where it has none; answers the number. After want of memory nothing is
+    /// changed.
+    pub fn note(&mut self, target: &CType) -> Result<u32, OutOfMemory>
+        ensures number { IfOk result (λ n. n ≡ number_of (view_structs self.new).targets (view target.now)) }
+        ensures below { IfOk result (λ n. n < length (view_structs self.new).targets) }
+        ensures ok { OnOk result (view_structs self.new ≡ with_target (view_structs self.old) (view target.now)) }
+        ensures err { OnErr result (view_structs self.new ≡ view_structs self.old) }
+    {
+        let number = self.number_of(target);
+        let count = self.targets.len();
+        if number as usize == count {
+            if count == u32::MAX as usize {
+                return Err(OutOfMemory);
+            }
+            let copy = copy_type(*self.targets.allocator(), target)?;
+            self.targets.push(copy)?;
+        }
+        Ok(number)
+    }
+
+    // The kind of a pointer to this target.
+    pub fn pointer_kind(&self, target: &CType) -> Kind
+        ensures { result ≡ pointer_kind (view_structs self.now).targets (view target.now) }
+    {
+        match (&target.base, target.shared) {
+            (Base::LockObject, _) => Kind::Lock,
+            (_, Some(block)) => Kind::Shared(self.number_of(target), block),
+            (_, None) => Kind::Private(self.number_of(target)),
         }
     }
 }

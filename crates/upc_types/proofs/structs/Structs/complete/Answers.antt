@@ -7,8 +7,8 @@ use Rattle.upc_types.specs.declared.structs.Completed as d
 use Rattle.upc_types.proofs.Places.{kept_more}
 use Rattle.upc_types.proofs.structs.Structs.complete.Goals as goal
 
-pub invariant_of-self-2 : goal.invariant_of-self-2
-invariant_of-self-2 c =
+pub invariant_of-self-2-clause-kept : goal.invariant_of-self-2-clause-kept
+invariant_of-self-2-clause-kept c =
     let xs = c.args.self.now.completed.items in
     let cs = reverse (map view_completed xs) in
     let ms = map view_member c.args.members.items in
@@ -18,4 +18,4 @@ invariant_of-self-2 c =
     let s : c.push.new.self.items ≡ xs ++ (y ∷ []) = c.in_ok-push.ensures.items ∙ ap (λ zs. zs ++ (y ∷ [])) c.reserve.ensures.items in
     let e : reverse (map view_completed c.push.new.self.items) ≡ x ∷ cs =
     ap (λ ys. reverse (map view_completed ys)) s ∙ ap reverse (map-append view_completed xs (y ∷ [])) ∙ reverse-append (map view_completed xs) (x ∷ []) in
-    record { kept = rw (e, n) (kept_more cs c.args.self.now.known.items c.args.number ms c.args.layout c.args.self.now.kept c.requires.declared c.requires.layout c.requires.fine) }
+    rw (e, n) (kept_more cs c.args.self.now.known.items c.args.number ms c.args.layout c.args.self.now.kept c.requires.declared c.requires.incomplete c.requires.layout c.requires.fine)
