@@ -2,7 +2,7 @@
 
 ghost use Rattle.std.specs.Prelude.{◌≡◌, true, IfOk};
 ghost use Rattle.upc_types.specs.Levels as pure;
-ghost use Rattle.upc_types.specs.View.{view};
+ghost use Rattle.upc_types.specs.View.{view, view_base};
 
 use crate::ctype::{Access, Base, CType};
 use std::alloc::Global;
@@ -110,5 +110,25 @@ fn around(alloc: Global, level: Level, inner: CType) -> Result<CType, OutOfMemor
         constant: level.constant,
         shared: level.shared,
         access: level.access,
+    })
+}
+
+/// A copy of a type without its qualifiers.
+pub fn copy_base(alloc: Global, base: &Base) -> Result<Base, OutOfMemory>
+    ensures { IfOk result (λ x. view_base x ≡ view_base base.now) }
+{
+    Ok(match base {
+        Base::Void => Base::Void,
+        Base::Integer(kind) => Base::Integer(*kind),
+        Base::Struct(number) => Base::Struct(*number),
+        Base::Array(element, count) => {
+            let element = copy_type(alloc, element)?;
+            Base::Array(Box::new(alloc, element)?, *count)
+        }
+        Base::Pointer(target) => {
+            let target = copy_type(alloc, target)?;
+            Base::Pointer(Box::new(alloc, target)?)
+        }
+        Base::LockObject => Base::LockObject,
     })
 }

@@ -17,11 +17,13 @@ pub struct Layout {
     pub align: u32,
 }
 
-/// What is known of a complete struct: its place in the order of completion, from 0, and its layout.
+/// What is known of a complete struct: its place in the order of completion, from 0, its layout, and whether an object of it
+/// holds a pointer to a private object.
 #[derive(Clone, Copy, PartialEq, Eq, Debug)]
 pub struct Known {
     pub place: usize,
     pub layout: Layout,
+    pub holds_private: bool,
 }
 
 // The layout of a scalar.

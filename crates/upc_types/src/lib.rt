@@ -19,7 +19,7 @@ pub use conversion::{
     assignable, castable, is_integer, is_lock_pointer, is_pointer, is_private_pointer,
     is_shared_pointer, is_void, to_shared_void, to_void_pointer,
 };
-pub use copy::copy_type;
+pub use copy::{copy_base, copy_type};
 pub use ctype::{Access, Base, CType};
 pub use layout::{Layout, MOST_BYTES};
 pub use same::{same_base, same_block, same_type};

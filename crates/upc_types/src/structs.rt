@@ -39,9 +39,9 @@ pub struct Structs {
 }
 
 impl Structs {
-    ghost use Rattle.std.specs.Prelude.{◌≡◌, ◌<◌, ◌∷◌, ◌+◌, [], true, IfOk, OnOk, OnErr, IfSome, Some, None, length};
+    ghost use Rattle.std.specs.Prelude.{◌≡◌, ◌<◌, ◌∷◌, ◌+◌, [], true, IfOk, OnOk, OnErr, IfSome, Some, None, length, map};
     ghost use Rattle.upc_types.specs.Cells.{IsItsOwn, number_of, pointer_kind, with_target};
-    ghost use Rattle.upc_types.specs.Layout.{base_within, members_within, known_in, base_complete, base_layout, complete_in, layout_in, most_bytes};
+    ghost use Rattle.upc_types.specs.Layout.{base_within, members_within, known_in, base_complete, base_layout, complete_in, layout_in, most_bytes, is_private_target, base_holds_private, members_hold_private, private_in};
     ghost use Rattle.upc_types.specs.Kept.{IsFine};
     ghost use Rattle.upc_types.specs.Types as pure;
     ghost use Rattle.upc_types.specs.Types.{with_members, members_of};
@@ -139,6 +139,47 @@ impl Structs {
         finished(end, align)
     }
 
+    // Whether a pointer to this target leads to a private object.
+    fn is_private_target(target: &CType) -> bool
+        ensures { result ≡ is_private_target (view target.now) }
+    {
+        target.shared.is_none() && !matches!(target.base, Base::LockObject)
+    }
+
+    // Whether an object of a struct holds a pointer to a private object.
+    fn struct_holds_private(&self, number: u32) -> bool
+        ensures { result ≡ private_in (view_structs self.now).completed number }
+    {
+        match self.known_of(number) {
+            Some(known) => known.holds_private,
+            None => false,
+        }
+    }
+
+    /// Whether an object of a type holds a pointer to a private object, itself, in a member or in an element. Takes no memory.
+    pub fn holds_private(&self, base: &Base) -> bool
+        ensures { result ≡ base_holds_private (private_in (view_structs self.now).completed) (view_base base.now) }
+    {
+        match base {
+            Base::Pointer(target) => Structs::is_private_target(target),
+            Base::Struct(number) => self.struct_holds_private(*number),
+            Base::Array(element, _) => self.holds_private(&element.base),
+            _ => false,
+        }
+    }
+
+    // Whether one of these members holds a pointer to a private object.
+    fn members_hold_private(&self, members: &[Member]) -> bool
+        ensures { result ≡ members_hold_private (private_in (view_structs self.now).completed) (map view_member members.now) }
+    {
+        for member in members {
+            if self.holds_private(&member.ctype.base) {
+                return true;
+            }
+        }
+        false
+    }
+
     /// Completes a struct. After want of memory nothing is changed.
     pub fn complete(
         &mut self,
@@ -153,10 +194,15 @@ impl Structs {
         ensures ok { OnOk result (view_structs self.new ≡ with_members (view_structs self.old) number (map view_member members.items)) }
         ensures err { OnErr result (view_structs self.new ≡ view_structs self.old) }
     {
+        let holds_private = self.members_hold_private(members.as_slice());
         self.completed.reserve(1)?;
         let place = self.completed.len();
         self.completed.push(Completed { number, members })?;
-        self.known[number as usize] = Some(Known { place, layout });
+        self.known[number as usize] = Some(Known {
+            place,
+            layout,
+            holds_private,
+        });
         Ok(())
     }
 

@@ -378,3 +378,23 @@ fn a_long_chain_of_pointers(rt: HostRuntime) -> Result<(), Fail> {
     assert_eq!(rt; same_type(&t, &copy), true);
     Ok(())
 }
+
+#[test]
+fn private_pointers(rt: HostRuntime) -> Result<(), Fail> {
+    let a = rt.alloc();
+    let mut known = Structs::new(a);
+    let rows = [
+        (pointer(a, Base::Void, false, None)?, true),
+        (pointer(a, Base::Void, false, Some(1))?, false),
+        (pointer(a, Base::LockObject, false, None)?, false),
+        (plain(Base::Struct(0)), true),
+        (plain(Base::Struct(1)), false),
+    ];
+    for (t, private) in rows {
+        let copy = copy_type(a, &t)?;
+        assert!(rt; same_type(&copy, &t));
+        assert_eq!(rt; known.holds_private(&t.base), private);
+        between_chars(&mut known, a, t.base)?;
+    }
+    Ok(())
+}

@@ -3,6 +3,7 @@ use Rattle.std.proofs.lemmas.Grind.{common_steps}
 use Rattle.std.proofs.lemmas.List.{reverse-append, map-append, length-reverse, length-map}
 use Rattle.upc_types.specs.View.{view_completed, view_member}
 use Rattle.upc_types.specs.Types.{Completed}
+use Rattle.upc_types.specs.Layout.{private_in, members_hold_private}
 use Rattle.upc_types.specs.declared.structs.Completed as d
 use Rattle.upc_types.proofs.Places.{kept_more}
 use Rattle.upc_types.proofs.structs.Structs.complete.Goals as goal
@@ -18,4 +19,4 @@ invariant_of-self-2-clause-kept c =
     let s : c.push.new.self.items ≡ xs ++ (y ∷ []) = c.in_ok-push.ensures.items ∙ ap (λ zs. zs ++ (y ∷ [])) c.reserve.ensures.items in
     let e : reverse (map view_completed c.push.new.self.items) ≡ x ∷ cs =
     ap (λ ys. reverse (map view_completed ys)) s ∙ ap reverse (map-append view_completed xs (y ∷ [])) ∙ reverse-append (map view_completed xs) (x ∷ []) in
-    rw (e, n) (kept_more cs c.args.self.now.known.items c.args.number ms c.args.layout c.args.self.now.kept c.requires.declared c.requires.incomplete c.requires.layout c.requires.fine)
+    rw (e, n) (kept_more cs c.args.self.now.known.items c.args.number ms c.args.layout c.members_hold_private-holds_private.result c.args.self.now.kept c.requires.declared c.requires.incomplete c.requires.layout c.requires.fine (c.members_hold_private-holds_private.ensures ∙ ap (λ xs. members_hold_private (private_in cs) (map view_member xs)) c.as_slice.ensures.value))

@@ -1,0 +1,10 @@
+pub mod Walk
+pub mod Specifiers
+pub mod Marks
+pub mod Expressions
+pub mod Declarations
+pub mod Statements
+pub mod Units
+pub mod Limits
+pub mod Outcomes
+pub mod Finishes
