@@ -76,7 +76,8 @@ fn value_base(alloc: Global, base: &Base) -> Result<Base, OutOfMemory>
     }
 }
 
-fn value_type(alloc: Global, t: &CType) -> Result<CType, OutOfMemory>
+/// The type of a value of this type: an array is a pointer to its first element; no qualifiers.
+pub fn value_type(alloc: Global, t: &CType) -> Result<CType, OutOfMemory>
     ensures { IfOk result (λ v. view v ≡ values.value_type (view t.now)) }
 {
     Ok(plainly(value_base(alloc, &t.base)?))

@@ -1,4 +1,5 @@
+pub mod Opened
+pub mod Walks
 pub mod Rows
 pub mod Refusals
 pub mod Passes
-pub mod Finished

@@ -1,4 +1,5 @@
 pub mod Walk
+pub mod Ends
 pub mod Specifiers
 pub mod Marks
 pub mod Expressions

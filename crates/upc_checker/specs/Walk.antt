@@ -21,7 +21,7 @@ abbrev pub give : {A : Type 0} → A → Walk A
 give a s = record { seen = []; state = s; value = a }
 
 -- One walk, and then another over what comes behind it.
-abbrev pub andthen : {A B : Type 0} → Walk A → (A → Walk B) → Walk B
+unfoldable pub andthen : {A B : Type 0} → Walk A → (A → Walk B) → Walk B
 andthen w go s =
     let x = w s in
     let y = go x.value x.state in
@@ -31,11 +31,11 @@ abbrev pub facts_in : Setting → State → Facts
 facts_in ξ s = record { structs = s.structs; threads = ξ.threads }
 
 -- A node is finished.
-abbrev pub judge : Setting → Place → Node → Walk (Unit {0})
+unfoldable pub judge : Setting → Place → Node → Walk (Unit {0})
 judge ξ at x s = record { seen = record { at = at; facts = facts_in ξ s; node = x } ∷ []; state = s; value = tt {0} }
 
 -- The node of an expression is finished: it is what its node says.
-abbrev pub finish : Setting → Place → Node → (Facts → ExprKind) → Walk Expr
+unfoldable pub finish : Setting → Place → Node → (Facts → ExprKind) → Walk Expr
 finish ξ at x kind s = record {
   seen = record { at = at; facts = facts_in ξ s; node = x } ∷ [];
   state = s;
@@ -43,15 +43,15 @@ finish ξ at x kind s = record {
 }
 
 -- What is known changes.
-abbrev pub update : (State → State) → Walk (Unit {0})
+unfoldable pub update : (State → State) → Walk (Unit {0})
 update f s = record { seen = []; state = f s; value = tt {0} }
 
 -- Something is looked up.
-abbrev pub look : {A : Type 0} → (State → A) → Walk A
+unfoldable pub look : {A : Type 0} → (State → A) → Walk A
 look f s = record { seen = []; state = s; value = f s }
 
 -- A part whose tags are out of scope behind it (C99 6.2.1).
-abbrev pub enclosed : {A : Type 0} → Walk A → Walk A
+unfoldable pub enclosed : {A : Type 0} → Walk A → Walk A
 enclosed w s =
     let x = w s in
     record { seen = x.seen; state = record x.state { tags = s.tags }; value = x.value }

@@ -5,7 +5,7 @@ use Rattle.block_layout.specs.declared.kind.Kind.{Kind}
 use Rattle.upc_types.specs.declared.layout.Known.{Known}
 use Rattle.upc_types.specs.declared.layout.Layout.{Layout}
 use Rattle.upc_types.specs.Types.{CType, Qualified, Base, Void, Integer, Struct, Array, Pointer, LockObject, base_of, Member, Completed, members_in}
-use Rattle.upc_types.specs.Layout.{base_layout, base_complete, known_in, layout_in, complete_in, layout_or_none, all_complete, member_layouts, struct_layout}
+use Rattle.upc_types.specs.Layout.{base_layout, base_complete, known_in, layout_in, complete_in, layout_or_none, all_complete, member_layouts, struct_layout, members_hold_private, private_in}
 use Rattle.upc_types.specs.Cells.{leaf_base, leaf_cells, object_cells, member_cells, struct_cells, copies, leaves}
 use Rattle.upc_types.specs.Kept.{is_ordered}
 use Rattle.upc_types.proofs.Places.{placed}
@@ -146,7 +146,7 @@ struct_is targets (c ∷ older) n k o h =
     let q = and_parts (all_complete (complete_in older) c.members) (is_ordered older) p.1 in
     let a = agrees targets c older (none_one (known_in older c.number) (not-true (complete_in older c.number) p.0)) in
     let l : Layout = struct_layout (member_layouts (layout_in older) c.members) in
-    let j : Known = record { place = length older; layout = l } in
+    let j : Known = record { place = length older; layout = l; holds_private = members_hold_private (private_in older) c.members } in
     let xs = member_cells targets (layout_in older) (struct_cells targets older) 0 c.members in
     let head : IsStruct targets older c.members xs j = record {
       layout = refl;

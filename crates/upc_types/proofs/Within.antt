@@ -6,7 +6,7 @@ use Rattle.block_layout.specs.Shapes.{kind_size, CellsWithin}
 use Rattle.upc_types.specs.declared.layout.Layout.{Layout}
 use Rattle.upc_types.specs.declared.layout.Known.{Known}
 use Rattle.upc_types.specs.Types.{CType, Qualified, Base, Void, Integer, Struct, Array, Pointer, LockObject, base_of, Member, Completed}
-use Rattle.upc_types.specs.Layout.{aligned, end_behind, widest, pointer_size, base_layout, known_in, layout_in, layout_or_none, member_layouts, struct_layout}
+use Rattle.upc_types.specs.Layout.{aligned, end_behind, widest, pointer_size, base_layout, known_in, layout_in, layout_or_none, member_layouts, struct_layout, members_hold_private, private_in}
 use Rattle.upc_types.specs.Cells.{kind_to, pointer_kind, number_of, moved, copies, leaf_base, leaves, leaf_cells, object_cells, member_cells, struct_cells}
 use Rattle.upc_types.proofs.Members.{aligned_low, alignment_some, grow, widest_low}
 
@@ -107,7 +107,7 @@ struct_in targets (c ∷ older) n =
     let xs = member_cells targets (layout_in older) (struct_cells targets older) 0 c.members in
     let w = widest_low ls 1 in
     let a = aligned_low (end_behind 0 ls) (widest 1 ls) (omega arith) in
-    struct_one (c.number == n) xs (struct_cells targets older n) record { place = length older; layout = struct_layout ls } (known_in older n)
+    struct_one (c.number == n) xs (struct_cells targets older n) record { place = length older; layout = struct_layout ls; holds_private = members_hold_private (private_in older) c.members } (known_in older n)
     (wider_within xs 0 (end_behind 0 ls) (aligned (end_behind 0 ls) (widest 1 ls)) a (members_in' targets older (struct_in targets older) c.members 0))
     (struct_in targets older n)
 
