@@ -69,3 +69,7 @@ kept_more cs known number ms l p kept h a m f q =
       fine = λ n. subst (λ (x : Known). ForSome (if number == n then Some x else known_in cs n) (λ (i : Known). IsFine i.layout)) (sym e) (fine_one (number == n) k (known_in cs n) f (kept.fine n));
       ordered = rw (a, s.0) kept.ordered;
     }
+
+-- What is kept of the structs says nothing of room for more.
+pub kept_room : (cs : List Completed) (known more : List (Option Known)) → IsKept cs known → ((n : ℕ) → get_or more n None ≡ get_or known n None) → IsKept cs more
+kept_room cs known more kept h = record { each = λ n. h n ∙ kept.each n; fine = kept.fine; ordered = kept.ordered }

@@ -1,6 +1,6 @@
 //! The structs of a program (C99 6.7.2.1).
 
-ghost use Rattle.std.specs.Prelude.{map, reverse, ◌≤◌, vec_len};
+ghost use Rattle.std.specs.Prelude.{◌≡◌, ℕ, ◌<◌, ◌≤◌, None, OnOk, get_or, map, reverse, vec_len};
 ghost use Rattle.upc_types.specs.View.{view_completed};
 ghost use Rattle.upc_types.specs.Kept.{IsKept};
 
@@ -31,11 +31,23 @@ pub struct Completed {
 /// What the numbers in types and in kinds stand for: structs, and targets of pointers.
 #[derive(Drop)]
 pub struct Structs {
+    declared: u32,
     known: Vec<Option<Known>>,
     completed: Vec<Completed>,
     targets: Vec<CType>,
     ghost kept: { IsKept (reverse (map view_completed completed.items)) known.items },
     ghost numbered: { vec_len targets ≤ 4294967295 },
+}
+
+// Makes room for what is known of the struct with this number.
+fn make_room(known: &mut Vec<Option<Known>>, number: u32) -> Result<(), OutOfMemory>
+    ensures room { OnOk result (number < vec_len known.new) }
+    ensures same { (n : ℕ) → get_or known.new.items n None ≡ get_or known.old.items n None }
+{
+    while known.len() <= number as usize {
+        known.push(None)?;
+    }
+    Ok(())
 }
 
 impl Structs {
@@ -53,21 +65,21 @@ impl Structs {
         ensures { view_structs result ≡ record { declared = 0; completed = []; targets = [] } }
     {
         Structs {
+            declared: 0,
             known: Vec::new(alloc),
             completed: Vec::new(alloc),
             targets: Vec::new(alloc),
         }
     }
 
-    /// One more struct, which is incomplete; answers its number. After want of memory nothing is changed.
+    /// One more struct; answers its number. After want of memory nothing is changed.
     pub fn declare(&mut self) -> Result<u32, OutOfMemory>
         ensures number { IfOk result (λ n. n ≡ (view_structs self.old).declared) }
-        ensures incomplete { IfOk result (λ n. known_in (view_structs self.new).completed n ≡ None) }
         ensures ok { OnOk result (view_structs self.new ≡ record (view_structs self.old) { declared = (view_structs self.old).declared + 1 }) }
         ensures err { OnErr result (view_structs self.new ≡ view_structs self.old) }
     {
-        let number = u32::try_from(self.known.len()).map_err(|_| OutOfMemory)?;
-        self.known.push(None)?;
+        let number = self.declared;
+        self.declared = number.checked_add(1).ok_or(OutOfMemory)?;
         Ok(number)
     }
 
@@ -187,7 +199,6 @@ impl Structs {
         members: Vec<Member>,
         layout: Layout,
     ) -> Result<(), OutOfMemory>
-        requires declared { number < (view_structs self.old).declared }
         requires incomplete { known_in (view_structs self.old).completed number ≡ None }
         requires layout { members_within (view_structs self.old).completed (map view_member members.items) ≡ Some layout }
         requires fine { IsFine layout }
@@ -196,6 +207,7 @@ impl Structs {
     {
         let holds_private = self.members_hold_private(members.as_slice());
         self.completed.reserve(1)?;
+        make_room(&mut self.known, number)?;
         let place = self.completed.len();
         self.completed.push(Completed { number, members })?;
         self.known[number as usize] = Some(Known {

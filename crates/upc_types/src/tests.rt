@@ -258,7 +258,7 @@ fn between_chars(structs: &mut Structs, alloc: Global, base: Base) -> Result<Opt
         })?;
     }
     let number = structs.declare()?;
-    if members.is_empty() {
+    if members.is_empty() || structs.is_complete(&Base::Struct(number)) {
         return Ok(None);
     }
     if let Some(layout) = structs.members_layout(members.as_slice()) {
