@@ -90,6 +90,13 @@ pub fn here<'e>(name: u32, env: &'e Env<'_>) -> Meaning<'e>
     env.names.here(name)
 }
 
+/// How many scopes are around it.
+pub fn level(env: &Env<'_>) -> u32
+    ensures { result ≡ pure.level_of (view_env env.now) }
+{
+    env.level
+}
+
 /// Whether it is the scope of the file.
 pub fn is_file(env: &Env<'_>) -> bool
     ensures { result ≡ pure.is_file (view_env env.now) }

@@ -3,3 +3,4 @@ pub mod Walks
 pub mod Rows
 pub mod Refusals
 pub mod Passes
+pub mod OwnTags

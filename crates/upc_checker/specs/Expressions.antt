@@ -12,7 +12,8 @@ use Rattle.upc_tree.specs.declared.span.Name.{Name}
 use Rattle.upc_tree.specs.declared.span.StringLiteral.{StringLiteral}
 use Rattle.upc_tree.specs.Expression.{Expr, Named, Number, Character, Strings, Constant, Paren, Subscript, Call, MemberOf, Postfix, Unary, SizeOfExpr, SizeOfType, Cast, Binary, Assign, Conditional, Comma, Arguments, NoArguments, SomeArguments, NextExprs, NoNextExprs, AndExpr, TypeName, Typed, Specs, NoSpecs, AndSpec, Spec, WordSpec, QualSpec, TagSpec, StructSpec, Quals, NoQuals, AndQual, Qual, Const, Strict, Relaxed, Shared, Layout, NoLayout, IndefiniteLayout, StarLayout, BlockLayout, Pointers, NoPointers, AndPointer, Dimensions, NoDimensions, AndDimension, Members, NoMembers, AndMember, NextDeclarators, NoNextDeclarators, AndDeclarator, Declarator, ObjectDeclarator, FunctionDeclarator, Parameters, NoParameters, VoidParameters, SomeParameters, Parameter, Parametric, NextParameters, NoNextParameters, AndParameter, ParameterArray, NoArray, UnsizedArray, SizedArray}
 use Rattle.upc_types.specs.Types.{CType, Member}
-use Rattle.upc_types.specs.Layout.{struct_layout, member_layouts, layout_in, complete_in}
+use Rattle.upc_types.specs.declared.layout.Layout.{Layout as StructLayout}
+use Rattle.upc_types.specs.Layout.{members_within, complete_in}
 use Rattle.typed_tree.specs.declared.library.LibraryCall.TheVariants.{Printf}
 use Rattle.typed_tree.specs.declared.tree.Target.{Target}
 use Rattle.typed_tree.specs.declared.tree.Target.TheVariants as target
@@ -216,8 +217,13 @@ open_struct Γ name = refer true Γ name
 abbrev pub is_complete_struct : State → ℕ → Bool
 is_complete_struct s number = complete_in s.structs.completed number
 
+abbrev pub size_or_more : Option StructLayout → ℕ
+size_or_more None = 16777217
+size_or_more (Some l) = l.size
+
+-- The size of a struct of these members; more than an object can have where one is incomplete too.
 abbrev pub members_size : State → List Member → ℕ
-members_size s members = (struct_layout (member_layouts (layout_in s.structs.completed) members)).size
+members_size s members = size_or_more (members_within s.structs.completed members)
 
 -- All members are known.
 abbrev pub close_struct : Setting → Place → ℕ → List Member → Walk (Unit {0})

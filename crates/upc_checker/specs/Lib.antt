@@ -9,3 +9,8 @@ pub mod Units
 pub mod Limits
 pub mod Outcomes
 pub mod Finishes
+pub mod ViewShapes
+pub mod ViewWords
+pub mod ViewTags
+pub mod Views
+pub mod ViewUses

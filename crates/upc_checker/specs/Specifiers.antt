@@ -1,5 +1,5 @@
 -- The types that specifiers and qualifiers form (C99 6.7.1 to 6.7.3, UPC 6.5.1).
-use Rattle.std.specs.Prelude.{ℕ, ◌+◌, ◌-◌, ◌*◌, ◌/◌, nat_eq, nat_le, ◌==◌, Bool, true, false, ◌&&◌, ◌||◌, not, if◌then◌else◌, List, [], ◌∷◌, ◌++◌, length, Option, Some, None, pos, int_le, unsigned_abs}
+use Rattle.std.specs.Prelude.{ℕ, ◌+◌, ◌-◌, ◌*◌, ◌/◌, min, nat_eq, nat_le, ◌==◌, Bool, true, false, ◌&&◌, ◌||◌, not, if◌then◌else◌, List, [], ◌∷◌, ◌++◌, length, Option, Some, None, pos, int_le, unsigned_abs}
 use Rattle.std.specs.List.{list_all}
 use Rattle.block_layout.specs.declared.kind.Kind.TheVariants as k
 use Rattle.upc_tree.specs.declared.mark.TypeWord.{TypeWord}
@@ -204,9 +204,10 @@ abbrev pub elements : Constant → ℕ
 elements (Known v) = if int_le (pos 1) v && int_le v (pos 16777216) then unsigned_abs v else 1
 elements c = 1
 
+-- How many elements there are in all; 16777217 where there are more than an object can have.
 abbrev pub all_elements : List Constant → ℕ
 all_elements [] = 1
-all_elements (c ∷ cs) = elements c * all_elements cs
+all_elements (c ∷ cs) = min (elements c * all_elements cs) 16777217
 
 -- An array of arrays, which has the qualifiers of its elements (C99 6.7.3).
 abbrev pub array_of : CType → ℕ → CType

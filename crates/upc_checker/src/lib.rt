@@ -1,4 +1,13 @@
 //! From a syntax tree to a program that is well typed, or to the first rule that is broken.
 #![tactic(auto)]
 
-pub use typed_tree::Home;
+mod called;
+mod finish;
+mod known;
+mod marks;
+mod places;
+mod setting;
+mod shaped;
+mod specified;
+mod tags;
+mod words;

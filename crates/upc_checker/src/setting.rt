@@ -66,5 +66,5 @@ pub(crate) fn is_taken(setting: Setting<'_>, name: u32) -> bool
 pub(crate) fn is_main(setting: Setting<'_>, name: u32) -> bool
     ensures { result ≡ walks.is_main (view_setting setting.entry) name }
 {
-    spelling(setting, name) == b"main"
+    spelling(setting, name) == b"main".as_slice()
 }

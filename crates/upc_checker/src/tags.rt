@@ -2,7 +2,7 @@
 
 ghost use Rattle.std.specs.Prelude.{◌≡◌, ◌∷◌, [], OnOk, OnErr};
 ghost use Rattle.typed_tree.specs.Scopes as pure;
-ghost use Rattle.upc_checker.specs.ViewTags.{view_tags, view_tag};
+ghost use Rattle.upc_checker.specs.ViewTags.{view_tags, view_own, view_tag};
 
 use std::alloc::Global;
 use upc_text::OutOfMemory;
@@ -32,6 +32,9 @@ pub(crate) enum Around<'o> {
 }
 
 impl<'o> Tags<'o> {
+    ghost use Rattle.std.specs.Prelude.{◌≡◌, []};
+    ghost use Rattle.upc_checker.specs.ViewTags.{view_tags};
+
     /// No tag.
     pub(crate) fn new(alloc: Global) -> Tags<'static>
         ensures { view_tags result ≡ [] }
@@ -53,6 +56,19 @@ pub(crate) fn enclosed<'o>(alloc: Global, tags: &'o Tags<'o>) -> Tags<'o>
     }
 }
 
+// The struct of the latest of these tags with that name.
+fn find_own(name: u32, own: &[Tag]) -> Option<u32>
+    ensures { result ≡ pure.find_tag name (view_own own.now) }
+{
+    let mut found = None;
+    for tag in own {
+        if tag.name == name {
+            found = Some(tag.number);
+        }
+    }
+    found
+}
+
 /// The struct of a tag: the innermost one. Takes no memory.
 pub(crate) fn find_tag(name: u32, tags: &Tags<'_>) -> Option<u32>
     ensures { result ≡ pure.find_tag name (view_tags tags.now) }
@@ -64,6 +80,19 @@ pub(crate) fn find_tag(name: u32, tags: &Tags<'_>) -> Option<u32>
             Around::Within(outer) => find_tag(name, outer),
         },
     }
+}
+
+// The struct of the latest of these tags with that name and that level.
+fn own_here(name: u32, level: u32, own: &[Tag]) -> Option<u32>
+    ensures { result ≡ pure.tag_here name level (view_own own.now) }
+{
+    let mut found = None;
+    for tag in own {
+        if tag.name == name && tag.level == level {
+            found = Some(tag.number);
+        }
+    }
+    found
 }
 
 /// The struct of a tag of a scope itself. Takes no memory.

@@ -134,9 +134,8 @@ impl Structs {
     /// The layout of a struct with these members, None where one is incomplete or there are more bytes than an object can
     /// have. Takes no memory.
     pub fn members_layout(&self, members: &[Member]) -> Option<Layout>
-        requires { 0 < length members.now }
         ensures value { result ≡ members_within (view_structs self.now).completed (map view_member members.now) }
-        ensures fine { IfSome result IsFine }
+        ensures fine { 0 < length members.now → IfSome result IsFine }
     {
         let mut end = 0;
         let mut align = 1;

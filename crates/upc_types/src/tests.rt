@@ -384,9 +384,9 @@ fn private_pointers(rt: HostRuntime) -> Result<(), Fail> {
     let a = rt.alloc();
     let mut known = Structs::new(a);
     let rows = [
-        (pointer(a, Base::Void, false, None)?, true),
-        (pointer(a, Base::Void, false, Some(1))?, false),
-        (pointer(a, Base::LockObject, false, None)?, false),
+        (pointer(a, plain(Base::Void))?, true),
+        (pointer(a, shared(Base::Void, 1))?, false),
+        (pointer(a, plain(Base::LockObject))?, false),
         (plain(Base::Struct(0)), true),
         (plain(Base::Struct(1)), false),
     ];

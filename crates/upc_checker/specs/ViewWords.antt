@@ -1,0 +1,21 @@
+-- What contracts see of the table of type words.
+use Rattle.std.specs.Prelude.{List, map, Option, Some, None}
+use Rattle.upc_types.specs.Types as t
+use Rattle.upc_types.specs.View.{view_base}
+use Rattle.upc_types.specs.declared.ctype.Base.{Base}
+use Rattle.upc_checker.specs.declared.words.WordType.{WordType}
+use Rattle.upc_checker.specs.declared.words.WordType.TheVariants as w
+use Rattle.upc_checker.specs.declared.words.Row as r
+use Rattle.upc_checker.specs.Specifiers.{Row}
+
+abbrev pub view_word_type : WordType → t.Base
+view_word_type w.Void = t.Void
+view_word_type (w.Integer kind) = t.Integer kind
+view_word_type w.Lock = t.LockObject
+
+abbrev pub view_row : r.Row → Row
+view_row x = record { words = x.words.now; base = view_word_type x.base }
+
+abbrev pub view_found : Option Base → Option t.Base
+view_found None = None
+view_found (Some b) = Some (view_base b)
