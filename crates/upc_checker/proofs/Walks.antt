@@ -8,7 +8,7 @@ use Rattle.typed_tree.specs.Scopes.{Setting, State}
 use Rattle.typed_tree.specs.Attributes.{Facts}
 use Rattle.typed_tree.specs.Nodes.{Node}
 use Rattle.typed_tree.specs.Rules.{lowest}
-use Rattle.typed_tree.specs.Faults.{Seen, Fault, fault_by, first_fault, or_later}
+use Rattle.typed_tree.specs.Faults.{Seen, Fault, fault_by, fault_of, first_fault, or_later}
 use Rattle.upc_checker.specs.Walk.{Walked, Walk, give, andthen, judge, finish, update, look, enclosed, facts_in}
 use Rattle.typed_tree.specs.declared.tree.Expr.{Expr as RustExpr}
 use Rattle.typed_tree.specs.Tree.{ExprKind}
@@ -23,7 +23,7 @@ or_later_again (Some f) y z = refl
 -- The first fault of two parts is that of the first, or else of the second.
 pub first_of_two : (xs ys : List Seen) → first_fault (xs ++ ys) ≡ or_later (first_fault xs) (first_fault ys)
 first_of_two [] ys = refl
-first_of_two (x ∷ xs) ys = rw (first_of_two xs ys) (sym (or_later_again _ _ _))
+first_of_two (x ∷ xs) ys = rw (first_of_two xs ys) (sym (or_later_again (fault_of x) (first_fault xs) (first_fault ys)))
 
 stops_later : (x y : Option Fault) (e : Stop) → Stops x e → Stops (or_later x y) e
 stops_later x y stop.Memory h = tt
