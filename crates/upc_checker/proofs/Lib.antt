@@ -4,3 +4,4 @@ pub mod Rows
 pub mod Refusals
 pub mod Passes
 pub mod OwnTags
+pub mod Functions

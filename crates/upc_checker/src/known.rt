@@ -1,7 +1,7 @@
 //! What grows on the way through a source beside the tags: the structs, and all functions declared so far.
 
-ghost use Rattle.std.specs.Prelude.{◌≡◌, IfOk, List, map, OnOk, OnErr};
-ghost use Rattle.upc_types.specs.View.{view, view_base};
+ghost use Rattle.std.specs.Prelude.{◌≡◌, ◌<◌, IfOk, IfSome, List, map, length, OnOk, OnErr};
+ghost use Rattle.upc_types.specs.View.{view, view_base, view_member};
 ghost use Rattle.typed_tree.specs.Scopes as pure;
 ghost use Rattle.typed_tree.specs.Scopes.{Tag as ScopeTag};
 ghost use Rattle.typed_tree.specs.Values as values;
@@ -17,7 +17,7 @@ ghost use Rattle.upc_checker.specs.Expressions as walks;
 ghost use Rattle.upc_checker.specs.Units as units;
 
 use crate::finish::judged;
-use crate::setting::{Setting, is_taken};
+use crate::setting::{Setting, is_known, is_taken};
 use crate::tags::{Tag, Tags, find_tag, note_tag, tag_here};
 use std::alloc::Global;
 use typed_tree::declarations::struct_members;
@@ -163,13 +163,6 @@ fn has_object(env: &Env<'_>, name: u32) -> bool
     matches!(here(name, env), Meaning::Object(_, _))
 }
 
-// Whether a scope itself has something of that name.
-fn has_name(env: &Env<'_>, name: u32) -> bool
-    ensures { result ≡ pure.is_known (pure.here name (view_env env.now)) }
-{
-    !matches!(here(name, env), Meaning::Unknown)
-}
-
 /// Whether a prototype declares its name again.
 pub(crate) fn prototype_again(
     setting: Setting<'_>,
@@ -199,7 +192,7 @@ pub(crate) fn definition_again(
 pub(crate) fn object_again(setting: Setting<'_>, env: &Env<'_>, name: Name) -> bool
     ensures { result ≡ declarations.object_again (view_setting setting.entry) (view_env env.now) name }
 {
-    is_taken(setting, name.number) || has_name(env, name.number)
+    is_taken(setting, name.number) || is_known(here(name.number, env))
 }
 
 /// Whether a parameter declares its name again.
@@ -261,18 +254,6 @@ pub(crate) fn open_struct(
     refer(true, env, name, tags, known)
 }
 
-// The layout of a struct of these members, None where there are none, one is incomplete or there are more bytes than an object
-// can have.
-fn layout_of_members(structs: &Structs, members: &[Member]) -> Option<Layout>
-    ensures value { 0 < length members.now → result ≡ members_within (view_structs structs.now).completed (map view_member members.now) }
-    ensures fine { IfSome result IsFine }
-{
-    if members.is_empty() {
-        return None;
-    }
-    structs.members_layout(members)
-}
-
 // The bytes of a struct, more than an object can have where there is no layout.
 fn size_or_more(layout: Option<Layout>) -> u32
     ensures { result ≡ walks.size_or_more layout }
@@ -281,4 +262,25 @@ fn size_or_more(layout: Option<Layout>) -> u32
         None => 16_777_217,
         Some(layout) => layout.size,
     }
+}
+
+/// All members of a struct are known.
+pub(crate) fn close_struct(
+    setting: Setting<'_>,
+    at: Place,
+    number: u32,
+    members: Vec<Member>,
+    known: &mut Known,
+) -> Result<(), Stop>
+    ensures { (tags : List ScopeTag) → Meets (λ u. tt {0}) (walks.close_struct (view_setting setting.entry) at number (map view_member members.items) (state_with tags known.old)) (state_with tags known.new) result }
+{
+    let again = known.structs.is_complete(&Base::Struct(number));
+    let layout = known.structs.members_layout(members.as_slice());
+    let bytes = u64::from(size_or_more(layout));
+    judged(struct_members(again, members.len(), bytes), at)?;
+    match layout {
+        Some(layout) => known.structs.complete(number, members, layout)?,
+        None => unreachable!(),
+    }
+    Ok(())
 }

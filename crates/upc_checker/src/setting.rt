@@ -55,11 +55,18 @@ pub(crate) fn meaning<'e>(setting: Setting<'_>, env: &'e Env<'_>, name: u32) -> 
     }
 }
 
+/// Whether something is said of a name.
+pub(crate) fn is_known(means: Meaning<'_>) -> bool
+    ensures { result ≡ pure.is_known (view_meaning means.entry) }
+{
+    !matches!(means, Meaning::Unknown)
+}
+
 /// Whether the library has a name, so that no declaration may take it.
 pub(crate) fn is_taken(setting: Setting<'_>, name: u32) -> bool
     ensures { result ≡ pure.is_taken (view_setting setting.entry) name }
 {
-    !matches!(in_library(spelling(setting, name)), Meaning::Unknown)
+    is_known(in_library(spelling(setting, name)))
 }
 
 /// Whether a name is spelled `main`.

@@ -1,6 +1,7 @@
 //! The words of a type (C99 6.7.2).
 
-ghost use Rattle.std.specs.Prelude.{◌≡◌, ◌≤◌, length, map};
+ghost use Rattle.std.specs.Prelude.{◌≡◌, ◌≤◌, ◌==◌, length, map};
+ghost use Rattle.std.specs.List.{list_all};
 ghost use Rattle.upc_checker.specs.Specifiers as pure;
 ghost use Rattle.upc_checker.specs.ViewWords.{view_row, view_word_type, view_found};
 ghost use Rattle.upc_types.specs.View.{view_base};
@@ -96,12 +97,31 @@ pub(crate) fn count(word: TypeWord, words: &[TypeWord]) -> usize
     count
 }
 
+// Whether each of these words stands as often among the first as among the second.
+fn same_counts(among: &[TypeWord], a: &[TypeWord], b: &[TypeWord]) -> bool
+    ensures { result ≡ list_all (λ w. pure.count w a.now == pure.count w b.now) among.now }
+{
+    for word in among {
+        if count(*word, a) != count(*word, b) {
+            return false;
+        }
+    }
+    true
+}
+
 // Whether they are the same words but for `static`, in any order.
 fn same_words(a: &[TypeWord], b: &[TypeWord]) -> bool
     ensures { result ≡ pure.same_words a.now b.now }
 {
-    for word in &TYPE_WORDS {
-        if count(*word, a) != count(*word, b) {
+    same_counts(&TYPE_WORDS, a, b)
+}
+
+// Whether none of these words stands among the others.
+fn none_stands(among: &[TypeWord], words: &[TypeWord]) -> bool
+    ensures { result ≡ list_all (λ w. pure.count w words.now == 0) among.now }
+{
+    for word in among {
+        if count(*word, words) != 0 {
             return false;
         }
     }
@@ -112,12 +132,7 @@ fn same_words(a: &[TypeWord], b: &[TypeWord]) -> bool
 pub(crate) fn no_types(words: &[TypeWord]) -> bool
     ensures { result ≡ pure.no_types words.now }
 {
-    for word in &TYPE_WORDS {
-        if count(*word, words) != 0 {
-            return false;
-        }
-    }
-    true
+    none_stands(&TYPE_WORDS, words)
 }
 
 fn base_of(word_type: WordType) -> Base

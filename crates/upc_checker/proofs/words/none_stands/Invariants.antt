@@ -1,8 +1,8 @@
 use Rattle.std.proofs.Common.{◌≡◌, ◌==◌, drop}
 use Rattle.std.specs.List.{list_all}
 use Rattle.upc_checker.specs.Specifiers as pure
-use Rattle.upc_checker.proofs.words.same_words.Given as goal
+use Rattle.upc_checker.proofs.words.none_stands.Given as goal
 
 -- what is left decides
 abbrev pub invariant-loop-word : goal.invariant-loop-word
-invariant-loop-word l = pure.same_words l.a l.b ≡ list_all (λ w. pure.count w l.a == pure.count w l.b) (drop l.word-index pure.type_words)
+invariant-loop-word l = list_all (λ w. pure.count w l.words == 0) l.among ≡ list_all (λ w. pure.count w l.words == 0) (drop l.word-index l.among)
