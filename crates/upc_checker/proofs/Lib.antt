@@ -5,3 +5,4 @@ pub mod Refusals
 pub mod Passes
 pub mod OwnTags
 pub mod Functions
+pub mod Closing

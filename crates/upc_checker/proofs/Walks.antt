@@ -1,7 +1,6 @@
 -- Walks that meet their rules, and where they stop.
-use Rattle.std.proofs.Common.{◌≡◌, ℕ, List, [], ◌∷◌, ◌++◌, Option, Some, None, Result, Ok, Err, Bool, true, false, refl, sym, ap, ◌∙◌, subst}
+use Rattle.std.proofs.Common.{◌≡◌, ℕ, List, [], ◌∷◌, ◌++◌, Option, Some, None, Result, Ok, Err, refl, sym, ap, ◌∙◌, subst}
 use Rattle.upc_text.specs.declared.place.Place.{Place}
-use Rattle.upc_text.specs.declared.place.Refusal.{Refusal}
 use Rattle.upc_text.specs.declared.faults.Stop.{Stop}
 use Rattle.upc_text.specs.declared.faults.Stop.TheVariants as stop
 use Rattle.typed_tree.specs.Scopes.{Setting, State}
@@ -14,7 +13,7 @@ use Rattle.typed_tree.specs.declared.tree.Expr.{Expr as RustExpr}
 use Rattle.typed_tree.specs.Tree.{ExprKind}
 use Rattle.typed_tree.specs.ViewTree.{view_expr}
 use Rattle.upc_checker.specs.Finishes.{Refuses, Finishes}
-use Rattle.upc_checker.specs.Ends.{refusal_by, Stops, Comes, Meets}
+use Rattle.upc_checker.specs.Ends.{Stops, Comes, Meets}
 
 or_later_again : (x y z : Option Fault) → or_later (or_later x y) z ≡ or_later x (or_later y z)
 or_later_again None y z = refl

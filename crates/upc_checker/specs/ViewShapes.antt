@@ -1,5 +1,5 @@
 -- What contracts see of specifiers and of what they make.
-use Rattle.std.specs.Prelude.{List, [], ◌∷◌, map, true, false}
+use Rattle.std.specs.Prelude.{[], ◌∷◌, map, true, false}
 use Rattle.upc_types.specs.View.{view}
 use Rattle.upc_checker.specs.declared.specified.Blocks.{Blocks}
 use Rattle.upc_checker.specs.declared.specified.Blocks.TheVariants as b

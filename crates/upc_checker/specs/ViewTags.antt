@@ -1,5 +1,5 @@
 -- What contracts see of tags.
-use Rattle.std.specs.Prelude.{List, [], ◌∷◌, ◌++◌, map, reverse}
+use Rattle.std.specs.Prelude.{List, [], ◌++◌, map, reverse}
 use Rattle.typed_tree.specs.Scopes.{Tag}
 use Rattle.upc_checker.specs.declared.tags.Tag as g
 use Rattle.upc_checker.specs.declared.tags.Tags as t

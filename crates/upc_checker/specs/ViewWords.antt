@@ -1,5 +1,5 @@
 -- What contracts see of the table of type words.
-use Rattle.std.specs.Prelude.{List, map, Option, Some, None}
+use Rattle.std.specs.Prelude.{List, Option, Some, None}
 use Rattle.upc_types.specs.Types as t
 use Rattle.upc_types.specs.View.{view_base}
 use Rattle.upc_types.specs.declared.ctype.Base.{Base}

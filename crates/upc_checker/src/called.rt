@@ -80,9 +80,7 @@ pub(crate) fn runs(setting: Setting<'_>, callee: &Expr) -> bool
     ensures { result ≡ pure.runs (view_setting setting.entry) (view callee.now) }
 {
     match called_name(callee) {
-        Some(name) => {
-            setting.defined.contains(&name.number) && !is_main(setting, name.number)
-        }
+        Some(name) => { setting.defined.contains(&name.number) && !is_main(setting, name.number) }
         None => false,
     }
 }

@@ -111,10 +111,7 @@ pub(crate) fn add_qual(quals: &mut Quals, qualifier: Qualifier) -> Result<(), Ou
 }
 
 /// One more specifier.
-pub(crate) fn add_specifier(
-    found: &mut Specified,
-    specifier: Specifier,
-) -> Result<(), OutOfMemory>
+pub(crate) fn add_specifier(found: &mut Specified, specifier: Specifier) -> Result<(), OutOfMemory>
     ensures { OnOk result (view_specified found.new ≡ pure.both_specified (view_specified found.old) (view_specifier specifier)) }
 {
     match specifier {
