@@ -5,6 +5,7 @@ mod called;
 mod finish;
 mod known;
 mod marks;
+mod parts;
 mod places;
 mod setting;
 mod shaped;
