@@ -20,6 +20,7 @@ use Rattle.typed_tree.specs.declared.attribute.Constant.{Constant}
 use Rattle.typed_tree.specs.declared.attribute.Constant.TheVariants.{Variable, Known, Undefined, Null, Address}
 use Rattle.typed_tree.specs.declared.attribute.Form.{Form}
 use Rattle.typed_tree.specs.declared.attribute.Form.TheVariants.{Value, Lvalue, Callable, Text}
+use Rattle.typed_tree.specs.declared.library.LibraryCall.{LibraryCall}
 use Rattle.typed_tree.specs.Library.{plain, int, constant_value, call_result, is_allocation}
 use Rattle.typed_tree.specs.Values.{value_base, value_type, plainly, base_is_array, base_kind, base_target, base_struct, leaf_base, leaves}
 use Rattle.typed_tree.specs.Meanings as m
@@ -155,9 +156,12 @@ abbrev pub allocated : Use → CType
 allocated (n.Into t) = value_type t
 allocated how = int
 
+abbrev pub library_given : Use → LibraryCall → CType
+library_given how call = if is_allocation call then allocated how else call_result call
+
 abbrev pub given : Use → Meaning → CType
 given how (m.Function signature) = value_type signature.result
-given how (m.Library call) = if is_allocation call then allocated how else call_result call
+given how (m.Library call) = library_given how call
 given how meaning = int
 
 -- ---- sizes (C99 6.5.3.4, UPC 6.4.1)
@@ -225,11 +229,14 @@ binary_attr φ op.Add a b = sum_attr φ a b (base_target (base a)) (base_target 
 binary_attr φ op.Subtract a b = difference_attr φ a b (base_target (base a)) (base_target (base b))
 binary_attr φ o a b = arithmetic_attr o (base_kind (base a)) (base_kind (base b)) a.constant b.constant
 
+abbrev pub other_choice : Attr → Attr → Option CType → Attr
+other_choice a b (Some t) = value (value_type a.ctype)
+other_choice a b None = value (value_type b.ctype)
+
 -- The type of a choice: the common kind of two integers, else the type of the pointer among them, else void.
 abbrev pub choice_attr : Constant → Attr → Attr → Option Kind → Option Kind → Option CType → Attr
 choice_attr test a b (Some j) (Some k) t = constant (usual j k) (choice_constant (usual j k) test a.constant b.constant)
-choice_attr test a b j k (Some t) = value (value_type a.ctype)
-choice_attr test a b j k None = value (value_type b.ctype)
+choice_attr test a b j k t = other_choice a b t
 
 -- What a node is; where it breaks a rule, that is never asked.
 abbrev pub attr : Facts → Node → Attr

@@ -72,28 +72,35 @@ binary_constant op a b x y =
 
 -- A unary operator on a constant of this kind (C99 6.5.3.3).
 abbrev pub unary_constant : UnOp → Kind → Constant → Constant
-unary_constant op a x = on_known (λ v. valued (unary_of op (promoted a) v)) x
+unary_constant op a x = on_known (λ v. valued (unary_of op (promoted a) (converted (promoted a) v))) x
 
 -- A constant, converted to an integer kind (C99 6.3.1.3).
 abbrev pub cast_constant : Kind → Constant → Constant
 cast_constant kind x = on_known (λ v. Known (converted kind v)) x
 
+-- 1 for what is not 0.
+abbrev pub truth_constant : Constant → Constant
+truth_constant x = on_known (λ v. Known (truth (not (int_eq v (pos 0))))) x
+
+abbrev pub if_integral : Constant → Constant → Constant
+if_integral x chosen = if is_integral x then chosen else Variable
+
 -- `a && b`: where a is 0, b has no say (C99 6.5.13).
 abbrev pub and_constant : Constant → Constant → Constant
 and_constant (Known v) b =
     if int_eq v (pos 0)
-    then (if is_integral b then Known (pos 0) else Variable)
-    else on_known (λ w. Known (truth (not (int_eq w (pos 0))))) b
-and_constant Undefined b = if is_integral b then Undefined else Variable
+    then if_integral b (Known (pos 0))
+    else truth_constant b
+and_constant Undefined b = if_integral b Undefined
 and_constant a b = Variable
 
 -- `a || b`: where a is not 0, b has no say (C99 6.5.14).
 abbrev pub or_constant : Constant → Constant → Constant
 or_constant (Known v) b =
     if int_eq v (pos 0)
-    then on_known (λ w. Known (truth (not (int_eq w (pos 0))))) b
-    else (if is_integral b then Known (pos 1) else Variable)
-or_constant Undefined b = if is_integral b then Undefined else Variable
+    then truth_constant b
+    else if_integral b (Known (pos 1))
+or_constant Undefined b = if_integral b Undefined
 or_constant a b = Variable
 
 -- `test ? a : b` of integers at their common kind: what is not chosen has no say (C99 6.5.15).

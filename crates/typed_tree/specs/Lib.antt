@@ -10,3 +10,7 @@ pub mod Tree
 pub mod Scopes
 pub mod Faults
 pub mod Views
+pub mod ViewEntries
+pub mod ViewScopes
+pub mod ViewEnv
+pub mod ViewTree

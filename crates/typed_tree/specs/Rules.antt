@@ -11,7 +11,7 @@ use Rattle.integers.specs.declared.operator.UnOp.TheVariants.{Not}
 use Rattle.integers.specs.Integers.{converted}
 use Rattle.upc_types.specs.Types as types
 use Rattle.upc_types.specs.Types.{CType, Base, Array, base_of, is_constant, block_of, Structs, members_of}
-use Rattle.upc_types.specs.Layout.{is_complete, size, most_bytes}
+use Rattle.upc_types.specs.Layout.{is_complete, size, most_bytes, holds_private}
 use Rattle.upc_types.specs.Same.{same_type}
 use Rattle.upc_types.specs.Arithmetic.{promoted}
 use Rattle.upc_types.specs.Conversions.{is_integer, assignable, castable, takes_allocation, to_shared_void, to_void_pointer}
@@ -28,7 +28,7 @@ use Rattle.typed_tree.specs.declared.attribute.Constant.TheVariants.{Known}
 use Rattle.typed_tree.specs.declared.attribute.Form.{Form}
 use Rattle.typed_tree.specs.declared.attribute.Form.TheVariants.{Lvalue}
 use Rattle.typed_tree.specs.Library.{call_parameters, is_allocation}
-use Rattle.typed_tree.specs.Values.{value_type, plainly, is_void, is_array, is_struct, is_lock, is_shared, present, base_is_lock, base_kind, base_target, leaf_base, is_nested, is_no_object, equal_targets, holds_private}
+use Rattle.typed_tree.specs.Values.{value_type, plainly, is_void, is_array, is_struct, is_lock, is_shared, present, base_is_lock, base_kind, base_target, leaf_base, is_nested, is_no_object, equal_targets}
 use Rattle.typed_tree.specs.Meanings.{Meaning, Unknown, Object, Function, Library, Signature}
 use Rattle.typed_tree.specs.Constants as c
 use Rattle.typed_tree.specs.Format.{prints}
@@ -147,6 +147,10 @@ declares_nothing t = is_no_object (leaf t)
 abbrev pub is_struct_type : CType → Bool
 is_struct_type t = is_struct t
 
+-- A shared object holds a pointer to a private object.
+abbrev pub shares_private : Structs → CType → Bool
+shares_private structs t = is_shared t && holds_private structs t
+
 -- A lock, or an array of locks.
 abbrev pub is_lock_leaf : CType → Bool
 is_lock_leaf t = base_is_lock (leaf t)
@@ -178,9 +182,17 @@ abbrev pub all_convert : List Attr → List CType → Bool
 all_convert (a ∷ args) (t ∷ ts) = converts a t && all_convert args ts
 all_convert args ts = true
 
+abbrev pub first_converts : List Attr → CType → Bool
+first_converts [] t = true
+first_converts (a ∷ args) t = converts a t
+
 abbrev pub all_taken : List Attr → List LibraryParameter → Bool
 all_taken (a ∷ args) (x ∷ xs) = takes x a && all_taken args xs
 all_taken args xs = true
+
+abbrev pub first_taken : List Attr → LibraryParameter → Bool
+first_taken [] x = true
+first_taken (a ∷ args) x = takes x a
 
 abbrev pub no_function : LibraryParameter → Attr → Bool
 no_function p.NoFunction a = is_zero a
@@ -190,10 +202,17 @@ abbrev pub no_functions : List Attr → List LibraryParameter → Bool
 no_functions (a ∷ args) (x ∷ xs) = no_function x a && no_functions args xs
 no_functions args xs = true
 
+abbrev pub first_is_no_function : List Attr → LibraryParameter → Bool
+first_is_no_function [] x = true
+first_is_no_function (a ∷ args) x = no_function x a
+
+abbrev pub library_passes : LibraryCall → List Attr → Bool
+library_passes Printf args = not (list_any gives_void args)
+library_passes call args = all_taken args (call_parameters call)
+
 abbrev pub passes : Meaning → List Attr → Bool
 passes (Function s) args = all_convert args s.parameters
-passes (Library Printf) args = not (list_any gives_void args)
-passes (Library call) args = all_taken args (call_parameters call)
+passes (Library call) args = library_passes call args
 passes meaning args = true
 
 -- The name can be called here with that many arguments; `runs` says that the file defines it and that it is not main.
@@ -206,13 +225,18 @@ can_be_called (Function s) runs n = runs && nat_eq n (length s.parameters)
 can_be_called (Library call) runs n = library_takes call n
 can_be_called meaning runs n = false
 
-abbrev pub prints_well : Option (List ℕ) → List Attr → Bool
-prints_well (Some format) (a ∷ args) = prints format (map base args)
-prints_well format args = false
+-- The first argument is a string, and the others fit it.
+abbrev pub format_fits : Option (List ℕ) → List Attr → Bool
+format_fits format [] = true
+format_fits None (a ∷ args) = false
+format_fits (Some format) (a ∷ args) = prints format (map base args)
+
+abbrev pub is_printf : LibraryCall → Bool
+is_printf Printf = true
+is_printf call = false
 
 abbrev pub printf_fits : Meaning → Option (List ℕ) → List Attr → Bool
-printf_fits (Library Printf) format [] = true
-printf_fits (Library Printf) format (a ∷ args) = prints_well format (a ∷ args)
+printf_fits (Library call) format args = not (is_printf call) || format_fits format args
 printf_fits meaning format args = true
 
 abbrev pub is_allocated_at : Structs → Use → Bool
@@ -227,8 +251,15 @@ abbrev pub target_holds_private : Structs → Option CType → Bool
 target_holds_private structs None = false
 target_holds_private structs (Some t) = holds_private structs t
 
+abbrev pub leads_to_private : Structs → CType → Bool
+leads_to_private structs t = target_holds_private structs (base_target (base_of t))
+
+abbrev pub is_private_at : Structs → Use → Bool
+is_private_at structs (Into t) = leads_to_private structs t
+is_private_at structs how = false
+
 abbrev pub allocates_private : Structs → Use → Meaning → Bool
-allocates_private structs (Into t) (Library call) = is_allocation call && target_holds_private structs (base_target (base_of t))
+allocates_private structs how (Library call) = is_allocation call && is_private_at structs how
 allocates_private structs how meaning = false
 
 abbrev pub reduces_well : Meaning → List Attr → Bool
@@ -348,10 +379,13 @@ is_label kind v (Known w) = int_eq (label_kind kind v) (label_kind kind w)
 is_label kind v other = false
 
 -- A label is no integer constant, or a later one has the same value at the kind of the switch (C99 6.8.4.2).
+abbrev pub is_wrong_label : Option Kind → Constant → List Constant → Bool
+is_wrong_label kind (Known v) later = list_any (is_label kind v) later
+is_wrong_label kind other later = true
+
 abbrev pub has_wrong_label : Option Kind → List Constant → Bool
 has_wrong_label kind [] = false
-has_wrong_label kind (Known v ∷ more) = list_any (is_label kind v) more || has_wrong_label kind more
-has_wrong_label kind (other ∷ more) = true
+has_wrong_label kind (label ∷ later) = is_wrong_label kind label later || has_wrong_label kind later
 
 -- ---- initialisers
 
@@ -478,7 +512,7 @@ abbrev pub rule_8 : Facts → Node → Bool
 rule_8 φ (Struct again members bytes) = nat_eq members 0
 rule_8 φ (Member again t) = again || (lacks_members φ.structs t.ctype || nat_lt 1 (length t.sizes))
 rule_8 φ MemberFunction = true
-rule_8 φ (DeclaresObject again file t) = lacks_members φ.structs t.ctype || is_shared t.ctype && holds_private φ.structs t.ctype
+rule_8 φ (DeclaresObject again file t) = lacks_members φ.structs t.ctype || shares_private φ.structs t.ctype
 rule_8 φ (Parameter again t) = is_array t.ctype && lacks_members φ.structs t.ctype
 rule_8 φ (Call how meaning runs format args) = allocates_private φ.structs how meaning
 rule_8 φ x = false

@@ -1,9 +1,9 @@
 -- The types of values, and tests on types (C99 6.2.5, 6.3.2.1).
-use Rattle.std.specs.Prelude.{ℕ, Bool, true, false, not, ◌&&◌, ◌||◌, ◌==◌, ◌*◌, if◌then◌else◌, List, [], ◌∷◌, Option, Some, None}
-use Rattle.std.specs.List.{list_any}
+use Rattle.std.specs.Prelude.{ℕ, Bool, true, false, ◌&&◌, ◌||◌, ◌*◌, Option, Some, None}
 use Rattle.block_layout.specs.declared.kind.Kind.{Kind}
+use Rattle.block_layout.specs.declared.kind.Kind.TheVariants as k
 use Rattle.upc_types.specs.declared.ctype.Access.TheVariants.{Unsaid}
-use Rattle.upc_types.specs.Types.{CType, Qualified, Base, Void, Integer, Struct, Array, Pointer, LockObject, base_of, block_of, Completed, Structs}
+use Rattle.upc_types.specs.Types.{CType, Qualified, Base, Void, Integer, Struct, Array, Pointer, LockObject, base_of, block_of}
 use Rattle.upc_types.specs.Same.{same_base, same_block}
 
 -- The type of a value: an array turns into a pointer to its first element (C99 6.3.2.1).
@@ -55,9 +55,16 @@ present (Some x) = true
 abbrev pub is_shared : CType → Bool
 is_shared t = present (block_of t)
 
+-- A kind, where it is one of integers.
+abbrev pub integer_kind : Kind → Option Kind
+integer_kind (k.Shared n b) = None
+integer_kind k.Lock = None
+integer_kind (k.Private n) = None
+integer_kind kind = Some kind
+
 -- The kind of an integer type.
 abbrev pub base_kind : Base → Option Kind
-base_kind (Integer kind) = Some kind
+base_kind (Integer kind) = integer_kind kind
 base_kind b = None
 
 -- What a value of this type points to.
@@ -96,25 +103,3 @@ is_no_object b = base_is_void b || base_is_lock b
 -- Targets that are equal but for const and strict or relaxed (UPC 6.5.1.1): the same type, and the same block where shared.
 abbrev pub equal_targets : CType → CType → Bool
 equal_targets a b = same_block (block_of a) (block_of b) && same_base (base_of a) (base_of b)
-
--- A pointer to a private object: it leads neither to a shared object nor to a lock.
-abbrev pub is_private_target : CType → Bool
-is_private_target (Qualified b c s x) = not (present s || base_is_lock b)
-
--- An object of this type holds a pointer to a private object, where it is known which structs do.
-abbrev pub base_holds_private : (ℕ → Bool) → Base → Bool
-base_holds_private structs (Pointer t) = is_private_target t
-base_holds_private structs (Struct number) = structs number
-base_holds_private structs (Array (Qualified e c s x) count) = base_holds_private structs e
-base_holds_private structs b = false
-
-abbrev pub struct_holds_private : List Completed → ℕ → Bool
-struct_holds_private [] number = false
-struct_holds_private (c ∷ older) number =
-    if c.number == number
-    then list_any (λ m. base_holds_private (struct_holds_private older) (base_of m.ctype)) c.members
-    else struct_holds_private older number
-
--- An object of this type holds a pointer to a private object, itself or in a member or an element.
-abbrev pub holds_private : Structs → CType → Bool
-holds_private structs t = base_holds_private (struct_holds_private structs.completed) (base_of t)

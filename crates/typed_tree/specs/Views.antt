@@ -1,5 +1,5 @@
 -- What contracts see of types, meanings and uses, without where they lie in memory.
-use Rattle.std.specs.Prelude.{map, Option, Some, None}
+use Rattle.std.specs.Prelude.{ℕ, List, map, Option, Some, None}
 use denote.Ref.{Bor}
 use Rattle.upc_types.specs.declared.ctype.CType as r
 use Rattle.upc_types.specs.Types.{CType}
@@ -20,6 +20,10 @@ use Rattle.typed_tree.specs.Nodes.{Attr, view_attr}
 abbrev pub view_target : Option (Bor r.CType) → Option CType
 view_target None = None
 view_target (Some t) = Some (view t.now)
+
+abbrev pub view_text : Option (Bor (List ℕ)) → Option (List ℕ)
+view_text None = None
+view_text (Some text) = Some text.now
 
 abbrev pub view_signature : s.Signature → pure.Signature
 view_signature x = record { result = view x.result; parameters = map view x.parameters.items }

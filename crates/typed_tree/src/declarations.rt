@@ -231,6 +231,12 @@ pub fn size_of_type(structs: &Structs, op: SizeOperator, t: &Formed) -> Option<u
     }
 }
 
+fn shares_private(structs: &Structs, t: &CType) -> bool
+    ensures { result ≡ r.shares_private (view_structs structs.now) (view t.now) }
+{
+    is_shared(t) && structs.holds_private(&t.base)
+}
+
 fn is_lock_leaf(t: &CType) -> bool
     ensures { result ≡ r.is_lock_leaf (view t.now) }
 {
@@ -248,6 +254,25 @@ pub fn member(structs: &Structs, again: bool, t: &Formed) -> Option<u8>
     } else if is_shared(&t.ctype) {
         Some(7)
     } else if again || lacks_members(structs, &t.ctype) || t.sizes.len() > 1 {
+        Some(8)
+    } else {
+        None
+    }
+}
+
+/// An object that is declared.
+pub fn declares_object(structs: &Structs, again: bool, file: bool, t: &Formed) -> Option<u8>
+    ensures { (threads : ℕ) → result ≡ lowest (record { structs = view_structs structs.now; threads = threads }) (n.DeclaresObject again file (view_formed t.now)) }
+{
+    if again {
+        Some(2)
+    } else if !t.forms || declares_nothing(&t.ctype) {
+        Some(4)
+    } else if has_wrong_sizes(structs, t) {
+        Some(6)
+    } else if is_shared(&t.ctype) && !file {
+        Some(7)
+    } else if lacks_members(structs, &t.ctype) || shares_private(structs, &t.ctype) {
         Some(8)
     } else {
         None

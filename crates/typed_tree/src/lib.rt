@@ -2,23 +2,32 @@
 #![tactic(auto)]
 
 mod attribute;
+pub mod attributes;
+pub mod calls;
+pub mod constants;
 mod conversion;
 pub mod declarations;
+pub mod env;
+mod format;
 pub mod laws;
 mod library;
 pub mod lists;
 mod meaning;
 pub mod members;
 pub mod names;
+mod numbers;
 pub mod rules;
+pub mod scope;
 mod setting;
 pub mod statements;
+pub mod switch;
 #[cfg(test)]
 mod tests;
 mod tree;
 mod types;
 
 pub use attribute::{Attr, Constant, Form, Static};
+pub use format::{Awaits, FormatStep, Printed};
 pub use library::{ElementKind, LibraryCall, LibraryConstant, LibraryParameter};
 pub use meaning::{Around, Formed, Meaning, Signature, Use};
 pub use setting::{Enclosing, Home, SizeOperator};

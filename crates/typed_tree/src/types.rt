@@ -1,6 +1,7 @@
 //! Tests on types and on the values of expressions.
 
-ghost use Rattle.std.specs.Prelude.{◌≡◌, Option, Some, None};
+ghost use Rattle.std.specs.Prelude.{◌≡◌, Option, Some, None, IfSome};
+ghost use Rattle.integers.specs.Integers.{IsInteger};
 ghost use Rattle.upc_types.specs.View.{view, view_base};
 ghost use Rattle.upc_types.specs.ViewStructs.{view_structs};
 ghost use Rattle.typed_tree.specs.Views.{view_target};
@@ -78,12 +79,34 @@ pub fn equal_targets(a: &CType, b: &CType) -> bool
     same_block(a.shared, b.shared) && same_base(&a.base, &b.base)
 }
 
+fn integer_kind(kind: Kind) -> Option<Kind>
+    ensures value { result ≡ pure.integer_kind kind }
+    ensures integer { IfSome result IsInteger }
+{
+    match kind {
+        Kind::Shared(_, _) | Kind::Lock | Kind::Private(_) => None,
+        _ => Some(kind),
+    }
+}
+
+/// The kind of an integer type.
+pub fn base_kind(base: &Base) -> Option<Kind>
+    ensures value { result ≡ pure.base_kind (view_base base.now) }
+    ensures integer { IfSome result IsInteger }
+{
+    match base {
+        Base::Integer(kind) => integer_kind(*kind),
+        _ => None,
+    }
+}
+
 /// The kind of an integer.
 pub fn kind_of(a: &Attr) -> Option<Kind>
-    ensures { result ≡ pure.base_kind (attributes.base (view_attr a.now)) }
+    ensures value { result ≡ pure.base_kind (attributes.base (view_attr a.now)) }
+    ensures integer { IfSome result IsInteger }
 {
     match &a.ctype.base {
-        Base::Integer(kind) => Some(*kind),
+        Base::Integer(kind) => integer_kind(*kind),
         _ => None,
     }
 }

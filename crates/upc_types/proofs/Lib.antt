@@ -1,3 +1,10 @@
 pub mod Sizes
 pub mod Members
 pub mod Places
+pub mod Numbers
+pub mod Chains
+pub mod Equal
+pub mod Order
+pub mod Within
+pub mod Ranks
+pub mod Steps

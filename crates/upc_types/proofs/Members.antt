@@ -8,7 +8,7 @@ use Rattle.block_layout.specs.declared.kind.Kind.TheVariants.{Char, UChar, Short
 use Rattle.block_layout.specs.Shapes.{kind_size}
 use Rattle.upc_types.specs.declared.layout.Layout.{Layout}
 use Rattle.upc_types.specs.Types.{Qualified, Base, Void, Integer, Struct, Array, Pointer, LockObject, base_of, Member, Completed}
-use Rattle.upc_types.specs.Layout.{most_bytes, aligned, end_behind, widest, pointer_size, base_layout, base_complete, complete_in, layout_in, layout_or_none, known_in, struct_layout, member_layouts, base_within, members_from}
+use Rattle.upc_types.specs.Layout.{most_bytes, aligned, end_behind, widest, pointer_size, base_layout, base_complete, complete_in, layout_in, layout_or_none, known_in, private_in, members_hold_private, struct_layout, member_layouts, base_within, members_from}
 
 -- One part of a list that is gone through.
 pub next : {X Y : Type 0} (f : X → Y) (xs : List X) (i : ℕ) (x : X) → i < length xs → x ≡ get_or xs i x → map f (drop i xs) ≡ f x ∷ map f (drop (i + 1) xs)
@@ -51,13 +51,13 @@ base_some f h (Array (Qualified e c s x) n) = base_some f h e
 base_some f h (Pointer (Qualified t c s x)) = pointer_some t s
 base_some f h LockObject = omega arith
 
-widest_low : (ls : List Layout) (a : ℕ) → a ≤ widest a ls
+pub widest_low : (ls : List Layout) (a : ℕ) → a ≤ widest a ls
 widest_low [] a = omega arith
 widest_low (l ∷ ls) a = let h = widest_low ls (max a l.align) in omega arith
 
 layout_some : (cs : List Completed) (n : ℕ) → 0 < (layout_in cs n).align
 layout_some [] n = omega arith
-layout_some (c ∷ older) n = elim (c.number == n) as (λ b. 0 < (layout_or_none (if b then Some record { place = length older; layout = struct_layout (member_layouts (layout_in older) c.members) } else known_in older n)).align)
+layout_some (c ∷ older) n = elim (c.number == n) as (λ b. 0 < (layout_or_none (if b then Some record { place = length older; layout = struct_layout (member_layouts (layout_in older) c.members); holds_private = members_hold_private (private_in older) c.members } else known_in older n)).align)
     [ true ↦ let h = widest_low (member_layouts (layout_in older) c.members) 1 in omega arith | false ↦ layout_some older n ]
 
 -- No type has the alignment 0.

@@ -5,7 +5,7 @@ use Rattle.std.proofs.lemmas.List.{reverse-append, length-reverse, get_or_at, ge
 use Rattle.upc_types.specs.declared.layout.Known.{Known}
 use Rattle.upc_types.specs.declared.layout.Layout.{Layout}
 use Rattle.upc_types.specs.Types.{Completed, Member, members_in}
-use Rattle.upc_types.specs.Layout.{known_in, complete_in, layout_in, all_complete, member_layouts, struct_layout, members_within, most_bytes}
+use Rattle.upc_types.specs.Layout.{known_in, private_in, members_hold_private, complete_in, layout_in, all_complete, member_layouts, struct_layout, members_within, most_bytes}
 use Rattle.upc_types.specs.Kept.{IsFine, IsKept}
 use Rattle.upc_types.proofs.Members.{some_is}
 use Rattle.std.specs.Option.{ForSome}
@@ -15,17 +15,17 @@ pub record IsPlaced (cs : List Completed) (ms : List Member) (k : Known) : Type 
   pub below : k.place < length cs
   pub members : (d : Completed) → ms ≡ (get_or (reverse cs) k.place d).members
 
-placed_one : (c : Completed) (older : List Completed) (b : Bool) (l : Layout) (o : Option Known) (ms : List Member) (k : Known) →
-    (if b then Some record { place = length older; layout = l } else o) ≡ Some k → ((j : Known) → o ≡ Some j → IsPlaced older ms j) →
+placed_one : (c : Completed) (older : List Completed) (b : Bool) (l : Layout) (p : Bool) (o : Option Known) (ms : List Member) (k : Known) →
+    (if b then Some record { place = length older; layout = l; holds_private = p } else o) ≡ Some k → ((j : Known) → o ≡ Some j → IsPlaced older ms j) →
     IsPlaced (c ∷ older) (if b then c.members else ms) k
-placed_one c older true l o ms k h f =
-    let j : record { place = length older; layout = l } ≡ k = cc in
+placed_one c older true l p o ms k h f =
+    let j : record { place = length older; layout = l; holds_private = p } ≡ k = cc in
     let e : length older ≡ k.place = ap (λ (x : Known). x.place) j in
     record {
       below = omega arith;
       members = λ d. ap (λ (y : Completed). y.members) (sym (ap (λ xs. get_or xs k.place d) (reverse-append (c ∷ []) older) ∙ get_or_at (reverse older) c [] d k.place (length-reverse older ∙ e)));
     }
-placed_one c older false l o ms k h f =
+placed_one c older false l p o ms k h f =
     let g = f k h in
     record {
       below = omega (arith, g.below);
@@ -35,7 +35,7 @@ placed_one c older false l o ms k h f =
 
 pub placed : (cs : List Completed) (number : ℕ) (k : Known) → known_in cs number ≡ Some k → IsPlaced cs (members_in cs number) k
 placed [] number k h = absurd cc
-placed (c ∷ older) number k h = placed_one c older (c.number == number) _ (known_in older number) (members_in older number) k h (λ j g. placed older number j g)
+placed (c ∷ older) number k h = placed_one c older (c.number == number) _ _ (known_in older number) (members_in older number) k h (λ j g. placed older number j g)
 
 absent_one : (b : Bool) (k : Known) (o : Option Known) (ms ns : List Member) → ◌≡◌ {A = Option Known} (if b then Some k else o) None → (o ≡ None → ms ≡ []) → (if b then ns else ms) ≡ []
 absent_one true k o ms ns h f = absurd cc
@@ -56,14 +56,20 @@ fine_one true k o h f = λ j e. let q : k ≡ j = cc in subst (λ (i : Known). I
 fine_one false k o h f = f
 
 -- What is kept once one more struct is complete.
-pub kept_more : (cs : List Completed) (known : List (Option Known)) (number : ℕ) (ms : List Member) (l : Layout) → IsKept cs known → number < length known →
-    members_within cs ms ≡ Some l → IsFine l → IsKept (record { number = number; members = ms } ∷ cs) (set known number (Some record { place = length cs; layout = l }))
-kept_more cs known number ms l kept h m f =
+pub kept_more : (cs : List Completed) (known : List (Option Known)) (number : ℕ) (ms : List Member) (l : Layout) (p : Bool) → IsKept cs known → number < length known →
+    known_in cs number ≡ None → members_within cs ms ≡ Some l → IsFine l → p ≡ members_hold_private (private_in cs) ms →
+    IsKept (record { number = number; members = ms } ∷ cs) (set known number (Some record { place = length cs; layout = l; holds_private = p }))
+kept_more cs known number ms l p kept h a m f q =
     let s = some_is (all_complete (complete_in cs) ms) (nat_le (struct_layout (member_layouts (layout_in cs) ms)).size most_bytes) (struct_layout (member_layouts (layout_in cs) ms)) l m in
-    let k : Known = record { place = length cs; layout = l } in
-    let j : Known = record { place = length cs; layout = struct_layout (member_layouts (layout_in cs) ms) } in
-    let e : j ≡ k = ap (λ (x : Layout). let y : Known = record { place = length cs; layout = x } in y) s.1 in
+    let k : Known = record { place = length cs; layout = l; holds_private = p } in
+    let j : Known = record { place = length cs; layout = struct_layout (member_layouts (layout_in cs) ms); holds_private = members_hold_private (private_in cs) ms } in
+    let e : j ≡ k = rw (s.1, q) refl in
     record {
       each = λ n. each_one (number == n) number n known k (known_in cs n) refl h (kept.each n) ∙ ap (λ (x : Known). if number == n then Some x else known_in cs n) (sym e);
       fine = λ n. subst (λ (x : Known). ForSome (if number == n then Some x else known_in cs n) (λ (i : Known). IsFine i.layout)) (sym e) (fine_one (number == n) k (known_in cs n) f (kept.fine n));
+      ordered = rw (a, s.0) kept.ordered;
     }
+
+-- What is kept of the structs says nothing of room for more.
+pub kept_room : (cs : List Completed) (known more : List (Option Known)) → IsKept cs known → ((n : ℕ) → get_or more n None ≡ get_or known n None) → IsKept cs more
+kept_room cs known more kept h = record { each = λ n. h n ∙ kept.each n; fine = kept.fine; ordered = kept.ordered }

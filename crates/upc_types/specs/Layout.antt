@@ -1,9 +1,11 @@
 -- Sizes and alignments (C99 6.5.3.4, 6.7.2.1), in bytes.
-use Rattle.std.specs.Prelude.{ℕ, ◌+◌, ◌-◌, ◌*◌, ◌/◌, max, nat_lt, nat_le, Bool, true, false, ◌==◌, ◌&&◌, if◌then◌else◌, List, [], ◌∷◌, length, map, Option, Some, None, is_some}
+use Rattle.std.specs.Prelude.{ℕ, ◌+◌, ◌-◌, ◌*◌, ◌/◌, max, nat_lt, nat_le, Bool, true, false, ◌==◌, ◌&&◌, not, if◌then◌else◌, List, [], ◌∷◌, length, map, Option, Some, None, is_some}
+use Rattle.std.specs.List.{list_any}
 use Rattle.block_layout.specs.Shapes.{kind_size}
 use Rattle.upc_types.specs.declared.layout.Layout.{Layout}
 use Rattle.upc_types.specs.declared.layout.Known.{Known}
 use Rattle.upc_types.specs.Types.{CType, Qualified, Base, Void, Integer, Struct, Array, Pointer, LockObject, base_of, Member, Completed, Structs}
+use Rattle.upc_types.specs.Same.{is_lock_object}
 
 -- The alignment of a scalar is its size.
 abbrev pub scalar : ℕ → Layout
@@ -62,16 +64,44 @@ abbrev pub layout_or_none : Option Known → Layout
 layout_or_none None = no_layout
 layout_or_none (Some k) = k.layout
 
--- What is known of a struct: its place in the order of completion, from 0, and its layout. None where it is incomplete.
+-- A pointer to a private object: it leads neither to a shared object nor to a lock.
+abbrev pub is_private_target : CType → Bool
+is_private_target (Qualified b c s x) = not (is_some s) && not (is_lock_object b)
+
+-- Whether an object of a type holds a pointer to a private object, itself, in a member or in an element, where it is known of which structs that is so.
+abbrev pub base_holds_private : (ℕ → Bool) → Base → Bool
+base_holds_private structs (Pointer t) = is_private_target t
+base_holds_private structs (Struct number) = structs number
+base_holds_private structs (Array (Qualified e c s x) count) = base_holds_private structs e
+base_holds_private structs b = false
+
+-- Whether one of these members does.
+abbrev pub members_hold_private : (ℕ → Bool) → List Member → Bool
+members_hold_private structs ms = list_any (λ m. base_holds_private structs (base_of m.ctype)) ms
+
+abbrev pub private_or_not : Option Known → Bool
+private_or_not None = false
+private_or_not (Some k) = k.holds_private
+
+-- What is known of a struct: its place in the order of completion, from 0, its layout, and whether an object of it holds a pointer to a private
+-- object. None where it is incomplete.
 abbrev pub known_in : List Completed → ℕ → Option Known
 known_in [] number = None
 known_in (c ∷ older) number =
     if c.number == number
-    then Some record { place = length older; layout = struct_layout (member_layouts (λ n. layout_or_none (known_in older n)) c.members) }
+    then Some record {
+      place = length older;
+      layout = struct_layout (member_layouts (λ n. layout_or_none (known_in older n)) c.members);
+      holds_private = members_hold_private (λ n. private_or_not (known_in older n)) c.members;
+    }
     else known_in older number
 
 abbrev pub layout_in : List Completed → ℕ → Layout
 layout_in completed number = layout_or_none (known_in completed number)
+
+-- Whether an object of a struct holds a pointer to a private object.
+abbrev pub private_in : List Completed → ℕ → Bool
+private_in completed number = private_or_not (known_in completed number)
 
 abbrev pub complete_in : List Completed → ℕ → Bool
 complete_in completed number = is_some (known_in completed number)
@@ -79,6 +109,10 @@ complete_in completed number = is_some (known_in completed number)
 -- Whether a type is complete.
 abbrev pub is_complete : Structs → CType → Bool
 is_complete structs t = base_complete (complete_in structs.completed) (base_of t)
+
+-- Whether an object of a type holds a pointer to a private object, itself, in a member or in an element.
+abbrev pub holds_private : Structs → CType → Bool
+holds_private structs t = base_holds_private (private_in structs.completed) (base_of t)
 
 -- The size of a type, 0 where it is incomplete.
 abbrev pub size : Structs → CType → ℕ

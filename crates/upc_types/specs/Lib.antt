@@ -1,6 +1,8 @@
 pub mod Types
 pub mod Same
 pub mod Layout
+pub mod Cells
+pub mod Levels
 pub mod Kept
 pub mod Arithmetic
 pub mod Conversions

@@ -1,12 +1,12 @@
 -- The structs of the code, seen without where they lie in memory.
-use Rattle.std.specs.Prelude.{length, map, reverse}
+use Rattle.std.specs.Prelude.{map, reverse}
 use Rattle.upc_types.specs.declared.structs.Structs as s
 use Rattle.upc_types.specs.Types as t
 use Rattle.upc_types.specs.View.{view, view_completed}
 
 abbrev pub view_structs : s.Structs → t.Structs
 view_structs x = record {
-  declared = length x.known.items;
+  declared = x.declared;
   completed = reverse (map view_completed x.completed.items);
   targets = map view x.targets.items;
 }

@@ -24,7 +24,6 @@ pub struct CType {
 
 /// A type without its qualifiers.
 #[cycle(types)]
-#[derive(Drop)]
 pub enum Base {
     Void,
     /// An integer type, by its kind.
@@ -37,4 +36,16 @@ pub enum Base {
     Pointer(Box<CType>),
     /// What a lock pointer points to (UPC 7.2.4).
     LockObject,
+}
+
+// A loop, since a chain of pointers may be as long as a source.
+impl Drop for Base {
+    fn drop(mut self) {
+        loop {
+            match self {
+                Base::Array(inner, _) | Base::Pointer(inner) => self = Box::into_inner(inner).base,
+                Base::Void | Base::Integer(_) | Base::Struct(_) | Base::LockObject => return,
+            }
+        }
+    }
 }

@@ -17,11 +17,13 @@ pub struct Layout {
     pub align: u32,
 }
 
-/// What is known of a complete struct: its place in the order of completion, from 0, and its layout.
+/// What is known of a complete struct: its place in the order of completion, from 0, its layout, and whether an object of it
+/// holds a pointer to a private object.
 #[derive(Clone, Copy, PartialEq, Eq, Debug)]
 pub struct Known {
     pub place: usize,
     pub layout: Layout,
+    pub holds_private: bool,
 }
 
 // The layout of a scalar.
@@ -75,12 +77,11 @@ pub fn aligned(n: u32, align: u32) -> u32
 
 // The layout of a struct whose members end there, None where it has more bytes than an object can have.
 pub fn finished(end: u32, align: u32) -> Option<Layout>
-    requires some { 0 < end }
     requires low { 0 < align }
     requires high { align ≤ 16 }
     requires near { end ≤ pure.most_bytes }
     ensures value { result ≡ pure.finished end align }
-    ensures fine { IfSome result IsFine }
+    ensures fine { 0 < end → IfSome result IsFine }
 {
     let size = aligned(end, align);
     if size > MOST_BYTES {

@@ -43,20 +43,30 @@ fn same_access(a: Access, b: Access) -> bool
 }
 
 /// Whether two types are equal but for the qualifiers of their own.
-pub fn same_base(a: &Base, b: &Base) -> bool
+pub fn same_base(mut a: &Base, mut b: &Base) -> bool
     ensures { result ≡ pure.same_base (view_base a.now) (view_base b.now) }
 {
-    match (a, b) {
-        (Base::Void, Base::Void) => true,
-        (Base::Integer(k), Base::Integer(l)) => k.is(*l),
-        (Base::Struct(m), Base::Struct(n)) => *m == *n,
-        (Base::Array(a, m), Base::Array(b, n)) => {
-            *m == *n && same_qualifiers(a, b) && same_base(&a.base, &b.base)
+    loop {
+        match (a, b) {
+            (Base::Void, Base::Void) => return true,
+            (Base::Integer(k), Base::Integer(l)) => return k.is(*l),
+            (Base::Struct(m), Base::Struct(n)) => return *m == *n,
+            (Base::Array(s, m), Base::Array(t, n)) => {
+                if *m != *n || !same_qualifiers(s, t) {
+                    return false;
+                }
+                a = &s.base;
+                b = &t.base;
+            }
+            (Base::Pointer(s), Base::Pointer(t)) => {
+                if !same_qualifiers(s, t) {
+                    return false;
+                }
+                a = &s.base;
+                b = &t.base;
+            }
+            (Base::LockObject, Base::LockObject) => return true,
+            _ => return false,
         }
-        (Base::Pointer(a), Base::Pointer(b)) => {
-            same_qualifiers(a, b) && same_base(&a.base, &b.base)
-        }
-        (Base::LockObject, Base::LockObject) => true,
-        _ => false,
     }
 }

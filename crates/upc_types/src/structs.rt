@@ -1,13 +1,16 @@
 //! The structs of a program (C99 6.7.2.1).
 
-ghost use Rattle.std.specs.Prelude.{map, reverse};
+ghost use Rattle.std.specs.Prelude.{◌≡◌, ℕ, ◌<◌, ◌≤◌, None, OnOk, get_or, map, reverse, vec_len};
 ghost use Rattle.upc_types.specs.View.{view_completed};
 ghost use Rattle.upc_types.specs.Kept.{IsKept};
 
+use crate::copy::copy_type;
 use crate::ctype::{Base, CType};
 use crate::layout::{
     Known, Layout, MOST_BYTES, aligned, finished, many, pointer_size, scalar, wider,
 };
+use crate::targets::number_among;
+use block_layout::Kind;
 use std::alloc::Global;
 use upc_text::{OutOfMemory, Text};
 
@@ -28,19 +31,33 @@ pub struct Completed {
 /// What the numbers in types and in kinds stand for: structs, and targets of pointers.
 #[derive(Drop)]
 pub struct Structs {
+    declared: u32,
     known: Vec<Option<Known>>,
     completed: Vec<Completed>,
     targets: Vec<CType>,
     ghost kept: { IsKept (reverse (map view_completed completed.items)) known.items },
+    ghost numbered: { vec_len targets ≤ 4294967295 },
+}
+
+// Makes room for what is known of the struct with this number.
+fn make_room(known: &mut Vec<Option<Known>>, number: u32) -> Result<(), OutOfMemory>
+    ensures room { OnOk result (number < vec_len known.new) }
+    ensures same { (n : ℕ) → get_or known.new.items n None ≡ get_or known.old.items n None }
+{
+    while known.len() <= number as usize {
+        known.push(None)?;
+    }
+    Ok(())
 }
 
 impl Structs {
-    ghost use Rattle.std.specs.Prelude.{◌≡◌, ◌<◌, ◌∷◌, ◌+◌, [], IfOk, OnOk, OnErr, IfSome, Some, None, length, map};
-    ghost use Rattle.upc_types.specs.Layout.{base_within, members_within, known_in, base_complete, complete_in};
+    ghost use Rattle.std.specs.Prelude.{◌≡◌, ◌<◌, ◌∷◌, ◌+◌, [], true, IfOk, OnOk, OnErr, IfSome, Some, None, length, map};
+    ghost use Rattle.upc_types.specs.Cells.{IsItsOwn, number_of, pointer_kind, with_target};
+    ghost use Rattle.upc_types.specs.Layout.{base_within, members_within, known_in, base_complete, base_layout, complete_in, layout_in, most_bytes, is_private_target, base_holds_private, members_hold_private, private_in};
     ghost use Rattle.upc_types.specs.Kept.{IsFine};
     ghost use Rattle.upc_types.specs.Types as pure;
     ghost use Rattle.upc_types.specs.Types.{with_members, members_of};
-    ghost use Rattle.upc_types.specs.View.{view_base, view_member};
+    ghost use Rattle.upc_types.specs.View.{view, view_base, view_member};
     ghost use Rattle.upc_types.specs.ViewStructs.{view_structs};
 
     /// No struct.
@@ -48,21 +65,21 @@ impl Structs {
         ensures { view_structs result ≡ record { declared = 0; completed = []; targets = [] } }
     {
         Structs {
+            declared: 0,
             known: Vec::new(alloc),
             completed: Vec::new(alloc),
             targets: Vec::new(alloc),
         }
     }
 
-    /// One more struct, which is incomplete; answers its number. After want of memory nothing is changed.
+    /// One more struct; answers its number. After want of memory nothing is changed.
     pub fn declare(&mut self) -> Result<u32, OutOfMemory>
         ensures number { IfOk result (λ n. n ≡ (view_structs self.old).declared) }
-        ensures incomplete { IfOk result (λ n. known_in (view_structs self.new).completed n ≡ None) }
         ensures ok { OnOk result (view_structs self.new ≡ record (view_structs self.old) { declared = (view_structs self.old).declared + 1 }) }
         ensures err { OnErr result (view_structs self.new ≡ view_structs self.old) }
     {
-        let number = u32::try_from(self.known.len()).map_err(|_| OutOfMemory)?;
-        self.known.push(None)?;
+        let number = self.declared;
+        self.declared = number.checked_add(1).ok_or(OutOfMemory)?;
         Ok(number)
     }
 
@@ -77,6 +94,19 @@ impl Structs {
             Base::Struct(number) => self.struct_layout(*number),
             Base::Array(element, count) => many(self.layout_of(&element.base), *count),
             Base::Pointer(target) => Some(scalar(pointer_size(&target.base, target.shared))),
+        }
+    }
+
+    // The layout of a complete type.
+    pub fn whole_layout(&self, base: &Base) -> Layout
+        requires complete { base_complete (complete_in (view_structs self.now).completed) (view_base base.now) ≡ true }
+        requires few { (base_layout (layout_in (view_structs self.now).completed) (view_base base.now)).size ≤ most_bytes }
+        ensures value { result ≡ base_layout (layout_in (view_structs self.now).completed) (view_base base.now) }
+        ensures fine { IsFine result }
+    {
+        match self.layout_of(base) {
+            Some(layout) => layout,
+            None => unreachable!(),
         }
     }
 
@@ -104,9 +134,8 @@ impl Structs {
     /// The layout of a struct with these members, None where one is incomplete or there are more bytes than an object can
     /// have. Takes no memory.
     pub fn members_layout(&self, members: &[Member]) -> Option<Layout>
-        requires { 0 < length members.now }
         ensures value { result ≡ members_within (view_structs self.now).completed (map view_member members.now) }
-        ensures fine { IfSome result IsFine }
+        ensures fine { 0 < length members.now → IfSome result IsFine }
     {
         let mut end = 0;
         let mut align = 1;
@@ -121,6 +150,47 @@ impl Structs {
         finished(end, align)
     }
 
+    // Whether a pointer to this target leads to a private object.
+    fn is_private_target(target: &CType) -> bool
+        ensures { result ≡ is_private_target (view target.now) }
+    {
+        target.shared.is_none() && !matches!(target.base, Base::LockObject)
+    }
+
+    // Whether an object of a struct holds a pointer to a private object.
+    fn struct_holds_private(&self, number: u32) -> bool
+        ensures { result ≡ private_in (view_structs self.now).completed number }
+    {
+        match self.known_of(number) {
+            Some(known) => known.holds_private,
+            None => false,
+        }
+    }
+
+    /// Whether an object of a type holds a pointer to a private object, itself, in a member or in an element. Takes no memory.
+    pub fn holds_private(&self, base: &Base) -> bool
+        ensures { result ≡ base_holds_private (private_in (view_structs self.now).completed) (view_base base.now) }
+    {
+        match base {
+            Base::Pointer(target) => Structs::is_private_target(target),
+            Base::Struct(number) => self.struct_holds_private(*number),
+            Base::Array(element, _) => self.holds_private(&element.base),
+            _ => false,
+        }
+    }
+
+    // Whether one of these members holds a pointer to a private object.
+    fn members_hold_private(&self, members: &[Member]) -> bool
+        ensures { result ≡ members_hold_private (private_in (view_structs self.now).completed) (map view_member members.now) }
+    {
+        for member in members {
+            if self.holds_private(&member.ctype.base) {
+                return true;
+            }
+        }
+        false
+    }
+
     /// Completes a struct. After want of memory nothing is changed.
     pub fn complete(
         &mut self,
@@ -128,17 +198,22 @@ impl Structs {
         members: Vec<Member>,
         layout: Layout,
     ) -> Result<(), OutOfMemory>
-        requires declared { number < (view_structs self.old).declared }
         requires incomplete { known_in (view_structs self.old).completed number ≡ None }
         requires layout { members_within (view_structs self.old).completed (map view_member members.items) ≡ Some layout }
         requires fine { IsFine layout }
         ensures ok { OnOk result (view_structs self.new ≡ with_members (view_structs self.old) number (map view_member members.items)) }
         ensures err { OnErr result (view_structs self.new ≡ view_structs self.old) }
     {
+        let holds_private = self.members_hold_private(members.as_slice());
         self.completed.reserve(1)?;
+        make_room(&mut self.known, number)?;
         let place = self.completed.len();
         self.completed.push(Completed { number, members })?;
-        self.known[number as usize] = Some(Known { place, layout });
+        self.known[number as usize] = Some(Known {
+            place,
+            layout,
+            holds_private,
+        });
         Ok(())
     }
 
@@ -161,6 +236,46 @@ impl Structs {
             Base::Integer(_) | Base::Pointer(_) => true,
             Base::Struct(number) => self.known_of(*number).is_some(),
             Base::Array(element, count) => *count > 0 && self.is_complete(&element.base),
+        }
+    }
+
+    /// The number of the type of a pointer to this target, without its const, strict and relaxed: how many there are where it has none.
+    pub fn number_of(&self, target: &CType) -> u32
+        ensures value { result ≡ number_of (view_structs self.now).targets (view target.now) }
+        ensures most { result ≤ length (view_structs self.now).targets }
+        ensures own { IsItsOwn (view_structs self.now).targets (view target.now) result }
+    {
+        number_among(self.targets.as_slice(), target)
+    }
+
+    /// Gives the type of a pointer to this target a number where it has none; answers the number. After want of memory nothing is
+    /// changed.
+    pub fn note(&mut self, target: &CType) -> Result<u32, OutOfMemory>
+        ensures number { IfOk result (λ n. n ≡ number_of (view_structs self.new).targets (view target.now)) }
+        ensures below { IfOk result (λ n. n < length (view_structs self.new).targets) }
+        ensures ok { OnOk result (view_structs self.new ≡ with_target (view_structs self.old) (view target.now)) }
+        ensures err { OnErr result (view_structs self.new ≡ view_structs self.old) }
+    {
+        let number = self.number_of(target);
+        let count = self.targets.len();
+        if number as usize == count {
+            if count == u32::MAX as usize {
+                return Err(OutOfMemory);
+            }
+            let copy = copy_type(*self.targets.allocator(), target)?;
+            self.targets.push(copy)?;
+        }
+        Ok(number)
+    }
+
+    // The kind of a pointer to this target.
+    pub fn pointer_kind(&self, target: &CType) -> Kind
+        ensures { result ≡ pointer_kind (view_structs self.now).targets (view target.now) }
+    {
+        match (&target.base, target.shared) {
+            (Base::LockObject, _) => Kind::Lock,
+            (_, Some(block)) => Kind::Shared(self.number_of(target), block),
+            (_, None) => Kind::Private(self.number_of(target)),
         }
     }
 }

@@ -1,0 +1,16 @@
+pub mod Walk
+pub mod Ends
+pub mod Specifiers
+pub mod Marks
+pub mod Expressions
+pub mod Declarations
+pub mod Statements
+pub mod Units
+pub mod Limits
+pub mod Outcomes
+pub mod Finishes
+pub mod ViewShapes
+pub mod ViewWords
+pub mod ViewTags
+pub mod Views
+pub mod ViewUses

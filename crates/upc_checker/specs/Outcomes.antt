@@ -1,0 +1,46 @@
+-- What a check of a source answers.
+use Rattle.std.specs.Prelude.{◌≡◌, ℕ, List, Option, Some, None, Result, Ok, Err}
+use Rattle.upc_text.specs.declared.place.Refusal.{Refusal}
+use Rattle.upc_text.specs.declared.place.Code.TheVariants.{Typing, Limit}
+use Rattle.upc_text.specs.declared.faults.Stop.{Stop}
+use Rattle.upc_text.specs.declared.faults.Stop.TheVariants as stop
+use Rattle.upc_tree.specs.Unit.{External}
+use Rattle.upc_types.specs.Types.{Structs}
+use Rattle.typed_tree.specs.Scopes.{begin}
+use Rattle.typed_tree.specs.Faults.{Fault, first_fault}
+use Rattle.typed_tree.specs.Tree.{DeclaredObject, Function}
+use Rattle.upc_checker.specs.Walk.{Walked}
+use Rattle.upc_checker.specs.Units.{Made, setting, walk_unit}
+use Rattle.upc_checker.specs.Limits.{Passed, limit_in}
+
+-- A source that is accepted: the number of threads, the structs by number, the objects of the file in order, and the functions by number.
+pub record Checked : Type 0 where
+  pub threads : ℕ
+  pub structs : Structs
+  pub objects : List DeclaredObject
+  pub functions : List Function
+
+-- A refusal with its place and its code, or what the source is.
+pub data Outcome : Type 0 where
+  Refused : (refusal : Refusal) → Outcome
+  Accepted : (checked : Checked) → Outcome
+
+-- The first typing fault decides, and where there is none the first limit that is passed.
+abbrev pub outcome_by : Option Fault → Option Passed → Checked → Outcome
+outcome_by (Some f) limit checked = Refused (record { place = f.at; code = Typing f.rule })
+outcome_by None (Some l) checked = Refused (record { place = l.at; code = Limit l.limit })
+outcome_by None None checked = Accepted checked
+
+abbrev pub outcome_in : ℕ → Walked Made → Outcome
+outcome_in threads w =
+    outcome_by (first_fault w.seen) (limit_in w) (record { threads = threads; structs = w.state.structs; objects = w.value.objects; functions = w.value.functions })
+
+-- The outcome of a source.
+abbrev pub outcome : List (List ℕ) → ℕ → List External → Outcome
+outcome names threads unit = outcome_in threads (walk_unit (setting names threads unit) unit begin)
+
+-- An answer of a check that has this outcome, where a program is seen by `view`: want of memory is always an answer.
+abbrev pub Answers : {P : Type 0} → (P → Checked) → Outcome → Result P Stop → Type 0
+Answers view o (Ok program) = o ≡ Accepted (view program)
+Answers view o (Err stop.Memory) = Unit {0}
+Answers view o (Err (stop.Refused refusal)) = o ≡ Refused refusal

@@ -1,0 +1,286 @@
+//! What grows on the way through a source beside the tags: the structs, and all functions declared so far.
+
+ghost use Rattle.std.specs.Prelude.{◌≡◌, ◌<◌, IfOk, IfSome, List, map, length, OnOk, OnErr};
+ghost use Rattle.upc_types.specs.View.{view, view_base, view_member};
+ghost use Rattle.typed_tree.specs.Scopes as pure;
+ghost use Rattle.typed_tree.specs.Scopes.{Tag as ScopeTag};
+ghost use Rattle.typed_tree.specs.Values as values;
+ghost use Rattle.upc_types.specs.Same as same;
+ghost use Rattle.typed_tree.specs.ViewEnv.{view_env};
+ghost use Rattle.typed_tree.specs.Views.{view_signature, view_target};
+ghost use Rattle.upc_checker.specs.Ends.{Meets};
+ghost use Rattle.upc_checker.specs.Views.{view_function, view_setting, state_of, state_with};
+ghost use Rattle.upc_checker.specs.ViewTags.{view_tags};
+ghost use Rattle.upc_checker.specs.declared.known.Known as seen;
+ghost use Rattle.upc_checker.specs.Declarations as declarations;
+ghost use Rattle.upc_checker.specs.Expressions as walks;
+ghost use Rattle.upc_checker.specs.Units as units;
+
+use crate::finish::judged;
+use crate::setting::{Setting, is_known, is_taken};
+use crate::tags::{Tag, Tags, find_tag, note_tag, tag_here};
+use std::alloc::Global;
+use typed_tree::declarations::struct_members;
+use typed_tree::env::{Env, here, level};
+use typed_tree::{Meaning, Signature};
+use upc_text::{OutOfMemory, Place, Stop};
+use upc_tree::Name;
+use upc_types::{Base, CType, Layout, Member, Structs, copy_type, same_base, same_type};
+
+/// A function that was declared, and whether it was defined.
+#[derive(Drop)]
+pub(crate) struct KnownFunction {
+    pub name: u32,
+    pub signature: Signature,
+    pub is_defined: bool,
+}
+
+/// The structs, and the functions in the order of their declarations.
+#[derive(Drop)]
+pub(crate) struct Known {
+    pub structs: Structs,
+    pub functions: Vec<KnownFunction>,
+}
+
+/// A copy of what a function gives and takes.
+pub(crate) fn copy_signature(alloc: Global, s: &Signature) -> Result<Signature, OutOfMemory>
+    ensures { IfOk result (λ copy. view_signature copy ≡ view_signature s.now) }
+{
+    let mut parameters = Vec::new(alloc);
+    for t in &s.parameters {
+        parameters.push(copy_type(alloc, t)?)?;
+    }
+    Ok(Signature {
+        result: copy_type(alloc, &s.result)?,
+        parameters,
+    })
+}
+
+// What values of a type point to.
+fn value_target(base: &Base) -> Option<&CType>
+    ensures { view_target result ≡ values.base_target (view_base base.now) }
+{
+    match base {
+        Base::Array(target, _) | Base::Pointer(target) => Some(target),
+        _ => None,
+    }
+}
+
+// Whether the values of two types have one type.
+fn same_values(a: &CType, b: &CType) -> bool
+    ensures { result ≡ same.same_type (values.value_type (view a.now)) (values.value_type (view b.now)) }
+{
+    match (value_target(&a.base), value_target(&b.base)) {
+        (Some(s), Some(t)) => same_type(s, t),
+        (None, None) => same_base(&a.base, &b.base),
+        _ => false,
+    }
+}
+
+// Whether the values of types, one by one, have one type each.
+fn same_types(a: &[CType], b: &[CType]) -> bool
+    ensures { result ≡ pure.same_types (map view a.now) (map view b.now) }
+{
+    if a.len() != b.len() {
+        return false;
+    }
+    for i in 0..a.len() {
+        if !same_values(&a[i], &b[i]) {
+            return false;
+        }
+    }
+    true
+}
+
+// Whether two functions have the same types.
+fn same_signature(s: &Signature, t: &Signature) -> bool
+    ensures { result ≡ pure.same_signature (view_signature s.now) (view_signature t.now) }
+{
+    same_values(&s.result, &t.result)
+        && same_types(s.parameters.as_slice(), t.parameters.as_slice())
+}
+
+/// One more function. After want of memory nothing is changed.
+pub(crate) fn note_function(
+    known: &mut Known,
+    name: u32,
+    signature: Signature,
+    is_defined: bool,
+) -> Result<(), OutOfMemory>
+    ensures ok { OnOk result ((tags : List ScopeTag) → state_with tags known.new ≡ pure.with_function name (view_signature signature) is_defined (state_with tags known.old)) }
+    ensures err { OnErr result ((tags : List ScopeTag) → state_with tags known.new ≡ state_with tags known.old) }
+{
+    known.functions.push(KnownFunction {
+        name,
+        signature,
+        is_defined,
+    })?;
+    Ok(())
+}
+
+// Whether one of these functions has that name and other types.
+fn any_differs(functions: &[KnownFunction], name: u32, signature: &Signature) -> bool
+    ensures { result ≡ pure.differs name (view_signature signature.now) (map view_function functions.now) }
+{
+    for function in functions {
+        if function.name == name && !same_signature(&function.signature, signature) {
+            return true;
+        }
+    }
+    false
+}
+
+/// Whether the function was declared with other types.
+pub(crate) fn differs(known: &Known, name: u32, signature: &Signature) -> bool
+    ensures { (tags : List ScopeTag) → result ≡ pure.differs name (view_signature signature.now) (state_with tags known.now).functions }
+{
+    any_differs(known.functions.as_slice(), name, signature)
+}
+
+// Whether one of these functions has that name and was defined.
+fn any_defined(functions: &[KnownFunction], name: u32) -> bool
+    ensures { result ≡ pure.was_defined name (map view_function functions.now) }
+{
+    for function in functions {
+        if function.name == name && function.is_defined {
+            return true;
+        }
+    }
+    false
+}
+
+/// Whether the function was defined.
+pub(crate) fn was_defined(known: &Known, name: u32) -> bool
+    ensures { (tags : List ScopeTag) → result ≡ pure.was_defined name (state_with tags known.now).functions }
+{
+    any_defined(known.functions.as_slice(), name)
+}
+
+// Whether a scope itself has an object of that name.
+fn has_object(env: &Env<'_>, name: u32) -> bool
+    ensures { result ≡ pure.is_object (pure.here name (view_env env.now)) }
+{
+    matches!(here(name, env), Meaning::Object(_, _))
+}
+
+/// Whether a prototype declares its name again.
+pub(crate) fn prototype_again(
+    setting: Setting<'_>,
+    env: &Env<'_>,
+    known: &Known,
+    name: u32,
+    signature: &Signature,
+) -> bool
+    ensures { (tags : List ScopeTag) → result ≡ declarations.prototype_again (view_setting setting.entry) (view_env env.now) (state_with tags known.now) name (view_signature signature.now) }
+{
+    is_taken(setting, name) || has_object(env, name) || differs(known, name, signature)
+}
+
+/// Whether a definition declares its name again.
+pub(crate) fn definition_again(
+    setting: Setting<'_>,
+    env: &Env<'_>,
+    known: &Known,
+    name: u32,
+) -> bool
+    ensures { (tags : List ScopeTag) → result ≡ units.definition_again (view_setting setting.entry) (view_env env.now) (state_with tags known.now) name }
+{
+    is_taken(setting, name) || has_object(env, name) || was_defined(known, name)
+}
+
+/// Whether an object declares its name again.
+pub(crate) fn object_again(setting: Setting<'_>, env: &Env<'_>, name: Name) -> bool
+    ensures { result ≡ declarations.object_again (view_setting setting.entry) (view_env env.now) name }
+{
+    is_taken(setting, name.number) || is_known(here(name.number, env))
+}
+
+/// Whether a parameter declares its name again.
+pub(crate) fn is_again(setting: Setting<'_>, env: &Env<'_>, name: Option<Name>) -> bool
+    ensures { result ≡ walks.is_again (view_setting setting.entry) (view_env env.now) name }
+{
+    match name {
+        None => false,
+        Some(name) => object_again(setting, env, name),
+    }
+}
+
+// The struct that a tag named alone means, if there is one.
+fn tag_seen(alone: bool, env: &Env<'_>, name: u32, tags: &Tags<'_>) -> Option<u32>
+    ensures { (other : seen.Known) → result ≡ walks.tag_seen alone (view_env env.now) name (state_of tags.now other) }
+{
+    if alone {
+        tag_here(name, level(env), tags)
+    } else {
+        find_tag(name, tags)
+    }
+}
+
+/// The struct of a tag that is named alone: the visible one, or a new one that is incomplete.
+pub(crate) fn refer(
+    alone: bool,
+    env: &Env<'_>,
+    name: u32,
+    tags: &mut Tags<'_>,
+    known: &mut Known,
+) -> Result<u32, Stop>
+    ensures { Meets (λ n. n) (walks.refer alone (view_env env.now) name (state_of tags.old known.old)) (state_of tags.new known.new) result }
+{
+    if let Some(number) = tag_seen(alone, env, name, tags) {
+        return Ok(number);
+    }
+    let number = known.structs.declare()?;
+    let level = level(env);
+    note_tag(
+        tags,
+        Tag {
+            name,
+            level,
+            number,
+        },
+    )?;
+    Ok(number)
+}
+
+/// The struct that is defined under a tag, which belongs to the scope itself.
+pub(crate) fn open_struct(
+    env: &Env<'_>,
+    name: u32,
+    tags: &mut Tags<'_>,
+    known: &mut Known,
+) -> Result<u32, Stop>
+    ensures { Meets (λ n. n) (walks.open_struct (view_env env.now) name (state_of tags.old known.old)) (state_of tags.new known.new) result }
+{
+    refer(true, env, name, tags, known)
+}
+
+// The bytes of a struct, more than an object can have where there is no layout.
+fn size_or_more(layout: Option<Layout>) -> u32
+    ensures { result ≡ walks.size_or_more layout }
+{
+    match layout {
+        None => 16_777_217,
+        Some(layout) => layout.size,
+    }
+}
+
+/// All members of a struct are known.
+pub(crate) fn close_struct(
+    setting: Setting<'_>,
+    at: Place,
+    number: u32,
+    members: Vec<Member>,
+    known: &mut Known,
+) -> Result<(), Stop>
+    ensures { (tags : List ScopeTag) → Meets (λ u. tt {0}) (walks.close_struct (view_setting setting.entry) at number (map view_member members.items) (state_with tags known.old)) (state_with tags known.new) result }
+{
+    let again = known.structs.is_complete(&Base::Struct(number));
+    let layout = known.structs.members_layout(members.as_slice());
+    let bytes = u64::from(size_or_more(layout));
+    judged(struct_members(again, members.len(), bytes), at)?;
+    match layout {
+        Some(layout) => known.structs.complete(number, members, layout)?,
+        None => unreachable!(),
+    }
+    Ok(())
+}

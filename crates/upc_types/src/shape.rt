@@ -1,0 +1,155 @@
+//! The cells of objects (C99 6.2.5, 6.5.2.1, 6.7.2.1; UPC 6.5.1).
+
+ghost use Rattle.std.specs.Prelude.{◌≡◌, ◌+◌, ◌*◌, ◌<◌, ◌≤◌, ◌++◌, ◌∷◌, [], true, IfOk, OnOk};
+ghost use Rattle.block_layout.specs.Shapes.{CellsWithin, IsShape};
+ghost use Rattle.upc_types.specs.Cells as pure;
+ghost use Rattle.upc_types.specs.Layout.{base_layout, base_complete, layout_in, complete_in, is_complete, size, most_bytes};
+ghost use Rattle.upc_types.specs.View.{view, view_base};
+ghost use Rattle.upc_types.specs.ViewStructs.{view_structs};
+
+use crate::ctype::{Base, CType};
+use crate::layout::aligned;
+use crate::structs::Structs;
+use block_layout::{Cells, Kind, Shape};
+use std::alloc::Global;
+use upc_text::OutOfMemory;
+
+/// The shape of one leaf element of an object of this type: of an array of arrays, the innermost element; else the object itself.
+pub fn shape_of(alloc: Global, t: &CType, structs: &Structs) -> Result<Shape, OutOfMemory>
+    requires complete { is_complete (view_structs structs.now) (view t.now) ≡ true }
+    requires few { size (view_structs structs.now) (view t.now) ≤ most_bytes }
+    ensures value { IfOk result (λ s. s ≡ pure.leaf_shape (view_structs structs.now) (view_base t.now.base)) }
+    ensures shape { IfOk result IsShape }
+{
+    let leaf = leaf_of(&t.base);
+    let size = structs.whole_layout(leaf).size;
+    let cells = Cells::from_vec(structs.leaf_cells(alloc, leaf)?);
+    Ok(Shape { size, cells })
+}
+
+/// The shape of a whole object of this type.
+pub fn object_shape(alloc: Global, t: &CType, structs: &Structs) -> Result<Shape, OutOfMemory>
+    requires complete { is_complete (view_structs structs.now) (view t.now) ≡ true }
+    requires few { size (view_structs structs.now) (view t.now) ≤ most_bytes }
+    ensures value { IfOk result (λ s. s ≡ pure.object_shape (view_structs structs.now) (view_base t.now.base)) }
+    ensures shape { IfOk result IsShape }
+{
+    let size = structs.whole_layout(&t.base).size;
+    let part = structs.leaf_cells(alloc, leaf_of(&t.base))?;
+    let mut cells = Vec::new(alloc);
+    structs.push_leaves(&mut cells, 0, &t.base, part.as_slice())?;
+    Ok(Shape {
+        size,
+        cells: Cells::from_vec(cells),
+    })
+}
+
+impl Structs {
+    // The cells of an object that is no array.
+    #[cycle(cells)]
+    pub fn leaf_cells(&self, alloc: Global, leaf: &Base) -> Result<Vec<(u32, Kind)>, OutOfMemory>
+        requires complete { base_complete (complete_in (view_structs self.now).completed) (view_base leaf.now) ≡ true }
+        ensures { IfOk result (λ cells. cells.items
+            ≡ pure.leaf_cells (view_structs self.now).targets (pure.struct_cells (view_structs self.now).targets (view_structs self.now).completed) (view_base leaf.now)) }
+    {
+        match leaf {
+            Base::Integer(kind) => one_cell(alloc, *kind),
+            Base::Pointer(target) => one_cell(alloc, self.pointer_kind(target)),
+            Base::Struct(number) => self.struct_cells(alloc, *number),
+            Base::Void | Base::Array(_, _) | Base::LockObject => Ok(Vec::new(alloc)),
+        }
+    }
+
+    // The cells of a complete struct.
+    #[cycle(cells)]
+    fn struct_cells(&self, alloc: Global, number: u32) -> Result<Vec<(u32, Kind)>, OutOfMemory>
+        requires complete { complete_in (view_structs self.now).completed number ≡ true }
+        ensures { IfOk result (λ cells. cells.items ≡ pure.struct_cells (view_structs self.now).targets (view_structs self.now).completed number) }
+    {
+        let members = self.members(number);
+        let mut cells = Vec::new(alloc);
+        let mut end = 0;
+        for member in members {
+            let base = &member.ctype.base;
+            let layout = self.whole_layout(base);
+            let part = self.leaf_cells(alloc, leaf_of(base))?;
+            let start = aligned(end, layout.align);
+            self.push_leaves(&mut cells, start, base, part.as_slice())?;
+            end = start + layout.size;
+        }
+        Ok(cells)
+    }
+
+    // Adds the cells of an object that begins there, where these are the cells of a leaf element.
+    fn push_leaves(
+        &self,
+        cells: &mut Vec<(u32, Kind)>,
+        start: u32,
+        base: &Base,
+        part: &[(u32, Kind)],
+    ) -> Result<(), OutOfMemory>
+        requires complete { base_complete (complete_in (view_structs self.now).completed) (view_base base.now) ≡ true }
+        requires near { start + (base_layout (layout_in (view_structs self.now).completed) (view_base base.now)).size ≤ most_bytes }
+        requires leaf { part.now
+            ≡ pure.leaf_cells (view_structs self.now).targets (pure.struct_cells (view_structs self.now).targets (view_structs self.now).completed) (pure.leaf_base (view_base base.now)) }
+        ensures { OnOk result (cells.new.items ≡ cells.old.items
+            ++ pure.moved start (pure.object_cells (view_structs self.now).targets (layout_in (view_structs self.now).completed) (pure.struct_cells (view_structs self.now).targets (view_structs self.now).completed) (view_base base.now))) }
+    {
+        let size = self.whole_layout(leaf_of(base)).size;
+        let count = self.whole_layout(base).size / size;
+        push_copies(cells, start, count, size, part)
+    }
+}
+
+// A list of one cell, at the beginning.
+fn one_cell(alloc: Global, kind: Kind) -> Result<Vec<(u32, Kind)>, OutOfMemory>
+    ensures { IfOk result (λ cells. cells.items ≡ (0, kind) ∷ []) }
+{
+    let mut cells = Vec::new(alloc);
+    cells.push((0, kind))?;
+    Ok(cells)
+}
+
+// The type of the leaf elements of an object.
+fn leaf_of(base: &Base) -> &Base
+    ensures { view_base result.now ≡ pure.leaf_base (view_base base.now) }
+{
+    match base {
+        Base::Array(element, _) => leaf_of(&element.base),
+        _ => base,
+    }
+}
+
+// Adds these cells, moved on by so many bytes.
+fn push_moved(
+    cells: &mut Vec<(u32, Kind)>,
+    start: u32,
+    part: &[(u32, Kind)],
+) -> Result<(), OutOfMemory>
+    requires within { CellsWithin part.now 0 most_bytes }
+    requires near { start ≤ most_bytes }
+    ensures { OnOk result (cells.new.items ≡ cells.old.items ++ pure.moved start part.now) }
+{
+    for (offset, kind) in part {
+        cells.push((start + *offset, *kind))?;
+    }
+    Ok(())
+}
+
+// Adds the cells of so many elements, one behind the other from there.
+fn push_copies(
+    cells: &mut Vec<(u32, Kind)>,
+    start: u32,
+    count: u32,
+    size: u32,
+    part: &[(u32, Kind)],
+) -> Result<(), OutOfMemory>
+    requires within { CellsWithin part.now 0 size }
+    requires near { start + count * size ≤ most_bytes }
+    ensures { OnOk result (cells.new.items ≡ cells.old.items ++ pure.moved start (pure.copies count size part.now)) }
+{
+    for i in 0..count {
+        push_moved(cells, start + i * size, part)?;
+    }
+    Ok(())
+}
