@@ -11,4 +11,6 @@ mod setting;
 mod shaped;
 mod specified;
 mod tags;
+#[cfg(test)]
+mod tests;
 mod words;
