@@ -1,0 +1,102 @@
+-- A part of a call, and then what its value leads to.
+use Rattle.std.proofs.Math.Seq.{drop-cons}
+use Rattle.std.proofs.lemmas.List.{drop_all}
+use Rattle.std.specs.Prelude.{slice_index_or}
+use Rattle.std.proofs.Common.{◌≡◌, Bool, true, false, cond, ℕ, suc, ◌+◌, ◌<◌, ◌≤◌, length, drop, map, add-one, List, [], ◌∷◌, ◌++◌, Result, Ok, Err, refl, sym, ap, ◌∙◌, subst}
+use Rattle.upc_values.specs.declared.action.Reply.{Reply}
+use Rattle.upc_values.specs.Expansion.{Expansion, Gives, Fails, Reads, Asks, Loads, Stores, bind, each_in_turn, value_in}
+use Rattle.block_layout.specs.declared.place.LocalPtr.{LocalPtr}
+use Rattle.block_layout.specs.declared.kind.Kind.{Kind}
+use Rattle.plain_calls.specs.declared.told.Step.{Step}
+use Rattle.plain_calls.specs.declared.told.Step.TheVariants.{Read, Act, Load, Store}
+use Rattle.plain_calls.specs.declared.telling.Stop.{Stop}
+use Rattle.plain_calls.specs.declared.telling.Stop.TheVariants as stop
+use Rattle.plain_calls.specs.Run.{Standing, standing, run_from, run, taken, ComesTo, Follows}
+
+-- what a value leads to; a stop stays
+abbrev next : {A B : Type 0} → Standing → Result A Stop → (A → Expansion B) → Standing × Result B Stop
+next s (Ok v) go = run (go v) s
+next s (Err e) go = (s, Err e)
+
+abbrev then : {A B : Type 0} → Standing × Result A Stop → (A → Expansion B) → Standing × Result B Stop
+then z go = next z.0 z.1 go
+
+-- where both lead is where the second leads from where the first does
+pub run-bind : {A B : Type 0} (x : Expansion A) (go : A → Expansion B) (done : List Step) (rs : List Reply) → run_from (bind x go) done rs ≡ then (run_from x done rs) go
+run-bind (Gives v) go done rs = refl
+run-bind (Fails c) go done rs = refl
+run-bind (Reads l k after) go done [] = refl
+run-bind (Reads l k after) go done (r ∷ rs) = run-bind (after (value_in r)) go (done ++ Read l k ∷ []) rs
+run-bind (Asks a after) go done [] = refl
+run-bind (Asks a after) go done (r ∷ rs) = run-bind (after r) go (done ++ Act a ∷ []) rs
+run-bind (Loads p k after) go done [] = refl
+run-bind (Loads p k after) go done (r ∷ rs) = run-bind (after (value_in r)) go (done ++ Load p k ∷ []) rs
+run-bind (Stores p k v after) go done [] = refl
+run-bind (Stores p k v after) go done (r ∷ rs) = run-bind after go (done ++ Store p k v ∷ []) rs
+
+-- the first part gives a value: the second goes on
+pub on : {A B : Type 0} (x : Expansion A) (go : A → Expansion B) (s : Standing) (v : A) (t : Standing) → Follows x s (Ok v) t → run (bind x go) s ≡ run (go v) t
+on x go s v t h = run-bind x go s.done s.left ∙ ap (λ z. then z go) h
+
+pub goes : {A B : Type 0} (x : Expansion A) (go : A → Expansion B) (s : Standing) (v : A) (t : Standing) (r : Result B Stop) (u : Standing) → Follows x s (Ok v) t → Follows (go v) t r u → Follows (bind x go) s r u
+goes x go s v t r u h k = subst (λ z. ComesTo z r u) (sym (on x go s v t h)) k
+
+-- the first part stops: so do both
+pub stops : {A B : Type 0} (x : Expansion A) (go : A → Expansion B) (s : Standing) (e : Stop) (t : Standing) → Follows x s (Err e) t → Follows (bind x go) s (Err e) t
+stops x go s stop.Memory t h = tt
+stops x go s (stop.Asks a) t h = run-bind x go s.done s.left ∙ ap (λ z. then z go) h
+stops x go s (stop.Fails c) t h = run-bind x go s.done s.left ∙ ap (λ z. then z go) h
+
+-- what a stop says of one part it says of an equal one
+pub alike : {A : Type 0} (z w : Standing × Result A Stop) (r : Result A Stop) (t : Standing) → z ≡ w → ComesTo w r t → ComesTo z r t
+alike z w r t e h = subst (λ x. ComesTo x r t) (sym e) h
+
+-- equal stops are equal stops of any part
+same-error : {A : Type 0} (x y : Stop) (r q : Result A Stop) → r ≡ q → r ≡ Err x → q ≡ Err y → x ≡ y
+same-error x y r q h a b = cc
+
+both : {B : Type 0} (s t : Standing) (x y : Stop) → s ≡ t → x ≡ y → let u : Standing × Result B Stop = (s, Err x) in let v : Standing × Result B Stop = (t, Err y) in u ≡ v
+both {B} s t x y e f = let P : Standing → Stop → Standing × Result B Stop = λ a b. (a, Err b) in ap (λ a. P a x) e ∙ ap (P t) f
+
+no-error : {A : Type 0} (v : A) (x : Stop) (r q : Result A Stop) → r ≡ q → r ≡ Ok v → q ≡ Err x → ⊥
+no-error v x r q h a b = cc
+
+-- no reply to the read of a private cell
+pub load-stops : (p : LocalPtr) (k : Kind) (done : List Step) (rs : List Reply) (e : Stop) (t : Standing) → ComesTo (taken (Load p k) done rs) (Err e) t → Follows (Loads p k (λ v. Gives v)) (standing done rs) (Err e) t
+load-stops p k done [] stop.Memory t h = tt
+load-stops p k done [] (stop.Asks a) t h =
+    both (standing done []) t (stop.Asks (Load p k)) (stop.Asks a) (ap (λ u. u.0) h)
+    (same-error (stop.Asks (Load p k)) (stop.Asks a) _ _ (ap (λ u. u.1) h) refl refl)
+load-stops p k done [] (stop.Fails c) t h =
+    let e : stop.Asks (Load p k) ≡ stop.Fails c = same-error (stop.Asks (Load p k)) (stop.Fails c) _ _ (ap (λ u. u.1) h) refl refl in
+    both (standing done []) t (stop.Asks (Load p k)) (stop.Fails c) (ap (λ u. u.0) h) e
+load-stops p k done (r ∷ rs) stop.Memory t h = tt
+load-stops p k done (r ∷ rs) (stop.Asks a) t h = absurd (no-error r (stop.Asks a) _ _ (ap (λ u. u.1) h) refl refl)
+load-stops p k done (r ∷ rs) (stop.Fails c) t h = absurd (no-error r (stop.Fails c) _ _ (ap (λ u. u.1) h) refl refl)
+
+-- one member after another: what is left at a member leads on to what is left behind it
+pub each-on : {X : Type 0} (f : X → Expansion (Unit {0})) (xs : List X) (i : ℕ) (d : X) (s t : Standing) → i < length xs → Follows (f (slice_index_or xs i d)) s (Ok tt) t → run (each_in_turn f (drop i xs)) s ≡ run (each_in_turn f (drop (i + 1) xs)) t
+each-on f xs i d s t h k =
+    rw (add-one, drop-cons xs i d h) (on (f (slice_index_or xs i d)) (λ u. each_in_turn f (drop (suc i) xs)) s tt t k)
+
+-- or the member stops
+pub each-stops : {X : Type 0} (f : X → Expansion (Unit {0})) (xs : List X) (i : ℕ) (d : X) (s : Standing) (e : Stop) (t : Standing) → i < length xs → Follows (f (slice_index_or xs i d)) s (Err e) t → Follows (each_in_turn f (drop i xs)) s (Err e) t
+each-stops f xs i d s e t h k =
+    subst (λ ys. Follows (each_in_turn f ys) s (Err e) t) (sym (drop-cons xs i d h))
+    (stops (f (slice_index_or xs i d)) (λ u. each_in_turn f (drop (suc i) xs)) s e t k)
+
+-- behind the last there is nothing
+pub each-done : {X : Type 0} (f : X → Expansion (Unit {0})) (xs : List X) (i : ℕ) (s : Standing) → length xs ≤ i → Follows (each_in_turn f (drop i xs)) s (Ok tt) s
+each-done f xs i s h = ap (λ ys. run (each_in_turn f ys) s) (drop_all i xs h)
+
+-- members that stand for others
+pub each-map : {X Y : Type 0} (f : Y → Expansion (Unit {0})) (g : X → Y) (xs : List X) → each_in_turn (λ x. f (g x)) xs ≡ each_in_turn f (map g xs)
+each-map f g [] = refl
+each-map f g (x ∷ xs) = ap (λ z. bind (f (g x)) (λ u. z)) (each-map f g xs)
+
+-- a test that does not hold is passed, and one that holds refuses
+pub passes : {A : Type 0} (b : Bool) (code : ℕ) (rest : Expansion A) (s : Standing) (r : Result A Stop) (t : Standing) → b ≡ false → Follows rest s r t → Follows (cond b (Fails code) rest) s r t
+passes b code rest s r t e h = subst (λ x. Follows (cond x (Fails code) rest) s r t) (sym e) h
+
+pub refuses : {A : Type 0} (b : Bool) (code : ℕ) (rest : Expansion A) (s : Standing) → b ≡ true → Follows (cond b (Fails code) rest) s (Err (stop.Fails code)) s
+refuses b code rest s e = subst (λ x. Follows (cond x (Fails code) rest) s (Err (stop.Fails code)) s) (sym e) refl

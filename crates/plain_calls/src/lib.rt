@@ -1,0 +1,12 @@
+//! What each thread does in a library call, told over a list of replies (UPC 7.2.5, 7.3).
+#![tactic(auto)]
+
+mod cells;
+mod part;
+mod piece;
+mod spot;
+mod telling;
+mod thread;
+mod told;
+
+pub use told::{End, Step, Told};
