@@ -1,3 +1,5 @@
 pub mod Following
 pub mod Ranges
 pub mod Copying
+pub mod Reading
+pub mod Tests

@@ -1,7 +1,8 @@
 -- Pieces and cells.
 use Rattle.std.proofs.Common.{◌≡◌, ◌≢◌, inl, inr, ℕ, zero, suc, ◌+◌, ◌/◌, ◌%◌, ◌<◌, ◌≤◌, ◌==◌, Bool, false, List, [], ◌∷◌, ◌++◌, ◌||◌, map, drop, take, subst, length, add-one, append-nil, Option, Some, None, refl, sym, ap, ◌∙◌, arith}
 use Rattle.std.proofs.Math.Seq.{drop-cons}
-use Rattle.std.proofs.lemmas.List.{take_more}
+use Rattle.std.proofs.lemmas.List.{take_more, map-append}
+use Rattle.std.proofs.lemmas.List.FromFn.{map-range_with_len_more}
 use Rattle.std.proofs.lemmas.List.Elements.{All-append, All-cons, All-nil}
 use Rattle.std.specs.Prelude.{slice_index_or}
 use Rattle.std.specs.List.{All, list_any, filter_map, cons_option, range_with_len}
@@ -60,3 +61,9 @@ any-passed p g xs i d b h k e =
 pub all-more : {X : Type 0} (P : X → Type 0) (xs : List X) (i : ℕ) (d : X) → i < length xs → All P (take i xs) → P (slice_index_or xs i d) → All P (take (i + 1) xs)
 all-more P xs i d h a k =
     subst (All P) (sym (take_more xs i d h)) (All-append P (take i xs) (slice_index_or xs i d ∷ []) a (All-cons P (slice_index_or xs i d) [] k (All-nil P)))
+
+-- one member more, of a list that stands for what a function gives of the numbers from 0 on
+pub mapped-more : {X Y : Type 0} (f : ℕ → Y) (g : X → Y) (xs ys : List X) (x : X) (i : ℕ) → ys ≡ xs ++ x ∷ [] → g x ≡ f i → map g xs ≡ map f (range_with_len 0 i) → map g ys ≡ map f (range_with_len 0 (i + 1))
+mapped-more f g xs ys x i e h k =
+    ap (map g) e ∙ map-append g xs (x ∷ []) ∙ ap (λ z. z ++ g x ∷ []) k ∙ ap (λ z. map f (range_with_len 0 i) ++ z ∷ []) h
+    ∙ sym (map-range_with_len_more f 0 i i (omega arith))

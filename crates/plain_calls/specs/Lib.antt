@@ -1,3 +1,5 @@
 pub mod Told
 pub mod Run
 pub mod Spots
+pub mod Calls
+pub mod Reductions

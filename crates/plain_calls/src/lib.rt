@@ -1,12 +1,16 @@
 //! What each thread does in a library call, told over a list of replies (UPC 7.2.5, 7.3).
 #![tactic(auto)]
 
+mod arguments;
+mod call;
 mod cells;
 mod part;
 mod piece;
+mod reduction;
 mod spot;
 mod telling;
 mod thread;
 mod told;
+mod ways;
 
 pub use told::{End, Step, Told};
