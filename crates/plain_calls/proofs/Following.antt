@@ -1,8 +1,9 @@
 -- A part of a call, and then what its value leads to.
 use Rattle.std.proofs.Math.Seq.{drop-cons}
-use Rattle.std.proofs.lemmas.List.{drop_all}
+use Rattle.std.proofs.lemmas.List.{drop_all, append-nil}
 use Rattle.std.specs.Prelude.{slice_index_or}
-use Rattle.std.proofs.Common.{◌≡◌, Bool, true, false, cond, ℕ, suc, ◌+◌, ◌<◌, ◌≤◌, length, drop, map, add-one, List, [], ◌∷◌, ◌++◌, Result, Ok, Err, refl, sym, ap, ◌∙◌, subst}
+use Rattle.std.proofs.lemmas.Bool.Decides.{eqb_tells}
+use Rattle.std.proofs.Common.{◌≡◌, ◌≢◌, ◌==◌, inl, inr, Bool, true, false, cond, ℕ, suc, ◌+◌, ◌<◌, ◌≤◌, length, drop, map, add-one, append_assoc, List, [], ◌∷◌, ◌++◌, Result, Ok, Err, refl, sym, ap, ◌∙◌, subst}
 use Rattle.upc_values.specs.declared.action.Reply.{Reply}
 use Rattle.upc_values.specs.Expansion.{Expansion, Gives, Fails, Reads, Asks, Loads, Stores, bind, each_in_turn, value_in}
 use Rattle.block_layout.specs.declared.place.LocalPtr.{LocalPtr}
@@ -11,6 +12,10 @@ use Rattle.plain_calls.specs.declared.told.Step.{Step}
 use Rattle.plain_calls.specs.declared.told.Step.TheVariants.{Read, Act, Load, Store}
 use Rattle.plain_calls.specs.declared.telling.Stop.{Stop}
 use Rattle.plain_calls.specs.declared.telling.Stop.TheVariants as stop
+use Rattle.plain_calls.specs.declared.told.End.{End}
+use Rattle.plain_calls.specs.declared.told.End.TheVariants as end
+use Rattle.plain_calls.specs.declared.told.Told.{Told}
+use Rattle.plain_calls.specs.Told.{told, after, at_once}
 use Rattle.plain_calls.specs.Run.{Standing, standing, run_from, run, taken, ComesTo, Follows}
 
 -- what a value leads to; a stop stays
@@ -100,3 +105,60 @@ passes b code rest s r t e h = subst (λ x. Follows (cond x (Fails code) rest) s
 
 pub refuses : {A : Type 0} (b : Bool) (code : ℕ) (rest : Expansion A) (s : Standing) → b ≡ true → Follows (cond b (Fails code) rest) s (Err (stop.Fails code)) s
 refuses b code rest s e = subst (λ x. Follows (cond x (Fails code) rest) s (Err (stop.Fails code)) s) (sym e) refl
+
+-- how a call ends
+abbrev pub end_of : Result (Unit {0}) Stop → End
+end_of (Ok v) = end.Done
+end_of (Err (stop.Asks s)) = end.Asks s
+end_of (Err (stop.Fails c)) = end.Fails c
+end_of (Err stop.Memory) = end.Done
+
+-- what is told from here on, behind the steps so far
+abbrev pub whole : Standing × Result (Unit {0}) Stop → Told
+whole z = record { steps = z.0.done; end = end_of z.1 }
+
+abbrev behind : List Step → Told → Told
+behind done t = record t { steps = done ++ t.steps }
+
+further : (s : Step) (done : List Step) (t : Told) → behind (done ++ s ∷ []) t ≡ behind done (after s t)
+further s done t = ap (λ steps. let u : Told = record { steps = steps; end = t.end } in u) (append_assoc done (s ∷ []) t.steps)
+
+none : (done : List Step) (e : End) → let u : Told = record { steps = done; end = e } in u ≡ behind done (at_once e)
+none done e = ap (λ steps. let u : Told = record { steps = steps; end = e } in u) (sym (append-nil done))
+
+pub whole-told : (x : Expansion (Unit {0})) (done : List Step) (rs : List Reply) → whole (run_from x done rs) ≡ behind done (told x rs)
+whole-told (Gives v) done rs = none done end.Done
+whole-told (Fails c) done rs = none done (end.Fails c)
+whole-told (Reads l k go) done [] = none done (end.Asks (Read l k))
+whole-told (Reads l k go) done (r ∷ rs) = whole-told (go (value_in r)) (done ++ Read l k ∷ []) rs ∙ further (Read l k) done (told (go (value_in r)) rs)
+whole-told (Asks a go) done [] = none done (end.Asks (Act a))
+whole-told (Asks a go) done (r ∷ rs) = whole-told (go r) (done ++ Act a ∷ []) rs ∙ further (Act a) done (told (go r) rs)
+whole-told (Loads p k go) done [] = none done (end.Asks (Load p k))
+whole-told (Loads p k go) done (r ∷ rs) = whole-told (go (value_in r)) (done ++ Load p k ∷ []) rs ∙ further (Load p k) done (told (go (value_in r)) rs)
+whole-told (Stores p k v go) done [] = none done (end.Asks (Store p k v))
+whole-told (Stores p k v go) done (r ∷ rs) = whole-told go (done ++ Store p k v ∷ []) rs ∙ further (Store p k v) done (told go rs)
+
+-- so from the beginning
+pub told-whole : (x : Expansion (Unit {0})) (rs : List Reply) (z : Standing × Result (Unit {0}) Stop) → run x (standing [] rs) ≡ z → whole z ≡ told x rs
+told-whole x rs z e = ap whole (sym e) ∙ whole-told x [] rs
+
+-- the steps with the end are what is told
+abbrev ending : List Step → End → Told
+ending steps e = record { steps = steps; end = e }
+
+pub finish-ok : (x : Expansion (Unit {0})) (rs : List Reply) (s : Standing) (r : Result (Unit {0}) Stop) (v : Unit {0}) (steps : List Step) → steps ≡ s.done → r ≡ Ok v → Follows x (standing [] rs) r s → ending steps end.Done ≡ told x rs
+finish-ok x rs s r v steps e is h = ap (λ z. ending z end.Done) e ∙ told-whole x rs (s, Ok v) (subst (λ q. Follows x (standing [] rs) q s) is h)
+
+pub finish-asks : (x : Expansion (Unit {0})) (rs : List Reply) (s : Standing) (r : Result (Unit {0}) Stop) (step : Step) (steps : List Step) → steps ≡ s.done → r ≡ Err (stop.Asks step) → Follows x (standing [] rs) r s → ending steps (end.Asks step) ≡ told x rs
+finish-asks x rs s r step steps e is h = ap (λ z. ending z (end.Asks step)) e ∙ told-whole x rs (s, Err (stop.Asks step)) (subst (λ q. Follows x (standing [] rs) q s) is h)
+
+pub finish-fails : (x : Expansion (Unit {0})) (rs : List Reply) (s : Standing) (r : Result (Unit {0}) Stop) (code : ℕ) (steps : List Step) → steps ≡ s.done → r ≡ Err (stop.Fails code) → Follows x (standing [] rs) r s → ending steps (end.Fails code) ≡ told x rs
+finish-fails x rs s r code steps e is h = ap (λ z. ending z (end.Fails code)) e ∙ told-whole x rs (s, Err (stop.Fails code)) (subst (λ q. Follows x (standing [] rs) q s) is h)
+
+-- work on at least one byte
+pub works : {A : Type 0} (n : ℕ) (idle rest : Expansion A) (s : Standing) (r : Result A Stop) (t : Standing) → n ≢ 0 → Follows rest s r t → Follows (cond (n == 0) idle rest) s r t
+works n idle rest s r t some h =
+    elim (eqb_tells n 0) [
+      | inl y ↦ absurd (some y.1)
+      | inr y ↦ subst (λ x. Follows (cond x idle rest) s r t) (sym y.0) h
+    ]

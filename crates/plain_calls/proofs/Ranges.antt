@@ -67,3 +67,7 @@ pub mapped-more : {X Y : Type 0} (f : ℕ → Y) (g : X → Y) (xs ys : List X) 
 mapped-more f g xs ys x i e h k =
     ap (map g) e ∙ map-append g xs (x ∷ []) ∙ ap (λ z. z ++ g x ∷ []) k ∙ ap (λ z. map f (range_with_len 0 i) ++ z ∷ []) h
     ∙ sym (map-range_with_len_more f 0 i i (omega arith))
+
+pub any-next : {X : Type 0} (p : X → Bool) (xs : List X) (i : ℕ) (d : X) (b : Bool) → i < length xs → p (slice_index_or xs i d) ≡ false → list_any p (drop i xs) ≡ b → list_any p (drop (i + 1) xs) ≡ b
+any-next p xs i d b h k e =
+    rw add-one (sym (ap (λ z. z || list_any p (drop (suc i) xs)) k) ∙ (sym (ap (list_any p) (drop-cons xs i d h)) ∙ e))

@@ -3,3 +3,4 @@ pub mod Run
 pub mod Spots
 pub mod Calls
 pub mod Reductions
+pub mod Areas

@@ -4,6 +4,8 @@
 mod arguments;
 mod call;
 mod cells;
+mod elements;
+mod memory;
 mod part;
 mod piece;
 mod reduction;
@@ -13,4 +15,5 @@ mod thread;
 mod told;
 mod ways;
 
+pub use memory::{Area, Caller, copy, local_area, set, shared_area};
 pub use told::{End, Step, Told};

@@ -101,7 +101,7 @@ impl Spot {
     pub fn leaves_piece(&self, threads: u32, bytes: u64) -> bool
         requires { 0 < threads }
         ensures value { result ≡ leaves_piece threads bytes (pointer_of self.now) }
-        ensures inside { result ≡ false → IsRoomFor bytes self.now }
+        ensures inside { result ≡ false → IsRoomFor bytes self.now.offset }
     {
         !is_within(
             self.offset,
@@ -112,7 +112,7 @@ impl Spot {
 
     /// The location so many bytes behind it.
     pub fn location_behind(&self, bytes: u64, i: u64) -> Loc
-        requires room { IsRoomFor bytes self.now }
+        requires room { IsRoomFor bytes self.now.offset }
         requires inside { i < bytes }
         ensures { result ≡ location_behind (pointer_of self.now) i }
     {
@@ -120,6 +120,18 @@ impl Spot {
             object: self.object.number,
             thread: self.thread,
             offset: (self.offset + i128::from(i)) as u32,
+        }
+    }
+
+    /// The location that the pointer names.
+    pub fn location(&self) -> Loc
+        requires { IsRoomFor 1 self.now.offset }
+        ensures { result ≡ views.location (pointer_of self.now) }
+    {
+        Loc {
+            object: self.object.number,
+            thread: self.thread,
+            offset: self.offset as u32,
         }
     }
 }

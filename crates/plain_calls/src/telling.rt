@@ -1,16 +1,18 @@
 //! A thread in a call.
 
-ghost use Rattle.std.specs.Prelude.{◌≡◌, [], Ok};
+ghost use Rattle.std.specs.Prelude.{◌≡◌, List, [], Ok, IfOk};
 ghost use Rattle.upc_values.specs.declared.scalar.Mark.TheVariants.{Absent};
-ghost use Rattle.upc_values.specs.Expansion.{value_in, Reads, Loads, Stores, Gives, nothing, does, barrier, unless_refused};
+ghost use Rattle.upc_values.specs.Expansion.{Expansion, value_in, Reads, Loads, Stores, Gives, nothing, does, barrier, unless_refused};
 ghost use Rattle.plain_calls.specs.declared.telling.Stop.TheVariants.{Memory};
+ghost use Rattle.upc_values.specs.declared.action.Reply.{Reply};
+ghost use Rattle.plain_calls.specs.Told.{told};
 ghost use Rattle.plain_calls.specs.Run.{ComesTo, Follows, standing, taken};
 
-use crate::told::Step;
+use crate::told::{End, Step, Told};
 use block_layout::{Kind, Loc, LocalPtr};
 use std::alloc::{AllocError, AllocFailed, Global};
 use std::marker::Model;
-use upc_values::{Action, Mark, Reply, Scalar};
+use upc_values::{Action, Listing, Mark, Reply, Scalar};
 
 /// Why a call goes no further.
 #[derive(Drop)]
@@ -135,5 +137,27 @@ impl<'a> Telling<'a> {
     {
         self.act(Action::Notify(Mark::Absent))?;
         self.act(Action::Wait(Mark::Absent))
+    }
+
+    /// What is told where the call ends so.
+    pub fn finish(self, end: Result<(), Stop>) -> Result<Told, AllocError>
+        ensures { (x : Expansion (Unit {0})) (replies : List Reply) → Follows x (standing [] replies) end self.entry → IfOk result (λ t. t ≡ told x replies) }
+    {
+        let steps = Listing::from_vec(self.into_steps());
+        match end {
+            Ok(()) => Ok(Told {
+                steps,
+                end: End::Done,
+            }),
+            Err(Stop::Asks(step)) => Ok(Told {
+                steps,
+                end: End::Asks(step),
+            }),
+            Err(Stop::Fails(code)) => Ok(Told {
+                steps,
+                end: End::Fails(code),
+            }),
+            Err(Stop::Memory) => Err(AllocError),
+        }
     }
 }
