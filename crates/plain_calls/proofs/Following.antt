@@ -5,7 +5,7 @@ use Rattle.std.specs.Prelude.{slice_index_or}
 use Rattle.std.proofs.lemmas.Bool.Decides.{eqb_tells}
 use Rattle.std.proofs.Common.{◌≡◌, ◌≢◌, ◌==◌, inl, inr, Bool, true, false, cond, ℕ, suc, ◌+◌, ◌<◌, ◌≤◌, length, drop, map, add-one, append_assoc, List, [], ◌∷◌, ◌++◌, Result, Ok, Err, refl, sym, ap, ◌∙◌, subst}
 use Rattle.upc_values.specs.declared.action.Reply.{Reply}
-use Rattle.upc_values.specs.Expansion.{Expansion, Gives, Fails, Reads, Asks, Loads, Stores, bind, each_in_turn, value_in}
+use Rattle.upc_values.specs.Expansion.{Expansion, Gives, Fails, Reads, Asks, Loads, Stores, bind, each_in_turn, gathered, value_in}
 use Rattle.block_layout.specs.declared.place.LocalPtr.{LocalPtr}
 use Rattle.block_layout.specs.declared.kind.Kind.{Kind}
 use Rattle.plain_calls.specs.declared.told.Step.{Step}
@@ -162,3 +162,75 @@ works n idle rest s r t some h =
       | inl y ↦ absurd (some y.1)
       | inr y ↦ subst (λ x. Follows (cond x idle rest) s r t) (sym y.0) h
     ]
+
+-- ---- what a list of steps gives, one by one
+
+-- a value that is not changed
+abbrev given : {A B : Type 0} → Standing → Result A Stop → (A → B) → Standing × Result B Stop
+given s (Ok v) g = (s, Ok (g v))
+given s (Err e) g = (s, Err e)
+
+next-gives : {A B : Type 0} (s : Standing) (r : Result A Stop) (g : A → B) → next s r (λ v. Gives (g v)) ≡ given s r g
+next-gives s (Ok v) g = refl
+next-gives s (Err e) g = refl
+
+pub run-gives : {A B : Type 0} (x : Expansion A) (g : A → B) (s : Standing) → run (bind x (λ v. Gives (g v))) s ≡ given (run x s).0 (run x s).1 g
+run-gives x g s = run-bind x (λ v. Gives (g v)) s.done s.left ∙ next-gives (run x s).0 (run x s).1 g
+
+given-same : {A : Type 0} (s : Standing) (r : Result A Stop) (g : A → A) → ((v : A) → g v ≡ v) → given s r g ≡ (s, r)
+given-same {A} s (Ok v) g h = let P : A → Standing × Result A Stop = λ x. (s, Ok x) in ap P (h v)
+given-same s (Err e) g h = refl
+
+given-twice : {A B C : Type 0} (s : Standing) (r : Result A Stop) (g : A → B) (h : B → C) (k : A → C) → ((v : A) → h (g v) ≡ k v) → given (given s r g).0 (given s r g).1 h ≡ given s r k
+given-twice {A} {B} {C} s (Ok v) g h k e = let P : C → Standing × Result C Stop = λ x. (s, Ok x) in ap P (e v)
+given-twice s (Err x) g h k e = refl
+
+-- with nothing in front of them
+pub gather-start : {X Y : Type 0} (f : X → Expansion Y) (xs : List X) (s : Standing) → run (gathered f xs) s ≡ run (bind (gathered f xs) (λ ys. Gives ([] ++ ys))) s
+gather-start f xs s =
+    sym (run-gives (gathered f xs) (λ ys. [] ++ ys) s ∙ given-same (run (gathered f xs) s).0 (run (gathered f xs) s).1 (λ ys. [] ++ ys) (λ ys. refl))
+
+-- one is given: it joins those in front
+gather-more : {X Y : Type 0} (f : X → Expansion Y) (xs : List X) (vs : List Y) (y : Y) (t : Standing) → run (bind (bind (gathered f xs) (λ ys. Gives (y ∷ ys))) (λ ys. Gives (vs ++ ys))) t ≡ run (bind (gathered f xs) (λ ys. Gives ((vs ++ y ∷ []) ++ ys))) t
+gather-more {X} {Y} f xs vs y t =
+    let z = run (gathered f xs) t in
+    run-gives (bind (gathered f xs) (λ ys. Gives (y ∷ ys))) (λ ys. vs ++ ys) t
+    ∙ ap (λ w. given w.0 w.1 (λ ys. vs ++ ys)) (run-gives (gathered f xs) (λ ys. y ∷ ys) t)
+    ∙ given-twice z.0 z.1 (λ ys. y ∷ ys) (λ ys. vs ++ ys) (λ ys. (vs ++ y ∷ []) ++ ys) (λ ys. sym (append_assoc vs (y ∷ []) ys))
+    ∙ sym (run-gives (gathered f xs) (λ ys. (vs ++ y ∷ []) ++ ys) t)
+
+pub gather-on : {X Y : Type 0} (f : X → Expansion Y) (xs : List X) (x : X) (vs : List Y) (y : Y) (s t : Standing) → Follows (f x) s (Ok y) t → run (bind (gathered f (x ∷ xs)) (λ ys. Gives (vs ++ ys))) s ≡ run (bind (gathered f xs) (λ ys. Gives ((vs ++ y ∷ []) ++ ys))) t
+gather-on {X} {Y} f xs x vs y s t h =
+    let rest : Y → Expansion (List Y) = λ v. bind (gathered f xs) (λ ys. Gives (v ∷ ys)) in
+    run-bind (bind (f x) rest) (λ ys. Gives (vs ++ ys)) s.done s.left
+    ∙ ap (λ z. then z (λ ys. Gives (vs ++ ys))) (on (f x) rest s y t h)
+    ∙ sym (run-bind (rest y) (λ ys. Gives (vs ++ ys)) t.done t.left)
+    ∙ gather-more f xs vs y t
+
+-- or it stops
+pub gather-stops : {X Y : Type 0} (f : X → Expansion Y) (xs : List X) (x : X) (vs : List Y) (s : Standing) (e : Stop) (t : Standing) → Follows (f x) s (Err e) t → Follows (bind (gathered f (x ∷ xs)) (λ ys. Gives (vs ++ ys))) s (Err e) t
+gather-stops {X} {Y} f xs x vs s e t h =
+    let rest : Y → Expansion (List Y) = λ v. bind (gathered f xs) (λ ys. Gives (v ∷ ys)) in
+    stops (bind (f x) rest) (λ ys. Gives (vs ++ ys)) s e t (stops (f x) rest s e t h)
+
+-- at a member of a list that stands for others
+pub gather-on-at : {X Y Z : Type 0} (f : X → Expansion Y) (g : Z → X) (zs : List Z) (i : ℕ) (d : Z) (vs ws : List Y) (y : Y) (s t : Standing) → i < length zs → Follows (f (g (slice_index_or zs i d))) s (Ok y) t → ws ≡ vs ++ y ∷ [] → run (bind (gathered f (map g (drop i zs))) (λ ys. Gives (vs ++ ys))) s ≡ run (bind (gathered f (map g (drop (i + 1) zs))) (λ ys. Gives (ws ++ ys))) t
+gather-on-at f g zs i d vs ws y s t h k e =
+    rw (add-one, drop-cons zs i d h, e) (gather-on f (map g (drop (suc i) zs)) (g (slice_index_or zs i d)) vs y s t k)
+
+pub gather-stops-at : {X Y Z : Type 0} (f : X → Expansion Y) (g : Z → X) (zs : List Z) (i : ℕ) (d : Z) (vs : List Y) (s : Standing) (e : Stop) (t : Standing) → i < length zs → Follows (f (g (slice_index_or zs i d))) s (Err e) t → Follows (bind (gathered f (map g (drop i zs))) (λ ys. Gives (vs ++ ys))) s (Err e) t
+gather-stops-at f g zs i d vs s e t h k =
+    subst (λ xs. Follows (bind (gathered f (map g xs)) (λ ys. Gives (vs ++ ys))) s (Err e) t) (sym (drop-cons zs i d h))
+    (gather-stops f (map g (drop (suc i) zs)) (g (slice_index_or zs i d)) vs s e t k)
+
+pub gather-done : {X Y Z : Type 0} (f : X → Expansion Y) (g : Z → X) (zs : List Z) (i : ℕ) (vs : List Y) (s : Standing) → length zs ≤ i → run (bind (gathered f (map g (drop i zs))) (λ ys. Gives (vs ++ ys))) s ≡ (s, Ok vs)
+gather-done {X} {Y} f g zs i vs s h =
+    let P : List Y → Standing × Result (List Y) Stop = λ x. (s, Ok x) in
+    ap (λ xs. run (bind (gathered f (map g xs)) (λ ys. Gives (vs ++ ys))) s) (drop_all i zs h) ∙ ap P (append-nil vs)
+
+-- so where the run is written out
+pub passes-so : {A : Type 0} (b : Bool) (code : ℕ) (rest : Expansion A) (s : Standing) (z : Standing × Result A Stop) → b ≡ false → run rest s ≡ z → run (cond b (Fails code) rest) s ≡ z
+passes-so b code rest s z e h = subst (λ x. run (cond x (Fails code) rest) s ≡ z) (sym e) h
+
+pub refuses-so : {A : Type 0} (b : Bool) (code : ℕ) (rest : Expansion A) (s : Standing) → b ≡ true → run (cond b (Fails code) rest) s ≡ (s, Err (stop.Fails code))
+refuses-so b code rest s e = refuses b code rest s e

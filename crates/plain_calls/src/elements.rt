@@ -1,6 +1,6 @@
 //! Elements of a view, each of which is to be a cell.
 
-ghost use Rattle.std.specs.Prelude.{◌≡◌, ◌||◌, ◌<◌, ◌∷◌, ◌++◌, [], false, not, map, IfOk};
+ghost use Rattle.std.specs.Prelude.{◌≡◌, ◌||◌, ◌<◌, ◌∷◌, ◌++◌, [], false, not, map, length, IfOk};
 ghost use Rattle.std.specs.List.{All, list_any};
 ghost use Rattle.block_layout.specs.Shapes.{kind_size};
 ghost use Rattle.upc_values.specs.Expansion.{gathered};
@@ -17,8 +17,8 @@ use block_layout::Kind;
 use std::alloc::Global;
 use upc_values::{Action, Listing, Scalar};
 
-// Whether the offset of one of the elements leaves its range.
-fn leave_range(elements: &[Spot]) -> bool
+/// Whether the offset of one of the elements leaves its range.
+pub fn leave_range(elements: &[Spot]) -> bool
     ensures { result ≡ list_any (views.leaves_range 1) (map pointer_of elements.now) }
 {
     for element in elements {
@@ -37,8 +37,8 @@ fn leaves_piece(thread: &Thread<'_>, kind: Kind, element: &Spot) -> bool
     element.leaves_piece(thread.threads, u64::from(kind.size()))
 }
 
-// Whether one of the elements does.
-fn leave_pieces(thread: &Thread<'_>, kind: Kind, elements: &[Spot]) -> bool
+/// Whether one of the elements, as a cell of this kind, leaves the piece of its thread.
+pub fn leave_pieces(thread: &Thread<'_>, kind: Kind, elements: &[Spot]) -> bool
     ensures value { result ≡ list_any (views.leaves_piece thread.now.threads (kind_size kind)) (map pointer_of elements.now) }
     ensures inside { result ≡ false → All (λ p. IsRoomFor 1 p.offset) elements.now }
 {
@@ -61,8 +61,8 @@ fn is_cell(thread: &Thread<'_>, kind: Kind, element: &Spot) -> bool
     }
 }
 
-// Whether at one of the elements none begins.
-fn are_not_cells(thread: &Thread<'_>, kind: Kind, elements: &[Spot]) -> bool
+/// Whether at one of the elements no cell of this kind begins.
+pub fn are_not_cells(thread: &Thread<'_>, kind: Kind, elements: &[Spot]) -> bool
     ensures { result ≡ list_any (λ p. not (views.is_cell thread.now.shapes.now kind p)) (map pointer_of elements.now) }
 {
     for element in elements {
@@ -95,4 +95,23 @@ pub fn write_number(telling: &mut Telling<'_>, element: &Spot, value: i128) -> R
         value: Scalar::Int(value),
         strict: false,
     })
+}
+
+/// Reads the elements as integers, in order.
+pub fn read_numbers(
+    alloc: Global,
+    telling: &mut Telling<'_>,
+    kind: Kind,
+    elements: &[Spot],
+) -> Result<Listing<i128>, Stop>
+    requires { All (λ p. IsRoomFor 1 p.offset) elements.now }
+    ensures numbers { Follows (gathered (said.number_at 0 [] 0 kind) (map pointer_of elements.now)) telling.old result telling.new }
+    ensures many { IfOk result (λ numbers. length numbers ≡ length elements.now) }
+{
+    let mut numbers = Vec::new(alloc);
+    for element in elements {
+        let number = read_number(telling, kind, element)?;
+        numbers.push(number)?;
+    }
+    Ok(Listing::from_vec(numbers))
 }

@@ -7,6 +7,7 @@ mod cells;
 mod elements;
 mod memory;
 mod part;
+mod permute;
 mod piece;
 mod reduction;
 mod spot;
