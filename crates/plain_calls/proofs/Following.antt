@@ -234,3 +234,26 @@ passes-so b code rest s z e h = subst (λ x. run (cond x (Fails code) rest) s �
 
 pub refuses-so : {A : Type 0} (b : Bool) (code : ℕ) (rest : Expansion A) (s : Standing) → b ≡ true → run (cond b (Fails code) rest) s ≡ (s, Err (stop.Fails code))
 refuses-so b code rest s e = refuses b code rest s e
+
+-- ---- parts in a row
+
+next-next : {A B C : Type 0} (s : Standing) (r : Result A Stop) (g : A → Expansion B) (h : B → Expansion C) → next s r (λ v. bind (g v) h) ≡ then (next s r g) h
+next-next s (Ok v) g h = run-bind (g v) h s.done s.left
+next-next s (Err e) g h = refl
+
+-- what comes first may be taken together
+pub regroup : {A B C : Type 0} (x : Expansion A) (g : A → Expansion B) (h : B → Expansion C) (s : Standing) → run (bind x (λ v. bind (g v) h)) s ≡ run (bind (bind x g) h) s
+regroup x g h s =
+    run-bind x (λ v. bind (g v) h) s.done s.left
+    ∙ next-next (run x s).0 (run x s).1 g h
+    ∙ ap (λ z. then z h) (sym (run-bind x g s.done s.left))
+    ∙ sym (run-bind (bind x g) h s.done s.left)
+
+next-pointwise : {A B : Type 0} (s : Standing) (r : Result A Stop) (g h : A → Expansion B) → ((v : A) (t : Standing) → run (g v) t ≡ run (h v) t) → next s r g ≡ next s r h
+next-pointwise s (Ok v) g h e = e v s
+next-pointwise s (Err x) g h e = refl
+
+-- what runs alike from every value does so behind what gives the value
+pub pointwise : {A B : Type 0} (x : Expansion A) (g h : A → Expansion B) (s : Standing) → ((v : A) (t : Standing) → run (g v) t ≡ run (h v) t) → run (bind x g) s ≡ run (bind x h) s
+pointwise x g h s e =
+    run-bind x g s.done s.left ∙ next-pointwise (run x s).0 (run x s).1 g h e ∙ sym (run-bind x h s.done s.left)

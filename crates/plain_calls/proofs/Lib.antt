@@ -3,3 +3,5 @@ pub mod Ranges
 pub mod Copying
 pub mod Reading
 pub mod Tests
+pub mod Classes
+pub mod Totals

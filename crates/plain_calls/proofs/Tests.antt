@@ -1,6 +1,8 @@
 -- Tests, one after another.
-use Rattle.std.proofs.Common.{◌≡◌, ℕ, zero, suc, ◌<◌, Bool, true, false, ◌&&◌, ◌||◌, inl, inr, refl, sym, ap, ◌∙◌, subst, arith}
+use Rattle.std.proofs.Common.{◌≡◌, ℕ, zero, suc, ◌<◌, List, ◌++◌, Bool, true, false, ◌&&◌, ◌||◌, inl, inr, refl, sym, ap, ◌∙◌, subst, arith}
 use Rattle.std.proofs.lemmas.Bool.{cases_lt}
+use Rattle.std.specs.List.{list_any}
+use Rattle.std.proofs.lemmas.List.Folds.{list_any-append}
 use Rattle.upc_values.specs.History.{each_thread}
 
 pub first-fails : (a b x : Bool) → x ≡ a → x ≡ false → false ≡ (a && b)
@@ -27,3 +29,7 @@ each-fails test (suc n) k h e =
       | inl l ↦ ap (λ z. test n && z) (each-fails test n k l e) ∙ and-false (test n)
       | inr g ↦ let same : k ≡ n = omega arith in ap (λ z. z && each_thread n test) (subst (λ m. test m ≡ false) same e)
     ]
+
+-- a member of one list or of the other
+pub any_of_both : {X : Type 0} (p : X → Bool) (xs ys : List X) → (list_any p xs || list_any p ys) ≡ list_any p (xs ++ ys)
+any_of_both p xs ys = sym (list_any-append p xs ys)

@@ -10,6 +10,7 @@ ghost use Rattle.plain_calls.specs.Run.{Follows};
 ghost use Rattle.plain_calls.specs.Spots.{pointer_of, IsRoomFor};
 
 use crate::cells::{kind_at, shape_of};
+use crate::number::Number;
 use crate::spot::Spot;
 use crate::telling::{Stop, Telling};
 use crate::thread::Thread;
@@ -84,15 +85,26 @@ pub fn read_number(telling: &mut Telling<'_>, kind: Kind, element: &Spot) -> Res
     }
 }
 
-/// Writes an element.
-pub fn write_number(telling: &mut Telling<'_>, element: &Spot, value: i128) -> Result<(), Stop>
+/// So as a number of a reduction.
+pub fn read_value(telling: &mut Telling<'_>, kind: Kind, element: &Spot) -> Result<Number, Stop>
     requires { IsRoomFor 1 element.now.offset }
-    ensures { Follows (said.number_put 0 [] 0 (pointer_of element.now) value) telling.old result telling.new }
+    ensures { Follows (said.number_at 0 [] 0 kind (pointer_of element.now)) telling.old result telling.new }
+{
+    match read_number(telling, kind, element) {
+        Ok(value) => Ok(Number::new(value)),
+        Err(stop) => Err(stop),
+    }
+}
+
+/// Writes an element.
+pub fn write_number(telling: &mut Telling<'_>, element: &Spot, value: &Number) -> Result<(), Stop>
+    requires { IsRoomFor 1 element.now.offset }
+    ensures { Follows (said.number_put 0 [] 0 (pointer_of element.now) value.now) telling.old result telling.new }
 {
     let loc = element.location();
     telling.act(Action::Write {
         loc,
-        value: Scalar::Int(value),
+        value: Scalar::Int(value.value()),
         strict: false,
     })
 }

@@ -1,6 +1,7 @@
 //! What reductions join (UPC 7.3).
 
 ghost use Rattle.std.specs.Prelude.{◌≡◌, ◌<◌, not, is_none};
+ghost use Rattle.integers.specs.Integers.{IsInteger};
 ghost use Rattle.upc_values.specs.Reductions as said;
 ghost use Rattle.plain_calls.specs.Reductions.{reduction_in, reduction_option};
 
@@ -45,19 +46,19 @@ pub fn is_operator(number: i32) -> bool
     reduction_of(number).is_some()
 }
 
-/// The type of elements with this number.
+/// The type of elements with this number: those of the calls that end in C UC S US I UI L UL.
 pub fn element_kind(number: u32) -> Kind
-    requires { number < 8 }
-    ensures { result ≡ said.element_kind number }
+    ensures value { result ≡ said.element_kind number }
+    ensures integer { IsInteger result }
 {
     match number {
         0 => Kind::Char,
         1 => Kind::UChar,
         2 => Kind::Short,
         3 => Kind::UShort,
-        4 => Kind::Int,
         5 => Kind::UInt,
         6 => Kind::Long,
-        _ => Kind::ULong,
+        7 => Kind::ULong,
+        _ => Kind::Int,
     }
 }
