@@ -3,9 +3,9 @@ use Rattle.std.proofs.Math.Seq.{drop-cons}
 use Rattle.std.proofs.lemmas.List.{drop_all, append-nil}
 use Rattle.std.specs.Prelude.{slice_index_or}
 use Rattle.std.proofs.lemmas.Bool.Decides.{eqb_tells}
-use Rattle.std.proofs.Common.{◌≡◌, ◌≢◌, ◌==◌, inl, inr, Bool, true, false, cond, ℕ, suc, ◌+◌, ◌<◌, ◌≤◌, length, drop, map, add-one, append_assoc, List, [], ◌∷◌, ◌++◌, Result, Ok, Err, refl, sym, ap, ◌∙◌, subst}
+use Rattle.std.proofs.Common.{◌≡◌, ◌≢◌, ◌==◌, inl, inr, eq-eqb, Option, Some, None, Bool, true, false, cond, ℕ, suc, ◌+◌, ◌<◌, ◌≤◌, length, drop, map, add-one, append_assoc, List, [], ◌∷◌, ◌++◌, Result, Ok, Err, refl, sym, ap, ◌∙◌, subst}
 use Rattle.upc_values.specs.declared.action.Reply.{Reply}
-use Rattle.upc_values.specs.Expansion.{Expansion, Gives, Fails, Reads, Asks, Loads, Stores, bind, each_in_turn, gathered, value_in}
+use Rattle.upc_values.specs.Expansion.{Expansion, Gives, Fails, Reads, Asks, Loads, Stores, bind, each_in_turn, gathered, refused_by, value_in}
 use Rattle.block_layout.specs.declared.place.LocalPtr.{LocalPtr}
 use Rattle.block_layout.specs.declared.kind.Kind.{Kind}
 use Rattle.plain_calls.specs.declared.told.Step.{Step}
@@ -16,6 +16,7 @@ use Rattle.plain_calls.specs.declared.told.End.{End}
 use Rattle.plain_calls.specs.declared.told.End.TheVariants as end
 use Rattle.plain_calls.specs.declared.told.Told.{Told}
 use Rattle.plain_calls.specs.Told.{told, after, at_once}
+use Rattle.plain_calls.specs.Calls.{refusal_in}
 use Rattle.plain_calls.specs.Run.{Standing, standing, run_from, run, taken, ComesTo, Follows}
 
 -- what a value leads to; a stop stays
@@ -257,3 +258,21 @@ next-pointwise s (Err x) g h e = refl
 pub pointwise : {A B : Type 0} (x : Expansion A) (g h : A → Expansion B) (s : Standing) → ((v : A) (t : Standing) → run (g v) t ≡ run (h v) t) → run (bind x g) s ≡ run (bind x h) s
 pointwise x g h s e =
     run-bind x g s.done s.left ∙ next-pointwise (run x s).0 (run x s).1 g h e ∙ sym (run-bind x h s.done s.left)
+
+-- ---- tests with their run errors, in order
+
+pub goes-past : {A : Type 0} (tests : List (Bool × ℕ)) (go : Expansion A) (s : Standing) (r : Result A Stop) (t : Standing) → None ≡ refusal_in tests → Follows go s r t → Follows (refused_by tests go) s r t
+goes-past [] go s r t e h = h
+goes-past ((true, c) ∷ xs) go s r t e h = absurd (let f : None ≡ Some c = e in cc)
+goes-past ((false, c) ∷ xs) go s r t e h = goes-past xs go s r t e h
+
+pub stops-at : {A : Type 0} (tests : List (Bool × ℕ)) (go : Expansion A) (s : Standing) (code : ℕ) → Some code ≡ refusal_in tests → run (refused_by tests go) s ≡ (s, Err (stop.Fails code))
+stops-at [] go s code e = absurd (let f : Some code ≡ None = e in cc)
+stops-at {A} ((true, c) ∷ xs) go s code e =
+    let same : code ≡ c = let f : Some code ≡ Some c = e in cc in
+    let P : ℕ → Standing × Result A Stop = λ n. (s, Err (stop.Fails n)) in ap P (sym same)
+stops-at ((false, c) ∷ xs) go s code e = stops-at xs go s code e
+
+-- work of one thread
+pub works-on : {A : Type 0} (n m : ℕ) (go idle : Expansion A) (s : Standing) (r : Result A Stop) (t : Standing) → n ≡ m → Follows go s r t → Follows (cond (n == m) go idle) s r t
+works-on n m go idle s r t e h = subst (λ x. Follows (cond x go idle) s r t) (sym (eq-eqb n m e)) h

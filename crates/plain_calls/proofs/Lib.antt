@@ -5,3 +5,4 @@ pub mod Reading
 pub mod Tests
 pub mod Classes
 pub mod Totals
+pub mod CellTests

@@ -1,13 +1,15 @@
 //! `upc_all_reduce` and `upc_all_prefix_reduce` (UPC 7.3).
 
-ghost use Rattle.std.specs.Prelude.{◌≡◌, ◌<◌, ◌≤◌, ◌≢◌, ◌+◌, ◌∷◌, ◌++◌, [], Some, not, false, length, map, IfOk};
+ghost use Rattle.std.specs.Prelude.{◌≡◌, ◌≤◌, ◌∷◌, ◌++◌, ℤ, [], Some, None, not, false, length, map, IfOk};
 ghost use Rattle.std.specs.List.{All, list_any};
 ghost use Rattle.block_layout.specs.Shapes.{kind_size};
 ghost use Rattle.integers.specs.Integers.{IsInteger};
+ghost use Rattle.upc_values.specs.Calls as calls;
 ghost use Rattle.upc_values.specs.Expansion.{Gives, bind};
 ghost use Rattle.upc_values.specs.Expansions as said;
 ghost use Rattle.upc_values.specs.Reductions as reductions;
 ghost use Rattle.upc_values.specs.Views as views;
+ghost use Rattle.plain_calls.specs.Calls.{refusal_in};
 ghost use Rattle.plain_calls.specs.Reductions.{reduction_in};
 ghost use Rattle.plain_calls.specs.Run.{Follows};
 ghost use Rattle.plain_calls.specs.Spots.{pointer_of, IsRoomFor};
@@ -15,11 +17,12 @@ ghost use Rattle.plain_calls.specs.Spots.{pointer_of, IsRoomFor};
 use crate::call::Operands;
 use crate::elements::{are_not_cells, leave_pieces, leave_range, read_value, write_number};
 use crate::number::Number;
-use crate::reduction::{Reduction, element_kind};
-use crate::spot::{Spot, element, from_phase_0};
+use crate::reduction::{Reduction, element_kind, reduction_of};
+use crate::spot::{Spot, element, from_phase_0, spot_at};
 use crate::step::step;
 use crate::telling::{Stop, Telling};
 use crate::thread::Thread;
+use block_layout::run_error::{CELL_TYPE, OUT_OF_OBJECT, POINTER_RANGE};
 use block_layout::{Kind, SharedPtr};
 use std::alloc::{AllocError, Global};
 
@@ -202,4 +205,128 @@ fn lack_cells(thread: &Thread<'_>, kind: Kind, a: &[Spot], b: &[Spot]) -> bool
     ensures { result ≡ list_any (λ p. not (views.is_cell thread.now.shapes.now kind p)) (map pointer_of a.now ++ map pointer_of b.now) }
 {
     are_not_cells(thread, kind, a) || are_not_cells(thread, kind, b)
+}
+
+// Reduces by the operator with the call's number; there is one.
+fn reduce_by(
+    telling: &mut Telling<'_>,
+    of: &Operands,
+    dst: &Spot,
+    elements: &[Spot],
+) -> Result<(), Stop>
+    requires room { IsRoomFor 1 dst.now.offset }
+    requires rooms { All (λ p. IsRoomFor 1 p.offset) elements.now }
+    ensures { Follows (said.reduce 0 [] 0 (reductions.reduction of.now.op) (reductions.element_kind of.now.kind) (pointer_of dst.now) (map pointer_of elements.now)) telling.old result telling.new }
+{
+    let kind = element_kind(of.kind);
+    match reduction_of(of.op) {
+        Some(op) => reduce(telling, op, kind, dst, elements),
+        None => Ok(()),
+    }
+}
+
+// Tests that each of the elements is a cell of the call's kind.
+fn test_cells(thread: &Thread<'_>, of: &Operands, a: &[Spot], b: &[Spot]) -> Option<u8>
+    ensures value { result ≡ refusal_in (let kind = reductions.element_kind of.now.kind in (list_any (views.leaves_range 1) (map pointer_of a.now ++ map pointer_of b.now), POINTER_RANGE) ∷ (list_any (views.leaves_piece thread.now.threads (kind_size kind)) (map pointer_of a.now ++ map pointer_of b.now), OUT_OF_OBJECT) ∷ (list_any (λ p. not (views.is_cell thread.now.shapes.now kind p)) (map pointer_of a.now ++ map pointer_of b.now), CELL_TYPE) ∷ []) }
+    ensures first { result ≡ None → All (λ p. IsRoomFor 1 p.offset) a.now }
+    ensures second { result ≡ None → All (λ p. IsRoomFor 1 p.offset) b.now }
+{
+    let kind = element_kind(of.kind);
+    if range_is_left(a, b) {
+        return Some(POINTER_RANGE);
+    }
+    if piece_is_left(thread, kind, a, b) {
+        return Some(OUT_OF_OBJECT);
+    }
+    if lack_cells(thread, kind, a, b) {
+        return Some(CELL_TYPE);
+    }
+    None
+}
+
+// Tests the destination and the elements, and reduces.
+fn reduce_cells(
+    telling: &mut Telling<'_>,
+    thread: &Thread<'_>,
+    of: &Operands,
+    dst: &Spot,
+    elements: &[Spot],
+) -> Result<(), Stop>
+    ensures { Follows (said.are_cells thread.now.threads thread.now.shapes.now thread.now.number (reductions.element_kind of.now.kind) (pointer_of dst.now ∷ map pointer_of elements.now) (said.reduce 0 [] 0 (reductions.reduction of.now.op) (reductions.element_kind of.now.kind) (pointer_of dst.now) (map pointer_of elements.now))) telling.old result telling.new }
+{
+    if let Some(code) = test_cells(thread, of, &[*dst], elements) {
+        return Err(Stop::Fails(code));
+    }
+    reduce_by(telling, of, dst, elements)
+}
+
+/// All elements are read, ascending, and joined; the destination's thread writes what they give.
+pub fn reduce_all(
+    alloc: Global,
+    telling: &mut Telling<'_>,
+    thread: &Thread<'_>,
+    of: &Operands,
+) -> Result<(), Stop>
+    requires { of.now.block ≤ 16777216 }
+    ensures { (flags : ℤ) → Follows (said.work thread.now.threads thread.now.shapes.now thread.now.number (calls.Reduces of.now.dst of.now.src of.now.op of.now.count of.now.block of.now.kind flags)) telling.old result telling.new }
+{
+    if of.dst.thread != thread.number {
+        return Ok(());
+    }
+    let elements = operands(alloc, thread, &of.src, of)?;
+    reduce_cells(telling, thread, of, &spot_at(&of.dst), elements.as_slice())
+}
+
+// Makes the prefixes by the operator with the call's number; there is one.
+fn reduce_prefixes_by(
+    telling: &mut Telling<'_>,
+    of: &Operands,
+    into: &[Spot],
+    from: &[Spot],
+) -> Result<(), Stop>
+    requires same { length into.now ≡ length from.now }
+    requires into { All (λ p. IsRoomFor 1 p.offset) into.now }
+    requires from { All (λ p. IsRoomFor 1 p.offset) from.now }
+    ensures { Follows (said.reduce_prefixes 0 [] 0 (reductions.reduction of.now.op) (reductions.element_kind of.now.kind) (said.paired 0 [] 0 (map pointer_of into.now) (map pointer_of from.now))) telling.old result telling.new }
+{
+    let kind = element_kind(of.kind);
+    match reduction_of(of.op) {
+        Some(op) => reduce_prefixes(telling, op, kind, into, from),
+        None => Ok(()),
+    }
+}
+
+// Tests all elements, and makes the prefixes.
+fn reduce_prefix_cells(
+    telling: &mut Telling<'_>,
+    thread: &Thread<'_>,
+    of: &Operands,
+    into: &[Spot],
+    from: &[Spot],
+) -> Result<(), Stop>
+    requires { length into.now ≡ length from.now }
+    ensures { Follows (said.are_cells thread.now.threads thread.now.shapes.now thread.now.number (reductions.element_kind of.now.kind) (map pointer_of into.now ++ map pointer_of from.now) (said.reduce_prefixes 0 [] 0 (reductions.reduction of.now.op) (reductions.element_kind of.now.kind) (said.paired 0 [] 0 (map pointer_of into.now) (map pointer_of from.now)))) telling.old result telling.new }
+{
+    if let Some(code) = test_cells(thread, of, into, from) {
+        return Err(Stop::Fails(code));
+    }
+    reduce_prefixes_by(telling, of, into, from)
+}
+
+/// Each element is read and joined, and the destination's thread writes the value so far, ascending.
+pub fn reduce_all_prefixes(
+    alloc: Global,
+    telling: &mut Telling<'_>,
+    thread: &Thread<'_>,
+    of: &Operands,
+) -> Result<(), Stop>
+    requires { of.now.block ≤ 16777216 }
+    ensures { (flags : ℤ) → Follows (said.work thread.now.threads thread.now.shapes.now thread.now.number (calls.Reduces_prefixes of.now.dst of.now.src of.now.op of.now.count of.now.block of.now.kind flags)) telling.old result telling.new }
+{
+    if of.dst.thread != thread.number {
+        return Ok(());
+    }
+    let into = operands(alloc, thread, &of.dst, of)?;
+    let from = operands(alloc, thread, &of.src, of)?;
+    reduce_prefix_cells(telling, thread, of, into.as_slice(), from.as_slice())
 }
