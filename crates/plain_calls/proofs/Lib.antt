@@ -6,3 +6,4 @@ pub mod Tests
 pub mod Classes
 pub mod Totals
 pub mod CellTests
+pub mod Limits

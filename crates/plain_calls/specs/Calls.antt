@@ -1,5 +1,5 @@
 -- The program's calls as the definitions have them.
-use Rattle.std.specs.Prelude.{ℕ, nat_lt, ℤ, unsigned_abs, Bool, ◌&&◌, cond, List, [], ◌∷◌, Option, Some, None}
+use Rattle.std.specs.Prelude.{ℕ, ◌≤◌, nat_lt, ℤ, unsigned_abs, Bool, ◌&&◌, cond, List, [], ◌∷◌, Option, Some, None}
 use Rattle.block_layout.specs.declared.place.SharedPtr.{SharedPtr}
 use Rattle.upc_values.specs.declared.scalar.Scalar.{Scalar}
 use Rattle.upc_values.specs.declared.scalar.Scalar.TheVariants.{Int, Shared}
@@ -66,3 +66,11 @@ kind_in v = None
 abbrev pub refusal_in : List (Bool × ℕ) → Option ℕ
 refusal_in [] = None
 refusal_in (x ∷ xs) = cond x.0 (Some x.1) (refusal_in xs)
+
+-- sizes of at most 16,777,216
+abbrev pub FitsLimits : Call → Type 0
+FitsLimits (call.Copies w dst src n f) = n ≤ 16777216
+FitsLimits (call.Permutes dst src perm n f) = n ≤ 16777216
+FitsLimits (call.Reduces o f) = o.block ≤ 16777216
+FitsLimits (call.ReducesPrefixes o f) = o.block ≤ 16777216
+FitsLimits call.Other = Unit {0}

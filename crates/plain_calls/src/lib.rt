@@ -16,8 +16,11 @@ mod spot;
 mod step;
 mod telling;
 mod thread;
+mod together;
 mod told;
 mod ways;
 
+pub use together::collective;
 pub use memory::{Area, Caller, copy, local_area, set, shared_area};
+pub use thread::Thread;
 pub use told::{End, Step, Told};
