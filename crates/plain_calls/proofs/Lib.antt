@@ -2,8 +2,9 @@ pub mod Following
 pub mod Ranges
 pub mod Copying
 pub mod Reading
-pub mod Tests
+pub mod Truths
 pub mod Classes
 pub mod Totals
 pub mod CellTests
 pub mod Limits
+pub mod LastSteps

@@ -1,7 +1,7 @@
 -- What a thread does in a library call, over a list of replies.
-use Rattle.std.specs.Prelude.{List, [], ◌∷◌}
+use Rattle.std.specs.Prelude.{◌≡◌, List, [], ◌∷◌}
 use Rattle.upc_values.specs.declared.action.Reply.{Reply}
-use Rattle.upc_values.specs.Expansion.{Expansion, Gives, Fails, Reads, Asks, Loads, Stores, value_in}
+use Rattle.upc_values.specs.Expansion.{Expansion, Gives, Fails, Reads, Asks, Loads, Stores, value_in, after_replies}
 use Rattle.plain_calls.specs.declared.told.Step.{Step}
 use Rattle.plain_calls.specs.declared.told.Step.TheVariants.{Read, Act, Load, Store}
 use Rattle.plain_calls.specs.declared.told.End.{End}
@@ -28,3 +28,16 @@ told (Loads p k go) [] = at_once (end.Asks (Load p k))
 told (Loads p k go) (r ∷ rs) = after (Load p k) (told (go (value_in r)) rs)
 told (Stores p k v go) [] = at_once (end.Asks (Store p k v))
 told (Stores p k v go) (r ∷ rs) = after (Store p k v) (told go rs)
+
+-- how an expansion that has come so far ends where there is no more reply
+abbrev pub end_now : Expansion (Unit {0}) → End
+end_now (Gives v) = end.Done
+end_now (Fails c) = end.Fails c
+end_now (Reads l k go) = end.Asks (Read l k)
+end_now (Asks a go) = end.Asks (Act a)
+end_now (Loads p k go) = end.Asks (Load p k)
+end_now (Stores p k v go) = end.Asks (Store p k v)
+
+-- the end is that of what the replies leave
+abbrev pub EndsAgree : Type 0
+EndsAgree = (x : Expansion (Unit {0})) (replies : List Reply) → (told x replies).end ≡ end_now (after_replies x replies)

@@ -70,11 +70,7 @@ fn are_permute_args(
 ) -> bool
     ensures { result ≡ said.are_permute_args dst.now src.now perm.now bytes flags }
 {
-    are_flags(flags)
-        && !is_large(bytes)
-        && dst.thread == 0
-        && src.thread == 0
-        && perm.thread == 0
+    are_flags(flags) && !is_large(bytes) && dst.thread == 0 && src.thread == 0 && perm.thread == 0
 }
 
 // With a block, the phase is below it.

@@ -5,6 +5,7 @@ mod arguments;
 mod call;
 mod cells;
 mod elements;
+mod law;
 mod memory;
 mod number;
 mod part;
@@ -20,7 +21,11 @@ mod together;
 mod told;
 mod ways;
 
-pub use together::collective;
+pub use law::ends_agree;
 pub use memory::{Area, Caller, copy, local_area, set, shared_area};
 pub use thread::Thread;
+pub use together::collective;
 pub use told::{End, Step, Told};
+
+#[cfg(test)]
+mod tests;

@@ -21,8 +21,8 @@ use crate::telling::{Stop, Telling};
 use crate::told::Told;
 use block_layout::run_error::{CELL_TYPE, NULL_ACCESS, OUT_OF_OBJECT, PRIVATE_RANGE};
 use block_layout::{Kind, LocalPtr, Shape, SharedPtr};
-use std::alloc::{AllocError, Global};
 use integers::convert;
+use std::alloc::{AllocError, Global};
 use upc_values::{Action, Reply, Scalar};
 
 /// Where a range of bytes begins: nowhere, in a shared object, or in a private one.

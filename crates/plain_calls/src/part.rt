@@ -35,12 +35,7 @@ pub fn cut(thread: &Thread<'_>, bytes: u64, p: &Spot) -> bool
 }
 
 // The cells in so many bytes at the pointer.
-fn cells(
-    alloc: Global,
-    thread: &Thread<'_>,
-    bytes: u64,
-    p: &Spot,
-) -> Result<Vec<Cell>, AllocError>
+fn cells(alloc: Global, thread: &Thread<'_>, bytes: u64, p: &Spot) -> Result<Vec<Cell>, AllocError>
     ensures cells { IfOk result (λ cells. cells.items ≡ said.cells thread.now.threads thread.now.shapes.now thread.now.number bytes (pointer_of p.now)) }
     ensures within { IfOk result (λ cells. All (λ c. c.0 < bytes) cells.items) }
 {
@@ -53,12 +48,7 @@ fn cells(
 }
 
 // Whether cells are cut, or differ in place or kind.
-fn differ(
-    alloc: Global,
-    thread: &Thread<'_>,
-    bytes: u64,
-    part: &Part,
-) -> Result<bool, AllocError>
+fn differ(alloc: Global, thread: &Thread<'_>, bytes: u64, part: &Part) -> Result<bool, AllocError>
     ensures { IfOk result (λ b. b ≡ said.differ thread.now.threads thread.now.shapes.now thread.now.number bytes (part_of part.now)) }
 {
     if cut(thread, bytes, &part.into) || cut(thread, bytes, &part.from) {
@@ -120,12 +110,7 @@ fn any_differs(
 }
 
 // Reads a cell and writes it.
-fn copy_cell(
-    telling: &mut Telling<'_>,
-    bytes: u64,
-    part: &Part,
-    cell: Cell,
-) -> Result<(), Stop>
+fn copy_cell(telling: &mut Telling<'_>, bytes: u64, part: &Part, cell: Cell) -> Result<(), Stop>
     requires room { HasRoom bytes part.now }
     requires inside { cell.0 < bytes }
     ensures { Follows (Reads (views.location_behind (pointer_of part.now.from) cell.0) cell.1 (λ v. does (Action.Write (views.location_behind (pointer_of part.now.into) cell.0) v false))) telling.old result telling.new }

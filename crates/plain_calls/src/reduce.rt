@@ -182,7 +182,7 @@ fn reduce_prefixes(
 }
 
 // Whether the offset of one of the elements leaves its range.
-#[tactic(auto, using(crate::proofs::Tests::any_of_both))]
+#[tactic(auto, using(crate::proofs::Truths::any_of_both))]
 fn range_is_left(a: &[Spot], b: &[Spot]) -> bool
     ensures { result ≡ list_any (views.leaves_range 1) (map pointer_of a.now ++ map pointer_of b.now) }
 {
@@ -190,7 +190,7 @@ fn range_is_left(a: &[Spot], b: &[Spot]) -> bool
 }
 
 // Whether one of them leaves the piece of its thread.
-#[tactic(auto, using(crate::proofs::Tests::any_of_both))]
+#[tactic(auto, using(crate::proofs::Truths::any_of_both))]
 fn piece_is_left(thread: &Thread<'_>, kind: Kind, a: &[Spot], b: &[Spot]) -> bool
     ensures value { result ≡ list_any (views.leaves_piece thread.now.threads (kind_size kind)) (map pointer_of a.now ++ map pointer_of b.now) }
     ensures first { result ≡ false → All (λ p. IsRoomFor 1 p.offset) a.now }
@@ -200,7 +200,7 @@ fn piece_is_left(thread: &Thread<'_>, kind: Kind, a: &[Spot], b: &[Spot]) -> boo
 }
 
 // Whether at one of them no cell of this kind begins.
-#[tactic(auto, using(crate::proofs::Tests::any_of_both))]
+#[tactic(auto, using(crate::proofs::Truths::any_of_both))]
 fn lack_cells(thread: &Thread<'_>, kind: Kind, a: &[Spot], b: &[Spot]) -> bool
     ensures { result ≡ list_any (λ p. not (views.is_cell thread.now.shapes.now kind p)) (map pointer_of a.now ++ map pointer_of b.now) }
 {

@@ -122,11 +122,7 @@ fn gather(alloc: Global, thread: &Thread<'_>, ends: &Ends<'_>) -> Result<Vec<Par
     Ok(parts)
 }
 
-fn gather_all(
-    alloc: Global,
-    thread: &Thread<'_>,
-    ends: &Ends<'_>,
-) -> Result<Vec<Part>, AllocError>
+fn gather_all(alloc: Global, thread: &Thread<'_>, ends: &Ends<'_>) -> Result<Vec<Part>, AllocError>
     ensures { IfOk result (λ parts. map part_of parts.items ≡ said.parts thread.now.threads thread.now.shapes.now thread.now.number calls.Gather_all ends.now.dst.now ends.now.src.now ends.now.bytes) }
 {
     let mut parts = Vec::new(alloc);

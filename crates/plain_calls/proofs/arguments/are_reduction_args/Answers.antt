@@ -1,7 +1,7 @@
 use Rattle.std.proofs.Common.{rules, w32}
 use Rattle.std.proofs.lemmas.Int.{to_z-of_z}
 use mir.Val.{SFits}
-use Rattle.plain_calls.proofs.Tests.{first-fails, second-fails, third-decides}
+use Rattle.plain_calls.proofs.Truths.{first-fails, second-fails, third-decides}
 use Rattle.plain_calls.proofs.arguments.are_reduction_args.Goals as goal
 
 pub returns-then-not-are_flags : goal.returns-then-not-are_flags

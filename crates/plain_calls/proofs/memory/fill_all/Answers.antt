@@ -8,7 +8,7 @@ use Rattle.upc_values.specs.Shapes.{is_integer}
 use Rattle.plain_calls.specs.Areas.{area_in}
 use Rattle.plain_calls.specs.Run.{Follows}
 use Rattle.plain_calls.proofs.Following.{passes}
-use Rattle.plain_calls.proofs.Tests.{neither}
+use Rattle.plain_calls.proofs.Truths.{neither}
 use Rattle.plain_calls.proofs.memory.fill_all.Goals as goal
 
 pub returns : goal.returns

@@ -1,6 +1,6 @@
 use Rattle.std.proofs.Common.{ℕ, Bool, [], sym, ◌∙◌}
 use Rattle.upc_values.specs.Expansions.{is_at}
-use Rattle.plain_calls.proofs.Tests.{each-fails}
+use Rattle.plain_calls.proofs.Truths.{each-fails}
 use Rattle.plain_calls.proofs.permute.is_permutation.Goals as goal
 
 pub returns-then-not-is_at : goal.returns-then-not-is_at
