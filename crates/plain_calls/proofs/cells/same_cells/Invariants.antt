@@ -1,0 +1,6 @@
+use Rattle.std.proofs.Common.{◌≡◌, drop}
+use Rattle.upc_values.specs.Views.{same_cells}
+use Rattle.plain_calls.proofs.cells.same_cells.Given as goal
+
+abbrev pub invariant-loop-at : goal.invariant-loop-at
+invariant-loop-at l = same_cells (drop l.at l.a) (drop l.at l.b) ≡ same_cells l.a l.b

@@ -1,0 +1,6 @@
+pub mod Told
+pub mod Run
+pub mod Spots
+pub mod Calls
+pub mod Reductions
+pub mod Areas

@@ -1,0 +1,8 @@
+//! What is told, and what is left.
+
+ghost use Rattle.plain_calls.specs.Told.{EndsAgree};
+
+/// A law: where the replies end, a call is where `after_replies` leaves it.
+pub fn ends_agree()
+    ensures { EndsAgree }
+{}
