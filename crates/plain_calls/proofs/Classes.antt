@@ -1,14 +1,14 @@
 -- Numbers that differ by a multiple of a kind's values are converted alike.
-use Rattle.std.proofs.Common.{◌≡◌, ℕ, ◌*◌, ◌%◌, ◌<◌, ◌≤◌, ◌^◌, sym, ap, ◌∙◌, subst, arith}
-use Rattle.std.proofs.Math.IntN.{ℤ, pos, negsuc, neg_ℤ, ◌+ℤ◌, ◌-ℤ◌, ◌*ℤ◌, *ℤ_comm}
+use Rattle.std.proofs.Common.{◌≡◌, ℕ, ◌*◌, ◌%◌, ◌<◌, sym, ap, ◌∙◌, arith}
+use Rattle.std.proofs.Math.IntN.{ℤ, pos, ◌+ℤ◌, ◌-ℤ◌, ◌*ℤ◌, *ℤ_comm}
 use Rattle.std.proofs.lemmas.Int.{ints}
 use Rattle.std.proofs.lemmas.Nat.{pow_pos}
 use borrow.Author.Differences.{up, down, sum_is_lem, product_is}
 use Rattle.block_layout.specs.Floor.{floor_div, floor_mod}
-use Rattle.block_layout.proofs.Numbers.{floor-sum, floor_mod-below, floor_mod-unique, mul-sum, mul-twice}
+use Rattle.block_layout.proofs.Numbers.{floor-sum, floor_mod-below, floor_mod-unique, mul-sum}
 use Rattle.block_layout.specs.declared.kind.Kind.{Kind}
 use Rattle.block_layout.specs.declared.kind.Kind.TheVariants.{Char, UChar, Short, UShort, Int, UInt, Long, ULong, Shared, Lock, Private}
-use Rattle.integers.specs.Integers.{width, values, least, converted, AreCongruent, IsPromoted}
+use Rattle.integers.specs.Integers.{width, values, least, converted, IsPromoted}
 use Rattle.integers.proofs.Conversions.{converted-congruent}
 
 -- what is left of a number and a multiple of the divisor

@@ -3,7 +3,7 @@ use Rattle.std.proofs.Math.Seq.{drop-cons}
 use Rattle.std.proofs.lemmas.List.{drop_all, append-nil}
 use Rattle.std.specs.Prelude.{slice_index_or}
 use Rattle.std.proofs.lemmas.Bool.Decides.{eqb_tells}
-use Rattle.std.proofs.Common.{◌≡◌, ◌≢◌, ◌==◌, inl, inr, eq-eqb, Option, Some, None, Bool, true, false, cond, ℕ, suc, ◌+◌, ◌<◌, ◌≤◌, length, drop, map, add-one, append_assoc, List, [], ◌∷◌, ◌++◌, Result, Ok, Err, refl, sym, ap, ◌∙◌, subst}
+use Rattle.std.proofs.Common.{◌≡◌, ◌≢◌, ◌==◌, inl, inr, eq-eqb, Some, None, Bool, true, false, cond, ℕ, suc, ◌+◌, ◌<◌, ◌≤◌, length, drop, map, add-one, append_assoc, List, [], ◌∷◌, ◌++◌, Result, Ok, Err, refl, sym, ap, ◌∙◌, subst}
 use Rattle.upc_values.specs.declared.action.Reply.{Reply}
 use Rattle.upc_values.specs.Expansion.{Expansion, Gives, Fails, Reads, Asks, Loads, Stores, bind, each_in_turn, gathered, refused_by, value_in}
 use Rattle.block_layout.specs.declared.place.LocalPtr.{LocalPtr}

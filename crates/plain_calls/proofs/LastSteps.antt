@@ -1,9 +1,9 @@
 -- The end of what is told is that of what the replies leave.
 use Rattle.std.proofs.Common.{◌≡◌, ℕ, List, [], ◌∷◌, refl}
 use Rattle.upc_values.specs.declared.action.Reply.{Reply}
-use Rattle.upc_values.specs.Expansion.{Expansion, Gives, Fails, Reads, Asks, Loads, Stores, value_in, after_replies}
+use Rattle.upc_values.specs.Expansion.{Gives, Fails, Reads, Asks, Loads, Stores, value_in, after_replies}
 use Rattle.plain_calls.specs.declared.told.End.TheVariants as end
-use Rattle.plain_calls.specs.Told.{told, end_now, EndsAgree}
+use Rattle.plain_calls.specs.Told.{end_now, EndsAgree}
 
 gives-stays : (v : Unit {0}) (rs : List Reply) → end.Done ≡ end_now (after_replies (Gives v) rs)
 gives-stays v [] = refl

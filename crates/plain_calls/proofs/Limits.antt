@@ -1,5 +1,5 @@
 -- The sizes of a call whose arguments pass their tests; and a call that is not told apart does as any other.
-use Rattle.std.proofs.Common.{◌≡◌, ℕ, ◌≤◌, ◌==◌, is_none, Bool, true, false, not, ◌&&◌, ◌||◌, cond, List, [], ◌∷◌, Option, Some, None, refl, sym, ap, ◌∙◌, arith}
+use Rattle.std.proofs.Common.{◌≡◌, ℕ, ◌≤◌, ◌==◌, is_none, Bool, true, false, not, ◌&&◌, ◌||◌, cond, List, [], Some, None, refl, arith}
 use Rattle.std.proofs.Math.IntN.{ℤ}
 use Rattle.block_layout.specs.declared.place.SharedPtr.{SharedPtr}
 use Rattle.upc_values.specs.Reductions.{reduction}

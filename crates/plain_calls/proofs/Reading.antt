@@ -1,13 +1,12 @@
 -- Calls by their arguments, read one by one.
-use Rattle.std.proofs.Common.{◌≡◌, ◌≢◌, ◌==◌, unsigned_abs, length, ◌&&◌, ℕ, ℤ, Bool, true, false, cond, List, [], ◌∷◌, Option, Some, None, refl, sym, ap, ◌∙◌, subst}
+use Rattle.std.proofs.Common.{◌≡◌, ◌≢◌, ◌==◌, unsigned_abs, length, ◌&&◌, ℕ, ℤ, Bool, true, false, cond, List, [], ◌∷◌, Option, Some, None, refl, sym, ap, ◌∙◌}
 use Rattle.std.specs.Prelude.{nat_lt}
 use Rattle.block_layout.specs.declared.place.SharedPtr.{SharedPtr}
 use Rattle.upc_values.specs.declared.scalar.Scalar.{Scalar}
 use Rattle.upc_values.specs.declared.scalar.Scalar.TheVariants.{Int, Shared, Lock}
 use Rattle.upc_values.specs.Calls as said
 use Rattle.upc_values.specs.Calls.{call_of, way_of, is_size, is_int}
-use Rattle.plain_calls.specs.declared.call.Way.{Way}
-use Rattle.plain_calls.specs.Calls.{way_in, way_option, kept, shared_in, size_in, int_in, kind_in}
+use Rattle.plain_calls.specs.Calls.{kept, shared_in, size_in, int_in, kind_in}
 
 -- the call that copies so
 abbrev pub copied : Option SharedPtr → Option SharedPtr → Option ℕ → Option ℤ → Option said.Way → said.Call

@@ -2,7 +2,7 @@
 use Rattle.std.proofs.Math.Seq.{drop-cons}
 use Rattle.std.proofs.lemmas.List.{drop_all}
 use Rattle.std.specs.Prelude.{slice_index_or}
-use Rattle.std.proofs.Common.{◌≡◌, ℕ, suc, ◌+◌, ◌<◌, ◌≤◌, List, [], ◌∷◌, length, drop, map, add-one, Result, Ok, Err, refl, sym, ap, ◌∙◌, subst}
+use Rattle.std.proofs.Common.{◌≡◌, ℕ, suc, ◌+◌, ◌<◌, ◌≤◌, List, [], ◌∷◌, length, drop, map, add-one, Ok, Err, refl, sym, ap, ◌∙◌, subst}
 use Rattle.std.proofs.Math.IntN.{ℤ}
 use Rattle.block_layout.specs.declared.place.SharedPtr.{SharedPtr}
 use Rattle.block_layout.specs.declared.kind.Kind.{Kind}

@@ -1,4 +1,4 @@
-use Rattle.std.proofs.Common.{◌≡◌, ◌+◌, ◌<◌}
+use Rattle.std.proofs.Common.{◌≡◌, ◌<◌}
 use Rattle.std.specs.List.{All}
 use Rattle.std.specs.Option.{option_copied}
 use Rattle.upc_values.specs.Views.{cells_within}

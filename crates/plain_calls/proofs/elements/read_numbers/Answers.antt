@@ -1,4 +1,4 @@
-use Rattle.std.proofs.Common.{◌≡◌, Err, List, [], ◌∷◌, ◌++◌, length, length-append, map, subst, sym, ap, ◌∙◌, arith, rules}
+use Rattle.std.proofs.Common.{Err, List, [], ◌++◌, length, length-append, map, sym, ap, ◌∙◌, arith, rules}
 use Rattle.std.proofs.Math.IntN.{ℤ}
 use Rattle.std.proofs.lemmas.Int.{to_z-of_z}
 use Rattle.std.proofs.lemmas.Result.{err_from_is_err_and}
@@ -9,7 +9,7 @@ use Rattle.upc_values.specs.Expansion.{Expansion, bind, gathered, Gives}
 use Rattle.upc_values.specs.Expansions.{number_at}
 use Rattle.plain_calls.specs.Run.{run}
 use Rattle.plain_calls.specs.Spots.{pointer_of}
-use Rattle.plain_calls.proofs.Following.{alike, gather-start, gather-on-at, gather-stops-at, gather-done}
+use Rattle.plain_calls.proofs.Following.{alike, gather-start, gather-on-at, gather-stops-at}
 use Rattle.plain_calls.proofs.elements.read_numbers.Goals as goal
 
 pub loop-element-init : goal.loop-element-init

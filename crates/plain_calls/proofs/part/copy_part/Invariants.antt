@@ -1,6 +1,5 @@
 use Rattle.std.proofs.Common.{◌≡◌, drop}
-use Rattle.std.specs.List.{All}
-use Rattle.upc_values.specs.Expansion.{each_in_turn, Reads, does}
+use Rattle.upc_values.specs.Expansion.{each_in_turn}
 use Rattle.upc_values.specs.Expansions.{copied}
 use Rattle.plain_calls.specs.Run.{run}
 use Rattle.plain_calls.specs.Spots.{part_of}

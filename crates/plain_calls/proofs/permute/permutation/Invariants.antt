@@ -1,6 +1,6 @@
 use Rattle.std.proofs.Common.{◌≡◌, map, length}
 use Rattle.std.specs.List.{range_with_len}
-use Rattle.upc_values.specs.Views.{element, from_phase_0}
+use Rattle.upc_values.specs.Views.{element}
 use Rattle.plain_calls.specs.Spots.{pointer_of}
 use Rattle.plain_calls.proofs.permute.permutation.Given as goal
 

@@ -1,4 +1,4 @@
-use Rattle.std.proofs.Common.{◌≡◌, ℕ, List, [], ◌∷◌, Bool, true, false, not, ◌||◌, ◌&&◌, ◌==◌, ◌*◌, map, sym, ap, subst, ◌∙◌}
+use Rattle.std.proofs.Common.{◌≡◌, List, [], ◌∷◌, Bool, true, false, not, ◌||◌, ◌&&◌, ◌==◌, ◌*◌, map, sym, ap, subst, ◌∙◌}
 use Rattle.std.proofs.Math.IntN.{ℤ}
 use Rattle.std.specs.List.{list_any}
 use Rattle.block_layout.specs.declared.place.SharedPtr.{SharedPtr}

@@ -1,4 +1,4 @@
-use Rattle.std.proofs.Common.{ℕ, List, [], ◌∷◌, not, map, subst}
+use Rattle.std.proofs.Common.{List, [], ◌∷◌, not, map, subst}
 use Rattle.std.proofs.Math.IntN.{ℤ}
 use Rattle.block_layout.specs.declared.kind.Kind.TheVariants.{Int}
 use Rattle.block_layout.specs.declared.run_error.TheConstants.{LIBRARY_ARGS}

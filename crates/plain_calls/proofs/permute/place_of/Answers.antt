@@ -1,4 +1,4 @@
-use Rattle.std.proofs.Common.{◌≡◌, Bool, pos, sym, below_more, arith, ◌∙◌}
+use Rattle.std.proofs.Common.{Bool, pos, sym, below_more, arith, ◌∙◌}
 use Rattle.std.proofs.Math.IntN.{ℤ}
 use Rattle.std.specs.Ordering.{int_eq}
 use Rattle.std.proofs.lemmas.List.Sums.{position_or_len_is}

@@ -1,12 +1,11 @@
-use Rattle.std.proofs.Common.{◌≡◌, ℕ, List, [], ◌∷◌, ◌++◌, map, sym, ap, subst, ◌∙◌, refl, arith}
+use Rattle.std.proofs.Common.{List, [], ◌∷◌, map, ap, subst, ◌∙◌}
 use Rattle.block_layout.specs.declared.place.SharedPtr.{SharedPtr}
 use Rattle.upc_values.specs.Expansion.{Expansion}
 use Rattle.upc_values.specs.Expansions as said
 use Rattle.upc_values.specs.Reductions.{reduction, element_kind}
 use Rattle.plain_calls.specs.Run.{Follows}
 use Rattle.plain_calls.specs.Spots.{pointer_of}
-use Rattle.plain_calls.proofs.CellTests.{cell_tests}
-use Rattle.plain_calls.proofs.Following.{goes-past, stops-at, works-on}
+use Rattle.plain_calls.proofs.Following.{works-on}
 use Rattle.plain_calls.proofs.reduce.reduce_all.Goals as goal
 
 pub returns : goal.returns

@@ -1,12 +1,9 @@
-use Rattle.std.proofs.Common.{◌≡◌, ℕ, List, [], ◌∷◌, ◌++◌, map, sym, ap, subst, ◌∙◌, refl, arith}
-use Rattle.block_layout.specs.declared.place.SharedPtr.{SharedPtr}
-use Rattle.upc_values.specs.Expansion.{Expansion}
+use Rattle.std.proofs.Common.{[], ◌∷◌, map, refl, arith}
 use Rattle.upc_values.specs.Expansions as said
 use Rattle.upc_values.specs.Reductions.{reduction, element_kind}
-use Rattle.plain_calls.specs.Run.{Follows}
 use Rattle.plain_calls.specs.Spots.{pointer_of}
 use Rattle.plain_calls.proofs.CellTests.{cell_tests}
-use Rattle.plain_calls.proofs.Following.{goes-past, stops-at, works-on}
+use Rattle.plain_calls.proofs.Following.{goes-past, stops-at}
 use Rattle.plain_calls.proofs.reduce.reduce_cells.Goals as goal
 
 pub returns-in-Some : goal.returns-in-Some

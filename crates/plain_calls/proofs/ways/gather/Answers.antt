@@ -1,4 +1,4 @@
-use Rattle.std.proofs.Common.{ℕ, ◌+◌, ◌*◌}
+use Rattle.std.proofs.Common.{ℕ, ◌*◌}
 use Rattle.upc_values.specs.Calls.{Gather}
 use Rattle.upc_values.specs.Expansions as said
 use Rattle.plain_calls.specs.Spots.{part_of}

@@ -1,4 +1,4 @@
-use Rattle.std.proofs.Common.{◌≡◌, ◌+◌, ◌*◌, map}
+use Rattle.std.proofs.Common.{◌≡◌, ◌*◌, map}
 use Rattle.std.specs.List.{range_with_len}
 use Rattle.upc_values.specs.Calls.{Gather}
 use Rattle.upc_values.specs.Expansions.{goes}
