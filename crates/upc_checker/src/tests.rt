@@ -59,7 +59,7 @@ fn at(column: u32) -> Span {
 fn name(number: u32) -> Name {
     Name {
         number,
-        span: at(number + 1),
+        span: at(number.saturating_add(1)),
     }
 }
 
