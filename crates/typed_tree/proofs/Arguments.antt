@@ -1,15 +1,13 @@
 -- Arguments and parameters, side by side.
-use Rattle.std.proofs.Common.{◌≡◌, ℕ, zero, suc, ◌+◌, ◌<◌, nat_le, Bool, true, false, ◌&&◌, arith, List, [], ◌∷◌, length, map, drop, get_or, Option, Some, None, refl, sym, ap, ◌∙◌}
+use Rattle.std.proofs.Common.{◌≡◌, ℕ, zero, suc, ◌+◌, ◌<◌, nat_le, Bool, true, false, arith, List, [], ◌∷◌, length, map, drop, get_or, Option, Some, None, refl, sym, ap, ◌∙◌}
 use Rattle.std.proofs.lemmas.List.{drop_more, drop-drop, drop-map, drop_all}
 use Rattle.std.proofs.lemmas.Bool.{le-leb, lt-leb, leb-true, leb-false}
-use Rattle.std.proofs.Math.Bool.{and-false}
 use Rattle.upc_types.specs.Types.{CType, Base}
 use Rattle.typed_tree.specs.declared.library.LibraryParameter.{LibraryParameter}
 use Rattle.typed_tree.specs.declared.format.Awaits.{Awaits}
 use Rattle.typed_tree.specs.declared.format.Awaits.TheVariants.{Anything, AfterPercent, AfterZero, AfterDigit, AfterDigits, AfterL}
 use Rattle.typed_tree.specs.declared.format.Printed.{Printed}
-use Rattle.typed_tree.specs.declared.format.FormatStep.{FormatStep}
-use Rattle.typed_tree.specs.declared.format.FormatStep.TheVariants.{Stops, Goes, Prints}
+use Rattle.typed_tree.specs.declared.format.FormatStep.TheVariants.{Goes, Prints}
 use Rattle.typed_tree.specs.Nodes.{Attr}
 use Rattle.typed_tree.specs.Rules.{first_converts, all_convert, first_taken, all_taken, first_is_no_function, no_functions}
 use Rattle.typed_tree.specs.Format.{step, go_on, one_more, conversions, takes, is_anything, all_printed, prints_by}

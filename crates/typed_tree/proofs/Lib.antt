@@ -2,3 +2,8 @@ pub mod FirstFault
 pub mod Arguments
 pub mod Operands
 pub mod Entries
+pub mod Built
+pub mod Sized
+pub mod Finding
+pub mod Wide
+pub mod StatementRows

@@ -1,5 +1,5 @@
 -- Operands of binary operators, converted to the kinds at which these work.
-use Rattle.std.proofs.Common.{◌≡◌, ℕ, ℤ, pos, neg_ℤ, ◌≤ℤ◌, ◌<ℤ◌, ◌^◌, arith}
+use Rattle.std.proofs.Common.{ℕ, ℤ, pos, neg_ℤ, ◌≤◌, ◌≤ℤ◌, ◌<ℤ◌, ◌^◌, unsigned_abs, Option, Some, None, IfSome, Result, Ok, Err, IfOk, arith}
 use Rattle.std.proofs.lemmas.Int.{ints}
 use Rattle.block_layout.specs.declared.kind.Kind.{Kind}
 use Rattle.block_layout.specs.declared.kind.Kind.TheVariants.{Char, UChar, Short, UShort, Int, UInt, Long, ULong, Shared, Lock, Private}
@@ -8,7 +8,7 @@ use Rattle.integers.specs.declared.operator.BinOp.TheVariants.{Multiply, Divide,
 use Rattle.integers.specs.Integers.{InKind}
 use Rattle.integers.specs.Operators.{RightFits}
 use Rattle.upc_types.specs.Arithmetic.{promoted}
-use Rattle.typed_tree.specs.Constants.{working_kind, right_kind}
+use Rattle.typed_tree.specs.Constants.{working_kind, right_kind, IsKindValue}
 
 -- A value of a kind may be a shift's count.
 count_fits : (v : ℤ) (kind : Kind) → InKind v kind → (neg_ℤ (pos (2 ^ 63)) ≤ℤ v) × (v <ℤ pos (2 ^ 64))
@@ -42,3 +42,16 @@ right_fits NotEqual a b v h = h
 right_fits BitAnd a b v h = h
 right_fits BitXor a b v h = h
 right_fits BitOr a b v h = h
+
+-- A value of a kind is one of an integer kind.
+pub kind_value : (r : Result ℤ ℕ) (kind : Kind) → IfOk r (λ v. InKind v kind) → IfOk r IsKindValue
+kind_value (Ok v) kind h = let f = count_fits v kind h in record { low = f.0; high = f.1 }
+kind_value (Err e) kind h = tt
+
+near_one : (v : ℤ) → IsKindValue v → unsigned_abs v ≤ 2 ^ 64
+near_one v h = omega (arith, ints, h.low, h.high)
+
+-- It is near.
+pub near_is : (o : Option ℤ) → IfSome o IsKindValue → IfSome o (λ v. unsigned_abs v ≤ 2 ^ 64)
+near_is (Some v) h = near_one v h
+near_is None h = tt

@@ -123,6 +123,16 @@ member_of structs (Some number) name = find_member structs 0 0 (members_of struc
 abbrev pub member_named : Structs → CType → List ℕ → Option Found
 member_named structs t name = member_of structs (base_struct (base_of t)) name
 
+-- The number of a member that is found.
+abbrev pub found_index : Option Found → ℕ
+found_index None = 0
+found_index (Some x) = x.index
+
+-- So of a struct that a pointer leads to.
+abbrev pub target_index : Structs → Option CType → List ℕ → ℕ
+target_index structs None name = 0
+target_index structs (Some t) name = found_index (member_named structs t name)
+
 -- A member of a shared object is shared with an indefinite block.
 abbrev pub member_block : Option ℕ → Option ℕ
 member_block None = None

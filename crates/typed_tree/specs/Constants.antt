@@ -1,5 +1,5 @@
 -- The values of constant expressions (C99 6.6).
-use Rattle.std.specs.Prelude.{ℕ, ◌==◌, Bool, true, false, ◌&&◌, not, if◌then◌else◌, Option, Some, None, Result, Ok, Err, ℤ, pos, ◌+ℤ◌, ◌*ℤ◌}
+use Rattle.std.specs.Prelude.{ℕ, ◌==◌, ◌^◌, Bool, true, false, ◌&&◌, not, if◌then◌else◌, Option, Some, None, IfSome, Result, Ok, Err, ℤ, pos, neg_ℤ, ◌+ℤ◌, ◌*ℤ◌, ◌≤ℤ◌, ◌<ℤ◌}
 use Rattle.std.specs.Ordering.{int_eq}
 use Rattle.block_layout.specs.declared.kind.Kind.{Kind}
 use Rattle.block_layout.specs.declared.place.SharedPtr.{SharedPtr}
@@ -15,6 +15,8 @@ use Rattle.typed_tree.specs.declared.attribute.Static.{Static}
 use Rattle.typed_tree.specs.declared.attribute.Static.TheVariants.{Private, Shared}
 use Rattle.typed_tree.specs.declared.attribute.Constant.{Constant}
 use Rattle.typed_tree.specs.declared.attribute.Constant.TheVariants.{Variable, Known, Undefined, Null, Address}
+use Rattle.typed_tree.specs.declared.attribute.Form.{Form}
+use Rattle.typed_tree.specs.declared.attribute.Form.TheVariants.{Lvalue}
 
 -- An integer constant expression of value 0 (C99 6.3.2.3).
 abbrev pub is_zero : Constant → Bool
@@ -111,6 +113,27 @@ choice_constant kind (Known v) a b =
     else Variable
 choice_constant kind Undefined a b = if is_integral a && is_integral b then Undefined else Variable
 choice_constant kind test a b = Variable
+
+-- A value of an integer kind: from -2^63 to 2^64 - 1.
+pub record IsKindValue (v : ℤ) : Type 0 where
+  pub low : neg_ℤ (pos (2 ^ 63)) ≤ℤ v
+  pub high : v <ℤ pos (2 ^ 64)
+
+abbrev pub number_of : Constant → Option ℤ
+number_of (Known v) = Some v
+number_of c = None
+
+-- A constant whose number, where it is one, is a value of an integer kind.
+abbrev pub IsWithin : Constant → Type 0
+IsWithin c = IfSome (number_of c) IsKindValue
+
+abbrev pub named_constant : Form → Constant
+named_constant (Lvalue address) = address
+named_constant f = Variable
+
+-- So of the address of what an expression names.
+abbrev pub NamesWithin : Form → Type 0
+NamesWithin f = IsWithin (named_constant f)
 
 -- ---- addresses (C99 6.6)
 

@@ -14,3 +14,5 @@ pub mod ViewEntries
 pub mod ViewScopes
 pub mod ViewEnv
 pub mod ViewTree
+pub mod ViewFound
+pub mod ViewStatements

@@ -1,5 +1,5 @@
 -- The typing rules, each a test on a node and what its children are: whether the node breaks it. docs/LANGUAGE.md lists them with a program each.
-use Rattle.std.specs.Prelude.{◌≡◌, ℕ, nat_eq, nat_lt, nat_le, Bool, true, false, ◌&&◌, ◌||◌, not, List, [], ◌∷◌, map, length, IsTrue, ◌⊎◌, Option, Some, None, ℤ, pos, int_le}
+use Rattle.std.specs.Prelude.{◌≡◌, ℕ, nat_eq, nat_lt, nat_le, Bool, true, false, ◌&&◌, ◌||◌, not, List, [], ◌∷◌, map, length, IsTrue, ◌⊎◌, Option, Some, None, is_some, ℤ, pos, int_le}
 use Rattle.std.specs.List.{list_any}
 use Rattle.std.specs.Ordering.{int_eq}
 use Rattle.std.specs.Cmp.Lexicographic.{pointwise}
@@ -11,7 +11,7 @@ use Rattle.integers.specs.declared.operator.UnOp.TheVariants.{Not}
 use Rattle.integers.specs.Integers.{converted}
 use Rattle.upc_types.specs.Types as types
 use Rattle.upc_types.specs.Types.{CType, Base, Array, base_of, is_constant, block_of, Structs, members_of}
-use Rattle.upc_types.specs.Layout.{is_complete, size, most_bytes, holds_private}
+use Rattle.upc_types.specs.Layout.{is_complete, size, base_within, most_bytes, holds_private}
 use Rattle.upc_types.specs.Same.{same_type}
 use Rattle.upc_types.specs.Arithmetic.{promoted}
 use Rattle.upc_types.specs.Conversions.{is_integer, assignable, castable, takes_allocation, to_shared_void, to_void_pointer}
@@ -83,10 +83,14 @@ is_lvalue a = form_is_lvalue a.form
 abbrev pub is_modifiable : Attr → Bool
 is_modifiable a = is_lvalue a && not (is_array a.ctype || (is_struct a.ctype || is_constant a.ctype))
 
+-- A type has a size: it is complete, and has no more bytes than an object can have. One with more is refused where it is formed.
+abbrev pub has_size : Structs → CType → Bool
+has_size structs t = is_some (base_within structs.completed (base_of t))
+
 -- A pointer to void, to an incomplete type or to a lock.
 abbrev pub is_loose_target : Structs → Option CType → Bool
 is_loose_target structs None = false
-is_loose_target structs (Some t) = not (is_complete structs t)
+is_loose_target structs (Some t) = not (has_size structs t)
 
 abbrev pub is_loose : Structs → Attr → Bool
 is_loose structs a = is_loose_target structs (target a)
@@ -447,7 +451,7 @@ is_plain_size op = false
 
 -- A size operator has no size to give (C99 6.5.3.4, UPC 6.4.1).
 abbrev pub has_no_size : Structs → SizeOperator → CType → Bool
-has_no_size structs op t = not (is_complete structs t) || not (is_plain_size op || is_shared t)
+has_no_size structs op t = not (has_size structs t) || not (is_plain_size op || is_shared t)
 
 -- ---- the rules
 

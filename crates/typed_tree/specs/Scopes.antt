@@ -2,6 +2,7 @@
 use Rattle.std.specs.Prelude.{ℕ, ◌+◌, nat_eq, ◌==◌, Bool, true, false, ◌&&◌, not, if◌then◌else◌, List, [], ◌∷◌, Option, Some, None, slice_get}
 use Rattle.std.specs.List.{list_any}
 use Rattle.std.specs.Cmp.Lexicographic.{pointwise}
+use Rattle.upc_text.specs.declared.place.Place.{Place}
 use Rattle.upc_types.specs.Types.{CType, Member, Structs}
 use Rattle.upc_types.specs.Same.{same_type}
 use Rattle.typed_tree.specs.declared.setting.Home.{Home}
@@ -12,11 +13,13 @@ use Rattle.typed_tree.specs.Library.{call_named, constant_named}
 use Rattle.typed_tree.specs.Values.{is_shared, value_type}
 use Rattle.typed_tree.specs.Meanings.{Meaning, Unknown, Object, Library, Named, Signature}
 
--- What is the same for the whole source: its names by number, the number of threads, and the names of the functions that it defines, in order.
+-- What is the same for the whole source: its names by number, the number of threads, the names of the functions that it defines, in order, and
+-- how many structs, objects, parameters of definitions and functions there may be.
 pub record Setting : Type 0 where
   pub names : List (List ℕ)
   pub threads : ℕ
   pub defined : List ℕ
+  pub most : ℕ
 
 abbrev pub text_or_none : Option (List ℕ) → List ℕ
 text_or_none None = []
@@ -156,14 +159,17 @@ pub record KnownFunction : Type 0 where
   pub signature : Signature
   pub is_defined : Bool
 
--- What grows on the way through the source: the tags in scope, the latest first, the structs, and all functions declared so far.
+-- What grows on the way through the source: the tags in scope, the latest first, the structs, all functions declared so far, how many objects,
+-- parameters of definitions and functions have come, and the first declaration up to whose end there are more than there may be.
 pub record State : Type 0 where
   pub tags : List Tag
   pub structs : Structs
   pub functions : List KnownFunction
+  pub come : ℕ
+  pub above : Option Place
 
 abbrev pub begin : State
-begin = record { tags = []; structs = record { declared = 0; completed = []; targets = [] }; functions = [] }
+begin = record { tags = []; structs = record { declared = 0; completed = []; targets = [] }; functions = []; come = 0; above = None }
 
 -- The struct of a tag: the innermost one, or that of the scope itself.
 abbrev pub find_tag : ℕ → List Tag → Option ℕ

@@ -1,5 +1,4 @@
 -- The typed tree of the code, seen without where it lies in memory: expressions.
-use Rattle.std.specs.Prelude.{map}
 use Rattle.typed_tree.specs.declared.tree.Expr as e
 use Rattle.typed_tree.specs.declared.tree.ExprKind as k
 use Rattle.typed_tree.specs.declared.tree.ExprKind.{ExprKind, Row_of-Expr, end_of-Expr, more_of-Expr}

@@ -1,5 +1,8 @@
 //! What an expression is to the node above it.
 
+ghost use Rattle.std.proofs.Props.{props};
+ghost use Rattle.typed_tree.specs.Constants.{IsWithin, NamesWithin};
+
 use upc_types::CType;
 
 /// A place that is known before the run (C99 6.6): bytes from the beginning of a private object of the file, or a pointer
@@ -51,4 +54,6 @@ pub struct Attr {
     pub ctype: CType,
     pub form: Form,
     pub constant: Constant,
+    ghost within: { IsWithin constant } by { Prim.hlevel props },
+    ghost names: { NamesWithin form } by { Prim.hlevel props },
 }

@@ -10,6 +10,7 @@ ghost use Rattle.typed_tree.specs.Views.{view_meaning, view_use, view_target};
 ghost use Rattle.typed_tree.specs.Library as library;
 ghost use Rattle.typed_tree.specs.Values as values;
 ghost use Rattle.typed_tree.specs.Constants as c;
+ghost use Rattle.typed_tree.specs.Constants.{IsWithin};
 ghost use Rattle.typed_tree.specs.Nodes as n;
 ghost use Rattle.typed_tree.specs.Nodes.{view_attr};
 ghost use Rattle.typed_tree.specs.Attributes as pure;
@@ -33,7 +34,7 @@ use std::alloc::Global;
 use upc_text::OutOfMemory;
 use upc_types::{Access, Base, CType, copy_base, copy_type, promoted, usual};
 
-fn plainly(base: Base) -> CType
+pub(crate) fn plainly(base: Base) -> CType
     ensures { view result ≡ values.plainly (view_base base) }
 {
     CType {
@@ -44,7 +45,7 @@ fn plainly(base: Base) -> CType
     }
 }
 
-fn value(ctype: CType) -> Attr
+pub(crate) fn value(ctype: CType) -> Attr
     ensures { view_attr result ≡ pure.value (view ctype) }
 {
     Attr {
@@ -54,7 +55,8 @@ fn value(ctype: CType) -> Attr
     }
 }
 
-fn constant(kind: Kind, c: Constant) -> Attr
+pub(crate) fn constant(kind: Kind, c: Constant) -> Attr
+    requires { IsWithin c }
     ensures { view_attr result ≡ pure.constant kind c }
 {
     Attr {
@@ -81,6 +83,17 @@ pub fn value_type(alloc: Global, t: &CType) -> Result<CType, OutOfMemory>
     ensures { IfOk result (λ v. view v ≡ values.value_type (view t.now)) }
 {
     Ok(plainly(value_base(alloc, &t.base)?))
+}
+
+/// The same once more.
+pub fn copy(alloc: Global, a: &Attr) -> Result<Attr, OutOfMemory>
+    ensures { IfOk result (λ x. view_attr x ≡ view_attr a.now) }
+{
+    Ok(Attr {
+        ctype: copy_type(alloc, &a.ctype)?,
+        form: a.form,
+        constant: a.constant,
+    })
 }
 
 /// `++`, `--`, an assignment or a comma expression, from the operand whose type it has.
@@ -117,7 +130,7 @@ pub fn strings() -> Attr
     }
 }
 
-fn int_value() -> Attr
+pub(crate) fn int_value() -> Attr
     ensures { view_attr result ≡ pure.value library.int }
 {
     value(plainly(Base::Integer(Kind::Int)))
@@ -192,7 +205,12 @@ pub fn address(alloc: Global, a: &Attr) -> Result<Attr, OutOfMemory>
     })
 }
 
-fn object_at(alloc: Global, target: Option<&CType>, address: Constant) -> Result<Attr, OutOfMemory>
+pub(crate) fn object_at(
+    alloc: Global,
+    target: Option<&CType>,
+    address: Constant,
+) -> Result<Attr, OutOfMemory>
+    requires { IsWithin address }
     ensures { IfOk result (λ x. view_attr x ≡ pure.object_at (view_target target.entry) address) }
 {
     match target {
@@ -213,7 +231,8 @@ pub fn dereference(alloc: Global, a: &Attr) -> Result<Attr, OutOfMemory>
 }
 
 fn home_address(home: Home) -> Constant
-    ensures { result ≡ pure.home_address home }
+    ensures value { result ≡ pure.home_address home }
+    ensures within { IsWithin result }
 {
     match home {
         Home::Private(object) => Constant::Address(Static::Private { object, offset: 0 }),
@@ -324,7 +343,8 @@ pub fn call(alloc: Global, how: Use<'_>, meaning: Meaning<'_>) -> Result<Attr, O
 }
 
 fn cast_place(from: Option<u32>, into: Option<u32>, p: Static) -> Constant
-    ensures { result ≡ c.cast_place from into p }
+    ensures value { result ≡ c.cast_place from into p }
+    ensures within { IsWithin result }
 {
     match (p, from, into) {
         (Static::Private { object, offset }, _, _) => {
@@ -350,7 +370,8 @@ fn cast_place(from: Option<u32>, into: Option<u32>, p: Static) -> Constant
 }
 
 fn cast_address(from: Option<u32>, into: Option<u32>, x: Constant) -> Constant
-    ensures { result ≡ c.cast_address from into x }
+    ensures value { result ≡ c.cast_address from into x }
+    ensures within { IsWithin result }
 {
     match x {
         Constant::Address(p) => cast_place(from, into, p),
@@ -375,7 +396,8 @@ fn target_block(target: Option<&CType>) -> Option<u32>
 }
 
 fn cast_by(t: &CType, a: &Attr) -> Constant
-    ensures { result ≡ pure.cast_by (values.value_type (view t.now)) (values.base_kind (values.value_base (view_base t.now.base))) (view_attr a.now) }
+    ensures value { result ≡ pure.cast_by (values.value_type (view t.now)) (values.base_kind (values.value_base (view_base t.now.base))) (view_attr a.now) }
+    ensures within { IsWithin result }
 {
     match base_kind(&t.base) {
         Some(kind) => cast_constant(kind, a.constant),

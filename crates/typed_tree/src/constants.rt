@@ -1,10 +1,11 @@
 //! The values of constant expressions (C99 6.6).
 
-ghost use Rattle.std.specs.Prelude.{◌≡◌};
+ghost use Rattle.std.specs.Prelude.{◌≡◌, IfOk};
 ghost use Rattle.integers.specs.Integers.{IsInteger, IsPromoted, converted};
 ghost use Rattle.integers.specs.Operators.{binary_of, unary_of, truth};
 ghost use Rattle.upc_types.specs.Arithmetic as arithmetic;
 ghost use Rattle.typed_tree.specs.Constants as pure;
+ghost use Rattle.typed_tree.specs.Constants.{IsKindValue, IsWithin};
 
 use crate::attribute::Constant;
 use crate::numbers::converted;
@@ -38,7 +39,9 @@ fn right_kind(op: BinOp, a: Kind, b: Kind) -> Kind
 }
 
 fn valued(v: Result<i128, u8>) -> Constant
-    ensures { result ≡ pure.valued v }
+    requires { IfOk v IsKindValue }
+    ensures value { result ≡ pure.valued v }
+    ensures within { IsWithin result }
 {
     match v {
         Ok(v) => Constant::Known(v),
@@ -49,7 +52,8 @@ fn valued(v: Result<i128, u8>) -> Constant
 fn binary_known(op: BinOp, a: Kind, b: Kind, v: i128, w: i128) -> Constant
     requires left { IsInteger a }
     requires right { IsInteger b }
-    ensures { result ≡ pure.valued (binary_of op (pure.working_kind op a b) (converted (pure.working_kind op a b) v) (converted (pure.right_kind op a b) w)) }
+    ensures value { result ≡ pure.valued (binary_of op (pure.working_kind op a b) (converted (pure.working_kind op a b) v) (converted (pure.right_kind op a b) w)) }
+    ensures within { IsWithin result }
 {
     let kind = working_kind(op, a, b);
     let left = converted(kind, v);
@@ -61,7 +65,8 @@ fn binary_known(op: BinOp, a: Kind, b: Kind, v: i128, w: i128) -> Constant
 pub fn binary_constant(op: BinOp, a: Kind, b: Kind, x: Constant, y: Constant) -> Constant
     requires left { IsInteger a }
     requires right { IsInteger b }
-    ensures { result ≡ pure.binary_constant op a b x y }
+    ensures value { result ≡ pure.binary_constant op a b x y }
+    ensures within { IsWithin result }
 {
     match (x, y) {
         (Constant::Known(v), Constant::Known(w)) => binary_known(op, a, b, v, w),
@@ -74,7 +79,8 @@ pub fn binary_constant(op: BinOp, a: Kind, b: Kind, x: Constant, y: Constant) ->
 
 fn unary_known(op: UnOp, a: Kind, v: i128) -> Constant
     requires { IsInteger a }
-    ensures { result ≡ pure.valued (unary_of op (arithmetic.promoted a) (converted (arithmetic.promoted a) v)) }
+    ensures value { result ≡ pure.valued (unary_of op (arithmetic.promoted a) (converted (arithmetic.promoted a) v)) }
+    ensures within { IsWithin result }
 {
     let kind = promoted(a);
     valued(unary(op, kind, converted(kind, v)))
@@ -83,7 +89,8 @@ fn unary_known(op: UnOp, a: Kind, v: i128) -> Constant
 /// A unary operator on a constant of this kind (C99 6.5.3.3).
 pub fn unary_constant(op: UnOp, a: Kind, x: Constant) -> Constant
     requires { IsInteger a }
-    ensures { result ≡ pure.unary_constant op a x }
+    ensures value { result ≡ pure.unary_constant op a x }
+    ensures within { IsWithin result }
 {
     match x {
         Constant::Known(v) => unary_known(op, a, v),
@@ -95,7 +102,8 @@ pub fn unary_constant(op: UnOp, a: Kind, x: Constant) -> Constant
 /// A constant, converted to an integer kind (C99 6.3.1.3).
 pub fn cast_constant(kind: Kind, x: Constant) -> Constant
     requires { IsInteger kind }
-    ensures { result ≡ pure.cast_constant kind x }
+    ensures value { result ≡ pure.cast_constant kind x }
+    ensures within { IsWithin result }
 {
     match x {
         Constant::Known(v) => Constant::Known(converted(kind, v)),
@@ -112,7 +120,8 @@ fn is_integral(x: Constant) -> bool
 
 // 1 for what is not 0.
 fn truth_of(x: Constant) -> Constant
-    ensures { result ≡ pure.truth_constant x }
+    ensures value { result ≡ pure.truth_constant x }
+    ensures within { IsWithin result }
 {
     match x {
         Constant::Known(v) => Constant::Known(if v == 0 { 0 } else { 1 }),
@@ -122,7 +131,9 @@ fn truth_of(x: Constant) -> Constant
 }
 
 fn if_integral(x: Constant, chosen: Constant) -> Constant
-    ensures { result ≡ pure.if_integral x chosen }
+    requires { IsWithin chosen }
+    ensures value { result ≡ pure.if_integral x chosen }
+    ensures within { IsWithin result }
 {
     if is_integral(x) {
         chosen
@@ -133,7 +144,8 @@ fn if_integral(x: Constant, chosen: Constant) -> Constant
 
 /// `a && b` (C99 6.5.13).
 pub fn and_constant(x: Constant, y: Constant) -> Constant
-    ensures { result ≡ pure.and_constant x y }
+    ensures value { result ≡ pure.and_constant x y }
+    ensures within { IsWithin result }
 {
     match x {
         Constant::Known(v) => {
@@ -150,7 +162,8 @@ pub fn and_constant(x: Constant, y: Constant) -> Constant
 
 /// `a || b` (C99 6.5.14).
 pub fn or_constant(x: Constant, y: Constant) -> Constant
-    ensures { result ≡ pure.or_constant x y }
+    ensures value { result ≡ pure.or_constant x y }
+    ensures within { IsWithin result }
 {
     match x {
         Constant::Known(v) => {
@@ -168,7 +181,8 @@ pub fn or_constant(x: Constant, y: Constant) -> Constant
 /// `test ? a : b` of integers at their common kind (C99 6.5.15).
 pub fn choice_constant(kind: Kind, test: Constant, a: Constant, b: Constant) -> Constant
     requires { IsInteger kind }
-    ensures { result ≡ pure.choice_constant kind test a b }
+    ensures value { result ≡ pure.choice_constant kind test a b }
+    ensures within { IsWithin result }
 {
     if !(is_integral(a) && is_integral(b)) {
         return Constant::Variable;

@@ -58,7 +58,8 @@ pub fn star_block(declares: bool) -> Option<u8>
 
 /// The address that an expression names.
 pub fn address_in(form: Form) -> Constant
-    ensures { result ≡ attributes.address_in form }
+    ensures value { result ≡ attributes.address_in form }
+    ensures within { c.NamesWithin form → c.IsWithin result }
 {
     match form {
         Form::Lvalue(address) => address,
@@ -68,7 +69,8 @@ pub fn address_in(form: Form) -> Constant
 
 /// The constant that an expression's value is.
 pub fn constant_of(a: &Attr) -> Constant
-    ensures { result ≡ attributes.constant_of (view_attr a.now) }
+    ensures value { result ≡ attributes.constant_of (view_attr a.now) }
+    ensures within { c.IsWithin result }
 {
     if is_array(&a.ctype) {
         address_in(a.form)

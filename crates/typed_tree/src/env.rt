@@ -5,7 +5,7 @@ ghost use Rattle.upc_types.specs.View.{view};
 ghost use Rattle.typed_tree.specs.Scopes as pure;
 ghost use Rattle.typed_tree.specs.Views.{view_meaning, view_signature};
 ghost use Rattle.typed_tree.specs.Meanings as meanings;
-ghost use Rattle.typed_tree.specs.ViewEnv.{view_env, view_counts};
+ghost use Rattle.typed_tree.specs.ViewEnv.{view_env, view_counts, view_detached, with_outer};
 
 use crate::meaning::{Meaning, Signature};
 use crate::scope::{Declared, Scope};
@@ -41,6 +41,14 @@ pub enum Outer<'o> {
     Within(&'o Env<'o>),
 }
 
+/// The names and the counts of a scope, without what is around it.
+#[derive(Drop)]
+pub struct Detached {
+    level: u32,
+    names: Scope,
+    counts: Counts,
+}
+
 /// The scope of the file, without names.
 pub fn file(alloc: Global) -> Env<'static>
     ensures { view_env result ≡ pure.file }
@@ -68,6 +76,29 @@ pub fn inside<'o>(alloc: Global, env: &'o Env<'o>) -> Result<Env<'o>, OutOfMemor
         counts: env.counts,
         outer: Outer::Within(env),
     })
+}
+
+/// A scope without what is around it.
+pub fn alone(env: Env<'_>) -> Detached
+    ensures { (outer : pure.Outer) → view_detached result outer ≡ with_outer outer (view_env env.entry) }
+{
+    Detached {
+        level: env.level,
+        names: env.names,
+        counts: env.counts,
+    }
+}
+
+/// A scope that was alone, inside another one.
+pub fn within<'o>(own: Detached, env: &'o Env<'o>) -> Env<'o>
+    ensures { view_env result ≡ view_detached own (pure.Within (view_env env.now)) }
+{
+    Env {
+        level: own.level,
+        names: own.names,
+        counts: own.counts,
+        outer: Outer::Within(env),
+    }
 }
 
 /// The innermost declaration of a name. Takes no memory.

@@ -1,12 +1,16 @@
 //! Programs that are well typed: what names stand for, the typing rules on a node and its children, and the tree with its types.
 #![tactic(auto)]
 
+mod addresses;
 mod attribute;
 pub mod attributes;
+pub mod build;
+pub mod build_statements;
 pub mod calls;
 pub mod constants;
 mod conversion;
 pub mod declarations;
+pub mod elements;
 pub mod env;
 mod format;
 pub mod laws;
@@ -16,9 +20,11 @@ mod meaning;
 pub mod members;
 pub mod names;
 mod numbers;
+pub mod reached;
 pub mod rules;
 pub mod scope;
 mod setting;
+pub mod sizes;
 pub mod statements;
 pub mod switch;
 #[cfg(test)]
@@ -35,3 +41,4 @@ pub use tree::{
     Affinity, Arm, Expr, ExprKind, Function, Head, Initial, Item, Object, Statement, StatementKind,
     StepOperator, SwitchItem, Synchronises, Target,
 };
+pub use types::kind_of;

@@ -144,7 +144,7 @@ fn is_plain_size(op: SizeOperator) -> bool
 pub(crate) fn has_no_size(structs: &Structs, op: SizeOperator, t: &CType) -> bool
     ensures { result ≡ r.has_no_size (view_structs structs.now) op (view t.now) }
 {
-    !structs.is_complete(&t.base) || !(is_plain_size(op) || is_shared(t))
+    structs.layout_of(&t.base).is_none() || !(is_plain_size(op) || is_shared(t))
 }
 
 /// A size operator on an expression.

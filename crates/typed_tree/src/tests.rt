@@ -34,11 +34,11 @@ fn int() -> Attr {
     object(plain(Base::Integer(Kind::Int)))
 }
 
-fn number(v: i128) -> Attr {
+fn number(v: i64) -> Attr {
     Attr {
         ctype: plain(Base::Integer(Kind::Int)),
         form: Form::Value,
-        constant: Constant::Known(v),
+        constant: Constant::Known(i128::from(v)),
     }
 }
 

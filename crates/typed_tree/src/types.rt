@@ -178,7 +178,7 @@ fn is_loose_target(structs: &Structs, target: Option<&CType>) -> bool
     ensures { result ≡ rules.is_loose_target (view_structs structs.now) (view_target target.entry) }
 {
     match target {
-        Some(t) => !structs.is_complete(&t.base),
+        Some(t) => structs.layout_of(&t.base).is_none(),
         None => false,
     }
 }

@@ -83,6 +83,13 @@ impl Structs {
         Ok(number)
     }
 
+    /// How many structs there are.
+    pub fn declared(&self) -> u32
+        ensures { result ≡ (view_structs self.now).declared }
+    {
+        self.declared
+    }
+
     /// The layout of a type, None where it is incomplete or has more bytes than an object can have. Takes no memory.
     pub fn layout_of(&self, base: &Base) -> Option<Layout>
         ensures value { result ≡ base_within (view_structs self.now).completed (view_base base.now) }

@@ -1,4 +1,4 @@
-use Rattle.std.proofs.Common.{◌≡◌, ◌+◌, ◌<◌, true, [], map, drop, get_or, sym, ap, ◌∙◌, arith}
+use Rattle.std.proofs.Common.{◌≡◌, ◌+◌, true, map, drop, sym, ap, ◌∙◌, arith}
 use Rattle.std.proofs.lemmas.List.{at_drop_all}
 use Rattle.upc_types.specs.View.{view}
 use Rattle.typed_tree.specs.Views.{attr_seen}

@@ -1,0 +1,8 @@
+use Rattle.std.proofs.Common.{ap}
+use Rattle.typed_tree.specs.Nodes.{view_attr}
+use Rattle.typed_tree.specs.Tree.{Is}
+use Rattle.typed_tree.proofs.Built.{call_is}
+use Rattle.typed_tree.proofs.build.call.Goals as goal
+
+pub returns : goal.returns
+returns c = ap (Is c.args.place (view_attr c.args.attr)) (call_is c.args.target c.args.args)

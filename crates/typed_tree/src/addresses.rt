@@ -1,0 +1,234 @@
+//! Addresses that are known before the run, and what lies behind them (C99 6.5.6, 6.6; UPC 6.4.2, 6.4.4).
+
+ghost use Rattle.std.specs.Prelude.{◌≡◌, ◌*◌, ◌<◌, ◌≤◌, ◌^◌, pos, ◌+ℤ◌, ◌-ℤ◌, ◌*ℤ◌, unsigned_abs};
+ghost use Rattle.block_layout.specs.Places.{in_range, offset_at};
+ghost use Rattle.shared_pointers.specs.Steps.{element_in_row, row_offset, moved, moved_by_blocks};
+ghost use Rattle.typed_tree.specs.Constants as c;
+ghost use Rattle.typed_tree.specs.Constants.{IsWithin};
+ghost use Rattle.typed_tree.specs.Attributes as attributes;
+
+use crate::attribute::{Constant, Static};
+use block_layout::{ObjectRef, SharedPtr, wide};
+
+// A place in a shared object whose offset may be out of range.
+#[derive(Clone, Copy)]
+struct Spot {
+    thread: u32,
+    phase: u32,
+    offset: i128,
+}
+
+fn lies_in_range(offset: i128) -> bool
+    ensures { result ≡ in_range offset }
+{
+    -1_099_511_627_776 <= offset && offset <= 1_099_511_627_776
+}
+
+fn private_at(object: u32, offset: i128) -> Constant
+    ensures value { result ≡ c.ranged (Static.Private object offset) }
+    ensures within { IsWithin result }
+{
+    if !lies_in_range(offset) {
+        return Constant::Undefined;
+    }
+    Constant::Address(Static::Private {
+        object,
+        offset: offset as i64,
+    })
+}
+
+fn shared_at(object: u32, spot: Spot) -> Constant
+    ensures value { result ≡ c.ranged (Static.Shared object spot.thread spot.phase spot.offset) }
+    ensures within { IsWithin result }
+{
+    if !lies_in_range(spot.offset) {
+        return Constant::Undefined;
+    }
+    Constant::Address(Static::Shared {
+        object,
+        thread: spot.thread,
+        phase: spot.phase,
+        offset: spot.offset as i64,
+    })
+}
+
+fn pointer_into(object: u32, thread: u32, phase: u32, offset: i64) -> SharedPtr
+    ensures { result ≡ c.pointer_into object thread phase offset }
+{
+    SharedPtr {
+        object: ObjectRef {
+            number: object,
+            total: 0,
+            block: 0,
+            home: 0,
+            shape: 0,
+            base: 0,
+        },
+        thread,
+        phase,
+        offset,
+    }
+}
+
+// A number times a factor.
+pub(crate) fn times(z: i128, factor: u32) -> i128
+    requires { unsigned_abs z ≤ 2 ^ 90 }
+    ensures value { result ≡ z *ℤ pos factor }
+    ensures bound { unsigned_abs result ≤ unsigned_abs z * factor }
+    ensures near { unsigned_abs result ≤ 2 ^ 122 }
+{
+    z * i128::from(factor)
+}
+
+fn place_in_row(p: &SharedPtr, block: u32) -> i128
+    ensures value { result ≡ pos (element_in_row p.now block) }
+    ensures bound { unsigned_abs result ≤ 2 ^ 64 }
+{
+    let before = u64::from(p.thread) * u64::from(block);
+    i128::from(before) + i128::from(p.phase)
+}
+
+fn row_begin(p: &SharedPtr, size: u32) -> i128
+    ensures value { result ≡ row_offset p.now size }
+    ensures bound { unsigned_abs result ≤ 2 ^ 65 }
+{
+    let bytes = u64::from(p.phase) * u64::from(size);
+    i128::from(p.offset) - i128::from(bytes)
+}
+
+// The offset of an element that is counted from the row of a pointer, with a block of at least 1.
+fn offset_in_row(p: &SharedPtr, e: i128, block: u32, size: u32, threads: u32) -> i128
+    requires near { unsigned_abs e ≤ 2 ^ 91 }
+    requires some_block { 0 < block }
+    requires some_thread { 0 < threads }
+    ensures { result ≡ offset_at e block size threads +ℤ row_offset p.now size }
+{
+    let offset = wide::offset_of(e, block, size, threads);
+    let row = row_begin(p, size);
+    offset + row
+}
+
+// The place some elements behind a pointer, with a block of at least 1.
+fn moved_by_blocks(p: &SharedPtr, i: i128, block: u32, size: u32, threads: u32) -> Spot
+    requires step { unsigned_abs i ≤ 2 ^ 90 }
+    requires some_block { 0 < block }
+    requires some_thread { 0 < threads }
+    ensures thread { result.thread ≡ (moved_by_blocks p.now i block size threads).thread }
+    ensures phase { result.phase ≡ (moved_by_blocks p.now i block size threads).phase }
+    ensures offset { result.offset ≡ (moved_by_blocks p.now i block size threads).offset }
+{
+    let e = place_in_row(p, block) + i;
+    Spot {
+        thread: wide::thread_of(e, block, threads),
+        phase: wide::phase_of(e, block),
+        offset: offset_in_row(p, e, block, size, threads),
+    }
+}
+
+// An offset and some elements.
+fn offset_plus(offset: i64, i: i128, size: u32) -> i128
+    requires { unsigned_abs i ≤ 2 ^ 90 }
+    ensures { result ≡ offset +ℤ i *ℤ pos size }
+{
+    let bytes = times(i, size);
+    i128::from(offset) + bytes
+}
+
+// The place some elements behind a pointer.
+fn moved(p: &SharedPtr, i: i128, block: u32, size: u32, threads: u32) -> Spot
+    requires step { unsigned_abs i ≤ 2 ^ 90 }
+    requires some_thread { 0 < threads }
+    ensures thread { result.thread ≡ (moved p.now i block size threads).thread }
+    ensures phase { result.phase ≡ (moved p.now i block size threads).phase }
+    ensures offset { result.offset ≡ (moved p.now i block size threads).offset }
+{
+    if block != 0 {
+        return moved_by_blocks(p, i, block, size, threads);
+    }
+    Spot {
+        thread: p.thread,
+        phase: p.phase,
+        offset: offset_plus(p.offset, i, size),
+    }
+}
+
+/// The block, 0 where it is indefinite or there is none.
+pub(crate) fn block_or_none(block: Option<u32>) -> u32
+    ensures { result ≡ c.block_or_none block }
+{
+    match block {
+        Some(block) => block,
+        None => 0,
+    }
+}
+
+// An address some elements behind another.
+fn place_plus(threads: u32, block: Option<u32>, size: u32, p: Static, i: i128) -> Constant
+    requires some_thread { 0 < threads }
+    requires step { unsigned_abs i ≤ 2 ^ 90 }
+    ensures value { result ≡ c.ranged (c.stepped threads block size p i) }
+    ensures within { IsWithin result }
+{
+    match p {
+        Static::Private { object, offset } => { private_at(object, offset_plus(offset, i, size)) }
+        Static::Shared {
+            object,
+            thread,
+            phase,
+            offset,
+        } => {
+            let p = pointer_into(object, thread, phase, offset);
+            shared_at(object, moved(&p, i, block_or_none(block), size, threads))
+        }
+    }
+}
+
+/// An address and a number of elements with this block and this size.
+pub(crate) fn address_plus(
+    threads: u32,
+    block: Option<u32>,
+    size: u32,
+    address: Constant,
+    i: i128,
+) -> Constant
+    requires some_thread { 0 < threads }
+    requires step { unsigned_abs i ≤ 2 ^ 90 }
+    ensures value { result ≡ c.address_plus threads block size address i }
+    ensures within { IsWithin result }
+{
+    match address {
+        Constant::Address(p) => place_plus(threads, block, size, p, i),
+        Constant::Null | Constant::Undefined => Constant::Undefined,
+        Constant::Variable | Constant::Known(_) => Constant::Variable,
+    }
+}
+
+/// The address of a member with this offset.
+pub(crate) fn member_address(address: Constant, bytes: u32) -> Constant
+    ensures value { result ≡ attributes.member_address address bytes }
+    ensures within { IsWithin result }
+{
+    match address {
+        Constant::Address(Static::Private { object, offset }) => {
+            private_at(object, i128::from(offset) + i128::from(bytes))
+        }
+        Constant::Address(
+            Static::Shared {
+                object,
+                thread,
+                offset,
+                ..
+            },
+        ) => {
+            let offset = i128::from(offset) + i128::from(bytes);
+            let spot = Spot {
+                thread,
+                phase: 0,
+                offset,
+            };
+            shared_at(object, spot)
+        }
+        Constant::Null | Constant::Undefined => Constant::Undefined,
+        Constant::Variable | Constant::Known(_) => Constant::Variable,
+    }
+}
