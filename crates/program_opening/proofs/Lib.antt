@@ -1,0 +1,12 @@
+pub mod Pointed
+pub mod Allocations
+pub mod Shapes
+pub mod Chosen
+pub mod Placing
+pub mod Listing
+pub mod Sound
+pub mod Lying
+pub mod Worth
+pub mod Starts
+pub mod Opened
+pub mod Within

@@ -1,0 +1,100 @@
+-- Shapes of elements: when they are equal, and their numbers.
+use Rattle.std.proofs.Common.{◌≡◌, ℕ, ◌+◌, ◌<◌, ◌≤◌, Bool, true, false, ◌==◌, ◌&&◌, not, nat_le, if◌then◌else◌, List, [], ◌∷◌, ◌++◌, length, drop, get_or, Option, Some, None, is_some, refl, sym, ◌∙◌, arith}
+use Rattle.std.proofs.lemmas.Bool.{and_parts, leb-true}
+use Rattle.std.proofs.lemmas.List.{drop_more, drop_all}
+use Rattle.block_layout.specs.declared.kind.Kind.{Kind}
+use Rattle.block_layout.specs.declared.kind.Shape.{Shape}
+use Rattle.block_layout.specs.Shapes.{same_kind, kind_size, CellsWithin}
+use Rattle.upc_values.specs.Openings.{is_private}
+use Rattle.upc_values.specs.Lists.{Each}
+use Rattle.upc_values.specs.Views.{same_cells}
+use Rattle.upc_types.specs.declared.layout.Layout.{Layout}
+use Rattle.upc_types.specs.Types.{CType, base_of, Structs}
+use Rattle.upc_types.specs.Layout.{base_layout, layout_in, is_complete, size, most_bytes}
+use Rattle.program_opening.specs.Elements.{has_layout, sharable, same_cell, with_shape, with_shapes}
+
+-- ---- types with a layout
+
+pub record HasLayout (structs : Structs) (t : CType) : Type 0 where
+  pub complete : is_complete structs t ≡ true
+  pub few : size structs t ≤ most_bytes
+
+abbrev if_small : Bool → Layout → Option Layout
+if_small b l = if b then Some l else None
+
+some_if : (a b : Bool) (l : Layout) → is_some (if_small (a && b) l) ≡ true → (a && b) ≡ true
+some_if true true l h = refl
+some_if true false l h = absurd cc
+some_if false b l h = absurd cc
+
+pub layout_is : (structs : Structs) (t : CType) → has_layout structs t ≡ true → HasLayout structs t
+layout_is structs t h =
+    let l = base_layout (layout_in structs.completed) (base_of t) in
+    let p = and_parts (is_complete structs t) (nat_le l.size most_bytes) (some_if (is_complete structs t) (nat_le l.size most_bytes) l h) in
+    record { complete = p.0; few = leb-true l.size most_bytes p.1 }
+
+-- ---- cells that a shared object can have
+
+lower : (ys : List (ℕ × Kind)) (from mid size : ℕ) → from ≤ mid → CellsWithin ys mid size → CellsWithin ys from size
+lower [] from mid size l h = tt
+lower (c ∷ ys) from mid size l h = (omega (arith, h.0), h.1, h.2)
+
+kept_one : (b : Bool) (c : ℕ × Kind) (ys : List (ℕ × Kind)) (from size : ℕ) → from ≤ c.0 → c.0 + kind_size c.1 ≤ size → CellsWithin ys (c.0 + kind_size c.1) size →
+    CellsWithin (if b then c ∷ ys else ys) from size
+kept_one true c ys from size l m h = (l, m, h)
+kept_one false c ys from size l m h = lower ys from (c.0 + kind_size c.1) size (omega arith) h
+
+pub sharable_within : (cells : List (ℕ × Kind)) (from size : ℕ) → CellsWithin cells from size → CellsWithin (sharable cells) from size
+sharable_within [] from size h = tt
+sharable_within (c ∷ cells) from size h = kept_one (not (is_private c.1)) c (sharable cells) from size h.0 h.1 (sharable_within cells (c.0 + kind_size c.1) size h.2)
+
+each_one : (b : Bool) (c : ℕ × Kind) (ys : List (ℕ × Kind)) → is_private c.1 ≡ b → Each (λ d. is_private d.1 ≡ false) ys → Each (λ d. is_private d.1 ≡ false) (if not b then c ∷ ys else ys)
+each_one true c ys e h = h
+each_one false c ys e h = (e, h)
+
+pub sharable_each : (cells : List (ℕ × Kind)) → Each (λ c. is_private c.1 ≡ false) (sharable cells)
+sharable_each [] = tt
+sharable_each (c ∷ cells) = each_one (is_private c.1) c (sharable cells) refl (sharable_each cells)
+
+-- ---- equal cells
+
+and_no : (a b : Bool) → b ≡ false → (a && b) ≡ false
+and_no true b h = h
+and_no false b h = refl
+
+-- Cells compared as wholes.
+pub cells_cons : (c d : ℕ × Kind) (cs ds : List (ℕ × Kind)) → same_cells (c ∷ cs) (d ∷ ds) ≡ (same_cell c d && same_cells cs ds)
+cells_cons c d cs ds = go (c.0 == d.0)
+  where
+    go : (b : Bool) → (b && (same_kind c.1 d.1 && same_cells cs ds)) ≡ ((b && same_kind c.1 d.1) && same_cells cs ds)
+    go true = refl
+    go false = refl
+
+pub lengths_differ : (a b : List (ℕ × Kind)) → (length a ≡ length b → ⊥) → same_cells a b ≡ false
+lengths_differ [] [] h = absurd (h refl)
+lengths_differ [] (d ∷ ds) h = refl
+lengths_differ (c ∷ cs) [] h = refl
+lengths_differ (c ∷ cs) (d ∷ ds) h = cells_cons c d cs ds ∙ and_no (same_cell c d) (same_cells cs ds) (lengths_differ cs ds (λ e. h (omega (arith, e))))
+
+-- Two lists from a cell on.
+pub cells_from : (a b : List (ℕ × Kind)) (i : ℕ) (x y : ℕ × Kind) → i < length a → i < length b →
+    same_cells (drop i a) (drop i b) ≡ (same_cell (get_or a i x) (get_or b i y) && same_cells (drop (i + 1) a) (drop (i + 1) b))
+cells_from a b i x y h k = rw (drop_more a i x h, drop_more b i y k) (cells_cons (get_or a i x) (get_or b i y) (drop (i + 1) a) (drop (i + 1) b))
+
+and_yes : (a b : Bool) → a ≡ true → b ≡ (a && b)
+and_yes true b h = refl
+and_yes false b h = absurd cc
+
+pub cells_more : (a b : List (ℕ × Kind)) (i : ℕ) (x y : ℕ × Kind) → i < length a → i < length b → same_cell (get_or a i x) (get_or b i y) ≡ true →
+    same_cells (drop (i + 1) a) (drop (i + 1) b) ≡ same_cells (drop i a) (drop i b)
+cells_more a b i x y h k e =
+    and_yes (same_cell (get_or a i x) (get_or b i y)) (same_cells (drop (i + 1) a) (drop (i + 1) b)) e ∙ sym (cells_from a b i x y h k)
+
+pub cells_end : (a b : List (ℕ × Kind)) (i : ℕ) → length a ≤ i → length b ≤ i → same_cells (drop i a) (drop i b) ≡ true
+cells_end a b i h k = rw (drop_all i a h, drop_all i b k) refl
+
+-- ---- numbers of shapes
+
+pub shapes_append : (known a b : List Shape) → with_shapes known (a ++ b) ≡ with_shapes (with_shapes known a) b
+shapes_append known [] b = refl
+shapes_append known (s ∷ a) b = shapes_append (with_shape known s) a b

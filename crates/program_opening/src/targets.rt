@@ -1,0 +1,126 @@
+//! The numbers of the types of pointers in objects.
+
+ghost use Rattle.std.specs.Prelude.{◌≡◌, ◌++◌, ◌∷◌, [], true, OnOk, map};
+ghost use Rattle.upc_types.specs.Cells.{leaf_base};
+ghost use Rattle.upc_types.specs.Layout.{base_complete, complete_in};
+ghost use Rattle.upc_types.specs.View.{view, view_base};
+ghost use Rattle.upc_types.specs.ViewStructs.{view_structs};
+ghost use Rattle.upc_values.specs.Lists.{Each};
+ghost use Rattle.program_opening.specs.Elements.{has_layout};
+ghost use Rattle.program_opening.specs.Objects.{type_of};
+ghost use Rattle.program_opening.specs.Targets as pure;
+ghost use Rattle.typed_tree.specs.ViewStatements.{view_object};
+
+use std::alloc::Global;
+use typed_tree::Object;
+use upc_text::OutOfMemory;
+use upc_types::{Base, CType, Structs, copy_type};
+
+/// The type of the leaf elements of an object.
+pub(crate) fn leaf_of(base: &Base) -> &Base
+    ensures { view_base result.now ≡ leaf_base (view_base base.now) }
+{
+    match base {
+        Base::Array(element, _) => leaf_of(&element.base),
+        _ => base,
+    }
+}
+
+// Adds copies of the targets of the pointers in an object that is no array.
+#[cycle(targets)]
+fn push_leaf(
+    alloc: Global,
+    structs: &Structs,
+    found: &mut Vec<CType>,
+    leaf: &Base,
+) -> Result<(), OutOfMemory>
+    requires complete { base_complete (complete_in (view_structs structs.now).completed) (view_base leaf.now) ≡ true }
+    ensures { OnOk result (map view found.new.items
+        ≡ map view found.old.items ++ pure.leaf_targets (pure.struct_targets (view_structs structs.now).completed) (view_base leaf.now)) }
+{
+    match leaf {
+        Base::Pointer(target) => push_copy(alloc, found, target),
+        Base::Struct(number) => push_members(alloc, structs, found, *number),
+        Base::Void | Base::Integer(_) | Base::Array(_, _) | Base::LockObject => Ok(()),
+    }
+}
+
+// So of a complete struct.
+#[cycle(targets)]
+fn push_members(
+    alloc: Global,
+    structs: &Structs,
+    found: &mut Vec<CType>,
+    number: u32,
+) -> Result<(), OutOfMemory>
+    requires complete { complete_in (view_structs structs.now).completed number ≡ true }
+    ensures { OnOk result (map view found.new.items
+        ≡ map view found.old.items ++ pure.struct_targets (view_structs structs.now).completed number) }
+{
+    for member in structs.members(number) {
+        push_leaf(alloc, structs, found, leaf_of(&member.ctype.base))?;
+    }
+    Ok(())
+}
+
+fn push_copy(alloc: Global, found: &mut Vec<CType>, t: &CType) -> Result<(), OutOfMemory>
+    ensures { OnOk result (map view found.new.items ≡ map view found.old.items ++ view t.now ∷ []) }
+{
+    found.push(copy_type(alloc, t)?)?;
+    Ok(())
+}
+
+// Gives each of these targets a number.
+fn note_all(structs: &mut Structs, targets: &[CType]) -> Result<(), OutOfMemory>
+    ensures { OnOk result (view_structs structs.new ≡ pure.with_noted (view_structs structs.old) (map view targets.now)) }
+{
+    for target in targets {
+        structs.note(target)?;
+    }
+    Ok(())
+}
+
+/// Gives the types of the pointers in an object of this type numbers.
+pub(crate) fn note_targets(
+    alloc: Global,
+    structs: &mut Structs,
+    t: &CType,
+) -> Result<(), OutOfMemory>
+    requires complete { base_complete (complete_in (view_structs structs.old).completed) (view_base t.now.base) ≡ true }
+    ensures { OnOk result (view_structs structs.new ≡ pure.with_targets (view_structs structs.old) (view t.now ∷ [])) }
+{
+    let mut found = Vec::new(alloc);
+    push_leaf(alloc, structs, &mut found, leaf_of(&t.base))?;
+    note_all(structs, found.as_slice())
+}
+
+// Gives the types of the pointers in these objects numbers.
+#[tactic(auto, using(crate::proofs::Chosen::object_here, crate::proofs::Chosen::object_rest, crate::proofs::Chosen::layout_complete, crate::proofs::Chosen::layout_few))]
+fn note_objects(alloc: Global, structs: &mut Structs, objects: &[Object]) -> Result<(), OutOfMemory>
+    requires layouts { Each (λ x. has_layout (view_structs structs.old) x.ctype ≡ true) (map view_object objects.now) }
+    ensures { OnOk result (view_structs structs.new ≡ pure.with_targets (view_structs structs.old) (map type_of (map view_object objects.now))) }
+{
+    for object in objects {
+        note_targets(alloc, structs, &object.ctype)?;
+    }
+    Ok(())
+}
+
+/// Gives the types of the pointers in these objects, and in objects of these types, numbers.
+#[tactic(auto, using(crate::proofs::Chosen::type_here, crate::proofs::Chosen::type_rest, crate::proofs::Chosen::layout_complete, crate::proofs::Chosen::layout_few))]
+pub(crate) fn note_types(
+    alloc: Global,
+    structs: &mut Structs,
+    objects: &[Object],
+    types: &[CType],
+) -> Result<(), OutOfMemory>
+    requires layouts { Each (λ x. has_layout (view_structs structs.old) x.ctype ≡ true) (map view_object objects.now) }
+    requires types { Each (λ t. has_layout (view_structs structs.old) t ≡ true) (map view types.now) }
+    ensures { OnOk result (view_structs structs.new ≡ pure.with_targets (view_structs structs.old) (map type_of (map view_object objects.now) ++ map view types.now)) }
+{
+    note_objects(alloc, structs, objects)?;
+    for t in types {
+        note_targets(alloc, structs, t)?;
+    }
+    Ok(())
+}
