@@ -1,16 +1,6 @@
 -- Tags of a part of the source, and of what is around it.
 use Rattle.std.proofs.Common.{◌≡◌, ℕ, ◌+◌, ◌<◌, Bool, true, false, ◌&&◌, nat_eq, if◌then◌else◌, List, [], ◌∷◌, ◌++◌, length, map, reverse, take, get_or, Option, Some, None, refl, sym, ap, ◌∙◌}
-use Rattle.std.proofs.lemmas.List.{reverse-append, map-append, take_more}
 use Rattle.typed_tree.specs.Scopes.{Tag, find_tag, tag_here}
-use Rattle.upc_checker.specs.declared.tags.Tag as g
-use Rattle.upc_checker.specs.ViewTags.{view_tag, view_own}
-
--- One more tag is the first.
-pub own_more : (xs : List g.Tag) (x : g.Tag) → view_own (xs ++ (x ∷ [])) ≡ view_tag x ∷ view_own xs
-own_more xs x = ap reverse (map-append view_tag xs (x ∷ [])) ∙ reverse-append (map view_tag xs) (view_tag x ∷ [])
-
-pub own_taken : (xs : List g.Tag) (i : ℕ) (x : g.Tag) → i < length xs → x ≡ get_or xs i x → view_own (take (i + 1) xs) ≡ view_tag x ∷ view_own (take i xs)
-own_taken xs i x h e = ap view_own (take_more xs i x h) ∙ ap (λ y. view_own (take i xs ++ (y ∷ []))) (sym e) ∙ own_more (take i xs) x
 
 found_one : (b : Bool) (n m : ℕ) (o p : Option ℕ) → (if b then Some n else o) ≡ Some m → (o ≡ Some m → p ≡ Some m) → (if b then Some n else p) ≡ Some m
 found_one true n m o p h f = h

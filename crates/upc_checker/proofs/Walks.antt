@@ -8,6 +8,7 @@ use Rattle.typed_tree.specs.Attributes.{Facts}
 use Rattle.typed_tree.specs.Nodes.{Node}
 use Rattle.typed_tree.specs.Rules.{lowest}
 use Rattle.typed_tree.specs.Faults.{Seen, Fault, fault_by, fault_of, first_fault, or_later}
+use Rattle.upc_checker.specs.Counts.{counted}
 use Rattle.upc_checker.specs.Walk.{Walked, Walk, give, andthen, judge, finish, update, look, enclosed, facts_in}
 use Rattle.typed_tree.specs.declared.tree.Expr.{Expr as RustExpr}
 use Rattle.typed_tree.specs.Tree.{ExprKind}
@@ -62,7 +63,7 @@ finished ξ at x kind s (Ok e) h = record { fine = ap (λ o. or_later (fault_by 
 finished ξ at x kind s (Err e) h = refuses_stops (lowest (facts_in ξ s) x) at e h
 
 -- A node that is judged meets its rules, or the walk stops at it.
-pub judge_goes : (ξ : Setting) (at : Place) (x : Node) (s : State) (rule : Option ℕ) → rule ≡ lowest (facts_in ξ s) x → rule ≡ None → Comes (judge ξ at x s) s (tt {0})
+pub judge_goes : (ξ : Setting) (at : Place) (x : Node) (s : State) (rule : Option ℕ) → rule ≡ lowest (facts_in ξ s) x → rule ≡ None → Comes (judge ξ at x s) (counted ξ at x s) (tt {0})
 unfolding judge
 judge_goes ξ at x s rule h n = record { fine = ap (λ o. or_later (fault_by o at) None) (sym h ∙ n); state = refl; value = refl }
 

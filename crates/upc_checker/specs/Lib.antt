@@ -1,3 +1,4 @@
+pub mod Counts
 pub mod Walk
 pub mod Ends
 pub mod Specifiers
@@ -11,6 +12,14 @@ pub mod Outcomes
 pub mod Finishes
 pub mod ViewShapes
 pub mod ViewWords
+pub mod ViewOwnTags
 pub mod ViewTags
+pub mod ViewFunctions
 pub mod Views
 pub mod ViewUses
+pub mod ViewPlaces
+pub mod Causes
+pub mod Groups
+pub mod Programs
+pub mod ViewProgram
+pub mod ViewUnits

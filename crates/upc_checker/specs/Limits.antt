@@ -1,33 +1,51 @@
 -- The limits on the objects of a source, which are asked about only where no typing rule is broken (docs/LANGUAGE.md, "Limits").
-use Rattle.std.specs.Prelude.{ℕ, ◌+◌, ◌-◌, nat_le, nat_lt, Bool, true, false, ◌&&◌, if◌then◌else◌, List, [], ◌∷◌, length, Option, Some, None}
+use Rattle.std.specs.Prelude.{ℕ, ◌-◌, nat_le, Bool, true, false, if◌then◌else◌, List, [], ◌∷◌, Option, Some, None}
 use Rattle.upc_text.specs.declared.place.Place.{Place}
 use Rattle.upc_tree.specs.Unit.{External}
-use Rattle.upc_types.specs.Types.{Structs}
-use Rattle.upc_types.specs.Layout.{size}
+use Rattle.upc_types.specs.declared.layout.Layout.{Layout}
+use Rattle.upc_types.specs.Types.{Structs, base_of}
+use Rattle.upc_types.specs.Layout.{base_within}
 use Rattle.typed_tree.specs.declared.setting.Home.{Home}
-use Rattle.typed_tree.specs.declared.setting.Home.TheVariants.{Private, Shared}
+use Rattle.typed_tree.specs.declared.setting.Home.TheVariants.{Shared}
 use Rattle.typed_tree.specs.Scopes.{begin}
-use Rattle.typed_tree.specs.Faults.{Seen}
-use Rattle.typed_tree.specs.Nodes.{Node, DeclaresObject, Specifies, Defines}
 use Rattle.typed_tree.specs.Tree.{DeclaredObject}
 use Rattle.upc_checker.specs.Walk.{Walked}
 use Rattle.upc_checker.specs.Units.{Made, setting, walk_unit}
 
+-- An object of the file that is not shared.
 abbrev pub is_private : Home → Bool
-is_private (Private object) = true
-is_private home = false
+is_private (Shared object) = false
+is_private home = true
 
 abbrev pub is_shared : Home → Bool
 is_shared (Shared object) = true
 is_shared home = false
 
+-- What is left of the room behind an object of this layout, None where it has more bytes. One that has no layout has none either: it is incomplete,
+-- or has more bytes than an object can have, and rules 6 and 8 refuse it before.
+abbrev pub left_by : Option Layout → ℕ → Option ℕ
+left_by None room = None
+left_by (Some l) room = if nat_le l.size room then Some (room - l.size) else None
+
+-- What is left of the room for objects of one sort behind an object.
+abbrev pub left_behind : Structs → (Home → Bool) → ℕ → DeclaredObject → Option ℕ
+left_behind structs counts room x = if counts x.home then left_by (base_within structs.completed (base_of x.ctype)) room else Some room
+
+abbrev pub is_over : Option ℕ → Bool
+is_over None = true
+is_over (Some room) = false
+
+abbrev pub room_in : Option ℕ → ℕ
+room_in None = 0
+room_in (Some room) = room
+
 -- The first declaration whose objects of one sort have, with all before it, more bytes than there is room for.
 abbrev pub first_over : Structs → (Home → Bool) → ℕ → List DeclaredObject → Option Place
 first_over structs counts room [] = None
 first_over structs counts room (x ∷ xs) =
-    if counts x.home
-    then (if nat_le (size structs x.ctype) room then first_over structs counts (room - size structs x.ctype) xs else Some x.at)
-    else first_over structs counts room xs
+    if is_over (left_behind structs counts room x)
+    then Some x.at
+    else first_over structs counts (room_in (left_behind structs counts room x)) xs
 
 -- A limit that is passed, by its number, and where.
 pub record Passed : Type 0 where
@@ -51,31 +69,20 @@ unit_bytes_passed names threads unit =
 
 -- ---- how many there are
 
--- How many objects, parameters of definitions and functions come in with a node.
-abbrev pub come_in : Node → ℕ
-come_in (DeclaresObject again file t) = 1
-come_in (Defines again differs forms signature) = 1 + length signature.parameters
-come_in x = 0
+-- Limit 7: there are more than 65,535 structs, objects, parameters of definitions and functions in all. So the first limit that is passed.
+abbrev pub limit_by : Structs → Option Place → List DeclaredObject → Option Passed
+limit_by structs above objects =
+    passed_or 4 (first_over structs is_private 1048576 objects) (passed_or 5 (first_over structs is_shared 16777216 objects) (passed_or 7 above None))
 
--- The node ends a declaration, the declaration of a member or a definition.
-abbrev pub ends_declaration : Node → Bool
-ends_declaration (Specifies forms) = true
-ends_declaration (Defines again differs forms signature) = true
-ends_declaration x = false
-
--- The first declaration or definition up to whose end there are more than so many structs, objects, parameters of definitions and functions.
-abbrev pub first_above : ℕ → ℕ → List Seen → Option Place
-first_above most before [] = None
-first_above most before (x ∷ xs) =
-    let count = before + come_in x.node in
-    if ends_declaration x.node && nat_lt most (count + x.facts.structs.declared)
-    then Some x.at
-    else first_above most count xs
-
--- Limit 7: there are more than 65,535 in all.
 abbrev pub limit_in : Walked Made → Option Passed
-limit_in w = passed_or 4 (first_over w.state.structs is_private 1048576 w.value.objects) (passed_or 5 (first_over w.state.structs is_shared 16777216 w.value.objects) (passed_or 7 (first_above 65535 0 w.seen) None))
+limit_in w = limit_by w.state.structs w.state.above w.value.objects
 
 -- The first limit in this order that a source passes.
 abbrev pub unit_passed : List (List ℕ) → ℕ → List External → Option Passed
 unit_passed names threads unit = limit_in (walk_unit (setting names threads unit) unit begin)
+
+-- The first declaration of a source up to whose end there are more than so many.
+abbrev pub first_above : ℕ → List (List ℕ) → ℕ → List External → Option Place
+first_above most names threads unit =
+    let ξ = setting names threads unit in
+    (walk_unit (record ξ { most = most }) unit begin).state.above

@@ -22,7 +22,7 @@ use Rattle.typed_tree.specs.Tree.{DeclaredObject, Function, Statement}
 use Rattle.upc_checker.specs.Walk.{Walk, give, andthen, judge, update, look, enclosed}
 use Rattle.upc_checker.specs.Specifiers.{specifiers_form, specified_type}
 use Rattle.upc_checker.specs.Expressions.{no_place, specs_place, main_text, Specifying, walk_specs, walk_pointers, walk_parameters}
-use Rattle.upc_checker.specs.Declarations.{walk_declaration, signature_of}
+use Rattle.upc_checker.specs.Declarations.{walk_declaration}
 use Rattle.upc_checker.specs.Statements.{walk_block}
 
 -- ---- what the source defines
@@ -83,16 +83,21 @@ abbrev pub with_outer_entry : ℕ → Signature → Env → Env
 with_outer_entry name signature (Scope level top counts (Within Γ)) = Scope level top counts (Within (with_entry name (m.Function signature) Γ))
 with_outer_entry name signature (Scope level top counts NoScope) = Scope level top counts NoScope
 
+-- A definition behind its specifiers and stars, which form a type or not: its parameters, its body, and its own node.
+abbrev pub walk_definition : Setting → Bool → Made → Place → Bool → CType → Name → Parameters → Compound → Walk Made
+walk_definition ξ strict before place forms result name parameters body =
+    andthen (walk_parameters ξ (inside before.scope) parameters) (λ ps.
+    let signature : Signature = record { result = result; parameters = ps.types } in
+    andthen (earlier ξ before.scope name.number signature) (λ was.
+    andthen (update (with_function name.number signature true)) (λ u.
+    andthen (walk_block ξ (with_outer_entry name.number signature ps.scope) (body_around result) strict body) (λ x.
+    andthen (judge ξ place (n.Defines was.again was.differs forms signature)) (λ v.
+    give (with_definition ξ before place name.number signature x))))))
+
 abbrev pub walk_function : Setting → Bool → Made → Place → Specs → Pointers → Name → Parameters → Compound → Walk Made
 walk_function ξ strict before place specs pointers name parameters body =
     andthen (walk_specs ξ before.scope in_definition specs) (λ p. andthen (walk_pointers ξ before.scope false (specified_type p) pointers) (λ t.
-    enclosed (andthen (walk_parameters ξ (inside before.scope) parameters) (λ ps.
-    let signature = signature_of t ps in
-    andthen (earlier ξ before.scope name.number signature) (λ was.
-    andthen (update (with_function name.number signature true)) (λ u.
-    andthen (walk_block ξ (with_outer_entry name.number signature ps.scope) (body_around t.ctype) strict body) (λ x.
-    andthen (judge ξ place (n.Defines was.again was.differs (specifiers_form true p && t.forms) signature)) (λ v.
-    give (with_definition ξ before place name.number signature x)))))))))
+    enclosed (walk_definition ξ strict before place (specifiers_form true p && t.forms) t.ctype name parameters body)))
 
 abbrev pub walk_external : Setting → Bool → Made → External → Walk Made
 walk_external ξ strict before (PragmaPart pragma) = give before
@@ -125,7 +130,7 @@ abbrev pub is_main_function : Function → Bool
 is_main_function f = pointwise nat_eq f.name main_text && (is_int_base (base_of f.result) && is_empty f.parameters)
 
 abbrev pub setting : List (List ℕ) → ℕ → List External → Setting
-setting names threads unit = record { names = names; threads = threads; defined = defined_in unit }
+setting names threads unit = record { names = names; threads = threads; defined = defined_in unit; most = 65535 }
 
 -- The walk from the first token to the last. At the start relaxed is in force (UPC 6.7). The file itself is the last node.
 abbrev pub walk_unit : Setting → List External → Walk Made

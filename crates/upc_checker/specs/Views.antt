@@ -2,22 +2,28 @@
 use Rattle.std.specs.Prelude.{List, map, reverse}
 use Rattle.upc_types.specs.ViewStructs.{view_structs}
 use Rattle.typed_tree.specs.Scopes.{Setting, Tag, KnownFunction, State}
-use Rattle.typed_tree.specs.Views.{view_signature}
+use Rattle.typed_tree.specs.Attributes.{Facts}
 use Rattle.upc_checker.specs.ViewTags.{view_tags}
-use Rattle.upc_checker.specs.declared.setting.Setting as s
+use Rattle.upc_checker.specs.declared.source.Setting as s
 use Rattle.upc_checker.specs.declared.tags.Tags as t
 use Rattle.upc_checker.specs.declared.known.Known as k
-use Rattle.upc_checker.specs.declared.known.KnownFunction as f
+use Rattle.upc_checker.specs.declared.functions.Functions as u
+use Rattle.upc_checker.specs.ViewFunctions.{view_function}
 
 abbrev pub view_setting : s.Setting → Setting
-view_setting x = record { names = x.names.now; threads = x.threads; defined = x.defined.now }
+view_setting x = record { names = x.names.now; threads = x.threads; defined = x.defined.now; most = 65535 }
 
-abbrev pub view_function : f.KnownFunction → KnownFunction
-view_function x = record { name = x.name; signature = view_signature x.signature; is_defined = x.is_defined }
+-- What nodes may look at.
+abbrev pub facts_of : s.Setting → k.Known → Facts
+facts_of x known = record { structs = view_structs known.structs; threads = x.threads }
+
+-- The latest function first.
+abbrev pub view_functions : u.Functions → List KnownFunction
+view_functions x = reverse (map view_function x.list.items)
 
 -- What is known, with these tags in scope.
 abbrev pub state_with : List Tag → k.Known → State
-state_with tags x = record { tags = tags; structs = view_structs x.structs; functions = reverse (map view_function x.functions.items) }
+state_with tags x = record { tags = tags; structs = view_structs x.structs; functions = view_functions x.functions; come = x.come; above = x.above }
 
 abbrev pub state_of : t.Tags → k.Known → State
 state_of tags x = state_with (view_tags tags) x

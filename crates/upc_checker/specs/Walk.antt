@@ -7,6 +7,7 @@ use Rattle.typed_tree.specs.Faults.{Seen}
 use Rattle.typed_tree.specs.Attributes.{Facts, attr}
 use Rattle.typed_tree.specs.Nodes.{Node}
 use Rattle.typed_tree.specs.Tree.{Expr, ExprKind, Is}
+use Rattle.upc_checker.specs.Counts.{counted}
 
 pub record Walked (A : Type 0) : Type 0 where
   pub seen : List Seen
@@ -32,7 +33,7 @@ facts_in ξ s = record { structs = s.structs; threads = ξ.threads }
 
 -- A node is finished.
 unfoldable pub judge : Setting → Place → Node → Walk (Unit {0})
-judge ξ at x s = record { seen = record { at = at; facts = facts_in ξ s; node = x } ∷ []; state = s; value = tt {0} }
+judge ξ at x s = record { seen = record { at = at; facts = facts_in ξ s; node = x } ∷ []; state = counted ξ at x s; value = tt {0} }
 
 -- The node of an expression is finished: it is what its node says.
 unfoldable pub finish : Setting → Place → Node → (Facts → ExprKind) → Walk Expr

@@ -1,6 +1,6 @@
 //! What grows on the way through a source beside the tags: the structs, and all functions declared so far.
 
-ghost use Rattle.std.specs.Prelude.{◌≡◌, ◌<◌, IfOk, IfSome, List, map, length, OnOk, OnErr};
+ghost use Rattle.std.specs.Prelude.{◌≡◌, [], ◌<◌, IfOk, IfSome, List, map, length, OnOk, OnErr};
 ghost use Rattle.upc_types.specs.View.{view, view_base, view_member};
 ghost use Rattle.typed_tree.specs.Scopes as pure;
 ghost use Rattle.typed_tree.specs.Scopes.{Tag as ScopeTag};
@@ -8,8 +8,9 @@ ghost use Rattle.typed_tree.specs.Values as values;
 ghost use Rattle.upc_types.specs.Same as same;
 ghost use Rattle.typed_tree.specs.ViewEnv.{view_env};
 ghost use Rattle.typed_tree.specs.Views.{view_signature, view_target};
+ghost use Rattle.upc_checker.specs.Counts as counts;
 ghost use Rattle.upc_checker.specs.Ends.{Meets};
-ghost use Rattle.upc_checker.specs.Views.{view_function, view_setting, state_of, state_with};
+ghost use Rattle.upc_checker.specs.Views.{view_setting, state_of, state_with};
 ghost use Rattle.upc_checker.specs.ViewTags.{view_tags};
 ghost use Rattle.upc_checker.specs.declared.known.Known as seen;
 ghost use Rattle.upc_checker.specs.Declarations as declarations;
@@ -17,8 +18,10 @@ ghost use Rattle.upc_checker.specs.Expressions as walks;
 ghost use Rattle.upc_checker.specs.Units as units;
 
 use crate::finish::judged;
+use crate::functions::Functions;
+use crate::own_tags::Tag;
 use crate::setting::{Setting, is_known, is_taken};
-use crate::tags::{Tag, Tags, find_tag, note_tag, tag_here};
+use crate::tags::{Tags, find_tag, note_tag, tag_here};
 use std::alloc::Global;
 use typed_tree::declarations::struct_members;
 use typed_tree::env::{Env, here, level};
@@ -27,77 +30,45 @@ use upc_text::{OutOfMemory, Place, Stop};
 use upc_tree::Name;
 use upc_types::{Base, CType, Layout, Member, Structs, copy_type, same_base, same_type};
 
-/// A function that was declared, and whether it was defined.
-#[derive(Drop)]
-pub(crate) struct KnownFunction {
-    pub name: u32,
-    pub signature: Signature,
-    pub is_defined: bool,
-}
-
-/// The structs, and the functions in the order of their declarations.
+/// The structs, the functions in the order of their declarations, how many objects, parameters of definitions and functions have
+/// come, and the first declaration up to whose end there were too many of them and of structs.
 #[derive(Drop)]
 pub(crate) struct Known {
     pub structs: Structs,
-    pub functions: Vec<KnownFunction>,
+    pub functions: Functions,
+    pub come: u32,
+    pub above: Option<Place>,
 }
 
-/// A copy of what a function gives and takes.
-pub(crate) fn copy_signature(alloc: Global, s: &Signature) -> Result<Signature, OutOfMemory>
-    ensures { IfOk result (λ copy. view_signature copy ≡ view_signature s.now) }
+/// Nothing is known yet.
+pub(crate) fn nothing_known(alloc: Global) -> Known
+    ensures { state_with [] result ≡ pure.begin }
 {
-    let mut parameters = Vec::new(alloc);
-    for t in &s.parameters {
-        parameters.push(copy_type(alloc, t)?)?;
-    }
-    Ok(Signature {
-        result: copy_type(alloc, &s.result)?,
-        parameters,
-    })
-}
-
-// What values of a type point to.
-fn value_target(base: &Base) -> Option<&CType>
-    ensures { view_target result ≡ values.base_target (view_base base.now) }
-{
-    match base {
-        Base::Array(target, _) | Base::Pointer(target) => Some(target),
-        _ => None,
+    Known {
+        structs: Structs::new(alloc),
+        functions: Functions::new(alloc),
+        come: 0,
+        above: None,
     }
 }
 
-// Whether the values of two types have one type.
-fn same_values(a: &CType, b: &CType) -> bool
-    ensures { result ≡ same.same_type (values.value_type (view a.now)) (values.value_type (view b.now)) }
+/// So many more come in. After want of memory nothing is changed.
+pub(crate) fn note_more(known: &mut Known, more: u32) -> Result<(), OutOfMemory>
+    ensures ok { OnOk result ((tags : List ScopeTag) → state_with tags known.new ≡ counts.with_more more (state_with tags known.old)) }
+    ensures err { OnErr result ((tags : List ScopeTag) → state_with tags known.new ≡ state_with tags known.old) }
 {
-    match (value_target(&a.base), value_target(&b.base)) {
-        (Some(s), Some(t)) => same_type(s, t),
-        (None, None) => same_base(&a.base, &b.base),
-        _ => false,
-    }
+    known.come = known.come.checked_add(more).ok_or(OutOfMemory)?;
+    Ok(())
 }
 
-// Whether the values of types, one by one, have one type each.
-fn same_types(a: &[CType], b: &[CType]) -> bool
-    ensures { result ≡ pure.same_types (map view a.now) (map view b.now) }
+/// A declaration or a definition ends there.
+pub(crate) fn note_end(known: &mut Known, at: Place)
+    ensures { (tags : List ScopeTag) → state_with tags known.new ≡ counts.ended 65535 at (state_with tags known.old) }
 {
-    if a.len() != b.len() {
-        return false;
+    let all = u64::from(known.come) + u64::from(known.structs.declared());
+    if known.above.is_none() && all > 65_535 {
+        known.above = Some(at);
     }
-    for i in 0..a.len() {
-        if !same_values(&a[i], &b[i]) {
-            return false;
-        }
-    }
-    true
-}
-
-// Whether two functions have the same types.
-fn same_signature(s: &Signature, t: &Signature) -> bool
-    ensures { result ≡ pure.same_signature (view_signature s.now) (view_signature t.now) }
-{
-    same_values(&s.result, &t.result)
-        && same_types(s.parameters.as_slice(), t.parameters.as_slice())
 }
 
 /// One more function. After want of memory nothing is changed.
@@ -110,50 +81,21 @@ pub(crate) fn note_function(
     ensures ok { OnOk result ((tags : List ScopeTag) → state_with tags known.new ≡ pure.with_function name (view_signature signature) is_defined (state_with tags known.old)) }
     ensures err { OnErr result ((tags : List ScopeTag) → state_with tags known.new ≡ state_with tags known.old) }
 {
-    known.functions.push(KnownFunction {
-        name,
-        signature,
-        is_defined,
-    })?;
-    Ok(())
-}
-
-// Whether one of these functions has that name and other types.
-fn any_differs(functions: &[KnownFunction], name: u32, signature: &Signature) -> bool
-    ensures { result ≡ pure.differs name (view_signature signature.now) (map view_function functions.now) }
-{
-    for function in functions {
-        if function.name == name && !same_signature(&function.signature, signature) {
-            return true;
-        }
-    }
-    false
+    known.functions.note(name, signature, is_defined)
 }
 
 /// Whether the function was declared with other types.
 pub(crate) fn differs(known: &Known, name: u32, signature: &Signature) -> bool
     ensures { (tags : List ScopeTag) → result ≡ pure.differs name (view_signature signature.now) (state_with tags known.now).functions }
 {
-    any_differs(known.functions.as_slice(), name, signature)
-}
-
-// Whether one of these functions has that name and was defined.
-fn any_defined(functions: &[KnownFunction], name: u32) -> bool
-    ensures { result ≡ pure.was_defined name (map view_function functions.now) }
-{
-    for function in functions {
-        if function.name == name && function.is_defined {
-            return true;
-        }
-    }
-    false
+    known.functions.differs(name, signature)
 }
 
 /// Whether the function was defined.
 pub(crate) fn was_defined(known: &Known, name: u32) -> bool
     ensures { (tags : List ScopeTag) → result ≡ pure.was_defined name (state_with tags known.now).functions }
 {
-    any_defined(known.functions.as_slice(), name)
+    known.functions.was_defined(name)
 }
 
 // Whether a scope itself has an object of that name.

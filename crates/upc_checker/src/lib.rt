@@ -1,16 +1,38 @@
 //! From a syntax tree to a program that is well typed, or to the first rule that is broken.
 #![tactic(auto)]
 
+mod accept;
 mod called;
+mod declarations;
+mod expressions;
 mod finish;
+mod functions;
 mod known;
+pub mod laws;
+mod limits;
 mod marks;
+mod members;
+#[cfg(test)]
+mod node_tests;
+mod nodes;
+mod own_tags;
 mod parts;
 mod places;
+mod places_of_names;
+mod program;
 mod setting;
 mod shaped;
+mod signatures;
+mod source;
 mod specified;
+mod statements;
 mod tags;
 #[cfg(test)]
 mod tests;
+mod types;
+mod units;
+mod whole;
 mod words;
+
+pub use accept::check;
+pub use program::Program;

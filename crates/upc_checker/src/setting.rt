@@ -1,4 +1,4 @@
-//! What is the same for the whole source.
+//! What names stand for.
 
 ghost use Rattle.std.specs.Prelude.{◌≡◌};
 ghost use Rattle.upc_checker.specs.Views.{view_setting};
@@ -7,20 +7,10 @@ ghost use Rattle.typed_tree.specs.ViewEnv.{view_env};
 ghost use Rattle.typed_tree.specs.Views.{view_meaning};
 ghost use Rattle.upc_checker.specs.Expressions as walks;
 
-use std::alloc::Global;
+pub(crate) use crate::source::Setting;
 use typed_tree::env::{Env, find};
 use typed_tree::names::{call_named, constant_named};
 use typed_tree::{LibraryCall, LibraryConstant, Meaning};
-use upc_lexer::Names;
-
-/// The allocator, the names of the source, the number of threads, and the names of the functions that the source defines, in order.
-#[derive(Clone, Copy)]
-pub(crate) struct Setting<'s> {
-    pub alloc: Global,
-    pub names: &'s Names,
-    pub threads: u32,
-    pub defined: &'s [u32],
-}
 
 /// How a name is spelled.
 pub(crate) fn spelling<'s>(setting: Setting<'s>, name: u32) -> &'s [u8]

@@ -2,24 +2,18 @@
 
 ghost use Rattle.std.specs.Prelude.{◌≡◌, ◌∷◌, [], OnOk, OnErr};
 ghost use Rattle.typed_tree.specs.Scopes as pure;
-ghost use Rattle.upc_checker.specs.ViewTags.{view_tags, view_own, view_tag};
+ghost use Rattle.upc_checker.specs.ViewOwnTags.{view_tag};
+ghost use Rattle.upc_checker.specs.ViewTags.{view_tags};
 
+use crate::own_tags::{OwnTags, Tag};
 use std::alloc::Global;
 use upc_text::OutOfMemory;
-
-/// A tag of a struct, with the level of its scope.
-#[derive(Clone, Copy)]
-pub(crate) struct Tag {
-    pub name: u32,
-    pub level: u32,
-    pub number: u32,
-}
 
 /// The tags of a part of the source in the order of their declarations, and those around it.
 #[cycle(tags)]
 #[derive(Drop)]
 pub(crate) struct Tags<'o> {
-    own: Vec<Tag>,
+    own: OwnTags,
     outer: Around<'o>,
 }
 
@@ -40,7 +34,7 @@ impl<'o> Tags<'o> {
         ensures { view_tags result ≡ [] }
     {
         Tags {
-            own: Vec::new(alloc),
+            own: OwnTags::new(alloc),
             outer: Around::Nothing,
         }
     }
@@ -51,29 +45,16 @@ pub(crate) fn enclosed<'o>(alloc: Global, tags: &'o Tags<'o>) -> Tags<'o>
     ensures { view_tags result ≡ view_tags tags.now }
 {
     Tags {
-        own: Vec::new(alloc),
+        own: OwnTags::new(alloc),
         outer: Around::Within(tags),
     }
-}
-
-// The struct of the latest of these tags with that name.
-fn find_own(name: u32, own: &[Tag]) -> Option<u32>
-    ensures { result ≡ pure.find_tag name (view_own own.now) }
-{
-    let mut found = None;
-    for tag in own {
-        if tag.name == name {
-            found = Some(tag.number);
-        }
-    }
-    found
 }
 
 /// The struct of a tag: the innermost one. Takes no memory.
 pub(crate) fn find_tag(name: u32, tags: &Tags<'_>) -> Option<u32>
     ensures { result ≡ pure.find_tag name (view_tags tags.now) }
 {
-    match find_own(name, tags.own.as_slice()) {
+    match tags.own.find(name) {
         Some(number) => Some(number),
         None => match &tags.outer {
             Around::Nothing => None,
@@ -82,24 +63,11 @@ pub(crate) fn find_tag(name: u32, tags: &Tags<'_>) -> Option<u32>
     }
 }
 
-// The struct of the latest of these tags with that name and that level.
-fn own_here(name: u32, level: u32, own: &[Tag]) -> Option<u32>
-    ensures { result ≡ pure.tag_here name level (view_own own.now) }
-{
-    let mut found = None;
-    for tag in own {
-        if tag.name == name && tag.level == level {
-            found = Some(tag.number);
-        }
-    }
-    found
-}
-
 /// The struct of a tag of a scope itself. Takes no memory.
 pub(crate) fn tag_here(name: u32, level: u32, tags: &Tags<'_>) -> Option<u32>
     ensures { result ≡ pure.tag_here name level (view_tags tags.now) }
 {
-    match own_here(name, level, tags.own.as_slice()) {
+    match tags.own.here(name, level) {
         Some(number) => Some(number),
         None => match &tags.outer {
             Around::Nothing => None,
@@ -113,6 +81,5 @@ pub(crate) fn note_tag(tags: &mut Tags<'_>, tag: Tag) -> Result<(), OutOfMemory>
     ensures ok { OnOk result (view_tags tags.new ≡ view_tag tag ∷ view_tags tags.old) }
     ensures err { OnErr result (view_tags tags.new ≡ view_tags tags.old) }
 {
-    tags.own.push(tag)?;
-    Ok(())
+    tags.own.note(tag)
 }

@@ -2,20 +2,22 @@
 
 use crate::called::{called, first_use, later_uses, runs, target_of, uses_by};
 use crate::known::{
-    Known, close_struct, copy_signature, definition_again, differs, is_again, note_function,
-    object_again, open_struct, prototype_again, refer, was_defined,
+    close_struct, definition_again, differs, is_again, note_function, nothing_known, object_again,
+    open_struct, prototype_again, refer, was_defined,
 };
 use crate::marks::right_use;
+use crate::own_tags::Tag;
 use crate::places::{declarator_place, specs_place};
 use crate::setting::{Setting, is_main, is_taken, meaning, spelling};
 use crate::shaped::{
     Shaped, adjusted, copy_shaped, formed, named_type, parameter_array, pointer_to, specified_type,
 };
+use crate::signatures::copy_signature;
 use crate::specified::{
     Blocks, Qualifier, Specified, Specifier, add_qual, add_specifier, block_size, no_quals,
     nothing_specified, quals_fit, specifiers_form,
 };
-use crate::tags::{Tag, Tags, enclosed, find_tag, note_tag, tag_here};
+use crate::tags::{Tags, enclosed, find_tag, note_tag, tag_here};
 use crate::words::base_of_words;
 use block_layout::Kind;
 use std::alloc::Global;
@@ -221,13 +223,6 @@ fn tags_of_scopes(rt: HostRuntime) -> Result<(), Fail> {
     assert_eq!(rt; find_tag(6, &inner), None);
     assert_eq!(rt; find_tag(5, &outer), Some(1));
     Ok(())
-}
-
-fn nothing_known(alloc: Global) -> Known {
-    Known {
-        structs: Structs::new(alloc),
-        functions: Vec::new(alloc),
-    }
 }
 
 fn two_ints(alloc: Global) -> Result<Vec<Member>, Fail> {

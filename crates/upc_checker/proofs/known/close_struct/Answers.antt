@@ -10,7 +10,7 @@ use Rattle.typed_tree.specs.Scopes.{State, with_members}
 use Rattle.upc_checker.specs.Walk.{facts_in}
 use Rattle.upc_checker.specs.Ends.{Comes}
 use Rattle.upc_checker.specs.Expressions.{close_struct, members_size, size_or_more}
-use Rattle.upc_checker.specs.Views.{view_function, view_setting, state_with}
+use Rattle.upc_checker.specs.Views.{view_functions, view_setting, state_with}
 use Rattle.upc_checker.proofs.Closing.{new_struct, none_some, same_rule, closes, stops_closing}
 use Rattle.upc_checker.proofs.known.close_struct.Goals as goal
 
@@ -58,6 +58,6 @@ returns c = λ tags.
     let bytes : c.from-bytes.result ≡ members_size s ms =
     c.from-bytes.ensures ∙ c.size_or_more.ensures ∙ ap size_or_more (c.members_layout-layout.ensures.value ∙ ap (λ xs. members_within cs (map view_member xs)) c.as_slice.ensures.value) in
     let rule = same_rule (facts_in ξ s) s c.args.number ms c.is_complete-again.result c.len.result c.from-bytes.result c.struct_members.result (c.struct_members.ensures (facts_in ξ s)) c.is_complete-again.ensures count bytes in
-    let after : with_members c.args.number ms s ≡ state_with tags (record { structs = c.complete.new.self; functions = c.args.known.now.functions }) =
-    ap (λ (x : Structs). let t : State = record { tags = tags; structs = x; functions = reverse (map view_function c.args.known.now.functions.items) } in t) (sym c.in_ok-complete-in-Some.ensures.ok) in
+    let after : with_members c.args.number ms s ≡ state_with tags (record { structs = c.complete.new.self; functions = c.args.known.now.functions; come = c.args.known.now.come; above = c.args.known.now.above }) =
+    ap (λ (x : Structs). let t : State = record { tags = tags; structs = x; functions = view_functions c.args.known.now.functions; come = c.args.known.now.come; above = c.args.known.now.above } in t) (sym c.in_ok-complete-in-Some.ensures.ok) in
     subst (λ (t : State). Comes (close_struct ξ c.args.at c.args.number ms s) t (tt {0})) after (closes ξ c.args.at c.args.number ms s c.struct_members.result rule c.in_ok-judged.ensures.ok)

@@ -24,7 +24,7 @@ returns c =
     let tag = λ (level number : ℕ). let t : Tag = record { name = c.args.name; level = level; number = number } in t in
     let tags : view_tags c.note_tag.new.tags ≡ tag (level_of Γ) s.structs.declared ∷ s.tags =
     c.in_ok-note_tag.ensures.ok ∙ ap (λ n. tag n c.in_ok-number.number ∷ s.tags) c.level-level.ensures ∙ ap (λ n. tag (level_of Γ) n ∷ s.tags) c.in_ok-number.ensures.number in
-    let make = λ (ts : List Tag) (x : Structs). let t : State = record { tags = ts; structs = x; functions = s.functions } in t in
+    let make = λ (ts : List Tag) (x : Structs). let t : State = record { tags = ts; structs = x; functions = s.functions; come = s.come; above = s.above } in t in
     let after : with_tag c.args.name (level_of Γ) s ≡ make (view_tags c.note_tag.new.tags) (view_structs c.declare.new.self) =
     ap (make (tag (level_of Γ) s.structs.declared ∷ s.tags)) (sym c.in_ok-number.ensures.ok) ∙ ap (λ ts. make ts (view_structs c.declare.new.self)) (sym tags) in
     let done = refers_anew c.args.alone Γ c.args.name s h in

@@ -1,9 +1,0 @@
-use Rattle.std.proofs.Common.{◌≡◌, drop, map}
-use Rattle.typed_tree.specs.Scopes as pure
-use Rattle.typed_tree.specs.Views.{view_signature}
-use Rattle.upc_checker.specs.Views.{view_function}
-use Rattle.upc_checker.proofs.known.any_differs.Given as goal
-
--- what is left decides
-abbrev pub invariant-loop-function : goal.invariant-loop-function
-invariant-loop-function l = pure.differs l.name (view_signature l.signature) (map view_function l.functions) ≡ pure.differs l.name (view_signature l.signature) (map view_function (drop l.function-index l.functions))

@@ -1,0 +1,40 @@
+use Rattle.std.proofs.Common.{◌≡◌, Some, None, Ok, Err, refl, sym, ap, ◌∙◌, subst}
+use Rattle.std.proofs.lemmas.Result.{err_from_is_err_and}
+use Rattle.upc_text.specs.declared.place.Place.{Place}
+use Rattle.upc_tree.specs.View.{view}
+use Rattle.upc_tree.specs.ViewStatement as trees
+use Rattle.upc_types.specs.View as types
+use Rattle.typed_tree.specs.Nodes as n
+use Rattle.typed_tree.specs.Nodes.{view_attr}
+use Rattle.typed_tree.specs.Tree as k
+use Rattle.typed_tree.specs.ViewEnv.{view_env}
+use Rattle.typed_tree.specs.ViewStatements.{view_affinity, view_head, view_object, view_statement, view_value}
+use Rattle.typed_tree.specs.ViewTree.{view_expr}
+use Rattle.typed_tree.specs.Views.{view_around}
+use Rattle.upc_checker.specs.Declarations as declarations
+use Rattle.upc_checker.specs.Expressions.{walk}
+use Rattle.upc_checker.specs.Statements as pure
+use Rattle.upc_checker.specs.Views.{view_setting, state_of}
+use Rattle.upc_checker.specs.Walk.{facts_in}
+use Rattle.upc_checker.proofs.Walks.{goes, stops, gives}
+use Rattle.upc_checker.proofs.StatementTurns.{judges, refuses}
+use Rattle.upc_checker.proofs.statements.walk_return.Goals as goal
+
+pub returns-in_err-a : goal.returns-in_err-a
+returns-in_err-a c = λ semicolon.
+    let ξ = view_setting c.args.here.setting in
+    let Γ = view_env c.args.env.now in
+    let s = state_of c.args.tags.now c.args.known.now in
+    let e = c.in_err-a.field-0.0 in
+    let p = err_from_is_err_and c.from_residual.result c.from_residual.ensures.1 in
+    let id = λ (x : k.Statement). x in
+    rw (p.1, p.2)
+    (stops id (pure.walk_returned ξ Γ (view_around c.args.here.around) (trees.view_value c.args.value.now)) _ s s e c.in_err-a.ensures)
+
+pub returns : goal.returns
+returns c = λ semicolon.
+    let ξ = view_setting c.args.here.setting in
+    let Γ = view_env c.args.env.now in
+    let s = state_of c.args.tags.now c.args.known.now in
+    let t = (state_of c.walk_returned.new.tags c.walk_returned.new.known) in
+    goes view_statement (pure.walk_returned ξ Γ (view_around c.args.here.around) (trees.view_value c.args.value.now)) _ s t t (view_value c.in_ok-a.a) c.returns.result c.in_ok-a.ensures (c.returns.ensures ξ t)

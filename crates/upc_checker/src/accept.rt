@@ -1,0 +1,47 @@
+//! From a syntax tree to its program.
+
+ghost use Rattle.std.specs.Prelude.{◌≡◌, ◌<◌, ◌≤◌, IfOk};
+ghost use Rattle.upc_tree.specs.ViewStatement.{view_unit};
+ghost use Rattle.upc_checker.specs.Outcomes.{Answers, outcome};
+ghost use Rattle.upc_checker.specs.Programs.{IsAccepted};
+ghost use Rattle.upc_checker.specs.ViewUnits.{view_checked};
+ghost use Rattle.upc_checker.specs.ViewProgram.{view_program};
+
+use crate::program::Program;
+use crate::whole::{Checked, check_source};
+use program_opening::{allocated_types, open};
+use std::alloc::Global;
+use upc_lexer::Names;
+use upc_text::{OutOfMemory, Stop};
+use upc_tree::Unit;
+
+// The program of a source that is accepted.
+fn program_of(alloc: Global, source: Checked) -> Result<Program, OutOfMemory>
+    requires least { 0 < source.threads }
+    requires most { source.threads ≤ 32 }
+    requires accepted { IsAccepted (view_checked source) }
+    ensures { IfOk result (λ p. view_program p ≡ view_checked source) }
+{
+    let allocated = allocated_types(alloc, source.functions.as_slice(), &source.structs)?;
+    let beginning = open(
+        alloc,
+        source.threads,
+        source.structs,
+        source.objects.as_slice(),
+        allocated.as_slice(),
+    )?;
+    Ok(Program::make(source.threads, source.objects, source.functions, beginning))
+}
+
+/// The program of a source for so many threads: what it declares and defines, where every node meets the typing rules and no limit is
+/// passed. Refusals: `Typing(n)`, the first node in the order in which nodes are finished (children before their parent, from left to
+/// right) that breaks a rule, with the lowest such number; where there is none, `Limit(4)`, `Limit(5)` or `Limit(7)`, the first in
+/// this order, at the first declaration that passes it. The names are those of the source by number.
+pub fn check(alloc: Global, unit: &Unit, names: &Names, threads: u32) -> Result<Program, Stop>
+    requires least { 1 ≤ threads }
+    requires most { threads ≤ 32 }
+    ensures { Answers view_program (outcome names.now threads (view_unit unit.now)) result }
+{
+    let source = check_source(alloc, unit, names, threads)?;
+    Ok(program_of(alloc, source)?)
+}
