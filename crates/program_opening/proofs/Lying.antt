@@ -12,15 +12,11 @@ use Rattle.upc_types.specs.Cells.{leaves}
 use Rattle.upc_types.proofs.Within.{leaf_sizes}
 use Rattle.typed_tree.specs.Constants.{block_or_none}
 use Rattle.typed_tree.specs.Tree.{DeclaredObject}
-use Rattle.program_opening.specs.declared.objects.SharedDecl.{SharedDecl}
 use Rattle.program_opening.specs.Elements.{has_layout, element_shape, element_shapes}
-use Rattle.program_opening.specs.Objects.{type_of, bytes_in, placed, placed_from}
+use Rattle.program_opening.specs.Objects.{object_of, type_of, bytes_in, lies, placed_from}
 use Rattle.program_opening.proofs.Shapes.{layout_is}
 use Rattle.program_opening.proofs.Placing.{bytes_step}
 use Rattle.program_opening.proofs.Sound.{AreFine, IsListed, base_some, listed_all}
-
-abbrev pub object_of : SharedDecl → ObjectRef
-object_of x = x.object
 
 -- ---- the objects, one by one
 
@@ -29,7 +25,7 @@ pub placed_take : (s : Structs) (shapes : List Shape) (number base i : ℕ) (xs 
 placed_take s shapes number base zero xs = refl
 placed_take s shapes number base (suc i) [] = refl
 placed_take s shapes number base (suc i) (x ∷ xs) =
-    ap (λ (os : List ObjectRef). (placed s shapes number base x.ctype).object ∷ os) (placed_take s shapes (number + 1) (base + size s x.ctype) i xs)
+    ap (λ (os : List ObjectRef). (lies s shapes number base x.ctype) ∷ os) (placed_take s shapes (number + 1) (base + size s x.ctype) i xs)
 
 pub placed_length : (s : Structs) (shapes : List Shape) (number base : ℕ) (xs : List DeclaredObject) → length (map object_of (placed_from s shapes number base xs)) ≡ length xs
 placed_length s shapes number base [] = refl
@@ -39,23 +35,23 @@ pub placed_bytes : (s : Structs) (shapes : List Shape) (number base : ℕ) (xs :
 placed_bytes s shapes number base [] = refl
 placed_bytes s shapes number base (x ∷ xs) =
     let h = placed_bytes s shapes (number + 1) (base + size s x.ctype) xs in
-    sum_by-cons (λ (o : ObjectRef). o.total) (placed s shapes number base x.ctype).object (map object_of (placed_from s shapes (number + 1) (base + size s x.ctype) xs))
+    sum_by-cons (λ (o : ObjectRef). o.total) (lies s shapes number base x.ctype) (map object_of (placed_from s shapes (number + 1) (base + size s x.ctype) xs))
     ∙ ap (λ n. size s x.ctype + n) h ∙ sym (bytes_step s x xs)
 
 pub placed_at : (s : Structs) (shapes : List Shape) (number base i : ℕ) (xs : List DeclaredObject) (d : ObjectRef) (e : DeclaredObject) → i < length xs →
-    get_or (map object_of (placed_from s shapes number base xs)) i d ≡ (placed s shapes (number + i) (base + bytes_in s (take i xs)) (get_or xs i e).ctype).object
+    get_or (map object_of (placed_from s shapes number base xs)) i d ≡ (lies s shapes (number + i) (base + bytes_in s (take i xs)) (get_or xs i e).ctype)
 placed_at s shapes number base i [] d e h = absurd (omega arith)
 placed_at s shapes number base zero (x ∷ xs) d e h =
     let n : number ≡ number + 0 = omega arith in
     let b : base ≡ base + 0 = omega arith in
-    ap (λ m. (placed s shapes m base x.ctype).object) n ∙ ap (λ m. (placed s shapes (number + 0) m x.ctype).object) b
+    ap (λ m. (lies s shapes m base x.ctype)) n ∙ ap (λ m. (lies s shapes (number + 0) m x.ctype)) b
 placed_at s shapes number base (suc i) (x ∷ xs) d e h =
     let k = placed_at s shapes (number + 1) (base + size s x.ctype) i xs d e (omega arith) in
     let n : number + 1 + i ≡ number + suc i = omega arith in
     let l = bytes_step s x (take i xs) in
     let b : base + size s x.ctype + bytes_in s (take i xs) ≡ base + bytes_in s (x ∷ take i xs) = omega (arith, l) in
-    k ∙ ap (λ m. (placed s shapes m (base + size s x.ctype + bytes_in s (take i xs)) (get_or xs i e).ctype).object) n
-    ∙ ap (λ m. (placed s shapes (number + suc i) m (get_or xs i e).ctype).object) b
+    k ∙ ap (λ m. (lies s shapes m (base + size s x.ctype + bytes_in s (take i xs)) (get_or xs i e).ctype)) n
+    ∙ ap (λ m. (lies s shapes (number + suc i) m (get_or xs i e).ctype)) b
 
 -- ---- lists
 
@@ -91,7 +87,7 @@ min_whole k l m n h =
     go (inr e) = ap (λ x. x % m) (e ∙ h) ∙ mul-mod_left l m
 
 pub declared_is : (o : Opening) (s : Structs) (i base : ℕ) (t : CType) → AreFine s.completed → has_layout s t ≡ true → 0 < o.threads →
-    IsListed o.shapes (element_shape s t) → base ≡ bytes_of (take i o.declared) → IsDeclared o i (placed s o.shapes (1 + i) base t).object
+    IsListed o.shapes (element_shape s t) → base ≡ bytes_of (take i o.declared) → IsDeclared o i (lies s o.shapes (1 + i) base t)
 declared_is o s i base t f h threads listed b =
     let l = layout_is s t h in
     let whole : size s t ≡ leaves (base_of t) * (element_shape s t).size = leaf_sizes (layout_in s.completed) (base_of t) in
@@ -134,7 +130,7 @@ declared_all o s xs types f layouts threads shapes declared i d h =
     let e = first xs (omega arith) in
     let x = get_or xs i e in
     let base = 0 + bytes_in s (take i xs) in
-    let at : get_or o.declared i d ≡ (placed s o.shapes (1 + i) base x.ctype).object = ap (λ os. get_or os i d) declared ∙ placed_at s o.shapes 1 0 i xs d e n in
+    let at : get_or o.declared i d ≡ (lies s o.shapes (1 + i) base x.ctype) = ap (λ os. get_or os i d) declared ∙ placed_at s o.shapes 1 0 i xs d e n in
     let listed = subst (λ ss. IsListed ss (element_shape s x.ctype)) (sym shapes) (listed_at s xs types i e n) in
     let bytes : bytes_in s (take i xs) ≡ bytes_of (take i o.declared) =
     sym (ap (λ os. bytes_of (take i os)) declared ∙ ap bytes_of (placed_take s o.shapes 1 0 i xs) ∙ placed_bytes s o.shapes 1 0 (take i xs)) in

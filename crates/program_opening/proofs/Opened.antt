@@ -36,7 +36,7 @@ shapes_are P s (t ∷ ts) f h = (f t h.0, shapes_are P s ts f h.1)
 
 -- An object that stands for none.
 abbrev pub no_object : DeclaredObject
-no_object = record { at = record { line = 0; column = 0 }; home = home.Private 0; ctype = Qualified Void false None Unsaid; initial = NoInitial }
+no_object = record { at = record { line = 0; column = 0 }; name = []; home = home.Private 0; ctype = Qualified Void false None Unsaid; initial = NoInitial }
 
 pub opening_is : (threads : ℕ) (s : Structs) (objects : List DeclaredObject) (allocated : List CType) → AreFine s.completed → 0 < threads → threads ≤ 32 →
     AreLaid s objects → HaveLayouts s allocated → bytes_in s (shared_in objects) ≤ 16777216 → IsOpening (opening_in threads (begun threads s objects allocated))

@@ -22,10 +22,10 @@ use Rattle.typed_tree.specs.Attributes.{constant_of}
 use Rattle.program_opening.specs.declared.setting.Value.{Value}
 use Rattle.program_opening.specs.declared.setting.Value.TheVariants as value
 use Rattle.program_opening.specs.Elements.{sharable, element_shape}
-use Rattle.program_opening.specs.Objects.{bytes_in, placed, placed_from}
+use Rattle.program_opening.specs.Objects.{object_of, bytes_in, lies, placed_from}
 use Rattle.program_opening.specs.Initials.{Setting, scalar_kind, single, at_start, shared_from, value_in}
 use Rattle.program_opening.proofs.Sound.{IsListed}
-use Rattle.program_opening.proofs.Lying.{object_of, placed_at}
+use Rattle.program_opening.proofs.Lying.{placed_at}
 use Rattle.program_opening.proofs.Worth.{IsWorth, is_scalar, value_worth}
 
 -- ---- at most one value for a cell
@@ -96,9 +96,9 @@ if_piece false total c h k = k
 
 -- Some bytes of an object lie on its home, which is thread 0.
 piece_some : (s : Structs) (shapes : List Shape) (number base threads : ℕ) (t : CType) → 0 < size s t →
-    nat_lt 0 (piece_of (placed s shapes number base t).object 0 threads) ≡ true
+    nat_lt 0 (piece_of (lies s shapes number base t) 0 threads) ≡ true
 piece_some s shapes number base threads t h =
-    let o = (placed s shapes number base t).object in
+    let o = (lies s shapes number base t) in
     let first : (0 / o.block % threads == 0) ≡ true = rw (zero-div o.block, zero-mod threads) refl in
     lt-ltb 0 (piece_of o 0 threads) (if_piece (o.block == 0) o.total (count_below (λ x. x / o.block % threads == 0) o.total) h (count_some (λ x. x / o.block % threads == 0) o.total first h))
 
@@ -118,14 +118,14 @@ find_index s shapes number base (suc i) (x ∷ xs) d h =
     let rest = map object_of (placed_from s shapes (number + 1) (base + size s x.ctype) xs) in
     let k = find_index s shapes (number + 1) (base + size s x.ctype) i xs d (omega arith) in
     let n : number + 1 + i ≡ number + suc i = omega arith in
-    find_one (number == number + suc i) (placed s shapes number base x.ctype).object (find (λ o. o.number == number + suc i) rest) (Some (get_or rest i d))
+    find_one (number == number + suc i) (lies s shapes number base x.ctype) (find (λ o. o.number == number + suc i) rest) (Some (get_or rest i d))
     (false_from_ne_true (number == number + suc i) (λ e. let f : number ≡ number + suc i = eqb-true number (number + suc i) e in omega arith))
     (subst (λ m. find (λ o. o.number == m) rest ≡ Some (get_or rest i d)) n k)
 
 pub find_placed : (s : Structs) (shapes : List Shape) (number base i : ℕ) (xs : List DeclaredObject) (e : DeclaredObject) → i < length xs →
-    find (λ o. o.number == number + i) (map object_of (placed_from s shapes number base xs)) ≡ Some (placed s shapes (number + i) (base + bytes_in s (take i xs)) (get_or xs i e).ctype).object
+    find (λ o. o.number == number + i) (map object_of (placed_from s shapes number base xs)) ≡ Some (lies s shapes (number + i) (base + bytes_in s (take i xs)) (get_or xs i e).ctype)
 find_placed s shapes number base i xs e h =
-    let d = (placed s shapes 0 0 e.ctype).object in
+    let d = (lies s shapes 0 0 e.ctype) in
     find_index s shapes number base i xs d h ∙ ap (λ (o : ObjectRef). Some o) (placed_at s shapes number base i xs d e h)
 
 -- What there is, and what a program begins with.
@@ -145,7 +145,7 @@ pub cell_is : (threads : ℕ) (s : Structs) (shapes : List Shape) (xs : List Dec
 cell_is threads s shapes xs initials i e h some listed =
     let t = (get_or xs i e).ctype in
     let base = 0 + bytes_in s (take i xs) in
-    let there = kind_at (slice_get shapes (placed s shapes (1 + i) base t).object.shape) 0 in
+    let there = kind_at (slice_get shapes (lies s shapes (1 + i) base t).shape) 0 in
     ap (λ (r : Option ObjectRef). cell_in threads shapes r (start_of (1 + i))) (find_placed s shapes 1 0 i xs e h)
     ∙ ap (λ b. cond b there None) (piece_some s shapes (1 + i) base threads t some)
     ∙ ap (λ (q : Option Shape). kind_at q 0) listed

@@ -1,10 +1,12 @@
 -- What constants give cells fits them, and names what there is.
-use Rattle.std.proofs.Common.{◌≡◌, ℕ, zero, suc, ◌<◌, Bool, true, false, ◌==◌, ◌&&◌, ◌||◌, nat_lt, int_le, int_lt, if◌then◌else◌, List, [], ◌∷◌, map, Option, Some, None, refl, sym, ap, ◌∙◌, subst, arith}
+use Rattle.std.proofs.Common.{◌≡◌, ℕ, zero, suc, ◌-◌, ◌<◌, Bool, true, false, ◌==◌, ◌&&◌, ◌||◌, nat_lt, int_le, int_lt, if◌then◌else◌, List, [], ◌∷◌, map, Option, Some, None, refl, sym, ap, ◌∙◌, subst, arith, length, slice_index_or}
 use Rattle.std.proofs.Math.IntN.{ℤ, pos, ◌+ℤ◌, ◌-ℤ◌}
 use Rattle.std.specs.List.{slice_get, list_any}
 use Rattle.std.proofs.lemmas.Int.{ints}
 use Rattle.std.proofs.lemmas.Nat.{pow_pos}
 use Rattle.std.proofs.lemmas.Bool.{and_parts, and_from}
+use Rattle.std.specs.Option.{option_map}
+use Rattle.std.proofs.lemmas.Option.{slice_get-map, slice_get-get_or}
 use Rattle.block_layout.specs.declared.kind.Kind.{Kind}
 use Rattle.block_layout.specs.declared.kind.Kind.TheVariants.{Char, UChar, Short, UShort, Int, UInt, Long, ULong, Shared, Lock, Private}
 use Rattle.block_layout.specs.declared.place.ObjectRef.{ObjectRef}
@@ -25,12 +27,12 @@ use Rattle.typed_tree.specs.declared.attribute.Constant.TheVariants.{Variable, K
 use Rattle.program_opening.specs.declared.objects.SharedDecl.{SharedDecl}
 use Rattle.program_opening.specs.declared.setting.Value.{Value}
 use Rattle.program_opening.specs.declared.setting.Value.TheVariants as value
+use Rattle.program_opening.specs.Objects.{object_of}
 use Rattle.program_opening.specs.Initials.{Setting, integer_in, fits, numbered, pointer_into, shared_pointer_in, local_pointer_in, value_in}
 use Rattle.block_layout.specs.declared.place.LocalPtr.{LocalPtr}
 use Rattle.block_layout.specs.declared.place.LocalPtr.TheVariants as local
 use Rattle.program_opening.specs.PrivateOpenings.{is_local}
 use Rattle.program_opening.specs.PrivateOpenings as private
-use Rattle.program_opening.proofs.Lying.{object_of}
 
 -- ---- integers
 
@@ -73,10 +75,10 @@ fitting_phase : (b : Bool) (threads block : ℕ) (p : SharedPtr) → fits thread
 fitting_phase true threads block p e = (and_parts (phase_fits block p) (in_range p.offset) (and_parts (nat_lt p.thread threads) (phase_fits block p && in_range p.offset) e).1).0
 fitting_phase false threads block p e = refl
 
-into_phase : (threads block : ℕ) (o : Option SharedDecl) (thread phase : ℕ) (offset : ℤ) → phase_fits block (pointer_into threads block o thread phase offset) ≡ true
+into_phase : (threads block : ℕ) (o : Option ObjectRef) (thread phase : ℕ) (offset : ℤ) → phase_fits block (pointer_into threads block o thread phase offset) ≡ true
 into_phase threads block None thread phase offset = refl
 into_phase threads block (Some x) thread phase offset =
-    let p : SharedPtr = record { object = x.object; thread = thread; phase = phase; offset = offset } in
+    let p : SharedPtr = record { object = x; thread = thread; phase = phase; offset = offset } in
     fitting_phase (fits threads block p) threads block p refl
 
 pub pointer_phase : (σ : Setting) (block : ℕ) (c : Constant) → phase_fits block (shared_pointer_in σ block c) ≡ true
@@ -97,17 +99,25 @@ or_left : (a b : Bool) → a ≡ true → (a || b) ≡ true
 or_left true b h = refl
 or_left false b h = absurd cc
 
-any_at : (xs : List SharedDecl) (n : ℕ) (x : SharedDecl) → slice_get xs n ≡ Some x → list_any (same_object x.object) (map object_of xs) ≡ true
+any_at : (os : List ObjectRef) (n : ℕ) (x : ObjectRef) → slice_get os n ≡ Some x → list_any (same_object x) os ≡ true
 any_at [] n x h = absurd cc
-any_at (y ∷ xs) zero x h =
+any_at (y ∷ os) zero x h =
     let e : y ≡ x = cc in
-    or_left (same_object x.object y.object) (list_any (same_object x.object) (map object_of xs))
-    (subst (λ (z : SharedDecl). same_object x.object z.object ≡ true) (sym e) (same_object-refl x.object))
-any_at (y ∷ xs) (suc n) x h = or_right (same_object x.object y.object) (list_any (same_object x.object) (map object_of xs)) (any_at xs n x h)
+    or_left (same_object x y) (list_any (same_object x) os)
+    (subst (λ (z : ObjectRef). same_object x z ≡ true) (sym e) (same_object-refl x))
+any_at (y ∷ os) (suc n) x h = or_right (same_object x y) (list_any (same_object x) os) (any_at os n x h)
 
-numbered_any : (xs : List SharedDecl) (n : ℕ) (x : SharedDecl) → numbered xs n ≡ Some x → list_any (same_object x.object) (map object_of xs) ≡ true
+numbered_any : (xs : List SharedDecl) (n : ℕ) (x : ObjectRef) → numbered xs n ≡ Some x → list_any (same_object x) (map object_of xs) ≡ true
 numbered_any xs zero x h = absurd cc
-numbered_any xs (suc n) x h = any_at xs n x h
+numbered_any xs (suc n) x h = any_at (map object_of xs) n x h
+
+-- The object with a number, by its place in the list.
+pub numbered_at : (xs : List SharedDecl) (n : ℕ) (x : SharedDecl) → 0 < n → n - 1 < length xs → x ≡ slice_index_or xs (n - 1) x → numbered xs n ≡ Some x.object
+numbered_at xs zero x some h e = absurd (omega (arith, some))
+numbered_at xs (suc n) x some h e =
+    let k : suc n - 1 ≡ n = omega arith in
+    let found : slice_get xs (suc n - 1) ≡ Some x = slice_get-get_or xs (suc n - 1) x h ∙ ap Some (sym e) in
+    slice_get-map object_of xs n ∙ ap (option_map object_of) (ap (slice_get xs) (sym k) ∙ found)
 
 null_named : (threads : ℕ) (os : List ObjectRef) → is_named threads os null ≡ true
 null_named threads os = refl
@@ -121,11 +131,11 @@ fitting_named true threads block os p e h =
     (and_from (list_any (same_object p.object) os) (nat_lt p.thread threads && in_range p.offset) h (and_from (nat_lt p.thread threads) (in_range p.offset) q.0 r.1))
 fitting_named false threads block os p e h = null_named threads os
 
-into_named : (threads block : ℕ) (xs : List SharedDecl) (n : ℕ) (o : Option SharedDecl) (thread phase : ℕ) (offset : ℤ) → numbered xs n ≡ o →
+into_named : (threads block : ℕ) (xs : List SharedDecl) (n : ℕ) (o : Option ObjectRef) (thread phase : ℕ) (offset : ℤ) → numbered xs n ≡ o →
     is_named threads (map object_of xs) (pointer_into threads block o thread phase offset) ≡ true
 into_named threads block xs n None thread phase offset e = null_named threads (map object_of xs)
 into_named threads block xs n (Some x) thread phase offset e =
-    let p : SharedPtr = record { object = x.object; thread = thread; phase = phase; offset = offset } in
+    let p : SharedPtr = record { object = x; thread = thread; phase = phase; offset = offset } in
     fitting_named (fits threads block p) threads block (map object_of xs) p refl (numbered_any xs n x e)
 
 pub pointer_named : (σ : Setting) (block : ℕ) (c : Constant) → is_named σ.threads (map object_of σ.shared) (shared_pointer_in σ block c) ≡ true

@@ -5,6 +5,7 @@ use Rattle.block_layout.specs.declared.kind.Kind.{Kind}
 use Rattle.block_layout.specs.declared.kind.Kind.TheVariants as k
 use Rattle.block_layout.specs.declared.place.Loc.{Loc}
 use Rattle.block_layout.specs.declared.place.LocalPtr.{LocalPtr}
+use Rattle.block_layout.specs.declared.place.ObjectRef.{ObjectRef}
 use Rattle.block_layout.specs.declared.place.LocalPtr.TheVariants as local
 use Rattle.block_layout.specs.declared.place.SharedPtr.{SharedPtr}
 use Rattle.block_layout.specs.Places.{in_range}
@@ -21,6 +22,7 @@ use Rattle.typed_tree.specs.Constants.{cast_constant}
 use Rattle.typed_tree.specs.Attributes.{constant_of}
 use Rattle.typed_tree.specs.Tree.{DeclaredObject, Initial, InitialValue, InitialList, attr_of, attrs_of}
 use Rattle.program_opening.specs.declared.objects.SharedDecl.{SharedDecl}
+use Rattle.program_opening.specs.Objects.{object_of}
 use Rattle.program_opening.specs.declared.setting.Value.{Value}
 use Rattle.program_opening.specs.declared.setting.Value.TheVariants as value
 use Rattle.program_opening.specs.declared.setting.Setting as s
@@ -54,14 +56,14 @@ abbrev pub fitting : ℕ → ℕ → SharedPtr → SharedPtr
 fitting threads block p = if fits threads block p then p else null
 
 -- The shared object with this number, from 1 on.
-abbrev pub numbered : List SharedDecl → ℕ → Option SharedDecl
+abbrev pub numbered : List SharedDecl → ℕ → Option ObjectRef
 numbered shared zero = None
-numbered shared (suc n) = slice_get shared n
+numbered shared (suc n) = slice_get (map object_of shared) n
 
-abbrev pub pointer_into : ℕ → ℕ → Option SharedDecl → ℕ → ℕ → ℤ → SharedPtr
+abbrev pub pointer_into : ℕ → ℕ → Option ObjectRef → ℕ → ℕ → ℤ → SharedPtr
 pointer_into threads block None thread phase offset = null
-pointer_into threads block (Some x) thread phase offset =
-    fitting threads block (record { object = x.object; thread = thread; phase = phase; offset = offset })
+pointer_into threads block (Some object) thread phase offset =
+    fitting threads block (record { object = object; thread = thread; phase = phase; offset = offset })
 
 -- The pointer-to-shared that a constant is.
 abbrev pub shared_pointer_in : Setting → ℕ → Constant → SharedPtr

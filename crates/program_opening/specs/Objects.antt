@@ -2,6 +2,7 @@
 use Rattle.std.specs.Prelude.{ℕ, ◌+◌, ◌*◌, min, Bool, true, false, List, [], ◌∷◌, filter}
 use Rattle.std.specs.List.{sum_by}
 use Rattle.block_layout.specs.declared.kind.Shape.{Shape}
+use Rattle.block_layout.specs.declared.place.ObjectRef.{ObjectRef}
 use Rattle.upc_types.specs.Types.{CType, Structs, base_of, block_of}
 use Rattle.upc_types.specs.Layout.{size}
 use Rattle.upc_types.specs.Cells.{leaves}
@@ -33,24 +34,32 @@ type_of x = x.ctype
 abbrev pub bytes_in : Structs → List DeclaredObject → ℕ
 bytes_in structs objects = sum_by (λ x. size structs x.ctype) objects
 
--- A shared object with this number, behind so many bytes of others. Its block is in bytes, and no longer than the object.
-abbrev pub placed : Structs → List Shape → ℕ → ℕ → CType → SharedDecl
-placed structs shapes number base t = record {
-  object = record {
-    number = number;
-    total = size structs t;
-    block = min (block_or_none (block_of t) * (element_shape structs t).size) (size structs t);
-    home = 0;
-    shape = number_among shapes (element_shape structs t);
-    base = base;
-  };
-  block = block_or_none (block_of t);
-  elements = leaves (base_of t);
-  size = (element_shape structs t).size;
+-- Where a shared object of this type and number lies, behind so many bytes of others. Its block is in bytes, and no longer than the object.
+abbrev pub lies : Structs → List Shape → ℕ → ℕ → CType → ObjectRef
+lies structs shapes number base t = record {
+  number = number;
+  total = size structs t;
+  block = min (block_or_none (block_of t) * (element_shape structs t).size) (size structs t);
+  home = 0;
+  shape = number_among shapes (element_shape structs t);
+  base = base;
 }
+
+-- A shared object with this number, behind so many bytes of others.
+abbrev pub placed : Structs → List Shape → ℕ → ℕ → DeclaredObject → SharedDecl
+placed structs shapes number base x = record {
+  name = x.name;
+  object = lies structs shapes number base x.ctype;
+  block = block_or_none (block_of x.ctype);
+  elements = leaves (base_of x.ctype);
+  size = (element_shape structs x.ctype).size;
+}
+
+abbrev pub object_of : SharedDecl → ObjectRef
+object_of x = x.object
 
 -- Shared objects, one behind the other.
 abbrev pub placed_from : Structs → List Shape → ℕ → ℕ → List DeclaredObject → List SharedDecl
 placed_from structs shapes number base [] = []
 placed_from structs shapes number base (x ∷ xs) =
-    placed structs shapes number base x.ctype ∷ placed_from structs shapes (number + 1) (base + size structs x.ctype) xs
+    placed structs shapes number base x ∷ placed_from structs shapes (number + 1) (base + size structs x.ctype) xs

@@ -9,8 +9,6 @@ mod objects;
 mod privates;
 mod setting;
 mod targets;
-#[cfg(test)]
-mod tests;
 mod values;
 
 pub use allocated::allocated_types;

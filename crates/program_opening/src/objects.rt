@@ -13,12 +13,13 @@ use crate::elements::{element_shape, number_among};
 use block_layout::{ObjectRef, Shape};
 use std::alloc::Global;
 use typed_tree::{Home, Object};
-use upc_text::OutOfMemory;
-use upc_types::{CType, Structs, size_of};
+use upc_text::{OutOfMemory, Text};
+use upc_types::{Structs, size_of};
 
-/// A declared shared object: its block and its leaf elements, of `size` bytes each. The block is 0 where it is indefinite.
-#[derive(Clone, Copy, PartialEq, Eq, Debug)]
+/// A declared shared object: its name, its block and its leaf elements, of `size` bytes each. The block is 0 where it is indefinite.
+#[derive(Debug, Drop)]
 pub struct SharedDecl {
+    pub name: Text,
     pub object: ObjectRef,
     pub block: u32,
     pub elements: u32,
@@ -72,17 +73,20 @@ fn placed(
     shapes: &[Shape],
     number: u32,
     base: u32,
-    t: &CType,
+    declared: &Object,
 ) -> Result<SharedDecl, OutOfMemory>
-    requires layout { has_layout (view_structs structs.now) (view t.now) ≡ true }
+    requires layout { has_layout (view_structs structs.now) (view declared.now.ctype) ≡ true }
     requires shapes { length shapes.now ≤ 4294967295 }
-    ensures { IfOk result (λ x. x ≡ pure.placed (view_structs structs.now) shapes.now number base (view t.now)) }
+    ensures { IfOk result (λ x. x ≡ pure.placed (view_structs structs.now) shapes.now number base (view_object declared.now)) }
 {
+    let t = &declared.ctype;
     let element = element_shape(alloc, t, structs)?;
     let total = size_of(t, structs);
     let block = block_or_none(t.shared);
     let bytes = u64::from(block) * u64::from(element.size);
+    let name = declared.name.copy(alloc)?;
     Ok(SharedDecl {
+        name,
         object: ObjectRef {
             number,
             total,
@@ -115,7 +119,7 @@ pub(crate) fn placed_objects(
     let mut base = 0;
     for object in objects {
         if is_shared(object.home) {
-            shared.push(placed(alloc, structs, shapes, number, base, &object.ctype)?)?;
+            shared.push(placed(alloc, structs, shapes, number, base, object)?)?;
             number = next(number)?;
             base += size_of(&object.ctype, structs);
         }

@@ -10,7 +10,7 @@ ghost use Rattle.program_opening.specs.Initials.{view_setting};
 
 use crate::objects::SharedDecl;
 use crate::setting::{Setting, Value};
-use block_layout::{Kind, LocalPtr, SharedPtr};
+use block_layout::{Kind, LocalPtr, ObjectRef, SharedPtr};
 use typed_tree::constants::cast_constant;
 use typed_tree::{Constant, Static};
 use upc_types::{Base, Structs};
@@ -53,19 +53,20 @@ fn fitting(threads: u32, block: u32, p: SharedPtr) -> SharedPtr
 }
 
 // The shared object with this number.
-fn numbered(shared: &[SharedDecl], number: u32) -> Option<SharedDecl>
+fn numbered(shared: &[SharedDecl], number: u32) -> Option<ObjectRef>
     ensures { result ≡ pure.numbered shared.now number }
 {
     if number == 0 {
         return None;
     }
-    shared.get(number as usize - 1).copied()
+    let declared = shared.get(number as usize - 1)?;
+    Some(declared.object)
 }
 
 fn pointer_into(
     threads: u32,
     block: u32,
-    named: Option<SharedDecl>,
+    named: Option<ObjectRef>,
     thread: u32,
     phase: u32,
     offset: i64,
@@ -73,11 +74,11 @@ fn pointer_into(
     ensures { result ≡ pure.pointer_into threads block named thread phase offset }
 {
     match named {
-        Some(shared) => fitting(
+        Some(object) => fitting(
             threads,
             block,
             SharedPtr {
-                object: shared.object,
+                object,
                 thread,
                 phase,
                 offset,

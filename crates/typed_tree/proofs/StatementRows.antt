@@ -1,7 +1,6 @@
 -- Vectors of parts inside statements, seen as lists.
-use Rattle.std.proofs.Common.{◌≡◌, Bool, List, [], ◌∷◌, Option, Some, None, refl, ap, ◌∙◌, Vec, Global, Box}
+use Rattle.std.proofs.Common.{◌≡◌, Bool, Option, Some, None, refl, ap, ◌∙◌, Vec, Global, Box}
 use mathlib.Core.Former.{Count}
-use Rattle.upc_text.specs.declared.place.Place.{Place}
 use Rattle.typed_tree.specs.declared.tree.Expr.{Expr}
 use Rattle.typed_tree.specs.declared.tree.Statement.{Statement}
 use Rattle.typed_tree.specs.declared.tree.Arm.{Arm}
@@ -11,7 +10,7 @@ use Rattle.typed_tree.specs.declared.tree.StatementKind as s
 use Rattle.typed_tree.specs.declared.tree.StatementKind.{StatementKind, Row_of-Item, end_of-Item, more_of-Item, items-the_row-Item, items_hidden-the_row-Item-0, Row_of-SwitchItem, end_of-SwitchItem, more_of-SwitchItem, items-the_row-SwitchItem, items_hidden-the_row-SwitchItem-2, Row_of-Arm, end_of-Arm, more_of-Arm, items-the_row-Arm, items_hidden-the_row-Arm-1}
 use Rattle.typed_tree.specs.Tree as t
 use Rattle.typed_tree.specs.ViewTree.{view_expr}
-use Rattle.typed_tree.specs.ViewStatements.{view_statement_kind, view_statement, view_item_row, view_item, view_items, view_arm_row, view_arms, view_switch_row, view_switch_item, view_switch_items, view_held, view_boxed}
+use Rattle.typed_tree.specs.ViewStatements.{view_statement_kind, view_statement, view_item_row, view_item, view_items, view_arm_row, view_arms, view_switch_row, view_switch_item, view_switch_items, view_boxed}
 
 item_row : (n : _) (row : Row_of-Item n) → view_item_row row ≡ view_items (items-the_row-Item n row)
 item_row n end_of-Item = refl

@@ -70,6 +70,7 @@ pub data Initial : Type 0 where
 -- A declared object.
 pub record DeclaredObject : Type 0 where
   pub at : Place
+  pub name : List ℕ
   pub home : Home
   pub ctype : CType
   pub initial : Initial

@@ -31,7 +31,7 @@ view_initial (i.Value value) = t.InitialValue (view_expr value)
 view_initial (i.List values) = t.InitialList (exprs_of (map view_expr values.items))
 
 abbrev pub view_object : o.Object → t.DeclaredObject
-view_object x = record { at = x.place; home = x.home; ctype = view x.ctype; initial = view_initial x.initial }
+view_object x = record { at = x.place; name = x.name; home = x.home; ctype = view x.ctype; initial = view_initial x.initial }
 
 -- ---- heads
 

@@ -27,8 +27,6 @@ mod setting;
 pub mod sizes;
 pub mod statements;
 pub mod switch;
-#[cfg(test)]
-mod tests;
 mod tree;
 mod types;
 

@@ -79,6 +79,7 @@ pub enum Initial {
 #[derive(Drop)]
 pub struct Object {
     pub place: Place,
+    pub name: Text,
     pub home: Home,
     pub ctype: CType,
     pub initial: Initial,

@@ -25,7 +25,7 @@ loop-object-preserved c =
     let layouts = object_rest s xs i x c.loop-object-test.true c.object-item.is c.loop-object.invariant.layouts in
     elim c.if-is_shared.branch [
       | then-is_shared+in_ok-placed+in_ok-push+in_ok-number w ↦
-          let e : c.if-is_shared.shared.items ≡ ys ++ (placed s shapes number base (view x.ctype) ∷ []) =
+          let e : c.if-is_shared.shared.items ≡ ys ++ (placed s shapes number base (view_object x) ∷ []) =
           ap (λ v. v.items) w.shared-is ∙ w.in_ok-push.ensures.items ∙ ap (λ (y : SharedDecl). ys ++ (y ∷ [])) w.in_ok-placed.ensures in
           let f : c.if-is_shared.number ≡ number + 1 = w.number-is ∙ w.in_ok-number.ensures in
           let g : c.if-is_shared.base ≡ base + size s (view x.ctype) = w.base-is ∙ ap (λ n. base + n) w.size_of.ensures.value in
