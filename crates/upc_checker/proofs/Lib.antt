@@ -1,14 +1,11 @@
-pub mod Opened
 pub mod Walks
 pub mod OwnTags
 pub mod Closing
 pub mod PlacesOfNames
+pub mod Numbers
 pub mod Lists
 pub mod Outer
 pub mod Outcomes
-pub mod Rows
-pub mod Refusals
-pub mod Passes
 pub mod Steps
 pub mod Walked
 pub mod Rest

@@ -44,16 +44,9 @@ use Rattle.upc_checker.specs.Statements.{Armed, Labelled, label_value, tests_of,
 use Rattle.upc_checker.specs.Views.{state_with}
 use Rattle.upc_checker.specs.Walk.{Walked, Walk, give, andthen, judge, enclosed, facts_in}
 use Rattle.upc_checker.proofs.Walks.{stops, goes, first_of_two, encloses, judge_goes, judge_stops, Same, same_trans}
-use Rattle.upc_checker.proofs.Turns.{IsLeft, behind, behind-append}
+use Rattle.upc_checker.proofs.Turns.{left, or_none, fault_at_end, IsLeft, behind, behind-append}
 
 -- ---- lists
-
-none_behind : (o : Option Fault) → or_later o None ≡ o
-none_behind None = refl
-none_behind (Some f) = refl
-
-nothing_behind : (xs : List Seen) → first_fault (xs ++ []) ≡ first_fault xs
-nothing_behind xs = first_of_two xs [] ∙ none_behind (first_fault xs)
 
 -- A step of the part that is walked.
 pub left_goes : {A L M : Type 0} (whole : Walked M) (f : L → M) (w : Walk A) (go : A → Walk L) (s between : State) (a : A) →
@@ -64,7 +57,7 @@ left_goes {L = L} whole f w go s between a h came =
     let y = go x.value x.state in
     let e : y ≡ go a between = rw (came.value, came.state) refl in
     let front = first_of_two x.seen y.seen ∙ ap (λ o. or_later o (first_fault y.seen)) came.fine in
-    let fault = nothing_behind (x.seen ++ y.seen) ∙ front ∙ sym (nothing_behind y.seen) ∙ ap (λ (z : Walked L). first_fault (z.seen ++ [])) e in
+    let fault = fault_at_end (x.seen ++ y.seen) ∙ front ∙ sym (fault_at_end y.seen) ∙ ap (λ (z : Walked L). first_fault (z.seen ++ [])) e in
     let step : Same (andthen (andthen w go) (λ ys. give (f ys)) s) (andthen (go a) (λ ys. give (f ys)) between) = record {
       fault = fault;
       state = ap (λ (z : Walked L). z.state) e;
@@ -78,7 +71,7 @@ pub left_rest : {K L M : Type 0} (whole : Walked M) (f : K → M) (g : L → M) 
 unfolding andthen
 left_rest whole f g join rest s h e = record {
   same = record {
-    fault = h.same.fault ∙ nothing_behind ((rest s).seen ++ []);
+    fault = h.same.fault ∙ fault_at_end ((rest s).seen ++ []);
     state = h.same.state;
     value = h.same.value ∙ e (rest s).value;
   };
@@ -97,7 +90,7 @@ left_grouped whole f w v go s h =
     let x = w s in
     let y = v x.value x.state in
     let z = go y.value y.state in
-    let fault = nothing_behind (x.seen ++ (y.seen ++ z.seen)) ∙ ap first_fault (sym (append_assoc x.seen y.seen z.seen)) ∙ sym (nothing_behind ((x.seen ++ y.seen) ++ z.seen)) in
+    let fault = fault_at_end (x.seen ++ (y.seen ++ z.seen)) ∙ ap first_fault (sym (append_assoc x.seen y.seen z.seen)) ∙ sym (fault_at_end ((x.seen ++ y.seen) ++ z.seen)) in
     record { same = record { fault = h.same.fault ∙ fault; state = h.same.state; value = h.same.value } }
 
 -- ---- scopes
@@ -123,9 +116,6 @@ pub refuses : {B C : Type 0} (view : C → B) (ξ : Setting) (at : Place) (x : N
 refuses view ξ at x b s rule e h r = stops view (judge ξ at x) (λ u. give b) s s e (judge_stops ξ at x s rule e h r)
 
 -- ---- what loops collect
-
-pub next_left : {X : Type 0} (xs : List X) (i : ℕ) (x : X) → i < length xs → x ≡ get_or xs i x → drop i xs ≡ x ∷ drop (i + 1) xs
-next_left xs i x h e = drop_more xs i x h ∙ ap (λ y. y ∷ drop (i + 1) xs) (sym e)
 
 pub one_more : {X L : Type 0} (join : X → L → L) (xs zs : List X) (x : X) (ys : L) → zs ≡ xs ++ (x ∷ []) → behind join xs (join x ys) ≡ behind join zs ys
 one_more join xs zs x ys e = sym (ap (λ l. behind join l ys) e ∙ behind-append join xs x ys)

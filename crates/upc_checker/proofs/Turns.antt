@@ -6,7 +6,7 @@ use Rattle.typed_tree.specs.Scopes.{State}
 use Rattle.typed_tree.specs.Faults.{Seen, Fault, first_fault, or_later}
 use Rattle.upc_checker.specs.Walk.{Walked, Walk, give, andthen}
 use Rattle.upc_checker.specs.Ends.{Stops, Comes, Meets}
-use Rattle.upc_checker.proofs.Walks.{stops, goes, gives, first_of_two, Same, same_refl, same_trans, same_meets, next_part}
+use Rattle.upc_checker.proofs.Walks.{stops, goes, gives, first_of_two, Same, same_refl, same_trans, same_meets, next_part, next_fault}
 
 -- ---- lists
 
@@ -14,18 +14,6 @@ pub left : {X : Type 0} (xs : List X) (i : ℕ) (x : X) → i < length xs → x 
 left xs i x h e = drop_more xs i x h ∙ ap (λ y. y ∷ drop (i + 1) xs) (sym e)
 
 -- ---- walks whose results are collected
-
-twice : (o : Option Fault) → or_later (or_later o None) None ≡ or_later o None
-twice None = refl
-twice (Some f) = refl
-
-next_fault : (xs ys zs : List Seen) → first_fault xs ≡ None → first_fault ys ≡ first_fault zs → first_fault ((xs ++ (ys ++ [])) ++ []) ≡ first_fault (zs ++ [])
-next_fault xs ys zs f e =
-    let a = first_of_two (xs ++ (ys ++ [])) [] in
-    let b = first_of_two xs (ys ++ []) in
-    let c = first_of_two ys [] in
-    let d = first_of_two zs [] in
-    a ∙ ap (λ o. or_later o None) (b ∙ ap (λ o. or_later o (first_fault (ys ++ []))) f ∙ c) ∙ twice (first_fault ys) ∙ ap (λ o. or_later o None) e ∙ sym d
 
 next_of_list : {A L M : Type 0} (w : Walk A) (rest : A → Walk L) (join : A → L → L) (f : L → M) (s between : State) (a : A) → Comes (w s) between a →
     Same (andthen (andthen w (λ y. andthen (rest y) (λ ys. give (join y ys)))) (λ ys. give (f ys)) s) (andthen (rest a) (λ ys. give (f (join a ys))) between)
@@ -58,11 +46,11 @@ pushed_behind view join xs zs x ys e =
 pub record IsLeft {L M : Type 0} (whole : Walked M) (f : L → M) (rest : Walk L) (s : State) : Type 0 where
   pub same : Same whole (andthen rest (λ ys. give (f ys)) s)
 
-or_none : (o : Option Fault) → or_later o None ≡ o
+pub or_none : (o : Option Fault) → or_later o None ≡ o
 or_none None = refl
 or_none (Some f) = refl
 
-fault_at_end : (xs : List Seen) → first_fault (xs ++ []) ≡ first_fault xs
+pub fault_at_end : (xs : List Seen) → first_fault (xs ++ []) ≡ first_fault xs
 fault_at_end xs = first_of_two xs [] ∙ or_none (first_fault xs)
 
 pub list_begins : {L : Type 0} (w : Walk L) (s : State) → IsLeft (w s) (λ ys. ys) w s

@@ -105,7 +105,7 @@ twice : (o : Option Fault) → or_later (or_later o None) None ≡ or_later o No
 twice None = refl
 twice (Some f) = refl
 
-next_fault : (xs ys zs : List Seen) → first_fault xs ≡ None → first_fault ys ≡ first_fault zs → first_fault ((xs ++ (ys ++ [])) ++ []) ≡ first_fault (zs ++ [])
+pub next_fault : (xs ys zs : List Seen) → first_fault xs ≡ None → first_fault ys ≡ first_fault zs → first_fault ((xs ++ (ys ++ [])) ++ []) ≡ first_fault (zs ++ [])
 next_fault xs ys zs f e =
     let a = first_of_two (xs ++ (ys ++ [])) [] in
     let b = first_of_two xs (ys ++ []) in

@@ -10,7 +10,7 @@ use Rattle.typed_tree.specs.Library.{int}
 use Rattle.typed_tree.specs.Values.{base_target}
 use Rattle.typed_tree.specs.Meanings as m
 use Rattle.typed_tree.specs.Meanings.{Meaning, Signature}
-use Rattle.typed_tree.specs.Scopes.{Setting, Env, is_file, is_taken, is_known, is_object, here, inside, with_entry, declare, next_home, State, with_function, differs}
+use Rattle.typed_tree.specs.Scopes.{Setting, Env, spelling, is_file, is_taken, is_known, is_object, here, inside, with_entry, declare, next_home, State, with_function, differs}
 use Rattle.typed_tree.specs.Nodes as n
 use Rattle.typed_tree.specs.Nodes.{Attr, Use, Formed}
 use Rattle.typed_tree.specs.Tree as k
@@ -99,10 +99,10 @@ pub record Behind : Type 0 where
 abbrev pub object_again : Setting → Env → Name → Bool
 object_again ξ Γ name = is_taken ξ name.number || is_known (here name.number Γ)
 
-abbrev pub with_object : Behind → Env → Place → CType → Env → k.Initial → Behind
-with_object before Γ place t behind initial = record {
+abbrev pub with_object : Behind → Env → Place → List ℕ → CType → Env → k.Initial → Behind
+with_object before Γ place name t behind initial = record {
   scope = behind;
-  objects = before.objects ++ (record { at = place; home = next_home t Γ; ctype = t; initial = initial } ∷ []);
+  objects = before.objects ++ (record { at = place; name = name; home = next_home t Γ; ctype = t; initial = initial } ∷ []);
 }
 
 -- A declarator with its initialiser. What it declares is in scope in the initialiser already (C99 6.2.1). `place` is that of the declaration.
@@ -114,7 +114,7 @@ walk_declared ξ place t before (DeclaredAs (ObjectDeclarator pointers name size
     let at = pointers_place pointers name in
     let behind = declare name.number f.ctype Γ in
     andthen (judge ξ at (n.DeclaresObject (object_again ξ Γ name) (is_file Γ) f)) (λ u.
-    andthen (walk_initial ξ behind at true f.ctype initial) (λ i. give (with_object before Γ place f.ctype behind i)))))
+    andthen (walk_initial ξ behind at true f.ctype initial) (λ i. give (with_object before Γ place (spelling ξ name.number) f.ctype behind i)))))
 walk_declared ξ place t before (DeclaredAs (FunctionDeclarator pointers name parameters) initial) =
     let Γ = before.scope in
     andthen (walk_pointers ξ Γ false t pointers) (λ p. andthen (enclosed (walk_parameters ξ (inside Γ) parameters)) (λ ps.

@@ -29,6 +29,7 @@ use Rattle.typed_tree.specs.Nodes.{Attr, Use, Formed}
 use Rattle.typed_tree.specs.Tree as k
 use Rattle.typed_tree.specs.Tree.{ExprKind, Exprs, attr_of, attrs_of, place_of}
 use Rattle.upc_checker.specs.Walk.{Walk, give, andthen, judge, finish, update, look, enclosed}
+use Rattle.upc_checker.specs.Defined.{number_in}
 use Rattle.upc_checker.specs.Specifiers as s
 use Rattle.upc_checker.specs.Specifiers.{Specified, nothing_specified, both_specified, specifiers_form, specified_type, Shaped, pointer_to, no_quals, both_quals, formed, array_of, elements, element_type}
 use Rattle.upc_checker.specs.Marks.{number_kind, size_operator, unary_node, unary_kind, postfix_operator, binary_node, binary_kind, right_use, assign_node, assign_kind}
@@ -91,10 +92,6 @@ main_text = 109 ∷ 97 ∷ 105 ∷ 110 ∷ []
 
 abbrev pub is_main : Setting → ℕ → Bool
 is_main ξ name = pointwise nat_eq (spelling ξ name) main_text
-
-abbrev pub number_in : List ℕ → ℕ → ℕ
-number_in [] name = 0
-number_in (x ∷ xs) name = if x == name then 0 else number_in xs name + 1
 
 abbrev pub runs_by : Setting → Option Name → Bool
 runs_by ξ None = false

@@ -3,6 +3,7 @@ pub mod Walk
 pub mod Ends
 pub mod Specifiers
 pub mod Marks
+pub mod Defined
 pub mod Expressions
 pub mod Declarations
 pub mod Statements
@@ -18,6 +19,7 @@ pub mod ViewFunctions
 pub mod Views
 pub mod ViewUses
 pub mod ViewPlaces
+pub mod ViewDefined
 pub mod Causes
 pub mod Groups
 pub mod Programs

@@ -11,7 +11,7 @@ use Rattle.upc_checker.specs.declared.functions.Functions as u
 use Rattle.upc_checker.specs.ViewFunctions.{view_function}
 
 abbrev pub view_setting : s.Setting → Setting
-view_setting x = record { names = x.names.now; threads = x.threads; defined = x.defined.now; most = 65535 }
+view_setting x = record { names = x.names.now; threads = x.threads; defined = x.defined.now.names.items; most = 65535 }
 
 -- What nodes may look at.
 abbrev pub facts_of : s.Setting → k.Known → Facts

@@ -1,6 +1,6 @@
 //! What is called, and how arguments are used.
 
-ghost use Rattle.std.specs.Prelude.{◌≡◌, IfOk};
+ghost use Rattle.std.specs.Prelude.{◌≡◌};
 ghost use Rattle.upc_tree.specs.View.{view};
 ghost use Rattle.typed_tree.specs.ViewEnv.{view_env};
 ghost use Rattle.typed_tree.specs.Views.{view_meaning, view_use};
@@ -11,7 +11,6 @@ ghost use Rattle.upc_checker.specs.Expressions as pure;
 use crate::setting::{Setting, is_main, meaning};
 use typed_tree::env::Env;
 use typed_tree::{LibraryCall, Meaning, Target, Use};
-use upc_text::OutOfMemory;
 use upc_tree::{Expr, Name};
 use upc_types::CType;
 
@@ -44,34 +43,16 @@ pub(crate) fn called<'e>(setting: Setting<'_>, env: &'e Env<'_>, callee: &Expr) 
     }
 }
 
-/// The number of a function in order of definition: how many there are where it is not defined.
-pub(crate) fn number_in(defined: &[u32], name: u32) -> Result<u32, OutOfMemory>
-    ensures { IfOk result (λ number. number ≡ pure.number_in defined.now name) }
-{
-    let mut number: u32 = 0;
-    for other in defined {
-        if *other == name {
-            return Ok(number);
-        }
-        number = number.checked_add(1).ok_or(OutOfMemory)?;
-    }
-    Ok(number)
-}
-
 /// What is called, by what its name stands for: a call of the library, or a function of the source.
-pub(crate) fn target_of(
-    setting: Setting<'_>,
-    means: Meaning<'_>,
-    callee: &Expr,
-) -> Result<Target, OutOfMemory>
-    ensures { IfOk result (λ target. target ≡ pure.target_by (view_setting setting.entry) (view_meaning means.entry) (pure.called_name (view callee.now))) }
+pub(crate) fn target_of(setting: Setting<'_>, means: Meaning<'_>, callee: &Expr) -> Target
+    ensures { result ≡ pure.target_by (view_setting setting.entry) (view_meaning means.entry) (pure.called_name (view callee.now)) }
 {
     if let Meaning::Library(call) = means {
-        return Ok(Target::Library(call));
+        return Target::Library(call);
     }
     match called_name(callee) {
-        Some(name) => Ok(Target::Function(number_in(setting.defined, name.number)?)),
-        None => Ok(Target::Function(0)),
+        Some(name) => Target::Function(setting.defined.number(name.number)),
+        None => Target::Function(0),
     }
 }
 
@@ -80,7 +61,7 @@ pub(crate) fn runs(setting: Setting<'_>, callee: &Expr) -> bool
     ensures { result ≡ pure.runs (view_setting setting.entry) (view callee.now) }
 {
     match called_name(callee) {
-        Some(name) => { setting.defined.contains(&name.number) && !is_main(setting, name.number) }
+        Some(name) => { setting.defined.contains(name.number) && !is_main(setting, name.number) }
         None => false,
     }
 }

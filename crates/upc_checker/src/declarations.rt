@@ -36,7 +36,7 @@ use crate::finish::judged;
 use crate::known::{Known, note_end, note_function, note_more, object_again, prototype_again};
 use crate::nodes::joined;
 use crate::places::{pointers_place, specs_place};
-use crate::setting::Setting;
+use crate::setting::{Setting, spelling};
 use crate::shaped::{Shaped, copy_shaped, formed, specified_type};
 use crate::signatures::copy_signature;
 use crate::specified::{Specified, Specifying, specifiers_form};
@@ -47,7 +47,7 @@ use typed_tree::declarations::{declares_object, initial_value, specifies};
 use typed_tree::env::{Env, declare, enter_function, inside, is_file, next_home};
 use typed_tree::lists::initial_list;
 use typed_tree::{Expr, Formed, Initial, Object, Signature, Use};
-use upc_text::{Place, Stop};
+use upc_text::{Place, Stop, Text};
 use upc_tree::{
     Declaration, Declarator, Declared, DeclaredList, Dimension, Name, NextDeclared, NextExpr,
     Parameters, Pointer,
@@ -304,8 +304,10 @@ fn walk_object(
     let copy = copy_type(setting.alloc, &f.ctype)?;
     declare(env, name.number, copy)?;
     let initial = walk_initial(initial, at, true, &f.ctype, setting, env, tags, known)?;
+    let text = Text::from_slice(setting.alloc, spelling(setting, name.number))?;
     Ok(Object {
         place,
+        name: text,
         home,
         ctype: f.ctype,
         initial,

@@ -4,6 +4,7 @@
 mod accept;
 mod called;
 mod declarations;
+mod defined;
 mod expressions;
 mod finish;
 mod functions;
@@ -12,8 +13,6 @@ pub mod laws;
 mod limits;
 mod marks;
 mod members;
-#[cfg(test)]
-mod node_tests;
 mod nodes;
 mod own_tags;
 mod parts;
@@ -27,8 +26,6 @@ mod source;
 mod specified;
 mod statements;
 mod tags;
-#[cfg(test)]
-mod tests;
 mod types;
 mod units;
 mod whole;
@@ -36,3 +33,4 @@ mod words;
 
 pub use accept::check;
 pub use program::Program;
+pub use program_opening::{SharedDecl, Value};

@@ -16,7 +16,7 @@ ghost use Rattle.upc_checker.specs.Finishes.{Finishes};
 ghost use Rattle.upc_checker.specs.Marks as marks;
 ghost use Rattle.upc_checker.specs.Views.{facts_of, view_setting};
 
-use crate::called::{number_in, runs, target_of};
+use crate::called::{runs, target_of};
 use crate::finish::judged;
 use crate::known::Known;
 use crate::marks::{number_kind, postfix_operator, size_operator};
@@ -54,23 +54,17 @@ pub(crate) fn paren(alloc: Global, at: Place, inner: Expr) -> Result<Expr, OutOf
 }
 
 // What a name makes.
-fn named(
-    setting: Setting<'_>,
-    means: Meaning<'_>,
-    name: u32,
-    at: Place,
-    attr: Attr,
-) -> Result<Expr, OutOfMemory>
-    ensures { IfOk result (λ e. view_expr e ≡ k.Is at (view_attr attr) (walks.name_kind (view_setting setting.entry) (view_meaning means.entry) name)) }
+fn named(setting: Setting<'_>, means: Meaning<'_>, name: u32, at: Place, attr: Attr) -> Expr
+    ensures { view_expr result ≡ k.Is at (view_attr attr) (walks.name_kind (view_setting setting.entry) (view_meaning means.entry) name) }
 {
     match means {
-        Meaning::Object(_, home) => Ok(build::object(at, attr, home)),
+        Meaning::Object(_, home) => build::object(at, attr, home),
         Meaning::Function(_) => {
-            let number = number_in(setting.defined, name)?;
-            Ok(build::callee(at, attr, Target::Function(number)))
+            let number = setting.defined.number(name);
+            build::callee(at, attr, Target::Function(number))
         }
-        Meaning::Library(call) => Ok(build::callee(at, attr, Target::Library(call))),
-        Meaning::Unknown | Meaning::Named(_) => Ok(build::literal(at, attr)),
+        Meaning::Library(call) => build::callee(at, attr, Target::Library(call)),
+        Meaning::Unknown | Meaning::Named(_) => build::literal(at, attr),
     }
 }
 
@@ -87,7 +81,7 @@ pub(crate) fn finish_name(
     let means = meaning(setting, env, name.number);
     judged(rules::name(how, means), at)?;
     let attr = attributes::name(setting.alloc, means)?;
-    Ok(named(setting, means, name.number, at, attr)?)
+    Ok(named(setting, means, name.number, at, attr))
 }
 
 /// A number.
@@ -184,7 +178,7 @@ pub(crate) fn finish_call(
     let rule = calls::call(&known.structs, how, means, runs, format, args.as_slice());
     judged(rule, at)?;
     let attr = attributes::call(setting.alloc, how, means)?;
-    let target = target_of(setting, means, callee)?;
+    let target = target_of(setting, means, callee);
     Ok(build::call(at, attr, target, args))
 }
 

@@ -45,12 +45,16 @@ pub(crate) fn place_before(places: &Places, place: usize) -> Option<usize>
     places.links[place]
 }
 
-// Keeps the latest place of a name.
-fn keep(latest: &mut HashMap<u32, usize>, name: u32, place: usize) -> Result<(), OutOfMemory>
-    ensures ok { OnOk result ((q : ℕ) → get nat_eq latest.new q ≡ (if nat_eq name q then Some place else get nat_eq latest.old q)) }
-    ensures err { OnErr result ((q : ℕ) → get nat_eq latest.new q ≡ get nat_eq latest.old q) }
+/// Keeps the place of a name. After want of memory nothing is changed.
+pub(crate) fn keep(
+    places: &mut HashMap<u32, usize>,
+    name: u32,
+    place: usize,
+) -> Result<(), OutOfMemory>
+    ensures ok { OnOk result ((q : ℕ) → get nat_eq places.new q ≡ (if nat_eq name q then Some place else get nat_eq places.old q)) }
+    ensures err { OnErr result ((q : ℕ) → get nat_eq places.new q ≡ get nat_eq places.old q) }
 {
-    latest.insert(name, place)?;
+    places.insert(name, place)?;
     Ok(())
 }
 

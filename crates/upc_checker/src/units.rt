@@ -24,6 +24,7 @@ ghost use Rattle.upc_checker.specs.ViewShapes.{view_specified, view_specifying};
 ghost use Rattle.upc_checker.specs.Walk.{enclosed as inclosed, judge};
 
 use crate::declarations::walk_declaration;
+use crate::defined::Defined;
 use crate::finish::judged;
 use crate::known::{Known, definition_again, differs, note_end, note_function, note_more};
 use crate::places::specs_place;
@@ -45,14 +46,14 @@ use upc_types::{Base, CType};
 
 // ---- what the source defines
 
-/// The functions that the source defines, in order.
-pub(crate) fn defined_in(alloc: Global, externals: &[External]) -> Result<Vec<u32>, OutOfMemory>
-    ensures { IfOk result (λ all. all.items ≡ pure.defined_in (map trees.view_external externals.now)) }
+/// The functions that the source defines.
+pub(crate) fn defined_in(alloc: Global, externals: &[External]) -> Result<Defined, OutOfMemory>
+    ensures { IfOk result (λ all. all.names.items ≡ pure.defined_in (map trees.view_external externals.now)) }
 {
-    let mut all = Vec::new(alloc);
+    let mut all = Defined::new(alloc);
     for part in externals {
         if let External::Function(function) = part {
-            all.push(function.name.number)?;
+            all.note(function.name.number)?;
         }
     }
     Ok(all)

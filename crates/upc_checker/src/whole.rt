@@ -59,7 +59,7 @@ pub(crate) fn check_source(
         alloc,
         names,
         threads,
-        defined: defined.as_slice(),
+        defined: &defined,
     };
     let mut known = nothing_known(alloc);
     let mut env = file(alloc);

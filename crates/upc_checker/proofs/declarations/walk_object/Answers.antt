@@ -1,4 +1,4 @@
-use Rattle.std.proofs.Common.{◌≡◌, Bool, true, List, [], ◌∷◌, ◌++◌, map, Result, Ok, Err, refl, sym, ap, ◌∙◌, subst}
+use Rattle.std.proofs.Common.{◌≡◌, ℕ, Bool, true, List, [], ◌∷◌, ◌++◌, map, Result, Ok, Err, refl, sym, ap, ◌∙◌, subst}
 use Rattle.std.proofs.lemmas.Result.{err_from_is_err_and}
 use Rattle.upc_text.specs.declared.faults.Stop.{Stop}
 use Rattle.upc_text.specs.declared.place.Place.{Place}
@@ -14,7 +14,7 @@ use Rattle.typed_tree.specs.declared.tree.Object.{Object}
 use Rattle.typed_tree.specs.Faults.{first_fault}
 use Rattle.typed_tree.specs.Nodes as n
 use Rattle.typed_tree.specs.Nodes.{Formed}
-use Rattle.typed_tree.specs.Scopes.{Setting, Env, is_file, declare, next_home}
+use Rattle.typed_tree.specs.Scopes.{Setting, Env, spelling, is_file, declare, next_home}
 use Rattle.typed_tree.specs.Tree.{DeclaredObject}
 use Rattle.typed_tree.specs.ViewEnv.{view_env}
 use Rattle.typed_tree.specs.ViewStatements.{view_initial, view_object}
@@ -40,7 +40,7 @@ rest ξ before name place initial at f =
     let Γ = before.scope in
     andthen (judge ξ at (node ξ Γ name f)) (λ u.
     andthen (pure.walk_initial ξ (declare name.number f.ctype Γ) at true f.ctype initial) (λ i.
-    give (pure.with_object before Γ place f.ctype (declare name.number f.ctype Γ) i)))
+    give (pure.with_object before Γ place (spelling ξ name.number) f.ctype (declare name.number f.ctype Γ) i)))
 
 pub returns-in_err-p : goal.returns-in_err-p
 returns-in_err-p c = λ objects.
@@ -174,15 +174,17 @@ returns c = λ objects.
     let env = c.in_ok-declare.ensures.ok ∙ ap (λ (t : CType). declare c.args.name.number t Γ) c.in_ok-copy.ensures in
     let s4 = state_of c.walk_initial.new.tags c.walk_initial.new.known in
     let i = view_initial c.in_ok-initial.initial in
-    let x : Object = record { place = c.args.place; home = c.in_ok-home.home; ctype = c.in_ok-f.f.ctype; initial = c.in_ok-initial.initial } in
+    let x : Object = record { place = c.args.place; name = c.in_ok-text.text; home = c.in_ok-home.home; ctype = c.in_ok-f.f.ctype; initial = c.in_ok-initial.initial } in
     let r : Result Object Stop = Ok x in
     let hi = subst (λ (Δ : Env). Comes (wi Δ s3) s4 i) env c.in_ok-initial.ensures in
-    let with = λ (Δ : Env) (h : Home).
-    let y : DeclaredObject = record { at = c.args.place; home = h; ctype = f.ctype; initial = i } in
+    let with = λ (Δ : Env) (h : Home) (name : List ℕ).
+    let y : DeclaredObject = record { at = c.args.place; name = name; home = h; ctype = f.ctype; initial = i } in
     let b : Behind = record { scope = Δ; objects = objects ++ (y ∷ []) } in
     b in
     let seen = λ (x : Object). let b : Behind = record { scope = view_env c.declare.new.env; objects = objects ++ (view_object x ∷ []) } in b in
-    let same = ap (λ Δ. with Δ (next_home f.ctype Γ)) (sym env) ∙ ap (with (view_env c.declare.new.env)) (sym c.in_ok-home.ensures) in
+    let text = c.in_ok-text.ensures ∙ c.spelling.ensures in
+    let word = spelling ξ c.args.name.number in
+    let same = ap (λ Δ. with Δ (next_home f.ctype Γ) word) (sym env) ∙ ap (λ h. with (view_env c.declare.new.env) h word) (sym c.in_ok-home.ensures) ∙ ap (with (view_env c.declare.new.env) c.in_ok-home.home) (sym text) in
     let h0 = goes seen (judge ξ at (node ξ Γ c.args.name f)) _ s2 s3 s4 (tt {0}) r (c.in_ok-judge_object.ensures tags)
     (goes seen (wi (declare c.args.name.number f.ctype Γ)) _ s3 s4 s4 i r hi (record { fine = refl; state = refl; value = same })) in
     let h1 = subst (λ (at : Place). Meets seen (go at f s2) s4 r) c.pointers_place-at.ensures h0 in

@@ -35,4 +35,4 @@ returns c =
     ∙ ap (λ xs. lowest φ (n.Call (view_use c.args.how) (view_meaning c.args.means) (walks.runs (view_setting c.args.setting) (view c.args.callee.now)) (walks.format_in (exprs_of (map view_expr c.args.args.items))) xs)) (ap (map attr_seen) c.as_slice-2.ensures.value ∙ seen_attrs c.args.args.items) in
     let x : n.Node = n.Call (view_use c.args.how) (view_meaning c.args.means) (walks.runs (view_setting c.args.setting) (view c.args.callee.now)) (walks.format_in (exprs_of (map view_expr c.args.args.items))) (attrs_of (exprs_of (map view_expr c.args.args.items))) in
     let kind = k.Call (walks.target_by (view_setting c.args.setting) (view_meaning c.args.means) (walks.called_name (view c.args.callee.now))) (exprs_of (map view_expr c.args.args.items)) in
-    finishes φ c.args.at x kind c.call-rule.result (view_attr c.in_ok-attr.attr) c.call-2.result (rule) c.in_ok-judged.ensures.ok (c.in_ok-attr.ensures φ (walks.runs (view_setting c.args.setting) (view c.args.callee.now)) (walks.format_in (exprs_of (map view_expr c.args.args.items))) (attrs_of (exprs_of (map view_expr c.args.args.items)))) (c.call-2.ensures ∙ ap (λ t. k.Is c.args.at (view_attr c.in_ok-attr.attr) (k.Call t (exprs_of (map view_expr c.args.args.items)))) c.in_ok-target.ensures)
+    finishes φ c.args.at x kind c.call-rule.result (view_attr c.in_ok-attr.attr) c.call-2.result (rule) c.in_ok-judged.ensures.ok (c.in_ok-attr.ensures φ (walks.runs (view_setting c.args.setting) (view c.args.callee.now)) (walks.format_in (exprs_of (map view_expr c.args.args.items))) (attrs_of (exprs_of (map view_expr c.args.args.items)))) (c.call-2.ensures ∙ ap (λ t. k.Is c.args.at (view_attr c.in_ok-attr.attr) (k.Call t (exprs_of (map view_expr c.args.args.items)))) c.target_of-target.ensures)

@@ -27,4 +27,4 @@ returns c =
     λ φ.
     let x : n.Node = n.Name (view_use c.args.how) (meaning (view_setting c.args.setting) (view_env c.args.env.now) c.args.name.number) in
     let kind = walks.name_kind (view_setting c.args.setting) (meaning (view_setting c.args.setting) (view_env c.args.env.now) c.args.name.number) c.args.name.number in
-    finishes φ c.args.name.span.place x kind c.name.result (view_attr c.in_ok-attr.attr) c.in_ok-named.field-0 (c.name.ensures φ ∙ ap (λ m. lowest φ (n.Name (view_use c.args.how) m)) c.meaning-means.ensures) c.in_ok-judged.ensures.ok (c.in_ok-attr.ensures φ (view_use c.args.how) ∙ ap (λ m. attr φ (n.Name (view_use c.args.how) m)) c.meaning-means.ensures) (c.in_ok-named.ensures ∙ ap (λ m. k.Is c.args.name.span.place (view_attr c.in_ok-attr.attr) (walks.name_kind (view_setting c.args.setting) m c.args.name.number)) c.meaning-means.ensures)
+    finishes φ c.args.name.span.place x kind c.name.result (view_attr c.in_ok-attr.attr) c.named.result (c.name.ensures φ ∙ ap (λ m. lowest φ (n.Name (view_use c.args.how) m)) c.meaning-means.ensures) c.in_ok-judged.ensures.ok (c.in_ok-attr.ensures φ (view_use c.args.how) ∙ ap (λ m. attr φ (n.Name (view_use c.args.how) m)) c.meaning-means.ensures) (c.named.ensures ∙ ap (λ m. k.Is c.args.name.span.place (view_attr c.in_ok-attr.attr) (walks.name_kind (view_setting c.args.setting) m c.args.name.number)) c.meaning-means.ensures)

@@ -39,8 +39,8 @@ use Rattle.upc_checker.specs.Views.{view_setting, state_of, state_with}
 use Rattle.upc_checker.specs.ViewTags.{view_tags}
 use Rattle.upc_checker.specs.Walk.{andthen, enclosed, give, judge}
 use Rattle.upc_checker.proofs.Walks.{goes, stops, gives, encloses}
-use Rattle.upc_checker.proofs.Turns.{IsLeft, behind, goes_by, stops_by, list_begins, list_stops, list_done}
-use Rattle.upc_checker.proofs.StatementTurns.{labelled_end, labelled_nothing, left_grouped, left_same, more_of_if, arm_pushed, armed_behind, arms_behind, case_pushed, default_pushed, labelled_behind, statement_pushed, switch_items_behind, items_behind, left_goes, left_rest, next_left, one_more, encloses_in, encloses_part, if_part, switch_part, while_part, do_part, for_part, forall_part}
+use Rattle.upc_checker.proofs.Turns.{left as next_left, IsLeft, behind, goes_by, stops_by, list_begins, list_stops, list_done}
+use Rattle.upc_checker.proofs.StatementTurns.{labelled_end, labelled_nothing, left_grouped, left_same, more_of_if, arm_pushed, armed_behind, arms_behind, case_pushed, default_pushed, labelled_behind, statement_pushed, switch_items_behind, items_behind, left_goes, left_rest, one_more, encloses_in, encloses_part, if_part, switch_part, while_part, do_part, for_part, forall_part}
 use denote.Param.Weighed.{most}
 use Rattle.upc_tree.proofs.statement.ElseIf.TheLaws as else_if
 use Rattle.upc_tree.proofs.statement.Statement.TheLaws as statement

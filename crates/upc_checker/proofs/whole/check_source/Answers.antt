@@ -23,9 +23,9 @@ returns-in_err-made c =
     pure.walk_unit ξ (map view_external xs) s in
     let items = c.args.unit.now.externals.items in
     let slice = c.as_slice-externals.result.now in
-    let d = c.as_slice.result.now in
+    let d = c.in_ok-defined.defined.names.items in
     let known = c.nothing_known-known.result in
-    let defined = c.as_slice.ensures.value ∙ c.in_ok-defined.ensures ∙ ap (λ (xs : List External). pure.defined_in (map view_external xs)) c.as_slice-externals.ensures.value in
+    let defined = c.in_ok-defined.ensures ∙ ap (λ (xs : List External). pure.defined_in (map view_external xs)) c.as_slice-externals.ensures.value in
     let all = pure.defined_in (map view_external items) in
     let e = c.in_err-made.field-0.0 in
     let h = subst (λ (d : List ℕ). Stops (first_fault (w d items begin).seen) e) defined
@@ -42,9 +42,9 @@ returns-in_err-keeps_limits c =
     pure.walk_unit ξ (map view_external xs) s in
     let items = c.args.unit.now.externals.items in
     let slice = c.as_slice-externals.result.now in
-    let d = c.as_slice.result.now in
+    let d = c.in_ok-defined.defined.names.items in
     let known = c.nothing_known-known.result in
-    let defined = c.as_slice.ensures.value ∙ c.in_ok-defined.ensures ∙ ap (λ (xs : List External). pure.defined_in (map view_external xs)) c.as_slice-externals.ensures.value in
+    let defined = c.in_ok-defined.ensures ∙ ap (λ (xs : List External). pure.defined_in (map view_external xs)) c.as_slice-externals.ensures.value in
     let all = pure.defined_in (map view_external items) in
     let after = state_of c.walk_unit.new.tags c.walk_unit.new.known in
     let m = view_made (view_env c.walk_unit.new.env) c.in_ok-made.made in
@@ -54,7 +54,7 @@ returns-in_err-keeps_limits c =
     (subst (λ (tags : List Tag). Comes (w d slice (state_with tags known)) after m) c.new-tags.ensures c.in_ok-made.ensures))) in
     let e = c.in_err-keeps_limits.field-0.0 in
     let r : Result (Unit {0}) Stop = Err e in
-    let k = subst (λ (xs : List Object). KeepsLimits (limit_by after.structs after.above (map view_object xs)) r) c.as_slice-2.ensures.value c.in_err-keeps_limits.ensures in
+    let k = subst (λ (xs : List Object). KeepsLimits (limit_by after.structs after.above (map view_object xs)) r) c.as_slice.ensures.value c.in_err-keeps_limits.ensures in
     let p = err_from_is_err_and c.from_residual-in_err-keeps_limits.result c.from_residual-in_err-keeps_limits.ensures.1 in
     rw (p.1, p.2) (answers_limit view_checked c.args.threads (w all items begin) after m e h k)
 
@@ -65,9 +65,9 @@ returns c =
     pure.walk_unit ξ (map view_external xs) s in
     let items = c.args.unit.now.externals.items in
     let slice = c.as_slice-externals.result.now in
-    let d = c.as_slice.result.now in
+    let d = c.in_ok-defined.defined.names.items in
     let known = c.nothing_known-known.result in
-    let defined = c.as_slice.ensures.value ∙ c.in_ok-defined.ensures ∙ ap (λ (xs : List External). pure.defined_in (map view_external xs)) c.as_slice-externals.ensures.value in
+    let defined = c.in_ok-defined.ensures ∙ ap (λ (xs : List External). pure.defined_in (map view_external xs)) c.as_slice-externals.ensures.value in
     let all = pure.defined_in (map view_external items) in
     let after = state_of c.walk_unit.new.tags c.walk_unit.new.known in
     let m = view_made (view_env c.walk_unit.new.env) c.in_ok-made.made in
@@ -76,5 +76,5 @@ returns c =
     (subst (λ (s : State). Comes (w d slice s) after m) c.nothing_known-known.ensures
     (subst (λ (tags : List Tag). Comes (w d slice (state_with tags known)) after m) c.new-tags.ensures c.in_ok-made.ensures))) in
     let r : Result (Unit {0}) Stop = Ok (tt {0}) in
-    let k = subst (λ (xs : List Object). KeepsLimits (limit_by after.structs after.above (map view_object xs)) r) c.as_slice-2.ensures.value c.in_ok-keeps_limits.ensures in
+    let k = subst (λ (xs : List Object). KeepsLimits (limit_by after.structs after.above (map view_object xs)) r) c.as_slice.ensures.value c.in_ok-keeps_limits.ensures in
     accepted c.args.threads (w all items begin) after m (tt {0}) h k
