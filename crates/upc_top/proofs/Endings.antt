@@ -1,6 +1,7 @@
 -- What follows from how the top call answers.
 use Rattle.std.proofs.Common.{◌≡◌, ℕ, ◌<◌, List, length, Option, Some, sym, ap, subst, ◌∙◌, inl, inr, arith, slice_index_or}
 use Rattle.std.specs.Prelude.{◌⊎◌}
+use Rattle.std.proofs.lemmas.Fmt.{decimal_injective}
 use Rattle.upc_text.specs.declared.whole.TheConstants.{SOURCE_LIMIT}
 use Rattle.upc_text.specs.Outside.{Rose, IsWhole, IsLonger}
 use Rattle.upc_values.specs.declared.journal.Journal.{Journal}
@@ -9,7 +10,7 @@ use Rattle.upc_top.specs.declared.verdict.Verdict.{Verdict}
 use Rattle.upc_top.specs.declared.verdict.Verdict.TheVariants.{Usage, ReadFault, TooLong, Refused, Ran, NoMemory}
 use Rattle.upc_top.specs.Words.{AreTaken}
 use Rattle.upc_top.specs.Output.{status_of}
-use Rattle.upc_top.specs.Sources.{IsAccepted}
+use Rattle.upc_top.specs.Sources.{IsAccepted, IsRefused}
 use Rattle.upc_top.proofs.Readings.{never_both}
 use Rattle.upc_top.specs.Verdicts.{Reading, Caused, status_for, journal_of}
 use Rattle.upc_top.specs.Delivery.{Writing, Delivered, Delivered.Whole, Delivered.Out_broke, Delivered.Err_broke, Answered, RefusesOtherWords, Succeeds, IsComplete}
@@ -17,6 +18,13 @@ use Rattle.upc_top.specs.Delivery.{Writing, Delivered, Delivered.Whole, Delivere
 -- words that are taken name one file
 one-file : (words : List (List ℕ)) (m n : ℕ) (f g : List ℕ) → AreTaken words m f → AreTaken words n g → g ≡ f
 one-file words m n f g a b = ap (λ ws. slice_index_or ws 3 f) (sym b.are ∙ a.are)
+
+-- and one number of threads
+same-threads : (words : List (List ℕ)) (m n : ℕ) (f g : List ℕ) → AreTaken words m f → AreTaken words n g → n ≡ m
+same-threads words m n f g a b =
+    let low = a.most in
+    let high = b.most in
+    decimal_injective n m (omega arith) (omega arith) (ap (λ ws. slice_index_or ws 2 f) (sym b.are ∙ a.are))
 
 -- where both sinks took what they were given, the status is the verdict's
 whole-status : (v : Verdict) (out err : Writing) (status : ℕ) → Delivered v out err status
@@ -47,7 +55,9 @@ complete-by words r out err d (Refused refusal) c s j h =
     let e = one-file words h.threads c.threads h.file c.file h.taken c.taken in
     let P : List ℕ → Type 0 = λ f. IsWhole (r.told f) c.holds.bytes in
     let same = whole-is (r.told h.file) h.bytes c.holds.bytes h.told (subst P e c.holds.whole) in
-    absurd (never_both c.holds.bytes h.program refusal (subst (λ b. IsAccepted b h.program) (sym same) h.accepted) c.holds.holds)
+    let t : c.threads ≡ h.threads = same-threads words h.threads c.threads h.file c.file h.taken c.taken in
+    let holds = subst (λ n. IsRefused n c.holds.bytes refusal) t c.holds.holds in
+    absurd (never_both h.threads c.holds.bytes h.program refusal (subst (λ b. IsAccepted h.threads b h.program) (sym same) h.accepted) holds)
 complete-by words r out err d (Ran journal) c s j h = inl (journal, j, s)
 complete-by words r out err d (NoMemory o) c s j h = inr s
 

@@ -8,10 +8,12 @@ use Rattle.upc_lexer.proofs.OneList.{tokens_once, tokens_or_refusal}
 use Rattle.upc_macros.specs.Expansion.{Item, given, expansion, first_refusal, token_refusal, or_first, refused_word, word_refusal, IsExpansion}
 use Rattle.upc_tree.specs.Unit.{External, IsTree}
 use Rattle.upc_parser.proofs.Laws as laws
+use Rattle.upc_checker.specs.Outcomes as o
+use Rattle.upc_checker.specs.Outcomes.{outcome}
 use Rattle.first_language.specs.declared.tree.First.{First}
 use Rattle.first_language.specs.Meaning.{program_of}
 use Rattle.first_language.specs.Unit.{first_program}
-use Rattle.upc_top.specs.Sources.{IsExpanded, IsRead, IsAccepted, HasNoTree, no_syntax, too_high, IsRefused, no_tokens, no_expansion, no_tree, no_first}
+use Rattle.upc_top.specs.Sources.{IsExpanded, IsRead, IsAccepted, HasNoTree, no_syntax, too_high, IsRefused, no_tokens, no_expansion, no_tree, no_typing, no_first}
 
 -- given tokens are equal where they are given alike
 given_same : (ts us : List Token) → map given ts ≡ map given us → ts ≡ us
@@ -38,27 +40,32 @@ same_tree bytes m n u v a b =
 some_same : {A : Type 0} (x y : A) → Some x ≡ Some y → x ≡ y
 some_same x y h = cc
 
-pub same_program : (bytes : List ℕ) (p q : First) → IsAccepted bytes p → IsAccepted bytes q → program_of p ≡ program_of q
-same_program bytes p q a b =
+pub same_program : (threads : ℕ) (bytes : List ℕ) (p q : First) → IsAccepted threads bytes p → IsAccepted threads bytes q → program_of p ≡ program_of q
+same_program threads bytes p q a b =
     let c = same_tree bytes a.names b.names a.tree b.tree a.read b.read in
     let e : first_program a.names a.tree ≡ first_program b.names b.tree = rw (c.0, c.1) refl in
     some_same (program_of p) (program_of q) (sym a.first ∙ e ∙ b.first)
 
 -- a source is not both accepted and refused
-pub never_both : (bytes : List ℕ) (p : First) (r : Refusal) → IsAccepted bytes p → IsRefused bytes r → ⊥
-never_both bytes p r a (no_tokens h) = tokens_or_refusal bytes a.read.expands.tokens a.names r a.read.expands.cut h
-never_both bytes p r a (no_expansion tokens names cut stop) =
+pub never_both : (threads : ℕ) (bytes : List ℕ) (p : First) (r : Refusal) → IsAccepted threads bytes p → IsRefused threads bytes r → ⊥
+never_both threads bytes p r a (no_tokens h) = tokens_or_refusal bytes a.read.expands.tokens a.names r a.read.expands.cut h
+never_both threads bytes p r a (no_expansion tokens names cut stop) =
     let c = tokens_once bytes a.read.expands.tokens tokens a.names names a.read.expands.cut cut in
     let e : expansion bytes a.read.expands.tokens (length a.names) ≡ expansion bytes tokens (length names) = rw (c.0, c.1) refl in
     let f = sym a.read.expands.expansion.passes ∙ ap (first_refusal 0) e ∙ stop in
     absurd cc
-never_both bytes p r a (no_tree names expanded h (no_syntax code none) place) =
+never_both threads bytes p r a (no_tree names expanded h (no_syntax code none) place) =
     let c = same_expanded bytes a.names names a.read.expanded expanded a.read.expands h in
     none a.tree a.read.grammar.proper (a.read.grammar.spelled ∙ c.1)
-never_both bytes p r a (no_tree names expanded h (too_high code most none) place) =
+never_both threads bytes p r a (no_tree names expanded h (too_high code most none) place) =
     let c = same_expanded bytes a.names names a.read.expanded expanded a.read.expands h in
     none a.tree (subst (λ ts. IsTree ts a.tree) c.1 a.read.grammar)
-never_both bytes p r a (no_first names tree read none code place) =
+never_both threads bytes p r a (no_typing names tree read refused) =
+    let c = same_tree bytes a.names names a.tree tree a.read read in
+    let e : outcome a.names threads a.tree ≡ outcome names threads tree = rw (c.0, c.1) refl in
+    let f = sym a.typed ∙ e ∙ refused in
+    absurd cc
+never_both threads bytes p r a (no_first names tree checked read typed none code place) =
     let c = same_tree bytes a.names names a.tree tree a.read read in
     let e : first_program a.names a.tree ≡ first_program names tree = rw (c.0, c.1) refl in
     let f = sym a.first ∙ e ∙ none in

@@ -11,18 +11,20 @@ use Rattle.upc_lexer.specs.Tokens.{AreTokensOf}
 use Rattle.upc_macros.specs.Expansion.{IsExpansion, StopsExpansion}
 use Rattle.upc_tree.specs.Unit.{External, ProperUnit, IsTree, tokens_of}
 use Rattle.upc_parser.specs.Answer.{RefusedBy, OnlyRefused}
+use Rattle.upc_checker.specs.Outcomes as o
+use Rattle.upc_checker.specs.Outcomes.{Checked, Answers, outcome}
 use Rattle.first_language.specs.declared.tree.First.{First}
 use Rattle.first_language.specs.Meaning.{program_of}
 use Rattle.first_language.specs.Unit.{first_program}
-use Rattle.upc_top.specs.Sources.{IsExpanded, IsRead, IsAccepted, HasNoTree, no_syntax, too_high, IsRefused, no_tokens, no_expansion, no_tree, no_first, IsAtTheBeginning, StopsReading}
+use Rattle.upc_top.specs.Sources.{IsExpanded, IsRead, IsAccepted, HasNoTree, no_syntax, too_high, IsRefused, no_tokens, no_expansion, no_tree, no_typing, no_first, IsAtTheBeginning, StopsReading}
 use Rattle.upc_top.proofs.Readings.{few_tokens}
 
-pub stops_lexing : (bytes : List ℕ) (s : Stop) → StopsSource bytes s → StopsReading bytes s
-stops_lexing bytes (Refused r) h = no_tokens h
-stops_lexing bytes Memory h = tt
+pub stops_lexing : (threads : ℕ) (bytes : List ℕ) (s : Stop) → StopsSource bytes s → StopsReading threads bytes s
+stops_lexing threads bytes (Refused r) h = no_tokens h
+stops_lexing threads bytes Memory h = tt
 
-module _ (bytes : List ℕ) (tokens : List Token) (names : List (List ℕ)) (cut : AreTokensOf bytes tokens names) where
-  pub stops_expanding : (s : Stop) → StopsExpansion bytes tokens (length names) s → StopsReading bytes s
+module _ (threads : ℕ) (bytes : List ℕ) (tokens : List Token) (names : List (List ℕ)) (cut : AreTokensOf bytes tokens names) where
+  pub stops_expanding : (s : Stop) → StopsExpansion bytes tokens (length names) s → StopsReading threads bytes s
   stops_expanding (Refused r) h = no_expansion tokens names cut h
   stops_expanding Memory h = tt
 
@@ -36,16 +38,21 @@ module _ (bytes : List ℕ) (tokens : List Token) (names : List (List ℕ)) (cut
     pub few_in : (u : List External) → IsTree expanded u → length (tokens_of u) ≤ 1048576
     few_in u h = let few = few_tokens bytes tokens (length names) expanded exp in omega (arith, ap length h.spelled)
 
-    pub accepts : (u : List External) (p : First) → IsTree expanded u → first_program names u ≡ Some (program_of p) → IsAccepted bytes p
-    accepts u p h g = record { names = names; tree = u; read = reads u h; first = g }
+    pub accepts : (u : List External) (p : First) (x : Checked) → IsTree expanded u → outcome names threads u ≡ o.Accepted x → first_program names u ≡ Some (program_of p) →
+        IsAccepted threads bytes p
+    accepts u p x h t g = record { names = names; tree = u; read = reads u h; checked = x; typed = t; first = g }
 
-    pub refuses_tree : (u : List External) (r : Refusal) → IsTree expanded u → first_program names u ≡ None → r.code ≡ Profile 0 → IsAtTheBeginning r →
-        IsRefused bytes r
-    refuses_tree u r h g code place = no_first names u (reads u h) g code place
+    pub refuses_tree : (u : List External) (r : Refusal) (x : Checked) → IsTree expanded u → outcome names threads u ≡ o.Accepted x → first_program names u ≡ None → r.code ≡ Profile 0 → IsAtTheBeginning r →
+        IsRefused threads bytes r
+    refuses_tree u r x h t g code place = no_first names u x (reads u h) t g code place
+
+    pub stops_checking : {P : Type 0} (view : P → Checked) (u : List External) (s : Stop) → IsTree expanded u → Answers view (outcome names threads u) (Err s) → StopsReading threads bytes s
+    stops_checking view u Memory h a = tt
+    stops_checking view u (Refused r) h a = no_typing names u (reads u h) a
 
     pub stops_parsing : (s : Stop) → (RefusedBy Syntax (Err s) → (u : List External) → ProperUnit u → tokens_of u ≡ expanded → ⊥) →
         (RefusedBy (Limit 3) (Err s) → (256 ≤ length expanded) × ((u : List External) → IsTree expanded u → ⊥)) →
-        OnlyRefused expanded (Err s) → StopsReading bytes s
+        OnlyRefused expanded (Err s) → StopsReading threads bytes s
     stops_parsing Memory f g h = tt
     stops_parsing (Refused r) f g h =
         elim h.0 [

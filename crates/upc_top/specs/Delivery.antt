@@ -67,7 +67,7 @@ pub record Succeeds (words : List (List ℕ)) (reading : Reading) (out err : Wri
   pub taken : AreTaken words threads file
   pub told : reading.told file ≡ Some bytes
   pub short : length bytes ≤ SOURCE_LIMIT
-  pub accepted : IsAccepted bytes program
+  pub accepted : IsAccepted threads bytes program
   pub read : Rose (reading.before file) (reading.after file) → ⊥
   pub out_written : Rose out.faults_before out.faults_after → ⊥
   pub err_written : Rose err.faults_before err.faults_after → ⊥

@@ -1,4 +1,5 @@
--- What a source comes to on its way to a program: tokens, then their expansion, then the tree of that, then the program.
+-- What a source comes to on its way to a program for so many threads: tokens, then their expansion, then the tree of that, then the typed tree,
+-- then the program.
 use Rattle.std.specs.Prelude.{ℕ, ◌≡◌, ◌≤◌, List, length, Some, None}
 use Rattle.upc_text.specs.declared.place.Code.{Code}
 use Rattle.upc_text.specs.declared.place.Code.TheVariants.{Syntax, Profile, Limit}
@@ -10,6 +11,8 @@ use Rattle.upc_lexer.specs.Tokens.{AreTokensOf, RefusedAt}
 use Rattle.upc_macros.specs.Expansion.{IsExpansion, StopsExpansion}
 use Rattle.upc_tree.specs.Unit.{External, ProperUnit, IsTree, tokens_of}
 use Rattle.upc_parser.specs.Answer.{HasPlace}
+use Rattle.upc_checker.specs.Outcomes as o
+use Rattle.upc_checker.specs.Outcomes.{Checked, outcome}
 use Rattle.first_language.specs.declared.tree.First.{First}
 use Rattle.first_language.specs.Meaning.{program_of}
 use Rattle.first_language.specs.Unit.{first_program}
@@ -26,11 +29,13 @@ pub record IsRead (bytes : List ℕ) (names : List (List ℕ)) (tree : List Exte
   pub expands : IsExpanded bytes names expanded
   pub grammar : IsTree expanded tree
 
--- and the tree is one of the first language, with this program: the source is accepted
-pub record IsAccepted (bytes : List ℕ) (program : First) : Type 0 where
+-- and the tree is well typed, and one of the first language, with this program: the source is accepted
+pub record IsAccepted (threads : ℕ) (bytes : List ℕ) (program : First) : Type 0 where
   pub names : List (List ℕ)
   pub tree : List External
   pub read : IsRead bytes names tree
+  pub checked : Checked
+  pub typed : outcome names threads tree ≡ o.Accepted checked
   pub first : first_program names tree ≡ Some (program_of program)
 
 -- why expanded tokens have no tree: no proper tree of any height has them, or each that has them is too high
@@ -44,20 +49,23 @@ pub record IsAtTheBeginning (r : Refusal) : Type 0 where
   pub column : r.place.column ≡ 1
 
 -- why a source is refused
-pub data IsRefused (bytes : List ℕ) (r : Refusal) : Type 0 where
+pub data IsRefused (threads : ℕ) (bytes : List ℕ) (r : Refusal) : Type 0 where
   -- it has no tokens
-  no_tokens : RefusedAt bytes r → IsRefused bytes r
+  no_tokens : RefusedAt bytes r → IsRefused threads bytes r
   -- its tokens have no expansion
   no_expansion : (tokens : List Token) (names : List (List ℕ)) → AreTokensOf bytes tokens names
-      → StopsExpansion bytes tokens (length names) (Refused r) → IsRefused bytes r
+      → StopsExpansion bytes tokens (length names) (Refused r) → IsRefused threads bytes r
   -- the expanded tokens have no tree
   no_tree : (names : List (List ℕ)) (expanded : List Token) → IsExpanded bytes names expanded
-      → HasNoTree expanded r.code → HasPlace expanded r.place → IsRefused bytes r
-  -- the tree is none of the first language
-  no_first : (names : List (List ℕ)) (tree : List External) → IsRead bytes names tree
-      → first_program names tree ≡ None → r.code ≡ Profile 0 → IsAtTheBeginning r → IsRefused bytes r
+      → HasNoTree expanded r.code → HasPlace expanded r.place → IsRefused threads bytes r
+  -- the tree breaks a typing rule, or passes a limit
+  no_typing : (names : List (List ℕ)) (tree : List External) → IsRead bytes names tree
+      → outcome names threads tree ≡ o.Refused r → IsRefused threads bytes r
+  -- the tree is well typed, and none of the first language
+  no_first : (names : List (List ℕ)) (tree : List External) (checked : Checked) → IsRead bytes names tree
+      → outcome names threads tree ≡ o.Accepted checked → first_program names tree ≡ None → r.code ≡ Profile 0 → IsAtTheBeginning r → IsRefused threads bytes r
 
 -- the source is refused, or there was no memory
-abbrev pub StopsReading : List ℕ → Stop → Type 0
-StopsReading bytes (Refused r) = IsRefused bytes r
-StopsReading bytes Memory = Unit {0}
+abbrev pub StopsReading : ℕ → List ℕ → Stop → Type 0
+StopsReading threads bytes (Refused r) = IsRefused threads bytes r
+StopsReading threads bytes Memory = Unit {0}

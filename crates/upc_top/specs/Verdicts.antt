@@ -33,12 +33,12 @@ pub record IsRun (threads : ℕ) (p : First) (j : Journal) : Type 0 where
 -- the bytes are accepted as a program, of which the journal is a sound run
 pub record RanFrom (threads : ℕ) (bytes : List ℕ) (j : Journal) : Type 0 where
   pub program : First
-  pub accepted : IsAccepted bytes program
+  pub accepted : IsAccepted threads bytes program
   pub run : IsRun threads program j
 
 -- what a source comes to that was read whole
 abbrev pub ComesFrom : ℕ → List ℕ → Verdict → Type 0
-ComesFrom threads bytes (Refused refusal) = IsRefused bytes refusal
+ComesFrom threads bytes (Refused refusal) = IsRefused threads bytes refusal
 ComesFrom threads bytes (Ran j) = RanFrom threads bytes j
 ComesFrom threads bytes (NoMemory None) = Unit {0}
 ComesFrom threads bytes v = ⊥
@@ -65,7 +65,7 @@ abbrev pub Caused : List (List ℕ) → Reading → Verdict → Type 0
 Caused words r Usage = (threads : ℕ) (file : List ℕ) → AreTaken words threads file → ⊥
 Caused words r ReadFault = Taken words (λ threads file. Rose (r.before file) (r.after file))
 Caused words r TooLong = Taken words (λ threads file. IsLonger (r.told file) SOURCE_LIMIT)
-Caused words r (Refused refusal) = Taken words (λ threads file. Holds r file (λ bytes. IsRefused bytes refusal))
+Caused words r (Refused refusal) = Taken words (λ threads file. Holds r file (λ bytes. IsRefused threads bytes refusal))
 Caused words r (Ran j) = IsSoundRun words r j
 Caused words r (NoMemory None) = Unit {0}
 Caused words r (NoMemory (Some j)) = IsSoundRun words r j

@@ -11,20 +11,24 @@ ghost use Rattle.upc_top.specs.Sources.{IsExpanded, IsRead, IsAccepted, IsRefuse
 
 use first_language::{First, first_of};
 use std::alloc::Global;
+use upc_checker::check;
 use upc_lexer::lex;
 use upc_macros::expand;
 use upc_parser::parse;
 use upc_text::{Code, Place, Refusal, Stop};
 
-/// The program of a source of at most 1,048,576 bytes.
-pub fn read_program(alloc: Global, source: &[u8]) -> Result<First, Stop>
-    requires { length source.now ≤ 1048576 }
-    ensures accepted { IfOk result (IsAccepted source.now) }
-    ensures refused { IfErr result (StopsReading source.now) }
+/// The program of a source of at most 1,048,576 bytes for so many threads.
+pub fn read_program(alloc: Global, threads: u32, source: &[u8]) -> Result<First, Stop>
+    requires least { 1 ≤ threads }
+    requires most { threads ≤ 32 }
+    requires short { length source.now ≤ 1048576 }
+    ensures accepted { IfOk result (IsAccepted threads source.now) }
+    ensures refused { IfErr result (StopsReading threads source.now) }
 {
     let lexed = lex(alloc, source)?;
     let tokens = expand(alloc, source, &lexed)?;
     let unit = parse(alloc, tokens.as_slice())?;
+    let _checked = check(alloc, &unit, &lexed.names, threads)?;
     match first_of(alloc, &lexed.names, &unit) {
         Ok(Some(program)) => Ok(program),
         Ok(None) => Err(Stop::Refused(Refusal {
@@ -39,6 +43,6 @@ pub fn read_program(alloc: Global, source: &[u8]) -> Result<First, Stop>
 pub fn one_reading()
     ensures expanded { (bytes : List ℕ) (m n : List (List ℕ)) (ts us : List Item) → IsExpanded bytes m ts → IsExpanded bytes n us → (m ≡ n) × (ts ≡ us) }
     ensures tree { (bytes : List ℕ) (m n : List (List ℕ)) (u v : List External) → IsRead bytes m u → IsRead bytes n v → (m ≡ n) × (u ≡ v) }
-    ensures program { (bytes : List ℕ) (p q : Program) → IsAccepted bytes p → IsAccepted bytes q → program_of p ≡ program_of q }
-    ensures either { (bytes : List ℕ) (p : Program) (r : Reason) → IsAccepted bytes p → IsRefused bytes r → ⊥ }
+    ensures program { (threads : ℕ) (bytes : List ℕ) (p q : Program) → IsAccepted threads bytes p → IsAccepted threads bytes q → program_of p ≡ program_of q }
+    ensures either { (threads : ℕ) (bytes : List ℕ) (p : Program) (r : Reason) → IsAccepted threads bytes p → IsRefused threads bytes r → ⊥ }
 {}

@@ -24,7 +24,7 @@ fn run_source<R: Wait>(rt: &R, alloc: Global, threads: u32, source: &[u8]) -> Ve
     requires short { length source.now ≤ 1048576 }
     ensures { ComesFrom threads source.now result }
 {
-    let program = match read_program(alloc, source) {
+    let program = match read_program(alloc, threads, source) {
         Ok(program) => program,
         Err(Stop::Refused(refusal)) => return Verdict::Refused(refusal),
         Err(Stop::Memory) => return Verdict::NoMemory(None),

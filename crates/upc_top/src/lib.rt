@@ -3,6 +3,8 @@
 
 #[cfg(test)]
 mod arithmetic_rows;
+#[cfg(test)]
+mod checked_rows;
 mod deliver;
 mod done;
 mod front;
@@ -16,6 +18,8 @@ mod status;
 mod tests;
 mod text;
 mod top;
+#[cfg(test)]
+mod typing_rows;
 mod verdict;
 mod words;
 

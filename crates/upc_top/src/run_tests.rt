@@ -52,7 +52,7 @@ fn has_printed(journal: &Journal, lines: &[&[u8]]) -> bool {
 #[test]
 fn reads_of_pending_writes(rt: HostRuntime) -> Result<(), Fail> {
     let source = b"shared int x; shared int y; int main(){x = 1; x = y + x; return 0;}";
-    let program = read_program(rt.alloc(), source)?;
+    let program = read_program(rt.alloc(), 1, source)?;
     let limits = Limits {
         threads: 1,
         budget: 1000,
@@ -73,7 +73,7 @@ fn reads_of_pending_writes(rt: HostRuntime) -> Result<(), Fail> {
 #[test]
 fn deadlock(rt: HostRuntime) -> Result<(), Fail> {
     let source = b"int main(){while (MYTHREAD) {upc_barrier;} return 0;}";
-    let program = read_program(rt.alloc(), source)?;
+    let program = read_program(rt.alloc(), 2, source)?;
     let limits = Limits {
         threads: 2,
         budget: 1000,
@@ -88,7 +88,7 @@ fn deadlock(rt: HostRuntime) -> Result<(), Fail> {
 #[test]
 fn budget_and_beats(rt: HostRuntime) -> Result<(), Fail> {
     let source = b"int main(){while (1) {} return 0;}";
-    let program = read_program(rt.alloc(), source)?;
+    let program = read_program(rt.alloc(), 3, source)?;
     let one = Limits {
         threads: 1,
         budget: 1024,
@@ -119,7 +119,7 @@ fn budget_and_beats(rt: HostRuntime) -> Result<(), Fail> {
 #[test]
 fn actions_full(rt: HostRuntime) -> Result<(), Fail> {
     let source = b"strict shared int x; int main(){while (1) {x = 1;} return 0;}";
-    let program = read_program(rt.alloc(), source)?;
+    let program = read_program(rt.alloc(), 1, source)?;
     let limits = Limits {
         threads: 1,
         budget: 1000,
@@ -137,7 +137,7 @@ fn actions_full(rt: HostRuntime) -> Result<(), Fail> {
 fn store_buffer(rt: HostRuntime) -> Result<(), Fail> {
     let source =
         b"shared int x; shared int y; int main(){while ((1 - MYTHREAD) * (1 - x)) {x = 1; printf(\"%d\\n\", y);} while (MYTHREAD * (1 - y)) {y = 1; printf(\"%d\\n\", x);} return 0;}";
-    let program = read_program(rt.alloc(), source)?;
+    let program = read_program(rt.alloc(), 2, source)?;
     let limits = Limits {
         threads: 2,
         budget: 1000,

@@ -79,7 +79,7 @@ const ROWS: [Row; 7] = [
         failing_puts: &[],
         status: 101,
         out: b"",
-        err: b"upc: refused at 1:1: profile 0\n",
+        err: b"upc: refused at 1:19: typing 1\n",
         ran: false,
     },
     Row {
@@ -193,13 +193,25 @@ const PROGRAMS: [Program; 27] = [
         b"",
         b"upc: refused at 1:23: syntax\n",
     ),
-    // What is C or UPC, but none of the first language.
     (
         b"#define A A+1\nint main(void){return A;}",
         101,
         b"",
-        b"upc: refused at 1:1: profile 0\n",
+        b"upc: refused at 2:23: typing 1\n",
     ),
+    (
+        b"shared int x; shared int x; int main(){return 0;}",
+        101,
+        b"",
+        b"upc: refused at 1:26: typing 2\n",
+    ),
+    (
+        b"shared int upc_all_alloc; int main(){return 0;}",
+        101,
+        b"",
+        b"upc: refused at 1:12: typing 2\n",
+    ),
+    // What is C or UPC, but none of the first language.
     (
         b"int main(void){int i;return 0;}",
         101,
@@ -214,18 +226,6 @@ const PROGRAMS: [Program; 27] = [
     ),
     (
         b"int main(){return 'a';}",
-        101,
-        b"",
-        b"upc: refused at 1:1: profile 0\n",
-    ),
-    (
-        b"shared int x; shared int x; int main(){return 0;}",
-        101,
-        b"",
-        b"upc: refused at 1:1: profile 0\n",
-    ),
-    (
-        b"shared int upc_all_alloc; int main(){return 0;}",
         101,
         b"",
         b"upc: refused at 1:1: profile 0\n",

@@ -5,7 +5,7 @@ use Rattle.upc_top.proofs.judge.run_source.Goals as goal
 pub returns-in-Ok-run_by : goal.returns-in-Ok-run_by
 returns-in-Ok-run_by g c =
     let ran = c.in-Ok-run_by.ensures in
-    let accepted : IsAccepted c.args.source.now c.in-Ok.program = search rules in
+    let accepted : IsAccepted c.args.threads c.args.source.now c.in-Ok.program = search rules in
     record {
       program = c.in-Ok.program;
       accepted = accepted;

@@ -1,0 +1,106 @@
+//! What the checker answers for sources that are well typed: programs, with what they begin with by the rules of the languages.
+
+use block_layout::{Kind, Loc, LocalPtr, ObjectRef, SharedPtr};
+use std::alloc::Global;
+use std::test::Fail;
+use upc_checker::{Program, Value, check};
+use upc_lexer::lex;
+use upc_macros::expand;
+use upc_parser::parse;
+use upc_values::Scalar;
+
+// The program of a source on four threads.
+fn program_of(alloc: Global, source: &[u8]) -> Result<Program, Fail> {
+    let lexed = lex(alloc, source)?;
+    let tokens = expand(alloc, source, &lexed)?;
+    let unit = parse(alloc, tokens.as_slice())?;
+    Ok(check(alloc, &unit, &lexed.names, 4)?)
+}
+
+const SHARED: &[u8] = b"struct s {shared [3] int *p; upc_lock_t *l; short n;};
+shared [3] int a[10]; shared [] int b[7]; shared struct s c; shared int d = -1;
+shared char *q; int main(void){q = upc_alloc(4); return 0;}";
+
+// The object that stands there by its parts.
+fn object(number: u32, total: u32, block: u32, shape: u32, base: u32) -> ObjectRef {
+    ObjectRef {
+        number,
+        total,
+        block,
+        home: 0,
+        shape,
+        base,
+    }
+}
+
+// Each shared object behind the bytes of those before it, with its block, its elements and their size.
+#[test]
+fn where_shared_objects_lie(rt: HostRuntime) -> Result<(), Fail> {
+    let program = program_of(rt.alloc(), SHARED)?;
+    assert_eq!(rt; program.threads(), 4);
+    assert_eq!(rt; program.functions().len(), 1);
+    let rows = [
+        (b"a", object(1, 40, 12, 0, 0), (3, 10, 4)),
+        (b"b", object(2, 28, 0, 0, 40), (0, 7, 4)),
+        (b"c", object(3, 48, 48, 1, 68), (1, 1, 48)),
+        (b"d", object(4, 4, 4, 0, 116), (1, 1, 4)),
+    ];
+    assert_eq!(rt; program.shared_objects().len(), rows.len());
+    for (declared, (name, place, parts)) in program.shared_objects().iter().zip(rows) {
+        assert_eq!(rt; declared.name.as_slice(), name.as_slice());
+        assert_eq!(rt; declared.object, place);
+        assert_eq!(rt; (declared.block, declared.elements, declared.size), parts);
+    }
+    let start = Loc {
+        object: 4,
+        thread: 0,
+        offset: 0,
+    };
+    assert_eq!(rt; program.initials(), [(start, Scalar::Int(-1))].as_slice());
+    Ok(())
+}
+
+// The shapes of declared elements come first, then those of elements that calls allocate.
+#[test]
+fn shapes_of_shared_elements(rt: HostRuntime) -> Result<(), Fail> {
+    let program = program_of(rt.alloc(), SHARED)?;
+    let rows = [(4, Kind::Int), (48, Kind::Shared(0, 3)), (1, Kind::Char)];
+    assert_eq!(rt; program.shapes().len(), rows.len());
+    for (shape, (size, kind)) in program.shapes().iter().zip(rows) {
+        assert_eq!(rt; shape.size, size);
+        assert_eq!(rt; shape.cells.as_slice().first().copied(), Some((0, kind)));
+    }
+    Ok(())
+}
+
+fn cell(object: u64, offset: i64) -> LocalPtr {
+    LocalPtr::Private { object, offset }
+}
+
+// Element 8 in blocks of three lies on thread 2, in its phase 2.
+#[test]
+fn values_of_private_objects(rt: HostRuntime) -> Result<(), Fail> {
+    let source =
+        b"shared [3] int a[10]; int x[3] = {1, 2, 3}; int *y = x + 1; shared [3] int *z = &a[8]; int main(void){return 0;}";
+    let program = program_of(rt.alloc(), source)?;
+    let named = SharedPtr {
+        object: object(1, 40, 12, 0, 0),
+        thread: 2,
+        phase: 2,
+        offset: 8,
+    };
+    let wanted = [
+        (cell(0, 0), Value::Scalar(Scalar::Int(1))),
+        (cell(0, 4), Value::Scalar(Scalar::Int(2))),
+        (cell(0, 8), Value::Scalar(Scalar::Int(3))),
+        (cell(1, 0), Value::Pointer(cell(0, 4))),
+        (cell(2, 0), Value::Scalar(Scalar::Shared(named))),
+    ];
+    assert_eq!(rt; program.private_initials(), wanted.as_slice());
+    let sizes = [12, 8, 16];
+    assert_eq!(rt; program.private_shapes().len(), sizes.len());
+    for (shape, size) in program.private_shapes().iter().zip(sizes) {
+        assert_eq!(rt; shape.size, size);
+    }
+    Ok(())
+}
