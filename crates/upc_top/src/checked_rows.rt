@@ -1,5 +1,7 @@
 //! What the checker answers for sources that are well typed: programs, with what they begin with by the rules of the languages.
 
+ghost use Rattle.std.specs.Prelude.{◌≤◌, length};
+
 use block_layout::{Kind, Loc, LocalPtr, ObjectRef, SharedPtr};
 use std::alloc::Global;
 use std::test::Fail;
@@ -10,16 +12,21 @@ use upc_parser::parse;
 use upc_values::Scalar;
 
 // The program of a source on four threads.
-fn program_of(alloc: Global, source: &[u8]) -> Result<Program, Fail> {
+fn program_of(alloc: Global, source: &[u8]) -> Result<Program, Fail>
+    requires { length source.now ≤ 1048576 }
+{
     let lexed = lex(alloc, source)?;
     let tokens = expand(alloc, source, &lexed)?;
     let unit = parse(alloc, tokens.as_slice())?;
     Ok(check(alloc, &unit, &lexed.names, 4)?)
 }
 
-const SHARED: &[u8] = b"struct s {shared [3] int *p; upc_lock_t *l; short n;};
+fn with_shared_objects(alloc: Global) -> Result<Program, Fail> {
+    let source = b"struct s {shared [3] int *p; upc_lock_t *l; short n;};
 shared [3] int a[10]; shared [] int b[7]; shared struct s c; shared int d = -1;
 shared char *q; int main(void){q = upc_alloc(4); return 0;}";
+    program_of(alloc, source)
+}
 
 // The object that stands there by its parts.
 fn object(number: u32, total: u32, block: u32, shape: u32, base: u32) -> ObjectRef {
@@ -36,7 +43,7 @@ fn object(number: u32, total: u32, block: u32, shape: u32, base: u32) -> ObjectR
 // Each shared object behind the bytes of those before it, with its block, its elements and their size.
 #[test]
 fn where_shared_objects_lie(rt: HostRuntime) -> Result<(), Fail> {
-    let program = program_of(rt.alloc(), SHARED)?;
+    let program = with_shared_objects(rt.alloc())?;
     assert_eq!(rt; program.threads(), 4);
     assert_eq!(rt; program.functions().len(), 1);
     let rows = [
@@ -63,7 +70,7 @@ fn where_shared_objects_lie(rt: HostRuntime) -> Result<(), Fail> {
 // The shapes of declared elements come first, then those of elements that calls allocate.
 #[test]
 fn shapes_of_shared_elements(rt: HostRuntime) -> Result<(), Fail> {
-    let program = program_of(rt.alloc(), SHARED)?;
+    let program = with_shared_objects(rt.alloc())?;
     let rows = [(4, Kind::Int), (48, Kind::Shared(0, 3)), (1, Kind::Char)];
     assert_eq!(rt; program.shapes().len(), rows.len());
     for (shape, (size, kind)) in program.shapes().iter().zip(rows) {

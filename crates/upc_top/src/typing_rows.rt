@@ -288,6 +288,7 @@ fn is_answered(read: &Result<First, Stop>, answer: &Answer) -> bool {
 #[test]
 fn typing_rules(rt: HostRuntime) -> Result<(), Fail> {
     for (source, answer) in &ROWS {
+        assert!(rt; source.len() <= 1_048_576);
         let read = read_program(rt.alloc(), 2, source);
         assert!(rt; is_answered(&read, answer));
     }
