@@ -43,8 +43,3 @@ at_return a place = where_true a.shared (refused place 24)
 abbrev pub first : List Refusal → Option Refusal
 first [] = None
 first (r ∷ rs) = Some r
-
--- The first, or else the second.
-abbrev pub or_else : Option Refusal → Option Refusal → Option Refusal
-or_else None other = other
-or_else (Some r) other = Some r

@@ -3,7 +3,8 @@
 ghost use Rattle.std.specs.Prelude.{◌≡◌, map};
 ghost use Rattle.upc_tree.specs.Lists.{block_items_of, switch_items_of, else_ifs_of};
 ghost use Rattle.upc_tree.specs.ViewStatement.{view_statement, view_compound, view_block_item, view_switch_item, view_else_if, view_otherwise, view_external, view_unit};
-ghost use Rattle.affinity_checker.specs.Rules.{first, or_else};
+ghost use Rattle.std.specs.Option.{option_or};
+ghost use Rattle.affinity_checker.specs.Rules.{first};
 ghost use Rattle.affinity_checker.specs.Breaches.{breaches, in_compound, in_block_items, in_block_item, in_switch_items, in_switch_item, in_else_ifs, in_otherwise, in_external, unit_breaches};
 
 use crate::around::{Around, NOTHING};
@@ -138,7 +139,7 @@ fn otherwise_fault(otherwise: &Otherwise, around: Around) -> Option<Refusal>
 
 // The first of two, if there is one.
 fn either(one: Option<Refusal>, other: Option<Refusal>) -> Option<Refusal>
-    ensures { result ≡ or_else one other }
+    ensures { result ≡ option_or one other }
 {
     match one {
         Some(fault) => Some(fault),

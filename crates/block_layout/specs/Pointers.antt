@@ -1,9 +1,10 @@
 -- Which element of an object a pointer-to-shared names (UPC 6.4.2, 6.5.1.1).
-use Rattle.std.specs.Prelude.{ℕ, zero, suc, ◌≡◌, ◌<◌, ◌==◌, ◌&&◌, Bool, ℤ, pos, ◌+ℤ◌, ◌*ℤ◌}
+use Rattle.std.specs.Prelude.{ℕ, zero, suc, ◌≡◌, ◌<◌, ◌==◌, ◌&&◌, Bool, ℤ, pos, ◌+ℤ◌, ◌*ℤ◌, unsigned_abs}
 use Rattle.block_layout.specs.declared.place.ObjectRef.{ObjectRef}
 use Rattle.block_layout.specs.declared.place.SharedPtr.{SharedPtr}
 use Rattle.std.specs.Ordering.{int_eq}
 use Rattle.block_layout.specs.Places.{thread_at, phase_at, offset_at}
+use Rattle.block_layout.specs.declared.place.Loc.{Loc}
 
 -- The null pointer has zeros throughout.
 abbrev pub null : SharedPtr
@@ -46,3 +47,7 @@ pub record StandsFor (p : SharedPtr) (e d : ℤ) (block size threads : ℕ) : Ty
   pub thread : 0 < block → p.thread ≡ thread_at e block threads
   pub phase : p.phase ≡ element_phase e block
   pub offset : p.offset ≡ element_offset e block size threads +ℤ d
+
+-- The location that a pointer names.
+abbrev pub location : SharedPtr → Loc
+location p = record { object = p.object.number; thread = p.thread; offset = unsigned_abs p.offset }

@@ -10,8 +10,8 @@ use Rattle.upc_values.specs.declared.scalar.Mark.TheVariants.{Start, Finish}
 use Rattle.first_language.specs.Sums.{sum_of}
 use Rattle.first_language.specs.Tree as t
 use Rattle.first_language.specs.Options.{◌>>=◌}
-use Rattle.first_language.specs.Postfix.{code_block, code_expr, code_stmt}
-use Rattle.first_language.specs.Statements.{is_plain, is_printf, target_of, printed, assignment_of, print_of, loop_of, test_of, statement_of, items_of, item_of, main_items, return_of}
+use Rattle.first_language.specs.Postfix.{code_block, code_expr}
+use Rattle.first_language.specs.Statements.{is_plain, is_printf, target_of, printed, assignment_of, print_of, loop_of, test_of, items_of, item_of, main_items, return_of}
 use Rattle.first_language.specs.Emit.{Wrote, Writes, GotCondition, emit_expr, emit_stmt, emit_block, emit_main, IsCode}
 use Rattle.first_language.proofs.Codes.{code_expr-append, code_stmt-append, code_block-append}
 use Rattle.first_language.proofs.Writes.{Carries, sum_then, while_code}

@@ -1,18 +1,16 @@
 -- Where the ticks are spent, they are the budget.
-use Rattle.std.proofs.Common.{◌≡◌, ℕ, zero, suc, ℤ, pos, ◌+◌, ◌%◌, ◌<◌, ◌≤◌, List, [], ◌∷◌, ◌++◌, length, Bool, true, false, cond, ◌==◌, nat_le, refl, sym, ◌∙◌, ap, subst, arith, rules}
+use Rattle.std.proofs.Common.{◌≡◌, ℕ, zero, suc, ℤ, pos, ◌+◌, ◌%◌, ◌<◌, ◌≤◌, List, [], ◌∷◌, ◌++◌, length, Bool, true, false, cond, ◌==◌, nat_le, refl, arith, rules}
 use Rattle.std.specs.Ordering.{int_eq}
 use Rattle.upc_values.specs.declared.action.Action.{Action}
 use Rattle.upc_values.specs.declared.action.Action.TheVariants as a
 use Rattle.upc_values.specs.declared.action.Reply.{Reply}
 use Rattle.upc_values.specs.declared.record.ToldEnd.TheVariants as told
-use Rattle.upc_values.specs.declared.scalar.Mark.TheVariants.{Absent, Start, Finish}
 use Rattle.upc_values.specs.Outcomes.{Outcome}
 use Rattle.first_language.specs.declared.tree.First.{First}
-use Rattle.first_language.specs.declared.instr.Operator.{Operator}
-use Rattle.first_language.specs.Course.{Course, Gives, Over, Asks, Stop, Faults, Spent, bind, ask, fits, outcome_after}
+use Rattle.first_language.specs.Course.{Course, Gives, Over, Asks, Faults, Spent, bind, ask, fits, outcome_after}
 use Rattle.first_language.specs.Postfix.{read}
 use Rattle.first_language.specs.Tree.{Expr, Number, Variable, Mythread, Threads, Binary, Stmt, Assign, Barrier, Fence, Print, While, Block, End, Then}
-use Rattle.first_language.specs.Meaning.{exact, operate, beat, check, tick, turns, value, statement, statements, course_of, course, meaning}
+use Rattle.first_language.specs.Meaning.{exact, beat, check, tick, turns, value, statement, statements, course_of, course, meaning}
 use Rattle.upc_values.specs.Scalars.{is_int}
 
 -- from ticks of at least `low`, below the budget, on: a value has such ticks again, and spent ticks are the budget

@@ -1,5 +1,5 @@
 -- A tree of the language gives a program whose variables are declared and whose numbers are ints.
-use Rattle.std.proofs.Common.{◌≡◌, ℕ, zero, suc, pos, ◌+◌, ◌≤◌, nat_eq, nat_le, Bool, true, false, ◌&&◌, List, [], ◌∷◌, length, position, Option, Some, None, if◌then◌else◌, refl, sym, ◌∙◌, ap, subst, arith, le-leb, leb-true}
+use Rattle.std.proofs.Common.{◌≡◌, ℕ, pos, ◌+◌, ◌≤◌, nat_eq, nat_le, Bool, true, false, ◌&&◌, List, [], ◌∷◌, length, position, Option, Some, None, if◌then◌else◌, refl, subst, arith, le-leb, leb-true}
 use Rattle.std.proofs.lemmas.List.Quantifiers.{position-Some}
 use Rattle.upc_lexer.specs.declared.token.NumberKind.{NumberKind}
 use Rattle.upc_lexer.specs.declared.token.NumberKind.TheVariants as n
@@ -16,7 +16,7 @@ use Rattle.first_language.specs.Options.{◌>>=◌}
 use Rattle.first_language.specs.Tree as t
 use Rattle.first_language.specs.Tree.{is_formed_expr, is_formed_stmt, is_formed_block, is_formed}
 use Rattle.first_language.specs.Sums.{place_of, variable_of, named_sum, number_of, constant_of, operator_of, sum_of}
-use Rattle.first_language.specs.Statements.{is_plain, is_format, is_printf, is_end, barrier_of, target_of, alone, printed, test_of, loop_of, result_of, returned, return_of, assignment_of, print_of, action_of, value_of, statement_of, body_of, block_of, items_of, item_of, main_items, main_of}
+use Rattle.first_language.specs.Statements.{is_plain, is_format, is_printf, barrier_of, target_of, alone, printed, loop_of, result_of, returned, return_of, assignment_of, print_of, action_of, value_of, statement_of, body_of, block_of, items_of, item_of, main_items, main_of}
 use Rattle.first_language.specs.Unit.{is_main, main_in}
 use Rattle.first_language.proofs.Logic.{both, and_true, some_same}
 

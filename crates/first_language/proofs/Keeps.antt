@@ -1,8 +1,7 @@
 -- What every course of a program keeps: its actions may be asked for, and its Beats come at multiples of 1,024 ticks.
-use Rattle.std.proofs.Common.{◌≡◌, ℕ, ℤ, pos, suc, zero, ◌+◌, ◌*◌, ◌/◌, ◌%◌, ◌==◌, ◌<◌, ◌≤◌, nat_le, List, [], ◌∷◌, ◌++◌, length, Bool, true, false, cond, ◌&&◌, is_some, refl, ap, subst, ◌∙◌, arith, le-leb, leb-true, eq-eqb, eqb-true, ◌≢◌}
+use Rattle.std.proofs.Common.{◌≡◌, ℕ, ℤ, pos, suc, zero, ◌+◌, ◌*◌, ◌/◌, ◌%◌, ◌==◌, ◌<◌, ◌≤◌, nat_le, List, length, Bool, true, false, cond, ◌&&◌, is_some, refl, ap, subst, ◌∙◌, arith, le-leb, leb-true, eqb-true, ◌≢◌}
 use Rattle.std.proofs.lemmas.Bool.{eqb-false, and_from}
 use Rattle.std.specs.Ordering.{int_eq}
-use Rattle.block_layout.specs.declared.place.Loc.{Loc}
 use Rattle.upc_text.specs.declared.place.Place.{Place}
 use Rattle.upc_values.specs.declared.scalar.Scalar.TheVariants.{Int, Shared, Lock}
 use Rattle.upc_values.specs.declared.action.Action.{Action}
@@ -16,8 +15,7 @@ use Rattle.upc_values.specs.declared.scalar.Mark.{Mark}
 use Rattle.upc_values.specs.declared.scalar.Mark.TheVariants.{Absent, Start, Finish}
 use Rattle.upc_values.specs.Basic.{is_unvalued, is_basic}
 use Rattle.upc_values.specs.Shapes.{fits_cell}
-use Rattle.upc_values.specs.Openings.{Opening, cell_of}
-use Rattle.upc_values.specs.History.{objects}
+use Rattle.upc_values.specs.Openings.{Opening}
 use Rattle.upc_values.specs.Formed as formed
 use Rattle.upc_values.specs.Formed.{IsWellFormed, fits_after}
 use Rattle.first_language.specs.declared.instr.Operator.{Operator}

@@ -4,11 +4,8 @@ use Rattle.upc_values.specs.declared.action.Action.{Action}
 use Rattle.upc_values.specs.declared.action.Action.TheVariants.{Beat}
 use Rattle.upc_values.specs.declared.action.Reply.{Reply}
 use Rattle.upc_values.specs.declared.record.ToldEnd.TheVariants as told
-use Rattle.upc_values.specs.declared.journal.Entry.{Entry}
 use Rattle.upc_values.specs.Records.{beats, is_beat}
-use Rattle.upc_values.specs.Basic.{is_basic}
 use Rattle.upc_values.specs.Openings.{Opening}
-use Rattle.upc_values.specs.Formed.{fits_after}
 use Rattle.upc_values.specs.Outcomes.{IsMeaning, Outcome}
 use Rattle.first_language.specs.declared.tree.First.{First}
 use Rattle.first_language.specs.Course.{Course, Gives, Over, Asks, Stop, Faults, Spent, told_stop, fits, outcome_after}

@@ -1,5 +1,5 @@
 -- What is read from a tree.
-use Rattle.std.proofs.Common.{◌≡◌, ℕ, ◌+◌, ◌≤◌, nat_eq, suc, Bool, true, false, List, [], ◌∷◌, ◌++◌, length, map, Option, Some, None, if◌then◌else◌, refl, sym, ◌∙◌, ap, subst, arith, append_assoc, append-nil}
+use Rattle.std.proofs.Common.{◌≡◌, ℕ, ◌+◌, ◌≤◌, nat_eq, Bool, true, false, List, [], ◌∷◌, ◌++◌, length, map, Option, Some, None, if◌then◌else◌, refl, sym, ◌∙◌, ap, subst, arith, append_assoc, append-nil}
 use Rattle.std.specs.List.{list_any}
 use Rattle.std.proofs.lemmas.List.{length-map}
 use Rattle.upc_lexer.specs.declared.token.Token.{Token}
@@ -20,9 +20,9 @@ use Rattle.first_language.specs.Tree as t
 use Rattle.first_language.specs.Tree.{is_formed}
 use Rattle.first_language.specs.Postfix.{Read, read, code_program}
 use Rattle.first_language.specs.Emit.{IsCode}
-use Rattle.first_language.specs.Unit.{is_int, is_shared, strict_of, is_int_alone, is_shared_int, shared_behind, strictness, plain_name, declared_name, name_of, variable_in, declared_in, unless_declared, new_variable, declared_from, AreDeclared, main_in, ends_with, and_variable, is_last, first_from, first_program}
+use Rattle.first_language.specs.Unit.{is_int, is_shared, strict_of, is_int_alone, is_shared_int, shared_behind, strictness, plain_name, declared_name, name_of, declared_in, unless_declared, new_variable, declared_from, AreDeclared, main_in, ends_with, and_variable, is_last, first_from, first_program}
 use Rattle.first_language.proofs.Logic.{both, some_same}
-use Rattle.first_language.proofs.Formed.{Passed, passed, chosen, formed_main}
+use Rattle.first_language.proofs.Formed.{passed, chosen, formed_main}
 use Rattle.first_language.proofs.Postfixes.{read_program}
 
 abbrev numbers : List Variable → List ℕ

@@ -1,23 +1,20 @@
 -- The objects of a source's variables: each has one cell, and a run begins with a valid opening.
-use Rattle.std.proofs.Common.{◌≡◌, ℕ, ℤ, pos, negsuc, suc, zero, ◌+◌, ◌-◌, ◌*◌, ◌/◌, ◌%◌, ◌==◌, ◌<◌, ◌≤◌, nat_lt, nat_le, ◌&&◌, Bool, true, false, cond, List, [], ◌∷◌, ◌++◌, length, get_or, take, slice_get, Option, Some, None, refl, sym, ap, subst, ◌∙◌, arith, inl, inr, eq-eqb, eqb-true, lt-ltb, leb-true}
-use Rattle.std.specs.List.{find, filter_map, sum_by}
+use Rattle.std.proofs.Common.{◌≡◌, ℕ, ℤ, pos, negsuc, suc, zero, ◌+◌, ◌-◌, ◌*◌, ◌/◌, ◌%◌, ◌==◌, ◌<◌, ◌≤◌, nat_lt, nat_le, ◌&&◌, Bool, true, false, cond, List, [], ◌∷◌, length, get_or, take, slice_get, Some, None, refl, sym, ap, subst, ◌∙◌, arith, inl, inr, eq-eqb, eqb-true, lt-ltb, leb-true}
+use Rattle.std.specs.List.{find, filter_map}
 use Rattle.std.specs.Option.{option_or}
 use Rattle.std.proofs.Math.Nat.{zero-mod}
-use Rattle.std.proofs.Math.Seq.{take-length, get_or-append_seam}
+use Rattle.std.proofs.Math.Seq.{get_or-append_seam}
 use Rattle.std.proofs.lemmas.Bool.{false_from_ne_true, cases_lt, cases_eq}
 use Rattle.std.proofs.lemmas.List.{length-append, get_or_append_left, take-append-le, take_all}
 use Rattle.std.proofs.lemmas.List.Sums.{sum_by_push}
 use Rattle.std.proofs.lemmas.List.Folds.{find-append}
-use Rattle.block_layout.specs.declared.place.Loc.{Loc}
 use Rattle.block_layout.specs.declared.place.ObjectRef.{ObjectRef}
 use Rattle.block_layout.specs.declared.kind.Kind.TheVariants as kind
 use Rattle.block_layout.specs.Pieces.{piece_of, count_below}
-use Rattle.block_layout.specs.Shapes.{IsShape}
 use Rattle.upc_values.specs.declared.journal.Entry.{Entry}
-use Rattle.upc_values.specs.Lists.{Each, Numbered}
 use Rattle.upc_values.specs.Scalars.{is_int}
 use Rattle.upc_values.specs.Shapes.{kind_at, cell_in}
-use Rattle.upc_values.specs.Openings.{Opening, IsSharable, IsDeclared, IsOpening, bytes_of, cell_of}
+use Rattle.upc_values.specs.Openings.{Opening, IsDeclared, IsOpening, bytes_of, cell_of}
 use Rattle.upc_values.specs.History as history
 use Rattle.upc_values.proofs.Beginnings.{cell-stays}
 use Rattle.integers.specs.Integers.{in_kind}

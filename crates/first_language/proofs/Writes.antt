@@ -1,11 +1,11 @@
 -- The steps that are written for the parts of a tree.
-use Rattle.std.proofs.Common.{◌≡◌, ℕ, ◌+◌, Bool, true, false, List, [], ◌∷◌, ◌++◌, length, Option, Some, None, refl, sym, ◌∙◌, ap, append_assoc, append-nil, arith}
+use Rattle.std.proofs.Common.{◌≡◌, ℕ, ◌+◌, Bool, List, [], ◌∷◌, ◌++◌, length, Option, sym, ◌∙◌, ap, append_assoc, arith}
 use Rattle.first_language.specs.declared.instr.Instr.{Instr}
 use Rattle.first_language.specs.declared.instr.Instr.TheVariants as i
 use Rattle.first_language.specs.Tree as t
 use Rattle.first_language.specs.Postfix.{code_expr, code_stmt, code_block, size_expr, size_block}
-use Rattle.first_language.specs.Emit.{Wrote, Writes, emit_expr, emit_stmt, emit_block}
-use Rattle.first_language.proofs.Codes.{code_expr-append, code_stmt-append, code_block-append, length-code_expr, length-code_block}
+use Rattle.first_language.specs.Emit.{Writes}
+use Rattle.first_language.proofs.Codes.{code_expr-append, code_block-append, length-code_expr, length-code_block}
 
 -- a sum, and then a step
 pub sum_then : (code now new : List Instr) (e : t.Expr) (x : Instr) → now ≡ code ++ code_expr e [] → new ≡ now ++ x ∷ [] →

@@ -11,7 +11,6 @@ use Rattle.upc_tree.specs.declared.mark.TypeWord.TheVariants as w
 use Rattle.upc_tree.specs.declared.span.Name.{Name}
 use Rattle.upc_tree.specs.Expression as e
 use Rattle.upc_tree.specs.Declaration as d
-use Rattle.upc_tree.specs.Statement as s
 use Rattle.upc_tree.specs.Unit as u
 use Rattle.first_language.specs.declared.unit.Variable.{Variable}
 use Rattle.first_language.specs.Tree as t

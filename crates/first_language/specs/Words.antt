@@ -1,5 +1,5 @@
 -- The names that no variable may have.
-use Rattle.std.specs.Prelude.{ℕ, Bool, true, false, not, List, codes, Option, Some, None, nat_eq, slice_get}
+use Rattle.std.specs.Prelude.{ℕ, Bool, false, not, List, Option, Some, None, nat_eq, slice_get}
 use Rattle.std.specs.List.{list_any}
 use Rattle.std.specs.Cmp.Lexicographic.{pointwise}
 use Rattle.upc_tree.specs.declared.span.Name.{Name}

@@ -1,7 +1,6 @@
 //! One step of a program.
 
-ghost use Rattle.std.specs.Prelude.{◌≡◌, ◌++◌, [], ◌∷◌, List, ℕ, ℤ, pos, true, IfOk, IsTrue, cond};
-ghost use Rattle.std.specs.Prelude.{◌+ℤ◌, ◌-ℤ◌, ◌*ℤ◌, ◌≤ℤ◌, ◌≤◌, negsuc};
+ghost use Rattle.std.specs.Prelude.{◌≡◌, ◌++◌, [], ◌∷◌, List, ℕ, ℤ, IfOk};
 ghost use Rattle.upc_values.specs.Scalars.{is_int};
 ghost use Rattle.first_language.specs.Ahead.{last_of, front_of};
 ghost use Rattle.first_language.specs.Meaning as spec;

@@ -1,6 +1,6 @@
 //! The names that no variable may have, and names by their spelling.
 
-ghost use Rattle.std.specs.Prelude.{◌≡◌, ℕ, List, nat_eq};
+ghost use Rattle.std.specs.Prelude.{◌≡◌, nat_eq};
 ghost use Rattle.std.specs.List.{list_any};
 ghost use Rattle.std.specs.Cmp.Lexicographic.{pointwise};
 ghost use Rattle.first_language.specs.Words.{is_reserved, is_named, is_free};

@@ -1,6 +1,6 @@
 -- Counts of notifies, one entry more.
 use Rattle.std.proofs.Common.{◌≡◌, ℕ, ◌+◌, ◌<◌, ◌==◌, Bool, true, false, ◌&&◌, List, length, get_or, set, take, replicate, refl, sym, ap, subst, ◌∙◌, arith, inl, inr, eq-eqb}
-use Rattle.std.proofs.lemmas.Bool.{cases_eq, false_from_ne_true}
+use Rattle.std.proofs.lemmas.Bool.{cases_eq, false_from_ne_true, and_right}
 use Rattle.std.proofs.Common.{eqb-true}
 use Rattle.std.proofs.lemmas.List.{get_or-set_same, get_or-set_other, get_or-replicate, length-set}
 use Rattle.std.proofs.lemmas.List.Sums.{count_by_more_yes, count_by_more_no}
@@ -42,10 +42,6 @@ counts-notify counts es i e below lt is h k = record {
   ];
 }
 
-and-false : (a b : Bool) → b ≡ false → (a && b) ≡ false
-and-false true b h = h
-and-false false b h = refl
-
 -- the next entry is none
 pub counts-other : (counts : List ℕ) (es : List Entry) (i : ℕ) (e : Entry) → i < length es → e ≡ get_or es i e
     → is_notify e.action ≡ false → AreCounts counts (take i es) → AreCounts counts (take (i + 1) es)
@@ -53,5 +49,5 @@ counts-other counts es i e lt is h k = record {
   many = k.many;
   each = λ t b. k.each t b
       ∙ sym (count_by_more_no (λ x. (x.thread == t) && is_notify x.action) es i e lt
-      (subst (λ x. ((x.thread == t) && is_notify x.action) ≡ false) is (and-false (e.thread == t) (is_notify e.action) h)));
+      (subst (λ x. ((x.thread == t) && is_notify x.action) ≡ false) is (and_right (e.thread == t) (is_notify e.action) h)));
 }

@@ -1,9 +1,8 @@
 //! The one lawful reply of an action after a history.
 
-ghost use Rattle.std.specs.Prelude.{◌≡◌, ℕ, ◌<◌, ◌≤◌, true, cond, Some, None, slice_index, slice_get};
+ghost use Rattle.std.specs.Prelude.{◌≡◌, ℕ, ◌<◌, ◌≤◌, true, Some, None, slice_index, slice_get};
 ghost use Rattle.upc_values.specs.Basic.{is_basic, AreBasic};
 ghost use Rattle.upc_values.specs.Drain as drain;
-ghost use Rattle.upc_values.specs.Openings.{Opening};
 ghost use Rattle.upc_values.specs.History as history;
 ghost use Rattle.upc_values.specs.History.{each_thread, EachBelow};
 ghost use Rattle.memory_history.specs.Marks as marks;

@@ -1,6 +1,6 @@
 //! The shared memory as a history.
 
-ghost use Rattle.std.specs.Prelude.{◌≡◌, ℕ, ◌<◌, ◌^◌, [], length, true, ◌↔◌, IsTrue, IfOk, OnErr, IfSome, None, is_some};
+ghost use Rattle.std.specs.Prelude.{◌≡◌, ◌<◌, ◌^◌, [], length, true, ◌↔◌, IsTrue, IfOk, OnErr, IfSome, None, is_some};
 ghost use Rattle.upc_values.specs.Basic.{is_basic, AreBasic};
 ghost use Rattle.upc_values.specs.Openings.{IsOpening};
 ghost use Rattle.upc_values.specs.History as history;

@@ -1,9 +1,10 @@
 -- Tests, one after another.
-use Rattle.std.proofs.Common.{◌≡◌, ℕ, zero, suc, ◌<◌, List, ◌++◌, Bool, true, false, ◌&&◌, ◌||◌, inl, inr, refl, sym, ap, ◌∙◌, subst, arith}
+use Rattle.std.proofs.Common.{◌≡◌, ℕ, zero, suc, ◌<◌, List, ◌++◌, Bool, true, false, ◌&&◌, ◌||◌, inl, inr, sym, ap, ◌∙◌, subst, arith}
 use Rattle.std.proofs.lemmas.Bool.{cases_lt}
 use Rattle.std.specs.List.{list_any}
 use Rattle.std.proofs.lemmas.List.Folds.{list_any-append}
 use Rattle.upc_values.specs.History.{each_thread}
+use Rattle.std.proofs.Math.Bool.{and-false}
 
 pub first-fails : (a b x : Bool) → x ≡ a → x ≡ false → false ≡ (a && b)
 first-fails a b x e h = sym (ap (λ z. z && b) (sym e ∙ h))
@@ -16,10 +17,6 @@ third-decides a b d x y r e h g k f = f ∙ sym (ap (λ z. z && (b && d)) (sym e
 
 pub neither : (a b x y : Bool) → x ≡ a → x ≡ false → y ≡ b → y ≡ false → (a || b) ≡ false
 neither a b x y e h g k = ap (λ z. z || b) (sym e ∙ h) ∙ (sym g ∙ k)
-
-and-false : (b : Bool) → (b && false) ≡ false
-and-false true = refl
-and-false false = refl
 
 -- a number below n that fails
 pub each-fails : (test : ℕ → Bool) (n k : ℕ) → k < n → test k ≡ false → each_thread n test ≡ false

@@ -1,10 +1,9 @@
 //! What a collective call asks for.
 
-ghost use Rattle.std.specs.Prelude.{◌≡◌, ◌∷◌, [], ◌≤◌, ◌<◌, ◌^◌, map, IfSome};
-ghost use Rattle.std.specs.Option as options;
+ghost use Rattle.std.specs.Prelude.{◌≡◌, ◌∷◌, [], ◌<◌};
 ghost use Rattle.upc_values.specs.Calls as said;
 ghost use Rattle.upc_values.specs.Calls.{call_of};
-ghost use Rattle.plain_calls.specs.Calls.{call_in, called, kept, shared_in, int_in, size_in, kind_in, way_in, way_option};
+ghost use Rattle.plain_calls.specs.Calls.{call_in, called, kept, shared_in, int_in, size_in, kind_in, way_option};
 
 use block_layout::{Kind, SharedPtr};
 use integers::lies_in;

@@ -6,7 +6,7 @@ ghost use Rattle.std.specs.List.{All, list_any};
 ghost use Rattle.upc_values.specs.Lists.{under};
 ghost use Rattle.block_layout.specs.Shapes.{kind_size};
 ghost use Rattle.upc_values.specs.Shapes as shapes;
-ghost use Rattle.upc_values.specs.Views.{cuts, cuts_cell, cells_within, same_cells, is_kind};
+ghost use Rattle.upc_values.specs.Views.{cuts, cuts_cell, cells_within, same_cells};
 
 use block_layout::{Kind, Shape};
 use std::alloc::{AllocError, Global};

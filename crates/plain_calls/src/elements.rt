@@ -1,6 +1,6 @@
 //! Elements of a view, each of which is to be a cell.
 
-ghost use Rattle.std.specs.Prelude.{◌≡◌, ◌||◌, ◌<◌, ◌∷◌, ◌++◌, [], false, not, map, length, IfOk};
+ghost use Rattle.std.specs.Prelude.{◌≡◌, ◌<◌, [], false, not, map, length, IfOk};
 ghost use Rattle.std.specs.List.{All, list_any};
 ghost use Rattle.block_layout.specs.Shapes.{kind_size};
 ghost use Rattle.upc_values.specs.Expansion.{gathered};

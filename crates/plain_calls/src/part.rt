@@ -1,12 +1,12 @@
 //! Parts that a call copies.
 
-ghost use Rattle.std.specs.Prelude.{◌≡◌, ◌<◌, ◌||◌, false, map, unsigned_abs, IfOk, ◌∷◌, []};
+ghost use Rattle.std.specs.Prelude.{◌≡◌, ◌<◌, ◌||◌, false, map, unsigned_abs, IfOk};
 ghost use Rattle.std.specs.List.{All, list_any};
 ghost use Rattle.upc_values.specs.Expansion.{each_in_turn, Reads, does};
 ghost use Rattle.upc_values.specs.Expansions as said;
 ghost use Rattle.upc_values.specs.Views as views;
 ghost use Rattle.plain_calls.specs.Run.{Follows};
-ghost use Rattle.plain_calls.specs.Spots.{pointer_of, part_of, IsRoomFor, HasRoom};
+ghost use Rattle.plain_calls.specs.Spots.{pointer_of, part_of, HasRoom};
 
 use crate::cells::{Cell, cells_within, cuts_cell, same_cells, shape_of};
 use crate::spot::Spot;

@@ -1,6 +1,6 @@
 //! `upc_all_permute` (UPC 7.3).
 
-ghost use Rattle.std.specs.Prelude.{◌≡◌, ◌<◌, ◌≤◌, ◌==◌, ◌*◌, ◌&&◌, ◌||◌, ◌∷◌, ℕ, [], None, false, not, pos, length, map, IfOk};
+ghost use Rattle.std.specs.Prelude.{◌≡◌, ◌<◌, ◌≤◌, ◌==◌, ◌*◌, ◌&&◌, ◌||◌, ◌∷◌, [], false, not, pos, length, map, IfOk};
 ghost use Rattle.std.specs.List.{All, list_any, position_or_len};
 ghost use Rattle.std.specs.Ordering.{int_eq};
 ghost use Rattle.block_layout.specs.declared.kind.Kind.TheVariants as kind;
@@ -8,7 +8,6 @@ ghost use Rattle.upc_values.specs.Expansion.{bind, gathered, refused_by};
 ghost use Rattle.upc_values.specs.Expansions as said;
 ghost use Rattle.upc_values.specs.History.{each_thread};
 ghost use Rattle.upc_values.specs.Views as views;
-ghost use Rattle.plain_calls.specs.Calls.{refusal_in};
 ghost use Rattle.plain_calls.specs.Run.{Follows};
 ghost use Rattle.plain_calls.specs.Spots.{pointer_of, part_of, IsRoomFor};
 

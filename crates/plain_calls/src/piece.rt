@@ -1,6 +1,6 @@
 //! Ranges of bytes.
 
-ghost use Rattle.std.specs.Prelude.{◌≡◌, ◌<◌, ◌≤◌, ◌-◌, ◌/◌, ◌%◌, ◌==◌, ◌&&◌, not, pos, neg_ℤ, ◌+ℤ◌, ◌^◌, IsFalse, IsTrue, unsigned_abs, ◌≤ℤ◌};
+ghost use Rattle.std.specs.Prelude.{◌≡◌, ◌<◌, ◌≤◌, ◌-◌, ◌/◌, ◌%◌, ◌==◌, ◌&&◌, pos, ◌+ℤ◌, ◌^◌, IsTrue, unsigned_abs};
 ghost use Rattle.block_layout.specs.Pieces.{count_below, piece_of};
 ghost use Rattle.block_layout.specs.Places.{in_range};
 ghost use Rattle.upc_values.specs.Views.{is_within};

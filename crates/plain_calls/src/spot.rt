@@ -1,6 +1,7 @@
 //! Pointers to bytes and elements of arrays that a call sees.
 
 ghost use Rattle.std.specs.Prelude.{◌≡◌, ◌<◌, ◌≤◌, ◌+◌, ◌*◌, ◌^◌, ◌-ℤ◌, pos, false, unsigned_abs};
+ghost use Rattle.block_layout.specs.Pointers.{location};
 ghost use Rattle.upc_values.specs.Views as views;
 ghost use Rattle.upc_values.specs.Views.{leaves_piece, leaves_range, location_behind, byte_at};
 ghost use Rattle.plain_calls.specs.Spots.{pointer_of, IsRoomFor};
@@ -126,7 +127,7 @@ impl Spot {
     /// The location that the pointer names.
     pub fn location(&self) -> Loc
         requires { IsRoomFor 1 self.now.offset }
-        ensures { result ≡ views.location (pointer_of self.now) }
+        ensures { result ≡ location (pointer_of self.now) }
     {
         Loc {
             object: self.object.number,

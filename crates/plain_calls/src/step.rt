@@ -1,9 +1,9 @@
 //! One step of a reduction (UPC 7.3), at any two numbers.
 
-ghost use Rattle.std.specs.Prelude.{◌≡◌, ◌≢◌, ◌≤◌, ◌<◌, ◌^◌, ◌↔◌, ◌⊎◌, ℤ, true, false, pos, ◌+ℤ◌, ◌*ℤ◌, ◌≤ℤ◌, unsigned_abs, SomeIff, FitsSigned, Ok};
+ghost use Rattle.std.specs.Prelude.{◌≡◌, ◌≢◌, ◌≤◌, ◌<◌, ◌^◌, ℤ, true, false, pos, ◌+ℤ◌, ◌*ℤ◌, unsigned_abs, SomeIff, FitsSigned, Ok};
 ghost use mir.Syntax.{w128};
 ghost use Rattle.integers.specs.Integers.{is_signed, values, converted, brought, IsInteger, IsPromoted};
-ghost use Rattle.integers.specs.Operators.{bits_of, truth, binary_of};
+ghost use Rattle.integers.specs.Operators.{bits_of, truth};
 ghost use Rattle.upc_values.specs.Reductions as said;
 ghost use Rattle.plain_calls.specs.Reductions.{reduction_in};
 

@@ -2,7 +2,7 @@
 
 ghost use Rattle.std.specs.Prelude.{◌≡◌, List, [], Ok, IfOk};
 ghost use Rattle.upc_values.specs.declared.scalar.Mark.TheVariants.{Absent};
-ghost use Rattle.upc_values.specs.Expansion.{Expansion, value_in, Reads, Loads, Stores, Gives, nothing, does, barrier, unless_refused};
+ghost use Rattle.upc_values.specs.Expansion.{Expansion, value_in, Reads, Loads, Stores, Gives, nothing, does, barrier};
 ghost use Rattle.plain_calls.specs.declared.telling.Stop.TheVariants.{Memory};
 ghost use Rattle.upc_values.specs.declared.action.Reply.{Reply};
 ghost use Rattle.plain_calls.specs.Told.{told};

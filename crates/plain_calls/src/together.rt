@@ -1,10 +1,10 @@
 //! The collective calls 5 to 12 (UPC 7.3).
 
-ghost use Rattle.std.specs.Prelude.{◌≡◌, ◌≤◌, ◌==◌, ◌%◌, ◌/◌, ℕ, List, [], None, cond, map, unsigned_abs, IfOk};
+ghost use Rattle.std.specs.Prelude.{◌≡◌, ◌==◌, ◌%◌, ◌/◌, ℕ, List, cond, unsigned_abs, IfOk};
 ghost use Rattle.block_layout.specs.declared.kind.Shape.{Shape};
 ghost use Rattle.upc_values.specs.Expansion.{bind, does, nothing, barrier};
 ghost use Rattle.upc_values.specs.Expansions as said;
-ghost use Rattle.plain_calls.specs.Calls.{call_in, way_in, refusal_in, FitsLimits};
+ghost use Rattle.plain_calls.specs.Calls.{call_in, way_in, FitsLimits};
 ghost use Rattle.plain_calls.specs.Run.{Follows};
 ghost use Rattle.plain_calls.specs.Told.{told};
 

@@ -1,7 +1,6 @@
 //! Which parts each way of copying copies (UPC 7.3).
 
-ghost use Rattle.std.specs.Prelude.{◌≡◌, ◌≤◌, ◌<◌, ◌+◌, ◌*◌, ◌^◌, map, IfOk, [], ◌∷◌};
-ghost use Rattle.std.specs.List.{range_with_len};
+ghost use Rattle.std.specs.Prelude.{◌≡◌, ◌≤◌, ◌<◌, ◌+◌, ◌*◌, map, IfOk, [], ◌∷◌};
 ghost use Rattle.upc_values.specs.Calls as calls;
 ghost use Rattle.upc_values.specs.Views as views;
 ghost use Rattle.upc_values.specs.Expansions as said;

@@ -1,6 +1,6 @@
 -- The strict order by chains of steps, whose inner operations are strict; and how thread orders keep it.
 use Rattle.std.proofs.Common.{◌≡◌, ◌≢◌, ℕ, ◌<◌, ◌==◌, Bool, true, false, ◌||◌, List, refl, sym, ap, ◌∙◌, inl, inr, arith}
-use Rattle.std.proofs.lemmas.Bool.{cases_Bool, false≢true}
+use Rattle.std.proofs.lemmas.Bool.{cases_Bool, false≢true, or_left, or_right}
 use Rattle.upc_values.specs.Lists.{Precedes, Pairwise}
 use Rattle.upc_values.specs.Operations.{Operation}
 use Rattle.upc_values.specs.Orders.{rank, name_of, is_shown}
@@ -25,14 +25,6 @@ pub data Chain (set : Operation → Type 0) (strict : List Operation) : Operatio
   One : (a b : Operation) → Link set strict a b → Chain set strict a b
   More : (a s b : Operation) → Link set strict a s → s.strict ≡ true → Chain set strict s b → Chain set strict a b
 
-or-first : (x y : Bool) → x ≡ true → (x || y) ≡ true
-or-first true y h = refl
-or-first false y h = absurd (false≢true h)
-
-or-second : (x y : Bool) → y ≡ true → (x || y) ≡ true
-or-second true y h = refl
-or-second false y h = h
-
 or-left : (x y : Bool) → y ≡ false → (x || y) ≡ true → x ≡ true
 or-left true y e h = refl
 or-left false y e h = absurd (false≢true (sym e ∙ h))
@@ -42,10 +34,10 @@ or-right true y e h = absurd (false≢true (sym e))
 or-right false y e h = h
 
 pub strict-shown : (t : ℕ) (o : Operation) → o.strict ≡ true → is_shown t o ≡ true
-strict-shown t o h = or-second (o.thread == t) (o.write || o.strict) (or-second o.write o.strict h)
+strict-shown t o h = or_right (o.thread == t) (o.write || o.strict) (or_right o.write o.strict h)
 
 pub own-shown : (t : ℕ) (o : Operation) → (o.thread == t) ≡ true → is_shown t o ≡ true
-own-shown t o h = or-first (o.thread == t) (o.write || o.strict) h
+own-shown t o h = or_left (o.thread == t) (o.write || o.strict) h
 
 module _ (set : Operation → Type 0) (strict : List Operation) (whole : IsOrderOf (StrictOf set) strict) where
   -- into a relaxed operation, and out of it, a step is of its thread
@@ -66,7 +58,7 @@ module _ (set : Operation → Type 0) (strict : List Operation) (whole : IsOrder
       let v : rank m < rank b = y.2 in
       let w : rank a < rank b = omega arith in
       record {
-        step = inr (x.0.0 ∙ y.0, or-first a.strict b.strict x.1, w);
+        step = inr (x.0.0 ∙ y.0, or_left a.strict b.strict x.1, w);
         first = p.first;
         second = q.second;
       }

@@ -1,14 +1,11 @@
--- What holds of a list, by what is left of it.
-use Rattle.std.proofs.Common.{◌≡◌, ℕ, ◌+◌, ◌<◌, ◌↔◌, List, ◌∷◌, length, get_or, drop, sym, ap, ◌∙◌, subst}
-use Rattle.std.proofs.lemmas.List.{drop_more}
+-- What holds of a list, by what is left_from of it.
+use Rattle.std.proofs.Common.{◌≡◌, ℕ, ◌+◌, ◌<◌, ◌↔◌, List, length, get_or, drop, subst}
 use Rattle.upc_values.specs.Lists.{Each, Pairwise}
-
-left : {X : Type 0} (xs : List X) (i : ℕ) (x : X) → i < length xs → x ≡ get_or xs i x → drop i xs ≡ x ∷ drop (i + 1) xs
-left xs i x lt is = drop_more xs i x lt ∙ ap (λ y. y ∷ drop (i + 1) xs) (sym is)
+use Rattle.upc_values.proofs.Membership.{left_from}
 
 left-pairs : {X : Type 0} (R : X → X → Type 0) (xs : List X) (i : ℕ) (x : X) → i < length xs → x ≡ get_or xs i x
     → (Pairwise R (drop i xs) ↔ Pairwise R xs) → (Each (R x) (drop (i + 1) xs) × Pairwise R (drop (i + 1) xs)) ↔ Pairwise R xs
-left-pairs R xs i x lt is inv = subst (λ l. Pairwise R l ↔ Pairwise R xs) (left xs i x lt is) inv
+left-pairs R xs i x lt is inv = subst (λ l. Pairwise R l ↔ Pairwise R xs) (left_from xs i x lt is) inv
 
 -- the member stands so to each behind it
 pub pairs-turn : {X : Type 0} (R : X → X → Type 0) (xs : List X) (i : ℕ) (x : X) → i < length xs → x ≡ get_or xs i x

@@ -1,28 +1,15 @@
 -- The last write, by looking back from the end.
-use Rattle.std.proofs.Common.{◌≡◌, ℕ, ◌+◌, ◌-◌, ◌<◌, ◌≤◌, List, [], ◌∷◌, ◌++◌, length, get_or, take, true, false, ◌&&◌, cond, Option, Some, None, is_some, refl, sym, ap, ◌∙◌, arith}
+use Rattle.std.proofs.Common.{◌≡◌, ℕ, ◌+◌, ◌-◌, ◌<◌, ◌≤◌, List, [], ◌∷◌, length, get_or, take, true, false, ◌&&◌, cond, Option, Some, None, is_some, sym, ap, ◌∙◌, arith}
 use Rattle.std.proofs.lemmas.List.{take_more}
 use Rattle.upc_values.specs.declared.scalar.Scalar.{Scalar}
 use Rattle.upc_values.specs.Drain.{or_else}
 use Rattle.upc_values.specs.Operations.{Operation, Place}
 use Rattle.upc_values.specs.Consistent.{same_place, last_write}
+use Rattle.upc_values.proofs.Values.{last_write-append, or_else-first, or_else-second}
 
 -- what the operation writes to the place
 abbrev pub written : Place → Operation → Option Scalar
 written p o = cond (o.write && same_place o.place p) (Some o.value) None
-
-or_else_assoc : (a b c : Option Scalar) → or_else (or_else a b) c ≡ or_else a (or_else b c)
-or_else_assoc (Some x) b c = refl
-or_else_assoc None b c = refl
-
-or_else-none : (o : Option Scalar) → or_else o None ≡ o
-or_else-none (Some x) = refl
-or_else-none None = refl
-
-last_write-append : (p : Place) (xs ys : List Operation) → last_write p (xs ++ ys) ≡ or_else (last_write p ys) (last_write p xs)
-last_write-append p [] ys = sym (or_else-none (last_write p ys))
-last_write-append p (x ∷ xs) ys =
-    ap (λ o. or_else o (written p x)) (last_write-append p xs ys)
-    ∙ or_else_assoc (last_write p ys) (last_write p xs) (written p x)
 
 -- the last of the first n operations writes the place, or those before it do
 last_write-back : (p : Place) (os : List Operation) (n : ℕ) (d : Operation) → 0 < n → n ≤ length os
@@ -31,14 +18,6 @@ last_write-back p os n d some within =
     ap (λ m. last_write p (take m os)) (let m : n ≡ n - 1 + 1 = omega arith in m)
     ∙ ap (last_write p) (take_more os (n - 1) d (omega arith))
     ∙ last_write-append p (take (n - 1) os) (get_or os (n - 1) d ∷ [])
-
-or_else-first : (a b : Option Scalar) → is_some a ≡ true → or_else a b ≡ a
-or_else-first (Some x) b h = refl
-or_else-first None b h = cc
-
-or_else-second : (a b : Option Scalar) → is_some a ≡ false → or_else a b ≡ b
-or_else-second (Some x) b h = cc
-or_else-second None b h = refl
 
 -- it writes the place
 pub last_write-found : (p : Place) (os : List Operation) (n : ℕ) (d : Operation) (found : Option Scalar) → 0 < n → n ≤ length os

@@ -1,6 +1,6 @@
 -- Given orders are consistent where each by itself is an order of its part, reads right, and keeps program order and the
 -- steps of the strict order.
-use Rattle.std.proofs.Common.{◌≡◌, ◌≢◌, ℕ, ◌+◌, ◌*◌, ◌<◌, Bool, true, false, ◌||◌, cond, List, length, refl, sym, subst, inl, inr, eq-eqb, arith}
+use Rattle.std.proofs.Common.{◌≡◌, ◌≢◌, ℕ, ◌+◌, ◌*◌, ◌<◌, Bool, true, false, cond, List, length, refl, sym, subst, inl, inr, eq-eqb, arith}
 use Rattle.std.proofs.lemmas.Bool.{cases_order}
 use Rattle.block_layout.specs.declared.place.Loc.{Loc}
 use Rattle.upc_values.specs.declared.scalar.Scalar.{Scalar}
@@ -13,6 +13,7 @@ use Rattle.upc_values.proofs.Membership.{each-has, each-from, precedes-has, prec
 use Rattle.plain_orders.specs.Strict.{IsStep, StrictBy, As_listed, As_written, Through}
 use Rattle.plain_orders.specs.Whole.{order_at, AgreesWith, IsThreadOrder, AreOrdersOf}
 use Rattle.plain_orders.proofs.Chains.{StrictOf, own-shown, chain, chain-first, chain-kept, distinct}
+use Rattle.upc_values.proofs.Consistency.{or_turn}
 
 -- of one thread, and at one rank: one name
 same-index : (i j : ℕ) (v w : Bool) → 2 * i + cond {A = ℕ} v 0 1 ≡ 2 * j + cond {A = ℕ} w 0 1 → (i ≡ j) × (v ≡ w)
@@ -30,12 +31,6 @@ same-name : (a b : Operation) → a.thread ≡ b.thread → rank a ≡ rank b �
 same-name a b e r =
     let k = same-index a.index b.index a.write b.write r in
     op-parts a.thread a.index b.thread b.index a.write b.write e k.0 k.1
-
-or-turn : (x y : Bool) → (x || y) ≡ true → (y || x) ≡ true
-or-turn true true h = refl
-or-turn true false h = refl
-or-turn false true h = refl
-or-turn false false h = h
 
 module _ (initial : Loc → Scalar) (operations strict : List Operation) (orders : List (List Operation)) where
   abbrev pub EachIsOrder : Type 0
@@ -108,7 +103,7 @@ module _ (initial : Loc → Scalar) (operations strict : List Operation) (orders
                       | inl r ↦ absurd (ranks-differ a b x y n e r)
                       | inr q ↦ elim q [
                         | inl h ↦ inl (As_written a b x y (e, s, h))
-                        | inr h ↦ inr (As_written b a y x (sym e, or-turn a.strict b.strict s, h))
+                        | inr h ↦ inr (As_written b a y x (sym e, or_turn a.strict b.strict s, h))
                       ]
                     ];
                 values = λ t h. (each t h).values;

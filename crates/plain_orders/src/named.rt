@@ -1,6 +1,6 @@
 //! Operations by their names.
 
-ghost use Rattle.std.specs.Prelude.{◌≡◌, ◌≢◌, List, map, IfOk, MatchOption};
+ghost use Rattle.std.specs.Prelude.{◌≡◌, ◌≢◌, List, IfOk, MatchOption};
 ghost use Rattle.upc_values.specs.Lists.{Each, Has};
 ghost use Rattle.upc_values.specs.Operations as said;
 ghost use Rattle.upc_values.specs.Orders.{name_of};

@@ -10,7 +10,7 @@ use Rattle.upc_types.proofs.Members.{next}
 use Rattle.typed_tree.specs.declared.tree.Object.{Object}
 use Rattle.typed_tree.specs.Tree.{DeclaredObject}
 use Rattle.program_opening.specs.Objects.{is_shared, is_private, shared_in, private_in, type_of}
-use Rattle.program_opening.specs.Elements.{has_layout}
+use Rattle.typed_tree.specs.Rules.{has_size}
 use Rattle.typed_tree.specs.ViewStatements.{view_object}
 use Rattle.program_opening.specs.Targets.{with_targets}
 use Rattle.program_opening.proofs.Pointed.{with_append}
@@ -55,26 +55,26 @@ each_next P f xs i x h e l = subst (Each P) (next f xs i x h e) l
 
 -- The layout of an object, and those of the ones behind it.
 pub object_here : (structs : Structs) (xs : List Object) (i : ℕ) (x : Object) → i < length xs → x ≡ get_or xs i x →
-    Each (λ y. has_layout structs y.ctype ≡ true) (map view_object (drop i xs)) → has_layout structs (view x.ctype) ≡ true
-object_here structs xs i x h e l = (each_next (λ (y : DeclaredObject). has_layout structs y.ctype ≡ true) view_object xs i x h e l).0
+    Each (λ y. has_size structs y.ctype ≡ true) (map view_object (drop i xs)) → has_size structs (view x.ctype) ≡ true
+object_here structs xs i x h e l = (each_next (λ (y : DeclaredObject). has_size structs y.ctype ≡ true) view_object xs i x h e l).0
 
 pub object_rest : (structs : Structs) (xs : List Object) (i : ℕ) (x : Object) → i < length xs → x ≡ get_or xs i x →
-    Each (λ y. has_layout structs y.ctype ≡ true) (map view_object (drop i xs)) → Each (λ y. has_layout structs y.ctype ≡ true) (map view_object (drop (i + 1) xs))
-object_rest structs xs i x h e l = (each_next (λ (y : DeclaredObject). has_layout structs y.ctype ≡ true) view_object xs i x h e l).1
+    Each (λ y. has_size structs y.ctype ≡ true) (map view_object (drop i xs)) → Each (λ y. has_size structs y.ctype ≡ true) (map view_object (drop (i + 1) xs))
+object_rest structs xs i x h e l = (each_next (λ (y : DeclaredObject). has_size structs y.ctype ≡ true) view_object xs i x h e l).1
 
 pub type_here : (structs : Structs) (xs : List c.CType) (i : ℕ) (x : c.CType) → i < length xs → x ≡ get_or xs i x →
-    Each (λ t. has_layout structs t ≡ true) (map view (drop i xs)) → has_layout structs (view x) ≡ true
-type_here structs xs i x h e l = (each_next (λ (t : CType). has_layout structs t ≡ true) view xs i x h e l).0
+    Each (λ t. has_size structs t ≡ true) (map view (drop i xs)) → has_size structs (view x) ≡ true
+type_here structs xs i x h e l = (each_next (λ (t : CType). has_size structs t ≡ true) view xs i x h e l).0
 
 pub type_rest : (structs : Structs) (xs : List c.CType) (i : ℕ) (x : c.CType) → i < length xs → x ≡ get_or xs i x →
-    Each (λ t. has_layout structs t ≡ true) (map view (drop i xs)) → Each (λ t. has_layout structs t ≡ true) (map view (drop (i + 1) xs))
-type_rest structs xs i x h e l = (each_next (λ (t : CType). has_layout structs t ≡ true) view xs i x h e l).1
+    Each (λ t. has_size structs t ≡ true) (map view (drop i xs)) → Each (λ t. has_size structs t ≡ true) (map view (drop (i + 1) xs))
+type_rest structs xs i x h e l = (each_next (λ (t : CType). has_size structs t ≡ true) view xs i x h e l).1
 
 -- A type with a layout is complete, and an object of it is not too large.
-pub layout_complete : (structs : Structs) (t : CType) → has_layout structs t ≡ true → is_complete structs t ≡ true
+pub layout_complete : (structs : Structs) (t : CType) → has_size structs t ≡ true → is_complete structs t ≡ true
 layout_complete structs t h = (layout_is structs t h).complete
 
-pub layout_few : (structs : Structs) (t : CType) → has_layout structs t ≡ true → size structs t ≤ most_bytes
+pub layout_few : (structs : Structs) (t : CType) → has_size structs t ≡ true → size structs t ≤ most_bytes
 layout_few structs t h = (layout_is structs t h).few
 
 -- ---- structs whose targets get numbers
@@ -93,8 +93,8 @@ note_type s n xs i x h e k =
     ap (λ (z : Structs). with_targets z rest) k ∙ with_append s (view x ∷ []) rest ∙ sym (ap (with_targets s) (next view xs i x h e))
 
 -- The layouts stay.
-pub objects_kept : (s n : Structs) (ts : List CType) (ys : List DeclaredObject) → n ≡ with_targets s ts → Each (λ y. has_layout s y.ctype ≡ true) ys → Each (λ y. has_layout n y.ctype ≡ true) ys
-objects_kept s n ts ys e h = subst (λ (z : Structs). Each (λ (y : DeclaredObject). has_layout z y.ctype ≡ true) ys) (sym e) h
+pub objects_kept : (s n : Structs) (ts : List CType) (ys : List DeclaredObject) → n ≡ with_targets s ts → Each (λ y. has_size s y.ctype ≡ true) ys → Each (λ y. has_size n y.ctype ≡ true) ys
+objects_kept s n ts ys e h = subst (λ (z : Structs). Each (λ (y : DeclaredObject). has_size z y.ctype ≡ true) ys) (sym e) h
 
-pub types_kept : (s n : Structs) (ts us : List CType) → n ≡ with_targets s ts → Each (λ t. has_layout s t ≡ true) us → Each (λ t. has_layout n t ≡ true) us
-types_kept s n ts us e h = subst (λ (z : Structs). Each (λ (t : CType). has_layout z t ≡ true) us) (sym e) h
+pub types_kept : (s n : Structs) (ts us : List CType) → n ≡ with_targets s ts → Each (λ t. has_size s t ≡ true) us → Each (λ t. has_size n t ≡ true) us
+types_kept s n ts us e h = subst (λ (z : Structs). Each (λ (t : CType). has_size z t ≡ true) us) (sym e) h

@@ -12,7 +12,8 @@ use Rattle.upc_types.specs.Cells.{leaves}
 use Rattle.upc_types.proofs.Within.{leaf_sizes}
 use Rattle.typed_tree.specs.Constants.{block_or_none}
 use Rattle.typed_tree.specs.Tree.{DeclaredObject}
-use Rattle.program_opening.specs.Elements.{has_layout, element_shape, element_shapes}
+use Rattle.program_opening.specs.Elements.{element_shape, element_shapes}
+use Rattle.typed_tree.specs.Rules.{has_size}
 use Rattle.program_opening.specs.Objects.{object_of, type_of, bytes_in, lies, placed_from}
 use Rattle.program_opening.proofs.Shapes.{layout_is}
 use Rattle.program_opening.proofs.Placing.{bytes_step}
@@ -86,7 +87,7 @@ min_whole k l m n h =
     go (inl e) = ap (λ x. x % m) e ∙ mul-mod_left k m
     go (inr e) = ap (λ x. x % m) (e ∙ h) ∙ mul-mod_left l m
 
-pub declared_is : (o : Opening) (s : Structs) (i base : ℕ) (t : CType) → AreFine s.completed → has_layout s t ≡ true → 0 < o.threads →
+pub declared_is : (o : Opening) (s : Structs) (i base : ℕ) (t : CType) → AreFine s.completed → has_size s t ≡ true → 0 < o.threads →
     IsListed o.shapes (element_shape s t) → base ≡ bytes_of (take i o.declared) → IsDeclared o i (lies s o.shapes (1 + i) base t)
 declared_is o s i base t f h threads listed b =
     let l = layout_is s t h in
@@ -122,7 +123,7 @@ listed_at s xs types i e h =
     listed_all [] (map (element_shape s) (map type_of xs ++ types)) (element_shape s (get_or xs i e).ctype) (has_shape s xs types i e h)
 
 -- Each of the objects.
-pub declared_all : (o : Opening) (s : Structs) (xs : List DeclaredObject) (types : List CType) → AreFine s.completed → Each (λ x. has_layout s x.ctype ≡ true) xs → 0 < o.threads →
+pub declared_all : (o : Opening) (s : Structs) (xs : List DeclaredObject) (types : List CType) → AreFine s.completed → Each (λ x. has_size s x.ctype ≡ true) xs → 0 < o.threads →
     o.shapes ≡ element_shapes s (map type_of xs ++ types) → o.declared ≡ map object_of (placed_from s o.shapes 1 0 xs) → Numbered (IsDeclared o) o.declared
 declared_all o s xs types f layouts threads shapes declared i d h =
     let lengths = ap length declared ∙ placed_length s o.shapes 1 0 xs in
@@ -135,4 +136,4 @@ declared_all o s xs types f layouts threads shapes declared i d h =
     let bytes : bytes_in s (take i xs) ≡ bytes_of (take i o.declared) =
     sym (ap (λ os. bytes_of (take i os)) declared ∙ ap bytes_of (placed_take s o.shapes 1 0 i xs) ∙ placed_bytes s o.shapes 1 0 (take i xs)) in
     subst (λ (r : ObjectRef). IsDeclared o i r) (sym at)
-    (declared_is o s i base x.ctype f (each_get (λ (y : DeclaredObject). has_layout s y.ctype ≡ true) xs i e n layouts) threads listed (omega (arith, bytes)))
+    (declared_is o s i base x.ctype f (each_get (λ (y : DeclaredObject). has_size s y.ctype ≡ true) xs i e n layouts) threads listed (omega (arith, bytes)))

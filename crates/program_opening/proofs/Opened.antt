@@ -8,7 +8,8 @@ use Rattle.upc_types.specs.declared.ctype.Access.TheVariants.{Unsaid}
 use Rattle.upc_types.specs.Types.{CType, Qualified, Void, base_of, Structs}
 use Rattle.typed_tree.specs.declared.setting.Home.TheVariants as home
 use Rattle.typed_tree.specs.Tree.{DeclaredObject, NoInitial}
-use Rattle.program_opening.specs.Elements.{has_layout, element_shape, element_shapes}
+use Rattle.program_opening.specs.Elements.{element_shape, element_shapes}
+use Rattle.typed_tree.specs.Rules.{has_size}
 use Rattle.program_opening.specs.Objects.{is_shared, is_private, shared_in, private_in, type_of, bytes_in}
 use Rattle.program_opening.specs.Initials.{shared_from}
 use Rattle.program_opening.specs.Beginnings.{begun, opening_in}
@@ -21,16 +22,16 @@ use Rattle.program_opening.proofs.Lying.{each_filter, each_get, listed_at, decla
 use Rattle.program_opening.proofs.Starts.{setting_of, known_is, shared_once, shared_fit, shared_known}
 
 abbrev pub AreLaid : Structs → List DeclaredObject → Type 0
-AreLaid s xs = Each (λ x. has_layout s x.ctype ≡ true) xs
+AreLaid s xs = Each (λ x. has_size s x.ctype ≡ true) xs
 
 abbrev pub HaveLayouts : Structs → List CType → Type 0
-HaveLayouts s ts = Each (λ t. has_layout s t ≡ true) ts
+HaveLayouts s ts = Each (λ t. has_size s t ≡ true) ts
 
 types_laid : (s : Structs) (xs : List DeclaredObject) (ts : List CType) → AreLaid s xs → HaveLayouts s ts → HaveLayouts s (map type_of xs ++ ts)
 types_laid s [] ts h k = k
 types_laid s (x ∷ xs) ts h k = (h.0, types_laid s xs ts h.1 k)
 
-shapes_are : (P : Shape → Type 0) (s : Structs) (ts : List CType) → ((t : CType) → has_layout s t ≡ true → P (element_shape s t)) → HaveLayouts s ts → Each P (map (element_shape s) ts)
+shapes_are : (P : Shape → Type 0) (s : Structs) (ts : List CType) → ((t : CType) → has_size s t ≡ true → P (element_shape s t)) → HaveLayouts s ts → Each P (map (element_shape s) ts)
 shapes_are P s [] f h = tt
 shapes_are P s (t ∷ ts) f h = (f t h.0, shapes_are P s ts f h.1)
 
@@ -44,12 +45,12 @@ opening_is threads s objects allocated fine least most laid types bytes =
     let xs = shared_in objects in
     let ts = map type_of xs ++ allocated in
     let shapes = element_shapes s ts in
-    let laid_xs : AreLaid s xs = each_filter (λ (x : DeclaredObject). has_layout s x.ctype ≡ true) (λ x. is_shared x.home) objects laid in
+    let laid_xs : AreLaid s xs = each_filter (λ (x : DeclaredObject). has_size s x.ctype ≡ true) (λ x. is_shared x.home) objects laid in
     let laid_ts : HaveLayouts s ts = types_laid s xs allocated laid_xs types in
     let o = opening_in threads (begun threads s objects allocated) in
     let at : (i : ℕ) → i < length xs → (0 < size s (get_or xs i no_object).ctype) × IsListed shapes (element_shape s (get_or xs i no_object).ctype) = λ i h.
     let t = (get_or xs i no_object).ctype in
-    let l = layout_is s t (each_get (λ (x : DeclaredObject). has_layout s x.ctype ≡ true) xs i no_object h laid_xs) in
+    let l = layout_is s t (each_get (λ (x : DeclaredObject). has_size s x.ctype ≡ true) xs i no_object h laid_xs) in
     (base_some s.completed fine (base_of t) l.complete, listed_at s xs allocated i no_object h) in
     let privates = length (private_in objects) in
     record {
@@ -85,7 +86,7 @@ private_opening_is threads s objects allocated fine laid =
     let σ = setting_of threads (length ps) s shapes xs in
     let o = opening_in threads (begun threads s objects allocated) in
     record {
-      shapes = objects_are s ps fine (each_filter (λ (x : DeclaredObject). has_layout s x.ctype ≡ true) (λ x. is_private x.home) objects laid);
+      shapes = objects_are s ps fine (each_filter (λ (x : DeclaredObject). has_size s x.ctype ≡ true) (λ x. is_private x.home) objects laid);
       once = private_once σ 0 ps;
       fit = private_fit σ ps no_object;
       known = private_known σ o (length (shapes_of s ps)) ps no_object (shapes_length s ps) (known_is threads (length ps) s shapes xs (shared_from σ 1 xs));

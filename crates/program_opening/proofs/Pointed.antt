@@ -1,6 +1,6 @@
 -- The targets in a struct, from those in its members.
-use Rattle.std.proofs.Common.{◌≡◌, ℕ, ◌+◌, ◌≤◌, Bool, true, false, not, ◌==◌, ◌&&◌, if◌then◌else◌, List, [], ◌∷◌, ◌++◌, ◌<◌, length, map, drop, get_or, Option, Some, None, is_some, refl, sym, ap, ◌∙◌, subst, append_assoc, arith}
-use Rattle.std.proofs.lemmas.Bool.{eqb-true, and_parts, ltb-true, not-true}
+use Rattle.std.proofs.Common.{◌≡◌, ℕ, ◌+◌, ◌≤◌, Bool, true, false, not, ◌==◌, ◌&&◌, if◌then◌else◌, List, [], ◌∷◌, ◌++◌, ◌<◌, length, map, drop, get_or, Option, Some, is_some, refl, sym, ap, ◌∙◌, subst, append_assoc}
+use Rattle.std.proofs.lemmas.Bool.{eqb-true, and_parts, not-true}
 use Rattle.upc_types.specs.declared.layout.Known.{Known}
 use Rattle.upc_types.specs.Types.{CType, Base, Void, Integer, Struct, Array, Pointer, LockObject, base_of, Member, Completed, Structs, members_in}
 use Rattle.upc_types.specs.Layout.{base_complete, known_in, complete_in, all_complete}
@@ -11,9 +11,10 @@ use Rattle.upc_types.specs.View.{view_base, view_member}
 use Rattle.upc_types.specs.Kept.{IsFine, is_ordered}
 use Rattle.upc_types.proofs.Members.{next}
 use Rattle.upc_types.proofs.Steps as steps
-use Rattle.upc_types.proofs.Order.{placed_below, complete_before, complete_since, base_kept, all_kept, leaf_complete}
+use Rattle.upc_types.proofs.Order.{complete_before, complete_since, base_kept, all_kept, leaf_complete}
 use Rattle.upc_types.proofs.Ranks.{place_or_none, rank}
 use Rattle.program_opening.specs.Targets.{leaf_targets, members_targets, struct_targets, types_targets, noted_all, with_targets}
+use Rattle.upc_types.proofs.Steps.{deeper}
 
 -- The targets of complete types depend on complete structs alone.
 leaf_same : (f g : ℕ → List CType) (p : ℕ → Bool) → ((n : ℕ) → p n ≡ true → f n ≡ g n) → (b : Base) → base_complete p b ≡ true → leaf_targets f b ≡ leaf_targets g b
@@ -70,19 +71,6 @@ struct_is (c ∷ older) n o =
     let q = and_parts (all_complete (complete_in older) c.members) (is_ordered older) p.1 in
     if_members (c.number == n) (struct_targets (c ∷ older)) (struct_targets older) (complete_in older) c.members (members_in older n) (struct_targets older n)
     (older_same c older (not-true (complete_in older c.number) p.0)) q.0 (members_complete older n q.1) (struct_is older n q.1)
-
-place_one : (o : Option Known) (place : ℕ) → placed_below o place ≡ true → place_or_none o + 1 ≤ place
-place_one None place h = absurd cc
-place_one (Some k) place h = let l = ltb-true k.place place h in omega arith
-
--- What was complete before a struct has a lower rank.
-pub deeper : (cs : List Completed) (place : ℕ) (b : Base) → base_complete (complete_before cs place) b ≡ true → rank cs b ≤ place
-deeper cs place Void h = omega arith
-deeper cs place (Integer k) h = omega arith
-deeper cs place (Struct n) h = place_one (known_in cs n) place h
-deeper cs place (Array t n) h = omega arith
-deeper cs place (Pointer t) h = omega arith
-deeper cs place LockObject h = omega arith
 
 -- What holds before the first member of a struct.
 pub record IsBegun (cs : List Completed) (n : ℕ) : Type 0 where

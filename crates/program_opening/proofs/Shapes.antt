@@ -1,6 +1,6 @@
 -- Shapes of elements: when they are equal, and their numbers.
-use Rattle.std.proofs.Common.{◌≡◌, ℕ, ◌+◌, ◌<◌, ◌≤◌, Bool, true, false, ◌==◌, ◌&&◌, not, nat_le, if◌then◌else◌, List, [], ◌∷◌, ◌++◌, length, drop, get_or, Option, Some, None, is_some, refl, sym, ◌∙◌, arith}
-use Rattle.std.proofs.lemmas.Bool.{and_parts, leb-true}
+use Rattle.std.proofs.Common.{◌≡◌, ℕ, ◌+◌, ◌<◌, ◌≤◌, Bool, true, false, ◌==◌, ◌&&◌, not, nat_le, if◌then◌else◌, List, [], ◌∷◌, ◌++◌, length, drop, get_or, is_some, refl, sym, ◌∙◌, arith}
+use Rattle.std.proofs.lemmas.Bool.{and_parts, leb-true, and_right}
 use Rattle.std.proofs.lemmas.List.{drop_more, drop_all}
 use Rattle.block_layout.specs.declared.kind.Kind.{Kind}
 use Rattle.block_layout.specs.declared.kind.Shape.{Shape}
@@ -11,7 +11,10 @@ use Rattle.upc_values.specs.Views.{same_cells}
 use Rattle.upc_types.specs.declared.layout.Layout.{Layout}
 use Rattle.upc_types.specs.Types.{CType, base_of, Structs}
 use Rattle.upc_types.specs.Layout.{base_layout, layout_in, is_complete, size, most_bytes}
-use Rattle.program_opening.specs.Elements.{has_layout, sharable, same_cell, with_shape, with_shapes}
+use Rattle.program_opening.specs.Elements.{sharable, same_cell, with_shape, with_shapes}
+use Rattle.typed_tree.specs.Rules.{has_size}
+use Rattle.upc_types.proofs.Within.{lower}
+use Rattle.upc_types.proofs.Sizes.{if_small}
 
 -- ---- types with a layout
 
@@ -19,25 +22,18 @@ pub record HasLayout (structs : Structs) (t : CType) : Type 0 where
   pub complete : is_complete structs t ≡ true
   pub few : size structs t ≤ most_bytes
 
-abbrev if_small : Bool → Layout → Option Layout
-if_small b l = if b then Some l else None
-
 some_if : (a b : Bool) (l : Layout) → is_some (if_small (a && b) l) ≡ true → (a && b) ≡ true
 some_if true true l h = refl
 some_if true false l h = absurd cc
 some_if false b l h = absurd cc
 
-pub layout_is : (structs : Structs) (t : CType) → has_layout structs t ≡ true → HasLayout structs t
+pub layout_is : (structs : Structs) (t : CType) → has_size structs t ≡ true → HasLayout structs t
 layout_is structs t h =
     let l = base_layout (layout_in structs.completed) (base_of t) in
     let p = and_parts (is_complete structs t) (nat_le l.size most_bytes) (some_if (is_complete structs t) (nat_le l.size most_bytes) l h) in
     record { complete = p.0; few = leb-true l.size most_bytes p.1 }
 
 -- ---- cells that a shared object can have
-
-lower : (ys : List (ℕ × Kind)) (from mid size : ℕ) → from ≤ mid → CellsWithin ys mid size → CellsWithin ys from size
-lower [] from mid size l h = tt
-lower (c ∷ ys) from mid size l h = (omega (arith, h.0), h.1, h.2)
 
 kept_one : (b : Bool) (c : ℕ × Kind) (ys : List (ℕ × Kind)) (from size : ℕ) → from ≤ c.0 → c.0 + kind_size c.1 ≤ size → CellsWithin ys (c.0 + kind_size c.1) size →
     CellsWithin (if b then c ∷ ys else ys) from size
@@ -58,10 +54,6 @@ sharable_each (c ∷ cells) = each_one (is_private c.1) c (sharable cells) refl 
 
 -- ---- equal cells
 
-and_no : (a b : Bool) → b ≡ false → (a && b) ≡ false
-and_no true b h = h
-and_no false b h = refl
-
 -- Cells compared as wholes.
 pub cells_cons : (c d : ℕ × Kind) (cs ds : List (ℕ × Kind)) → same_cells (c ∷ cs) (d ∷ ds) ≡ (same_cell c d && same_cells cs ds)
 cells_cons c d cs ds = go (c.0 == d.0)
@@ -74,7 +66,7 @@ pub lengths_differ : (a b : List (ℕ × Kind)) → (length a ≡ length b → �
 lengths_differ [] [] h = absurd (h refl)
 lengths_differ [] (d ∷ ds) h = refl
 lengths_differ (c ∷ cs) [] h = refl
-lengths_differ (c ∷ cs) (d ∷ ds) h = cells_cons c d cs ds ∙ and_no (same_cell c d) (same_cells cs ds) (lengths_differ cs ds (λ e. h (omega (arith, e))))
+lengths_differ (c ∷ cs) (d ∷ ds) h = cells_cons c d cs ds ∙ and_right (same_cell c d) (same_cells cs ds) (lengths_differ cs ds (λ e. h (omega (arith, e))))
 
 -- Two lists from a cell on.
 pub cells_from : (a b : List (ℕ × Kind)) (i : ℕ) (x y : ℕ × Kind) → i < length a → i < length b →

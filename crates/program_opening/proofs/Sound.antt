@@ -1,24 +1,28 @@
 -- The shapes of elements, and the kinds of scalars.
-use Rattle.std.proofs.Common.{◌≡◌, ℕ, suc, ◌+◌, ◌*◌, ◌<◌, Bool, true, false, ◌==◌, nat_lt, if◌then◌else◌, List, [], ◌∷◌, ◌++◌, length, inl, inr, Option, Some, None, is_some, refl, sym, ap, ◌∙◌, subst, arith}
+use Rattle.std.proofs.Common.{◌≡◌, ℕ, suc, ◌+◌, ◌<◌, Bool, true, false, ◌==◌, nat_lt, if◌then◌else◌, List, [], ◌∷◌, ◌++◌, length, inl, inr, Option, Some, None, is_some, refl, sym, ap, ◌∙◌, subst, arith}
 use Rattle.std.specs.Option.{ForSome}
 use Rattle.std.specs.List.{slice_get}
 use Rattle.std.proofs.lemmas.Bool.{and_parts, eqb-true, eq-eqb, ltb-true}
 use Rattle.block_layout.specs.declared.kind.Kind.{Kind}
-use Rattle.block_layout.specs.declared.kind.Kind.TheVariants.{Char, UChar, Short, UShort, Int, UInt, Long, ULong, Shared, Lock, Private}
 use Rattle.block_layout.specs.declared.kind.Shape.{Shape}
-use Rattle.block_layout.specs.Shapes.{kind_size, same_kind, IsShape}
+use Rattle.block_layout.specs.Shapes.{same_kind, IsShape}
 use Rattle.upc_values.specs.Views.{same_cells}
 use Rattle.upc_values.specs.Lists.{Each, Has}
 use Rattle.upc_values.specs.Openings.{IsSharable}
 use Rattle.upc_types.specs.declared.layout.Known.{Known}
 use Rattle.upc_types.specs.Types.{CType, Qualified, Base, Void, Integer, Struct, Array, Pointer, LockObject, base_of, Completed, Structs}
-use Rattle.upc_types.specs.Layout.{pointer_size, base_layout, base_complete, known_in, layout_in, layout_or_none, complete_in}
+use Rattle.upc_types.specs.Layout.{base_layout, base_complete, known_in, layout_in, layout_or_none, complete_in}
 use Rattle.upc_types.specs.Cells.{leaf_base, leaf_cells, struct_cells, object_shape}
 use Rattle.upc_types.specs.Kept.{IsFine}
 use Rattle.upc_types.proofs.Order.{leaf_complete}
 use Rattle.upc_types.proofs.Within.{leaf_within, object_within}
-use Rattle.program_opening.specs.Elements.{has_layout, element_shape, same_cell, same_shape, number_among, with_shape, with_shapes}
+use Rattle.program_opening.specs.Elements.{element_shape, same_cell, same_shape, number_among, with_shape, with_shapes}
+use Rattle.typed_tree.specs.Rules.{has_size}
 use Rattle.program_opening.proofs.Shapes.{layout_is, cells_cons, sharable_within, sharable_each}
+use Rattle.upc_types.proofs.Members.{kind_some, pointer_some}
+use Rattle.upc_types.proofs.Steps.{positive}
+use Rattle.upc_types.proofs.Equal.{kind_is}
+use Rattle.upc_types.proofs.Numbers.{kind_itself}
 
 -- ---- bytes
 
@@ -26,30 +30,9 @@ use Rattle.program_opening.proofs.Shapes.{layout_is, cells_cons, sharable_within
 abbrev pub AreFine : List Completed → Type 0
 AreFine cs = (n : ℕ) → ForSome (known_in cs n) (λ k. IsFine k.layout)
 
-pub kind_some : (k : Kind) → 0 < kind_size k
-kind_some Char = omega arith
-kind_some UChar = omega arith
-kind_some Short = omega arith
-kind_some UShort = omega arith
-kind_some Int = omega arith
-kind_some UInt = omega arith
-kind_some Long = omega arith
-kind_some ULong = omega arith
-kind_some (Shared n b) = omega arith
-kind_some Lock = omega arith
-kind_some (Private n) = omega arith
-
-pointer_some : (b : Base) (s : Option ℕ) → 0 < pointer_size b s
-pointer_some LockObject s = omega arith
-pointer_some b (Some n) = omega arith
-pointer_some b None = omega arith
-
 struct_some : (o : Option Known) → ForSome o (λ k. IsFine k.layout) → is_some o ≡ true → 0 < (layout_or_none o).size
 struct_some None f h = absurd cc
 struct_some (Some k) f h = (f k refl).some
-
-times_some : (n m : ℕ) → 0 < n → 0 < m → 0 < n * m
-times_some n m h k = grind arith
 
 -- A complete type has some bytes.
 pub base_some : (cs : List Completed) → AreFine cs → (b : Base) → base_complete (complete_in cs) b ≡ true → 0 < (base_layout (layout_in cs) b).size
@@ -58,17 +41,17 @@ base_some cs f (Integer k) h = kind_some k
 base_some cs f (Struct n) h = struct_some (known_in cs n) (f n) h
 base_some cs f (Array (Qualified e c s x) n) h =
     let p = and_parts (nat_lt 0 n) (base_complete (complete_in cs) e) h in
-    times_some n (base_layout (layout_in cs) e).size (ltb-true 0 n p.0) (base_some cs f e p.1)
+    positive n (base_layout (layout_in cs) e).size (ltb-true 0 n p.0) (base_some cs f e p.1)
 base_some cs f (Pointer (Qualified t c s x)) h = pointer_some t s
 base_some cs f LockObject h = absurd cc
 
-pub leaf_some : (s : Structs) (t : CType) → AreFine s.completed → has_layout s t ≡ true → 0 < (element_shape s t).size
+pub leaf_some : (s : Structs) (t : CType) → AreFine s.completed → has_size s t ≡ true → 0 < (element_shape s t).size
 leaf_some s t f h =
     base_some s.completed f (leaf_base (base_of t)) (leaf_complete (complete_in s.completed) (base_of t) (layout_is s t h).complete)
 
 -- ---- shapes
 
-pub element_is : (s : Structs) (t : CType) → AreFine s.completed → has_layout s t ≡ true → IsShape (element_shape s t)
+pub element_is : (s : Structs) (t : CType) → AreFine s.completed → has_size s t ≡ true → IsShape (element_shape s t)
 element_is s t f h =
     let b = leaf_base (base_of t) in
     (leaf_some s t f h, sharable_within (leaf_cells s.targets (struct_cells s.targets s.completed) b) 0 (base_layout (layout_in s.completed) b).size (leaf_within s.targets s.completed b))
@@ -76,7 +59,7 @@ element_is s t f h =
 pub element_sharable : (s : Structs) (t : CType) → IsSharable (element_shape s t)
 element_sharable s t = sharable_each (leaf_cells s.targets (struct_cells s.targets s.completed) (leaf_base (base_of t)))
 
-pub object_is : (s : Structs) (t : CType) → AreFine s.completed → has_layout s t ≡ true → IsShape (object_shape s (base_of t))
+pub object_is : (s : Structs) (t : CType) → AreFine s.completed → has_size s t ≡ true → IsShape (object_shape s (base_of t))
 object_is s t f h =
     (base_some s.completed f (base_of t) (layout_is s t h).complete, object_within s.targets s.completed (base_of t))
 
@@ -96,35 +79,6 @@ each_numbered P known (s ∷ ss) h k =
     each_numbered P (with_shape known s) ss (if_each (nat_lt (number_among known s) (length known)) P known (known ++ (s ∷ [])) h (each_last P known s h k.0)) k.1
 
 -- ---- equal shapes
-
-pub kind_is : (k l : Kind) → same_kind k l ≡ true → k ≡ l
-kind_is Char Char h = refl
-kind_is UChar UChar h = refl
-kind_is Short Short h = refl
-kind_is UShort UShort h = refl
-kind_is Int Int h = refl
-kind_is UInt UInt h = refl
-kind_is Long Long h = refl
-kind_is ULong ULong h = refl
-kind_is (Shared n b) (Shared m c) h =
-    let p = and_parts (n == m) (b == c) h in
-    let e = eqb-true n m p.0 in let f = eqb-true b c p.1 in cc
-kind_is Lock Lock h = refl
-kind_is (Private n) (Private m) h = ap Private (eqb-true n m h)
-kind_is k l h = absurd cc
-
-kind_itself : (k : Kind) → same_kind k k ≡ true
-kind_itself Char = refl
-kind_itself UChar = refl
-kind_itself Short = refl
-kind_itself UShort = refl
-kind_itself Int = refl
-kind_itself UInt = refl
-kind_itself Long = refl
-kind_itself ULong = refl
-kind_itself (Shared n b) = rw (eq-eqb n n refl, eq-eqb b b refl) refl
-kind_itself Lock = refl
-kind_itself (Private n) = eq-eqb n n refl
 
 abbrev cell_of : ℕ → Kind → ℕ × Kind
 cell_of n k = (n, k)

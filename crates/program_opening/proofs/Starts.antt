@@ -19,20 +19,17 @@ use Rattle.upc_types.specs.Cells.{pointer_kind, leaf_base, leaf_cells, struct_ce
 use Rattle.typed_tree.specs.declared.attribute.Constant.{Constant}
 use Rattle.typed_tree.specs.Tree.{DeclaredObject, Initial, NoInitial, InitialValue, InitialList, attr_of}
 use Rattle.typed_tree.specs.Attributes.{constant_of}
-use Rattle.program_opening.specs.declared.setting.Value.{Value}
-use Rattle.program_opening.specs.declared.setting.Value.TheVariants as value
+use Rattle.upc_values.specs.declared.scalar.Value.{Value}
+use Rattle.upc_values.specs.declared.scalar.Value.TheVariants as value
 use Rattle.program_opening.specs.Elements.{sharable, element_shape}
 use Rattle.program_opening.specs.Objects.{object_of, bytes_in, lies, placed_from}
 use Rattle.program_opening.specs.Initials.{Setting, scalar_kind, single, at_start, shared_from, value_in}
 use Rattle.program_opening.proofs.Sound.{IsListed}
 use Rattle.program_opening.proofs.Lying.{placed_at}
 use Rattle.program_opening.proofs.Worth.{IsWorth, is_scalar, value_worth}
+use Rattle.upc_values.proofs.Membership.{each-append}
 
 -- ---- at most one value for a cell
-
-pub each_append : {X : Type 0} (P : X → Type 0) (xs ys : List X) → Each P xs → Each P ys → Each P (xs ++ ys)
-each_append P [] ys h k = k
-each_append P (x ∷ xs) ys h k = (h.0, each_append P xs ys h.1 k)
 
 pub each_grow : {X : Type 0} (P Q : X → Type 0) → ((x : X) → P x → Q x) → (xs : List X) → Each P xs → Each Q xs
 each_grow P Q f [] h = tt
@@ -44,13 +41,13 @@ IsFrom n x = n ≤ x.0.object
 start_from : (n : ℕ) (v : Option Value) → Each (IsFrom n) (at_start n v)
 start_from n None = tt
 start_from n (Some (value.Scalar v)) = (omega arith, tt)
-start_from n (Some (value.Pointer p)) = tt
+start_from n (Some (value.Local p)) = tt
 
 all_from : (σ : Setting) (n : ℕ) (xs : List DeclaredObject) → Each (IsFrom n) (shared_from σ n xs)
 all_from σ n [] = tt
 all_from σ n (x ∷ xs) =
     let v = single σ (scalar_kind σ.structs.targets (base_of x.ctype)) x.initial in
-    each_append (IsFrom n) (at_start n v) (shared_from σ (n + 1) xs) (start_from n v)
+    each-append (IsFrom n) (at_start n v) (shared_from σ (n + 1) xs) (start_from n v)
     (each_grow (IsFrom (n + 1)) (IsFrom n) (λ y h. omega (arith, h)) (shared_from σ (n + 1) xs) (all_from σ (n + 1) xs))
 
 start_once : (n : ℕ) (v : Option Value) (ys : List (Loc × Scalar)) → Each (IsFrom (n + 1)) ys → Pairwise (λ x y. x.0 ≢ y.0) ys → Pairwise (λ x y. x.0 ≢ y.0) (at_start n v ++ ys)
@@ -58,7 +55,7 @@ start_once n None ys h k = k
 start_once n (Some (value.Scalar v)) ys h k =
     let start : Loc = record { object = n; thread = 0; offset = 0 } in
     (each_grow (IsFrom (n + 1)) (λ (y : Loc × Scalar). start ≢ y.0) (λ y l e. let f : n ≡ y.0.object = ap (λ (z : Loc). z.object) e in omega (arith, l, f)) ys h, k)
-start_once n (Some (value.Pointer p)) ys h k = k
+start_once n (Some (value.Local p)) ys h k = k
 
 pub shared_once : (σ : Setting) (n : ℕ) (xs : List DeclaredObject) → Pairwise (λ x y. x.0 ≢ y.0) (shared_from σ n xs)
 shared_once σ n [] = tt
@@ -73,7 +70,7 @@ each_shared P σ n [] e f = tt
 each_shared P σ n (x ∷ xs) e f =
     let v = single σ (scalar_kind σ.structs.targets (base_of x.ctype)) x.initial in
     let z : n + 0 ≡ n = omega arith in
-    each_append P (at_start n v) (shared_from σ (n + 1) xs)
+    each-append P (at_start n v) (shared_from σ (n + 1) xs)
     (subst (λ m. Each P (at_start m v)) z (f 0 (omega arith)))
     (each_shared P σ (n + 1) xs e
     (λ i h. let s : n + suc i ≡ n + 1 + i = omega arith in
@@ -173,7 +170,7 @@ first_cell s t kind h p =
 module _ (P : Loc × Scalar → Type 0) (σ : Setting) (n : ℕ) where
   value_start : (kind : Kind) (c : Constant) (v : Value) → value_in σ kind c ≡ v → ((w : Scalar) → IsWorth σ kind w → P (start_of n, w)) → Each P (at_start n (Some v))
   value_start kind c (value.Scalar w) e f = (f w (value_worth σ kind c w e), tt)
-  value_start kind c (value.Pointer p) e f = tt
+  value_start kind c (value.Local p) e f = tt
 
   pub single_start : (k : Option Kind) (given : Initial) → ((kind : Kind) (w : Scalar) → k ≡ Some kind → IsWorth σ kind w → P (start_of n, w)) → Each P (at_start n (single σ k given))
   single_start None given f = tt

@@ -12,20 +12,22 @@ use Rattle.upc_values.specs.Openings.{Opening, is_initial}
 use Rattle.upc_values.specs.Lists.{Each, Pairwise, under}
 use Rattle.upc_values.specs.declared.scalar.Scalar.{Scalar}
 use Rattle.upc_types.specs.declared.layout.Layout.{Layout}
-use Rattle.upc_types.specs.Types.{CType, Qualified, Base, Integer, Array, Pointer, LockObject, base_of, Structs}
-use Rattle.upc_types.specs.Layout.{pointer_size, base_layout, layout_in}
-use Rattle.upc_types.specs.Cells.{number_of, kind_to, pointer_kind, moved, copies, leaf_base, leaves, leaf_cells, object_cells, struct_cells, object_shape}
+use Rattle.upc_types.specs.Types.{CType, Qualified, Base, Integer, Array, Pointer, base_of, Structs}
+use Rattle.upc_types.specs.Layout.{base_layout, layout_in}
+use Rattle.upc_types.specs.Cells.{number_of, pointer_kind, moved, copies, leaf_base, leaves, leaf_cells, object_cells, struct_cells, object_shape}
 use Rattle.typed_tree.specs.declared.attribute.Constant.{Constant}
 use Rattle.typed_tree.specs.Attributes.{constant_of}
 use Rattle.typed_tree.specs.Tree.{DeclaredObject, Initial, NoInitial, InitialValue, InitialList, attrs_of}
-use Rattle.program_opening.specs.declared.setting.Value.{Value}
-use Rattle.program_opening.specs.declared.setting.Value.TheVariants as value
+use Rattle.upc_values.specs.declared.scalar.Value.{Value}
+use Rattle.upc_values.specs.declared.scalar.Value.TheVariants as value
 use Rattle.program_opening.specs.Initials.{Setting, scalar_kind, constants_in, part_of, cells_from, cells_in, private_from, value_in}
 use Rattle.program_opening.specs.PrivateOpenings as private
 use Rattle.program_opening.specs.PrivateOpenings.{kind_in, private_cell, fits_cell, is_local, is_known}
-use Rattle.program_opening.proofs.Starts.{each_append, each_grow, scalar_cells}
+use Rattle.program_opening.proofs.Starts.{each_grow, scalar_cells}
 use Rattle.program_opening.proofs.Worth.{is_scalar, value_worth, value_local}
-use Rattle.program_opening.proofs.Sound.{kind_some}
+use Rattle.upc_types.proofs.Within.{kind_bytes}
+use Rattle.upc_types.proofs.Members.{kind_some}
+use Rattle.upc_values.proofs.Membership.{each-append}
 
 -- ---- cells of one kind, one behind the other
 
@@ -51,7 +53,7 @@ under_last n kind (c ∷ xs) h = last_one (c.0 == n) c.1 kind (under n (xs ++ ((
 copies_of : (m size : ℕ) (kind : Kind) → AreOf kind (copies m size ((0, kind) ∷ []))
 copies_of zero size kind = tt
 copies_of (suc m) size kind =
-    each_append (λ (c : ℕ × Kind). c.1 ≡ kind) (copies m size ((0, kind) ∷ [])) (moved (m * size) ((0, kind) ∷ [])) (copies_of m size kind) (refl, tt)
+    each-append (λ (c : ℕ × Kind). c.1 ≡ kind) (copies m size ((0, kind) ∷ [])) (moved (m * size) ((0, kind) ∷ [])) (copies_of m size kind) (refl, tt)
 
 copies_under : (m size : ℕ) (kind : Kind) (j : ℕ) → j < m → under (j * size) (copies m size ((0, kind) ∷ [])) ≡ Some kind
 copies_under zero size kind j h = absurd (omega arith)
@@ -65,11 +67,6 @@ copies_under (suc m) size kind j h =
     ]
 
 -- ---- objects whose leaf elements are scalars
-
-kind_bytes : (b : Base) (s : Option ℕ) (n : ℕ) → kind_size (kind_to b s n) ≡ pointer_size b s
-kind_bytes LockObject s n = refl
-kind_bytes b (Some m) n = refl
-kind_bytes b None n = refl
 
 scalar_leaves : (targets : List CType) (b : Base) (kind : Kind) → scalar_kind targets b ≡ Some kind → leaves b ≡ 1
 scalar_leaves targets (Integer k) kind h = refl
@@ -153,7 +150,7 @@ module _ (P : LocalPtr × Value → Type 0) (σ : Setting) where
       let k = scalar_kind σ.structs.targets (part_of (base_of x.ctype)) in
       let cs = constants_in (base_of x.ctype) x.initial in
       let z : n + 0 ≡ n = omega arith in
-      each_append P (cells_in σ n k cs) (private_from σ (n + 1) xs)
+      each-append P (cells_in σ n k cs) (private_from σ (n + 1) xs)
       (each_in n k cs (λ kind j c h l. subst (λ m. P (local.Private m (pos (0 + j * kind_size kind)), value_in σ kind c)) z (f 0 kind j c (omega arith) h l)))
       (each_private (n + 1) xs e
       (λ i kind j c h l m. let s : n + suc i ≡ n + 1 + i = omega arith in
@@ -171,7 +168,7 @@ slice_shapes s (x ∷ xs) (suc i) e h = slice_shapes s xs i e (omega arith)
 
 value_fits : (σ : Setting) (kind : Kind) (c : Constant) (v : Value) → value_in σ kind c ≡ v → private.fits v kind ≡ true
 value_fits σ kind c (value.Scalar w) e = (value_worth σ kind c w e).fit
-value_fits σ kind c (value.Pointer p) e = (value_local σ kind c p e).fit
+value_fits σ kind c (value.Local p) e = (value_local σ kind c p e).fit
 
 pub private_fit : (σ : Setting) (xs : List DeclaredObject) (e : DeclaredObject) →
     Each (λ x. fits_cell x.1 (private_cell (shapes_of σ.structs xs) x.0) ≡ true) (private_from σ 0 xs)
@@ -190,7 +187,7 @@ private_fit σ xs e =
 known_is : (σ : Setting) (o : Opening) (privates : ℕ) (kind : Kind) (c : Constant) (v : Value) → σ.privates ≡ privates → ((w : Scalar) → is_scalar σ w ≡ true → is_initial o w ≡ true) →
     value_in σ kind c ≡ v → is_known o privates v ≡ true
 known_is σ o privates kind c (value.Scalar w) p f e = f w (value_worth σ kind c w e).known
-known_is σ o privates kind c (value.Pointer q) p f e = subst (λ n. is_local n q ≡ true) p (value_local σ kind c q e).known
+known_is σ o privates kind c (value.Local q) p f e = subst (λ n. is_local n q ≡ true) p (value_local σ kind c q e).known
 
 pub private_known : (σ : Setting) (o : Opening) (privates : ℕ) (xs : List DeclaredObject) (e : DeclaredObject) → σ.privates ≡ privates → ((w : Scalar) → is_scalar σ w ≡ true → is_initial o w ≡ true) →
     Each (λ x. is_known o privates x.1 ≡ true) (private_from σ 0 xs)
@@ -235,7 +232,7 @@ cells_once σ n kind offset (c ∷ cs) =
 
 pair_append : (xs ys : List (LocalPtr × Value)) → Pairwise Differ xs → Pairwise Differ ys → Each (λ x. Each (Differ x) ys) xs → Pairwise Differ (xs ++ ys)
 pair_append [] ys h k l = k
-pair_append (x ∷ xs) ys h k l = (each_append (Differ x) xs ys h.0 l.0, pair_append xs ys h.1 k l.1)
+pair_append (x ∷ xs) ys h k l = (each-append (Differ x) xs ys h.0 l.0, pair_append xs ys h.1 k l.1)
 
 abbrev IsAt : ℕ → LocalPtr × Value → Type 0
 IsAt n x = object_in x.0 ≡ n
@@ -256,7 +253,7 @@ private_behind σ n [] = tt
 private_behind σ n (x ∷ xs) =
     let k = scalar_kind σ.structs.targets (part_of (base_of x.ctype)) in
     let cs = constants_in (base_of x.ctype) x.initial in
-    each_append (IsFrom n) (cells_in σ n k cs) (private_from σ (n + 1) xs)
+    each-append (IsFrom n) (cells_in σ n k cs) (private_from σ (n + 1) xs)
     (each_grow (IsAt n) (IsFrom n) (λ y h. omega (arith, h)) (cells_in σ n k cs) (in_at σ n k cs))
     (each_grow (IsFrom (n + 1)) (IsFrom n) (λ y h. omega (arith, h)) (private_from σ (n + 1) xs) (private_behind σ (n + 1) xs))
 

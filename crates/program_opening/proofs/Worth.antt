@@ -4,7 +4,7 @@ use Rattle.std.proofs.Math.IntN.{ℤ, pos, ◌+ℤ◌, ◌-ℤ◌}
 use Rattle.std.specs.List.{slice_get, list_any}
 use Rattle.std.proofs.lemmas.Int.{ints}
 use Rattle.std.proofs.lemmas.Nat.{pow_pos}
-use Rattle.std.proofs.lemmas.Bool.{and_parts, and_from}
+use Rattle.std.proofs.lemmas.Bool.{and_parts, and_from, or_left, or_right}
 use Rattle.std.specs.Option.{option_map}
 use Rattle.std.proofs.lemmas.Option.{slice_get-map, slice_get-get_or}
 use Rattle.block_layout.specs.declared.kind.Kind.{Kind}
@@ -25,8 +25,8 @@ use Rattle.typed_tree.specs.declared.attribute.Static.TheVariants as static
 use Rattle.typed_tree.specs.declared.attribute.Constant.{Constant}
 use Rattle.typed_tree.specs.declared.attribute.Constant.TheVariants.{Variable, Known, Undefined, Null, Address}
 use Rattle.program_opening.specs.declared.objects.SharedDecl.{SharedDecl}
-use Rattle.program_opening.specs.declared.setting.Value.{Value}
-use Rattle.program_opening.specs.declared.setting.Value.TheVariants as value
+use Rattle.upc_values.specs.declared.scalar.Value.{Value}
+use Rattle.upc_values.specs.declared.scalar.Value.TheVariants as value
 use Rattle.program_opening.specs.Objects.{object_of}
 use Rattle.program_opening.specs.Initials.{Setting, integer_in, fits, numbered, pointer_into, shared_pointer_in, local_pointer_in, value_in}
 use Rattle.block_layout.specs.declared.place.LocalPtr.{LocalPtr}
@@ -91,14 +91,6 @@ pointer_phase σ block Null = refl
 
 -- ---- what they name
 
-or_right : (a b : Bool) → b ≡ true → (a || b) ≡ true
-or_right true b h = refl
-or_right false b h = h
-
-or_left : (a b : Bool) → a ≡ true → (a || b) ≡ true
-or_left true b h = refl
-or_left false b h = absurd cc
-
 any_at : (os : List ObjectRef) (n : ℕ) (x : ObjectRef) → slice_get os n ≡ Some x → list_any (same_object x) os ≡ true
 any_at [] n x h = absurd cc
 any_at (y ∷ os) zero x h =
@@ -162,7 +154,7 @@ pub record IsWorth (σ : Setting) (kind : Kind) (v : Scalar) : Type 0 where
 
 abbrev scalar_of : Value → Scalar → Scalar
 scalar_of (value.Scalar v) d = v
-scalar_of (value.Pointer p) d = d
+scalar_of (value.Local p) d = d
 
 same_scalar : (v w : Scalar) → value.Scalar v ≡ value.Scalar w → v ≡ w
 same_scalar v w e = ap (λ x. scalar_of x v) e
@@ -192,7 +184,7 @@ value_worth σ (Private n) c v e = absurd cc
 
 -- A pointer-to-local fits a kind of a pointer to a private object, and names nothing but private objects of the file.
 pub record IsLocal (σ : Setting) (kind : Kind) (p : LocalPtr) : Type 0 where
-  pub fit : private.fits (value.Pointer p) kind ≡ true
+  pub fit : private.fits (value.Local p) kind ≡ true
   pub known : is_local σ.privates p ≡ true
 
 if_local : (b : Bool) (privates object : ℕ) (offset : ℤ) → (nat_lt object privates && in_range offset) ≡ b → is_local privates (if b then local.Private object offset else local.Null) ≡ true
@@ -208,10 +200,10 @@ pointer_local σ Undefined = refl
 pointer_local σ Null = refl
 
 abbrev pointer_of : Value → LocalPtr → LocalPtr
-pointer_of (value.Pointer p) d = p
+pointer_of (value.Local p) d = p
 pointer_of (value.Scalar v) d = d
 
-pub value_local : (σ : Setting) (kind : Kind) (c : Constant) (p : LocalPtr) → value_in σ kind c ≡ value.Pointer p → IsLocal σ kind p
+pub value_local : (σ : Setting) (kind : Kind) (c : Constant) (p : LocalPtr) → value_in σ kind c ≡ value.Local p → IsLocal σ kind p
 value_local σ (Private n) c p e =
     subst (IsLocal σ (Private n)) (ap (λ x. pointer_of x p) e) (record { fit = refl; known = pointer_local σ c })
 value_local σ kind c p e = absurd cc

@@ -8,13 +8,13 @@ use Rattle.typed_tree.specs.Library.{is_allocation}
 use Rattle.typed_tree.specs.Nodes.{Attr}
 use Rattle.typed_tree.specs.Values.{base_target}
 use Rattle.typed_tree.specs.Tree.{Expr, Is, ExprKind, Literal, Mythread, Object, Callee, Format, Paren, Subscript, Call, Member, MemberBehind, Step, Address, Dereference, Unary, SizeOf, SizeOfType, Cast, Binary, And, Or, Assign, Compound, Conditional, Comma, Exprs, NoExprs, AndExpr, Initial, NoInitial, InitialValue, InitialList, DeclaredObject, Affinity, Everyone, AtValue, Head, Statement, Stands, StatementKind, Block, Value, If, Switch, While, DoWhile, For, Forall, Break, Continue, Return, Synchronise, Fence, StatementOption, NoStatement, TheStatement, Arms, NoArms, AndArm, Items, NoItems, AndObjects, AndStatement, SwitchItems, NoSwitchItems, AndCase, AndDefault, AndSwitchStatement, Function}
-use Rattle.program_opening.specs.Elements.{has_layout}
+use Rattle.typed_tree.specs.Rules.{has_size}
 
 -- ---- calls
 
 -- This type, where it has a layout.
 abbrev pub laid : Structs → CType → List CType
-laid s t = if has_layout s t then t ∷ [] else []
+laid s t = if has_size s t then t ∷ [] else []
 
 abbrev pub laid_target : Structs → Option CType → List CType
 laid_target s None = []

@@ -11,7 +11,7 @@ use Rattle.upc_types.specs.ViewStructs.{view_structs}
 use Rattle.typed_tree.specs.Tree.{DeclaredObject}
 use Rattle.program_opening.specs.declared.beginning.Beginning as b
 use Rattle.program_opening.specs.declared.objects.SharedDecl.{SharedDecl}
-use Rattle.program_opening.specs.declared.setting.Value.{Value}
+use Rattle.upc_values.specs.declared.scalar.Value.{Value}
 use Rattle.program_opening.specs.Targets.{with_targets}
 use Rattle.program_opening.specs.Elements.{element_shapes}
 use Rattle.program_opening.specs.Objects.{shared_in, private_in, type_of, placed_from}

@@ -1,17 +1,12 @@
 -- The elements of shared objects (UPC 6.5.1.1), and their shapes by number.
-use Rattle.std.specs.Prelude.{ℕ, ◌+◌, nat_lt, ◌==◌, Bool, ◌&&◌, not, is_some, if◌then◌else◌, List, [], ◌∷◌, ◌++◌, length, map, filter}
+use Rattle.std.specs.Prelude.{ℕ, ◌+◌, nat_lt, ◌==◌, Bool, ◌&&◌, not, if◌then◌else◌, List, [], ◌∷◌, ◌++◌, length, map, filter}
 use Rattle.block_layout.specs.declared.kind.Kind.{Kind}
 use Rattle.block_layout.specs.declared.kind.Shape.{Shape}
 use Rattle.block_layout.specs.Shapes.{same_kind}
 use Rattle.upc_values.specs.Openings.{is_private}
 use Rattle.upc_values.specs.Views.{same_cells}
 use Rattle.upc_types.specs.Types.{CType, base_of, Structs}
-use Rattle.upc_types.specs.Layout.{base_within}
 use Rattle.upc_types.specs.Cells.{leaf_shape}
-
--- Whether a type is complete, and an object of it has at most 16,777,216 bytes.
-abbrev pub has_layout : Structs → CType → Bool
-has_layout structs t = is_some (base_within structs.completed (base_of t))
 
 -- The cells that a shared object can have: pointers to private objects are none (UPC 6.5.1.1).
 abbrev pub sharable : List (ℕ × Kind) → List (ℕ × Kind)

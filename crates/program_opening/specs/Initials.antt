@@ -23,8 +23,8 @@ use Rattle.typed_tree.specs.Attributes.{constant_of}
 use Rattle.typed_tree.specs.Tree.{DeclaredObject, Initial, InitialValue, InitialList, attr_of, attrs_of}
 use Rattle.program_opening.specs.declared.objects.SharedDecl.{SharedDecl}
 use Rattle.program_opening.specs.Objects.{object_of}
-use Rattle.program_opening.specs.declared.setting.Value.{Value}
-use Rattle.program_opening.specs.declared.setting.Value.TheVariants as value
+use Rattle.upc_values.specs.declared.scalar.Value.{Value}
+use Rattle.upc_values.specs.declared.scalar.Value.TheVariants as value
 use Rattle.program_opening.specs.declared.setting.Setting as s
 use Rattle.upc_types.specs.ViewStructs.{view_structs}
 
@@ -80,7 +80,7 @@ local_pointer_in σ c = local.Null
 -- What a constant is in an object of this kind. A lock pointer is null.
 abbrev pub value_in : Setting → Kind → Constant → Value
 value_in σ (k.Shared n block) c = value.Scalar (scalar.Shared (shared_pointer_in σ block c))
-value_in σ (k.Private n) c = value.Pointer (local_pointer_in σ c)
+value_in σ (k.Private n) c = value.Local (local_pointer_in σ c)
 value_in σ k.Lock c = value.Scalar (scalar.Lock 0)
 value_in σ kind c = value.Scalar (scalar.Int (integer_in kind c))
 

@@ -10,8 +10,8 @@ use Rattle.block_layout.specs.Shapes.{IsShape}
 use Rattle.upc_values.specs.Lists.{Each, Pairwise, under}
 use Rattle.upc_values.specs.Openings.{Opening, is_initial}
 use Rattle.upc_values.specs.Shapes.{fits_kind}
-use Rattle.program_opening.specs.declared.setting.Value.{Value}
-use Rattle.program_opening.specs.declared.setting.Value.TheVariants as value
+use Rattle.upc_values.specs.declared.scalar.Value.{Value}
+use Rattle.upc_values.specs.declared.scalar.Value.TheVariants as value
 use Rattle.program_opening.specs.Beginnings.{Beginning, opening_in}
 
 abbrev pub kind_in : Option Shape → ℕ → Option Kind
@@ -26,8 +26,8 @@ private_cell shapes p = None
 -- Whether a value fits a cell of this kind.
 abbrev pub fits : Value → Kind → Bool
 fits (value.Scalar v) kind = fits_kind v kind
-fits (value.Pointer p) (k.Private n) = true
-fits (value.Pointer p) kind = false
+fits (value.Local p) (k.Private n) = true
+fits (value.Local p) kind = false
 
 abbrev pub fits_cell : Value → Option Kind → Bool
 fits_cell v (Some kind) = fits v kind
@@ -42,7 +42,7 @@ is_local privates p = false
 -- Whether a value names nothing but objects of the file.
 abbrev pub is_known : Opening → ℕ → Value → Bool
 is_known o privates (value.Scalar v) = is_initial o v
-is_known o privates (value.Pointer p) = is_local privates p
+is_known o privates (value.Local p) = is_local privates p
 
 -- The shapes of the private objects, and at most one value for a cell of theirs, which fits it.
 pub record IsPrivateOpening (threads : ℕ) (b : Beginning) : Type 0 where

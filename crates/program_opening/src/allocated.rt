@@ -9,7 +9,7 @@ ghost use Rattle.typed_tree.specs.Values.{base_target};
 ghost use Rattle.typed_tree.specs.ViewTree.{view_expr};
 ghost use Rattle.typed_tree.specs.ViewStatements.{view_affinity, view_arms, view_boxed, view_function, view_head, view_initial, view_item, view_items, view_object, view_statement, view_switch_item, view_switch_items, view_value};
 ghost use Rattle.program_opening.specs.Allocated as pure;
-ghost use Rattle.program_opening.specs.Elements.{has_layout};
+ghost use Rattle.typed_tree.specs.Rules.{has_size};
 
 use std::alloc::Global;
 use typed_tree::calls::is_allocation;
@@ -342,7 +342,7 @@ pub fn allocated_types(
     structs: &Structs,
 ) -> Result<Vec<CType>, OutOfMemory>
     ensures value { IfOk result (λ ts. map view ts.items ≡ pure.allocated_in (view_structs structs.now) (map view_function functions.now)) }
-    ensures layouts { IfOk result (λ ts. Each (λ t. has_layout (view_structs structs.now) t ≡ true) (map view ts.items)) }
+    ensures layouts { IfOk result (λ ts. Each (λ t. has_size (view_structs structs.now) t ≡ true) (map view ts.items)) }
 {
     let mut out = Vec::new(alloc);
     for function in functions {

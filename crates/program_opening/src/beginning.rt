@@ -7,7 +7,7 @@ ghost use Rattle.upc_types.specs.View.{view};
 ghost use Rattle.upc_types.specs.ViewStructs.{view_structs};
 ghost use Rattle.program_opening.specs.Beginnings as pure;
 ghost use Rattle.program_opening.specs.Beginnings.{view_beginning};
-ghost use Rattle.program_opening.specs.Elements.{has_layout};
+ghost use Rattle.typed_tree.specs.Rules.{has_size};
 ghost use Rattle.program_opening.specs.Objects.{bytes_in, shared_in};
 ghost use Rattle.program_opening.specs.PrivateOpenings.{IsPrivateOpening};
 ghost use Rattle.typed_tree.specs.ViewStatements.{view_object};
@@ -16,14 +16,14 @@ use crate::elements::element_shapes;
 use crate::initials::shared_initials;
 use crate::objects::{SharedDecl, count_private, placed_objects};
 use crate::privates::{private_initials, private_shapes};
-use crate::setting::{Setting, Value};
+use crate::setting::Setting;
 use crate::targets::note_types;
 use block_layout::{Loc, LocalPtr, Shape};
 use std::alloc::Global;
 use typed_tree::Object;
 use upc_text::OutOfMemory;
 use upc_types::{CType, Structs};
-use upc_values::Scalar;
+use upc_values::{Scalar, Value};
 
 /// What a checked program begins with.
 #[derive(Drop)]
@@ -50,8 +50,8 @@ fn begun(
     objects: &[Object],
     allocated: &[CType],
 ) -> Result<Beginning, OutOfMemory>
-    requires layouts { Each (λ x. has_layout (view_structs structs) x.ctype ≡ true) (map view_object objects.now) }
-    requires allocated { Each (λ t. has_layout (view_structs structs) t ≡ true) (map view allocated.now) }
+    requires layouts { Each (λ x. has_size (view_structs structs) x.ctype ≡ true) (map view_object objects.now) }
+    requires allocated { Each (λ t. has_size (view_structs structs) t ≡ true) (map view allocated.now) }
     requires bytes { bytes_in (view_structs structs) (shared_in (map view_object objects.now)) ≤ 16777216 }
     ensures { IfOk result (λ b. view_beginning b ≡ pure.begun threads (view_structs structs) (map view_object objects.now) (map view allocated.now)) }
 {
@@ -87,8 +87,8 @@ pub fn open(
 ) -> Result<Beginning, OutOfMemory>
     requires least { 0 < threads }
     requires most { threads ≤ 32 }
-    requires layouts { Each (λ x. has_layout (view_structs structs) x.ctype ≡ true) (map view_object objects.now) }
-    requires allocated { Each (λ t. has_layout (view_structs structs) t ≡ true) (map view allocated.now) }
+    requires layouts { Each (λ x. has_size (view_structs structs) x.ctype ≡ true) (map view_object objects.now) }
+    requires allocated { Each (λ t. has_size (view_structs structs) t ≡ true) (map view allocated.now) }
     requires bytes { bytes_in (view_structs structs) (shared_in (map view_object objects.now)) ≤ 16777216 }
     ensures value { IfOk result (λ b. view_beginning b ≡ pure.beginning_of threads (view_structs structs) (map view_object objects.now) (map view allocated.now)) }
     ensures opening { IfOk result (λ b. IsOpening (pure.opening_in threads (view_beginning b))) }

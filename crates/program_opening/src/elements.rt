@@ -8,7 +8,7 @@ ghost use Rattle.upc_values.specs.Views.{same_cells};
 ghost use Rattle.upc_types.specs.View.{view};
 ghost use Rattle.upc_types.specs.ViewStructs.{view_structs};
 ghost use Rattle.program_opening.specs.Elements as pure;
-ghost use Rattle.program_opening.specs.Elements.{has_layout};
+ghost use Rattle.typed_tree.specs.Rules.{has_size};
 ghost use Rattle.program_opening.specs.Objects.{shared_in, type_of};
 ghost use Rattle.typed_tree.specs.ViewStatements.{view_object};
 
@@ -39,7 +39,7 @@ fn sharable(alloc: Global, cells: &[(u32, Kind)]) -> Result<Vec<(u32, Kind)>, Ou
 
 /// The shape of one leaf element of a shared object of this type.
 pub fn element_shape(alloc: Global, t: &CType, structs: &Structs) -> Result<Shape, OutOfMemory>
-    requires layout { has_layout (view_structs structs.now) (view t.now) ≡ true }
+    requires layout { has_size (view_structs structs.now) (view t.now) ≡ true }
     ensures value { IfOk result (λ s. s ≡ pure.element_shape (view_structs structs.now) (view t.now)) }
     ensures shape { IfOk result IsShape }
     ensures sharable { IfOk result IsSharable }
@@ -119,7 +119,7 @@ fn number_objects(
     shapes: &mut Vec<Shape>,
     objects: &[Object],
 ) -> Result<(), OutOfMemory>
-    requires layouts { Each (λ x. has_layout (view_structs structs.now) x.ctype ≡ true) (map view_object objects.now) }
+    requires layouts { Each (λ x. has_size (view_structs structs.now) x.ctype ≡ true) (map view_object objects.now) }
     requires few { vec_len shapes.old ≤ 4294967295 }
     ensures value { OnOk result (shapes.new.items ≡ pure.with_shapes shapes.old.items (map (pure.element_shape (view_structs structs.now)) (map type_of (shared_in (map view_object objects.now))))) }
     ensures few { OnOk result (vec_len shapes.new ≤ 4294967295) }
@@ -140,8 +140,8 @@ pub(crate) fn element_shapes(
     objects: &[Object],
     types: &[CType],
 ) -> Result<Vec<Shape>, OutOfMemory>
-    requires layouts { Each (λ x. has_layout (view_structs structs.now) x.ctype ≡ true) (map view_object objects.now) }
-    requires types { Each (λ t. has_layout (view_structs structs.now) t ≡ true) (map view types.now) }
+    requires layouts { Each (λ x. has_size (view_structs structs.now) x.ctype ≡ true) (map view_object objects.now) }
+    requires types { Each (λ t. has_size (view_structs structs.now) t ≡ true) (map view types.now) }
     ensures value { IfOk result (λ xs. xs.items ≡ pure.element_shapes (view_structs structs.now) (map type_of (shared_in (map view_object objects.now)) ++ map view types.now)) }
     ensures few { IfOk result (λ xs. vec_len xs ≤ 4294967295) }
 {

@@ -7,14 +7,14 @@ ghost use Rattle.program_opening.specs.Objects.{shared_in};
 ghost use Rattle.typed_tree.specs.ViewStatements.{view_initial, view_object};
 
 use crate::objects::{is_shared, next};
-use crate::setting::{Setting, Value};
+use crate::setting::Setting;
 use crate::values::{scalar_kind, value_in};
 use block_layout::{Kind, Loc};
 use std::alloc::Global;
 use typed_tree::declarations::constant_of;
 use typed_tree::{Initial, Object};
 use upc_text::OutOfMemory;
-use upc_values::Scalar;
+use upc_values::{Scalar, Value};
 
 // What an object without braces begins with.
 fn single(setting: &Setting<'_>, kind: Option<Kind>, initial: &Initial) -> Option<Value>

@@ -15,4 +15,4 @@ pub use allocated::allocated_types;
 pub use beginning::{Beginning, open};
 pub use elements::{element_shape, number_among};
 pub use objects::SharedDecl;
-pub use setting::{Setting, Value};
+pub use setting::Setting;

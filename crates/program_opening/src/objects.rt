@@ -5,7 +5,7 @@ ghost use Rattle.upc_values.specs.Lists.{Each};
 ghost use Rattle.upc_types.specs.View.{view};
 ghost use Rattle.upc_types.specs.ViewStructs.{view_structs};
 ghost use Rattle.typed_tree.specs.Constants.{block_or_none};
-ghost use Rattle.program_opening.specs.Elements.{has_layout};
+ghost use Rattle.typed_tree.specs.Rules.{has_size};
 ghost use Rattle.program_opening.specs.Objects as pure;
 ghost use Rattle.typed_tree.specs.ViewStatements.{view_object};
 
@@ -75,7 +75,7 @@ fn placed(
     base: u32,
     declared: &Object,
 ) -> Result<SharedDecl, OutOfMemory>
-    requires layout { has_layout (view_structs structs.now) (view declared.now.ctype) ≡ true }
+    requires layout { has_size (view_structs structs.now) (view declared.now.ctype) ≡ true }
     requires shapes { length shapes.now ≤ 4294967295 }
     ensures { IfOk result (λ x. x ≡ pure.placed (view_structs structs.now) shapes.now number base (view_object declared.now)) }
 {
@@ -109,7 +109,7 @@ pub(crate) fn placed_objects(
     shapes: &[Shape],
     objects: &[Object],
 ) -> Result<Vec<SharedDecl>, OutOfMemory>
-    requires layouts { Each (λ x. has_layout (view_structs structs.now) x.ctype ≡ true) (map view_object objects.now) }
+    requires layouts { Each (λ x. has_size (view_structs structs.now) x.ctype ≡ true) (map view_object objects.now) }
     requires shapes { length shapes.now ≤ 4294967295 }
     requires bytes { pure.bytes_in (view_structs structs.now) (pure.shared_in (map view_object objects.now)) ≤ 16777216 }
     ensures { IfOk result (λ xs. xs.items ≡ pure.placed_from (view_structs structs.now) shapes.now 1 0 (pure.shared_in (map view_object objects.now))) }

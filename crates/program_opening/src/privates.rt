@@ -9,14 +9,14 @@ ghost use Rattle.upc_types.specs.Cells.{object_shape};
 ghost use Rattle.upc_types.specs.Types.{base_of};
 ghost use Rattle.upc_types.specs.View.{view_base};
 ghost use Rattle.upc_types.specs.ViewStructs.{view_structs};
-ghost use Rattle.program_opening.specs.Elements.{has_layout};
+ghost use Rattle.typed_tree.specs.Rules.{has_size};
 ghost use Rattle.program_opening.specs.Initials as pure;
 ghost use Rattle.program_opening.specs.Initials.{view_setting};
 ghost use Rattle.program_opening.specs.Objects.{private_in};
 ghost use Rattle.typed_tree.specs.ViewStatements.{view_initial, view_object};
 
 use crate::objects::is_private;
-use crate::setting::{Setting, Value};
+use crate::setting::Setting;
 use crate::values::{scalar_kind, value_in};
 use block_layout::{Kind, LocalPtr, Shape};
 use std::alloc::Global;
@@ -24,6 +24,7 @@ use typed_tree::declarations::constant_of;
 use typed_tree::{Constant, Expr, Initial, Object};
 use upc_text::OutOfMemory;
 use upc_types::{Base, Structs, object_shape};
+use upc_values::Value;
 
 /// The shapes of the private objects among these.
 #[tactic(auto, using(crate::proofs::Chosen::private_next, crate::proofs::Chosen::private_skip, crate::proofs::Chosen::private_end, crate::proofs::Chosen::object_here, crate::proofs::Chosen::object_rest, crate::proofs::Chosen::layout_complete, crate::proofs::Chosen::layout_few))]
@@ -32,7 +33,7 @@ pub(crate) fn private_shapes(
     structs: &Structs,
     objects: &[Object],
 ) -> Result<Vec<Shape>, OutOfMemory>
-    requires layouts { Each (λ x. has_layout (view_structs structs.now) x.ctype ≡ true) (map view_object objects.now) }
+    requires layouts { Each (λ x. has_size (view_structs structs.now) x.ctype ≡ true) (map view_object objects.now) }
     ensures { IfOk result (λ xs. xs.items ≡ map (λ x. object_shape (view_structs structs.now) (base_of x.ctype)) (private_in (map view_object objects.now))) }
 {
     let mut shapes = Vec::new(alloc);

@@ -6,7 +6,7 @@ ghost use Rattle.upc_types.specs.Layout.{base_complete, complete_in};
 ghost use Rattle.upc_types.specs.View.{view, view_base};
 ghost use Rattle.upc_types.specs.ViewStructs.{view_structs};
 ghost use Rattle.upc_values.specs.Lists.{Each};
-ghost use Rattle.program_opening.specs.Elements.{has_layout};
+ghost use Rattle.typed_tree.specs.Rules.{has_size};
 ghost use Rattle.program_opening.specs.Objects.{type_of};
 ghost use Rattle.program_opening.specs.Targets as pure;
 ghost use Rattle.typed_tree.specs.ViewStatements.{view_object};
@@ -97,7 +97,7 @@ pub(crate) fn note_targets(
 // Gives the types of the pointers in these objects numbers.
 #[tactic(auto, using(crate::proofs::Chosen::object_here, crate::proofs::Chosen::object_rest, crate::proofs::Chosen::layout_complete, crate::proofs::Chosen::layout_few))]
 fn note_objects(alloc: Global, structs: &mut Structs, objects: &[Object]) -> Result<(), OutOfMemory>
-    requires layouts { Each (λ x. has_layout (view_structs structs.old) x.ctype ≡ true) (map view_object objects.now) }
+    requires layouts { Each (λ x. has_size (view_structs structs.old) x.ctype ≡ true) (map view_object objects.now) }
     ensures { OnOk result (view_structs structs.new ≡ pure.with_targets (view_structs structs.old) (map type_of (map view_object objects.now))) }
 {
     for object in objects {
@@ -114,8 +114,8 @@ pub(crate) fn note_types(
     objects: &[Object],
     types: &[CType],
 ) -> Result<(), OutOfMemory>
-    requires layouts { Each (λ x. has_layout (view_structs structs.old) x.ctype ≡ true) (map view_object objects.now) }
-    requires types { Each (λ t. has_layout (view_structs structs.old) t ≡ true) (map view types.now) }
+    requires layouts { Each (λ x. has_size (view_structs structs.old) x.ctype ≡ true) (map view_object objects.now) }
+    requires types { Each (λ t. has_size (view_structs structs.old) t ≡ true) (map view types.now) }
     ensures { OnOk result (view_structs structs.new ≡ pure.with_targets (view_structs structs.old) (map type_of (map view_object objects.now) ++ map view types.now)) }
 {
     note_objects(alloc, structs, objects)?;

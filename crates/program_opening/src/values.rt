@@ -9,12 +9,12 @@ ghost use Rattle.program_opening.specs.Initials as pure;
 ghost use Rattle.program_opening.specs.Initials.{view_setting};
 
 use crate::objects::SharedDecl;
-use crate::setting::{Setting, Value};
+use crate::setting::Setting;
 use block_layout::{Kind, LocalPtr, ObjectRef, SharedPtr};
 use typed_tree::constants::cast_constant;
 use typed_tree::{Constant, Static};
 use upc_types::{Base, Structs};
-use upc_values::Scalar;
+use upc_values::{Scalar, Value};
 
 /// No offset is farther from 0.
 const FARTHEST: i64 = 1_099_511_627_776;
@@ -131,7 +131,7 @@ pub(crate) fn value_in(setting: &Setting<'_>, kind: Kind, constant: Constant) ->
         Kind::Shared(_, block) => {
             Value::Scalar(Scalar::Shared(shared_pointer_in(setting, block, constant)))
         }
-        Kind::Private(_) => Value::Pointer(local_pointer_in(setting, constant)),
+        Kind::Private(_) => Value::Local(local_pointer_in(setting, constant)),
         Kind::Lock => Value::Scalar(Scalar::Lock(0)),
         _ => Value::Scalar(Scalar::Int(integer_in(kind, constant))),
     }

@@ -12,7 +12,7 @@ use Rattle.upc_values.specs.declared.action.Reply.{Reply}
 use Rattle.upc_values.specs.declared.action.Reply.TheVariants.{Done, Value}
 use Rattle.upc_values.specs.declared.journal.Entry.{Entry}
 use Rattle.upc_values.specs.Scalars.{same_loc}
-use Rattle.upc_values.specs.Drain.{Walk, emptied, oldest_out, stored, passed, looked_up, gone, or_else, last_written, entry_of, entries_of}
+use Rattle.upc_values.specs.Drain.{Walk, emptied, oldest_out, stored, passed, looked_up, gone, last_written, entry_of, entries_of}
 use Rattle.upc_values.specs.Openings.{Opening, IsOpening}
 use Rattle.upc_values.specs.History.{objects, reply}
 use Rattle.upc_values.specs.Formed.{IsWellFormed, fits_after}
@@ -27,7 +27,9 @@ use Rattle.write_buffer.specs.declared.pending.Pending.{Pending}
 use Rattle.write_buffer.specs.Buffer.{youngest, committed}
 use Rattle.serial_core.specs.declared.emit.Way.TheVariants.{Stores, Looks, Passes, Empties}
 use Rattle.serial_core.specs.Kept.{way_of, AreFormed, Holds, AllOf, Grew, Emitted, IsAnswer}
-use Rattle.serial_core.proofs.Lists.{each-append, cons-head}
+use Rattle.serial_core.proofs.Lists.{cons-head}
+use Rattle.upc_values.proofs.Membership.{each-append}
+use Rattle.write_buffer.proofs.Youngest.{youngest-written}
 
 -- ways
 
@@ -202,17 +204,6 @@ holds-pass o t n seen ps a r w k = record {
 value_of : Pending → Scalar
 value_of p = p.value
 
-first-value : (f : Option Pending) (b : Bool) (p : Pending)
-    → or_else (option_map (λ q. q.value) f) (cond b (Some p.value) None) ≡ option_map (λ q. q.value) (option_or f (cond b (Some p) None))
-first-value (Some q) b p = refl
-first-value None true p = refl
-first-value None false p = refl
-
-pub last-youngest : (t : ℕ) (l : Loc) (ps : List Pending) → last_written l (map (committed t) ps) ≡ option_map (λ q. q.value) (youngest l ps)
-last-youngest t l [] = refl
-last-youngest t l (p ∷ ps) =
-    ap (λ f. or_else f (cond (same_loc p.loc l) (Some p.value) None)) (last-youngest t l ps) ∙ first-value (youngest l ps) (same_loc p.loc l) p
-
 pub youngest-formed : (o : Opening) (seen : List Entry) (l : Loc) (ps : List Pending) (q : Pending) → AreFormed o seen ps → youngest l ps ≡ Some q
     → IsWellFormed o seen (Write q.loc q.value false)
 youngest-formed o seen l [] q h e = absurd cc
@@ -235,7 +226,7 @@ pub holds-forwarded : (o : Opening) (t n : ℕ) (l : Loc) (seen : List Entry) (p
 holds-forwarded o t n l seen ps q w h k =
     let e : Entry = entry_of t n (Read l false) (Value q.value) in
     let found : last_written l w.pending ≡ Some q.value =
-    ap (last_written l) (sym k.inside) ∙ last-youngest t l ps ∙ ap (option_map (λ q. q.value)) h in
+    ap (last_written l) (sym k.inside) ∙ youngest-written t l ps ∙ ap (option_map (λ q. q.value)) h in
     subst (λ f. Holds o t seen ps (n + 1) (looked_up e f w)) (sym found) (record {
       out = k.out;
       inside = k.inside;
@@ -252,7 +243,7 @@ pub holds-looked : (o : Opening) (t n : ℕ) (l : Loc) (seen : List Entry) (ps :
 holds-looked o t n l seen ps r w h k =
     let e : Entry = entry_of t n (Read l false) r in
     let found : last_written l w.pending ≡ None =
-    ap (last_written l) (sym k.inside) ∙ last-youngest t l ps ∙ ap (option_map (λ q. q.value)) h in
+    ap (last_written l) (sym k.inside) ∙ youngest-written t l ps ∙ ap (option_map (λ q. q.value)) h in
     subst (λ f. Holds o t (seen ++ e ∷ []) ps (n + 1) (looked_up e f w)) (sym found) (holds-pass o t n seen ps (Read l false) r w k)
 
 -- what an action by itself makes, by its way

@@ -1,6 +1,5 @@
 -- In a sound journal a strand that ends by its budget has had it.
 use Rattle.std.proofs.Common.{◌≡◌, ℕ, ◌≤◌, subst, ap, ◌∙◌, slice_index_or}
-use Rattle.upc_values.specs.declared.record.End.{End}
 use Rattle.upc_values.specs.declared.record.End.TheVariants.{Budget}
 use Rattle.upc_values.specs.declared.journal.Journal.{Journal}
 use Rattle.upc_values.specs.declared.journal.Strand.{Strand}

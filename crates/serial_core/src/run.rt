@@ -1,6 +1,6 @@
 //! Runs of all tasks on one thread.
 
-ghost use Rattle.std.specs.Prelude.{◌≡◌, ◌≢◌, ℕ, ◌<◌, ◌≤◌, ◌*◌, List, [], true, false, Some, None, is_some, IfOk, IfSome, IsNone, MatchOption, length, map, slice_index_or, vec_capacity};
+ghost use Rattle.std.specs.Prelude.{◌≡◌, ◌<◌, ◌≤◌, ◌*◌, List, [], true, false, Some, None, is_some, IfOk, IfSome, IsNone, MatchOption, length, map, slice_index_or, vec_capacity};
 ghost use Rattle.upc_values.specs.declared.record.End.{End};
 ghost use Rattle.upc_values.specs.declared.journal.Entry.{Entry};
 ghost use Rattle.upc_values.specs.Lists.{Numbered};

@@ -1,11 +1,10 @@
 //! A task: a thread's machine, which acts on the history through its write buffer.
 
-ghost use Rattle.std.specs.Prelude.{◌≡◌, ℕ, ◌<◌, ◌≤◌, ◌^◌, List, [], true, false, Bool, Some, None, is_some, IfOk, IfSome, IsNone, length, option_copied};
+ghost use Rattle.std.specs.Prelude.{◌≡◌, ◌<◌, List, [], true, false, Some, None, is_some, IfOk, IfSome, IsNone, length, option_copied};
 ghost use Rattle.upc_values.specs.declared.action.Action.{Action};
 ghost use Rattle.upc_values.specs.declared.journal.Entry.{Entry};
 ghost use Rattle.upc_values.specs.Drain.{entries_of};
 ghost use Rattle.upc_values.specs.Openings.{Opening};
-ghost use Rattle.upc_values.specs.Formed.{AreWellFormed};
 ghost use Rattle.upc_values.specs.Records as records;
 ghost use Rattle.upc_values.specs.Ends.{OwnEnd};
 ghost use Rattle.first_language.specs.declared.tree.First.{First};

@@ -1,5 +1,5 @@
 -- The cell that a pointer-to-shared names.
-use Rattle.std.specs.Prelude.{ℕ, ◌&&◌, Bool, if◌then◌else◌, pos, ◌+ℤ◌, ◌≤ℤ◌, int_le, unsigned_abs, Result, Ok, Err}
+use Rattle.std.specs.Prelude.{ℕ, ◌&&◌, Bool, if◌then◌else◌, pos, ◌+ℤ◌, ◌≤ℤ◌, int_le, Result, Ok, Err}
 use Rattle.block_layout.specs.declared.kind.Kind.{Kind}
 use Rattle.block_layout.specs.declared.kind.Shape.{Shape}
 use Rattle.block_layout.specs.declared.place.SharedPtr.{SharedPtr}
@@ -7,7 +7,7 @@ use Rattle.block_layout.specs.declared.place.Loc.{Loc}
 use Rattle.block_layout.specs.declared.run_error.TheConstants.{NULL_ACCESS, OUT_OF_OBJECT, CELL_TYPE}
 use Rattle.block_layout.specs.Floor.{floor_mod}
 use Rattle.block_layout.specs.Pieces.{piece_of}
-use Rattle.block_layout.specs.Pointers.{is_null}
+use Rattle.block_layout.specs.Pointers.{is_null, location}
 use Rattle.block_layout.specs.Shapes.{kind_size, has_cell}
 
 -- An access of `width` bytes at a pointer lies inside the piece of the pointer's thread.
@@ -22,9 +22,6 @@ in_piece p width threads =
 -- The byte of its element to which a pointer points. The elements follow one another in a piece.
 abbrev pub byte_of_element : SharedPtr → Shape → ℕ
 byte_of_element p shape = floor_mod p.offset shape.size
-
-abbrev pub location : SharedPtr → Loc
-location p = record { object = p.object.number; thread = p.thread; offset = unsigned_abs p.offset }
 
 -- What an access of this kind through p names: the tests come in this order.
 abbrev pub cell_at : SharedPtr → Shape → Kind → ℕ → Result Loc ℕ

@@ -1,6 +1,6 @@
 //! A pointer moved by a number of elements.
 
-ghost use Rattle.std.specs.Prelude.{ℕ, ◌≡◌, ◌<◌, ◌≤◌, ◌^◌, ◌↔◌, ℤ, ◌+ℤ◌, IfOk, IfErr, IsErrOf, ◌⊎◌};
+ghost use Rattle.std.specs.Prelude.{◌≡◌, ◌<◌, ◌↔◌, ℤ, ◌+ℤ◌, IfOk, IfErr, IsErrOf, ◌⊎◌};
 ghost use Rattle.block_layout.specs.Places.{InRange};
 ghost use Rattle.block_layout.specs.Pointers.{IsNull, StandsFor, element_offset};
 ghost use Rattle.shared_pointers.specs.Ranges.{IsPhase, IsPointer, IsTarget, IsThreads, IsStep};

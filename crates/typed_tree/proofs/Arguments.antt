@@ -1,6 +1,6 @@
 -- Arguments and parameters, side by side.
-use Rattle.std.proofs.Common.{◌≡◌, ℕ, zero, suc, ◌+◌, ◌<◌, nat_le, Bool, true, false, arith, List, [], ◌∷◌, length, map, drop, get_or, Option, Some, None, refl, sym, ap, ◌∙◌}
-use Rattle.std.proofs.lemmas.List.{drop_more, drop-drop, drop-map, drop_all}
+use Rattle.std.proofs.Common.{◌≡◌, ℕ, zero, suc, ◌+◌, nat_le, Bool, true, false, arith, List, [], ◌∷◌, length, map, drop, Option, Some, None, refl, sym, ap, ◌∙◌}
+use Rattle.std.proofs.lemmas.List.{drop-drop, drop-map, drop_all}
 use Rattle.std.proofs.lemmas.Bool.{le-leb, lt-leb, leb-true, leb-false}
 use Rattle.upc_types.specs.Types.{CType, Base}
 use Rattle.typed_tree.specs.declared.library.LibraryParameter.{LibraryParameter}
@@ -11,13 +11,6 @@ use Rattle.typed_tree.specs.declared.format.FormatStep.TheVariants.{Goes, Prints
 use Rattle.typed_tree.specs.Nodes.{Attr}
 use Rattle.typed_tree.specs.Rules.{first_converts, all_convert, first_taken, all_taken, first_is_no_function, no_functions}
 use Rattle.typed_tree.specs.Format.{step, go_on, one_more, conversions, takes, is_anything, all_printed, prints_by}
-
--- One part of a list that is gone through.
-pub next : {X Y : Type 0} (f : X → Y) (xs : List X) (i : ℕ) (x : X) → i < length xs → x ≡ get_or xs i x → map f (drop i xs) ≡ f x ∷ map f (drop (i + 1) xs)
-next f xs i x h e = ap (map f) (drop_more xs i x h) ∙ ap (λ y. f y ∷ map f (drop (i + 1) xs)) (sym e)
-
-pub next_plain : {X : Type 0} (xs : List X) (i : ℕ) (x : X) → i < length xs → x ≡ get_or xs i x → drop i xs ≡ x ∷ drop (i + 1) xs
-next_plain xs i x h e = drop_more xs i x h ∙ ap (λ y. y ∷ drop (i + 1) xs) (sym e)
 
 -- What is left behind one more part.
 pub one_less : {X Y : Type 0} (f : X → Y) (xs : List X) (i : ℕ) → drop 1 (map f (drop i xs)) ≡ map f (drop (i + 1) xs)

@@ -10,16 +10,8 @@ use Rattle.upc_types.specs.Layout.{base_layout, base_complete, base_within, comp
 use Rattle.upc_types.specs.Kept.{IsFine, is_ordered}
 use Rattle.upc_types.proofs.Order.{struct_is, complete_before, complete_since, all_kept}
 use Rattle.upc_types.proofs.Places.{absent}
-use Rattle.typed_tree.specs.Values.{leaf_base, leaves}
-
--- The size of an array is that of all its leaf elements.
-pub leaf_sizes : (f : ℕ → Layout) (b : Base) → (base_layout f b).size ≡ leaves b * (base_layout f (leaf_base b)).size
-leaf_sizes f Void = omega arith
-leaf_sizes f (Integer k) = omega arith
-leaf_sizes f (Struct n) = omega arith
-leaf_sizes f (Array (Qualified e c s x) n) = let h = leaf_sizes f e in rw h (omega arith)
-leaf_sizes f (Pointer (Qualified b c s x)) = omega arith
-leaf_sizes f LockObject = omega arith
+use Rattle.upc_types.specs.Cells.{leaf_base, leaves}
+use Rattle.upc_types.proofs.Within.{leaf_sizes}
 
 -- ---- what has a size
 

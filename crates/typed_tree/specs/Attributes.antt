@@ -22,12 +22,13 @@ use Rattle.typed_tree.specs.declared.attribute.Form.{Form}
 use Rattle.typed_tree.specs.declared.attribute.Form.TheVariants.{Value, Lvalue, Callable, Text}
 use Rattle.typed_tree.specs.declared.library.LibraryCall.{LibraryCall}
 use Rattle.typed_tree.specs.Library.{plain, int, constant_value, call_result, is_allocation}
-use Rattle.typed_tree.specs.Values.{value_base, value_type, plainly, base_is_array, base_kind, base_target, base_struct, leaf_base, leaves}
+use Rattle.typed_tree.specs.Values.{value_base, value_type, plainly, base_is_array, base_kind, base_target, base_struct}
 use Rattle.typed_tree.specs.Meanings as m
 use Rattle.typed_tree.specs.Meanings.{Meaning}
 use Rattle.typed_tree.specs.Constants.{working_kind, on_known, binary_constant, unary_constant, cast_constant, and_constant, or_constant, choice_constant, ranged, address_plus, member_place, cast_address, block_or_none}
 use Rattle.typed_tree.specs.Nodes as n
-use Rattle.typed_tree.specs.Nodes.{Attr, Use, Node, Formed}
+use Rattle.typed_tree.specs.Nodes.{Attr, Use, Node}
+use Rattle.upc_types.specs.Cells.{leaf_base, leaves}
 
 -- What every node may look at: the structs that are declared so far, and the number of threads.
 pub record Facts : Type 0 where

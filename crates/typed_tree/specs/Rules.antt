@@ -10,9 +10,9 @@ use Rattle.integers.specs.declared.operator.UnOp.{UnOp}
 use Rattle.integers.specs.declared.operator.UnOp.TheVariants.{Not}
 use Rattle.integers.specs.Integers.{converted}
 use Rattle.upc_types.specs.Types as types
-use Rattle.upc_types.specs.Types.{CType, Base, Array, base_of, is_constant, block_of, Structs, members_of}
+use Rattle.upc_types.specs.Types.{CType, Base, Array, base_of, is_constant, Structs, members_of}
 use Rattle.upc_types.specs.Layout.{is_complete, size, base_within, most_bytes, holds_private}
-use Rattle.upc_types.specs.Same.{same_type}
+use Rattle.upc_types.specs.Same.{same_type, is_lock_object}
 use Rattle.upc_types.specs.Arithmetic.{promoted}
 use Rattle.upc_types.specs.Conversions.{is_integer, assignable, castable, takes_allocation, to_shared_void, to_void_pointer}
 use Rattle.typed_tree.specs.declared.setting.SizeOperator.{SizeOperator}
@@ -28,12 +28,13 @@ use Rattle.typed_tree.specs.declared.attribute.Constant.TheVariants.{Known}
 use Rattle.typed_tree.specs.declared.attribute.Form.{Form}
 use Rattle.typed_tree.specs.declared.attribute.Form.TheVariants.{Lvalue}
 use Rattle.typed_tree.specs.Library.{call_parameters, is_allocation}
-use Rattle.typed_tree.specs.Values.{value_type, plainly, is_void, is_array, is_struct, is_lock, is_shared, present, base_is_lock, base_kind, base_target, leaf_base, is_nested, is_no_object, equal_targets}
+use Rattle.typed_tree.specs.Values.{value_type, plainly, is_void, is_array, is_struct, is_lock, is_shared, present, base_kind, base_target, is_nested, is_no_object, equal_targets}
 use Rattle.typed_tree.specs.Meanings.{Meaning, Unknown, Object, Function, Library, Signature}
 use Rattle.typed_tree.specs.Constants as c
 use Rattle.typed_tree.specs.Format.{prints}
 use Rattle.typed_tree.specs.Attributes.{Facts, base, constant_of}
 use Rattle.typed_tree.specs.Nodes.{Attr, Use, Called, Indexed, Measured, Prints, Into, Formed, Node, Name, Strings, Subscript, Call, MemberOf, MemberBehind, Step, Address, Dereference, Unary, SizeOf, SizeOfType, Cast, Binary, And, Or, Assign, Compound, Conditional, Comma, Constantly, Block, StarBlock, Specifies, Struct, Member, MemberFunction, DeclaresObject, DeclaresFunction, Parameter, InitialValue, InitialList, Defines, File, Tests, Switch, Affinity, Break, Continue, Returns, ReturnsNothing, Barrier}
+use Rattle.upc_types.specs.Cells.{leaf_base}
 
 -- ---- words of the rules
 
@@ -157,7 +158,7 @@ shares_private structs t = is_shared t && holds_private structs t
 
 -- A lock, or an array of locks.
 abbrev pub is_lock_leaf : CType → Bool
-is_lock_leaf t = base_is_lock (leaf t)
+is_lock_leaf t = is_lock_object (leaf t)
 
 -- A struct among the result and the parameters.
 abbrev pub passes_struct : Signature → Bool

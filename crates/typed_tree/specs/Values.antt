@@ -1,10 +1,11 @@
 -- The types of values, and tests on types (C99 6.2.5, 6.3.2.1).
-use Rattle.std.specs.Prelude.{ℕ, Bool, true, false, ◌&&◌, ◌||◌, ◌*◌, Option, Some, None}
+use Rattle.std.specs.Prelude.{ℕ, Bool, true, false, ◌&&◌, ◌||◌, Option, Some, None}
 use Rattle.block_layout.specs.declared.kind.Kind.{Kind}
 use Rattle.block_layout.specs.declared.kind.Kind.TheVariants as k
 use Rattle.upc_types.specs.declared.ctype.Access.TheVariants.{Unsaid}
-use Rattle.upc_types.specs.Types.{CType, Qualified, Base, Void, Integer, Struct, Array, Pointer, LockObject, base_of, block_of}
-use Rattle.upc_types.specs.Same.{same_base, same_block}
+use Rattle.upc_types.specs.Types.{CType, Qualified, Base, Integer, Struct, Array, Pointer, base_of, block_of}
+use Rattle.upc_types.specs.Same as same
+use Rattle.upc_types.specs.Same.{same_base, same_block, is_lock_object}
 
 -- The type of a value: an array turns into a pointer to its first element (C99 6.3.2.1).
 abbrev pub value_base : Base → Base
@@ -19,10 +20,6 @@ plainly b = Qualified b false None Unsaid
 abbrev pub value_type : CType → CType
 value_type (Qualified b c s x) = plainly (value_base b)
 
-abbrev pub base_is_void : Base → Bool
-base_is_void Void = true
-base_is_void b = false
-
 abbrev pub base_is_array : Base → Bool
 base_is_array (Array element count) = true
 base_is_array b = false
@@ -31,12 +28,8 @@ abbrev pub base_is_struct : Base → Bool
 base_is_struct (Struct number) = true
 base_is_struct b = false
 
-abbrev pub base_is_lock : Base → Bool
-base_is_lock LockObject = true
-base_is_lock b = false
-
 abbrev pub is_void : CType → Bool
-is_void t = base_is_void (base_of t)
+is_void t = same.is_void (base_of t)
 
 abbrev pub is_array : CType → Bool
 is_array t = base_is_array (base_of t)
@@ -45,7 +38,7 @@ abbrev pub is_struct : CType → Bool
 is_struct t = base_is_struct (base_of t)
 
 abbrev pub is_lock : CType → Bool
-is_lock t = base_is_lock (base_of t)
+is_lock t = is_lock_object (base_of t)
 
 abbrev pub present : {A : Type 0} → Option A → Bool
 present None = false
@@ -78,16 +71,6 @@ abbrev pub base_struct : Base → Option ℕ
 base_struct (Struct number) = Some number
 base_struct b = None
 
--- The type of the leaf elements of an array of arrays; another type itself.
-abbrev pub leaf_base : Base → Base
-leaf_base (Array (Qualified e c s x) count) = leaf_base e
-leaf_base b = b
-
--- How many leaf elements an object has.
-abbrev pub leaves : Base → ℕ
-leaves (Array (Qualified e c s x) count) = count * leaves e
-leaves b = 1
-
 abbrev pub base_is_nested : Base → Bool
 base_is_nested (Array t count) = is_array t
 base_is_nested b = false
@@ -98,7 +81,7 @@ is_nested t = base_is_nested (base_of t)
 
 -- void, or a lock itself.
 abbrev pub is_no_object : Base → Bool
-is_no_object b = base_is_void b || base_is_lock b
+is_no_object b = same.is_void b || is_lock_object b
 
 -- Targets that are equal but for const and strict or relaxed (UPC 6.5.1.1): the same type, and the same block where shared.
 abbrev pub equal_targets : CType → CType → Bool

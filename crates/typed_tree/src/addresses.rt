@@ -1,6 +1,6 @@
 //! Addresses that are known before the run, and what lies behind them (C99 6.5.6, 6.6; UPC 6.4.2, 6.4.4).
 
-ghost use Rattle.std.specs.Prelude.{◌≡◌, ◌*◌, ◌<◌, ◌≤◌, ◌^◌, pos, ◌+ℤ◌, ◌-ℤ◌, ◌*ℤ◌, unsigned_abs};
+ghost use Rattle.std.specs.Prelude.{◌≡◌, ◌*◌, ◌<◌, ◌≤◌, ◌^◌, pos, ◌+ℤ◌, ◌*ℤ◌, unsigned_abs};
 ghost use Rattle.block_layout.specs.Places.{in_range, offset_at};
 ghost use Rattle.shared_pointers.specs.Steps.{element_in_row, row_offset, moved, moved_by_blocks};
 ghost use Rattle.typed_tree.specs.Constants as c;

@@ -1,14 +1,13 @@
 //! The lowest typing rule that a call breaks.
 
-ghost use Rattle.std.specs.Prelude.{◌≡◌, ℕ, map, drop, length, Option};
+ghost use Rattle.std.specs.Prelude.{◌≡◌, ℕ, map, drop, Option};
 ghost use Rattle.std.specs.List.{list_any};
 ghost use Rattle.upc_types.specs.View.{view};
 ghost use Rattle.upc_types.specs.ViewStructs.{view_structs};
-ghost use Rattle.typed_tree.specs.Views.{view_target, view_meaning, view_use, view_text, attr_seen};
+ghost use Rattle.typed_tree.specs.Views.{view_meaning, view_use, view_text, attr_seen};
 ghost use Rattle.typed_tree.specs.Library as library;
 ghost use Rattle.typed_tree.specs.Nodes as n;
 ghost use Rattle.typed_tree.specs.Nodes.{view_attr};
-ghost use Rattle.typed_tree.specs.Attributes.{Facts};
 ghost use Rattle.typed_tree.specs.Rules as r;
 ghost use Rattle.typed_tree.specs.Rules.{lowest};
 

@@ -2,7 +2,7 @@
 
 ghost use Rattle.std.specs.Prelude.{◌≡◌, IfOk};
 ghost use Rattle.integers.specs.Integers.{IsInteger, IsPromoted, converted};
-ghost use Rattle.integers.specs.Operators.{binary_of, unary_of, truth};
+ghost use Rattle.integers.specs.Operators.{binary_of, unary_of};
 ghost use Rattle.upc_types.specs.Arithmetic as arithmetic;
 ghost use Rattle.typed_tree.specs.Constants as pure;
 ghost use Rattle.typed_tree.specs.Constants.{IsKindValue, IsWithin};

@@ -1,11 +1,10 @@
 //! The lowest typing rule that each node of a declaration or a type breaks.
 
-ghost use Rattle.std.specs.Prelude.{◌≡◌, ℕ, map, drop, ◌<◌, length};
+ghost use Rattle.std.specs.Prelude.{◌≡◌, ℕ, map, ◌<◌};
 ghost use Rattle.std.specs.List.{list_any};
 ghost use Rattle.upc_types.specs.View.{view, view_base};
-ghost use Rattle.upc_types.specs.Layout.{base_layout, layout_in};
 ghost use Rattle.upc_types.specs.ViewStructs.{view_structs};
-ghost use Rattle.typed_tree.specs.Views.{view_formed, view_signature, attr_seen};
+ghost use Rattle.typed_tree.specs.Views.{view_formed, view_signature};
 ghost use Rattle.typed_tree.specs.Constants as c;
 ghost use Rattle.typed_tree.specs.Nodes as n;
 ghost use Rattle.typed_tree.specs.Nodes.{view_attr};

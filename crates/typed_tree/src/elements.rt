@@ -1,10 +1,9 @@
 //! Elements of arrays, and pointers that are moved by elements (C99 6.5.2.1, 6.5.6; UPC 6.4.2).
 
-ghost use Rattle.std.specs.Prelude.{◌≡◌, ◌<◌, ◌≤◌, ◌^◌, IfOk, IfSome, true, false, unsigned_abs, Option};
+ghost use Rattle.std.specs.Prelude.{◌≡◌, ◌<◌, ◌≤◌, ◌^◌, IfOk, IfSome, true, false, unsigned_abs};
 ghost use Rattle.upc_types.specs.Types as types;
 ghost use Rattle.upc_types.specs.View.{view, view_base};
 ghost use Rattle.upc_types.specs.ViewStructs.{view_structs};
-ghost use Rattle.typed_tree.specs.Views.{view_target};
 ghost use Rattle.typed_tree.specs.Constants as c;
 ghost use Rattle.typed_tree.specs.Constants.{IsWithin};
 ghost use Rattle.typed_tree.specs.Nodes as n;

@@ -1,9 +1,9 @@
 //! The lowest typing rule that nodes with lists of children break.
 
-ghost use Rattle.std.specs.Prelude.{◌≡◌, map, drop};
+ghost use Rattle.std.specs.Prelude.{◌≡◌, map};
 ghost use Rattle.std.specs.List.{list_any};
 ghost use Rattle.upc_types.specs.View.{view};
-ghost use Rattle.typed_tree.specs.Views.{view_target, attr_seen, attr_tested};
+ghost use Rattle.typed_tree.specs.Views.{attr_seen, attr_tested};
 ghost use Rattle.typed_tree.specs.Nodes as n;
 ghost use Rattle.typed_tree.specs.Attributes.{Facts};
 ghost use Rattle.typed_tree.specs.Rules as r;

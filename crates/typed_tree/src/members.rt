@@ -1,7 +1,7 @@
 //! Members by their names.
 
-ghost use Rattle.std.specs.Prelude.{◌≡◌, ℕ, map, drop};
-ghost use Rattle.upc_types.specs.View.{view, view_base, view_member};
+ghost use Rattle.std.specs.Prelude.{◌≡◌, ℕ, map};
+ghost use Rattle.upc_types.specs.View.{view, view_member};
 ghost use Rattle.upc_types.specs.ViewStructs.{view_structs};
 ghost use Rattle.typed_tree.specs.Views.{view_target};
 ghost use Rattle.typed_tree.specs.Nodes as n;

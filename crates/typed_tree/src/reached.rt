@@ -1,13 +1,12 @@
 //! What the members of structs are (C99 6.5.2.3, UPC 6.4.4).
 
-ghost use Rattle.std.specs.Prelude.{◌≡◌, ℕ, ◌+◌, ◌<◌, ◌≤◌, ◌||◌, true, is_some, IfOk, map, drop};
+ghost use Rattle.std.specs.Prelude.{◌≡◌, ℕ, ◌+◌, ◌<◌, ◌≤◌, ◌||◌, true, is_some, IfOk, map};
 ghost use Rattle.upc_types.specs.Layout as layouts;
 ghost use Rattle.upc_types.specs.Types as types;
 ghost use Rattle.upc_types.specs.View.{view, view_base, view_member};
 ghost use Rattle.upc_types.specs.ViewStructs.{view_structs};
 ghost use Rattle.typed_tree.specs.Views.{view_target};
 ghost use Rattle.typed_tree.specs.ViewFound.{view_found};
-ghost use Rattle.typed_tree.specs.Constants.{IsWithin};
 ghost use Rattle.typed_tree.specs.Values.{base_target};
 ghost use Rattle.typed_tree.specs.Nodes as n;
 ghost use Rattle.typed_tree.specs.Nodes.{view_attr};

@@ -1,10 +1,9 @@
 //! The lowest typing rule that each node of an expression breaks.
 
-ghost use Rattle.std.specs.Prelude.{◌≡◌, ℕ, List, Option};
-ghost use Rattle.upc_types.specs.View.{view, view_base};
+ghost use Rattle.std.specs.Prelude.{◌≡◌, ℕ, Option};
+ghost use Rattle.upc_types.specs.View.{view};
 ghost use Rattle.upc_types.specs.ViewStructs.{view_structs};
 ghost use Rattle.typed_tree.specs.Views.{view_meaning, view_use, view_formed};
-ghost use Rattle.typed_tree.specs.Values as values;
 ghost use Rattle.typed_tree.specs.Nodes as n;
 ghost use Rattle.typed_tree.specs.Nodes.{view_attr};
 ghost use Rattle.typed_tree.specs.Attributes.{Facts};

@@ -4,6 +4,7 @@ ghost use Rattle.std.specs.Prelude.{◌≡◌, ◌<◌, ◌≤◌, ◌^◌, fals
 ghost use Rattle.upc_types.specs.Layout as layouts;
 ghost use Rattle.upc_types.specs.View.{view, view_base};
 ghost use Rattle.upc_types.specs.ViewStructs.{view_structs};
+ghost use Rattle.upc_types.specs.Cells.{leaf_base, leaves};
 ghost use Rattle.typed_tree.specs.Views.{view_formed};
 ghost use Rattle.typed_tree.specs.Values as values;
 ghost use Rattle.typed_tree.specs.Nodes as n;
@@ -31,8 +32,8 @@ pub(crate) struct Leaves {
 /// The leaf elements of a type that has a size.
 pub(crate) fn leaves_of(structs: &Structs, base: &Base) -> Leaves
     requires { rules.has_size (view_structs structs.now) (values.plainly (view_base base.now)) ≡ true }
-    ensures count { result.count ≡ values.leaves (view_base base.now) }
-    ensures bytes { result.bytes ≡ layouts.size (view_structs structs.now) (values.plainly (values.leaf_base (view_base base.now))) }
+    ensures count { result.count ≡ leaves (view_base base.now) }
+    ensures bytes { result.bytes ≡ layouts.size (view_structs structs.now) (values.plainly (leaf_base (view_base base.now))) }
     ensures few { result.count ≤ 16777216 }
     ensures small { result.bytes ≤ 16777216 }
 {

@@ -1,8 +1,7 @@
 //! The lowest typing rule that each node of a statement breaks.
 
 ghost use Rattle.std.specs.Prelude.{◌≡◌, [], ◌∷◌};
-ghost use Rattle.upc_types.specs.View.{view};
-ghost use Rattle.typed_tree.specs.Views.{view_around, attr_seen};
+ghost use Rattle.typed_tree.specs.Views.{view_around};
 ghost use Rattle.typed_tree.specs.Nodes as n;
 ghost use Rattle.typed_tree.specs.Nodes.{view_attr};
 ghost use Rattle.typed_tree.specs.Attributes.{Facts};

@@ -1,6 +1,6 @@
 //! The lowest typing rule that a `switch` breaks.
 
-ghost use Rattle.std.specs.Prelude.{◌≡◌, drop, IfSome};
+ghost use Rattle.std.specs.Prelude.{◌≡◌, IfSome};
 ghost use Rattle.std.specs.List.{list_any};
 ghost use Rattle.integers.specs.Integers.{IsInteger};
 ghost use Rattle.typed_tree.specs.Nodes as n;

@@ -2,6 +2,7 @@
 
 ghost use Rattle.std.specs.Prelude.{◌≡◌, Option, Some, None, IfSome};
 ghost use Rattle.integers.specs.Integers.{IsInteger};
+ghost use Rattle.upc_types.specs.Cells.{leaf_base};
 ghost use Rattle.upc_types.specs.View.{view, view_base};
 ghost use Rattle.upc_types.specs.ViewStructs.{view_structs};
 ghost use Rattle.typed_tree.specs.Views.{view_target};
@@ -57,7 +58,7 @@ pub fn is_nested(t: &CType) -> bool
 
 /// The leaf elements of an array of arrays, without qualifiers of their own.
 pub fn leaf(base: &Base) -> &Base
-    ensures { view_base result.now ≡ pure.leaf_base (view_base base.now) }
+    ensures { view_base result.now ≡ leaf_base (view_base base.now) }
 {
     match base {
         Base::Array(element, _) => leaf(&element.base),

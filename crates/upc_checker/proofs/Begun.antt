@@ -1,5 +1,5 @@
 -- The objects of an accepted source have layouts, and fit into their rooms.
-use Rattle.std.proofs.Common.{◌≡◌, ℕ, ◌+◌, ◌-◌, ◌≤◌, nat_le, Bool, true, false, ◌&&◌, is_some, if◌then◌else◌, List, [], ◌∷◌, filter, Option, Some, None, refl, sym, ap, ◌∙◌, subst, arith}
+use Rattle.std.proofs.Common.{◌≡◌, ℕ, ◌-◌, ◌≤◌, nat_le, Bool, true, false, ◌&&◌, is_some, if◌then◌else◌, List, [], ◌∷◌, filter, Option, Some, None, refl, sym, ap, ◌∙◌, arith}
 use Rattle.std.specs.List.{sum_by}
 use Rattle.std.proofs.lemmas.Bool.{leb-true}
 use Rattle.std.proofs.lemmas.List.Sums.{sum_by-cons}
@@ -11,15 +11,15 @@ use Rattle.upc_types.specs.Layout.{base_within, base_layout, base_complete, comp
 use Rattle.typed_tree.specs.declared.setting.Home.{Home}
 use Rattle.typed_tree.specs.declared.setting.Home.TheVariants.{Private, Shared, Local}
 use Rattle.typed_tree.specs.Tree.{DeclaredObject}
-use Rattle.program_opening.specs.Elements.{has_layout}
-use Rattle.program_opening.specs.Objects.{bytes_in, shared_in}
+use Rattle.typed_tree.specs.Rules.{has_size}
+use Rattle.program_opening.specs.Objects.{bytes_in, shared_in, is_shared}
 use Rattle.upc_tree.specs.Unit.{External}
 use Rattle.typed_tree.specs.Scopes.{begin}
 use Rattle.upc_checker.specs.Units.{setting, walk_unit}
 use Rattle.upc_checker.specs.Outcomes.{Checked, Accepted, outcome}
 use Rattle.upc_checker.specs.Programs.{IsAccepted}
 use Rattle.upc_checker.proofs.Causes.{accepted}
-use Rattle.upc_checker.specs.Limits.{left_by, left_behind, is_over, room_in, first_over, is_private, is_shared, Passed, passed_or, limit_by}
+use Rattle.upc_checker.specs.Limits.{left_by, left_behind, is_over, room_in, first_over, is_private, Passed, passed_or, limit_by}
 
 -- ---- a limit that is not passed
 
@@ -38,7 +38,7 @@ size_by false l m h = absurd cc
 
 module _ (σ : Structs) (counts : Home → Bool) where
   abbrev pub Counted : DeclaredObject → Type 0
-  Counted x = counts x.home ≡ true → has_layout σ x.ctype ≡ true
+  Counted x = counts x.home ≡ true → has_size σ x.ctype ≡ true
 
   abbrev pub bytes : List DeclaredObject → ℕ
   bytes xs = sum_by (λ x. size σ x.ctype) (filter (λ x. counts x.home) xs)
@@ -75,25 +75,25 @@ module _ (σ : Structs) (counts : Home → Bool) where
 
 -- ---- an accepted source
 
-each_by : (σ : Structs) (x : DeclaredObject) → (is_private x.home ≡ true → has_layout σ x.ctype ≡ true) → (is_shared x.home ≡ true → has_layout σ x.ctype ≡ true) → has_layout σ x.ctype ≡ true
+each_by : (σ : Structs) (x : DeclaredObject) → (is_private x.home ≡ true → has_size σ x.ctype ≡ true) → (is_shared x.home ≡ true → has_size σ x.ctype ≡ true) → has_size σ x.ctype ≡ true
 each_by σ x f g = at_home x.home refl
   where
-    at_home : (home : Home) → x.home ≡ home → has_layout σ x.ctype ≡ true
+    at_home : (home : Home) → x.home ≡ home → has_size σ x.ctype ≡ true
     at_home (Private object) e = f (ap is_private e)
     at_home (Shared object) e = g (ap is_shared e)
     at_home (Local object) e = f (ap is_private e)
 
-each : (σ : Structs) (xs : List DeclaredObject) → Each (Counted σ is_private) xs → Each (Counted σ is_shared) xs → Each (λ x. has_layout σ x.ctype ≡ true) xs
+each : (σ : Structs) (xs : List DeclaredObject) → Each (Counted σ is_private) xs → Each (Counted σ is_shared) xs → Each (λ x. has_size σ x.ctype ≡ true) xs
 each σ [] p q = tt
 each σ (x ∷ xs) p q = (each_by σ x p.0 q.0, each σ xs p.1 q.1)
 
 -- Each object of an accepted source has a layout, and the shared ones have room.
 pub record HaveRoom (x : Checked) : Type 0 where
-  pub layouts : Each (λ y. has_layout x.structs y.ctype ≡ true) x.objects
+  pub layouts : Each (λ y. has_size x.structs y.ctype ≡ true) x.objects
   pub bytes : bytes_in x.structs (shared_in x.objects) ≤ 16777216
 
 fits_room : (σ : Structs) (above : Option Place) (objects : List DeclaredObject) → limit_by σ above objects ≡ None →
-    Each (λ y. has_layout σ y.ctype ≡ true) objects × (bytes_in σ (shared_in objects) ≤ 16777216)
+    Each (λ y. has_size σ y.ctype ≡ true) objects × (bytes_in σ (shared_in objects) ≤ 16777216)
 fits_room σ above objects h =
     let a = not_passed 4 (first_over σ is_private 1048576 objects) _ h in
     let b = not_passed 5 (first_over σ is_shared 16777216 objects) _ a.1 in

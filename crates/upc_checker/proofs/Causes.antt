@@ -1,5 +1,5 @@
 -- What an outcome says of a source.
-use Rattle.std.proofs.Common.{◌≡◌, ℕ, List, Option, Some, None, refl, sym, ap, ◌∙◌}
+use Rattle.std.proofs.Common.{◌≡◌, ℕ, List, Option, Some, None, refl, sym, ap}
 use Rattle.upc_text.specs.declared.place.Refusal.{Refusal}
 use Rattle.upc_text.specs.declared.place.Code.TheVariants.{Typing, Limit}
 use Rattle.upc_tree.specs.Unit.{External}
@@ -8,7 +8,7 @@ use Rattle.typed_tree.specs.Faults.{Fault, first_fault}
 use Rattle.typed_tree.proofs.FirstFault.{all_meet, is_first}
 use Rattle.upc_checker.specs.Units.{setting, walk_unit, unit_nodes}
 use Rattle.upc_checker.specs.Limits.{Passed, unit_passed}
-use Rattle.upc_checker.specs.Outcomes.{Checked, without_targets, Outcome, Accepted, Refused, outcome_by, outcome}
+use Rattle.upc_checker.specs.Outcomes.{Checked, without_targets, Accepted, Refused, outcome_by, outcome}
 use Rattle.upc_checker.specs.Causes.{IsWellTyped, HasCause, breaks_a_rule, passes_a_limit}
 
 accepted_by : (o : Option Fault) (l : Option Passed) (c x : Checked) → outcome_by o l c ≡ Accepted x → (o ≡ None) × (l ≡ None) × (c ≡ x)

@@ -1,13 +1,12 @@
 -- What a source comes to that is walked.
-use Rattle.std.proofs.Common.{◌≡◌, ℕ, Option, Some, None, Result, Ok, Err, refl, sym, ap, ◌∙◌}
+use Rattle.std.proofs.Common.{◌≡◌, ℕ, Option, Some, None, Ok, Err, refl, sym, ap, ◌∙◌}
 use Rattle.upc_text.specs.declared.place.Refusal.{Refusal}
-use Rattle.upc_text.specs.declared.place.Code.TheVariants.{Limit}
 use Rattle.upc_text.specs.declared.faults.Stop.{Stop}
 use Rattle.upc_text.specs.declared.faults.Stop.TheVariants as stop
 use Rattle.typed_tree.specs.Scopes.{State}
 use Rattle.typed_tree.specs.Faults.{Fault, first_fault}
-use Rattle.upc_checker.specs.Walk.{Walked}
-use Rattle.upc_checker.specs.Ends.{refusal_by, Stops, Comes}
+use Rattle.declaration_checker.specs.Walk.{Walked}
+use Rattle.declaration_checker.specs.Ends.{refusal_by, Stops, Comes}
 use Rattle.upc_checker.specs.Limits.{Passed, limit_by, limit_in}
 use Rattle.upc_checker.specs.Outcomes.{Answers, Checked, without_targets, Outcome, Refused, Accepted, outcome_by, outcome_in}
 use Rattle.upc_checker.specs.Units.{Made}

@@ -6,8 +6,8 @@ use Rattle.upc_types.specs.Types.{CType}
 use Rattle.typed_tree.specs.Meanings.{Signature, Function}
 use Rattle.typed_tree.specs.Scopes.{Setting, State, Env, Scope, Outer, NoScope, Within, with_entry}
 use Rattle.typed_tree.specs.ViewEnv.{with_outer}
-use Rattle.upc_checker.specs.Walk.{andthen, judge}
-use Rattle.upc_checker.specs.Expressions.{Declared, declare_parameter, with_parameter, walk_parameter, walk_next_parameters, walk_parameters}
+use Rattle.declaration_checker.specs.Walk.{andthen, judge}
+use Rattle.declaration_checker.specs.Expressions.{Declared, declare_parameter, walk_parameter, walk_next_parameters, walk_parameters}
 use Rattle.upc_checker.specs.Units.{with_outer_entry}
 
 abbrev pub outer_of : Env → Outer

@@ -1,7 +1,6 @@
 -- Parts of statements: lists whose parts take several steps, scopes inside, and nodes that are judged behind their parts.
-use Rattle.std.proofs.Common.{◌≡◌, ℕ, ◌+◌, ◌<◌, ℤ, length, drop, get_or, map, List, [], ◌∷◌, ◌++◌, Bool, Option, Some, None, Result, Ok, Err, refl, sym, ap, ◌∙◌, subst, arith, rules, Box, Vec, Global}
-use Rattle.std.proofs.lemmas.List.{drop_more, append_assoc, append-nil, map-append}
-use Rattle.std.proofs.lemmas.Grind.{common_steps}
+use Rattle.std.proofs.Common.{◌≡◌, ℕ, ◌+◌, ◌<◌, map, List, [], ◌∷◌, ◌++◌, Bool, Option, None, Result, Ok, Err, refl, sym, ap, ◌∙◌, subst, arith, Box, Vec, Global}
+use Rattle.std.proofs.lemmas.List.{append_assoc, append-nil, map-append}
 use denote.Param.Weighed.{most}
 use Rattle.block_layout.specs.declared.kind.Kind.{Kind}
 use Rattle.upc_text.specs.declared.place.Place.{Place}
@@ -23,7 +22,7 @@ use Rattle.typed_tree.specs.declared.tree.Item.{Item}
 use Rattle.typed_tree.specs.declared.tree.SwitchItem as w
 use Rattle.typed_tree.specs.declared.tree.SwitchItem.{SwitchItem}
 use Rattle.typed_tree.specs.declared.tree.Statement.{Statement}
-use Rattle.typed_tree.specs.Faults.{Seen, Fault, first_fault, or_later}
+use Rattle.typed_tree.specs.Faults.{first_fault, or_later}
 use Rattle.typed_tree.specs.Attributes.{base}
 use Rattle.typed_tree.specs.Nodes as n
 use Rattle.typed_tree.specs.Nodes.{Node, Around}
@@ -35,16 +34,16 @@ use Rattle.typed_tree.specs.ViewStatements.{view_arms, view_item, view_items, vi
 use Rattle.typed_tree.specs.ViewTree.{view_expr}
 use Rattle.typed_tree.specs.Views.{attr_tested}
 use Rattle.typed_tree.specs.Scopes.{Setting, Env, Tag, State}
-use Rattle.upc_checker.specs.declared.known.Known.{Known}
-use Rattle.upc_checker.specs.Counts.{counted}
-use Rattle.upc_checker.specs.Ends.{Stops, Comes, Meets}
-use Rattle.upc_checker.specs.Expressions.{at}
-use Rattle.upc_checker.specs.Finishes.{Refuses}
+use Rattle.declaration_checker.specs.declared.known.Known.{Known}
+use Rattle.declaration_checker.specs.Counts.{counted}
+use Rattle.declaration_checker.specs.Ends.{Comes, Meets}
+use Rattle.declaration_checker.specs.Expressions.{at}
+use Rattle.declaration_checker.specs.Finishes.{Refuses}
 use Rattle.upc_checker.specs.Statements.{Armed, Labelled, label_value, tests_of, walk_test, walk_for_head, walk_forall_head, walk_statement, walk_switch, walk_else_ifs, walk_otherwise, with_arm, with_case, with_default, with_statement}
-use Rattle.upc_checker.specs.Views.{state_with}
-use Rattle.upc_checker.specs.Walk.{Walked, Walk, give, andthen, judge, enclosed, facts_in}
-use Rattle.upc_checker.proofs.Walks.{stops, goes, first_of_two, encloses, judge_goes, judge_stops, Same, same_trans}
-use Rattle.upc_checker.proofs.Turns.{left, or_none, fault_at_end, IsLeft, behind, behind-append}
+use Rattle.declaration_checker.specs.Views.{state_with}
+use Rattle.declaration_checker.specs.Walk.{Walked, Walk, give, andthen, judge, enclosed, facts_in}
+use Rattle.declaration_checker.proofs.Walks.{stops, goes, first_of_two, encloses, judge_goes, judge_stops, Same, same_trans}
+use Rattle.declaration_checker.proofs.Turns.{fault_at_end, IsLeft, behind, behind-append}
 
 -- ---- lists
 

@@ -1,5 +1,5 @@
 -- What an outcome says of a source, in the words of its nodes.
-use Rattle.std.specs.Prelude.{◌≡◌, ℕ, List, None, Option, Some}
+use Rattle.std.specs.Prelude.{◌≡◌, ℕ, List, None, Some}
 use Rattle.upc_text.specs.declared.place.Refusal.{Refusal}
 use Rattle.upc_text.specs.declared.place.Code.TheVariants.{Typing, Limit}
 use Rattle.upc_tree.specs.Unit.{External}

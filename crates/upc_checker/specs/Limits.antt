@@ -9,17 +9,14 @@ use Rattle.typed_tree.specs.declared.setting.Home.{Home}
 use Rattle.typed_tree.specs.declared.setting.Home.TheVariants.{Shared}
 use Rattle.typed_tree.specs.Scopes.{begin}
 use Rattle.typed_tree.specs.Tree.{DeclaredObject}
-use Rattle.upc_checker.specs.Walk.{Walked}
+use Rattle.declaration_checker.specs.Walk.{Walked}
 use Rattle.upc_checker.specs.Units.{Made, setting, walk_unit}
+use Rattle.program_opening.specs.Objects.{is_shared}
 
 -- An object of the file that is not shared.
 abbrev pub is_private : Home → Bool
 is_private (Shared object) = false
 is_private home = true
-
-abbrev pub is_shared : Home → Bool
-is_shared (Shared object) = true
-is_shared home = false
 
 -- What is left of the room behind an object of this layout, None where it has more bytes. One that has no layout has none either: it is incomplete,
 -- or has more bytes than an object can have, and rules 6 and 8 refuse it before.

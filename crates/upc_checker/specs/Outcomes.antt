@@ -9,7 +9,7 @@ use Rattle.upc_types.specs.Types.{Structs}
 use Rattle.typed_tree.specs.Scopes.{begin}
 use Rattle.typed_tree.specs.Faults.{Fault, first_fault}
 use Rattle.typed_tree.specs.Tree.{DeclaredObject, Function}
-use Rattle.upc_checker.specs.Walk.{Walked}
+use Rattle.declaration_checker.specs.Walk.{Walked}
 use Rattle.upc_checker.specs.Units.{Made, setting, walk_unit}
 use Rattle.upc_checker.specs.Limits.{Passed, limit_in}
 

@@ -22,9 +22,9 @@ use Rattle.typed_tree.specs.Nodes as n
 use Rattle.typed_tree.specs.Nodes.{Attr, Around}
 use Rattle.typed_tree.specs.Tree as k
 use Rattle.typed_tree.specs.Tree.{attr_of, place_of, DeclaredObject}
-use Rattle.upc_checker.specs.Walk.{Walk, give, andthen, judge, enclosed}
-use Rattle.upc_checker.specs.Expressions.{at, walk, constantly}
-use Rattle.upc_checker.specs.Declarations.{walk_declaration}
+use Rattle.declaration_checker.specs.Walk.{Walk, give, andthen, judge, enclosed}
+use Rattle.declaration_checker.specs.Expressions.{at, walk, constantly}
+use Rattle.declaration_checker.specs.Declarations.{walk_declaration}
 
 -- ---- what stands around
 

@@ -1,5 +1,5 @@
 -- The walk over a whole source (C99 6.9).
-use Rattle.std.specs.Prelude.{ℕ, nat_eq, Bool, true, false, ◌&&◌, ◌||◌, List, [], ◌∷◌, ◌++◌, Option}
+use Rattle.std.specs.Prelude.{ℕ, nat_eq, Bool, true, false, ◌&&◌, List, [], ◌∷◌, ◌++◌, Option}
 use Rattle.std.specs.List.{list_any}
 use Rattle.std.specs.Cmp.Lexicographic.{pointwise}
 use Rattle.upc_text.specs.declared.place.Place.{Place}
@@ -14,15 +14,15 @@ use Rattle.typed_tree.specs.declared.setting.Enclosing.TheVariants as enclosing
 use Rattle.typed_tree.specs.Values.{value_type}
 use Rattle.typed_tree.specs.Meanings as m
 use Rattle.typed_tree.specs.Meanings.{Signature}
-use Rattle.typed_tree.specs.Scopes.{Setting, Env, file, spelling, is_taken, is_object, here, inside, with_entry, Scope, Within, NoScope, State, begin, with_function, differs, was_defined}
+use Rattle.typed_tree.specs.Scopes.{Setting, Env, file, spelling, inside, with_entry, Scope, Within, NoScope, begin, with_function, differs}
 use Rattle.typed_tree.specs.Faults.{Seen, Fault, first_fault}
 use Rattle.typed_tree.specs.Nodes as n
 use Rattle.typed_tree.specs.Nodes.{Around}
 use Rattle.typed_tree.specs.Tree.{DeclaredObject, Function, Statement}
-use Rattle.upc_checker.specs.Walk.{Walk, give, andthen, judge, update, look, enclosed}
-use Rattle.upc_checker.specs.Specifiers.{specifiers_form, specified_type}
-use Rattle.upc_checker.specs.Expressions.{no_place, specs_place, main_text, Specifying, walk_specs, walk_pointers, walk_parameters}
-use Rattle.upc_checker.specs.Declarations.{walk_declaration}
+use Rattle.declaration_checker.specs.Walk.{Walk, give, andthen, judge, update, look, enclosed}
+use Rattle.declaration_checker.specs.Specifiers.{specifiers_form, specified_type}
+use Rattle.declaration_checker.specs.Expressions.{no_place, specs_place, main_text, Specifying, walk_specs, walk_pointers, walk_parameters}
+use Rattle.declaration_checker.specs.Declarations.{walk_declaration, definition_again}
 use Rattle.upc_checker.specs.Statements.{walk_block}
 
 -- ---- what the source defines
@@ -53,10 +53,6 @@ pub record Made : Type 0 where
 
 abbrev pub body_around : CType → Around
 body_around result = record { result = value_type result; breaks = enclosing.Nothing; loops = false; forall = false }
-
--- A definition declares its name again: it is one of the library or of an object, or the function was defined.
-abbrev pub definition_again : Setting → Env → State → ℕ → Bool
-definition_again ξ Γ s name = is_taken ξ name || (is_object (here name Γ) || was_defined name s.functions)
 
 -- What was said of a function before its definition: whether that declares it again, and whether it differs.
 pub record Earlier : Type 0 where

@@ -13,9 +13,10 @@ use Rattle.upc_checker.specs.declared.whole.Checked as c
 use Rattle.upc_checker.specs.declared.units.Made as m
 use Rattle.typed_tree.specs.Scopes.{Env}
 use Rattle.upc_checker.specs.Units.{Made}
-use Rattle.upc_checker.specs.Limits.{Passed, is_private, is_shared}
+use Rattle.upc_checker.specs.Limits.{Passed, is_private}
 use Rattle.upc_checker.specs.Outcomes.{Checked}
 use Rattle.upc_checker.specs.Programs.{checked_of}
+use Rattle.program_opening.specs.Objects.{is_shared}
 
 -- Which objects are of a sort.
 abbrev pub view_sort : Sort → Home → Bool

@@ -2,35 +2,16 @@
 #![tactic(auto)]
 
 mod accept;
-mod called;
-mod declarations;
-mod defined;
-mod expressions;
-mod finish;
-mod functions;
-mod known;
+mod heads;
 pub mod laws;
 mod limits;
-mod marks;
-mod members;
-mod nodes;
-mod own_tags;
-mod parts;
-mod places;
-mod places_of_names;
 mod program;
-mod setting;
-mod shaped;
-mod signatures;
-mod source;
-mod specified;
+mod statement_nodes;
 mod statements;
-mod tags;
-mod types;
 mod units;
 mod whole;
-mod words;
 
 pub use accept::check;
 pub use program::Program;
-pub use program_opening::{SharedDecl, Value};
+pub use program_opening::SharedDecl;
+pub use upc_values::Value;

@@ -6,7 +6,7 @@ ghost use Rattle.typed_tree.specs.ViewStatements.{view_object};
 ghost use Rattle.upc_checker.specs.Limits as pure;
 ghost use Rattle.upc_checker.specs.ViewUnits.{view_passed, view_sort};
 
-use crate::known::Known;
+use declaration_checker::known::Known;
 use typed_tree::{Home, Object};
 use upc_text::Place;
 use upc_types::{Layout, Structs};

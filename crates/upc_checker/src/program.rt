@@ -9,10 +9,10 @@ ghost use Rattle.program_opening.specs.PrivateOpenings.{IsPrivateOpening};
 ghost use Rattle.upc_checker.specs.Programs.{IsAccepted, checked_of};
 
 use block_layout::{Loc, LocalPtr, Shape};
-use program_opening::{Beginning, SharedDecl, Value};
+use program_opening::{Beginning, SharedDecl};
 use typed_tree::{Function, Object};
 use upc_types::Structs;
-use upc_values::Scalar;
+use upc_values::{Scalar, Value};
 
 /// A program for a number of threads. Some source is accepted with just these structs, objects and functions: every node of it meets
 /// every typing rule, and it passes no limit. What the program begins with is an opening.

@@ -1,6 +1,6 @@
 //! A whole source: what it is, the first rule that is broken, or the first limit that is passed.
 
-ghost use Rattle.std.specs.Prelude.{◌≡◌, ◌<◌, map};
+ghost use Rattle.std.specs.Prelude.{◌<◌, map};
 ghost use Rattle.upc_tree.specs.ViewStatement as trees;
 ghost use Rattle.upc_types.specs.ViewStructs.{view_structs};
 ghost use Rattle.typed_tree.specs.ViewStatements.{view_object};
@@ -8,11 +8,11 @@ ghost use Rattle.upc_checker.specs.Limits as limits;
 ghost use Rattle.upc_checker.specs.Outcomes.{Answers, outcome};
 ghost use Rattle.upc_checker.specs.ViewUnits.{view_checked, KeepsLimits};
 
-use crate::known::{Known, nothing_known};
 use crate::limits::limit_in;
-use crate::setting::Setting;
-use crate::tags::Tags;
 use crate::units::{defined_in, walk_unit};
+use declaration_checker::known::{Known, nothing_known};
+use declaration_checker::setting::Setting;
+use declaration_checker::tags::Tags;
 use std::alloc::Global;
 use typed_tree::env::file;
 use typed_tree::{Function, Object};

@@ -1,8 +1,8 @@
 //! The tokens that are left, and why there is no tree.
 
-ghost use Rattle.std.specs.Prelude.{◌≡◌, if◌then◌else◌};
+ghost use Rattle.std.specs.Prelude.{◌≡◌};
 ghost use Rattle.upc_expressions.specs.declared.cursor.Fail.TheVariants.{Memory};
-ghost use Rattle.upc_expressions.specs.Outcome.{is_punct, is_word, span_of, starts, starts_two, expect_punct, expect_word};
+ghost use Rattle.upc_expressions.specs.Outcome.{is_punct, is_word, span_of, expect_punct, expect_word};
 ghost use Rattle.upc_expressions.specs.Expression.{name};
 ghost use Rattle.upc_expressions.specs.Run.{Reads, same};
 

@@ -1,6 +1,5 @@
 //! Items one after the other.
 
-ghost use Rattle.std.specs.Prelude.{◌≡◌};
 ghost use Rattle.upc_expressions.specs.Ahead.{shows};
 ghost use Rattle.upc_expressions.specs.Run.{Ran};
 

@@ -2,7 +2,7 @@
 
 ghost use Rattle.std.specs.Prelude.{◌≡◌, IfOk, Vec};
 ghost use Rattle.upc_tree.specs.Expression as t;
-ghost use Rattle.upc_tree.specs.View.{view, view_arguments, view_next_exprs, view_type, view_spec, view_specs, view_layout, view_pointers, view_dimensions, view_members, view_member, view_next_declarators, view_declarator, view_parameters, view_parameter, view_next_parameter, view_next_parameters, view_array, view_dimension};
+ghost use Rattle.upc_tree.specs.View.{view, view_arguments, view_next_exprs, view_type, view_spec, view_specs, view_layout, view_pointers, view_dimensions, view_members, view_member, view_next_declarators, view_declarator, view_parameters, view_parameter, view_next_parameter, view_next_parameters, view_array};
 
 use std::alloc::Global;
 use upc_text::OutOfMemory;

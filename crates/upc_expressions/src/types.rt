@@ -1,7 +1,7 @@
 //! Types (C99 6.7.2, 6.7.3, 6.7.6; UPC 6.5.1).
 
 ghost use Rattle.std.specs.Prelude.{◌≡◌, ◌≤◌};
-ghost use Rattle.upc_tree.specs.View.{view, view_type, view_spec, view_specs, view_qual, view_quals, view_layout, view_pointer, view_pointers, view_dimension, view_dimensions};
+ghost use Rattle.upc_tree.specs.View.{view_type, view_spec, view_specs, view_qual, view_quals, view_layout, view_pointer, view_pointers, view_dimension, view_dimensions};
 ghost use Rattle.upc_expressions.specs.Expression as spec;
 ghost use Rattle.upc_expressions.specs.Expression.{at_height};
 ghost use Rattle.upc_expressions.specs.Outcome.{span_of};

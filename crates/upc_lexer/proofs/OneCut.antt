@@ -126,7 +126,7 @@ no_gap_text t r (blank b x h) e = omega (arith, ap length (sym e ∙ x))
 no_gap_text t r (line x f g k) e = omega (arith, ap length (sym e ∙ f))
 no_gap_text t r (block x f g) e = omega (arith, ap length (sym e ∙ f))
 
-empty_front : (t r : List ℕ) → [] ≡ t ++ r → t ≡ []
+pub empty_front : (t r : List ℕ) → [] ≡ t ++ r → t ≡ []
 empty_front [] r e = refl
 empty_front (x ∷ t) r e = absurd (omega (arith, ap length e))
 

@@ -1,5 +1,5 @@
 -- A source has one list of tokens, and one refusal.
-use Rattle.std.proofs.Common.{◌≡◌, ℕ, zero, suc, Bool, true, false, not, cond, ◌||◌, List, [], ◌∷◌, ◌++◌, filter, length, append-nil, Some, refl, sym, ap, ◌∙◌, subst, arith}
+use Rattle.std.proofs.Common.{◌≡◌, ℕ, zero, suc, Bool, true, false, not, cond, ◌||◌, List, [], ◌∷◌, ◌++◌, filter, append-nil, Some, refl, sym, ap, ◌∙◌, subst}
 use Rattle.std.specs.List.{list_any, slice_get}
 use Rattle.upc_text.specs.declared.place.Code.{Code}
 use Rattle.upc_text.specs.declared.place.Refusal.{Refusal}
@@ -11,8 +11,8 @@ use Rattle.upc_lexer.specs.Places.{place_after}
 use Rattle.upc_lexer.specs.Tokens.{Piece, gap, lexeme, joined, names_in, tokens_in, IsToken, IsPlainName, Spells, AreTokensOf, Refuses, nothing, no_constant, no_type, long_name, long_string, RefusedAt}
 use Rattle.upc_lexer.proofs.NameLemmas.{is_same-refl}
 use Rattle.upc_lexer.proofs.TokenHeads.{no_token}
-use Rattle.upc_lexer.proofs.Sorts.{of_name, of_number, of_character, of_string, of_mark, spelled_sort, character_once, string_once, number_once}
-use Rattle.upc_lexer.proofs.OneCut.{SameCut, compare, joined_same, end_stuck, refused_stuck, code_once, two_sorts}
+use Rattle.upc_lexer.proofs.Sorts.{of_name, of_number, of_character, of_string, of_mark, spelled_sort, character_once, string_once, number_once, some_list}
+use Rattle.upc_lexer.proofs.OneCut.{SameCut, compare, joined_same, end_stuck, refused_stuck, code_once, two_sorts, empty_front}
 use Rattle.upc_lexer.proofs.WordTable.{one_spelling}
 use Rattle.upc_lexer.proofs.MarkTable.{one_spelling as one_mark}
 
@@ -97,19 +97,12 @@ names_same n m (lexeme t k ∷ ps) (lexeme s l ∷ qs) h =
     let named : is_named k ≡ is_named l = named_if n m k l s (subst (Spells n k) h.0 h.1) h.2 in
     names_cons t k ps ∙ ap (λ b. cond b (t ∷ names_in ps) (names_in ps)) named ∙ ap (λ x. cond (is_named l) (x ∷ names_in ps) (names_in ps)) h.0 ∙ ap (λ xs. cond (is_named l) (s ∷ xs) xs) rest ∙ sym (names_cons s l qs)
 
-some_is : {t s : List ℕ} → Some t ≡ Some s → t ≡ s
-some_is e = cc
-
 or_true : (a : Bool) → (a || true) ≡ true
 or_true true = refl
 or_true false = refl
 
 true_false : true ≡ false → ⊥
 true_false e = cc
-
-empty_text : (t r : List ℕ) → [] ≡ t ++ r → t ≡ []
-empty_text [] r e = refl
-empty_text (x ∷ t) r e = absurd (omega (arith, ap length e))
 
 -- no name comes twice
 abbrev pub IsDistinct : List (List ℕ) → Type 0
@@ -150,14 +143,14 @@ firsts_distinct (x ∷ xs) = (filter_other x (firsts xs), filter_distinct (λ z.
 
 stands_in : (xs : List (List ℕ)) (n : ℕ) (t : List ℕ) → slice_get xs n ≡ Some t → list_any (is_same t) xs ≡ true
 stands_in [] n t e = absurd cc
-stands_in (x ∷ xs) zero t e = let same : x ≡ t = some_is e in rw (is_same-refl t x (sym same)) refl
+stands_in (x ∷ xs) zero t e = let same : x ≡ t = some_list e in rw (is_same-refl t x (sym same)) refl
 stands_in (x ∷ xs) (suc n) t e = rw (stands_in xs n t e) (or_true (is_same t x))
 
 one_number : (xs : List (List ℕ)) (n m : ℕ) (t : List ℕ) → IsDistinct xs → slice_get xs n ≡ Some t → slice_get xs m ≡ Some t → n ≡ m
 one_number [] n m t d e f = absurd cc
 one_number (x ∷ xs) zero zero t d e f = refl
-one_number (x ∷ xs) zero (suc m) t d e f = let same : x ≡ t = some_is e in absurd (true_false (sym (stands_in xs m t f) ∙ subst (λ y. list_any (is_same y) xs ≡ false) same d.0))
-one_number (x ∷ xs) (suc n) zero t d e f = let same : x ≡ t = some_is f in absurd (true_false (sym (stands_in xs n t e) ∙ subst (λ y. list_any (is_same y) xs ≡ false) same d.0))
+one_number (x ∷ xs) zero (suc m) t d e f = let same : x ≡ t = some_list e in absurd (true_false (sym (stands_in xs m t f) ∙ subst (λ y. list_any (is_same y) xs ≡ false) same d.0))
+one_number (x ∷ xs) (suc n) zero t d e f = let same : x ≡ t = some_list f in absurd (true_false (sym (stands_in xs n t e) ∙ subst (λ y. list_any (is_same y) xs ≡ false) same d.0))
 one_number (x ∷ xs) (suc n) (suc m) t d e f = ap (λ n. suc n) (one_number xs n m t d.1 e f)
 
 -- a text spells one kind
@@ -243,10 +236,10 @@ refusal_once source r q h g =
 
 not_nothing : (code : Code) → Refuses [] code → ⊥
 not_nothing code (nothing c n g l) = n refl
-not_nothing code (no_constant text rest c e h n f) = no_token (subst IsToken (empty_text text rest e) h.longest.spelled)
-not_nothing code (no_type text rest c e h n f) = no_token (subst IsToken (empty_text text rest e) h.longest.spelled)
-not_nothing code (long_name text rest c e h n f) = no_token (subst IsToken (empty_text text rest e) h.longest.spelled)
-not_nothing code (long_string text rest value c e h n f) = no_token (subst IsToken (empty_text text rest e) h.longest.spelled)
+not_nothing code (no_constant text rest c e h n f) = no_token (subst IsToken (empty_front text rest e) h.longest.spelled)
+not_nothing code (no_type text rest c e h n f) = no_token (subst IsToken (empty_front text rest e) h.longest.spelled)
+not_nothing code (long_name text rest c e h n f) = no_token (subst IsToken (empty_front text rest e) h.longest.spelled)
+not_nothing code (long_string text rest value c e h n f) = no_token (subst IsToken (empty_front text rest e) h.longest.spelled)
 
 -- and never both
 pub tokens_or_refusal : (source : List ℕ) (ts : List Token) (n : List (List ℕ)) (r : Refusal) → AreTokensOf source ts n → RefusedAt source r → ⊥

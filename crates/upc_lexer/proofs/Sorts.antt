@@ -144,7 +144,7 @@ character_once text v w h g = elim h [
   ]
 ]
 
-some_list : {v w : List ℕ} → Some v ≡ Some w → v ≡ w
+pub some_list : {v w : List ℕ} → Some v ≡ Some w → v ≡ w
 some_list e = cc
 
 same_front : (xs ys : List ℕ) (a b : ℕ) → xs ++ a ∷ [] ≡ ys ++ b ∷ [] → xs ≡ ys

@@ -1,5 +1,5 @@
 //! Operators and punctuation (C99 6.4.6).
-ghost use Rattle.std.specs.Prelude.{◌≡◌, ℕ, ◌≤◌, length, take, IfSome, IfNone};
+ghost use Rattle.std.specs.Prelude.{◌≡◌, ◌≤◌, length, take, IfSome, IfNone};
 ghost use Rattle.upc_lexer.specs.declared.token.Punct.{Punct as Mark};
 ghost use Rattle.upc_lexer.specs.Marks.{mark_bytes};
 

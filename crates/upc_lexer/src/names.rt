@@ -1,5 +1,5 @@
 //! The names of a source.
-ghost use Rattle.std.specs.Prelude.{◌≡◌, ◌<◌, ◌^◌, ◌↔◌, [], Some, None, slice_get, length, IsTrue, IfOk, IfSome, IfNone, OnOk, OnErr, MatchOption};
+ghost use Rattle.std.specs.Prelude.{◌≡◌, ◌<◌, ◌↔◌, [], Some, None, slice_get, length, IsTrue, IfOk, OnOk, MatchOption};
 ghost use Rattle.upc_lexer.specs.Names.{insert_name};
 
 use indexmap::IndexSet;

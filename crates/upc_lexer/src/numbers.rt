@@ -1,5 +1,5 @@
 //! Integer constants (C99 6.4.4.1).
-ghost use Rattle.std.specs.Prelude.{◌≡◌, ◌<◌, ◌≤◌, ◌^◌, IfOk, IfErr, MatchOption, SomeIff};
+ghost use Rattle.std.specs.Prelude.{◌≡◌, ◌<◌, ◌^◌, IfOk, IfErr, SomeIff};
 ghost use Rattle.std.specs.List.{prefix_len};
 ghost use Rattle.upc_lexer.specs.Numbers.{is_digit_in, radix, digit_value, value_in, is_u, is_l, is_ll, suffix_of, kinds, greatest, kind_of, IsNumber, RefusesNumber};
 ghost use Rattle.upc_lexer.specs.NumberParts.{base_of, behind_prefix};

@@ -5,7 +5,8 @@ use Rattle.std.specs.List.{slice_index_or}
 use Rattle.upc_lexer.specs.declared.token.Token.{Token}
 use Rattle.upc_lexer.specs.declared.token.TokenKind.{TokenKind}
 use Rattle.upc_lexer.specs.declared.token.TokenKind.TheVariants.{Name, Word, Number, Character, Str, Punct, Pragma}
-use Rattle.upc_macros.specs.Replacing.{Macros, body_of, without, plain, replaced, defined_count}
+use Rattle.upc_macros.specs.Replacing.{Macros, body_of, without, replaced, defined_count}
+use Rattle.upc_macros.proofs.WalkLemmas.{replaced_plain}
 
 flat_same : (f g : Token → List Token) → ((t : Token) → f t ≡ g t) → (ts : List Token) → flat_map f ts ≡ flat_map g ts
 flat_same f g e [] = refl
@@ -27,19 +28,15 @@ one_less_by macros t (Str v) body k e = let f = rw k at e in absurd cc
 one_less_by macros t (Punct m) body k e = let f = rw k at e in absurd cc
 one_less_by macros t (Pragma b) body k e = let f = rw k at e in absurd cc
 
-plain_at : (d : ℕ) (source : List ℕ) (macros : Macros) (t : Token) → body_of macros t ≡ None → replaced d source macros t ≡ plain source t ∷ []
-plain_at zero source macros t e = refl
-plain_at (suc d) source macros t e = rw e refl
-
 macro_at : (d : ℕ) (source : List ℕ) (macros : Macros) (t : Token) (body : List Token) → body_of macros t ≡ Some body → replaced (suc d) source macros t ≡ flat_map (replaced d source (without macros t.kind)) body
 macro_at d source macros t body e = rw e refl
 
 at_zero : (e : ℕ) (source : List ℕ) (macros : Macros) (t : Token) (body : Option (List Token)) → body_of macros t ≡ body → defined_count macros ≤ 0 → replaced zero source macros t ≡ replaced e source macros t
-at_zero e source macros t None h le = sym (plain_at e source macros t h)
+at_zero e source macros t None h le = sym (replaced_plain e source macros t h)
 at_zero e source macros t (Some b) h le = absurd (omega (arith, one_less_by macros t t.kind b refl h))
 
 at_more : (d e : ℕ) (source : List ℕ) (macros : Macros) (t : Token) (body : Option (List Token)) → body_of macros t ≡ body → ((k : ℕ) (m : Macros) (u : Token) → defined_count m ≤ d → defined_count m ≤ k → replaced d source m u ≡ replaced k source m u) → defined_count macros ≤ suc d → defined_count macros ≤ e → replaced (suc d) source macros t ≡ replaced e source macros t
-at_more d e source macros t None h rest le within = plain_at (suc d) source macros t h ∙ sym (plain_at e source macros t h)
+at_more d e source macros t None h rest le within = replaced_plain (suc d) source macros t h ∙ sym (replaced_plain e source macros t h)
 at_more d zero source macros t (Some b) h rest le within = absurd (omega (arith, one_less_by macros t t.kind b refl h))
 at_more d (suc e) source macros t (Some b) h rest le within =
     let less = one_less_by macros t t.kind b refl h in

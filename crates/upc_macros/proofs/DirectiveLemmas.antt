@@ -14,21 +14,11 @@ use Rattle.upc_macros.specs.Spelling.{between, spelling, is_spelled, are_alike, 
 use Rattle.std.proofs.lemmas.List.{get_or-take, get_or-drop, take_all}
 use Rattle.upc_macros.specs.Table.{IsNumbered, IsWithin, AreInOrder}
 use Rattle.upc_macros.specs.Directives.{header_effect, include_effect, macro_name, has_parameters, define_name, define_effect, undefine_effect, access_effect, pragma_effect, effect_of}
-
-and_left : (a b : Bool) → (a && b) ≡ true → a ≡ true
-and_left true b h = refl
-and_left false b h = h
-
-and_right : (a b : Bool) → (a && b) ≡ true → b ≡ true
-and_right true b h = h
-and_right false b h = absurd cc
+use Rattle.upc_lexer.proofs.Lists.{and_left, and_right}
+use Rattle.std.proofs.Math.Bool.{and-false}
 
 and_true : (a : Bool) → a ≡ true → (a && true) ≡ true
 and_true a h = rw h refl
-
-and_false : (a : Bool) → (a && false) ≡ false
-and_false true = refl
-and_false false = refl
 
 abbrev alike : List ℕ → Token → Token → Bool
 alike source x y = pointwise nat_eq (spelling source x) (spelling source y)
@@ -45,7 +35,7 @@ pub alike_no : (source : List ℕ) (xs ys : List Token) (i : ℕ) (x y : Token) 
 alike_no source [] ys i x y lt le e f h = absurd (omega arith)
 alike_no source (a ∷ xs) [] i x y lt le e f h = absurd (omega arith)
 alike_no source (a ∷ xs) (b ∷ ys) zero x y lt le e f h = rw (← e, ← f, h) refl
-alike_no source (a ∷ xs) (b ∷ ys) (suc i) x y lt le e f h = rw (alike_no source xs ys i x y (omega arith) (omega arith) e f h) (and_false (alike source a b))
+alike_no source (a ∷ xs) (b ∷ ys) (suc i) x y lt le e f h = rw (alike_no source xs ys i x y (omega arith) (omega arith) e f h) (and-false (alike source a b))
 
 -- the last of some tokens
 pub last_is : (t : Token) (ts : List Token) (x : Token) → x ≡ get_or (t ∷ ts) (length ts) x → last_end t ts ≡ x.end

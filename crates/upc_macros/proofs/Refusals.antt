@@ -5,15 +5,16 @@ use Rattle.upc_text.specs.declared.place.Refusal.{Refusal}
 use Rattle.upc_text.specs.declared.faults.Stop.{Stop}
 use Rattle.upc_text.specs.declared.faults.Stop.TheVariants.{Refused, Memory}
 use Rattle.upc_lexer.specs.declared.token.Token.{Token}
-use Rattle.upc_macros.specs.Expansion.{Item, given, bad, token_refusal, or_first, first_refusal}
+use Rattle.upc_macros.specs.Expansion.{Item, given, bad, token_refusal, first_refusal}
 use Rattle.upc_macros.specs.Table.{Takes, StopsIn}
+use Rattle.std.specs.Option.{option_or}
 
-or_first_twice : (a b c : Option Refusal) → or_first a (or_first b c) ≡ or_first (or_first a b) c
+or_first_twice : (a b c : Option Refusal) → option_or a (option_or b c) ≡ option_or (option_or a b) c
 or_first_twice None b c = refl
 or_first_twice (Some r) b c = refl
 
 -- of two lists of items: the first refusal of the one, else of the other
-pub first_refusal-append : (n : ℕ) (xs ys : List Item) → first_refusal n (xs ++ ys) ≡ or_first (first_refusal n xs) (first_refusal (n + length xs) ys)
+pub first_refusal-append : (n : ℕ) (xs ys : List Item) → first_refusal n (xs ++ ys) ≡ option_or (first_refusal n xs) (first_refusal (n + length xs) ys)
 first_refusal-append n [] ys = let k : n + 0 ≡ n = omega arith in rw k refl
 first_refusal-append n (bad p ∷ xs) ys = refl
 first_refusal-append n (given t ∷ xs) ys =

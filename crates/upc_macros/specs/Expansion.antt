@@ -14,6 +14,7 @@ use Rattle.upc_lexer.specs.declared.token.Punct.TheVariants.{Hash}
 use Rattle.upc_macros.specs.Spelling.{last_end}
 use Rattle.upc_macros.specs.Replacing.{Macros, replaced, placed}
 use Rattle.upc_macros.specs.Directives.{Effect, pragma, define, undefine, effect_of}
+use Rattle.std.specs.Option.{option_or}
 
 -- a token put before lines: into the first if it is of that line, else a line of its own
 abbrev pub onto : Token → List (List Token) → List (List Token)
@@ -102,15 +103,11 @@ word_refusal place None before = if nat_le 1048576 before then Some (record { pl
 abbrev pub token_refusal : ℕ → Token → Option Refusal
 token_refusal before t = word_refusal t.place (refused_word t.kind) before
 
-abbrev pub or_first : Option Refusal → Option Refusal → Option Refusal
-or_first None later = later
-or_first (Some refusal) later = Some refusal
-
 -- the first refusal among items that stand behind so many tokens: a bad `#`, a refused word, or one token too many
 abbrev pub first_refusal : ℕ → List Item → Option Refusal
 first_refusal before [] = None
 first_refusal before (bad place ∷ rest) = Some (record { place = place; code = Directive })
-first_refusal before (given t ∷ rest) = or_first (token_refusal before t) (first_refusal (1 + before) rest)
+first_refusal before (given t ∷ rest) = option_or (token_refusal before t) (first_refusal (1 + before) rest)
 
 -- the tokens are the whole expansion, and none of them is refused
 pub record IsExpansion (source : List ℕ) (tokens : List Token) (names : ℕ) (out : List Token) : Type 0 where

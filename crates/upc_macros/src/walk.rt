@@ -1,8 +1,7 @@
 //! The walk through macros that lie in one another.
-ghost use Rattle.std.specs.Prelude.{◌≡◌, ◌+◌, ◌-◌, ◌<◌, ◌≤◌, Some, None, [], ◌∷◌, length, map, slice_get, slice_set, IfErr, OnOk};
-ghost use Rattle.upc_macros.specs.Expansion.{given};
-ghost use Rattle.upc_macros.specs.Replacing.{placed, replaced};
-ghost use Rattle.upc_macros.specs.Table.{seen, AreInOrder, AreBodies, IsNumbered, IsBody, IsWithin, Takes, StopsIn, macro_count};
+ghost use Rattle.std.specs.Prelude.{◌≡◌, ◌+◌, ◌-◌, ◌<◌, ◌≤◌, Some, None, [], ◌∷◌, length, slice_set, IfErr, OnOk};
+ghost use Rattle.upc_macros.specs.Replacing.{replaced};
+ghost use Rattle.upc_macros.specs.Table.{seen, AreInOrder, AreBodies, IsWithin, Takes, StopsIn, macro_count};
 ghost use Rattle.upc_macros.specs.Walk.{IsFrame, placed_items, pending};
 
 use crate::output::{emit, plain_token};

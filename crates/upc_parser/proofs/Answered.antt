@@ -1,10 +1,9 @@
 -- The clauses of `parse`, from what it computes.
-use Rattle.std.proofs.Common.{◌≡◌, ℕ, ◌<◌, ◌≤◌, List, [], ◌∷◌, length, Result, Ok, Err, refl, sym, ap, ◌∙◌, ◌⊎◌, inl, inr, arith}
+use Rattle.std.proofs.Common.{◌≡◌, ◌<◌, ◌≤◌, List, [], ◌∷◌, length, Result, Ok, Err, refl, sym, ap, ◌∙◌, ◌⊎◌, inl, inr, arith}
 use Rattle.std.specs.Prelude.{IfOk}
 use Rattle.upc_lexer.specs.declared.token.Token.{Token}
 use Rattle.upc_text.specs.declared.place.Code.{Code}
 use Rattle.upc_text.specs.declared.place.Code.TheVariants as c
-use Rattle.upc_text.specs.declared.place.Refusal.{Refusal}
 use Rattle.upc_text.specs.declared.faults.Stop.{Stop}
 use Rattle.upc_text.specs.declared.faults.Stop.TheVariants as s
 use Rattle.upc_tree.specs.declared.unit.Unit as u
@@ -14,7 +13,7 @@ use Rattle.upc_expressions.specs.declared.cursor.Fault.{Fault}
 use Rattle.upc_expressions.specs.declared.cursor.Fault.TheVariants.{NoTree, TooHigh}
 use Rattle.upc_expressions.specs.Outcome.{Outcome}
 use Rattle.upc_parser.specs.Parse.{externals_at, unit_at}
-use Rattle.upc_parser.specs.Answer.{answer, settle, settled_fault, code_of, IsRefusal, Ends, Answers, RefusedBy, OnlyRefused}
+use Rattle.upc_parser.specs.Answer.{answer, settle, settled_fault, code_of, Ends, Answers, RefusedBy, OnlyRefused}
 use Rattle.upc_parser.proofs.Laws as laws
 
 abbrev settled : List External → Result (List External) Fault

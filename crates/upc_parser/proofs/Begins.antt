@@ -1,5 +1,5 @@
 -- How declarations and statements begin, and what may follow a statement.
-use Rattle.std.proofs.Common.{◌≡◌, ℕ, Bool, true, false, not, List, [], ◌∷◌, Option, Some, None, refl, sym, ap, ◌∙◌, subst}
+use Rattle.std.proofs.Common.{◌≡◌, Bool, true, false, List, [], ◌∷◌, Option, Some, None, refl}
 use Rattle.upc_lexer.specs.declared.token.TokenKind.{TokenKind}
 use Rattle.upc_lexer.specs.declared.token.TokenKind.TheVariants as k
 use Rattle.upc_lexer.specs.declared.token.Token.{Token}
@@ -11,19 +11,18 @@ use Rattle.upc_tree.specs.declared.mark.BarrierWord.TheVariants as bw
 use Rattle.upc_tree.specs.declared.span.Span.{Span}
 use Rattle.upc_tree.specs.declared.span.Pragma.{Pragma}
 use Rattle.upc_tree.specs.Marks.{barrier_word}
-use Rattle.upc_tree.specs.Tokens.{punct, word, pragma_token}
+use Rattle.upc_tree.specs.Tokens.{punct, word}
 use Rattle.upc_tree.specs.Expression.{Expr, Specs, spell, spell_specs}
 use Rattle.upc_tree.specs.Proper.{IsSome, ProperSpecs}
 use Rattle.upc_tree.specs.Declaration.{Declaration, Declares, spell_declaration, spell_declared_list, ProperDeclaration, IsLocal}
 use Rattle.upc_tree.specs.Statement as s
-use Rattle.upc_tree.specs.Statement.{Statement, Compound, Braces, BlockItem, DeclarationItem, StatementItem, BlockItems, NoBlockItems, AndBlockItem, SwitchItem, CaseItem, DefaultItem, SwitchStatement, SwitchItems, NoSwitchItems, AndSwitchItem, ElseIfs, NoElseIfs, AndElseIf, Otherwise, NoOtherwise, Else, spell_value, spell_test, spell_statement, spell_compound, spell_block_items, spell_block_item, spell_switch_items, spell_switch_item, spell_else_ifs, spell_otherwise, takes_else, takes_else_behind, is_if, KeepsElse, ProperBlockItem, ProperBlockItems}
-use Rattle.upc_expressions.specs.Outcome.{is_punct, is_word, starts, starts_two}
+use Rattle.upc_tree.specs.Statement.{Statement, Compound, Braces, BlockItem, DeclarationItem, StatementItem, BlockItems, NoBlockItems, AndBlockItem, SwitchItem, CaseItem, DefaultItem, SwitchStatement, ElseIfs, NoElseIfs, AndElseIf, Otherwise, NoOtherwise, Else, spell_value, spell_statement, spell_compound, spell_block_items, spell_block_item, spell_switch_item, spell_else_ifs, spell_otherwise, takes_else, takes_else_behind, is_if, KeepsElse, ProperBlockItem, ProperBlockItems}
+use Rattle.upc_expressions.specs.Outcome.{is_word, starts}
 use Rattle.upc_expressions.specs.Tables.{is_spec}
 use Rattle.upc_expressions.specs.Ahead.{is_pragma}
 use Rattle.upc_expressions.proofs.Sequence.{apart}
 use Rattle.upc_expressions.proofs.Stops.{begins, expr_begins}
 use Rattle.upc_expressions.proofs.CompleteTypes.{specs_begin}
-use Rattle.upc_parser.specs.declared.start.StatementStart.{StatementStart}
 use Rattle.upc_parser.specs.declared.start.StatementStart.TheVariants as start
 use Rattle.upc_parser.specs.Tables.{statement_start}
 use Rattle.upc_parser.specs.Parse.{no_brace}

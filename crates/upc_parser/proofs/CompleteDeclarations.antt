@@ -1,5 +1,5 @@
 -- The tokens of a proper declaration, and of the parts of statements that are no statements, are read as they are.
-use Rattle.std.proofs.Common.{◌≡◌, ℕ, zero, suc, ◌+◌, ◌<◌, ◌≤◌, max, Bool, true, false, List, [], ◌∷◌, length, Option, Some, None, Result, Ok, Err, refl, sym, ap, ◌∙◌, subst, arith}
+use Rattle.std.proofs.Common.{◌≡◌, ℕ, zero, suc, ◌<◌, ◌≤◌, Bool, true, false, List, [], ◌∷◌, length, Option, Some, None, Ok, refl, arith}
 use Rattle.upc_lexer.specs.declared.token.Token.{Token}
 use Rattle.upc_lexer.specs.declared.token.TokenKind.{TokenKind}
 use Rattle.upc_lexer.specs.declared.token.TokenKind.TheVariants as k
@@ -8,20 +8,18 @@ use Rattle.upc_lexer.specs.declared.token.Punct.TheVariants as p
 use Rattle.upc_lexer.specs.declared.token.Word.TheVariants as w
 use Rattle.upc_tree.specs.declared.span.Span.{Span}
 use Rattle.upc_tree.specs.declared.span.Pragma.{Pragma}
-use Rattle.upc_tree.specs.Tokens.{punct, word, name_token, spell_pragmas}
-use Rattle.upc_tree.specs.Expression.{Expr, Specs, Declarator, ObjectDeclarator, FunctionDeclarator, NoPointers, AndPointer, NextExprs, spell, spell_next_exprs, spell_specs, spell_declarator}
+use Rattle.upc_tree.specs.Tokens.{punct, spell_pragmas}
+use Rattle.upc_tree.specs.Expression.{Expr, Declarator, ObjectDeclarator, FunctionDeclarator, NoPointers, AndPointer, spell, spell_next_exprs, spell_declarator}
 use Rattle.upc_tree.specs.Proper.{open_specs}
-use Rattle.upc_tree.specs.Declaration as d
 use Rattle.upc_tree.specs.Declaration.{Initial, NoInitial, ValueInitial, ListInitial, Declared, DeclaredAs, NextDeclareds, NoNextDeclareds, AndDeclared, DeclaredList, NoneDeclared, SomeDeclared, Declaration, Declares, spell_initial, spell_declared, spell_next_declareds, spell_declared_list, spell_declaration, height_initial, height_declared, height_next_declareds, height_declared_list, height_declaration, ProperInitial, ProperDeclared, ProperNextDeclareds, ProperDeclaredList, ProperDeclaration, IsLocal}
 use Rattle.upc_tree.specs.Statement.{Test, Tests, First, FirstValue, FirstDeclaration, Affinity, NoAffinity, ContinueAffinity, ValueAffinity, ForHead, ForParts, ForallHead, ForallParts, spell_value, spell_test, spell_first, spell_affinity, spell_for, spell_forall, height_value, height_test, height_first, height_affinity, height_for, height_forall, ProperValue, ProperTest, ProperFirst, ProperAffinity, ProperFor, ProperForall}
 use Rattle.upc_tree.specs.Lists.{next_declareds_of}
-use Rattle.upc_expressions.specs.declared.cursor.Fault.TheVariants.{NoTree, TooHigh}
 use Rattle.upc_expressions.specs.declared.start.Joint.TheVariants as joint
-use Rattle.upc_expressions.specs.Outcome.{Outcome, Parser, ◌>>=◌, is_punct, is_word, starts, starts_two, many, all}
+use Rattle.upc_expressions.specs.Outcome.{is_punct, is_word, starts, many}
 use Rattle.upc_expressions.specs.Tables.{is_spec}
 use Rattle.upc_expressions.specs.Ahead.{is_pragma}
 use Rattle.upc_expressions.specs.Expression.{at_height}
-use Rattle.upc_expressions.proofs.Sequence.{Gets, gets, high, got, step, raise, along, apart}
+use Rattle.upc_expressions.proofs.Sequence.{Gets, gets, high, step, apart}
 use Rattle.upc_expressions.proofs.Lists.{Follows, listed_reads}
 use Rattle.upc_expressions.proofs.Stops.{Stops, stops_joint, stops_open, begins, expr_begins, expr_no_punct, expr_no_spec, Behind, behind_declarator}
 use Rattle.upc_expressions.proofs.CompleteTypes.{Named, stops_next, specs_reads, declarator_reads, next_exprs_reads}

@@ -1,27 +1,26 @@
 -- The tokens of a proper source are read as that source.
-use Rattle.std.proofs.Common.{◌≡◌, ℕ, zero, suc, ◌+◌, ◌<◌, ◌≤◌, max, Bool, true, false, List, [], ◌∷◌, length, Result, Ok, Err, refl, sym, ap, ◌∙◌, subst, arith}
+use Rattle.std.proofs.Common.{◌≡◌, ℕ, zero, suc, ◌<◌, max, true, false, List, [], ◌∷◌, length, refl, arith}
 use Rattle.upc_lexer.specs.declared.token.Token.{Token}
 use Rattle.upc_lexer.specs.declared.token.Punct.TheVariants as p
 use Rattle.upc_tree.specs.declared.span.Span.{Span}
 use Rattle.upc_tree.specs.declared.span.Name.{Name}
 use Rattle.upc_tree.specs.Tokens.{punct, name_token}
-use Rattle.upc_tree.specs.Expression.{Specs, Pointers, Declarator, ObjectDeclarator, FunctionDeclarator, Dimensions, NoDimensions, Parameters, spell_specs, spell_pointers, spell_declarator, spell_dimensions, spell_parameters, height_pointers, height_declarator, height_parameters}
-use Rattle.upc_tree.specs.Proper.{IsSome, ProperSpecs, ProperPointers, ProperDeclarator, ProperParameters, open_specs}
-use Rattle.upc_tree.specs.Declaration.{Initial, Declared, DeclaredAs, NextDeclareds, DeclaredList, NoneDeclared, SomeDeclared, Declaration, Declares, spell_initial, spell_next_declareds, spell_declared_list, spell_declaration, height_initial, height_next_declareds, height_declaration, ProperInitial, ProperNextDeclareds, ProperDeclaration}
+use Rattle.upc_tree.specs.Expression.{Specs, Pointers, Declarator, ObjectDeclarator, FunctionDeclarator, NoDimensions, Parameters, spell_pointers, spell_declarator, spell_dimensions, spell_parameters, height_pointers, height_declarator, height_parameters}
+use Rattle.upc_tree.specs.Proper.{ProperPointers, ProperDeclarator, ProperParameters, open_specs}
+use Rattle.upc_tree.specs.Declaration.{Initial, DeclaredAs, NextDeclareds, NoneDeclared, SomeDeclared, Declares, spell_initial, spell_next_declareds, spell_declared_list, height_initial, height_next_declareds, ProperInitial, ProperNextDeclareds}
 use Rattle.upc_tree.specs.Statement.{Compound, Braces, spell_compound, height_compound, ProperCompound}
 use Rattle.upc_tree.specs.Unit.{External, PragmaPart, DeclarationPart, FunctionPart, spell_external, spell_externals, height_external, height_externals, height_unit, tokens_of, ProperExternal, ProperExternals, IsFilled, ProperUnit}
-use Rattle.upc_tree.specs.Lists.{spell_all, highest}
-use Rattle.upc_expressions.specs.declared.cursor.Fault.TheVariants.{TooHigh}
-use Rattle.upc_expressions.specs.Outcome.{Outcome, Parser, ◌>>=◌, is_punct, starts, many, all}
-use Rattle.upc_expressions.specs.Ahead.{is_pragma, is_any}
+use Rattle.upc_tree.specs.Lists.{spell_all}
+use Rattle.upc_expressions.specs.Outcome.{is_punct, starts}
+use Rattle.upc_expressions.specs.Ahead.{is_any}
 use Rattle.upc_expressions.specs.Expression.{at_height}
 use Rattle.upc_expressions.proofs.Sequence.{Gets, gets, high, step, raise, along}
-use Rattle.upc_expressions.proofs.Lists.{AllOf, Follows, many_reads}
-use Rattle.upc_expressions.proofs.Stops.{stops_open, quiet_name, Behind, behind_named, behind_declarator}
+use Rattle.upc_expressions.proofs.Lists.{Follows, many_reads}
+use Rattle.upc_expressions.proofs.Stops.{stops_open, quiet_name, behind_named, behind_declarator}
 use Rattle.upc_expressions.proofs.CompleteTypes.{Freely, specs_reads, pointers_reads, dimensions_reads, parameters_reads, sizes_no_paren, parameters_paren}
 use Rattle.upc_expressions.proofs.CompleteExpressions.{reads}
 use Rattle.upc_parser.specs.Parse as parse
-use Rattle.upc_parser.specs.Parse.{none_declared, function_body, behind_name, behind_specs, declaration_or_function, node_at, pragma_part, external_at, all_externals, externals_at, unit_at, statements_at}
+use Rattle.upc_parser.specs.Parse.{none_declared, function_body, behind_name, behind_specs, declaration_or_function, node_at, pragma_part, external_at, all_externals, externals_at, unit_at}
 use Rattle.upc_parser.proofs.Listings.{externals_spelled, externals_highs, externals_goods}
 use Rattle.upc_parser.proofs.Low.{long_external}
 use Rattle.upc_parser.proofs.Begins.{specs_no_pragma}

@@ -1,9 +1,9 @@
 -- The answer on a whole source, from the side of its trees.
-use Rattle.std.proofs.Common.{◌≡◌, ℕ, zero, suc, ◌+◌, ◌<◌, ◌≤◌, max, Bool, true, false, cond, List, [], ◌∷◌, length, Result, Ok, Err, refl, sym, ap, ◌∙◌, subst, arith}
+use Rattle.std.proofs.Common.{◌≡◌, ℕ, ◌≤◌, max, Bool, true, false, cond, List, [], ◌∷◌, length, Result, Ok, Err, refl, sym, ap, ◌∙◌, subst, arith}
 use Rattle.std.specs.Prelude.{nat_lt}
 use Rattle.std.proofs.lemmas.Bool.{ltb-false, ltb-true}
 use Rattle.upc_lexer.specs.declared.token.Token.{Token}
-use Rattle.upc_tree.specs.Unit.{External, height_externals, height_unit, tokens_of, ProperUnit, IsTree}
+use Rattle.upc_tree.specs.Unit.{External, height_unit, tokens_of, ProperUnit, IsTree}
 use Rattle.upc_expressions.specs.declared.cursor.Fault.{Fault}
 use Rattle.upc_expressions.specs.declared.cursor.Fault.TheVariants.{NoTree, TooHigh}
 use Rattle.upc_expressions.specs.Outcome.{Outcome}

@@ -1,5 +1,5 @@
 -- Each list of declarations and statements beside the plain list, with what its items are.
-use Rattle.std.proofs.Common.{◌≡◌, ℕ, ◌≤◌, max, List, [], ◌∷◌, refl, ap}
+use Rattle.std.proofs.Common.{◌≡◌, ℕ, max, List, [], ◌∷◌, refl, ap}
 use Rattle.upc_lexer.specs.declared.token.Token.{Token}
 use Rattle.upc_lexer.specs.declared.token.Punct.TheVariants as p
 use Rattle.upc_lexer.specs.declared.token.Word.TheVariants as w

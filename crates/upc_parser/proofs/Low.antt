@@ -1,13 +1,12 @@
 -- How many tokens a tree takes: declarations, statements and whole sources.
-use Rattle.std.proofs.Common.{◌≡◌, ℕ, suc, ◌+◌, ◌<◌, ◌≤◌, max, List, [], ◌∷◌, length, Option, Some, None, refl, arith}
+use Rattle.std.proofs.Common.{◌+◌, ◌<◌, ◌≤◌, List, [], ◌∷◌, length, Option, Some, None, arith}
 use Rattle.upc_lexer.specs.declared.token.Token.{Token}
 use Rattle.upc_lexer.specs.declared.token.Punct.TheVariants as p
 use Rattle.upc_lexer.specs.declared.token.Word.TheVariants as w
-use Rattle.upc_tree.specs.declared.span.Span.{Span}
 use Rattle.upc_tree.specs.declared.span.Pragma.{Pragma}
 use Rattle.upc_tree.specs.Tokens.{punct, word, name_token, spell_pragmas}
-use Rattle.upc_tree.specs.Expression.{Expr, Specs, NoSpecs, AndSpec, spell, spell_next_exprs, spell_specs, spell_pointers, spell_parameters, height_specs}
-use Rattle.upc_tree.specs.Proper.{Proper, IsSome, ProperSpecs}
+use Rattle.upc_tree.specs.Expression.{Expr, Specs, NoSpecs, AndSpec, spell_next_exprs, spell_specs, spell_pointers, spell_parameters, height_specs}
+use Rattle.upc_tree.specs.Proper.{IsSome, ProperSpecs}
 use Rattle.upc_tree.specs.Declaration as d
 use Rattle.upc_tree.specs.Declaration.{Initial, Declared, DeclaredAs, NextDeclareds, NoNextDeclareds, AndDeclared, DeclaredList, NoneDeclared, SomeDeclared, Declaration, Declares, spell_initial, spell_declared, spell_next_declareds, spell_declared_list, spell_declaration, height_initial, height_declared, height_next_declareds, height_declared_list, height_declaration, ProperInitial, ProperDeclared, ProperNextDeclareds, ProperDeclaredList, ProperDeclaration}
 use Rattle.upc_tree.specs.Statement as s

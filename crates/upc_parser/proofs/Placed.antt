@@ -1,5 +1,5 @@
 -- A token that stands at an index has the place of one of the tokens.
-use Rattle.std.proofs.Common.{ℕ, zero, suc, ◌<◌, List, [], ◌∷◌, length, slice_index_or, refl, arith, ◌⊎◌, inl, inr}
+use Rattle.std.proofs.Common.{ℕ, zero, suc, ◌<◌, List, [], ◌∷◌, length, slice_index_or, refl, arith, inl, inr}
 use Rattle.upc_lexer.specs.declared.token.Token.{Token}
 use Rattle.upc_parser.specs.Answer.{Among, HasPlace}
 

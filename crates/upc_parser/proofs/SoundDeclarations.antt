@@ -1,5 +1,5 @@
 -- What the parser finds of a declaration, and of the parts of statements that are no statements, has the tokens, is proper and is low.
-use Rattle.std.proofs.Common.{◌≡◌, ℕ, zero, suc, ◌+◌, ◌<◌, ◌≤◌, max, Bool, true, false, List, [], ◌∷◌, length, Option, Some, None, Result, Ok, Err, refl, sym, ap, ◌∙◌, subst, ◌⊎◌, inl, inr, arith}
+use Rattle.std.proofs.Common.{◌≡◌, ℕ, zero, suc, ◌≤◌, max, true, List, [], ◌∷◌, length, Option, Ok, refl, ap, ◌∙◌, subst, inl, inr, arith}
 use Rattle.upc_lexer.specs.declared.token.Token.{Token}
 use Rattle.upc_lexer.specs.declared.token.TokenKind.{TokenKind}
 use Rattle.upc_lexer.specs.declared.token.TokenKind.TheVariants as k
@@ -8,12 +8,12 @@ use Rattle.upc_lexer.specs.declared.token.Punct.TheVariants as p
 use Rattle.upc_lexer.specs.declared.token.Word.TheVariants as w
 use Rattle.upc_tree.specs.declared.span.Span.{Span}
 use Rattle.upc_tree.specs.declared.span.Pragma.{Pragma}
-use Rattle.upc_tree.specs.Tokens.{token, punct, word, pragma_token, spell_pragmas}
+use Rattle.upc_tree.specs.Tokens.{token, pragma_token, spell_pragmas}
 use Rattle.upc_tree.specs.Expression.{Expr, spell, spell_next_exprs, spell_specs, spell_declarator}
-use Rattle.upc_tree.specs.Declaration.{Initial, NoInitial, ValueInitial, ListInitial, Declared, DeclaredAs, NextDeclareds, DeclaredList, NoneDeclared, SomeDeclared, Declaration, Declares, spell_initial, spell_declared, spell_next_declareds, spell_declared_list, spell_declaration, height_initial, height_declared, height_next_declareds, height_declared_list, height_declaration, ProperInitial, ProperDeclared, ProperNextDeclareds, ProperDeclaredList, ProperDeclaration, IsLocal}
-use Rattle.upc_tree.specs.Statement.{Test, Tests, First, FirstValue, FirstDeclaration, Affinity, NoAffinity, ContinueAffinity, ValueAffinity, ForHead, ForParts, ForallHead, ForallParts, spell_value, spell_test, spell_first, spell_affinity, spell_for, spell_forall, height_value, height_test, height_first, height_affinity, height_for, height_forall, ProperValue, ProperTest, ProperFirst, ProperAffinity, ProperFor, ProperForall}
+use Rattle.upc_tree.specs.Declaration.{Initial, Declared, NextDeclareds, DeclaredList, Declaration, spell_initial, spell_declared, spell_next_declareds, spell_declared_list, spell_declaration, height_initial, height_declared, height_next_declareds, height_declared_list, height_declaration, ProperInitial, ProperDeclared, ProperNextDeclareds, ProperDeclaredList, ProperDeclaration, IsLocal}
+use Rattle.upc_tree.specs.Statement.{Test, First, Affinity, ForHead, ForallHead, spell_value, spell_test, spell_first, spell_affinity, spell_for, spell_forall, height_value, height_test, height_first, height_affinity, height_for, height_forall, ProperValue, ProperTest, ProperFirst, ProperAffinity, ProperFor, ProperForall}
 use Rattle.upc_tree.specs.Lists.{next_declareds_of}
-use Rattle.upc_expressions.specs.Outcome.{Outcome, Parser, ◌>>=◌, span_of, is_punct, is_word, starts, starts_two, expect_punct, expect_word, many, all}
+use Rattle.upc_expressions.specs.Outcome.{span_of, is_punct, is_word, starts, starts_two, expect_punct, expect_word, many}
 use Rattle.upc_expressions.specs.Tables.{is_spec}
 use Rattle.upc_expressions.specs.Ahead.{is_pragma}
 use Rattle.upc_expressions.specs.Expression.{at_height, next_exprs, specs, declarator}

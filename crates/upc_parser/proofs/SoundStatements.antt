@@ -1,5 +1,5 @@
 -- What the parser finds of a statement has the tokens, is proper and is low; and an `else` that follows does not belong to it.
-use Rattle.std.proofs.Common.{◌≡◌, ℕ, zero, suc, ◌+◌, ◌<◌, ◌≤◌, max, Bool, true, false, List, [], ◌∷◌, length, Option, Some, None, Result, Ok, Err, refl, sym, ap, ◌∙◌, subst, ◌⊎◌, inl, inr, arith}
+use Rattle.std.proofs.Common.{◌≡◌, ℕ, zero, suc, ◌+◌, ◌<◌, ◌≤◌, max, true, false, List, [], ◌∷◌, length, Ok, refl, sym, ap, ◌∙◌, subst, inl, inr, arith}
 use Rattle.upc_lexer.specs.declared.token.Token.{Token}
 use Rattle.upc_lexer.specs.declared.token.TokenKind.{TokenKind}
 use Rattle.upc_lexer.specs.declared.token.TokenKind.TheVariants as k
@@ -8,12 +8,11 @@ use Rattle.upc_lexer.specs.declared.token.Word.TheVariants as w
 use Rattle.upc_tree.specs.declared.mark.BarrierWord.{BarrierWord}
 use Rattle.upc_tree.specs.declared.span.Span.{Span}
 use Rattle.upc_tree.specs.Marks.{barrier_word}
-use Rattle.upc_tree.specs.Tokens.{token, punct, word, spell_pragmas}
-use Rattle.upc_tree.specs.Expression.{Expr, spell}
-use Rattle.upc_tree.specs.Statement as s
-use Rattle.upc_tree.specs.Statement.{Test, Statement, Compound, Braces, BlockItem, DeclarationItem, StatementItem, BlockItems, SwitchItem, CaseItem, DefaultItem, SwitchStatement, SwitchItems, ElseIfs, NoElseIfs, AndElseIf, Otherwise, NoOtherwise, Else, spell_value, spell_test, spell_for, spell_forall, spell_statement, spell_compound, spell_block_items, spell_block_item, spell_switch_items, spell_switch_item, spell_else_ifs, spell_otherwise, height_statement, height_compound, height_block_items, height_block_item, height_switch_items, height_switch_item, height_else_ifs, height_otherwise, takes_else, takes_else_behind, is_if, KeepsElse, ProperValue, ProperStatement, ProperCompound, ProperBlockItems, ProperBlockItem, ProperSwitchItems, ProperSwitchItem, ProperElseIfs, ProperOtherwise}
-use Rattle.upc_tree.specs.Lists.{spell_all, highest, block_items_of, switch_items_of, else_ifs_of}
-use Rattle.upc_expressions.specs.Outcome.{Outcome, Parser, ◌>>=◌, span_of, is_punct, is_word, starts, starts_two, expect_punct, expect_word, all, listed}
+use Rattle.upc_tree.specs.Tokens.{token, word, spell_pragmas}
+use Rattle.upc_tree.specs.Expression.{spell}
+use Rattle.upc_tree.specs.Statement.{Test, Statement, Compound, BlockItem, BlockItems, SwitchItem, SwitchItems, ElseIfs, Otherwise, NoOtherwise, Else, spell_value, spell_test, spell_for, spell_forall, spell_statement, spell_compound, spell_block_items, spell_block_item, spell_switch_items, spell_switch_item, spell_else_ifs, spell_otherwise, height_statement, height_compound, height_block_items, height_block_item, height_switch_items, height_switch_item, height_else_ifs, height_otherwise, takes_else, takes_else_behind, is_if, ProperStatement, ProperCompound, ProperBlockItems, ProperBlockItem, ProperSwitchItems, ProperSwitchItem, ProperElseIfs, ProperOtherwise}
+use Rattle.upc_tree.specs.Lists.{block_items_of, switch_items_of, else_ifs_of}
+use Rattle.upc_expressions.specs.Outcome.{span_of, is_word, starts, starts_two, expect_punct, expect_word, all}
 use Rattle.upc_expressions.specs.Tables.{is_spec}
 use Rattle.upc_expressions.specs.Expression.{at_height}
 use Rattle.upc_expressions.proofs.Sequence.{bind_ok, done, ok_is, either, behind, punct_ok, word_ok}
@@ -23,7 +22,7 @@ use Rattle.upc_expressions.proofs.SoundExpressions.{finds}
 use Rattle.upc_parser.specs.declared.start.StatementStart.{StatementStart}
 use Rattle.upc_parser.specs.declared.start.StatementStart.TheVariants as start
 use Rattle.upc_parser.specs.Tables.{statement_start}
-use Rattle.upc_parser.specs.Parse.{declaration_at, value, test, for_head, forall_head, pragmas, declaration_item, case_item, default_item, value_statement, return_statement, barrier_statement, break_statement, continue_statement, fence_statement, Statements, floor, statement_item, item, items, switch_statement, switch_item, switch_items, compound, else_if, else_ifs, else_part, otherwise, if_statement, switch, while_statement, do_statement, for_statement, forall_statement, block, statement_by, statement, level_above, statements_at, no_brace}
+use Rattle.upc_parser.specs.Parse.{declaration_at, value, test, for_head, forall_head, pragmas, declaration_item, case_item, default_item, value_statement, return_statement, barrier_statement, break_statement, continue_statement, fence_statement, Statements, statement_item, item, items, switch_statement, switch_item, switch_items, compound, else_if, else_ifs, else_part, otherwise, if_statement, switch, while_statement, do_statement, for_statement, forall_statement, block, statement_by, statement, level_above, statements_at, no_brace}
 use Rattle.upc_parser.proofs.Listings.{spell_else_if, height_else_if, GoodElseIf, GoodElseIfs, block_items_kind, switch_items_kind, else_ifs_kind, else_ifs_spelled}
 use Rattle.upc_parser.proofs.Low.{long_else_if}
 use Rattle.upc_parser.proofs.Begins.{StopsElse, stops_keeps, begins_if}
@@ -69,10 +68,10 @@ start_forth (k.Punct p.LBrace) = refl
 start_forth (k.Word w.Break) = refl
 start_forth _ = refl
 
-over : (a b c d n : ℕ) → a ≤ n → b ≤ n → c ≤ n → d ≤ n → max a (max b (max c d)) + 1 ≤ suc n
+pub over : (a b c d n : ℕ) → a ≤ n → b ≤ n → c ≤ n → d ≤ n → max a (max b (max c d)) + 1 ≤ suc n
 over a b c d n x y z v = omega arith
 
-above : (a b n : ℕ) → a ≤ n → b ≤ n → max a b + 1 ≤ suc n
+pub above : (a b n : ℕ) → a ≤ n → b ≤ n → max a b + 1 ≤ suc n
 above a b n x y = omega arith
 
 -- ---- the arms of an `if`

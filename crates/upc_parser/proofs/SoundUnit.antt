@@ -1,40 +1,31 @@
 -- What the parser finds of a source has the tokens, is proper and is low.
-use Rattle.std.proofs.Common.{◌≡◌, ℕ, zero, suc, ◌+◌, ◌<◌, ◌≤◌, max, Bool, true, false, List, [], ◌∷◌, length, Result, Ok, Err, refl, sym, ap, ◌∙◌, subst, ◌⊎◌, inl, inr, arith}
+use Rattle.std.proofs.Common.{◌≡◌, ℕ, zero, suc, ◌≤◌, max, true, false, List, [], ◌∷◌, length, Ok, refl, sym, ap, ◌∙◌, inl, inr, arith}
 use Rattle.upc_lexer.specs.declared.token.Token.{Token}
 use Rattle.upc_lexer.specs.declared.token.Punct.TheVariants as p
 use Rattle.upc_tree.specs.declared.span.Name.{Name}
-use Rattle.upc_tree.specs.declared.span.Pragma.{Pragma}
 use Rattle.upc_tree.specs.Tokens.{punct, name_token}
-use Rattle.upc_tree.specs.Expression.{Specs, Pointers, Declarator, ObjectDeclarator, FunctionDeclarator, Parameters, spell_specs, spell_pointers, spell_declarator, spell_dimensions, spell_parameters, height_specs, height_pointers, height_declarator, height_parameters}
+use Rattle.upc_tree.specs.Expression.{Specs, Pointers, Declarator, ObjectDeclarator, FunctionDeclarator, Parameters, spell_specs, spell_pointers, spell_declarator, spell_parameters, height_specs, height_pointers, height_declarator, height_parameters}
 use Rattle.upc_tree.specs.Proper.{IsSome, ProperSpecs, ProperPointers, ProperDeclarator, ProperParameters}
-use Rattle.upc_tree.specs.Declaration.{NoneDeclared, SomeDeclared, DeclaredAs, Declares, spell_initial, spell_next_declareds}
-use Rattle.upc_tree.specs.Statement.{Compound, spell_compound}
-use Rattle.upc_tree.specs.Unit.{External, PragmaPart, DeclarationPart, FunctionPart, spell_external, spell_externals, height_external, height_externals, height_unit, ProperExternal, ProperExternals, IsFilled, ProperUnit}
-use Rattle.upc_tree.specs.Lists.{spell_all, highest}
-use Rattle.upc_expressions.specs.Outcome.{Outcome, Parser, ◌>>=◌, is_punct, starts, expect_punct, all}
+use Rattle.upc_tree.specs.Declaration.{spell_initial, spell_next_declareds}
+use Rattle.upc_tree.specs.Unit.{External, spell_external, spell_externals, height_external, height_unit, ProperExternal, IsFilled, ProperUnit}
+use Rattle.upc_expressions.specs.Outcome.{is_punct, starts, expect_punct}
 use Rattle.upc_expressions.specs.Ahead.{is_pragma, is_any}
 use Rattle.upc_expressions.specs.Expression.{at_height, name, specs, pointers, dimensions, parameters}
-use Rattle.upc_expressions.proofs.Sequence.{bind_ok, done, ok_is, either, behind, punct_ok, name_ok}
-use Rattle.upc_expressions.proofs.Lists.{Finding, found, FindingAll, many_finds, all_first}
+use Rattle.upc_expressions.proofs.Sequence.{bind_ok, done, either, punct_ok, name_ok}
+use Rattle.upc_expressions.proofs.Lists.{Finding, found, many_finds, all_first}
 use Rattle.upc_expressions.proofs.CompleteTypes.{Freely}
 use Rattle.upc_expressions.proofs.SoundTypes.{specs_finds, pointers_finds, dimensions_finds, parameters_finds}
 use Rattle.upc_expressions.proofs.SoundExpressions.{finds}
-use Rattle.upc_parser.specs.Parse.{initial, next_declareds, pragma, none_declared, behind_declarator, function_body, behind_parameters, behind_name, behind_specs, declaration_or_function, node_at, pragma_part, external_at, all_externals, externals_at, unit_at, statements_at}
+use Rattle.upc_parser.specs.Parse.{initial, next_declareds, pragma, none_declared, behind_declarator, function_body, behind_parameters, behind_name, behind_specs, declaration_or_function, node_at, pragma_part, external_at, all_externals, unit_at, statements_at}
 use Rattle.upc_parser.proofs.Listings.{externals_spelled, externals_highs, externals_good}
 use Rattle.upc_parser.proofs.SoundDeclarations.{initial_finds, next_declareds_finds, pragma_finds}
-use Rattle.upc_parser.proofs.SoundStatements.{finds_statements}
+use Rattle.upc_parser.proofs.SoundStatements.{finds_statements, above, over}
 
 -- specifiers that are proper and at most so high
 record Fine (n : ℕ) (s : Specs) : Type 0 where
   some : IsSome s
   proper : ProperSpecs s
   low : height_specs s ≤ n
-
-node_low : (a b n : ℕ) → a ≤ n → b ≤ n → max a b + 1 ≤ suc n
-node_low a b n x y = omega arith
-
-function_low : (a b c d n : ℕ) → a ≤ n → b ≤ n → c ≤ n → d ≤ n → max a (max b (max c d)) + 1 ≤ suc n
-function_low a b c d n x y z v = omega arith
 
 both_low : (a b n : ℕ) → a ≤ n → b ≤ n → max a b ≤ n
 both_low a b n x y = omega arith
@@ -47,7 +38,7 @@ module _ (n : ℕ) where
   unfolding none_declared
   none_finds s ts x fine e =
       let a = bind_ok (expect_punct p.Semicolon ts) _ x e in
-      found a.2 (record { parts = ap (spell_specs s) (punct_ok p.Semicolon ts a.0 a.1); good = (fine.some, fine.proper, tt); low = node_low _ 0 n fine.low (omega arith); follow = tt })
+      found a.2 (record { parts = ap (spell_specs s) (punct_ok p.Semicolon ts a.0 a.1); good = (fine.some, fine.proper, tt); low = above _ 0 n fine.low (omega arith); follow = tt })
 
   behind_declarator_finds : (s : Specs) (d : Declarator) (ts : List Token) (x : External × List Token) → Fine n s → ProperDeclarator d → height_declarator d ≤ n → behind_declarator n s d ts ≡ Ok x
       → Finding spell_external height_external ProperExternal Freely (suc n) (spell_specs s (spell_declarator d ts)) x
@@ -62,7 +53,7 @@ module _ (n : ℕ) where
       found c.2 (record {
         parts = ap (λ l. spell_specs s (spell_declarator d l)) tokens;
         good = (fine.some, fine.proper, ((pd, f.good), g.good));
-        low = node_low _ _ n fine.low (list_low _ _ _ n ld f.low g.low);
+        low = above _ _ n fine.low (list_low _ _ _ n ld f.low g.low);
         follow = tt;
       })
 
@@ -75,7 +66,7 @@ module _ (n : ℕ) where
       found a.2 (record {
         parts = ap (λ l. spell_specs s (spell_pointers q (name_token d ∷ spell_parameters r l))) f.parts;
         good = (fine.some, fine.proper, pq, pr, f.good);
-        low = function_low _ _ _ _ n fine.low lq lr f.low;
+        low = over _ _ _ _ n fine.low lq lr f.low;
         follow = tt;
       })
 

@@ -1,5 +1,5 @@
 -- The parser of declarations, statements and whole sources, as a function on lists of tokens.
-use Rattle.std.specs.Prelude.{◌≡◌, ℕ, zero, suc, ◌+◌, Bool, true, false, ◌&&◌, not, if◌then◌else◌, List, [], ◌∷◌, length, Option, Some, None, Result, Ok, Err}
+use Rattle.std.specs.Prelude.{ℕ, zero, suc, Bool, true, false, not, if◌then◌else◌, List, [], ◌∷◌, Option, Some, None, Ok, Err}
 use Rattle.upc_lexer.specs.declared.token.Token.{Token}
 use Rattle.upc_lexer.specs.declared.token.TokenKind.{TokenKind}
 use Rattle.upc_lexer.specs.declared.token.TokenKind.TheVariants as k
@@ -11,7 +11,7 @@ use Rattle.upc_tree.specs.declared.span.Span.{Span}
 use Rattle.upc_tree.specs.declared.span.Name.{Name}
 use Rattle.upc_tree.specs.declared.span.Pragma.{Pragma}
 use Rattle.upc_tree.specs.Expression as t
-use Rattle.upc_tree.specs.Expression.{Expr, NextExprs, Specs, Pointers, Declarator, Parameters}
+use Rattle.upc_tree.specs.Expression.{Expr, Specs, Pointers, Declarator, Parameters}
 use Rattle.upc_tree.specs.Declaration as d
 use Rattle.upc_tree.specs.Declaration.{Initial, Declared, NextDeclareds, DeclaredList, Declaration}
 use Rattle.upc_tree.specs.Statement as s
@@ -20,10 +20,10 @@ use Rattle.upc_tree.specs.Unit as q
 use Rattle.upc_tree.specs.Unit.{External}
 use Rattle.upc_tree.specs.Lists.{next_declareds_of, block_items_of, switch_items_of, else_ifs_of}
 use Rattle.upc_expressions.specs.declared.cursor.Fault.TheVariants.{NoTree, TooHigh}
-use Rattle.upc_expressions.specs.Outcome.{Outcome, Parser, ◌>>=◌, span_of, is_punct, is_word, starts, starts_two, expect_punct, expect_word, all, listed}
+use Rattle.upc_expressions.specs.Outcome.{Parser, ◌>>=◌, span_of, is_punct, is_word, starts, starts_two, expect_punct, expect_word, all, listed}
 use Rattle.upc_expressions.specs.Tables.{is_spec}
 use Rattle.upc_expressions.specs.Ahead.{is_pragma, is_any}
-use Rattle.upc_expressions.specs.Expression.{Level, at_height, name, next_exprs, specs, pointers, dimensions, declarator, parameters}
+use Rattle.upc_expressions.specs.Expression.{at_height, name, next_exprs, specs, pointers, dimensions, declarator, parameters}
 use Rattle.upc_parser.specs.declared.start.StatementStart.{StatementStart}
 use Rattle.upc_parser.specs.declared.start.StatementStart.TheVariants as start
 use Rattle.upc_parser.specs.Tables.{statement_start}

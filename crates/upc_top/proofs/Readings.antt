@@ -3,9 +3,8 @@ use Rattle.std.proofs.Common.{◌≡◌, ℕ, ◌+◌, ◌≤◌, ◌<◌, nat_l
 use Rattle.std.proofs.lemmas.Bool.{leb-false}
 use Rattle.upc_text.specs.declared.place.Refusal.{Refusal}
 use Rattle.upc_lexer.specs.declared.token.Token.{Token}
-use Rattle.upc_lexer.specs.Tokens.{AreTokensOf}
 use Rattle.upc_lexer.proofs.OneList.{tokens_once, tokens_or_refusal}
-use Rattle.upc_macros.specs.Expansion.{Item, given, expansion, first_refusal, token_refusal, or_first, refused_word, word_refusal, IsExpansion}
+use Rattle.upc_macros.specs.Expansion.{given, expansion, first_refusal, token_refusal, refused_word, word_refusal, IsExpansion}
 use Rattle.upc_tree.specs.Unit.{External, IsTree}
 use Rattle.upc_parser.proofs.Laws as laws
 use Rattle.upc_checker.specs.Outcomes as o
@@ -13,7 +12,9 @@ use Rattle.upc_checker.specs.Outcomes.{outcome}
 use Rattle.first_language.specs.declared.tree.First.{First}
 use Rattle.first_language.specs.Meaning.{program_of}
 use Rattle.first_language.specs.Unit.{first_program}
-use Rattle.upc_top.specs.Sources.{IsExpanded, IsRead, IsAccepted, HasNoTree, no_syntax, too_high, IsRefused, no_tokens, no_expansion, no_tree, no_typing, no_first}
+use Rattle.upc_top.specs.Sources.{IsExpanded, IsRead, IsAccepted, no_syntax, too_high, IsRefused, no_tokens, no_expansion, no_tree, no_typing, no_first}
+use Rattle.first_language.proofs.Logic.{some_same}
+use Rattle.std.specs.Option.{option_or}
 
 -- given tokens are equal where they are given alike
 given_same : (ts us : List Token) → map given ts ≡ map given us → ts ≡ us
@@ -36,9 +37,6 @@ pub same_tree : (bytes : List ℕ) (m n : List (List ℕ)) (u v : List External)
 same_tree bytes m n u v a b =
     let c = same_expanded bytes m n a.expanded b.expanded a.expands b.expands in
     (c.0, laws.one_tree u v a.grammar.proper b.grammar.proper (a.grammar.spelled ∙ c.1 ∙ sym b.grammar.spelled))
-
-some_same : {A : Type 0} (x y : A) → Some x ≡ Some y → x ≡ y
-some_same x y h = cc
 
 pub same_program : (threads : ℕ) (bytes : List ℕ) (p q : First) → IsAccepted threads bytes p → IsAccepted threads bytes q → program_of p ≡ program_of q
 same_program threads bytes p q a b =
@@ -73,7 +71,7 @@ never_both threads bytes p r a (no_first names tree checked read typed none code
 
 -- ---- an expansion has at most 1,048,576 tokens
 
-first_passes : (o later : Option Refusal) → or_first o later ≡ None → (o ≡ None) × (later ≡ None)
+first_passes : (o later : Option Refusal) → option_or o later ≡ None → (o ≡ None) × (later ≡ None)
 first_passes None later h = (refl, h)
 first_passes (Some r) later h = absurd cc
 

@@ -1,6 +1,5 @@
 -- What each stage of a source leads to.
-use Rattle.std.proofs.Common.{◌≡◌, ℕ, ◌≤◌, List, length, Option, Some, None, Err, Result, sym, ◌∙◌, ap, inl, inr, arith}
-use Rattle.std.specs.Prelude.{◌⊎◌}
+use Rattle.std.proofs.Common.{◌≡◌, ℕ, ◌≤◌, List, length, Some, None, Err, ap, inl, inr, arith}
 use Rattle.upc_text.specs.declared.place.Code.TheVariants.{Syntax, Profile, Limit}
 use Rattle.upc_text.specs.declared.place.Refusal.{Refusal}
 use Rattle.upc_text.specs.declared.faults.Stop.{Stop}
@@ -16,7 +15,7 @@ use Rattle.upc_checker.specs.Outcomes.{Checked, Answers, outcome}
 use Rattle.first_language.specs.declared.tree.First.{First}
 use Rattle.first_language.specs.Meaning.{program_of}
 use Rattle.first_language.specs.Unit.{first_program}
-use Rattle.upc_top.specs.Sources.{IsExpanded, IsRead, IsAccepted, HasNoTree, no_syntax, too_high, IsRefused, no_tokens, no_expansion, no_tree, no_typing, no_first, IsAtTheBeginning, StopsReading}
+use Rattle.upc_top.specs.Sources.{IsExpanded, IsRead, IsAccepted, no_syntax, too_high, IsRefused, no_tokens, no_expansion, no_tree, no_typing, no_first, IsAtTheBeginning, StopsReading}
 use Rattle.upc_top.proofs.Readings.{few_tokens}
 
 pub stops_lexing : (threads : ℕ) (bytes : List ℕ) (s : Stop) → StopsSource bytes s → StopsReading threads bytes s

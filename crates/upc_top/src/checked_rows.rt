@@ -80,6 +80,28 @@ fn shapes_of_shared_elements(rt: HostRuntime) -> Result<(), Fail> {
     Ok(())
 }
 
+// The objects and elements of a program that adds up an array under a lock: a lock is no element.
+#[test]
+fn a_sum_under_a_lock(rt: HostRuntime) -> Result<(), Fail> {
+    let source = b"shared int a[400]; shared int total; int main(void){int i; int part = 0;
+upc_lock_t *lk = upc_all_lock_alloc(); for (i = MYTHREAD; i < 400; i += THREADS) part += a[i];
+upc_lock(lk); total += part; upc_unlock(lk); return 0;}";
+    let program = program_of(rt.alloc(), source)?;
+    let places = [object(1, 1600, 4, 0, 0), object(2, 4, 4, 0, 1600)];
+    assert_eq!(rt; program.shared_objects().len(), places.len());
+    for (declared, place) in program.shared_objects().iter().zip(places) {
+        assert_eq!(rt; declared.object, place);
+    }
+    assert_eq!(rt; program.shapes().len(), 1);
+    for element in program.shapes() {
+        assert_eq!(rt; element.size, 4);
+        assert_eq!(rt; element.cells.as_slice(), [(0, Kind::Int)].as_slice());
+    }
+    assert!(rt; program.initials().is_empty());
+    assert!(rt; program.private_shapes().is_empty());
+    Ok(())
+}
+
 fn cell(object: u64, offset: i64) -> LocalPtr {
     LocalPtr::Private { object, offset }
 }
@@ -100,7 +122,7 @@ fn values_of_private_objects(rt: HostRuntime) -> Result<(), Fail> {
         (cell(0, 0), Value::Scalar(Scalar::Int(1))),
         (cell(0, 4), Value::Scalar(Scalar::Int(2))),
         (cell(0, 8), Value::Scalar(Scalar::Int(3))),
-        (cell(1, 0), Value::Pointer(cell(0, 4))),
+        (cell(1, 0), Value::Local(cell(0, 4))),
         (cell(2, 0), Value::Scalar(Scalar::Shared(named))),
     ];
     assert_eq!(rt; program.private_initials(), wanted.as_slice());

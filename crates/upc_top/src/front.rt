@@ -1,7 +1,6 @@
 //! From the bytes of a source to its program.
 
 ghost use Rattle.std.specs.Prelude.{◌≡◌, ◌≤◌, ℕ, List, length, IfOk, IfErr};
-ghost use Rattle.upc_lexer.specs.Tokens.{AreTokensOf};
 ghost use Rattle.upc_lexer.specs.declared.token.Token.{Token as Item};
 ghost use Rattle.upc_tree.specs.Unit.{External};
 ghost use Rattle.upc_text.specs.declared.place.Refusal.{Refusal as Reason};

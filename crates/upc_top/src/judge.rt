@@ -1,6 +1,6 @@
 //! From the words to what the top call comes to.
 
-ghost use Rattle.std.specs.Prelude.{◌≡◌, ◌≤◌, length, map, string_bytes};
+ghost use Rattle.std.specs.Prelude.{◌≤◌, length, map, string_bytes};
 ghost use Rattle.upc_top.specs.Verdicts.{Caused, ComesFrom};
 
 use crate::front::read_program;

@@ -1,8 +1,8 @@
 //! Which thread's end decides, and the status of a run.
 
-ghost use Rattle.std.specs.Prelude.{◌≡◌, ◌<◌, ◌^◌, ◌+◌, MatchOption, None, Some, length};
+ghost use Rattle.std.specs.Prelude.{◌≡◌, ◌<◌, ◌^◌, MatchOption, None, Some, length};
 ghost use Rattle.upc_values.specs.Ends;
-ghost use Rattle.upc_top.specs.Output.{Ending, clipped, first_stop, status_of, stop_status, status_by, all_ended, is_ended, first_value};
+ghost use Rattle.upc_top.specs.Output.{clipped, first_stop, status_of, stop_status, all_ended, is_ended, first_value};
 
 use upc_values::{End, Journal, Strand};
 

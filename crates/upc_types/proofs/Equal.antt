@@ -27,7 +27,7 @@ block_is None None h = refl
 block_is (Some m) (Some n) h = ap Some (eqb-true m n h)
 block_is s t h = absurd cc
 
-kind_is : (k l : Kind) → same_kind k l ≡ true → k ≡ l
+pub kind_is : (k l : Kind) → same_kind k l ≡ true → k ≡ l
 kind_is Char Char h = refl
 kind_is UChar UChar h = refl
 kind_is Short Short h = refl

@@ -17,7 +17,7 @@ next f xs i x h e = ap (map f) (drop_more xs i x h) ∙ ap (λ y. f y ∷ map f 
 pub aligned_low : (n a : ℕ) → 0 < a → n ≤ aligned n a
 aligned_low n a p = grind arith
 
-kind_some : (k : Kind) → 0 < kind_size k
+pub kind_some : (k : Kind) → 0 < kind_size k
 kind_some Char = omega arith
 kind_some UChar = omega arith
 kind_some Short = omega arith
@@ -30,7 +30,7 @@ kind_some (Shared n b) = omega arith
 kind_some Lock = omega arith
 kind_some (Private n) = omega arith
 
-pointer_some : (b : Base) (s : Option ℕ) → 0 < pointer_size b s
+pub pointer_some : (b : Base) (s : Option ℕ) → 0 < pointer_size b s
 pointer_some LockObject s = omega arith
 pointer_some Void (Some n) = omega arith
 pointer_some Void None = omega arith

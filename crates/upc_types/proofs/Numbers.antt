@@ -13,7 +13,7 @@ use Rattle.upc_types.specs.Cells.{alike, number_of}
 number_itself : (n : ℕ) → (n == n) ≡ true
 number_itself n = eq-eqb n n refl
 
-kind_itself : (k : Kind) → same_kind k k ≡ true
+pub kind_itself : (k : Kind) → same_kind k k ≡ true
 kind_itself Char = refl
 kind_itself UChar = refl
 kind_itself Short = refl

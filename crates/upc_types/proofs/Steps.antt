@@ -16,7 +16,7 @@ use Rattle.upc_types.proofs.Order.{placed_below, complete_before, complete_since
 use Rattle.upc_types.proofs.Within.{leaf_sizes}
 use Rattle.upc_types.proofs.Ranks.{place_or_none, rank}
 
-positive : (n m : ℕ) → 0 < n → 0 < m → 0 < n * m
+pub positive : (n m : ℕ) → 0 < n → 0 < m → 0 < n * m
 positive n m h k = grind arith
 
 leaves_some : (f : ℕ → Bool) (b : Base) → base_complete f b ≡ true → 0 < leaves b
@@ -68,11 +68,11 @@ begun_one targets cs n (Some k) e o f h =
 pub begun : (targets : List CType) (cs : List Completed) (n : ℕ) → is_ordered cs ≡ true → ForSome (known_in cs n) (λ k. IsFine k.layout) → complete_in cs n ≡ true → IsBegun targets cs n
 begun targets cs n o f h = begun_one targets cs n (known_in cs n) refl o f h
 
-place_one : (o : Option Known) (place : ℕ) → placed_below o place ≡ true → place_or_none o + 1 ≤ place
+pub place_one : (o : Option Known) (place : ℕ) → placed_below o place ≡ true → place_or_none o + 1 ≤ place
 place_one None place h = absurd cc
 place_one (Some k) place h = let l = ltb-true k.place place h in omega arith
 
-deeper : (cs : List Completed) (place : ℕ) (b : Base) → base_complete (complete_before cs place) b ≡ true → rank cs b ≤ place
+pub deeper : (cs : List Completed) (place : ℕ) (b : Base) → base_complete (complete_before cs place) b ≡ true → rank cs b ≤ place
 deeper cs place Void h = omega arith
 deeper cs place (Integer k) h = omega arith
 deeper cs place (Struct n) h = place_one (known_in cs n) place h

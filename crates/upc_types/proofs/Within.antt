@@ -10,7 +10,7 @@ use Rattle.upc_types.specs.Layout.{aligned, end_behind, widest, pointer_size, ba
 use Rattle.upc_types.specs.Cells.{kind_to, pointer_kind, number_of, moved, copies, leaf_base, leaves, leaf_cells, object_cells, member_cells, struct_cells}
 use Rattle.upc_types.proofs.Members.{aligned_low, alignment_some, grow, widest_low}
 
-lower : (ys : List (ℕ × Kind)) (from mid size : ℕ) → from ≤ mid → CellsWithin ys mid size → CellsWithin ys from size
+pub lower : (ys : List (ℕ × Kind)) (from mid size : ℕ) → from ≤ mid → CellsWithin ys mid size → CellsWithin ys from size
 lower [] from mid size l h = tt
 lower (c ∷ ys) from mid size l h = (omega (arith, h.0), h.1, h.2)
 
@@ -41,7 +41,7 @@ offset_within [] from size i d h l = absurd (omega arith)
 offset_within (c ∷ xs) from size zero d h l = omega (arith, h.1)
 offset_within (c ∷ xs) from size (suc i) d h l = offset_within xs (c.0 + kind_size c.1) size i d h.2 (omega arith)
 
-kind_bytes : (b : Base) (s : Option ℕ) (n : ℕ) → kind_size (kind_to b s n) ≡ pointer_size b s
+pub kind_bytes : (b : Base) (s : Option ℕ) (n : ℕ) → kind_size (kind_to b s n) ≡ pointer_size b s
 kind_bytes LockObject s n = refl
 kind_bytes Void (Some m) n = refl
 kind_bytes Void None n = refl

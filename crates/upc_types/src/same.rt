@@ -1,6 +1,6 @@
 //! Equal types.
 
-ghost use Rattle.std.specs.Prelude.{◌≡◌, ◌↔◌, IsTrue};
+ghost use Rattle.std.specs.Prelude.{◌≡◌};
 ghost use Rattle.upc_types.specs.Same as pure;
 ghost use Rattle.upc_types.specs.View.{view, view_base};
 

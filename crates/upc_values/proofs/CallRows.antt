@@ -7,7 +7,7 @@ use Rattle.block_layout.specs.declared.place.SharedPtr.{SharedPtr}
 use Rattle.block_layout.specs.declared.place.LocalPtr.TheVariants.{Private}
 use Rattle.block_layout.specs.declared.kind.Kind.TheVariants as kind
 use Rattle.block_layout.specs.declared.kind.Shape.{Shape}
-use Rattle.block_layout.specs.Pointers.{null}
+use Rattle.block_layout.specs.Pointers.{null, location}
 use Rattle.upc_values.specs.declared.scalar.Scalar.{Scalar}
 use Rattle.upc_values.specs.declared.scalar.Scalar.TheVariants.{Int, Shared, Lock}
 use Rattle.upc_values.specs.declared.scalar.Mark.TheVariants.{Absent, Given}
@@ -23,7 +23,7 @@ use Rattle.upc_values.specs.Expansion.{Expansion, Gives, Fails, Reads, Asks, Loa
 use Rattle.upc_values.specs.Copying.{copy, set, shared_area, local_area}
 use Rattle.upc_values.specs.Expansions.{Part, parts, collective}
 use Rattle.upc_values.specs.Calls.{Gather, Gather_all, Exchange}
-use Rattle.upc_values.specs.Views.{location, byte_at, destination}
+use Rattle.upc_values.specs.Views.{byte_at, destination}
 use Rattle.upc_values.specs.Collective.{source_byte}
 
 -- two threads, no declared objects, elements of type int

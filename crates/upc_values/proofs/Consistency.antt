@@ -60,7 +60,7 @@ flat-own all once (c ∷ cs) h =
     ap (λ z. z ++ flat_map (λ e. operations_at e.index all) (map (λ x. x.entry) cs)) (at-own c all (once c.entry.index) (h c (inl refl)))
     ∙ ap (λ z. c.operations ++ z) (flat-own all once cs (λ x m. h x (inr m)))
 
-or_turn : (x y : Bool) → (x || y) ≡ true → (y || x) ≡ true
+pub or_turn : (x y : Bool) → (x || y) ≡ true → (y || x) ≡ true
 or_turn true true h = refl
 or_turn true false h = refl
 or_turn false true h = refl

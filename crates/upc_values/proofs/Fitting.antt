@@ -1,7 +1,7 @@
 -- The lawful reply of a basic action fits it, where all entries before it are basic.
 use Rattle.std.proofs.Common.{◌≡◌, ℕ, ◌+◌, ◌≤◌, ◌<◌, ◌==◌, nat_lt, nat_le, Bool, false, true, not, ◌&&◌, ◌||◌, cond, List, [], ◌∷◌, ◌++◌, length, take, drop, get_or, take-append-drop, Option, Some, None, is_some, slice_get, refl, sym, ap, subst, ◌∙◌, arith, le-leb, lt-ltb, eqb-true}
 use Rattle.std.specs.List.{list_any}
-use Rattle.std.proofs.lemmas.Bool.{false≢true, false_from_ne_true, and_parts, and_from, cond_both}
+use Rattle.std.proofs.lemmas.Bool.{false≢true, false_from_ne_true, and_parts, and_from, cond_both, or_right}
 use Rattle.std.proofs.lemmas.List.{drop_more}
 use Rattle.std.proofs.lemmas.List.Sums.{sum_by-append, sum_by-cons}
 use Rattle.std.proofs.lemmas.List.Folds.{Any-from_list_any}
@@ -33,10 +33,6 @@ use Rattle.upc_values.specs.History.{each_thread, objects, valued, reply, waits,
 use Rattle.upc_values.specs.Formed.{is_known, is_pointer, is_read, fits, fits_after, IsWellFormed, AreWellFormedFrom, AreWellFormed}
 use Rattle.upc_values.proofs.Sameness.{same_loc-true}
 use Rattle.upc_values.proofs.Unmade.{basic-declared}
-
-or-right : (a b : Bool) → b ≡ true → (a || b) ≡ true
-or-right true b h = refl
-or-right false b h = h
 
 -- ---- a pointer that names a declared object
 
@@ -84,7 +80,7 @@ named-pointer o p v h = go (is_null p) refl
         (and_from _ _ far.0
         (and_from _ _ (lt-ltb x.home o.threads d.home)
         (and_from _ _ far.1 (and_from _ _ (le-leb x.total 16777216 total) (le-leb x.block 16777216 d.block))))))) in
-        or-right (is_null p) _ (parts p.object (sym same))
+        or_right (is_null p) _ (parts p.object (sym same))
 
     go : (b : Bool) → is_null p ≡ b → is_pointer o.threads o.shapes p ≡ true
     go true e = ap (λ z. z || (not (p.object.number == 0) && (is_some (slice_get o.shapes p.object.shape) && (nat_lt p.thread o.threads && (nat_lt p.object.home o.threads && (in_range p.offset && (nat_le p.object.total 16777216 && nat_le p.object.block 16777216))))))) e

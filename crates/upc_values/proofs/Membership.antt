@@ -1,8 +1,13 @@
 -- Lists: membership, order, pairs.
-use Rattle.std.proofs.Common.{◌≡◌, ◌≢◌, ℕ, Bool, true, false, List, [], ◌∷◌, ◌++◌, filter, flat_map, ◌⊎◌, refl, sym, ap, ◌∙◌, subst, inl, inr}
+use Rattle.std.proofs.Common.{◌≡◌, ◌≢◌, ℕ, Bool, true, false, List, [], ◌∷◌, ◌++◌, filter, flat_map, ◌⊎◌, refl, sym, ap, ◌∙◌, subst, inl, inr, ◌+◌, ◌<◌, length, get_or, drop}
 use Rattle.std.proofs.lemmas.Bool.{cond_both, cond-true, cond-false, cases_Bool}
 use Rattle.std.proofs.lemmas.List.Elements.{filter-append}
 use Rattle.upc_values.specs.Lists.{Each, Has, Precedes, Pairwise}
+use Rattle.std.proofs.lemmas.List.{drop_more}
+
+-- What is left of a list, from its member on.
+pub left_from : {X : Type 0} (xs : List X) (i : ℕ) (x : X) → i < length xs → x ≡ get_or xs i x → drop i xs ≡ x ∷ drop (i + 1) xs
+left_from xs i x h e = drop_more xs i x h ∙ ap (λ y. y ∷ drop (i + 1) xs) (sym e)
 
 module _ {X : Type 0} where
   pub has-left : (xs ys : List X) (x : X) → Has xs x → Has (xs ++ ys) x

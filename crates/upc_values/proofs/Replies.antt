@@ -1,7 +1,7 @@
 -- What may be asked for stays so as a history goes on, and so does what fits it.
 use Rattle.std.proofs.Common.{◌≡◌, ℕ, ◌+◌, ◌≤◌, nat_lt, nat_le, Bool, false, true, ◌&&◌, ◌||◌, List, [], ◌++◌, length, Option, Some, None, is_some, refl, sym, ap, subst, ◌∙◌, arith, le-leb, leb-true}
 use Rattle.std.specs.List.{list_any}
-use Rattle.std.proofs.lemmas.Bool.{false≢true, and_parts, and_from}
+use Rattle.std.proofs.lemmas.Bool.{false≢true, and_parts, and_from, or_left}
 use Rattle.std.proofs.lemmas.List.{length-append}
 use Rattle.std.proofs.lemmas.List.Folds.{list_any-append}
 use Rattle.block_layout.specs.declared.place.Loc.{Loc}
@@ -31,9 +31,6 @@ or-stays true b c d f g h = ap (λ z. z || d) (f refl)
 or-stays false b true d f g h = refl
 or-stays false b false d f g h = g h
 
-or-left : (a b : Bool) → a ≡ true → (a || b) ≡ true
-or-left a b h = ap (λ z. z || b) h
-
 -- cells, objects and locks stay
 some-stays : (o : Opening) (xs ys : List ObjectRef) (l : Loc) → is_some (cell_of o xs l) ≡ true → is_some (cell_of o (xs ++ ys) l) ≡ true
 some-stays o xs ys l h =
@@ -55,7 +52,7 @@ named-stays threads xs ys p h =
     or-stays (is_null p) (list_any (same_object p.object) xs && inside) (is_null p) (list_any (same_object p.object) (xs ++ ys) && inside)
     (λ e. e)
     (λ e. both-stay (list_any (same_object p.object) xs) inside (list_any (same_object p.object) (xs ++ ys)) inside
-    (λ f. list_any-append (same_object p.object) xs ys ∙ or-left (list_any (same_object p.object) xs) (list_any (same_object p.object) ys) f)
+    (λ f. list_any-append (same_object p.object) xs ys ∙ or_left (list_any (same_object p.object) xs) (list_any (same_object p.object) ys) f)
     (λ f. f) e) h
 
 pub locks-more : (before more : List Entry) → locks before ≤ locks (before ++ more)

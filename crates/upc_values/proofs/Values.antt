@@ -1,5 +1,5 @@
 -- What the last write before a read wrote.
-use Rattle.std.proofs.Common.{◌≡◌, ℕ, ◌&&◌, Bool, true, false, cond, List, [], ◌∷◌, ◌++◌, filter, flat_map, Option, Some, None, refl, sym, ap, ◌∙◌, subst, append_assoc, append-nil, true≢false, inl, inr}
+use Rattle.std.proofs.Common.{◌≡◌, ℕ, ◌&&◌, Bool, true, false, cond, List, [], ◌∷◌, ◌++◌, filter, flat_map, Option, Some, None, refl, sym, ap, ◌∙◌, subst, append_assoc, append-nil, true≢false, inl, inr, is_some}
 use Rattle.std.proofs.lemmas.Bool.{cond_both, cases_Bool}
 use Rattle.block_layout.specs.declared.place.Loc.{Loc}
 use Rattle.upc_values.specs.declared.scalar.Scalar.{Scalar}
@@ -21,6 +21,14 @@ or_else-none None = refl
 pub or_else-assoc : (a b c : Option Scalar) → or_else (or_else a b) c ≡ or_else a (or_else b c)
 or_else-assoc (Some v) b c = refl
 or_else-assoc None b c = refl
+
+pub or_else-first : (a b : Option Scalar) → is_some a ≡ true → or_else a b ≡ a
+or_else-first (Some v) b h = refl
+or_else-first None b h = cc
+
+pub or_else-second : (a b : Option Scalar) → is_some a ≡ false → or_else a b ≡ b
+or_else-second (Some v) b h = cc
+or_else-second None b h = refl
 
 pub last_write-append : (p : Place) (xs ys : List Operation) → last_write p (xs ++ ys) ≡ or_else (last_write p ys) (last_write p xs)
 last_write-append p [] ys = sym (or_else-none (last_write p ys))

@@ -1,7 +1,7 @@
 -- Waits follow notifies in every legal history.
-use Rattle.std.proofs.Common.{◌≡◌, ℕ, ◌<◌, nat_lt, Bool, true, false, ◌&&◌, cond, List, Some, None, slice_get, refl, sym, subst, arith}
+use Rattle.std.proofs.Common.{◌≡◌, ℕ, ◌<◌, nat_lt, Bool, true, false, cond, List, Some, None, slice_get, refl, sym, subst, arith}
 use Rattle.std.proofs.Common.{inl, inr}
-use Rattle.std.proofs.lemmas.Bool.{false≢true, ltb-true, cases_eq}
+use Rattle.std.proofs.lemmas.Bool.{false≢true, ltb-true, cases_eq, and_parts}
 use Rattle.block_layout.specs.declared.run_error.TheConstants.{BARRIER_MISMATCH}
 use Rattle.upc_values.specs.declared.action.Action.{Action}
 use Rattle.upc_values.specs.declared.action.Action.TheVariants.{Wait}
@@ -13,14 +13,6 @@ use Rattle.upc_values.specs.History.{each_thread, is_wait, notifies, waits, mark
 use Rattle.upc_values.specs.Waits.{WaitsFollow}
 use Rattle.upc_values.proofs.Legality.{legal-at}
 
-both-left : (a b : Bool) → (a && b) ≡ true → a ≡ true
-both-left true b h = refl
-both-left false b h = cc
-
-both-right : (a b : Bool) → (a && b) ≡ true → b ≡ true
-both-right true b h = h
-both-right false b h = cc
-
 some-true : (b : Bool) (q r : Reply) → cond b (Some q) None ≡ Some r → b ≡ true
 some-true true q r h = refl
 some-true false q r h = cc
@@ -29,10 +21,10 @@ some-true false q r h = cc
 pub all_notified-each : (n p : ℕ) (es : List Entry) → all_notified n p es ≡ true → (u : ℕ) → u < n → p < notifies u es
 all_notified-each ℕ.zero p es h u b = absurd (omega arith)
 all_notified-each (ℕ.suc n) p es h u b =
-    let last : p < notifies n es = ltb-true p (notifies n es) (both-left (nat_lt p (notifies n es)) (all_notified n p es) h) in
+    let last : p < notifies n es = ltb-true p (notifies n es) (and_parts (nat_lt p (notifies n es)) (all_notified n p es) h).0 in
     elim (cases_eq u n) [
       | inl e ↦ subst (λ v. p < notifies v es) (sym e) last
-      | inr ne ↦ all_notified-each n p es (both-right (nat_lt p (notifies n es)) (all_notified n p es) h) u (omega arith)
+      | inr ne ↦ all_notified-each n p es (and_parts (nat_lt p (notifies n es)) (all_notified n p es) h).1 u (omega arith)
     ]
 
 wait-lawful : (o : Opening) (before : List Entry) (t : ℕ) (a : Action) (r : Reply) → is_wait a ≡ true

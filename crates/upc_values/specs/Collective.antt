@@ -8,7 +8,8 @@ use Rattle.upc_values.specs.declared.scalar.Scalar.{Scalar}
 use Rattle.upc_values.specs.declared.scalar.Scalar.TheVariants.{Int}
 use Rattle.upc_values.specs.Calls.{Way, Broadcast, Scatter, Gather, Gather_all, Exchange, Call, Copies, Permutes, Reduces, Reduces_prefixes}
 use Rattle.upc_values.specs.Reductions.{Reduction, reduction, element_kind, folded}
-use Rattle.upc_values.specs.Views.{destination, source, byte_at, from_phase_0, with_block, element, location}
+use Rattle.block_layout.specs.Pointers.{location}
+use Rattle.upc_values.specs.Views.{destination, source, byte_at, from_phase_0, with_block, element}
 
 -- what the locations of cells hold
 abbrev pub Holding : Type 0

@@ -7,7 +7,7 @@ use Rattle.block_layout.specs.declared.kind.Kind.{Kind}
 use Rattle.block_layout.specs.declared.kind.Kind.TheVariants as kind
 use Rattle.block_layout.specs.declared.kind.Shape.{Shape}
 use Rattle.block_layout.specs.declared.run_error.TheConstants.{NULL_ACCESS, OUT_OF_OBJECT, POINTER_RANGE, CELL_TYPE, LIBRARY_ARGS}
-use Rattle.block_layout.specs.Pointers.{is_null}
+use Rattle.block_layout.specs.Pointers.{is_null, location}
 use Rattle.block_layout.specs.Shapes.{kind_size}
 use Rattle.upc_values.specs.declared.scalar.Scalar.{Scalar}
 use Rattle.upc_values.specs.declared.scalar.Scalar.TheVariants.{Int}
@@ -16,7 +16,7 @@ use Rattle.upc_values.specs.Calls.{Way, Broadcast, Scatter, Gather, Gather_all, 
 use Rattle.upc_values.specs.History.{each_thread}
 use Rattle.upc_values.specs.Reductions.{Reduction, reduction, step, element_kind}
 use Rattle.upc_values.specs.Expansion.{Expansion, Gives, Fails, Reads, nothing, bind, does, barrier, each_in_turn, gathered, refused_by}
-use Rattle.upc_values.specs.Views.{destination, source, byte_at, from_phase_0, with_block, element, location, location_behind, leaves_range, leaves_piece, cuts_cell, cells_within, same_cells, shape_at, is_cell}
+use Rattle.upc_values.specs.Views.{destination, source, byte_at, from_phase_0, with_block, element, location_behind, leaves_range, leaves_piece, cuts_cell, cells_within, same_cells, shape_at, is_cell}
 
 -- a group of flags: none, or NOSYNC 1, MYSYNC 2 or ALLSYNC 4; those of the exit are 8 times as much
 abbrev pub is_sync : ℕ → Bool

@@ -33,10 +33,6 @@ element p (suc b) size threads i =
       offset = (p.offset -ℤ pos (p.phase * size)) +ℤ offset_at e (suc b) size threads;
     }
 
--- the location that a pointer names
-abbrev pub location : SharedPtr → Loc
-location p = record { object = p.object.number; thread = p.thread; offset = unsigned_abs p.offset }
-
 -- the location so many bytes behind it
 abbrev pub location_behind : SharedPtr → ℕ → Loc
 location_behind p i = record { object = p.object.number; thread = p.thread; offset = unsigned_abs p.offset + i }

@@ -1,6 +1,6 @@
 //! Whether the history and the records of a journal agree.
 
-ghost use Rattle.std.specs.Prelude.{◌≡◌, ℕ, ◌≤◌, ◌<◌, ◌↔◌, IsTrue, length, All};
+ghost use Rattle.std.specs.Prelude.{◌≡◌, ◌≤◌, ◌<◌, ◌↔◌, IsTrue, All};
 ghost use Rattle.upc_values.specs.declared.record.Item.TheVariants.{Did};
 ghost use Rattle.upc_values.specs.Agrees.{IsIn, Agrees, is_did, IsPlace, IsPlaceOf};
 

@@ -1,4 +1,4 @@
-use Rattle.std.proofs.Common.{◌≡◌, sym, ◌∙◌}
+use Rattle.std.proofs.Common.{sym, ◌∙◌}
 use Rattle.upc_tree.specs.View.{view}
 use Rattle.first_language.proofs.Blocks.{assignment_got}
 use Rattle.first_language.proofs.statements.assignment.Goals as goal

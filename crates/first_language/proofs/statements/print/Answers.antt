@@ -1,4 +1,4 @@
-use Rattle.std.proofs.Common.{◌≡◌, sym, ◌∙◌}
+use Rattle.std.proofs.Common.{sym, ◌∙◌}
 use Rattle.upc_tree.specs.View.{view, view_arguments}
 use Rattle.first_language.proofs.Blocks.{print_got}
 use Rattle.first_language.proofs.statements.print.Goals as goal

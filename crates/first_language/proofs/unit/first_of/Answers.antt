@@ -1,4 +1,4 @@
-use Rattle.std.proofs.Common.{◌≡◌, [], ◌∷◌, map, ap, sym, ◌∙◌, arith}
+use Rattle.std.proofs.Common.{[], ◌∷◌, map, ap, sym, ◌∙◌, arith}
 use Rattle.std.proofs.lemmas.List.{map-append}
 use Rattle.upc_tree.specs.ViewStatement.{view_external}
 use Rattle.first_language.proofs.Parts.{none_declared, no_main, few_variables, program_is, is_postfix, is_formed_program}

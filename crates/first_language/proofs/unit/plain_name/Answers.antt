@@ -1,4 +1,4 @@
-use Rattle.std.proofs.Common.{ap, ◌∙◌, sym, rules}
+use Rattle.std.proofs.Common.{ap, ◌∙◌, rules}
 use Rattle.upc_tree.specs.View.{view_declarator}
 use Rattle.upc_tree.proofs.Rows.{object_is}
 use Rattle.first_language.specs.Unit.{plain_name}

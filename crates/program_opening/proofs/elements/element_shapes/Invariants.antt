@@ -2,13 +2,14 @@ use Rattle.std.proofs.Common.{◌≡◌, ◌≤◌, true, map, drop, vec_len}
 use Rattle.upc_values.specs.Lists.{Each}
 use Rattle.upc_types.specs.View.{view}
 use Rattle.upc_types.specs.ViewStructs.{view_structs}
-use Rattle.program_opening.specs.Elements.{has_layout, element_shape, with_shapes}
+use Rattle.program_opening.specs.Elements.{element_shape, with_shapes}
+use Rattle.typed_tree.specs.Rules.{has_size}
 use Rattle.program_opening.proofs.elements.element_shapes.Given as goal
 
 abbrev pub invariant-loop-t : goal.invariant-loop-t
 invariant-loop-t l = record {
   rest : with_shapes l.shapes.items (map (element_shape (view_structs l.structs)) (map view (drop l.t-index l.types)))
       ≡ with_shapes l.initial.shapes.items (map (element_shape (view_structs l.structs)) (map view l.types));
-  layouts : Each (λ t. has_layout (view_structs l.structs) t ≡ true) (map view (drop l.t-index l.types));
+  layouts : Each (λ t. has_size (view_structs l.structs) t ≡ true) (map view (drop l.t-index l.types));
   few : vec_len l.shapes ≤ 4294967295;
 }

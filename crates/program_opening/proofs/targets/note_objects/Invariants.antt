@@ -1,7 +1,7 @@
 use Rattle.std.proofs.Common.{◌≡◌, true, map, drop}
 use Rattle.upc_values.specs.Lists.{Each}
 use Rattle.upc_types.specs.ViewStructs.{view_structs}
-use Rattle.program_opening.specs.Elements.{has_layout}
+use Rattle.typed_tree.specs.Rules.{has_size}
 use Rattle.program_opening.specs.Objects.{type_of}
 use Rattle.program_opening.specs.Targets.{with_targets}
 use Rattle.typed_tree.specs.ViewStatements.{view_object}
@@ -11,5 +11,5 @@ abbrev pub invariant-loop-object : goal.invariant-loop-object
 invariant-loop-object l = record {
   rest : with_targets (view_structs l.structs) (map type_of (map view_object (drop l.object-index l.objects)))
       ≡ with_targets (view_structs l.initial.structs) (map type_of (map view_object l.objects));
-  layouts : Each (λ x. has_layout (view_structs l.structs) x.ctype ≡ true) (map view_object (drop l.object-index l.objects));
+  layouts : Each (λ x. has_size (view_structs l.structs) x.ctype ≡ true) (map view_object (drop l.object-index l.objects));
 }

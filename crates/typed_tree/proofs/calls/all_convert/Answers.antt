@@ -3,8 +3,9 @@ use Rattle.std.proofs.lemmas.List.{at_drop_all}
 use Rattle.upc_types.specs.View.{view}
 use Rattle.typed_tree.specs.Views.{attr_seen}
 use Rattle.typed_tree.specs.Rules as r
-use Rattle.typed_tree.proofs.Arguments.{one_less, next, all_convert_more, all_convert_end}
+use Rattle.typed_tree.proofs.Arguments.{one_less, all_convert_more, all_convert_end}
 use Rattle.typed_tree.proofs.calls.all_convert.Goals as goal
+use Rattle.upc_types.proofs.Members.{next}
 
 pub loop-i-preserved : goal.loop-i-preserved
 loop-i-preserved c =

@@ -2,10 +2,10 @@ use Rattle.std.proofs.Common.{◌≡◌, map, reverse, Some, None, sym, ap, ◌�
 use Rattle.upc_types.specs.declared.layout.Layout.{Layout}
 use Rattle.upc_types.specs.View.{view_completed, view_base}
 use Rattle.upc_types.specs.Layout.{base_within}
-use Rattle.typed_tree.specs.Values.{leaf_base}
 use Rattle.typed_tree.proofs.Sized.{leaf_within, layout_is, leaves_are, none_some}
 use Rattle.typed_tree.proofs.sizes.leaves_of.Goals as goal
 use Rattle.typed_tree.proofs.sizes.leaves_of.Goals.{in_default-via-in-Some+in_default, in_default-via-in_default}
+use Rattle.upc_types.specs.Cells.{leaf_base}
 
 pub returns-clause-count : goal.returns-clause-count
 returns-clause-count c =

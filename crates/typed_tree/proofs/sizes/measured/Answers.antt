@@ -2,10 +2,10 @@ use Rattle.std.proofs.Common.{◌*◌, map, reverse, sym, ap, ◌∙◌}
 use Rattle.upc_types.specs.View.{view, view_base, view_completed}
 use Rattle.upc_types.specs.ViewStructs.{view_structs}
 use Rattle.upc_types.specs.Layout.{layout_in}
-use Rattle.typed_tree.specs.Values.{leaves}
 use Rattle.typed_tree.specs.Attributes.{Facts, measured}
-use Rattle.typed_tree.proofs.Sized.{leaf_sizes}
 use Rattle.typed_tree.proofs.sizes.measured.Goals as goal
+use Rattle.upc_types.specs.Cells.{leaves}
+use Rattle.upc_types.proofs.Within.{leaf_sizes}
 
 pub returns-in-Bytes : goal.returns-in-Bytes
 returns-in-Bytes c =

@@ -1,4 +1,4 @@
-use Rattle.std.proofs.Common.{◌≡◌, ℕ, ◌+◌, ◌∷◌, [], List, map, drop, Bool, Option, Some, Result, Ok, Err, refl, sym, ap, ◌∙◌, subst, arith, Vec, Global}
+use Rattle.std.proofs.Common.{◌+◌, ◌∷◌, [], List, map, drop, Bool, Some, Result, Ok, Err, refl, sym, ap, ◌∙◌, subst, arith, Vec, Global}
 use Rattle.std.proofs.lemmas.List.{append-nil, drop_all}
 use Rattle.std.proofs.lemmas.Result.{err_from_is_err_and}
 use Rattle.upc_text.specs.declared.faults.Stop.{Stop}
@@ -9,13 +9,13 @@ use Rattle.upc_tree.specs.declared.statement.ForHead.{ForHead as ForHeadTree}
 use Rattle.upc_tree.specs.declared.statement.ForallHead.{ForallHead as ForallHeadTree}
 use Rattle.upc_tree.specs.declared.statement.Statement.{Statement as Tree}
 use Rattle.typed_tree.specs.declared.tree.Statement.{Statement}
-use Rattle.upc_checker.specs.Ends.{Comes, Meets, Stops}
+use Rattle.declaration_checker.specs.Ends.{Comes, Meets, Stops}
 use Rattle.upc_tree.specs.Lists.{block_items_of, else_ifs_of, switch_items_of}
 use Rattle.upc_tree.specs.ViewStatement as trees
 use Rattle.upc_tree.specs.View.{view}
 use Rattle.typed_tree.specs.Faults.{first_fault}
-use Rattle.upc_checker.specs.declared.statements.Labelled.{Labelled as RustLabelled}
-use Rattle.upc_checker.specs.Expressions.{constantly, walk}
+use Rattle.upc_checker.specs.declared.heads.Labelled.{Labelled as RustLabelled}
+use Rattle.declaration_checker.specs.Expressions.{constantly, walk}
 use Rattle.upc_tree.specs.declared.statement.BlockItem.{BlockItem}
 use Rattle.upc_tree.specs.declared.statement.ElseIf.{ElseIf}
 use Rattle.typed_tree.specs.declared.tree.Arm.{Arm}
@@ -31,21 +31,22 @@ use Rattle.typed_tree.specs.ViewEnv.{view_env}
 use Rattle.typed_tree.specs.ViewStatements.{view_affinity, view_arms, view_head, view_item, view_items, view_last, view_object, view_statement, view_switch_items}
 use Rattle.typed_tree.specs.ViewTree.{view_expr}
 use Rattle.typed_tree.specs.Views.{attr_tested, view_around}
-use Rattle.upc_checker.specs.Declarations as declarations
-use Rattle.upc_checker.specs.Declarations.{Behind}
+use Rattle.declaration_checker.specs.Declarations as declarations
+use Rattle.declaration_checker.specs.Declarations.{Behind}
 use Rattle.upc_checker.specs.Statements as pure
 use Rattle.upc_checker.specs.Statements.{Armed, Labelled}
-use Rattle.upc_checker.specs.Views.{view_setting, state_of, state_with}
-use Rattle.upc_checker.specs.ViewTags.{view_tags}
-use Rattle.upc_checker.specs.Walk.{andthen, enclosed, give, judge}
-use Rattle.upc_checker.proofs.Walks.{goes, stops, gives, encloses}
-use Rattle.upc_checker.proofs.Turns.{left as next_left, IsLeft, behind, goes_by, stops_by, list_begins, list_stops, list_done}
-use Rattle.upc_checker.proofs.StatementTurns.{labelled_end, labelled_nothing, left_grouped, left_same, more_of_if, arm_pushed, armed_behind, arms_behind, case_pushed, default_pushed, labelled_behind, statement_pushed, switch_items_behind, items_behind, left_goes, left_rest, one_more, encloses_in, encloses_part, if_part, switch_part, while_part, do_part, for_part, forall_part}
+use Rattle.declaration_checker.specs.Views.{view_setting, state_of, state_with}
+use Rattle.declaration_checker.specs.ViewTags.{view_tags}
+use Rattle.declaration_checker.specs.Walk.{andthen, enclosed, give, judge}
+use Rattle.declaration_checker.proofs.Walks.{goes, stops, gives}
+use Rattle.declaration_checker.proofs.Turns.{IsLeft, behind, goes_by, stops_by, list_begins, list_stops, list_done}
+use Rattle.upc_checker.proofs.StatementTurns.{labelled_end, labelled_nothing, left_grouped, left_same, more_of_if, arm_pushed, armed_behind, arms_behind, case_pushed, default_pushed, labelled_behind, statement_pushed, items_behind, left_goes, left_rest, one_more, encloses_in, encloses_part, if_part, switch_part, while_part, do_part, for_part, forall_part}
 use denote.Param.Weighed.{most}
 use Rattle.upc_tree.proofs.statement.ElseIf.TheLaws as else_if
 use Rattle.upc_tree.proofs.statement.Statement.TheLaws as statement
 use Rattle.upc_checker.proofs.statements.+statement.Goals as goal
 use Rattle.upc_checker.proofs.statements.+statement.Goals.{walk_items-in-Declaration+in_ok-objects-in-Declaration+in_ok-push-in-Declaration, walk_items-in-Statement+in_ok-x-in-Statement+in_ok-push-in-Statement, walk_labelled-in-Case+in_ok-label-in-Case+in_ok-push-in-Case+in_ok-push-in-Case-2, walk_labelled-in-Default+in_ok-defaults-in-Default+in_ok-push-in-Default, walk_labelled-in-Statement+in_ok-x-in-Statement+in_ok-push-in-Statement}
+use Rattle.upc_values.proofs.Membership.{left_from}
 
 pub walk_while-returns-in_err-test : goal.walk_while-returns-in_err-test
 walk_while-returns-in_err-test t c =
@@ -369,7 +370,7 @@ walk_items-returns-in_err-objects-in-Declaration t c =
     let all = c.loop-part.all.items in
     let f = behind view_item all in
     let rest = drop (c.loop-part.part-index + 1) c.args.items.now in
-    let next = next_left c.args.items.now c.loop-part.part-index c.part-item.result c.loop-part-test.true c.part-item.is in
+    let next = left_from c.args.items.now c.loop-part.part-index c.part-item.result c.loop-part-test.true c.part-item.is in
     let h0 = subst (λ (xs : List BlockItem). IsLeft whole f (w Γ xs) s) next c.loop-part.invariant in
     let h = subst (λ (x : BlockItem). IsLeft whole f (w Γ (x ∷ rest)) s) c.in-Declaration.is h0 in
     let one = declarations.walk_declaration ξ Γ (trees.view_declaration c.in-Declaration.declaration) in
@@ -389,7 +390,7 @@ walk_items-returns-in_err-x-in-Statement t c =
     let all = c.loop-part.all.items in
     let f = behind view_item all in
     let rest = drop (c.loop-part.part-index + 1) c.args.items.now in
-    let next = next_left c.args.items.now c.loop-part.part-index c.part-item.result c.loop-part-test.true c.part-item.is in
+    let next = left_from c.args.items.now c.loop-part.part-index c.part-item.result c.loop-part-test.true c.part-item.is in
     let h0 = subst (λ (xs : List BlockItem). IsLeft whole f (w Γ xs) s) next c.loop-part.invariant in
     let h = subst (λ (x : BlockItem). IsLeft whole f (w Γ (x ∷ rest)) s) c.in-Statement.is h0 in
     let one = pure.walk_statement ξ Γ A strict (trees.view_statement c.in-Statement.statement) in
@@ -424,12 +425,10 @@ walk_else_ifs-returns-in_err-test t c =
     let s = state_of c.loop-part.tags c.loop-part.known in
     let all = c.loop-part.arms.items in
     let f = armed_behind all in
-    let rest = drop (c.loop-part.part-index + 1) c.args.more.now in
-    let next = next_left c.args.more.now c.loop-part.part-index c.part-item.result c.loop-part-test.true c.part-item.is in
+    let next = left_from c.args.more.now c.loop-part.part-index c.part-item.result c.loop-part-test.true c.part-item.is in
     let h0 = subst (λ (xs : List ElseIf). IsLeft whole f (w xs) s) next c.loop-part.invariant in
     let part = c.part-item.result in
     let one = pure.walk_test ξ Γ (trees.view_test part.test) in
-    let two = pure.walk_statement ξ Γ A strict (trees.view_statement part.body) in
     let e = c.in_err-test.field-0.0 in
     let p = err_from_is_err_and c.from_residual-in_err-test.result c.from_residual-in_err-test.ensures.1 in
     rw (p.1, p.2) (list_stops (λ (x : Armed). x) whole f one _ s s e h0 c.in_err-test.ensures)
@@ -446,8 +445,7 @@ walk_else_ifs-returns-in_err-body t c =
     let s = state_of c.loop-part.tags c.loop-part.known in
     let all = c.loop-part.arms.items in
     let f = armed_behind all in
-    let rest = drop (c.loop-part.part-index + 1) c.args.more.now in
-    let next = next_left c.args.more.now c.loop-part.part-index c.part-item.result c.loop-part-test.true c.part-item.is in
+    let next = left_from c.args.more.now c.loop-part.part-index c.part-item.result c.loop-part-test.true c.part-item.is in
     let h0 = subst (λ (xs : List ElseIf). IsLeft whole f (w xs) s) next c.loop-part.invariant in
     let part = c.part-item.result in
     let one = pure.walk_test ξ Γ (trees.view_test part.test) in
@@ -471,7 +469,7 @@ walk_else_ifs-loop-part-preserved t c =
     let all = c.loop-part.arms.items in
     let f = armed_behind all in
     let rest = drop (c.loop-part.part-index + 1) c.args.more.now in
-    let next = next_left c.args.more.now c.loop-part.part-index c.part-item.result c.loop-part-test.true c.part-item.is in
+    let next = left_from c.args.more.now c.loop-part.part-index c.part-item.result c.loop-part-test.true c.part-item.is in
     let h0 = subst (λ (xs : List ElseIf). IsLeft whole f (w xs) s) next c.loop-part.invariant in
     let part = c.part-item.result in
     let one = pure.walk_test ξ Γ (trees.view_test part.test) in
@@ -502,41 +500,20 @@ walk_else_ifs-returns t c =
     list_done (λ (xs : Vec Arm Global). record { arms = view_arms xs.items; tests = map attr_tested xs.items }) whole f end s c.loop-part.arms h (rw (arms_behind all, append-nil) refl)
 
 pub walk_statement-returns-in-Expression : goal.walk_statement-returns-in-Expression
-walk_statement-returns-in-Expression t c =
-    let ξ = view_setting c.args.here.setting in
-    let A = view_around c.args.here.around in
-    let strict = c.args.here.strict in
-    let Γ = view_env c.args.env.now in
-    let s = state_of c.args.tags.now c.args.known.now in
-    rw c.in-Expression.is (c.walk_expression.ensures)
+walk_statement-returns-in-Expression t c = c.walk_simple.ensures
 
 pub walk_statement-returns-in-While : goal.walk_statement-returns-in-While
 walk_statement-returns-in-While t c =
-    let ξ = view_setting c.args.here.setting in
-    let A = view_around c.args.here.around in
-    let strict = c.args.here.strict in
-    let Γ = view_env c.args.env.now in
-    let s = state_of c.args.tags.now c.args.known.now in
-    let v = ap trees.view_statement c.in-While.is ∙ ap (λ (b : Tree). tree.While c.in-While.word (trees.view_test c.in-While.test) (trees.view_statement b)) (sym c.deref-in-While.ensures) in
+    let v = ap trees.view_statement c.in-While.is ∙ ap (λ (b : Tree). tree.While c.in-While.word (trees.view_test c.in-While.test) (trees.view_statement b)) (sym c.deref.ensures) in
     rw v c.walk_while.ensures
 
 pub walk_statement-returns-in-DoWhile : goal.walk_statement-returns-in-DoWhile
 walk_statement-returns-in-DoWhile t c =
-    let ξ = view_setting c.args.here.setting in
-    let A = view_around c.args.here.around in
-    let strict = c.args.here.strict in
-    let Γ = view_env c.args.env.now in
-    let s = state_of c.args.tags.now c.args.known.now in
     let v = ap trees.view_statement c.in-DoWhile.is ∙ ap (λ (b : Tree). tree.DoWhile c.in-DoWhile.word (trees.view_statement b) c.in-DoWhile.until (trees.view_test c.in-DoWhile.test) c.in-DoWhile.semicolon) (sym c.deref-in-DoWhile.ensures) in
     rw v (c.walk_do_while.ensures c.in-DoWhile.until c.in-DoWhile.semicolon)
 
 pub walk_statement-returns-in-For : goal.walk_statement-returns-in-For
 walk_statement-returns-in-For t c =
-    let ξ = view_setting c.args.here.setting in
-    let A = view_around c.args.here.around in
-    let strict = c.args.here.strict in
-    let Γ = view_env c.args.env.now in
-    let s = state_of c.args.tags.now c.args.known.now in
     let v = ap trees.view_statement c.in-For.is
     ∙ ap (λ (b : Tree). tree.For c.in-For.word (trees.view_for c.in-For.head.value) (trees.view_statement b)) (sym c.deref-in-For.ensures)
     ∙ ap (λ (h : ForHeadTree). tree.For c.in-For.word (trees.view_for h) (trees.view_statement c.deref-in-For.result.now)) (sym c.deref-in-For-2.ensures) in
@@ -544,73 +521,27 @@ walk_statement-returns-in-For t c =
 
 pub walk_statement-returns-in-Forall : goal.walk_statement-returns-in-Forall
 walk_statement-returns-in-Forall t c =
-    let ξ = view_setting c.args.here.setting in
-    let A = view_around c.args.here.around in
-    let strict = c.args.here.strict in
-    let Γ = view_env c.args.env.now in
-    let s = state_of c.args.tags.now c.args.known.now in
     let v = ap trees.view_statement c.in-Forall.is
     ∙ ap (λ (b : Tree). tree.Forall c.in-Forall.word (trees.view_forall c.in-Forall.head.value) (trees.view_statement b)) (sym c.deref-in-Forall.ensures)
     ∙ ap (λ (h : ForallHeadTree). tree.Forall c.in-Forall.word (trees.view_forall h) (trees.view_statement c.deref-in-Forall.result.now)) (sym c.deref-in-Forall-2.ensures) in
     rw v c.walk_forall.ensures
 
-pub walk_statement-returns-in-Break : goal.walk_statement-returns-in-Break
-walk_statement-returns-in-Break t c =
-    let ξ = view_setting c.args.here.setting in
-    let A = view_around c.args.here.around in
-    let strict = c.args.here.strict in
-    let Γ = view_env c.args.env.now in
-    let s = state_of c.args.tags.now c.args.known.now in
-    rw c.in-Break.is (c.finish_break.ensures ξ s)
+pub walk_statement-returns-in-Compound : goal.walk_statement-returns-in-Compound
+walk_statement-returns-in-Compound t c =
+    let v = ap trees.view_statement c.in-Compound.is ∙ compound_is c.in-Compound.compound in
+    rw v c.walk_compound.ensures
 
-pub walk_statement-returns-in-Continue : goal.walk_statement-returns-in-Continue
-walk_statement-returns-in-Continue t c =
-    let ξ = view_setting c.args.here.setting in
-    let A = view_around c.args.here.around in
-    let strict = c.args.here.strict in
-    let Γ = view_env c.args.env.now in
-    let s = state_of c.args.tags.now c.args.known.now in
-    rw c.in-Continue.is (c.finish_continue.ensures ξ s)
+pub walk_statement-returns-in-If : goal.walk_statement-returns-in-If
+walk_statement-returns-in-If t c = c.walk_if.ensures
 
-pub walk_statement-returns-in-Return : goal.walk_statement-returns-in-Return
-walk_statement-returns-in-Return t c =
+pub walk_compound-returns : goal.walk_compound-returns
+walk_compound-returns t c =
     let ξ = view_setting c.args.here.setting in
     let A = view_around c.args.here.around in
-    let strict = c.args.here.strict in
-    let Γ = view_env c.args.env.now in
     let s = state_of c.args.tags.now c.args.known.now in
-    rw c.in-Return.is (c.walk_return.ensures c.in-Return.semicolon)
-
-pub walk_statement-returns-in-Barrier : goal.walk_statement-returns-in-Barrier
-walk_statement-returns-in-Barrier t c =
-    let ξ = view_setting c.args.here.setting in
-    let A = view_around c.args.here.around in
-    let strict = c.args.here.strict in
-    let Γ = view_env c.args.env.now in
-    let s = state_of c.args.tags.now c.args.known.now in
-    rw c.in-Barrier.is (c.walk_barrier.ensures c.in-Barrier.semicolon)
-
-pub walk_statement-returns-in-Fence : goal.walk_statement-returns-in-Fence
-walk_statement-returns-in-Fence t c =
-    let ξ = view_setting c.args.here.setting in
-    let A = view_around c.args.here.around in
-    let strict = c.args.here.strict in
-    let Γ = view_env c.args.env.now in
-    let s = state_of c.args.tags.now c.args.known.now in
-    rw c.in-Fence.is (record { fine = refl; state = refl; value = sym c.fence.ensures })
-
-pub walk_statement-returns-in_ok-scope-in-Compound : goal.walk_statement-returns-in_ok-scope-in-Compound
-walk_statement-returns-in_ok-scope-in-Compound t c =
-    let ξ = view_setting c.args.here.setting in
-    let A = view_around c.args.here.around in
-    let strict = c.args.here.strict in
-    let Γ = view_env c.args.env.now in
-    let s = state_of c.args.tags.now c.args.known.now in
-    let compound = c.in-Compound.compound in
-    let v = ap trees.view_statement c.in-Compound.is ∙ compound_is compound in
     let after = state_of c.args.tags.now c.walk_block.new.known in
-    let h = subst (λ (Δ : Env). Meets view_statement (pure.walk_block ξ Δ A strict (trees.view_compound compound) s) after c.walk_block.result) c.in_ok-scope-in-Compound.ensures c.walk_block.ensures in
-    rw v h
+    let W = λ (Δ : Env). pure.walk_block ξ Δ A c.args.here.strict (trees.view_compound c.args.compound.now) s in
+    subst (λ (Δ : Env). Meets view_statement (W Δ) after c.walk_block.result) c.in_ok-scope.ensures c.walk_block.ensures
 
 pub walk_statement-returns-in-Switch : goal.walk_statement-returns-in-Switch
 walk_statement-returns-in-Switch t c =
@@ -625,16 +556,15 @@ walk_statement-returns-in-Switch t c =
     let v = ap trees.view_statement c.in-Switch.is ∙ switch_is word test c.in-Switch.open x c.in-Switch.close in
     let after = state_of c.args.tags.now c.walk_switch.new.known in
     let W = λ (xs : List SwitchTree). pure.walk_statement ξ Γ A strict (tree.Switch word (trees.view_test test) c.in-Switch.open (switch_items_of (map trees.view_switch_item xs)) c.in-Switch.close) s in
-    let h = subst (λ (xs : List SwitchTree). Meets view_statement (W xs) after c.walk_switch.result) c.as_slice-in-Switch.ensures.value (c.walk_switch.ensures c.in-Switch.open c.in-Switch.close) in
+    let h = subst (λ (xs : List SwitchTree). Meets view_statement (W xs) after c.walk_switch.result) c.as_slice.ensures.value (c.walk_switch.ensures c.in-Switch.open c.in-Switch.close) in
     rw v h
 
-pub walk_statement-returns-in_err-test-in-If : goal.walk_statement-returns-in_err-test-in-If
-walk_statement-returns-in_err-test-in-If t c =
+pub walk_if-returns-in_err-test-in-If : goal.walk_if-returns-in_err-test-in-If
+walk_if-returns-in_err-test-in-If t c =
     let ξ = view_setting c.args.here.setting in
     let A = view_around c.args.here.around in
     let strict = c.args.here.strict in
     let Γ = view_env c.args.env.now in
-    let s = state_of c.args.tags.now c.args.known.now in
     let word = c.in-If.word in
     let test = trees.view_test c.in-If.test in
     let body = trees.view_statement c.in-If.body.value in
@@ -655,13 +585,12 @@ walk_statement-returns-in_err-test-in-If t c =
     rw (v, p.1, p.2) (encloses_part id (W A) (inside Γ) scope tags own (view_tags c.walk_test.new.tags) known c.walk_test.new.known failed c.in_ok-scope-in-If.ensures c.enclosed-inner.ensures
     (stops id one _ s0 (state_of c.walk_test.new.tags c.walk_test.new.known) e c.in_err-test-in-If.ensures))
 
-pub walk_statement-returns-in_err-body-in-If : goal.walk_statement-returns-in_err-body-in-If
-walk_statement-returns-in_err-body-in-If t c =
+pub walk_if-returns-in_err-body-in-If : goal.walk_if-returns-in_err-body-in-If
+walk_if-returns-in_err-body-in-If t c =
     let ξ = view_setting c.args.here.setting in
     let A = view_around c.args.here.around in
     let strict = c.args.here.strict in
     let Γ = view_env c.args.env.now in
-    let s = state_of c.args.tags.now c.args.known.now in
     let word = c.in-If.word in
     let test = trees.view_test c.in-If.test in
     let body = trees.view_statement c.deref.result.now in
@@ -769,13 +698,12 @@ walk_block-returns t c =
     let one = subst (λ (xs : List BlockItem). Meets view_statement (enclosed (W b xs) s) after made) c.as_slice-items.ensures.value h in
     subst (λ (strict : Bool). Meets view_statement (enclosed (W strict x.items.items) s) after made) says one
 
-pub walk_statement-returns-in_err-arms-in-If : goal.walk_statement-returns-in_err-arms-in-If
-walk_statement-returns-in_err-arms-in-If t c =
+pub walk_if-returns-in_err-arms-in-If : goal.walk_if-returns-in_err-arms-in-If
+walk_if-returns-in_err-arms-in-If t c =
     let ξ = view_setting c.args.here.setting in
     let A = view_around c.args.here.around in
     let strict = c.args.here.strict in
     let Γ = view_env c.args.env.now in
-    let s = state_of c.args.tags.now c.args.known.now in
     let word = c.in-If.word in
     let test = trees.view_test c.in-If.test in
     let body = trees.view_statement c.deref.result.now in
@@ -809,13 +737,12 @@ walk_statement-returns-in_err-arms-in-If t c =
     (goes id two _ s1 s2 s3 b failed c.in_ok-body-in-If.ensures
     (stops id three _ s2 s3 e (stops_by three joined s2 e stopped)))))
 
-pub walk_statement-returns-in_err-last-in-If : goal.walk_statement-returns-in_err-last-in-If
-walk_statement-returns-in_err-last-in-If t c =
+pub walk_if-returns-in_err-last-in-If : goal.walk_if-returns-in_err-last-in-If
+walk_if-returns-in_err-last-in-If t c =
     let ξ = view_setting c.args.here.setting in
     let A = view_around c.args.here.around in
     let strict = c.args.here.strict in
     let Γ = view_env c.args.env.now in
-    let s = state_of c.args.tags.now c.args.known.now in
     let word = c.in-If.word in
     let test = trees.view_test c.in-If.test in
     let body = trees.view_statement c.deref.result.now in
@@ -854,13 +781,12 @@ walk_statement-returns-in_err-last-in-If t c =
     (goes_by id three joined go s2 s3 s4 d failed came
     (stops id four _ s3 s4 e c.in_err-last-in-If.ensures)))))
 
-pub walk_statement-returns-in_ok-last-in-If : goal.walk_statement-returns-in_ok-last-in-If
-walk_statement-returns-in_ok-last-in-If t c =
+pub walk_if-returns : goal.walk_if-returns
+walk_if-returns t c =
     let ξ = view_setting c.args.here.setting in
     let A = view_around c.args.here.around in
     let strict = c.args.here.strict in
     let Γ = view_env c.args.env.now in
-    let s = state_of c.args.tags.now c.args.known.now in
     let word = c.in-If.word in
     let test = trees.view_test c.in-If.test in
     let body = trees.view_statement c.deref.result.now in
@@ -910,7 +836,7 @@ walk_labelled-returns-in_err-x-in-Statement t c =
     let all = c.loop-part.all in
     let f = labelled_behind all.items.items all.labels.items all.defaults in
     let rest = drop (c.loop-part.part-index + 1) c.args.items.now in
-    let next = next_left c.args.items.now c.loop-part.part-index c.part-item.result c.loop-part-test.true c.part-item.is in
+    let next = left_from c.args.items.now c.loop-part.part-index c.part-item.result c.loop-part-test.true c.part-item.is in
     let h0 = subst (λ (xs : List SwitchTree). IsLeft whole f (w xs) s) next c.loop-part.invariant in
     let h = subst (λ (x : SwitchTree). IsLeft whole f (w (x ∷ rest)) s) c.in-Statement.is h0 in
     let id = λ (x : Labelled). x in
@@ -963,7 +889,7 @@ walk_items-loop-part-preserved t c =
     let all = c.loop-part.all.items in
     let f = behind view_item all in
     let rest = drop (c.loop-part.part-index + 1) c.args.items.now in
-    let next = next_left c.args.items.now c.loop-part.part-index c.part-item.result c.loop-part-test.true c.part-item.is in
+    let next = left_from c.args.items.now c.loop-part.part-index c.part-item.result c.loop-part-test.true c.part-item.is in
     let h0 = subst (λ (xs : List BlockItem). IsLeft whole f (walks Γ xs) s) next c.loop-part.invariant in
     elim c.match-part.branch [
       | walk_items-in-Declaration+in_ok-objects-in-Declaration+in_ok-push-in-Declaration w ↦
@@ -998,7 +924,7 @@ walk_labelled-loop-part-preserved t c =
     let all = c.loop-part.all in
     let f = labelled_behind all.items.items all.labels.items all.defaults in
     let rest = drop (c.loop-part.part-index + 1) c.args.items.now in
-    let next = next_left c.args.items.now c.loop-part.part-index c.part-item.result c.loop-part-test.true c.part-item.is in
+    let next = left_from c.args.items.now c.loop-part.part-index c.part-item.result c.loop-part-test.true c.part-item.is in
     let h0 = subst (λ (xs : List SwitchTree). IsLeft whole f (walks xs) s) next c.loop-part.invariant in
     elim c.match-part.branch [
       | walk_labelled-in-Case+in_ok-label-in-Case+in_ok-push-in-Case+in_ok-push-in-Case-2 w ↦
@@ -1046,7 +972,7 @@ walk_labelled-returns-in_err-label-in-Case t c =
     let all = c.loop-part.all in
     let f = labelled_behind all.items.items all.labels.items all.defaults in
     let rest = drop (c.loop-part.part-index + 1) c.args.items.now in
-    let next = next_left c.args.items.now c.loop-part.part-index c.part-item.result c.loop-part-test.true c.part-item.is in
+    let next = left_from c.args.items.now c.loop-part.part-index c.part-item.result c.loop-part-test.true c.part-item.is in
     let h0 = subst (λ (xs : List SwitchTree). IsLeft whole f (w xs) s) next c.loop-part.invariant in
     let h = subst (λ (x : SwitchTree). IsLeft whole f (w (x ∷ rest)) s) c.in-Case.is h0 in
     let id = λ (x : Labelled). x in
@@ -1058,8 +984,8 @@ walk_labelled-returns-in_err-label-in-Case t c =
     let p = err_from_is_err_and c.from_residual.result c.from_residual.ensures.1 in
     rw (p.1, p.2) (list_stops id whole f (andthen one two) _ s t1 e h1 c.in_err-label-in-Case.ensures)
 
-pub walk_statement-walk_else_ifs-requires : goal.walk_statement-walk_else_ifs-requires
-walk_statement-walk_else_ifs-requires t c =
+pub walk_if-walk_else_ifs-requires : goal.walk_if-walk_else_ifs-requires
+walk_if-walk_else_ifs-requires t c =
     let e = ap (most else_if.the_size) c.as_slice.ensures.value in
     let h = more_of_if c.in-If.word c.in-If.test c.in-If.body c.in-If.more c.in-If.otherwise in
     let i = ap statement.the_size c.in-If.is in

@@ -11,9 +11,9 @@ use Rattle.typed_tree.specs.ViewTree.{view_expr}
 use Rattle.typed_tree.specs.Views.{view_around}
 use Rattle.upc_checker.specs.Statements as pure
 use Rattle.upc_checker.specs.Statements.{Armed}
-use Rattle.upc_checker.specs.Views.{view_setting, state_of}
-use Rattle.upc_checker.specs.Walk.{andthen, give}
-use Rattle.upc_checker.proofs.Turns.{IsLeft, behind}
+use Rattle.declaration_checker.specs.Views.{view_setting, state_of}
+use Rattle.declaration_checker.specs.Walk.{andthen, give}
+use Rattle.declaration_checker.proofs.Turns.{IsLeft, behind}
 use Rattle.upc_checker.proofs.StatementTurns.{armed_behind, labelled_behind}
 use Rattle.upc_checker.proofs.statements.+statement.Given as goal
 

@@ -1,23 +1,12 @@
-use Rattle.std.proofs.Common.{◌≡◌, Some, None, Ok, Err, refl, sym, ap, ◌∙◌, subst}
 use Rattle.std.proofs.lemmas.Result.{err_from_is_err_and}
-use Rattle.upc_text.specs.declared.place.Place.{Place}
-use Rattle.upc_tree.specs.View.{view}
 use Rattle.upc_tree.specs.ViewStatement as trees
-use Rattle.upc_types.specs.View as types
-use Rattle.typed_tree.specs.Nodes as n
-use Rattle.typed_tree.specs.Nodes.{view_attr}
 use Rattle.typed_tree.specs.Tree as k
 use Rattle.typed_tree.specs.ViewEnv.{view_env}
-use Rattle.typed_tree.specs.ViewStatements.{view_affinity, view_head, view_object, view_statement, view_value}
-use Rattle.typed_tree.specs.ViewTree.{view_expr}
+use Rattle.typed_tree.specs.ViewStatements.{view_statement, view_value}
 use Rattle.typed_tree.specs.Views.{view_around}
-use Rattle.upc_checker.specs.Declarations as declarations
-use Rattle.upc_checker.specs.Expressions.{walk}
 use Rattle.upc_checker.specs.Statements as pure
-use Rattle.upc_checker.specs.Views.{view_setting, state_of}
-use Rattle.upc_checker.specs.Walk.{facts_in}
-use Rattle.upc_checker.proofs.Walks.{goes, stops, gives}
-use Rattle.upc_checker.proofs.StatementTurns.{judges, refuses}
+use Rattle.declaration_checker.specs.Views.{view_setting, state_of}
+use Rattle.declaration_checker.proofs.Walks.{goes, stops}
 use Rattle.upc_checker.proofs.statements.walk_return.Goals as goal
 
 pub returns-in_err-a : goal.returns-in_err-a

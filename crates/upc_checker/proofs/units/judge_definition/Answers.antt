@@ -3,14 +3,14 @@ use Rattle.std.proofs.lemmas.Grind.{common_steps}
 use Rattle.std.proofs.lemmas.List.{length-map}
 use Rattle.upc_types.specs.View.{view}
 use Rattle.typed_tree.specs.Scopes.{State}
-use Rattle.upc_checker.specs.Counts.{ended, with_more}
-use Rattle.upc_checker.specs.Ends.{Comes}
+use Rattle.declaration_checker.specs.Counts.{ended, with_more}
+use Rattle.declaration_checker.specs.Ends.{Comes}
 use Rattle.std.proofs.lemmas.Result.{err_from_is_err_and}
 use Rattle.typed_tree.specs.Nodes.{Defines}
 use Rattle.typed_tree.specs.Views.{view_signature}
-use Rattle.upc_checker.specs.Views.{view_setting, state_with}
-use Rattle.upc_checker.specs.Walk.{judge, facts_in}
-use Rattle.upc_checker.proofs.Walks.{judge_goes, judge_stops}
+use Rattle.declaration_checker.specs.Views.{view_setting, state_with}
+use Rattle.declaration_checker.specs.Walk.{judge, facts_in}
+use Rattle.declaration_checker.proofs.Walks.{judge_goes, judge_stops}
 use Rattle.upc_checker.proofs.units.judge_definition.Goals as goal
 
 pub returns-in_err-judged : goal.returns-in_err-judged

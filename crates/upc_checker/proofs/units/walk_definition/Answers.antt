@@ -1,4 +1,4 @@
-use Rattle.std.proofs.Common.{◌≡◌, ℕ, Bool, true, false, List, [], ◌∷◌, ◌++◌, map, Result, Ok, Err, refl, sym, ap, ◌∙◌, subst}
+use Rattle.std.proofs.Common.{◌≡◌, ℕ, Bool, true, false, List, [], ◌∷◌, ◌++◌, map, Result, Ok, Err, sym, ap, ◌∙◌, subst}
 use Rattle.std.proofs.lemmas.List.{map-append}
 use Rattle.std.proofs.lemmas.Result.{err_from_is_err_and}
 use Rattle.upc_text.specs.declared.faults.Stop.{Stop}
@@ -12,20 +12,18 @@ use Rattle.typed_tree.specs.Meanings.{Signature, Function}
 use Rattle.typed_tree.specs.Nodes as n
 use Rattle.typed_tree.specs.Scopes.{Env, Tag, State, Within, inside, spelling, differs, with_entry, with_function}
 use Rattle.typed_tree.specs.Tree as k
-use Rattle.typed_tree.specs.Tree.{DeclaredObject}
-use Rattle.typed_tree.specs.Values.{value_type}
 use Rattle.typed_tree.specs.ViewEnv.{view_env, with_outer}
 use Rattle.typed_tree.specs.ViewStatements.{view_function, view_statement}
-use Rattle.typed_tree.specs.Views.{view_signature}
-use Rattle.upc_checker.specs.Ends.{Stops, Comes, Meets}
-use Rattle.upc_checker.specs.Expressions.{Declared, walk_parameters}
+use Rattle.declaration_checker.specs.Ends.{Stops, Comes, Meets}
+use Rattle.declaration_checker.specs.Expressions.{Declared, walk_parameters}
 use Rattle.upc_checker.specs.Statements.{walk_block}
+use Rattle.declaration_checker.specs.Declarations.{definition_again}
 use Rattle.upc_checker.specs.Units as pure
 use Rattle.upc_checker.specs.Units.{Made, Earlier, with_outer_entry, body_around}
-use Rattle.upc_checker.specs.Views.{view_setting, state_of, state_with}
-use Rattle.upc_checker.specs.ViewTags.{view_tags}
-use Rattle.upc_checker.specs.Walk.{judge, update, enclosed}
-use Rattle.upc_checker.proofs.Walks.{goes, stops, gives, looks, updates, encloses}
+use Rattle.declaration_checker.specs.Views.{view_setting, state_of, state_with}
+use Rattle.declaration_checker.specs.ViewTags.{view_tags}
+use Rattle.declaration_checker.specs.Walk.{judge, update}
+use Rattle.declaration_checker.proofs.Walks.{goes, stops, gives, looks, updates, encloses}
 use Rattle.upc_checker.proofs.Outer.{outer_of, parameters_outer, with_function_around}
 use Rattle.upc_checker.proofs.units.walk_definition.Goals as goal
 
@@ -70,7 +68,7 @@ returns-in_err-body c = λ objects.
     let hp = subst (λ (Δ : Env). Comes (wp Δ (view_tags c.args.tags.now)) s1 d) c.in_ok-scope.ensures
     (subst (λ (t : List Tag). Comes (wp (view_env c.in_ok-scope.scope) t) s1 d) c.enclosed-inner.ensures c.in_ok-parameters.ensures) in
     let signature : Signature = record { result = view c.args.gives; parameters = ts } in
-    let f = λ (s : State). let e : Earlier = record { again = pure.definition_again ξ Γ s name.number; differs = differs name.number signature s.functions } in e in
+    let f = λ (s : State). let e : Earlier = record { again = definition_again ξ Γ s name.number; differs = differs name.number signature s.functions } in e in
     let s2 = with_function name.number signature true s1 in
     let known : state_with tags c.note_function.new.known ≡ s2 = c.in_ok-note_function.ensures.ok tags ∙ ap (λ (g : Signature). with_function name.number g true s1) c.in_ok-copy.ensures in
     let entry = c.in_ok-enter_function.ensures.ok ∙ ap (λ (g : Signature). with_entry name.number (Function g) Γ) c.in_ok-copy-2.ensures in
@@ -109,7 +107,7 @@ returns-in_err-judge_definition c = λ objects.
     let hp = subst (λ (Δ : Env). Comes (wp Δ (view_tags c.args.tags.now)) s1 d) c.in_ok-scope.ensures
     (subst (λ (t : List Tag). Comes (wp (view_env c.in_ok-scope.scope) t) s1 d) c.enclosed-inner.ensures c.in_ok-parameters.ensures) in
     let signature : Signature = record { result = view c.args.gives; parameters = ts } in
-    let f = λ (s : State). let e : Earlier = record { again = pure.definition_again ξ Γ s name.number; differs = differs name.number signature s.functions } in e in
+    let f = λ (s : State). let e : Earlier = record { again = definition_again ξ Γ s name.number; differs = differs name.number signature s.functions } in e in
     let s2 = with_function name.number signature true s1 in
     let known : state_with tags c.note_function.new.known ≡ s2 = c.in_ok-note_function.ensures.ok tags ∙ ap (λ (g : Signature). with_function name.number g true s1) c.in_ok-copy.ensures in
     let entry = c.in_ok-enter_function.ensures.ok ∙ ap (λ (g : Signature). with_entry name.number (Function g) Γ) c.in_ok-copy-2.ensures in
@@ -161,7 +159,7 @@ returns c = λ objects.
     let hp = subst (λ (Δ : Env). Comes (wp Δ (view_tags c.args.tags.now)) s1 d) c.in_ok-scope.ensures
     (subst (λ (t : List Tag). Comes (wp (view_env c.in_ok-scope.scope) t) s1 d) c.enclosed-inner.ensures c.in_ok-parameters.ensures) in
     let signature : Signature = record { result = view c.args.gives; parameters = ts } in
-    let f = λ (s : State). let e : Earlier = record { again = pure.definition_again ξ Γ s name.number; differs = differs name.number signature s.functions } in e in
+    let f = λ (s : State). let e : Earlier = record { again = definition_again ξ Γ s name.number; differs = differs name.number signature s.functions } in e in
     let s2 = with_function name.number signature true s1 in
     let known : state_with tags c.note_function.new.known ≡ s2 = c.in_ok-note_function.ensures.ok tags ∙ ap (λ (g : Signature). with_function name.number g true s1) c.in_ok-copy.ensures in
     let entry = c.in_ok-enter_function.ensures.ok ∙ ap (λ (g : Signature). with_entry name.number (Function g) Γ) c.in_ok-copy-2.ensures in

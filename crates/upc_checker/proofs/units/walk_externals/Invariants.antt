@@ -2,9 +2,9 @@ use Rattle.std.proofs.Common.{false, map, drop}
 use Rattle.upc_tree.specs.ViewStatement.{view_external}
 use Rattle.typed_tree.specs.ViewEnv.{view_env}
 use Rattle.upc_checker.specs.Units as pure
-use Rattle.upc_checker.specs.Views.{view_setting, state_of}
+use Rattle.declaration_checker.specs.Views.{view_setting, state_of}
 use Rattle.upc_checker.specs.ViewUnits.{view_made}
-use Rattle.upc_checker.proofs.Walks.{Same}
+use Rattle.declaration_checker.proofs.Walks.{Same}
 use Rattle.upc_checker.proofs.units.walk_externals.Given as goal
 
 -- what is left decides

@@ -1,4 +1,4 @@
-use Rattle.std.proofs.Common.{◌≡◌, false, List, [], map, Result, Ok, Err, ap, ◌∙◌, subst}
+use Rattle.std.proofs.Common.{false, List, [], map, Result, Ok, Err, ap, ◌∙◌, subst}
 use Rattle.std.specs.List.{list_any}
 use Rattle.std.proofs.lemmas.Result.{err_from_is_err_and}
 use Rattle.upc_text.specs.declared.faults.Stop.{Stop}
@@ -12,13 +12,13 @@ use Rattle.typed_tree.specs.Rules.{lowest}
 use Rattle.typed_tree.specs.Scopes.{Env, file}
 use Rattle.typed_tree.specs.ViewEnv.{view_env}
 use Rattle.typed_tree.specs.ViewStatements.{view_function, view_object}
-use Rattle.upc_checker.specs.Ends.{Stops, Comes}
+use Rattle.declaration_checker.specs.Ends.{Stops, Comes}
 use Rattle.upc_checker.specs.Units as pure
 use Rattle.upc_checker.specs.Units.{Made}
-use Rattle.upc_checker.specs.Views.{view_setting, state_of}
+use Rattle.declaration_checker.specs.Views.{view_setting, state_of}
 use Rattle.upc_checker.specs.ViewUnits.{view_made}
-use Rattle.upc_checker.specs.Walk.{judge, facts_in}
-use Rattle.upc_checker.proofs.Walks.{goes, stops, gives, judge_goes, judge_stops}
+use Rattle.declaration_checker.specs.Walk.{judge, facts_in}
+use Rattle.declaration_checker.proofs.Walks.{goes, stops, gives, judge_goes, judge_stops}
 use Rattle.upc_checker.proofs.units.walk_unit.Goals as goal
 
 pub returns-in_err-walk_externals : goal.returns-in_err-walk_externals

@@ -1,4 +1,4 @@
-use Rattle.std.proofs.Common.{◌≡◌, ℕ, List, [], map, Result, Ok, Err, ap, ◌∙◌, subst}
+use Rattle.std.proofs.Common.{ℕ, List, map, Result, Ok, Err, ap, ◌∙◌, subst}
 use Rattle.std.proofs.lemmas.Result.{err_from_is_err_and}
 use Rattle.upc_text.specs.declared.faults.Stop.{Stop}
 use Rattle.upc_tree.specs.declared.unit.External.{External}
@@ -8,10 +8,10 @@ use Rattle.typed_tree.specs.Faults.{first_fault}
 use Rattle.typed_tree.specs.Scopes.{Setting, State, Tag, begin}
 use Rattle.typed_tree.specs.ViewEnv.{view_env}
 use Rattle.typed_tree.specs.ViewStatements.{view_object}
-use Rattle.upc_checker.specs.Ends.{Stops, Comes}
+use Rattle.declaration_checker.specs.Ends.{Stops, Comes}
 use Rattle.upc_checker.specs.Limits.{limit_by}
 use Rattle.upc_checker.specs.Units as pure
-use Rattle.upc_checker.specs.Views.{state_of, state_with}
+use Rattle.declaration_checker.specs.Views.{state_of, state_with}
 use Rattle.upc_checker.specs.ViewUnits.{view_made, view_checked, KeepsLimits}
 use Rattle.upc_checker.proofs.Outcomes.{answers_fault, answers_limit, accepted}
 use Rattle.upc_checker.proofs.whole.check_source.Goals as goal

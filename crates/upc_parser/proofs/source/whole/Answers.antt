@@ -1,4 +1,4 @@
-use Rattle.std.proofs.Common.{rules, ◌≡◌, ℕ, List, length, Err}
+use Rattle.std.proofs.Common.{rules, ◌≡◌, Err}
 use Rattle.upc_parser.proofs.Answered.{answer_whole, answer_more, answer_fault}
 use Rattle.upc_parser.specs.Parse.{externals_at}
 use Rattle.upc_parser.proofs.source.whole.Goals as goal

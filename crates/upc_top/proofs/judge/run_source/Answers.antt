@@ -1,4 +1,4 @@
-use Rattle.std.proofs.Common.{◌≡◌, ℕ, ◌/◌, ap, ◌∙◌, rules}
+use Rattle.std.proofs.Common.{◌/◌, ap, ◌∙◌, rules}
 use Rattle.upc_top.specs.Sources.{IsAccepted}
 use Rattle.upc_top.proofs.judge.run_source.Goals as goal
 

@@ -1,0 +1,149 @@
+-- The walk over declarations (C99 6.7).
+use Rattle.std.specs.Prelude.{ℕ, Bool, true, false, ◌&&◌, ◌||◌, List, [], ◌∷◌, ◌++◌, Option, Some, None}
+use Rattle.upc_text.specs.declared.place.Place.{Place}
+use Rattle.upc_tree.specs.declared.span.Name.{Name}
+use Rattle.upc_tree.specs.Expression.{Expr, NextExprs, NoNextExprs, AndExpr, Declarator, ObjectDeclarator, FunctionDeclarator}
+use Rattle.upc_tree.specs.Declaration as d
+use Rattle.upc_tree.specs.Declaration.{Declaration, Declares, DeclaredList, NoneDeclared, SomeDeclared, NextDeclareds, NoNextDeclareds, AndDeclared, DeclaredAs}
+use Rattle.upc_types.specs.Types.{CType, base_of}
+use Rattle.typed_tree.specs.Library.{int}
+use Rattle.typed_tree.specs.Values.{base_target}
+use Rattle.typed_tree.specs.Meanings as m
+use Rattle.typed_tree.specs.Meanings.{Signature}
+use Rattle.typed_tree.specs.Scopes.{Setting, Env, spelling, is_file, is_taken, is_known, is_object, here, inside, with_entry, declare, next_home, State, with_function, differs, was_defined}
+use Rattle.typed_tree.specs.Nodes as n
+use Rattle.typed_tree.specs.Nodes.{Use}
+use Rattle.typed_tree.specs.Tree as k
+use Rattle.typed_tree.specs.Tree.{Exprs, attr_of, attrs_of, DeclaredObject}
+use Rattle.declaration_checker.specs.Walk.{Walk, give, andthen, judge, update, look, enclosed}
+use Rattle.declaration_checker.specs.Specifiers.{specifiers_form, specified_type, Shaped, formed}
+use Rattle.declaration_checker.specs.Expressions.{specs_place, pointers_place, has_sizes, is_none, Specifying, Declared, walk, walk_specs, walk_pointers, walk_sizes, walk_parameters, constantly}
+
+-- ---- where `[*]` may stand, and what declares a tag alone
+
+-- The declarator is an array without a star, so that the layout among the specifiers is that of its elements.
+abbrev pub is_plain_array : Declarator → Bool
+is_plain_array (ObjectDeclarator pointers name sizes) = is_none pointers && has_sizes sizes
+is_plain_array (FunctionDeclarator stars name parameters) = false
+
+abbrev pub declarator_of : d.Declared → Declarator
+declarator_of (DeclaredAs declarator i) = declarator
+
+abbrev pub all_plain_arrays : NextDeclareds → Bool
+all_plain_arrays NoNextDeclareds = true
+all_plain_arrays (AndDeclared comma x more) = is_plain_array (declarator_of x) && all_plain_arrays more
+
+abbrev pub declares_arrays : DeclaredList → Bool
+declares_arrays NoneDeclared = false
+declares_arrays (SomeDeclared first more) = is_plain_array (declarator_of first) && all_plain_arrays more
+
+abbrev pub is_alone : DeclaredList → Bool
+is_alone NoneDeclared = true
+is_alone (SomeDeclared first more) = false
+
+-- ---- functions
+
+-- A prototype declares its name again: it is one of the library or of an object of the scope, or it was declared with other types.
+abbrev pub prototype_again : Setting → Env → State → ℕ → Signature → Bool
+prototype_again ξ Γ s name signature =
+    is_taken ξ name || (is_object (here name Γ) || differs name signature s.functions)
+
+-- A definition declares its name again: it is one of the library or of an object, or the function was defined.
+abbrev pub definition_again : Setting → Env → State → ℕ → Bool
+definition_again ξ Γ s name = is_taken ξ name || (is_object (here name Γ) || was_defined name s.functions)
+
+abbrev pub signature_of : Shaped → Declared → Signature
+signature_of result ps = record { result = result.ctype; parameters = ps.types }
+
+abbrev pub declares_function : Setting → Env → Place → ℕ → Bool → Signature → Walk (Unit {0})
+declares_function ξ Γ place name forms signature =
+    andthen (look (λ s. prototype_again ξ Γ s name signature)) (λ again.
+    andthen (judge ξ place (n.DeclaresFunction again forms signature)) (λ u. update (with_function name signature false)))
+
+-- ---- initialisers (C99 6.7.8)
+
+-- At file scope a constant is asked for.
+abbrev pub initial_constant : Setting → Bool → k.Expr → Walk (Unit {0})
+initial_constant ξ true a = andthen (constantly ξ a) (λ c. give (tt {0}))
+initial_constant ξ false a = give (tt {0})
+
+abbrev pub walk_initial_value : Setting → Env → Bool → Use → Expr → Walk k.Expr
+walk_initial_value ξ Γ file how value =
+    andthen (walk ξ Γ how value) (λ a. andthen (initial_constant ξ file a) (λ u. give a))
+
+abbrev pub walk_initial_values : Setting → Env → Bool → Use → NextExprs → Walk Exprs
+walk_initial_values ξ Γ file how NoNextExprs = give k.NoExprs
+walk_initial_values ξ Γ file how (AndExpr comma value more) =
+    andthen (walk_initial_value ξ Γ file how value) (λ x. andthen (walk_initial_values ξ Γ file how more) (λ xs. give (k.AndExpr x xs)))
+
+abbrev pub element_use : Option CType → Use
+element_use None = n.Plain
+element_use (Some t) = n.Into t
+
+-- The initialiser of what a declarator declares: of an object of a type, or of a function.
+abbrev pub walk_initial : Setting → Env → Place → Bool → CType → d.Initial → Walk k.Initial
+walk_initial ξ Γ place object t d.NoInitial = give k.NoInitial
+walk_initial ξ Γ place object t (d.ValueInitial equal value) =
+    andthen (walk_initial_value ξ Γ (is_file Γ) (n.Into t) value) (λ a.
+    andthen (judge ξ place (n.InitialValue (is_file Γ) object t (attr_of a))) (λ u. give (k.InitialValue a)))
+walk_initial ξ Γ place object t (d.ListInitial equal left first more right) =
+    andthen (walk_initial_value ξ Γ (is_file Γ) (element_use (base_target (base_of t))) first) (λ x.
+    andthen (walk_initial_values ξ Γ (is_file Γ) (element_use (base_target (base_of t))) more) (λ xs.
+    andthen (judge ξ place (n.InitialList (is_file Γ) object t (attrs_of (k.AndExpr x xs)))) (λ u.
+    give (k.InitialList (k.AndExpr x xs)))))
+
+-- ---- declarations
+
+-- The scope behind declarators, and the objects that they declare.
+pub record Behind : Type 0 where
+  pub scope : Env
+  pub objects : List DeclaredObject
+
+-- A name is declared in the scope itself, or is one of the library.
+abbrev pub object_again : Setting → Env → Name → Bool
+object_again ξ Γ name = is_taken ξ name.number || is_known (here name.number Γ)
+
+abbrev pub with_object : Behind → Env → Place → List ℕ → CType → Env → k.Initial → Behind
+with_object before Γ place name t behind initial = record {
+  scope = behind;
+  objects = before.objects ++ (record { at = place; name = name; home = next_home t Γ; ctype = t; initial = initial } ∷ []);
+}
+
+-- A declarator with its initialiser. What it declares is in scope in the initialiser already (C99 6.2.1). `place` is that of the declaration.
+abbrev pub walk_declared : Setting → Place → Shaped → Behind → d.Declared → Walk Behind
+walk_declared ξ place t before (DeclaredAs (ObjectDeclarator pointers name sizes) initial) =
+    let Γ = before.scope in
+    andthen (walk_pointers ξ Γ (has_sizes sizes) t pointers) (λ p. andthen (walk_sizes ξ Γ sizes) (λ ns.
+    let f = formed ξ.threads p ns in
+    let at = pointers_place pointers name in
+    let behind = declare name.number f.ctype Γ in
+    andthen (judge ξ at (n.DeclaresObject (object_again ξ Γ name) (is_file Γ) f)) (λ u.
+    andthen (walk_initial ξ behind at true f.ctype initial) (λ i. give (with_object before Γ place (spelling ξ name.number) f.ctype behind i)))))
+walk_declared ξ place t before (DeclaredAs (FunctionDeclarator pointers name parameters) initial) =
+    let Γ = before.scope in
+    andthen (walk_pointers ξ Γ false t pointers) (λ p. andthen (enclosed (walk_parameters ξ (inside Γ) parameters)) (λ ps.
+    let signature = signature_of p ps in
+    let at = pointers_place pointers name in
+    let behind = with_entry name.number (m.Function signature) Γ in
+    andthen (declares_function ξ Γ at name.number p.forms signature) (λ u.
+    andthen (walk_initial ξ behind at false int initial) (λ i. give (record { scope = behind; objects = before.objects })))))
+
+abbrev pub walk_next_declareds : Setting → Place → Shaped → Behind → NextDeclareds → Walk Behind
+walk_next_declareds ξ place t before NoNextDeclareds = give before
+walk_next_declareds ξ place t before (AndDeclared comma x more) =
+    andthen (walk_declared ξ place t before x) (λ b. walk_next_declareds ξ place t b more)
+
+abbrev pub walk_declared_list : Setting → Place → Shaped → Behind → DeclaredList → Walk Behind
+walk_declared_list ξ place t before NoneDeclared = give before
+walk_declared_list ξ place t before (SomeDeclared first more) =
+    andthen (walk_declared ξ place t before first) (λ b. walk_next_declareds ξ place t b more)
+
+abbrev pub specifying : Env → DeclaredList → Specifying
+specifying Γ list = record { star = declares_arrays list; static = is_file Γ; alone = is_alone list }
+
+-- A declaration: its specifiers are judged behind its initialisers.
+abbrev pub walk_declaration : Setting → Env → Declaration → Walk Behind
+walk_declaration ξ Γ (Declares specs list semicolon) =
+    andthen (walk_specs ξ Γ (specifying Γ list) specs) (λ p.
+    andthen (walk_declared_list ξ (specs_place specs) (specified_type p) (record { scope = Γ; objects = [] }) list) (λ b.
+    andthen (judge ξ (specs_place specs) (n.Specifies (specifiers_form (is_file Γ) p))) (λ u. give b)))
