@@ -29,7 +29,8 @@ where_true b rs = if b then rs else []
 
 -- Rule 23 is broken by a break outside every loop and switch, rule 24 by one that leaves the body of a upc_forall.
 abbrev pub at_break : Around → Place → List Refusal
-at_break a place = where_true (not (a.looped || a.switched)) (refused place 23) ++ where_true (a.shared && not a.inside) (refused place 24)
+at_break a place = where_true (not (a.looped || a.switched)) (refused place 23)
+    ++ where_true (a.shared && not a.inside) (refused place 24)
 
 -- Rule 23 is broken by a continue outside every loop.
 abbrev pub at_continue : Around → Place → List Refusal

@@ -12,8 +12,8 @@ use upc_text::Refusal;
 use upc_tree::{BlockItem, Compound, ElseIf, External, Otherwise, Statement, SwitchItem, Unit};
 
 /// The first breach of the rules on `break`, `continue` and `return`, None exactly where there is none: rule 23 for a
-/// `break` outside every loop and switch and for a `continue` outside every loop, rule 24 for a `break` or a `return` that
-/// leaves the body of a `upc_forall` (docs/LANGUAGE.md, "Typing"). Takes no memory.
+/// `break` outside every loop and switch and for a `continue` outside every loop, rule 24 for a `break` or a `return`
+/// that leaves the body of a `upc_forall` (docs/LANGUAGE.md, "Typing"). Takes no memory.
 pub fn forall_fault(unit: &Unit) -> Option<Refusal>
     ensures { result ≡ first (unit_breaches (view_unit unit.now)) }
 {

@@ -3,7 +3,5 @@
 
 mod around;
 mod fault;
-#[cfg(test)]
-mod tests;
 
 pub use fault::forall_fault;

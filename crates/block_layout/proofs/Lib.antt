@@ -2,3 +2,4 @@ pub mod Numbers
 pub mod Counting
 pub mod Star
 pub mod Pointers
+pub mod Ranges

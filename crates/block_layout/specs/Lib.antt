@@ -3,3 +3,4 @@ pub mod Places
 pub mod Pieces
 pub mod Pointers
 pub mod Shapes
+pub mod RunErrors

@@ -1,4 +1,5 @@
--- Where the elements of a shared array with a block of at least 1 lie (UPC 6.5.1.1, 6.5.2.1). Blocks go to the threads in turn, from thread 0 on.
+-- Where the elements of a shared array with a block of at least 1 lie (UPC 6.5.1.1, 6.5.2.1). Blocks go to the threads
+-- in turn, from thread 0 on.
 use Rattle.std.specs.Prelude.{ℕ, ◌*◌, ◌/◌, ◌<◌, ◌^◌, ◌≡◌, ◌&&◌, Bool, int_le, ℤ, pos, neg_ℤ, ◌+ℤ◌, ◌*ℤ◌, ◌≤ℤ◌}
 use Rattle.block_layout.specs.Floor.{floor_div, floor_mod}
 
@@ -18,7 +19,8 @@ offset_at e block size threads =
 -- No thread has elements of two blocks, of n elements with this block.
 abbrev pub OneBlockPerThread : ℕ → ℕ → ℕ → Type 0
 OneBlockPerThread n block threads =
-    (e f : ℕ) → e < n → f < n → thread_at (pos e) block threads ≡ thread_at (pos f) block threads → e / block ≡ f / block
+    (e f : ℕ) → e < n → f < n → thread_at (pos e) block threads ≡ thread_at (pos f) block threads
+    → e / block ≡ f / block
 
 -- From -2^40 to 2^40: the range of elements and offsets.
 pub record InRange (z : ℤ) : Type 0 where

@@ -42,7 +42,9 @@ abbrev pub element_offset : ℤ → ℕ → ℕ → ℕ → ℤ
 element_offset e zero size threads = e *ℤ pos size
 element_offset e (suc b) size threads = offset_at e (suc b) size threads
 
--- A pointer to elements of this block and size stands for element e with shift d: thread and phase are the element's, and the offset is the element's plus d. With block 0 the thread may be any. A pointer made from a declared array has shift 0.
+-- A pointer to elements of this block and size stands for element e with shift d: thread and phase are the element's,
+-- and the offset is the element's plus d. With block 0 the thread may be any. A pointer made from a declared array has
+-- shift 0.
 pub record StandsFor (p : SharedPtr) (e d : ℤ) (block size threads : ℕ) : Type 0 where
   pub thread : 0 < block → p.thread ≡ thread_at e block threads
   pub phase : p.phase ≡ element_phase e block

@@ -50,31 +50,3 @@ pub fn star_block(n: u32, threads: u32) -> u32
 {
     (n + threads - 1) / threads
 }
-
-#[cfg(test)]
-mod tests {
-    use super::*;
-
-    #[test]
-    fn elements_of_twenty_in_blocks_of_three(rt: HostRuntime) {
-        let places: [(i8, u32, u32, i64); 5] = [
-            (0, 0, 0, 0),
-            (7, 2, 1, 4),
-            (12, 0, 0, 12),
-            (-1, 3, 2, -4),
-            (-13, 3, 2, -16),
-        ];
-        for (e, thread, phase, offset) in places {
-            let e = i64::from(e);
-            assert_eq!(rt; thread_of(e, 3, 4), thread);
-            assert_eq!(rt; phase_of(e, 3), phase);
-            assert_eq!(rt; offset_of(e, 3, 4, 4), offset);
-        }
-    }
-
-    #[test]
-    fn star_blocks_of_ten(rt: HostRuntime) {
-        assert_eq!(rt; star_block(10, 4), 3);
-        assert_eq!(rt; star_block(10, 1), 10);
-    }
-}

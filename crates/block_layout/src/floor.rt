@@ -1,4 +1,5 @@
-//! Division rounded down. C99's `/` rounds towards zero (C99 6.5.5), but elements before the first one lie where the rule of the later ones puts them.
+//! Division rounded down. C99's `/` rounds towards zero (C99 6.5.5), but elements before the first one lie where the
+//! rule of the later ones puts them.
 
 ghost use Rattle.std.specs.Prelude.{◌≡◌, ◌+◌, ◌<◌, ◌≤◌, unsigned_abs, pos, ◌+ℤ◌, ◌*ℤ◌};
 ghost use Rattle.block_layout.specs.Floor.{floor_div, floor_mod};

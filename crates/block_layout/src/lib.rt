@@ -6,11 +6,13 @@ mod floor;
 mod kind;
 mod piece;
 mod place;
+mod range;
 pub mod run_error;
 pub mod wide;
 
 pub use element::{offset_of, phase_of, star_block, thread_of};
-pub use floor::{floor_quotient, floor_rest};
+pub use floor::floor_quotient;
 pub use kind::{Cells, Kind, Shape};
 pub use piece::piece_bytes;
 pub use place::{Loc, LocalPtr, ObjectRef, SharedPtr};
+pub use range::{FARTHEST, is_in_range};

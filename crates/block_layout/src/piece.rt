@@ -5,7 +5,8 @@ ghost use Rattle.block_layout.specs.Pieces.{piece_of, count_below};
 
 use crate::place::ObjectRef;
 
-/// How many bytes of an object lie on a thread: those of its blocks that fall to the thread, or all of an indefinite object on its home (UPC 6.5.1.1).
+/// How many bytes of an object lie on a thread: those of its blocks that fall to the thread, or all of an indefinite
+/// object on its home (UPC 6.5.1.1).
 pub fn piece_bytes(object: &ObjectRef, thread: u32, threads: u32) -> u32
     requires a_thread { thread < threads }
     requires small { object.now.total ≤ 16777216 }
@@ -23,7 +24,8 @@ pub fn piece_bytes(object: &ObjectRef, thread: u32, threads: u32) -> u32
     }
 }
 
-// The bytes below `total` whose block falls to the thread: whole rows of blocks, and what the last row has for the thread.
+// The bytes below `total` whose block falls to the thread: whole rows of blocks, and what the last row has for the
+// thread.
 fn blocks_of(total: u32, block: u32, thread: u32, threads: u32) -> u32
     requires some_block { 0 < block }
     requires a_thread { thread < threads }
@@ -36,38 +38,4 @@ fn blocks_of(total: u32, block: u32, thread: u32, threads: u32) -> u32
     let left = u64::from(total) % row;
     let mine = left.saturating_sub(u64::from(thread) * block).min(block);
     (rows * block + mine) as u32
-}
-
-#[cfg(test)]
-mod tests {
-    use super::*;
-
-    fn object(total: u32, block: u32) -> ObjectRef
-        ensures total { result.total ≡ total }
-        ensures block { result.block ≡ block }
-    {
-        ObjectRef {
-            number: 1,
-            total,
-            block,
-            home: 2,
-            shape: 0,
-            base: 0,
-        }
-    }
-
-    #[test]
-    fn pieces_of_four_threads(rt: HostRuntime) {
-        let pieces: [(u32, [u32; 4]); 3] = [
-            (12, [24, 24, 20, 12]),
-            (80, [80, 0, 0, 0]),
-            (0, [0, 0, 80, 0]),
-        ];
-        for (block, bytes) in pieces {
-            let array = object(80, block.min(80));
-            for (thread, expected) in bytes.iter().enumerate() {
-                assert_eq!(rt; piece_bytes(&array, (thread % 4) as u32, 4), *expected);
-            }
-        }
-    }
 }

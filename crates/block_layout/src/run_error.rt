@@ -1,5 +1,8 @@
 //! The codes of the run errors.
 
+ghost use Rattle.std.specs.Prelude.{◌≡◌, [], ◌∷◌};
+ghost use Rattle.block_layout.specs.RunErrors.{run_errors};
+
 /// A signed result does not fit its type (C99 6.5).
 pub const SIGNED_OVERFLOW: u8 = 1;
 /// `/` or `%` by 0 (C99 6.5.5).
@@ -34,7 +37,8 @@ pub const LOCK_FREED: u8 = 15;
 pub const BAD_FREE: u8 = 16;
 /// A collective call differs from the first recorded one of its number in call, arguments or earlier notifies.
 pub const COLLECTIVE_MISMATCH: u8 = 17;
-/// No cell of the needed type begins there, a copied range cuts a cell, or an allocation holds no whole number of elements.
+/// No cell of the needed type begins there, a copied range cuts a cell, or an allocation holds no whole number of
+/// elements.
 pub const CELL_TYPE: u8 = 18;
 /// More than 1,000 active calls, main among them.
 pub const DEPTH: u8 = 19;
@@ -44,3 +48,9 @@ pub const PRIVATE_SPACE: u8 = 20;
 pub const SHARED_SPACE: u8 = 21;
 /// An argument that a library function does not take.
 pub const LIBRARY_ARGS: u8 = 22;
+
+/// The run errors have the numbers from 1 to 22.
+pub fn run_errors_are_numbered()
+    ensures { run_errors
+        ≡ 1 ∷ 2 ∷ 3 ∷ 4 ∷ 5 ∷ 6 ∷ 7 ∷ 8 ∷ 9 ∷ 10 ∷ 11 ∷ 12 ∷ 13 ∷ 14 ∷ 15 ∷ 16 ∷ 17 ∷ 18 ∷ 19 ∷ 20 ∷ 21 ∷ 22 ∷ [] }
+{}

@@ -1,4 +1,5 @@
-//! The place of an element whose number has up to 91 bits, as the arithmetic of pointers meets it before its result is known to be in range.
+//! The place of an element whose number has up to 91 bits, as the arithmetic of pointers meets it before its result is
+//! known to be in range.
 
 ghost use Rattle.std.specs.Prelude.{◌≡◌, ◌*◌, ◌<◌, ◌≤◌, ◌^◌, unsigned_abs, pos, ◌*ℤ◌};
 ghost use Rattle.block_layout.specs.Floor.{floor_div};

@@ -1,11 +1,11 @@
 -- Lists of expressions with types.
 use Rattle.std.proofs.Common.{◌≡◌, List, [], ◌∷◌, map, refl, ap}
 use Rattle.typed_tree.specs.declared.tree.Expr.{Expr}
-use Rattle.typed_tree.specs.Nodes.{Attr}
+use Rattle.typing_rules.specs.Nodes.{Attr}
 use Rattle.typed_tree.specs.Tree.{NoExprs, AndExpr, exprs_of, attrs_of}
-use Rattle.typed_tree.specs.Views.{attr_seen}
+use Rattle.typed_tree.specs.ViewTree.{attr_seen}
 use Rattle.typed_tree.specs.ViewTree.{view_expr}
-use Rattle.declaration_checker.proofs.Turns.{behind}
+use Rattle.walk_state.proofs.Turns.{behind}
 
 -- What expressions in a vector are.
 pub attrs_seen : (xs : List Expr) → map attr_seen xs ≡ attrs_of (exprs_of (map view_expr xs))

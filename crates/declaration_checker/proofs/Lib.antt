@@ -1,13 +1,2 @@
-pub mod Walks
-pub mod OwnTags
-pub mod Closing
-pub mod PlacesOfNames
-pub mod Numbers
-pub mod Lists
-pub mod Steps
-pub mod Walked
-pub mod Rest
-pub mod Turns
 pub mod Exprs
-pub mod Finished
-pub mod Sizes
+pub mod Coming

@@ -1,23 +1,30 @@
 -- The walk over declarations (C99 6.7).
-use Rattle.std.specs.Prelude.{ℕ, Bool, true, false, ◌&&◌, ◌||◌, List, [], ◌∷◌, ◌++◌, Option, Some, None}
+use Rattle.std.specs.Prelude.{ℕ, Bool, true, false, ◌&&◌, List, [], ◌∷◌, ◌++◌, Option, Some, None}
 use Rattle.upc_text.specs.declared.place.Place.{Place}
-use Rattle.upc_tree.specs.declared.span.Name.{Name}
-use Rattle.upc_tree.specs.Expression.{Expr, NextExprs, NoNextExprs, AndExpr, Declarator, ObjectDeclarator, FunctionDeclarator}
+use Rattle.upc_tree.specs.Expression.{Expr, NextExprs, NoNextExprs, AndExpr, Declarator, ObjectDeclarator}
+use Rattle.upc_tree.specs.Expression.{FunctionDeclarator}
 use Rattle.upc_tree.specs.Declaration as d
-use Rattle.upc_tree.specs.Declaration.{Declaration, Declares, DeclaredList, NoneDeclared, SomeDeclared, NextDeclareds, NoNextDeclareds, AndDeclared, DeclaredAs}
+use Rattle.upc_tree.specs.Declaration.{Declaration, Declares, DeclaredList, NoneDeclared, SomeDeclared, NextDeclareds}
+use Rattle.upc_tree.specs.Declaration.{NoNextDeclareds, AndDeclared, DeclaredAs}
 use Rattle.upc_types.specs.Types.{CType, base_of}
-use Rattle.typed_tree.specs.Library.{int}
-use Rattle.typed_tree.specs.Values.{base_target}
-use Rattle.typed_tree.specs.Meanings as m
-use Rattle.typed_tree.specs.Meanings.{Signature}
-use Rattle.typed_tree.specs.Scopes.{Setting, Env, spelling, is_file, is_taken, is_known, is_object, here, inside, with_entry, declare, next_home, State, with_function, differs, was_defined}
-use Rattle.typed_tree.specs.Nodes as n
-use Rattle.typed_tree.specs.Nodes.{Use}
+use Rattle.typing_rules.specs.Library.{int}
+use Rattle.typing_rules.specs.Values.{base_target}
+use Rattle.typing_rules.specs.Meanings as m
+use Rattle.typing_rules.specs.Meanings.{Signature}
+use Rattle.typed_tree.specs.Scopes.{Setting, Env, spelling, is_file, inside, with_entry, declare, next_home}
+use Rattle.typed_tree.specs.Scopes.{with_function}
+use Rattle.typing_rules.specs.Nodes as n
+use Rattle.typing_rules.specs.Nodes.{Use}
 use Rattle.typed_tree.specs.Tree as k
 use Rattle.typed_tree.specs.Tree.{Exprs, attr_of, attrs_of, DeclaredObject}
-use Rattle.declaration_checker.specs.Walk.{Walk, give, andthen, judge, update, look, enclosed}
-use Rattle.declaration_checker.specs.Specifiers.{specifiers_form, specified_type, Shaped, formed}
-use Rattle.declaration_checker.specs.Expressions.{specs_place, pointers_place, has_sizes, is_none, Specifying, Declared, walk, walk_specs, walk_pointers, walk_sizes, walk_parameters, constantly}
+use Rattle.walk_state.specs.Walk.{Walk, give, andthen, judge, update, look, enclosed}
+use Rattle.type_specifiers.specs.Specifiers.{specifiers_form, specified_type, Shaped, formed}
+use Rattle.walk_state.specs.Places.{specs_place, pointers_place}
+use Rattle.type_specifiers.specs.Shapes.{has_sizes, is_none, Specifying}
+use Rattle.type_specifiers.specs.Members.{Declared}
+use Rattle.expression_checker.specs.Expressions.{walk, walk_specs, walk_pointers, walk_sizes, walk_parameters}
+use Rattle.expression_checker.specs.Expressions.{constantly}
+use Rattle.walk_state.specs.Known.{prototype_again, object_again}
 
 -- ---- where `[*]` may stand, and what declares a tag alone
 
@@ -43,22 +50,14 @@ is_alone (SomeDeclared first more) = false
 
 -- ---- functions
 
--- A prototype declares its name again: it is one of the library or of an object of the scope, or it was declared with other types.
-abbrev pub prototype_again : Setting → Env → State → ℕ → Signature → Bool
-prototype_again ξ Γ s name signature =
-    is_taken ξ name || (is_object (here name Γ) || differs name signature s.functions)
-
--- A definition declares its name again: it is one of the library or of an object, or the function was defined.
-abbrev pub definition_again : Setting → Env → State → ℕ → Bool
-definition_again ξ Γ s name = is_taken ξ name || (is_object (here name Γ) || was_defined name s.functions)
-
 abbrev pub signature_of : Shaped → Declared → Signature
 signature_of result ps = record { result = result.ctype; parameters = ps.types }
 
 abbrev pub declares_function : Setting → Env → Place → ℕ → Bool → Signature → Walk (Unit {0})
 declares_function ξ Γ place name forms signature =
     andthen (look (λ s. prototype_again ξ Γ s name signature)) (λ again.
-    andthen (judge ξ place (n.DeclaresFunction again forms signature)) (λ u. update (with_function name signature false)))
+    andthen (judge ξ place (n.DeclaresFunction again forms signature)) (λ u. update (with_function name signature
+    false)))
 
 -- ---- initialisers (C99 6.7.8)
 
@@ -74,7 +73,8 @@ walk_initial_value ξ Γ file how value =
 abbrev pub walk_initial_values : Setting → Env → Bool → Use → NextExprs → Walk Exprs
 walk_initial_values ξ Γ file how NoNextExprs = give k.NoExprs
 walk_initial_values ξ Γ file how (AndExpr comma value more) =
-    andthen (walk_initial_value ξ Γ file how value) (λ x. andthen (walk_initial_values ξ Γ file how more) (λ xs. give (k.AndExpr x xs)))
+    andthen (walk_initial_value ξ Γ file how value) (λ x. andthen (walk_initial_values ξ Γ file how more) (λ xs.
+    give (k.AndExpr x xs)))
 
 abbrev pub element_use : Option CType → Use
 element_use None = n.Plain
@@ -99,17 +99,15 @@ pub record Behind : Type 0 where
   pub scope : Env
   pub objects : List DeclaredObject
 
--- A name is declared in the scope itself, or is one of the library.
-abbrev pub object_again : Setting → Env → Name → Bool
-object_again ξ Γ name = is_taken ξ name.number || is_known (here name.number Γ)
-
 abbrev pub with_object : Behind → Env → Place → List ℕ → CType → Env → k.Initial → Behind
 with_object before Γ place name t behind initial = record {
   scope = behind;
-  objects = before.objects ++ (record { at = place; name = name; home = next_home t Γ; ctype = t; initial = initial } ∷ []);
+  objects =
+      before.objects ++ (record { at = place; name = name; home = next_home t Γ; ctype = t; initial = initial } ∷ []);
 }
 
--- A declarator with its initialiser. What it declares is in scope in the initialiser already (C99 6.2.1). `place` is that of the declaration.
+-- A declarator with its initialiser. What it declares is in scope in the initialiser already (C99 6.2.1). `place` is
+-- that of the declaration.
 abbrev pub walk_declared : Setting → Place → Shaped → Behind → d.Declared → Walk Behind
 walk_declared ξ place t before (DeclaredAs (ObjectDeclarator pointers name sizes) initial) =
     let Γ = before.scope in
@@ -118,15 +116,18 @@ walk_declared ξ place t before (DeclaredAs (ObjectDeclarator pointers name size
     let at = pointers_place pointers name in
     let behind = declare name.number f.ctype Γ in
     andthen (judge ξ at (n.DeclaresObject (object_again ξ Γ name) (is_file Γ) f)) (λ u.
-    andthen (walk_initial ξ behind at true f.ctype initial) (λ i. give (with_object before Γ place (spelling ξ name.number) f.ctype behind i)))))
+    andthen (walk_initial ξ behind at true f.ctype initial) (λ i.
+    give (with_object before Γ place (spelling ξ name.number) f.ctype behind i)))))
 walk_declared ξ place t before (DeclaredAs (FunctionDeclarator pointers name parameters) initial) =
     let Γ = before.scope in
-    andthen (walk_pointers ξ Γ false t pointers) (λ p. andthen (enclosed (walk_parameters ξ (inside Γ) parameters)) (λ ps.
+    andthen (walk_pointers ξ Γ false t pointers) (λ p.
+    andthen (enclosed (walk_parameters ξ (inside Γ) parameters)) (λ ps.
     let signature = signature_of p ps in
     let at = pointers_place pointers name in
     let behind = with_entry name.number (m.Function signature) Γ in
     andthen (declares_function ξ Γ at name.number p.forms signature) (λ u.
-    andthen (walk_initial ξ behind at false int initial) (λ i. give (record { scope = behind; objects = before.objects })))))
+    andthen (walk_initial ξ behind at false int initial) (λ i.
+    give (record { scope = behind; objects = before.objects })))))
 
 abbrev pub walk_next_declareds : Setting → Place → Shaped → Behind → NextDeclareds → Walk Behind
 walk_next_declareds ξ place t before NoNextDeclareds = give before

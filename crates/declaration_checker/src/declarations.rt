@@ -3,61 +3,66 @@
 ghost use Rattle.std.specs.Prelude.{◌≡◌, List, [], ◌∷◌, ◌++◌, map};
 ghost use Rattle.upc_tree.specs.declared.span.Span.{Span};
 ghost use Rattle.upc_tree.specs.Lists.{next_declareds_of, next_exprs_of, dimensions_of, pointers_of};
-ghost use Rattle.upc_tree.specs.View.{view, view_declarator, view_dimension, view_next_expr, view_parameters, view_pointer};
+ghost use Rattle.upc_tree.specs.View.{view, view_declarator, view_dimension, view_next_expr, view_parameters};
+ghost use Rattle.upc_tree.specs.View.{view_pointer};
 ghost use Rattle.upc_tree.specs.ViewStatement as trees;
 ghost use Rattle.upc_tree.specs.ViewStatement.{view_next_declared};
 ghost use Rattle.upc_tree.specs.Declaration as d;
 ghost use Rattle.upc_tree.specs.Expression as e;
 ghost use Rattle.upc_types.specs.View as types;
-ghost use Rattle.typed_tree.specs.Library.{int};
-ghost use Rattle.typed_tree.specs.Nodes as n;
+ghost use Rattle.typing_rules.specs.Library.{int};
+ghost use Rattle.typing_rules.specs.Nodes as n;
 ghost use Rattle.typed_tree.specs.Scopes as scopes;
 ghost use Rattle.typed_tree.specs.Scopes.{State, Tag as ScopeTag};
 ghost use Rattle.typed_tree.specs.Tree as k;
 ghost use Rattle.typed_tree.specs.Tree.{exprs_of, DeclaredObject};
-ghost use Rattle.typed_tree.specs.Values.{base_target};
+ghost use Rattle.typing_rules.specs.Values.{base_target};
 ghost use Rattle.upc_types.specs.Types.{base_of};
 ghost use Rattle.typed_tree.specs.ViewEnv.{view_env};
 ghost use Rattle.typed_tree.specs.ViewStatements.{view_initial, view_object};
 ghost use Rattle.typed_tree.specs.ViewTree.{view_expr};
-ghost use Rattle.typed_tree.specs.Views.{view_formed, view_signature, view_use};
+ghost use Rattle.typing_rules.specs.Views.{view_formed, view_signature, view_use};
 ghost use Rattle.upc_text.specs.declared.place.Place.{Place};
 ghost use Rattle.declaration_checker.specs.Declarations as pure;
-ghost use Rattle.declaration_checker.specs.Ends.{Meets};
-ghost use Rattle.declaration_checker.specs.Expressions as walks;
-ghost use Rattle.declaration_checker.specs.Views.{state_of, state_with, view_setting};
-ghost use Rattle.declaration_checker.specs.Specifiers as specifiers;
-ghost use Rattle.declaration_checker.specs.ViewShapes.{view_shaped, view_specified, view_specifying};
-ghost use Rattle.declaration_checker.specs.Walk.{andthen, enclosed, give, judge};
+ghost use Rattle.walk_state.specs.Known as stands;
+ghost use Rattle.walk_state.specs.Ends.{Meets, boxed};
+ghost use Rattle.expression_checker.specs.Expressions as walks;
+ghost use Rattle.type_specifiers.specs.Shapes as shapes;
+ghost use Rattle.walk_state.specs.Views.{state_of, state_with, view_setting};
+ghost use Rattle.type_specifiers.specs.Specifiers as specifiers;
+ghost use Rattle.type_specifiers.specs.ViewShapes.{view_shaped, view_specified, view_specifying};
+ghost use Rattle.walk_state.specs.Walk.{andthen, enclosed, give, judge};
 
-use crate::expressions::{constantly, walk};
-use crate::finish::judged;
-use crate::known::{Known, note_end, note_function, note_more, object_again, prototype_again};
-use crate::nodes::joined;
-use crate::places::{pointers_place, specs_place};
-use crate::setting::{Setting, spelling};
-use crate::shaped::{Shaped, copy_shaped, formed, specified_type};
-use crate::signatures::copy_signature;
-use crate::specified::{Specified, Specifying, specifiers_form};
-use crate::tags::{Tags, enclosed};
-use crate::types::{walk_parameters, walk_pointers, walk_sizes, walk_specs};
 use block_layout::Kind;
-use typed_tree::declarations::{declares_object, initial_value, specifies};
+use expression_checker::expressions::{constantly, walk};
+use expression_checker::types::{walk_parameters, walk_pointers, walk_sizes, walk_specs};
+use expression_nodes::nodes::joined;
+use type_specifiers::shaped::{Shaped, copy_shaped, formed, specified_type};
+use type_specifiers::specified::{Specified, Specifying, specifiers_form};
 use typed_tree::env::{Env, declare, enter_function, inside, is_file, next_home};
 use typed_tree::lists::initial_list;
-use typed_tree::{Expr, Formed, Initial, Object, Signature, Use};
+use typed_tree::{Expr, Initial, Object};
+use typing_rules::declarations::{declares_object, initial_value, specifies};
+use typing_rules::{Formed, Signature, Use};
 use upc_text::{Place, Stop, Text};
 use upc_tree::{
     Declaration, Declarator, Declared, DeclaredList, Dimension, Name, NextDeclared, NextExpr,
     Parameters, Pointer,
 };
 use upc_types::{Access, Base, CType, copy_type};
+use walk_state::finish::judged;
+use walk_state::known::{Known, note_end, note_function, note_more, object_again, prototype_again};
+use walk_state::places::{pointers_place, specs_place};
+use walk_state::setting::{Setting, spelling};
+use walk_state::signatures::copy_signature;
+use walk_state::tags::{Tags, enclosed};
 
 // ---- initialisers (C99 6.7.8)
 
 // At file scope a constant is asked for.
 fn initial_constant(a: &Expr, setting: Setting<'_>, env: &Env<'_>) -> Result<(), Stop>
-    ensures { (s : State) → Meets (λ u. tt {0}) (pure.initial_constant (view_setting setting.entry) (scopes.is_file (view_env env.now)) (view_expr a.now) s) s result }
+    ensures { (s : State) → Meets (λ u. tt {0}) (pure.initial_constant (view_setting setting.entry)
+        (scopes.is_file (view_env env.now)) (view_expr a.now) s) s result }
 {
     if is_file(env) {
         constantly(setting, a)?;
@@ -72,8 +77,10 @@ fn walk_initial_value(
     env: &Env<'_>,
     tags: &mut Tags<'_>,
     known: &mut Known,
-) -> Result<Expr, Stop>
-    ensures { Meets view_expr (pure.walk_initial_value (view_setting setting.entry) (view_env env.now) (scopes.is_file (view_env env.now)) (view_use how.entry) (view value.now) (state_of tags.old known.old)) (state_of tags.new known.new) result }
+) -> Result<Box<Expr>, Stop>
+    ensures { Meets (boxed view_expr) (pure.walk_initial_value (view_setting setting.entry)
+        (view_env env.now) (scopes.is_file (view_env env.now)) (view_use how.entry) (view value.now)
+        (state_of tags.old known.old)) (state_of tags.new known.new) result }
 {
     let a = walk(value, how, setting, env, tags, known)?;
     initial_constant(&a, setting, env)?;
@@ -88,12 +95,15 @@ fn walk_initial_values(
     tags: &mut Tags<'_>,
     known: &mut Known,
 ) -> Result<Vec<Expr>, Stop>
-    ensures { Meets (λ xs. exprs_of (map view_expr xs.items)) (pure.walk_initial_values (view_setting setting.entry) (view_env env.now) (scopes.is_file (view_env env.now)) (view_use how.entry) (next_exprs_of (map view_next_expr values.now)) (state_of tags.old known.old)) (state_of tags.new known.new) result }
+    ensures { Meets (λ xs. exprs_of (map view_expr xs.items)) (pure.walk_initial_values
+        (view_setting setting.entry) (view_env env.now) (scopes.is_file (view_env env.now))
+        (view_use how.entry) (next_exprs_of (map view_next_expr values.now)) (state_of tags.old
+        known.old)) (state_of tags.new known.new) result }
 {
     let mut all = Vec::new(setting.alloc);
     for part in values {
         let x = walk_initial_value(&part.value, how, setting, env, tags, known)?;
-        all.push(x)?;
+        all.push(Box::into_inner(x))?;
     }
     Ok(all)
 }
@@ -121,7 +131,11 @@ fn walk_initial_list(
     tags: &mut Tags<'_>,
     known: &mut Known,
 ) -> Result<Vec<Expr>, Stop>
-    ensures { (equal left right : Span) → Meets (λ xs. k.InitialList (exprs_of (map view_expr xs.items))) (pure.walk_initial (view_setting setting.entry) (view_env env.now) place object (types.view t.now) (d.ListInitial equal left (view first.now) (next_exprs_of (map view_next_expr more.now)) right) (state_of tags.old known.old)) (state_of tags.new known.new) result }
+    ensures { (equal left right : Span) → Meets (λ xs. k.InitialList (exprs_of (map view_expr
+        xs.items))) (pure.walk_initial (view_setting setting.entry) (view_env env.now) place object
+        (types.view t.now) (d.ListInitial equal left (view first.now) (next_exprs_of (map
+        view_next_expr more.now)) right) (state_of tags.old known.old)) (state_of tags.new
+        known.new) result }
 {
     let how = element_use(t);
     let x = walk_initial_value(first, how, setting, env, tags, known)?;
@@ -142,7 +156,9 @@ fn walk_initial(
     tags: &mut Tags<'_>,
     known: &mut Known,
 ) -> Result<Initial, Stop>
-    ensures { Meets view_initial (pure.walk_initial (view_setting setting.entry) (view_env env.now) place object (types.view t.now) (trees.view_initial initial.now) (state_of tags.old known.old)) (state_of tags.new known.new) result }
+    ensures { Meets view_initial (pure.walk_initial (view_setting setting.entry) (view_env env.now)
+        place object (types.view t.now) (trees.view_initial initial.now) (state_of tags.old
+        known.old)) (state_of tags.new known.new) result }
 {
     match initial {
         upc_tree::Initial::Absent => Ok(Initial::Absent),
@@ -173,11 +189,13 @@ fn declares_function(
     env: &Env<'_>,
     known: &mut Known,
 ) -> Result<(), Stop>
-    ensures { (tags : List ScopeTag) → Meets (λ u. tt {0}) (pure.declares_function (view_setting setting.entry) (view_env env.now) place name forms (view_signature signature.now) (state_with tags known.old)) (state_with tags known.new) result }
+    ensures { (tags : List ScopeTag) → Meets (λ u. tt {0}) (pure.declares_function (view_setting
+        setting.entry) (view_env env.now) place name forms (view_signature signature.now)
+        (state_with tags known.old)) (state_with tags known.new) result }
 {
     let again = prototype_again(setting, env, known, name, signature);
     judged(
-        typed_tree::declarations::declares_function(again, forms, signature),
+        typing_rules::declarations::declares_function(again, forms, signature),
         place,
     )?;
     let copy = copy_signature(setting.alloc, signature)?;
@@ -193,7 +211,10 @@ fn prototype_types(
     tags: &Tags<'_>,
     known: &mut Known,
 ) -> Result<Vec<CType>, Stop>
-    ensures { Meets (λ ts. map types.view ts.items) (andthen (enclosed (walks.walk_parameters (view_setting setting.entry) (scopes.inside (view_env env.now)) (view_parameters parameters.now))) (λ d. give d.types) (state_of tags.now known.old)) (state_of tags.now known.new) result }
+    ensures { Meets (λ ts. map types.view ts.items) (andthen (enclosed (walks.walk_parameters
+        (view_setting setting.entry) (scopes.inside (view_env env.now)) (view_parameters
+        parameters.now))) (λ d. give d.types) (state_of tags.now known.old)) (state_of tags.now
+        known.new) result }
 {
     let mut scope = inside(setting.alloc, env)?;
     let mut inner = enclosed(setting.alloc, tags);
@@ -225,7 +246,15 @@ fn walk_prototype(
     tags: &mut Tags<'_>,
     known: &mut Known,
 ) -> Result<(), Stop>
-    ensures { (place : Place) (objects : List DeclaredObject) → Meets (λ u. record { scope = view_env env.new; objects = objects }) (pure.walk_declared (view_setting setting.entry) place (view_shaped t.now) (record { scope = view_env env.old; objects = objects }) (d.DeclaredAs (e.FunctionDeclarator (pointers_of (map view_pointer pointers.now)) name (view_parameters parameters.now)) (trees.view_initial initial.now)) (state_of tags.old known.old)) (state_of tags.new known.new) result }
+    ensures { (place : Place) (objects : List DeclaredObject) → Meets (λ u. record {
+      scope =
+          view_env env.new;
+      objects = objects;
+    }) (pure.walk_declared (view_setting setting.entry)
+        place (view_shaped t.now) (record { scope = view_env env.old; objects = objects })
+        (d.DeclaredAs (e.FunctionDeclarator (pointers_of (map view_pointer pointers.now)) name
+        (view_parameters parameters.now)) (trees.view_initial initial.now)) (state_of tags.old
+        known.old)) (state_of tags.new known.new) result }
 {
     let t = copy_shaped(setting.alloc, t)?;
     let p = walk_pointers(pointers, false, t, setting, env, tags, known)?;
@@ -252,7 +281,10 @@ fn judge_object(
     env: &Env<'_>,
     known: &mut Known,
 ) -> Result<(), Stop>
-    ensures { (tags : List ScopeTag) → Meets (λ u. tt {0}) (judge (view_setting setting.entry) at (n.DeclaresObject (pure.object_again (view_setting setting.entry) (view_env env.now) name) (scopes.is_file (view_env env.now)) (view_formed f.now)) (state_with tags known.old)) (state_with tags known.new) result }
+    ensures { (tags : List ScopeTag) → Meets (λ u. tt {0}) (judge (view_setting setting.entry) at
+        (n.DeclaresObject (stands.object_again (view_setting setting.entry) (view_env env.now) name)
+        (scopes.is_file (view_env env.now)) (view_formed f.now)) (state_with tags known.old))
+        (state_with tags known.new) result }
 {
     let again = object_again(setting, env, name);
     judged(declares_object(&known.structs, again, is_file(env), f), at)?;
@@ -261,7 +293,7 @@ fn judge_object(
 }
 
 fn has_sizes(sizes: &[Dimension]) -> bool
-    ensures { result ≡ walks.has_sizes (dimensions_of (map view_dimension sizes.now)) }
+    ensures { result ≡ shapes.has_sizes (dimensions_of (map view_dimension sizes.now)) }
 {
     match sizes {
         [] => false,
@@ -270,7 +302,7 @@ fn has_sizes(sizes: &[Dimension]) -> bool
 }
 
 fn is_none(pointers: &[Pointer]) -> bool
-    ensures { result ≡ walks.is_none (pointers_of (map view_pointer pointers.now)) }
+    ensures { result ≡ shapes.is_none (pointers_of (map view_pointer pointers.now)) }
 {
     match pointers {
         [] => true,
@@ -291,7 +323,17 @@ fn walk_object(
     tags: &mut Tags<'_>,
     known: &mut Known,
 ) -> Result<Object, Stop>
-    ensures { (objects : List DeclaredObject) → Meets (λ x. record { scope = view_env env.new; objects = objects ++ (view_object x ∷ []) }) (pure.walk_declared (view_setting setting.entry) place (view_shaped t.now) (record { scope = view_env env.old; objects = objects }) (d.DeclaredAs (e.ObjectDeclarator (pointers_of (map view_pointer pointers.now)) name (dimensions_of (map view_dimension sizes.now))) (trees.view_initial initial.now)) (state_of tags.old known.old)) (state_of tags.new known.new) result }
+    ensures { (objects : List DeclaredObject) → Meets (λ x. record {
+      scope = view_env env.new;
+      objects = objects ++ (view_object x ∷ []);
+    }) (pure.walk_declared (view_setting
+        setting.entry) place (view_shaped t.now) (record {
+          scope = view_env env.old;
+          objects =
+              objects;
+        }) (d.DeclaredAs (e.ObjectDeclarator (pointers_of (map view_pointer pointers.now))
+        name (dimensions_of (map view_dimension sizes.now))) (trees.view_initial initial.now))
+        (state_of tags.old known.old)) (state_of tags.new known.new) result }
 {
     let t = copy_shaped(setting.alloc, t)?;
     let p = walk_pointers(pointers, has_sizes(sizes), t, setting, env, tags, known)?;
@@ -324,10 +366,17 @@ fn walk_declared(
     tags: &mut Tags<'_>,
     known: &mut Known,
 ) -> Result<(), Stop>
-    ensures { Meets (λ u. record { scope = view_env env.new; objects = map view_object objects.new.items }) (pure.walk_declared (view_setting setting.entry) place (view_shaped t.now) (record { scope = view_env env.old; objects = map view_object objects.old.items }) (trees.view_declared declared.now) (state_of tags.old known.old)) (state_of tags.new known.new) result }
+    ensures { Meets (λ u. record {
+      scope = view_env env.new;
+      objects = map view_object
+          objects.new.items;
+    }) (pure.walk_declared (view_setting setting.entry) place (view_shaped
+        t.now) (record { scope = view_env env.old; objects = map view_object objects.old.items })
+        (trees.view_declared declared.now) (state_of tags.old known.old)) (state_of tags.new
+        known.new) result }
 {
     let initial = &declared.initial;
-    match &declared.declarator {
+    match &*declared.declarator {
         Declarator::Object {
             pointers,
             name,
@@ -364,7 +413,17 @@ fn walk_next_declareds(
     tags: &mut Tags<'_>,
     known: &mut Known,
 ) -> Result<(), Stop>
-    ensures { Meets (λ u. record { scope = view_env env.new; objects = map view_object objects.new.items }) (pure.walk_next_declareds (view_setting setting.entry) place (view_shaped t.now) (record { scope = view_env env.old; objects = map view_object objects.old.items }) (next_declareds_of (map view_next_declared more.now)) (state_of tags.old known.old)) (state_of tags.new known.new) result }
+    ensures { Meets (λ u. record {
+      scope = view_env env.new;
+      objects = map view_object
+          objects.new.items;
+    }) (pure.walk_next_declareds (view_setting setting.entry) place
+        (view_shaped t.now) (record {
+          scope = view_env env.old;
+          objects = map view_object
+              objects.old.items;
+        }) (next_declareds_of (map view_next_declared more.now)) (state_of
+        tags.old known.old)) (state_of tags.new known.new) result }
 {
     for part in more {
         walk_declared(&part.declared, place, t, objects, setting, env, tags, known)?;
@@ -373,7 +432,7 @@ fn walk_next_declareds(
 }
 
 fn walk_declared_list(
-    list: &Option<DeclaredList>,
+    list: &Option<Box<DeclaredList>>,
     place: Place,
     t: &Shaped,
     setting: Setting<'_>,
@@ -381,7 +440,12 @@ fn walk_declared_list(
     tags: &mut Tags<'_>,
     known: &mut Known,
 ) -> Result<Vec<Object>, Stop>
-    ensures { Meets (λ xs. record { scope = view_env env.new; objects = map view_object xs.items }) (pure.walk_declared_list (view_setting setting.entry) place (view_shaped t.now) (record { scope = view_env env.old; objects = [] }) (trees.view_declared_list list.now) (state_of tags.old known.old)) (state_of tags.new known.new) result }
+    ensures { Meets (λ xs. record { scope = view_env env.new; objects = map view_object xs.items })
+        (pure.walk_declared_list (view_setting setting.entry) place (view_shaped t.now) (record {
+          scope = view_env env.old;
+          objects = [];
+        }) (trees.view_declared_list list.now) (state_of
+        tags.old known.old)) (state_of tags.new known.new) result }
 {
     let mut objects = Vec::new(setting.alloc);
     match list {
@@ -430,7 +494,7 @@ fn all_plain_arrays(more: &[NextDeclared]) -> bool
     true
 }
 
-fn declares_arrays(list: &Option<DeclaredList>) -> bool
+fn declares_arrays(list: &Option<Box<DeclaredList>>) -> bool
     ensures { result ≡ pure.declares_arrays (trees.view_declared_list list.now) }
 {
     match list {
@@ -440,8 +504,9 @@ fn declares_arrays(list: &Option<DeclaredList>) -> bool
     }
 }
 
-fn specifying(env: &Env<'_>, list: &Option<DeclaredList>) -> Specifying
-    ensures { view_specifying result ≡ pure.specifying (view_env env.now) (trees.view_declared_list list.now) }
+fn specifying(env: &Env<'_>, list: &Option<Box<DeclaredList>>) -> Specifying
+    ensures { view_specifying result ≡ pure.specifying (view_env env.now) (trees.view_declared_list
+        list.now) }
 {
     Specifying {
         star: declares_arrays(list),
@@ -458,7 +523,9 @@ fn judge_specifiers(
     setting: Setting<'_>,
     known: &mut Known,
 ) -> Result<(), Stop>
-    ensures { (tags : List ScopeTag) → Meets (λ u. tt {0}) (judge (view_setting setting.entry) at (n.Specifies (specifiers.specifiers_form file (view_specified found.now))) (state_with tags known.old)) (state_with tags known.new) result }
+    ensures { (tags : List ScopeTag) → Meets (λ u. tt {0}) (judge (view_setting setting.entry) at
+        (n.Specifies (specifiers.specifiers_form file (view_specified found.now))) (state_with tags
+        known.old)) (state_with tags known.new) result }
 {
     judged(specifies(specifiers_form(file, found)), at)?;
     note_end(known, at);
@@ -473,7 +540,10 @@ pub fn walk_declaration(
     tags: &mut Tags<'_>,
     known: &mut Known,
 ) -> Result<Vec<Object>, Stop>
-    ensures { Meets (λ xs. record { scope = view_env env.new; objects = map view_object xs.items }) (pure.walk_declaration (view_setting setting.entry) (view_env env.old) (trees.view_declaration declaration.now) (state_of tags.old known.old)) (state_of tags.new known.new) result }
+    ensures { Meets (λ xs. record { scope = view_env env.new; objects = map view_object xs.items })
+        (pure.walk_declaration (view_setting setting.entry) (view_env env.old)
+        (trees.view_declaration declaration.now) (state_of tags.old known.old)) (state_of tags.new
+        known.new) result }
 {
     let file = is_file(env);
     let list = &declaration.declared;

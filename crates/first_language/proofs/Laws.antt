@@ -114,10 +114,10 @@ pub meaning-laws : (p : First) (t n b : ℕ) → t < n → n ≤ 32 → 1 ≤ b 
 unfolding meaning
 meaning-laws p t n b h few g = record {
   begins = actions_first n [] (course p t n b);
-  goes = λ rs before a r e f.
+  goes = λ rs before a r e given f.
       goes_on n rs [] (course p t n b) a r e
       ((wanted-asked (opening_of p n) rs [] (course p t n b) 0 a (keeps_source p t n b h few) e).fitting before r f);
   ticks = λ rs e. beat_ticks (opening_of p n) rs [] (course p t n b) 0 (keeps_source p t n b h few) refl e;
-  formed = λ rs before a e.
+  formed = λ rs before a e given.
       (wanted-asked (opening_of p n) rs [] (course p t n b) 0 a (keeps_source p t n b h few) e).formed before;
 }

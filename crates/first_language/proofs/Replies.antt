@@ -1,5 +1,5 @@
 -- What a machine that stands by replies tells of the meaning on them.
-use Rattle.std.proofs.Common.{◌≡◌, ℕ, ℤ, pos, ◌++◌, List, [], ◌∷◌, Option, Some, None, true, refl, sym, ◌∙◌, ap, subst, append-nil}
+use Rattle.std.proofs.Common.{◌≡◌, ℕ, ℤ, pos, ◌++◌, List, [], ◌∷◌, length, Option, Some, None, Bool, true, false, cond, refl, sym, ◌∙◌, ap, subst, append-nil, length-append, arith}
 use Rattle.upc_values.specs.declared.action.Action.{Action}
 use Rattle.upc_values.specs.declared.action.Reply.{Reply}
 use Rattle.upc_values.specs.declared.scalar.Mark.TheVariants.{Start, Finish}
@@ -60,6 +60,26 @@ comes_one threads (q ∷ rs) (Gives v m) d a n after r h e f = absurd h
 comes_one threads (q ∷ rs) (Over s m) d a n after r h e f = absurd h
 comes_one threads (q ∷ rs) (Asks b m go) d a n after r h e f = (h.0, comes_one threads rs (go q) d a n after r h.1 e f)
 
+-- a reply that suits the wanted action fits it
+suits-fits : (threads : ℕ) (rs : List Reply) (done : List Action) (c d : Course ℤ) (a : Action) (n : ℕ) (after : Reply → Course ℤ) (r : Reply) →
+    Comes threads c rs d → d ≡ Asks a n after →
+    (outcome_after threads done c (rs ++ r ∷ [])).actions ≡ (outcome_after threads done c rs).actions ++ a ∷ [] → fits threads a r ≡ true
+suits-fits threads [] done c d a n after r h e k =
+    decide (fits threads a r) refl
+    (subst (λ (x : Course ℤ). (outcome_after threads done x (r ∷ [])).actions ≡ (outcome_after threads done x []).actions ++ a ∷ []) (h ∙ e) k)
+  where
+    decide : (z : Bool) → fits threads a r ≡ z →
+        (cond z (outcome_after threads (done ++ a ∷ []) (after r) []) (record { actions = done; ticks = n; «end» = told.Misfit (length done) })).actions ≡ done ++ a ∷ [] →
+        fits threads a r ≡ true
+    decide true q w = q
+    decide false q w = let l = ap length w in let m = length-append done (a ∷ []) in absurd (omega (arith, l, m))
+suits-fits threads (q ∷ rs) done (Gives v m) d a n after r h e k = absurd h
+suits-fits threads (q ∷ rs) done (Over s m) d a n after r h e k = absurd h
+suits-fits threads (q ∷ rs) done (Asks b m go) d a n after r h e k =
+    suits-fits threads rs (done ++ b ∷ []) (go q) d a n after r h.1 e
+    (subst (λ (z : Bool). (cond z (outcome_after threads (done ++ b ∷ []) (go q) (rs ++ r ∷ [])) (record { actions = done; ticks = m; «end» = told.Misfit (length done) })).actions
+    ≡ (cond z (outcome_after threads (done ++ b ∷ []) (go q) rs) (record { actions = done; ticks = m; «end» = told.Misfit (length done) })).actions ++ a ∷ []) h.0 k)
+
 pub comes_more : (p : First) (t n b : ℕ) (given : List Reply) (reply : Option Reply) (d : Course ℤ) →
     Comes n (course p t n b) given d → Answers p t n b given reply → Comes n (course p t n b) (given ++ listed reply) (advance d reply)
 unfolding meaning
@@ -70,7 +90,8 @@ comes_more p t n b given (Some r) d h g =
     let wants : end_of d ≡ told.Wants g.0 = sym (comes_end n given [] (course p t n b) d h) ∙ g.1 in
     let s : AsksFor g.0 d = asks_for d g.0 wants in
     subst (λ (x : Course ℤ). Comes n (course p t n b) (given ++ r ∷ []) (advance x (Some r))) (sym s.is)
-    (comes_one n given (course p t n b) d g.0 s.ticks s.after r h s.is g.2)
+    (comes_one n given (course p t n b) d g.0 s.ticks s.after r h s.is
+    (suits-fits n given [] (course p t n b) d g.0 s.ticks s.after r h s.is g.2))
 
 pub told_by : (p : First) (t n b : ℕ) (given : List Reply) (reply : Option Reply) (m m' : Machine) (w : Wish) →
     Resumes p reply m w m' → Stands p t n b given m → Answers p t n b given reply →

@@ -10,8 +10,8 @@ use Rattle.first_language.specs.Course.{Course, Gives, Over, Spent, bind, ask}
 use Rattle.first_language.specs.Postfix.{code_expr, code_block, size_expr, size_block}
 use Rattle.first_language.specs.Meaning.{value, statements, turns, operate, fetch, beat, check, line_of, loc_of, is_strict}
 
--- a part of what is left: an expression, statements, or one step; behind a condition, the choice of a loop that takes at
--- most so many further turns; behind a body, that loop again
+-- a part of what is left: an expression, statements, or one step; behind a condition, the choice of a loop that takes
+-- at most so many further turns; behind a body, that loop again
 pub data Item : Type 0 where
   Evaluate : Expr → Item
   Do : Block → Item

@@ -4,6 +4,7 @@ use Rattle.upc_values.specs.declared.action.Action.{Action}
 use Rattle.upc_values.specs.declared.action.Reply.{Reply}
 use Rattle.upc_values.specs.declared.record.ToldEnd.{ToldEnd}
 use Rattle.upc_values.specs.declared.record.ToldEnd.TheVariants as told
+use Rattle.upc_values.specs.Outcomes.{Suits}
 use Rattle.first_language.specs.declared.instr.Instr.{Instr}
 use Rattle.first_language.specs.declared.tree.First.{First}
 use Rattle.first_language.specs.declared.machine.Wish.{Wish}
@@ -84,7 +85,7 @@ abbrev pub listed : Option Reply → List Reply
 listed None = []
 listed (Some r) = r ∷ []
 
--- the reply is none, or answers the action that the source wants
+-- The reply is none, or suits the action that the source wants.
 abbrev pub Answers : First → ℕ → ℕ → ℕ → List Reply → Option Reply → Type 0
 Answers p t n b given None = Unit {0}
-Answers p t n b given (Some r) = (a : Action) × ((meaning p t n b given).«end» ≡ told.Wants a) × (fits n a r ≡ true)
+Answers p t n b given (Some r) = Suits (meaning p t n b) given r

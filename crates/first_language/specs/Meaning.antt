@@ -64,7 +64,8 @@ check budget n = cond (n == budget) (Over Spent n) (Gives tt n)
 abbrev pub tick : ℕ → ℕ → Course (Unit {0})
 tick budget n = cond (nat_le budget n) (Over Spent n) (bind (beat (n + 1)) (λ u m. check budget m))
 
--- a loop: a tick, then the condition; where it is not 0, the body, and again. No thread takes more turns than its budget
+-- a loop: a tick, then the condition; where it is not 0, the body, and again. No thread takes more turns than its
+-- budget
 abbrev pub turns : ℕ → ℕ → (ℕ → Course ℤ) → (ℕ → Course (Unit {0})) → ℕ → Course (Unit {0})
 turns budget zero condition body n = Over Spent n
 turns budget (suc left) condition body n =

@@ -81,7 +81,8 @@ is_end (s.AndBlockItem item more) = false
 module _ (names : List (List ℕ)) (variables : List ℕ) where
   -- printf("%d\n", sum)
   abbrev pub print_of : e.Expr → e.Arguments → Option t.Stmt
-  print_of callee arguments = if is_printf names callee then (printed variables arguments >>= λ z. Some (t.Print z)) else None
+  print_of callee arguments = if is_printf names callee
+      then (printed variables arguments >>= λ z. Some (t.Print z)) else None
 
   -- an assignment or a call of printf
   abbrev pub action_of : e.Expr → Option t.Stmt

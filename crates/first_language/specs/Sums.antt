@@ -64,5 +64,6 @@ sum_of variables (e.Number value kind span) = number_of value kind
 sum_of variables (e.Constant word span) = constant_of word
 sum_of variables (e.Paren left inner right) = sum_of variables inner
 sum_of variables (e.Binary x mark at y) =
-    operator_of mark >>= λ op. sum_of variables x >>= λ l. sum_of variables y >>= λ r. Some (t.Binary op (place_of x) l r)
+    operator_of mark >>= λ op. sum_of variables x >>= λ l. sum_of variables y >>= λ r. Some
+    (t.Binary op (place_of x) l r)
 sum_of variables _ = None

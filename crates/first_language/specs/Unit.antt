@@ -161,7 +161,8 @@ abbrev pub first_from : List (List ℕ) → List ℕ → List u.External → Opt
 first_from names before [] = None
 first_from names before (part ∷ parts) =
     if is_last parts then (main_in names before part >>= λ main. Some (ends_with main))
-    else (new_variable names before part >>= λ v. first_from names (before ++ v.number ∷ []) parts >>= λ p. Some (and_variable v.strict p))
+    else (new_variable names before part >>= λ v. first_from names (before ++ v.number ∷ []) parts >>= λ p. Some
+    (and_variable v.strict p))
 
 -- the program of a tree: whether each variable is strict, the statements of main, and what it returns
 abbrev pub first_program : List (List ℕ) → List u.External → Option t.Program

@@ -6,8 +6,6 @@ mod machine;
 mod statements;
 mod step;
 mod sums;
-#[cfg(test)]
-mod tests;
 mod tree;
 mod unit;
 mod words;

@@ -174,7 +174,7 @@ fn action(
 fn value(
     names: &Names,
     variables: &IndexSet<u32>,
-    e: &Option<Expr>,
+    e: &Option<Box<Expr>>,
     code: &mut Vec<Instr>,
 ) -> Result<bool, AllocError>
     requires { length variables.now.keys ≤ 1048576 }
@@ -188,7 +188,11 @@ fn value(
 }
 
 /// Writes the steps of `upc_barrier`.
-fn barrier(word: BarrierWord, e: &Option<Expr>, code: &mut Vec<Instr>) -> Result<bool, AllocError>
+fn barrier(
+    word: BarrierWord,
+    e: &Option<Box<Expr>>,
+    code: &mut Vec<Instr>,
+) -> Result<bool, AllocError>
     ensures { IfOk result (λ ok. Writes emit_stmt (spec.barrier_of word (view_value e.now)) ok
         code.old.items code.new.items) }
 {

@@ -44,13 +44,10 @@ fn is_int(spec: &Spec) -> bool
 fn is_shared(spec: &Spec) -> bool
     ensures { result ≡ is_shared (view_spec spec.now) }
 {
-    matches!(
-        spec,
-        Spec::Qual(Qual::Shared {
-            layout: Layout::Absent,
-            ..
-        })
-    )
+    match spec {
+        Spec::Qual(Qual::Shared { layout, .. }) => matches!(**layout, Layout::Absent),
+        _ => false,
+    }
 }
 
 /// Whether it is `strict` or `relaxed`.
@@ -134,13 +131,13 @@ fn plain_name(declarator: &Declarator) -> Option<Name>
 fn declared_name(declared: &Declared) -> Option<Name>
     ensures { result ≡ declared_name (view_declared declared.now) }
 {
-    match &declared.initial {
+    match &*declared.initial {
         Initial::Absent => plain_name(&declared.declarator),
         Initial::Value { .. } | Initial::List { .. } => None,
     }
 }
 
-fn name_of(list: &Option<DeclaredList>) -> Option<Name>
+fn name_of(list: &Option<Box<DeclaredList>>) -> Option<Name>
     ensures { result ≡ name_of (view_declared_list list.now) }
 {
     match list {
@@ -210,7 +207,7 @@ fn returns_int(function: &Function) -> bool
 
 fn is_named_main(names: &Names, function: &Function) -> bool
     ensures { result ≡ spec.is_named_main names.now function.now.name
-        (view_parameters function.now.parameters) }
+        (view_parameters function.now.parameters.value) }
 {
     is_named(names, b"main", function.name) && is_without_parameters(&function.parameters)
 }
@@ -219,7 +216,7 @@ fn is_named_main(names: &Names, function: &Function) -> bool
 fn is_main(names: &Names, function: &Function) -> bool
     ensures { result ≡ spec.is_main names.now (view_specs function.now.specs)
         (view_pointers function.now.pointers) function.now.name
-        (view_parameters function.now.parameters) }
+        (view_parameters function.now.parameters.value) }
 {
     returns_int(function) && is_named_main(names, function)
 }
@@ -241,7 +238,8 @@ fn declared_by(
 ) -> Result<Option<Declarations>, AllocError>
     ensures { IfOk result (λ o. MatchOption o
         (spec.declared_from names.now [] (map view_external parts.now) ≡ None)
-        (λ d. AreDeclared (spec.declared_from names.now [] (map view_external parts.now)) d.variables.keys d.strict.items)) }
+        (λ d. AreDeclared (spec.declared_from names.now []
+        (map view_external parts.now)) d.variables.keys d.strict.items)) }
 {
     let mut found = Declarations {
         variables: IndexSet::new(alloc),
@@ -262,7 +260,7 @@ fn declared_by(
 /// Writes the steps of the sum that is returned.
 fn value(
     variables: &IndexSet<u32>,
-    e: &Option<Expr>,
+    e: &Option<Box<Expr>>,
     code: &mut Vec<Instr>,
 ) -> Result<bool, AllocError>
     requires { length variables.now.keys ≤ 1048576 }

@@ -97,7 +97,8 @@ IsDivision Divide = Unit {0}
 IsDivision Remainder = Unit {0}
 IsDivision op = ⊥
 
--- Where a signed result does not fit: the exact result is lost, the quotient of a remainder is none, or a negative value is shifted left.
+-- Where a signed result does not fit: the exact result is lost, the quotient of a remainder is none, or a negative
+-- value is shifted left.
 abbrev pub Overflows : BinOp → Kind → ℤ → ℤ → Type 0
 Overflows Multiply kind a b = IsLost kind (a *ℤ b)
 Overflows Add kind a b = IsLost kind (a +ℤ b)

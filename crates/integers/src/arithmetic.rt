@@ -9,9 +9,12 @@ use crate::operator::{BinOp, UnOp};
 use block_layout::run_error::{SHIFT_RANGE, SIGNED_OVERFLOW, ZERO_DIVISOR};
 use block_layout::{Kind, floor_quotient};
 
-/// What a binary operator gives at operands of a promoted kind (C99 6.5.5 to 6.5.12). A shift's count may be of any promoted kind. A comparison gives 0 or 1.
+/// What a binary operator gives at operands of a promoted kind (C99 6.5.5 to 6.5.12). A shift's count may be of any
+/// promoted kind. A comparison gives 0 or 1.
 ///
-/// `SIGNED_OVERFLOW` where a signed result does not fit, a negative value is shifted left, or the quotient of a remainder does not fit; `ZERO_DIVISOR`; `SHIFT_RANGE` where a count is negative or at least the width, and no negative value is shifted left.
+/// `SIGNED_OVERFLOW` where a signed result does not fit, a negative value is shifted left, or the quotient of a
+/// remainder does not fit; `ZERO_DIVISOR`; `SHIFT_RANGE` where a count is negative or at least the width, and no
+/// negative value is shifted left.
 pub fn binary(op: BinOp, kind: Kind, a: i128, b: i128) -> Result<i128, u8>
     requires promoted { IsPromoted kind }
     requires left { InKind a kind }

@@ -2,8 +2,6 @@
 #![tactic(auto)]
 
 mod arithmetic;
-#[cfg(test)]
-mod edges;
 mod integer;
 mod operator;
 

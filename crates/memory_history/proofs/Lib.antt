@@ -2,3 +2,4 @@ pub mod Counting
 pub mod Looking
 pub mod More
 pub mod Cells
+pub mod Going

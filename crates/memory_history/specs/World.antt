@@ -21,8 +21,8 @@ abbrev pub performed : List Entry → ℕ → ℕ → Action → Option Reply �
 performed es t i a None = es
 performed es t i a (Some r) = es ++ entry_of t i a r ∷ []
 
--- what a history keeps: it is legal from its opening, each entry was well formed, is basic and is of one of the threads,
--- and there are fewer than 2^62
+-- what a history keeps: it is legal from its opening, each entry was well formed, is basic and is of one of the
+-- threads, and there are fewer than 2^62
 pub record IsKept (o : Opening) (es : List Entry) : Type 0 where
   pub opening : IsOpening o
   pub legal : IsLegal o es

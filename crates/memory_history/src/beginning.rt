@@ -12,8 +12,8 @@ use std::alloc::{AllocError, Global};
 use std::marker::Model;
 use upc_values::{Kind, Loc, ObjectRef, Scalar, Shape, SharedPtr, blank, copy_shape};
 
-/// What a run begins with: the number of threads, the declared shared objects, the initial values of some of their cells,
-/// and the shapes of elements. Contracts see the opening, which is a valid one.
+/// What a run begins with: the number of threads, the declared shared objects, the initial values of some of their
+/// cells, and the shapes of elements. Contracts see the opening, which is a valid one.
 #[derive(Drop)]
 pub struct Beginning {
     threads: u32,
@@ -27,9 +27,19 @@ impl Model for Beginning {
 
     ghost Value = { Opening };
 
-    ghost view = { λ b. record { threads = b.threads; declared = b.declared.items; initials = b.initials.items; shapes = b.shapes.items } };
+    ghost view = { λ b. record {
+      threads = b.threads;
+      declared = b.declared.items;
+      initials = b.initials.items;
+      shapes = b.shapes.items;
+    } };
 
-    ghost invariant = { λ b. IsOpening record { threads = b.threads; declared = b.declared.items; initials = b.initials.items; shapes = b.shapes.items } };
+    ghost invariant = { λ b. IsOpening record {
+      threads = b.threads;
+      declared = b.declared.items;
+      initials = b.initials.items;
+      shapes = b.shapes.items;
+    } };
 }
 
 fn copy_shapes(alloc: Global, shapes: &[Shape]) -> Result<Vec<Shape>, AllocError>
@@ -75,8 +85,18 @@ impl Beginning {
         shapes: &[Shape],
         threads: u32,
     ) -> Result<Beginning, AllocError>
-        requires { IsOpening record { threads = threads; declared = declared.now; initials = initials.now; shapes = shapes.now } }
-        ensures { IfOk result (λ b. b ≡ record { threads = threads; declared = declared.now; initials = initials.now; shapes = shapes.now }) }
+        requires { IsOpening record {
+          threads = threads;
+          declared = declared.now;
+          initials = initials.now;
+          shapes = shapes.now;
+        } }
+        ensures { IfOk result (λ b. b ≡ record {
+          threads = threads;
+          declared = declared.now;
+          initials = initials.now;
+          shapes = shapes.now;
+        }) }
     {
         Ok(Beginning {
             threads,

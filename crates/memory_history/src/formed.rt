@@ -1,7 +1,6 @@
 //! Whether an action may be asked for.
 
 ghost use Rattle.std.specs.Prelude.{◌≡◌, ◌<◌, List, true, is_some};
-ghost use Rattle.block_layout.specs.Places as places;
 ghost use Rattle.block_layout.specs.Pointers as pointers;
 ghost use Rattle.std.specs.List.{list_any};
 ghost use Rattle.upc_values.specs.declared.journal.Entry.{Entry};
@@ -11,14 +10,8 @@ ghost use Rattle.upc_values.specs.Openings as openings;
 ghost use Rattle.upc_values.specs.Formed as formed;
 
 use crate::beginning::Beginning;
+use block_layout::is_in_range;
 use upc_values::{Action, Kind, ObjectRef, Scalar, SharedPtr, fits_kind};
-
-// From -2^40 to 2^40.
-fn is_in_range(offset: i64) -> bool
-    ensures { result ≡ places.in_range offset }
-{
-    -1_099_511_627_776 <= offset && offset <= 1_099_511_627_776
-}
 
 fn same_object(a: &ObjectRef, b: &ObjectRef) -> bool
     ensures { result ≡ pointers.same_object a.now b.now }
@@ -56,7 +49,7 @@ impl Beginning {
         pointer.is_null()
             || (has_object(&pointer.object, self.declared())
                 && pointer.thread < self.threads()
-                && is_in_range(pointer.offset))
+                && is_in_range(i128::from(pointer.offset)))
     }
 
     // Whether the value refers to nothing but declared objects. There are no locks.

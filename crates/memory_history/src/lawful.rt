@@ -140,7 +140,8 @@ fn agrees_at(mark: Mark, thread: u32, number: usize, entries: &[Entry]) -> bool
 
 // Whether a mark agrees with those of all threads' notifies of this number.
 fn agrees_with_all(mark: Mark, threads: u32, number: usize, entries: &[Entry]) -> bool
-    ensures { result ≡ each_thread threads (λ u. history.agrees_with mark (slice_get (history.marks u entries.now) number)) }
+    ensures { result ≡ each_thread threads (λ u.
+        history.agrees_with mark (slice_get (history.marks u entries.now) number)) }
 {
     let mut all = true;
     for thread in 0..threads {
@@ -161,12 +162,13 @@ impl Beginning {
         }
     }
 
-    // The reply of a thread's wait with this number and mark.
-    fn wait_reply(&self, number: usize, mark: Mark, entries: &[Entry]) -> Option<Reply>
+    // The reply of the thread's wait with this mark.
+    pub(crate) fn wait_reply(&self, entries: &[Entry], thread: u32, mark: Mark) -> Option<Reply>
         requires { EachBelow self.now.threads entries.now }
-        ensures { result ≡ history.wait_reply self.now entries.now number mark }
+        ensures { result ≡ history.wait_reply self.now entries.now (history.waits thread entries.now) mark }
     {
         let threads = self.threads();
+        let number = count_waits(thread, entries);
         if !have_notified(threads, number, entries) {
             return None;
         }
@@ -189,7 +191,7 @@ impl Beginning {
                 Some(value) => Some(Reply::Value(value)),
                 None => None,
             },
-            Action::Wait(mark) => self.wait_reply(count_waits(thread, entries), *mark, entries),
+            Action::Wait(mark) => self.wait_reply(entries, thread, *mark),
             Action::Write { .. } => Some(Reply::Done),
             Action::Fence => Some(Reply::Done),
             Action::Beat => Some(Reply::Done),

@@ -13,6 +13,3 @@ pub use beginning::Beginning;
 pub use step::Step;
 pub use walk::drain;
 pub use world::World;
-
-#[cfg(test)]
-mod tests;

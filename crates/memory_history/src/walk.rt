@@ -25,7 +25,12 @@ impl Model for Walk {
 
     ghost Value = { drain.Walk };
 
-    ghost view = { λ w. record { next = w.next; emitted = w.emitted.items; pending = w.pending.items; agrees = w.agrees } };
+    ghost view = { λ w. record {
+      next = w.next;
+      emitted = w.emitted.items;
+      pending = w.pending.items;
+      agrees = w.agrees;
+    } };
 }
 
 impl Walk {

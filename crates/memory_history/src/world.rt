@@ -6,6 +6,7 @@ ghost use Rattle.upc_values.specs.Openings.{IsOpening};
 ghost use Rattle.upc_values.specs.History as history;
 ghost use Rattle.upc_values.specs.History.{IsLegal, EachBelow};
 ghost use Rattle.upc_values.specs.Formed.{IsWellFormed, AreWellFormed, fits_after};
+ghost use Rattle.upc_values.specs.Known.{gives_known};
 ghost use Rattle.upc_values.specs.Waits.{WaitsFollow};
 ghost use Rattle.upc_values.specs.Strands.{may_wait};
 ghost use Rattle.memory_history.specs.World.{answer_of, performed};
@@ -46,8 +47,19 @@ impl World {
         shapes: &[Shape],
         threads: u32,
     ) -> Result<World, AllocError>
-        requires { IsOpening record { threads = threads; declared = declared.now; initials = initials.now; shapes = shapes.now } }
-        ensures opening { IfOk result (λ w. w.0 ≡ record { threads = threads; declared = declared.now; initials = initials.now; shapes = shapes.now }) }
+        requires { IsOpening record {
+          threads = threads;
+          declared = declared.now;
+          initials = initials.now;
+          shapes = shapes.now;
+        } }
+        ensures opening { IfOk result (λ w. w.0
+            ≡ record {
+              threads = threads;
+              declared = declared.now;
+              initials = initials.now;
+              shapes = shapes.now;
+            }) }
         ensures empty { IfOk result (λ w. w.1 ≡ []) }
     {
         Ok(World {
@@ -57,15 +69,17 @@ impl World {
     }
 
     /// Acts on the history: the lawful reply, with one entry appended, or `Disabled` where there is none. The action is
-    /// basic: it needs no lock, no new object, no collective call and no value at a barrier. After want of memory, which
-    /// also comes where there would be 2^62 entries, the history is as it was.
+    /// basic: it needs no lock, no new object, no collective call and no value at a barrier. After want of memory,
+    /// which also comes where there would be 2^62 entries, the history is as it was.
     pub fn perform(&mut self, thread: u32, index: u32, action: &Action) -> Result<Step, AllocError>
         requires below { thread < self.old.0.threads }
         requires formed { IsWellFormed self.old.0 self.old.1 action.now }
         requires basic { is_basic action.now ≡ true }
         ensures reply { IfOk result (λ s. answer_of s ≡ history.reply self.old.0 self.old.1 thread action.now) }
-        ensures fits { IfOk result (λ s. IfSome (answer_of s) (λ r. fits_after self.old.0 self.old.1 action.now r ≡ true)) }
+        ensures fits { IfOk result (λ s. IfSome (answer_of s) (λ r.
+            fits_after self.old.0 self.old.1 action.now r ≡ true)) }
         ensures entries { IfOk result (λ s. self.new.1 ≡ performed self.old.1 thread index action.now (answer_of s)) }
+        ensures known { IfOk result (λ s. IfSome (answer_of s) (λ r. gives_known self.new.0 self.new.1 r ≡ true)) }
         ensures disabled { IfOk result (λ s. answer_of s ≡ None → may_wait action.now ≡ true) }
         ensures opening { self.new.0 ≡ self.old.0 }
         ensures err { OnErr result (self.new.1 ≡ self.old.1) }
@@ -89,8 +103,9 @@ impl World {
         Ok(Step::Done(reply))
     }
 
-    /// Whether a basic action may be asked for now: a Read or a Write only where its location is a cell; a Write where the
-    /// value fits that cell, and is null or names a declared object if it is a pointer; every other. It takes no memory.
+    /// Whether a basic action may be asked for now: a Read or a Write only where its location is a cell; a Write where
+    /// the value fits that cell, and is null or names a declared object if it is a pointer; every other. It takes no
+    /// memory.
     pub fn is_well_formed(&self, action: &Action) -> bool
         requires { is_basic action.now ≡ true }
         ensures { IsTrue result ↔ IsWellFormed self.now.0 self.now.1 action.now }
@@ -98,16 +113,20 @@ impl World {
         self.beginning.may_ask(action)
     }
 
-    /// Whether a basic action has a lawful reply now. It takes no memory.
+    /// Whether an action has a lawful reply now. It takes no memory.
     pub fn is_legal(&self, thread: u32, action: &Action) -> bool
         requires below { thread < self.now.0.threads }
         requires formed { IsWellFormed self.now.0 self.now.1 action.now }
-        requires basic { is_basic action.now ≡ true }
         ensures { result ≡ is_some (history.reply self.now.0 self.now.1 thread action.now) }
     {
-        self.beginning
-            .reply(self.entries.as_slice(), thread, action)
-            .is_some()
+        // There is no lock, so a Wait alone may find no reply.
+        match action {
+            Action::Wait(mark) => self
+                .beginning
+                .wait_reply(self.entries.as_slice(), thread, *mark)
+                .is_some(),
+            _ => true,
+        }
     }
 
     /// How many entries there are.

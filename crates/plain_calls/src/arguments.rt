@@ -82,7 +82,10 @@ fn is_phase(p: &SharedPtr, block: u64) -> bool
 
 // At least one element, sizes in range.
 fn are_sizes(operands: &Operands) -> bool
-    ensures { result ≡ (not (operands.now.count == 0) && (not (said.is_large operands.now.count) && (not (said.is_large operands.now.block) && said.is_phase operands.now.src operands.now.block))) }
+    ensures { result ≡ (not (operands.now.count == 0)
+        && (not (said.is_large operands.now.count)
+        && (not (said.is_large operands.now.block)
+        && said.is_phase operands.now.src operands.now.block))) }
 {
     operands.count != 0
         && !is_large(operands.count)
@@ -91,7 +94,8 @@ fn are_sizes(operands: &Operands) -> bool
 }
 
 fn are_reduction_args(operands: &Operands, flags: i32) -> bool
-    ensures { result ≡ said.are_reduction_args operands.now.src operands.now.op operands.now.count operands.now.block flags }
+    ensures { result ≡ said.are_reduction_args operands.now.src operands.now.op operands.now.count
+        operands.now.block flags }
 {
     if !are_flags(flags) {
         return false;
@@ -122,7 +126,8 @@ fn first_cause(null: bool, unfit: bool) -> Option<u8>
 
 /// The run error by which the call's arguments are refused.
 pub fn refusal(call: &Call) -> Option<u8>
-    ensures { (threads : ℕ) (shapes : List Shape) (me : ℕ) → result ≡ refusal_in (said.tests threads shapes me (call_in call.now)) }
+    ensures { (threads : ℕ) (shapes : List Shape) (me : ℕ)
+        → result ≡ refusal_in (said.tests threads shapes me (call_in call.now)) }
 {
     match call {
         Call::Copies {

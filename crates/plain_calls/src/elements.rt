@@ -40,7 +40,8 @@ fn leaves_piece(thread: &Thread<'_>, kind: Kind, element: &Spot) -> bool
 
 /// Whether one of the elements, as a cell of this kind, leaves the piece of its thread.
 pub fn leave_pieces(thread: &Thread<'_>, kind: Kind, elements: &[Spot]) -> bool
-    ensures value { result ≡ list_any (views.leaves_piece thread.now.threads (kind_size kind)) (map pointer_of elements.now) }
+    ensures value { result ≡ list_any (views.leaves_piece thread.now.threads (kind_size kind))
+        (map pointer_of elements.now) }
     ensures inside { result ≡ false → All (λ p. IsRoomFor 1 p.offset) elements.now }
 {
     for element in elements {
@@ -117,7 +118,8 @@ pub fn read_numbers(
     elements: &[Spot],
 ) -> Result<Listing<i128>, Stop>
     requires { All (λ p. IsRoomFor 1 p.offset) elements.now }
-    ensures numbers { Follows (gathered (said.number_at 0 [] 0 kind) (map pointer_of elements.now)) telling.old result telling.new }
+    ensures numbers { Follows (gathered (said.number_at 0 [] 0 kind)
+        (map pointer_of elements.now)) telling.old result telling.new }
     ensures many { IfOk result (λ numbers. length numbers ≡ length elements.now) }
 {
     let mut numbers = Vec::new(alloc);

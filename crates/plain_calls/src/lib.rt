@@ -26,6 +26,3 @@ pub use memory::{Area, Caller, copy, local_area, set, shared_area};
 pub use thread::Thread;
 pub use together::collective;
 pub use told::{End, Step, Told};
-
-#[cfg(test)]
-mod tests;

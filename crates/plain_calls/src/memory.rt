@@ -86,7 +86,8 @@ fn is_nowhere(area: &Area) -> bool
 
 // Whether so many bytes leave the piece of their thread.
 fn leaves_shared(caller: &Caller<'_>, bytes: u64, area: &Area) -> bool
-    ensures value { result ≡ said.leaves_shared caller.now.threads caller.now.shapes.now (option_copied caller.now.private) bytes (area_in area.now) }
+    ensures value { result ≡ said.leaves_shared caller.now.threads caller.now.shapes.now
+        (option_copied caller.now.private) bytes (area_in area.now) }
     ensures inside { result ≡ false → HasSharedRoom bytes area.now }
 {
     match area {
@@ -108,7 +109,8 @@ fn is_inside(shape: Option<&Shape>, offset: i64, bytes: u64) -> bool
 
 // Whether so many bytes leave the private object, or it has ended.
 fn leaves_private(caller: &Caller<'_>, bytes: u64, area: &Area) -> bool
-    ensures value { result ≡ said.leaves_private caller.now.threads caller.now.shapes.now (option_copied caller.now.private) bytes (area_in area.now) }
+    ensures value { result ≡ said.leaves_private caller.now.threads caller.now.shapes.now
+        (option_copied caller.now.private) bytes (area_in area.now) }
     ensures inside { result ≡ false → HasPrivateRoom bytes area.now }
 {
     match area {
@@ -131,7 +133,8 @@ fn first_byte(area: &Area) -> u128
 
 // Whether a cell is cut at either end.
 fn is_cut(caller: &Caller<'_>, bytes: u64, area: &Area) -> bool
-    ensures { result ≡ said.is_cut caller.now.threads caller.now.shapes.now (option_copied caller.now.private) bytes (area_in area.now) }
+    ensures { result ≡ said.is_cut caller.now.threads caller.now.shapes.now
+        (option_copied caller.now.private) bytes (area_in area.now) }
 {
     match area {
         Area::Nowhere => false,
@@ -151,7 +154,9 @@ fn cells(
     bytes: u64,
     area: &Area,
 ) -> Result<Vec<Cell>, AllocError>
-    ensures cells { IfOk result (λ cells. cells.items ≡ said.cells caller.now.threads caller.now.shapes.now (option_copied caller.now.private) bytes (area_in area.now)) }
+    ensures cells { IfOk result (λ cells. cells.items
+        ≡ said.cells caller.now.threads caller.now.shapes.now
+        (option_copied caller.now.private) bytes (area_in area.now)) }
     ensures within { IfOk result (λ cells. All (λ c. c.0 < bytes) cells.items) }
 {
     match area {
@@ -176,7 +181,9 @@ fn write_cell(
 ) -> Result<(), Stop>
     requires room { HasRooms bytes area.now }
     requires inside { cell.0 < bytes }
-    ensures { (threads : ℕ) (shapes : List Shape) (private : Option Shape) → Follows (said.written threads shapes private (area_in area.now) cell value) telling.old result telling.new }
+    ensures { (threads : ℕ) (shapes : List Shape) (private : Option Shape)
+        → Follows (said.written threads shapes private
+        (area_in area.now) cell value) telling.old result telling.new }
 {
     match area {
         Area::Nowhere => Ok(()),
@@ -209,7 +216,9 @@ fn copy_shared(
     requires from { IsRoomFor bytes p.now.offset }
     requires into { HasRooms bytes dst.now }
     requires inside { cell.0 < bytes }
-    ensures { (threads : ℕ) (shapes : List Shape) (private : Option Shape) → Follows (said.copied threads shapes private (area_in dst.now) (said.In_shared p.now) cell) telling.old result telling.new }
+    ensures { (threads : ℕ) (shapes : List Shape) (private : Option Shape)
+        → Follows (said.copied threads shapes private (area_in dst.now)
+        (said.In_shared p.now) cell) telling.old result telling.new }
 {
     let value = telling.read(spot_at(p).location_behind(bytes, cell.0), cell.1)?;
     write_cell(telling, dst, bytes, cell, value)
@@ -227,7 +236,9 @@ fn copy_private(
     requires from { IsRoomFor bytes offset }
     requires into { HasRooms bytes dst.now }
     requires inside { cell.0 < bytes }
-    ensures { (threads : ℕ) (shapes : List Shape) (private : Option Shape) → Follows (said.copied threads shapes private (area_in dst.now) (said.In_private object offset) cell) telling.old result telling.new }
+    ensures { (threads : ℕ) (shapes : List Shape) (private : Option Shape)
+        → Follows (said.copied threads shapes private (area_in dst.now)
+        (said.In_private object offset) cell) telling.old result telling.new }
 {
     let place = LocalPtr::Private {
         object,
@@ -248,7 +259,9 @@ fn copy_cell(
     requires from { HasRooms bytes src.now }
     requires into { HasRooms bytes dst.now }
     requires inside { cell.0 < bytes }
-    ensures { (threads : ℕ) (shapes : List Shape) (private : Option Shape) → Follows (said.copied threads shapes private (area_in dst.now) (area_in src.now) cell) telling.old result telling.new }
+    ensures { (threads : ℕ) (shapes : List Shape) (private : Option Shape)
+        → Follows (said.copied threads shapes private (area_in dst.now)
+        (area_in src.now) cell) telling.old result telling.new }
 {
     match src {
         Area::Nowhere => Ok(()),
@@ -270,7 +283,9 @@ fn copy_cells(
     requires from { HasRooms bytes src.now }
     requires into { HasRooms bytes dst.now }
     requires inside { All (λ c. c.0 < bytes) cells.now }
-    ensures { (threads : ℕ) (shapes : List Shape) (private : Option Shape) → Follows (each_in_turn (said.copied threads shapes private (area_in dst.now) (area_in src.now)) cells.now) telling.old result telling.new }
+    ensures { (threads : ℕ) (shapes : List Shape) (private : Option Shape)
+        → Follows (each_in_turn (said.copied threads shapes private (area_in dst.now)
+        (area_in src.now)) cells.now) telling.old result telling.new }
 {
     for cell in cells {
         copy_cell(telling, dst, src, bytes, *cell)?;
@@ -287,7 +302,10 @@ fn are_nowhere(dst: &Area, src: &Area) -> bool
 
 // Whether so many bytes leave the piece of their thread at one of the areas.
 fn leave_shared(caller: &Caller<'_>, bytes: u64, dst: &Area, src: &Area) -> bool
-    ensures value { result ≡ (said.leaves_shared caller.now.threads caller.now.shapes.now (option_copied caller.now.private) bytes (area_in dst.now) || said.leaves_shared caller.now.threads caller.now.shapes.now (option_copied caller.now.private) bytes (area_in src.now)) }
+    ensures value { result ≡ (said.leaves_shared caller.now.threads caller.now.shapes.now
+        (option_copied caller.now.private) bytes (area_in dst.now)
+        || said.leaves_shared caller.now.threads caller.now.shapes.now
+        (option_copied caller.now.private) bytes (area_in src.now)) }
     ensures into { result ≡ false → HasSharedRoom bytes dst.now }
     ensures from { result ≡ false → HasSharedRoom bytes src.now }
 {
@@ -296,7 +314,10 @@ fn leave_shared(caller: &Caller<'_>, bytes: u64, dst: &Area, src: &Area) -> bool
 
 // Whether they leave a private object at one of the areas.
 fn leave_private(caller: &Caller<'_>, bytes: u64, dst: &Area, src: &Area) -> bool
-    ensures value { result ≡ (said.leaves_private caller.now.threads caller.now.shapes.now (option_copied caller.now.private) bytes (area_in dst.now) || said.leaves_private caller.now.threads caller.now.shapes.now (option_copied caller.now.private) bytes (area_in src.now)) }
+    ensures value { result ≡ (said.leaves_private caller.now.threads caller.now.shapes.now
+        (option_copied caller.now.private) bytes (area_in dst.now)
+        || said.leaves_private caller.now.threads caller.now.shapes.now
+        (option_copied caller.now.private) bytes (area_in src.now)) }
     ensures into { result ≡ false → HasPrivateRoom bytes dst.now }
     ensures from { result ≡ false → HasPrivateRoom bytes src.now }
 {
@@ -311,7 +332,12 @@ fn differ(
     dst: &Area,
     src: &Area,
 ) -> Result<bool, AllocError>
-    ensures { IfOk result (λ b. b ≡ (let is_cut = said.is_cut caller.now.threads caller.now.shapes.now (option_copied caller.now.private) bytes in let cells = said.cells caller.now.threads caller.now.shapes.now (option_copied caller.now.private) bytes in is_cut (area_in dst.now) || (is_cut (area_in src.now) || not (views.same_cells (cells (area_in dst.now)) (cells (area_in src.now)))))) }
+    ensures { IfOk result (λ b. b ≡ (let is_cut = said.is_cut caller.now.threads
+        caller.now.shapes.now (option_copied caller.now.private) bytes
+        in let cells = said.cells caller.now.threads caller.now.shapes.now
+        (option_copied caller.now.private) bytes
+        in is_cut (area_in dst.now) || (is_cut (area_in src.now)
+        || not (views.same_cells (cells (area_in dst.now)) (cells (area_in src.now)))))) }
 {
     if is_cut(caller, bytes, dst) || is_cut(caller, bytes, src) {
         return Ok(true);
@@ -332,7 +358,11 @@ fn copy_all(
 ) -> Result<(), Stop>
     requires from { HasRooms bytes src.now }
     requires into { HasRooms bytes dst.now }
-    ensures { Follows (each_in_turn (said.copied caller.now.threads caller.now.shapes.now (option_copied caller.now.private) (area_in dst.now) (area_in src.now)) (said.cells caller.now.threads caller.now.shapes.now (option_copied caller.now.private) bytes (area_in dst.now))) telling.old result telling.new }
+    ensures { Follows (each_in_turn (said.copied caller.now.threads caller.now.shapes.now
+        (option_copied caller.now.private) (area_in dst.now) (area_in src.now))
+        (said.cells caller.now.threads caller.now.shapes.now
+        (option_copied caller.now.private) bytes (area_in dst.now))) telling.old result
+        telling.new }
 {
     let cells = cells(alloc, caller, bytes, dst)?;
     copy_cells(telling, dst, src, bytes, cells.as_slice())
@@ -347,7 +377,9 @@ fn copy_bytes(
     dst: &Area,
     src: &Area,
 ) -> Result<(), Stop>
-    ensures { Follows (said.copy caller.now.threads caller.now.shapes.now (option_copied caller.now.private) (area_in dst.now) (area_in src.now) bytes) telling.old result telling.new }
+    ensures { Follows (said.copy caller.now.threads caller.now.shapes.now
+        (option_copied caller.now.private) (area_in dst.now)
+        (area_in src.now) bytes) telling.old result telling.new }
 {
     if bytes == 0 {
         return Ok(());
@@ -376,7 +408,8 @@ pub fn copy(
     bytes: u64,
     replies: &[Reply],
 ) -> Result<Told, AllocError>
-    ensures { IfOk result (λ t. t ≡ told (said.copy caller.now.threads caller.now.shapes.now (option_copied caller.now.private) (area_in dst.now) (area_in src.now) bytes) replies.now) }
+    ensures { IfOk result (λ t. t ≡ told (said.copy caller.now.threads caller.now.shapes.now
+        (option_copied caller.now.private) (area_in dst.now) (area_in src.now) bytes) replies.now) }
 {
     let mut telling = Telling::begin(alloc, replies);
     let end = copy_bytes(alloc, &mut telling, caller, bytes, dst, src);
@@ -435,7 +468,9 @@ fn fill_cell(
     requires into { HasRooms bytes dst.now }
     requires inside { cell.0 < bytes }
     requires integer { shapes.is_integer cell.1 ≡ true }
-    ensures { (threads : ℕ) (shapes : List Shape) (private : Option Shape) → Follows (said.written threads shapes private (area_in dst.now) cell (said.filled byte cell.1)) telling.old result telling.new }
+    ensures { (threads : ℕ) (shapes : List Shape) (private : Option Shape)
+        → Follows (said.written threads shapes private (area_in dst.now) cell
+        (said.filled byte cell.1)) telling.old result telling.new }
 {
     let value = filled(byte, cell.1);
     write_cell(telling, dst, bytes, cell, value)
@@ -452,7 +487,9 @@ fn fill_cells(
     requires into { HasRooms bytes dst.now }
     requires inside { All (λ c. c.0 < bytes) cells.now }
     requires integers { All (λ c. shapes.is_integer c.1 ≡ true) cells.now }
-    ensures { (threads : ℕ) (shapes : List Shape) (private : Option Shape) → Follows (each_in_turn (λ x. said.written threads shapes private (area_in dst.now) x (said.filled byte x.1)) cells.now) telling.old result telling.new }
+    ensures { (threads : ℕ) (shapes : List Shape) (private : Option Shape)
+        → Follows (each_in_turn (λ x. said.written threads shapes private (area_in dst.now) x
+        (said.filled byte x.1)) cells.now) telling.old result telling.new }
 {
     for cell in cells {
         fill_cell(telling, dst, bytes, byte, *cell)?;
@@ -470,7 +507,17 @@ fn fill_all(
     byte: u8,
 ) -> Result<(), Stop>
     requires { HasRooms bytes dst.now }
-    ensures { Follows (let cells = said.cells caller.now.threads caller.now.shapes.now (option_copied caller.now.private) bytes (area_in dst.now) in refused_by ((said.is_cut caller.now.threads caller.now.shapes.now (option_copied caller.now.private) bytes (area_in dst.now) || list_any (λ x. not (shapes.is_integer x.1)) cells, CELL_TYPE) ∷ []) (each_in_turn (λ x. said.written caller.now.threads caller.now.shapes.now (option_copied caller.now.private) (area_in dst.now) x (said.filled byte x.1)) cells)) telling.old result telling.new }
+    ensures { Follows (let cells = said.cells caller.now.threads caller.now.shapes.now
+        (option_copied caller.now.private) bytes (area_in dst.now)
+        in refused_by ((
+          said.is_cut caller.now.threads caller.now.shapes.now
+              (option_copied caller.now.private) bytes (area_in dst.now)
+              || list_any (λ x. not (shapes.is_integer x.1)) cells,
+          CELL_TYPE,
+        ) ∷ [])
+        (each_in_turn (λ x. said.written caller.now.threads caller.now.shapes.now
+        (option_copied caller.now.private) (area_in dst.now) x (said.filled byte x.1)) cells))
+        telling.old result telling.new }
 {
     let cells = cells(alloc, caller, bytes, dst)?;
     if is_cut(caller, bytes, dst) {
@@ -491,7 +538,9 @@ fn fill_bytes(
     dst: &Area,
     byte: u8,
 ) -> Result<(), Stop>
-    ensures { Follows (said.set caller.now.threads caller.now.shapes.now (option_copied caller.now.private) (area_in dst.now) byte bytes) telling.old result telling.new }
+    ensures { Follows (said.set caller.now.threads caller.now.shapes.now
+        (option_copied caller.now.private) (area_in dst.now) byte bytes) telling.old result
+        telling.new }
 {
     if bytes == 0 {
         return Ok(());
@@ -517,7 +566,8 @@ pub fn set(
     bytes: u64,
     replies: &[Reply],
 ) -> Result<Told, AllocError>
-    ensures { IfOk result (λ t. t ≡ told (said.set caller.now.threads caller.now.shapes.now (option_copied caller.now.private) (area_in dst.now) byte bytes) replies.now) }
+    ensures { IfOk result (λ t. t ≡ told (said.set caller.now.threads caller.now.shapes.now
+        (option_copied caller.now.private) (area_in dst.now) byte bytes) replies.now) }
 {
     let mut telling = Telling::begin(alloc, replies);
     let end = fill_bytes(alloc, &mut telling, caller, bytes, dst, byte);

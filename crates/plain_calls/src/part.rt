@@ -36,7 +36,9 @@ pub fn cut(thread: &Thread<'_>, bytes: u64, p: &Spot) -> bool
 
 // The cells in so many bytes at the pointer.
 fn cells(alloc: Global, thread: &Thread<'_>, bytes: u64, p: &Spot) -> Result<Vec<Cell>, AllocError>
-    ensures cells { IfOk result (λ cells. cells.items ≡ said.cells thread.now.threads thread.now.shapes.now thread.now.number bytes (pointer_of p.now)) }
+    ensures cells { IfOk result (λ cells. cells.items
+        ≡ said.cells thread.now.threads thread.now.shapes.now thread.now.number bytes
+        (pointer_of p.now)) }
     ensures within { IfOk result (λ cells. All (λ c. c.0 < bytes) cells.items) }
 {
     cells_within(
@@ -49,7 +51,8 @@ fn cells(alloc: Global, thread: &Thread<'_>, bytes: u64, p: &Spot) -> Result<Vec
 
 // Whether cells are cut, or differ in place or kind.
 fn differ(alloc: Global, thread: &Thread<'_>, bytes: u64, part: &Part) -> Result<bool, AllocError>
-    ensures { IfOk result (λ b. b ≡ said.differ thread.now.threads thread.now.shapes.now thread.now.number bytes (part_of part.now)) }
+    ensures { IfOk result (λ b. b ≡ said.differ thread.now.threads thread.now.shapes.now
+        thread.now.number bytes (part_of part.now)) }
 {
     if cut(thread, bytes, &part.into) || cut(thread, bytes, &part.from) {
         return Ok(true);
@@ -61,7 +64,8 @@ fn differ(alloc: Global, thread: &Thread<'_>, bytes: u64, part: &Part) -> Result
 
 // Whether the offset of a byte of one of the parts leaves its range.
 fn leave_range(bytes: u64, parts: &[Part]) -> bool
-    ensures { result ≡ list_any (λ x. views.leaves_range bytes x.into || views.leaves_range bytes x.from) (map part_of parts.now) }
+    ensures { result ≡ list_any (λ x. views.leaves_range bytes x.into
+        || views.leaves_range bytes x.from) (map part_of parts.now) }
 {
     for part in parts {
         if part.into.leaves_range(bytes) || part.from.leaves_range(bytes) {
@@ -73,7 +77,8 @@ fn leave_range(bytes: u64, parts: &[Part]) -> bool
 
 // Whether a part leaves the piece of its thread.
 fn leaves_piece(thread: &Thread<'_>, bytes: u64, part: &Part) -> bool
-    ensures value { result ≡ (views.leaves_piece thread.now.threads bytes (part_of part.now).into || views.leaves_piece thread.now.threads bytes (part_of part.now).from) }
+    ensures value { result ≡ (views.leaves_piece thread.now.threads bytes (part_of part.now).into
+        || views.leaves_piece thread.now.threads bytes (part_of part.now).from) }
     ensures inside { result ≡ false → HasRoom bytes part.now }
 {
     part.into.leaves_piece(thread.threads, bytes) || part.from.leaves_piece(thread.threads, bytes)
@@ -81,7 +86,8 @@ fn leaves_piece(thread: &Thread<'_>, bytes: u64, part: &Part) -> bool
 
 // Whether one of the parts does.
 fn leave_pieces(thread: &Thread<'_>, bytes: u64, parts: &[Part]) -> bool
-    ensures value { result ≡ list_any (λ x. views.leaves_piece thread.now.threads bytes x.into || views.leaves_piece thread.now.threads bytes x.from) (map part_of parts.now) }
+    ensures value { result ≡ list_any (λ x. views.leaves_piece thread.now.threads bytes x.into
+        || views.leaves_piece thread.now.threads bytes x.from) (map part_of parts.now) }
     ensures inside { result ≡ false → All (HasRoom bytes) parts.now }
 {
     for part in parts {
@@ -99,7 +105,8 @@ fn any_differs(
     bytes: u64,
     parts: &[Part],
 ) -> Result<bool, AllocError>
-    ensures { IfOk result (λ b. b ≡ list_any (said.differ thread.now.threads thread.now.shapes.now thread.now.number bytes) (map part_of parts.now)) }
+    ensures { IfOk result (λ b. b ≡ list_any (said.differ thread.now.threads thread.now.shapes.now
+        thread.now.number bytes) (map part_of parts.now)) }
 {
     for part in parts {
         if differ(alloc, thread, bytes, part)? {
@@ -113,7 +120,9 @@ fn any_differs(
 fn copy_cell(telling: &mut Telling<'_>, bytes: u64, part: &Part, cell: Cell) -> Result<(), Stop>
     requires room { HasRoom bytes part.now }
     requires inside { cell.0 < bytes }
-    ensures { Follows (Reads (views.location_behind (pointer_of part.now.from) cell.0) cell.1 (λ v. does (Action.Write (views.location_behind (pointer_of part.now.into) cell.0) v false))) telling.old result telling.new }
+    ensures { Follows (Reads (views.location_behind (pointer_of part.now.from) cell.0) cell.1 (λ v.
+        does (Action.Write (views.location_behind (pointer_of part.now.into) cell.0) v false)))
+        telling.old result telling.new }
 {
     let value = telling.read(part.from.location_behind(bytes, cell.0), cell.1)?;
     let write = Action::Write {
@@ -133,7 +142,8 @@ fn copy_part(
     part: &Part,
 ) -> Result<(), Stop>
     requires { HasRoom bytes part.now }
-    ensures { Follows (said.copied thread.now.threads thread.now.shapes.now thread.now.number bytes (part_of part.now)) telling.old result telling.new }
+    ensures { Follows (said.copied thread.now.threads thread.now.shapes.now thread.now.number bytes
+        (part_of part.now)) telling.old result telling.new }
 {
     let cells = cells(alloc, thread, bytes, &part.into)?;
     for cell in cells.iter() {
@@ -151,7 +161,8 @@ fn copy_parts(
     parts: &[Part],
 ) -> Result<(), Stop>
     requires { All (HasRoom bytes) parts.now }
-    ensures { Follows (each_in_turn (λ p. said.copied thread.now.threads thread.now.shapes.now thread.now.number bytes (part_of p)) parts.now) telling.old result telling.new }
+    ensures { Follows (each_in_turn (λ p. said.copied thread.now.threads thread.now.shapes.now
+        thread.now.number bytes (part_of p)) parts.now) telling.old result telling.new }
 {
     for part in parts {
         copy_part(alloc, telling, thread, bytes, part)?;
@@ -167,7 +178,8 @@ pub fn move_parts(
     bytes: u64,
     parts: &[Part],
 ) -> Result<(), Stop>
-    ensures { Follows (said.move thread.now.threads thread.now.shapes.now thread.now.number bytes (map part_of parts.now)) telling.old result telling.new }
+    ensures { Follows (said.move thread.now.threads thread.now.shapes.now thread.now.number bytes
+        (map part_of parts.now)) telling.old result telling.new }
 {
     if leave_range(bytes, parts) {
         return Err(Stop::Fails(POINTER_RANGE));

@@ -27,7 +27,8 @@ fn permutation(
     thread: &Thread<'_>,
     perm: &SharedPtr,
 ) -> Result<Vec<Spot>, AllocError>
-    ensures elements { IfOk result (λ ps. map pointer_of ps.items ≡ said.permutation thread.now.threads thread.now.shapes.now thread.now.number perm.now) }
+    ensures elements { IfOk result (λ ps. map pointer_of ps.items
+        ≡ said.permutation thread.now.threads thread.now.shapes.now thread.now.number perm.now) }
     ensures many { IfOk result (λ ps. length ps.items ≡ thread.now.threads) }
 {
     let start = from_phase_0(perm);
@@ -79,7 +80,8 @@ fn place_of(thread: u32, numbers: &[i128]) -> usize
 
 // The thread's block of the destination.
 fn own_block(thread: &Thread<'_>, ends: &Ends<'_>) -> Spot
-    ensures { pointer_of result ≡ views.byte_at ends.now.dst.now ends.now.bytes thread.now.threads (thread.now.number * ends.now.bytes) }
+    ensures { pointer_of result ≡ views.byte_at ends.now.dst.now ends.now.bytes thread.now.threads
+        (thread.now.number * ends.now.bytes) }
 {
     let place = u64::from(thread.number) * u64::from(ends.bytes);
     byte_at(ends.dst, ends.bytes, thread.threads, place)
@@ -87,14 +89,17 @@ fn own_block(thread: &Thread<'_>, ends: &Ends<'_>) -> Spot
 
 // Whether an offset of the permutation, or of the thread's block, leaves its range.
 fn leaves_range(elements: &[Spot], own: &Spot, bytes: u32) -> bool
-    ensures { result ≡ (list_any (views.leaves_range 1) (map pointer_of elements.now) || (not (bytes == 0) && views.leaves_range bytes (pointer_of own.now))) }
+    ensures { result ≡ (list_any (views.leaves_range 1) (map pointer_of elements.now)
+        || (not (bytes == 0) && views.leaves_range bytes (pointer_of own.now))) }
 {
     leave_range(elements) || bytes != 0 && own.leaves_range(u64::from(bytes))
 }
 
 // Whether the permutation or the thread's block leaves the piece of its thread.
 fn leaves_piece(thread: &Thread<'_>, elements: &[Spot], own: &Spot, bytes: u32) -> bool
-    ensures value { result ≡ (list_any (views.leaves_piece thread.now.threads 4) (map pointer_of elements.now) || (not (bytes == 0) && views.leaves_piece thread.now.threads bytes (pointer_of own.now))) }
+    ensures value { result ≡ (list_any (views.leaves_piece thread.now.threads 4)
+        (map pointer_of elements.now) || (not (bytes == 0)
+        && views.leaves_piece thread.now.threads bytes (pointer_of own.now))) }
     ensures inside { result ≡ false → All (λ p. IsRoomFor 1 p.offset) elements.now }
 {
     leave_pieces(thread, Kind::Int, elements)
@@ -103,7 +108,10 @@ fn leaves_piece(thread: &Thread<'_>, elements: &[Spot], own: &Spot, bytes: u32) 
 
 // Whether an element of the permutation is no cell of an int, or the thread's block cuts a cell.
 fn lacks_cells(thread: &Thread<'_>, elements: &[Spot], own: &Spot, bytes: u32) -> bool
-    ensures { result ≡ (list_any (λ p. not (views.is_cell thread.now.shapes.now kind.Int p)) (map pointer_of elements.now) || (not (bytes == 0) && said.cut thread.now.threads thread.now.shapes.now thread.now.number bytes (pointer_of own.now))) }
+    ensures { result ≡ (list_any (λ p. not (views.is_cell thread.now.shapes.now kind.Int p))
+        (map pointer_of elements.now) || (not (bytes == 0)
+        && said.cut thread.now.threads thread.now.shapes.now thread.now.number bytes
+        (pointer_of own.now))) }
 {
     are_not_cells(thread, Kind::Int, elements) || bytes != 0 && cut(thread, u64::from(bytes), own)
 }
@@ -111,7 +119,8 @@ fn lacks_cells(thread: &Thread<'_>, elements: &[Spot], own: &Spot, bytes: u32) -
 // The block of the element that has the thread's number goes to the thread's block.
 fn chosen(thread: &Thread<'_>, ends: &Ends<'_>, numbers: &[i128]) -> Part
     requires { length numbers.now ≤ 32 }
-    ensures { part_of result ≡ said.chosen thread.now.threads thread.now.shapes.now thread.now.number ends.now.dst.now ends.now.src.now ends.now.bytes numbers.now }
+    ensures { part_of result ≡ said.chosen thread.now.threads thread.now.shapes.now
+        thread.now.number ends.now.dst.now ends.now.src.now ends.now.bytes numbers.now }
 {
     let bytes = u64::from(ends.bytes);
     let own = u64::from(thread.number) * bytes;
@@ -131,7 +140,11 @@ fn copy_chosen(
     numbers: &[i128],
 ) -> Result<(), Stop>
     requires { length numbers.now ≤ 32 }
-    ensures { Follows (said.some_bytes thread.now.threads thread.now.shapes.now thread.now.number ends.now.bytes (said.move thread.now.threads thread.now.shapes.now thread.now.number ends.now.bytes (said.chosen thread.now.threads thread.now.shapes.now thread.now.number ends.now.dst.now ends.now.src.now ends.now.bytes numbers.now ∷ []))) telling.old result telling.new }
+    ensures { Follows (said.some_bytes thread.now.threads thread.now.shapes.now thread.now.number
+        ends.now.bytes (said.move thread.now.threads thread.now.shapes.now thread.now.number
+        ends.now.bytes (said.chosen thread.now.threads thread.now.shapes.now thread.now.number
+        ends.now.dst.now ends.now.src.now ends.now.bytes numbers.now ∷ []))) telling.old result
+        telling.new }
 {
     if ends.bytes == 0 {
         return Ok(());
@@ -149,7 +162,15 @@ fn permute_by(
     numbers: &[i128],
 ) -> Result<(), Stop>
     requires { length numbers.now ≤ 32 }
-    ensures { Follows (refused_by ((not (each_thread thread.now.threads (λ t. said.is_at 0 [] 0 t numbers.now)), LIBRARY_ARGS) ∷ []) (said.some_bytes thread.now.threads thread.now.shapes.now thread.now.number ends.now.bytes (said.move thread.now.threads thread.now.shapes.now thread.now.number ends.now.bytes (said.chosen thread.now.threads thread.now.shapes.now thread.now.number ends.now.dst.now ends.now.src.now ends.now.bytes numbers.now ∷ [])))) telling.old result telling.new }
+    ensures { Follows (refused_by ((
+      not (each_thread thread.now.threads (λ t.
+          said.is_at 0 [] 0 t numbers.now)),
+      LIBRARY_ARGS,
+    ) ∷ [])
+        (said.some_bytes thread.now.threads thread.now.shapes.now thread.now.number ends.now.bytes
+        (said.move thread.now.threads thread.now.shapes.now thread.now.number ends.now.bytes
+        (said.chosen thread.now.threads thread.now.shapes.now thread.now.number ends.now.dst.now
+        ends.now.src.now ends.now.bytes numbers.now ∷ [])))) telling.old result telling.new }
 {
     if !is_permutation(thread.threads, numbers) {
         return Err(Stop::Fails(LIBRARY_ARGS));
@@ -167,14 +188,24 @@ fn permute_read(
 ) -> Result<(), Stop>
     requires room { All (λ p. IsRoomFor 1 p.offset) elements.now }
     requires few { length elements.now ≤ 32 }
-    ensures { Follows (bind (gathered (said.number_at 0 [] 0 kind.Int) (map pointer_of elements.now)) (λ vs. refused_by ((not (each_thread thread.now.threads (λ t. said.is_at 0 [] 0 t vs)), LIBRARY_ARGS) ∷ []) (said.some_bytes thread.now.threads thread.now.shapes.now thread.now.number ends.now.bytes (said.move thread.now.threads thread.now.shapes.now thread.now.number ends.now.bytes (said.chosen thread.now.threads thread.now.shapes.now thread.now.number ends.now.dst.now ends.now.src.now ends.now.bytes vs ∷ []))))) telling.old result telling.new }
+    ensures { Follows (bind (gathered (said.number_at 0 [] 0 kind.Int)
+        (map pointer_of elements.now)) (λ vs.
+        refused_by ((
+          not (each_thread thread.now.threads (λ t.
+              said.is_at 0 [] 0 t vs)),
+          LIBRARY_ARGS,
+        ) ∷ [])
+        (said.some_bytes thread.now.threads thread.now.shapes.now thread.now.number ends.now.bytes
+        (said.move thread.now.threads thread.now.shapes.now thread.now.number ends.now.bytes
+        (said.chosen thread.now.threads thread.now.shapes.now thread.now.number ends.now.dst.now
+        ends.now.src.now ends.now.bytes vs ∷ []))))) telling.old result telling.new }
 {
     let numbers = read_numbers(alloc, telling, Kind::Int, elements)?;
     permute_by(alloc, telling, thread, ends, numbers.as_slice())
 }
 
-/// Tests the permutation and the thread's block, reads the permutation, and copies the block of the element that has the
-/// thread's number.
+/// Tests the permutation and the thread's block, reads the permutation, and copies the block of the element that has
+/// the thread's number.
 pub fn permute(
     alloc: Global,
     telling: &mut Telling<'_>,
@@ -182,7 +213,8 @@ pub fn permute(
     ends: &Ends<'_>,
     perm: &SharedPtr,
 ) -> Result<(), Stop>
-    ensures { Follows (said.permute thread.now.threads thread.now.shapes.now thread.now.number ends.now.dst.now ends.now.src.now perm.now ends.now.bytes) telling.old result telling.new }
+    ensures { Follows (said.permute thread.now.threads thread.now.shapes.now thread.now.number
+        ends.now.dst.now ends.now.src.now perm.now ends.now.bytes) telling.old result telling.new }
 {
     let permutation = permutation(alloc, thread, perm)?;
     let elements = permutation.as_slice();

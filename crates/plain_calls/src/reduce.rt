@@ -41,7 +41,9 @@ fn operands(
     of: &Operands,
 ) -> Result<Vec<Spot>, AllocError>
     requires { of.now.block ≤ 16777216 }
-    ensures elements { IfOk result (λ ps. map pointer_of ps.items ≡ said.operands thread.now.threads thread.now.shapes.now thread.now.number p.now of.now.block of.now.kind of.now.count) }
+    ensures elements { IfOk result (λ ps. map pointer_of ps.items
+        ≡ said.operands thread.now.threads thread.now.shapes.now thread.now.number p.now
+        of.now.block of.now.kind of.now.count) }
     ensures many { IfOk result (λ ps. length ps.items ≡ of.now.count) }
 {
     let block = of.block as u32;
@@ -64,7 +66,9 @@ fn join(
 ) -> Result<Number, Stop>
     requires room { IsRoomFor 1 element.now.offset }
     requires integer { IsInteger kind }
-    ensures { Follows (bind (said.number_at 0 [] 0 kind (pointer_of element.now)) (λ v. said.outcome 0 [] 0 (reductions.step (reduction_in op) kind so_far.now v))) telling.old result telling.new }
+    ensures { Follows (bind (said.number_at 0 [] 0 kind (pointer_of element.now)) (λ v.
+        said.outcome 0 [] 0 (reductions.step (reduction_in op) kind so_far.now v))) telling.old
+        result telling.new }
 {
     let value = read_value(telling, kind, element)?;
     match step(op, kind, so_far.value(), value.value()) {
@@ -85,7 +89,8 @@ fn total(
     requires room { IsRoomFor 1 dst.now.offset }
     requires rooms { All (λ p. IsRoomFor 1 p.offset) rest.now }
     requires integer { IsInteger kind }
-    ensures { Follows (said.total 0 [] 0 (reduction_in op) kind first (pointer_of dst.now) (map pointer_of rest.now)) telling.old result telling.new }
+    ensures { Follows (said.total 0 [] 0 (reduction_in op) kind first (pointer_of dst.now)
+        (map pointer_of rest.now)) telling.old result telling.new }
 {
     let mut so_far = first;
     for element in rest {
@@ -105,7 +110,8 @@ fn reduce(
     requires room { IsRoomFor 1 dst.now.offset }
     requires rooms { All (λ p. IsRoomFor 1 p.offset) elements.now }
     requires integer { IsInteger kind }
-    ensures { Follows (said.reduce 0 [] 0 (Some (reduction_in op)) kind (pointer_of dst.now) (map pointer_of elements.now)) telling.old result telling.new }
+    ensures { Follows (said.reduce 0 [] 0 (Some (reduction_in op)) kind (pointer_of dst.now)
+        (map pointer_of elements.now)) telling.old result telling.new }
 {
     match elements {
         [] => Ok(()),
@@ -128,7 +134,10 @@ fn join_and_write(
     requires into { IsRoomFor 1 into.now.offset }
     requires from { IsRoomFor 1 from.now.offset }
     requires integer { IsInteger kind }
-    ensures { Follows (bind (bind (said.number_at 0 [] 0 kind (pointer_of from.now)) (λ v. said.outcome 0 [] 0 (reductions.step (reduction_in op) kind so_far.now v))) (λ b. bind (said.number_put 0 [] 0 (pointer_of into.now) b) (λ u. Gives b))) telling.old result telling.new }
+    ensures { Follows (bind (bind (said.number_at 0 [] 0 kind (pointer_of from.now)) (λ v.
+        said.outcome 0 [] 0 (reductions.step (reduction_in op) kind so_far.now v))) (λ b.
+        bind (said.number_put 0 [] 0 (pointer_of into.now) b) (λ u. Gives b))) telling.old result
+        telling.new }
 {
     let joined = join(telling, op, kind, so_far, from)?;
     write_number(telling, into, &joined)?;
@@ -148,7 +157,9 @@ fn totals(
     requires into { All (λ p. IsRoomFor 1 p.offset) into.now }
     requires from { All (λ p. IsRoomFor 1 p.offset) from.now }
     requires integer { IsInteger kind }
-    ensures { Follows (said.totals 0 [] 0 (reduction_in op) kind first (said.paired 0 [] 0 (map pointer_of into.now) (map pointer_of from.now))) telling.old result telling.new }
+    ensures { Follows (said.totals 0 [] 0 (reduction_in op) kind first
+        (said.paired 0 [] 0 (map pointer_of into.now) (map pointer_of from.now))) telling.old result
+        telling.new }
 {
     let mut so_far = first;
     for at in 0..from.len() {
@@ -169,7 +180,9 @@ fn reduce_prefixes(
     requires into { All (λ p. IsRoomFor 1 p.offset) into.now }
     requires from { All (λ p. IsRoomFor 1 p.offset) from.now }
     requires integer { IsInteger kind }
-    ensures { Follows (said.reduce_prefixes 0 [] 0 (Some (reduction_in op)) kind (said.paired 0 [] 0 (map pointer_of into.now) (map pointer_of from.now))) telling.old result telling.new }
+    ensures { Follows (said.reduce_prefixes 0 [] 0 (Some (reduction_in op)) kind
+        (said.paired 0 [] 0 (map pointer_of into.now) (map pointer_of from.now))) telling.old result
+        telling.new }
 {
     match into {
         [] => Ok(()),
@@ -192,7 +205,8 @@ fn range_is_left(a: &[Spot], b: &[Spot]) -> bool
 // Whether one of them leaves the piece of its thread.
 #[tactic(auto, using(crate::proofs::Truths::any_of_both))]
 fn piece_is_left(thread: &Thread<'_>, kind: Kind, a: &[Spot], b: &[Spot]) -> bool
-    ensures value { result ≡ list_any (views.leaves_piece thread.now.threads (kind_size kind)) (map pointer_of a.now ++ map pointer_of b.now) }
+    ensures value { result ≡ list_any (views.leaves_piece thread.now.threads (kind_size kind))
+        (map pointer_of a.now ++ map pointer_of b.now) }
     ensures first { result ≡ false → All (λ p. IsRoomFor 1 p.offset) a.now }
     ensures second { result ≡ false → All (λ p. IsRoomFor 1 p.offset) b.now }
 {
@@ -202,7 +216,8 @@ fn piece_is_left(thread: &Thread<'_>, kind: Kind, a: &[Spot], b: &[Spot]) -> boo
 // Whether at one of them no cell of this kind begins.
 #[tactic(auto, using(crate::proofs::Truths::any_of_both))]
 fn lack_cells(thread: &Thread<'_>, kind: Kind, a: &[Spot], b: &[Spot]) -> bool
-    ensures { result ≡ list_any (λ p. not (views.is_cell thread.now.shapes.now kind p)) (map pointer_of a.now ++ map pointer_of b.now) }
+    ensures { result ≡ list_any (λ p. not (views.is_cell thread.now.shapes.now kind p))
+        (map pointer_of a.now ++ map pointer_of b.now) }
 {
     are_not_cells(thread, kind, a) || are_not_cells(thread, kind, b)
 }
@@ -216,7 +231,9 @@ fn reduce_by(
 ) -> Result<(), Stop>
     requires room { IsRoomFor 1 dst.now.offset }
     requires rooms { All (λ p. IsRoomFor 1 p.offset) elements.now }
-    ensures { Follows (said.reduce 0 [] 0 (reductions.reduction of.now.op) (reductions.element_kind of.now.kind) (pointer_of dst.now) (map pointer_of elements.now)) telling.old result telling.new }
+    ensures { Follows (said.reduce 0 [] 0 (reductions.reduction of.now.op)
+        (reductions.element_kind of.now.kind) (pointer_of dst.now)
+        (map pointer_of elements.now)) telling.old result telling.new }
 {
     let kind = element_kind(of.kind);
     match reduction_of(of.op) {
@@ -227,7 +244,22 @@ fn reduce_by(
 
 // Tests that each of the elements is a cell of the call's kind.
 fn test_cells(thread: &Thread<'_>, of: &Operands, a: &[Spot], b: &[Spot]) -> Option<u8>
-    ensures value { result ≡ refusal_in (let kind = reductions.element_kind of.now.kind in (list_any (views.leaves_range 1) (map pointer_of a.now ++ map pointer_of b.now), POINTER_RANGE) ∷ (list_any (views.leaves_piece thread.now.threads (kind_size kind)) (map pointer_of a.now ++ map pointer_of b.now), OUT_OF_OBJECT) ∷ (list_any (λ p. not (views.is_cell thread.now.shapes.now kind p)) (map pointer_of a.now ++ map pointer_of b.now), CELL_TYPE) ∷ []) }
+    ensures value { result ≡ refusal_in (let kind = reductions.element_kind of.now.kind
+        in (
+          list_any (views.leaves_range 1) (map pointer_of a.now
+              ++ map pointer_of b.now),
+          POINTER_RANGE,
+        )
+        ∷ (
+          list_any (views.leaves_piece thread.now.threads (kind_size kind))
+              (map pointer_of a.now ++ map pointer_of b.now),
+          OUT_OF_OBJECT,
+        )
+        ∷ (
+          list_any (λ p. not (views.is_cell thread.now.shapes.now kind p))
+              (map pointer_of a.now ++ map pointer_of b.now),
+          CELL_TYPE,
+        ) ∷ []) }
     ensures first { result ≡ None → All (λ p. IsRoomFor 1 p.offset) a.now }
     ensures second { result ≡ None → All (λ p. IsRoomFor 1 p.offset) b.now }
 {
@@ -252,7 +284,10 @@ fn reduce_cells(
     dst: &Spot,
     elements: &[Spot],
 ) -> Result<(), Stop>
-    ensures { Follows (said.are_cells thread.now.threads thread.now.shapes.now thread.now.number (reductions.element_kind of.now.kind) (pointer_of dst.now ∷ map pointer_of elements.now) (said.reduce 0 [] 0 (reductions.reduction of.now.op) (reductions.element_kind of.now.kind) (pointer_of dst.now) (map pointer_of elements.now))) telling.old result telling.new }
+    ensures { Follows (said.are_cells thread.now.threads thread.now.shapes.now thread.now.number
+        (reductions.element_kind of.now.kind) (pointer_of dst.now ∷ map pointer_of elements.now)
+        (said.reduce 0 [] 0 (reductions.reduction of.now.op) (reductions.element_kind of.now.kind)
+        (pointer_of dst.now) (map pointer_of elements.now))) telling.old result telling.new }
 {
     if let Some(code) = test_cells(thread, of, &[*dst], elements) {
         return Err(Stop::Fails(code));
@@ -268,7 +303,9 @@ pub fn reduce_all(
     of: &Operands,
 ) -> Result<(), Stop>
     requires { of.now.block ≤ 16777216 }
-    ensures { (flags : ℤ) → Follows (said.work thread.now.threads thread.now.shapes.now thread.now.number (calls.Reduces of.now.dst of.now.src of.now.op of.now.count of.now.block of.now.kind flags)) telling.old result telling.new }
+    ensures { (flags : ℤ) → Follows (said.work thread.now.threads thread.now.shapes.now
+        thread.now.number (calls.Reduces of.now.dst of.now.src of.now.op of.now.count of.now.block
+        of.now.kind flags)) telling.old result telling.new }
 {
     if of.dst.thread != thread.number {
         return Ok(());
@@ -287,7 +324,10 @@ fn reduce_prefixes_by(
     requires same { length into.now ≡ length from.now }
     requires into { All (λ p. IsRoomFor 1 p.offset) into.now }
     requires from { All (λ p. IsRoomFor 1 p.offset) from.now }
-    ensures { Follows (said.reduce_prefixes 0 [] 0 (reductions.reduction of.now.op) (reductions.element_kind of.now.kind) (said.paired 0 [] 0 (map pointer_of into.now) (map pointer_of from.now))) telling.old result telling.new }
+    ensures { Follows (said.reduce_prefixes 0 [] 0 (reductions.reduction of.now.op)
+        (reductions.element_kind of.now.kind)
+        (said.paired 0 [] 0 (map pointer_of into.now) (map pointer_of from.now))) telling.old result
+        telling.new }
 {
     let kind = element_kind(of.kind);
     match reduction_of(of.op) {
@@ -305,7 +345,12 @@ fn reduce_prefix_cells(
     from: &[Spot],
 ) -> Result<(), Stop>
     requires { length into.now ≡ length from.now }
-    ensures { Follows (said.are_cells thread.now.threads thread.now.shapes.now thread.now.number (reductions.element_kind of.now.kind) (map pointer_of into.now ++ map pointer_of from.now) (said.reduce_prefixes 0 [] 0 (reductions.reduction of.now.op) (reductions.element_kind of.now.kind) (said.paired 0 [] 0 (map pointer_of into.now) (map pointer_of from.now)))) telling.old result telling.new }
+    ensures { Follows (said.are_cells thread.now.threads thread.now.shapes.now thread.now.number
+        (reductions.element_kind of.now.kind) (map pointer_of into.now ++ map pointer_of from.now)
+        (said.reduce_prefixes 0 [] 0 (reductions.reduction of.now.op)
+        (reductions.element_kind of.now.kind)
+        (said.paired 0 [] 0 (map pointer_of into.now) (map pointer_of from.now)))) telling.old
+        result telling.new }
 {
     if let Some(code) = test_cells(thread, of, into, from) {
         return Err(Stop::Fails(code));
@@ -321,7 +366,9 @@ pub fn reduce_all_prefixes(
     of: &Operands,
 ) -> Result<(), Stop>
     requires { of.now.block ≤ 16777216 }
-    ensures { (flags : ℤ) → Follows (said.work thread.now.threads thread.now.shapes.now thread.now.number (calls.Reduces_prefixes of.now.dst of.now.src of.now.op of.now.count of.now.block of.now.kind flags)) telling.old result telling.new }
+    ensures { (flags : ℤ) → Follows (said.work thread.now.threads thread.now.shapes.now
+        thread.now.number (calls.Reduces_prefixes of.now.dst of.now.src of.now.op of.now.count
+        of.now.block of.now.kind flags)) telling.old result telling.new }
 {
     if of.dst.thread != thread.number {
         return Ok(());

@@ -141,7 +141,9 @@ impl<'a> Telling<'a> {
 
     /// What is told where the call ends so.
     pub fn finish(self, end: Result<(), Stop>) -> Result<Told, AllocError>
-        ensures { (x : Expansion (Unit {0})) (replies : List Reply) → Follows x (standing [] replies) end self.entry → IfOk result (λ t. t ≡ told x replies) }
+        ensures { (x : Expansion (Unit {0})) (replies : List Reply)
+            → Follows x (standing [] replies) end self.entry
+            → IfOk result (λ t. t ≡ told x replies) }
     {
         let steps = Listing::from_vec(self.into_steps());
         match end {

@@ -22,7 +22,8 @@ use upc_values::{Action, Listing, Reply, Scalar};
 
 // The bits of a call's flags.
 fn bits(call: &Call) -> u32
-    ensures { (threads : ℕ) (shapes : List Shape) (me : ℕ) → result ≡ unsigned_abs (said.flags_of threads shapes me (call_in call.now)) }
+    ensures { (threads : ℕ) (shapes : List Shape) (me : ℕ)
+        → result ≡ unsigned_abs (said.flags_of threads shapes me (call_in call.now)) }
 {
     match call {
         Call::Copies { flags, .. } | Call::Permutes { flags, .. } => flags.unsigned_abs(),
@@ -49,7 +50,11 @@ fn copy_parts(
     way: Way,
     ends: &Ends<'_>,
 ) -> Result<(), Stop>
-    ensures { Follows (said.some_bytes thread.now.threads thread.now.shapes.now thread.now.number ends.now.bytes (said.move thread.now.threads thread.now.shapes.now thread.now.number ends.now.bytes (said.parts thread.now.threads thread.now.shapes.now thread.now.number (way_in way) ends.now.dst.now ends.now.src.now ends.now.bytes))) telling.old result telling.new }
+    ensures { Follows (said.some_bytes thread.now.threads thread.now.shapes.now thread.now.number
+        ends.now.bytes (said.move thread.now.threads thread.now.shapes.now thread.now.number
+        ends.now.bytes (said.parts thread.now.threads thread.now.shapes.now thread.now.number
+        (way_in way) ends.now.dst.now ends.now.src.now ends.now.bytes))) telling.old result
+        telling.new }
 {
     if ends.bytes == 0 {
         return Ok(());
@@ -72,7 +77,8 @@ fn work(
     call: &Call,
 ) -> Result<(), Stop>
     requires { FitsLimits call.now }
-    ensures { Follows (said.work thread.now.threads thread.now.shapes.now thread.now.number (call_in call.now)) telling.old result telling.new }
+    ensures { Follows (said.work thread.now.threads thread.now.shapes.now thread.now.number
+        (call_in call.now)) telling.old result telling.new }
 {
     match call {
         Call::Copies {
@@ -119,7 +125,10 @@ fn take_part(
     call: &Call,
 ) -> Result<(), Stop>
     requires { FitsLimits call.now }
-    ensures { Follows (let f = said.flags_of thread.now.threads thread.now.shapes.now thread.now.number (call_in call.now) in bind (said.entry f) (λ v. bind (said.work thread.now.threads thread.now.shapes.now thread.now.number (call_in call.now)) (λ w. said.exit f))) telling.old result telling.new }
+    ensures { Follows (let f = said.flags_of thread.now.threads thread.now.shapes.now
+        thread.now.number (call_in call.now) in bind (said.entry f) (λ v.
+        bind (said.work thread.now.threads thread.now.shapes.now thread.now.number
+        (call_in call.now)) (λ w. said.exit f))) telling.old result telling.new }
 {
     let bits = bits(call);
     meet(telling, bits % 8)?;
@@ -135,7 +144,8 @@ fn call_together(
     call: u8,
     args: &[Scalar],
 ) -> Result<(), Stop>
-    ensures { Follows (said.collective thread.now.threads thread.now.shapes.now thread.now.number call args.now) telling.old result telling.new }
+    ensures { Follows (said.collective thread.now.threads thread.now.shapes.now thread.now.number
+        call args.now) telling.old result telling.new }
 {
     let asked = call_of(call, args);
     if let Some(code) = refusal(&asked) {
@@ -153,7 +163,8 @@ pub fn collective(
     args: &[Scalar],
     replies: &[Reply],
 ) -> Result<Told, AllocError>
-    ensures { IfOk result (λ t. t ≡ told (said.collective thread.now.threads thread.now.shapes.now thread.now.number call args.now) replies.now) }
+    ensures { IfOk result (λ t. t ≡ told (said.collective thread.now.threads thread.now.shapes.now
+        thread.now.number call args.now) replies.now) }
 {
     let mut telling = Telling::begin(alloc, replies);
     let end = call_together(alloc, &mut telling, thread, call, args);

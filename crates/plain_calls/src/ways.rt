@@ -51,7 +51,8 @@ fn source_block(way: Way, threads: u32, bytes: u32) -> u32
 
 // The part from this byte of the source to this byte of the destination.
 fn goes(thread: &Thread<'_>, way: Way, ends: &Ends<'_>, from: u64, into: u64) -> Part
-    ensures { part_of result ≡ said.goes thread.now.threads thread.now.shapes.now thread.now.number (way_in way) ends.now.dst.now ends.now.src.now ends.now.bytes from into }
+    ensures { part_of result ≡ said.goes thread.now.threads thread.now.shapes.now thread.now.number
+        (way_in way) ends.now.dst.now ends.now.src.now ends.now.bytes from into }
 {
     let threads = thread.threads;
     let into_block = destination_block(way, threads, ends.bytes);
@@ -64,7 +65,9 @@ fn goes(thread: &Thread<'_>, way: Way, ends: &Ends<'_>, from: u64, into: u64) ->
 
 // The source to the thread's block.
 fn broadcast(thread: &Thread<'_>, ends: &Ends<'_>) -> Part
-    ensures { part_of result ≡ said.goes thread.now.threads thread.now.shapes.now thread.now.number calls.Broadcast ends.now.dst.now ends.now.src.now ends.now.bytes 0 (thread.now.number * ends.now.bytes) }
+    ensures { part_of result ≡ said.goes thread.now.threads thread.now.shapes.now thread.now.number
+        calls.Broadcast ends.now.dst.now ends.now.src.now ends.now.bytes 0
+        (thread.now.number * ends.now.bytes) }
 {
     let own = u64::from(thread.number) * u64::from(ends.bytes);
     goes(thread, Way::Broadcast, ends, 0, own)
@@ -72,7 +75,9 @@ fn broadcast(thread: &Thread<'_>, ends: &Ends<'_>) -> Part
 
 // The thread's part of the source to its block.
 fn scatter(thread: &Thread<'_>, ends: &Ends<'_>) -> Part
-    ensures { part_of result ≡ said.goes thread.now.threads thread.now.shapes.now thread.now.number calls.Scatter ends.now.dst.now ends.now.src.now ends.now.bytes (thread.now.number * ends.now.bytes) (thread.now.number * ends.now.bytes) }
+    ensures { part_of result ≡ said.goes thread.now.threads thread.now.shapes.now thread.now.number
+        calls.Scatter ends.now.dst.now ends.now.src.now ends.now.bytes
+        (thread.now.number * ends.now.bytes) (thread.now.number * ends.now.bytes) }
 {
     let own = u64::from(thread.number) * u64::from(ends.bytes);
     goes(thread, Way::Scatter, ends, own, own)
@@ -80,7 +85,9 @@ fn scatter(thread: &Thread<'_>, ends: &Ends<'_>) -> Part
 
 // The block of thread `i` to its part.
 fn gathered(thread: &Thread<'_>, ends: &Ends<'_>, i: u32) -> Part
-    ensures { part_of result ≡ said.goes thread.now.threads thread.now.shapes.now thread.now.number calls.Gather ends.now.dst.now ends.now.src.now ends.now.bytes (i * ends.now.bytes) (i * ends.now.bytes) }
+    ensures { part_of result ≡ said.goes thread.now.threads thread.now.shapes.now thread.now.number
+        calls.Gather ends.now.dst.now ends.now.src.now ends.now.bytes (i * ends.now.bytes)
+        (i * ends.now.bytes) }
 {
     let other = u64::from(i) * u64::from(ends.bytes);
     goes(thread, Way::Gather, ends, other, other)
@@ -89,7 +96,9 @@ fn gathered(thread: &Thread<'_>, ends: &Ends<'_>, i: u32) -> Part
 // The block of thread `i` to its part of the thread's block.
 fn gathered_by_all(thread: &Thread<'_>, ends: &Ends<'_>, i: u32) -> Part
     requires { i < 32 }
-    ensures { part_of result ≡ said.goes thread.now.threads thread.now.shapes.now thread.now.number calls.Gather_all ends.now.dst.now ends.now.src.now ends.now.bytes (i * ends.now.bytes) (thread.now.number * (ends.now.bytes * thread.now.threads) + i * ends.now.bytes) }
+    ensures { part_of result ≡ said.goes thread.now.threads thread.now.shapes.now thread.now.number
+        calls.Gather_all ends.now.dst.now ends.now.src.now ends.now.bytes (i * ends.now.bytes)
+        (thread.now.number * (ends.now.bytes * thread.now.threads) + i * ends.now.bytes) }
 {
     let bytes = u64::from(ends.bytes);
     let own = u64::from(thread.number) * (bytes * u64::from(thread.threads));
@@ -100,7 +109,10 @@ fn gathered_by_all(thread: &Thread<'_>, ends: &Ends<'_>, i: u32) -> Part
 // The thread's part of the block of thread `i` to that thread's part of its block.
 fn exchanged(thread: &Thread<'_>, ends: &Ends<'_>, i: u32) -> Part
     requires { i < 32 }
-    ensures { part_of result ≡ said.goes thread.now.threads thread.now.shapes.now thread.now.number calls.Exchange ends.now.dst.now ends.now.src.now ends.now.bytes (i * (ends.now.bytes * thread.now.threads) + thread.now.number * ends.now.bytes) (thread.now.number * (ends.now.bytes * thread.now.threads) + i * ends.now.bytes) }
+    ensures { part_of result ≡ said.goes thread.now.threads thread.now.shapes.now thread.now.number
+        calls.Exchange ends.now.dst.now ends.now.src.now ends.now.bytes
+        (i * (ends.now.bytes * thread.now.threads) + thread.now.number * ends.now.bytes)
+        (thread.now.number * (ends.now.bytes * thread.now.threads) + i * ends.now.bytes) }
 {
     let bytes = u64::from(ends.bytes);
     let block = bytes * u64::from(thread.threads);
@@ -110,7 +122,9 @@ fn exchanged(thread: &Thread<'_>, ends: &Ends<'_>, i: u32) -> Part
 }
 
 fn gather(alloc: Global, thread: &Thread<'_>, ends: &Ends<'_>) -> Result<Vec<Part>, AllocError>
-    ensures { IfOk result (λ parts. map part_of parts.items ≡ said.parts thread.now.threads thread.now.shapes.now thread.now.number calls.Gather ends.now.dst.now ends.now.src.now ends.now.bytes) }
+    ensures { IfOk result (λ parts. map part_of parts.items
+        ≡ said.parts thread.now.threads thread.now.shapes.now thread.now.number calls.Gather
+        ends.now.dst.now ends.now.src.now ends.now.bytes) }
 {
     let mut parts = Vec::new(alloc);
     if ends.dst.thread == thread.number {
@@ -122,7 +136,9 @@ fn gather(alloc: Global, thread: &Thread<'_>, ends: &Ends<'_>) -> Result<Vec<Par
 }
 
 fn gather_all(alloc: Global, thread: &Thread<'_>, ends: &Ends<'_>) -> Result<Vec<Part>, AllocError>
-    ensures { IfOk result (λ parts. map part_of parts.items ≡ said.parts thread.now.threads thread.now.shapes.now thread.now.number calls.Gather_all ends.now.dst.now ends.now.src.now ends.now.bytes) }
+    ensures { IfOk result (λ parts. map part_of parts.items
+        ≡ said.parts thread.now.threads thread.now.shapes.now thread.now.number calls.Gather_all
+        ends.now.dst.now ends.now.src.now ends.now.bytes) }
 {
     let mut parts = Vec::new(alloc);
     for i in 0..thread.threads {
@@ -132,7 +148,9 @@ fn gather_all(alloc: Global, thread: &Thread<'_>, ends: &Ends<'_>) -> Result<Vec
 }
 
 fn exchange(alloc: Global, thread: &Thread<'_>, ends: &Ends<'_>) -> Result<Vec<Part>, AllocError>
-    ensures { IfOk result (λ parts. map part_of parts.items ≡ said.parts thread.now.threads thread.now.shapes.now thread.now.number calls.Exchange ends.now.dst.now ends.now.src.now ends.now.bytes) }
+    ensures { IfOk result (λ parts. map part_of parts.items
+        ≡ said.parts thread.now.threads thread.now.shapes.now thread.now.number calls.Exchange
+        ends.now.dst.now ends.now.src.now ends.now.bytes) }
 {
     let mut parts = Vec::new(alloc);
     for i in 0..thread.threads {
@@ -157,7 +175,9 @@ pub fn parts(
     way: Way,
     ends: &Ends<'_>,
 ) -> Result<Vec<Part>, AllocError>
-    ensures { IfOk result (λ parts. map part_of parts.items ≡ said.parts thread.now.threads thread.now.shapes.now thread.now.number (way_in way) ends.now.dst.now ends.now.src.now ends.now.bytes) }
+    ensures { IfOk result (λ parts. map part_of parts.items
+        ≡ said.parts thread.now.threads thread.now.shapes.now thread.now.number
+        (way_in way) ends.now.dst.now ends.now.src.now ends.now.bytes) }
 {
     match way {
         Way::Broadcast => one(alloc, broadcast(thread, ends)),

@@ -17,8 +17,8 @@ abbrev pub AreThreadOrders : Journal → List (List Operation) → Type 0
 AreThreadOrders j orders =
     (length orders ≡ j.threads) × ((t : ℕ) → t < j.threads → order_at orders t ≡ thread_order j t)
 
--- the strict list and the thread orders of a journal of at least one thread make its operations consistent just where its
--- strict order and thread orders do (UPC Appendix B)
+-- the strict list and the thread orders of a journal of at least one thread make its operations consistent just where
+-- its strict order and thread orders do (UPC Appendix B)
 abbrev pub OwnOrdersAgree : Type 0
 OwnOrdersAgree =
     (initial : Loc → Scalar) (j : Journal) (orders : List (List Operation)) → 0 < j.threads → AreThreadOrders j orders

@@ -18,7 +18,8 @@ AgreesWith strict a b = IsStep strict b a → ⊥
 
 -- an order of thread t by itself: of its operations, all writes and all strict reads; each read has the last value, and
 -- program order and the strict list are kept
-pub record IsThreadOrder (initial : Loc → Scalar) (operations strict : List Operation) (t : ℕ) (order : List Operation) : Type 0 where
+pub record IsThreadOrder (initial : Loc → Scalar) (operations strict : List Operation) (t : ℕ)
+    (order : List Operation) : Type 0 where
   pub total : IsOrderOf (λ o. Has operations o × (is_shown t o ≡ true)) order
   pub values : ReadsLast initial order
   pub program : Pairwise (KeepsProgram t) order
@@ -26,7 +27,8 @@ pub record IsThreadOrder (initial : Loc → Scalar) (operations strict : List Op
 
 -- a list of the strict operations, and an order for each thread, make the operations of these threads UPC consistent
 -- (UPC Appendix B)
-pub record AreOrdersOf (initial : Loc → Scalar) (threads : ℕ) (set : Operation → Type 0) (strict : List Operation) (orders : List (List Operation)) : Type 0 where
+pub record AreOrdersOf (initial : Loc → Scalar) (threads : ℕ) (set : Operation → Type 0) (strict : List Operation)
+    (orders : List (List Operation)) : Type 0 where
   -- there is an order for each thread
   pub many : length orders ≡ threads
   -- each operation is of one of the threads

@@ -36,7 +36,8 @@ fn push_accesses(
     reply: &Reply,
     list: &mut Vec<Operation>,
 ) -> Result<(), AllocError>
-    ensures { OnOk result (list.new.items ≡ list.old.items ++ operations.accesses_of thread index action.now reply.now) }
+    ensures { OnOk result (list.new.items ≡ list.old.items
+        ++ operations.accesses_of thread index action.now reply.now) }
 {
     if let Reply::Refused(_) = reply {
         return Ok(());

@@ -55,7 +55,9 @@ fn are_thread_orders(
     strict: &[Operation],
     orders: &[Listing<Operation>],
 ) -> bool
-    ensures { IsTrue result ↔ ((t : ℕ) → t < length orders.now → IsThreadOrder (initial_by initials.now) operations.now strict.now t (order_at orders.now t)) }
+    ensures { IsTrue result ↔ ((t : ℕ) → t < length orders.now
+        → IsThreadOrder (initial_by initials.now) operations.now strict.now t
+        (order_at orders.now t)) }
 {
     for (thread, order) in orders.iter().enumerate() {
         if !is_thread_order(initials, operations, strict, thread, order.as_slice()) {
@@ -73,7 +75,8 @@ pub fn are_consistent(
     strict: &[Operation],
     orders: &[Listing<Operation>],
 ) -> bool
-    ensures { IsTrue result ↔ AreOrdersOf (initial_by initials.now) (length orders.now) (Has operations.now) strict.now orders.now }
+    ensures { IsTrue result ↔ AreOrdersOf (initial_by initials.now) (length orders.now)
+        (Has operations.now) strict.now orders.now }
 {
     if !are_below(orders.len(), operations) {
         return false;

@@ -39,16 +39,18 @@ fn decide(
 
 /// Whether the orders make the journal's operations UPC consistent (UPC Appendix B): the strict operations in their
 /// order, and each thread's own operations, all writes and all strict reads in the order of that thread. A location
-/// begins with the first value that `initials` gives it, else with 0. Where the history follows the write buffers and is
-/// legal, the journal's own orders do.
+/// begins with the first value that `initials` gives it, else with 0. Where the history follows the write buffers and
+/// is legal, the journal's own orders do.
 pub fn is_consistent(
     alloc: Global,
     journal: &Journal,
     initials: &[(Loc, Scalar)],
     orders: &Orders,
 ) -> Result<bool, AllocError>
-    ensures decided { IfOk result (λ b. IsTrue b ↔ AreConsistentOrders (initial_by initials.now) journal.now orders.now) }
-    ensures own { IfOk result (λ b. 0 < journal.now.threads → AreOwnOrders journal.now orders.now → Arises (initial_by initials.now) journal.now → IsTrue b) }
+    ensures decided { IfOk result (λ b. IsTrue b
+        ↔ AreConsistentOrders (initial_by initials.now) journal.now orders.now) }
+    ensures own { IfOk result (λ b. 0 < journal.now.threads → AreOwnOrders journal.now orders.now
+        → Arises (initial_by initials.now) journal.now → IsTrue b) }
 {
     let answer = decide(alloc, journal, initials, orders)?;
     Ok(answer)

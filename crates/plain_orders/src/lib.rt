@@ -25,6 +25,3 @@ pub use place::Place;
 pub use program::keeps_program;
 pub use reads::reads_last;
 pub use strict::agrees;
-
-#[cfg(test)]
-mod tests;

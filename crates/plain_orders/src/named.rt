@@ -12,7 +12,8 @@ use upc_values::{Listing, Op, Order};
 
 // The first operation with the name.
 fn find(operations: &[Operation], name: Op) -> Option<Operation>
-    ensures { MatchOption result (Each (λ o. name_of o ≢ name) operations.now) (λ o. Has operations.now o × (name_of o ≡ name)) }
+    ensures { MatchOption result (Each (λ o. name_of o ≢ name) operations.now) (λ o.
+        Has operations.now o × (name_of o ≡ name)) }
 {
     for operation in operations {
         if operation.is_named(name) {
@@ -28,7 +29,9 @@ pub(crate) fn find_all(
     operations: &[Operation],
     names: &[Op],
 ) -> Result<Option<Vec<Operation>>, AllocError>
-    ensures { IfOk result (λ found. MatchOption found ((list : List said.Operation) → IsNamed operations.now names.now list → ⊥) (λ list. IsNamed operations.now names.now list.items)) }
+    ensures { IfOk result (λ found. MatchOption found
+        ((list : List said.Operation) → IsNamed operations.now names.now list → ⊥) (λ list.
+        IsNamed operations.now names.now list.items)) }
 {
     let mut list = Vec::new(alloc);
     for name in names {
@@ -46,7 +49,9 @@ pub(crate) fn find_each(
     operations: &[Operation],
     orders: &[Order],
 ) -> Result<Option<Vec<Listing<Operation>>>, AllocError>
-    ensures { IfOk result (λ found. MatchOption found ((lists : List (List said.Operation)) → AreNamed operations.now orders.now lists → ⊥) (λ lists. AreNamed operations.now orders.now lists.items)) }
+    ensures { IfOk result (λ found. MatchOption found
+        ((lists : List (List said.Operation)) → AreNamed operations.now orders.now lists → ⊥)
+        (λ lists. AreNamed operations.now orders.now lists.items)) }
 {
     let mut lists = Vec::new(alloc);
     for names in orders {

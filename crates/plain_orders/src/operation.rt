@@ -28,7 +28,14 @@ impl Model for Operation {
 
     ghost Value = { operations.Operation };
 
-    ghost view = { λ o. record { thread = o.thread; index = o.index; write = o.write; strict = o.strict; place = place_of o.place; value = o.value } };
+    ghost view = { λ o. record {
+      thread = o.thread;
+      index = o.index;
+      write = o.write;
+      strict = o.strict;
+      place = place_of o.place;
+      value = o.value;
+    } };
 }
 
 impl Operation {

@@ -35,7 +35,9 @@ fn initial_value(initials: &[(Loc, Scalar)], place: Place) -> Scalar
 
 // What the operation writes to the place.
 fn written(place: Place, operation: &Operation) -> Option<Scalar>
-    ensures { result ≡ cond (operation.now.write && consistent.same_place operation.now.place (place_of place)) (Some operation.now.value) None }
+    ensures { result ≡ cond (operation.now.write
+        && consistent.same_place operation.now.place (place_of place))
+        (Some operation.now.value) None }
 {
     if operation.is_write() && same_place(operation.place(), place) {
         Some(operation.value())
@@ -59,7 +61,8 @@ fn last_write(place: Place, operations: &[Operation]) -> Option<Scalar>
 
 // The value of the last write of the place, or the initial value if there is none.
 fn value_after(initials: &[(Loc, Scalar)], before: &[Operation], place: Place) -> Scalar
-    ensures { result ≡ value_or (consistent.last_write (place_of place) before.now) (initial_at (initial_by initials.now) (place_of place)) }
+    ensures { result ≡ value_or (consistent.last_write (place_of place) before.now)
+        (initial_at (initial_by initials.now) (place_of place)) }
 {
     match last_write(place, before) {
         Some(value) => value,
@@ -69,7 +72,9 @@ fn value_after(initials: &[(Loc, Scalar)], before: &[Operation], place: Place) -
 
 // Whether the operation, if it is a read, has that value.
 fn has_value(initials: &[(Loc, Scalar)], before: &[Operation], operation: &Operation) -> bool
-    ensures { IsTrue result ↔ (operation.now.write ≡ false → operation.now.value ≡ value_or (consistent.last_write operation.now.place before.now) (initial_at (initial_by initials.now) operation.now.place)) }
+    ensures { IsTrue result ↔ (operation.now.write ≡ false
+        → operation.now.value ≡ value_or (consistent.last_write operation.now.place before.now)
+        (initial_at (initial_by initials.now) operation.now.place)) }
 {
     operation.is_write() || operation.value() == value_after(initials, before, operation.place())
 }

@@ -10,3 +10,5 @@ pub mod Worth
 pub mod Starts
 pub mod Opened
 pub mod Within
+pub mod Bytes
+pub mod LaidTypes

@@ -1,5 +1,6 @@
 -- Shapes of elements: when they are equal, and their numbers.
-use Rattle.std.proofs.Common.{◌≡◌, ℕ, ◌+◌, ◌<◌, ◌≤◌, Bool, true, false, ◌==◌, ◌&&◌, not, nat_le, if◌then◌else◌, List, [], ◌∷◌, ◌++◌, length, drop, get_or, is_some, refl, sym, ◌∙◌, arith}
+use Rattle.std.proofs.Common.{◌≡◌, ℕ, ◌+◌, ◌<◌, ◌≤◌, Bool, true, false, ◌==◌, ◌&&◌, not, nat_le, if◌then◌else◌, List}
+use Rattle.std.proofs.Common.{[], ◌∷◌, ◌++◌, length, drop, get_or, is_some, refl, sym, ◌∙◌, arith}
 use Rattle.std.proofs.lemmas.Bool.{and_parts, leb-true, and_right}
 use Rattle.std.proofs.lemmas.List.{drop_more, drop_all}
 use Rattle.block_layout.specs.declared.kind.Kind.{Kind}
@@ -11,8 +12,8 @@ use Rattle.upc_values.specs.Views.{same_cells}
 use Rattle.upc_types.specs.declared.layout.Layout.{Layout}
 use Rattle.upc_types.specs.Types.{CType, base_of, Structs}
 use Rattle.upc_types.specs.Layout.{base_layout, layout_in, is_complete, size, most_bytes}
-use Rattle.program_opening.specs.Elements.{sharable, same_cell, with_shape, with_shapes}
-use Rattle.typed_tree.specs.Rules.{has_size}
+use Rattle.typed_tree.specs.Elements.{sharable, same_cell, with_shape, with_shapes}
+use Rattle.typing_rules.specs.Rules.{has_size}
 use Rattle.upc_types.proofs.Within.{lower}
 use Rattle.upc_types.proofs.Sizes.{if_small}
 
@@ -30,21 +31,27 @@ some_if false b l h = absurd cc
 pub layout_is : (structs : Structs) (t : CType) → has_size structs t ≡ true → HasLayout structs t
 layout_is structs t h =
     let l = base_layout (layout_in structs.completed) (base_of t) in
-    let p = and_parts (is_complete structs t) (nat_le l.size most_bytes) (some_if (is_complete structs t) (nat_le l.size most_bytes) l h) in
+    let p = and_parts (is_complete structs t) (nat_le l.size most_bytes)
+    (some_if (is_complete structs t) (nat_le l.size most_bytes) l h) in
     record { complete = p.0; few = leb-true l.size most_bytes p.1 }
 
 -- ---- cells that a shared object can have
 
-kept_one : (b : Bool) (c : ℕ × Kind) (ys : List (ℕ × Kind)) (from size : ℕ) → from ≤ c.0 → c.0 + kind_size c.1 ≤ size → CellsWithin ys (c.0 + kind_size c.1) size →
+kept_one : (b : Bool) (c : ℕ × Kind) (ys : List (ℕ × Kind)) (from size : ℕ) → from ≤ c.0 →
+    c.0 + kind_size c.1 ≤ size → CellsWithin ys (c.0 + kind_size c.1) size →
     CellsWithin (if b then c ∷ ys else ys) from size
 kept_one true c ys from size l m h = (l, m, h)
 kept_one false c ys from size l m h = lower ys from (c.0 + kind_size c.1) size (omega arith) h
 
-pub sharable_within : (cells : List (ℕ × Kind)) (from size : ℕ) → CellsWithin cells from size → CellsWithin (sharable cells) from size
+pub sharable_within : (cells : List (ℕ × Kind)) (from size : ℕ) → CellsWithin cells from size →
+    CellsWithin (sharable cells) from size
 sharable_within [] from size h = tt
-sharable_within (c ∷ cells) from size h = kept_one (not (is_private c.1)) c (sharable cells) from size h.0 h.1 (sharable_within cells (c.0 + kind_size c.1) size h.2)
+sharable_within (c ∷ cells) from size h =
+    kept_one (not (is_private c.1)) c (sharable cells) from size h.0 h.1
+    (sharable_within cells (c.0 + kind_size c.1) size h.2)
 
-each_one : (b : Bool) (c : ℕ × Kind) (ys : List (ℕ × Kind)) → is_private c.1 ≡ b → Each (λ d. is_private d.1 ≡ false) ys → Each (λ d. is_private d.1 ≡ false) (if not b then c ∷ ys else ys)
+each_one : (b : Bool) (c : ℕ × Kind) (ys : List (ℕ × Kind)) → is_private c.1 ≡ b →
+    Each (λ d. is_private d.1 ≡ false) ys → Each (λ d. is_private d.1 ≡ false) (if not b then c ∷ ys else ys)
 each_one true c ys e h = h
 each_one false c ys e h = (e, h)
 
@@ -55,7 +62,8 @@ sharable_each (c ∷ cells) = each_one (is_private c.1) c (sharable cells) refl 
 -- ---- equal cells
 
 -- Cells compared as wholes.
-pub cells_cons : (c d : ℕ × Kind) (cs ds : List (ℕ × Kind)) → same_cells (c ∷ cs) (d ∷ ds) ≡ (same_cell c d && same_cells cs ds)
+pub cells_cons : (c d : ℕ × Kind) (cs ds : List (ℕ × Kind)) → same_cells (c ∷ cs) (d ∷ ds)
+    ≡ (same_cell c d && same_cells cs ds)
 cells_cons c d cs ds = go (c.0 == d.0)
   where
     go : (b : Bool) → (b && (same_kind c.1 d.1 && same_cells cs ds)) ≡ ((b && same_kind c.1 d.1) && same_cells cs ds)
@@ -66,21 +74,28 @@ pub lengths_differ : (a b : List (ℕ × Kind)) → (length a ≡ length b → �
 lengths_differ [] [] h = absurd (h refl)
 lengths_differ [] (d ∷ ds) h = refl
 lengths_differ (c ∷ cs) [] h = refl
-lengths_differ (c ∷ cs) (d ∷ ds) h = cells_cons c d cs ds ∙ and_right (same_cell c d) (same_cells cs ds) (lengths_differ cs ds (λ e. h (omega (arith, e))))
+lengths_differ (c ∷ cs) (d ∷ ds) h =
+    cells_cons c d cs ds ∙ and_right (same_cell c d) (same_cells cs ds)
+    (lengths_differ cs ds (λ e. h (omega (arith, e))))
 
 -- Two lists from a cell on.
 pub cells_from : (a b : List (ℕ × Kind)) (i : ℕ) (x y : ℕ × Kind) → i < length a → i < length b →
-    same_cells (drop i a) (drop i b) ≡ (same_cell (get_or a i x) (get_or b i y) && same_cells (drop (i + 1) a) (drop (i + 1) b))
-cells_from a b i x y h k = rw (drop_more a i x h, drop_more b i y k) (cells_cons (get_or a i x) (get_or b i y) (drop (i + 1) a) (drop (i + 1) b))
+    same_cells (drop i a) (drop i b)
+    ≡ (same_cell (get_or a i x) (get_or b i y) && same_cells (drop (i + 1) a) (drop (i + 1) b))
+cells_from a b i x y h k =
+    rw (drop_more a i x h, drop_more b i y k)
+    (cells_cons (get_or a i x) (get_or b i y) (drop (i + 1) a) (drop (i + 1) b))
 
 and_yes : (a b : Bool) → a ≡ true → b ≡ (a && b)
 and_yes true b h = refl
 and_yes false b h = absurd cc
 
-pub cells_more : (a b : List (ℕ × Kind)) (i : ℕ) (x y : ℕ × Kind) → i < length a → i < length b → same_cell (get_or a i x) (get_or b i y) ≡ true →
+pub cells_more : (a b : List (ℕ × Kind)) (i : ℕ) (x y : ℕ × Kind) → i < length a → i < length b →
+    same_cell (get_or a i x) (get_or b i y) ≡ true →
     same_cells (drop (i + 1) a) (drop (i + 1) b) ≡ same_cells (drop i a) (drop i b)
 cells_more a b i x y h k e =
-    and_yes (same_cell (get_or a i x) (get_or b i y)) (same_cells (drop (i + 1) a) (drop (i + 1) b)) e ∙ sym (cells_from a b i x y h k)
+    and_yes (same_cell (get_or a i x) (get_or b i y)) (same_cells (drop (i + 1) a) (drop (i + 1) b)) e
+    ∙ sym (cells_from a b i x y h k)
 
 pub cells_end : (a b : List (ℕ × Kind)) (i : ℕ) → length a ≤ i → length b ≤ i → same_cells (drop i a) (drop i b) ≡ true
 cells_end a b i h k = rw (drop_all i a h, drop_all i b k) refl

@@ -1,7 +1,2 @@
-pub mod Targets
-pub mod Elements
-pub mod Allocated
-pub mod Objects
-pub mod Initials
-pub mod Beginnings
-pub mod PrivateOpenings
+pub mod ViewSettings
+pub mod LaidObjects

@@ -5,29 +5,32 @@ ghost use Rattle.upc_types.specs.View.{view, view_base};
 ghost use Rattle.upc_types.specs.ViewStructs.{view_structs};
 ghost use Rattle.upc_values.specs.Lists.{Each};
 ghost use Rattle.typed_tree.specs.Tree.{exprs_of, NoItems, NoSwitchItems};
-ghost use Rattle.typed_tree.specs.Values.{base_target};
+ghost use Rattle.typing_rules.specs.Values.{base_target};
 ghost use Rattle.typed_tree.specs.ViewTree.{view_expr};
-ghost use Rattle.typed_tree.specs.ViewStatements.{view_affinity, view_arms, view_boxed, view_function, view_head, view_initial, view_item, view_items, view_object, view_statement, view_switch_item, view_switch_items, view_value};
-ghost use Rattle.program_opening.specs.Allocated as pure;
-ghost use Rattle.typed_tree.specs.Rules.{has_size};
+ghost use Rattle.typed_tree.specs.ViewStatements.{view_affinity, view_arms, view_function, view_head, view_initial};
+ghost use Rattle.typed_tree.specs.ViewStatements.{view_item, view_items, view_last, view_object, view_statement};
+ghost use Rattle.typed_tree.specs.ViewStatements.{view_switch_item, view_switch_items, view_value};
+ghost use Rattle.typed_tree.specs.Allocated as pure;
+ghost use Rattle.typing_rules.specs.Rules.{has_size};
 
 use std::alloc::Global;
-use typed_tree::calls::is_allocation;
 use typed_tree::{
     Affinity, Arm, Expr, ExprKind, Function, Head, Initial, Item, Object, Statement, StatementKind,
     SwitchItem, Target,
 };
+use typing_rules::calls::is_allocation;
 use upc_text::OutOfMemory;
 use upc_types::{Base, CType, Structs, copy_type};
 
-// Adds a copy of this type, where it has a layout.
-fn push_laid(
+/// Adds a copy of this type, where it has a layout.
+pub(crate) fn push_laid(
     t: &CType,
     alloc: Global,
     structs: &Structs,
     out: &mut Vec<CType>,
 ) -> Result<(), OutOfMemory>
-    ensures { OnOk result (map view out.new.items ≡ map view out.old.items ++ pure.laid (view_structs structs.now) (view t.now)) }
+    ensures { OnOk result (map view out.new.items ≡ map view out.old.items
+        ++ pure.laid (view_structs structs.now) (view t.now)) }
 {
     if structs.layout_of(&t.base).is_some() {
         out.push(copy_type(alloc, t)?)?;
@@ -41,7 +44,8 @@ fn push_target(
     structs: &Structs,
     out: &mut Vec<CType>,
 ) -> Result<(), OutOfMemory>
-    ensures { OnOk result (map view out.new.items ≡ map view out.old.items ++ pure.laid_target (view_structs structs.now) (base_target (view_base base.now))) }
+    ensures { OnOk result (map view out.new.items ≡ map view out.old.items
+        ++ pure.laid_target (view_structs structs.now) (base_target (view_base base.now))) }
 {
     match base {
         Base::Pointer(target) => push_laid(target, alloc, structs, out),
@@ -58,7 +62,8 @@ fn push_call(
     structs: &Structs,
     out: &mut Vec<CType>,
 ) -> Result<(), OutOfMemory>
-    ensures { OnOk result (map view out.new.items ≡ map view out.old.items ++ pure.allocated_call (view_structs structs.now) (view t.now) target) }
+    ensures { OnOk result (map view out.new.items ≡ map view out.old.items
+        ++ pure.allocated_call (view_structs structs.now) (view t.now) target) }
 {
     match target {
         Target::Function(_) => Ok(()),
@@ -79,7 +84,8 @@ fn push_expr(
     structs: &Structs,
     out: &mut Vec<CType>,
 ) -> Result<(), OutOfMemory>
-    ensures { OnOk result (map view out.new.items ≡ map view out.old.items ++ pure.allocated_expr (view_structs structs.now) (view_expr e.now)) }
+    ensures { OnOk result (map view out.new.items ≡ map view out.old.items
+        ++ pure.allocated_expr (view_structs structs.now) (view_expr e.now)) }
 {
     match &e.kind {
         ExprKind::Literal | ExprKind::Mythread | ExprKind::Object(_) => Ok(()),
@@ -122,7 +128,8 @@ fn push_exprs(
     structs: &Structs,
     out: &mut Vec<CType>,
 ) -> Result<(), OutOfMemory>
-    ensures { OnOk result (map view out.new.items ≡ map view out.old.items ++ pure.allocated_exprs (view_structs structs.now) (exprs_of (map view_expr parts.now))) }
+    ensures { OnOk result (map view out.new.items ≡ map view out.old.items
+        ++ pure.allocated_exprs (view_structs structs.now) (exprs_of (map view_expr parts.now))) }
 {
     for part in parts {
         push_expr(part, alloc, structs, out)?;
@@ -131,12 +138,13 @@ fn push_exprs(
 }
 
 fn push_value(
-    value: &Option<Expr>,
+    value: &Option<Box<Expr>>,
     alloc: Global,
     structs: &Structs,
     out: &mut Vec<CType>,
 ) -> Result<(), OutOfMemory>
-    ensures { OnOk result (map view out.new.items ≡ map view out.old.items ++ pure.allocated_value (view_structs structs.now) (view_value value.now)) }
+    ensures { OnOk result (map view out.new.items ≡ map view out.old.items
+        ++ pure.allocated_value (view_structs structs.now) (view_value value.now)) }
 {
     match value {
         None => Ok(()),
@@ -150,7 +158,8 @@ fn push_initial(
     structs: &Structs,
     out: &mut Vec<CType>,
 ) -> Result<(), OutOfMemory>
-    ensures { OnOk result (map view out.new.items ≡ map view out.old.items ++ pure.allocated_initial (view_structs structs.now) (view_initial initial.now)) }
+    ensures { OnOk result (map view out.new.items ≡ map view out.old.items
+        ++ pure.allocated_initial (view_structs structs.now) (view_initial initial.now)) }
 {
     match initial {
         Initial::Absent => Ok(()),
@@ -165,7 +174,8 @@ fn push_objects(
     structs: &Structs,
     out: &mut Vec<CType>,
 ) -> Result<(), OutOfMemory>
-    ensures { OnOk result (map view out.new.items ≡ map view out.old.items ++ pure.allocated_objects (view_structs structs.now) (map view_object objects.now)) }
+    ensures { OnOk result (map view out.new.items ≡ map view out.old.items
+        ++ pure.allocated_objects (view_structs structs.now) (map view_object objects.now)) }
 {
     for object in objects {
         push_initial(&object.initial, alloc, structs, out)?;
@@ -179,7 +189,8 @@ fn push_head(
     structs: &Structs,
     out: &mut Vec<CType>,
 ) -> Result<(), OutOfMemory>
-    ensures { OnOk result (map view out.new.items ≡ map view out.old.items ++ pure.allocated_head (view_structs structs.now) (view_head head.now)) }
+    ensures { OnOk result (map view out.new.items ≡ map view out.old.items
+        ++ pure.allocated_head (view_structs structs.now) (view_head head.now)) }
 {
     push_objects(head.objects.as_slice(), alloc, structs, out)?;
     push_value(&head.first, alloc, structs, out)?;
@@ -193,7 +204,8 @@ fn push_affinity(
     structs: &Structs,
     out: &mut Vec<CType>,
 ) -> Result<(), OutOfMemory>
-    ensures { OnOk result (map view out.new.items ≡ map view out.old.items ++ pure.allocated_affinity (view_structs structs.now) (view_affinity affinity.now)) }
+    ensures { OnOk result (map view out.new.items ≡ map view out.old.items
+        ++ pure.allocated_affinity (view_structs structs.now) (view_affinity affinity.now)) }
 {
     match affinity {
         Affinity::All => Ok(()),
@@ -208,7 +220,8 @@ fn push_statement(
     structs: &Structs,
     out: &mut Vec<CType>,
 ) -> Result<(), OutOfMemory>
-    ensures { OnOk result (map view out.new.items ≡ map view out.old.items ++ pure.allocated_statement (view_structs structs.now) (view_statement statement.now)) }
+    ensures { OnOk result (map view out.new.items ≡ map view out.old.items
+        ++ pure.allocated_statement (view_structs structs.now) (view_statement statement.now)) }
 {
     match &statement.kind {
         StatementKind::Block(_, items) => push_items(items.as_slice(), alloc, structs, out),
@@ -251,7 +264,8 @@ fn push_last(
     structs: &Structs,
     out: &mut Vec<CType>,
 ) -> Result<(), OutOfMemory>
-    ensures { OnOk result (map view out.new.items ≡ map view out.old.items ++ pure.allocated_last (view_structs structs.now) (view_boxed last.now)) }
+    ensures { OnOk result (map view out.new.items ≡ map view out.old.items
+        ++ pure.allocated_last (view_structs structs.now) (view_last last.now)) }
 {
     match last {
         None => Ok(()),
@@ -266,7 +280,8 @@ fn push_arms(
     structs: &Structs,
     out: &mut Vec<CType>,
 ) -> Result<(), OutOfMemory>
-    ensures { OnOk result (map view out.new.items ≡ map view out.old.items ++ pure.allocated_arms (view_structs structs.now) (view_arms arms.now)) }
+    ensures { OnOk result (map view out.new.items ≡ map view out.old.items
+        ++ pure.allocated_arms (view_structs structs.now) (view_arms arms.now)) }
 {
     for arm in arms {
         push_expr(&arm.test, alloc, structs, out)?;
@@ -282,7 +297,8 @@ fn push_items(
     structs: &Structs,
     out: &mut Vec<CType>,
 ) -> Result<(), OutOfMemory>
-    ensures { OnOk result (map view out.new.items ≡ map view out.old.items ++ pure.allocated_items (view_structs structs.now) (view_items items.now)) }
+    ensures { OnOk result (map view out.new.items ≡ map view out.old.items
+        ++ pure.allocated_items (view_structs structs.now) (view_items items.now)) }
 {
     for item in items {
         push_item(item, alloc, structs, out)?;
@@ -297,7 +313,8 @@ fn push_item(
     structs: &Structs,
     out: &mut Vec<CType>,
 ) -> Result<(), OutOfMemory>
-    ensures { OnOk result (map view out.new.items ≡ map view out.old.items ++ pure.allocated_items (view_structs structs.now) (view_item item.now NoItems)) }
+    ensures { OnOk result (map view out.new.items ≡ map view out.old.items
+        ++ pure.allocated_items (view_structs structs.now) (view_item item.now NoItems)) }
 {
     match item {
         Item::Declare(objects) => push_objects(objects.as_slice(), alloc, structs, out),
@@ -312,7 +329,8 @@ fn push_switch(
     structs: &Structs,
     out: &mut Vec<CType>,
 ) -> Result<(), OutOfMemory>
-    ensures { OnOk result (map view out.new.items ≡ map view out.old.items ++ pure.allocated_switch (view_structs structs.now) (view_switch_items items.now)) }
+    ensures { OnOk result (map view out.new.items ≡ map view out.old.items
+        ++ pure.allocated_switch (view_structs structs.now) (view_switch_items items.now)) }
 {
     for item in items {
         push_switch_item(item, alloc, structs, out)?;
@@ -327,7 +345,8 @@ fn push_switch_item(
     structs: &Structs,
     out: &mut Vec<CType>,
 ) -> Result<(), OutOfMemory>
-    ensures { OnOk result (map view out.new.items ≡ map view out.old.items ++ pure.allocated_switch (view_structs structs.now) (view_switch_item item.now NoSwitchItems)) }
+    ensures { OnOk result (map view out.new.items ≡ map view out.old.items
+        ++ pure.allocated_switch (view_structs structs.now) (view_switch_item item.now NoSwitchItems)) }
 {
     match item {
         SwitchItem::Case(_) | SwitchItem::Default => Ok(()),
@@ -341,7 +360,8 @@ pub fn allocated_types(
     functions: &[Function],
     structs: &Structs,
 ) -> Result<Vec<CType>, OutOfMemory>
-    ensures value { IfOk result (λ ts. map view ts.items ≡ pure.allocated_in (view_structs structs.now) (map view_function functions.now)) }
+    ensures value { IfOk result (λ ts. map view ts.items
+        ≡ pure.allocated_in (view_structs structs.now) (map view_function functions.now)) }
     ensures layouts { IfOk result (λ ts. Each (λ t. has_size (view_structs structs.now) t ≡ true) (map view ts.items)) }
 {
     let mut out = Vec::new(alloc);

@@ -5,42 +5,26 @@ ghost use Rattle.upc_values.specs.Lists.{Each};
 ghost use Rattle.upc_values.specs.Openings.{IsOpening};
 ghost use Rattle.upc_types.specs.View.{view};
 ghost use Rattle.upc_types.specs.ViewStructs.{view_structs};
-ghost use Rattle.program_opening.specs.Beginnings as pure;
-ghost use Rattle.program_opening.specs.Beginnings.{view_beginning};
-ghost use Rattle.typed_tree.specs.Rules.{has_size};
-ghost use Rattle.program_opening.specs.Objects.{bytes_in, shared_in};
-ghost use Rattle.program_opening.specs.PrivateOpenings.{IsPrivateOpening};
-ghost use Rattle.typed_tree.specs.ViewStatements.{view_object};
+ghost use Rattle.typed_tree.specs.Beginnings as pure;
+ghost use Rattle.typed_tree.specs.Beginnings.{view_beginning};
+ghost use Rattle.typing_rules.specs.Rules.{has_size};
+ghost use Rattle.typed_tree.specs.Objects.{bytes_in, shared_in, private_in};
+ghost use Rattle.typed_tree.specs.PrivateOpenings.{HavePrivateValues, shape_bytes};
+ghost use Rattle.typed_tree.specs.Programs.{checked_of, start_of, without_targets};
+ghost use Rattle.typed_tree.specs.ViewStatements.{view_function, view_object};
 
+use crate::allocated::allocated_types;
 use crate::elements::element_shapes;
 use crate::initials::shared_initials;
-use crate::objects::{SharedDecl, count_private, placed_objects};
+use crate::inside::types_inside;
+use crate::objects::{count_private, placed_objects};
 use crate::privates::{private_initials, private_shapes};
 use crate::setting::Setting;
-use crate::targets::note_types;
-use block_layout::{Loc, LocalPtr, Shape};
+use crate::targets::note_all_types;
 use std::alloc::Global;
-use typed_tree::Object;
+use typed_tree::{Beginning, Function, Object};
 use upc_text::OutOfMemory;
 use upc_types::{CType, Structs};
-use upc_values::{Scalar, Value};
-
-/// What a checked program begins with.
-#[derive(Drop)]
-pub struct Beginning {
-    /// The structs, where each pointer in an object has a type with a number.
-    pub structs: Structs,
-    /// The shapes of shared elements, by number.
-    pub shapes: Vec<Shape>,
-    /// The shared objects of the file, numbered from 1 on.
-    pub shared_objects: Vec<SharedDecl>,
-    /// The values of the initialisers of shared objects; what has none begins with 0 or null.
-    pub initials: Vec<(Loc, Scalar)>,
-    /// The shapes of the private objects of the file, numbered from 0 on.
-    pub private_shapes: Vec<Shape>,
-    /// The values of the initialisers of private objects.
-    pub private_initials: Vec<(LocalPtr, Value)>,
-}
 
 // What begins with these objects, where the structs have their targets of pointers.
 fn begun(
@@ -53,7 +37,8 @@ fn begun(
     requires layouts { Each (λ x. has_size (view_structs structs) x.ctype ≡ true) (map view_object objects.now) }
     requires allocated { Each (λ t. has_size (view_structs structs) t ≡ true) (map view allocated.now) }
     requires bytes { bytes_in (view_structs structs) (shared_in (map view_object objects.now)) ≤ 16777216 }
-    ensures { IfOk result (λ b. view_beginning b ≡ pure.begun threads (view_structs structs) (map view_object objects.now) (map view allocated.now)) }
+    ensures { IfOk result (λ b. view_beginning b
+        ≡ pure.begun threads (view_structs structs) (map view_object objects.now) (map view allocated.now)) }
 {
     let shapes = element_shapes(alloc, &structs, objects, allocated)?;
     let shared_objects = placed_objects(alloc, &structs, shapes.as_slice(), objects)?;
@@ -76,25 +61,66 @@ fn begun(
     })
 }
 
-/// What a program begins with that runs on so many threads and has these structs, objects of the file in order of declaration, and
-/// types of elements of allocated objects.
+/// What a program begins with that runs on so many threads and has these structs, objects of the file in order of
+/// declaration, types of elements of allocated objects, and types of parameters and objects of functions.
 pub fn open(
     alloc: Global,
     threads: u32,
     structs: Structs,
     objects: &[Object],
     allocated: &[CType],
+    inside: &[CType],
 ) -> Result<Beginning, OutOfMemory>
     requires least { 0 < threads }
     requires most { threads ≤ 32 }
     requires layouts { Each (λ x. has_size (view_structs structs) x.ctype ≡ true) (map view_object objects.now) }
     requires allocated { Each (λ t. has_size (view_structs structs) t ≡ true) (map view allocated.now) }
+    requires inside { Each (λ t. has_size (view_structs structs) t ≡ true) (map view inside.now) }
     requires bytes { bytes_in (view_structs structs) (shared_in (map view_object objects.now)) ≤ 16777216 }
-    ensures value { IfOk result (λ b. view_beginning b ≡ pure.beginning_of threads (view_structs structs) (map view_object objects.now) (map view allocated.now)) }
+    ensures value { IfOk result (λ b. view_beginning b
+        ≡ pure.beginning_of threads (view_structs structs)
+        (map view_object objects.now) (map view allocated.now) (map view inside.now)) }
     ensures opening { IfOk result (λ b. IsOpening (pure.opening_in threads (view_beginning b))) }
-    ensures private { IfOk result (λ b. IsPrivateOpening threads (view_beginning b)) }
+    ensures private { IfOk result (λ b. HavePrivateValues threads (view_beginning b)) }
 {
     let mut structs = structs;
-    note_types(alloc, &mut structs, objects, allocated)?;
+    note_all_types(alloc, &mut structs, objects, allocated, inside)?;
     begun(alloc, threads, structs, objects, allocated)
+}
+
+/// What the program of these parts begins with. It does not matter which targets of pointers have numbers in the
+/// structs before.
+pub fn begin(
+    alloc: Global,
+    threads: u32,
+    structs: Structs,
+    objects: &[Object],
+    functions: &[Function],
+) -> Result<Beginning, OutOfMemory>
+    requires least { 0 < threads }
+    requires most { threads ≤ 32 }
+    requires layouts { Each (λ x. has_size (view_structs structs) x.ctype ≡ true) (map view_object objects.now) }
+    requires bytes { bytes_in (view_structs structs) (shared_in (map view_object objects.now)) ≤ 16777216 }
+    ensures value { IfOk result (λ b. view_beginning b
+        ≡ start_of (checked_of threads (view_structs structs)
+        (map view_object objects.now) (map view_function functions.now))) }
+    ensures same { IfOk result (λ b. without_targets (view_structs b.structs)
+        ≡ without_targets (view_structs structs)) }
+    ensures opening { IfOk result (λ b. IsOpening (pure.opening_in threads (view_beginning b))) }
+    ensures private { IfOk result (λ b. HavePrivateValues threads (view_beginning b)) }
+    ensures private_bytes { IfOk result (λ b. shape_bytes b.private_shapes.items
+        ≡ bytes_in (view_structs structs) (private_in (map view_object objects.now))) }
+{
+    let mut structs = structs;
+    structs.forget_targets();
+    let allocated = allocated_types(alloc, functions, &structs)?;
+    let inside = types_inside(alloc, functions, &structs)?;
+    open(
+        alloc,
+        threads,
+        structs,
+        objects,
+        allocated.as_slice(),
+        inside.as_slice(),
+    )
 }

@@ -7,9 +7,9 @@ ghost use Rattle.upc_values.specs.Openings.{IsSharable, is_private};
 ghost use Rattle.upc_values.specs.Views.{same_cells};
 ghost use Rattle.upc_types.specs.View.{view};
 ghost use Rattle.upc_types.specs.ViewStructs.{view_structs};
-ghost use Rattle.program_opening.specs.Elements as pure;
-ghost use Rattle.typed_tree.specs.Rules.{has_size};
-ghost use Rattle.program_opening.specs.Objects.{shared_in, type_of};
+ghost use Rattle.typed_tree.specs.Elements as pure;
+ghost use Rattle.typing_rules.specs.Rules.{has_size};
+ghost use Rattle.typed_tree.specs.Objects.{shared_in, type_of};
 ghost use Rattle.typed_tree.specs.ViewStatements.{view_object};
 
 use crate::objects::is_shared;
@@ -112,7 +112,7 @@ pub(crate) fn number_shape(shapes: &mut Vec<Shape>, shape: Shape) -> Result<(), 
 }
 
 // Gives the shapes of the elements of the shared objects among these numbers.
-#[tactic(auto, using(crate::proofs::Chosen::shared_next, crate::proofs::Chosen::shared_skip, crate::proofs::Chosen::shared_end, crate::proofs::Chosen::object_here, crate::proofs::Chosen::object_rest))]
+#[tactic(auto, using(crate::proofs::Chosen::shared_walk, crate::proofs::Chosen::object_layouts))]
 fn number_objects(
     alloc: Global,
     structs: &Structs,
@@ -121,7 +121,10 @@ fn number_objects(
 ) -> Result<(), OutOfMemory>
     requires layouts { Each (λ x. has_size (view_structs structs.now) x.ctype ≡ true) (map view_object objects.now) }
     requires few { vec_len shapes.old ≤ 4294967295 }
-    ensures value { OnOk result (shapes.new.items ≡ pure.with_shapes shapes.old.items (map (pure.element_shape (view_structs structs.now)) (map type_of (shared_in (map view_object objects.now))))) }
+    ensures value { OnOk result (shapes.new.items
+        ≡ pure.with_shapes shapes.old.items
+        (map (pure.element_shape (view_structs structs.now))
+        (map type_of (shared_in (map view_object objects.now))))) }
     ensures few { OnOk result (vec_len shapes.new ≤ 4294967295) }
 {
     for object in objects {
@@ -133,7 +136,7 @@ fn number_objects(
 }
 
 /// The shapes of the elements of the shared objects among these, and of objects of these types.
-#[tactic(auto, using(crate::proofs::Chosen::type_here, crate::proofs::Chosen::type_rest))]
+#[tactic(auto, using(crate::proofs::Chosen::type_layouts))]
 pub(crate) fn element_shapes(
     alloc: Global,
     structs: &Structs,
@@ -142,7 +145,9 @@ pub(crate) fn element_shapes(
 ) -> Result<Vec<Shape>, OutOfMemory>
     requires layouts { Each (λ x. has_size (view_structs structs.now) x.ctype ≡ true) (map view_object objects.now) }
     requires types { Each (λ t. has_size (view_structs structs.now) t ≡ true) (map view types.now) }
-    ensures value { IfOk result (λ xs. xs.items ≡ pure.element_shapes (view_structs structs.now) (map type_of (shared_in (map view_object objects.now)) ++ map view types.now)) }
+    ensures value { IfOk result (λ xs. xs.items
+        ≡ pure.element_shapes (view_structs structs.now)
+        (map type_of (shared_in (map view_object objects.now)) ++ map view types.now)) }
     ensures few { IfOk result (λ xs. vec_len xs ≤ 4294967295) }
 {
     let mut shapes = Vec::new(alloc);

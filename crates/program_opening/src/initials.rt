@@ -1,9 +1,9 @@
 //! What shared objects begin with.
 
 ghost use Rattle.std.specs.Prelude.{◌≡◌, ◌++◌, map, OnOk, IfOk};
-ghost use Rattle.program_opening.specs.Initials as pure;
-ghost use Rattle.program_opening.specs.Initials.{view_setting};
-ghost use Rattle.program_opening.specs.Objects.{shared_in};
+ghost use Rattle.typed_tree.specs.Initials as pure;
+ghost use Rattle.program_opening.specs.ViewSettings.{view_setting};
+ghost use Rattle.typed_tree.specs.Objects.{shared_in};
 ghost use Rattle.typed_tree.specs.ViewStatements.{view_initial, view_object};
 
 use crate::objects::{is_shared, next};
@@ -11,8 +11,8 @@ use crate::setting::Setting;
 use crate::values::{scalar_kind, value_in};
 use block_layout::{Kind, Loc};
 use std::alloc::Global;
-use typed_tree::declarations::constant_of;
 use typed_tree::{Initial, Object};
+use typing_rules::declarations::constant_of;
 use upc_text::OutOfMemory;
 use upc_values::{Scalar, Value};
 
@@ -46,13 +46,14 @@ fn push_start(
 }
 
 /// What the shared objects among these begin with.
-#[tactic(auto, using(crate::proofs::Chosen::shared_next, crate::proofs::Chosen::shared_skip, crate::proofs::Chosen::shared_end))]
+#[tactic(auto, using(crate::proofs::Chosen::shared_walk))]
 pub(crate) fn shared_initials(
     alloc: Global,
     setting: &Setting<'_>,
     objects: &[Object],
 ) -> Result<Vec<(Loc, Scalar)>, OutOfMemory>
-    ensures { IfOk result (λ xs. xs.items ≡ pure.shared_from (view_setting setting.now) 1 (shared_in (map view_object objects.now))) }
+    ensures { IfOk result (λ xs. xs.items
+        ≡ pure.shared_from (view_setting setting.now) 1 (shared_in (map view_object objects.now))) }
 {
     let mut initials = Vec::new(alloc);
     let mut number: u32 = 1;

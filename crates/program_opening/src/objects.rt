@@ -4,27 +4,18 @@ ghost use Rattle.std.specs.Prelude.{◌≡◌, ◌+◌, ◌≤◌, true, length,
 ghost use Rattle.upc_values.specs.Lists.{Each};
 ghost use Rattle.upc_types.specs.View.{view};
 ghost use Rattle.upc_types.specs.ViewStructs.{view_structs};
-ghost use Rattle.typed_tree.specs.Constants.{block_or_none};
-ghost use Rattle.typed_tree.specs.Rules.{has_size};
-ghost use Rattle.program_opening.specs.Objects as pure;
+ghost use Rattle.typing_rules.specs.Constants.{block_or_none};
+ghost use Rattle.typing_rules.specs.Rules.{has_size};
+ghost use Rattle.typed_tree.specs.Objects as pure;
 ghost use Rattle.typed_tree.specs.ViewStatements.{view_object};
 
 use crate::elements::{element_shape, number_among};
 use block_layout::{ObjectRef, Shape};
 use std::alloc::Global;
-use typed_tree::{Home, Object};
-use upc_text::{OutOfMemory, Text};
+use typed_tree::{Object, SharedDecl};
+use typing_rules::Home;
+use upc_text::OutOfMemory;
 use upc_types::{Structs, size_of};
-
-/// A declared shared object: its name, its block and its leaf elements, of `size` bytes each. The block is 0 where it is indefinite.
-#[derive(Debug, Drop)]
-pub struct SharedDecl {
-    pub name: Text,
-    pub object: ObjectRef,
-    pub block: u32,
-    pub elements: u32,
-    pub size: u32,
-}
 
 pub(crate) fn is_shared(home: Home) -> bool
     ensures { result ≡ pure.is_shared home }
@@ -39,7 +30,7 @@ pub(crate) fn is_private(home: Home) -> bool
 }
 
 /// How many private objects there are.
-#[tactic(auto, using(crate::proofs::Chosen::private_next, crate::proofs::Chosen::private_skip, crate::proofs::Chosen::private_end))]
+#[tactic(auto, using(crate::proofs::Chosen::private_walk))]
 pub(crate) fn count_private(objects: &[Object]) -> u64
     ensures { result ≡ length (pure.private_in (map view_object objects.now)) }
 {
@@ -66,7 +57,7 @@ fn block_or_none(block: Option<u32>) -> u32
 }
 
 // A shared object with this number, behind so many bytes of others.
-#[tactic(auto, using(crate::proofs::Chosen::layout_complete, crate::proofs::Chosen::layout_few))]
+#[tactic(auto, using(crate::proofs::Chosen::sizes))]
 fn placed(
     alloc: Global,
     structs: &Structs,
@@ -77,7 +68,8 @@ fn placed(
 ) -> Result<SharedDecl, OutOfMemory>
     requires layout { has_size (view_structs structs.now) (view declared.now.ctype) ≡ true }
     requires shapes { length shapes.now ≤ 4294967295 }
-    ensures { IfOk result (λ x. x ≡ pure.placed (view_structs structs.now) shapes.now number base (view_object declared.now)) }
+    ensures { IfOk result (λ x. x
+        ≡ pure.placed (view_structs structs.now) shapes.now number base (view_object declared.now)) }
 {
     let t = &declared.ctype;
     let element = element_shape(alloc, t, structs)?;
@@ -102,7 +94,7 @@ fn placed(
 }
 
 /// The shared objects among these, one behind the other.
-#[tactic(auto, using(crate::proofs::Chosen::shared_next, crate::proofs::Chosen::shared_skip, crate::proofs::Chosen::shared_end, crate::proofs::Chosen::object_here, crate::proofs::Chosen::object_rest, crate::proofs::Chosen::layout_complete, crate::proofs::Chosen::layout_few))]
+#[tactic(auto, using(crate::proofs::Chosen::shared_objects))]
 pub(crate) fn placed_objects(
     alloc: Global,
     structs: &Structs,
@@ -111,8 +103,10 @@ pub(crate) fn placed_objects(
 ) -> Result<Vec<SharedDecl>, OutOfMemory>
     requires layouts { Each (λ x. has_size (view_structs structs.now) x.ctype ≡ true) (map view_object objects.now) }
     requires shapes { length shapes.now ≤ 4294967295 }
-    requires bytes { pure.bytes_in (view_structs structs.now) (pure.shared_in (map view_object objects.now)) ≤ 16777216 }
-    ensures { IfOk result (λ xs. xs.items ≡ pure.placed_from (view_structs structs.now) shapes.now 1 0 (pure.shared_in (map view_object objects.now))) }
+    requires bytes { pure.bytes_in (view_structs structs.now)
+        (pure.shared_in (map view_object objects.now)) ≤ 16777216 }
+    ensures { IfOk result (λ xs. xs.items
+        ≡ pure.placed_from (view_structs structs.now) shapes.now 1 0 (pure.shared_in (map view_object objects.now))) }
 {
     let mut shared = Vec::new(alloc);
     let mut number: u32 = 1;

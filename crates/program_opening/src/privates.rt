@@ -1,18 +1,18 @@
 //! The private objects of a file, and what they begin with.
 
 ghost use Rattle.std.specs.Prelude.{◌≡◌, ◌≤◌, ◌++◌, ◌∷◌, [], true, length, map, take, OnOk, IfOk, vec_len};
-ghost use Rattle.typed_tree.specs.Attributes.{constant_of};
-ghost use Rattle.typed_tree.specs.Views.{attr_seen};
+ghost use Rattle.typing_rules.specs.Attributes.{constant_of};
+ghost use Rattle.typed_tree.specs.ViewTree.{attr_seen};
 ghost use Rattle.block_layout.specs.declared.kind.Shape.{Shape};
 ghost use Rattle.upc_values.specs.Lists.{Each};
 ghost use Rattle.upc_types.specs.Cells.{object_shape};
 ghost use Rattle.upc_types.specs.Types.{base_of};
 ghost use Rattle.upc_types.specs.View.{view_base};
 ghost use Rattle.upc_types.specs.ViewStructs.{view_structs};
-ghost use Rattle.typed_tree.specs.Rules.{has_size};
-ghost use Rattle.program_opening.specs.Initials as pure;
-ghost use Rattle.program_opening.specs.Initials.{view_setting};
-ghost use Rattle.program_opening.specs.Objects.{private_in};
+ghost use Rattle.typing_rules.specs.Rules.{has_size};
+ghost use Rattle.typed_tree.specs.Initials as pure;
+ghost use Rattle.program_opening.specs.ViewSettings.{view_setting};
+ghost use Rattle.typed_tree.specs.Objects.{private_in};
 ghost use Rattle.typed_tree.specs.ViewStatements.{view_initial, view_object};
 
 use crate::objects::is_private;
@@ -20,21 +20,24 @@ use crate::setting::Setting;
 use crate::values::{scalar_kind, value_in};
 use block_layout::{Kind, LocalPtr, Shape};
 use std::alloc::Global;
-use typed_tree::declarations::constant_of;
-use typed_tree::{Constant, Expr, Initial, Object};
+use typed_tree::{Expr, Initial, Object};
+use typing_rules::Constant;
+use typing_rules::declarations::constant_of;
 use upc_text::OutOfMemory;
 use upc_types::{Base, Structs, object_shape};
 use upc_values::Value;
 
 /// The shapes of the private objects among these.
-#[tactic(auto, using(crate::proofs::Chosen::private_next, crate::proofs::Chosen::private_skip, crate::proofs::Chosen::private_end, crate::proofs::Chosen::object_here, crate::proofs::Chosen::object_rest, crate::proofs::Chosen::layout_complete, crate::proofs::Chosen::layout_few))]
+#[tactic(auto, using(crate::proofs::Chosen::private_objects))]
 pub(crate) fn private_shapes(
     alloc: Global,
     structs: &Structs,
     objects: &[Object],
 ) -> Result<Vec<Shape>, OutOfMemory>
     requires layouts { Each (λ x. has_size (view_structs structs.now) x.ctype ≡ true) (map view_object objects.now) }
-    ensures { IfOk result (λ xs. xs.items ≡ map (λ x. object_shape (view_structs structs.now) (base_of x.ctype)) (private_in (map view_object objects.now))) }
+    ensures { IfOk result (λ xs. xs.items
+        ≡ map (λ x. object_shape (view_structs structs.now) (base_of x.ctype))
+        (private_in (map view_object objects.now))) }
 {
     let mut shapes = Vec::new(alloc);
     for object in objects {
@@ -100,7 +103,8 @@ fn push_cells(
     constants: &[Constant],
 ) -> Result<(), OutOfMemory>
     requires { length constants.now ≤ 4294967295 }
-    ensures { OnOk result (initials.new.items ≡ initials.old.items ++ pure.cells_from (view_setting setting.now) object kind 0 constants.now) }
+    ensures { OnOk result (initials.new.items ≡ initials.old.items
+        ++ pure.cells_from (view_setting setting.now) object kind 0 constants.now) }
 {
     let mut offset: i64 = 0;
     for constant in constants {
@@ -133,13 +137,14 @@ fn push_object(
 }
 
 /// What the private objects among these begin with.
-#[tactic(auto, using(crate::proofs::Chosen::private_next, crate::proofs::Chosen::private_skip, crate::proofs::Chosen::private_end))]
+#[tactic(auto, using(crate::proofs::Chosen::private_walk))]
 pub(crate) fn private_initials(
     alloc: Global,
     setting: &Setting<'_>,
     objects: &[Object],
 ) -> Result<Vec<(LocalPtr, Value)>, OutOfMemory>
-    ensures { IfOk result (λ xs. xs.items ≡ pure.private_from (view_setting setting.now) 0 (private_in (map view_object objects.now))) }
+    ensures { IfOk result (λ xs. xs.items
+        ≡ pure.private_from (view_setting setting.now) 0 (private_in (map view_object objects.now))) }
 {
     let mut initials = Vec::new(alloc);
     let mut number = 0;

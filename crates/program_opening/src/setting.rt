@@ -1,6 +1,6 @@
 //! What initialisers may name, and what they give.
 
-use crate::objects::SharedDecl;
+use typed_tree::SharedDecl;
 use upc_types::Structs;
 
 /// What there is: threads, private objects of the file, structs, and shared objects of the file.

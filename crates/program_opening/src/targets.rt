@@ -6,9 +6,9 @@ ghost use Rattle.upc_types.specs.Layout.{base_complete, complete_in};
 ghost use Rattle.upc_types.specs.View.{view, view_base};
 ghost use Rattle.upc_types.specs.ViewStructs.{view_structs};
 ghost use Rattle.upc_values.specs.Lists.{Each};
-ghost use Rattle.typed_tree.specs.Rules.{has_size};
-ghost use Rattle.program_opening.specs.Objects.{type_of};
-ghost use Rattle.program_opening.specs.Targets as pure;
+ghost use Rattle.typing_rules.specs.Rules.{has_size};
+ghost use Rattle.typed_tree.specs.Objects.{type_of};
+ghost use Rattle.typed_tree.specs.Targets as pure;
 ghost use Rattle.typed_tree.specs.ViewStatements.{view_object};
 
 use std::alloc::Global;
@@ -36,7 +36,8 @@ fn push_leaf(
 ) -> Result<(), OutOfMemory>
     requires complete { base_complete (complete_in (view_structs structs.now).completed) (view_base leaf.now) ≡ true }
     ensures { OnOk result (map view found.new.items
-        ≡ map view found.old.items ++ pure.leaf_targets (pure.struct_targets (view_structs structs.now).completed) (view_base leaf.now)) }
+        ≡ map view found.old.items
+        ++ pure.leaf_targets (pure.struct_targets (view_structs structs.now).completed) (view_base leaf.now)) }
 {
     match leaf {
         Base::Pointer(target) => push_copy(alloc, found, target),
@@ -72,7 +73,8 @@ fn push_copy(alloc: Global, found: &mut Vec<CType>, t: &CType) -> Result<(), Out
 
 // Gives each of these targets a number.
 fn note_all(structs: &mut Structs, targets: &[CType]) -> Result<(), OutOfMemory>
-    ensures { OnOk result (view_structs structs.new ≡ pure.with_noted (view_structs structs.old) (map view targets.now)) }
+    ensures { OnOk result (view_structs structs.new
+        ≡ pure.with_noted (view_structs structs.old) (map view targets.now)) }
 {
     for target in targets {
         structs.note(target)?;
@@ -95,10 +97,11 @@ pub(crate) fn note_targets(
 }
 
 // Gives the types of the pointers in these objects numbers.
-#[tactic(auto, using(crate::proofs::Chosen::object_here, crate::proofs::Chosen::object_rest, crate::proofs::Chosen::layout_complete, crate::proofs::Chosen::layout_few))]
+#[tactic(auto, using(crate::proofs::Chosen::object_layouts, crate::proofs::Chosen::sizes))]
 fn note_objects(alloc: Global, structs: &mut Structs, objects: &[Object]) -> Result<(), OutOfMemory>
     requires layouts { Each (λ x. has_size (view_structs structs.old) x.ctype ≡ true) (map view_object objects.now) }
-    ensures { OnOk result (view_structs structs.new ≡ pure.with_targets (view_structs structs.old) (map type_of (map view_object objects.now))) }
+    ensures { OnOk result (view_structs structs.new
+        ≡ pure.with_targets (view_structs structs.old) (map type_of (map view_object objects.now))) }
 {
     for object in objects {
         note_targets(alloc, structs, &object.ctype)?;
@@ -106,21 +109,35 @@ fn note_objects(alloc: Global, structs: &mut Structs, objects: &[Object]) -> Res
     Ok(())
 }
 
-/// Gives the types of the pointers in these objects, and in objects of these types, numbers.
-#[tactic(auto, using(crate::proofs::Chosen::type_here, crate::proofs::Chosen::type_rest, crate::proofs::Chosen::layout_complete, crate::proofs::Chosen::layout_few))]
-pub(crate) fn note_types(
-    alloc: Global,
-    structs: &mut Structs,
-    objects: &[Object],
-    types: &[CType],
-) -> Result<(), OutOfMemory>
-    requires layouts { Each (λ x. has_size (view_structs structs.old) x.ctype ≡ true) (map view_object objects.now) }
-    requires types { Each (λ t. has_size (view_structs structs.old) t ≡ true) (map view types.now) }
-    ensures { OnOk result (view_structs structs.new ≡ pure.with_targets (view_structs structs.old) (map type_of (map view_object objects.now) ++ map view types.now)) }
+// Gives the types of the pointers in objects of these types numbers.
+#[tactic(auto, using(crate::proofs::Chosen::type_layouts, crate::proofs::Chosen::sizes))]
+fn note_types(alloc: Global, structs: &mut Structs, types: &[CType]) -> Result<(), OutOfMemory>
+    requires { Each (λ t. has_size (view_structs structs.old) t ≡ true) (map view types.now) }
+    ensures { OnOk result (view_structs structs.new
+        ≡ pure.with_targets (view_structs structs.old) (map view types.now)) }
 {
-    note_objects(alloc, structs, objects)?;
     for t in types {
         note_targets(alloc, structs, t)?;
     }
+    Ok(())
+}
+
+/// Gives the types of the pointers in these objects, in allocated ones, and in those of functions numbers.
+pub(crate) fn note_all_types(
+    alloc: Global,
+    structs: &mut Structs,
+    objects: &[Object],
+    allocated: &[CType],
+    inside: &[CType],
+) -> Result<(), OutOfMemory>
+    requires layouts { Each (λ x. has_size (view_structs structs.old) x.ctype ≡ true) (map view_object objects.now) }
+    requires allocated { Each (λ t. has_size (view_structs structs.old) t ≡ true) (map view allocated.now) }
+    requires inside { Each (λ t. has_size (view_structs structs.old) t ≡ true) (map view inside.now) }
+    ensures { OnOk result (view_structs structs.new ≡ pure.with_targets (view_structs structs.old)
+        (map type_of (map view_object objects.now) ++ map view allocated.now ++ map view inside.now)) }
+{
+    note_objects(alloc, structs, objects)?;
+    note_types(alloc, structs, allocated)?;
+    note_types(alloc, structs, inside)?;
     Ok(())
 }

@@ -5,14 +5,14 @@ ghost use Rattle.block_layout.specs.Places.{in_range};
 ghost use Rattle.integers.specs.Integers.{IsInteger};
 ghost use Rattle.upc_types.specs.View.{view_base};
 ghost use Rattle.upc_types.specs.ViewStructs.{view_structs};
-ghost use Rattle.program_opening.specs.Initials as pure;
-ghost use Rattle.program_opening.specs.Initials.{view_setting};
+ghost use Rattle.typed_tree.specs.Initials as pure;
+ghost use Rattle.program_opening.specs.ViewSettings.{view_setting};
 
-use crate::objects::SharedDecl;
 use crate::setting::Setting;
 use block_layout::{Kind, LocalPtr, ObjectRef, SharedPtr};
-use typed_tree::constants::cast_constant;
-use typed_tree::{Constant, Static};
+use typed_tree::SharedDecl;
+use typing_rules::constants::cast_constant;
+use typing_rules::{Constant, Static};
 use upc_types::{Base, Structs};
 use upc_values::{Scalar, Value};
 

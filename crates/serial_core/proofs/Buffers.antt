@@ -16,10 +16,12 @@ use Rattle.upc_values.specs.Drain.{Walk, emptied, oldest_out, stored, passed, lo
 use Rattle.upc_values.specs.Openings.{Opening, IsOpening}
 use Rattle.upc_values.specs.History.{objects, reply}
 use Rattle.upc_values.specs.Formed.{IsWellFormed, fits_after}
+use Rattle.upc_values.specs.Known.{gives_known}
 use Rattle.upc_values.proofs.Walks.{emptied-same, room-left, room-made, entries_of-append, entries-own, entries-all}
 use Rattle.upc_values.proofs.Legality.{unlawful-waits}
 use Rattle.upc_values.proofs.Replies.{formed-grow, fits-grow}
 use Rattle.upc_values.proofs.Fitting.{written-fits}
+use Rattle.upc_values.proofs.Known.{written-known}
 use Rattle.upc_values.proofs.Scalars.{same_scalar-refl}
 use Rattle.upc_values.proofs.Sameness.{same_loc-true}
 use Rattle.memory_history.specs.World.{performed}
@@ -280,11 +282,12 @@ emitted-empties o t n seen new a (Some r) w h is k =
 
 -- what the answer says of itself
 pub answer-is : (o : Opening) (t n : ℕ) (seen new : List Entry) (a : Action) (found : Option Reply) → IsWellFormed o seen a
-    → found ≡ reply o seen t a → IfSome found (λ r. fits_after o seen a r ≡ true) → new ≡ performed seen t n a found → IsAnswer o t new a found
-answer-is o t n seen new a None f e k is =
+    → found ≡ reply o seen t a → IfSome found (λ r. fits_after o seen a r ≡ true) → IfSome found (λ r. gives_known o new r ≡ true)
+    → new ≡ performed seen t n a found → IsAnswer o t new a found
+answer-is o t n seen new a None f e k z is =
     (unlawful-waits o seen t a f (sym e), subst (λ z. reply o z t a ≡ None) (sym is) (sym e))
-answer-is o t n seen new a (Some r) f e k is =
-    subst (λ z. fits_after o z a r ≡ true) (sym is) (fits-grow o seen (entry_of t n a r ∷ []) a r f k)
+answer-is o t n seen new a (Some r) f e k z is =
+    (subst (λ z. fits_after o z a r ≡ true) (sym is) (fits-grow o seen (entry_of t n a r ∷ []) a r f k), z)
 
 -- what the buffer's look-up found
 
@@ -330,14 +333,16 @@ youngest-loc l (p ∷ ps) q e =
     ] in
     go (youngest l ps) (same_loc p.loc l) refl refl e
 
-pub forwarded-fits : (o : Opening) (i : ℕ) (l : Loc) (v : Scalar) (seen : List Entry) (ps : List Pending) (a : Action) → IsOpening o → objects o seen ≡ o.declared → AreFormed o seen ps → way_of a ≡ Looks l → hit i v ≡ hits (youngest l ps) → fits_after o seen a (Value v) ≡ true
-forwarded-fits o i l v seen ps a valid declared formed h y =
+-- a forwarded value fits and is known
+pub forwarded-answers : (o : Opening) (t i : ℕ) (l : Loc) (v : Scalar) (seen : List Entry) (ps : List Pending) (a : Action) → IsOpening o → objects o seen ≡ o.declared
+    → AreFormed o seen ps → way_of a ≡ Looks l → hit i v ≡ hits (youngest l ps) → IsAnswer o t seen a (Some (Value v))
+forwarded-answers o t i l v seen ps a valid declared formed h y =
     let f = found-some (youngest l ps) i v y in
     let asked : IsWellFormed o seen (Write l f.0.value false) =
     subst (λ k. IsWellFormed o seen (Write k f.0.value false)) (youngest-loc l ps f.0 f.1) (youngest-formed o seen l ps f.0 formed f.1) in
-    subst (λ b. fits_after o seen b (Value v) ≡ true) (sym (looks-is a l h))
-    (subst (λ u. fits_after o seen (Read l false) (Value u) ≡ true) f.2
-    (written-fits o seen l false false f.0.value valid declared asked))
+    subst (λ b. IsAnswer o t seen b (Some (Value v))) (sym (looks-is a l h))
+    (subst (λ u. IsAnswer o t seen (Read l false) (Some (Value u))) f.2
+    (written-fits o seen l false false f.0.value valid declared asked, written-known o seen l f.0.value false asked))
 
 -- the buffer is emptied, as at an end
 pub holds-finished : (o : Opening) (t n : ℕ) (seen new : List Entry) (ps qs : List Pending) (w : Walk) → qs ≡ []

@@ -1,5 +1,5 @@
 -- A run of tasks: at a step, at its end, and as a journal.
-use Rattle.std.proofs.Common.{◌≡◌, ◌≢◌, ℕ, ◌<◌, true, false, List, map, length, Option, Some, None, is_some, refl, sym, ap, subst, ◌∙◌, inl, inr, get_or, set, get_or-set_same, get_or-set_other}
+use Rattle.std.proofs.Common.{◌≡◌, ◌≢◌, ℕ, ◌<◌, ◌≤◌, ◌*◌, true, false, List, map, length, Option, Some, None, is_some, refl, sym, ap, subst, ◌∙◌, inl, inr, get_or, set, get_or-set_same, get_or-set_other}
 use Rattle.std.proofs.lemmas.Bool.{cases_eq, false≢true}
 use Rattle.std.proofs.lemmas.List.{length-set, length-map, get_or-map}
 use Rattle.upc_values.specs.declared.action.Action.{Action}
@@ -17,12 +17,12 @@ use Rattle.upc_values.specs.Sound.{IsStrand, IsSound}
 use Rattle.first_language.specs.declared.tree.First.{First}
 use Rattle.first_language.specs.declared.machine.Wish.{Wish}
 use Rattle.first_language.specs.declared.machine.Wish.TheVariants.{Act}
-use Rattle.first_language.specs.Meaning.{meaning}
 use Rattle.serial_core.specs.declared.limits.Limits.{Limits}
 use Rattle.serial_core.specs.declared.task.Task.{Task}
 use Rattle.serial_core.specs.declared.task.Pause.{Pause}
 use Rattle.serial_core.specs.declared.task.Pause.TheVariants as pauses
-use Rattle.serial_core.specs.Kept.{IsKept, IsSame, Grew, Paused, is_given, meaning_of, outcome_of, settled, Holds, end_or, strand_of}
+use Rattle.serial_core.specs.Sources.{Outcomes}
+use Rattle.serial_core.specs.Kept.{AreLimits, IsKept, IsSame, Grew, Paused, is_given, outcome_of, settled, Holds, end_or, strand_of}
 use Rattle.serial_core.specs.Runs.{IsAt, HasOwnEnd, IsRunning, IsStart, IsNew, AreSame, Rested, Stops, Wanting, Given, IsOver, AreEach, halted, halted_end, locked, locked_end, CanLock}
 use Rattle.std.proofs.lemmas.List.Sums.{count_by_more_yes, count_by_more_no}
 use Rattle.std.proofs.Common.{take, ◌+◌}
@@ -32,8 +32,8 @@ use Rattle.serial_core.proofs.Lists.{numbered-map, both, some-of}
 use Rattle.serial_core.proofs.Options.{none-some}
 use Rattle.serial_core.proofs.Tasks.{kept-grow, kept-ended}
 
-at-grow : (op : Opening) (src : First) (i t : ℕ) (seen later : List Entry) (k : Task) → (i ≢ t) → Grew t seen later → IsAt op src seen i k → IsAt op src later i k
-at-grow op src i t seen later k ne g h = record { thread = h.thread; kept = kept-grow op src t seen later k h.kept (λ q. ne (sym h.thread ∙ q)) g }
+at-grow : (op : Opening) (p : First) (src : Outcomes) (i t : ℕ) (seen later : List Entry) (k : Task) → (i ≢ t) → Grew t seen later → IsAt op p src seen i k → IsAt op p src later i k
+at-grow op p src i t seen later k ne g h = record { thread = h.thread; kept = kept-grow op p src t seen later k h.kept (λ q. ne (sym h.thread ∙ q)) g }
 
 pub paused-own : (p : Pause) (k : Task) → Paused p k → HasOwnEnd k
 paused-own pauses.Going k h e q = absurd (let z : Some e ≡ None = sym q ∙ h in cc)
@@ -41,12 +41,12 @@ paused-own pauses.Beat k h e q = absurd (let z : Some e ≡ None = sym q ∙ h.0
 paused-own pauses.Stalled k h e q = absurd (let z : Some e ≡ None = sym q ∙ h.0 in cc)
 paused-own pauses.Finished k h e q = let z : h.0 ≡ e = cc in subst (λ f. is_given f ≡ false) z h.2
 
-pub running-set : (op : Opening) (src : First) (t : ℕ) (seen later : List Entry) (ks : List Task) (k : Task) → IsRunning op src seen ks → t < length ks → Grew t seen later → IsAt op src later t k → HasOwnEnd k → IsRunning op src later (set ks t k)
-running-set op src t seen later ks k r lt g a o = record {
+pub running-set : (op : Opening) (p : First) (src : Outcomes) (t : ℕ) (seen later : List Entry) (ks : List Task) (k : Task) → IsRunning op p src seen ks → t < length ks → Grew t seen later → IsAt op p src later t k → HasOwnEnd k → IsRunning op p src later (set ks t k)
+running-set op p src t seen later ks k r lt g a o = record {
   many = length-set ks t k ∙ r.many;
-  tasks = λ i d l. elim (cases_eq i t) as (λ z. IsAt op src later i (get_or (set ks t k) i d)) [
-    | inl e ↦ subst (λ j. IsAt op src later j (get_or (set ks t k) j d)) (sym e) (subst (IsAt op src later t) (sym (get_or-set_same ks t k d lt)) a)
-    | inr ne ↦ subst (IsAt op src later i) (sym (get_or-set_other ks t i k d ne)) (at-grow op src i t seen later (get_or ks i d) ne g (r.tasks i d (subst (λ m. i < m) (length-set ks t k) l)))
+  tasks = λ i d l. elim (cases_eq i t) as (λ z. IsAt op p src later i (get_or (set ks t k) i d)) [
+    | inl e ↦ subst (λ j. IsAt op p src later j (get_or (set ks t k) j d)) (sym e) (subst (IsAt op p src later t) (sym (get_or-set_same ks t k d lt)) a)
+    | inr ne ↦ subst (IsAt op p src later i) (sym (get_or-set_other ks t i k d ne)) (at-grow op p src i t seen later (get_or ks i d) ne g (r.tasks i d (subst (λ m. i < m) (length-set ks t k) l)))
   ];
   own = λ i d l. elim (cases_eq i t) as (λ z. HasOwnEnd (get_or (set ks t k) i d)) [
     | inl e ↦ subst (λ j. HasOwnEnd (get_or (set ks t k) j d)) (sym e) (subst HasOwnEnd (sym (get_or-set_same ks t k d lt)) o)
@@ -55,18 +55,18 @@ running-set op src t seen later ks k r lt g a o = record {
 }
 
 -- what f makes of each, where it makes a task that keeps its thread, limit and invariant
-each-at : (f : Task → Task) (op : Opening) (src : First) (seen : List Entry) (ks ms : List Task) → AreEach f ks ms → ((i : ℕ) (d : Task) → i < length ks → IsAt op src seen i (f (get_or ks i d))) → Numbered (λ i k. IsAt op src seen i k) ms
-each-at f op src seen ks ms e h i d lt = let l : i < length ks = subst (λ m. i < m) e.many lt in subst (IsAt op src seen i) (sym (e.each i d l)) (h i d l)
+each-at : (f : Task → Task) (op : Opening) (p : First) (src : Outcomes) (seen : List Entry) (ks ms : List Task) → AreEach f ks ms → ((i : ℕ) (d : Task) → i < length ks → IsAt op p src seen i (f (get_or ks i d))) → Numbered (λ i k. IsAt op p src seen i k) ms
+each-at f op p src seen ks ms e h i d lt = let l : i < length ks = subst (λ m. i < m) e.many lt in subst (IsAt op p src seen i) (sym (e.each i d l)) (h i d l)
 
 same-end : (k : Task) (o : Option End) → k.«end» ≡ o → k ≡ record k { «end» = o }
 same-end k o q = ap (λ z. let m : Task = record k { «end» = z } in m) q
 
-at-halted : (op : Opening) (src : First) (i : ℕ) (seen : List Entry) (k : Task) → IsAt op src seen i k → Rested k → IsAt op src seen i (halted k)
-at-halted op src i seen k a r =
-    let go : (o : Option End) → k.«end» ≡ o → IsAt op src seen i (record k { «end» = halted_end o }) =
-    λ o. elim o as (λ o. k.«end» ≡ o → IsAt op src seen i (record k { «end» = halted_end o })) [
-      | None ↦ λ q. record { thread = a.thread; kept = kept-ended op src seen k Halted a.kept q (r q) }
-      | Some e ↦ λ q. subst (IsAt op src seen i) (same-end k (Some e) q) a
+at-halted : (op : Opening) (p : First) (src : Outcomes) (i : ℕ) (seen : List Entry) (k : Task) → IsAt op p src seen i k → Rested k → IsAt op p src seen i (halted k)
+at-halted op p src i seen k a r =
+    let go : (o : Option End) → k.«end» ≡ o → IsAt op p src seen i (record k { «end» = halted_end o }) =
+    λ o. elim o as (λ o. k.«end» ≡ o → IsAt op p src seen i (record k { «end» = halted_end o })) [
+      | None ↦ λ q. record { thread = a.thread; kept = kept-ended op p src seen k Halted a.kept q (r q) }
+      | Some e ↦ λ q. subst (IsAt op p src seen i) (same-end k (Some e) q) a
     ] in
     go k.«end» refl
 
@@ -74,13 +74,13 @@ locked-some : (w : Option Wish) (e : End) → Some e ≡ locked_end w (Some e)
 locked-some None e = refl
 locked-some (Some w) e = refl
 
-at-locked : (op : Opening) (src : First) (i : ℕ) (seen : List Entry) (k : Task) → IsAt op src seen i k → (k.«end» ≡ None → CanLock k) → IsAt op src seen i (locked k)
-at-locked op src i seen k a r =
-    let go : (o : Option End) → k.«end» ≡ o → IsAt op src seen i (record k { «end» = locked_end k.wish o }) =
-    λ o. elim o as (λ o. k.«end» ≡ o → IsAt op src seen i (record k { «end» = locked_end k.wish o })) [
-      | None ↦ λ q. let c = r q in subst (λ w. IsAt op src seen i (record k { «end» = locked_end w None })) (sym c.1)
-          (record { thread = a.thread; kept = kept-ended op src seen k (Deadlocked c.0) a.kept q (c.1, c.2) })
-      | Some e ↦ λ q. subst (IsAt op src seen i) (same-end k (Some e) q ∙ ap (λ z. let m : Task = record k { «end» = z } in m) (locked-some k.wish e)) a
+at-locked : (op : Opening) (p : First) (src : Outcomes) (i : ℕ) (seen : List Entry) (k : Task) → IsAt op p src seen i k → (k.«end» ≡ None → CanLock k) → IsAt op p src seen i (locked k)
+at-locked op p src i seen k a r =
+    let go : (o : Option End) → k.«end» ≡ o → IsAt op p src seen i (record k { «end» = locked_end k.wish o }) =
+    λ o. elim o as (λ o. k.«end» ≡ o → IsAt op p src seen i (record k { «end» = locked_end k.wish o })) [
+      | None ↦ λ q. let c = r q in subst (λ w. IsAt op p src seen i (record k { «end» = locked_end w None })) (sym c.1)
+          (record { thread = a.thread; kept = kept-ended op p src seen k (Deadlocked c.0) a.kept q (c.1, c.2) })
+      | Some e ↦ λ q. subst (IsAt op p src seen i) (same-end k (Some e) q ∙ ap (λ z. let m : Task = record k { «end» = z } in m) (locked-some k.wish e)) a
     ] in
     go k.«end» refl
 
@@ -96,10 +96,10 @@ halted-ended (Some e) = refl
 stops-halted : (k : Task) → Stops k → Stops (halted k)
 stops-halted k s = (s.0, ap halted_end s.1, s.2)
 
-pub over-halted : (op : Opening) (src : First) (seen : List Entry) (ks ms : List Task) (u : ℕ) → IsRunning op src seen ks → Numbered (λ j k. Rested k) ks → u < length ks → ((d : Task) → Stops (get_or ks u d)) → AreEach halted ks ms → IsOver op src seen ms
-over-halted op src seen ks ms u r rested ul stop e = record {
+pub over-halted : (op : Opening) (p : First) (src : Outcomes) (seen : List Entry) (ks ms : List Task) (u : ℕ) → IsRunning op p src seen ks → Numbered (λ j k. Rested k) ks → u < length ks → ((d : Task) → Stops (get_or ks u d)) → AreEach halted ks ms → IsOver op p src seen ms
+over-halted op p src seen ks ms u r rested ul stop e = record {
   many = e.many ∙ r.many;
-  tasks = each-at halted op src seen ks ms e (λ i d l. at-halted op src i seen (get_or ks i d) (r.tasks i d l) (rested i d l));
+  tasks = each-at halted op p src seen ks ms e (λ i d l. at-halted op p src i seen (get_or ks i d) (r.tasks i d l) (rested i d l));
   ended = λ i d lt. ap (λ k. is_some k.«end») (e.each i d (subst (λ m. i < m) e.many lt)) ∙ halted-ended (get_or ks i d).«end»;
   given = λ i d lt f q.
       let l : i < length ks = subst (λ m. i < m) e.many lt in let k = get_or ks i d in
@@ -133,10 +133,10 @@ locked-settles : (w : Option Wish) (o : Option End) (f : End) → (o ≡ None �
 locked-settles w (Some e) f h k q = let z : Some e ≡ Some f = locked-some w e ∙ q in let y : e ≡ f = cc in let p = k e refl in subst (λ g. settles g ≡ true) y (own-settles e p.0 p.1)
 locked-settles w None f h k q = let c = h refl in let z : Some (Deadlocked c.0) ≡ Some f = ap (λ y. locked_end y None) (sym c.1) ∙ q in let y : Deadlocked c.0 ≡ f = cc in subst (λ g. settles g ≡ true) y refl
 
-pub over-locked : (op : Opening) (src : First) (seen : List Entry) (ks ms : List Task) → IsRunning op src seen ks → Numbered (λ j k. k.«end» ≡ None → Wanting op seen k) ks → Numbered (λ j k. (e : End) → k.«end» ≡ Some e → stops e ≡ false) ks → AreEach locked ks ms → IsOver op src seen ms
-over-locked op src seen ks ms r want quiet e = record {
+pub over-locked : (op : Opening) (p : First) (src : Outcomes) (seen : List Entry) (ks ms : List Task) → IsRunning op p src seen ks → Numbered (λ j k. k.«end» ≡ None → Wanting op seen k) ks → Numbered (λ j k. (e : End) → k.«end» ≡ Some e → stops e ≡ false) ks → AreEach locked ks ms → IsOver op p src seen ms
+over-locked op p src seen ks ms r want quiet e = record {
   many = e.many ∙ r.many;
-  tasks = each-at locked op src seen ks ms e (λ i d l. at-locked op src i seen (get_or ks i d) (r.tasks i d l) (λ q. let w = want i d l q in (w.action, w.wish_is, w.stalled)));
+  tasks = each-at locked op p src seen ks ms e (λ i d l. at-locked op p src i seen (get_or ks i d) (r.tasks i d l) (λ q. let w = want i d l q in (w.action, w.wish_is, w.stalled)));
   ended = λ i d lt. let l : i < length ks = subst (λ m. i < m) e.many lt in
       ap (λ k. is_some k.«end») (e.each i d l) ∙ locked-ended (get_or ks i d).wish (get_or ks i d).«end» (λ q. let w = want i d l q in (w.action, w.wish_is));
   given = λ i d lt f q.
@@ -155,8 +155,8 @@ over-locked op src seen ks ms r want quiet e = record {
       ] in go k.«end» refl q';
 }
 
-pub over-ended : (op : Opening) (src : First) (seen : List Entry) (ks : List Task) → IsRunning op src seen ks → Numbered (λ j k. is_some k.«end» ≡ true) ks → IsOver op src seen ks
-over-ended op src seen ks r ended = record {
+pub over-ended : (op : Opening) (p : First) (src : Outcomes) (seen : List Entry) (ks : List Task) → IsRunning op p src seen ks → Numbered (λ j k. is_some k.«end» ≡ true) ks → IsOver op p src seen ks
+over-ended op p src seen ks r ended = record {
   many = r.many;
   tasks = r.tasks;
   ended = ended;
@@ -164,9 +164,9 @@ over-ended op src seen ks r ended = record {
 }
 
 -- a strand of a task
-strand-own : (op : Opening) (src : First) (seen : List Entry) (k : Task) (e : End) → IsKept op src seen k → k.«end» ≡ Some e
-    → IsStrand op k.thread k.limits.actions seen (meaning_of src k) (strand_of src k)
-strand-own op src seen k e h q =
+strand-own : (op : Opening) (p : First) (src : Outcomes) (seen : List Entry) (k : Task) (e : End) → IsKept op p src seen k → k.«end» ≡ Some e
+    → IsStrand op k.thread k.limits.actions seen (src k.thread) (strand_of src k)
+strand-own op p src seen k e h q =
     let he = h.ended e q in let ends : end_or k.«end» ≡ e = ap end_or q in
     let hw = subst (λ z. Holds op k.thread seen k.buffer k.next (settled z (walked k.thread k.items.items))) q h.holds in
     record {
@@ -182,17 +182,17 @@ some-end : (o : Option End) → is_some o ≡ true → (e : End) × (o ≡ Some 
 some-end None h = absurd (false≢true h)
 some-end (Some e) h = (e, refl)
 
-strand-at : (op : Opening) (src : First) (l : Limits) (i : ℕ) (seen : List Entry) (k : Task) → IsAt op src seen i k → is_some k.«end» ≡ true
-    → k.limits ≡ l → IsStrand op i l.actions seen (meaning src i l.threads l.budget) (strand_of src k)
-strand-at op src l i seen k a h q = let e = some-end k.«end» h in
-    subst (λ t. IsStrand op t l.actions seen (meaning src t l.threads l.budget) (strand_of src k)) a.thread
-    (subst (λ m. IsStrand op k.thread m.actions seen (meaning src k.thread m.threads m.budget) (strand_of src k)) q
-    (strand-own op src seen k e.0 a.kept e.1))
+strand-at : (op : Opening) (p : First) (src : Outcomes) (l : Limits) (i : ℕ) (seen : List Entry) (k : Task) → IsAt op p src seen i k → is_some k.«end» ≡ true
+    → k.limits ≡ l → IsStrand op i l.actions seen (src i) (strand_of src k)
+strand-at op p src l i seen k a h q = let e = some-end k.«end» h in
+    subst (λ t. IsStrand op t l.actions seen (src t) (strand_of src k)) a.thread
+    (subst (λ m. IsStrand op k.thread m.actions seen (src k.thread) (strand_of src k)) q
+    (strand-own op p src seen k e.0 a.kept e.1))
 
 settled-strand : (k : Task) → ((f : End) → k.«end» ≡ Some f → settles f ≡ true) → is_some k.«end» ≡ true → settles (end_or k.«end») ≡ true
 settled-strand k h s = let e = some-end k.«end» s in ap (λ o. settles (end_or o)) e.1 ∙ h e.0 e.1
 
-shared-end : (op : Opening) (src : First) (j : Journal) (ms : List Task) (i : ℕ) (k : Task) (e : End) → j.strands ≡ map (strand_of src) ms
+shared-end : (op : Opening) (src : Outcomes) (j : Journal) (ms : List Task) (i : ℕ) (k : Task) (e : End) → j.strands ≡ map (strand_of src) ms
     → Numbered (λ i k. is_some k.«end» ≡ true) ms → Given op j.history ms i e → SharedEnd op j i e
 shared-end op src j ms i k Halted s ended h = record {
   other = h.other;
@@ -215,23 +215,24 @@ shared-end op src j ms i k ActionsFull s ended h = tt
 shared-end op src j ms i k (Exit v) s ended h = tt
 
 -- the journal of a run that is over is sound
-pub over-sound : (op : Opening) (src : First) (l : Limits) (ks ms : List Task) (j : Journal) → IsOver op src j.history ms → IsLegal op j.history
+pub over-sound : (op : Opening) (p : First) (all : ℕ → Outcomes) (l : Limits) (ks ms : List Task) (j : Journal) → IsOver op p (all l.budget) j.history ms → IsLegal op j.history
     → AreWellFormed op j.history → EachBelow op.threads j.history → AreSame ks ms → Numbered (λ i k. k.limits ≡ l) ks
-    → j.threads ≡ op.threads → j.actions ≡ l.actions → j.strands ≡ map (strand_of src) ms
-    → IsSound op (λ t. meaning src t l.threads l.budget) j
-over-sound op src l ks ms j o legal formed below same limits threads actions s = record {
+    → j.threads ≡ op.threads → j.budget ≡ l.budget → j.actions ≡ l.actions → j.strands ≡ map (strand_of (all l.budget)) ms
+    → IsSound op all j
+over-sound op p all l ks ms j o legal formed below same limits threads budget actions s = let src = all l.budget in record {
   threads = threads;
   many = ap length s ∙ length-map ms (strand_of src) ∙ o.many;
   below = below;
   legal = legal;
   formed = formed;
-  strands = subst (λ n. Numbered (λ t s. IsStrand op t n j.history (meaning src t l.threads l.budget) s) j.strands) (sym actions)
-      (subst (Numbered (λ t s. IsStrand op t l.actions j.history (meaning src t l.threads l.budget) s)) (sym s)
-      (numbered-map (strand_of src) (λ i k. IsAt op src j.history i k × (is_some k.«end» ≡ true) × (k.limits ≡ l))
-      (λ t s. IsStrand op t l.actions j.history (meaning src t l.threads l.budget) s)
-      (λ i k p. strand-at op src l i j.history k p.0 p.1 p.2) ms
+  strands = subst (λ b. Numbered (λ t s. IsStrand op t j.actions j.history (all b t) s) j.strands) (sym budget)
+      (subst (λ n. Numbered (λ t s. IsStrand op t n j.history (src t) s) j.strands) (sym actions)
+      (subst (Numbered (λ t s. IsStrand op t l.actions j.history (src t) s)) (sym s)
+      (numbered-map (strand_of src) (λ i k. IsAt op p src j.history i k × (is_some k.«end» ≡ true) × (k.limits ≡ l))
+      (λ t s. IsStrand op t l.actions j.history (src t) s)
+      (λ i k q. strand-at op p src l i j.history k q.0 q.1 q.2) ms
       (λ i d lt. let few : i < length ks = subst (λ m. i < m) same.many lt in
-      (o.tasks i d lt, o.ended i d lt, (same.each i d few).limits ∙ limits i d few))));
+      (o.tasks i d lt, o.ended i d lt, (same.each i d few).limits ∙ limits i d few)))));
   ends = subst (Numbered (λ t s. SharedEnd op j t s.«end»)) (sym s)
       (numbered-map (strand_of src) (λ i k. SharedEnd op j i (end_or k.«end»)) (λ t s. SharedEnd op j t s.«end») (λ i k p. p) ms
       (λ i d lt. let e = some-end (get_or ms i d).«end» (o.ended i d lt) in
@@ -256,9 +257,14 @@ same-each f ks ls ms h s e = record {
       subst (IsSame (get_or ks i d)) (sym q) (record { thread = b.thread ∙ a.thread; limits = b.limits ∙ a.limits });
 }
 
+pub limits-of : (l : Limits) → (1 ≤ l.threads) × (l.threads ≤ 32) → (1 ≤ l.budget) × (l.budget ≤ 1000000000000)
+    → (1 ≤ l.actions) × (l.threads * l.actions ≤ 8388608) → AreLimits l
+limits-of l t b a = record { some = t.0; threads = t.1; ticks = b.0; budget = b.1; items = a.0; all = a.1 }
+
 -- a run that begins
-pub start-of : (src : First) (l : Limits) (ks : List Task) → length ks ≡ l.threads → Numbered (λ i k. IsNew src l i k) ks → IsStart src l ks
-start-of src l ks many new = record {
+pub start-of : (op : Opening) (p : First) (src : Outcomes) (l : Limits) (ks : List Task) → length ks ≡ op.threads → Numbered (λ i k. IsNew op p src l i k) ks
+    → IsStart op p src l ks
+start-of op p src l ks many new = record {
   running = record {
     many = many;
     tasks = λ i d lt. record { thread = (new i d lt).thread; kept = (new i d lt).kept };

@@ -14,6 +14,7 @@ use Rattle.upc_values.specs.Drain.{Walk, walked, entries_of, emptied, gone, entr
 use Rattle.upc_values.specs.Openings.{Opening}
 use Rattle.upc_values.specs.History.{reply}
 use Rattle.upc_values.specs.Formed.{IsWellFormed, fits_after}
+use Rattle.upc_values.specs.Known.{gives_known, AreKnown}
 use Rattle.upc_values.specs.Outcomes.{Outcome, wanted}
 use Rattle.upc_values.specs.Records.{actions_of, replies_of, last_item, is_stall, is_beat, is_beat_item, beats}
 use Rattle.upc_values.specs.Strands.{StallsStand, AreJustified, strand_ticks, may_wait}
@@ -22,8 +23,7 @@ use Rattle.first_language.specs.declared.tree.First.{First}
 use Rattle.first_language.specs.declared.machine.Machine.{Machine}
 use Rattle.first_language.specs.declared.machine.Wish.{Wish}
 use Rattle.first_language.specs.declared.machine.Wish.TheVariants.{Act, Ended, Exit, Fault, Budget}
-use Rattle.first_language.specs.Meaning.{opening_of, meaning}
-use Rattle.first_language.specs.Machine.{Stands, HasAsked, Answers, listed, told_of}
+use Rattle.first_language.specs.Machine.{HasAsked, listed, told_of}
 use Rattle.write_buffer.specs.declared.pending.Pending.{Pending}
 use Rattle.write_buffer.specs.Buffer.{committed}
 use Rattle.serial_core.specs.declared.emit.Way.{Way}
@@ -32,6 +32,7 @@ use Rattle.serial_core.specs.declared.limits.Limits.{Limits}
 use Rattle.serial_core.specs.declared.task.Task.{Task}
 use Rattle.serial_core.specs.declared.task.Pause.{Pause}
 use Rattle.serial_core.specs.declared.task.Pause.TheVariants as pauses
+use Rattle.serial_core.specs.Sources.{Outcomes, IsSource, Follows, Answered}
 
 -- what a run may be limited to: 1 to 32 threads, up to 10^12 ticks, and 8,388,608 items over all threads
 pub record AreLimits (l : Limits) : Type 0 where
@@ -77,41 +78,41 @@ abbrev pub Emitted : Opening → ℕ → List Entry → List Pending → ℕ →
 Emitted o t seen pending next a None w = Holds o t seen pending next (emptied w)
 Emitted o t seen pending next a (Some r) w = Holds o t seen pending (next + 1) (gone (entry_of t next a r) a w)
 
--- what an answer says of itself: a reply fits, and with none the action may wait and is not legal now
+-- what an answer says of itself: a reply fits and is known, and with none the action may wait and is not legal now
 abbrev pub IsAnswer : Opening → ℕ → List Entry → Action → Option Reply → Type 0
 IsAnswer o t seen a None = (may_wait a ≡ true) × (reply o seen t a ≡ None)
-IsAnswer o t seen a (Some r) = fits_after o seen a r ≡ true
+IsAnswer o t seen a (Some r) = (fits_after o seen a r ≡ true) × (gives_known o seen r ≡ true)
 
--- the meaning of the task's source, where the source is p
-abbrev pub meaning_of : First → Task → List Reply → Outcome
-meaning_of p k = meaning p k.thread k.limits.threads k.limits.budget
-
--- what the source comes to on the replies of the record
-abbrev pub outcome_of : First → Task → Outcome
-outcome_of p k = meaning_of p k (replies_of k.items.items)
+-- what the task's source comes to on the replies of the record, where these are the threads' outcomes
+abbrev pub outcome_of : Outcomes → Task → Outcome
+outcome_of f k = f k.thread (replies_of k.items.items)
 
 -- a record that may stand in a strand of t, after the entries seen, where its source has the outcome
-pub record IsRecord (o : Opening) (t actions : ℕ) (seen : List Entry) (outcome : Outcome) (items : List Item) : Type 0 where
+pub record IsRecord (o : Opening) (t actions : ℕ) (seen : List Entry) (outcome : Outcome) (items : List Item)
+    : Type 0 where
   pub did : outcome.actions ≡ actions_of items
   pub stalls : StallsStand (wanted outcome.«end») items
   pub justified : AreJustified o t seen (wanted outcome.«end») [] items
   pub short : length items ≤ actions
+  pub known : AreKnown o seen (replies_of items)
 
--- what the machine, and the reply that it has not taken yet, are to the record
-pub record Goes (p : First) (t n b : ℕ) (machine : Machine) (answer : Option Reply) (wish : Option Wish) (items : List Item) : Type 0 where
+-- what the machine, and the reply that it has not taken yet, are to the record of a thread with these outcomes
+pub record Goes (p : First) (outcome : List Reply → Outcome) (t n b : ℕ) (machine : Machine) (answer : Option Reply)
+    (wish : Option Wish) (items : List Item) : Type 0 where
   pub given : List Reply
-  pub stands : Stands p t n b given machine
-  pub answered : Answers p t n b given answer
+  pub follows : Follows p t n b outcome given machine
+  pub answered : Answered outcome given answer
   pub replies : given ++ listed answer ≡ replies_of items
   pub wished : (w : Wish) → wish ≡ Some w
-      → (answer ≡ None) × (told_of w ≡ (meaning p t n b (replies_of items)).«end»)
+      → (answer ≡ None) × (told_of w ≡ (outcome (replies_of items)).«end»)
   pub idle : wish ≡ None → is_stall (last_item items) ≡ false
   pub beats : is_beat_item (last_item items) ≡ true → wish ≡ None
-      → (meaning p t n b given).ticks ≡ 1024 * beats (actions_of items)
+      → (outcome given).ticks ≡ 1024 * beats (actions_of items)
   pub asked : ((items ≡ []) × (wish ≡ None)) ⊎ HasAsked machine
 
 -- a task has its end: its buffer is empty, the end is one that the outcome allows, and the ticks are those of a strand
-pub record HasEnd (actions ticks : ℕ) (pending : List Pending) (machine : Machine) (outcome : Outcome) (items : List Item) (e : End) : Type 0 where
+pub record HasEnd (actions ticks : ℕ) (pending : List Pending) (machine : Machine) (outcome : Outcome)
+    (items : List Item) (e : End) : Type 0 where
   pub empty : pending ≡ []
   pub asked : HasAsked machine
   pub own : OwnEnd actions outcome.«end» items e
@@ -122,27 +123,26 @@ abbrev pub settled : Option End → Walk → Walk
 settled None w = w
 settled (Some e) w = emptied w
 
--- what a task keeps between two calls, where its source is p and the entries seen have all its own
-pub record IsKept (o : Opening) (p : First) (seen : List Entry) (k : Task) : Type 0 where
-  pub opened : o ≡ opening_of p k.limits.threads
-  pub within : k.thread < k.limits.threads
-  pub threads : k.limits.threads ≤ 32
-  pub budget : 1 ≤ k.limits.budget
+-- what a task of the program p keeps between two calls, where these are the threads' outcomes and the entries seen have
+-- all its own
+pub record IsKept (o : Opening) (p : First) (f : Outcomes) (seen : List Entry) (k : Task) : Type 0 where
+  pub source : IsSource o k.limits.budget (f k.thread)
+  pub within : k.thread < o.threads
   pub small : k.limits.actions < 2 ^ 32
   pub holds : Holds o k.thread seen k.buffer k.next (settled k.«end» (walked k.thread k.items.items))
   pub few : k.next ≤ length k.items.items
-  pub record_ok : IsRecord o k.thread k.limits.actions seen (outcome_of p k) k.items.items
-  pub goes : Goes p k.thread k.limits.threads k.limits.budget k.machine k.answer k.wish k.items.items
+  pub record_ok : IsRecord o k.thread k.limits.actions seen (outcome_of f k) k.items.items
+  pub goes : Goes p (f k.thread) k.thread k.limits.threads k.limits.budget k.machine k.answer k.wish k.items.items
   pub ended : (e : End) → k.«end» ≡ Some e
-      → HasEnd k.limits.actions (meaning_of p k goes.given).ticks k.buffer k.machine (outcome_of p k) k.items.items e
+      → HasEnd k.limits.actions (f k.thread goes.given).ticks k.buffer k.machine (outcome_of f k) k.items.items e
 
 -- whatever its source, a task that was kept over the one world is kept over the other
 abbrev pub Keeps : Opening × List Entry → Task → Opening × List Entry → Task → Type 0
-Keeps w k x m = (p : First) → IsKept w.0 p w.1 k → IsKept x.0 p x.1 m
+Keeps w k x m = (p : First) (f : Outcomes) → IsKept w.0 p f w.1 k → IsKept x.0 p f x.1 m
 
--- over the same entries a task of the source p stays kept
+-- over the same entries a task of the program p stays kept
 abbrev pub StaysKept : First → Task → Task → Type 0
-StaysKept p k m = (o : Opening) (seen : List Entry) → IsKept o p seen k → IsKept o p seen m
+StaysKept p k m = (f : Outcomes) (o : Opening) (seen : List Entry) → IsKept o p f seen k → IsKept o p f seen m
 
 -- the same thread and limits
 pub record IsSame (k m : Task) : Type 0 where
@@ -209,9 +209,9 @@ end_or (Some e) = e
 end_or None = ends.Halted
 
 -- the strand of a task that has its end
-abbrev pub strand_of : First → Task → Strand
-strand_of p k = record {
+abbrev pub strand_of : Outcomes → Task → Strand
+strand_of f k = record {
   items = k.items.items;
-  ticks = strand_ticks (end_or k.«end») k.items.items (outcome_of p k).ticks;
+  ticks = strand_ticks (end_or k.«end») k.items.items (outcome_of f k).ticks;
   «end» = end_or k.«end»;
 }

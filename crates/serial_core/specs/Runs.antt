@@ -12,36 +12,44 @@ use Rattle.upc_values.specs.Ends.{stops, settles}
 use Rattle.first_language.specs.declared.tree.First.{First}
 use Rattle.first_language.specs.declared.machine.Wish.{Wish}
 use Rattle.first_language.specs.declared.machine.Wish.TheVariants.{Act}
-use Rattle.first_language.specs.Meaning.{opening_of}
 use Rattle.serial_core.specs.declared.limits.Limits.{Limits}
 use Rattle.serial_core.specs.declared.task.Task.{Task}
+use Rattle.serial_core.specs.Sources.{Outcomes}
 use Rattle.serial_core.specs.Kept.{IsKept, IsSame, IsPausing, is_given}
 
--- the task of thread i, after the entries seen
-pub record IsAt (o : Opening) (p : First) (seen : List Entry) (i : ℕ) (k : Task) : Type 0 where
+-- the task of thread i of the program p, after the entries seen
+pub record IsAt (o : Opening) (p : First) (f : Outcomes) (seen : List Entry) (i : ℕ) (k : Task) : Type 0 where
   pub thread : k.thread ≡ i
-  pub kept : IsKept o p seen k
+  pub kept : IsKept o p f seen k
 
 -- a task was not given its end
 abbrev pub HasOwnEnd : Task → Type 0
 HasOwnEnd k = (e : End) → k.«end» ≡ Some e → is_given e ≡ false
 
 -- a run of p that goes on: one task for each thread, and none was given its end
-pub record IsRunning (o : Opening) (p : First) (seen : List Entry) (ks : List Task) : Type 0 where
+pub record IsRunning (o : Opening) (p : First) (f : Outcomes) (seen : List Entry) (ks : List Task) : Type 0 where
   pub many : length ks ≡ o.threads
-  pub tasks : Numbered (λ i k. IsAt o p seen i k) ks
+  pub tasks : Numbered (λ i k. IsAt o p f seen i k) ks
   pub own : Numbered (λ i k. HasOwnEnd k) ks
 
+-- a run of p goes on, whatever its outcomes are
+abbrev pub GoesOn : First → Opening × List Entry → List Task → Type 0
+GoesOn p w ks = (f : Outcomes) × IsRunning w.0 p f w.1 ks
+
+-- whatever its outcomes, a run of p that went on over the one world goes on over the other
+abbrev pub StaysRunning : First → Opening × List Entry → List Task → Opening × List Entry → List Task → Type 0
+StaysRunning p w ks x ms = (f : Outcomes) → IsRunning w.0 p f w.1 ks → IsRunning x.0 p f x.1 ms
+
 -- a new task of thread i
-pub record IsNew (p : First) (l : Limits) (i : ℕ) (k : Task) : Type 0 where
+pub record IsNew (o : Opening) (p : First) (f : Outcomes) (l : Limits) (i : ℕ) (k : Task) : Type 0 where
   pub thread : k.thread ≡ i
   pub limits : k.limits ≡ l
   pub opened : k.«end» ≡ None
-  pub kept : IsKept (opening_of p l.threads) p [] k
+  pub kept : IsKept o p f [] k
 
 -- a run of p that begins
-pub record IsStart (p : First) (l : Limits) (ks : List Task) : Type 0 where
-  pub running : IsRunning (opening_of p l.threads) p [] ks
+pub record IsStart (o : Opening) (p : First) (f : Outcomes) (l : Limits) (ks : List Task) : Type 0 where
+  pub running : IsRunning o p f [] ks
   pub limits : Numbered (λ i k. k.limits ≡ l) ks
 
 -- the same threads and limits
@@ -108,9 +116,9 @@ Given o seen ks i (Deadlocked a) =
 Given o seen ks i e = Unit {0}
 
 -- a run of p that is over
-pub record IsOver (o : Opening) (p : First) (seen : List Entry) (ks : List Task) : Type 0 where
+pub record IsOver (o : Opening) (p : First) (f : Outcomes) (seen : List Entry) (ks : List Task) : Type 0 where
   pub many : length ks ≡ o.threads
-  pub tasks : Numbered (λ i k. IsAt o p seen i k) ks
+  pub tasks : Numbered (λ i k. IsAt o p f seen i k) ks
   pub ended : Numbered (λ i k. is_some k.«end» ≡ true) ks
   pub given : Numbered (λ i k. (e : End) → k.«end» ≡ Some e → Given o seen ks i e) ks
 

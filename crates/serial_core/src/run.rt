@@ -12,8 +12,9 @@ ghost use Rattle.upc_values.specs.Waits.{WaitsFollow};
 ghost use Rattle.first_language.specs.declared.tree.First.{First};
 ghost use Rattle.first_language.specs.Meaning.{meaning, opening_of};
 ghost use Rattle.serial_core.specs.declared.task.Task.{Task};
+ghost use Rattle.serial_core.specs.Sources.{Outcomes, HasOutcomes};
 ghost use Rattle.serial_core.specs.Kept.{AreLimits, IsKept, Paused, strand_of};
-ghost use Rattle.serial_core.specs.Runs.{IsAt, IsRunning, IsStart, AreSame, IsOpenAt, OthersStay, IsChosen, open_among, Rested, Stops, StopsAt, NoneStops, Wanting, IsOver, AreEach, halted, locked, CanLock};
+ghost use Rattle.serial_core.specs.Runs.{IsAt, IsRunning, GoesOn, StaysRunning, IsStart, AreSame, IsOpenAt, OthersStay, IsChosen, open_among, Rested, Stops, StopsAt, NoneStops, Wanting, IsOver, AreEach, halted, locked, CanLock};
 
 use crate::limits::Limits;
 use crate::task::{Pause, Task};
@@ -26,7 +27,8 @@ use upc_values::{End, Journal, Listing, Strand, copy_action};
 // One task for each thread.
 fn make_all(alloc: Global, program: &First, limits: Limits) -> Result<Vec<Task>, AllocError>
     requires { AreLimits limits }
-    ensures { IfOk result (λ tasks. IsStart program.now limits tasks.items) }
+    ensures { IfOk result (λ tasks. (o : Opening) (f : Outcomes) → HasOutcomes o program.now limits f
+        → IsStart o program.now f limits tasks.items) }
 {
     let mut tasks = Vec::new(alloc);
     for thread in 0..limits.threads {
@@ -43,9 +45,9 @@ fn turn(
     world: &mut World,
     at: usize,
 ) -> Result<Pause, AllocError>
-    requires running { IsRunning world.old.0 program.now world.old.1 tasks.old.items }
+    requires running { GoesOn program.now world.old tasks.old.items }
     requires at { (at < length tasks.old.items) × IsOpenAt tasks.old.items at }
-    ensures running { IfOk result (λ _. IsRunning world.new.0 program.now world.new.1 tasks.new.items) }
+    ensures running { IfOk result (λ _. StaysRunning program.now world.old tasks.old.items world.new tasks.new.items) }
     ensures same { IfOk result (λ _. AreSame tasks.old.items tasks.new.items) }
     ensures others { IfOk result (λ _. OthersStay at tasks.old.items tasks.new.items) }
     ensures pause { IfOk result (λ p. (d : Task) → Paused p (slice_index_or tasks.new.items at d)) }
@@ -65,9 +67,9 @@ fn round<R: Wait>(
     world: &mut World,
     at: usize,
 ) -> Result<(), AllocError>
-    requires running { IsRunning world.old.0 program.now world.old.1 tasks.old.items }
+    requires running { GoesOn program.now world.old tasks.old.items }
     requires at { (at < length tasks.old.items) × IsOpenAt tasks.old.items at }
-    ensures running { IfOk result (λ _. IsRunning world.new.0 program.now world.new.1 tasks.new.items) }
+    ensures running { IfOk result (λ _. StaysRunning program.now world.old tasks.old.items world.new tasks.new.items) }
     ensures same { IfOk result (λ _. AreSame tasks.old.items tasks.new.items) }
     ensures others { IfOk result (λ _. OthersStay at tasks.old.items tasks.new.items) }
     ensures rested { IfOk result (λ _. (d : Task) → Rested (slice_index_or tasks.new.items at d)) }
@@ -101,9 +103,9 @@ fn visit<R: Wait>(
     world: &mut World,
     at: usize,
 ) -> Result<(), AllocError>
-    requires running { IsRunning world.old.0 program.now world.old.1 tasks.old.items }
+    requires running { GoesOn program.now world.old tasks.old.items }
     requires at { at < length tasks.old.items }
-    ensures running { IfOk result (λ _. IsRunning world.new.0 program.now world.new.1 tasks.new.items) }
+    ensures running { IfOk result (λ _. StaysRunning program.now world.old tasks.old.items world.new tasks.new.items) }
     ensures same { IfOk result (λ _. AreSame tasks.old.items tasks.new.items) }
     ensures others { IfOk result (λ _. OthersStay at tasks.old.items tasks.new.items) }
     ensures rested { IfOk result (λ _. (d : Task) → Rested (slice_index_or tasks.new.items at d)) }
@@ -122,8 +124,8 @@ fn round_all<R: Wait>(
     tasks: &mut Vec<Task>,
     world: &mut World,
 ) -> Result<(), AllocError>
-    requires { IsRunning world.old.0 program.now world.old.1 tasks.old.items }
-    ensures running { IfOk result (λ _. IsRunning world.new.0 program.now world.new.1 tasks.new.items) }
+    requires { GoesOn program.now world.old tasks.old.items }
+    ensures running { IfOk result (λ _. StaysRunning program.now world.old tasks.old.items world.new tasks.new.items) }
     ensures same { IfOk result (λ _. AreSame tasks.old.items tasks.new.items) }
     ensures rested { IfOk result (λ _. Numbered (λ _ k. Rested k) tasks.new.items) }
     ensures opening { IfOk result (λ _. world.new.0 ≡ world.old.0) }
@@ -163,12 +165,13 @@ fn stopped(tasks: &Vec<Task>) -> Option<usize>
 
 // Whether the task wants what is not legal now.
 fn wanting(task: &Task, world: &World) -> bool
-    requires { (p : First) × IsKept world.now.0 p world.now.1 task.now }
+    requires { (p : First) × (f : Outcomes) × IsKept world.now.0 p f world.now.1 task.now }
     ensures { result ≡ true → Wanting world.now.0 world.now.1 task.now }
 {
     if !task.is_stalled() {
         return false;
     }
+    world.keeps();
     match task.wanted() {
         Some(action) => !world.is_legal(task.thread(), action),
         None => false,
@@ -177,7 +180,7 @@ fn wanting(task: &Task, world: &World) -> bool
 
 // Whether each task without an end wants what is not legal now.
 fn none_goes(tasks: &Vec<Task>, world: &World) -> bool
-    requires { (p : First) × IsRunning world.now.0 p world.now.1 tasks.now.items }
+    requires { (p : First) × GoesOn p world.now tasks.now.items }
     ensures { result ≡ true
         → Numbered (λ _ k. k.«end» ≡ None → Wanting world.now.0 world.now.1 k) tasks.now.items }
 {
@@ -256,8 +259,10 @@ fn rounds<R: Wait>(
     tasks: &mut Vec<Task>,
     world: &mut World,
 ) -> Result<(), AllocError>
-    requires { IsRunning world.old.0 program.now world.old.1 tasks.old.items }
-    ensures over { IfOk result (λ _. IsOver world.new.0 program.now world.new.1 tasks.new.items) }
+    requires { GoesOn program.now world.old tasks.old.items }
+    ensures over { IfOk result (λ _. (f : Outcomes)
+        → IsRunning world.old.0 program.now f world.old.1 tasks.old.items
+        → IsOver world.new.0 program.now f world.new.1 tasks.new.items) }
     ensures same { IfOk result (λ _. AreSame tasks.old.items tasks.new.items) }
     ensures opening { IfOk result (λ _. world.new.0 ≡ world.old.0) }
 {
@@ -318,8 +323,8 @@ fn pick_all(
     world: &mut World,
     picks: &[u32],
 ) -> Result<(), AllocError>
-    requires { IsRunning world.old.0 program.now world.old.1 tasks.old.items }
-    ensures running { IfOk result (λ _. IsRunning world.new.0 program.now world.new.1 tasks.new.items) }
+    requires { GoesOn program.now world.old tasks.old.items }
+    ensures running { IfOk result (λ _. StaysRunning program.now world.old tasks.old.items world.new tasks.new.items) }
     ensures same { IfOk result (λ _. AreSame tasks.old.items tasks.new.items) }
     ensures opening { IfOk result (λ _. world.new.0 ≡ world.old.0) }
 {
@@ -338,8 +343,8 @@ fn pick_all(
 fn strands_of(tasks: Vec<Task>, mut strands: Vec<Strand>) -> Vec<Strand>
     requires room { (strands.items ≡ []) × (length tasks.items ≤ vec_capacity strands) }
     requires ended { Numbered (λ _ k. is_some k.«end» ≡ true) tasks.items }
-    ensures { (o : Opening) (p : First) (seen : List Entry) → Numbered (λ i k. IsAt o p seen i k) tasks.items
-        → result.items ≡ map (strand_of p) tasks.items }
+    ensures { (o : Opening) (p : First) (f : Outcomes) (seen : List Entry)
+        → Numbered (λ i k. IsAt o p f seen i k) tasks.items → result.items ≡ map (strand_of f) tasks.items }
 {
     for task in tasks {
         strands.push_reserved(task.into_strand());
@@ -365,7 +370,7 @@ pub fn run_by<R: Wait>(
     requires budget { (1 ≤ limits.budget) × (limits.budget ≤ 1000000000000) }
     requires actions { (1 ≤ limits.actions) × (limits.threads * limits.actions ≤ 8388608) }
     ensures sound { IfOk result (λ j. IsSound (opening_of program.now limits.threads)
-        (λ t. meaning program.now t limits.threads limits.budget) j) }
+        (λ budget t. meaning program.now t limits.threads budget) j) }
     ensures limits { IfOk result (λ j. (j.threads ≡ limits.threads) × (j.budget ≡ limits.budget)
         × (j.actions ≡ limits.actions)) }
     ensures waits { IfOk result (λ j. WaitsFollow limits.threads j.history) }

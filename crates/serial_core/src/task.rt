@@ -9,8 +9,8 @@ ghost use Rattle.upc_values.specs.Records as records;
 ghost use Rattle.upc_values.specs.Ends.{OwnEnd};
 ghost use Rattle.first_language.specs.declared.tree.First.{First};
 ghost use Rattle.first_language.specs.declared.machine.Wish.TheVariants.{Act};
-ghost use Rattle.first_language.specs.Meaning.{opening_of};
 ghost use Rattle.serial_core.specs.declared.task.Pause.TheVariants.{Finished};
+ghost use Rattle.serial_core.specs.Sources.{Outcomes, HasOutcomes};
 ghost use Rattle.serial_core.specs.Kept as kept;
 ghost use Rattle.serial_core.specs.Kept.{AreLimits, IsKept, Keeps, StaysKept, IsSame, Grew, Paused, CanEnd, Adds, Leaves, Waits, is_given, outcome_of, strand_of};
 
@@ -97,8 +97,9 @@ impl Task {
     ) -> Result<Task, AllocError>
         requires limits { AreLimits limits }
         requires thread { thread < limits.threads }
-        ensures kept { IfOk result (λ k. (seen : List Entry) → entries_of thread seen ≡ []
-            → IsKept (opening_of program.now limits.threads) program.now seen k) }
+        ensures kept { IfOk result (λ k. (o : Opening) (f : Outcomes) (seen : List Entry)
+            → HasOutcomes o program.now limits f → entries_of thread seen ≡ []
+            → IsKept o program.now f seen k) }
         ensures new { IfOk result (λ k. (k.thread ≡ thread) × (k.limits ≡ limits) × (k.«end» ≡ None)) }
     {
         Ok(Task {
@@ -133,10 +134,10 @@ impl Task {
 
     // The buffer is emptied, and the task has its end.
     fn close(&mut self, world: &mut World, end: End) -> Result<Pause, AllocError>
-        requires kept { (p : First) × IsKept world.old.0 p world.old.1 self.old }
+        requires kept { (p : First) × (f : Outcomes) × IsKept world.old.0 p f world.old.1 self.old }
         requires ready { (self.old.«end» ≡ None) × (is_some self.old.wish ≡ true) }
-        requires own { (p : First) → IsKept world.old.0 p world.old.1 self.old
-            → OwnEnd self.old.limits.actions (outcome_of p self.old).«end» self.old.items.items «end» }
+        requires own { (p : First) (f : Outcomes) → IsKept world.old.0 p f world.old.1 self.old
+            → OwnEnd self.old.limits.actions (outcome_of f self.old).«end» self.old.items.items «end» }
         requires comes { is_given «end» ≡ false }
         ensures kept { IfOk result (λ _. Keeps world.old self.old world.new self.new) }
         ensures same { IsSame self.old self.new }
@@ -152,7 +153,7 @@ impl Task {
 
     // Does the wanted action, or stalls before it.
     fn act(&mut self, world: &mut World) -> Result<Pause, AllocError>
-        requires kept { (p : First) × IsKept world.old.0 p world.old.1 self.old }
+        requires kept { (p : First) × (f : Outcomes) × IsKept world.old.0 p f world.old.1 self.old }
         requires open { self.old.«end» ≡ None }
         requires wants { (a : Action) × (self.old.wish ≡ Some (Act a)) }
         requires room { length self.old.items.items < self.old.limits.actions }
@@ -166,12 +167,14 @@ impl Task {
         ensures opening { world.new.0 ≡ world.old.0 }
     {
         self.items.reserve(1)?;
+        world.keeps();
         let stalls = ends_with_stall(self.items.as_slice());
         let Some(Wish::Act(action)) = self.wish.take() else {
             unreachable!()
         };
         match emit(self.thread, self.next, world, &mut self.buffer, &action)? {
             Step::Done(reply) => {
+                world.keeps();
                 let pause = if is_beat(&action) {
                     Pause::Beat
                 } else {
@@ -194,7 +197,7 @@ impl Task {
 
     /// Acts on the wish: at most one new item, and the commits that go with it. The machine is not resumed.
     pub fn step(&mut self, world: &mut World) -> Result<Pause, AllocError>
-        requires kept { (p : First) × IsKept world.old.0 p world.old.1 self.old }
+        requires kept { (p : First) × (f : Outcomes) × IsKept world.old.0 p f world.old.1 self.old }
         requires ready { (self.old.«end» ≡ None) × (is_some self.old.wish ≡ true) }
         ensures kept { IfOk result (λ _. Keeps world.old self.old world.new self.new) }
         ensures same { IsSame self.old self.new }
@@ -267,7 +270,8 @@ impl Task {
     /// The strand of a task that has its end. It takes no memory.
     pub fn into_strand(self) -> Strand
         requires { is_some self.«end» ≡ true }
-        ensures { (o : Opening) (p : First) (seen : List Entry) → IsKept o p seen self → result ≡ strand_of p self }
+        ensures { (o : Opening) (p : First) (f : Outcomes) (seen : List Entry)
+            → IsKept o p f seen self → result ≡ strand_of f self }
     {
         let ticks = self.machine.ticks();
         let Task { items, end, .. } = self;

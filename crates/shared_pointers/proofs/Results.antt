@@ -10,28 +10,17 @@ use Rattle.block_layout.specs.declared.run_error.TheConstants.{NULL_ACCESS, POIN
 use Rattle.block_layout.specs.Places.{InRange, in_range}
 use Rattle.block_layout.specs.Pointers.{StandsFor, IsNull, is_null, null, element_offset, same_pointer}
 use Rattle.block_layout.proofs.Pointers.{same_pointer-true, same_pointer-refl, null-false}
+use Rattle.block_layout.proofs.Ranges.{in_range-true, in_range-false}
 use Rattle.shared_pointers.specs.Ranges.{IsPhase}
 use Rattle.shared_pointers.specs.Steps.{LiesBehind, moved, advanced, apart, difference, order_of}
 use Rattle.shared_pointers.proofs.Elements.{moved-behind, moved-stands, behind-moved, apart-moved}
 
--- The tests of null and of the range.
+-- The test of null.
 null-true : (p : SharedPtr) → is_null p ≡ true → IsNull p
 null-true p h = same_pointer-true p null h
 
 not_null : (p : SharedPtr) → is_null p ≡ false → ¬ (IsNull p)
 not_null p h e = let t : is_null p ≡ true = subst (λ (q : SharedPtr). is_null q ≡ true) (sym e) refl in cc
-
-in_range-true : (z : ℤ) → in_range z ≡ true → InRange z
-in_range-true z h =
-    let parts : (int_le (neg_ℤ (pos (2 ^ 40))) z ≡ true) × (int_le z (pos (2 ^ 40)) ≡ true) = and_parts _ _ h in
-    record { least = omega (arith, ints, parts.0); most = omega (arith, ints, parts.1) }
-
-in_range-false : (z : ℤ) → in_range z ≡ false → ¬ (InRange z)
-in_range-false z h r =
-    let low : true ≡ int_le (neg_ℤ (pos (2 ^ 40))) z = omega (arith, ints, r.least) in
-    let high : true ≡ int_le z (pos (2 ^ 40)) = omega (arith, ints, r.most) in
-    let t : in_range z ≡ true = and_from _ _ (sym low) (sym high) in
-    cc
 
 -- ---- `p + i`
 

@@ -19,6 +19,16 @@ member_of p offset =
     then Err NULL_ACCESS
     else if in_range (p.offset +ℤ pos offset) then Ok (member_pointer p offset) else Err POINTER_RANGE
 
+-- What a cast from one block to another gives: the same target, with phase 0 where the blocks differ.
+abbrev pub cast_block : SharedPtr → (from into : ℕ) → SharedPtr
+cast_block p from into =
+    record {
+      object = p.object;
+      thread = p.thread;
+      phase = if from == into then p.phase else 0;
+      offset = p.offset;
+    }
+
 -- What a cast to pointer-to-local gives on thread `me`.
 abbrev pub local_of : SharedPtr → ℕ → Result LocalPtr ℕ
 local_of p me =

@@ -8,7 +8,8 @@ use Rattle.block_layout.specs.declared.run_error.TheConstants.{NULL_ACCESS, POIN
 use Rattle.block_layout.specs.Places.{thread_at, phase_at, offset_at, in_range}
 use Rattle.block_layout.specs.Pointers.{StandsFor, is_null, same_pointer}
 
--- q lies x elements behind p: in p's object, with an indefinite block on p's thread, q stands for the element of p plus x, with p's shift.
+-- q lies x elements behind p: in p's object, with an indefinite block on p's thread, q stands for the element of p plus
+-- x, with p's shift.
 pub record LiesBehind (p q : SharedPtr) (x : ℤ) (block size threads : ℕ) : Type 0 where
   pub object : q.object ≡ p.object
   pub thread : block ≡ 0 → q.thread ≡ p.thread

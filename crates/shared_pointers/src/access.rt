@@ -10,9 +10,11 @@ ghost use Rattle.shared_pointers.specs.Access.{IsInPiece, in_piece, byte_of_elem
 use block_layout::run_error::{CELL_TYPE, NULL_ACCESS, OUT_OF_OBJECT};
 use block_layout::{Kind, Loc, Shape, SharedPtr, piece_bytes};
 
-/// The location of the cell that an access of this kind through a pointer names. `shape` is the shape of the elements of the pointer's object.
+/// The location of the cell that an access of this kind through a pointer names. `shape` is the shape of the elements
+/// of the pointer's object.
 ///
-/// In this order: `NULL_ACCESS` for the null pointer, `OUT_OF_OBJECT` where a byte of the cell lies outside the piece of the pointer's thread, `CELL_TYPE` where no cell of the kind begins there.
+/// In this order: `NULL_ACCESS` for the null pointer, `OUT_OF_OBJECT` where a byte of the cell lies outside the piece
+/// of the pointer's thread, `CELL_TYPE` where no cell of the kind begins there.
 pub fn cell(p: &SharedPtr, shape: &Shape, kind: Kind, threads: u32) -> Result<Loc, u8>
     requires offset { InRange p.now.offset }
     requires a_thread { p.now.thread < threads }
@@ -22,8 +24,11 @@ pub fn cell(p: &SharedPtr, shape: &Shape, kind: Kind, threads: u32) -> Result<Lo
     requires small_block { p.now.object.block ≤ 16777216 }
     ensures value { result ≡ cell_at p.now shape.now kind threads }
     ensures null { IsErrOf result NULL_ACCESS ↔ IsNull p.now }
-    ensures outside { IsErrOf result OUT_OF_OBJECT ↔ ((¬ (IsNull p.now)) × (¬ (IsInPiece p.now (kind_size kind) threads))) }
-    ensures no_cell { IsErrOf result CELL_TYPE ↔ ((¬ (IsNull p.now)) × IsInPiece p.now (kind_size kind) threads × (¬ (Contains shape.now.cells (byte_of_element p.now shape.now, kind)))) }
+    ensures outside { IsErrOf result OUT_OF_OBJECT
+        ↔ ((¬ (IsNull p.now)) × (¬ (IsInPiece p.now (kind_size kind) threads))) }
+    ensures no_cell { IsErrOf result CELL_TYPE
+        ↔ ((¬ (IsNull p.now)) × IsInPiece p.now (kind_size kind) threads
+        × (¬ (Contains shape.now.cells (byte_of_element p.now shape.now, kind)))) }
     ensures ok { IfOk result (λ l. l ≡ location p.now) }
     ensures codes { IfErr result (λ code. (code ≡ NULL_ACCESS) ⊎ (code ≡ OUT_OF_OBJECT) ⊎ (code ≡ CELL_TYPE)) }
 {

@@ -11,7 +11,8 @@ use crate::step::{Place, place_behind};
 use block_layout::run_error::POINTER_PAIR;
 use block_layout::{ObjectRef, SharedPtr, floor_quotient};
 
-/// What `q - p` gives (UPC 6.4.2): how many elements `q` lies behind `p`, for a type with this block, 0 for indefinite, and this size of an element in bytes.
+/// What `q - p` gives (UPC 6.4.2): how many elements `q` lies behind `p`, for a type with this block, 0 for indefinite,
+/// and this size of an element in bytes.
 ///
 /// `POINTER_PAIR` where one is null, or where no number of elements leads from `p` to `q`.
 pub fn distance(
@@ -27,7 +28,8 @@ pub fn distance(
     requires some_threads { IsThreads threads }
     ensures value { result ≡ difference q.now p.now block size threads }
     // exactly where q stands for the element of p plus x
-    ensures exact { (x : ℤ) → ((result ≡ Ok x) ↔ ((¬ (IsNull p.now)) × (¬ (IsNull q.now)) × LiesBehind p.now q.now x block size threads)) }
+    ensures exact { (x : ℤ) → ((result ≡ Ok x)
+        ↔ ((¬ (IsNull p.now)) × (¬ (IsNull q.now)) × LiesBehind p.now q.now x block size threads)) }
     ensures codes { IfErr result (λ code. code ≡ POINTER_PAIR) }
 {
     let x = elements_apart(q, p, block, size, threads);
@@ -41,7 +43,12 @@ pub fn distance(
 
 // Whether a pointer lies in an object at a place.
 fn is_at(q: &SharedPtr, object: ObjectRef, place: Place) -> bool
-    ensures { result ≡ same_pointer q.now (record { object = object; thread = place.thread; phase = place.phase; offset = place.offset }) }
+    ensures { result ≡ same_pointer q.now (record {
+      object = object;
+      thread = place.thread;
+      phase = place.phase;
+      offset = place.offset;
+    }) }
 {
     q.object == object
         && q.thread == place.thread
@@ -85,7 +92,8 @@ fn rows_apart(q: &SharedPtr, p: &SharedPtr, block: u32, size: u32, threads: u32)
     requires target { IsTarget block size }
     requires some_threads { IsThreads threads }
     requires some_block { 0 < block }
-    ensures value { result ≡ floor_div (row_offset q.now size -ℤ row_offset p.now size) (block * size) *ℤ pos block *ℤ pos threads }
+    ensures value { result ≡ floor_div (row_offset q.now size -ℤ row_offset p.now size)
+        (block * size) *ℤ pos block *ℤ pos threads }
     ensures bound { unsigned_abs result ≤ 2 ^ 56 }
 {
     let bytes = row_offset(q, block, size, threads) - row_offset(p, block, size, threads);

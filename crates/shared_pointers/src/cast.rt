@@ -4,10 +4,10 @@ ghost use Rattle.std.specs.Prelude.{◌≡◌, ◌≢◌, ◌⊎◌, ◌↔◌, 
 ghost use Rattle.block_layout.specs.Places.{InRange};
 ghost use Rattle.block_layout.specs.Pointers.{IsNull};
 ghost use Rattle.shared_pointers.specs.Ranges.{IsPhase};
-ghost use Rattle.shared_pointers.specs.Casts.{member_of, member_pointer, local_of};
+ghost use Rattle.shared_pointers.specs.Casts.{member_of, member_pointer, cast_block, local_of};
 
 use block_layout::run_error::{NOT_LOCAL, NULL_ACCESS, POINTER_RANGE};
-use block_layout::{LocalPtr, SharedPtr};
+use block_layout::{FARTHEST, LocalPtr, SharedPtr};
 
 /// What `&p->m` gives for a member at this offset in bytes: a pointer with an indefinite block (UPC 6.4.4).
 ///
@@ -24,7 +24,7 @@ pub fn member(p: &SharedPtr, offset: u32) -> Result<SharedPtr, u8>
         return Err(NULL_ACCESS);
     }
     let sum = p.offset + i64::from(offset);
-    if sum > 1_099_511_627_776 {
+    if sum > FARTHEST {
         return Err(POINTER_RANGE);
     }
     Ok(SharedPtr {
@@ -38,6 +38,7 @@ pub fn member(p: &SharedPtr, offset: u32) -> Result<SharedPtr, u8>
 /// A pointer cast from one block to another, 0 being indefinite: another block gives phase 0 (UPC 6.4.3).
 pub fn to_block(p: &SharedPtr, from: u32, into: u32) -> SharedPtr
     requires { IsPhase p.now.phase from }
+    ensures value { result ≡ cast_block p.now from into }
     ensures same { from ≡ into → result ≡ p.now }
     ensures other { from ≢ into → result ≡ record p.now { phase = 0 } }
 {
@@ -56,7 +57,8 @@ pub fn to_block(p: &SharedPtr, from: u32, into: u32) -> SharedPtr
 pub fn to_local(p: &SharedPtr, me: u32) -> Result<LocalPtr, u8>
     ensures value { result ≡ local_of p.now me }
     ensures null { IsNull p.now → result ≡ Ok LocalPtr.Null }
-    ensures here { ¬ (IsNull p.now) → p.now.thread ≡ me → result ≡ Ok (LocalPtr.Shared p.now.object p.now.thread p.now.offset) }
+    ensures here { ¬ (IsNull p.now) → p.now.thread ≡ me
+        → result ≡ Ok (LocalPtr.Shared p.now.object p.now.thread p.now.offset) }
     ensures elsewhere { IsErrOf result NOT_LOCAL ↔ ((¬ (IsNull p.now)) × (p.now.thread ≢ me)) }
     ensures codes { IfErr result (λ code. code ≡ NOT_LOCAL) }
 {

@@ -27,8 +27,10 @@ pub fn order(
     requires target { IsTarget block size }
     requires some_threads { IsThreads threads }
     ensures value { result ≡ order_of (difference q.now p.now block size threads) }
-    ensures behind { (x : ℤ) → ¬ (IsNull p.now) → ¬ (IsNull q.now) → LiesBehind p.now q.now x block size threads → result ≡ Ok (int_cmp x (pos 0)) }
-    ensures ok { IfOk result (λ o. (x : ℤ) × ((¬ (IsNull p.now)) × (¬ (IsNull q.now)) × LiesBehind p.now q.now x block size threads × (o ≡ int_cmp x (pos 0)))) }
+    ensures behind { (x : ℤ) → ¬ (IsNull p.now) → ¬ (IsNull q.now)
+        → LiesBehind p.now q.now x block size threads → result ≡ Ok (int_cmp x (pos 0)) }
+    ensures ok { IfOk result (λ o. (x : ℤ) × ((¬ (IsNull p.now)) × (¬ (IsNull q.now))
+        × LiesBehind p.now q.now x block size threads × (o ≡ int_cmp x (pos 0)))) }
     ensures codes { IfErr result (λ code. code ≡ POINTER_PAIR) }
 {
     match distance(q, p, block, size, threads) {
@@ -40,7 +42,8 @@ pub fn order(
 /// Whether two pointers are equal (UPC 6.4.2): object, thread and offset are, whatever the phases.
 pub fn same(p: &SharedPtr, q: &SharedPtr) -> bool
     ensures value { result ≡ same_target p.now q.now }
-    ensures exact { IsTrue result ↔ ((p.now.object ≡ q.now.object) × (p.now.thread ≡ q.now.thread) × (p.now.offset ≡ q.now.offset)) }
+    ensures exact { IsTrue result ↔ ((p.now.object ≡ q.now.object) × (p.now.thread ≡ q.now.thread)
+        × (p.now.offset ≡ q.now.offset)) }
 {
     p.object == q.object && p.thread == q.thread && p.offset == q.offset
 }

@@ -5,13 +5,9 @@ mod access;
 mod apart;
 mod cast;
 mod compare;
-#[cfg(test)]
-mod counted;
 mod element;
 mod row;
 mod step;
-#[cfg(test)]
-mod tests;
 
 pub use access::cell;
 pub use apart::distance;

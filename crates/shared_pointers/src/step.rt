@@ -8,12 +8,13 @@ ghost use Rattle.shared_pointers.specs.Steps.{LiesBehind, moved, moved_by_blocks
 
 use crate::row::{element_in_row, row_offset};
 use block_layout::run_error::{NULL_ACCESS, POINTER_RANGE};
-use block_layout::{SharedPtr, wide};
+use block_layout::{FARTHEST, SharedPtr, wide};
 
 // The greatest distance of an offset from 0.
-const FARTHEST: i128 = 1_099_511_627_776;
+const MOST: i128 = FARTHEST as i128;
 
-/// What `p + i` gives (UPC 6.4.2): the pointer that lies `i` elements behind `p`, for a type with this block, 0 for indefinite, and this size of an element in bytes.
+/// What `p + i` gives (UPC 6.4.2): the pointer that lies `i` elements behind `p`, for a type with this block, 0 for
+/// indefinite, and this size of an element in bytes.
 ///
 /// `NULL_ACCESS` for the null pointer, `POINTER_RANGE` where the offset leaves -2^40 to 2^40.
 pub fn advance(p: &SharedPtr, i: i128, block: u32, size: u32, threads: u32) -> Result<SharedPtr, u8>
@@ -26,14 +27,16 @@ pub fn advance(p: &SharedPtr, i: i128, block: u32, size: u32, threads: u32) -> R
     ensures behind { IfOk result (λ q. LiesBehind p.now q i block size threads) }
     ensures pointer { IfOk result (λ q. IsPointer q block threads) }
     // an offset out of range is that of the element `i` on
-    ensures range { (e d : ℤ) → StandsFor p.now e d block size threads → (IsErrOf result POINTER_RANGE ↔ ((¬ (IsNull p.now)) × (¬ (InRange (element_offset (e +ℤ i) block size threads +ℤ d))))) }
+    ensures range { (e d : ℤ) → StandsFor p.now e d block size threads
+        → (IsErrOf result POINTER_RANGE ↔ ((¬ (IsNull p.now))
+        × (¬ (InRange (element_offset (e +ℤ i) block size threads +ℤ d))))) }
     ensures codes { IfErr result (λ code. (code ≡ NULL_ACCESS) ⊎ (code ≡ POINTER_RANGE)) }
 {
     if p.is_null() {
         return Err(NULL_ACCESS);
     }
     let place = place_behind(p, i, block, size, threads);
-    if place.offset < -FARTHEST || place.offset > FARTHEST {
+    if place.offset < -MOST || place.offset > MOST {
         return Err(POINTER_RANGE);
     }
     Ok(SharedPtr {

@@ -4,8 +4,9 @@ use mathlib.Core.Former.{Count}
 use Rattle.typed_tree.specs.declared.tree.Expr.{Expr}
 use Rattle.typed_tree.specs.declared.tree.Target.{Target}
 use Rattle.typed_tree.specs.declared.tree.ExprKind as k
-use Rattle.typed_tree.specs.declared.tree.ExprKind.{ExprKind, Row_of-Expr, end_of-Expr, more_of-Expr, items-the_row-Expr, items_hidden-the_row-Expr-0}
-use Rattle.typed_tree.specs.Nodes.{view_attr}
+use Rattle.typed_tree.specs.declared.tree.ExprKind.{ExprKind, Row_of-Expr, end_of-Expr, more_of-Expr}
+use Rattle.typed_tree.specs.declared.tree.ExprKind.{items-the_row-Expr, items_hidden-the_row-Expr-0}
+use Rattle.typing_rules.specs.Nodes.{view_attr}
 use Rattle.typed_tree.specs.Tree as t
 use Rattle.typed_tree.specs.Tree.{exprs_of}
 use Rattle.typed_tree.specs.ViewTree.{view_kind, view_row, view_expr}
@@ -14,7 +15,8 @@ row : (n : _) (row : Row_of-Expr n) → view_row row ≡ exprs_of (map view_expr
 row n end_of-Expr = refl
 row n (more_of-Expr at attr kind more) = ap (t.AndExpr (t.Is at (view_attr attr) (view_kind kind))) (row _ more)
 
-row_is : (n : _) (r : Row_of-Expr n) (l : List Expr) → items-the_row-Expr n r ≡ l → view_row r ≡ exprs_of (map view_expr l)
+row_is : (n : _) (r : Row_of-Expr n) (l : List Expr) → items-the_row-Expr n r ≡ l → view_row r
+    ≡ exprs_of (map view_expr l)
 row_is n r l e = row n r ∙ ap (λ l. exprs_of (map view_expr l)) e
 
 abbrev row_of : ExprKind → (n : Count) × Row_of-Expr n
@@ -23,7 +25,8 @@ row_of (k.Comma' shape parts) = (_, parts)
 row_of _ = (_, end_of-Expr)
 
 -- A call with its arguments.
-pub call_is : (target : Target) (args : Vec Expr Global) → view_kind (k.Call target args) ≡ t.Call target (exprs_of (map view_expr args.items))
+pub call_is : (target : Target) (args : Vec Expr Global) → view_kind (k.Call target args)
+    ≡ t.Call target (exprs_of (map view_expr args.items))
 call_is target args =
     let r = row_of (k.Call target args) in
     ap (t.Call target) (row_is r.0 r.1 args.items (items_hidden-the_row-Expr-0 args))

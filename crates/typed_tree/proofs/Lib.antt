@@ -1,6 +1,4 @@
-pub mod FirstFault
 pub mod Arguments
-pub mod Operands
 pub mod Entries
 pub mod Built
 pub mod Sized

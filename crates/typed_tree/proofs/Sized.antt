@@ -1,12 +1,16 @@
 -- Types that have a size, and structs whose members have one.
-use Rattle.std.proofs.Common.{◌≡◌, ℕ, ◌*◌, ◌/◌, ◌<◌, ◌≤◌, nat_lt, nat_le, Bool, true, false, ◌&&◌, if◌then◌else◌, List, [], Option, Some, None, is_some, refl, sym, ap, ◌∙◌, subst, arith, ltb-true, leb-true}
+use Rattle.std.proofs.Common.{◌≡◌, ℕ, ◌*◌, ◌/◌, ◌<◌, ◌≤◌, nat_lt, nat_le, Bool, true, false, ◌&&◌, if◌then◌else◌}
+use Rattle.std.proofs.Common.{List, [], Option, Some, None, is_some, refl, sym, ap, ◌∙◌, subst, arith, ltb-true}
+use Rattle.std.proofs.Common.{leb-true}
 use Rattle.std.proofs.lemmas.Bool.{and_parts, and_from, le-leb}
 use Rattle.std.proofs.Math.Nat.{mul-div_cancel}
 use Rattle.std.specs.Option.{ForSome}
 use Rattle.upc_types.specs.declared.layout.Layout.{Layout}
 use Rattle.upc_types.specs.declared.layout.Known.{Known}
-use Rattle.upc_types.specs.Types.{CType, Qualified, Base, Void, Integer, Struct, Array, Pointer, LockObject, Completed, Member, members_in}
-use Rattle.upc_types.specs.Layout.{base_layout, base_complete, base_within, complete_in, layout_in, most_bytes, known_in, members_within, all_complete, member_layouts, struct_layout}
+use Rattle.upc_types.specs.Types.{CType, Qualified, Base, Void, Integer, Struct, Array, Pointer, LockObject}
+use Rattle.upc_types.specs.Types.{Completed, Member, members_in}
+use Rattle.upc_types.specs.Layout.{base_layout, base_complete, base_within, complete_in, layout_in, most_bytes}
+use Rattle.upc_types.specs.Layout.{known_in, members_within, all_complete, member_layouts, struct_layout}
 use Rattle.upc_types.specs.Kept.{IsFine, is_ordered}
 use Rattle.upc_types.proofs.Order.{struct_is, complete_before, complete_since, all_kept}
 use Rattle.upc_types.proofs.Places.{absent}
@@ -28,36 +32,43 @@ within_is cs b = some_is_true (fits cs b) (base_layout (layout_in cs) b)
 one_of : (n s : ℕ) → 0 < n → n * s ≤ most_bytes → s ≤ most_bytes
 one_of n s h k = grind arith
 
-element_fits : (n s : ℕ) (e : Bool) → ((nat_lt 0 n && e) && nat_le (n * s) most_bytes) ≡ true → (e && nat_le s most_bytes) ≡ true
+element_fits : (n s : ℕ) (e : Bool) → ((nat_lt 0 n && e) && nat_le (n * s) most_bytes) ≡ true →
+    (e && nat_le s most_bytes) ≡ true
 element_fits n s e h =
     let p = and_parts (nat_lt 0 n && e) (nat_le (n * s) most_bytes) h in
     let q = and_parts (nat_lt 0 n) e p.0 in
-    and_from e (nat_le s most_bytes) q.1 (le-leb s most_bytes (one_of n s (ltb-true 0 n q.0) (leb-true (n * s) most_bytes p.1)))
+    and_from e (nat_le s most_bytes) q.1
+    (le-leb s most_bytes (one_of n s (ltb-true 0 n q.0) (leb-true (n * s) most_bytes p.1)))
 
 leaf_fits : (cs : List Completed) (b : Base) → fits cs b ≡ true → fits cs (leaf_base b) ≡ true
 leaf_fits cs Void h = h
 leaf_fits cs (Integer k) h = h
 leaf_fits cs (Struct n) h = h
-leaf_fits cs (Array (Qualified e c s x) n) h = leaf_fits cs e (element_fits n (base_layout (layout_in cs) e).size (base_complete (complete_in cs) e) h)
+leaf_fits cs (Array (Qualified e c s x) n) h =
+    leaf_fits cs e (element_fits n (base_layout (layout_in cs) e).size (base_complete (complete_in cs) e) h)
 leaf_fits cs (Pointer t) h = h
 leaf_fits cs LockObject h = h
 
 -- The leaf elements of a type that has a size have one.
-pub leaf_within : (cs : List Completed) (b : Base) → is_some (base_within cs b) ≡ true → is_some (base_within cs (leaf_base b)) ≡ true
+pub leaf_within : (cs : List Completed) (b : Base) → is_some (base_within cs b) ≡ true →
+    is_some (base_within cs (leaf_base b)) ≡ true
 leaf_within cs b h = within_is cs (leaf_base b) ∙ leaf_fits cs b (sym (within_is cs b) ∙ h)
 
 some_chosen : (p : Bool) (l m : Layout) → ◌≡◌ {A = Option Layout} (if p then Some l else None) (Some m) → l ≡ m
 some_chosen true l m h = cc
 some_chosen false l m h = absurd cc
 
-pub layout_is : (cs : List Completed) (b : Base) (l : Layout) → base_within cs b ≡ Some l → base_layout (layout_in cs) b ≡ l
+pub layout_is : (cs : List Completed) (b : Base) (l : Layout) → base_within cs b ≡ Some l →
+    base_layout (layout_in cs) b ≡ l
 layout_is cs b l h = some_chosen (fits cs b) (base_layout (layout_in cs) b) l h
 
 -- How many leaf elements there are, by the sizes.
-pub leaves_are : (cs : List Completed) (b : Base) (whole part : Layout) → base_within cs b ≡ Some whole → base_within cs (leaf_base b) ≡ Some part → 0 < part.size →
+pub leaves_are : (cs : List Completed) (b : Base) (whole part : Layout) → base_within cs b ≡ Some whole →
+    base_within cs (leaf_base b) ≡ Some part → 0 < part.size →
     whole.size / part.size ≡ leaves b
 leaves_are cs b whole part h k some =
-    let e : whole.size ≡ leaves b * part.size = ap (λ (l : Layout). l.size) (sym (layout_is cs b whole h)) ∙ leaf_sizes (layout_in cs) b ∙ ap (λ (l : Layout). leaves b * l.size) (layout_is cs (leaf_base b) part k) in
+    let e : whole.size ≡ leaves b * part.size = ap (λ (l : Layout). l.size) (sym (layout_is cs b whole h))
+    ∙ leaf_sizes (layout_in cs) b ∙ ap (λ (l : Layout). leaves b * l.size) (layout_is cs (leaf_base b) part k) in
     ap (λ n. n / part.size) e ∙ mul-div_cancel (leaves b) some
 
 pub none_some : {A : Type 0} (o : Option A) → is_some o ≡ true → o ≡ None → ⊥
@@ -67,16 +78,23 @@ none_some (Some x) h e = absurd cc
 -- ---- the members of a struct
 
 abbrev members_fit_in : List Completed → List Member → Bool
-members_fit_in cs ms = all_complete (complete_in cs) ms && nat_le (struct_layout (member_layouts (layout_in cs) ms)).size most_bytes
+members_fit_in cs ms =
+    all_complete (complete_in cs) ms && nat_le (struct_layout (member_layouts (layout_in cs) ms)).size most_bytes
 
-members_fit_one : (targets : List CType) (cs : List Completed) (n : ℕ) (o : Option Known) → known_in cs n ≡ o → is_ordered cs ≡ true → ForSome o (λ k. IsFine k.layout) → members_fit_in cs (members_in cs n) ≡ true
+members_fit_one : (targets : List CType) (cs : List Completed) (n : ℕ) (o : Option Known) → known_in cs n ≡ o →
+    is_ordered cs ≡ true → ForSome o (λ k. IsFine k.layout) → members_fit_in cs (members_in cs n) ≡ true
 members_fit_one targets cs n None e o f = rw (absent cs n e) refl
 members_fit_one targets cs n (Some k) e o f =
     let s = struct_is targets cs n k o e in
-    and_from (all_complete (complete_in cs) (members_in cs n)) (nat_le (struct_layout (member_layouts (layout_in cs) (members_in cs n))).size most_bytes)
+    and_from (all_complete (complete_in cs) (members_in cs n))
+    (nat_le (struct_layout (member_layouts (layout_in cs) (members_in cs n))).size most_bytes)
     (all_kept (complete_before cs k.place) (complete_in cs) (complete_since cs k.place) (members_in cs n) s.before)
     (le-leb _ most_bytes (subst (λ (l : Layout). l.size ≤ most_bytes) s.layout (f k refl).few))
 
 -- The members of a struct have sizes, and so has the struct.
-pub members_fit : (cs : List Completed) (n : ℕ) → is_ordered cs ≡ true → ForSome (known_in cs n) (λ k. IsFine k.layout) → is_some (members_within cs (members_in cs n)) ≡ true
-members_fit cs n o f = some_is_true (members_fit_in cs (members_in cs n)) (struct_layout (member_layouts (layout_in cs) (members_in cs n))) ∙ members_fit_one [] cs n (known_in cs n) refl o f
+pub members_fit : (cs : List Completed) (n : ℕ) → is_ordered cs ≡ true →
+    ForSome (known_in cs n) (λ k. IsFine k.layout) → is_some (members_within cs (members_in cs n)) ≡ true
+members_fit cs n o f =
+    some_is_true (members_fit_in cs (members_in cs n))
+    (struct_layout (member_layouts (layout_in cs) (members_in cs n)))
+    ∙ members_fit_one [] cs n (known_in cs n) refl o f

@@ -1,20 +1,21 @@
 -- Scopes of names and of tags (C99 6.2.1, 6.2.3), and what else a walk over a source knows.
-use Rattle.std.specs.Prelude.{ℕ, ◌+◌, nat_eq, ◌==◌, Bool, true, false, ◌&&◌, not, if◌then◌else◌, List, [], ◌∷◌, Option, Some, None, slice_get}
+use Rattle.std.specs.Prelude.{ℕ, ◌+◌, nat_eq, ◌==◌, Bool, true, false, ◌&&◌, not, if◌then◌else◌, List, [], ◌∷◌}
+use Rattle.std.specs.Prelude.{Option, Some, None, slice_get}
 use Rattle.std.specs.List.{list_any}
 use Rattle.std.specs.Cmp.Lexicographic.{pointwise}
 use Rattle.upc_text.specs.declared.place.Place.{Place}
 use Rattle.upc_types.specs.Types.{CType, Member, Structs}
 use Rattle.upc_types.specs.Same.{same_type}
-use Rattle.typed_tree.specs.declared.setting.Home.{Home}
-use Rattle.typed_tree.specs.declared.setting.Home.TheVariants.{Private, Shared, Local}
-use Rattle.typed_tree.specs.declared.library.LibraryCall.{LibraryCall}
-use Rattle.typed_tree.specs.declared.library.LibraryConstant.{LibraryConstant}
-use Rattle.typed_tree.specs.Library.{call_named, constant_named}
-use Rattle.typed_tree.specs.Values.{is_shared, value_type}
-use Rattle.typed_tree.specs.Meanings.{Meaning, Unknown, Object, Library, Named, Signature}
+use Rattle.typing_rules.specs.declared.setting.Home.{Home}
+use Rattle.typing_rules.specs.declared.setting.Home.TheVariants.{Private, Shared, Local}
+use Rattle.upc_values.specs.declared.library.LibraryCall.{LibraryCall}
+use Rattle.typing_rules.specs.declared.library.LibraryConstant.{LibraryConstant}
+use Rattle.typing_rules.specs.Library.{call_named, constant_named}
+use Rattle.typing_rules.specs.Values.{is_shared, value_type}
+use Rattle.typing_rules.specs.Meanings.{Meaning, Unknown, Object, Library, Named, Signature}
 
--- What is the same for the whole source: its names by number, the number of threads, the names of the functions that it defines, in order, and
--- how many structs, objects, parameters of definitions and functions there may be.
+-- What is the same for the whole source: its names by number, the number of threads, the names of the functions that
+-- it defines, in order, and how many structs, objects, parameters of definitions and functions there may be.
 pub record Setting : Type 0 where
   pub names : List (List ℕ)
   pub threads : ℕ
@@ -35,13 +36,15 @@ pub record Entry : Type 0 where
   pub name : ℕ
   pub means : Meaning
 
--- How many objects have a number: private objects of the file, shared ones, and those of the function that are in scope.
+-- How many objects have a number: private objects of the file, shared ones, and those of the function that are in
+-- scope.
 pub record Counts : Type 0 where
   pub privates : ℕ
   pub shareds : ℕ
   pub locals : ℕ
 
--- The names of a scope in the order of their declarations, the latest first, and the scopes around it. The file has level 0.
+-- The names of a scope in the order of their declarations, the latest first, and the scopes around it. The file has
+-- level 0.
 mutual
   pub data Env : Type 0 where
     Scope : (level : ℕ) (top : List Entry) (counts : Counts) (outer : Outer) → Env
@@ -116,7 +119,8 @@ abbrev pub is_taken : Setting → ℕ → Bool
 is_taken ξ name = is_known (in_library (spelling ξ name))
 
 abbrev pub with_entry : ℕ → Meaning → Env → Env
-with_entry name means (Scope level top counts outer) = Scope level (record { name = name; means = means } ∷ top) counts outer
+with_entry name means (Scope level top counts outer) =
+    Scope level (record { name = name; means = means } ∷ top) counts outer
 
 -- Where the next object of this type lies.
 abbrev pub next_home : CType → Env → Home
@@ -159,8 +163,9 @@ pub record KnownFunction : Type 0 where
   pub signature : Signature
   pub is_defined : Bool
 
--- What grows on the way through the source: the tags in scope, the latest first, the structs, all functions declared so far, how many objects,
--- parameters of definitions and functions have come, and the first declaration up to whose end there are more than there may be.
+-- What grows on the way through the source: the tags in scope, the latest first, the structs, all functions declared
+-- so far, how many objects, parameters of definitions and functions have come, and the first declaration up to whose
+-- end there are more than there may be.
 pub record State : Type 0 where
   pub tags : List Tag
   pub structs : Structs
@@ -169,7 +174,9 @@ pub record State : Type 0 where
   pub above : Option Place
 
 abbrev pub begin : State
-begin = record { tags = []; structs = record { declared = 0; completed = []; targets = [] }; functions = []; come = 0; above = None }
+begin =
+    let structs : Structs = record { declared = 0; completed = []; targets = [] } in
+    record { tags = []; structs = structs; functions = []; come = 0; above = None }
 
 -- The struct of a tag: the innermost one, or that of the scope itself.
 abbrev pub find_tag : ℕ → List Tag → Option ℕ
@@ -178,7 +185,8 @@ find_tag name (t ∷ ts) = if nat_eq t.name name then Some t.number else find_ta
 
 abbrev pub tag_here : ℕ → ℕ → List Tag → Option ℕ
 tag_here name level [] = None
-tag_here name level (t ∷ ts) = if nat_eq t.name name && nat_eq t.level level then Some t.number else tag_here name level ts
+tag_here name level (t ∷ ts) =
+    if nat_eq t.name name && nat_eq t.level level then Some t.number else tag_here name level ts
 
 -- A further struct that is incomplete, under a tag.
 abbrev pub with_tag : ℕ → ℕ → State → State
@@ -214,7 +222,8 @@ same_signature s t = same_type (value_type s.result) (value_type t.result) && sa
 
 -- The function was declared with other types.
 abbrev pub differs : ℕ → Signature → List KnownFunction → Bool
-differs name signature functions = list_any (λ f. nat_eq f.name name && not (same_signature f.signature signature)) functions
+differs name signature functions =
+    list_any (λ f. nat_eq f.name name && not (same_signature f.signature signature)) functions
 
 abbrev pub was_defined : ℕ → List KnownFunction → Bool
 was_defined name functions = list_any (λ f. nat_eq f.name name && f.is_defined) functions

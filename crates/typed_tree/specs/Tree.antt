@@ -4,12 +4,12 @@ use Rattle.upc_text.specs.declared.place.Place.{Place}
 use Rattle.integers.specs.declared.operator.BinOp.{BinOp}
 use Rattle.integers.specs.declared.operator.UnOp.{UnOp}
 use Rattle.upc_types.specs.Types.{CType}
-use Rattle.typed_tree.specs.declared.setting.Home.{Home}
-use Rattle.typed_tree.specs.declared.setting.SizeOperator.{SizeOperator}
+use Rattle.typing_rules.specs.declared.setting.Home.{Home}
+use Rattle.typing_rules.specs.declared.setting.SizeOperator.{SizeOperator}
 use Rattle.typed_tree.specs.declared.tree.StepOperator.{StepOperator}
 use Rattle.typed_tree.specs.declared.tree.Synchronises.{Synchronises}
 use Rattle.typed_tree.specs.declared.tree.Target.{Target}
-use Rattle.typed_tree.specs.Nodes.{Attr}
+use Rattle.typing_rules.specs.Nodes.{Attr}
 
 mutual
   -- An expression with its place and what it is.

@@ -1,13 +1,14 @@
 -- What contracts see of the names of a scope.
-use Rattle.std.specs.Prelude.{◌≡◌, ℕ, nat_eq, Bool, true, false, List, [], ◌∷◌, length, map, reverse, Option, Some, None}
+use Rattle.std.specs.Prelude.{◌≡◌, ℕ, nat_eq, Bool, true, false, List, [], ◌∷◌, length, map, reverse, Option, Some}
+use Rattle.std.specs.Prelude.{None}
 use Rattle.std.specs.HashMap.{get, HashMap}
 use Rattle.upc_types.specs.View.{view}
 use Rattle.typed_tree.specs.declared.scope.Declared.{Declared}
 use Rattle.typed_tree.specs.declared.scope.Declared.TheVariants as d
 use Rattle.typed_tree.specs.declared.scope.Entry as e
-use Rattle.typed_tree.specs.Meanings as m
+use Rattle.typing_rules.specs.Meanings as m
 use Rattle.typed_tree.specs.Scopes.{Entry}
-use Rattle.typed_tree.specs.Views.{view_signature}
+use Rattle.typing_rules.specs.Views.{view_signature}
 
 abbrev pub view_declared : Declared → m.Meaning
 view_declared (d.Object t home) = m.Object (view t) home

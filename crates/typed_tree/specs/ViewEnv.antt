@@ -11,7 +11,8 @@ view_counts x = record { privates = x.privates; shareds = x.shareds; locals = x.
 
 abbrev pub view_outer : o.Outer → Outer
 view_outer o.NoScope = NoScope
-view_outer (o.Within' p level names counts outer) = Within (Scope level (view_scope names) (view_counts counts) (view_outer outer))
+view_outer (o.Within' p level names counts outer) =
+    Within (Scope level (view_scope names) (view_counts counts) (view_outer outer))
 
 abbrev pub view_env : e.Env → Env
 view_env x = Scope x.level (view_scope x.names) (view_counts x.counts) (view_outer x.outer)

@@ -2,7 +2,7 @@
 use Rattle.std.specs.Prelude.{Option, Some, None}
 use Rattle.upc_types.specs.View.{view}
 use Rattle.typed_tree.specs.declared.reached.Found as f
-use Rattle.typed_tree.specs.Attributes.{Found}
+use Rattle.typing_rules.specs.Attributes.{Found}
 
 abbrev pub view_found : Option f.Found → Option Found
 view_found None = None

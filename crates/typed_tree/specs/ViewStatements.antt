@@ -12,13 +12,17 @@ use Rattle.typed_tree.specs.declared.tree.Affinity.TheVariants as a
 use Rattle.typed_tree.specs.declared.tree.Head as h
 use Rattle.typed_tree.specs.declared.tree.Statement as st
 use Rattle.typed_tree.specs.declared.tree.StatementKind as s
-use Rattle.typed_tree.specs.declared.tree.StatementKind.{StatementKind, Row_of-Item, end_of-Item, more_of-Item, Row_of-SwitchItem, end_of-SwitchItem, more_of-SwitchItem, Row_of-Arm, end_of-Arm, more_of-Arm, Held-StatementKind-If-1, None', Some'}
+use Rattle.typed_tree.specs.declared.tree.StatementKind.{StatementKind, Row_of-Item, end_of-Item, more_of-Item}
+use Rattle.typed_tree.specs.declared.tree.StatementKind.{Row_of-SwitchItem, end_of-SwitchItem, more_of-SwitchItem}
+use Rattle.typed_tree.specs.declared.tree.StatementKind.{Row_of-Arm, end_of-Arm, more_of-Arm}
+use Rattle.typed_tree.specs.declared.tree.StatementKind.{Held-StatementKind-If-1, None', Some'}
 use Rattle.typed_tree.specs.declared.tree.Arm as r
 use Rattle.typed_tree.specs.declared.tree.Item as m
 use Rattle.typed_tree.specs.declared.tree.Item.{Item}
 use Rattle.typed_tree.specs.declared.tree.SwitchItem as w
 use Rattle.typed_tree.specs.declared.tree.SwitchItem.{SwitchItem}
 use Rattle.typed_tree.specs.declared.tree.Function as f
+use Rattle.typing_rules.specs.Nodes.{Attr, view_attr}
 use Rattle.typed_tree.specs.Tree as t
 use Rattle.typed_tree.specs.Tree.{exprs_of}
 use Rattle.typed_tree.specs.ViewTree.{view_expr}
@@ -27,24 +31,30 @@ use Rattle.typed_tree.specs.ViewTree.{view_expr}
 
 abbrev pub view_initial : Initial → t.Initial
 view_initial i.Absent = t.NoInitial
-view_initial (i.Value value) = t.InitialValue (view_expr value)
+view_initial (i.Value value) = t.InitialValue (view_expr value.value)
 view_initial (i.List values) = t.InitialList (exprs_of (map view_expr values.items))
 
 abbrev pub view_object : o.Object → t.DeclaredObject
-view_object x = record { at = x.place; name = x.name; home = x.home; ctype = view x.ctype; initial = view_initial x.initial }
+view_object x =
+    record { at = x.place; name = x.name; home = x.home; ctype = view x.ctype; initial = view_initial x.initial }
 
 -- ---- heads
 
-abbrev pub view_value : Option e.Expr → Option t.Expr
+abbrev pub view_value : Option (Box e.Expr Global) → Option t.Expr
 view_value None = None
-view_value (Some value) = Some (view_expr value)
+view_value (Some value) = Some (view_expr value.value)
 
 abbrev pub view_affinity : Affinity → t.Affinity
 view_affinity a.All = t.Everyone
-view_affinity (a.Value value) = t.AtValue (view_expr value)
+view_affinity (a.Value value) = t.AtValue (view_expr value.value)
 
 abbrev pub view_head : h.Head → t.Head
-view_head x = record { objects = map view_object x.objects.items; first = view_value x.first; test = view_value x.test; step = view_value x.step }
+view_head x = record {
+  objects = map view_object x.objects.items;
+  first = view_value x.first;
+  test = view_value x.test;
+  step = view_value x.step;
+}
 
 -- ---- statements
 
@@ -53,12 +63,14 @@ abbrev mutual
   view_statement_kind (s.Block' strict shape items) = t.Block strict (view_item_row items)
   view_statement_kind (s.Value value) = t.Value (view_value value)
   view_statement_kind (s.If' shape arms last) = t.If (view_arm_row arms) (view_held last)
-  view_statement_kind (s.Switch' value shape items) = t.Switch (view_expr value) (view_switch_row items)
-  view_statement_kind (s.While' test p at body) = t.While (view_expr test) (t.Stands at (view_statement_kind body))
-  view_statement_kind (s.DoWhile' p at body test) = t.DoWhile (t.Stands at (view_statement_kind body)) (view_expr test)
+  view_statement_kind (s.Switch' value shape items) = t.Switch (view_expr value.value) (view_switch_row items)
+  view_statement_kind (s.While' test p at body) =
+      t.While (view_expr test.value) (t.Stands at (view_statement_kind body))
+  view_statement_kind (s.DoWhile' p at body test) =
+      t.DoWhile (t.Stands at (view_statement_kind body)) (view_expr test.value)
   view_statement_kind (s.For' head p at body) = t.For (view_head head.value) (t.Stands at (view_statement_kind body))
   view_statement_kind (s.Forall' head affinity p at body) =
-      t.Forall (view_head head.value) (view_affinity affinity.value) (t.Stands at (view_statement_kind body))
+      t.Forall (view_head head.value) (view_affinity affinity) (t.Stands at (view_statement_kind body))
   view_statement_kind s.Break = t.Break
   view_statement_kind s.Continue = t.Continue
   view_statement_kind (s.Return value) = t.Return (view_value value)
@@ -71,7 +83,8 @@ abbrev mutual
 
   pub view_arm_row : {n : _} → Row_of-Arm n → t.Arms
   view_arm_row end_of-Arm = t.NoArms
-  view_arm_row (more_of-Arm test at body more) = t.AndArm (view_expr test) (t.Stands at (view_statement_kind body)) (view_arm_row more)
+  view_arm_row (more_of-Arm test at body more) =
+      t.AndArm (view_expr test.value) (t.Stands at (view_statement_kind body)) (view_arm_row more)
 
   pub view_item_row : {n : _} → Row_of-Item n → t.Items
   view_item_row end_of-Item = t.NoItems
@@ -79,7 +92,7 @@ abbrev mutual
 
   pub view_item : Item → t.Items → t.Items
   view_item (m.Declare objects) more = t.AndObjects (map view_object objects.items) more
-  view_item (m.Do' at kind) more = t.AndStatement (t.Stands at (view_statement_kind kind)) more
+  view_item (m.Do' p at kind) more = t.AndStatement (t.Stands at (view_statement_kind kind)) more
 
   pub view_switch_row : {n : _} → Row_of-SwitchItem n → t.SwitchItems
   view_switch_row end_of-SwitchItem = t.NoSwitchItems
@@ -88,22 +101,22 @@ abbrev mutual
   pub view_switch_item : SwitchItem → t.SwitchItems → t.SwitchItems
   view_switch_item (w.Case v) more = t.AndCase v more
   view_switch_item w.Default more = t.AndDefault more
-  view_switch_item (w.Do' at kind) more = t.AndSwitchStatement (t.Stands at (view_statement_kind kind)) more
+  view_switch_item (w.Do' p at kind) more = t.AndSwitchStatement (t.Stands at (view_statement_kind kind)) more
 
 abbrev pub view_statement : st.Statement → t.Statement
 view_statement x = t.Stands x.place (view_statement_kind x.kind)
 
-abbrev pub view_last : Option st.Statement → t.StatementOption
+abbrev pub view_last : Option (Box st.Statement Global) → t.StatementOption
 view_last None = t.NoStatement
-view_last (Some x) = t.TheStatement (view_statement x)
-
-abbrev pub view_boxed : Option (Box st.Statement Global) → t.StatementOption
-view_boxed None = t.NoStatement
-view_boxed (Some x) = t.TheStatement (view_statement x.value)
+view_last (Some x) = t.TheStatement (view_statement x.value)
 
 abbrev pub view_arms : List r.Arm → t.Arms
 view_arms [] = t.NoArms
-view_arms (x ∷ xs) = t.AndArm (view_expr x.test) (view_statement x.body) (view_arms xs)
+view_arms (x ∷ xs) = t.AndArm (view_expr x.test.value) (view_statement x.body) (view_arms xs)
+
+-- The condition of an arm.
+abbrev pub attr_tested : r.Arm → Attr
+attr_tested x = view_attr x.test.value.attr
 
 abbrev pub view_items : List Item → t.Items
 view_items [] = t.NoItems
@@ -116,4 +129,10 @@ view_switch_items (x ∷ xs) = view_switch_item x (view_switch_items xs)
 -- ---- functions
 
 abbrev pub view_function : f.Function → t.Function
-view_function x = record { at = x.place; name = x.name; result = view x.result; parameters = map view x.parameters.items; body = view_statement x.body }
+view_function x = record {
+  at = x.place;
+  name = x.name;
+  result = view x.result;
+  parameters = map view x.parameters.items;
+  body = view_statement x.body.value;
+}

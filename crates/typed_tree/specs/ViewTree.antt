@@ -3,7 +3,7 @@ use Rattle.typed_tree.specs.declared.tree.Expr as e
 use Rattle.typed_tree.specs.declared.tree.ExprKind as k
 use Rattle.typed_tree.specs.declared.tree.ExprKind.{ExprKind, Row_of-Expr, end_of-Expr, more_of-Expr}
 use Rattle.upc_types.specs.View.{view}
-use Rattle.typed_tree.specs.Nodes.{view_attr}
+use Rattle.typing_rules.specs.Nodes.{Attr, view_attr}
 use Rattle.typed_tree.specs.Tree as t
 
 abbrev mutual
@@ -14,7 +14,8 @@ abbrev mutual
   view_kind (k.Callee target) = t.Callee target
   view_kind (k.Format text) = t.Format text
   view_kind (k.Paren' p at attr kind) = t.Paren (t.Is at (view_attr attr) (view_kind kind))
-  view_kind (k.Subscript' p at attr kind q there behind index) = t.Subscript (t.Is at (view_attr attr) (view_kind kind)) (t.Is there (view_attr behind) (view_kind index))
+  view_kind (k.Subscript' p at attr kind q there behind index) =
+      t.Subscript (t.Is at (view_attr attr) (view_kind kind)) (t.Is there (view_attr behind) (view_kind index))
   view_kind (k.Call' target shape args) = t.Call target (view_row args)
   view_kind (k.Member' p at attr kind index) = t.Member (t.Is at (view_attr attr) (view_kind kind)) index
   view_kind (k.MemberBehind' p at attr kind index) = t.MemberBehind (t.Is at (view_attr attr) (view_kind kind)) index
@@ -23,15 +24,21 @@ abbrev mutual
   view_kind (k.Dereference' p at attr kind) = t.Dereference (t.Is at (view_attr attr) (view_kind kind))
   view_kind (k.Unary' op p at attr kind) = t.Unary op (t.Is at (view_attr attr) (view_kind kind))
   view_kind (k.SizeOf' op p at attr kind) = t.SizeOf op (t.Is at (view_attr attr) (view_kind kind))
-  view_kind (k.SizeOfType op ctype) = t.SizeOfType op (view ctype)
+  view_kind (k.SizeOfType op ctype) = t.SizeOfType op (view ctype.value)
   view_kind (k.Cast' p at attr kind) = t.Cast (t.Is at (view_attr attr) (view_kind kind))
-  view_kind (k.Binary' op p at attr kind q there other right) = t.Binary op (t.Is at (view_attr attr) (view_kind kind)) (t.Is there (view_attr other) (view_kind right))
-  view_kind (k.And' p at attr kind q there other right) = t.And (t.Is at (view_attr attr) (view_kind kind)) (t.Is there (view_attr other) (view_kind right))
-  view_kind (k.Or' p at attr kind q there other right) = t.Or (t.Is at (view_attr attr) (view_kind kind)) (t.Is there (view_attr other) (view_kind right))
-  view_kind (k.Assign' p at attr kind q there other right) = t.Assign (t.Is at (view_attr attr) (view_kind kind)) (t.Is there (view_attr other) (view_kind right))
-  view_kind (k.Compound' op p at attr kind q there other right) = t.Compound op (t.Is at (view_attr attr) (view_kind kind)) (t.Is there (view_attr other) (view_kind right))
+  view_kind (k.Binary' op p at attr kind q there other right) =
+      t.Binary op (t.Is at (view_attr attr) (view_kind kind)) (t.Is there (view_attr other) (view_kind right))
+  view_kind (k.And' p at attr kind q there other right) =
+      t.And (t.Is at (view_attr attr) (view_kind kind)) (t.Is there (view_attr other) (view_kind right))
+  view_kind (k.Or' p at attr kind q there other right) =
+      t.Or (t.Is at (view_attr attr) (view_kind kind)) (t.Is there (view_attr other) (view_kind right))
+  view_kind (k.Assign' p at attr kind q there other right) =
+      t.Assign (t.Is at (view_attr attr) (view_kind kind)) (t.Is there (view_attr other) (view_kind right))
+  view_kind (k.Compound' op p at attr kind q there other right) =
+      t.Compound op (t.Is at (view_attr attr) (view_kind kind)) (t.Is there (view_attr other) (view_kind right))
   view_kind (k.Conditional' p at attr kind q there other right r far last behind) =
-      t.Conditional (t.Is at (view_attr attr) (view_kind kind)) (t.Is there (view_attr other) (view_kind right)) (t.Is far (view_attr last) (view_kind behind))
+      t.Conditional (t.Is at (view_attr attr) (view_kind kind)) (t.Is there (view_attr other) (view_kind right))
+      (t.Is far (view_attr last) (view_kind behind))
   view_kind (k.Comma' shape parts) = t.Comma (view_row parts)
 
   pub view_row : {m : _} → Row_of-Expr m → t.Exprs
@@ -40,3 +47,7 @@ abbrev mutual
 
 abbrev pub view_expr : e.Expr → t.Expr
 view_expr x = t.Is x.place (view_attr x.attr) (view_kind x.kind)
+
+-- What an expression of the tree is to the node above it.
+abbrev pub attr_seen : e.Expr → Attr
+attr_seen x = view_attr x.attr

@@ -3,12 +3,12 @@
 ghost use Rattle.std.specs.Prelude.{◌≡◌, ◌*◌, ◌<◌, ◌≤◌, ◌^◌, pos, ◌+ℤ◌, ◌*ℤ◌, unsigned_abs};
 ghost use Rattle.block_layout.specs.Places.{in_range, offset_at};
 ghost use Rattle.shared_pointers.specs.Steps.{element_in_row, row_offset, moved, moved_by_blocks};
-ghost use Rattle.typed_tree.specs.Constants as c;
-ghost use Rattle.typed_tree.specs.Constants.{IsWithin};
-ghost use Rattle.typed_tree.specs.Attributes as attributes;
+ghost use Rattle.typing_rules.specs.Constants as c;
+ghost use Rattle.typing_rules.specs.Constants.{IsWithin};
+ghost use Rattle.typing_rules.specs.Attributes as attributes;
 
-use crate::attribute::{Constant, Static};
 use block_layout::{ObjectRef, SharedPtr, wide};
+use typing_rules::{Constant, Static};
 
 // A place in a shared object whose offset may be out of range.
 #[derive(Clone, Copy)]

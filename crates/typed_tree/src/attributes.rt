@@ -6,33 +6,31 @@ ghost use Rattle.integers.specs.Operators.{unary_kind, binary_kind};
 ghost use Rattle.upc_types.specs.Arithmetic.{usual};
 ghost use Rattle.upc_types.specs.Types.{Pointer, Qualified};
 ghost use Rattle.upc_types.specs.View.{view, view_base};
-ghost use Rattle.typed_tree.specs.Views.{view_meaning, view_use, view_target};
-ghost use Rattle.typed_tree.specs.Library as library;
-ghost use Rattle.typed_tree.specs.Values as values;
-ghost use Rattle.typed_tree.specs.Constants as c;
-ghost use Rattle.typed_tree.specs.Constants.{IsWithin};
-ghost use Rattle.typed_tree.specs.Nodes as n;
-ghost use Rattle.typed_tree.specs.Nodes.{view_attr};
-ghost use Rattle.typed_tree.specs.Attributes as pure;
-ghost use Rattle.typed_tree.specs.Attributes.{Facts, attr};
+ghost use Rattle.typing_rules.specs.Views.{view_meaning, view_use, view_target};
+ghost use Rattle.typing_rules.specs.Library as library;
+ghost use Rattle.typing_rules.specs.Values as values;
+ghost use Rattle.typing_rules.specs.Constants as c;
+ghost use Rattle.typing_rules.specs.Constants.{IsWithin};
+ghost use Rattle.typing_rules.specs.Nodes as n;
+ghost use Rattle.typing_rules.specs.Nodes.{view_attr};
+ghost use Rattle.typing_rules.specs.Attributes as pure;
+ghost use Rattle.typing_rules.specs.Attributes.{Facts, attr};
 
-use crate::attribute::{Attr, Constant, Form, Static};
-use crate::calls::is_allocation;
-use crate::constants::{
-    and_constant, binary_constant, cast_constant, choice_constant, or_constant, unary_constant,
-    working_kind,
-};
-use crate::declarations::{address_in, constant_of};
-use crate::library::LibraryCall;
-use crate::meaning::{Meaning, Use};
-use crate::names::constant_value;
-use crate::setting::Home;
-use crate::types::{base_kind, kind_of, target_of};
 use block_layout::Kind;
 use integers::{BinOp, UnOp};
 use std::alloc::Global;
+use typing_rules::calls::is_allocation;
+use typing_rules::constants::{
+    and_constant, binary_constant, cast_constant, choice_constant, or_constant, unary_constant,
+    working_kind,
+};
+use typing_rules::declarations::{address_in, constant_of};
+use typing_rules::names::constant_value;
+use typing_rules::types::{base_kind, kind_of, target_of};
+use typing_rules::{Attr, Constant, Form, Home, Meaning, Static, Use};
 use upc_text::OutOfMemory;
 use upc_types::{Access, Base, CType, copy_base, copy_type, promoted, usual};
+use upc_values::LibraryCall;
 
 pub(crate) fn plainly(base: Base) -> CType
     ensures { view result ≡ values.plainly (view_base base) }
@@ -258,7 +256,8 @@ fn callable() -> Attr
 
 /// A name.
 pub fn name(alloc: Global, meaning: Meaning<'_>) -> Result<Attr, OutOfMemory>
-    ensures { IfOk result (λ x. (φ : Facts) (how : n.Use) → view_attr x ≡ attr φ (n.Name how (view_meaning meaning.entry))) }
+    ensures { IfOk result (λ x. (φ : Facts) (how : n.Use) → view_attr x
+        ≡ attr φ (n.Name how (view_meaning meaning.entry))) }
 {
     match meaning {
         Meaning::Unknown => Ok(int_value()),
@@ -276,7 +275,8 @@ pub fn name(alloc: Global, meaning: Meaning<'_>) -> Result<Attr, OutOfMemory>
 }
 
 fn pointer_to(alloc: Global, base: Base, shared: Option<u32>) -> Result<CType, OutOfMemory>
-    ensures { IfOk result (λ t. view t ≡ values.plainly (Pointer (Qualified (view_base base) false shared Access.Unsaid))) }
+    ensures { IfOk result (λ t. view t
+        ≡ values.plainly (Pointer (Qualified (view_base base) false shared Access.Unsaid))) }
 {
     let target = CType {
         base,
@@ -337,7 +337,9 @@ fn given(alloc: Global, how: Use<'_>, meaning: Meaning<'_>) -> Result<CType, Out
 
 /// A call of what a name stands for, used so.
 pub fn call(alloc: Global, how: Use<'_>, meaning: Meaning<'_>) -> Result<Attr, OutOfMemory>
-    ensures { IfOk result (λ x. (φ : Facts) (runs : Bool) (format : Option (List ℕ)) (args : List n.Attr) → view_attr x ≡ attr φ (n.Call (view_use how.entry) (view_meaning meaning.entry) runs format args)) }
+    ensures { IfOk result
+        (λ x. (φ : Facts) (runs : Bool) (format : Option (List ℕ)) (args : List n.Attr) →
+        view_attr x ≡ attr φ (n.Call (view_use how.entry) (view_meaning meaning.entry) runs format args)) }
 {
     Ok(value(given(alloc, how, meaning)?))
 }
@@ -396,7 +398,9 @@ fn target_block(target: Option<&CType>) -> Option<u32>
 }
 
 fn cast_by(t: &CType, a: &Attr) -> Constant
-    ensures value { result ≡ pure.cast_by (values.value_type (view t.now)) (values.base_kind (values.value_base (view_base t.now.base))) (view_attr a.now) }
+    ensures value { result
+        ≡ pure.cast_by (values.value_type (view t.now))
+        (values.base_kind (values.value_base (view_base t.now.base))) (view_attr a.now) }
     ensures within { IsWithin result }
 {
     match base_kind(&t.base) {
@@ -447,7 +451,9 @@ fn binary_kind(op: BinOp, kind: Kind) -> Kind
 
 /// A binary operator on two integers, as on what is none.
 pub fn arithmetic(op: BinOp, a: &Attr, b: &Attr) -> Attr
-    ensures { view_attr result ≡ pure.arithmetic_attr op (values.base_kind (pure.base (view_attr a.now))) (values.base_kind (pure.base (view_attr b.now))) a.now.constant b.now.constant }
+    ensures { view_attr result
+        ≡ pure.arithmetic_attr op (values.base_kind (pure.base (view_attr a.now)))
+        (values.base_kind (pure.base (view_attr b.now))) a.now.constant b.now.constant }
 {
     match (kind_of(a), kind_of(b)) {
         (Some(j), Some(k)) => constant(
@@ -474,7 +480,8 @@ fn plain_value(alloc: Global, t: &CType) -> Result<Attr, OutOfMemory>
 }
 
 fn other_choice(alloc: Global, a: &Attr, b: &Attr) -> Result<Attr, OutOfMemory>
-    ensures { IfOk result (λ x. view_attr x ≡ pure.other_choice (view_attr a.now) (view_attr b.now) (values.base_target (pure.base (view_attr a.now)))) }
+    ensures { IfOk result (λ x. view_attr x
+        ≡ pure.other_choice (view_attr a.now) (view_attr b.now) (values.base_target (pure.base (view_attr a.now)))) }
 {
     match target_of(a) {
         Some(_) => plain_value(alloc, &a.ctype),
@@ -484,7 +491,8 @@ fn other_choice(alloc: Global, a: &Attr, b: &Attr) -> Result<Attr, OutOfMemory>
 
 /// `test ? a : b`.
 pub fn conditional(alloc: Global, test: &Attr, a: &Attr, b: &Attr) -> Result<Attr, OutOfMemory>
-    ensures { IfOk result (λ x. (φ : Facts) → view_attr x ≡ attr φ (n.Conditional (view_attr test.now) (view_attr a.now) (view_attr b.now))) }
+    ensures { IfOk result (λ x. (φ : Facts) → view_attr x
+        ≡ attr φ (n.Conditional (view_attr test.now) (view_attr a.now) (view_attr b.now))) }
 {
     match (kind_of(a), kind_of(b)) {
         (Some(j), Some(k)) => Ok(integer_choice(j, k, test.constant, a.constant, b.constant)),

@@ -2,84 +2,75 @@
 
 ghost use Rattle.std.specs.Prelude.{◌≡◌, IfOk, map};
 ghost use Rattle.upc_types.specs.View.{view};
-ghost use Rattle.typed_tree.specs.Nodes.{view_attr};
+ghost use Rattle.typing_rules.specs.Nodes.{view_attr};
 ghost use Rattle.typed_tree.specs.Tree as k;
 ghost use Rattle.typed_tree.specs.Tree.{Is, exprs_of};
-ghost use Rattle.typed_tree.specs.ViewTree.{view_expr};
+ghost use Rattle.typed_tree.specs.ViewTree.{view_expr, view_kind};
 
-use crate::attribute::Attr;
-use crate::setting::{Home, SizeOperator};
 use crate::tree::{Expr, ExprKind, StepOperator, Target};
 use integers::{BinOp, UnOp};
 use std::alloc::Global;
+use typing_rules::{Attr, Home, SizeOperator};
 use upc_text::{OutOfMemory, Place, Text};
 use upc_types::CType;
 
-/// A number, a character or a named constant.
-pub fn literal(place: Place, attr: Attr) -> Expr
-    ensures { view_expr result ≡ Is place (view_attr attr) k.Literal }
+// An expression of this kind.
+fn node(alloc: Global, place: Place, attr: Attr, kind: ExprKind) -> Result<Box<Expr>, OutOfMemory>
+    ensures { IfOk result (λ e. view_expr e.value ≡ Is place (view_attr attr) (view_kind kind)) }
 {
-    Expr {
-        place,
-        attr,
-        kind: ExprKind::Literal,
-    }
+    Ok(Box::new(alloc, Expr { place, attr, kind })?)
+}
+
+/// A number, a character or a named constant.
+pub fn literal(alloc: Global, place: Place, attr: Attr) -> Result<Box<Expr>, OutOfMemory>
+    ensures { IfOk result (λ e. view_expr e.value ≡ Is place (view_attr attr) k.Literal) }
+{
+    node(alloc, place, attr, ExprKind::Literal)
 }
 
 /// `MYTHREAD`.
-pub fn mythread(place: Place, attr: Attr) -> Expr
-    ensures { view_expr result ≡ Is place (view_attr attr) k.Mythread }
+pub fn mythread(alloc: Global, place: Place, attr: Attr) -> Result<Box<Expr>, OutOfMemory>
+    ensures { IfOk result (λ e. view_expr e.value ≡ Is place (view_attr attr) k.Mythread) }
 {
-    Expr {
-        place,
-        attr,
-        kind: ExprKind::Mythread,
-    }
+    node(alloc, place, attr, ExprKind::Mythread)
 }
 
 /// The name of an object.
-pub fn object(place: Place, attr: Attr, home: Home) -> Expr
-    ensures { view_expr result ≡ Is place (view_attr attr) (k.Object home) }
+pub fn object(alloc: Global, place: Place, attr: Attr, home: Home) -> Result<Box<Expr>, OutOfMemory>
+    ensures { IfOk result (λ e. view_expr e.value ≡ Is place (view_attr attr) (k.Object home)) }
 {
-    Expr {
-        place,
-        attr,
-        kind: ExprKind::Object(home),
-    }
+    node(alloc, place, attr, ExprKind::Object(home))
 }
 
 /// The name of a function that is called.
-pub fn callee(place: Place, attr: Attr, target: Target) -> Expr
-    ensures { view_expr result ≡ Is place (view_attr attr) (k.Callee target) }
+pub fn callee(
+    alloc: Global,
+    place: Place,
+    attr: Attr,
+    target: Target,
+) -> Result<Box<Expr>, OutOfMemory>
+    ensures { IfOk result (λ e. view_expr e.value ≡ Is place (view_attr attr) (k.Callee target)) }
 {
-    Expr {
-        place,
-        attr,
-        kind: ExprKind::Callee(target),
-    }
+    node(alloc, place, attr, ExprKind::Callee(target))
 }
 
 /// The format of a printf.
-pub fn format(place: Place, attr: Attr, text: Text) -> Expr
-    ensures { view_expr result ≡ Is place (view_attr attr) (k.Format text) }
+pub fn format(alloc: Global, place: Place, attr: Attr, text: Text) -> Result<Box<Expr>, OutOfMemory>
+    ensures { IfOk result (λ e. view_expr e.value ≡ Is place (view_attr attr) (k.Format text)) }
 {
-    Expr {
-        place,
-        attr,
-        kind: ExprKind::Format(text),
-    }
+    node(alloc, place, attr, ExprKind::Format(text))
 }
 
 /// `(a)`.
-pub fn paren(alloc: Global, place: Place, attr: Attr, a: Expr) -> Result<Expr, OutOfMemory>
-    ensures { IfOk result (λ e. view_expr e ≡ Is place (view_attr attr) (k.Paren (view_expr a))) }
+pub fn paren(
+    alloc: Global,
+    place: Place,
+    attr: Attr,
+    a: Box<Expr>,
+) -> Result<Box<Expr>, OutOfMemory>
+    ensures { IfOk result (λ e. view_expr e.value ≡ Is place (view_attr attr) (k.Paren (view_expr a.value))) }
 {
-    let a = Box::new(alloc, a)?;
-    Ok(Expr {
-        place,
-        attr,
-        kind: ExprKind::Paren(a),
-    })
+    node(alloc, place, attr, ExprKind::Paren(a))
 }
 
 /// `a[i]`.
@@ -87,29 +78,27 @@ pub fn subscript(
     alloc: Global,
     place: Place,
     attr: Attr,
-    a: Expr,
-    i: Expr,
-) -> Result<Expr, OutOfMemory>
-    ensures { IfOk result (λ e. view_expr e ≡ Is place (view_attr attr) (k.Subscript (view_expr a) (view_expr i))) }
+    a: Box<Expr>,
+    i: Box<Expr>,
+) -> Result<Box<Expr>, OutOfMemory>
+    ensures { IfOk result (λ e. view_expr e.value
+        ≡ Is place (view_attr attr) (k.Subscript (view_expr a.value) (view_expr i.value))) }
 {
-    let a = Box::new(alloc, a)?;
-    let i = Box::new(alloc, i)?;
-    Ok(Expr {
-        place,
-        attr,
-        kind: ExprKind::Subscript(a, i),
-    })
+    node(alloc, place, attr, ExprKind::Subscript(a, i))
 }
 
 /// A call of that with these arguments.
-pub fn call(place: Place, attr: Attr, target: Target, args: Vec<Expr>) -> Expr
-    ensures { view_expr result ≡ Is place (view_attr attr) (k.Call target (exprs_of (map view_expr args.items))) }
+pub fn call(
+    alloc: Global,
+    place: Place,
+    attr: Attr,
+    target: Target,
+    args: Vec<Expr>,
+) -> Result<Box<Expr>, OutOfMemory>
+    ensures { IfOk result (λ e. view_expr e.value
+        ≡ Is place (view_attr attr) (k.Call target (exprs_of (map view_expr args.items)))) }
 {
-    Expr {
-        place,
-        attr,
-        kind: ExprKind::Call(target, args),
-    }
+    node(alloc, place, attr, ExprKind::Call(target, args))
 }
 
 /// The member of this number.
@@ -117,17 +106,13 @@ pub fn member(
     alloc: Global,
     place: Place,
     attr: Attr,
-    a: Expr,
+    a: Box<Expr>,
     index: u32,
-) -> Result<Expr, OutOfMemory>
-    ensures { IfOk result (λ e. view_expr e ≡ Is place (view_attr attr) (k.Member (view_expr a) index)) }
+) -> Result<Box<Expr>, OutOfMemory>
+    ensures { IfOk result (λ e. view_expr e.value
+        ≡ Is place (view_attr attr) (k.Member (view_expr a.value) index)) }
 {
-    let a = Box::new(alloc, a)?;
-    Ok(Expr {
-        place,
-        attr,
-        kind: ExprKind::Member(a, index),
-    })
+    node(alloc, place, attr, ExprKind::Member(a, index))
 }
 
 /// The member of this number of the struct that a pointer leads to.
@@ -135,17 +120,13 @@ pub fn member_behind(
     alloc: Global,
     place: Place,
     attr: Attr,
-    a: Expr,
+    a: Box<Expr>,
     index: u32,
-) -> Result<Expr, OutOfMemory>
-    ensures { IfOk result (λ e. view_expr e ≡ Is place (view_attr attr) (k.MemberBehind (view_expr a) index)) }
+) -> Result<Box<Expr>, OutOfMemory>
+    ensures { IfOk result (λ e. view_expr e.value
+        ≡ Is place (view_attr attr) (k.MemberBehind (view_expr a.value) index)) }
 {
-    let a = Box::new(alloc, a)?;
-    Ok(Expr {
-        place,
-        attr,
-        kind: ExprKind::MemberBehind(a, index),
-    })
+    node(alloc, place, attr, ExprKind::MemberBehind(a, index))
 }
 
 /// `++` and `--`.
@@ -154,40 +135,38 @@ pub fn step(
     place: Place,
     attr: Attr,
     op: StepOperator,
-    a: Expr,
-) -> Result<Expr, OutOfMemory>
-    ensures { IfOk result (λ e. view_expr e ≡ Is place (view_attr attr) (k.Step op (view_expr a))) }
+    a: Box<Expr>,
+) -> Result<Box<Expr>, OutOfMemory>
+    ensures { IfOk result (λ e. view_expr e.value
+        ≡ Is place (view_attr attr) (k.Step op (view_expr a.value))) }
 {
-    let a = Box::new(alloc, a)?;
-    Ok(Expr {
-        place,
-        attr,
-        kind: ExprKind::Step(op, a),
-    })
+    node(alloc, place, attr, ExprKind::Step(op, a))
 }
 
 /// `&a`.
-pub fn address(alloc: Global, place: Place, attr: Attr, a: Expr) -> Result<Expr, OutOfMemory>
-    ensures { IfOk result (λ e. view_expr e ≡ Is place (view_attr attr) (k.Address (view_expr a))) }
+pub fn address(
+    alloc: Global,
+    place: Place,
+    attr: Attr,
+    a: Box<Expr>,
+) -> Result<Box<Expr>, OutOfMemory>
+    ensures { IfOk result (λ e. view_expr e.value
+        ≡ Is place (view_attr attr) (k.Address (view_expr a.value))) }
 {
-    let a = Box::new(alloc, a)?;
-    Ok(Expr {
-        place,
-        attr,
-        kind: ExprKind::Address(a),
-    })
+    node(alloc, place, attr, ExprKind::Address(a))
 }
 
 /// `*a`.
-pub fn dereference(alloc: Global, place: Place, attr: Attr, a: Expr) -> Result<Expr, OutOfMemory>
-    ensures { IfOk result (λ e. view_expr e ≡ Is place (view_attr attr) (k.Dereference (view_expr a))) }
+pub fn dereference(
+    alloc: Global,
+    place: Place,
+    attr: Attr,
+    a: Box<Expr>,
+) -> Result<Box<Expr>, OutOfMemory>
+    ensures { IfOk result (λ e. view_expr e.value
+        ≡ Is place (view_attr attr) (k.Dereference (view_expr a.value))) }
 {
-    let a = Box::new(alloc, a)?;
-    Ok(Expr {
-        place,
-        attr,
-        kind: ExprKind::Dereference(a),
-    })
+    node(alloc, place, attr, ExprKind::Dereference(a))
 }
 
 /// `+a`, `-a`, `~a` and `!a`.
@@ -196,16 +175,12 @@ pub fn unary(
     place: Place,
     attr: Attr,
     op: UnOp,
-    a: Expr,
-) -> Result<Expr, OutOfMemory>
-    ensures { IfOk result (λ e. view_expr e ≡ Is place (view_attr attr) (k.Unary op (view_expr a))) }
+    a: Box<Expr>,
+) -> Result<Box<Expr>, OutOfMemory>
+    ensures { IfOk result (λ e. view_expr e.value
+        ≡ Is place (view_attr attr) (k.Unary op (view_expr a.value))) }
 {
-    let a = Box::new(alloc, a)?;
-    Ok(Expr {
-        place,
-        attr,
-        kind: ExprKind::Unary(op, a),
-    })
+    node(alloc, place, attr, ExprKind::Unary(op, a))
 }
 
 /// The size of an expression.
@@ -214,39 +189,33 @@ pub fn size_of(
     place: Place,
     attr: Attr,
     op: SizeOperator,
-    a: Expr,
-) -> Result<Expr, OutOfMemory>
-    ensures { IfOk result (λ e. view_expr e ≡ Is place (view_attr attr) (k.SizeOf op (view_expr a))) }
+    a: Box<Expr>,
+) -> Result<Box<Expr>, OutOfMemory>
+    ensures { IfOk result (λ e. view_expr e.value
+        ≡ Is place (view_attr attr) (k.SizeOf op (view_expr a.value))) }
 {
-    let a = Box::new(alloc, a)?;
-    Ok(Expr {
-        place,
-        attr,
-        kind: ExprKind::SizeOf(op, a),
-    })
+    node(alloc, place, attr, ExprKind::SizeOf(op, a))
 }
 
 /// The size of a type.
-pub fn size_of_type(place: Place, attr: Attr, op: SizeOperator, t: CType) -> Expr
-    ensures { view_expr result ≡ Is place (view_attr attr) (k.SizeOfType op (view t)) }
+pub fn size_of_type(
+    alloc: Global,
+    place: Place,
+    attr: Attr,
+    op: SizeOperator,
+    t: Box<CType>,
+) -> Result<Box<Expr>, OutOfMemory>
+    ensures { IfOk result (λ e. view_expr e.value
+        ≡ Is place (view_attr attr) (k.SizeOfType op (view t.value))) }
 {
-    Expr {
-        place,
-        attr,
-        kind: ExprKind::SizeOfType(op, t),
-    }
+    node(alloc, place, attr, ExprKind::SizeOfType(op, t))
 }
 
 /// A cast.
-pub fn cast(alloc: Global, place: Place, attr: Attr, a: Expr) -> Result<Expr, OutOfMemory>
-    ensures { IfOk result (λ e. view_expr e ≡ Is place (view_attr attr) (k.Cast (view_expr a))) }
+pub fn cast(alloc: Global, place: Place, attr: Attr, a: Box<Expr>) -> Result<Box<Expr>, OutOfMemory>
+    ensures { IfOk result (λ e. view_expr e.value ≡ Is place (view_attr attr) (k.Cast (view_expr a.value))) }
 {
-    let a = Box::new(alloc, a)?;
-    Ok(Expr {
-        place,
-        attr,
-        kind: ExprKind::Cast(a),
-    })
+    node(alloc, place, attr, ExprKind::Cast(a))
 }
 
 /// A binary operator other than `&&` and `||`.
@@ -255,44 +224,41 @@ pub fn binary(
     place: Place,
     attr: Attr,
     op: BinOp,
-    a: Expr,
-    b: Expr,
-) -> Result<Expr, OutOfMemory>
-    ensures { IfOk result (λ e. view_expr e ≡ Is place (view_attr attr) (k.Binary op (view_expr a) (view_expr b))) }
+    a: Box<Expr>,
+    b: Box<Expr>,
+) -> Result<Box<Expr>, OutOfMemory>
+    ensures { IfOk result (λ e. view_expr e.value
+        ≡ Is place (view_attr attr) (k.Binary op (view_expr a.value) (view_expr b.value))) }
 {
-    let a = Box::new(alloc, a)?;
-    let b = Box::new(alloc, b)?;
-    Ok(Expr {
-        place,
-        attr,
-        kind: ExprKind::Binary(op, a, b),
-    })
+    node(alloc, place, attr, ExprKind::Binary(op, a, b))
 }
 
 /// `a && b`.
-pub fn and(alloc: Global, place: Place, attr: Attr, a: Expr, b: Expr) -> Result<Expr, OutOfMemory>
-    ensures { IfOk result (λ e. view_expr e ≡ Is place (view_attr attr) (k.And (view_expr a) (view_expr b))) }
+pub fn and(
+    alloc: Global,
+    place: Place,
+    attr: Attr,
+    a: Box<Expr>,
+    b: Box<Expr>,
+) -> Result<Box<Expr>, OutOfMemory>
+    ensures { IfOk result (λ e. view_expr e.value
+        ≡ Is place (view_attr attr) (k.And (view_expr a.value) (view_expr b.value))) }
 {
-    let a = Box::new(alloc, a)?;
-    let b = Box::new(alloc, b)?;
-    Ok(Expr {
-        place,
-        attr,
-        kind: ExprKind::And(a, b),
-    })
+    node(alloc, place, attr, ExprKind::And(a, b))
 }
 
 /// `a || b`.
-pub fn or(alloc: Global, place: Place, attr: Attr, a: Expr, b: Expr) -> Result<Expr, OutOfMemory>
-    ensures { IfOk result (λ e. view_expr e ≡ Is place (view_attr attr) (k.Or (view_expr a) (view_expr b))) }
+pub fn or(
+    alloc: Global,
+    place: Place,
+    attr: Attr,
+    a: Box<Expr>,
+    b: Box<Expr>,
+) -> Result<Box<Expr>, OutOfMemory>
+    ensures { IfOk result (λ e. view_expr e.value
+        ≡ Is place (view_attr attr) (k.Or (view_expr a.value) (view_expr b.value))) }
 {
-    let a = Box::new(alloc, a)?;
-    let b = Box::new(alloc, b)?;
-    Ok(Expr {
-        place,
-        attr,
-        kind: ExprKind::Or(a, b),
-    })
+    node(alloc, place, attr, ExprKind::Or(a, b))
 }
 
 /// `a = b`.
@@ -300,18 +266,13 @@ pub fn assign(
     alloc: Global,
     place: Place,
     attr: Attr,
-    a: Expr,
-    b: Expr,
-) -> Result<Expr, OutOfMemory>
-    ensures { IfOk result (λ e. view_expr e ≡ Is place (view_attr attr) (k.Assign (view_expr a) (view_expr b))) }
+    a: Box<Expr>,
+    b: Box<Expr>,
+) -> Result<Box<Expr>, OutOfMemory>
+    ensures { IfOk result (λ e. view_expr e.value
+        ≡ Is place (view_attr attr) (k.Assign (view_expr a.value) (view_expr b.value))) }
 {
-    let a = Box::new(alloc, a)?;
-    let b = Box::new(alloc, b)?;
-    Ok(Expr {
-        place,
-        attr,
-        kind: ExprKind::Assign(a, b),
-    })
+    node(alloc, place, attr, ExprKind::Assign(a, b))
 }
 
 /// A compound assignment.
@@ -320,18 +281,13 @@ pub fn compound(
     place: Place,
     attr: Attr,
     op: BinOp,
-    a: Expr,
-    b: Expr,
-) -> Result<Expr, OutOfMemory>
-    ensures { IfOk result (λ e. view_expr e ≡ Is place (view_attr attr) (k.Compound op (view_expr a) (view_expr b))) }
+    a: Box<Expr>,
+    b: Box<Expr>,
+) -> Result<Box<Expr>, OutOfMemory>
+    ensures { IfOk result (λ e. view_expr e.value
+        ≡ Is place (view_attr attr) (k.Compound op (view_expr a.value) (view_expr b.value))) }
 {
-    let a = Box::new(alloc, a)?;
-    let b = Box::new(alloc, b)?;
-    Ok(Expr {
-        place,
-        attr,
-        kind: ExprKind::Compound(op, a, b),
-    })
+    node(alloc, place, attr, ExprKind::Compound(op, a, b))
 }
 
 /// `test ? a : b`.
@@ -339,29 +295,25 @@ pub fn conditional(
     alloc: Global,
     place: Place,
     attr: Attr,
-    test: Expr,
-    a: Expr,
-    b: Expr,
-) -> Result<Expr, OutOfMemory>
-    ensures { IfOk result (λ e. view_expr e ≡ Is place (view_attr attr) (k.Conditional (view_expr test) (view_expr a) (view_expr b))) }
+    test: Box<Expr>,
+    a: Box<Expr>,
+    b: Box<Expr>,
+) -> Result<Box<Expr>, OutOfMemory>
+    ensures { IfOk result (λ e. view_expr e.value
+        ≡ Is place (view_attr attr) (k.Conditional (view_expr test.value) (view_expr a.value) (view_expr b.value))) }
 {
-    let test = Box::new(alloc, test)?;
-    let a = Box::new(alloc, a)?;
-    let b = Box::new(alloc, b)?;
-    Ok(Expr {
-        place,
-        attr,
-        kind: ExprKind::Conditional(test, a, b),
-    })
+    node(alloc, place, attr, ExprKind::Conditional(test, a, b))
 }
 
 /// Expressions with commas between them.
-pub fn comma(place: Place, attr: Attr, parts: Vec<Expr>) -> Expr
-    ensures { view_expr result ≡ Is place (view_attr attr) (k.Comma (exprs_of (map view_expr parts.items))) }
+pub fn comma(
+    alloc: Global,
+    place: Place,
+    attr: Attr,
+    parts: Vec<Expr>,
+) -> Result<Box<Expr>, OutOfMemory>
+    ensures { IfOk result (λ e. view_expr e.value
+        ≡ Is place (view_attr attr) (k.Comma (exprs_of (map view_expr parts.items)))) }
 {
-    Expr {
-        place,
-        attr,
-        kind: ExprKind::Comma(parts),
-    }
+    node(alloc, place, attr, ExprKind::Comma(parts))
 }

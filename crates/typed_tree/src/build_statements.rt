@@ -1,9 +1,10 @@
 //! Statements from their parts.
 
-ghost use Rattle.std.specs.Prelude.{◌≡◌, IfOk, Option, Some, None};
+ghost use Rattle.std.specs.Prelude.{◌≡◌, IfOk};
 ghost use Rattle.typed_tree.specs.Tree as pure;
 ghost use Rattle.typed_tree.specs.ViewTree.{view_expr};
-ghost use Rattle.typed_tree.specs.ViewStatements.{view_affinity, view_arms, view_boxed, view_head, view_items, view_last, view_statement, view_switch_items, view_value};
+ghost use Rattle.typed_tree.specs.ViewStatements.{view_affinity, view_arms, view_head, view_items, view_last};
+ghost use Rattle.typed_tree.specs.ViewStatements.{view_statement, view_statement_kind, view_switch_items, view_value};
 
 use crate::tree::{
     Affinity, Arm, Expr, Head, Item, Statement, StatementKind, SwitchItem, Synchronises,
@@ -11,29 +12,35 @@ use crate::tree::{
 use std::alloc::Global;
 use upc_text::{OutOfMemory, Place};
 
-/// A block; `strict`: accesses in it that do not say so themselves are strict.
-pub fn block(place: Place, strict: bool, items: Vec<Item>) -> Statement
-    ensures { view_statement result ≡ pure.Stands place (pure.Block strict (view_items items.items)) }
+// A statement of this kind.
+fn node(alloc: Global, place: Place, kind: StatementKind) -> Result<Box<Statement>, OutOfMemory>
+    ensures { IfOk result (λ s. view_statement s.value ≡ pure.Stands place (view_statement_kind kind)) }
 {
-    let kind = StatementKind::Block(strict, items);
-    Statement { place, kind }
+    Ok(Box::new(alloc, Statement { place, kind })?)
+}
+
+/// A block; `strict`: accesses in it that do not say so themselves are strict.
+pub fn block(
+    alloc: Global,
+    place: Place,
+    strict: bool,
+    items: Vec<Item>,
+) -> Result<Box<Statement>, OutOfMemory>
+    ensures { IfOk result (λ s. view_statement s.value
+        ≡ pure.Stands place (pure.Block strict (view_items items.items))) }
+{
+    node(alloc, place, StatementKind::Block(strict, items))
 }
 
 /// An expression, or nothing.
-pub fn value(place: Place, value: Option<Expr>) -> Statement
-    ensures { view_statement result ≡ pure.Stands place (pure.Value (view_value value)) }
+pub fn value(
+    alloc: Global,
+    place: Place,
+    value: Option<Box<Expr>>,
+) -> Result<Box<Statement>, OutOfMemory>
+    ensures { IfOk result (λ s. view_statement s.value ≡ pure.Stands place (pure.Value (view_value value))) }
 {
-    let kind = StatementKind::Value(value);
-    Statement { place, kind }
-}
-
-fn boxed(alloc: Global, body: Option<Statement>) -> Result<Option<Box<Statement>>, OutOfMemory>
-    ensures { IfOk result (λ b. view_boxed b ≡ view_last body) }
-{
-    match body {
-        None => Ok(None),
-        Some(body) => Ok(Some(Box::new(alloc, body)?)),
-    }
+    node(alloc, place, StatementKind::Value(value))
 }
 
 /// `if`, with what stands behind its `else`.
@@ -41,114 +48,121 @@ pub fn if_chain(
     alloc: Global,
     place: Place,
     arms: Vec<Arm>,
-    last: Option<Statement>,
-) -> Result<Statement, OutOfMemory>
-    ensures { IfOk result (λ s. view_statement s ≡ pure.Stands place (pure.If (view_arms arms.items) (view_last last))) }
+    last: Option<Box<Statement>>,
+) -> Result<Box<Statement>, OutOfMemory>
+    ensures { IfOk result (λ s. view_statement s.value
+        ≡ pure.Stands place (pure.If (view_arms arms.items) (view_last last))) }
 {
-    let kind = StatementKind::If(arms, boxed(alloc, last)?);
-    Ok(Statement { place, kind })
+    node(alloc, place, StatementKind::If(arms, last))
 }
 
 /// `switch`.
-pub fn switch(place: Place, value: Expr, items: Vec<SwitchItem>) -> Statement
-    ensures { view_statement result ≡ pure.Stands place (pure.Switch (view_expr value) (view_switch_items items.items)) }
+pub fn switch(
+    alloc: Global,
+    place: Place,
+    value: Box<Expr>,
+    items: Vec<SwitchItem>,
+) -> Result<Box<Statement>, OutOfMemory>
+    ensures { IfOk result (λ s. view_statement s.value
+        ≡ pure.Stands place (pure.Switch (view_expr value.value) (view_switch_items items.items))) }
 {
-    let kind = StatementKind::Switch(value, items);
-    Statement { place, kind }
+    node(alloc, place, StatementKind::Switch(value, items))
 }
 
 /// `while`.
 pub fn while_loop(
     alloc: Global,
     place: Place,
-    test: Expr,
-    body: Statement,
-) -> Result<Statement, OutOfMemory>
-    ensures { IfOk result (λ s. view_statement s ≡ pure.Stands place (pure.While (view_expr test) (view_statement body))) }
+    test: Box<Expr>,
+    body: Box<Statement>,
+) -> Result<Box<Statement>, OutOfMemory>
+    ensures { IfOk result (λ s. view_statement s.value
+        ≡ pure.Stands place (pure.While (view_expr test.value) (view_statement body.value))) }
 {
-    let kind = StatementKind::While(test, Box::new(alloc, body)?);
-    Ok(Statement { place, kind })
+    node(alloc, place, StatementKind::While(test, body))
 }
 
 /// `do` with its `while`.
 pub fn do_while(
     alloc: Global,
     place: Place,
-    body: Statement,
-    test: Expr,
-) -> Result<Statement, OutOfMemory>
-    ensures { IfOk result (λ s. view_statement s ≡ pure.Stands place (pure.DoWhile (view_statement body) (view_expr test))) }
+    body: Box<Statement>,
+    test: Box<Expr>,
+) -> Result<Box<Statement>, OutOfMemory>
+    ensures { IfOk result (λ s. view_statement s.value
+        ≡ pure.Stands place (pure.DoWhile (view_statement body.value) (view_expr test.value))) }
 {
-    let kind = StatementKind::DoWhile(Box::new(alloc, body)?, test);
-    Ok(Statement { place, kind })
+    node(alloc, place, StatementKind::DoWhile(body, test))
 }
 
 /// `for`.
 pub fn for_loop(
     alloc: Global,
     place: Place,
-    head: Head,
-    body: Statement,
-) -> Result<Statement, OutOfMemory>
-    ensures { IfOk result (λ s. view_statement s ≡ pure.Stands place (pure.For (view_head head) (view_statement body))) }
+    head: Box<Head>,
+    body: Box<Statement>,
+) -> Result<Box<Statement>, OutOfMemory>
+    ensures { IfOk result (λ s. view_statement s.value
+        ≡ pure.Stands place (pure.For (view_head head.value) (view_statement body.value))) }
 {
-    let head = Box::new(alloc, head)?;
-    let kind = StatementKind::For(head, Box::new(alloc, body)?);
-    Ok(Statement { place, kind })
+    node(alloc, place, StatementKind::For(head, body))
 }
 
 /// `upc_forall`.
 pub fn forall(
     alloc: Global,
     place: Place,
-    head: Head,
+    head: Box<Head>,
     affinity: Affinity,
-    body: Statement,
-) -> Result<Statement, OutOfMemory>
-    ensures { IfOk result (λ s. view_statement s ≡ pure.Stands place (pure.Forall (view_head head) (view_affinity affinity) (view_statement body))) }
+    body: Box<Statement>,
+) -> Result<Box<Statement>, OutOfMemory>
+    ensures { IfOk result (λ s. view_statement s.value
+        ≡ pure.Stands place (pure.Forall (view_head head.value) (view_affinity affinity) (view_statement body.value))) }
 {
-    let head = Box::new(alloc, head)?;
-    let affinity = Box::new(alloc, affinity)?;
-    let kind = StatementKind::Forall(head, affinity, Box::new(alloc, body)?);
-    Ok(Statement { place, kind })
+    node(alloc, place, StatementKind::Forall(head, affinity, body))
 }
 
 /// `break`.
-pub fn leave(place: Place) -> Statement
-    ensures { view_statement result ≡ pure.Stands place pure.Break }
+pub fn leave(alloc: Global, place: Place) -> Result<Box<Statement>, OutOfMemory>
+    ensures { IfOk result (λ s. view_statement s.value ≡ pure.Stands place pure.Break) }
 {
-    let kind = StatementKind::Break;
-    Statement { place, kind }
+    node(alloc, place, StatementKind::Break)
 }
 
 /// `continue`.
-pub fn repeat(place: Place) -> Statement
-    ensures { view_statement result ≡ pure.Stands place pure.Continue }
+pub fn repeat(alloc: Global, place: Place) -> Result<Box<Statement>, OutOfMemory>
+    ensures { IfOk result (λ s. view_statement s.value ≡ pure.Stands place pure.Continue) }
 {
-    let kind = StatementKind::Continue;
-    Statement { place, kind }
+    node(alloc, place, StatementKind::Continue)
 }
 
 /// `return`.
-pub fn give(place: Place, value: Option<Expr>) -> Statement
-    ensures { view_statement result ≡ pure.Stands place (pure.Return (view_value value)) }
+pub fn give(
+    alloc: Global,
+    place: Place,
+    value: Option<Box<Expr>>,
+) -> Result<Box<Statement>, OutOfMemory>
+    ensures { IfOk result (λ s. view_statement s.value ≡ pure.Stands place (pure.Return (view_value value))) }
 {
-    let kind = StatementKind::Return(value);
-    Statement { place, kind }
+    node(alloc, place, StatementKind::Return(value))
 }
 
 /// A statement that synchronises.
-pub fn synchronise(place: Place, how: Synchronises, value: Option<Expr>) -> Statement
-    ensures { view_statement result ≡ pure.Stands place (pure.Synchronise how (view_value value)) }
+pub fn synchronise(
+    alloc: Global,
+    place: Place,
+    how: Synchronises,
+    value: Option<Box<Expr>>,
+) -> Result<Box<Statement>, OutOfMemory>
+    ensures { IfOk result (λ s. view_statement s.value
+        ≡ pure.Stands place (pure.Synchronise how (view_value value))) }
 {
-    let kind = StatementKind::Synchronise(how, value);
-    Statement { place, kind }
+    node(alloc, place, StatementKind::Synchronise(how, value))
 }
 
 /// `upc_fence`.
-pub fn fence(place: Place) -> Statement
-    ensures { view_statement result ≡ pure.Stands place pure.Fence }
+pub fn fence(alloc: Global, place: Place) -> Result<Box<Statement>, OutOfMemory>
+    ensures { IfOk result (λ s. view_statement s.value ≡ pure.Stands place pure.Fence) }
 {
-    let kind = StatementKind::Fence;
-    Statement { place, kind }
+    node(alloc, place, StatementKind::Fence)
 }

@@ -4,23 +4,23 @@ ghost use Rattle.std.specs.Prelude.{◌≡◌, ◌<◌, ◌≤◌, ◌^◌, IfOk
 ghost use Rattle.upc_types.specs.Types as types;
 ghost use Rattle.upc_types.specs.View.{view, view_base};
 ghost use Rattle.upc_types.specs.ViewStructs.{view_structs};
-ghost use Rattle.typed_tree.specs.Constants as c;
-ghost use Rattle.typed_tree.specs.Constants.{IsWithin};
-ghost use Rattle.typed_tree.specs.Nodes as n;
-ghost use Rattle.typed_tree.specs.Nodes.{view_attr};
-ghost use Rattle.typed_tree.specs.Attributes as pure;
-ghost use Rattle.typed_tree.specs.Attributes.{attr};
-ghost use Rattle.typed_tree.specs.Rules as rules;
+ghost use Rattle.typing_rules.specs.Constants as c;
+ghost use Rattle.typing_rules.specs.Constants.{IsWithin};
+ghost use Rattle.typing_rules.specs.Nodes as n;
+ghost use Rattle.typing_rules.specs.Nodes.{view_attr};
+ghost use Rattle.typing_rules.specs.Attributes as pure;
+ghost use Rattle.typing_rules.specs.Attributes.{attr};
+ghost use Rattle.typing_rules.specs.Rules as rules;
 
 use crate::addresses::{address_plus, times};
-use crate::attribute::{Attr, Constant, Form};
 use crate::attributes::{arithmetic, int_value, object_at, plainly, value};
-use crate::declarations::constant_of;
 use crate::sizes::leaves_of;
-use crate::types::target_of;
 use block_layout::Kind;
 use integers::BinOp;
 use std::alloc::Global;
+use typing_rules::declarations::constant_of;
+use typing_rules::types::target_of;
+use typing_rules::{Attr, Constant, Form};
 use upc_text::OutOfMemory;
 use upc_types::{Base, CType, Structs, copy_type};
 
@@ -44,7 +44,9 @@ fn address_behind(
     requires some_thread { 0 < threads }
     requires sized { rules.has_size (view_structs structs.now) (view t.now) ≡ true }
     requires near { unsigned_abs i ≤ 2 ^ 64 }
-    ensures value { result ≡ pure.address_behind (record { structs = view_structs structs.now; threads = threads }) (view t.now) address i }
+    ensures value { result
+        ≡ pure.address_behind (record { structs = view_structs structs.now; threads = threads })
+        (view t.now) address i }
     ensures within { IsWithin result }
 {
     let leaves = leaves_of(structs, &t.base);
@@ -64,7 +66,9 @@ fn indexed(
     requires some_thread { 0 < threads }
     requires sized { rules.has_size (view_structs structs.now) (view t.now) ≡ true }
     requires near { IfSome (c.number_of i) (λ v. unsigned_abs v ≤ 2 ^ 64) }
-    ensures value { result ≡ pure.indexed (record { structs = view_structs structs.now; threads = threads }) (view_base array.now) (view t.now) address i }
+    ensures value { result
+        ≡ pure.indexed (record { structs = view_structs structs.now; threads = threads })
+        (view_base array.now) (view t.now) address i }
     ensures within { IsWithin result }
 {
     match i {
@@ -86,7 +90,9 @@ pub fn subscript(
 ) -> Result<Attr, OutOfMemory>
     requires some_thread { 0 < threads }
     requires sized { rules.is_loose (view_structs structs.now) (view_attr a.now) ≡ false }
-    ensures { IfOk result (λ x. (how : n.Use) → view_attr x ≡ attr (record { structs = view_structs structs.now; threads = threads }) (n.Subscript how (view_attr a.now) (view_attr i.now))) }
+    ensures { IfOk result (λ x. (how : n.Use) → view_attr x
+        ≡ attr (record { structs = view_structs structs.now; threads = threads })
+        (n.Subscript how (view_attr a.now) (view_attr i.now))) }
 {
     match target_of(a) {
         Some(t) => {
@@ -110,7 +116,9 @@ fn pointer(
     requires some_thread { 0 < threads }
     requires sized { rules.has_size (view_structs structs.now) (view t.now) ≡ true }
     requires near { IfSome (c.number_of steps) (λ v. unsigned_abs v ≤ 2 ^ 64) }
-    ensures { IfOk result (λ x. view_attr x ≡ pure.pointer_attr (record { structs = view_structs structs.now; threads = threads }) (view t.now) address steps) }
+    ensures { IfOk result (λ x. view_attr x
+        ≡ pure.pointer_attr (record { structs = view_structs structs.now; threads = threads })
+        (view t.now) address steps) }
 {
     let constant = indexed(structs, threads, &Base::Void, t, address, steps);
     let target = copy_type(alloc, t)?;
@@ -131,7 +139,9 @@ fn sum(
     requires some_thread { 0 < threads }
     requires left { rules.is_loose (view_structs structs.now) (view_attr a.now) ≡ false }
     requires right { rules.is_loose (view_structs structs.now) (view_attr b.now) ≡ false }
-    ensures { IfOk result (λ x. view_attr x ≡ attr (record { structs = view_structs structs.now; threads = threads }) (n.Binary BinOp.Add (view_attr a.now) (view_attr b.now))) }
+    ensures { IfOk result (λ x. view_attr x
+        ≡ attr (record { structs = view_structs structs.now; threads = threads })
+        (n.Binary BinOp.Add (view_attr a.now) (view_attr b.now))) }
 {
     match (target_of(a), target_of(b)) {
         (Some(t), _) => pointer(alloc, structs, threads, t, constant_of(a), b.constant),
@@ -160,8 +170,11 @@ fn difference(
     b: &Attr,
 ) -> Result<Attr, OutOfMemory>
     requires some_thread { 0 < threads }
-    requires sized { rules.moves_loosely (view_structs structs.now) BinOp.Subtract (view_attr a.now) (view_attr b.now) ≡ false }
-    ensures { IfOk result (λ x. view_attr x ≡ attr (record { structs = view_structs structs.now; threads = threads }) (n.Binary BinOp.Subtract (view_attr a.now) (view_attr b.now))) }
+    requires sized { rules.moves_loosely (view_structs structs.now) BinOp.Subtract
+        (view_attr a.now) (view_attr b.now) ≡ false }
+    ensures { IfOk result (λ x. view_attr x
+        ≡ attr (record { structs = view_structs structs.now; threads = threads })
+        (n.Binary BinOp.Subtract (view_attr a.now) (view_attr b.now))) }
 {
     match (target_of(a), target_of(b)) {
         (Some(_), Some(_)) => Ok(value(plainly(Base::Integer(Kind::Long)))),
@@ -190,7 +203,9 @@ pub fn binary(
 ) -> Result<Attr, OutOfMemory>
     requires some_thread { 0 < threads }
     requires sized { rules.moves_loosely (view_structs structs.now) op (view_attr a.now) (view_attr b.now) ≡ false }
-    ensures { IfOk result (λ x. view_attr x ≡ attr (record { structs = view_structs structs.now; threads = threads }) (n.Binary op (view_attr a.now) (view_attr b.now))) }
+    ensures { IfOk result (λ x. view_attr x
+        ≡ attr (record { structs = view_structs structs.now; threads = threads })
+        (n.Binary op (view_attr a.now) (view_attr b.now))) }
 {
     match op {
         BinOp::Add => sum(alloc, structs, threads, a, b),

@@ -3,20 +3,20 @@
 ghost use Rattle.std.specs.Prelude.{◌≡◌, IfOk, OnOk, OnErr};
 ghost use Rattle.upc_types.specs.View.{view};
 ghost use Rattle.typed_tree.specs.Scopes as pure;
-ghost use Rattle.typed_tree.specs.Views.{view_meaning, view_signature};
-ghost use Rattle.typed_tree.specs.Meanings as meanings;
+ghost use Rattle.typing_rules.specs.Views.{view_meaning, view_signature};
+ghost use Rattle.typing_rules.specs.Meanings as meanings;
 ghost use Rattle.typed_tree.specs.ViewEnv.{view_env, view_counts, view_detached, with_outer};
 
-use crate::meaning::{Meaning, Signature};
 use crate::scope::{Declared, Scope};
-use crate::setting::Home;
-use crate::types::is_shared;
 use std::alloc::Global;
+use typing_rules::types::is_shared;
+use typing_rules::{Home, Meaning, Signature};
 use upc_text::OutOfMemory;
 use upc_types::CType;
 
-/// How many objects have a number: private objects of the file, shared ones, and those of the function that are in scope.
-#[derive(Clone, Copy, PartialEq, Eq, Debug)]
+/// How many objects have a number: private objects of the file, shared ones, and those of the function that are in
+/// scope.
+#[derive(Clone, Copy)]
 pub struct Counts {
     pub privates: u32,
     pub shareds: u32,
@@ -169,7 +169,8 @@ fn counted(home: Home, counts: Counts) -> Result<Counts, OutOfMemory>
 
 /// Declares a function. After want of memory nothing is changed.
 pub fn enter_function(env: &mut Env<'_>, name: u32, signature: Signature) -> Result<(), OutOfMemory>
-    ensures ok { OnOk result (view_env env.new ≡ pure.with_entry name (meanings.Function (view_signature signature)) (view_env env.old)) }
+    ensures ok { OnOk result (view_env env.new
+        ≡ pure.with_entry name (meanings.Function (view_signature signature)) (view_env env.old)) }
     ensures err { OnErr result (view_env env.new ≡ view_env env.old) }
 {
     env.names.enter(name, Declared::Function(signature))

@@ -3,16 +3,17 @@
 ghost use Rattle.std.specs.Prelude.{◌≡◌, map};
 ghost use Rattle.std.specs.List.{list_any};
 ghost use Rattle.upc_types.specs.View.{view};
-ghost use Rattle.typed_tree.specs.Views.{attr_seen, attr_tested};
-ghost use Rattle.typed_tree.specs.Nodes as n;
-ghost use Rattle.typed_tree.specs.Attributes.{Facts};
-ghost use Rattle.typed_tree.specs.Rules as r;
-ghost use Rattle.typed_tree.specs.Rules.{lowest};
+ghost use Rattle.typed_tree.specs.ViewTree.{attr_seen};
+ghost use Rattle.typed_tree.specs.ViewStatements.{attr_tested};
+ghost use Rattle.typing_rules.specs.Nodes as n;
+ghost use Rattle.typing_rules.specs.Attributes.{Facts};
+ghost use Rattle.typing_rules.specs.Rules as r;
+ghost use Rattle.typing_rules.specs.Rules.{lowest};
 
-use crate::conversion::converts;
-use crate::declarations::{is_list_type, is_variable};
 use crate::tree::{Arm, Expr};
-use crate::types::{gives_void, is_scalar};
+use typing_rules::conversion::converts;
+use typing_rules::declarations::{is_list_type, is_variable};
+use typing_rules::types::{gives_void, is_scalar};
 use upc_types::{Base, CType};
 
 fn any_void(arms: &[Arm]) -> bool

@@ -3,14 +3,14 @@
 ghost use Rattle.std.specs.Prelude.{◌≡◌, ℕ, map};
 ghost use Rattle.upc_types.specs.View.{view, view_member};
 ghost use Rattle.upc_types.specs.ViewStructs.{view_structs};
-ghost use Rattle.typed_tree.specs.Views.{view_target};
-ghost use Rattle.typed_tree.specs.Nodes as n;
-ghost use Rattle.typed_tree.specs.Nodes.{view_attr};
-ghost use Rattle.typed_tree.specs.Rules as r;
-ghost use Rattle.typed_tree.specs.Rules.{lowest};
+ghost use Rattle.typing_rules.specs.Views.{view_target};
+ghost use Rattle.typing_rules.specs.Nodes as n;
+ghost use Rattle.typing_rules.specs.Nodes.{view_attr};
+ghost use Rattle.typing_rules.specs.Rules as r;
+ghost use Rattle.typing_rules.specs.Rules.{lowest};
 
-use crate::attribute::Attr;
-use crate::types::target_of;
+use typing_rules::Attr;
+use typing_rules::types::target_of;
 use upc_types::{Base, CType, Member, Structs};
 
 fn has_name(members: &[Member], name: &[u8]) -> bool
@@ -44,7 +44,9 @@ fn target_names(structs: &Structs, target: Option<&CType>, name: &[u8]) -> bool
 
 /// `a.name`.
 pub fn member_of(structs: &Structs, a: &Attr, name: &[u8]) -> Option<u8>
-    ensures { (threads : ℕ) → result ≡ lowest (record { structs = view_structs structs.now; threads = threads }) (n.MemberOf (view_attr a.now) name.now) }
+    ensures { (threads : ℕ) → result
+        ≡ lowest (record { structs = view_structs structs.now; threads = threads })
+        (n.MemberOf (view_attr a.now) name.now) }
 {
     if names_member(structs, &a.ctype, name) {
         None
@@ -55,7 +57,9 @@ pub fn member_of(structs: &Structs, a: &Attr, name: &[u8]) -> Option<u8>
 
 /// `a->name`.
 pub fn member_behind(structs: &Structs, a: &Attr, name: &[u8]) -> Option<u8>
-    ensures { (threads : ℕ) → result ≡ lowest (record { structs = view_structs structs.now; threads = threads }) (n.MemberBehind (view_attr a.now) name.now) }
+    ensures { (threads : ℕ) → result
+        ≡ lowest (record { structs = view_structs structs.now; threads = threads })
+        (n.MemberBehind (view_attr a.now) name.now) }
 {
     if target_names(structs, target_of(a), name) {
         None

@@ -5,20 +5,20 @@ ghost use Rattle.upc_types.specs.Layout as layouts;
 ghost use Rattle.upc_types.specs.Types as types;
 ghost use Rattle.upc_types.specs.View.{view, view_base, view_member};
 ghost use Rattle.upc_types.specs.ViewStructs.{view_structs};
-ghost use Rattle.typed_tree.specs.Views.{view_target};
+ghost use Rattle.typing_rules.specs.Views.{view_target};
 ghost use Rattle.typed_tree.specs.ViewFound.{view_found};
-ghost use Rattle.typed_tree.specs.Values.{base_target};
-ghost use Rattle.typed_tree.specs.Nodes as n;
-ghost use Rattle.typed_tree.specs.Nodes.{view_attr};
-ghost use Rattle.typed_tree.specs.Attributes as pure;
-ghost use Rattle.typed_tree.specs.Attributes.{attr};
+ghost use Rattle.typing_rules.specs.Values.{base_target};
+ghost use Rattle.typing_rules.specs.Nodes as n;
+ghost use Rattle.typing_rules.specs.Nodes.{view_attr};
+ghost use Rattle.typing_rules.specs.Attributes as pure;
+ghost use Rattle.typing_rules.specs.Attributes.{attr};
 
 use crate::addresses::member_address;
-use crate::attribute::{Attr, Constant, Form};
 use crate::attributes::int_value;
-use crate::declarations::{address_in, constant_of};
-use crate::types::target_of;
 use std::alloc::Global;
+use typing_rules::declarations::{address_in, constant_of};
+use typing_rules::types::target_of;
+use typing_rules::{Attr, Constant, Form};
 use upc_text::OutOfMemory;
 use upc_types::{Access, Base, CType, Member, Structs, copy_base};
 
@@ -50,8 +50,10 @@ fn aligned(n: u32, align: u32) -> u32
 }
 
 fn find_among<'s>(structs: &Structs, members: &'s [Member], name: &[u8]) -> Option<Found<'s>>
-    requires { is_some (layouts.members_within (view_structs structs.now).completed (map view_member members.now)) ≡ true }
-    ensures { view_found result ≡ pure.find_member (view_structs structs.now) 0 0 (map view_member members.now) name.now }
+    requires { is_some (layouts.members_within (view_structs structs.now).completed
+        (map view_member members.now)) ≡ true }
+    ensures { view_found result
+        ≡ pure.find_member (view_structs structs.now) 0 0 (map view_member members.now) name.now }
 {
     let mut end: u32 = 0;
     let mut index: u32 = 0;
@@ -74,7 +76,9 @@ fn find_among<'s>(structs: &Structs, members: &'s [Member], name: &[u8]) -> Opti
 }
 
 fn find_in<'s>(structs: &'s Structs, number: u32, name: &[u8]) -> Option<Found<'s>>
-    ensures { view_found result ≡ pure.find_member (view_structs structs.now) 0 0 (types.members_of (view_structs structs.now) number) name.now }
+    ensures { view_found result
+        ≡ pure.find_member (view_structs structs.now) 0 0
+        (types.members_of (view_structs structs.now) number) name.now }
 {
     find_among(structs, structs.members(number), name)
 }
@@ -100,7 +104,8 @@ fn member_block(block: Option<u32>) -> Option<u32>
 
 // The elements of a member have the qualifiers of their struct.
 fn spread(alloc: Global, struct_type: &CType, base: &Base) -> Result<Base, OutOfMemory>
-    ensures { IfOk result (λ b. view_base b ≡ pure.spread struct_type.now.constant struct_type.now.shared struct_type.now.access (view_base base.now)) }
+    ensures { IfOk result (λ b. view_base b
+        ≡ pure.spread struct_type.now.constant struct_type.now.shared struct_type.now.access (view_base base.now)) }
 {
     match base {
         Base::Array(element, count) => {
@@ -134,7 +139,8 @@ fn member_at(
     address: Constant,
     found: Found<'_>,
 ) -> Result<Attr, OutOfMemory>
-    ensures { IfOk result (λ x. view_attr x ≡ pure.member_at (view struct_type.now) address (view_found (Some found.entry))) }
+    ensures { IfOk result (λ x. view_attr x
+        ≡ pure.member_at (view struct_type.now) address (view_found (Some found.entry))) }
 {
     Ok(Attr {
         ctype: member_type(alloc, struct_type, found.ctype)?,
@@ -150,8 +156,10 @@ fn member_node(
     address: Constant,
     name: &[u8],
 ) -> Result<MemberNode, OutOfMemory>
-    ensures attr { IfOk result (λ x. view_attr x.attr ≡ pure.member_at (view t.now) address (pure.member_named (view_structs structs.now) (view t.now) name.now)) }
-    ensures index { IfOk result (λ x. x.index ≡ pure.found_index (pure.member_named (view_structs structs.now) (view t.now) name.now)) }
+    ensures attr { IfOk result (λ x. view_attr x.attr
+        ≡ pure.member_at (view t.now) address (pure.member_named (view_structs structs.now) (view t.now) name.now)) }
+    ensures index { IfOk result (λ x. x.index
+        ≡ pure.found_index (pure.member_named (view_structs structs.now) (view t.now) name.now)) }
 {
     match member_named(structs, t, name) {
         Some(found) => Ok(MemberNode {
@@ -172,8 +180,11 @@ pub fn member_of(
     a: &Attr,
     name: &[u8],
 ) -> Result<MemberNode, OutOfMemory>
-    ensures attr { IfOk result (λ x. (threads : ℕ) → view_attr x.attr ≡ attr (record { structs = view_structs structs.now; threads = threads }) (n.MemberOf (view_attr a.now) name.now)) }
-    ensures index { IfOk result (λ x. x.index ≡ pure.found_index (pure.member_named (view_structs structs.now) (view a.now.ctype) name.now)) }
+    ensures attr { IfOk result (λ x. (threads : ℕ) → view_attr x.attr
+        ≡ attr (record { structs = view_structs structs.now; threads = threads })
+        (n.MemberOf (view_attr a.now) name.now)) }
+    ensures index { IfOk result (λ x. x.index
+        ≡ pure.found_index (pure.member_named (view_structs structs.now) (view a.now.ctype) name.now)) }
 {
     member_node(alloc, structs, &a.ctype, address_in(a.form), name)
 }
@@ -185,8 +196,10 @@ fn reached_behind(
     address: Constant,
     name: &[u8],
 ) -> Result<MemberNode, OutOfMemory>
-    ensures attr { IfOk result (λ x. view_attr x.attr ≡ pure.member_behind (view_structs structs.now) (view_target target.entry) address name.now) }
-    ensures index { IfOk result (λ x. x.index ≡ pure.target_index (view_structs structs.now) (view_target target.entry) name.now) }
+    ensures attr { IfOk result (λ x. view_attr x.attr
+        ≡ pure.member_behind (view_structs structs.now) (view_target target.entry) address name.now) }
+    ensures index { IfOk result (λ x. x.index
+        ≡ pure.target_index (view_structs structs.now) (view_target target.entry) name.now) }
 {
     match target {
         Some(t) => member_node(alloc, structs, t, address, name),
@@ -204,8 +217,11 @@ pub fn member_behind(
     a: &Attr,
     name: &[u8],
 ) -> Result<MemberNode, OutOfMemory>
-    ensures attr { IfOk result (λ x. (threads : ℕ) → view_attr x.attr ≡ attr (record { structs = view_structs structs.now; threads = threads }) (n.MemberBehind (view_attr a.now) name.now)) }
-    ensures index { IfOk result (λ x. x.index ≡ pure.target_index (view_structs structs.now) (base_target (pure.base (view_attr a.now))) name.now) }
+    ensures attr { IfOk result (λ x. (threads : ℕ) → view_attr x.attr
+        ≡ attr (record { structs = view_structs structs.now; threads = threads })
+        (n.MemberBehind (view_attr a.now) name.now)) }
+    ensures index { IfOk result (λ x. x.index
+        ≡ pure.target_index (view_structs structs.now) (base_target (pure.base (view_attr a.now))) name.now) }
 {
     reached_behind(alloc, structs, target_of(a), constant_of(a), name)
 }

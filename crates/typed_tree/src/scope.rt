@@ -4,10 +4,9 @@ ghost use Rattle.std.specs.Prelude.{◌≡◌, ℕ, nat_eq, OnOk, OnErr};
 ghost use Rattle.std.specs.HashMap.{get};
 ghost use Rattle.typed_tree.specs.ViewEntries.{view_entries, IsIndexed, latest};
 
-use crate::meaning::{Meaning, Signature};
-use crate::setting::Home;
 use std::alloc::Global;
 use std::collections::HashMap;
+use typing_rules::{Home, Meaning, Signature};
 use upc_text::OutOfMemory;
 use upc_types::CType;
 
@@ -35,7 +34,8 @@ pub struct Scope {
 
 // Keeps the place of the latest entry of a name.
 fn note(places: &mut HashMap<u32, usize>, name: u32, place: usize) -> Result<(), OutOfMemory>
-    ensures ok { OnOk result ((q : ℕ) → get nat_eq places.new q ≡ latest (nat_eq name q) place (get nat_eq places.old q)) }
+    ensures ok { OnOk result ((q : ℕ) → get nat_eq places.new q
+        ≡ latest (nat_eq name q) place (get nat_eq places.old q)) }
     ensures err { OnErr result ((q : ℕ) → get nat_eq places.new q ≡ get nat_eq places.old q) }
 {
     places.insert(name, place)?;
@@ -44,7 +44,7 @@ fn note(places: &mut HashMap<u32, usize>, name: u32, place: usize) -> Result<(),
 
 impl Declared {
     ghost use Rattle.std.specs.Prelude.{◌≡◌};
-    ghost use Rattle.typed_tree.specs.Views.{view_meaning};
+    ghost use Rattle.typing_rules.specs.Views.{view_meaning};
     ghost use Rattle.typed_tree.specs.ViewEntries.{view_declared};
 
     /// What the name stands for.
@@ -60,9 +60,9 @@ impl Declared {
 
 impl Scope {
     ghost use Rattle.std.specs.Prelude.{◌≡◌, [], ◌∷◌, OnOk, OnErr, IfSome, None};
-    ghost use Rattle.typed_tree.specs.Meanings as pure;
+    ghost use Rattle.typing_rules.specs.Meanings as pure;
     ghost use Rattle.typed_tree.specs.Scopes.{find_in};
-    ghost use Rattle.typed_tree.specs.Views.{view_meaning};
+    ghost use Rattle.typing_rules.specs.Views.{view_meaning};
     ghost use Rattle.typed_tree.specs.ViewEntries.{view_declared};
     ghost use Rattle.typed_tree.specs.ViewScopes.{view_scope};
 
@@ -78,7 +78,8 @@ impl Scope {
 
     /// The latest declaration of a name in the scope itself. Takes no memory.
     pub fn get(&self, name: u32) -> Option<&Declared>
-        ensures found { IfSome result (λ d. (other : pure.Meaning) → find_in name (view_scope self.now) other ≡ view_declared d.now) }
+        ensures found { IfSome result (λ d. (other : pure.Meaning) →
+            find_in name (view_scope self.now) other ≡ view_declared d.now) }
         ensures absent { result ≡ None → (other : pure.Meaning) → find_in name (view_scope self.now) other ≡ other }
     {
         match self.places.get(&name) {
@@ -99,7 +100,8 @@ impl Scope {
 
     /// Declares a name. After want of memory nothing is changed.
     pub fn enter(&mut self, name: u32, means: Declared) -> Result<(), OutOfMemory>
-        ensures ok { OnOk result (view_scope self.new ≡ record { name = name; means = view_declared means } ∷ view_scope self.old) }
+        ensures ok { OnOk result (view_scope self.new
+            ≡ record { name = name; means = view_declared means } ∷ view_scope self.old) }
         ensures err { OnErr result (view_scope self.new ≡ view_scope self.old) }
     {
         let place = self.entries.len();

@@ -5,21 +5,19 @@ ghost use Rattle.upc_types.specs.Layout as layouts;
 ghost use Rattle.upc_types.specs.View.{view, view_base};
 ghost use Rattle.upc_types.specs.ViewStructs.{view_structs};
 ghost use Rattle.upc_types.specs.Cells.{leaf_base, leaves};
-ghost use Rattle.typed_tree.specs.Views.{view_formed};
-ghost use Rattle.typed_tree.specs.Values as values;
-ghost use Rattle.typed_tree.specs.Nodes as n;
-ghost use Rattle.typed_tree.specs.Nodes.{view_attr};
-ghost use Rattle.typed_tree.specs.Attributes as pure;
-ghost use Rattle.typed_tree.specs.Attributes.{attr};
-ghost use Rattle.typed_tree.specs.Rules as rules;
+ghost use Rattle.typing_rules.specs.Views.{view_formed};
+ghost use Rattle.typing_rules.specs.Values as values;
+ghost use Rattle.typing_rules.specs.Nodes as n;
+ghost use Rattle.typing_rules.specs.Nodes.{view_attr};
+ghost use Rattle.typing_rules.specs.Attributes as pure;
+ghost use Rattle.typing_rules.specs.Attributes.{attr};
+ghost use Rattle.typing_rules.specs.Rules as rules;
 
 use crate::addresses::block_or_none;
-use crate::attribute::{Attr, Constant};
 use crate::attributes::constant;
-use crate::meaning::Formed;
-use crate::setting::SizeOperator;
-use crate::types::leaf;
 use block_layout::Kind;
+use typing_rules::types::leaf;
+use typing_rules::{Attr, Constant, Formed, SizeOperator};
 use upc_types::{Base, CType, Structs};
 
 /// How many leaf elements an object has, and the bytes of each.
@@ -33,7 +31,8 @@ pub(crate) struct Leaves {
 pub(crate) fn leaves_of(structs: &Structs, base: &Base) -> Leaves
     requires { rules.has_size (view_structs structs.now) (values.plainly (view_base base.now)) ≡ true }
     ensures count { result.count ≡ leaves (view_base base.now) }
-    ensures bytes { result.bytes ≡ layouts.size (view_structs structs.now) (values.plainly (leaf_base (view_base base.now))) }
+    ensures bytes { result.bytes
+        ≡ layouts.size (view_structs structs.now) (values.plainly (leaf_base (view_base base.now))) }
     ensures few { result.count ≤ 16777216 }
     ensures small { result.bytes ≤ 16777216 }
 {
@@ -85,7 +84,8 @@ fn local_bytes(threads: u32, elements: u32, block: u32, bytes: u32) -> u64
 fn measured(structs: &Structs, threads: u32, op: SizeOperator, t: &CType) -> u64
     requires some_thread { 0 < threads }
     requires sized { rules.has_size (view_structs structs.now) (view t.now) ≡ true }
-    ensures { result ≡ pure.measured (record { structs = view_structs structs.now; threads = threads }) op (view t.now) }
+    ensures { result ≡ pure.measured
+        (record { structs = view_structs structs.now; threads = threads }) op (view t.now) }
 {
     let leaves = leaves_of(structs, &t.base);
     match op {
@@ -102,7 +102,8 @@ fn measured(structs: &Structs, threads: u32, op: SizeOperator, t: &CType) -> u64
 pub fn size_of(structs: &Structs, threads: u32, op: SizeOperator, a: &Attr) -> Attr
     requires some_thread { 0 < threads }
     requires sized { rules.has_no_size (view_structs structs.now) op (view a.now.ctype) ≡ false }
-    ensures { view_attr result ≡ attr (record { structs = view_structs structs.now; threads = threads }) (n.SizeOf op (view_attr a.now)) }
+    ensures { view_attr result
+        ≡ attr (record { structs = view_structs structs.now; threads = threads }) (n.SizeOf op (view_attr a.now)) }
 {
     let bytes = measured(structs, threads, op, &a.ctype);
     constant(Kind::ULong, Constant::Known(i128::from(bytes)))
@@ -112,7 +113,9 @@ pub fn size_of(structs: &Structs, threads: u32, op: SizeOperator, a: &Attr) -> A
 pub fn size_of_type(structs: &Structs, threads: u32, op: SizeOperator, t: &Formed) -> Attr
     requires some_thread { 0 < threads }
     requires sized { rules.has_no_size (view_structs structs.now) op (view t.now.ctype) ≡ false }
-    ensures { view_attr result ≡ attr (record { structs = view_structs structs.now; threads = threads }) (n.SizeOfType op (view_formed t.now)) }
+    ensures { view_attr result
+        ≡ attr (record { structs = view_structs structs.now; threads = threads })
+        (n.SizeOfType op (view_formed t.now)) }
 {
     let bytes = measured(structs, threads, op, &t.ctype);
     constant(Kind::ULong, Constant::Known(i128::from(bytes)))

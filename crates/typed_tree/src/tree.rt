@@ -1,14 +1,13 @@
 //! The tree of a program with its types: names stand for objects and functions, and each expression has its attribute.
 
-use crate::attribute::Attr;
-use crate::library::LibraryCall;
-use crate::setting::{Home, SizeOperator};
 use integers::{BinOp, UnOp};
+use typing_rules::{Attr, Home, SizeOperator};
 use upc_text::{Place, Text};
 use upc_types::CType;
+use upc_values::LibraryCall;
 
 /// `++` and `--`, before and behind their operand (C99 6.5.2.4, 6.5.3.1).
-#[derive(Clone, Copy, PartialEq, Eq, Debug)]
+#[derive(Clone, Copy)]
 pub enum StepOperator {
     IncrementFirst,
     DecrementFirst,
@@ -17,7 +16,7 @@ pub enum StepOperator {
 }
 
 /// What is called: a function of the source, by its number in order of definition, or a call of the library.
-#[derive(Clone, Copy, PartialEq, Eq, Debug)]
+#[derive(Clone, Copy)]
 pub enum Target {
     Function(u32),
     Library(LibraryCall),
@@ -56,7 +55,7 @@ pub enum ExprKind {
     Dereference(Box<Expr>),
     Unary(UnOp, Box<Expr>),
     SizeOf(SizeOperator, Box<Expr>),
-    SizeOfType(SizeOperator, CType),
+    SizeOfType(SizeOperator, Box<CType>),
     Cast(Box<Expr>),
     Binary(BinOp, Box<Expr>, Box<Expr>),
     And(Box<Expr>, Box<Expr>),
@@ -71,7 +70,7 @@ pub enum ExprKind {
 #[derive(Drop)]
 pub enum Initial {
     Absent,
-    Value(Expr),
+    Value(Box<Expr>),
     List(Vec<Expr>),
 }
 
@@ -86,7 +85,7 @@ pub struct Object {
 }
 
 /// The statements that synchronise (UPC 6.6.1).
-#[derive(Clone, Copy, PartialEq, Eq, Debug)]
+#[derive(Clone, Copy)]
 pub enum Synchronises {
     Notify,
     Wait,
@@ -98,16 +97,16 @@ pub enum Synchronises {
 pub enum Affinity {
     /// Everyone's: it is absent or `continue`.
     All,
-    Value(Expr),
+    Value(Box<Expr>),
 }
 
 /// The parts of a loop's head; the objects are those that its first part declares.
 #[derive(Drop)]
 pub struct Head {
     pub objects: Vec<Object>,
-    pub first: Option<Expr>,
-    pub test: Option<Expr>,
-    pub step: Option<Expr>,
+    pub first: Option<Box<Expr>>,
+    pub test: Option<Box<Expr>>,
+    pub step: Option<Box<Expr>>,
 }
 
 /// A statement (C99 6.8, UPC 6.6) with the place of its first token.
@@ -124,17 +123,17 @@ pub struct Statement {
 pub enum StatementKind {
     /// Whether accesses that do not say so themselves are strict in it (UPC 6.7), and its parts.
     Block(bool, Vec<Item>),
-    Value(Option<Expr>),
+    Value(Option<Box<Expr>>),
     If(Vec<Arm>, Option<Box<Statement>>),
-    Switch(Expr, Vec<SwitchItem>),
-    While(Expr, Box<Statement>),
-    DoWhile(Box<Statement>, Expr),
+    Switch(Box<Expr>, Vec<SwitchItem>),
+    While(Box<Expr>, Box<Statement>),
+    DoWhile(Box<Statement>, Box<Expr>),
     For(Box<Head>, Box<Statement>),
-    Forall(Box<Head>, Box<Affinity>, Box<Statement>),
+    Forall(Box<Head>, Affinity, Box<Statement>),
     Break,
     Continue,
-    Return(Option<Expr>),
-    Synchronise(Synchronises, Option<Expr>),
+    Return(Option<Box<Expr>>),
+    Synchronise(Synchronises, Option<Box<Expr>>),
     Fence,
 }
 
@@ -142,7 +141,7 @@ pub enum StatementKind {
 #[cycle(typed_statement)]
 #[derive(Drop)]
 pub struct Arm {
-    pub test: Expr,
+    pub test: Box<Expr>,
     pub body: Statement,
 }
 
@@ -151,7 +150,7 @@ pub struct Arm {
 #[derive(Drop)]
 pub enum Item {
     Declare(Vec<Object>),
-    Do(Statement),
+    Do(Box<Statement>),
 }
 
 /// A part of the body of a `switch`. A label has the value that it compares with.
@@ -160,7 +159,7 @@ pub enum Item {
 pub enum SwitchItem {
     Case(i128),
     Default,
-    Do(Statement),
+    Do(Box<Statement>),
 }
 
 /// A function that is defined (C99 6.9.1), with the place of its first token.
@@ -170,5 +169,5 @@ pub struct Function {
     pub name: Text,
     pub result: CType,
     pub parameters: Vec<CType>,
-    pub body: Statement,
+    pub body: Box<Statement>,
 }

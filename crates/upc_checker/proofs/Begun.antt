@@ -8,17 +8,20 @@ use Rattle.upc_values.specs.Lists.{Each}
 use Rattle.upc_types.specs.declared.layout.Layout.{Layout}
 use Rattle.upc_types.specs.Types.{Structs, base_of}
 use Rattle.upc_types.specs.Layout.{base_within, base_layout, base_complete, complete_in, layout_in, most_bytes, size}
-use Rattle.typed_tree.specs.declared.setting.Home.{Home}
-use Rattle.typed_tree.specs.declared.setting.Home.TheVariants.{Private, Shared, Local}
-use Rattle.typed_tree.specs.Tree.{DeclaredObject}
-use Rattle.typed_tree.specs.Rules.{has_size}
-use Rattle.program_opening.specs.Objects.{bytes_in, shared_in, is_shared}
+use Rattle.typing_rules.specs.declared.setting.Home.{Home}
+use Rattle.typing_rules.specs.declared.setting.Home.TheVariants.{Private, Shared, Local}
+use Rattle.typed_tree.specs.Tree.{DeclaredObject, Function}
+use Rattle.typing_rules.specs.Rules.{has_size}
+use Rattle.typed_tree.specs.Objects as o
+use Rattle.typed_tree.specs.Objects.{bytes_in, private_in, shared_in, is_shared}
 use Rattle.upc_tree.specs.Unit.{External}
 use Rattle.typed_tree.specs.Scopes.{begin}
-use Rattle.upc_checker.specs.Units.{setting, walk_unit}
-use Rattle.upc_checker.specs.Outcomes.{Checked, Accepted, outcome}
-use Rattle.upc_checker.specs.Programs.{IsAccepted}
+use Rattle.function_checker.specs.Units.{setting, walk_unit}
+use Rattle.upc_checker.specs.Outcomes.{Accepted, outcome}
+use Rattle.typed_tree.specs.Programs.{Checked, checked_of, count_of, without_targets}
+use Rattle.upc_checker.specs.Accepted.{IsAccepted}
 use Rattle.upc_checker.proofs.Causes.{accepted}
+use Rattle.function_checker.proofs.UnitsBring.{unit_counts}
 use Rattle.upc_checker.specs.Limits.{left_by, left_behind, is_over, room_in, first_over, is_private, Passed, passed_or, limit_by}
 
 -- ---- a limit that is not passed
@@ -87,29 +90,61 @@ each : (σ : Structs) (xs : List DeclaredObject) → Each (Counted σ is_private
 each σ [] p q = tt
 each σ (x ∷ xs) p q = (each_by σ x p.0 q.0, each σ xs p.1 q.1)
 
--- Each object of an accepted source has a layout, and the shared ones have room.
+fewer_by : (σ : Structs) (x : DeclaredObject) (xs : List DeclaredObject) (home : Home) → x.home ≡ home → bytes_in σ (private_in xs) ≤ bytes σ is_private xs →
+    bytes_in σ (private_in (x ∷ xs)) ≤ bytes σ is_private (x ∷ xs)
+fewer_by σ x xs (Private object) e less =
+    rw e (omega (
+      arith,
+      less,
+      sum_by-cons (λ (y : DeclaredObject). size σ y.ctype) x (filter (λ (y : DeclaredObject). o.is_private y.home) xs),
+      sum_by-cons (λ (y : DeclaredObject). size σ y.ctype) x (filter (λ (y : DeclaredObject). is_private y.home) xs),
+    ))
+fewer_by σ x xs (Shared object) e less = rw e less
+fewer_by σ x xs (Local object) e less =
+    rw e (omega (arith, less, sum_by-cons (λ (y : DeclaredObject). size σ y.ctype) x (filter (λ (y : DeclaredObject). is_private y.home) xs)))
+
+-- Objects of the file that have the number of a private one are not shared.
+fewer : (σ : Structs) (xs : List DeclaredObject) → bytes_in σ (private_in xs) ≤ bytes σ is_private xs
+fewer σ [] = omega arith
+fewer σ (x ∷ xs) = fewer_by σ x xs x.home refl (fewer σ xs)
+
+-- Each object of an accepted source has a layout, and it keeps the limits.
 pub record HaveRoom (x : Checked) : Type 0 where
   pub layouts : Each (λ y. has_size x.structs y.ctype ≡ true) x.objects
-  pub bytes : bytes_in x.structs (shared_in x.objects) ≤ 16777216
+  pub privates : bytes_in x.structs (private_in x.objects) ≤ 1048576
+  pub shareds : bytes_in x.structs (shared_in x.objects) ≤ 16777216
+  pub count : count_of x ≤ 65535
 
 fits_room : (σ : Structs) (above : Option Place) (objects : List DeclaredObject) → limit_by σ above objects ≡ None →
-    Each (λ y. has_size σ y.ctype ≡ true) objects × (bytes_in σ (shared_in objects) ≤ 16777216)
+    Each (λ y. has_size σ y.ctype ≡ true) objects × (bytes_in σ (private_in objects) ≤ 1048576) × (bytes_in σ (shared_in objects) ≤ 16777216) × (above ≡ None)
 fits_room σ above objects h =
     let a = not_passed 4 (first_over σ is_private 1048576 objects) _ h in
     let b = not_passed 5 (first_over σ is_shared 16777216 objects) _ a.1 in
+    let c = not_passed 7 above None b.1 in
     let p = fit σ is_private 1048576 objects a.0 in
     let q = fit σ is_shared 16777216 objects b.0 in
-    (each σ objects p.0 q.0, q.1)
+    let less = fewer σ objects in
+    (each σ objects p.0 q.0, omega (arith, less, p.1), q.1, c.0)
 
 pub have_room : (x : Checked) → IsAccepted x → HaveRoom x
 have_room x h =
     let t = accepted h.names x.threads h.unit x h.accepted in
-    let w = walk_unit (setting h.names x.threads h.unit) h.unit begin in
+    let ξ = setting h.names x.threads h.unit in
+    let w = walk_unit ξ h.unit begin in
     let p = fits_room w.state.structs w.state.above w.value.objects t.limits in
+    let many = unit_counts ξ h.unit p.3 in
     record {
       layouts = rw (t.structs, t.objects) p.0;
-      bytes = rw (t.structs, t.objects) p.1;
+      privates = rw (t.structs, t.objects) p.1;
+      shareds = rw (t.structs, t.objects) p.2;
+      count = rw (t.structs, t.objects, t.functions) many;
     }
+
+-- Which targets of pointers have numbers changes nothing.
+pub parts_same : (threads : ℕ) (σ τ : Structs) (objects : List DeclaredObject) (functions : List Function) → without_targets σ ≡ without_targets τ →
+    checked_of threads σ objects functions ≡ checked_of threads τ objects functions
+parts_same threads σ τ objects functions h =
+    ap (λ (υ : Structs). let x : Checked = record { threads = threads; structs = υ; objects = objects; functions = functions } in x) h
 
 -- A program has the threads that were asked for.
 pub same_threads : (names : List (List ℕ)) (threads : ℕ) (unit : List External) (x : Checked) → outcome names threads unit ≡ Accepted x → x.threads ≡ threads

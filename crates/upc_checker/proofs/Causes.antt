@@ -4,11 +4,12 @@ use Rattle.upc_text.specs.declared.place.Refusal.{Refusal}
 use Rattle.upc_text.specs.declared.place.Code.TheVariants.{Typing, Limit}
 use Rattle.upc_tree.specs.Unit.{External}
 use Rattle.typed_tree.specs.Scopes.{begin}
-use Rattle.typed_tree.specs.Faults.{Fault, first_fault}
-use Rattle.typed_tree.proofs.FirstFault.{all_meet, is_first}
-use Rattle.upc_checker.specs.Units.{setting, walk_unit, unit_nodes}
+use Rattle.typing_rules.specs.Faults.{Fault, first_fault}
+use Rattle.typing_rules.proofs.FirstFault.{all_meet, is_first}
+use Rattle.function_checker.specs.Units.{setting, walk_unit, unit_nodes}
 use Rattle.upc_checker.specs.Limits.{Passed, unit_passed}
-use Rattle.upc_checker.specs.Outcomes.{Checked, without_targets, Accepted, Refused, outcome_by, outcome}
+use Rattle.upc_checker.specs.Outcomes.{Accepted, Refused, outcome_by, outcome}
+use Rattle.typed_tree.specs.Programs.{Checked, without_targets}
 use Rattle.upc_checker.specs.Causes.{IsWellTyped, HasCause, breaks_a_rule, passes_a_limit}
 
 accepted_by : (o : Option Fault) (l : Option Passed) (c x : Checked) → outcome_by o l c ≡ Accepted x → (o ≡ None) × (l ≡ None) × (c ≡ x)

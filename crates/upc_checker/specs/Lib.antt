@@ -1,9 +1,5 @@
-pub mod Statements
-pub mod Units
 pub mod Limits
 pub mod Outcomes
 pub mod Causes
-pub mod Groups
-pub mod Programs
-pub mod ViewProgram
+pub mod Accepted
 pub mod ViewUnits

@@ -1,32 +1,34 @@
--- The limits on the objects of a source, which are asked about only where no typing rule is broken (docs/LANGUAGE.md, "Limits").
+-- The limits on the objects of a source, which are asked about only where no typing rule is broken (docs/LANGUAGE.md,
+-- "Limits").
 use Rattle.std.specs.Prelude.{ℕ, ◌-◌, nat_le, Bool, true, false, if◌then◌else◌, List, [], ◌∷◌, Option, Some, None}
 use Rattle.upc_text.specs.declared.place.Place.{Place}
 use Rattle.upc_tree.specs.Unit.{External}
 use Rattle.upc_types.specs.declared.layout.Layout.{Layout}
 use Rattle.upc_types.specs.Types.{Structs, base_of}
 use Rattle.upc_types.specs.Layout.{base_within}
-use Rattle.typed_tree.specs.declared.setting.Home.{Home}
-use Rattle.typed_tree.specs.declared.setting.Home.TheVariants.{Shared}
+use Rattle.typing_rules.specs.declared.setting.Home.{Home}
+use Rattle.typing_rules.specs.declared.setting.Home.TheVariants.{Shared}
 use Rattle.typed_tree.specs.Scopes.{begin}
 use Rattle.typed_tree.specs.Tree.{DeclaredObject}
-use Rattle.declaration_checker.specs.Walk.{Walked}
-use Rattle.upc_checker.specs.Units.{Made, setting, walk_unit}
-use Rattle.program_opening.specs.Objects.{is_shared}
+use Rattle.walk_state.specs.Walk.{Walked}
+use Rattle.function_checker.specs.Units.{Made, setting, walk_unit}
+use Rattle.typed_tree.specs.Objects.{is_shared}
 
 -- An object of the file that is not shared.
 abbrev pub is_private : Home → Bool
 is_private (Shared object) = false
 is_private home = true
 
--- What is left of the room behind an object of this layout, None where it has more bytes. One that has no layout has none either: it is incomplete,
--- or has more bytes than an object can have, and rules 6 and 8 refuse it before.
+-- What is left of the room behind an object of this layout, None where it has more bytes. One that has no layout has
+-- none either: it is incomplete, or has more bytes than an object can have, and rules 6 and 8 refuse it before.
 abbrev pub left_by : Option Layout → ℕ → Option ℕ
 left_by None room = None
 left_by (Some l) room = if nat_le l.size room then Some (room - l.size) else None
 
 -- What is left of the room for objects of one sort behind an object.
 abbrev pub left_behind : Structs → (Home → Bool) → ℕ → DeclaredObject → Option ℕ
-left_behind structs counts room x = if counts x.home then left_by (base_within structs.completed (base_of x.ctype)) room else Some room
+left_behind structs counts room x =
+    if counts x.home then left_by (base_within structs.completed (base_of x.ctype)) room else Some room
 
 abbrev pub is_over : Option ℕ → Bool
 is_over None = true
@@ -53,10 +55,12 @@ abbrev pub passed_or : ℕ → Option Place → Option Passed → Option Passed
 passed_or n None later = later
 passed_or n (Some place) later = Some (record { limit = n; at = place })
 
--- Limit 4: private objects of the file have more than 1,048,576 bytes. Limit 5: shared objects have more than 16,777,216.
+-- Limit 4: private objects of the file have more than 1,048,576 bytes. Limit 5: shared objects have more than
+-- 16,777,216.
 abbrev pub bytes_passed : Structs → List DeclaredObject → Option Passed
 bytes_passed structs objects =
-    passed_or 4 (first_over structs is_private 1048576 objects) (passed_or 5 (first_over structs is_shared 16777216 objects) None)
+    passed_or 4 (first_over structs is_private 1048576 objects)
+    (passed_or 5 (first_over structs is_shared 16777216 objects) None)
 
 -- So of a source.
 abbrev pub unit_bytes_passed : List (List ℕ) → ℕ → List External → Option Passed
@@ -66,10 +70,13 @@ unit_bytes_passed names threads unit =
 
 -- ---- how many there are
 
--- Limit 7: there are more than 65,535 structs, objects, parameters of definitions and functions in all. So the first limit that is passed.
+-- Limit 7: there are more than 65,535 structs, objects, parameters of definitions and functions in all. So the first
+-- limit that is passed.
 abbrev pub limit_by : Structs → Option Place → List DeclaredObject → Option Passed
 limit_by structs above objects =
-    passed_or 4 (first_over structs is_private 1048576 objects) (passed_or 5 (first_over structs is_shared 16777216 objects) (passed_or 7 above None))
+    passed_or 4 (first_over structs is_private 1048576 objects)
+    (passed_or 5 (first_over structs is_shared 16777216 objects)
+    (passed_or 7 above None))
 
 abbrev pub limit_in : Walked Made → Option Passed
 limit_in w = limit_by w.state.structs w.state.above w.value.objects

@@ -1,28 +1,16 @@
 -- What a check of a source answers.
-use Rattle.std.specs.Prelude.{◌≡◌, ℕ, List, [], Option, Some, None, Result, Ok, Err}
+use Rattle.std.specs.Prelude.{◌≡◌, ℕ, List, Option, Some, None, Result, Ok, Err}
 use Rattle.upc_text.specs.declared.place.Refusal.{Refusal}
 use Rattle.upc_text.specs.declared.place.Code.TheVariants.{Typing, Limit}
 use Rattle.upc_text.specs.declared.faults.Stop.{Stop}
 use Rattle.upc_text.specs.declared.faults.Stop.TheVariants as stop
 use Rattle.upc_tree.specs.Unit.{External}
-use Rattle.upc_types.specs.Types.{Structs}
 use Rattle.typed_tree.specs.Scopes.{begin}
-use Rattle.typed_tree.specs.Faults.{Fault, first_fault}
-use Rattle.typed_tree.specs.Tree.{DeclaredObject, Function}
-use Rattle.declaration_checker.specs.Walk.{Walked}
-use Rattle.upc_checker.specs.Units.{Made, setting, walk_unit}
+use Rattle.typing_rules.specs.Faults.{Fault, first_fault}
+use Rattle.typed_tree.specs.Programs.{Checked, without_targets}
+use Rattle.walk_state.specs.Walk.{Walked}
+use Rattle.function_checker.specs.Units.{Made, setting, walk_unit}
 use Rattle.upc_checker.specs.Limits.{Passed, limit_in}
-
--- The structs, before any target of pointers has a number.
-abbrev pub without_targets : Structs → Structs
-without_targets structs = record { declared = structs.declared; completed = structs.completed; targets = [] }
-
--- A source that is accepted: the number of threads, the structs by number, the objects of the file in order, and the functions by number.
-pub record Checked : Type 0 where
-  pub threads : ℕ
-  pub structs : Structs
-  pub objects : List DeclaredObject
-  pub functions : List Function
 
 -- A refusal with its place and its code, or what the source is.
 pub data Outcome : Type 0 where
@@ -37,7 +25,12 @@ outcome_by None None checked = Accepted checked
 
 abbrev pub outcome_in : ℕ → Walked Made → Outcome
 outcome_in threads w =
-    outcome_by (first_fault w.seen) (limit_in w) (record { threads = threads; structs = without_targets w.state.structs; objects = w.value.objects; functions = w.value.functions })
+    outcome_by (first_fault w.seen) (limit_in w) (record {
+      threads = threads;
+      structs = without_targets w.state.structs;
+      objects = w.value.objects;
+      functions = w.value.functions;
+    })
 
 -- The outcome of a source.
 abbrev pub outcome : List (List ℕ) → ℕ → List External → Outcome

@@ -4,34 +4,30 @@ use Rattle.upc_text.specs.declared.place.Code.TheVariants.{Limit}
 use Rattle.upc_text.specs.declared.faults.Stop.{Stop}
 use Rattle.upc_text.specs.declared.faults.Stop.TheVariants as stop
 use Rattle.upc_types.specs.ViewStructs.{view_structs}
-use Rattle.typed_tree.specs.declared.setting.Home.{Home}
+use Rattle.typing_rules.specs.declared.setting.Home.{Home}
 use Rattle.typed_tree.specs.ViewStatements.{view_object, view_function}
 use Rattle.upc_checker.specs.declared.limits.Sort.{Sort}
 use Rattle.upc_checker.specs.declared.limits.Sort.TheVariants as s
 use Rattle.upc_checker.specs.declared.limits.Passed as p
 use Rattle.upc_checker.specs.declared.whole.Checked as c
-use Rattle.upc_checker.specs.declared.units.Made as m
-use Rattle.typed_tree.specs.Scopes.{Env}
-use Rattle.upc_checker.specs.Units.{Made}
 use Rattle.upc_checker.specs.Limits.{Passed, is_private}
-use Rattle.upc_checker.specs.Outcomes.{Checked}
-use Rattle.upc_checker.specs.Programs.{checked_of}
-use Rattle.program_opening.specs.Objects.{is_shared}
+use Rattle.typed_tree.specs.Programs.{Checked}
+use Rattle.typed_tree.specs.Programs.{checked_of}
+use Rattle.typed_tree.specs.Objects.{is_shared}
 
 -- Which objects are of a sort.
 abbrev pub view_sort : Sort → Home → Bool
 view_sort s.Private home = is_private home
 view_sort s.Shared home = is_shared home
 
-abbrev pub view_made : Env → m.Made → Made
-view_made scope x = record { scope = scope; objects = map view_object x.objects.items; functions = map view_function x.functions.items }
-
 abbrev pub view_passed : Option p.Passed → Option Passed
 view_passed None = None
 view_passed (Some x) = Some (record { limit = x.limit; at = x.place })
 
 abbrev pub view_checked : c.Checked → Checked
-view_checked x = checked_of x.threads (view_structs x.structs) (map view_object x.objects.items) (map view_function x.functions.items)
+view_checked x =
+    checked_of x.threads (view_structs x.structs) (map view_object x.objects.items) (map view_function
+    x.functions.items)
 
 -- The answer where these limits are passed, or none.
 abbrev pub KeepsLimits : Option Passed → Result (Unit {0}) Stop → Type 0

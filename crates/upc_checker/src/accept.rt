@@ -2,15 +2,15 @@
 
 ghost use Rattle.std.specs.Prelude.{◌≡◌, ◌<◌, ◌≤◌, IfOk};
 ghost use Rattle.upc_tree.specs.ViewStatement.{view_unit};
+ghost use Rattle.typed_tree.specs.ViewProgram.{view_program};
+ghost use Rattle.upc_checker.specs.Accepted.{IsAccepted};
 ghost use Rattle.upc_checker.specs.Outcomes.{Answers, outcome};
-ghost use Rattle.upc_checker.specs.Programs.{IsAccepted};
 ghost use Rattle.upc_checker.specs.ViewUnits.{view_checked};
-ghost use Rattle.upc_checker.specs.ViewProgram.{view_program};
 
-use crate::program::Program;
 use crate::whole::{Checked, check_source};
-use program_opening::{allocated_types, open};
+use program_opening::begin;
 use std::alloc::Global;
+use typed_tree::Program;
 use upc_lexer::Names;
 use upc_text::{OutOfMemory, Stop};
 use upc_tree::Unit;
@@ -22,21 +22,21 @@ fn program_of(alloc: Global, source: Checked) -> Result<Program, OutOfMemory>
     requires accepted { IsAccepted (view_checked source) }
     ensures { IfOk result (λ p. view_program p ≡ view_checked source) }
 {
-    let allocated = allocated_types(alloc, source.functions.as_slice(), &source.structs)?;
-    let beginning = open(
+    let beginning = begin(
         alloc,
         source.threads,
         source.structs,
         source.objects.as_slice(),
-        allocated.as_slice(),
+        source.functions.as_slice(),
     )?;
     Ok(Program::make(source.threads, source.objects, source.functions, beginning))
 }
 
-/// The program of a source for so many threads: what it declares and defines, where every node meets the typing rules and no limit is
-/// passed. Refusals: `Typing(n)`, the first node in the order in which nodes are finished (children before their parent, from left to
-/// right) that breaks a rule, with the lowest such number; where there is none, `Limit(4)`, `Limit(5)` or `Limit(7)`, the first in
-/// this order, at the first declaration that passes it. The names are those of the source by number.
+/// The program of a source for so many threads: what it declares and defines, where every node meets the typing rules
+/// and no limit is passed. Refusals: `Typing(n)`, the first node in the order in which nodes are finished (children
+/// before their parent, from left to right) that breaks a rule, with the lowest such number; where there is none,
+/// `Limit(4)`, `Limit(5)` or `Limit(7)`, the first in this order, at the first declaration that passes it. The names
+/// are those of the source by number.
 pub fn check(alloc: Global, unit: &Unit, names: &Names, threads: u32) -> Result<Program, Stop>
     requires least { 1 ≤ threads }
     requires most { threads ≤ 32 }

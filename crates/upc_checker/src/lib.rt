@@ -2,16 +2,10 @@
 #![tactic(auto)]
 
 mod accept;
-mod heads;
 pub mod laws;
 mod limits;
-mod program;
-mod statement_nodes;
-mod statements;
-mod units;
 mod whole;
 
 pub use accept::check;
-pub use program::Program;
-pub use program_opening::SharedDecl;
+pub use typed_tree::{Program, SharedDecl};
 pub use upc_values::Value;

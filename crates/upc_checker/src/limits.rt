@@ -6,10 +6,11 @@ ghost use Rattle.typed_tree.specs.ViewStatements.{view_object};
 ghost use Rattle.upc_checker.specs.Limits as pure;
 ghost use Rattle.upc_checker.specs.ViewUnits.{view_passed, view_sort};
 
-use declaration_checker::known::Known;
-use typed_tree::{Home, Object};
+use typed_tree::Object;
+use typing_rules::Home;
 use upc_text::Place;
 use upc_types::{Layout, Structs};
+use walk_state::known::Known;
 
 /// Objects of the file that are not shared, or those that are.
 #[derive(Clone, Copy)]
@@ -45,7 +46,8 @@ fn left_by(layout: Option<Layout>, room: u32) -> Option<u32>
 
 // What is left of the room for objects of one sort behind an object.
 fn left_behind(structs: &Structs, sort: Sort, room: u32, object: &Object) -> Option<u32>
-    ensures { result ≡ pure.left_behind (view_structs structs.now) (view_sort sort) room (view_object object.now) }
+    ensures { result ≡ pure.left_behind (view_structs structs.now) (view_sort sort) room
+        (view_object object.now) }
 {
     if counts(sort, object.home) {
         left_by(structs.layout_of(&object.ctype.base), room)
@@ -56,7 +58,8 @@ fn left_behind(structs: &Structs, sort: Sort, room: u32, object: &Object) -> Opt
 
 // The first declaration whose objects of one sort have, with all before it, more bytes than there is room for.
 fn first_over(structs: &Structs, sort: Sort, most: u32, objects: &[Object]) -> Option<Place>
-    ensures { result ≡ pure.first_over (view_structs structs.now) (view_sort sort) most (map view_object objects.now) }
+    ensures { result ≡ pure.first_over (view_structs structs.now) (view_sort sort) most (map
+        view_object objects.now) }
 {
     let mut room = most;
     for object in objects {
@@ -79,7 +82,8 @@ fn passed_or(limit: u8, at: Option<Place>, later: Option<Passed>) -> Option<Pass
 
 /// The first limit that is passed, where no typing rule is broken.
 pub(crate) fn limit_in(known: &Known, objects: &[Object]) -> Option<Passed>
-    ensures { view_passed result ≡ pure.limit_by (view_structs known.now.structs) known.now.above (map view_object objects.now) }
+    ensures { view_passed result ≡ pure.limit_by (view_structs known.now.structs) known.now.above
+        (map view_object objects.now) }
 {
     let privates = first_over(&known.structs, Sort::Private, 1_048_576, objects);
     let shareds = first_over(&known.structs, Sort::Shared, 16_777_216, objects);

@@ -9,10 +9,7 @@ ghost use Rattle.upc_checker.specs.Outcomes.{Answers, outcome};
 ghost use Rattle.upc_checker.specs.ViewUnits.{view_checked, KeepsLimits};
 
 use crate::limits::limit_in;
-use crate::units::{defined_in, walk_unit};
-use declaration_checker::known::{Known, nothing_known};
-use declaration_checker::setting::Setting;
-use declaration_checker::tags::Tags;
+use function_checker::units::{defined_in, walk_unit};
 use std::alloc::Global;
 use typed_tree::env::file;
 use typed_tree::{Function, Object};
@@ -20,8 +17,12 @@ use upc_lexer::Names;
 use upc_text::{Code, Refusal, Stop};
 use upc_tree::Unit;
 use upc_types::Structs;
+use walk_state::known::{Known, nothing_known};
+use walk_state::setting::Setting;
+use walk_state::tags::Tags;
 
-/// A source that is accepted: the number of threads, the structs, the objects of the file in order, and the functions by number.
+/// A source that is accepted: the number of threads, the structs, the objects of the file in order, and the functions
+/// by number.
 #[derive(Drop)]
 pub(crate) struct Checked {
     pub threads: u32,
@@ -32,7 +33,8 @@ pub(crate) struct Checked {
 
 // Refuses where a limit is passed.
 fn keeps_limits(known: &Known, objects: &[Object]) -> Result<(), Stop>
-    ensures { KeepsLimits (limits.limit_by (view_structs known.now.structs) known.now.above (map view_object objects.now)) result }
+    ensures { KeepsLimits (limits.limit_by (view_structs known.now.structs) known.now.above (map
+        view_object objects.now)) result }
 {
     match limit_in(known, objects) {
         None => Ok(()),
@@ -43,7 +45,8 @@ fn keeps_limits(known: &Known, objects: &[Object]) -> Result<(), Stop>
     }
 }
 
-/// Checks a whole source: the first typing rule that is broken decides, and where there is none the first limit that is passed.
+/// Checks a whole source: the first typing rule that is broken decides, and where there is none the first limit that
+/// is passed.
 pub(crate) fn check_source(
     alloc: Global,
     unit: &Unit,

@@ -1,5 +1,5 @@
 -- Structs that are made from vectors, seen as trees.
-use Rattle.std.proofs.Common.{◌≡◌, Option, refl, ◌∙◌, Vec, Global}
+use Rattle.std.proofs.Common.{◌≡◌, Option, refl, ◌∙◌, Vec, Box, Global}
 use Rattle.upc_tree.specs.declared.span.Span.{Span}
 use Rattle.upc_tree.specs.declared.span.Name.{Name}
 use Rattle.upc_tree.specs.declared.expression.Spec.{Spec}
@@ -20,8 +20,8 @@ pub typed_is : (specs : Vec Spec Global) (pointers : Vec Pointer Global) (sizes 
 typed_is specs pointers sizes =
     type_is (roll-TypeName record { specs = specs; pointers = pointers; sizes = sizes }) ∙ rw (out-roll-TypeName record { specs = specs; pointers = pointers; sizes = sizes }) refl
 
-pub line_is : (specs : Vec Spec Global) (first : Declarator) (more : Vec NextDeclarator Global) (semicolon : Span)
-    → view_member (roll-Member record { specs = specs; first = first; more = more; semicolon = semicolon }) ≡ (view_specs specs, view_declarator first, view_next_declarators more, semicolon)
+pub line_is : (specs : Vec Spec Global) (first : Box Declarator Global) (more : Vec NextDeclarator Global) (semicolon : Span)
+    → view_member (roll-Member record { specs = specs; first = first; more = more; semicolon = semicolon }) ≡ (view_specs specs, view_declarator first.value, view_next_declarators more, semicolon)
 line_is specs first more semicolon =
     member_is (roll-Member record { specs = specs; first = first; more = more; semicolon = semicolon }) ∙ rw (out-roll-Member record { specs = specs; first = first; more = more; semicolon = semicolon }) refl
 

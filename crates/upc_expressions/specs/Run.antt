@@ -1,5 +1,5 @@
 -- What a function that parses ensures: the outcome of the parser on lists, unless memory runs out.
-use Rattle.std.specs.Prelude.{◌≡◌, ◌<◌, ◌≤◌, ℕ, Bool, true, false, List, [], ◌∷◌, ◌++◌, length, Result, Ok, Err, ◌⊎◌, Vec}
+use Rattle.std.specs.Prelude.{◌≡◌, ◌<◌, ◌≤◌, ℕ, Bool, true, false, List, [], ◌∷◌, ◌++◌, length, Result, Ok, Err, ◌⊎◌, Vec, Box}
 use Rattle.std.specs.declared.alloc.Global.{Global}
 use denote.Ref.{MutBor}
 use Rattle.upc_lexer.specs.declared.token.Token.{Token}
@@ -20,6 +20,10 @@ abbrev pub Reads : {X A : Type 0} → (X → A) → Outcome A → Result X Fail 
 Reads view o (Ok x) rest = o ≡ Ok (view x, rest)
 Reads view o (Err e) rest = Fails e o
 
+-- what lies in a box, seen so
+abbrev pub boxed : {X A : Type 0} → (X → A) → Box X Global → A
+boxed view x = view x.value
+
 abbrev pub same : {X : Type 0} → X → X
 same x = x
 
@@ -35,12 +39,12 @@ Ran goes post start (Err fail.Memory) rest = Unit {0}
 Ran {T} goes post start (Err (fail.Fault f)) rest = (xs : List T) × (mid : List Token) × (old new : MutBor Tokens) × Steps goes post start xs mid × (length xs < length start) × (goes mid ≡ true) × (old.now.rest.now ≡ mid) × post old (Err (fail.Fault f)) new
 
 -- function values that parse expressions and structs of at most this height
-pub record Nests (height : ℕ) (pre : Global → MutBor Tokens → ℕ → ℕ → Type 0) (post : Global → MutBor Tokens → ℕ → ℕ → Result Expr Fail → MutBor Tokens → Type 0)
+pub record Nests (height : ℕ) (pre : Global → MutBor Tokens → ℕ → ℕ → Type 0) (post : Global → MutBor Tokens → ℕ → ℕ → Result (Box Expr Global) Fail → MutBor Tokens → Type 0)
     (pre_struct : Global → MutBor Tokens → ℕ → Type 0) (post_struct : Global → MutBor Tokens → ℕ → Result Spec Fail → MutBor Tokens → Type 0) : Type 0 where
   pub small : height < 4294967295
   pub callable : (alloc : Global) (old : MutBor Tokens) (h least : ℕ) → h ≤ height → pre alloc old h least
-  pub reads : (alloc : Global) (old new : MutBor Tokens) (h least : ℕ) (r : Result Expr Fail) → post alloc old h least r new
-      → Reads view ((at_height h).expr least old.now.rest.now) r new.now.rest.now
+  pub reads : (alloc : Global) (old new : MutBor Tokens) (h least : ℕ) (r : Result (Box Expr Global) Fail) → post alloc old h least r new
+      → Reads (boxed view) ((at_height h).expr least old.now.rest.now) r new.now.rest.now
   pub callable_struct : (alloc : Global) (old : MutBor Tokens) (h : ℕ) → h ≤ height → pre_struct alloc old h
   pub reads_struct : (alloc : Global) (old new : MutBor Tokens) (h : ℕ) (r : Result Spec Fail) → post_struct alloc old h r new
       → Reads view_spec ((at_height h).structure old.now.rest.now) r new.now.rest.now

@@ -17,7 +17,7 @@ pub struct Tokens<'a> {
 }
 
 /// Why there is no tree.
-#[derive(Clone, Copy, Debug, PartialEq, Eq)]
+#[derive(Clone, Copy, PartialEq, Eq)]
 pub enum Fault {
     /// No tree begins with the tokens.
     NoTree,
@@ -25,7 +25,7 @@ pub enum Fault {
     TooHigh,
 }
 
-#[derive(Debug, Drop)]
+#[derive(Drop)]
 pub enum Fail {
     Memory,
     Fault(Fault),

@@ -4,14 +4,15 @@ ghost use Rattle.std.specs.Prelude.{◌≤◌};
 ghost use Rattle.upc_tree.specs.View.{view_spec, view_member, view_members, view_declarator, view_next_declarator, view_next_declarators, view_parameters, view_parameter, view_next_parameter, view_next_parameters, view_array, view_pointers};
 ghost use Rattle.upc_expressions.specs.Expression as spec;
 ghost use Rattle.upc_expressions.specs.Expression.{at_height};
-ghost use Rattle.upc_expressions.specs.Run.{Reads, Nests, same};
+ghost use Rattle.upc_expressions.specs.Run.{Reads, Nests, boxed, same};
 
 use crate::ahead::{Ahead, Sign, starts, starts_two};
 use crate::cursor::{Fail, Fault, Tokens, expect_punct, expect_word, name, span_of};
 use crate::grammar::Grammar;
 use crate::items::many;
 use crate::make::{
-    function, member, next_parameter, object, parameter, parameters, sized_array, struct_spec,
+    boxed, function, member, next_parameter, object, parameter, parameters, sized_array,
+    struct_spec,
 };
 use std::alloc::Global;
 use upc_lexer::{Punct, TokenKind, Word};
@@ -39,7 +40,7 @@ fn optional_name(tokens: &mut Tokens<'_>) -> Result<Option<Name>, Fail>
 }
 
 impl<
-    F: Fn(Global, &mut Tokens<'_>, u32, u8) -> Result<Expr, Fail>,
+    F: Fn(Global, &mut Tokens<'_>, u32, u8) -> Result<Box<Expr>, Fail>,
     G: Fn(Global, &mut Tokens<'_>, u32) -> Result<Spec, Fail>,
 > Grammar<F, G> {
     #[tactic(auto, unfolding(crate::specs::Expression::unsized_array))]
@@ -60,7 +61,7 @@ impl<
         ensures { Reads view_array (spec.sized_array (at_height n) tokens.old.rest.now) result tokens.new.rest.now }
     {
         let size = self.dimension(tokens, n)?;
-        Ok(sized_array(self.alloc, size)?)
+        Ok(sized_array(size))
     }
 
     #[tactic(auto, unfolding(crate::specs::Expression::array))]
@@ -83,16 +84,16 @@ impl<
     }
 
     #[tactic(auto, unfolding(crate::specs::Expression::parameter))]
-    fn parameter(&self, tokens: &mut Tokens<'_>, n: u32) -> Result<Parameter, Fail>
+    fn parameter(&self, tokens: &mut Tokens<'_>, n: u32) -> Result<Box<Parameter>, Fail>
         requires within { n ≤ self.now.below }
         requires nests { Nests self.now.below (F.pre self.now.expr) (F.post self.now.expr) (G.pre self.now.structure) (G.post self.now.structure) }
-        ensures { Reads view_parameter (spec.parameter (at_height n) tokens.old.rest.now) result tokens.new.rest.now }
+        ensures { Reads (boxed view_parameter) (spec.parameter (at_height n) tokens.old.rest.now) result tokens.new.rest.now }
     {
         let specs = self.specs(tokens, n, false)?;
         let pointers = self.pointers(tokens, n)?;
         let name = optional_name(tokens)?;
         let array = self.array(tokens, n)?;
-        Ok(parameter(specs, pointers, name, array))
+        Ok(parameter(self.alloc, specs, pointers, name, array)?)
     }
 
     #[tactic(auto, unfolding(crate::specs::Expression::next_parameter))]
@@ -120,13 +121,18 @@ impl<
     }
 
     #[tactic(auto, unfolding(crate::specs::Expression::no_parameters))]
-    fn no_parameters(&self, tokens: &mut Tokens<'_>, n: u32, left: Span) -> Result<Parameters, Fail>
+    fn no_parameters(
+        &self,
+        tokens: &mut Tokens<'_>,
+        n: u32,
+        left: Span,
+    ) -> Result<Box<Parameters>, Fail>
         requires within { n ≤ self.now.below }
         requires nests { Nests self.now.below (F.pre self.now.expr) (F.post self.now.expr) (G.pre self.now.structure) (G.post self.now.structure) }
-        ensures { Reads view_parameters (spec.no_parameters (at_height n) left tokens.old.rest.now) result tokens.new.rest.now }
+        ensures { Reads (boxed view_parameters) (spec.no_parameters (at_height n) left tokens.old.rest.now) result tokens.new.rest.now }
     {
         let close = expect_punct(tokens, Punct::RParen)?;
-        Ok(Parameters::Empty { open: left, close })
+        Ok(boxed(self.alloc, Parameters::Empty { open: left, close })?)
     }
 
     #[tactic(auto, unfolding(crate::specs::Expression::void_parameters))]
@@ -135,18 +141,21 @@ impl<
         tokens: &mut Tokens<'_>,
         n: u32,
         left: Span,
-    ) -> Result<Parameters, Fail>
+    ) -> Result<Box<Parameters>, Fail>
         requires within { n ≤ self.now.below }
         requires nests { Nests self.now.below (F.pre self.now.expr) (F.post self.now.expr) (G.pre self.now.structure) (G.post self.now.structure) }
-        ensures { Reads view_parameters (spec.void_parameters (at_height n) left tokens.old.rest.now) result tokens.new.rest.now }
+        ensures { Reads (boxed view_parameters) (spec.void_parameters (at_height n) left tokens.old.rest.now) result tokens.new.rest.now }
     {
         let word = expect_word(tokens, Word::Void)?;
         let close = expect_punct(tokens, Punct::RParen)?;
-        Ok(Parameters::Void {
-            open: left,
-            word,
-            close,
-        })
+        Ok(boxed(
+            self.alloc,
+            Parameters::Void {
+                open: left,
+                word,
+                close,
+            },
+        )?)
     }
 
     #[tactic(auto, unfolding(crate::specs::Expression::some_parameters))]
@@ -155,10 +164,10 @@ impl<
         tokens: &mut Tokens<'_>,
         n: u32,
         left: Span,
-    ) -> Result<Parameters, Fail>
+    ) -> Result<Box<Parameters>, Fail>
         requires within { n ≤ self.now.below }
         requires nests { Nests self.now.below (F.pre self.now.expr) (F.post self.now.expr) (G.pre self.now.structure) (G.post self.now.structure) }
-        ensures { Reads view_parameters (spec.some_parameters (at_height n) left tokens.old.rest.now) result tokens.new.rest.now }
+        ensures { Reads (boxed view_parameters) (spec.some_parameters (at_height n) left tokens.old.rest.now) result tokens.new.rest.now }
     {
         let first = self.parameter(tokens, n)?;
         let more = self.next_parameters(tokens, n)?;
@@ -167,10 +176,15 @@ impl<
     }
 
     #[tactic(auto, unfolding(crate::specs::Expression::parameters_in))]
-    fn parameters_in(&self, tokens: &mut Tokens<'_>, n: u32, left: Span) -> Result<Parameters, Fail>
+    fn parameters_in(
+        &self,
+        tokens: &mut Tokens<'_>,
+        n: u32,
+        left: Span,
+    ) -> Result<Box<Parameters>, Fail>
         requires within { n ≤ self.now.below }
         requires nests { Nests self.now.below (F.pre self.now.expr) (F.post self.now.expr) (G.pre self.now.structure) (G.post self.now.structure) }
-        ensures { Reads view_parameters (spec.parameters_in (at_height n) left tokens.old.rest.now) result tokens.new.rest.now }
+        ensures { Reads (boxed view_parameters) (spec.parameters_in (at_height n) left tokens.old.rest.now) result tokens.new.rest.now }
     {
         if starts(Sign::Punct(Punct::RParen), tokens.rest) {
             return self.no_parameters(tokens, n, left);
@@ -186,10 +200,10 @@ impl<
     }
 
     #[tactic(auto, unfolding(crate::specs::Expression::parameters))]
-    pub fn parameters(&self, tokens: &mut Tokens<'_>, n: u32) -> Result<Parameters, Fail>
+    pub fn parameters(&self, tokens: &mut Tokens<'_>, n: u32) -> Result<Box<Parameters>, Fail>
         requires within { n ≤ self.now.below }
         requires nests { Nests self.now.below (F.pre self.now.expr) (F.post self.now.expr) (G.pre self.now.structure) (G.post self.now.structure) }
-        ensures { Reads view_parameters (spec.parameters (at_height n) tokens.old.rest.now) result tokens.new.rest.now }
+        ensures { Reads (boxed view_parameters) (spec.parameters (at_height n) tokens.old.rest.now) result tokens.new.rest.now }
     {
         let left = expect_punct(tokens, Punct::LParen)?;
         self.parameters_in(tokens, n, left)
@@ -202,24 +216,24 @@ impl<
         n: u32,
         stars: Vec<Pointer>,
         named: Name,
-    ) -> Result<Declarator, Fail>
+    ) -> Result<Box<Declarator>, Fail>
         requires within { n ≤ self.now.below }
         requires nests { Nests self.now.below (F.pre self.now.expr) (F.post self.now.expr) (G.pre self.now.structure) (G.post self.now.structure) }
-        ensures { Reads view_declarator (spec.declarator_by (at_height n) (view_pointers stars) named tokens.old.rest.now) result tokens.new.rest.now }
+        ensures { Reads (boxed view_declarator) (spec.declarator_by (at_height n) (view_pointers stars) named tokens.old.rest.now) result tokens.new.rest.now }
     {
         if starts(Sign::Punct(Punct::LParen), tokens.rest) {
             let parameters = self.parameters(tokens, n)?;
-            return Ok(function(stars, named, parameters));
+            return Ok(function(self.alloc, stars, named, parameters)?);
         }
         let sizes = self.dimensions(tokens, n)?;
-        Ok(object(stars, named, sizes))
+        Ok(object(self.alloc, stars, named, sizes)?)
     }
 
     #[tactic(auto, unfolding(crate::specs::Expression::declarator))]
-    pub fn declarator(&self, tokens: &mut Tokens<'_>, n: u32) -> Result<Declarator, Fail>
+    pub fn declarator(&self, tokens: &mut Tokens<'_>, n: u32) -> Result<Box<Declarator>, Fail>
         requires within { n ≤ self.now.below }
         requires nests { Nests self.now.below (F.pre self.now.expr) (F.post self.now.expr) (G.pre self.now.structure) (G.post self.now.structure) }
-        ensures { Reads view_declarator (spec.declarator (at_height n) tokens.old.rest.now) result tokens.new.rest.now }
+        ensures { Reads (boxed view_declarator) (spec.declarator (at_height n) tokens.old.rest.now) result tokens.new.rest.now }
     {
         let stars = self.pointers(tokens, n)?;
         let named = name(tokens)?;

@@ -7,24 +7,26 @@ ghost use Rattle.upc_tree.specs.View.{view, view_arguments, view_next_expr, view
 ghost use Rattle.upc_expressions.specs.Expression as spec;
 ghost use Rattle.upc_expressions.specs.Expression.{at_height};
 ghost use Rattle.upc_expressions.specs.Outcome.{span_of};
-ghost use Rattle.upc_expressions.specs.Run.{Reads, Nests, same};
+ghost use Rattle.upc_expressions.specs.Run.{Reads, Nests, boxed, same};
 
 use crate::ahead::{Ahead, Sign, starts, starts_two};
 use crate::cursor::{Fail, Fault, Tokens, expect_punct, name, span_of};
 use crate::grammar::Grammar;
 use crate::items::many;
 use crate::make::{
-    arguments, assign, binary, call, cast, comma, conditional, member_of, paren, size_of_expr,
-    size_of_type, step, subscript, unary,
+    arguments, assign, binary, boxed, call, cast, character, comma, conditional, constant,
+    member_of, named, number, paren, size_of_expr, size_of_type, step, string_literals, subscript,
+    unary,
 };
 use crate::start::{
     Joint, Prefix, Suffix, joint_level, joint_of, left_least, operand_level, prefix_of, suffix_of,
 };
 use std::alloc::Global;
 use upc_lexer::{Punct, Token, TokenKind, Word};
+use upc_text::Text;
 use upc_tree::{
-    Arguments, ConstantWord, Expr, Name, NextExpr, SizeWord, Span, Spec, StringLiteral, UnaryMark,
-    expr_height,
+    Arguments, AssignMark, BinaryMark, ConstantWord, Expr, MemberMark, Name, NextExpr, PostfixMark,
+    SizeWord, Span, Spec, StringLiteral, UnaryMark, expr_height,
 };
 
 /// Whether the tree is no higher than n.
@@ -91,7 +93,7 @@ fn goes_on(least: u8, left: &Expr, joint: Joint) -> bool
 }
 
 impl<
-    F: Fn(Global, &mut Tokens<'_>, u32, u8) -> Result<Expr, Fail>,
+    F: Fn(Global, &mut Tokens<'_>, u32, u8) -> Result<Box<Expr>, Fail>,
     G: Fn(Global, &mut Tokens<'_>, u32) -> Result<Spec, Fail>,
 > Grammar<F, G> {
     #[tactic(auto, unfolding(crate::specs::Expression::next_expr))]
@@ -119,10 +121,10 @@ impl<
     }
 
     #[tactic(auto, unfolding(crate::specs::Expression::some_arguments))]
-    fn some_arguments(&self, tokens: &mut Tokens<'_>, n: u32) -> Result<Arguments, Fail>
+    fn some_arguments(&self, tokens: &mut Tokens<'_>, n: u32) -> Result<Box<Arguments>, Fail>
         requires within { n ≤ self.now.below }
         requires nests { Nests self.now.below (F.pre self.now.expr) (F.post self.now.expr) (G.pre self.now.structure) (G.post self.now.structure) }
-        ensures { Reads view_arguments (spec.some_arguments (at_height n) tokens.old.rest.now) result tokens.new.rest.now }
+        ensures { Reads (boxed view_arguments) (spec.some_arguments (at_height n) tokens.old.rest.now) result tokens.new.rest.now }
     {
         let first = self.expr(tokens, n, 1)?;
         let more = self.next_exprs(tokens, n)?;
@@ -131,22 +133,22 @@ impl<
     }
 
     #[tactic(auto, unfolding(crate::specs::Expression::arguments))]
-    fn whole_arguments(&self, tokens: &mut Tokens<'_>, n: u32) -> Result<Arguments, Fail>
+    fn whole_arguments(&self, tokens: &mut Tokens<'_>, n: u32) -> Result<Box<Arguments>, Fail>
         requires within { n ≤ self.now.below }
         requires nests { Nests self.now.below (F.pre self.now.expr) (F.post self.now.expr) (G.pre self.now.structure) (G.post self.now.structure) }
-        ensures { Reads view_arguments (spec.arguments (at_height n) tokens.old.rest.now) result tokens.new.rest.now }
+        ensures { Reads (boxed view_arguments) (spec.arguments (at_height n) tokens.old.rest.now) result tokens.new.rest.now }
     {
         if starts(Sign::Punct(Punct::RParen), tokens.rest) {
             let close = expect_punct(tokens, Punct::RParen)?;
-            return Ok(Arguments::Empty { close });
+            return Ok(boxed(self.alloc, Arguments::Empty { close })?);
         }
         self.some_arguments(tokens, n)
     }
 
-    fn arguments(&self, tokens: &mut Tokens<'_>, n: u32) -> Result<Arguments, Fail>
+    fn arguments(&self, tokens: &mut Tokens<'_>, n: u32) -> Result<Box<Arguments>, Fail>
         requires within { n ≤ self.now.below }
         requires nests { Nests self.now.below (F.pre self.now.expr) (F.post self.now.expr) (G.pre self.now.structure) (G.post self.now.structure) }
-        ensures { Reads view_arguments ((at_height n).arguments tokens.old.rest.now) result tokens.new.rest.now }
+        ensures { Reads (boxed view_arguments) ((at_height n).arguments tokens.old.rest.now) result tokens.new.rest.now }
     {
         if n == 0 {
             return Err(Fail::Fault(Fault::TooHigh));
@@ -161,10 +163,10 @@ impl<
         n: u32,
         mark: UnaryMark,
         at: Span,
-    ) -> Result<Expr, Fail>
+    ) -> Result<Box<Expr>, Fail>
         requires within { n ≤ self.now.below }
         requires nests { Nests self.now.below (F.pre self.now.expr) (F.post self.now.expr) (G.pre self.now.structure) (G.post self.now.structure) }
-        ensures { Reads view (spec.unary (at_height n) mark at tokens.old.rest.now) result tokens.new.rest.now }
+        ensures { Reads (boxed view) (spec.unary (at_height n) mark at tokens.old.rest.now) result tokens.new.rest.now }
     {
         let operand = self.expr(tokens, n, operand_level(mark))?;
         Ok(unary(self.alloc, mark, at, operand)?)
@@ -177,10 +179,10 @@ impl<
         n: u32,
         word: SizeWord,
         at: Span,
-    ) -> Result<Expr, Fail>
+    ) -> Result<Box<Expr>, Fail>
         requires within { n ≤ self.now.below }
         requires nests { Nests self.now.below (F.pre self.now.expr) (F.post self.now.expr) (G.pre self.now.structure) (G.post self.now.structure) }
-        ensures { Reads view (spec.size_type (at_height n) word at tokens.old.rest.now) result tokens.new.rest.now }
+        ensures { Reads (boxed view) (spec.size_type (at_height n) word at tokens.old.rest.now) result tokens.new.rest.now }
     {
         let left = expect_punct(tokens, Punct::LParen)?;
         let operand = self.type_name(tokens, n)?;
@@ -195,19 +197,25 @@ impl<
         n: u32,
         word: SizeWord,
         at: Span,
-    ) -> Result<Expr, Fail>
+    ) -> Result<Box<Expr>, Fail>
         requires within { n ≤ self.now.below }
         requires nests { Nests self.now.below (F.pre self.now.expr) (F.post self.now.expr) (G.pre self.now.structure) (G.post self.now.structure) }
-        ensures { Reads view (spec.size_expr (at_height n) word at tokens.old.rest.now) result tokens.new.rest.now }
+        ensures { Reads (boxed view) (spec.size_expr (at_height n) word at tokens.old.rest.now) result tokens.new.rest.now }
     {
         let operand = self.expr(tokens, n, 14)?;
         Ok(size_of_expr(self.alloc, word, at, operand)?)
     }
 
-    fn size(&self, tokens: &mut Tokens<'_>, n: u32, word: SizeWord, at: Span) -> Result<Expr, Fail>
+    fn size(
+        &self,
+        tokens: &mut Tokens<'_>,
+        n: u32,
+        word: SizeWord,
+        at: Span,
+    ) -> Result<Box<Expr>, Fail>
         requires within { n ≤ self.now.below }
         requires nests { Nests self.now.below (F.pre self.now.expr) (F.post self.now.expr) (G.pre self.now.structure) (G.post self.now.structure) }
-        ensures { Reads view (spec.size (at_height n) word at tokens.old.rest.now) result tokens.new.rest.now }
+        ensures { Reads (boxed view) (spec.size (at_height n) word at tokens.old.rest.now) result tokens.new.rest.now }
     {
         if opens_type(tokens.rest) {
             return self.size_type(tokens, n, word, at);
@@ -216,10 +224,10 @@ impl<
     }
 
     #[tactic(auto, unfolding(crate::specs::Expression::cast))]
-    fn cast(&self, tokens: &mut Tokens<'_>, n: u32) -> Result<Expr, Fail>
+    fn cast(&self, tokens: &mut Tokens<'_>, n: u32) -> Result<Box<Expr>, Fail>
         requires within { n ≤ self.now.below }
         requires nests { Nests self.now.below (F.pre self.now.expr) (F.post self.now.expr) (G.pre self.now.structure) (G.post self.now.structure) }
-        ensures { Reads view (spec.cast (at_height n) tokens.old.rest.now) result tokens.new.rest.now }
+        ensures { Reads (boxed view) (spec.cast (at_height n) tokens.old.rest.now) result tokens.new.rest.now }
     {
         let left = expect_punct(tokens, Punct::LParen)?;
         let target = self.plain_type(tokens, n)?;
@@ -229,14 +237,30 @@ impl<
     }
 
     #[tactic(auto, unfolding(crate::specs::Expression::paren))]
-    fn paren(&self, tokens: &mut Tokens<'_>, n: u32, left: Span) -> Result<Expr, Fail>
+    fn paren(&self, tokens: &mut Tokens<'_>, n: u32, left: Span) -> Result<Box<Expr>, Fail>
         requires within { n ≤ self.now.below }
         requires nests { Nests self.now.below (F.pre self.now.expr) (F.post self.now.expr) (G.pre self.now.structure) (G.post self.now.structure) }
-        ensures { Reads view (spec.paren (at_height n) left tokens.old.rest.now) result tokens.new.rest.now }
+        ensures { Reads (boxed view) (spec.paren (at_height n) left tokens.old.rest.now) result tokens.new.rest.now }
     {
         let inner = self.expr(tokens, n, 0)?;
         let right = expect_punct(tokens, Punct::RParen)?;
         Ok(paren(self.alloc, left, inner, right)?)
+    }
+
+    fn string_run(
+        &self,
+        tokens: &mut Tokens<'_>,
+        n: u32,
+        bytes: &Text,
+        span: Span,
+    ) -> Result<Box<Expr>, Fail>
+        requires within { n ≤ self.now.below }
+        requires nests { Nests self.now.below (F.pre self.now.expr) (F.post self.now.expr) (G.pre self.now.structure) (G.post self.now.structure) }
+        ensures { Reads (boxed view) (spec.primary_by (at_height n) (TokenKind.Str bytes.now) span tokens.old.rest.now) result tokens.new.rest.now }
+    {
+        let bytes = bytes.copy(self.alloc)?;
+        let more = strings(self.alloc, tokens)?;
+        Ok(string_literals(self.alloc, StringLiteral { bytes, span }, more)?)
     }
 
     fn primary_by<'a>(
@@ -245,64 +269,41 @@ impl<
         n: u32,
         first: &Token,
         rest: &'a [Token],
-    ) -> Result<Expr, Fail>
+    ) -> Result<Box<Expr>, Fail>
         requires within { n ≤ self.now.below }
         requires nests { Nests self.now.below (F.pre self.now.expr) (F.post self.now.expr) (G.pre self.now.structure) (G.post self.now.structure) }
-        ensures { Reads view (spec.primary_by (at_height n) first.now.kind (span_of first.now) rest.now) result tokens.new.rest.now }
+        ensures { Reads (boxed view) (spec.primary_by (at_height n) first.now.kind (span_of first.now) rest.now) result tokens.new.rest.now }
     {
         let span = span_of(first);
         match &first.kind {
             TokenKind::Name(number) => {
                 tokens.rest = rest;
-                Ok(Expr::Name(Name {
-                    number: *number,
-                    span,
-                }))
+                let number = *number;
+                Ok(named(self.alloc, Name { number, span })?)
             }
             TokenKind::Number { value, kind } => {
                 tokens.rest = rest;
-                Ok(Expr::Number {
-                    value: *value,
-                    kind: *kind,
-                    span,
-                })
+                Ok(number(self.alloc, *value, *kind, span)?)
             }
             TokenKind::Character(value) => {
                 tokens.rest = rest;
-                Ok(Expr::Character {
-                    value: *value,
-                    span,
-                })
+                Ok(character(self.alloc, *value, span)?)
             }
             TokenKind::Str(bytes) => {
                 tokens.rest = rest;
-                let bytes = bytes.copy(self.alloc)?;
-                let more = strings(self.alloc, tokens)?;
-                Ok(Expr::Strings {
-                    first: StringLiteral { bytes, span },
-                    more,
-                })
+                self.string_run(tokens, n, bytes, span)
             }
             TokenKind::Word(Word::Mythread) => {
                 tokens.rest = rest;
-                Ok(Expr::Constant {
-                    word: ConstantWord::Mythread,
-                    span,
-                })
+                Ok(constant(self.alloc, ConstantWord::Mythread, span)?)
             }
             TokenKind::Word(Word::Threads) => {
                 tokens.rest = rest;
-                Ok(Expr::Constant {
-                    word: ConstantWord::Threads,
-                    span,
-                })
+                Ok(constant(self.alloc, ConstantWord::Threads, span)?)
             }
             TokenKind::Word(Word::UpcMaxBlockSize) => {
                 tokens.rest = rest;
-                Ok(Expr::Constant {
-                    word: ConstantWord::MaxBlockSize,
-                    span,
-                })
+                Ok(constant(self.alloc, ConstantWord::MaxBlockSize, span)?)
             }
             TokenKind::Punct(Punct::LParen) => {
                 tokens.rest = rest;
@@ -312,54 +313,109 @@ impl<
         }
     }
 
+    fn subscripted(
+        &self,
+        tokens: &mut Tokens<'_>,
+        n: u32,
+        base: Box<Expr>,
+        at: Span,
+    ) -> Result<Box<Expr>, Fail>
+        requires within { n ≤ self.now.below }
+        requires nests { Nests self.now.below (F.pre self.now.expr) (F.post self.now.expr) (G.pre self.now.structure) (G.post self.now.structure) }
+        ensures { Reads (boxed view) (spec.suffixed n (at_height n) Suffix.Subscript (view base.value) at tokens.old.rest.now) result tokens.new.rest.now }
+    {
+        let index = self.expr(tokens, n, 0)?;
+        let right = expect_punct(tokens, Punct::RBracket)?;
+        if !fits(&base, n) {
+            return Err(Fail::Fault(Fault::TooHigh));
+        }
+        Ok(subscript(self.alloc, base, at, index, right)?)
+    }
+
+    fn called(
+        &self,
+        tokens: &mut Tokens<'_>,
+        n: u32,
+        base: Box<Expr>,
+        at: Span,
+    ) -> Result<Box<Expr>, Fail>
+        requires within { n ≤ self.now.below }
+        requires nests { Nests self.now.below (F.pre self.now.expr) (F.post self.now.expr) (G.pre self.now.structure) (G.post self.now.structure) }
+        ensures { Reads (boxed view) (spec.suffixed n (at_height n) Suffix.Call (view base.value) at tokens.old.rest.now) result tokens.new.rest.now }
+    {
+        let arguments = self.arguments(tokens, n)?;
+        if !fits(&base, n) {
+            return Err(Fail::Fault(Fault::TooHigh));
+        }
+        Ok(call(self.alloc, base, at, arguments)?)
+    }
+
+    fn member_named(
+        &self,
+        tokens: &mut Tokens<'_>,
+        n: u32,
+        mark: MemberMark,
+        base: Box<Expr>,
+        at: Span,
+    ) -> Result<Box<Expr>, Fail>
+        requires within { n ≤ self.now.below }
+        requires nests { Nests self.now.below (F.pre self.now.expr) (F.post self.now.expr) (G.pre self.now.structure) (G.post self.now.structure) }
+        ensures { Reads (boxed view) (spec.suffixed n (at_height n) (Suffix.Member mark) (view base.value) at tokens.old.rest.now) result tokens.new.rest.now }
+    {
+        let member = name(tokens)?;
+        if !fits(&base, n) {
+            return Err(Fail::Fault(Fault::TooHigh));
+        }
+        Ok(member_of(self.alloc, base, mark, at, member)?)
+    }
+
+    fn stepped(
+        &self,
+        tokens: &mut Tokens<'_>,
+        n: u32,
+        mark: PostfixMark,
+        base: Box<Expr>,
+        at: Span,
+    ) -> Result<Box<Expr>, Fail>
+        requires within { n ≤ self.now.below }
+        requires nests { Nests self.now.below (F.pre self.now.expr) (F.post self.now.expr) (G.pre self.now.structure) (G.post self.now.structure) }
+        ensures { Reads (boxed view) (spec.suffixed n (at_height n) (Suffix.Step mark) (view base.value) at tokens.old.rest.now) result tokens.new.rest.now }
+    {
+        if !fits(&base, n) {
+            return Err(Fail::Fault(Fault::TooHigh));
+        }
+        Ok(step(self.alloc, base, mark, at)?)
+    }
+
     fn suffixed(
         &self,
         tokens: &mut Tokens<'_>,
         n: u32,
         suffix: Suffix,
-        base: Expr,
+        base: Box<Expr>,
         at: Span,
-    ) -> Result<Expr, Fail>
+    ) -> Result<Box<Expr>, Fail>
         requires within { n ≤ self.now.below }
         requires nests { Nests self.now.below (F.pre self.now.expr) (F.post self.now.expr) (G.pre self.now.structure) (G.post self.now.structure) }
-        ensures { Reads view (spec.suffixed n (at_height n) suffix (view base) at tokens.old.rest.now) result tokens.new.rest.now }
+        ensures { Reads (boxed view) (spec.suffixed n (at_height n) suffix (view base.value) at tokens.old.rest.now) result tokens.new.rest.now }
     {
         match suffix {
-            Suffix::Subscript => {
-                let index = self.expr(tokens, n, 0)?;
-                let right = expect_punct(tokens, Punct::RBracket)?;
-                if !fits(&base, n) {
-                    return Err(Fail::Fault(Fault::TooHigh));
-                }
-                Ok(subscript(self.alloc, base, at, index, right)?)
-            }
-            Suffix::Call => {
-                let arguments = self.arguments(tokens, n)?;
-                if !fits(&base, n) {
-                    return Err(Fail::Fault(Fault::TooHigh));
-                }
-                Ok(call(self.alloc, base, at, arguments)?)
-            }
-            Suffix::Member(mark) => {
-                let member = name(tokens)?;
-                if !fits(&base, n) {
-                    return Err(Fail::Fault(Fault::TooHigh));
-                }
-                Ok(member_of(self.alloc, base, mark, at, member)?)
-            }
-            Suffix::Step(mark) => {
-                if !fits(&base, n) {
-                    return Err(Fail::Fault(Fault::TooHigh));
-                }
-                Ok(step(self.alloc, base, mark, at)?)
-            }
+            Suffix::Subscript => self.subscripted(tokens, n, base, at),
+            Suffix::Call => self.called(tokens, n, base, at),
+            Suffix::Member(mark) => self.member_named(tokens, n, mark, base, at),
+            Suffix::Step(mark) => self.stepped(tokens, n, mark, base, at),
         }
     }
 
-    fn postfix(&self, tokens: &mut Tokens<'_>, n: u32, mut base: Expr) -> Result<Expr, Fail>
+    fn postfix(
+        &self,
+        tokens: &mut Tokens<'_>,
+        n: u32,
+        mut base: Box<Expr>,
+    ) -> Result<Box<Expr>, Fail>
         requires within { n ≤ self.now.below }
         requires nests { Nests self.now.below (F.pre self.now.expr) (F.post self.now.expr) (G.pre self.now.structure) (G.post self.now.structure) }
-        ensures { Reads view (spec.postfix n (at_height n) (length tokens.old.rest.now) (view base) tokens.old.rest.now) result tokens.new.rest.now }
+        ensures { Reads (boxed view) (spec.postfix n (at_height n) (length tokens.old.rest.now) (view base.value) tokens.old.rest.now) result tokens.new.rest.now }
     {
         for _turn in 0..tokens.rest.len() {
             let [first, rest @ ..] = tokens.rest else {
@@ -381,20 +437,20 @@ impl<
         n: u32,
         first: &Token,
         rest: &'a [Token],
-    ) -> Result<Expr, Fail>
+    ) -> Result<Box<Expr>, Fail>
         requires within { n ≤ self.now.below }
         requires nests { Nests self.now.below (F.pre self.now.expr) (F.post self.now.expr) (G.pre self.now.structure) (G.post self.now.structure) }
-        ensures { Reads view (spec.primary n (at_height n) first.now rest.now) result tokens.new.rest.now }
+        ensures { Reads (boxed view) (spec.primary n (at_height n) first.now rest.now) result tokens.new.rest.now }
     {
         let base = self.primary_by(tokens, n, first, rest)?;
         self.postfix(tokens, n, base)
     }
 
     #[tactic(auto, unfolding(crate::specs::Expression::first))]
-    fn first(&self, tokens: &mut Tokens<'_>, n: u32, least: u8) -> Result<Expr, Fail>
+    fn first(&self, tokens: &mut Tokens<'_>, n: u32, least: u8) -> Result<Box<Expr>, Fail>
         requires within { n ≤ self.now.below }
         requires nests { Nests self.now.below (F.pre self.now.expr) (F.post self.now.expr) (G.pre self.now.structure) (G.post self.now.structure) }
-        ensures { Reads view (spec.first n (at_height n) least tokens.old.rest.now) result tokens.new.rest.now }
+        ensures { Reads (boxed view) (spec.first n (at_height n) least tokens.old.rest.now) result tokens.new.rest.now }
     {
         match tokens.rest {
             [] => Err(Fail::Fault(Fault::NoTree)),
@@ -422,10 +478,15 @@ impl<
     }
 
     #[tactic(auto, unfolding(crate::specs::Expression::joined_comma))]
-    fn joined_comma(&self, tokens: &mut Tokens<'_>, n: u32, left: Expr) -> Result<Expr, Fail>
+    fn joined_comma(
+        &self,
+        tokens: &mut Tokens<'_>,
+        n: u32,
+        left: Box<Expr>,
+    ) -> Result<Box<Expr>, Fail>
         requires within { n ≤ self.now.below }
         requires nests { Nests self.now.below (F.pre self.now.expr) (F.post self.now.expr) (G.pre self.now.structure) (G.post self.now.structure) }
-        ensures { Reads view (spec.joined_comma n (at_height n) (view left) tokens.old.rest.now) result tokens.new.rest.now }
+        ensures { Reads (boxed view) (spec.joined_comma n (at_height n) (view left.value) tokens.old.rest.now) result tokens.new.rest.now }
     {
         let more = self.next_exprs(tokens, n)?;
         if !fits(&left, n) {
@@ -439,12 +500,12 @@ impl<
         &self,
         tokens: &mut Tokens<'_>,
         n: u32,
-        left: Expr,
+        left: Box<Expr>,
         at: Span,
-    ) -> Result<Expr, Fail>
+    ) -> Result<Box<Expr>, Fail>
         requires within { n ≤ self.now.below }
         requires nests { Nests self.now.below (F.pre self.now.expr) (F.post self.now.expr) (G.pre self.now.structure) (G.post self.now.structure) }
-        ensures { Reads view (spec.conditional n (at_height n) (view left) at tokens.old.rest.now) result tokens.new.rest.now }
+        ensures { Reads (boxed view) (spec.conditional n (at_height n) (view left.value) at tokens.old.rest.now) result tokens.new.rest.now }
     {
         let chosen = self.expr(tokens, n, 0)?;
         let colon = expect_punct(tokens, Punct::Colon)?;
@@ -455,42 +516,71 @@ impl<
         Ok(conditional(self.alloc, left, at, chosen, colon, other)?)
     }
 
+    fn assigned(
+        &self,
+        tokens: &mut Tokens<'_>,
+        n: u32,
+        mark: AssignMark,
+        left: Box<Expr>,
+        first: &Token,
+    ) -> Result<Box<Expr>, Fail>
+        requires within { n ≤ self.now.below }
+        requires nests { Nests self.now.below (F.pre self.now.expr) (F.post self.now.expr) (G.pre self.now.structure) (G.post self.now.structure) }
+        ensures { Reads (boxed view) (spec.joined n (at_height n) (Joint.Assign mark) (view left.value) first.now tokens.old.rest.now) result tokens.new.rest.now }
+    {
+        let right = self.expr(tokens, n, 1)?;
+        if !fits(&left, n) {
+            return Err(Fail::Fault(Fault::TooHigh));
+        }
+        Ok(assign(self.alloc, left, mark, span_of(first), right)?)
+    }
+
+    fn combined(
+        &self,
+        tokens: &mut Tokens<'_>,
+        n: u32,
+        mark: BinaryMark,
+        left: Box<Expr>,
+        first: &Token,
+    ) -> Result<Box<Expr>, Fail>
+        requires within { n ≤ self.now.below }
+        requires nests { Nests self.now.below (F.pre self.now.expr) (F.post self.now.expr) (G.pre self.now.structure) (G.post self.now.structure) }
+        ensures { Reads (boxed view) (spec.joined n (at_height n) (Joint.Binary mark) (view left.value) first.now tokens.old.rest.now) result tokens.new.rest.now }
+    {
+        let right = self.expr(tokens, n, joint_level(Joint::Binary(mark)) + 1)?;
+        if !fits(&left, n) {
+            return Err(Fail::Fault(Fault::TooHigh));
+        }
+        Ok(binary(self.alloc, left, mark, span_of(first), right)?)
+    }
+
     fn joined(
         &self,
         tokens: &mut Tokens<'_>,
         n: u32,
         joint: Joint,
-        left: Expr,
-    ) -> Result<Expr, Fail>
+        left: Box<Expr>,
+    ) -> Result<Box<Expr>, Fail>
         requires within { n ≤ self.now.below }
         requires nests { Nests self.now.below (F.pre self.now.expr) (F.post self.now.expr) (G.pre self.now.structure) (G.post self.now.structure) }
-        ensures { Reads view (spec.joined_at n (at_height n) joint (view left) tokens.old.rest.now) result tokens.new.rest.now }
+        ensures { Reads (boxed view) (spec.joined_at n (at_height n) joint (view left.value) tokens.old.rest.now) result tokens.new.rest.now }
     {
         let [first, rest @ ..] = tokens.rest else {
             return Err(Fail::Fault(Fault::NoTree));
         };
-        let at = span_of(first);
         match joint {
             Joint::Comma => self.joined_comma(tokens, n, left),
             Joint::Question => {
                 tokens.rest = rest;
-                self.conditional(tokens, n, left, at)
+                self.conditional(tokens, n, left, span_of(first))
             }
             Joint::Assign(mark) => {
                 tokens.rest = rest;
-                let right = self.expr(tokens, n, 1)?;
-                if !fits(&left, n) {
-                    return Err(Fail::Fault(Fault::TooHigh));
-                }
-                Ok(assign(self.alloc, left, mark, at, right)?)
+                self.assigned(tokens, n, mark, left, first)
             }
             Joint::Binary(mark) => {
                 tokens.rest = rest;
-                let right = self.expr(tokens, n, joint_level(joint) + 1)?;
-                if !fits(&left, n) {
-                    return Err(Fail::Fault(Fault::TooHigh));
-                }
-                Ok(binary(self.alloc, left, mark, at, right)?)
+                self.combined(tokens, n, mark, left, first)
             }
         }
     }
@@ -500,11 +590,11 @@ impl<
         tokens: &mut Tokens<'_>,
         n: u32,
         least: u8,
-        mut left: Expr,
-    ) -> Result<Expr, Fail>
+        mut left: Box<Expr>,
+    ) -> Result<Box<Expr>, Fail>
         requires within { n ≤ self.now.below }
         requires nests { Nests self.now.below (F.pre self.now.expr) (F.post self.now.expr) (G.pre self.now.structure) (G.post self.now.structure) }
-        ensures { Reads view (spec.climb n (at_height n) (length tokens.old.rest.now) least (view left) tokens.old.rest.now) result tokens.new.rest.now }
+        ensures { Reads (boxed view) (spec.climb n (at_height n) (length tokens.old.rest.now) least (view left.value) tokens.old.rest.now) result tokens.new.rest.now }
     {
         for _turn in 0..tokens.rest.len() {
             let [first, ..] = tokens.rest else {
@@ -522,10 +612,10 @@ impl<
     }
 
     #[tactic(auto, unfolding(crate::specs::Expression::expr))]
-    pub fn whole(&self, tokens: &mut Tokens<'_>, n: u32, least: u8) -> Result<Expr, Fail>
+    pub fn whole(&self, tokens: &mut Tokens<'_>, n: u32, least: u8) -> Result<Box<Expr>, Fail>
         requires within { n ≤ self.now.below }
         requires nests { Nests self.now.below (F.pre self.now.expr) (F.post self.now.expr) (G.pre self.now.structure) (G.post self.now.structure) }
-        ensures { Reads view (spec.expr n (at_height n) least tokens.old.rest.now) result tokens.new.rest.now }
+        ensures { Reads (boxed view) (spec.expr n (at_height n) least tokens.old.rest.now) result tokens.new.rest.now }
     {
         let left = self.first(tokens, n, least)?;
         self.climb(tokens, n, least, left)

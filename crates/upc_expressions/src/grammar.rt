@@ -3,7 +3,7 @@
 ghost use Rattle.std.specs.Prelude.{◌≤◌};
 ghost use Rattle.upc_tree.specs.View.{view, view_spec};
 ghost use Rattle.upc_expressions.specs.Expression.{at_height};
-ghost use Rattle.upc_expressions.specs.Run.{Reads, Nests};
+ghost use Rattle.upc_expressions.specs.Run.{Reads, Nests, boxed};
 
 use crate::cursor::{Fail, Tokens};
 use std::alloc::Global;
@@ -20,14 +20,14 @@ pub struct Grammar<F, G> {
 }
 
 impl<
-    F: Fn(Global, &mut Tokens<'_>, u32, u8) -> Result<Expr, Fail>,
+    F: Fn(Global, &mut Tokens<'_>, u32, u8) -> Result<Box<Expr>, Fail>,
     G: Fn(Global, &mut Tokens<'_>, u32) -> Result<Spec, Fail>,
 > Grammar<F, G> {
     /// An expression of at most height n, joined at least so tightly.
-    pub fn expr(&self, tokens: &mut Tokens<'_>, n: u32, least: u8) -> Result<Expr, Fail>
+    pub fn expr(&self, tokens: &mut Tokens<'_>, n: u32, least: u8) -> Result<Box<Expr>, Fail>
         requires within { n ≤ self.now.below }
         requires nests { Nests self.now.below (F.pre self.now.expr) (F.post self.now.expr) (G.pre self.now.structure) (G.post self.now.structure) }
-        ensures { Reads view ((at_height n).expr least tokens.old.rest.now) result tokens.new.rest.now }
+        ensures { Reads (boxed view) ((at_height n).expr least tokens.old.rest.now) result tokens.new.rest.now }
     {
         (self.expr)(self.alloc, tokens, n, least)
     }

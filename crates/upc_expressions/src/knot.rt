@@ -2,7 +2,7 @@
 
 ghost use Rattle.upc_tree.specs.View.{view, view_spec};
 ghost use Rattle.upc_expressions.specs.Expression.{at_height};
-ghost use Rattle.upc_expressions.specs.Run.{Reads};
+ghost use Rattle.upc_expressions.specs.Run.{Reads, boxed};
 
 use crate::cursor::{Fail, Fault, Tokens};
 use crate::grammar::Grammar;
@@ -11,8 +11,13 @@ use upc_tree::{Expr, Spec};
 
 /// An expression of at most this height, joined at least so tightly.
 #[cycle(knot)]
-pub fn expr(alloc: Global, tokens: &mut Tokens<'_>, height: u32, least: u8) -> Result<Expr, Fail>
-    ensures { Reads view ((at_height height).expr least tokens.old.rest.now) result tokens.new.rest.now }
+pub fn expr(
+    alloc: Global,
+    tokens: &mut Tokens<'_>,
+    height: u32,
+    least: u8,
+) -> Result<Box<Expr>, Fail>
+    ensures { Reads (boxed view) ((at_height height).expr least tokens.old.rest.now) result tokens.new.rest.now }
 {
     if height == 0 {
         return Err(Fail::Fault(Fault::TooHigh));

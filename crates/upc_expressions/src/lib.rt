@@ -17,5 +17,5 @@ pub use ahead::{Ahead, Sign, starts, starts_two};
 pub use cursor::{Fail, Fault, Tokens, expect_punct, expect_word, name, span_of};
 pub use items::many;
 pub use knot::expr;
-pub use make::{function, object};
+pub use make::{boxed, function, object};
 pub use parts::{declarator, dimensions, next_exprs, parameters, pointers, specs};

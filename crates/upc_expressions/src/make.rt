@@ -5,105 +5,167 @@ ghost use Rattle.upc_tree.specs.Expression as t;
 ghost use Rattle.upc_tree.specs.View.{view, view_arguments, view_next_exprs, view_type, view_spec, view_specs, view_layout, view_pointers, view_dimensions, view_members, view_member, view_next_declarators, view_declarator, view_parameters, view_parameter, view_next_parameter, view_next_parameters, view_array};
 
 use std::alloc::Global;
+use upc_lexer::NumberKind;
 use upc_text::OutOfMemory;
 use upc_tree::{
-    Arguments, AssignMark, BinaryMark, Declarator, Dimension, Expr, Layout, Member, MemberMark,
-    Name, NextDeclarator, NextExpr, NextParameter, Parameter, ParameterArray, Parameters, Pointer,
-    PostfixMark, SizeWord, Span, Spec, TypeName, UnaryMark,
+    Arguments, AssignMark, BinaryMark, ConstantWord, Declarator, Dimension, Expr, Layout, Member,
+    MemberMark, Name, NextDeclarator, NextExpr, NextParameter, Parameter, ParameterArray,
+    Parameters, Pointer, PostfixMark, SizeWord, Span, Spec, StringLiteral, TypeName, UnaryMark,
 };
 
-pub fn paren(alloc: Global, left: Span, inner: Expr, right: Span) -> Result<Expr, OutOfMemory>
-    ensures { IfOk result (λ made. view made ≡ t.Paren left (view inner) right) }
+/// A box that holds the value.
+pub fn boxed<T: Drop>(alloc: Global, value: T) -> Result<Box<T>, OutOfMemory>
+    ensures { IfOk result (λ made. made.value ≡ value) }
 {
-    Ok(Expr::Paren {
-        open: left,
-        inner: Box::new(alloc, inner)?,
-        close: right,
-    })
+    Ok(Box::new(alloc, value)?)
+}
+
+pub fn named(alloc: Global, name: Name) -> Result<Box<Expr>, OutOfMemory>
+    ensures { IfOk result (λ made. view made.value ≡ t.Named name) }
+{
+    Ok(boxed(alloc, Expr::Name(name))?)
+}
+
+pub fn number(
+    alloc: Global,
+    value: u64,
+    kind: NumberKind,
+    span: Span,
+) -> Result<Box<Expr>, OutOfMemory>
+    ensures { IfOk result (λ made. view made.value ≡ t.Number value kind span) }
+{
+    Ok(boxed(alloc, Expr::Number { value, kind, span })?)
+}
+
+pub fn character(alloc: Global, value: u8, span: Span) -> Result<Box<Expr>, OutOfMemory>
+    ensures { IfOk result (λ made. view made.value ≡ t.Character value span) }
+{
+    Ok(boxed(alloc, Expr::Character { value, span })?)
+}
+
+pub fn constant(alloc: Global, word: ConstantWord, span: Span) -> Result<Box<Expr>, OutOfMemory>
+    ensures { IfOk result (λ made. view made.value ≡ t.Constant word span) }
+{
+    Ok(boxed(alloc, Expr::Constant { word, span })?)
+}
+
+pub fn string_literals(
+    alloc: Global,
+    first: StringLiteral,
+    more: Vec<StringLiteral>,
+) -> Result<Box<Expr>, OutOfMemory>
+    ensures { IfOk result (λ made. view made.value ≡ t.Strings first more.items) }
+{
+    Ok(boxed(alloc, Expr::Strings { first, more })?)
+}
+
+pub fn paren(
+    alloc: Global,
+    left: Span,
+    inner: Box<Expr>,
+    right: Span,
+) -> Result<Box<Expr>, OutOfMemory>
+    ensures { IfOk result (λ made. view made.value ≡ t.Paren left (view inner.value) right) }
+{
+    Ok(boxed(
+        alloc,
+        Expr::Paren {
+            open: left,
+            inner,
+            close: right,
+        },
+    )?)
 }
 
 pub fn subscript(
     alloc: Global,
-    base: Expr,
+    base: Box<Expr>,
     left: Span,
-    index: Expr,
+    index: Box<Expr>,
     right: Span,
-) -> Result<Expr, OutOfMemory>
-    ensures { IfOk result (λ made. view made ≡ t.Subscript (view base) left (view index) right) }
+) -> Result<Box<Expr>, OutOfMemory>
+    ensures { IfOk result (λ made. view made.value ≡ t.Subscript (view base.value) left (view index.value) right) }
 {
-    Ok(Expr::Subscript {
-        base: Box::new(alloc, base)?,
-        open: left,
-        index: Box::new(alloc, index)?,
-        close: right,
-    })
+    Ok(boxed(
+        alloc,
+        Expr::Subscript {
+            base,
+            open: left,
+            index,
+            close: right,
+        },
+    )?)
 }
 
 pub fn call(
     alloc: Global,
-    callee: Expr,
+    callee: Box<Expr>,
     left: Span,
-    arguments: Arguments,
-) -> Result<Expr, OutOfMemory>
-    ensures { IfOk result (λ made. view made ≡ t.Call (view callee) left (view_arguments arguments)) }
+    arguments: Box<Arguments>,
+) -> Result<Box<Expr>, OutOfMemory>
+    ensures { IfOk result (λ made. view made.value ≡ t.Call (view callee.value) left (view_arguments arguments.value)) }
 {
-    Ok(Expr::Call {
-        callee: Box::new(alloc, callee)?,
-        open: left,
-        arguments,
-    })
+    Ok(boxed(
+        alloc,
+        Expr::Call {
+            callee,
+            open: left,
+            arguments,
+        },
+    )?)
 }
 
 pub fn member_of(
     alloc: Global,
-    base: Expr,
+    base: Box<Expr>,
     mark: MemberMark,
     at: Span,
     member: Name,
-) -> Result<Expr, OutOfMemory>
-    ensures { IfOk result (λ made. view made ≡ t.MemberOf (view base) mark at member) }
+) -> Result<Box<Expr>, OutOfMemory>
+    ensures { IfOk result (λ made. view made.value ≡ t.MemberOf (view base.value) mark at member) }
 {
-    Ok(Expr::Member {
-        base: Box::new(alloc, base)?,
-        mark,
-        at,
-        member,
-    })
+    Ok(boxed(
+        alloc,
+        Expr::Member {
+            base,
+            mark,
+            at,
+            member,
+        },
+    )?)
 }
 
-pub fn step(alloc: Global, base: Expr, mark: PostfixMark, at: Span) -> Result<Expr, OutOfMemory>
-    ensures { IfOk result (λ made. view made ≡ t.Postfix (view base) mark at) }
+pub fn step(
+    alloc: Global,
+    base: Box<Expr>,
+    mark: PostfixMark,
+    at: Span,
+) -> Result<Box<Expr>, OutOfMemory>
+    ensures { IfOk result (λ made. view made.value ≡ t.Postfix (view base.value) mark at) }
 {
-    Ok(Expr::Postfix {
-        base: Box::new(alloc, base)?,
-        mark,
-        at,
-    })
+    Ok(boxed(alloc, Expr::Postfix { base, mark, at })?)
 }
 
-pub fn unary(alloc: Global, mark: UnaryMark, at: Span, operand: Expr) -> Result<Expr, OutOfMemory>
-    ensures { IfOk result (λ made. view made ≡ t.Unary mark at (view operand)) }
+pub fn unary(
+    alloc: Global,
+    mark: UnaryMark,
+    at: Span,
+    operand: Box<Expr>,
+) -> Result<Box<Expr>, OutOfMemory>
+    ensures { IfOk result (λ made. view made.value ≡ t.Unary mark at (view operand.value)) }
 {
-    Ok(Expr::Unary {
-        mark,
-        at,
-        operand: Box::new(alloc, operand)?,
-    })
+    Ok(boxed(alloc, Expr::Unary { mark, at, operand })?)
 }
 
 pub fn size_of_expr(
     alloc: Global,
     word: SizeWord,
     at: Span,
-    operand: Expr,
-) -> Result<Expr, OutOfMemory>
-    ensures { IfOk result (λ made. view made ≡ t.SizeOfExpr word at (view operand)) }
+    operand: Box<Expr>,
+) -> Result<Box<Expr>, OutOfMemory>
+    ensures { IfOk result (λ made. view made.value ≡ t.SizeOfExpr word at (view operand.value)) }
 {
-    Ok(Expr::SizeOfExpr {
-        word,
-        at,
-        operand: Box::new(alloc, operand)?,
-    })
+    Ok(boxed(alloc, Expr::SizeOfExpr { word, at, operand })?)
 }
 
 pub fn size_of_type(
@@ -111,122 +173,145 @@ pub fn size_of_type(
     word: SizeWord,
     at: Span,
     left: Span,
-    operand: TypeName,
+    operand: Box<TypeName>,
     right: Span,
-) -> Result<Expr, OutOfMemory>
-    ensures { IfOk result (λ made. view made ≡ t.SizeOfType word at left (view_type operand) right) }
+) -> Result<Box<Expr>, OutOfMemory>
+    ensures { IfOk result (λ made. view made.value ≡ t.SizeOfType word at left (view_type operand.value) right) }
 {
-    Ok(Expr::SizeOfType {
-        word,
-        at,
-        open: left,
-        operand: Box::new(alloc, operand)?,
-        close: right,
-    })
+    Ok(boxed(
+        alloc,
+        Expr::SizeOfType {
+            word,
+            at,
+            open: left,
+            operand,
+            close: right,
+        },
+    )?)
 }
 
 pub fn cast(
     alloc: Global,
     left: Span,
-    target: TypeName,
+    target: Box<TypeName>,
     right: Span,
-    operand: Expr,
-) -> Result<Expr, OutOfMemory>
-    ensures { IfOk result (λ made. view made ≡ t.Cast left (view_type target) right (view operand)) }
+    operand: Box<Expr>,
+) -> Result<Box<Expr>, OutOfMemory>
+    ensures { IfOk result (λ made. view made.value ≡ t.Cast left (view_type target.value) right (view operand.value)) }
 {
-    Ok(Expr::Cast {
-        open: left,
-        target: Box::new(alloc, target)?,
-        close: right,
-        operand: Box::new(alloc, operand)?,
-    })
+    Ok(boxed(
+        alloc,
+        Expr::Cast {
+            open: left,
+            target,
+            close: right,
+            operand,
+        },
+    )?)
 }
 
 pub fn binary(
     alloc: Global,
-    left: Expr,
+    left: Box<Expr>,
     mark: BinaryMark,
     at: Span,
-    right: Expr,
-) -> Result<Expr, OutOfMemory>
-    ensures { IfOk result (λ made. view made ≡ t.Binary (view left) mark at (view right)) }
+    right: Box<Expr>,
+) -> Result<Box<Expr>, OutOfMemory>
+    ensures { IfOk result (λ made. view made.value ≡ t.Binary (view left.value) mark at (view right.value)) }
 {
-    Ok(Expr::Binary {
-        left: Box::new(alloc, left)?,
-        mark,
-        at,
-        right: Box::new(alloc, right)?,
-    })
+    Ok(boxed(
+        alloc,
+        Expr::Binary {
+            left,
+            mark,
+            at,
+            right,
+        },
+    )?)
 }
 
 pub fn assign(
     alloc: Global,
-    left: Expr,
+    left: Box<Expr>,
     mark: AssignMark,
     at: Span,
-    right: Expr,
-) -> Result<Expr, OutOfMemory>
-    ensures { IfOk result (λ made. view made ≡ t.Assign (view left) mark at (view right)) }
+    right: Box<Expr>,
+) -> Result<Box<Expr>, OutOfMemory>
+    ensures { IfOk result (λ made. view made.value ≡ t.Assign (view left.value) mark at (view right.value)) }
 {
-    Ok(Expr::Assign {
-        left: Box::new(alloc, left)?,
-        mark,
-        at,
-        right: Box::new(alloc, right)?,
-    })
+    Ok(boxed(
+        alloc,
+        Expr::Assign {
+            left,
+            mark,
+            at,
+            right,
+        },
+    )?)
 }
 
 pub fn conditional(
     alloc: Global,
-    test: Expr,
+    test: Box<Expr>,
     question: Span,
-    chosen: Expr,
+    chosen: Box<Expr>,
     colon: Span,
-    other: Expr,
-) -> Result<Expr, OutOfMemory>
-    ensures { IfOk result (λ made. view made ≡ t.Conditional (view test) question (view chosen) colon (view other)) }
+    other: Box<Expr>,
+) -> Result<Box<Expr>, OutOfMemory>
+    ensures { IfOk result (λ made. view made.value ≡ t.Conditional (view test.value) question (view chosen.value) colon (view other.value)) }
 {
-    Ok(Expr::Conditional {
-        test: Box::new(alloc, test)?,
-        question,
-        chosen: Box::new(alloc, chosen)?,
-        colon,
-        other: Box::new(alloc, other)?,
-    })
+    Ok(boxed(
+        alloc,
+        Expr::Conditional {
+            test,
+            question,
+            chosen,
+            colon,
+            other,
+        },
+    )?)
 }
 
-pub fn comma(alloc: Global, first: Expr, more: Vec<NextExpr>) -> Result<Expr, OutOfMemory>
-    ensures { IfOk result (λ made. view made ≡ t.Comma (view first) (view_next_exprs more)) }
+pub fn comma(alloc: Global, first: Box<Expr>, more: Vec<NextExpr>) -> Result<Box<Expr>, OutOfMemory>
+    ensures { IfOk result (λ made. view made.value ≡ t.Comma (view first.value) (view_next_exprs more)) }
 {
-    Ok(Expr::Comma {
-        first: Box::new(alloc, first)?,
-        more,
-    })
+    Ok(boxed(alloc, Expr::Comma { first, more })?)
 }
 
 pub fn arguments(
     alloc: Global,
-    first: Expr,
+    first: Box<Expr>,
     more: Vec<NextExpr>,
     right: Span,
-) -> Result<Arguments, OutOfMemory>
-    ensures { IfOk result (λ made. view_arguments made ≡ t.SomeArguments (view first) (view_next_exprs more) right) }
+) -> Result<Box<Arguments>, OutOfMemory>
+    ensures { IfOk result (λ made. view_arguments made.value ≡ t.SomeArguments (view first.value) (view_next_exprs more) right) }
 {
-    Ok(Arguments::Filled {
-        first: Box::new(alloc, first)?,
-        more,
-        close: right,
-    })
+    Ok(boxed(
+        alloc,
+        Arguments::Filled {
+            first,
+            more,
+            close: right,
+        },
+    )?)
 }
 
-pub fn type_name(specs: Vec<Spec>, pointers: Vec<Pointer>, sizes: Vec<Dimension>) -> TypeName
-    ensures { view_type result ≡ t.Typed (view_specs specs) (view_pointers pointers) (view_dimensions sizes) }
+pub fn type_name(
+    alloc: Global,
+    specs: Vec<Spec>,
+    pointers: Vec<Pointer>,
+    sizes: Vec<Dimension>,
+) -> Result<Box<TypeName>, OutOfMemory>
+    ensures { IfOk result (λ made. view_type made.value ≡ t.Typed (view_specs specs) (view_pointers pointers) (view_dimensions sizes)) }
 {
-    TypeName {
-        specs,
-        pointers,
-        sizes,
-    }
+    Ok(boxed(
+        alloc,
+        TypeName {
+            specs,
+            pointers,
+            sizes,
+        },
+    )?)
 }
 
 pub fn struct_spec(word: Span, tag: Name, left: Span, members: Vec<Member>, right: Span) -> Spec
@@ -241,33 +326,33 @@ pub fn struct_spec(word: Span, tag: Name, left: Span, members: Vec<Member>, righ
     }
 }
 
-pub fn block_layout(alloc: Global, size: Dimension) -> Result<Layout, OutOfMemory>
-    ensures { IfOk result (λ made. view_layout made ≡ t.BlockLayout size.open (view size.size) size.close) }
+pub fn block_layout(size: Dimension) -> Layout
+    ensures { view_layout result ≡ t.BlockLayout size.open (view size.size.value) size.close }
 {
-    Ok(Layout::Block {
+    Layout::Block {
         open: size.open,
-        size: Box::new(alloc, size.size)?,
+        size: size.size,
         close: size.close,
-    })
+    }
 }
 
-pub fn sized_array(alloc: Global, size: Dimension) -> Result<ParameterArray, OutOfMemory>
-    ensures { IfOk result (λ made. view_array made ≡ t.SizedArray size.open (view size.size) size.close) }
+pub fn sized_array(size: Dimension) -> ParameterArray
+    ensures { view_array result ≡ t.SizedArray size.open (view size.size.value) size.close }
 {
-    Ok(ParameterArray::Sized {
+    ParameterArray::Sized {
         open: size.open,
-        size: Box::new(alloc, size.size)?,
+        size: size.size,
         close: size.close,
-    })
+    }
 }
 
 pub fn member(
     specs: Vec<Spec>,
-    first: Declarator,
+    first: Box<Declarator>,
     more: Vec<NextDeclarator>,
     semicolon: Span,
 ) -> Member
-    ensures { view_member result ≡ (view_specs specs, view_declarator first, view_next_declarators more, semicolon) }
+    ensures { view_member result ≡ (view_specs specs, view_declarator first.value, view_next_declarators more, semicolon) }
 {
     Member {
         specs,
@@ -277,61 +362,84 @@ pub fn member(
     }
 }
 
-pub fn object(pointers: Vec<Pointer>, name: Name, sizes: Vec<Dimension>) -> Declarator
-    ensures { view_declarator result ≡ t.ObjectDeclarator (view_pointers pointers) name (view_dimensions sizes) }
+pub fn object(
+    alloc: Global,
+    pointers: Vec<Pointer>,
+    name: Name,
+    sizes: Vec<Dimension>,
+) -> Result<Box<Declarator>, OutOfMemory>
+    ensures { IfOk result (λ made. view_declarator made.value ≡ t.ObjectDeclarator (view_pointers pointers) name (view_dimensions sizes)) }
 {
-    Declarator::Object {
-        pointers,
-        name,
-        sizes,
-    }
+    Ok(boxed(
+        alloc,
+        Declarator::Object {
+            pointers,
+            name,
+            sizes,
+        },
+    )?)
 }
 
-pub fn function(pointers: Vec<Pointer>, name: Name, parameters: Parameters) -> Declarator
-    ensures { view_declarator result ≡ t.FunctionDeclarator (view_pointers pointers) name (view_parameters parameters) }
+pub fn function(
+    alloc: Global,
+    pointers: Vec<Pointer>,
+    name: Name,
+    parameters: Box<Parameters>,
+) -> Result<Box<Declarator>, OutOfMemory>
+    ensures { IfOk result (λ made. view_declarator made.value ≡ t.FunctionDeclarator (view_pointers pointers) name (view_parameters parameters.value)) }
 {
-    Declarator::Function {
-        pointers,
-        name,
-        parameters,
-    }
+    Ok(boxed(
+        alloc,
+        Declarator::Function {
+            pointers,
+            name,
+            parameters,
+        },
+    )?)
 }
 
 pub fn parameters(
     alloc: Global,
     left: Span,
-    first: Parameter,
+    first: Box<Parameter>,
     more: Vec<NextParameter>,
     right: Span,
-) -> Result<Parameters, OutOfMemory>
-    ensures { IfOk result (λ made. view_parameters made ≡ t.SomeParameters left (view_parameter first) (view_next_parameters more) right) }
+) -> Result<Box<Parameters>, OutOfMemory>
+    ensures { IfOk result (λ made. view_parameters made.value ≡ t.SomeParameters left (view_parameter first.value) (view_next_parameters more) right) }
 {
-    Ok(Parameters::Filled {
-        open: left,
-        first: Box::new(alloc, first)?,
-        more,
-        close: right,
-    })
+    Ok(boxed(
+        alloc,
+        Parameters::Filled {
+            open: left,
+            first,
+            more,
+            close: right,
+        },
+    )?)
 }
 
 pub fn parameter(
+    alloc: Global,
     specs: Vec<Spec>,
     pointers: Vec<Pointer>,
     name: Option<Name>,
     array: ParameterArray,
-) -> Parameter
-    ensures { view_parameter result ≡ t.Parametric (view_specs specs) (view_pointers pointers) name (view_array array) }
+) -> Result<Box<Parameter>, OutOfMemory>
+    ensures { IfOk result (λ made. view_parameter made.value ≡ t.Parametric (view_specs specs) (view_pointers pointers) name (view_array array)) }
 {
-    Parameter {
-        specs,
-        pointers,
-        name,
-        array,
-    }
+    Ok(boxed(
+        alloc,
+        Parameter {
+            specs,
+            pointers,
+            name,
+            array,
+        },
+    )?)
 }
 
-pub fn next_parameter(comma: Span, parameter: Parameter) -> NextParameter
-    ensures { view_next_parameter result ≡ (comma, view_parameter parameter) }
+pub fn next_parameter(comma: Span, parameter: Box<Parameter>) -> NextParameter
+    ensures { view_next_parameter result ≡ (comma, view_parameter parameter.value) }
 {
     NextParameter { comma, parameter }
 }

@@ -4,7 +4,7 @@ ghost use Rattle.std.specs.Prelude.{◌<◌};
 ghost use Rattle.upc_tree.specs.View.{view_next_exprs, view_specs, view_pointers, view_dimensions, view_declarator, view_parameters};
 ghost use Rattle.upc_expressions.specs.Expression as spec;
 ghost use Rattle.upc_expressions.specs.Expression.{at_height};
-ghost use Rattle.upc_expressions.specs.Run.{Reads};
+ghost use Rattle.upc_expressions.specs.Run.{Reads, boxed};
 
 use crate::cursor::{Fail, Tokens};
 use crate::grammar::Grammar;
@@ -69,9 +69,9 @@ pub fn dimensions(alloc: Global, tokens: &mut Tokens<'_>, n: u32) -> Result<Vec<
 }
 
 /// A declarator.
-pub fn declarator(alloc: Global, tokens: &mut Tokens<'_>, n: u32) -> Result<Declarator, Fail>
+pub fn declarator(alloc: Global, tokens: &mut Tokens<'_>, n: u32) -> Result<Box<Declarator>, Fail>
     requires { n < 4294967295 }
-    ensures { Reads view_declarator (spec.declarator (at_height n) tokens.old.rest.now) result tokens.new.rest.now }
+    ensures { Reads (boxed view_declarator) (spec.declarator (at_height n) tokens.old.rest.now) result tokens.new.rest.now }
 {
     Grammar {
         alloc,
@@ -83,9 +83,9 @@ pub fn declarator(alloc: Global, tokens: &mut Tokens<'_>, n: u32) -> Result<Decl
 }
 
 /// The parameters of a function, in their parentheses.
-pub fn parameters(alloc: Global, tokens: &mut Tokens<'_>, n: u32) -> Result<Parameters, Fail>
+pub fn parameters(alloc: Global, tokens: &mut Tokens<'_>, n: u32) -> Result<Box<Parameters>, Fail>
     requires { n < 4294967295 }
-    ensures { Reads view_parameters (spec.parameters (at_height n) tokens.old.rest.now) result tokens.new.rest.now }
+    ensures { Reads (boxed view_parameters) (spec.parameters (at_height n) tokens.old.rest.now) result tokens.new.rest.now }
 {
     Grammar {
         alloc,

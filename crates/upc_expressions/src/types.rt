@@ -5,13 +5,13 @@ ghost use Rattle.upc_tree.specs.View.{view_type, view_spec, view_specs, view_qua
 ghost use Rattle.upc_expressions.specs.Expression as spec;
 ghost use Rattle.upc_expressions.specs.Expression.{at_height};
 ghost use Rattle.upc_expressions.specs.Outcome.{span_of};
-ghost use Rattle.upc_expressions.specs.Run.{Reads, Nests};
+ghost use Rattle.upc_expressions.specs.Run.{Reads, Nests, boxed};
 
 use crate::ahead::{Ahead, Sign, starts, starts_two};
 use crate::cursor::{Fail, Fault, Tokens, expect_punct, span_of};
 use crate::grammar::Grammar;
 use crate::items::many;
-use crate::make::{block_layout, type_name};
+use crate::make::{block_layout, boxed, type_name};
 use crate::start::{QualWord, SpecStart, qual_start, spec_start};
 use std::alloc::Global;
 use upc_lexer::{Punct, Token};
@@ -27,7 +27,7 @@ fn star_fills(rest: &[Token]) -> bool
 }
 
 impl<
-    F: Fn(Global, &mut Tokens<'_>, u32, u8) -> Result<Expr, Fail>,
+    F: Fn(Global, &mut Tokens<'_>, u32, u8) -> Result<Box<Expr>, Fail>,
     G: Fn(Global, &mut Tokens<'_>, u32) -> Result<Spec, Fail>,
 > Grammar<F, G> {
     #[tactic(auto, unfolding(crate::specs::Expression::dimension))]
@@ -56,46 +56,46 @@ impl<
     }
 
     #[tactic(auto, unfolding(crate::specs::Expression::empty_layout))]
-    fn empty_layout(&self, tokens: &mut Tokens<'_>, n: u32) -> Result<Layout, Fail>
+    fn empty_layout(&self, tokens: &mut Tokens<'_>, n: u32) -> Result<Box<Layout>, Fail>
         requires within { n ≤ self.now.below }
         requires nests { Nests self.now.below (F.pre self.now.expr) (F.post self.now.expr) (G.pre self.now.structure) (G.post self.now.structure) }
-        ensures { Reads view_layout (spec.empty_layout (at_height n) tokens.old.rest.now) result tokens.new.rest.now }
+        ensures { Reads (boxed view_layout) (spec.empty_layout (at_height n) tokens.old.rest.now) result tokens.new.rest.now }
     {
         let open = expect_punct(tokens, Punct::LBracket)?;
         let close = expect_punct(tokens, Punct::RBracket)?;
-        Ok(Layout::Indefinite { open, close })
+        Ok(boxed(self.alloc, Layout::Indefinite { open, close })?)
     }
 
     #[tactic(auto, unfolding(crate::specs::Expression::star_layout))]
-    fn star_layout(&self, tokens: &mut Tokens<'_>, n: u32) -> Result<Layout, Fail>
+    fn star_layout(&self, tokens: &mut Tokens<'_>, n: u32) -> Result<Box<Layout>, Fail>
         requires within { n ≤ self.now.below }
         requires nests { Nests self.now.below (F.pre self.now.expr) (F.post self.now.expr) (G.pre self.now.structure) (G.post self.now.structure) }
-        ensures { Reads view_layout (spec.star_layout (at_height n) tokens.old.rest.now) result tokens.new.rest.now }
+        ensures { Reads (boxed view_layout) (spec.star_layout (at_height n) tokens.old.rest.now) result tokens.new.rest.now }
     {
         let open = expect_punct(tokens, Punct::LBracket)?;
         let star = expect_punct(tokens, Punct::Star)?;
         let close = expect_punct(tokens, Punct::RBracket)?;
-        Ok(Layout::Star { open, star, close })
+        Ok(boxed(self.alloc, Layout::Star { open, star, close })?)
     }
 
     #[tactic(auto, unfolding(crate::specs::Expression::block_layout))]
-    fn block_layout(&self, tokens: &mut Tokens<'_>, n: u32) -> Result<Layout, Fail>
+    fn block_layout(&self, tokens: &mut Tokens<'_>, n: u32) -> Result<Box<Layout>, Fail>
         requires within { n ≤ self.now.below }
         requires nests { Nests self.now.below (F.pre self.now.expr) (F.post self.now.expr) (G.pre self.now.structure) (G.post self.now.structure) }
-        ensures { Reads view_layout (spec.block_layout (at_height n) tokens.old.rest.now) result tokens.new.rest.now }
+        ensures { Reads (boxed view_layout) (spec.block_layout (at_height n) tokens.old.rest.now) result tokens.new.rest.now }
     {
         let size = self.dimension(tokens, n)?;
-        Ok(block_layout(self.alloc, size)?)
+        Ok(boxed(self.alloc, block_layout(size))?)
     }
 
     #[tactic(auto, unfolding(crate::specs::Expression::layout))]
-    fn layout(&self, tokens: &mut Tokens<'_>, n: u32) -> Result<Layout, Fail>
+    fn layout(&self, tokens: &mut Tokens<'_>, n: u32) -> Result<Box<Layout>, Fail>
         requires within { n ≤ self.now.below }
         requires nests { Nests self.now.below (F.pre self.now.expr) (F.post self.now.expr) (G.pre self.now.structure) (G.post self.now.structure) }
-        ensures { Reads view_layout (spec.layout (at_height n) tokens.old.rest.now) result tokens.new.rest.now }
+        ensures { Reads (boxed view_layout) (spec.layout (at_height n) tokens.old.rest.now) result tokens.new.rest.now }
     {
         if !starts(Sign::Punct(Punct::LBracket), tokens.rest) {
-            return Ok(Layout::Absent);
+            return Ok(boxed(self.alloc, Layout::Absent)?);
         }
         if starts_two(
             Sign::Punct(Punct::LBracket),
@@ -232,25 +232,25 @@ impl<
     }
 
     #[tactic(auto, unfolding(crate::specs::Expression::plain_type))]
-    pub fn plain_type(&self, tokens: &mut Tokens<'_>, n: u32) -> Result<TypeName, Fail>
+    pub fn plain_type(&self, tokens: &mut Tokens<'_>, n: u32) -> Result<Box<TypeName>, Fail>
         requires within { n ≤ self.now.below }
         requires nests { Nests self.now.below (F.pre self.now.expr) (F.post self.now.expr) (G.pre self.now.structure) (G.post self.now.structure) }
-        ensures { Reads view_type (spec.plain_type (at_height n) tokens.old.rest.now) result tokens.new.rest.now }
+        ensures { Reads (boxed view_type) (spec.plain_type (at_height n) tokens.old.rest.now) result tokens.new.rest.now }
     {
         let specs = self.specs(tokens, n, false)?;
         let pointers = self.pointers(tokens, n)?;
-        Ok(type_name(specs, pointers, Vec::new(self.alloc)))
+        Ok(type_name(self.alloc, specs, pointers, Vec::new(self.alloc))?)
     }
 
     #[tactic(auto, unfolding(crate::specs::Expression::type_name))]
-    pub fn type_name(&self, tokens: &mut Tokens<'_>, n: u32) -> Result<TypeName, Fail>
+    pub fn type_name(&self, tokens: &mut Tokens<'_>, n: u32) -> Result<Box<TypeName>, Fail>
         requires within { n ≤ self.now.below }
         requires nests { Nests self.now.below (F.pre self.now.expr) (F.post self.now.expr) (G.pre self.now.structure) (G.post self.now.structure) }
-        ensures { Reads view_type (spec.type_name (at_height n) tokens.old.rest.now) result tokens.new.rest.now }
+        ensures { Reads (boxed view_type) (spec.type_name (at_height n) tokens.old.rest.now) result tokens.new.rest.now }
     {
         let specs = self.specs(tokens, n, false)?;
         let pointers = self.pointers(tokens, n)?;
         let sizes = self.dimensions(tokens, n)?;
-        Ok(type_name(specs, pointers, sizes))
+        Ok(type_name(self.alloc, specs, pointers, sizes)?)
     }
 }

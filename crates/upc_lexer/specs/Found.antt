@@ -12,5 +12,7 @@ pub record IsGapless (bytes : List ℕ) : Type 0 where
 
 -- a token is at the front, and it is this one
 abbrev pub Finds : List ℕ → Found → Type 0
-Finds bytes (Name n) = (n ≤ length bytes) × IsLexeme (take n bytes) (drop n bytes) × IsPlainName (take n bytes) × (n ≤ 255)
-Finds bytes (Token kind n) = (n ≤ length bytes) × IsLexeme (take n bytes) (drop n bytes) × ((names : List (List ℕ)) → Spells names kind (take n bytes))
+Finds bytes (Name n) = (n ≤ length bytes) × IsLexeme (take n bytes) (drop n bytes) × IsPlainName (take n bytes)
+    × (n ≤ 255)
+Finds bytes (Token kind n) = (n ≤ length bytes) × IsLexeme (take n bytes) (drop n bytes)
+    × ((names : List (List ℕ)) → Spells names kind (take n bytes))

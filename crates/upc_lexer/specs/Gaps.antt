@@ -19,7 +19,8 @@ pub record Closes (bytes : List ℕ) : Type 0 where
 -- one blank; a comment from `//` to the end of its line; or one from `/*` to the first `*/`
 pub data IsGap (text rest : List ℕ) : Type 0 where
   blank : (b : ℕ) → text ≡ b ∷ [] → is_blank b ≡ true → IsGap text rest
-  line : (body : List ℕ) → text ≡ codes "//" ++ body → list_all is_in_line body ≡ true → StopsAt is_in_line rest → IsGap text rest
+  line : (body : List ℕ) → text ≡ codes "//" ++ body → list_all is_in_line body ≡ true → StopsAt is_in_line rest
+      → IsGap text rest
   block : (body : List ℕ) → text ≡ codes "/*" ++ body ++ codes "*/" → (Closes (body ++ codes "*") → ⊥) → IsGap text rest
 
 -- a comment begins here

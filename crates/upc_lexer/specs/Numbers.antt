@@ -56,7 +56,10 @@ suffix unsigned long = record { unsigned = unsigned; long = long }
 abbrev pub suffix_of : List ℕ → Option Suffix
 suffix_of [] = Some (suffix false false)
 suffix_of (a ∷ []) = if is_u a then Some (suffix true false) else (if is_l a then Some (suffix false true) else None)
-suffix_of (a ∷ b ∷ []) = if (is_u a && is_l b) || (is_l a && is_u b) then Some (suffix true true) else (if is_ll a b then Some (suffix false true) else None)
+suffix_of (a ∷ b ∷ []) =
+    if (is_u a && is_l b) || (is_l a && is_u b)
+    then Some (suffix true true)
+    else (if is_ll a b then Some (suffix false true) else None)
 suffix_of (a ∷ b ∷ c ∷ []) = if (is_u a && is_ll b c) || (is_ll a b && is_u c) then Some (suffix true true) else None
 suffix_of more = None
 

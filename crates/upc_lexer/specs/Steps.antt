@@ -25,7 +25,8 @@ names_with names (lexeme text (Name n)) = insert_name names text
 names_with names piece = names
 
 -- one piece of so many bytes was taken from the front of the bytes
-pub record Steps (bytes : List ℕ) (n at : ℕ) (place : Place) (old_tokens : List Token) (old_names : List (List ℕ)) (tokens : List Token) (names : List (List ℕ)) : Type 0 where
+pub record Steps (bytes : List ℕ) (n at : ℕ) (place : Place) (old_tokens : List Token) (old_names : List (List ℕ))
+    (tokens : List Token) (names : List (List ℕ)) : Type 0 where
   pub piece : Piece
   pub some : 0 < n
   pub within : n ≤ length bytes
@@ -45,7 +46,8 @@ StopsSource source (Refused refusal) = RefusedAt source refusal
 StopsSource source Memory = Unit {0}
 
 -- the source is cut up to a place
-pub record IsCutTo (source : List ℕ) (at : ℕ) (tokens : List Token) (names : List (List ℕ)) (place : Place) : Type 0 where
+pub record IsCutTo (source : List ℕ) (at : ℕ) (tokens : List Token) (names : List (List ℕ))
+    (place : Place) : Type 0 where
   pub pieces : List Piece
   pub within : at ≤ length source
   pub front_is : joined pieces ≡ take at source

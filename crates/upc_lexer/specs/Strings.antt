@@ -45,7 +45,10 @@ pub record IsString (text value : List ℕ) : Type 0 where
 abbrev pub spelled_at : List ℕ → Option (ℕ × ℕ)
 spelled_at [] = None
 spelled_at (a ∷ []) = if is_plain_string a then Some (a, 1) else None
-spelled_at (a ∷ b ∷ rest) = if a == 92 then option_map (λ c. (c, 2)) (escape b) else (if is_plain_string a then Some (a, 1) else None)
+spelled_at (a ∷ b ∷ rest) =
+    if a == 92
+    then option_map (λ c. (c, 2)) (escape b)
+    else (if is_plain_string a then Some (a, 1) else None)
 
 -- so many bytes of the front may stand between two `"`, with this value, and no more
 pub record IsStringBody (bytes value : List ℕ) (n : ℕ) : Type 0 where

@@ -29,7 +29,8 @@ begins_number [] = false
 begins_number (a ∷ []) = is_digit a
 begins_number (a ∷ b ∷ rest) = is_digit a || (a == 46 && is_digit b)
 
--- such a beginning, then digits, letters, `_` and `.` (C99 6.4.8, without signs); whether it is a constant is asked later
+-- such a beginning, then digits, letters, `_` and `.` (C99 6.4.8, without signs); whether it is a constant is asked
+-- later
 abbrev pub is_number : List ℕ → Bool
 is_number text = begins_number text && list_all is_number_byte text
 
@@ -88,7 +89,12 @@ names_in (p ∷ ps) = names_in ps
 
 -- a token that begins behind these bytes
 abbrev pub token_at : List ℕ → List ℕ → TokenKind → Token
-token_at front text kind = record { kind = kind; start = length front; end = length front + length text; place = place_after front }
+token_at front text kind = record {
+  kind = kind;
+  start = length front;
+  end = length front + length text;
+  place = place_after front;
+}
 
 -- the tokens of the pieces, which begin behind these bytes
 abbrev pub tokens_in : List ℕ → List Piece → List Token
@@ -122,10 +128,14 @@ NoLexeme bytes = (text rest : List ℕ) → bytes ≡ text ++ rest → IsLexeme 
 -- a name has more than 255 bytes, or the value of a string more than 4,095
 pub data Refuses (bytes : List ℕ) (code : Code) : Type 0 where
   nothing : code ≡ Lex → bytes ≢ [] → NoGap bytes → NoLexeme bytes → Refuses bytes code
-  no_constant : (text rest : List ℕ) → code ≡ Lex → bytes ≡ text ++ rest → IsLexeme text rest → is_number text ≡ true → IsNoConstant text → Refuses bytes code
-  no_type : (text rest : List ℕ) → code ≡ Limit 2 → bytes ≡ text ++ rest → IsLexeme text rest → is_number text ≡ true → HasNoType text → Refuses bytes code
-  long_name : (text rest : List ℕ) → code ≡ Limit 6 → bytes ≡ text ++ rest → IsLexeme text rest → IsPlainName text → 255 < length text → Refuses bytes code
-  long_string : (text rest value : List ℕ) → code ≡ Limit 6 → bytes ≡ text ++ rest → IsLexeme text rest → IsString text value → 4095 < length value → Refuses bytes code
+  no_constant : (text rest : List ℕ) → code ≡ Lex → bytes ≡ text ++ rest → IsLexeme text rest → is_number text ≡ true
+      → IsNoConstant text → Refuses bytes code
+  no_type : (text rest : List ℕ) → code ≡ Limit 2 → bytes ≡ text ++ rest → IsLexeme text rest → is_number text ≡ true
+      → HasNoType text → Refuses bytes code
+  long_name : (text rest : List ℕ) → code ≡ Limit 6 → bytes ≡ text ++ rest → IsLexeme text rest → IsPlainName text
+      → 255 < length text → Refuses bytes code
+  long_string : (text rest value : List ℕ) → code ≡ Limit 6 → bytes ≡ text ++ rest → IsLexeme text rest
+      → IsString text value → 4095 < length value → Refuses bytes code
 
 -- the front of the source is cut into pieces, and behind it the source is refused
 pub record RefusedAt (source : List ℕ) (refusal : Refusal) : Type 0 where

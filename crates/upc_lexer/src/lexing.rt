@@ -30,7 +30,8 @@ fn push_token(
     place: Place,
 ) -> Result<(), OutOfMemory>
     requires { at + length < 4294967296 }
-    ensures tokens { OnOk result (lexed.new.tokens.items ≡ lexed.old.tokens.items ++ token_of kind at length place ∷ []) }
+    ensures tokens { OnOk result (lexed.new.tokens.items
+        ≡ lexed.old.tokens.items ++ token_of kind at length place ∷ []) }
     ensures names { OnOk result (lexed.new.names ≡ lexed.old.names) }
 {
     let start = at as u32;
@@ -56,7 +57,8 @@ fn take_token(
     requires gapless { IsGapless bytes.now }
     requires within { at + length bytes.now ≤ 1048576 }
     requires room { length lexed.old.names < 4294967296 }
-    ensures ok { IfOk result (λ n. Steps bytes.now n at place lexed.old.tokens.items lexed.old.names lexed.new.tokens.items lexed.new.names) }
+    ensures ok { IfOk result (λ n. Steps bytes.now n at place lexed.old.tokens.items lexed.old.names
+        lexed.new.tokens.items lexed.new.names) }
     ensures err { IfErr result (StopsHere bytes.now place) }
 {
     match lexeme_at(alloc, bytes)? {
@@ -84,7 +86,8 @@ fn step(
     requires some { 0 < length bytes.now }
     requires within { at + length bytes.now ≤ 1048576 }
     requires room { length lexed.old.names < 4294967296 }
-    ensures ok { IfOk result (λ n. Steps bytes.now n at place lexed.old.tokens.items lexed.old.names lexed.new.tokens.items lexed.new.names) }
+    ensures ok { IfOk result (λ n. Steps bytes.now n at place lexed.old.tokens.items lexed.old.names
+        lexed.new.tokens.items lexed.new.names) }
     ensures err { IfErr result (StopsHere bytes.now place) }
 {
     match gap_at(bytes) {
@@ -124,7 +127,9 @@ pub fn lex(alloc: Global, source: &[u8]) -> Result<Lexed, Stop>
 
 /// A source has one list of tokens and names, or is refused once, and never both.
 pub fn one_cut()
-    ensures tokens { (source : List ℕ) (ts us : List Item) (n m : List (List ℕ)) → AreTokensOf source ts n → AreTokensOf source us m → (ts ≡ us) × (n ≡ m) }
+    ensures tokens { (source : List ℕ) (ts us : List Item) (n m : List (List ℕ))
+        → AreTokensOf source ts n → AreTokensOf source us m → (ts ≡ us) × (n ≡ m) }
     ensures refusal { (source : List ℕ) (r q : Reason) → RefusedAt source r → RefusedAt source q → r ≡ q }
-    ensures either { (source : List ℕ) (ts : List Item) (n : List (List ℕ)) (r : Reason) → AreTokensOf source ts n → RefusedAt source r → ⊥ }
+    ensures either { (source : List ℕ) (ts : List Item) (n : List (List ℕ)) (r : Reason)
+        → AreTokensOf source ts n → RefusedAt source r → ⊥ }
 {}

@@ -10,8 +10,6 @@ mod names;
 mod numbers;
 mod places;
 mod strings;
-#[cfg(test)]
-mod tests;
 mod token;
 mod words;
 

@@ -115,7 +115,8 @@ fn spelling(mark: Punct) -> &'static [u8]
 pub(crate) fn mark_at(bytes: &[u8]) -> Option<(Punct, usize)>
     ensures found { IfSome result (λ r. take r.1 bytes.now ≡ mark_bytes r.0) }
     ensures length { IfSome result (λ r. r.1 ≡ length (mark_bytes r.0)) }
-    ensures longest { IfSome result (λ r. (q : Mark) → take (length (mark_bytes q)) bytes.now ≡ mark_bytes q → length (mark_bytes q) ≤ r.1) }
+    ensures longest { IfSome result (λ r. (q : Mark)
+        → take (length (mark_bytes q)) bytes.now ≡ mark_bytes q → length (mark_bytes q) ≤ r.1) }
     ensures none { IfNone result ((q : Mark) → take (length (mark_bytes q)) bytes.now ≡ mark_bytes q → ⊥) }
 {
     for mark in MARKS {

@@ -47,7 +47,8 @@ impl Names {
 
     /// The bytes of the name with this number.
     pub fn get(&self, number: usize) -> Option<&[u8]>
-        ensures { MatchOption result (slice_get self.now number ≡ None) (λ name. slice_get self.now number ≡ Some name.now) }
+        ensures { MatchOption result (slice_get self.now number ≡ None) (λ name.
+            slice_get self.now number ≡ Some name.now) }
     {
         match self.set.get_index(number) {
             Some(name) => Some(name.as_slice()),

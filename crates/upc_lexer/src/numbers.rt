@@ -177,7 +177,8 @@ fn value_in(base: Base, digits: &[u8]) -> Option<u64>
     Some(value)
 }
 
-/// The value and the type of a number. `Code::Lex` says that it is no constant, `Code::Limit(2)` that its value has no type.
+/// The value and the type of a number. `Code::Lex` says that it is no constant, `Code::Limit(2)` that its value has no
+/// type.
 pub(crate) fn number(text: &[u8]) -> Result<(u64, NumberKind), Code>
     ensures ok { IfOk result (λ r. IsNumber text.now r.0 r.1) }
     ensures err { IfErr result (RefusesNumber text.now) }

@@ -23,7 +23,9 @@ abbrev pub header_effect : List ℕ → Option Effect
 header_effect text =
     if pointwise nat_eq text (codes "<upc_strict.h>") then Some (pragma true) else (
     if pointwise nat_eq text (codes "<upc_relaxed.h>") then Some (pragma false) else (
-    if pointwise nat_eq text (codes "<upc.h>") || pointwise nat_eq text (codes "<upc_collective.h>") || pointwise nat_eq text (codes "<stdio.h>") || pointwise nat_eq text (codes "<stddef.h>") then Some nothing else None))
+    if pointwise nat_eq text (codes "<upc.h>") || pointwise nat_eq text (codes "<upc_collective.h>")
+    || pointwise nat_eq text (codes "<stdio.h>") || pointwise nat_eq text (codes "<stddef.h>")
+    then Some nothing else None))
 
 -- `#include <H>`: all that stands behind `include`, from its first byte to its last, is the header
 abbrev pub include_effect : List ℕ → List Token → Option Effect
@@ -55,7 +57,10 @@ define_number source macros (Some n) body = define_name source (slice_index_or m
 -- `#define NAME tokens`
 abbrev pub define_effect : List ℕ → Macros → List Token → Option Effect
 define_effect source macros [] = None
-define_effect source macros (name ∷ body) = if has_parameters name body then None else define_number source macros (macro_name source name) body
+define_effect source macros (name ∷ body) =
+    if has_parameters name body
+    then None
+    else define_number source macros (macro_name source name) body
 
 -- `#undef NAME`
 abbrev pub undefine_effect : List ℕ → List Token → Option Effect
@@ -66,7 +71,10 @@ undefine_effect source (name ∷ t ∷ ts) = None
 -- what stands behind `#pragma upc`
 abbrev pub access_effect : List ℕ → List Token → Option Effect
 access_effect source [] = None
-access_effect source (t ∷ []) = if is_spelled source t (codes "strict") then Some (pragma true) else (if is_spelled source t (codes "relaxed") then Some (pragma false) else None)
+access_effect source (t ∷ []) =
+    if is_spelled source t (codes "strict")
+    then Some (pragma true)
+    else (if is_spelled source t (codes "relaxed") then Some (pragma false) else None)
 access_effect source (t ∷ u ∷ us) = None
 
 -- `#pragma upc strict`, `#pragma upc relaxed`, or a pragma that is not of UPC

@@ -26,7 +26,13 @@ IsChange tokens names (Undefine n) = n < names
 -- the word that a directive begins with
 abbrev pub IsKeyword : List ℕ → Token → Keyword → Type 0
 IsKeyword source t Include = is_spelled source t (codes "include") ≡ true
-IsKeyword source t key.Define = (is_spelled source t (codes "include") ≡ false) × (is_spelled source t (codes "define") ≡ true)
-IsKeyword source t Undef = (is_spelled source t (codes "include") ≡ false) × (is_spelled source t (codes "define") ≡ false) × (is_spelled source t (codes "undef") ≡ true)
-IsKeyword source t key.Pragma = (is_spelled source t (codes "include") ≡ false) × (is_spelled source t (codes "define") ≡ false) × (is_spelled source t (codes "undef") ≡ false) × (is_spelled source t (codes "pragma") ≡ true)
-IsKeyword source t Other = (is_spelled source t (codes "include") ≡ false) × (is_spelled source t (codes "define") ≡ false) × (is_spelled source t (codes "undef") ≡ false) × (is_spelled source t (codes "pragma") ≡ false)
+IsKeyword source t key.Define = (is_spelled source t (codes "include") ≡ false)
+    × (is_spelled source t (codes "define") ≡ true)
+IsKeyword source t Undef = (is_spelled source t (codes "include") ≡ false)
+    × (is_spelled source t (codes "define") ≡ false) × (is_spelled source t (codes "undef") ≡ true)
+IsKeyword source t key.Pragma = (is_spelled source t (codes "include") ≡ false)
+    × (is_spelled source t (codes "define") ≡ false) × (is_spelled source t (codes "undef") ≡ false)
+    × (is_spelled source t (codes "pragma") ≡ true)
+IsKeyword source t Other = (is_spelled source t (codes "include") ≡ false)
+    × (is_spelled source t (codes "define") ≡ false) × (is_spelled source t (codes "undef") ≡ false)
+    × (is_spelled source t (codes "pragma") ≡ false)

@@ -48,7 +48,12 @@ text_items source macros (t ∷ ts) = token_items source macros t ++ text_items 
 
 -- a pragma token has the place and the beginning of its `#`, and the end of its line's last token
 abbrev pub pragma_token : Token → List Token → Bool → Token
-pragma_token hash ts strict = record { kind = kind.Pragma strict; start = hash.start; end = last_end hash ts; place = hash.place }
+pragma_token hash ts strict = record {
+  kind = kind.Pragma strict;
+  start = hash.start;
+  end = last_end hash ts;
+  place = hash.place;
+}
 
 abbrev pub effect_items : Token → List Token → Option Effect → List Item
 effect_items hash ts None = bad hash.place ∷ []
@@ -65,7 +70,8 @@ abbrev pub items : List ℕ → Macros → List (List Token) → List Item
 items source macros [] = []
 items source macros ([] ∷ lines) = items source macros lines
 items source macros ((t ∷ ts) ∷ lines) =
-    if is_hash t.kind then effect_items t ts (effect_of source macros ts) ++ items source (macros_after macros (effect_of source macros ts)) lines
+    if is_hash t.kind then effect_items t ts (effect_of source macros ts)
+    ++ items source (macros_after macros (effect_of source macros ts)) lines
     else text_items source macros (t ∷ ts) ++ items source macros lines
 
 -- at first no name is a macro

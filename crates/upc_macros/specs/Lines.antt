@@ -16,25 +16,30 @@ line_effect source tokens table begin end = effect_of source (seen tokens table)
 -- the items of the line whose first token is given
 abbrev pub hash_items : List ℕ → List Token → List (Option Body) → ℕ → ℕ → List Token → List Item
 hash_items source tokens table begin end [] = []
-hash_items source tokens table begin end (hash ∷ rest) = effect_items hash (behind_hash tokens begin end) (line_effect source tokens table begin end)
+hash_items source tokens table begin end (hash ∷ rest) = effect_items hash (behind_hash tokens begin end)
+    (line_effect source tokens table begin end)
 
 abbrev pub line_items : List ℕ → List Token → List (Option Body) → ℕ → ℕ → List Item
 line_items source tokens table begin end = hash_items source tokens table begin end (drop begin tokens)
 
 -- a line was expanded: its items were put out, and the macros are as they are behind it
-pub record LineDone (source : List ℕ) (tokens line : List Token) (table later : List (Option Body)) (old new : List Token) : Type 0 where
+pub record LineDone (source : List ℕ) (tokens line : List Token) (table later : List (Option Body))
+    (old new : List Token) : Type 0 where
   pub its : List Item
   pub taken : Takes old new its
-  pub items_are : (lines : List (List Token)) → items source (seen tokens table) (line ∷ lines) ≡ its ++ items source (seen tokens later) lines
+  pub items_are : (lines : List (List Token)) → items source (seen tokens table) (line ∷ lines)
+      ≡ its ++ items source (seen tokens later) lines
   pub same_length : length later ≡ length table
   pub bodies : AreBodies tokens later
 
 -- it was refused, or there was no memory
 abbrev pub LineStops : List ℕ → List Token → List Token → List (Option Body) → List Token → Stop → Type 0
-LineStops source tokens line table old stop = (lines : List (List Token)) → StopsIn (length old) (items source (seen tokens table) (line ∷ lines)) stop
+LineStops source tokens line table old stop = (lines : List (List Token))
+    → StopsIn (length old) (items source (seen tokens table) (line ∷ lines)) stop
 
 -- the tokens up to an index are expanded
-pub record IsExpandedTo (source : List ℕ) (tokens : List Token) (names at : ℕ) (table : List (Option Body)) (out : List Token) : Type 0 where
+pub record IsExpandedTo (source : List ℕ) (tokens : List Token) (names at : ℕ) (table : List (Option Body))
+    (out : List Token) : Type 0 where
   pub its : List Item
   pub taken : Takes [] out its
   pub whole : expansion source tokens names ≡ its ++ items source (seen tokens table) (lines_of (drop at tokens))

@@ -35,7 +35,8 @@ or_replaced (Some body) t replace = flat_map replace body
 -- replacement a macro is none. So no more macros lie in one another than there are, and their number bounds the depth.
 abbrev pub replaced : ℕ → List ℕ → Macros → Token → List Token
 replaced zero source macros t = plain source t ∷ []
-replaced (suc depth) source macros t = or_replaced (body_of macros t) (plain source t) (replaced depth source (without macros t.kind))
+replaced (suc depth) source macros t = or_replaced (body_of macros t) (plain source t)
+    (replaced depth source (without macros t.kind))
 
 -- the place of a token that comes from a macro is that of the macro's use
 abbrev pub placed : Place → Token → Token

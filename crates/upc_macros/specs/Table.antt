@@ -22,7 +22,8 @@ pub record IsWithin (limit names : ℕ) (t : Token) : Type 0 where
 -- so does each of these tokens, and they stand in order
 pub record AreInOrder (limit names : ℕ) (ts : List Token) : Type 0 where
   pub each : (k : ℕ) (d : Token) → k < length ts → IsWithin limit names (slice_index_or ts k d)
-  pub order : (j k : ℕ) (d : Token) → j ≤ k → k < length ts → (slice_index_or ts j d).start ≤ (slice_index_or ts k d).end
+  pub order : (j k : ℕ) (d : Token) → j ≤ k → k < length ts
+      → (slice_index_or ts j d).start ≤ (slice_index_or ts k d).end
 
 abbrev pub body_tokens : List Token → Body → List Token
 body_tokens tokens b = take (b.end - b.begin) (drop b.begin tokens)

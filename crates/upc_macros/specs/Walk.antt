@@ -23,7 +23,8 @@ put_back table f = slice_set table f.name (Some f.body)
 -- what is still to be put out: the rest of the innermost macro, without those that it lies in, and then of those
 abbrev pub pending : List ℕ → List Token → ℕ → List (Option Body) → List Frame → List Token
 pending source tokens depth table [] = []
-pending source tokens depth table (f ∷ fs) = flat_map (replaced depth source (seen tokens table)) (rest_of tokens f) ++ pending source tokens (suc depth) (put_back table f) fs
+pending source tokens depth table (f ∷ fs) = flat_map (replaced depth source (seen tokens table)) (rest_of tokens f)
+    ++ pending source tokens (suc depth) (put_back table f) fs
 
 -- the table with all of them
 abbrev pub all_back : List (Option Body) → List Frame → List (Option Body)
@@ -40,7 +41,8 @@ AreFrames tokens names [] = Unit {0}
 AreFrames tokens names (f ∷ fs) = IsFrame tokens names f × AreFrames tokens names fs
 
 -- a walk that began with these macros and put out so much has still this to do
-pub record IsWalk (source : List ℕ) (tokens : List Token) (place : Place) (first : List Token) (whole : List Token) (old : List (Option Body)) (table : List (Option Body)) (frames : List Frame) (out : List Token) : Type 0 where
+pub record IsWalk (source : List ℕ) (tokens : List Token) (place : Place) (first : List Token) (whole : List Token)
+    (old : List (Option Body)) (table : List (Option Body)) (frames : List Frame) (out : List Token) : Type 0 where
   pub done : List Token
   pub whole_is : whole ≡ done ++ pending source tokens (length table - length frames) table frames
   pub out_is : out ≡ first ++ map (placed place) done

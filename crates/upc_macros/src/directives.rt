@@ -44,7 +44,8 @@ fn header_effect(text: &[u8]) -> Option<Effect>
 
 fn include_effect(source: &[u8], line: &[Token]) -> Option<Effect>
     requires { AreOrdered (length source.now) line.now }
-    ensures effect { (tokens : List Item) → option_map (effect_seen tokens) result ≡ include_effect source.now line.now }
+    ensures effect { (tokens : List Item) → option_map (effect_seen tokens) result
+        ≡ include_effect source.now line.now }
     ensures within { (tokens : List Item) (names : ℕ) → IfSome result (IsChange tokens names) }
 {
     let [first, ..] = line else {
@@ -100,8 +101,10 @@ fn are_alike(source: &[u8], old: &[Token], new: &[Token]) -> bool
 
 fn undefine_effect(source: &[u8], line: &[Token]) -> Option<Effect>
     requires { AreOrdered (length source.now) line.now }
-    ensures effect { (tokens : List Item) → option_map (effect_seen tokens) result ≡ undefine_effect source.now line.now }
-    ensures within { (tokens : List Item) (names : ℕ) → AreInOrder (length source.now) names line.now → IfSome result (IsChange tokens names) }
+    ensures effect { (tokens : List Item) → option_map (effect_seen tokens) result
+        ≡ undefine_effect source.now line.now }
+    ensures within { (tokens : List Item) (names : ℕ)
+        → AreInOrder (length source.now) names line.now → IfSome result (IsChange tokens names) }
 {
     let [name] = line else {
         return None;
@@ -158,7 +161,9 @@ fn definition(
     requires tokens { AreOrdered (length source.now) tokens.now }
     requires old { ForSome old (IsBody tokens.now) }
     requires body { IsBody tokens.now body }
-    ensures effect { option_map (effect_seen tokens.now) result ≡ define_name source.now (option_map (body_tokens tokens.now) old) number (body_tokens tokens.now body) }
+    ensures effect { option_map (effect_seen tokens.now) result
+        ≡ define_name source.now (option_map (body_tokens tokens.now) old) number
+        (body_tokens tokens.now body) }
     ensures within { (names : ℕ) → number < names → IfSome result (IsChange tokens.now names) }
 {
     match old {
@@ -189,7 +194,9 @@ fn define_effect(
     requires bodies { AreBodies tokens.now macros.now }
     requires forward { begin ≤ end }
     requires within { end ≤ length tokens.now }
-    ensures effect { option_map (effect_seen tokens.now) result ≡ define_effect source.now (seen tokens.now macros.now) (take (end - begin) (drop begin tokens.now)) }
+    ensures effect { option_map (effect_seen tokens.now) result
+        ≡ define_effect source.now (seen tokens.now macros.now)
+        (take (end - begin) (drop begin tokens.now)) }
     ensures within { IfSome result (IsChange tokens.now (length macros.now)) }
 {
     if begin == end {
@@ -249,7 +256,9 @@ pub(crate) fn effect_of(
     requires bodies { AreBodies tokens.now macros.now }
     requires forward { begin ≤ end }
     requires within { end ≤ length tokens.now }
-    ensures effect { option_map (effect_seen tokens.now) result ≡ effect_of source.now (seen tokens.now macros.now) (take (end - begin) (drop begin tokens.now)) }
+    ensures effect { option_map (effect_seen tokens.now) result
+        ≡ effect_of source.now (seen tokens.now macros.now)
+        (take (end - begin) (drop begin tokens.now)) }
     ensures within { IfSome result (IsChange tokens.now (length macros.now)) }
 {
     if begin == end {

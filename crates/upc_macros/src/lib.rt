@@ -6,8 +6,6 @@ mod lines;
 mod output;
 mod spelling;
 mod table;
-#[cfg(test)]
-mod tests;
 mod walk;
 
 pub use lines::{depth_is_enough, expand};

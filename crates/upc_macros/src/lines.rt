@@ -35,8 +35,10 @@ fn text_line(
     requires line { AreInOrder (length source.now) (length macros.old.items) line.now }
     requires bodies { AreBodies tokens.now macros.old.items }
     ensures macros { OnOk result (macros.new.items ≡ macros.old.items) }
-    ensures ok { OnOk result (Takes expanded.old.items expanded.new.items (text_items source.now (seen tokens.now macros.old.items) line.now)) }
-    ensures err { IfErr result (StopsIn (length expanded.old.items) (text_items source.now (seen tokens.now macros.old.items) line.now)) }
+    ensures ok { OnOk result (Takes expanded.old.items expanded.new.items
+        (text_items source.now (seen tokens.now macros.old.items) line.now)) }
+    ensures err { IfErr result (StopsIn (length expanded.old.items)
+        (text_items source.now (seen tokens.now macros.old.items) line.now)) }
 {
     for token in line {
         if is_hash(&token.kind) {
@@ -65,9 +67,13 @@ fn directive_line(
     requires within { end ≤ length tokens.now }
     ensures length { OnOk result (length macros.new.items ≡ length macros.old.items) }
     ensures bodies { OnOk result (AreBodies tokens.now macros.new.items) }
-    ensures macros { OnOk result (seen tokens.now macros.new.items ≡ macros_after (seen tokens.now macros.old.items) (line_effect source.now tokens.now macros.old.items begin end)) }
-    ensures ok { OnOk result (Takes expanded.old.items expanded.new.items (line_items source.now tokens.now macros.old.items begin end)) }
-    ensures err { IfErr result (StopsIn (length expanded.old.items) (line_items source.now tokens.now macros.old.items begin end)) }
+    ensures macros { OnOk result (seen tokens.now macros.new.items
+        ≡ macros_after (seen tokens.now macros.old.items)
+        (line_effect source.now tokens.now macros.old.items begin end)) }
+    ensures ok { OnOk result (Takes expanded.old.items expanded.new.items
+        (line_items source.now tokens.now macros.old.items begin end)) }
+    ensures err { IfErr result (StopsIn (length expanded.old.items)
+        (line_items source.now tokens.now macros.old.items begin end)) }
 {
     let hash = &tokens[begin];
     let place = hash.place;
@@ -130,8 +136,11 @@ fn expand_line(
     requires bodies { AreBodies tokens.now macros.old.items }
     requires forward { begin < end }
     requires within { end ≤ length tokens.now }
-    ensures ok { OnOk result (LineDone source.now tokens.now (take (end - begin) (drop begin tokens.now)) macros.old.items macros.new.items expanded.old.items expanded.new.items) }
-    ensures err { IfErr result (LineStops source.now tokens.now (take (end - begin) (drop begin tokens.now)) macros.old.items expanded.old.items) }
+    ensures ok { OnOk result (LineDone source.now tokens.now
+        (take (end - begin) (drop begin tokens.now)) macros.old.items macros.new.items
+        expanded.old.items expanded.new.items) }
+    ensures err { IfErr result (LineStops source.now tokens.now
+        (take (end - begin) (drop begin tokens.now)) macros.old.items expanded.old.items) }
 {
     if is_hash(&tokens[begin].kind) {
         directive_line(source, tokens, macros, begin, end, expanded)
@@ -147,7 +156,8 @@ fn expand_line(
 /// place counts.
 pub fn expand(alloc: Global, source: &[u8], lexed: &Lexed) -> Result<Vec<Token>, Stop>
     requires { AreTokensOf source.now lexed.now.tokens.items lexed.now.names }
-    ensures expansion { IfOk result (λ tokens. IsExpansion source.now lexed.now.tokens.items (length lexed.now.names) tokens.items) }
+    ensures expansion { IfOk result (λ tokens.
+        IsExpansion source.now lexed.now.tokens.items (length lexed.now.names) tokens.items) }
     ensures refused { IfErr result (StopsExpansion source.now lexed.now.tokens.items (length lexed.now.names)) }
 {
     let tokens = lexed.tokens.as_slice();
@@ -164,5 +174,6 @@ pub fn expand(alloc: Global, source: &[u8], lexed: &Lexed) -> Result<Vec<Token>,
 
 /// The bound on how deep macros lie in one another bounds nothing: more depth than there are names changes no token.
 pub fn depth_is_enough()
-    ensures { (depth : ℕ) (source : List ℕ) (macros : Macros) (t : Item) → length macros ≤ depth → replaced depth source macros t ≡ replaced (length macros) source macros t }
+    ensures { (depth : ℕ) (source : List ℕ) (macros : Macros) (t : Item) → length macros ≤ depth
+        → replaced depth source macros t ≡ replaced (length macros) source macros t }
 {}

@@ -33,8 +33,12 @@ fn walk(
     requires frame { IsFrame tokens.now (length macros.old.items) first }
     requires few { macro_count macros.old.items + 1 ≤ length macros.old.items }
     ensures macros { OnOk result (macros.new.items ≡ slice_set macros.old.items first.name (Some first.body)) }
-    ensures ok { OnOk result (Takes expanded.old.items expanded.new.items (placed_items place (pending source.now tokens.now (length macros.old.items - 1) macros.old.items (first ∷ [])))) }
-    ensures err { IfErr result (StopsIn (length expanded.old.items) (placed_items place (pending source.now tokens.now (length macros.old.items - 1) macros.old.items (first ∷ [])))) }
+    ensures ok { OnOk result (Takes expanded.old.items expanded.new.items
+        (placed_items place (pending source.now tokens.now
+        (length macros.old.items - 1) macros.old.items (first ∷ [])))) }
+    ensures err { IfErr result (StopsIn (length expanded.old.items)
+        (placed_items place (pending source.now tokens.now
+        (length macros.old.items - 1) macros.old.items (first ∷ [])))) }
 {
     let mut stack: Vec<Frame> = Vec::new(alloc);
     let mut frame = first;
@@ -76,8 +80,12 @@ pub(crate) fn replace(
     requires bodies { AreBodies tokens.now macros.old.items }
     requires token { IsWithin (length source.now) (length macros.old.items) token.now }
     ensures macros { OnOk result (macros.new.items ≡ macros.old.items) }
-    ensures ok { OnOk result (Takes expanded.old.items expanded.new.items (placed_items token.now.place (replaced (length macros.old.items) source.now (seen tokens.now macros.old.items) token.now))) }
-    ensures err { IfErr result (StopsIn (length expanded.old.items) (placed_items token.now.place (replaced (length macros.old.items) source.now (seen tokens.now macros.old.items) token.now))) }
+    ensures ok { OnOk result (Takes expanded.old.items expanded.new.items
+        (placed_items token.now.place (replaced (length macros.old.items) source.now
+        (seen tokens.now macros.old.items) token.now))) }
+    ensures err { IfErr result (StopsIn (length expanded.old.items)
+        (placed_items token.now.place (replaced (length macros.old.items) source.now
+        (seen tokens.now macros.old.items) token.now))) }
 {
     match take_macro(macros, token) {
         Some((name, body)) => {

@@ -8,11 +8,11 @@ use Rattle.upc_expressions.specs.declared.cursor.Fault.{Fault}
 use Rattle.upc_expressions.specs.declared.cursor.Fault.TheVariants.{NoTree, TooHigh}
 use Rattle.upc_expressions.specs.Outcome.{Outcome}
 use Rattle.upc_expressions.proofs.Sequence.{Gets, gets, high}
-use Rattle.upc_parser.specs.Parse.{unit_at}
+use Rattle.statement_parser.specs.Parse.{unit_at}
 use Rattle.upc_parser.specs.Answer.{settle, answer}
-use Rattle.upc_parser.proofs.Low.{low_unit}
-use Rattle.upc_parser.proofs.CompleteUnit.{unit_reads}
-use Rattle.upc_parser.proofs.SoundUnit.{unit_finds}
+use Rattle.statement_parser.proofs.Low.{low_unit}
+use Rattle.statement_parser.proofs.CompleteUnit.{unit_reads}
+use Rattle.statement_parser.proofs.SoundUnit.{unit_finds}
 
 abbrev U : Type 0
 U = List External

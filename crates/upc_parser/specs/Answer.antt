@@ -13,7 +13,7 @@ use Rattle.upc_tree.specs.ViewStatement.{view_unit}
 use Rattle.upc_expressions.specs.declared.cursor.Fault.{Fault}
 use Rattle.upc_expressions.specs.declared.cursor.Fault.TheVariants.{NoTree, TooHigh}
 use Rattle.upc_expressions.specs.Outcome.{Outcome}
-use Rattle.upc_parser.specs.Parse.{unit_at}
+use Rattle.statement_parser.specs.Parse.{unit_at}
 
 -- fewer tokens than the limit are never too high
 abbrev pub settled_fault : ℕ → Fault → Fault

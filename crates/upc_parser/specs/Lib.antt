@@ -1,4 +1,1 @@
-pub mod Tables
-pub mod Parse
-pub mod Run
 pub mod Answer

@@ -7,7 +7,7 @@ ghost use Rattle.upc_tree.specs.Unit.{IsTree, ProperUnit};
 ghost use Rattle.upc_tree.specs.ViewStatement.{view_unit};
 ghost use Rattle.upc_parser.specs.Answer.{Answers, RefusedBy, OnlyRefused, IsRefusal, Ends, HasPlace, answer, settled_fault};
 
-use crate::externals::unit;
+use statement_parser::unit;
 use std::alloc::Global;
 use upc_expressions::{Fail, Fault, Tokens};
 use upc_lexer::Token;

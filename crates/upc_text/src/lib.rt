@@ -6,8 +6,6 @@ mod memory;
 mod outside;
 mod place;
 mod sure;
-#[cfg(test)]
-mod tests;
 mod text;
 mod whole;
 

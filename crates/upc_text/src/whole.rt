@@ -49,6 +49,8 @@ pub fn put_all<O: Sink>(sink: &mut O, bytes: &[u8]) -> Result<(), Failed>
     ensures ok { OnOk result (O.taken sink.new ≡ taken_with (O.taken sink.old) bytes.now) }
     ensures prefix { OnErr result (TookPrefix (O.taken sink.old) (O.taken sink.new) bytes.now) }
     ensures failed { OnErr result (Rose (O.faults sink.old) (O.faults sink.new)) }
+    // Where there is nothing to append, nothing fails.
+    ensures some { OnErr result (0 < length bytes.now) }
     ensures counts { O.faults sink.old ≤ O.faults sink.new }
 {
     let mut done = 0;

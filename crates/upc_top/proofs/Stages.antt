@@ -11,7 +11,8 @@ use Rattle.upc_macros.specs.Expansion.{IsExpansion, StopsExpansion}
 use Rattle.upc_tree.specs.Unit.{External, ProperUnit, IsTree, tokens_of}
 use Rattle.upc_parser.specs.Answer.{RefusedBy, OnlyRefused}
 use Rattle.upc_checker.specs.Outcomes as o
-use Rattle.upc_checker.specs.Outcomes.{Checked, Answers, outcome}
+use Rattle.upc_checker.specs.Outcomes.{Answers, outcome}
+use Rattle.typed_tree.specs.Programs.{Checked}
 use Rattle.first_language.specs.declared.tree.First.{First}
 use Rattle.first_language.specs.Meaning.{program_of}
 use Rattle.first_language.specs.Unit.{first_program}

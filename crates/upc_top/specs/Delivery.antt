@@ -1,6 +1,5 @@
 -- How a verdict is written: the text to the output, then the line to the error output.
-use Rattle.std.specs.Prelude.{ℕ, ◌≡◌, ◌≤◌, ◌⊎◌, List, [], length, Option, Some}
-use Rattle.upc_text.specs.declared.whole.TheConstants.{SOURCE_LIMIT}
+use Rattle.std.specs.Prelude.{ℕ, ◌≡◌, ◌≤◌, ◌<◌, ◌⊎◌, List, [], length, Option, Some}
 use Rattle.upc_text.specs.Outside.{Rose, taken_with, TookPrefix}
 use Rattle.upc_values.specs.declared.journal.Journal.{Journal}
 use Rattle.first_language.specs.declared.tree.First.{First}
@@ -11,32 +10,41 @@ use Rattle.upc_top.specs.Words.{AreTaken}
 use Rattle.upc_top.specs.Output.{status_of}
 use Rattle.upc_top.specs.Verdicts.{Reading, Caused, text_of, line_of, status_for, refusal_of, journal_of, without_memory}
 
--- what a sink has taken, where it tells it, and its count of faults, before and after
+-- What a sink has taken, where it tells it, and its count of faults, before and after.
 pub record Writing : Type 0 where
   pub taken_before : Option (List ℕ)
   pub taken_after : Option (List ℕ)
   pub faults_before : ℕ
   pub faults_after : ℕ
 
--- the sink took just these bytes
+abbrev pub writing : Option (List ℕ) → Option (List ℕ) → ℕ → ℕ → Writing
+writing taken_before taken_after faults_before faults_after = record {
+  taken_before = taken_before;
+  taken_after = taken_after;
+  faults_before = faults_before;
+  faults_after = faults_after;
+}
+
+-- The sink took just these bytes.
 abbrev pub Gained : Writing → List ℕ → Type 0
 Gained w bytes = w.taken_after ≡ taken_with w.taken_before bytes
 
--- a put failed after the first of these bytes
+-- There was something to write, and a put failed after the first of these bytes.
 pub record Broke (w : Writing) (bytes : List ℕ) : Type 0 where
+  pub some : 0 < length bytes
   pub part : TookPrefix w.taken_before w.taken_after bytes
   pub cause : Rose w.faults_before w.faults_after
 
--- a verdict was delivered with this status
+-- A verdict was delivered with this status.
 pub data Delivered (v : Verdict) (out err : Writing) (status : ℕ) : Type 0 where
-  -- the text and the line were written
+  -- The text and the line were written.
   Whole : status ≡ status_for v → Gained out (text_of v) → Gained err (line_of v) → Delivered v out err status
-  -- the output failed, and no line was tried
+  -- The output failed, and no line was tried.
   Out_broke : status ≡ 103 → Broke out (text_of v) → Gained err [] → Delivered v out err status
-  -- the text was written, and the error output failed
+  -- The text was written, and the error output failed.
   Err_broke : status ≡ 103 → Gained out (text_of v) → Broke err (line_of v) → Delivered v out err status
 
--- what was done about a verdict: it, or the want of memory for what it writes, was delivered and handed out
+-- What was done about a verdict: it, or the want of memory for what it writes, was delivered and handed out.
 pub record Delivers (verdict : Verdict) (out err : Writing) (done : Done) : Type 0 where
   pub written : Verdict
   pub is : (written ≡ verdict) ⊎ (written ≡ without_memory verdict)
@@ -44,7 +52,7 @@ pub record Delivers (verdict : Verdict) (out err : Writing) (done : Done) : Type
   pub refusal : done.refusal ≡ refusal_of written
   pub journal : done.journal ≡ journal_of written
 
--- how the top call answers: some verdict, which has its cause, was delivered and handed out
+-- How the top call answers: some verdict, which has its cause, was delivered and handed out.
 pub record Answered (words : List (List ℕ)) (reading : Reading) (out err : Writing) (done : Done) : Type 0 where
   pub verdict : Verdict
   pub caused : Caused words reading verdict
@@ -52,13 +60,21 @@ pub record Answered (words : List (List ℕ)) (reading : Reading) (out err : Wri
   pub refusal : done.refusal ≡ refusal_of verdict
   pub journal : done.journal ≡ journal_of verdict
 
--- where the words are not taken, the answer is usage, a failed write or want of memory
+-- Where the words are not taken, the answer is usage, a failed write or want of memory.
 abbrev pub RefusesOtherWords : List (List ℕ) → Done → Type 0
 RefusesOtherWords words done =
     ((threads : ℕ) (file : List ℕ) → AreTaken words threads file → ⊥)
     → (done.status ≡ 100) ⊎ (done.status ≡ 103) ⊎ (done.status ≡ 104)
 
--- the words were taken, the file is told and is accepted as a program, and nothing failed
+-- A file that is told and has more bytes than a source may have is not run, and not refused for what it holds: the
+-- answer is that it is too long, a failed read, a failed write or want of memory.
+abbrev pub RefusesLongFiles : List (List ℕ) → Reading → Done → Type 0
+RefusesLongFiles words reading done =
+    (threads : ℕ) (file bytes : List ℕ)
+    → AreTaken words threads file → reading.told file ≡ Some bytes → 1048576 < length bytes
+    → (done.status ≡ 110) ⊎ (done.status ≡ 102) ⊎ (done.status ≡ 103) ⊎ (done.status ≡ 104)
+
+-- The words were taken, the file is told and is accepted as a program, and nothing failed.
 pub record Succeeds (words : List (List ℕ)) (reading : Reading) (out err : Writing) : Type 0 where
   pub threads : ℕ
   pub file : List ℕ
@@ -66,13 +82,13 @@ pub record Succeeds (words : List (List ℕ)) (reading : Reading) (out err : Wri
   pub program : First
   pub taken : AreTaken words threads file
   pub told : reading.told file ≡ Some bytes
-  pub short : length bytes ≤ SOURCE_LIMIT
+  pub short : length bytes ≤ 1048576
   pub accepted : IsAccepted threads bytes program
   pub read : Rose (reading.before file) (reading.after file) → ⊥
   pub out_written : Rose out.faults_before out.faults_after → ⊥
   pub err_written : Rose err.faults_before err.faults_after → ⊥
 
--- then there is a journal with its status, or memory was wanting
+-- Then there is a journal with its status, or memory was wanting.
 abbrev pub IsComplete : List (List ℕ) → Reading → Writing → Writing → Done → Type 0
 IsComplete words reading out err done =
     Succeeds words reading out err

@@ -87,7 +87,8 @@ refusal_line r = codes "upc: refused at " ++ place_text r.place ++ codes ": " ++
 -- the line of an end that ends the run
 abbrev pub stop_line : ℕ → End → List ℕ
 stop_line t (Fault c p) =
-    codes "upc: run error E" ++ decimal c ++ codes " at " ++ place_text p ++ codes " on thread " ++ decimal t ++ codes "\n"
+    codes "upc: run error E" ++ decimal c ++ codes " at " ++ place_text p ++ codes " on thread " ++ decimal t
+    ++ codes "\n"
 stop_line t Budget = codes "upc: budget on thread " ++ decimal t ++ codes "\n"
 stop_line t ActionsFull = codes "upc: actions full on thread " ++ decimal t ++ codes "\n"
 stop_line t e = []

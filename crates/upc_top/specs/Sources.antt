@@ -1,5 +1,5 @@
--- What a source comes to on its way to a program for so many threads: tokens, then their expansion, then the tree of that, then the typed tree,
--- then the program.
+-- What a source comes to on its way to a program for so many threads: tokens, then their expansion, then the tree of
+-- that, then the typed tree, then the program.
 use Rattle.std.specs.Prelude.{ℕ, ◌≡◌, ◌≤◌, List, length, Some, None}
 use Rattle.upc_text.specs.declared.place.Code.{Code}
 use Rattle.upc_text.specs.declared.place.Code.TheVariants.{Syntax, Profile, Limit}
@@ -12,7 +12,8 @@ use Rattle.upc_macros.specs.Expansion.{IsExpansion, StopsExpansion}
 use Rattle.upc_tree.specs.Unit.{External, ProperUnit, IsTree, tokens_of}
 use Rattle.upc_parser.specs.Answer.{HasPlace}
 use Rattle.upc_checker.specs.Outcomes as o
-use Rattle.upc_checker.specs.Outcomes.{Checked, outcome}
+use Rattle.upc_checker.specs.Outcomes.{outcome}
+use Rattle.typed_tree.specs.Programs.{Checked}
 use Rattle.first_language.specs.declared.tree.First.{First}
 use Rattle.first_language.specs.Meaning.{program_of}
 use Rattle.first_language.specs.Unit.{first_program}
@@ -40,8 +41,10 @@ pub record IsAccepted (threads : ℕ) (bytes : List ℕ) (program : First) : Typ
 
 -- why expanded tokens have no tree: no proper tree of any height has them, or each that has them is too high
 pub data HasNoTree (expanded : List Token) (code : Code) : Type 0 where
-  no_syntax : code ≡ Syntax → ((u : List External) → ProperUnit u → tokens_of u ≡ expanded → ⊥) → HasNoTree expanded code
-  too_high : code ≡ Limit 3 → 256 ≤ length expanded → ((u : List External) → IsTree expanded u → ⊥) → HasNoTree expanded code
+  no_syntax : code ≡ Syntax → ((u : List External) → ProperUnit u → tokens_of u ≡ expanded → ⊥)
+      → HasNoTree expanded code
+  too_high : code ≡ Limit 3 → 256 ≤ length expanded → ((u : List External) → IsTree expanded u → ⊥)
+      → HasNoTree expanded code
 
 -- at the beginning
 pub record IsAtTheBeginning (r : Refusal) : Type 0 where
@@ -63,7 +66,8 @@ pub data IsRefused (threads : ℕ) (bytes : List ℕ) (r : Refusal) : Type 0 whe
       → outcome names threads tree ≡ o.Refused r → IsRefused threads bytes r
   -- the tree is well typed, and none of the first language
   no_first : (names : List (List ℕ)) (tree : List External) (checked : Checked) → IsRead bytes names tree
-      → outcome names threads tree ≡ o.Accepted checked → first_program names tree ≡ None → r.code ≡ Profile 0 → IsAtTheBeginning r → IsRefused threads bytes r
+      → outcome names threads tree ≡ o.Accepted checked → first_program names tree ≡ None → r.code ≡ Profile 0
+      → IsAtTheBeginning r → IsRefused threads bytes r
 
 -- the source is refused, or there was no memory
 abbrev pub StopsReading : ℕ → List ℕ → Stop → Type 0

@@ -1,8 +1,7 @@
 -- What the top call comes to, why, and what it then writes.
-use Rattle.std.specs.Prelude.{ℕ, ◌≡◌, List, [], Option, Some, None, codes}
+use Rattle.std.specs.Prelude.{ℕ, ◌≡◌, ◌≤◌, List, [], length, Option, Some, None, codes}
 use Rattle.upc_text.specs.declared.place.Refusal.{Refusal}
 use Rattle.upc_text.specs.Outside.{Rose, IsWhole, IsLonger}
-use Rattle.upc_text.specs.declared.whole.TheConstants.{SOURCE_LIMIT}
 use Rattle.upc_values.specs.declared.journal.Journal.{Journal}
 use Rattle.upc_values.specs.Ends.{AreSpent}
 use Rattle.upc_values.specs.Sound.{IsSound}
@@ -15,18 +14,21 @@ use Rattle.upc_top.specs.Sources.{IsAccepted, IsRefused}
 use Rattle.upc_top.specs.Words.{AreTaken, budget, actions}
 use Rattle.upc_top.specs.Output.{output, status_of, run_line, refusal_line}
 
--- what the file holds, where it is told, and its count of faults before and after
+-- What the files hold, where it is told, and their counts of faults before and after.
 pub record Reading : Type 0 where
   pub told : List ℕ → Option (List ℕ)
   pub before : List ℕ → ℕ
   pub after : List ℕ → ℕ
+
+abbrev pub reading : (List ℕ → Option (List ℕ)) → (List ℕ → ℕ) → (List ℕ → ℕ) → Reading
+reading told before after = record { told = told; before = before; after = after }
 
 -- the journal is a sound run of the program; each thread's p-th wait stands after the p-th notify of all threads, and a
 -- thread that came to its budget has had that many ticks
 pub record IsRun (threads : ℕ) (p : First) (j : Journal) : Type 0 where
   pub budget_is : j.budget ≡ budget
   pub actions_is : j.actions ≡ actions threads
-  pub sound : IsSound (opening_of p threads) (λ t. meaning p t threads budget) j
+  pub sound : IsSound (opening_of p threads) (λ budget t. meaning p t threads budget) j
   pub waits : WaitsFollow threads j.history
   pub spent : AreSpent budget j.strands
 
@@ -43,10 +45,11 @@ ComesFrom threads bytes (Ran j) = RanFrom threads bytes j
 ComesFrom threads bytes (NoMemory None) = Unit {0}
 ComesFrom threads bytes v = ⊥
 
--- these are the file's bytes, where it is told, and P holds of them
+-- These are the file's bytes, where it is told, no more than a source may have, and P holds of them.
 pub record Holds (r : Reading) (file : List ℕ) (P : List ℕ → Type 0) : Type 0 where
   pub bytes : List ℕ
   pub whole : IsWhole (r.told file) bytes
+  pub short : length bytes ≤ 1048576
   pub holds : P bytes
 
 -- the words were taken, for so many threads and this file, of which P holds
@@ -64,7 +67,7 @@ IsSoundRun words r j = Taken words (λ threads file. Holds r file (λ bytes. Ran
 abbrev pub Caused : List (List ℕ) → Reading → Verdict → Type 0
 Caused words r Usage = (threads : ℕ) (file : List ℕ) → AreTaken words threads file → ⊥
 Caused words r ReadFault = Taken words (λ threads file. Rose (r.before file) (r.after file))
-Caused words r TooLong = Taken words (λ threads file. IsLonger (r.told file) SOURCE_LIMIT)
+Caused words r TooLong = Taken words (λ threads file. IsLonger (r.told file) 1048576)
 Caused words r (Refused refusal) = Taken words (λ threads file. Holds r file (λ bytes. IsRefused threads bytes refusal))
 Caused words r (Ran j) = IsSoundRun words r j
 Caused words r (NoMemory None) = Unit {0}

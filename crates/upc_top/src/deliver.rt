@@ -3,7 +3,7 @@
 ghost use Rattle.std.specs.Prelude.{◌≡◌, ◌<◌, ◌^◌, None, IfOk, IfSome, length};
 ghost use Rattle.upc_top.specs.Verdicts;
 ghost use Rattle.upc_top.specs.Verdicts.{text_of, line_of, refusal_of, journal_of, without_memory};
-ghost use Rattle.upc_top.specs.Delivery.{Delivered, Delivers};
+ghost use Rattle.upc_top.specs.Delivery.{writing, Delivered, Delivers};
 
 use crate::done::Done;
 use crate::status::status_of;
@@ -82,7 +82,10 @@ fn send<O: Sink, E: Sink>(
     requires few { IfSome (journal_of verdict.now) (λ j. length j.strands < 2 ^ 32) }
     requires text { text.now ≡ text_of verdict.now }
     requires line { line.now ≡ line_of verdict.now }
-    ensures { Delivered verdict.now (record { taken_before = O.taken out.old; taken_after = O.taken out.new; faults_before = O.faults out.old; faults_after = O.faults out.new }) (record { taken_before = E.taken err.old; taken_after = E.taken err.new; faults_before = E.faults err.old; faults_after = E.faults err.new }) result }
+    ensures { Delivered verdict.now
+        (writing (O.taken out.old) (O.taken out.new) (O.faults out.old) (O.faults out.new))
+        (writing (E.taken err.old) (E.taken err.new) (E.faults err.old) (E.faults err.new))
+        result }
 {
     if put_all(out, text).is_err() {
         return 103;
@@ -106,7 +109,10 @@ fn without_memory(verdict: Verdict) -> Verdict
 /// Writes what a verdict says. Where memory is wanting for it, that is the verdict.
 pub fn deliver<O: Sink, E: Sink>(alloc: Global, verdict: Verdict, out: &mut O, err: &mut E) -> Done
     requires few { IfSome (journal_of verdict) (λ j. length j.strands < 2 ^ 32) }
-    ensures delivers { Delivers verdict (record { taken_before = O.taken out.old; taken_after = O.taken out.new; faults_before = O.faults out.old; faults_after = O.faults out.new }) (record { taken_before = E.taken err.old; taken_after = E.taken err.new; faults_before = E.faults err.old; faults_after = E.faults err.new }) result }
+    ensures delivers { Delivers verdict
+        (writing (O.taken out.old) (O.taken out.new) (O.faults out.old) (O.faults out.new))
+        (writing (E.taken err.old) (E.taken err.new) (E.faults err.old) (E.faults err.new))
+        result }
     ensures orders { result.orders ≡ None }
 {
     match (text_for(alloc, &verdict), line_for(alloc, &verdict)) {

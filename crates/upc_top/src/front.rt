@@ -38,10 +38,14 @@ pub fn read_program(alloc: Global, threads: u32, source: &[u8]) -> Result<First,
     }
 }
 
-/// A source has one reading: one expansion, one tree, one program, or one refusal.
+/// A source has one expansion, one tree and one program, and none of them where it is refused.
 pub fn one_reading()
-    ensures expanded { (bytes : List ℕ) (m n : List (List ℕ)) (ts us : List Item) → IsExpanded bytes m ts → IsExpanded bytes n us → (m ≡ n) × (ts ≡ us) }
-    ensures tree { (bytes : List ℕ) (m n : List (List ℕ)) (u v : List External) → IsRead bytes m u → IsRead bytes n v → (m ≡ n) × (u ≡ v) }
-    ensures program { (threads : ℕ) (bytes : List ℕ) (p q : Program) → IsAccepted threads bytes p → IsAccepted threads bytes q → program_of p ≡ program_of q }
-    ensures either { (threads : ℕ) (bytes : List ℕ) (p : Program) (r : Reason) → IsAccepted threads bytes p → IsRefused threads bytes r → ⊥ }
+    ensures expanded { (bytes : List ℕ) (m n : List (List ℕ)) (ts us : List Item)
+        → IsExpanded bytes m ts → IsExpanded bytes n us → (m ≡ n) × (ts ≡ us) }
+    ensures tree { (bytes : List ℕ) (m n : List (List ℕ)) (u v : List External) → IsRead bytes m u
+        → IsRead bytes n v → (m ≡ n) × (u ≡ v) }
+    ensures program { (threads : ℕ) (bytes : List ℕ) (p q : Program) → IsAccepted threads bytes p
+        → IsAccepted threads bytes q → program_of p ≡ program_of q }
+    ensures either { (threads : ℕ) (bytes : List ℕ) (p : Program) (r : Reason)
+        → IsAccepted threads bytes p → IsRefused threads bytes r → ⊥ }
 {}

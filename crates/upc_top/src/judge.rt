@@ -1,7 +1,7 @@
 //! From the words to what the top call comes to.
 
 ghost use Rattle.std.specs.Prelude.{◌≤◌, length, map, string_bytes};
-ghost use Rattle.upc_top.specs.Verdicts.{Caused, ComesFrom};
+ghost use Rattle.upc_top.specs.Verdicts.{reading, Caused, ComesFrom};
 
 use crate::front::read_program;
 use crate::verdict::Verdict;
@@ -42,7 +42,9 @@ fn run_source<R: Wait>(rt: &R, alloc: Global, threads: u32, source: &[u8]) -> Ve
 
 /// What the words and the file come to.
 pub fn judge<R: Wait, S: Sources>(rt: &R, alloc: Global, words: &[String], files: &mut S) -> Verdict
-    ensures { Caused (map string_bytes words.now) (record { told = S.bytes_of files.old; before = S.faults files.old; after = S.faults files.new }) result }
+    ensures { Caused (map string_bytes words.now)
+        (reading (S.bytes_of files.old) (S.faults files.old) (S.faults files.new))
+        result }
 {
     let Some(call) = read_words(words) else {
         return Verdict::Usage;

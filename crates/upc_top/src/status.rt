@@ -25,7 +25,8 @@ fn stops(end: &End) -> bool
 /// The lowest thread whose end ends the run.
 pub fn first_stop(strands: &[Strand]) -> Option<Stop<'_>>
     requires { length strands.now < 2 ^ 32 }
-    ensures { MatchOption result (first_stop 0 strands.now ≡ None) (λ s. first_stop 0 strands.now ≡ Some record { thread = s.thread; «end» = s.«end».now }) }
+    ensures { MatchOption result (first_stop 0 strands.now ≡ None) (λ s.
+        first_stop 0 strands.now ≡ Some record { thread = s.thread; «end» = s.«end».now }) }
 {
     for (thread, strand) in strands.iter().enumerate() {
         if stops(&strand.end) {

@@ -82,7 +82,9 @@ pub fn refusal_text(alloc: Global, refusal: Refusal) -> Result<Vec<u8>, AllocErr
 
 // The line of a run error.
 fn fault(alloc: Global, thread: u32, error: u8, at: Place) -> Result<Vec<u8>, AllocError>
-    ensures { IfOk result (λ line. line.items ≡ codes "upc: run error E" ++ decimal error ++ codes " at " ++ place_text at ++ codes " on thread " ++ decimal thread ++ codes "\n") }
+    ensures { IfOk result (λ line. line.items
+        ≡ codes "upc: run error E" ++ decimal error ++ codes " at " ++ place_text at
+        ++ codes " on thread " ++ decimal thread ++ codes "\n") }
 {
     let mut line = numbered(alloc, b"upc: run error E", error)?;
     add(&mut line, b" at ")?;

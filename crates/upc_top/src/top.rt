@@ -1,7 +1,8 @@
 //! The top call.
 
 ghost use Rattle.std.specs.Prelude.{◌≡◌, map, string_bytes, None};
-ghost use Rattle.upc_top.specs.Delivery.{Answered, RefusesOtherWords, IsComplete};
+ghost use Rattle.upc_top.specs.Verdicts.{reading};
+ghost use Rattle.upc_top.specs.Delivery.{writing, Answered, RefusesOtherWords, RefusesLongFiles, IsComplete};
 
 use crate::deliver::deliver;
 use crate::done::Done;
@@ -24,9 +25,24 @@ pub fn upc_main<R: Wait, S: Sources, O: Sink, E: Sink, G: Gate>(
     err: &mut E,
     gate: &G,
 ) -> Done
-    ensures answered { Answered (map string_bytes words.now) (record { told = S.bytes_of files.old; before = S.faults files.old; after = S.faults files.new }) (record { taken_before = O.taken out.old; taken_after = O.taken out.new; faults_before = O.faults out.old; faults_after = O.faults out.new }) (record { taken_before = E.taken err.old; taken_after = E.taken err.new; faults_before = E.faults err.old; faults_after = E.faults err.new }) result }
+    // Some verdict, which has its cause, was delivered and handed out.
+    ensures answered { Answered (map string_bytes words.now)
+        (reading (S.bytes_of files.old) (S.faults files.old) (S.faults files.new))
+        (writing (O.taken out.old) (O.taken out.new) (O.faults out.old) (O.faults out.new))
+        (writing (E.taken err.old) (E.taken err.new) (E.faults err.old) (E.faults err.new))
+        result }
+    // Other words are refused.
     ensures words { RefusesOtherWords (map string_bytes words.now) result }
-    ensures complete { IsComplete (map string_bytes words.now) (record { told = S.bytes_of files.old; before = S.faults files.old; after = S.faults files.new }) (record { taken_before = O.taken out.old; taken_after = O.taken out.new; faults_before = O.faults out.old; faults_after = O.faults out.new }) (record { taken_before = E.taken err.old; taken_after = E.taken err.new; faults_before = E.faults err.old; faults_after = E.faults err.new }) result }
+    // A file that is too long is neither run nor refused for what it holds.
+    ensures long { RefusesLongFiles (map string_bytes words.now)
+        (reading (S.bytes_of files.old) (S.faults files.old) (S.faults files.new))
+        result }
+    // Where nothing fails, an accepted source runs.
+    ensures complete { IsComplete (map string_bytes words.now)
+        (reading (S.bytes_of files.old) (S.faults files.old) (S.faults files.new))
+        (writing (O.taken out.old) (O.taken out.new) (O.faults out.old) (O.faults out.new))
+        (writing (E.taken err.old) (E.taken err.new) (E.faults err.old) (E.faults err.new))
+        result }
     ensures orders { result.orders ≡ None }
 {
     let _ = gate;

@@ -29,7 +29,8 @@ fn threads_of(word: &str) -> Option<u32>
 /// Reads the words.
 pub fn read_words(words: &[String]) -> Option<Call<'_>>
     ensures found { IfSome result (λ c. AreTaken (map string_bytes words.now) c.threads c.file.now) }
-    ensures none { IfNone result ((threads : ℕ) (file : List ℕ) → AreTaken (map string_bytes words.now) threads file → ⊥) }
+    ensures none { IfNone result ((threads : ℕ) (file : List ℕ)
+        → AreTaken (map string_bytes words.now) threads file → ⊥) }
 {
     let [mode, flag, count, file] = words else {
         return None;

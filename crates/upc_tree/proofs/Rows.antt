@@ -29,7 +29,7 @@ use Rattle.upc_tree.specs.Expression as t
 
 expr_row : (n : _) (row : Row_of-NextExpr n) → view_expr_row row ≡ next_exprs_of (map view_next_expr (items-the_row-NextExpr n row))
 expr_row n end_of-NextExpr = refl
-expr_row n (more_of-NextExpr comma value more) = ap (t.AndExpr comma (view value)) (expr_row _ more)
+expr_row n (more_of-NextExpr comma p value more) = ap (t.AndExpr comma (view value)) (expr_row _ more)
 
 pub expr_row_is : (n : _) (row : Row_of-NextExpr n) (l : List NextExpr) → items-the_row-NextExpr n row ≡ l → view_expr_row row ≡ next_exprs_of (map view_next_expr l)
 expr_row_is n row l e = expr_row n row ∙ ap (λ l. next_exprs_of (map view_next_expr l)) e
@@ -61,7 +61,7 @@ pointer_row_is n row l e = pointer_row n row ∙ ap (λ l. pointers_of (map view
 
 dimension_row : (n : _) (row : Row_of-Dimension n) → view_dimension_row row ≡ dimensions_of (map view_dimension (items-the_row-Dimension n row))
 dimension_row n end_of-Dimension = refl
-dimension_row n (more_of-Dimension left size right more) = ap (t.AndDimension left (view size) right) (dimension_row _ more)
+dimension_row n (more_of-Dimension left p size right more) = ap (t.AndDimension left (view size) right) (dimension_row _ more)
 
 pub dimension_row_is : (n : _) (row : Row_of-Dimension n) (l : List Dimension) → items-the_row-Dimension n row ≡ l → view_dimension_row row ≡ dimensions_of (map view_dimension l)
 dimension_row_is n row l e = dimension_row n row ∙ ap (λ l. dimensions_of (map view_dimension l)) e
@@ -81,14 +81,14 @@ type_is (TypeName' m specs n pointers o sizes) =
 
 declarator_row : (n : _) (row : Row_of-NextDeclarator n) → view_declarator_row row ≡ next_declarators_of (map view_next_declarator (items-the_row-NextDeclarator n row))
 declarator_row n end_of-NextDeclarator = refl
-declarator_row n (more_of-NextDeclarator comma declarator more) = ap (t.AndDeclarator comma (view_declarator declarator)) (declarator_row _ more)
+declarator_row n (more_of-NextDeclarator comma p declarator more) = ap (t.AndDeclarator comma (view_declarator declarator)) (declarator_row _ more)
 
 pub declarator_row_is : (n : _) (row : Row_of-NextDeclarator n) (l : List NextDeclarator) → items-the_row-NextDeclarator n row ≡ l → view_declarator_row row ≡ next_declarators_of (map view_next_declarator l)
 declarator_row_is n row l e = declarator_row n row ∙ ap (λ l. next_declarators_of (map view_next_declarator l)) e
 
 member_row : (n : _) (row : Row_of-Member n) → view_member_row row ≡ members_of (map view_member (items-the_row-Member n row))
 member_row n end_of-Member = refl
-member_row n (more_of-Member (Member' m specs first o next semicolon) more) =
+member_row n (more_of-Member (Member' m specs p first o next semicolon) more) =
     ap (t.AndMember (view_spec_row specs) (view_declarator first) (view_declarator_row next) semicolon) (member_row _ more)
 
 pub member_row_is : (n : _) (row : Row_of-Member n) (l : List Member) → items-the_row-Member n row ≡ l → view_member_row row ≡ members_of (map view_member l)
@@ -96,7 +96,7 @@ member_row_is n row l e = member_row n row ∙ ap (λ l. members_of (map view_me
 
 parameter_row : (n : _) (row : Row_of-NextParameter n) → view_parameter_row row ≡ next_parameters_of (map view_next_parameter (items-the_row-NextParameter n row))
 parameter_row n end_of-NextParameter = refl
-parameter_row n (more_of-NextParameter (NextParameter' comma parameter) more) = ap (t.AndParameter comma (view_parameter parameter)) (parameter_row _ more)
+parameter_row n (more_of-NextParameter (NextParameter' comma p parameter) more) = ap (t.AndParameter comma (view_parameter parameter)) (parameter_row _ more)
 
 pub parameter_row_is : (n : _) (row : Row_of-NextParameter n) (l : List NextParameter) → items-the_row-NextParameter n row ≡ l → view_parameter_row row ≡ next_parameters_of (map view_next_parameter l)
 parameter_row_is n row l e = parameter_row n row ∙ ap (λ l. next_parameters_of (map view_next_parameter l)) e
@@ -119,13 +119,13 @@ struct_is word tag left members right =
     let row = member_row_of (s.Struct word tag left members right) in
     ap (λ m. t.StructSpec word tag left m right) (member_row_is row.0 row.1 members.items (items_hidden-the_row-Member-5 members))
 
-pub member_is : (x : Member) → view_member x ≡ (view_specs (out-Member x).specs, view_declarator (out-Member x).first, view_next_declarators (out-Member x).more, (out-Member x).semicolon)
-member_is (Member' m specs first o next semicolon) =
-    rw (outs-Member' m specs first o next semicolon) (rw (spec_row_is _ specs _ (sym (items_shown-the_row-Spec-6 m specs)), declarator_row_is _ next _ (sym (items_shown-the_row-NextDeclarator-7 o next))) refl)
+pub member_is : (x : Member) → view_member x ≡ (view_specs (out-Member x).specs, view_declarator (out-Member x).first.value, view_next_declarators (out-Member x).more, (out-Member x).semicolon)
+member_is (Member' m specs p first o next semicolon) =
+    rw (outs-Member' m specs p first o next semicolon) (rw (spec_row_is _ specs _ (sym (items_shown-the_row-Spec-6 m specs)), declarator_row_is _ next _ (sym (items_shown-the_row-NextDeclarator-7 o next))) refl)
 
 abbrev pointer_row_of : Declarator → (n : Count) × Row_of-Pointer n
 pointer_row_of (d.Object' m pointers name n sizes) = (_, pointers)
-pointer_row_of (d.Function' m pointers name parameters) = (_, pointers)
+pointer_row_of (d.Function' m pointers name p parameters) = (_, pointers)
 
 abbrev dimension_row_of : Declarator → (n : Count) × Row_of-Dimension n
 dimension_row_of (d.Object' m pointers name n sizes) = (_, sizes)
@@ -138,10 +138,10 @@ object_is pointers name sizes =
     ap (λ p. t.ObjectDeclarator p name (view_dimension_row row.1)) (pointer_row_is stars.0 stars.1 pointers.items (items_hidden-the_row-Pointer-2 pointers))
     ∙ ap (t.ObjectDeclarator (view_pointers pointers) name) (dimension_row_is row.0 row.1 sizes.items (items_hidden-the_row-Dimension-3 sizes))
 
-pub function_is : (pointers : Vec Pointer Global) (name : Name) (parameters : Parameters) → view_declarator (d.Function pointers name parameters) ≡ t.FunctionDeclarator (view_pointers pointers) name (view_parameters parameters)
+pub function_is : (pointers : Vec Pointer Global) (name : Name) (parameters : Box Parameters Global) → view_declarator (d.Function pointers name parameters) ≡ t.FunctionDeclarator (view_pointers pointers) name (view_parameters parameters.value)
 function_is pointers name parameters =
     let stars = pointer_row_of (d.Function pointers name parameters) in
-    ap (λ p. t.FunctionDeclarator p name (view_parameters parameters)) (pointer_row_is stars.0 stars.1 pointers.items (items_hidden-the_row-Pointer-2 pointers))
+    ap (λ p. t.FunctionDeclarator p name (view_parameters parameters.value)) (pointer_row_is stars.0 stars.1 pointers.items (items_hidden-the_row-Pointer-2 pointers))
 
 abbrev parameter_row_of : Parameters → (n : Count) × Row_of-NextParameter n
 parameter_row_of (r.Filled' left p first shape row right) = (_, row)
@@ -156,5 +156,5 @@ pub parameter_is : (x : Parameter) → view_parameter x ≡ t.Parametric (view_s
 parameter_is (Parameter' m specs n pointers name array) =
     rw (outs-Parameter' m specs n pointers name array) (rw (spec_row_is _ specs _ (sym (items_shown-the_row-Spec-6 m specs)), pointer_row_is _ pointers _ (sym (items_shown-the_row-Pointer-2 n pointers))) refl)
 
-pub next_parameter_is : (x : NextParameter) → view_next_parameter x ≡ ((out-NextParameter x).comma, view_parameter (out-NextParameter x).parameter)
-next_parameter_is (NextParameter' comma parameter) = rw (outs-NextParameter' comma parameter) refl
+pub next_parameter_is : (x : NextParameter) → view_next_parameter x ≡ ((out-NextParameter x).comma, view_parameter (out-NextParameter x).parameter.value)
+next_parameter_is (NextParameter' comma p parameter) = rw (outs-NextParameter' comma p parameter) refl

@@ -30,34 +30,34 @@ switch_row_is n row l e = switch_row n row ∙ ap (λ l. switch_items_of (map vi
 
 else_if_row : (n : _) (row : Row_of-ElseIf n) → view_else_if_row row ≡ else_ifs_of (map view_else_if (items-the_row-ElseIf n row))
 else_if_row n end_of-ElseIf = refl
-else_if_row n (more_of-ElseIf other word test body more) = ap (p.AndElseIf other word (view_test test) (view_statement body)) (else_if_row _ more)
+else_if_row n (more_of-ElseIf other word test at body more) = ap (p.AndElseIf other word (view_test test.value) (view_statement body)) (else_if_row _ more)
 
 else_if_row_is : (n : _) (row : Row_of-ElseIf n) (l : List ElseIf) → items-the_row-ElseIf n row ≡ l → view_else_if_row row ≡ else_ifs_of (map view_else_if l)
 else_if_row_is n row l e = else_if_row n row ∙ ap (λ l. else_ifs_of (map view_else_if l)) e
 
 abbrev block_row_of : Statement → (n : Count) × Row_of-BlockItem n
-block_row_of (s.Compound' left pragmas shape row right) = (_, row)
+block_row_of (s.Compound' at left pragmas shape row right) = (_, row)
 block_row_of _ = (_, end_of-BlockItem)
 
-pub compound_is : (x : Compound) → view_statement (s.Compound x) ≡ p.Block (view_compound x)
+pub compound_is : (x : Box Compound Global) → view_statement (s.Compound x) ≡ p.Block (view_compound x.value)
 compound_is x =
     let row = block_row_of (s.Compound x) in
-    ap (λ m. p.Block (p.Braces x.open x.pragmas.items m x.close)) (block_row_is row.0 row.1 x.items.items (items_hidden-the_row-BlockItem-0 x.items))
+    ap (λ m. p.Block (p.Braces x.value.open x.value.pragmas.items m x.value.close)) (block_row_is row.0 row.1 x.value.items.items (items_hidden-the_row-BlockItem-0 x.value.items))
 
 abbrev switch_row_of : Statement → (n : Count) × Row_of-SwitchItem n
 switch_row_of (s.Switch' word test left shape row right) = (_, row)
 switch_row_of _ = (_, end_of-SwitchItem)
 
-pub switch_is : (word : Span) (test : Test) (left : Span) (body : Vec SwitchItem Global) (right : Span) → view_statement (s.Switch word test left body right) ≡ p.Switch word (view_test test) left (view_switch_items body) right
+pub switch_is : (word : Span) (test : Box Test Global) (left : Span) (body : Vec SwitchItem Global) (right : Span) → view_statement (s.Switch word test left body right) ≡ p.Switch word (view_test test.value) left (view_switch_items body) right
 switch_is word test left body right =
     let row = switch_row_of (s.Switch word test left body right) in
-    ap (λ m. p.Switch word (view_test test) left m right) (switch_row_is row.0 row.1 body.items (items_hidden-the_row-SwitchItem-2 body))
+    ap (λ m. p.Switch word (view_test test.value) left m right) (switch_row_is row.0 row.1 body.items (items_hidden-the_row-SwitchItem-2 body))
 
 abbrev else_if_row_of : Statement → (n : Count) × Row_of-ElseIf n
 else_if_row_of (s.If' word test q body shape row otherwise) = (_, row)
 else_if_row_of _ = (_, end_of-ElseIf)
 
-pub if_is : (word : Span) (test : Test) (body : Box Statement Global) (more : Vec ElseIf Global) (otherwise : Otherwise) → view_statement (s.If word test body more otherwise) ≡ p.If word (view_test test) (view_statement body.value) (view_else_ifs more) (view_otherwise otherwise)
+pub if_is : (word : Span) (test : Box Test Global) (body : Box Statement Global) (more : Vec ElseIf Global) (otherwise : Otherwise) → view_statement (s.If word test body more otherwise) ≡ p.If word (view_test test.value) (view_statement body.value) (view_else_ifs more) (view_otherwise otherwise)
 if_is word test body more otherwise =
     let row = else_if_row_of (s.If word test body more otherwise) in
-    ap (λ m. p.If word (view_test test) (view_statement body.value) m (view_otherwise otherwise)) (else_if_row_is row.0 row.1 more.items (items_hidden-the_row-ElseIf-1 more))
+    ap (λ m. p.If word (view_test test.value) (view_statement body.value) m (view_otherwise otherwise)) (else_if_row_is row.0 row.1 more.items (items_hidden-the_row-ElseIf-1 more))

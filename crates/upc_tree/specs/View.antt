@@ -38,7 +38,7 @@ abbrev mutual
   view (e.Constant word span) = t.Constant word span
   view (e.Paren' left p inner right) = t.Paren left (view inner) right
   view (e.Subscript' p base left o index right) = t.Subscript (view base) left (view index) right
-  view (e.Call' p callee left arguments) = t.Call (view callee) left (view_arguments arguments)
+  view (e.Call' p callee left o arguments) = t.Call (view callee) left (view_arguments arguments)
   view (e.Member' p base mark at member) = t.MemberOf (view base) mark at member
   view (e.Postfix' p base mark at) = t.Postfix (view base) mark at
   view (e.Unary' mark at p operand) = t.Unary mark at (view operand)
@@ -52,7 +52,7 @@ abbrev mutual
 
   pub view_expr_row : {m : _} → Row_of-NextExpr m → t.NextExprs
   view_expr_row end_of-NextExpr = t.NoNextExprs
-  view_expr_row (more_of-NextExpr comma value more) = t.AndExpr comma (view value) (view_expr_row more)
+  view_expr_row (more_of-NextExpr comma p value more) = t.AndExpr comma (view value) (view_expr_row more)
 
   pub view_arguments : Arguments → t.Arguments
   view_arguments (a.Empty right) = t.NoArguments right
@@ -79,7 +79,7 @@ abbrev mutual
   view_qual (q.Const word) = t.Const word
   view_qual (q.Strict word) = t.Strict word
   view_qual (q.Relaxed word) = t.Relaxed word
-  view_qual (q.Shared word layout) = t.Shared word (view_layout layout)
+  view_qual (q.Shared' word p layout) = t.Shared word (view_layout layout)
 
   pub view_layout : Layout → t.Layout
   view_layout l.Absent = t.NoLayout
@@ -93,20 +93,20 @@ abbrev mutual
 
   pub view_dimension_row : {m : _} → Row_of-Dimension m → t.Dimensions
   view_dimension_row end_of-Dimension = t.NoDimensions
-  view_dimension_row (more_of-Dimension left size right more) = t.AndDimension left (view size) right (view_dimension_row more)
+  view_dimension_row (more_of-Dimension left p size right more) = t.AndDimension left (view size) right (view_dimension_row more)
 
   pub view_member_row : {m : _} → Row_of-Member m → t.Members
   view_member_row end_of-Member = t.NoMembers
-  view_member_row (more_of-Member (Member' m specs first n next semicolon) more) =
+  view_member_row (more_of-Member (Member' m specs p first n next semicolon) more) =
       t.AndMember (view_spec_row specs) (view_declarator first) (view_declarator_row next) semicolon (view_member_row more)
 
   pub view_declarator_row : {m : _} → Row_of-NextDeclarator m → t.NextDeclarators
   view_declarator_row end_of-NextDeclarator = t.NoNextDeclarators
-  view_declarator_row (more_of-NextDeclarator comma declarator more) = t.AndDeclarator comma (view_declarator declarator) (view_declarator_row more)
+  view_declarator_row (more_of-NextDeclarator comma p declarator more) = t.AndDeclarator comma (view_declarator declarator) (view_declarator_row more)
 
   pub view_declarator : Declarator → t.Declarator
   view_declarator (d.Object' m pointers name n sizes) = t.ObjectDeclarator (view_pointer_row pointers) name (view_dimension_row sizes)
-  view_declarator (d.Function' m pointers name parameters) = t.FunctionDeclarator (view_pointer_row pointers) name (view_parameters parameters)
+  view_declarator (d.Function' m pointers name p parameters) = t.FunctionDeclarator (view_pointer_row pointers) name (view_parameters parameters)
 
   pub view_parameters : Parameters → t.Parameters
   view_parameters (r.Empty left right) = t.NoParameters left right
@@ -115,7 +115,7 @@ abbrev mutual
 
   pub view_parameter_row : {m : _} → Row_of-NextParameter m → t.NextParameters
   view_parameter_row end_of-NextParameter = t.NoNextParameters
-  view_parameter_row (more_of-NextParameter (NextParameter' comma parameter) more) = t.AndParameter comma (view_parameter parameter) (view_parameter_row more)
+  view_parameter_row (more_of-NextParameter (NextParameter' comma p parameter) more) = t.AndParameter comma (view_parameter parameter) (view_parameter_row more)
 
   pub view_parameter : Parameter → t.Parameter
   view_parameter (Parameter' m specs n pointers name array) = t.Parametric (view_spec_row specs) (view_pointer_row pointers) name (view_array array)
@@ -128,22 +128,22 @@ abbrev mutual
 -- ---- parts of lists, as vectors hold them
 
 abbrev pub view_next_expr : NextExpr → Span × t.Expr
-view_next_expr x = (x.comma, view x.value)
+view_next_expr x = (x.comma, view x.value.value)
 
 abbrev pub view_pointer : Pointer → Span × t.Quals
 view_pointer x = (x.star, quals_of (map view_qual x.quals.items))
 
 abbrev pub view_dimension : Dimension → Span × t.Expr × Span
-view_dimension x = (x.open, view x.size, x.close)
+view_dimension x = (x.open, view x.size.value, x.close)
 
 abbrev pub view_member : Member → t.Specs × t.Declarator × t.NextDeclarators × Span
-view_member (Member' m specs first n next semicolon) = (view_spec_row specs, view_declarator first, view_declarator_row next, semicolon)
+view_member (Member' m specs p first n next semicolon) = (view_spec_row specs, view_declarator first, view_declarator_row next, semicolon)
 
 abbrev pub view_next_declarator : NextDeclarator → Span × t.Declarator
-view_next_declarator x = (x.comma, view_declarator x.declarator)
+view_next_declarator x = (x.comma, view_declarator x.declarator.value)
 
 abbrev pub view_next_parameter : NextParameter → Span × t.Parameter
-view_next_parameter (NextParameter' comma parameter) = (comma, view_parameter parameter)
+view_next_parameter (NextParameter' comma p parameter) = (comma, view_parameter parameter)
 
 -- ---- vectors of parts
 

@@ -1,5 +1,5 @@
 -- The trees of the code, seen without where they lie in memory: declarations, statements and whole sources.
-use Rattle.std.specs.Prelude.{List, map, Vec, Option, Some, None}
+use Rattle.std.specs.Prelude.{List, map, Vec, Box, Option, Some, None}
 use Rattle.std.specs.declared.alloc.Global.{Global}
 use Rattle.upc_tree.specs.declared.span.Span.{Span}
 use Rattle.upc_tree.specs.declared.expression.Expr.{Expr}
@@ -28,6 +28,7 @@ use Rattle.upc_tree.specs.declared.statement.ForHead.{ForHead}
 use Rattle.upc_tree.specs.declared.statement.ForallHead.{ForallHead}
 use Rattle.upc_tree.specs.declared.unit.Unit as u
 use Rattle.upc_tree.specs.declared.unit.External.{External}
+use Rattle.upc_tree.specs.declared.unit.Function.{Function}
 use Rattle.upc_tree.specs.declared.unit.External.TheVariants as x
 use Rattle.upc_tree.specs.Expression as t
 use Rattle.upc_tree.specs.Declaration as d
@@ -40,58 +41,58 @@ use Rattle.upc_tree.specs.View.{view, view_next_exprs, view_specs, view_pointers
 
 abbrev pub view_initial : Initial → d.Initial
 view_initial i.Absent = d.NoInitial
-view_initial (i.Value equal value) = d.ValueInitial equal (view value)
-view_initial (i.List equal left first more right) = d.ListInitial equal left (view first) (view_next_exprs more) right
+view_initial (i.Value equal value) = d.ValueInitial equal (view value.value)
+view_initial (i.List equal left first more right) = d.ListInitial equal left (view first.value) (view_next_exprs more) right
 
 abbrev pub view_declared : Declared → d.Declared
-view_declared x = d.DeclaredAs (view_declarator x.declarator) (view_initial x.initial)
+view_declared x = d.DeclaredAs (view_declarator x.declarator.value) (view_initial x.initial.value)
 
 abbrev pub view_next_declared : NextDeclared → Span × d.Declared
-view_next_declared x = (x.comma, view_declared x.declared)
+view_next_declared x = (x.comma, view_declared x.declared.value)
 
 abbrev pub view_next_declareds : Vec NextDeclared Global → d.NextDeclareds
 view_next_declareds v = next_declareds_of (map view_next_declared v.items)
 
-abbrev pub view_declared_list : Option DeclaredList → d.DeclaredList
+abbrev pub view_declared_list : Option (Box DeclaredList Global) → d.DeclaredList
 view_declared_list None = d.NoneDeclared
-view_declared_list (Some x) = d.SomeDeclared (view_declared x.first) (view_next_declareds x.more)
+view_declared_list (Some x) = d.SomeDeclared (view_declared x.value.first.value) (view_next_declareds x.value.more)
 
 abbrev pub view_declaration : Declaration → d.Declaration
 view_declaration x = d.Declares (view_specs x.specs) (view_declared_list x.declared) x.semicolon
 
 -- ---- statements
 
-abbrev pub view_value : Option Expr → Option t.Expr
+abbrev pub view_value : Option (Box Expr Global) → Option t.Expr
 view_value None = None
-view_value (Some value) = Some (view value)
+view_value (Some value) = Some (view value.value)
 
 abbrev pub view_test : Test → p.Test
-view_test x = p.Tests x.open (view x.value) x.close
+view_test x = p.Tests x.open (view x.value.value) x.close
 
 abbrev pub view_first : First → p.First
 view_first (f.Expression value semicolon) = p.FirstValue (view_value value) semicolon
-view_first (f.Declaration declaration) = p.FirstDeclaration (view_declaration declaration)
+view_first (f.Declaration declaration) = p.FirstDeclaration (view_declaration declaration.value)
 
 abbrev pub view_affinity : Affinity → p.Affinity
 view_affinity a.Absent = p.NoAffinity
 view_affinity (a.Continue word) = p.ContinueAffinity word
-view_affinity (a.Value value) = p.ValueAffinity (view value)
+view_affinity (a.Value value) = p.ValueAffinity (view value.value)
 
 abbrev pub view_for : ForHead → p.ForHead
-view_for x = p.ForParts x.open (view_first x.first) (view_value x.test) x.test_end (view_value x.step) x.close
+view_for x = p.ForParts x.open (view_first x.first.value) (view_value x.test) x.test_end (view_value x.step) x.close
 
 abbrev pub view_forall : ForallHead → p.ForallHead
-view_forall x = p.ForallParts x.open (view_first x.first) (view_value x.test) x.test_end (view_value x.step) x.step_end (view_affinity x.affinity) x.close
+view_forall x = p.ForallParts x.open (view_first x.first.value) (view_value x.test) x.test_end (view_value x.step) x.step_end (view_affinity x.affinity.value) x.close
 
 abbrev mutual
   pub view_statement : Statement → p.Statement
-  view_statement (s.Compound' left pragmas shape items right) = p.Block (p.Braces left pragmas.items (view_block_row items) right)
+  view_statement (s.Compound' at left pragmas shape items right) = p.Block (p.Braces left pragmas.items (view_block_row items) right)
   view_statement (s.Expression value semicolon) = p.Value (view_value value) semicolon
   view_statement (s.If' word test at body shape more otherwise) =
-      p.If word (view_test test) (view_statement body) (view_else_if_row more) (view_otherwise otherwise)
-  view_statement (s.Switch' word test left shape body right) = p.Switch word (view_test test) left (view_switch_row body) right
-  view_statement (s.While' word test at body) = p.While word (view_test test) (view_statement body)
-  view_statement (s.DoWhile' word at body until test semicolon) = p.DoWhile word (view_statement body) until (view_test test) semicolon
+      p.If word (view_test test.value) (view_statement body) (view_else_if_row more) (view_otherwise otherwise)
+  view_statement (s.Switch' word test left shape body right) = p.Switch word (view_test test.value) left (view_switch_row body) right
+  view_statement (s.While' word test at body) = p.While word (view_test test.value) (view_statement body)
+  view_statement (s.DoWhile' word at body until test semicolon) = p.DoWhile word (view_statement body) until (view_test test.value) semicolon
   view_statement (s.For' word head at body) = p.For word (view_for head.value) (view_statement body)
   view_statement (s.Forall' word head at body) = p.Forall word (view_forall head.value) (view_statement body)
   view_statement (s.Break word semicolon) = p.Break word semicolon
@@ -105,28 +106,28 @@ abbrev mutual
   view_block_row (more_of-BlockItem item more) = p.AndBlockItem (view_block_item item) (view_block_row more)
 
   pub view_block_item : BlockItem → p.BlockItem
-  view_block_item (b.Declaration declaration) = p.DeclarationItem (view_declaration declaration)
-  view_block_item (b.Statement statement) = p.StatementItem (view_statement statement)
+  view_block_item (b.Declaration declaration) = p.DeclarationItem (view_declaration declaration.value)
+  view_block_item (b.Statement' at statement) = p.StatementItem (view_statement statement)
 
   pub view_switch_row : {m : _} → Row_of-SwitchItem m → p.SwitchItems
   view_switch_row end_of-SwitchItem = p.NoSwitchItems
   view_switch_row (more_of-SwitchItem item more) = p.AndSwitchItem (view_switch_item item) (view_switch_row more)
 
   pub view_switch_item : SwitchItem → p.SwitchItem
-  view_switch_item (w.Case word value colon) = p.CaseItem word (view value) colon
+  view_switch_item (w.Case word value colon) = p.CaseItem word (view value.value) colon
   view_switch_item (w.Default word colon) = p.DefaultItem word colon
-  view_switch_item (w.Statement statement) = p.SwitchStatement (view_statement statement)
+  view_switch_item (w.Statement' at statement) = p.SwitchStatement (view_statement statement)
 
   pub view_else_if_row : {m : _} → Row_of-ElseIf m → p.ElseIfs
   view_else_if_row end_of-ElseIf = p.NoElseIfs
-  view_else_if_row (more_of-ElseIf other word test body more) = p.AndElseIf other word (view_test test) (view_statement body) (view_else_if_row more)
+  view_else_if_row (more_of-ElseIf other word test at body more) = p.AndElseIf other word (view_test test.value) (view_statement body) (view_else_if_row more)
 
   pub view_otherwise : Otherwise → p.Otherwise
   view_otherwise o.Absent = p.NoOtherwise
   view_otherwise (o.Else' word at body) = p.Else word (view_statement body)
 
 abbrev pub view_else_if : ElseIf → Span × Span × p.Test × p.Statement
-view_else_if x = (x.other, x.word, view_test x.test, view_statement x.body)
+view_else_if x = (x.other, x.word, view_test x.test.value, view_statement x.body.value)
 
 abbrev pub view_block_items : Vec BlockItem Global → p.BlockItems
 view_block_items v = block_items_of (map view_block_item v.items)
@@ -142,11 +143,13 @@ view_compound x = p.Braces x.open x.pragmas.items (view_block_items x.items) x.c
 
 -- ---- whole sources
 
+abbrev pub view_function : Function → q.External
+view_function f = q.FunctionPart (view_specs f.specs) (view_pointers f.pointers) f.name (view_parameters f.parameters.value) (view_compound f.body.value)
+
 abbrev pub view_external : External → q.External
 view_external (x.Pragma pragma) = q.PragmaPart pragma
-view_external (x.Declaration declaration) = q.DeclarationPart (view_declaration declaration)
-view_external (x.Function function) =
-    q.FunctionPart (view_specs function.specs) (view_pointers function.pointers) function.name (view_parameters function.parameters) (view_compound function.body)
+view_external (x.Declaration declaration) = q.DeclarationPart (view_declaration declaration.value)
+view_external (x.Function function) = view_function function.value
 
 abbrev pub view_unit : u.Unit → List q.External
 view_unit x = map view_external x.externals.items

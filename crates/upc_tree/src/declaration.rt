@@ -7,14 +7,14 @@ use crate::span::Span;
 #[derive(Drop)]
 pub struct Declaration {
     pub specs: Vec<Spec>,
-    pub declared: Option<DeclaredList>,
+    pub declared: Option<Box<DeclaredList>>,
     pub semicolon: Span,
 }
 
 /// What a declaration declares.
 #[derive(Drop)]
 pub struct DeclaredList {
-    pub first: Declared,
+    pub first: Box<Declared>,
     pub more: Vec<NextDeclared>,
 }
 
@@ -22,14 +22,14 @@ pub struct DeclaredList {
 #[derive(Drop)]
 pub struct NextDeclared {
     pub comma: Span,
-    pub declared: Declared,
+    pub declared: Box<Declared>,
 }
 
 /// A declarator with its initial value.
 #[derive(Drop)]
 pub struct Declared {
-    pub declarator: Declarator,
-    pub initial: Initial,
+    pub declarator: Box<Declarator>,
+    pub initial: Box<Initial>,
 }
 
 /// An initialiser (C99 6.7.8).
@@ -38,12 +38,12 @@ pub enum Initial {
     Absent,
     Value {
         equal: Span,
-        value: Expr,
+        value: Box<Expr>,
     },
     List {
         equal: Span,
         open: Span,
-        first: Expr,
+        first: Box<Expr>,
         more: Vec<NextExpr>,
         close: Span,
     },

@@ -42,7 +42,7 @@ pub enum Expr {
     Call {
         callee: Box<Expr>,
         open: Span,
-        arguments: Arguments,
+        arguments: Box<Arguments>,
     },
     Member {
         base: Box<Expr>,
@@ -122,7 +122,7 @@ pub enum Arguments {
 #[derive(Drop)]
 pub struct NextExpr {
     pub comma: Span,
-    pub value: Expr,
+    pub value: Box<Expr>,
 }
 
 /// A type name (C99 6.7.6). Sizes stand only in the operand of a size operator.
@@ -165,7 +165,7 @@ pub enum Qual {
     Const(Span),
     Strict(Span),
     Relaxed(Span),
-    Shared { word: Span, layout: Layout },
+    Shared { word: Span, layout: Box<Layout> },
 }
 
 /// A layout qualifier (UPC 6.5.1.1).
@@ -202,7 +202,7 @@ pub struct Pointer {
 #[derive(Drop)]
 pub struct Dimension {
     pub open: Span,
-    pub size: Expr,
+    pub size: Box<Expr>,
     pub close: Span,
 }
 
@@ -211,7 +211,7 @@ pub struct Dimension {
 #[derive(Drop)]
 pub struct Member {
     pub specs: Vec<Spec>,
-    pub first: Declarator,
+    pub first: Box<Declarator>,
     pub more: Vec<NextDeclarator>,
     pub semicolon: Span,
 }
@@ -221,7 +221,7 @@ pub struct Member {
 #[derive(Drop)]
 pub struct NextDeclarator {
     pub comma: Span,
-    pub declarator: Declarator,
+    pub declarator: Box<Declarator>,
 }
 
 /// A declarator (C99 6.7.5): an object's or a function's.
@@ -236,7 +236,7 @@ pub enum Declarator {
     Function {
         pointers: Vec<Pointer>,
         name: Name,
-        parameters: Parameters,
+        parameters: Box<Parameters>,
     },
 }
 
@@ -267,7 +267,7 @@ pub enum Parameters {
 #[derive(Drop)]
 pub struct NextParameter {
     pub comma: Span,
-    pub parameter: Parameter,
+    pub parameter: Box<Parameter>,
 }
 
 /// A parameter (C99 6.7.5.3).

@@ -1,24 +1,23 @@
 //! Syntax trees of the language: every token of a source with its place, as the grammar groups them.
 #![tactic(auto)]
 
-mod backwards;
 mod declaration;
 mod expression;
 mod expression_height;
-mod expression_tokens;
 mod mark;
 mod span;
 mod statement;
 mod unit;
-mod unit_height;
-mod unit_tokens;
 
 pub use declaration::{Declaration, Declared, DeclaredList, Initial, NextDeclared};
 pub use expression::{
     Arguments, Declarator, Dimension, Expr, Layout, Member, NextDeclarator, NextExpr,
     NextParameter, Parameter, ParameterArray, Parameters, Pointer, Qual, Spec, TypeName,
 };
-pub use expression_height::expr_height;
+pub use expression_height::{
+    above, declarator_height, expr_height, next_height, parameters_height, pointers_height,
+    specs_height,
+};
 pub use mark::{
     AssignMark, BarrierWord, BinaryMark, ConstantWord, MemberMark, PostfixMark, SizeWord, TypeWord,
     UnaryMark,
@@ -29,5 +28,3 @@ pub use statement::{
     SwitchItem, Test,
 };
 pub use unit::{External, Function, Unit};
-pub use unit_height::height;
-pub use unit_tokens::tokens_of;

@@ -1,7 +1,7 @@
 //! Operators and words, by the part that they play.
 
 /// The operators before an operand (C99 6.5.3).
-#[derive(Clone, Copy, PartialEq, Eq, Debug)]
+#[derive(Clone, Copy)]
 pub enum UnaryMark {
     AddressOf,
     Dereference,
@@ -14,21 +14,21 @@ pub enum UnaryMark {
 }
 
 /// `++` or `--` behind an operand (C99 6.5.2.4).
-#[derive(Clone, Copy, PartialEq, Eq, Debug)]
+#[derive(Clone, Copy)]
 pub enum PostfixMark {
     Increment,
     Decrement,
 }
 
 /// `.` or `->` (C99 6.5.2.3).
-#[derive(Clone, Copy, PartialEq, Eq, Debug)]
+#[derive(Clone, Copy)]
 pub enum MemberMark {
     Dot,
     Arrow,
 }
 
 /// The operators between two operands (C99 6.5.5 to 6.5.14).
-#[derive(Clone, Copy, PartialEq, Eq, Debug)]
+#[derive(Clone, Copy)]
 pub enum BinaryMark {
     Multiply,
     Divide,
@@ -51,7 +51,7 @@ pub enum BinaryMark {
 }
 
 /// The assignment operators (C99 6.5.16).
-#[derive(Clone, Copy, PartialEq, Eq, Debug)]
+#[derive(Clone, Copy)]
 pub enum AssignMark {
     Assign,
     Multiply,
@@ -67,7 +67,7 @@ pub enum AssignMark {
 }
 
 /// The size operators (C99 6.5.3.4, UPC 6.4.1).
-#[derive(Clone, Copy, PartialEq, Eq, Debug)]
+#[derive(Clone, Copy)]
 pub enum SizeWord {
     Sizeof,
     Localsizeof,
@@ -76,7 +76,7 @@ pub enum SizeWord {
 }
 
 /// The words that are expressions (UPC 6.3).
-#[derive(Clone, Copy, PartialEq, Eq, Debug)]
+#[derive(Clone, Copy)]
 pub enum ConstantWord {
     Mythread,
     Threads,
@@ -84,7 +84,7 @@ pub enum ConstantWord {
 }
 
 /// The words among specifiers that are no qualifiers (C99 6.7.1, 6.7.2, UPC 7).
-#[derive(Clone, Copy, PartialEq, Eq, Debug)]
+#[derive(Clone, Copy, PartialEq, Eq)]
 pub enum TypeWord {
     Static,
     Void,
@@ -102,7 +102,7 @@ pub enum TypeWord {
 }
 
 /// The words of the statements that synchronise (UPC 6.6.1).
-#[derive(Clone, Copy, PartialEq, Eq, Debug)]
+#[derive(Clone, Copy)]
 pub enum BarrierWord {
     Notify,
     Wait,

@@ -3,7 +3,7 @@
 use upc_text::{Place, Text};
 
 /// A token's slice of the source, from `start` up to `end`, and its place.
-#[derive(Clone, Copy, PartialEq, Eq, Debug)]
+#[derive(Clone, Copy)]
 pub struct Span {
     pub start: u32,
     pub end: u32,
@@ -11,7 +11,7 @@ pub struct Span {
 }
 
 /// A name: its number among the source's names.
-#[derive(Clone, Copy, PartialEq, Eq, Debug)]
+#[derive(Clone, Copy)]
 pub struct Name {
     pub number: u32,
     pub span: Span,
@@ -25,7 +25,7 @@ pub struct StringLiteral {
 }
 
 /// A pragma (UPC 6.7): whether it says strict, else it says relaxed.
-#[derive(Clone, Copy, PartialEq, Eq, Debug)]
+#[derive(Clone, Copy)]
 pub struct Pragma {
     pub strict: bool,
     pub span: Span,

@@ -9,36 +9,36 @@ use crate::span::{Pragma, Span};
 #[cycle(statement)]
 #[derive(Drop)]
 pub enum Statement {
-    Compound(Compound),
+    Compound(Box<Compound>),
     Expression {
-        value: Option<Expr>,
+        value: Option<Box<Expr>>,
         semicolon: Span,
     },
     /// An `if`, with each `else if` as a further arm.
     If {
         word: Span,
-        test: Test,
+        test: Box<Test>,
         body: Box<Statement>,
         more: Vec<ElseIf>,
         otherwise: Otherwise,
     },
     Switch {
         word: Span,
-        test: Test,
+        test: Box<Test>,
         open: Span,
         body: Vec<SwitchItem>,
         close: Span,
     },
     While {
         word: Span,
-        test: Test,
+        test: Box<Test>,
         body: Box<Statement>,
     },
     DoWhile {
         word: Span,
         body: Box<Statement>,
         until: Span,
-        test: Test,
+        test: Box<Test>,
         semicolon: Span,
     },
     For {
@@ -61,13 +61,13 @@ pub enum Statement {
     },
     Return {
         word: Span,
-        value: Option<Expr>,
+        value: Option<Box<Expr>>,
         semicolon: Span,
     },
     Barrier {
         word: BarrierWord,
         at: Span,
-        value: Option<Expr>,
+        value: Option<Box<Expr>>,
         semicolon: Span,
     },
     Fence {
@@ -90,8 +90,8 @@ pub struct Compound {
 #[cycle(statement)]
 #[derive(Drop)]
 pub enum BlockItem {
-    Declaration(Declaration),
-    Statement(Statement),
+    Declaration(Box<Declaration>),
+    Statement(Box<Statement>),
 }
 
 /// A part of the body of a `switch`: a label or a statement.
@@ -100,14 +100,14 @@ pub enum BlockItem {
 pub enum SwitchItem {
     Case {
         word: Span,
-        value: Expr,
+        value: Box<Expr>,
         colon: Span,
     },
     Default {
         word: Span,
         colon: Span,
     },
-    Statement(Statement),
+    Statement(Box<Statement>),
 }
 
 /// A further arm of an `if`.
@@ -116,8 +116,8 @@ pub enum SwitchItem {
 pub struct ElseIf {
     pub other: Span,
     pub word: Span,
-    pub test: Test,
-    pub body: Statement,
+    pub test: Box<Test>,
+    pub body: Box<Statement>,
 }
 
 /// The last part of an `if`.
@@ -132,7 +132,7 @@ pub enum Otherwise {
 #[derive(Drop)]
 pub struct Test {
     pub open: Span,
-    pub value: Expr,
+    pub value: Box<Expr>,
     pub close: Span,
 }
 
@@ -140,10 +140,10 @@ pub struct Test {
 #[derive(Drop)]
 pub struct ForHead {
     pub open: Span,
-    pub first: First,
-    pub test: Option<Expr>,
+    pub first: Box<First>,
+    pub test: Option<Box<Expr>>,
     pub test_end: Span,
-    pub step: Option<Expr>,
+    pub step: Option<Box<Expr>>,
     pub close: Span,
 }
 
@@ -151,12 +151,12 @@ pub struct ForHead {
 #[derive(Drop)]
 pub struct ForallHead {
     pub open: Span,
-    pub first: First,
-    pub test: Option<Expr>,
+    pub first: Box<First>,
+    pub test: Option<Box<Expr>>,
     pub test_end: Span,
-    pub step: Option<Expr>,
+    pub step: Option<Box<Expr>>,
     pub step_end: Span,
-    pub affinity: Affinity,
+    pub affinity: Box<Affinity>,
     pub close: Span,
 }
 
@@ -164,10 +164,10 @@ pub struct ForallHead {
 #[derive(Drop)]
 pub enum First {
     Expression {
-        value: Option<Expr>,
+        value: Option<Box<Expr>>,
         semicolon: Span,
     },
-    Declaration(Declaration),
+    Declaration(Box<Declaration>),
 }
 
 /// The affinity of a `upc_forall` (UPC 6.6.2).
@@ -175,5 +175,5 @@ pub enum First {
 pub enum Affinity {
     Absent,
     Continue(Span),
-    Value(Expr),
+    Value(Box<Expr>),
 }

@@ -15,8 +15,8 @@ pub struct Unit {
 #[derive(Drop)]
 pub enum External {
     Pragma(Pragma),
-    Declaration(Declaration),
-    Function(Function),
+    Declaration(Box<Declaration>),
+    Function(Box<Function>),
 }
 
 /// The definition of a function (C99 6.9.1).
@@ -25,6 +25,6 @@ pub struct Function {
     pub specs: Vec<Spec>,
     pub pointers: Vec<Pointer>,
     pub name: Name,
-    pub parameters: Parameters,
-    pub body: Compound,
+    pub parameters: Box<Parameters>,
+    pub body: Box<Compound>,
 }

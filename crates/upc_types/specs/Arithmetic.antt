@@ -26,15 +26,17 @@ unsigned_of Int = UInt
 unsigned_of Long = ULong
 unsigned_of kind = kind
 
--- Of an unsigned and a signed kind (C99 6.3.1.8): the unsigned one where its rank is not lower; else the signed one where it has all
--- values of the unsigned one, that is, where it is wider; else the unsigned kind of the signed one's rank.
+-- Of an unsigned and a signed kind (C99 6.3.1.8): the unsigned one where its rank is not lower; else the signed one
+-- where it has all values of the unsigned one, that is, where it is wider; else the unsigned kind of the signed one's
+-- rank.
 abbrev pub mixed : Kind → Kind → Kind
 mixed unsigned signed =
     if nat_le (rank signed) (rank unsigned)
     then unsigned
     else (if nat_lt (width unsigned) (width signed) then signed else unsigned_of signed)
 
--- The usual arithmetic conversions of promoted kinds (C99 6.3.1.8): one kind, the higher rank of two signed or two unsigned ones, or `mixed`.
+-- The usual arithmetic conversions of promoted kinds (C99 6.3.1.8): one kind, the higher rank of two signed or two
+-- unsigned ones, or `mixed`.
 abbrev pub common : Kind → Kind → Kind
 common a b =
     if is_signed a

@@ -12,14 +12,16 @@ use Rattle.upc_types.specs.Layout.{aligned, base_layout, layout_in}
 abbrev pub alike : CType → CType → Bool
 alike (Qualified a c s x) (Qualified b d t y) = same_block s t && same_base a b
 
--- The number of the type of a pointer to this target: the place of the first target that is alike, and where none is, their count.
+-- The number of the type of a pointer to this target: the place of the first target that is alike, and where none is,
+-- their count.
 abbrev pub number_of : List CType → CType → ℕ
 number_of [] t = 0
 number_of (target ∷ targets) t = if alike target t then 0 else number_of targets t + 1
 
 -- A number that was given to a target stands for one pointer type: another target has it exactly where it is alike.
 abbrev pub IsItsOwn : List CType → CType → ℕ → Type 0
-IsItsOwn targets t number = number < length targets → (other : CType) → (number_of targets other ≡ number) ↔ (alike t other ≡ true)
+IsItsOwn targets t number = number < length targets → (other : CType)
+    → (number_of targets other ≡ number) ↔ (alike t other ≡ true)
 
 -- Whether a target that is alike has a number.
 abbrev pub is_noted : List CType → CType → Bool
@@ -66,14 +68,17 @@ leaf_cells targets structs b = []
 
 -- The cells of an object: those of its leaf elements, one behind the other.
 abbrev pub object_cells : List CType → (ℕ → Layout) → (ℕ → List (ℕ × Kind)) → Base → List (ℕ × Kind)
-object_cells targets layouts structs b = copies (leaves b) (base_layout layouts (leaf_base b)).size (leaf_cells targets structs (leaf_base b))
+object_cells targets layouts structs b = copies (leaves b) (base_layout layouts (leaf_base b)).size
+    (leaf_cells targets structs (leaf_base b))
 
--- The cells of members behind that many bytes, each member at the first place of its alignment behind the one before it.
+-- The cells of members behind that many bytes, each member at the first place of its alignment behind the one before
+-- it.
 abbrev pub member_cells : List CType → (ℕ → Layout) → (ℕ → List (ℕ × Kind)) → ℕ → List Member → List (ℕ × Kind)
 member_cells targets layouts structs end [] = []
 member_cells targets layouts structs end (m ∷ ms) =
     let start = aligned end (base_layout layouts (base_of m.ctype)).align in
-    moved start (object_cells targets layouts structs (base_of m.ctype)) ++ member_cells targets layouts structs (start + (base_layout layouts (base_of m.ctype)).size) ms
+    moved start (object_cells targets layouts structs (base_of m.ctype))
+    ++ member_cells targets layouts structs (start + (base_layout layouts (base_of m.ctype)).size) ms
 
 -- The cells of a struct are those of its members; an incomplete one has none.
 abbrev pub struct_cells : List CType → List Completed → ℕ → List (ℕ × Kind)
@@ -99,4 +104,8 @@ object_shape structs b = record {
 
 -- The structs once this target of pointers has a number.
 abbrev pub with_target : Structs → CType → Structs
-with_target structs t = record { declared = structs.declared; completed = structs.completed; targets = noted structs.targets t }
+with_target structs t = record {
+  declared = structs.declared;
+  completed = structs.completed;
+  targets = noted structs.targets t;
+}

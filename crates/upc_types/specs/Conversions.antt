@@ -1,4 +1,5 @@
--- Which conversions are allowed (C99 6.3.2.3, 6.5.4, 6.5.16.1; UPC 6.4.3, 6.5.1.1). They look at types without their own qualifiers.
+-- Which conversions are allowed (C99 6.3.2.3, 6.5.4, 6.5.16.1; UPC 6.4.3, 6.5.1.1). They look at types without their
+-- own qualifiers.
 use Rattle.std.specs.Prelude.{ℕ, Bool, true, false, ◌&&◌, ◌||◌, not, Option, Some, None}
 use Rattle.upc_types.specs.Types.{CType, Qualified, Base, Integer, Pointer, base_of, Structs}
 use Rattle.upc_types.specs.Same.{same_base, same_block, is_lock_object, is_void}
@@ -41,19 +42,23 @@ integer_to_integer from into = is_integer from && is_integer into
 abbrev pub zero_to_pointer : Bool → Base → Base → Bool
 zero_to_pointer zero from into = zero && (is_integer from && is_pointer into)
 
--- A pointer to one with the same target and the same block; the target may gain const, and change between strict and relaxed.
+-- A pointer to one with the same target and the same block; the target may gain const, and change between strict and
+-- relaxed.
 abbrev pub same_target : Base → Base → Bool
-same_target (Pointer (Qualified a c s x)) (Pointer (Qualified b d t y)) = same_base a b && (same_block s t && keeps_const c d)
+same_target (Pointer (Qualified a c s x)) (Pointer (Qualified b d t y)) = same_base a b
+    && (same_block s t && keeps_const c d)
 same_target from into = false
 
 -- A pointer-to-shared to one with the same target and another block.
 abbrev pub to_other_block : Base → Base → Bool
-to_other_block (Pointer (Qualified a c s x)) (Pointer (Qualified b d t y)) = (same_base a b && not (is_lock_object a)) && ((is_shared s && is_shared t) && keeps_const c d)
+to_other_block (Pointer (Qualified a c s x)) (Pointer (Qualified b d t y)) = (same_base a b && not (is_lock_object a))
+    && ((is_shared s && is_shared t) && keeps_const c d)
 to_other_block from into = false
 
 -- A pointer-to-shared to a private pointer with the same target.
 abbrev pub to_private : Base → Base → Bool
-to_private (Pointer (Qualified a c s x)) (Pointer (Qualified b d t y)) = (same_base a b && not (is_lock_object a)) && ((is_shared s && not (is_shared t)) && keeps_const c d)
+to_private (Pointer (Qualified a c s x)) (Pointer (Qualified b d t y)) = (same_base a b && not (is_lock_object a))
+    && ((is_shared s && not (is_shared t)) && keeps_const c d)
 to_private from into = false
 
 -- The result of an allocation call to a pointer-to-shared to a complete type.

@@ -44,7 +44,10 @@ abbrev pub base_layout : (ℕ → Layout) → Base → Layout
 base_layout structs Void = no_layout
 base_layout structs (Integer kind) = scalar (kind_size kind)
 base_layout structs (Struct number) = structs number
-base_layout structs (Array (Qualified e c s x) count) = record { size = count * (base_layout structs e).size; align = (base_layout structs e).align }
+base_layout structs (Array (Qualified e c s x) count) = record {
+  size = count * (base_layout structs e).size;
+  align = (base_layout structs e).align;
+}
 base_layout structs (Pointer (Qualified target c s x)) = scalar (pointer_size target s)
 base_layout structs LockObject = no_layout
 
@@ -68,7 +71,8 @@ layout_or_none (Some k) = k.layout
 abbrev pub is_private_target : CType → Bool
 is_private_target (Qualified b c s x) = not (is_some s) && not (is_lock_object b)
 
--- Whether an object of a type holds a pointer to a private object, itself, in a member or in an element, where it is known of which structs that is so.
+-- Whether an object of a type holds a pointer to a private object, itself, in a member or in an element, where it is
+-- known of which structs that is so.
 abbrev pub base_holds_private : (ℕ → Bool) → Base → Bool
 base_holds_private structs (Pointer t) = is_private_target t
 base_holds_private structs (Struct number) = structs number
@@ -83,8 +87,8 @@ abbrev pub private_or_not : Option Known → Bool
 private_or_not None = false
 private_or_not (Some k) = k.holds_private
 
--- What is known of a struct: its place in the order of completion, from 0, its layout, and whether an object of it holds a pointer to a private
--- object. None where it is incomplete.
+-- What is known of a struct: its place in the order of completion, from 0, its layout, and whether an object of it
+-- holds a pointer to a private object. None where it is incomplete.
 abbrev pub known_in : List Completed → ℕ → Option Known
 known_in [] number = None
 known_in (c ∷ older) number =
@@ -138,25 +142,36 @@ abbrev pub all_complete : (ℕ → Bool) → List Member → Bool
 all_complete structs [] = true
 all_complete structs (m ∷ ms) = base_complete structs (base_of m.ctype) && all_complete structs ms
 
--- The layout of a struct of these members, None where one is incomplete or the struct has more bytes than an object can have.
+-- The layout of a struct of these members, None where one is incomplete or the struct has more bytes than an object can
+-- have.
 abbrev pub members_within : List Completed → List Member → Option Layout
 members_within completed ms =
-    if all_complete (complete_in completed) ms && nat_le (struct_layout (member_layouts (layout_in completed) ms)).size most_bytes
+    if all_complete (complete_in completed) ms && nat_le
+    (struct_layout (member_layouts (layout_in completed) ms)).size most_bytes
     then Some (struct_layout (member_layouts (layout_in completed) ms))
     else None
 
 -- The layout of an array, where its element has this one.
 abbrev pub many : Option Layout → ℕ → Option Layout
 many None count = None
-many (Some e) count = if nat_lt 0 count && nat_le (count * e.size) most_bytes then Some record { size = count * e.size; align = e.align } else None
+many (Some e) count = if nat_lt 0 count && nat_le (count * e.size) most_bytes
+    then Some record { size = count * e.size; align = e.align } else None
 
--- The layout of a struct whose members up to `end`, of this widest alignment, are followed by these; None as in `members_within`.
+-- The layout of a struct whose members up to `end`, of this widest alignment, are followed by these; None as in
+-- `members_within`.
 abbrev pub members_from : List Completed → ℕ → ℕ → List Member → Option Layout
 members_from completed end align ms =
-    if all_complete (complete_in completed) ms && nat_le (aligned (end_behind end (member_layouts (layout_in completed) ms)) (widest align (member_layouts (layout_in completed) ms))) most_bytes
-    then Some record { size = aligned (end_behind end (member_layouts (layout_in completed) ms)) (widest align (member_layouts (layout_in completed) ms)); align = widest align (member_layouts (layout_in completed) ms) }
+    if all_complete (complete_in completed) ms && nat_le
+    (aligned (end_behind end (member_layouts (layout_in completed) ms))
+    (widest align (member_layouts (layout_in completed) ms))) most_bytes
+    then Some record {
+      size = aligned (end_behind end (member_layouts (layout_in completed) ms))
+          (widest align (member_layouts (layout_in completed) ms));
+      align = widest align (member_layouts (layout_in completed) ms);
+    }
     else None
 
 -- The layout of a struct whose members end there, None where it has more bytes than an object can have.
 abbrev pub finished : ℕ → ℕ → Option Layout
-finished end align = if nat_le (aligned end align) most_bytes then Some record { size = aligned end align; align = align } else None
+finished end align = if nat_le (aligned end align) most_bytes
+    then Some record { size = aligned end align; align = align } else None

@@ -31,7 +31,8 @@ abbrev pub same_base : Base → Base → Bool
 same_base Void Void = true
 same_base (Integer k) (Integer l) = same_kind k l
 same_base (Struct m) (Struct n) = m == n
-same_base (Array (Qualified a c s x) m) (Array (Qualified b d t y) n) = m == n && (same_qualifiers c s x d t y && same_base a b)
+same_base (Array (Qualified a c s x) m) (Array (Qualified b d t y) n) = m == n
+    && (same_qualifiers c s x d t y && same_base a b)
 same_base (Pointer (Qualified a c s x)) (Pointer (Qualified b d t y)) = same_qualifiers c s x d t y && same_base a b
 same_base LockObject LockObject = true
 same_base a b = false

@@ -4,7 +4,8 @@ use Rattle.block_layout.specs.declared.kind.Kind.{Kind}
 use Rattle.upc_types.specs.declared.ctype.Access.{Access}
 
 mutual
-  -- A type: its base, whether it is const, its block size where it is shared (0 for indefinite), and whether it says strict or relaxed.
+  -- A type: its base, whether it is const, its block size where it is shared (0 for indefinite), and whether it says
+  -- strict or relaxed.
   pub data CType : Type 0 where
     Qualified : (base : Base) (constant : Bool) (shared : Option ℕ) (access : Access) → CType
 
@@ -40,8 +41,9 @@ pub record Completed : Type 0 where
   pub number : ℕ
   pub members : List Member
 
--- The structs have the numbers below `declared`. Those with members are `completed`, the one that was completed last first; so a member's
--- type speaks, behind no pointer, of later entries alone. `targets` are the targets of pointer types by number.
+-- The structs have the numbers below `declared`. Those with members are `completed`, the one that was completed last
+-- first; so a member's type speaks, behind no pointer, of later entries alone. `targets` are the targets of pointer
+-- types by number.
 pub record Structs : Type 0 where
   pub declared : ℕ
   pub completed : List Completed

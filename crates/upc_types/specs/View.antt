@@ -11,7 +11,8 @@ abbrev pub view_base : Base → t.Base
 view_base b.Void = t.Void
 view_base (b.Integer kind) = t.Integer kind
 view_base (b.Struct number) = t.Struct number
-view_base (b.Array' p base constant shared access count) = t.Array (t.Qualified (view_base base) constant shared access) count
+view_base (b.Array' p base constant shared access count) = t.Array
+    (t.Qualified (view_base base) constant shared access) count
 view_base (b.Pointer' p base constant shared access) = t.Pointer (t.Qualified (view_base base) constant shared access)
 view_base b.LockObject = t.LockObject
 

@@ -8,7 +8,8 @@ ghost use Rattle.upc_types.specs.View.{view, view_base};
 use crate::ctype::{Base, CType};
 use crate::same::{same_base, same_block};
 
-/// Whether a value of one type converts to the other without a cast; `zero` says that it is the constant 0. Takes no memory.
+/// Whether a value of one type converts to the other without a cast; `zero` says that it is the constant 0. Takes no
+/// memory.
 pub fn assignable(from: &CType, into: &CType, zero: bool) -> bool
     ensures { result ≡ pure.assignable (view from.now) (view into.now) zero }
 {
@@ -29,7 +30,8 @@ pub fn castable(from: &CType, into: &CType, zero: bool) -> bool
         || is_void(&into.base)
 }
 
-/// Whether a value may be given for a parameter of the library of type `shared void *`; `zero` says that it is the constant 0.
+/// Whether a value may be given for a parameter of the library of type `shared void *`; `zero` says that it is the
+/// constant 0.
 pub fn to_shared_void(from: &CType, zero: bool) -> bool
     ensures { result ≡ pure.to_shared_void (view_base from.now.base) zero }
 {

@@ -54,7 +54,12 @@ fn levels_of(alloc: Global, t: &CType) -> Result<Vec<Level>, OutOfMemory>
 
 // The outermost pointer or array of a type, with this number of elements.
 fn outermost(t: &CType, count: Option<u32>) -> Level
-    ensures { result ≡ record { count = count; constant = t.now.constant; shared = t.now.shared; access = t.now.access } }
+    ensures { result ≡ record {
+      count = count;
+      constant = t.now.constant;
+      shared = t.now.shared;
+      access = t.now.access;
+    } }
 {
     Level {
         count,

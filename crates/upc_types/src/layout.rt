@@ -17,9 +17,9 @@ pub struct Layout {
     pub align: u32,
 }
 
-/// What is known of a complete struct: its place in the order of completion, from 0, its layout, and whether an object of it
-/// holds a pointer to a private object.
-#[derive(Clone, Copy, PartialEq, Eq, Debug)]
+/// What is known of a complete struct: its place in the order of completion, from 0, its layout, and whether an object
+/// of it holds a pointer to a private object.
+#[derive(Clone, Copy)]
 pub struct Known {
     pub place: usize,
     pub layout: Layout,

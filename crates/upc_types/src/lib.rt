@@ -11,19 +11,16 @@ mod shape;
 mod size;
 mod structs;
 mod targets;
-#[cfg(test)]
-mod tests;
 
 pub use arithmetic::{promoted, usual};
 pub use conversion::{
-    assignable, castable, is_integer, is_lock_pointer, is_pointer, is_private_pointer,
-    is_shared_pointer, is_void, to_shared_void, to_void_pointer,
+    assignable, castable, is_integer, is_lock_pointer, is_void, to_shared_void, to_void_pointer,
 };
 pub use copy::{copy_base, copy_type};
 pub use ctype::{Access, Base, CType};
-pub use layout::{Layout, MOST_BYTES};
+pub use layout::Layout;
 pub use same::{same_base, same_block, same_type};
 pub use shape::{object_shape, shape_of};
-pub use size::{alignment_of, size_of, takes_allocation};
+pub use size::{size_of, takes_allocation};
 pub use structs::{Completed, Member, Structs};
 pub use targets::alike;

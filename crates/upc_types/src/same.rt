@@ -15,7 +15,8 @@ pub fn same_type(a: &CType, b: &CType) -> bool
 
 // Whether two types have the same qualifiers of their own.
 fn same_qualifiers(a: &CType, b: &CType) -> bool
-    ensures { result ≡ pure.same_qualifiers a.now.constant a.now.shared a.now.access b.now.constant b.now.shared b.now.access }
+    ensures { result ≡ pure.same_qualifiers a.now.constant a.now.shared a.now.access b.now.constant
+        b.now.shared b.now.access }
 {
     a.constant == b.constant && same_block(a.shared, b.shared) && same_access(a.access, b.access)
 }

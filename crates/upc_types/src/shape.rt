@@ -14,7 +14,8 @@ use block_layout::{Cells, Kind, Shape};
 use std::alloc::Global;
 use upc_text::OutOfMemory;
 
-/// The shape of one leaf element of an object of this type: of an array of arrays, the innermost element; else the object itself.
+/// The shape of one leaf element of an object of this type: of an array of arrays, the innermost element; else the
+/// object itself.
 pub fn shape_of(alloc: Global, t: &CType, structs: &Structs) -> Result<Shape, OutOfMemory>
     requires complete { is_complete (view_structs structs.now) (view t.now) ≡ true }
     requires few { size (view_structs structs.now) (view t.now) ≤ most_bytes }
@@ -50,7 +51,9 @@ impl Structs {
     pub fn leaf_cells(&self, alloc: Global, leaf: &Base) -> Result<Vec<(u32, Kind)>, OutOfMemory>
         requires complete { base_complete (complete_in (view_structs self.now).completed) (view_base leaf.now) ≡ true }
         ensures { IfOk result (λ cells. cells.items
-            ≡ pure.leaf_cells (view_structs self.now).targets (pure.struct_cells (view_structs self.now).targets (view_structs self.now).completed) (view_base leaf.now)) }
+            ≡ pure.leaf_cells (view_structs self.now).targets
+            (pure.struct_cells (view_structs self.now).targets (view_structs self.now).completed)
+            (view_base leaf.now)) }
     {
         match leaf {
             Base::Integer(kind) => one_cell(alloc, *kind),
@@ -64,7 +67,9 @@ impl Structs {
     #[cycle(cells)]
     fn struct_cells(&self, alloc: Global, number: u32) -> Result<Vec<(u32, Kind)>, OutOfMemory>
         requires complete { complete_in (view_structs self.now).completed number ≡ true }
-        ensures { IfOk result (λ cells. cells.items ≡ pure.struct_cells (view_structs self.now).targets (view_structs self.now).completed number) }
+        ensures { IfOk result (λ cells. cells.items
+            ≡ pure.struct_cells (view_structs self.now).targets
+            (view_structs self.now).completed number) }
     {
         let members = self.members(number);
         let mut cells = Vec::new(alloc);
@@ -89,11 +94,17 @@ impl Structs {
         part: &[(u32, Kind)],
     ) -> Result<(), OutOfMemory>
         requires complete { base_complete (complete_in (view_structs self.now).completed) (view_base base.now) ≡ true }
-        requires near { start + (base_layout (layout_in (view_structs self.now).completed) (view_base base.now)).size ≤ most_bytes }
+        requires near { start + (base_layout (layout_in (view_structs self.now).completed)
+            (view_base base.now)).size ≤ most_bytes }
         requires leaf { part.now
-            ≡ pure.leaf_cells (view_structs self.now).targets (pure.struct_cells (view_structs self.now).targets (view_structs self.now).completed) (pure.leaf_base (view_base base.now)) }
+            ≡ pure.leaf_cells (view_structs self.now).targets
+            (pure.struct_cells (view_structs self.now).targets (view_structs self.now).completed)
+            (pure.leaf_base (view_base base.now)) }
         ensures { OnOk result (cells.new.items ≡ cells.old.items
-            ++ pure.moved start (pure.object_cells (view_structs self.now).targets (layout_in (view_structs self.now).completed) (pure.struct_cells (view_structs self.now).targets (view_structs self.now).completed) (view_base base.now))) }
+            ++ pure.moved start (pure.object_cells (view_structs self.now).targets
+            (layout_in (view_structs self.now).completed)
+            (pure.struct_cells (view_structs self.now).targets
+            (view_structs self.now).completed) (view_base base.now))) }
     {
         let size = self.whole_layout(leaf_of(base)).size;
         let count = self.whole_layout(base).size / size;

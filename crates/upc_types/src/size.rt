@@ -1,4 +1,4 @@
-//! The size and the alignment of a type (C99 6.5.3.4).
+//! The size of a type (C99 6.5.3.4).
 
 ghost use Rattle.std.specs.Prelude.{◌≡◌, ◌<◌, ◌≤◌, true};
 ghost use Rattle.upc_types.specs.Layout as pure;
@@ -20,20 +20,6 @@ pub fn size_of(t: &CType, structs: &Structs) -> u32
 {
     match structs.layout_of(&t.base) {
         Some(layout) => layout.size,
-        None => 0,
-    }
-}
-
-/// The alignment of a type in bytes: from 1 to 16. Takes no memory.
-pub fn alignment_of(t: &CType, structs: &Structs) -> u32
-    requires complete { pure.is_complete (view_structs structs.now) (view t.now) ≡ true }
-    requires few { pure.size (view_structs structs.now) (view t.now) ≤ pure.most_bytes }
-    ensures value { result ≡ pure.alignment (view_structs structs.now) (view t.now) }
-    ensures low { 0 < result }
-    ensures high { result ≤ 16 }
-{
-    match structs.layout_of(&t.base) {
-        Some(layout) => layout.align,
         None => 0,
     }
 }

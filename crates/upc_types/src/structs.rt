@@ -75,7 +75,8 @@ impl Structs {
     /// One more struct; answers its number. After want of memory nothing is changed.
     pub fn declare(&mut self) -> Result<u32, OutOfMemory>
         ensures number { IfOk result (λ n. n ≡ (view_structs self.old).declared) }
-        ensures ok { OnOk result (view_structs self.new ≡ record (view_structs self.old) { declared = (view_structs self.old).declared + 1 }) }
+        ensures ok { OnOk result (view_structs self.new
+            ≡ record (view_structs self.old) { declared = (view_structs self.old).declared + 1 }) }
         ensures err { OnErr result (view_structs self.new ≡ view_structs self.old) }
     {
         let number = self.declared;
@@ -107,7 +108,8 @@ impl Structs {
     // The layout of a complete type.
     pub fn whole_layout(&self, base: &Base) -> Layout
         requires complete { base_complete (complete_in (view_structs self.now).completed) (view_base base.now) ≡ true }
-        requires few { (base_layout (layout_in (view_structs self.now).completed) (view_base base.now)).size ≤ most_bytes }
+        requires few { (base_layout (layout_in (view_structs self.now).completed)
+            (view_base base.now)).size ≤ most_bytes }
         ensures value { result ≡ base_layout (layout_in (view_structs self.now).completed) (view_base base.now) }
         ensures fine { IsFine result }
     {
@@ -138,8 +140,8 @@ impl Structs {
         }
     }
 
-    /// The layout of a struct with these members, None where one is incomplete or there are more bytes than an object can
-    /// have. Takes no memory.
+    /// The layout of a struct with these members, None where one is incomplete or there are more bytes than an object
+    /// can have. Takes no memory.
     pub fn members_layout(&self, members: &[Member]) -> Option<Layout>
         ensures value { result ≡ members_within (view_structs self.now).completed (map view_member members.now) }
         ensures fine { 0 < length members.now → IfSome result IsFine }
@@ -174,7 +176,8 @@ impl Structs {
         }
     }
 
-    /// Whether an object of a type holds a pointer to a private object, itself, in a member or in an element. Takes no memory.
+    /// Whether an object of a type holds a pointer to a private object, itself, in a member or in an element. Takes no
+    /// memory.
     pub fn holds_private(&self, base: &Base) -> bool
         ensures { result ≡ base_holds_private (private_in (view_structs self.now).completed) (view_base base.now) }
     {
@@ -188,7 +191,8 @@ impl Structs {
 
     // Whether one of these members holds a pointer to a private object.
     fn members_hold_private(&self, members: &[Member]) -> bool
-        ensures { result ≡ members_hold_private (private_in (view_structs self.now).completed) (map view_member members.now) }
+        ensures { result ≡ members_hold_private (private_in (view_structs self.now).completed)
+            (map view_member members.now) }
     {
         for member in members {
             if self.holds_private(&member.ctype.base) {
@@ -206,9 +210,11 @@ impl Structs {
         layout: Layout,
     ) -> Result<(), OutOfMemory>
         requires incomplete { known_in (view_structs self.old).completed number ≡ None }
-        requires layout { members_within (view_structs self.old).completed (map view_member members.items) ≡ Some layout }
+        requires layout { members_within (view_structs self.old).completed
+            (map view_member members.items) ≡ Some layout }
         requires fine { IsFine layout }
-        ensures ok { OnOk result (view_structs self.new ≡ with_members (view_structs self.old) number (map view_member members.items)) }
+        ensures ok { OnOk result (view_structs self.new
+            ≡ with_members (view_structs self.old) number (map view_member members.items)) }
         ensures err { OnErr result (view_structs self.new ≡ view_structs self.old) }
     {
         let holds_private = self.members_hold_private(members.as_slice());
@@ -246,7 +252,8 @@ impl Structs {
         }
     }
 
-    /// The number of the type of a pointer to this target, without its const, strict and relaxed: how many there are where it has none.
+    /// The number of the type of a pointer to this target, without its const, strict and relaxed: how many there are
+    /// where it has none.
     pub fn number_of(&self, target: &CType) -> u32
         ensures value { result ≡ number_of (view_structs self.now).targets (view target.now) }
         ensures most { result ≤ length (view_structs self.now).targets }
@@ -255,8 +262,8 @@ impl Structs {
         number_among(self.targets.as_slice(), target)
     }
 
-    /// Gives the type of a pointer to this target a number where it has none; answers the number. After want of memory nothing is
-    /// changed.
+    /// Gives the type of a pointer to this target a number where it has none; answers the number. After want of memory
+    /// nothing is changed.
     pub fn note(&mut self, target: &CType) -> Result<u32, OutOfMemory>
         ensures number { IfOk result (λ n. n ≡ number_of (view_structs self.new).targets (view target.now)) }
         ensures below { IfOk result (λ n. n < length (view_structs self.new).targets) }
@@ -273,6 +280,13 @@ impl Structs {
             self.targets.push(copy)?;
         }
         Ok(number)
+    }
+
+    /// No target of pointers has a number any longer.
+    pub fn forget_targets(&mut self)
+        ensures { view_structs self.new ≡ record (view_structs self.old) { targets = [] } }
+    {
+        self.targets.clear();
     }
 
     // The kind of a pointer to this target.

@@ -6,6 +6,7 @@ pub mod Waits
 pub mod Walks
 pub mod Records
 pub mod Replies
+pub mod Known
 pub mod Scalars
 pub mod Membership
 pub mod Sameness
@@ -22,6 +23,11 @@ pub mod Parts
 pub mod Unmade
 pub mod Fitting
 pub mod SoundOrders
+pub mod Pieces
+pub mod LockTurns
 mod OrderRows
 mod CallRows
+mod LibraryRows
+mod PrintingRows
+mod RoundRows
 mod NumberRows

@@ -78,7 +78,8 @@ module _ (o : Opening) (before more : List Entry) where
       let g = objects-append o before more in
       subst (λ z. is_named o.threads z p ≡ true) (sym g.1) (named-stays o.threads (objects o before) g.0 p h)
 
-  known-stays : (v : Scalar) → is_known o before v ≡ true → is_known o (before ++ more) v ≡ true
+  -- a value that is known stays known
+  pub known-stays : (v : Scalar) → is_known o before v ≡ true → is_known o (before ++ more) v ≡ true
   known-stays (Int v) h = refl
   known-stays (Shared p) h = knows-stays p h
   known-stays (Lock l) h = lock-stays before more l h

@@ -8,7 +8,8 @@ use Rattle.upc_values.specs.History.{EachBelow}
 use Rattle.upc_values.specs.Sound.{IsSound}
 use Rattle.upc_values.specs.Consistent.{FollowsBuffers}
 
-pub sound-follows : (o : Opening) (outcome : ℕ → List Reply → Outcome) (j : Journal) → IsSound o outcome j → FollowsBuffers j
+pub sound-follows : (o : Opening) (outcome : ℕ → ℕ → List Reply → Outcome) (j : Journal) → IsSound o outcome j
+    → FollowsBuffers j
 sound-follows o outcome j s =
     record {
       many = s.many ∙ sym s.threads;

@@ -15,9 +15,9 @@ use Rattle.upc_values.specs.Views.{destination, source, byte_at, from_phase_0, w
 abbrev pub Holding : Type 0
 Holding = Loc → Option Scalar
 
--- the byte of the source that goes to byte x of the destination: a broadcast repeats its n bytes, a scatter and a gather
--- keep their order, a gather_all repeats all blocks, and in an exchange byte r of part j of block t is byte r of part t
--- of block j
+-- the byte of the source that goes to byte x of the destination: a broadcast repeats its n bytes, a scatter and a
+-- gather keep their order, a gather_all repeats all blocks, and in an exchange byte r of part j of block t is byte r of
+-- part t of block j
 abbrev pub source_byte : Way → ℕ → ℕ → ℕ → ℕ
 source_byte Broadcast threads n x = x % n
 source_byte Scatter threads n x = x

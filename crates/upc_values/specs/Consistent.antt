@@ -55,7 +55,8 @@ pub record IsOrderOf (set : Operation → Type 0) (order : List Operation) : Typ
 
 -- a strict order, and for each thread an order of its own operations, all writes and all strict reads, make the
 -- operations UPC consistent (UPC Appendix B)
-pub record IsConsistent (initial : Loc → Scalar) (threads : ℕ) (set : Operation → Type 0) (strict : Operation → Operation → Type 0) (order : ℕ → List Operation) : Type 0 where
+pub record IsConsistent (initial : Loc → Scalar) (threads : ℕ) (set : Operation → Type 0)
+    (strict : Operation → Operation → Type 0) (order : ℕ → List Operation) : Type 0 where
   -- the strict order is a strict partial order, and each thread's is a total order of that set
   pub irreflexive : (a : Operation) → strict a a → ⊥
   pub transitive : (a b c : Operation) → strict a b → strict b c → strict a c

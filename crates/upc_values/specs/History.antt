@@ -144,7 +144,8 @@ allocated es = filter_map (λ e. pointer_of e.reply) (filter (λ e. makes e.acti
 -- a free is of what an allocation gave and nothing has released
 abbrev pub free_reply : List Entry → SharedPtr → Reply
 free_reply es p =
-    cond (list_any (λ q. same_target p q && not (is_released q.object.number es)) (allocated es)) Done (Refused BAD_FREE)
+    cond (list_any (λ q. same_target p q && not (is_released q.object.number es)) (allocated es)) Done
+    (Refused BAD_FREE)
 
 -- locks: an upc_global_lock_alloc or a leading upc_all_lock_alloc makes the next, from 1 on (UPC 7.2.4)
 abbrev pub makes_lock : Action → Call → Bool
@@ -262,7 +263,8 @@ agrees_with m None = true
 abbrev pub wait_reply : Opening → List Entry → ℕ → Mark → Option Reply
 wait_reply o es p m =
     cond (all_notified o.threads p es)
-    (Some (cond (each_thread o.threads (λ u. agrees_with m (slice_get (marks u es) p))) Done (Refused BARRIER_MISMATCH)))
+    (Some (cond (each_thread o.threads (λ u. agrees_with m (slice_get (marks u es) p))) Done
+    (Refused BARRIER_MISMATCH)))
     None
 
 -- collective calls: the first of the j-th ones is answered by what it asks for

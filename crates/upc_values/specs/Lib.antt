@@ -7,7 +7,9 @@ pub mod Drain
 pub mod Strands
 pub mod Ends
 pub mod Sound
+pub mod Rounds
 pub mod Waits
+pub mod Locks
 pub mod Agrees
 pub mod Operations
 pub mod Orders
@@ -16,6 +18,7 @@ pub mod Calls
 pub mod Openings
 pub mod History
 pub mod Formed
+pub mod Known
 pub mod Basic
 pub mod Expansion
 pub mod Views
@@ -23,3 +26,6 @@ pub mod Copying
 pub mod Reductions
 pub mod Expansions
 pub mod Collective
+pub mod Printing
+pub mod Together
+pub mod LibraryCalls

@@ -79,7 +79,8 @@ is_initial o (Int v) = true
 is_initial o (Shared p) = is_named o.threads o.declared p
 is_initial o (Lock l) = l == 0
 
--- an opening: 1 to 32 threads, shapes of shared elements, at most 16,777,216 bytes, and at most one initial value for a cell, which fits it
+-- an opening: 1 to 32 threads, shapes of shared elements, at most 16,777,216 bytes, and at most one initial value for a
+-- cell, which fits it
 pub record IsOpening (o : Opening) : Type 0 where
   pub least : 0 < o.threads
   pub most : o.threads ≤ 32

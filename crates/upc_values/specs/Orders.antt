@@ -52,11 +52,21 @@ roomy w = cond (nat_lt (length w.pending) 64) w (first_out w.pending w)
 
 -- the entry becomes pending, as the last
 abbrev pub put_in : Entry → Placing → Placing
-put_in e w = record { next = w.next + 1; emitted = w.emitted; pending = w.pending ++ commit_of e ∷ []; agrees = w.agrees }
+put_in e w = record {
+  next = w.next + 1;
+  emitted = w.emitted;
+  pending = w.pending ++ commit_of e ∷ [];
+  agrees = w.agrees;
+}
 
 -- the entry itself
 abbrev pub put_out : Entry → Placing → Placing
-put_out e w = record { next = w.next + 1; emitted = w.emitted ++ commit_of e ∷ []; pending = w.pending; agrees = w.agrees }
+put_out e w = record {
+  next = w.next + 1;
+  emitted = w.emitted ++ commit_of e ∷ [];
+  pending = w.pending;
+  agrees = w.agrees;
+}
 
 -- the value of the last pending write of the location
 abbrev pub pending_value : Loc → List Commit → Option Scalar

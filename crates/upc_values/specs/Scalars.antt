@@ -2,27 +2,13 @@
 use Rattle.std.specs.Prelude.{ℤ, pos, negsuc, int_le, ◌==◌, Bool, false, ◌&&◌, Option, Some, None}
 use Rattle.std.specs.Ordering.{int_eq}
 use Rattle.block_layout.specs.declared.place.Loc.{Loc}
-use Rattle.block_layout.specs.declared.place.ObjectRef.{ObjectRef}
-use Rattle.block_layout.specs.declared.place.SharedPtr.{SharedPtr}
+use Rattle.block_layout.specs.Pointers.{same_pointer}
 use Rattle.upc_values.specs.declared.scalar.Scalar.{Scalar}
 use Rattle.upc_values.specs.declared.scalar.Scalar.TheVariants.{Int, Shared, Lock}
 
 -- one location
 abbrev pub same_loc : Loc → Loc → Bool
 same_loc l k = (l.object == k.object) && ((l.thread == k.thread) && (l.offset == k.offset))
-
--- one object, field by field
-abbrev pub same_object : ObjectRef → ObjectRef → Bool
-same_object a b =
-    (a.number == b.number)
-    && ((a.total == b.total)
-    && ((a.block == b.block) && ((a.home == b.home) && ((a.shape == b.shape) && (a.base == b.base)))))
-
--- one pointer-to-shared, field by field
-abbrev pub same_pointer : SharedPtr → SharedPtr → Bool
-same_pointer p q =
-    same_object p.object q.object
-    && ((p.thread == q.thread) && ((p.phase == q.phase) && int_eq p.offset q.offset))
 
 -- one scalar
 abbrev pub same_scalar : Scalar → Scalar → Bool

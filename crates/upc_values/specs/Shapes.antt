@@ -2,6 +2,7 @@
 use Rattle.std.specs.Prelude.{ℕ, ◌%◌, ◌==◌, nat_lt, pos, Bool, true, false, ◌&&◌, ◌||◌, cond, List, Option, Some, None, slice_get}
 use Rattle.block_layout.specs.declared.place.ObjectRef.{ObjectRef}
 use Rattle.block_layout.specs.declared.place.Loc.{Loc}
+use Rattle.block_layout.specs.declared.place.LocalPtr.TheVariants as local
 use Rattle.block_layout.specs.declared.kind.Kind.{Kind}
 use Rattle.block_layout.specs.declared.kind.Kind.TheVariants as kind
 use Rattle.block_layout.specs.declared.kind.Shape.{Shape}
@@ -9,6 +10,8 @@ use Rattle.block_layout.specs.Pieces.{piece_of}
 use Rattle.block_layout.specs.Pointers.{null}
 use Rattle.upc_values.specs.declared.scalar.Scalar.{Scalar}
 use Rattle.upc_values.specs.declared.scalar.Scalar.TheVariants.{Int, Shared, Lock}
+use Rattle.upc_values.specs.declared.scalar.Value.{Value}
+use Rattle.upc_values.specs.declared.scalar.Value.TheVariants as value
 use Rattle.upc_values.specs.Lists.{under}
 use Rattle.integers.specs.Integers.{in_kind}
 
@@ -49,3 +52,14 @@ abbrev pub blank : Kind → Scalar
 blank (kind.Shared n b) = Shared null
 blank kind.Lock = Lock 0
 blank k = Int (pos 0)
+
+-- Whether a value fits a cell: a scalar as above, a pointer-to-local each kind of private pointers.
+abbrev pub value_fits : Value → Kind → Bool
+value_fits (value.Scalar v) k = fits_kind v k
+value_fits (value.Local p) (kind.Private n) = true
+value_fits (value.Local p) k = false
+
+-- What a cell of any kind begins with where it has no initial value: 0, or null (C99 6.7.8).
+abbrev pub blank_value : Kind → Value
+blank_value (kind.Private n) = value.Local local.Null
+blank_value k = value.Scalar (blank k)

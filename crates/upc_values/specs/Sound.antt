@@ -16,7 +16,8 @@ use Rattle.upc_values.specs.Strands.{Conforms, AreJustified}
 use Rattle.upc_values.specs.Ends.{OwnEnd, SharedEnd}
 
 -- what thread t's strand is to the history, where its source has this meaning
-pub record IsStrand (o : Opening) (t actions : ℕ) (history : List Entry) (outcome : List Reply → Outcome) (s : Strand) : Type 0 where
+pub record IsStrand (o : Opening) (t actions : ℕ) (history : List Entry) (outcome : List Reply → Outcome)
+    (s : Strand) : Type 0 where
   -- its record is what its source gives on its replies
   pub conforms : Conforms (outcome (replies_of s.items)) s
   -- its entries in the history are the drain of its record
@@ -28,12 +29,13 @@ pub record IsStrand (o : Opening) (t actions : ℕ) (history : List Entry) (outc
   pub short : length s.items ≤ actions
   pub «end» : OwnEnd actions (outcome (replies_of s.items)).«end» s.items s.«end»
 
--- the journal is sound for an opening and the meaning of each thread's source
-pub record IsSound (o : Opening) (outcome : ℕ → List Reply → Outcome) (j : Journal) : Type 0 where
+-- The journal is sound for an opening and the meaning of each thread's source, by budget and thread: the budget is the
+-- journal's own.
+pub record IsSound (o : Opening) (outcome : (budget thread : ℕ) → List Reply → Outcome) (j : Journal) : Type 0 where
   pub threads : j.threads ≡ o.threads
   pub many : length j.strands ≡ o.threads
   pub below : EachBelow o.threads j.history
   pub legal : IsLegal o j.history
   pub formed : AreWellFormed o j.history
-  pub strands : Numbered (λ t s. IsStrand o t j.actions j.history (outcome t) s) j.strands
+  pub strands : Numbered (λ t s. IsStrand o t j.actions j.history (outcome j.budget t) s) j.strands
   pub ends : Numbered (λ t s. SharedEnd o j t s.«end») j.strands

@@ -54,7 +54,8 @@ pub record Conforms (outcome : Outcome) (s : Strand) : Type 0 where
 
 -- a Stall of t after these items, before the next action: some prefix of the history has just the entries that the
 -- items emit, and after it the action has no lawful reply
-pub record IsJustified (o : Opening) (t : ℕ) (history : List Entry) (before : List Item) (next : Option Action) : Type 0 where
+pub record IsJustified (o : Opening) (t : ℕ) (history : List Entry) (before : List Item)
+    (next : Option Action) : Type 0 where
   pub front : List Entry
   pub rest : List Entry
   pub is : history ≡ front ++ rest

@@ -70,7 +70,8 @@ pub fn same_action(a: &Action, b: &Action) -> bool
             home,
             shape,
         } => {
-            matches!(b, Action::Alloc { nblocks: n, nbytes: y, home: h, shape: s } if *nblocks == *n && *nbytes == *y && *home == *h && *shape == *s)
+            matches!(b, Action::Alloc { nblocks: n, nbytes: y, home: h, shape: s } if *nblocks == *n
+                && *nbytes == *y && *home == *h && *shape == *s)
         }
         Action::Free(pointer) => matches!(b, Action::Free(p) if *pointer == *p),
         Action::Meet { call, args } => {

@@ -1,10 +1,10 @@
 //! Which values fit a cell.
 
-ghost use Rattle.std.specs.Prelude.{◌≡◌};
+ghost use Rattle.std.specs.Prelude.{◌≡◌, true};
 ghost use Rattle.upc_values.specs.Shapes as shapes;
 
-use crate::scalar::Scalar;
-use block_layout::{Kind, SharedPtr};
+use crate::scalar::{Scalar, Value};
+use block_layout::{Kind, LocalPtr, SharedPtr};
 use integers::lies_in;
 
 fn is_integer(kind: Kind) -> bool
@@ -36,5 +36,27 @@ pub fn blank(kind: Kind) -> Scalar
         Kind::Shared(_, _) => Scalar::Shared(SharedPtr::NULL),
         Kind::Lock => Scalar::Lock(0),
         _ => Scalar::Int(0),
+    }
+}
+
+/// Whether a value fits a cell of this kind: a scalar as `fits_kind` says, a pointer-to-local each kind of private
+/// pointers. It takes no memory.
+pub fn value_fits(value: &Value, kind: Kind) -> bool
+    ensures { result ≡ shapes.value_fits value.now kind }
+{
+    match value {
+        Value::Scalar(scalar) => fits_kind(scalar, kind),
+        Value::Local(_) => matches!(kind, Kind::Private(_)),
+    }
+}
+
+/// What a cell of any kind begins with where no initial value is given: 0, or null (C99 6.7.8).
+pub fn blank_value(kind: Kind) -> Value
+    ensures value { result ≡ shapes.blank_value kind }
+    ensures fits { shapes.value_fits result kind ≡ true }
+{
+    match kind {
+        Kind::Private(_) => Value::Local(LocalPtr::Null),
+        _ => Value::Scalar(blank(kind)),
     }
 }

@@ -7,17 +7,14 @@ mod consistent;
 mod copy;
 mod equal;
 mod fit;
+mod format;
 mod journal;
+mod library;
 mod listing;
 mod order;
-#[cfg(test)]
-mod plain;
 mod record;
-#[cfg(test)]
-mod rows;
+mod refused;
 mod scalar;
-#[cfg(test)]
-mod tests;
 
 pub use action::{Action, Actions, Reply};
 pub use agree::agrees;
@@ -25,10 +22,13 @@ pub use block_layout::{Cells, Kind, Loc, LocalPtr, ObjectRef, Shape, SharedPtr};
 pub use consistent::orders_are_consistent;
 pub use copy::{copy_action, copy_scalar, copy_shape};
 pub use equal::{same_action, same_loc, same_reply, same_scalar};
-pub use fit::{blank, fits_kind};
+pub use fit::{blank, blank_value, fits_kind, value_fits};
+pub use format::{Conversion, Found, Piece, Style, first_piece};
 pub use integers::{BinOp, UnOp, binary, convert, unary};
 pub use journal::{Entries, Entry, Journal, Strand, Strands};
+pub use library::{ElementKind, LibraryCall};
 pub use listing::Listing;
 pub use order::{Op, Order, OrderList, Orders};
 pub use record::{End, Item, Items, ToldEnd};
+pub use refused::Refused;
 pub use scalar::{Args, Mark, Scalar, Value};

@@ -44,7 +44,8 @@ impl WriteBuffer {
     /// The write becomes pending, as the youngest. Where all places were taken, the oldest leaves and is handed out.
     pub fn store(&mut self, index: u32, loc: Loc, value: Scalar) -> Option<Pending>
         ensures full { IsSome result ↔ (length self.old ≡ 64) }
-        ensures moved { self.old ++ record { index = index; loc = loc; value = value } ∷ [] ≡ option_to_list result ++ self.new }
+        ensures moved { self.old ++ record { index = index; loc = loc; value = value } ∷ []
+            ≡ option_to_list result ++ self.new }
     {
         let oldest = if self.pending.len() == PLACES {
             self.pending.pop_front()
@@ -85,39 +86,5 @@ impl WriteBuffer {
         ensures most { result ≤ 64 }
     {
         self.pending.len() as u32
-    }
-}
-
-#[cfg(test)]
-mod tests {
-    use super::*;
-
-    // 64 stores to two locations in turn, then one more: only that one hands out a write, the first.
-    #[test]
-    fn holds_sixty_four(rt: HostRuntime) -> Result<(), AllocError> {
-        let mut buffer = WriteBuffer::make(rt.alloc())?;
-        for index in 0..65u32 {
-            let loc = Loc {
-                object: 1,
-                thread: 0,
-                offset: 4 * (index % 2),
-            };
-            let handed = buffer.store(index, loc, Scalar::Int(i128::from(index)));
-            let number = handed.map(|write| write.index);
-            assert_eq!(rt; number, if index == 64 { Some(0) } else { None });
-        }
-        assert_eq!(rt; buffer.len(), 64);
-        for (offset, found) in [(0, Some(64)), (4, Some(63)), (8, None)] {
-            let loc = Loc {
-                object: 1,
-                thread: 0,
-                offset,
-            };
-            let number = buffer.forward(loc).map(|(index, _)| index);
-            assert_eq!(rt; number, found, "at {offset}");
-        }
-        let oldest = buffer.take_oldest().map(|write| write.index);
-        assert_eq!(rt; oldest, Some(1));
-        Ok(())
     }
 }

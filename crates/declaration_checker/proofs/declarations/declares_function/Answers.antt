@@ -1,16 +1,17 @@
 use Rattle.std.proofs.Common.{false, Ok, Err, sym, ap, ◌∙◌, subst}
 use Rattle.std.proofs.lemmas.Result.{err_from_is_err_and}
-use Rattle.typed_tree.specs.Meanings.{Signature}
-use Rattle.typed_tree.specs.Nodes.{DeclaresFunction}
-use Rattle.typed_tree.specs.Rules.{lowest}
+use Rattle.typing_rules.specs.Meanings.{Signature}
+use Rattle.typing_rules.specs.Nodes.{DeclaresFunction}
+use Rattle.typing_rules.specs.Rules.{lowest}
 use Rattle.typed_tree.specs.Scopes.{State, with_function}
 use Rattle.typed_tree.specs.ViewEnv.{view_env}
-use Rattle.typed_tree.specs.Views.{view_signature}
+use Rattle.typing_rules.specs.Views.{view_signature}
+use Rattle.walk_state.specs.Known as stands
 use Rattle.declaration_checker.specs.Declarations as pure
-use Rattle.declaration_checker.specs.Ends.{Comes}
-use Rattle.declaration_checker.specs.Views.{view_setting, state_with}
-use Rattle.declaration_checker.specs.Walk.{judge, look, facts_in}
-use Rattle.declaration_checker.proofs.Walks.{goes, stops, looks, updates, judge_goes, judge_stops}
+use Rattle.walk_state.specs.Ends.{Comes}
+use Rattle.walk_state.specs.Views.{view_setting, state_with}
+use Rattle.walk_state.specs.Walk.{judge, look, facts_in}
+use Rattle.walk_state.proofs.Walks.{goes, stops, looks, updates, judge_goes, judge_stops}
 use Rattle.declaration_checker.proofs.declarations.declares_function.Goals as goal
 
 pub returns-in_err-judged : goal.returns-in_err-judged
@@ -18,7 +19,7 @@ returns-in_err-judged c = λ tags.
     let ξ = view_setting c.args.setting in
     let s = state_with tags c.args.known.now in
     let sig = view_signature c.args.signature.now in
-    let f = λ (s : State). pure.prototype_again ξ (view_env c.args.env.now) s c.args.name sig in
+    let f = λ (s : State). stands.prototype_again ξ (view_env c.args.env.now) s c.args.name sig in
     let id = λ (u : Unit {0}). u in
     let x = DeclaresFunction (f s) c.args.forms sig in
     let φ = facts_in ξ s in
@@ -35,7 +36,7 @@ returns c = λ tags.
     let Γ = view_env c.args.env.now in
     let s = state_with tags c.args.known.now in
     let sig = view_signature c.args.signature.now in
-    let f = λ (s : State). pure.prototype_again ξ Γ s c.args.name sig in
+    let f = λ (s : State). stands.prototype_again ξ Γ s c.args.name sig in
     let id = λ (u : Unit {0}). u in
     let x = DeclaresFunction (f s) c.args.forms sig in
     let φ = facts_in ξ s in

@@ -2,7 +2,7 @@ use Rattle.std.proofs.Common.{◌≡◌, ◌≤◌, true, List, [], ◌∷◌, l
 use Rattle.upc_tree.specs.declared.expression.Dimension.{Dimension}
 use Rattle.upc_tree.specs.Lists.{dimensions_of}
 use Rattle.upc_tree.specs.View.{view_dimension}
-use Rattle.declaration_checker.specs.Expressions.{has_sizes}
+use Rattle.type_specifiers.specs.Shapes.{has_sizes}
 use Rattle.declaration_checker.proofs.declarations.has_sizes.Goals as goal
 
 filled : (xs : List Dimension) → 1 ≤ length xs → true ≡ has_sizes (dimensions_of (map view_dimension xs))

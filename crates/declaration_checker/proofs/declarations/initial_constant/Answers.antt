@@ -1,9 +1,9 @@
 use Rattle.std.proofs.Common.{true, Ok, sym, ◌∙◌}
 use Rattle.std.proofs.lemmas.Result.{err_from_is_err_and}
 use Rattle.typed_tree.specs.ViewTree.{view_expr}
-use Rattle.declaration_checker.specs.Expressions.{constantly}
-use Rattle.declaration_checker.specs.Views.{view_setting}
-use Rattle.declaration_checker.proofs.Walks.{goes, stops, gives}
+use Rattle.expression_checker.specs.Expressions.{constantly}
+use Rattle.walk_state.specs.Views.{view_setting}
+use Rattle.walk_state.proofs.Walks.{goes, stops, gives}
 use Rattle.declaration_checker.proofs.declarations.initial_constant.Goals as goal
 
 pub returns-in_err-constantly : goal.returns-in_err-constantly

@@ -2,7 +2,7 @@ use Rattle.std.proofs.Common.{◌≡◌, ◌≤◌, false, List, [], ◌∷◌, 
 use Rattle.upc_tree.specs.declared.expression.Pointer.{Pointer}
 use Rattle.upc_tree.specs.Lists.{pointers_of}
 use Rattle.upc_tree.specs.View.{view_pointer}
-use Rattle.declaration_checker.specs.Expressions.{is_none}
+use Rattle.type_specifiers.specs.Shapes.{is_none}
 use Rattle.declaration_checker.proofs.declarations.is_none.Goals as goal
 
 filled : (xs : List Pointer) → 1 ≤ length xs → false ≡ is_none (pointers_of (map view_pointer xs))

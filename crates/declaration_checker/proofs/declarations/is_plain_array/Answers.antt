@@ -3,7 +3,7 @@ use Rattle.upc_tree.specs.Lists.{dimensions_of, pointers_of}
 use Rattle.upc_tree.specs.View.{view_declarator, view_dimension, view_pointer}
 use Rattle.upc_tree.proofs.Rows.{object_is}
 use Rattle.declaration_checker.specs.Declarations as pure
-use Rattle.declaration_checker.specs.Expressions.{is_none, has_sizes}
+use Rattle.type_specifiers.specs.Shapes.{is_none, has_sizes}
 use Rattle.declaration_checker.proofs.declarations.is_plain_array.Goals as goal
 use Rattle.std.proofs.Common.{map}
 

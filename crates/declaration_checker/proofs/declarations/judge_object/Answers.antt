@@ -1,15 +1,15 @@
 use Rattle.std.proofs.Common.{sym, ap, ◌∙◌, subst}
 use Rattle.std.proofs.lemmas.Result.{err_from_is_err_and}
-use Rattle.typed_tree.specs.Nodes.{DeclaresObject}
-use Rattle.typed_tree.specs.Rules.{lowest}
+use Rattle.typing_rules.specs.Nodes.{DeclaresObject}
+use Rattle.typing_rules.specs.Rules.{lowest}
 use Rattle.typed_tree.specs.Scopes.{State, is_file}
 use Rattle.typed_tree.specs.ViewEnv.{view_env}
-use Rattle.typed_tree.specs.Views.{view_formed}
-use Rattle.declaration_checker.specs.Declarations as pure
-use Rattle.declaration_checker.specs.Ends.{Comes}
-use Rattle.declaration_checker.specs.Views.{view_setting, state_with}
-use Rattle.declaration_checker.specs.Walk.{judge, facts_in}
-use Rattle.declaration_checker.proofs.Walks.{judge_goes, judge_stops}
+use Rattle.typing_rules.specs.Views.{view_formed}
+use Rattle.walk_state.specs.Known as pure
+use Rattle.walk_state.specs.Ends.{Comes}
+use Rattle.walk_state.specs.Views.{view_setting, state_with}
+use Rattle.walk_state.specs.Walk.{judge, facts_in}
+use Rattle.walk_state.proofs.Walks.{judge_goes, judge_stops}
 use Rattle.declaration_checker.proofs.declarations.judge_object.Goals as goal
 
 pub returns-in_err-judged : goal.returns-in_err-judged

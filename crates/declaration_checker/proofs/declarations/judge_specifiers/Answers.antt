@@ -1,14 +1,14 @@
 use Rattle.std.proofs.Common.{sym, ap, ◌∙◌, subst}
 use Rattle.std.proofs.lemmas.Result.{err_from_is_err_and}
-use Rattle.typed_tree.specs.Nodes.{Specifies}
-use Rattle.typed_tree.specs.Rules.{lowest}
+use Rattle.typing_rules.specs.Nodes.{Specifies}
+use Rattle.typing_rules.specs.Rules.{lowest}
 use Rattle.typed_tree.specs.Scopes.{State}
-use Rattle.declaration_checker.specs.Ends.{Comes}
-use Rattle.declaration_checker.specs.Specifiers as pure
-use Rattle.declaration_checker.specs.Views.{view_setting, state_with}
-use Rattle.declaration_checker.specs.ViewShapes.{view_specified}
-use Rattle.declaration_checker.specs.Walk.{judge, facts_in}
-use Rattle.declaration_checker.proofs.Walks.{judge_goes, judge_stops}
+use Rattle.walk_state.specs.Ends.{Comes}
+use Rattle.type_specifiers.specs.Specifiers as pure
+use Rattle.walk_state.specs.Views.{view_setting, state_with}
+use Rattle.type_specifiers.specs.ViewShapes.{view_specified}
+use Rattle.walk_state.specs.Walk.{judge, facts_in}
+use Rattle.walk_state.proofs.Walks.{judge_goes, judge_stops}
 use Rattle.declaration_checker.proofs.declarations.judge_specifiers.Goals as goal
 
 pub returns-in_err-judged : goal.returns-in_err-judged

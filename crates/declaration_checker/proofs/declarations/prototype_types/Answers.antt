@@ -7,11 +7,12 @@ use Rattle.upc_types.specs.Types.{CType}
 use Rattle.upc_types.specs.View.{view}
 use Rattle.typed_tree.specs.Scopes.{Env, Tag, inside}
 use Rattle.typed_tree.specs.ViewEnv.{view_env}
-use Rattle.declaration_checker.specs.Ends.{Meets}
-use Rattle.declaration_checker.specs.Expressions.{Declared, walk_parameters}
-use Rattle.declaration_checker.specs.Views.{view_setting, state_of, state_with}
-use Rattle.declaration_checker.specs.Walk.{enclosed}
-use Rattle.declaration_checker.proofs.Walks.{goes, stops, gives, encloses}
+use Rattle.walk_state.specs.Ends.{Meets}
+use Rattle.type_specifiers.specs.Members.{Declared}
+use Rattle.expression_checker.specs.Expressions.{walk_parameters}
+use Rattle.walk_state.specs.Views.{view_setting, state_of, state_with}
+use Rattle.walk_state.specs.Walk.{enclosed}
+use Rattle.walk_state.proofs.Walks.{goes, stops, gives, encloses}
 use Rattle.declaration_checker.proofs.declarations.prototype_types.Goals as goal
 
 pub returns-in_err-all : goal.returns-in_err-all

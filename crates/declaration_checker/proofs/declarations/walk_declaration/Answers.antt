@@ -6,21 +6,23 @@ use Rattle.upc_tree.specs.declared.expression.Spec.{Spec}
 use Rattle.upc_tree.specs.Lists.{specs_of}
 use Rattle.upc_tree.specs.View.{view_spec}
 use Rattle.upc_tree.specs.ViewStatement as trees
-use Rattle.typed_tree.specs.Faults.{first_fault}
-use Rattle.typed_tree.specs.Nodes.{Specifies}
+use Rattle.typing_rules.specs.Faults.{first_fault}
+use Rattle.typing_rules.specs.Nodes.{Specifies}
 use Rattle.typed_tree.specs.Scopes.{is_file}
 use Rattle.typed_tree.specs.ViewEnv.{view_env}
 use Rattle.typed_tree.specs.ViewStatements.{view_object}
 use Rattle.declaration_checker.specs.Declarations as pure
 use Rattle.declaration_checker.specs.Declarations.{Behind}
-use Rattle.declaration_checker.specs.Ends.{Stops, Comes}
-use Rattle.declaration_checker.specs.Expressions.{Specifying, specs_place, walk_specs}
-use Rattle.declaration_checker.specs.Specifiers.{Shaped, specified_type, specifiers_form}
-use Rattle.declaration_checker.specs.Views.{view_setting, state_of, state_with}
-use Rattle.declaration_checker.specs.ViewShapes.{view_shaped, view_specified}
-use Rattle.declaration_checker.specs.ViewTags.{view_tags}
-use Rattle.declaration_checker.specs.Walk.{judge}
-use Rattle.declaration_checker.proofs.Walks.{goes, stops, gives}
+use Rattle.walk_state.specs.Ends.{Stops, Comes}
+use Rattle.type_specifiers.specs.Shapes.{Specifying}
+use Rattle.walk_state.specs.Places.{specs_place}
+use Rattle.expression_checker.specs.Expressions.{walk_specs}
+use Rattle.type_specifiers.specs.Specifiers.{Shaped, specified_type, specifiers_form}
+use Rattle.walk_state.specs.Views.{view_setting, state_of, state_with}
+use Rattle.type_specifiers.specs.ViewShapes.{view_shaped, view_specified}
+use Rattle.walk_state.specs.ViewTags.{view_tags}
+use Rattle.walk_state.specs.Walk.{judge}
+use Rattle.walk_state.proofs.Walks.{goes, stops, gives}
 use Rattle.declaration_checker.proofs.declarations.walk_declaration.Goals as goal
 
 pub returns-in_err-found : goal.returns-in_err-found

@@ -6,21 +6,21 @@ use Rattle.upc_tree.specs.View.{view, view_next_expr}
 use Rattle.upc_types.specs.Types.{base_of}
 use Rattle.upc_types.specs.View as types
 use Rattle.typed_tree.specs.declared.tree.Expr.{Expr as RustExpr}
-use Rattle.typed_tree.specs.Faults.{first_fault}
-use Rattle.typed_tree.specs.Nodes.{Attr, Use}
-use Rattle.typed_tree.specs.Nodes as n
-use Rattle.typed_tree.specs.Rules.{lowest}
+use Rattle.typing_rules.specs.Faults.{first_fault}
+use Rattle.typing_rules.specs.Nodes.{Attr, Use}
+use Rattle.typing_rules.specs.Nodes as n
+use Rattle.typing_rules.specs.Rules.{lowest}
 use Rattle.typed_tree.specs.Scopes.{is_file}
 use Rattle.typed_tree.specs.Tree.{Initial, InitialList, AndExpr, exprs_of, attrs_of}
-use Rattle.typed_tree.specs.Values.{base_target}
+use Rattle.typing_rules.specs.Values.{base_target}
 use Rattle.typed_tree.specs.ViewEnv.{view_env}
 use Rattle.typed_tree.specs.ViewTree.{view_expr}
-use Rattle.typed_tree.specs.Views.{attr_seen}
+use Rattle.typed_tree.specs.ViewTree.{attr_seen}
 use Rattle.declaration_checker.specs.Declarations as pure
-use Rattle.declaration_checker.specs.Ends.{Stops, Comes}
-use Rattle.declaration_checker.specs.Views.{view_setting, state_of}
-use Rattle.declaration_checker.specs.Walk.{judge, facts_in}
-use Rattle.declaration_checker.proofs.Walks.{goes, stops, judge_goes, judge_stops}
+use Rattle.walk_state.specs.Ends.{Stops, Comes}
+use Rattle.walk_state.specs.Views.{view_setting, state_of}
+use Rattle.walk_state.specs.Walk.{judge, facts_in}
+use Rattle.walk_state.proofs.Walks.{goes, stops, judge_goes, judge_stops}
 use Rattle.declaration_checker.proofs.Exprs.{attrs_seen}
 use Rattle.declaration_checker.proofs.declarations.walk_initial_list.Goals as goal
 
@@ -45,7 +45,7 @@ returns-in_err-xs c = λ equal left right.
     let how = pure.element_use (base_target (base_of (types.view c.args.t.now))) in
     let w = λ (u : Use). pure.walk_initial_value ξ Γ (is_file Γ) u (view c.args.first.now) in
     let ws = λ (u : Use). pure.walk_initial_values ξ Γ (is_file Γ) u (next_exprs_of (map view_next_expr c.args.more.now)) in
-    let x = view_expr c.in_ok-x.x in
+    let x = view_expr c.in_ok-x.x.value in
     let e = c.in_err-xs.field-0.0 in
     let id = λ (x : Initial). x in
     let h = subst (λ (u : Use). Comes (w u s) t x) c.element_use-how.ensures c.in_ok-x.ensures in
@@ -63,7 +63,7 @@ returns-in_err-judged c = λ equal left right.
     let how = pure.element_use (base_target (base_of (types.view c.args.t.now))) in
     let w = λ (u : Use). pure.walk_initial_value ξ Γ (is_file Γ) u (view c.args.first.now) in
     let ws = λ (u : Use). pure.walk_initial_values ξ Γ (is_file Γ) u (next_exprs_of (map view_next_expr c.args.more.now)) in
-    let x = view_expr c.in_ok-x.x in
+    let x = view_expr c.in_ok-x.x.value in
     let xs = exprs_of (map view_expr c.in_ok-xs.xs.items) in
     let id = λ (x : Initial). x in
     let h = subst (λ (u : Use). Comes (w u s) t x) c.element_use-how.ensures c.in_ok-x.ensures in
@@ -89,7 +89,7 @@ returns c = λ equal left right.
     let how = pure.element_use (base_target (base_of (types.view c.args.t.now))) in
     let w = λ (u : Use). pure.walk_initial_value ξ Γ (is_file Γ) u (view c.args.first.now) in
     let ws = λ (u : Use). pure.walk_initial_values ξ Γ (is_file Γ) u (next_exprs_of (map view_next_expr c.args.more.now)) in
-    let x = view_expr c.in_ok-x.x in
+    let x = view_expr c.in_ok-x.x.value in
     let xs = exprs_of (map view_expr c.in_ok-xs.xs.items) in
     let h = subst (λ (u : Use). Comes (w u s) t x) c.element_use-how.ensures c.in_ok-x.ensures in
     let hs = subst (λ (u : Use). Comes (ws u t) v xs) c.element_use-how.ensures c.in_ok-xs.ensures in

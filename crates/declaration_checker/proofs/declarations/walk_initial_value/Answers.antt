@@ -5,11 +5,12 @@ use Rattle.typed_tree.specs.Scopes.{is_file}
 use Rattle.typed_tree.specs.Tree.{Expr}
 use Rattle.typed_tree.specs.ViewEnv.{view_env}
 use Rattle.typed_tree.specs.ViewTree.{view_expr}
-use Rattle.typed_tree.specs.Views.{view_use}
+use Rattle.typing_rules.specs.Views.{view_use}
 use Rattle.declaration_checker.specs.Declarations.{initial_constant}
-use Rattle.declaration_checker.specs.Expressions.{walk}
-use Rattle.declaration_checker.specs.Views.{view_setting, state_of}
-use Rattle.declaration_checker.proofs.Walks.{goes, stops, gives}
+use Rattle.expression_checker.specs.Expressions.{walk}
+use Rattle.walk_state.specs.Views.{view_setting, state_of}
+use Rattle.walk_state.proofs.Walks.{goes, stops, gives}
+use Rattle.walk_state.specs.Ends.{boxed}
 use Rattle.declaration_checker.proofs.declarations.walk_initial_value.Goals as goal
 
 pub returns-in_err-a : goal.returns-in_err-a
@@ -28,12 +29,12 @@ returns-in_err-initial_constant c =
     let s = state_of c.args.tags.now c.args.known.now in
     let t = state_of c.walk.new.tags c.walk.new.known in
     let id = λ (x : Expr). x in
-    let a = view_expr c.in_ok-a.a in
+    let a = view_expr c.in_ok-a.a.value in
     let e = c.in_err-initial_constant.field-0.0 in
     let p = err_from_is_err_and c.from_residual-in_err-initial_constant.result c.from_residual-in_err-initial_constant.ensures.1 in
     rw (p.1, p.2)
     (goes id (walk ξ Γ (view_use c.args.how) (view c.args.value.now)) _ s t t a (Err e) c.in_ok-a.ensures
-    (stops id (initial_constant ξ (is_file Γ) a) _ t t e (c.in_err-initial_constant.ensures t)))
+    (stops id (initial_constant ξ (is_file Γ) a) _ t t e (rw c.deref.ensures at (c.in_err-initial_constant.ensures t))))
 
 pub returns : goal.returns
 returns c =
@@ -41,6 +42,6 @@ returns c =
     let Γ = view_env c.args.env.now in
     let s = state_of c.args.tags.now c.args.known.now in
     let t = state_of c.walk.new.tags c.walk.new.known in
-    let a = view_expr c.in_ok-a.a in
-    goes view_expr (walk ξ Γ (view_use c.args.how) (view c.args.value.now)) _ s t t a (Ok c.in_ok-a.a) c.in_ok-a.ensures
-    (goes view_expr (initial_constant ξ (is_file Γ) a) _ t t t (tt {0}) (Ok c.in_ok-a.a) (c.in_ok-initial_constant.ensures t) (gives t a))
+    let a = view_expr c.in_ok-a.a.value in
+    goes (boxed view_expr) (walk ξ Γ (view_use c.args.how) (view c.args.value.now)) _ s t t a (Ok c.in_ok-a.a) c.in_ok-a.ensures
+    (goes (boxed view_expr) (initial_constant ξ (is_file Γ) a) _ t t t (tt {0}) (Ok c.in_ok-a.a) (rw c.deref.ensures at (c.in_ok-initial_constant.ensures t)) (gives t a))

@@ -9,10 +9,10 @@ use Rattle.typed_tree.specs.Scopes.{is_file}
 use Rattle.typed_tree.specs.Tree.{Expr, Exprs, NoExprs, AndExpr, exprs_of}
 use Rattle.typed_tree.specs.ViewEnv.{view_env}
 use Rattle.typed_tree.specs.ViewTree.{view_expr}
-use Rattle.typed_tree.specs.Views.{view_use}
+use Rattle.typing_rules.specs.Views.{view_use}
 use Rattle.declaration_checker.specs.Declarations as pure
-use Rattle.declaration_checker.specs.Views.{view_setting, state_of}
-use Rattle.declaration_checker.proofs.Turns.{IsLeft, behind, pushed_behind, list_begins, list_goes, list_stops, list_done}
+use Rattle.walk_state.specs.Views.{view_setting, state_of}
+use Rattle.walk_state.proofs.Turns.{IsLeft, behind, pushed_behind, list_begins, list_goes, list_stops, list_done}
 use Rattle.declaration_checker.proofs.Exprs.{exprs_behind}
 use Rattle.declaration_checker.proofs.declarations.walk_initial_values.Goals as goal
 use Rattle.upc_values.proofs.Membership.{left_from}
@@ -34,9 +34,9 @@ returns-in_err-x c =
     let f = behind AndExpr (map view_expr c.loop-part.all.items) in
     let next = left_from c.args.values.now c.loop-part.part-index c.part-item.result (omega (arith, c.loop-part-test.true)) c.part-item.is in
     let h = subst (λ (xs : List NextExpr). IsLeft whole f (w xs) s) next c.loop-part.invariant in
-    let one = pure.walk_initial_value ξ Γ (is_file Γ) how (view c.part-item.result.value) in
+    let one = pure.walk_initial_value ξ Γ (is_file Γ) how (view c.part-item.result.value.value) in
     let p = err_from_is_err_and c.from_residual.result c.from_residual.ensures.1 in
-    rw (p.1, p.2) (list_stops (λ (xs : Exprs). xs) whole f one _ s s c.in_err-x.field-0.0 h c.in_err-x.ensures)
+    rw (p.1, p.2) (list_stops (λ (xs : Exprs). xs) whole f one _ s s c.in_err-x.field-0.0 h (rw c.deref.ensures at c.in_err-x.ensures))
 
 pub loop-part-preserved : goal.loop-part-preserved
 loop-part-preserved c =
@@ -51,10 +51,10 @@ loop-part-preserved c =
     let f = behind AndExpr (map view_expr all) in
     let next = left_from c.args.values.now c.loop-part.part-index c.part-item.result (omega (arith, c.loop-part-test.true)) c.part-item.is in
     let h = subst (λ (xs : List NextExpr). IsLeft whole f (w xs) s) next c.loop-part.invariant in
-    let one = pure.walk_initial_value ξ Γ (is_file Γ) how (view c.part-item.result.value) in
+    let one = pure.walk_initial_value ξ Γ (is_file Γ) how (view c.part-item.result.value.value) in
     let rest = λ (y : Expr). w (drop (c.loop-part.part-index + 1) c.args.values.now) in
-    list_goes whole f (behind AndExpr (map view_expr c.push.new.self.items)) AndExpr one rest s t (view_expr c.in_ok-x.x) h c.in_ok-x.ensures
-    (λ ys. pushed_behind view_expr AndExpr all c.push.new.self.items c.in_ok-x.x ys c.in_ok-push.ensures.items)
+    list_goes whole f (behind AndExpr (map view_expr c.push.new.self.items)) AndExpr one rest s t (view_expr c.in_ok-x.x.value) h (rw c.deref.ensures at c.in_ok-x.ensures)
+    (λ ys. pushed_behind view_expr AndExpr all c.push.new.self.items c.in_ok-x.x.value ys (rw c.into_inner.ensures at c.in_ok-push.ensures.items))
 
 pub returns : goal.returns
 returns c =

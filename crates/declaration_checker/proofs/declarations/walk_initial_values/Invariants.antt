@@ -5,10 +5,10 @@ use Rattle.typed_tree.specs.Scopes.{is_file}
 use Rattle.typed_tree.specs.Tree.{AndExpr}
 use Rattle.typed_tree.specs.ViewEnv.{view_env}
 use Rattle.typed_tree.specs.ViewTree.{view_expr}
-use Rattle.typed_tree.specs.Views.{view_use}
+use Rattle.typing_rules.specs.Views.{view_use}
 use Rattle.declaration_checker.specs.Declarations as pure
-use Rattle.declaration_checker.specs.Views.{view_setting, state_of}
-use Rattle.declaration_checker.proofs.Turns.{IsLeft, behind}
+use Rattle.walk_state.specs.Views.{view_setting, state_of}
+use Rattle.walk_state.proofs.Turns.{IsLeft, behind}
 use Rattle.declaration_checker.proofs.declarations.walk_initial_values.Given as goal
 
 -- what is left decides

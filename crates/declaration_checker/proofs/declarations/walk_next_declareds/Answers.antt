@@ -7,10 +7,10 @@ use Rattle.typed_tree.specs.ViewEnv.{view_env}
 use Rattle.typed_tree.specs.ViewStatements.{view_object}
 use Rattle.declaration_checker.specs.Declarations as pure
 use Rattle.declaration_checker.specs.Declarations.{Behind}
-use Rattle.declaration_checker.specs.Views.{view_setting, state_of}
-use Rattle.declaration_checker.specs.ViewShapes.{view_shaped}
-use Rattle.declaration_checker.proofs.Walks.{Same}
-use Rattle.declaration_checker.proofs.Turns.{fold_goes, fold_stops}
+use Rattle.walk_state.specs.Views.{view_setting, state_of}
+use Rattle.type_specifiers.specs.ViewShapes.{view_shaped}
+use Rattle.walk_state.proofs.Walks.{Same}
+use Rattle.walk_state.proofs.Turns.{fold_goes, fold_stops}
 use Rattle.declaration_checker.proofs.declarations.walk_next_declareds.Goals as goal
 use Rattle.upc_values.proofs.Membership.{left_from}
 
@@ -26,10 +26,10 @@ returns-in_err-walk_declared c =
     let part = c.part-item.result in
     let next = left_from c.args.more.now c.loop-part.part-index part c.loop-part-test.true c.part-item.is in
     let h = subst (λ (xs : List NextDeclared). Same whole (w b xs s)) next c.loop-part.invariant in
-    let one = pure.walk_declared ξ c.args.place t b (view_declared part.declared) in
+    let one = pure.walk_declared ξ c.args.place t b (view_declared part.declared.value) in
     let e = c.in_err-walk_declared.field-0.0 in
     let p = err_from_is_err_and c.from_residual.result c.from_residual.ensures.1 in
-    rw (p.1, p.2) (fold_stops (λ (b : Behind). b) whole one _ s s e h c.in_err-walk_declared.ensures)
+    rw (p.1, p.2) (fold_stops (λ (b : Behind). b) whole one _ s s e h (rw c.deref.ensures at c.in_err-walk_declared.ensures))
 
 pub loop-part-preserved : goal.loop-part-preserved
 loop-part-preserved c =
@@ -43,7 +43,7 @@ loop-part-preserved c =
     let part = c.part-item.result in
     let next = left_from c.args.more.now c.loop-part.part-index part c.loop-part-test.true c.part-item.is in
     let h = subst (λ (xs : List NextDeclared). Same whole (w b xs s)) next c.loop-part.invariant in
-    let one = pure.walk_declared ξ c.args.place t b (view_declared part.declared) in
+    let one = pure.walk_declared ξ c.args.place t b (view_declared part.declared.value) in
     let rest = drop (c.loop-part.part-index + 1) c.args.more.now in
     let a : Behind = record { scope = view_env c.walk_declared.new.env; objects = map view_object c.walk_declared.new.objects.items } in
-    fold_goes whole one (λ (b : Behind). w b rest) s (state_of c.walk_declared.new.tags c.walk_declared.new.known) a h c.in_ok-walk_declared.ensures
+    fold_goes whole one (λ (b : Behind). w b rest) s (state_of c.walk_declared.new.tags c.walk_declared.new.known) a h (rw c.deref.ensures at c.in_ok-walk_declared.ensures)

@@ -4,9 +4,9 @@ use Rattle.upc_tree.specs.ViewStatement.{view_next_declared}
 use Rattle.typed_tree.specs.ViewEnv.{view_env}
 use Rattle.typed_tree.specs.ViewStatements.{view_object}
 use Rattle.declaration_checker.specs.Declarations as pure
-use Rattle.declaration_checker.specs.Views.{view_setting, state_of}
-use Rattle.declaration_checker.specs.ViewShapes.{view_shaped}
-use Rattle.declaration_checker.proofs.Walks.{Same}
+use Rattle.walk_state.specs.Views.{view_setting, state_of}
+use Rattle.type_specifiers.specs.ViewShapes.{view_shaped}
+use Rattle.walk_state.proofs.Walks.{Same}
 use Rattle.declaration_checker.proofs.declarations.walk_next_declareds.Given as goal
 
 -- what is left decides

@@ -8,30 +8,33 @@ use Rattle.upc_tree.specs.Lists.{pointers_of, dimensions_of}
 use Rattle.upc_tree.specs.View.{view_pointer, view_dimension}
 use Rattle.upc_tree.specs.ViewStatement as trees
 use Rattle.upc_types.specs.Types.{CType}
-use Rattle.typed_tree.specs.declared.setting.Home.{Home}
+use Rattle.typing_rules.specs.declared.setting.Home.{Home}
 use Rattle.typed_tree.specs.declared.tree.Object.{Object}
-use Rattle.typed_tree.specs.Faults.{first_fault}
-use Rattle.typed_tree.specs.Nodes as n
-use Rattle.typed_tree.specs.Nodes.{Formed}
+use Rattle.typing_rules.specs.Faults.{first_fault}
+use Rattle.typing_rules.specs.Nodes as n
+use Rattle.typing_rules.specs.Nodes.{Formed}
 use Rattle.typed_tree.specs.Scopes.{Setting, Env, spelling, is_file, declare, next_home}
 use Rattle.typed_tree.specs.Tree.{DeclaredObject}
 use Rattle.typed_tree.specs.ViewEnv.{view_env}
 use Rattle.typed_tree.specs.ViewStatements.{view_initial, view_object}
-use Rattle.typed_tree.specs.Views.{view_formed}
+use Rattle.typing_rules.specs.Views.{view_formed}
+use Rattle.walk_state.specs.Known as stands
 use Rattle.declaration_checker.specs.Declarations as pure
 use Rattle.declaration_checker.specs.Declarations.{Behind}
-use Rattle.declaration_checker.specs.Ends.{Stops, Comes, Meets}
-use Rattle.declaration_checker.specs.Expressions.{pointers_place, has_sizes, walk_pointers, walk_sizes}
-use Rattle.declaration_checker.specs.Specifiers.{Shaped}
-use Rattle.declaration_checker.specs.Views.{view_setting, state_of, state_with}
-use Rattle.declaration_checker.specs.ViewShapes.{view_shaped}
-use Rattle.declaration_checker.specs.ViewTags.{view_tags}
-use Rattle.declaration_checker.specs.Walk.{Walk, andthen, give, judge}
-use Rattle.declaration_checker.proofs.Walks.{goes, stops}
+use Rattle.walk_state.specs.Ends.{Stops, Comes, Meets}
+use Rattle.walk_state.specs.Places.{pointers_place}
+use Rattle.type_specifiers.specs.Shapes.{has_sizes}
+use Rattle.expression_checker.specs.Expressions.{walk_pointers, walk_sizes}
+use Rattle.type_specifiers.specs.Specifiers.{Shaped}
+use Rattle.walk_state.specs.Views.{view_setting, state_of, state_with}
+use Rattle.type_specifiers.specs.ViewShapes.{view_shaped}
+use Rattle.walk_state.specs.ViewTags.{view_tags}
+use Rattle.walk_state.specs.Walk.{Walk, andthen, give, judge}
+use Rattle.walk_state.proofs.Walks.{goes, stops}
 use Rattle.declaration_checker.proofs.declarations.walk_object.Goals as goal
 
 abbrev node : Setting → Env → Name → Formed → n.Node
-node ξ Γ name f = n.DeclaresObject (pure.object_again ξ Γ name) (is_file Γ) f
+node ξ Γ name f = n.DeclaresObject (stands.object_again ξ Γ name) (is_file Γ) f
 
 -- What is walked behind the stars and the sizes.
 abbrev rest : Setting → Behind → Name → Place → Initial → Place → Formed → Walk Behind

@@ -9,23 +9,25 @@ use Rattle.upc_tree.specs.View.{view_pointer, view_parameters}
 use Rattle.upc_tree.specs.ViewStatement as trees
 use Rattle.upc_types.specs.Types.{CType}
 use Rattle.upc_types.specs.View as types
-use Rattle.typed_tree.specs.Faults.{first_fault}
-use Rattle.typed_tree.specs.Library.{int}
-use Rattle.typed_tree.specs.Meanings.{Signature, Function}
+use Rattle.typing_rules.specs.Faults.{first_fault}
+use Rattle.typing_rules.specs.Library.{int}
+use Rattle.typing_rules.specs.Meanings.{Signature, Function}
 use Rattle.typed_tree.specs.Scopes.{Setting, Env, inside, with_entry}
 use Rattle.typed_tree.specs.ViewEnv.{view_env}
 use Rattle.typed_tree.specs.ViewStatements.{view_initial}
 use Rattle.declaration_checker.specs.Declarations as pure
 use Rattle.declaration_checker.specs.Declarations.{Behind}
-use Rattle.declaration_checker.specs.Ends.{Stops, Comes, Meets}
-use Rattle.declaration_checker.specs.Expressions.{Declared, pointers_place, walk_pointers, walk_parameters}
-use Rattle.declaration_checker.specs.Specifiers.{Shaped}
-use Rattle.declaration_checker.specs.Views.{view_setting, state_of, state_with}
-use Rattle.declaration_checker.specs.ViewShapes.{view_shaped}
-use Rattle.declaration_checker.specs.ViewTags.{view_tags}
-use Rattle.declaration_checker.specs.Walk.{Walk, andthen, give, enclosed}
-use Rattle.declaration_checker.proofs.Walks.{goes, stops}
-use Rattle.declaration_checker.proofs.Turns.{goes_by, stops_by}
+use Rattle.walk_state.specs.Ends.{Stops, Comes, Meets}
+use Rattle.type_specifiers.specs.Members.{Declared}
+use Rattle.walk_state.specs.Places.{pointers_place}
+use Rattle.expression_checker.specs.Expressions.{walk_pointers, walk_parameters}
+use Rattle.type_specifiers.specs.Specifiers.{Shaped}
+use Rattle.walk_state.specs.Views.{view_setting, state_of, state_with}
+use Rattle.type_specifiers.specs.ViewShapes.{view_shaped}
+use Rattle.walk_state.specs.ViewTags.{view_tags}
+use Rattle.walk_state.specs.Walk.{Walk, andthen, give, enclosed}
+use Rattle.walk_state.proofs.Walks.{goes, stops}
+use Rattle.walk_state.proofs.Turns.{goes_by, stops_by}
 use Rattle.declaration_checker.proofs.declarations.walk_prototype.Goals as goal
 
 -- What is walked behind the parameters.

@@ -1,5 +1,6 @@
-use Rattle.std.proofs.Common.{◌≡◌, ◌<◌, ◌≤◌, ◌+◌, length, map, drop, [], true, false, arith, ap, ◌∙◌}
+use Rattle.std.proofs.Common.{◌≡◌, ◌<◌, ◌≤◌, ◌+◌, length, map, drop, [], true, false, arith, ap, sym, ◌∙◌}
 use Rattle.std.proofs.lemmas.List.{drop_all}
+use Rattle.upc_tree.specs.declared.statement.Compound.{Compound}
 use Rattle.upc_tree.specs.Statement as s
 use Rattle.upc_tree.specs.ViewStatement.{view_statement, view_compound, view_test, view_block_item}
 use Rattle.upc_tree.proofs.StatementRows.{compound_is}
@@ -10,7 +11,9 @@ use Rattle.first_language.proofs.statements.+statements.Goals as goal
 
 pub body-returns-in-Compound : goal.body-returns-in-Compound
 body-returns-in-Compound t c =
-    let v : view_statement c.args.s.now ≡ s.Block (view_compound c.in-Compound.compound) = ap view_statement c.in-Compound.is ∙ compound_is c.in-Compound.compound in
+    let v : view_statement c.args.s.now ≡ s.Block (view_compound c.deref.result.now) =
+    ap view_statement c.in-Compound.is ∙ compound_is c.in-Compound.compound
+    ∙ ap (λ (z : Compound). s.Block (view_compound z)) (sym c.deref.ensures) in
     rw v c.block.ensures
 
 pub repeat-returns : goal.repeat-returns

@@ -2,8 +2,8 @@ use Rattle.std.proofs.Common.{◌≡◌, ◌≤◌, true, map, drop, vec_len}
 use Rattle.upc_values.specs.Lists.{Each}
 use Rattle.upc_types.specs.View.{view}
 use Rattle.upc_types.specs.ViewStructs.{view_structs}
-use Rattle.program_opening.specs.Elements.{element_shape, with_shapes}
-use Rattle.typed_tree.specs.Rules.{has_size}
+use Rattle.typed_tree.specs.Elements.{element_shape, with_shapes}
+use Rattle.typing_rules.specs.Rules.{has_size}
 use Rattle.program_opening.proofs.elements.element_shapes.Given as goal
 
 abbrev pub invariant-loop-t : goal.invariant-loop-t

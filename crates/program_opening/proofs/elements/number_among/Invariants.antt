@@ -1,5 +1,5 @@
 use Rattle.std.proofs.Common.{◌≡◌, ◌+◌, drop}
-use Rattle.program_opening.specs.Elements.{number_among}
+use Rattle.typed_tree.specs.Elements.{number_among}
 use Rattle.program_opening.proofs.elements.number_among.Given as goal
 
 abbrev pub invariant-loop-known : goal.invariant-loop-known

@@ -8,7 +8,8 @@ returns-then-a-b c = sym (lengths_differ c.args.a.now c.args.b.now c.if-a-b.true
 
 pub loop-i-preserved : goal.loop-i-preserved
 loop-i-preserved c =
-    let e = cells_more c.args.a.now c.args.b.now c.loop-i.i (0, Char) (0, Char) (omega arith) (omega arith) (sym c.same_cell.ensures ∙ c.if-not-same_cell.false) in
+    let e = cells_more c.args.a.now c.args.b.now c.loop-i.i (0, Char) (0, Char) (omega arith) (omega arith)
+    (sym c.same_cell.ensures ∙ c.if-not-same_cell.false) in
     record { rest = e ∙ c.loop-i.invariant.rest; lengths = c.if-a-b.false }
 
 pub returns : goal.returns

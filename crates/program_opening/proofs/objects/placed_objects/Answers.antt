@@ -2,13 +2,14 @@ use Rattle.std.proofs.Common.{◌≡◌, ◌+◌, ◌≤◌, ◌++◌, ◌∷◌
 use Rattle.upc_types.specs.View.{view}
 use Rattle.upc_types.specs.Layout.{size}
 use Rattle.upc_types.specs.ViewStructs.{view_structs}
-use Rattle.program_opening.specs.Objects.{shared_in, placed, placed_from, bytes_in}
+use Rattle.typed_tree.specs.Objects.{shared_in, placed, placed_from, bytes_in}
 use Rattle.typed_tree.specs.ViewStatements.{view_object}
-use Rattle.program_opening.specs.declared.objects.SharedDecl.{SharedDecl}
+use Rattle.typed_tree.specs.declared.beginning.SharedDecl.{SharedDecl}
 use Rattle.program_opening.proofs.Chosen.{shared_next, shared_skip, object_rest}
 use Rattle.program_opening.proofs.Placing.{placed_more, bytes_more}
 use Rattle.program_opening.proofs.objects.placed_objects.Goals as goal
-use Rattle.program_opening.proofs.objects.placed_objects.Goals.{then-is_shared+in_ok-placed+in_ok-push+in_ok-number, else-is_shared}
+use Rattle.program_opening.proofs.objects.placed_objects.Goals.{then-is_shared+in_ok-placed+in_ok-push+in_ok-number}
+use Rattle.program_opening.proofs.objects.placed_objects.Goals.{else-is_shared}
 
 pub loop-object-preserved : goal.loop-object-preserved
 loop-object-preserved c =
@@ -26,19 +27,29 @@ loop-object-preserved c =
     elim c.if-is_shared.branch [
       | then-is_shared+in_ok-placed+in_ok-push+in_ok-number w ↦
           let e : c.if-is_shared.shared.items ≡ ys ++ (placed s shapes number base (view_object x) ∷ []) =
-          ap (λ v. v.items) w.shared-is ∙ w.in_ok-push.ensures.items ∙ ap (λ (y : SharedDecl). ys ++ (y ∷ [])) w.in_ok-placed.ensures in
+          ap (λ v. v.items) w.shared-is ∙ w.in_ok-push.ensures.items
+          ∙ ap (λ (y : SharedDecl). ys ++ (y ∷ [])) w.in_ok-placed.ensures in
           let f : c.if-is_shared.number ≡ number + 1 = w.number-is ∙ w.in_ok-number.ensures in
-          let g : c.if-is_shared.base ≡ base + size s (view x.ctype) = w.base-is ∙ ap (λ n. base + n) w.size_of.ensures.value in
-          let h = shared_next xs i x c.loop-object-test.true c.object-item.is (sym c.is_shared.ensures ∙ w.if-is_shared.true) in
+          let g : c.if-is_shared.base ≡ base + size s (view x.ctype) = w.base-is
+          ∙ ap (λ n. base + n) w.size_of.ensures.value in
+          let h = shared_next xs i x c.loop-object-test.true c.object-item.is
+          (sym c.is_shared.ensures ∙ w.if-is_shared.true) in
           record {
-            rest = placed_more s shapes number base (view_object x) rest all ys c.if-is_shared.shared.items _ c.if-is_shared.number c.if-is_shared.base e f g h c.loop-object.invariant.rest;
+            rest =
+                placed_more s shapes number base (view_object x) rest all ys c.if-is_shared.shared.items _
+                c.if-is_shared.number c.if-is_shared.base e f g h c.loop-object.invariant.rest;
             layouts = layouts;
-            bytes = bytes_more s base c.if-is_shared.base 16777216 (view_object x) rest all g h c.loop-object.invariant.bytes;
+            bytes =
+                bytes_more s base c.if-is_shared.base 16777216
+                (view_object x) rest all g h c.loop-object.invariant.bytes;
           }
       | else-is_shared w ↦
-          let h = shared_skip xs i x c.loop-object-test.true c.object-item.is (sym c.is_shared.ensures ∙ w.if-is_shared.false) in
+          let h = shared_skip xs i x c.loop-object-test.true c.object-item.is
+          (sym c.is_shared.ensures ∙ w.if-is_shared.false) in
           record {
-            rest = rw (ap (λ v. v.items) w.shared-is, w.number-is, w.base-is) (ap (λ os. ys ++ placed_from s shapes number base os) (sym h) ∙ c.loop-object.invariant.rest);
+            rest =
+                rw (ap (λ v. v.items) w.shared-is, w.number-is, w.base-is)
+                (ap (λ os. ys ++ placed_from s shapes number base os) (sym h) ∙ c.loop-object.invariant.rest);
             layouts = layouts;
             bytes = rw w.base-is (subst (λ os. base + bytes_in s os ≤ 16777216) h c.loop-object.invariant.bytes);
           }

@@ -1,15 +1,18 @@
 use Rattle.std.proofs.Common.{◌≡◌, ◌+◌, ◌≤◌, ◌++◌, true, map, drop}
 use Rattle.upc_values.specs.Lists.{Each}
 use Rattle.upc_types.specs.ViewStructs.{view_structs}
-use Rattle.typed_tree.specs.Rules.{has_size}
-use Rattle.program_opening.specs.Objects.{shared_in, bytes_in, placed_from}
+use Rattle.typing_rules.specs.Rules.{has_size}
+use Rattle.typed_tree.specs.Objects.{shared_in, bytes_in, placed_from}
 use Rattle.typed_tree.specs.ViewStatements.{view_object}
 use Rattle.program_opening.proofs.objects.placed_objects.Given as goal
 
 abbrev pub invariant-loop-object : goal.invariant-loop-object
 invariant-loop-object l = record {
-  rest : l.shared.items ++ placed_from (view_structs l.structs) l.shapes l.number l.base (shared_in (map view_object (drop l.object-index l.objects)))
+  rest : l.shared.items ++ placed_from (view_structs l.structs) l.shapes l.number l.base
+      (shared_in (map view_object (drop l.object-index l.objects)))
       ≡ placed_from (view_structs l.structs) l.shapes 1 0 (shared_in (map view_object l.objects));
-  layouts : Each (λ x. has_size (view_structs l.structs) x.ctype ≡ true) (map view_object (drop l.object-index l.objects));
-  bytes : l.base + bytes_in (view_structs l.structs) (shared_in (map view_object (drop l.object-index l.objects))) ≤ 16777216;
+  layouts : Each (λ x. has_size (view_structs l.structs) x.ctype ≡ true)
+      (map view_object (drop l.object-index l.objects));
+  bytes : l.base + bytes_in (view_structs l.structs)
+      (shared_in (map view_object (drop l.object-index l.objects))) ≤ 16777216;
 }

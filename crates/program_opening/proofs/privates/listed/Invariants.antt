@@ -1,6 +1,6 @@
 use Rattle.std.proofs.Common.{◌≡◌, ◌≤◌, map, take, vec_len}
-use Rattle.typed_tree.specs.Attributes.{constant_of}
-use Rattle.typed_tree.specs.Views.{attr_seen}
+use Rattle.typing_rules.specs.Attributes.{constant_of}
+use Rattle.typed_tree.specs.ViewTree.{attr_seen}
 use Rattle.program_opening.proofs.privates.listed.Given as goal
 
 abbrev pub invariant-loop-e : goal.invariant-loop-e

@@ -19,6 +19,11 @@ push_members-loop-member-init t c =
 pub push_members-push_leaf-requires : goal.push_members-push_leaf-requires
 push_members-push_leaf-requires t c =
     let cs = reverse (map view_completed c.args.structs.now.completed.items) in
-    let a = at_index cs (place_or_none (known_in cs c.args.number)) c.members-member-items.result.now c.loop-member.member-index c.member-item.result (omega arith) c.member-item.is c.loop-member.invariant.before in
-    let deep : rank cs (view_base c.leaf_of.result.now) ≤ place_or_none (known_in cs c.args.number) = subst (λ b. rank cs b ≤ place_or_none (known_in cs c.args.number)) (sym c.leaf_of.ensures) a.deep in
-    (omega (arith, deep, c.decreases), subst (λ b. base_complete (complete_in cs) b ≡ true) (sym c.leaf_of.ensures) a.complete)
+    let a = at_index cs (place_or_none (known_in cs c.args.number)) c.members-member-items.result.now
+    c.loop-member.member-index c.member-item.result (omega arith) c.member-item.is c.loop-member.invariant.before in
+    let deep : rank cs (view_base c.leaf_of.result.now) ≤ place_or_none (known_in cs c.args.number) = subst
+    (λ b. rank cs b ≤ place_or_none (known_in cs c.args.number)) (sym c.leaf_of.ensures) a.deep in (
+      omega (arith, deep, c.decreases),
+      subst (λ b. base_complete (complete_in cs) b ≡ true)
+          (sym c.leaf_of.ensures) a.complete,
+    )

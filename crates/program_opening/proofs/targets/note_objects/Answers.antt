@@ -13,6 +13,10 @@ loop-object-preserved c =
     let i = c.loop-object.object-index in
     let x = c.object-item.result in
     record {
-      rest = note_object s n xs i x c.loop-object-test.true c.object-item.is c.in_ok-note_targets.ensures ∙ c.loop-object.invariant.rest;
-      layouts = objects_kept s n (view x.ctype ∷ []) (map view_object (drop (i + 1) xs)) c.in_ok-note_targets.ensures (object_rest s xs i x c.loop-object-test.true c.object-item.is c.loop-object.invariant.layouts);
+      rest =
+          note_object s n xs i x c.loop-object-test.true c.object-item.is c.in_ok-note_targets.ensures
+          ∙ c.loop-object.invariant.rest;
+      layouts =
+          objects_kept s n (view x.ctype ∷ []) (map view_object (drop (i + 1) xs)) c.in_ok-note_targets.ensures
+          (object_rest s xs i x c.loop-object-test.true c.object-item.is c.loop-object.invariant.layouts);
     }

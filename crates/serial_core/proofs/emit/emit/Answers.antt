@@ -3,10 +3,11 @@ use Rattle.std.specs.Prelude.{IfSome}
 use Rattle.upc_values.specs.Drain.{emptied}
 use Rattle.upc_values.specs.History.{reply}
 use Rattle.upc_values.specs.Formed.{IsWellFormed, fits_after}
+use Rattle.upc_values.specs.Known.{gives_known}
 use Rattle.upc_values.proofs.Unmade.{basic-declared}
 use Rattle.memory_history.specs.World.{answer_of}
 use Rattle.serial_core.specs.Kept.{Holds, Emitted}
-use Rattle.serial_core.proofs.Buffers.{emitted-forwarded, forwarded-fits, emitted-looked, emitted-passed, emitted-empties, found-none, answer-is, holds-emptied, grew-then, grew-performed, asked-grew}
+use Rattle.serial_core.proofs.Buffers.{emitted-forwarded, forwarded-answers, emitted-looked, emitted-passed, emitted-empties, found-none, answer-is, holds-emptied, grew-then, grew-performed, asked-grew}
 use Rattle.serial_core.proofs.emit.emit.Goals as goal
 
 pub returns-in-Some-clause-holds : goal.returns-in-Some-clause-holds
@@ -16,7 +17,7 @@ returns-in-Some-clause-holds c = λ w k.
 
 pub returns-in-Some-clause-answer : goal.returns-in-Some-clause-answer
 returns-in-Some-clause-answer c =
-    forwarded-fits c.args.world.now.0 c.in-Some.field-0-0 c.in-Looks.loc c.in-Some.value c.args.world.now.1 c.args.buffer.now c.args.action.now
+    forwarded-answers c.args.world.now.0 c.args.thread c.in-Some.field-0-0 c.in-Looks.loc c.in-Some.value c.args.world.now.1 c.args.buffer.now c.args.action.now
     c.keeps.ensures.opening (basic-declared c.args.world.now.0 c.args.world.now.1 c.keeps.ensures.basic) c.requires.pending (sym c.in-Looks.ensures) c.in-Some.ensures.youngest
 
 pub returns-in_ok-step-in-None-clause-holds : goal.returns-in_ok-step-in-None-clause-holds
@@ -29,7 +30,8 @@ pub returns-in_ok-step-in-None-clause-answer : goal.returns-in_ok-step-in-None-c
 returns-in_ok-step-in-None-clause-answer c =
     let e = c.in_ok-step-in-None.ensures in
     answer-is c.args.world.now.0 c.args.thread c.args.next c.args.world.now.1 c.perform.new.self.1 c.args.action.now
-    (answer_of c.in_ok-step-in-None.step) c.requires.asked e.reply e.fits e.entries
+    (answer_of c.in_ok-step-in-None.step) c.requires.asked e.reply e.fits
+    (subst (λ z. IfSome (answer_of c.in_ok-step-in-None.step) (λ r. gives_known z c.perform.new.self.1 r ≡ true)) e.opening e.known) e.entries
 
 pub returns-in_ok-step-in-Empties-clause-holds : goal.returns-in_ok-step-in-Empties-clause-holds
 returns-in_ok-step-in-Empties-clause-holds c = λ w k.
@@ -48,7 +50,8 @@ returns-in_ok-step-in-Empties-clause-answer c =
     answer-is o t c.args.next mid c.perform-in-Empties.new.self.1 a (answer_of c.in_ok-step-in-Empties.step)
     (asked-grew o t c.args.world.now.1 mid a c.requires.asked f.grew)
     (e.reply ∙ ap (λ z. reply z mid t a) f.opening)
-    (subst (λ z. IfSome (answer_of c.in_ok-step-in-Empties.step) (λ r. fits_after z mid a r ≡ true)) f.opening e.fits) e.entries
+    (subst (λ z. IfSome (answer_of c.in_ok-step-in-Empties.step) (λ r. fits_after z mid a r ≡ true)) f.opening e.fits)
+    (subst (λ z. IfSome (answer_of c.in_ok-step-in-Empties.step) (λ r. gives_known z c.perform-in-Empties.new.self.1 r ≡ true)) (e.opening ∙ f.opening) e.known) e.entries
 
 pub returns-in_ok-step-in-Empties-clause-grew : goal.returns-in_ok-step-in-Empties-clause-grew
 returns-in_ok-step-in-Empties-clause-grew c =

@@ -7,23 +7,24 @@ use Rattle.serial_core.proofs.Running.{start-of}
 use Rattle.serial_core.proofs.run.make_all.Goals as goal
 
 pub returns : goal.returns
-returns c =
+returns c = λ o f has.
     let h = c.loop-thread.invariant in
-    let many : length c.loop-thread.tasks.items ≡ c.args.limits.threads =
-    (let a = h.0 in let b = c.loop-thread-test.false in let d = c.loop-thread.auto.thread-end in omega arith) in
-    start-of c.args.program.now c.args.limits c.loop-thread.tasks.items many h.1
+    let many : length c.loop-thread.tasks.items ≡ o.threads =
+    (let a = h.0 in let b = c.loop-thread-test.false in let d = c.loop-thread.auto.thread-end in let e = has.threads in omega arith) in
+    start-of o c.args.program.now f c.args.limits c.loop-thread.tasks.items many (h.1 o f has)
 
 pub loop-thread-preserved : goal.loop-thread-preserved
 loop-thread-preserved c =
     let h = c.loop-thread.invariant in let xs = c.loop-thread.tasks.items in let k = c.in_ok-task.task in let e = c.in_ok-task.ensures in
     let p = c.args.program.now in let l = c.args.limits in
-    let is : c.push.new.self.items ≡ xs ++ k ∷ [] = c.in_ok-push.ensures.items in
-    let new : IsNew p l (length xs) k = record {
-      thread = e.new.0 ∙ sym h.0;
-      limits = e.new.1;
-      opened = e.new.2;
-      kept = e.kept [] refl;
-    } in (
+    let is : c.push.new.self.items ≡ xs ++ k ∷ [] = c.in_ok-push.ensures.items in (
       ap length is ∙ length-append xs (k ∷ []) ∙ ap (λ n. n + 1) h.0,
-      subst (Numbered (λ i k. IsNew p l i k)) (sym is) (numbered-push (λ i k. IsNew p l i k) xs k h.1 new),
+      λ o f has.
+          let new : IsNew o p f l (length xs) k = record {
+            thread = e.new.0 ∙ sym h.0;
+            limits = e.new.1;
+            opened = e.new.2;
+            kept = e.kept o f [] has refl;
+          } in
+          subst (Numbered (λ i k. IsNew o p f l i k)) (sym is) (numbered-push (λ i k. IsNew o p f l i k) xs k (h.1 o f has) new),
     )

@@ -1,7 +1,10 @@
 use Rattle.std.proofs.Common.{◌≡◌, length}
 use Rattle.upc_values.specs.Lists.{Numbered}
+use Rattle.upc_values.specs.Openings.{Opening}
+use Rattle.serial_core.specs.Sources.{Outcomes, HasOutcomes}
 use Rattle.serial_core.specs.Runs.{IsNew}
 use Rattle.serial_core.proofs.run.make_all.Given as goal
 
 abbrev pub invariant-loop-thread : goal.invariant-loop-thread
-invariant-loop-thread l = (length l.tasks.items ≡ l.thread) × Numbered (λ i k. IsNew l.program l.limits i k) l.tasks.items
+invariant-loop-thread l = (length l.tasks.items ≡ l.thread)
+    × ((o : Opening) (f : Outcomes) → HasOutcomes o l.program l.limits f → Numbered (λ i k. IsNew o l.program f l.limits i k) l.tasks.items)

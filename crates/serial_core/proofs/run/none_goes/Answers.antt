@@ -9,8 +9,9 @@ pub wanting-requires : goal.wanting-requires
 wanting-requires c =
     let h = c.requires in let k = c.index-task.result.now in let t = c.loop-at.at in let o = c.args.world.now.0 in let seen = c.args.world.now.1 in
     let lt : t < length c.args.tasks.now.items = omega arith in
-    let a : IsAt o h.0 seen t k = subst (IsAt o h.0 seen t) (sym c.index-task.ensures) (h.1.tasks t k lt) in
-    (h.0, a.kept)
+    let run = h.1 in
+    let a : IsAt o h.0 run.0 seen t k = subst (IsAt o h.0 run.0 seen t) (sym c.index-task.ensures) (run.1.tasks t k lt) in
+    (h.0, run.0, a.kept)
 
 pub loop-at-preserved : goal.loop-at-preserved
 loop-at-preserved c = λ i d lt q.

@@ -1,10 +1,10 @@
 use Rattle.std.proofs.Common.{◌≡◌}
-use Rattle.serial_core.specs.Runs.{IsRunning, AreSame}
+use Rattle.serial_core.specs.Runs.{StaysRunning, AreSame}
 use Rattle.serial_core.proofs.run.pick_all.Given as goal
 
 abbrev pub invariant-loop-pick : goal.invariant-loop-pick
 invariant-loop-pick l = record {
-  running : IsRunning l.world.0 l.program l.world.1 l.tasks.items;
+  running : StaysRunning l.program l.initial.world l.initial.tasks.items l.world l.tasks.items;
   same : AreSame l.initial.tasks.items l.tasks.items;
   opening : l.world.0 ≡ l.initial.world.0;
 }

@@ -1,10 +1,10 @@
 use Rattle.std.proofs.Common.{◌≡◌, ◌<◌, length}
-use Rattle.serial_core.specs.Runs.{IsRunning, AreSame, IsOpenAt, OthersStay}
+use Rattle.serial_core.specs.Runs.{StaysRunning, AreSame, IsOpenAt, OthersStay}
 use Rattle.serial_core.proofs.run.round.Given as goal
 
 abbrev pub invariant-loop : goal.invariant-loop
 invariant-loop g l = record {
-  running : IsRunning l.world.0 l.program l.world.1 l.tasks.items;
+  running : StaysRunning l.program l.initial.world l.initial.tasks.items l.world l.tasks.items;
   same : AreSame l.initial.tasks.items l.tasks.items;
   others : OthersStay l.at l.initial.tasks.items l.tasks.items;
   within : l.at < length l.tasks.items;

@@ -15,9 +15,12 @@ loop-at-preserved g c =
       | inr ne ↦ subst Rested (sym (e.others i d ne)) (h.rested i d (omega arith))
     ] in
     record {
-      running = e.running;
+      running = λ f run. e.running f (h.running f run);
       same = same-trans c.args.tasks.now.items c.loop-at.tasks.items ms h.same e.same;
       rested = rests;
       many = e.same.many ∙ h.many;
       opening = e.opening ∙ h.opening;
     }
+
+pub visit-requires-clause-running : goal.visit-requires-clause-running
+visit-requires-clause-running g c = let r = c.requires in (r.0, c.loop-at.invariant.running r.0 r.1)

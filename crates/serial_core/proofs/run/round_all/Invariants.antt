@@ -1,12 +1,12 @@
 use Rattle.std.proofs.Common.{◌≡◌, ℕ, ◌<◌, length}
 use Rattle.std.specs.Prelude.{slice_index_or}
 use Rattle.serial_core.specs.declared.task.Task.{Task}
-use Rattle.serial_core.specs.Runs.{IsRunning, AreSame, Rested}
+use Rattle.serial_core.specs.Runs.{StaysRunning, AreSame, Rested}
 use Rattle.serial_core.proofs.run.round_all.Given as goal
 
 abbrev pub invariant-loop-at : goal.invariant-loop-at
 invariant-loop-at g l = record {
-  running : IsRunning l.world.0 l.program l.world.1 l.tasks.items;
+  running : StaysRunning l.program l.initial.world l.initial.tasks.items l.world l.tasks.items;
   same : AreSame l.initial.tasks.items l.tasks.items;
   rested : (i : ℕ) (d : Task) → i < l.at → Rested (slice_index_or l.tasks.items i d);
   many : length l.tasks.items ≡ l.many;

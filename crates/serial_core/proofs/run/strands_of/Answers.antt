@@ -20,15 +20,15 @@ loop-task-preserved c =
       all = all;
       many = ap length is ∙ length-append c.loop-task.strands.items (s ∷ []) ∙ ap (λ n. n + 1) h.many ∙ sym (length-append xs (k ∷ []));
       room = (search rules);
-      made = λ o p seen a.
-          let at : IsAt o p seen (length xs) k =
-          numbered-at (λ i k. IsAt o p seen i k) xs left k (subst (Numbered (λ i k. IsAt o p seen i k)) (sym all ∙ append_assoc xs (k ∷ []) left) a) in
-          is ∙ ap (λ l. l ++ s ∷ []) (h.made o p seen a) ∙ ap (λ z. map (strand_of p) xs ++ z ∷ []) (c.into_strand.ensures o p seen at.kept)
-          ∙ sym (map-append (strand_of p) xs (k ∷ []));
+      made = λ o p f seen a.
+          let at : IsAt o p f seen (length xs) k =
+          numbered-at (λ i k. IsAt o p f seen i k) xs left k (subst (Numbered (λ i k. IsAt o p f seen i k)) (sym all ∙ append_assoc xs (k ∷ []) left) a) in
+          is ∙ ap (λ l. l ++ s ∷ []) (h.made o p f seen a) ∙ ap (λ z. map (strand_of f) xs ++ z ∷ []) (c.into_strand.ensures o p f seen at.kept)
+          ∙ sym (map-append (strand_of f) xs (k ∷ []));
     }
 
 pub returns : goal.returns
-returns c = λ o p seen a.
+returns c = λ o p f seen a.
     let h = c.loop-task.invariant in let st = c.in-None.ensures.steps in
     let all : c.loop-task.yielded ≡ c.args.tasks.items = grind (arith, common_steps, h.all, st.0) in
-    c.loop-task.invariant.made o p seen a ∙ ap (map (strand_of p)) all
+    c.loop-task.invariant.made o p f seen a ∙ ap (map (strand_of f)) all

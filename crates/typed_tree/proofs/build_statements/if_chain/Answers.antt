@@ -1,9 +1,10 @@
-use Rattle.std.proofs.Common.{ap, ◌∙◌}
-use Rattle.typed_tree.specs.Tree as t
-use Rattle.typed_tree.specs.ViewStatements.{view_arms}
+use Rattle.std.proofs.Common.{◌≡◌, IfOk, subst}
+use Rattle.typed_tree.specs.Tree.{Stands, StatementKind}
+use Rattle.typed_tree.specs.ViewStatements.{view_statement}
 use Rattle.typed_tree.proofs.StatementRows.{if_is}
 use Rattle.typed_tree.proofs.build_statements.if_chain.Goals as goal
 
 pub returns : goal.returns
 returns c =
-    ap (t.Stands c.args.place) (if_is c.args.arms c.in_ok-boxed.field-0 ∙ ap (t.If (view_arms c.args.arms.items)) c.in_ok-boxed.ensures)
+    subst (λ (kind : StatementKind). IfOk c.node.result (λ s. view_statement s.value ≡ Stands c.args.place kind))
+    (if_is c.args.arms c.args.last) c.node.ensures

@@ -9,4 +9,5 @@ pub find_among-requires : goal.find_among-requires
 find_among-requires c =
     let cs = reverse (map view_completed c.args.structs.now.completed.items) in
     let kept = c.args.structs.now.kept in
-    ap (λ (ms : List Member). is_some (members_within cs ms)) c.members.ensures ∙ members_fit cs c.args.number kept.ordered (kept.fine c.args.number)
+    ap (λ (ms : List Member). is_some (members_within cs ms)) c.members.ensures
+    ∙ members_fit cs c.args.number kept.ordered (kept.fine c.args.number)

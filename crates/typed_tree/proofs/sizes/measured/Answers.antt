@@ -2,7 +2,7 @@ use Rattle.std.proofs.Common.{◌*◌, map, reverse, sym, ap, ◌∙◌}
 use Rattle.upc_types.specs.View.{view, view_base, view_completed}
 use Rattle.upc_types.specs.ViewStructs.{view_structs}
 use Rattle.upc_types.specs.Layout.{layout_in}
-use Rattle.typed_tree.specs.Attributes.{Facts, measured}
+use Rattle.typing_rules.specs.Attributes.{Facts, measured}
 use Rattle.typed_tree.proofs.sizes.measured.Goals as goal
 use Rattle.upc_types.specs.Cells.{leaves}
 use Rattle.upc_types.proofs.Within.{leaf_sizes}

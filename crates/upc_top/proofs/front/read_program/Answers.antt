@@ -2,7 +2,7 @@ use Rattle.std.proofs.Common.{◌≡◌, length, refl, sym, subst, None, rules}
 use Rattle.std.proofs.lemmas.Result.{err_from_is_err_and}
 use Rattle.upc_macros.specs.Expansion.{IsExpansion}
 use Rattle.upc_tree.specs.ViewStatement.{view_unit}
-use Rattle.upc_checker.specs.ViewProgram.{view_program}
+use Rattle.typed_tree.specs.ViewProgram.{view_program}
 use Rattle.first_language.specs.Unit.{first_program}
 use Rattle.upc_top.proofs.Stages.{stops_expanding, stops_parsing, few_in, stops_checking, refuses_tree}
 use Rattle.upc_top.proofs.front.read_program.Goals as goal

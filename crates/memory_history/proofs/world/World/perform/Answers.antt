@@ -3,7 +3,9 @@ use Rattle.upc_values.specs.Drain.{entry_of}
 use Rattle.upc_values.specs.Openings.{Opening}
 use Rattle.upc_values.specs.History.{reply}
 use Rattle.upc_values.specs.Formed.{IsWellFormed, fits_after}
+use Rattle.upc_values.specs.Known.{gives_known}
 use Rattle.upc_values.proofs.Fitting.{lawful-fits}
+use Rattle.upc_values.proofs.Known.{lawful-known}
 use Rattle.memory_history.specs.World.{IsKept}
 use Rattle.memory_history.proofs.More.{kept-push}
 use Rattle.memory_history.proofs.world.World.perform.Goals as goal
@@ -32,3 +34,15 @@ returns-clause-fits c =
     subst (λ w. fits_after w.0 w.1 a c.in-Some.reply ≡ true) c.self.view_is
     (lawful-fits o es c.args.thread a c.in-Some.reply c.self.invariant.opening c.self.invariant.basic c.self.invariant.formed
     c.requires.basic r)
+
+pub returns-clause-known : goal.returns-clause-known
+returns-clause-known c =
+    let o : Opening = c.self.inside.beginning in
+    let es = c.self.inside.entries.items in
+    let a = c.args.action.now in
+    let e : c.push.new.self.items ≡ es ++ entry_of c.args.thread c.args.index a c.in-Some.reply ∷ [] = search rules in
+    let r : reply o es c.args.thread a ≡ Some c.in-Some.reply =
+    sym (sym c.in-Some.is ∙ c.reply.ensures ∙ ap (λ l. reply o l c.args.thread a) c.as_slice.ensures.value) in
+    let f : IsWellFormed o es a = subst (λ w. IsWellFormed w.0 w.1 a) (sym c.self.view_is) c.requires.formed in
+    subst (λ l. gives_known o l c.in-Some.reply ≡ true) (sym e)
+    (lawful-known o es c.args.thread c.args.index a c.in-Some.reply c.self.invariant.opening c.self.invariant.legal c.self.invariant.formed f r)

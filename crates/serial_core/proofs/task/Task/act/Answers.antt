@@ -1,6 +1,7 @@
 use Rattle.std.proofs.Common.{rules, ◌≡◌, ◌+◌, ◌++◌, [], ◌∷◌, Some, None, true, false, sym, subst, ap, ◌∙◌, refl, inl, inr}
 use Rattle.upc_values.specs.declared.record.Item.TheVariants.{Did, Stall}
-use Rattle.upc_values.specs.History.{reply}
+use Rattle.upc_values.specs.History.{reply, IsLegal}
+use Rattle.upc_values.specs.Formed.{AreWellFormed}
 use Rattle.upc_values.specs.Records.{is_stall, is_beat, is_beat_item, last_item}
 use Rattle.upc_values.proofs.Records.{last-push}
 use Rattle.first_language.specs.declared.machine.Wish.TheVariants.{Act}
@@ -14,24 +15,25 @@ use Rattle.serial_core.proofs.task.Task.act.Goals.{then-is_beat, else-is_beat}
 pub emit-requires-clause-asked : goal.emit-requires-clause-asked
 emit-requires-clause-asked c =
     let k = c.args.self.now in let h = c.requires.kept in
-    kept-asks c.args.world.now.0 h.0 c.args.world.now.1 k c.in-Some-Act.action h.1 (search rules)
+    kept-asks c.args.world.now.0 h.0 h.1 c.args.world.now.1 k c.in-Some-Act.action c.keeps.ensures.legal c.keeps.ensures.formed h.2 (search rules)
 
 pub emit-requires-clause-basic : goal.emit-requires-clause-basic
 emit-requires-clause-basic c =
     let k = c.args.self.now in let h = c.requires.kept in
-    kept-basic c.args.world.now.0 h.0 c.args.world.now.1 k c.in-Some-Act.action h.1 (search rules)
+    kept-basic c.args.world.now.0 h.0 h.1 c.args.world.now.1 k c.in-Some-Act.action h.2 (search rules)
 
 pub returns-after-is_beat-clause-kept : goal.returns-after-is_beat-clause-kept
-returns-after-is_beat-clause-kept c = λ p h.
+returns-after-is_beat-clause-kept c = λ p f h.
     let k = c.args.self.now in let r = c.in-Done.reply in let a = c.in-Some-Act.action in let e = c.in_ok-reply.ensures in
     let o = c.args.world.now.0 in let seen = c.args.world.now.1 in let later = c.emit.new.world.1 in
     let m : Task = record k { items = c.push_reserved.new.self; buffer = c.emit.new.buffer } in
     let z : Task = record k { items = c.push_reserved.new.self; buffer = c.emit.new.buffer; next = k.next + 1; answer = Some r; wish = c.take.new.self } in
     let wants : k.wish ≡ Some (Act a) = search rules in
     let y : Task = record z { wish = None } in
-    subst (λ o. IsKept o p later z) (sym e.opening)
-    (subst (λ w. let x : Task = record y { wish = w } in IsKept o p later x) (sym c.in-Some-Act.ensures.after)
-    (kept-did o p seen later k m a r h c.requires.«open» wants c.requires.room e.grew
+    subst (λ o. IsKept o p f later z) (sym e.opening)
+    (subst (λ w. let x : Task = record y { wish = w } in IsKept o p f later x) (sym c.in-Some-Act.ensures.after)
+    (kept-did o p f seen later k m a r
+    (subst (λ z. IsLegal z later) e.opening c.keeps-in-Done.ensures.legal) (subst (λ z. AreWellFormed z later) e.opening c.keeps-in-Done.ensures.formed) h c.requires.«open» wants c.requires.room e.grew
     (λ w hw. subst (λ s. Emitted o k.thread later c.emit.new.buffer k.next a (answer_of s) w) c.in-Done.is (e.holds w hw))
     (subst (λ s. IsAnswer o k.thread later a (answer_of s)) c.in-Done.is e.answer)
     (search rules)))
@@ -50,14 +52,14 @@ returns-after-is_beat-clause-pause c =
     ]
 
 pub returns-then-not-stalls-clause-kept : goal.returns-then-not-stalls-clause-kept
-returns-then-not-stalls-clause-kept c = λ p h.
+returns-then-not-stalls-clause-kept c = λ p f h.
     let k = c.args.self.now in let a = c.in-Some-Act.action in let e = c.in_ok-reply.ensures in
     let o = c.args.world.now.0 in let seen = c.args.world.now.1 in let later = c.emit.new.world.1 in
     let m : Task = record k { items = c.push_reserved-then-not-stalls.new.self; buffer = c.emit.new.buffer } in
     let z : Task = record m { wish = Some (Act a) } in
     let stalls : is_stall (last_item k.items.items) ≡ false = search rules in
-    subst (λ o. IsKept o p later z) (sym e.opening)
-    (kept-stall o p seen later k m a h c.requires.«open» (search rules) c.requires.room e.grew
+    subst (λ o. IsKept o p f later z) (sym e.opening)
+    (kept-stall o p f seen later k m a h c.requires.«open» (search rules) c.requires.room e.grew
     (λ w hw. subst (λ s. Emitted o k.thread later c.emit.new.buffer k.next a (answer_of s) w) c.in-Disabled.is (e.holds w hw))
     (subst (λ s. IsAnswer o k.thread later a (answer_of s)) c.in-Disabled.is e.answer) stalls
     (search rules))
@@ -75,13 +77,13 @@ returns-then-not-stalls-clause-waits c =
     (a, refl, ap is_stall (ap last_item is ∙ last-push k.items.items Stall), subst (λ o. reply o later k.thread a ≡ None) (sym e.opening) no.1)
 
 pub returns-else-not-stalls-clause-kept : goal.returns-else-not-stalls-clause-kept
-returns-else-not-stalls-clause-kept c = λ p h.
+returns-else-not-stalls-clause-kept c = λ p f h.
     let k = c.args.self.now in let a = c.in-Some-Act.action in let e = c.in_ok-reply.ensures in
     let o = c.args.world.now.0 in let seen = c.args.world.now.1 in let later = c.emit.new.world.1 in
     let m : Task = record k { items = c.reserve.new.self; buffer = c.emit.new.buffer } in
     let z : Task = record m { wish = Some (Act a) } in
     let stalls : is_stall (last_item k.items.items) ≡ true = search rules in
-    subst (λ o. IsKept o p later z) (sym e.opening)
-    (kept-stay o p seen later k m a h c.requires.«open» (search rules) e.grew
+    subst (λ o. IsKept o p f later z) (sym e.opening)
+    (kept-stay o p f seen later k m a h c.requires.«open» (search rules) e.grew
     (λ w hw. subst (λ s. Emitted o k.thread later c.emit.new.buffer k.next a (answer_of s) w) c.in-Disabled.is (e.holds w hw)) stalls
     (search rules))

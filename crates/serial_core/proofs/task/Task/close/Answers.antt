@@ -7,10 +7,10 @@ use Rattle.serial_core.proofs.Buffers.{holds-finished}
 use Rattle.serial_core.proofs.task.Task.close.Goals as goal
 
 pub returns-clause-kept : goal.returns-clause-kept
-returns-clause-kept c = λ p h.
+returns-clause-kept c = λ p f h.
     let k = c.args.self.now in let w = some-is k.wish c.requires.ready.1 in let e = c.in_ok-empty.ensures in
     let z : Task = record k { buffer = c.empty.new.buffer; «end» = Some c.args.«end» } in
-    subst (λ o. IsKept o p c.empty.new.world.1 z) (sym e.opening)
-    (kept-closed c.args.world.now.0 p c.args.world.now.1 c.empty.new.world.1 k z w.0 c.args.«end» h c.requires.ready.0 w.1 e.grew
+    subst (λ o. IsKept o p f c.empty.new.world.1 z) (sym e.opening)
+    (kept-closed c.args.world.now.0 p f c.args.world.now.1 c.empty.new.world.1 k z w.0 c.args.«end» h c.requires.ready.0 w.1 e.grew
     (λ v hv. holds-finished c.args.world.now.0 k.thread k.next c.args.world.now.1 c.empty.new.world.1 k.buffer c.empty.new.buffer v e.all.0 e.all.1 hv)
-    e.all.0 (c.requires.own p h) c.requires.comes)
+    e.all.0 (c.requires.own p f h) c.requires.comes)

@@ -1,8 +1,0 @@
-use Rattle.typed_tree.specs.Attributes.{Facts}
-use Rattle.declaration_checker.specs.Views.{facts_of}
-use Rattle.declaration_checker.proofs.nodes.finish_assign.Goals as goal
-
-pub returns-in-Assign : goal.returns-in-Assign
-returns-in-Assign c =
-    let φ : Facts = facts_of c.args.setting c.args.known.now in
-    rw c.in-Assign.is (c.finish_plain_assign.ensures φ)

@@ -1,0 +1,4 @@
+pub mod Lists
+pub mod Rest
+pub mod Walked
+pub mod Sizes

@@ -1,0 +1,5 @@
+//! Expressions and types: from a syntax tree to trees with types, or to the first rule that is broken.
+#![tactic(auto)]
+
+pub mod expressions;
+pub mod types;

@@ -1,0 +1,5 @@
+pub mod Marks
+pub mod ViewUses
+pub mod Called
+pub mod Parts
+pub mod ViewJudged

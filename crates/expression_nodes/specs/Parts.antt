@@ -1,0 +1,54 @@
+-- Parts of expressions with types.
+use Rattle.std.specs.Prelude.{ℕ, ◌+◌, List, [], ◌∷◌, ◌++◌, Option, Some, None}
+use Rattle.upc_tree.specs.declared.mark.ConstantWord.{ConstantWord}
+use Rattle.upc_tree.specs.declared.mark.ConstantWord.TheVariants as c
+use Rattle.upc_tree.specs.declared.mark.MemberMark.{MemberMark}
+use Rattle.upc_tree.specs.declared.mark.MemberMark.TheVariants.{Dot, Arrow}
+use Rattle.upc_tree.specs.declared.span.StringLiteral.{StringLiteral}
+use Rattle.typing_rules.specs.Values.{base_target}
+use Rattle.typed_tree.specs.Scopes.{Setting}
+use Rattle.typing_rules.specs.Attributes.{Facts, base, member_named, found_index, target_index}
+use Rattle.typing_rules.specs.Nodes as n
+use Rattle.typing_rules.specs.Nodes.{Attr}
+use Rattle.typed_tree.specs.Tree as k
+use Rattle.typed_tree.specs.Tree.{ExprKind, Exprs, attr_of}
+
+abbrev pub joined : List StringLiteral → List ℕ
+joined [] = []
+joined (x ∷ xs) = x.bytes ++ joined xs
+
+-- The text of an expression that is a string, seen through parentheses.
+abbrev mutual
+  pub text_in : k.Expr → Option (List ℕ)
+  text_in (k.Is place attr kind) = text_of kind
+
+  pub text_of : ExprKind → Option (List ℕ)
+  text_of (k.Format bytes) = Some bytes
+  text_of (k.Paren a) = text_in a
+  text_of x = None
+
+-- The format among the arguments.
+abbrev pub format_in : Exprs → Option (List ℕ)
+format_in k.NoExprs = None
+format_in (k.AndExpr a more) = text_in a
+
+abbrev pub last_of : k.Expr → Exprs → Attr
+last_of x k.NoExprs = attr_of x
+last_of x (k.AndExpr y more) = last_of y more
+
+abbrev pub member_of : MemberMark → Attr → List ℕ → n.Node
+member_of Dot a name = n.MemberOf a name
+member_of Arrow a name = n.MemberBehind a name
+
+abbrev pub member_kind : MemberMark → k.Expr → List ℕ → Facts → ExprKind
+member_kind Dot a name φ = k.Member a (found_index (member_named φ.structs (attr_of a).ctype name))
+member_kind Arrow a name φ = k.MemberBehind a (target_index φ.structs (base_target (base (attr_of a))) name)
+
+abbrev pub constant_node : Setting → ConstantWord → n.Node
+constant_node ξ c.Mythread = n.Mythread
+constant_node ξ c.Threads = n.Threads ξ.threads
+constant_node ξ c.MaxBlockSize = n.MaxBlockSize
+
+abbrev pub constant_kind : ConstantWord → ExprKind
+constant_kind c.Mythread = k.Mythread
+constant_kind word = k.Literal

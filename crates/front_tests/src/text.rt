@@ -1,0 +1,87 @@
+//! Whole reads and puts over memory, and the calls of `Text`.
+use std::test::Fail;
+use upc_text::{
+    Failed, Gate, MemFiles, MemSink, OpenGate, ReadEnd, SureFiles, SureSink, Text, put_all,
+    read_all,
+};
+
+const LONG: [u8; 600] = [b'x'; 600];
+
+// Short reads are joined, and a read that fails is no end of the source: with 512 bytes a call, a file of 600 bytes
+// takes three reads, the third of which meets the end.
+#[test]
+fn reads_all(rt: HostRuntime) -> Result<(), Fail> {
+    let rows: [(&[u64], usize, Result<usize, ReadEnd>); 6] = [
+        (&[], 512, Ok(600)),
+        (&[], 1, Ok(600)),
+        (&[1], 512, Err(ReadEnd::ReadFault)),
+        (&[2], 512, Err(ReadEnd::ReadFault)),
+        (&[3], 512, Err(ReadEnd::ReadFault)),
+        (&[4], 512, Ok(600)),
+    ];
+    for (fails, most, want) in rows {
+        assert!(rt; most > 0);
+        let mut files = MemFiles::make(rt.alloc(), fails, most)?;
+        files.add("a.upc", &LONG)?;
+        let got = read_all(rt.alloc(), &mut files, "a.upc");
+        assert_eq!(rt; got.map(|bytes| bytes.len()), want, "{fails:?} {most}");
+    }
+    let mut files = MemFiles::make(rt.alloc(), &[], 512)?;
+    let missing = read_all(rt.alloc(), &mut files, "a.upc");
+    assert_eq!(rt; missing.map(|bytes| bytes.len()), Err(ReadEnd::ReadFault));
+    Ok(())
+}
+
+// A source of 1,048,576 bytes is read, and one byte more is too long.
+#[test]
+fn reads_up_to_the_limit(rt: HostRuntime) -> Result<(), Fail> {
+    for (count, want) in [
+        (0, Ok(0)),
+        (1_048_576, Ok(1_048_576)),
+        (1_048_577, Err(ReadEnd::TooLong)),
+    ] {
+        let bytes = vec![in rt.alloc(); b'\n'; count]?;
+        let mut files = SureFiles::make(rt.alloc())?;
+        files.add("a.upc", &bytes)?;
+        let got = read_all(rt.alloc(), &mut files, "a.upc");
+        assert_eq!(rt; got.map(|bytes| bytes.len()), want, "{count}");
+        let missing = read_all(rt.alloc(), &mut files, "b.upc");
+        assert_eq!(rt; missing.map(|bytes| bytes.len()), Ok(0));
+    }
+    Ok(())
+}
+
+// Short puts are continued, and after a put that fails the sink holds what was put before.
+#[test]
+fn puts_all(rt: HostRuntime) -> Result<(), Fail> {
+    let rows: [(&[u64], Result<(), Failed>, &[u8]); 4] = [
+        (&[], Ok(()), b"79800\n"),
+        (&[1], Err(Failed), b""),
+        (&[2], Err(Failed), b"7980"),
+        (&[3], Ok(()), b"79800\n"),
+    ];
+    for (fails, want, taken) in rows {
+        let mut sink = MemSink::make(rt.alloc(), fails, 4)?;
+        assert_eq!(rt; put_all(&mut sink, b"79800\n"), want, "{fails:?}");
+        assert_eq!(rt; sink.taken(), taken, "{fails:?}");
+    }
+    let mut sink = SureSink::make();
+    assert_eq!(rt; put_all(&mut sink, b"79800\n"), Ok(()));
+    OpenGate.round_begins(0, 1);
+    Ok(())
+}
+
+#[test]
+fn texts(rt: HostRuntime) -> Result<(), Fail> {
+    let mut text = Text::new(rt.alloc());
+    assert!(rt; text.is_empty());
+    text.push(b'a')?;
+    text.push_slice(b"bc")?;
+    let mut longer = text.copy(rt.alloc())?;
+    assert!(rt; longer == text && longer == text.clone()?);
+    longer.push(b'd')?;
+    assert!(rt; longer != text && longer.len() == 4);
+    assert_eq!(rt; text.as_slice(), b"abc".as_slice());
+    assert!(rt; Text::from_vec(longer.into_vec()) == Text::from_slice(rt.alloc(), b"abcd")?);
+    Ok(())
+}

@@ -1,0 +1,4 @@
+pub mod Units
+pub mod Parts
+pub mod ViewMade
+pub mod ViewEarlier

@@ -1,0 +1,164 @@
+-- The walk over a whole source (C99 6.9).
+use Rattle.std.specs.Prelude.{ℕ, nat_eq, Bool, true, false, ◌&&◌, List, [], ◌∷◌, ◌++◌, Option}
+use Rattle.std.specs.List.{list_any}
+use Rattle.std.specs.Cmp.Lexicographic.{pointwise}
+use Rattle.upc_text.specs.declared.place.Place.{Place}
+use Rattle.block_layout.specs.declared.kind.Kind.TheVariants as kind
+use Rattle.upc_tree.specs.declared.span.Name.{Name}
+use Rattle.upc_tree.specs.Expression.{Specs, Pointers, Parameters}
+use Rattle.upc_tree.specs.Declaration.{Declares}
+use Rattle.upc_tree.specs.Statement.{Compound}
+use Rattle.upc_tree.specs.Unit.{External, PragmaPart, DeclarationPart, FunctionPart}
+use Rattle.upc_types.specs.Types.{CType, Base, Integer, base_of}
+use Rattle.typing_rules.specs.declared.setting.Enclosing.TheVariants as enclosing
+use Rattle.typing_rules.specs.Values.{value_type}
+use Rattle.typing_rules.specs.Meanings as m
+use Rattle.typing_rules.specs.Meanings.{Signature}
+use Rattle.typed_tree.specs.Scopes.{Setting, Env, file, spelling, inside, with_entry, Scope, Within, NoScope, begin}
+use Rattle.typed_tree.specs.Scopes.{with_function, differs}
+use Rattle.typing_rules.specs.Faults.{Seen, Fault, first_fault}
+use Rattle.typing_rules.specs.Nodes as n
+use Rattle.typing_rules.specs.Nodes.{Around}
+use Rattle.typed_tree.specs.Tree.{DeclaredObject, Function, Statement}
+use Rattle.walk_state.specs.Walk.{Walk, give, andthen, judge, update, look, enclosed}
+use Rattle.type_specifiers.specs.Specifiers.{specifiers_form, specified_type}
+use Rattle.walk_state.specs.Places.{no_place, specs_place}
+use Rattle.walk_state.specs.Known.{main_text}
+use Rattle.type_specifiers.specs.Shapes.{Specifying}
+use Rattle.expression_checker.specs.Expressions.{walk_specs, walk_pointers, walk_parameters}
+use Rattle.declaration_checker.specs.Declarations.{walk_declaration}
+use Rattle.walk_state.specs.Known.{definition_again}
+use Rattle.statement_checker.specs.Statements.{walk_block}
+
+-- ---- what the source defines
+
+-- The functions that the source defines, in order.
+abbrev pub defined_in : List External → List ℕ
+defined_in [] = []
+defined_in (FunctionPart specs stars name parameters body ∷ xs) = name.number ∷ defined_in xs
+defined_in (x ∷ xs) = defined_in xs
+
+abbrev pub external_place : External → Place
+external_place (PragmaPart pragma) = pragma.span.place
+external_place (DeclarationPart (Declares specs list semicolon)) = specs_place specs
+external_place (FunctionPart specs stars name parameters body) = specs_place specs
+
+-- The first token of the source.
+abbrev pub source_place : List External → Place
+source_place [] = no_place
+source_place (x ∷ xs) = external_place x
+
+-- ---- functions (C99 6.9.1)
+
+-- What the source has declared and defined.
+pub record Made : Type 0 where
+  pub scope : Env
+  pub objects : List DeclaredObject
+  pub functions : List Function
+
+abbrev pub body_around : CType → Around
+body_around result = record { result = value_type result; breaks = enclosing.Nothing; loops = false; forall = false }
+
+-- What was said of a function before its definition: whether that declares it again, and whether it differs.
+pub record Earlier : Type 0 where
+  pub again : Bool
+  pub differs : Bool
+
+abbrev pub earlier : Setting → Env → ℕ → Signature → Walk Earlier
+earlier ξ Γ name signature =
+    look (λ s. record { again = definition_again ξ Γ s name; differs = differs name signature s.functions })
+
+abbrev pub in_definition : Specifying
+in_definition = record { star = false; static = true; alone = false }
+
+-- The function is in scope in its body, and its parameters and its body are one scope.
+abbrev pub with_definition : Setting → Made → Place → ℕ → Signature → Statement → Made
+with_definition ξ before place name signature body = record {
+  scope = with_entry name (m.Function signature) before.scope;
+  objects = before.objects;
+  functions =
+      before.functions ++ (record {
+        at = place;
+        name = spelling ξ name;
+        result = value_type signature.result;
+        parameters = signature.parameters;
+        body = body;
+      } ∷ []);
+}
+
+-- A function's parameters have the types that its signature says; so the scope of the body is that of the parameters,
+-- inside one that has the function itself.
+abbrev pub with_outer_entry : ℕ → Signature → Env → Env
+with_outer_entry name signature (Scope level top counts (Within Γ)) =
+    Scope level top counts (Within (with_entry name (m.Function signature) Γ))
+with_outer_entry name signature (Scope level top counts NoScope) = Scope level top counts NoScope
+
+-- A definition behind its specifiers and stars, which form a type or not: its parameters, its body, and its own node.
+abbrev pub walk_definition : Setting → Bool → Made → Place → Bool → CType → Name → Parameters → Compound → Walk Made
+walk_definition ξ strict before place forms result name parameters body =
+    andthen (walk_parameters ξ (inside before.scope) parameters) (λ ps.
+    let signature : Signature = record { result = result; parameters = ps.types } in
+    andthen (earlier ξ before.scope name.number signature) (λ was.
+    andthen (update (with_function name.number signature true)) (λ u.
+    andthen (walk_block ξ (with_outer_entry name.number signature ps.scope) (body_around result) strict body) (λ x.
+    andthen (judge ξ place (n.Defines was.again was.differs forms signature)) (λ v.
+    give (with_definition ξ before place name.number signature x))))))
+
+abbrev pub walk_function : Setting → Bool → Made → Place → Specs → Pointers → Name → Parameters → Compound → Walk Made
+walk_function ξ strict before place specs pointers name parameters body =
+    andthen (walk_specs ξ before.scope in_definition specs) (λ p.
+    andthen (walk_pointers ξ before.scope false (specified_type p) pointers) (λ t.
+    enclosed (walk_definition ξ strict before place (specifiers_form true p && t.forms) t.ctype name parameters body)))
+
+abbrev pub walk_external : Setting → Bool → Made → External → Walk Made
+walk_external ξ strict before (PragmaPart pragma) = give before
+walk_external ξ strict before (DeclarationPart declaration) =
+    andthen (walk_declaration ξ before.scope declaration) (λ b.
+    give (record { scope = b.scope; objects = before.objects ++ b.objects; functions = before.functions }))
+walk_external ξ strict before (FunctionPart specs pointers name parameters body) =
+    walk_function ξ strict before (specs_place specs) specs pointers name parameters body
+
+abbrev pub strict_from : Bool → External → Bool
+strict_from before (PragmaPart pragma) = pragma.strict
+strict_from before x = before
+
+abbrev pub walk_externals : Setting → Bool → Made → List External → Walk Made
+walk_externals ξ strict before [] = give before
+walk_externals ξ strict before (x ∷ xs) =
+    andthen (walk_external ξ strict before x) (λ b. walk_externals ξ (strict_from strict x) b xs)
+
+-- ---- the whole source
+
+abbrev pub is_int_base : Base → Bool
+is_int_base (Integer kind.Int) = true
+is_int_base b = false
+
+abbrev pub is_empty : {A : Type 0} → List A → Bool
+is_empty [] = true
+is_empty (x ∷ xs) = false
+
+-- A function main without parameters that gives an int (C99 5.1.2.2.1).
+abbrev pub is_main_function : Function → Bool
+is_main_function f = pointwise nat_eq f.name main_text && (is_int_base (base_of f.result) && is_empty f.parameters)
+
+abbrev pub setting : List (List ℕ) → ℕ → List External → Setting
+setting names threads unit = record { names = names; threads = threads; defined = defined_in unit; most = 65535 }
+
+-- The walk from the first token to the last. At the start relaxed is in force (UPC 6.7). The file itself is the last
+-- node.
+abbrev pub walk_unit : Setting → List External → Walk Made
+walk_unit ξ unit =
+    andthen (walk_externals ξ false (record { scope = file; objects = []; functions = [] }) unit) (λ made.
+    andthen (judge ξ (source_place unit) (n.File (list_any is_main_function made.functions))) (λ u. give made))
+
+-- All nodes of a source in the order in which they are finished.
+abbrev pub unit_nodes : List (List ℕ) → ℕ → List External → List Seen
+unit_nodes names threads unit = (walk_unit (setting names threads unit) unit begin).seen
+
+-- What the source declares and defines, with types.
+abbrev pub typed_unit : List (List ℕ) → ℕ → List External → Made
+typed_unit names threads unit = (walk_unit (setting names threads unit) unit begin).value
+
+-- The first typing fault of a source.
+abbrev pub unit_fault : List (List ℕ) → ℕ → List External → Option Fault
+unit_fault names threads unit = first_fault (unit_nodes names threads unit)

@@ -1,0 +1,6 @@
+-- What contracts see of what was said of a function before its definition.
+use Rattle.function_checker.specs.declared.functions.Earlier as e
+use Rattle.function_checker.specs.Units.{Earlier}
+
+abbrev pub view_earlier : e.Earlier → Earlier
+view_earlier x = record { again = x.again; differs = x.differs }

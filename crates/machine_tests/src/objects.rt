@@ -1,0 +1,182 @@
+//! Private objects: what enters and leaves, what cells hold, and what is refused.
+
+use crate::shapes::{row, two_ints};
+use block_layout::run_error::{CELL_TYPE, DEPTH, NULL_ACCESS, PRIVATE_RANGE, PRIVATE_SPACE};
+use private_store::{Kind, LocalPtr, MOST_CALLS, Refused, Store, Value};
+use std::test::Fail;
+use upc_values::Scalar;
+
+// What an int at an offset of an object holds, or the code of the run error.
+fn int_at(store: &Store, object: u64, offset: i64) -> Result<i128, u8> {
+    let p = LocalPtr::Private { object, offset };
+    match store.load(&p, Kind::Int) {
+        Ok(Value::Scalar(Scalar::Int(n))) => Ok(n),
+        Ok(_) => Ok(-1),
+        Err(code) => Err(code),
+    }
+}
+
+// Whether an access of a kind is refused with a code.
+fn is_refused(store: &Store, object: u64, offset: i64, kind: Kind, code: u8) -> bool {
+    let p = LocalPtr::Private { object, offset };
+    match store.load(&p, kind) {
+        Ok(_) => false,
+        Err(other) => other == code,
+    }
+}
+
+// Stores 7 in an int.
+fn store_seven(store: &mut Store, object: u64, offset: i64) -> Result<(), u8> {
+    let p = LocalPtr::Private { object, offset };
+    store.store(&p, Kind::Int, Value::Scalar(Scalar::Int(7)))
+}
+
+#[test]
+fn cells_hold_what_is_stored(rt: HostRuntime) -> Result<(), Fail> {
+    let alloc = rt.alloc();
+    let file = [row(alloc, Kind::Int, 4)?];
+    let mut store = Store::make(alloc, &[], &[])?;
+    assert_eq!(rt; store.enter(0, &file), Ok(0));
+    assert_eq!(rt; int_at(&store, 0, 4), Ok(0));
+    assert_eq!(rt; store_seven(&mut store, 0, 4), Ok(()));
+    assert_eq!(rt; int_at(&store, 0, 4), Ok(7));
+    assert_eq!(rt; int_at(&store, 0, 0), Ok(0));
+    Ok(())
+}
+
+#[test]
+fn objects_end_with_block_and_call(rt: HostRuntime) -> Result<(), Fail> {
+    let alloc = rt.alloc();
+    let block = [row(alloc, Kind::Int, 1)?];
+    let mut store = Store::make(alloc, &[], &[])?;
+    store.push_call()?;
+    assert_eq!(rt; store.enter(0, &block), Ok(0));
+    assert_eq!(rt; store.shape(0).is_some(), true);
+    store.leave();
+    assert_eq!(rt; int_at(&store, 0, 0), Err(PRIVATE_RANGE));
+    assert_eq!(rt; store.enter(0, &block), Ok(1));
+    store.pop_call();
+    assert_eq!(rt; store.shape(1).is_some(), false);
+    Ok(())
+}
+
+// A pointer to an int of the file, in an object of a block.
+#[test]
+fn pointers_are_kept(rt: HostRuntime) -> Result<(), Fail> {
+    let alloc = rt.alloc();
+    let file = [row(alloc, Kind::Private(1), 2)?];
+    let mut store = Store::make(alloc, &[], &[])?;
+    assert_eq!(rt; store.enter(0, &file), Ok(0));
+    let p = LocalPtr::Private {
+        object: 0,
+        offset: 8,
+    };
+    assert_eq!(rt;
+        store.load(&p, Kind::Private(1)),
+        Ok(Value::Local(LocalPtr::Null))
+    );
+    assert_eq!(rt; store.store(&p, Kind::Private(1), Value::Local(p)), Ok(()));
+    assert_eq!(rt; store.load(&p, Kind::Private(1)), Ok(Value::Local(p)));
+    Ok(())
+}
+
+#[test]
+fn accesses_are_refused_in_order(rt: HostRuntime) -> Result<(), Fail> {
+    let alloc = rt.alloc();
+    let file = [row(alloc, Kind::Int, 4)?];
+    let mut store = Store::make(alloc, &[], &[])?;
+    assert_eq!(rt; store.enter(0, &file), Ok(0));
+    let null = store.load(&LocalPtr::Null, Kind::Int);
+    assert_eq!(rt; null.err(), Some(NULL_ACCESS));
+    let cases: [(u64, i64, Kind, u8); 8] = [
+        (1, 0, Kind::Int, PRIVATE_RANGE),
+        (0, 16, Kind::Int, PRIVATE_RANGE),
+        (0, -4, Kind::Int, PRIVATE_RANGE),
+        (0, 14, Kind::Int, PRIVATE_RANGE),
+        (0, 12, Kind::Long, PRIVATE_RANGE),
+        (0, 2, Kind::Int, CELL_TYPE),
+        (0, 0, Kind::UInt, CELL_TYPE),
+        (0, 15, Kind::Char, CELL_TYPE),
+    ];
+    for (object, offset, kind, code) in cases {
+        assert!(rt;
+            is_refused(&store, object, offset, kind, code),
+            "at {offset}"
+        );
+    }
+    Ok(())
+}
+
+// `int a[2] = {0, 7};`
+#[test]
+fn initial_values_stand_in_their_cells(rt: HostRuntime) -> Result<(), Fail> {
+    let alloc = rt.alloc();
+    let file = [two_ints(alloc)?];
+    let second = LocalPtr::Private {
+        object: 0,
+        offset: 4,
+    };
+    let seven = Value::Scalar(Scalar::Int(7));
+    let store = Store::make(alloc, &file, &[(second, seven)])?;
+    assert_eq!(rt; int_at(&store, 0, 0), Ok(0));
+    assert_eq!(rt; int_at(&store, 0, 4), Ok(7));
+    Ok(())
+}
+
+#[test]
+fn a_thousand_calls_are_active(rt: HostRuntime) -> Result<(), Fail> {
+    let mut store = Store::make(rt.alloc(), &[], &[])?;
+    for _ in 0..MOST_CALLS {
+        store.push_call()?;
+    }
+    assert_eq!(rt; store.push_call(), Err(Refused::Error(DEPTH)));
+    store.pop_call();
+    assert_eq!(rt; store.push_call(), Ok(()));
+    Ok(())
+}
+
+#[test]
+fn a_million_cells_are_entered(rt: HostRuntime) -> Result<(), Fail> {
+    let alloc = rt.alloc();
+    let all = [row(alloc, Kind::Char, 1_048_576)?];
+    let one = [row(alloc, Kind::Char, 1)?];
+    let mut store = Store::make(alloc, &[], &[])?;
+    assert_eq!(rt; store.enter(0, &all), Ok(0));
+    assert_eq!(rt; store.enter(0, &one), Err(Refused::Error(PRIVATE_SPACE)));
+    store.leave();
+    assert_eq!(rt; store.enter(0, &one), Ok(1));
+    assert_eq!(rt; store.enter(0, &all), Err(Refused::Error(PRIVATE_SPACE)));
+    Ok(())
+}
+
+// Name 0 is of the outer block, 1 and 2 of the inner one; a call sees none of its caller's.
+#[test]
+fn local_names_count_objects_in_scope(rt: HostRuntime) -> Result<(), Fail> {
+    let alloc = rt.alloc();
+    let one = [row(alloc, Kind::Int, 1)?];
+    let two = [row(alloc, Kind::Int, 1)?, row(alloc, Kind::Int, 1)?];
+    let mut store = Store::make(alloc, &[], &[])?;
+    store.push_call()?;
+    assert_eq!(rt; store.enter(0, &one), Ok(0));
+    assert_eq!(rt; store.enter(1, &two), Ok(1));
+    for (name, number) in [(0, 0), (1, 1), (2, 2)] {
+        assert_eq!(rt; store.local(name), Some(number));
+    }
+    store.push_call()?;
+    assert_eq!(rt; store.local(0), None);
+    Ok(())
+}
+
+#[test]
+fn calls_inherit_controls(rt: HostRuntime) -> Result<(), Fail> {
+    let mut store = Store::make(rt.alloc(), &[], &[])?;
+    store.push_call()?;
+    store.control()?;
+    store.push_call()?;
+    assert!(rt; store.is_controlled());
+    store.release();
+    assert!(rt; !store.is_controlled());
+    store.pop_call();
+    assert!(rt; store.is_controlled());
+    Ok(())
+}

@@ -1,0 +1,4 @@
+pub mod Live
+pub mod Cells
+pub mod Beginnings
+pub mod code

@@ -1,0 +1,14 @@
+//! The private objects of one thread: those that live, what their cells hold, and the blocks and calls that they live in.
+#![tactic(auto)]
+
+mod beginning;
+mod blocks;
+mod finding;
+mod frame;
+mod held;
+mod object;
+mod store;
+
+pub use block_layout::{Kind, LocalPtr, Shape};
+pub use store::{MOST_BYTES, MOST_CALLS, MOST_OBJECTS, Store};
+pub use upc_values::{Refused, Value};

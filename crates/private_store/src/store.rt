@@ -1,0 +1,264 @@
+//! The store: the private objects of a thread, its open blocks and its active calls.
+
+ghost use Rattle.std.specs.Prelude.{◌≡◌, ◌+◌, ◌-◌, ◌<◌, ◌≤◌, ◌^◌, ◌⊎◌, ◌↔◌, ◌++◌, ◌==◌, nat_lt, true, length, IsTrue, IfOk, IfErr, IsErrOf, OnOk, OnErr, option_map, option_copied};
+ghost use Rattle.block_layout.specs.Shapes.{IsShape};
+ghost use Rattle.upc_values.specs.Lists.{Each};
+ghost use Rattle.upc_values.specs.Shapes as shapes;
+ghost use Rattle.private_store.specs.Live.{thing, bytes_of, bytes_in, entered, left, called, returned, controls, recounted, local_number};
+ghost use Rattle.private_store.specs.Beginnings.{IsBeginning, begun, blank};
+ghost use Rattle.private_store.specs.Cells.{loaded, stored, IsPrivate};
+
+use crate::beginning::cell_kind;
+use crate::blocks::{
+    add_block, add_objects, blocks_before, controls_of, end_objects, fit, innermost, open_from,
+};
+use crate::finding::{object_place, reach};
+use crate::frame::{Block, Call};
+use crate::object::Object;
+use block_layout::run_error::{DEPTH, PRIVATE_SPACE};
+use block_layout::{Kind, LocalPtr, Shape};
+use std::alloc::Global;
+use std::marker::Model;
+use upc_text::OutOfMemory;
+use upc_values::{Refused, Value};
+
+/// How many bytes of private objects of a thread may live at once.
+pub const MOST_BYTES: usize = 1_048_576;
+
+/// How many calls may be active at once, `main` among them.
+pub const MOST_CALLS: usize = 1_000;
+
+/// How many objects a thread may make: the numbers of objects are below this.
+pub const MOST_OBJECTS: u64 = 0x8000_0000_0000_0000;
+
+/// The private objects of a thread, its open blocks and its active calls. Contracts see what lives.
+#[derive(Drop)]
+pub struct Store {
+    alloc: Global,
+    objects: Vec<Object>,
+    blocks: Vec<Block>,
+    calls: Vec<Call>,
+    next: u64,
+    space: usize,
+}
+
+impl Model for Store {
+    ghost use Rattle.private_store.specs.Live.{Live};
+    ghost use Rattle.private_store.specs.code.Kept.{IsKept};
+
+    ghost Value = { Live };
+
+    ghost view = { λ s. record { objects = s.objects.items; blocks = s.blocks.items; calls = s.calls.items; next = s.next } };
+
+    ghost invariant = { λ s. IsKept s.objects.items s.blocks.items s.next s.space };
+}
+
+// The file-scope objects of these shapes, numbered from 0, with 0 or null in each cell.
+#[tactic(auto, using(crate::proofs::Keeping::beginning))]
+fn blank_store(alloc: Global, shapes: &[Shape]) -> Result<Store, OutOfMemory>
+    requires shapes { Each IsShape shapes.now }
+    requires room { bytes_in shapes.now ≤ 1048576 }
+    ensures { IfOk result (λ store. store ≡ blank shapes.now) }
+{
+    let mut objects = Vec::new(alloc);
+    let space = add_objects(alloc, &mut objects, 0, shapes)?;
+    Ok(Store {
+        alloc,
+        objects,
+        blocks: Vec::new(alloc),
+        calls: Vec::new(alloc),
+        next: shapes.len() as u64,
+        space,
+    })
+}
+
+impl Store {
+    /// The file-scope objects of these shapes, numbered from 0, with these initial values and 0 or null elsewhere. No block
+    /// is open and no call is active.
+    pub fn make(
+        alloc: Global,
+        shapes: &[Shape],
+        initials: &[(LocalPtr, Value)],
+    ) -> Result<Store, OutOfMemory>
+        requires { IsBeginning shapes.now initials.now }
+        ensures { IfOk result (λ store. store ≡ begun shapes.now initials.now) }
+    {
+        let mut store = blank_store(alloc, shapes)?;
+        for initial in initials {
+            if let Some(kind) = cell_kind(shapes, &initial.0) {
+                let _ = store.store(&initial.0, kind, initial.1);
+            }
+        }
+        Ok(store)
+    }
+
+    /// The shape of a live object, None exactly where no live object has the number. It takes no memory.
+    pub fn shape(&self, object: u64) -> Option<&Shape>
+        ensures { option_copied result ≡ option_map (λ x. x.shape) (thing object self.now.objects) }
+    {
+        match object_place(&self.objects, object) {
+            None => None,
+            Some(at) => Some(self.objects[at].shape()),
+        }
+    }
+
+    /// Enters a block of the youngest call: makes its objects, with 0 or null in each cell, and answers the first number.
+    /// `from` is how many objects of the function were in scope before. Numbers rise and none is used again; where too
+    /// few are left the answer is `Memory`. Where the live bytes would pass `MOST_BYTES` it is `PRIVATE_SPACE`.
+    #[tactic(auto, using(crate::proofs::Keeping::kept_entered))]
+    pub fn enter(&mut self, from: u32, shapes: &[Shape]) -> Result<u64, Refused>
+        requires { Each IsShape shapes.now }
+        ensures first { IfOk result (λ first. first ≡ self.old.next) }
+        ensures ok { OnOk result (self.new ≡ entered from shapes.now self.old) }
+        ensures space { IsErrOf result (Refused.Error PRIVATE_SPACE)
+            ↔ (MOST_BYTES < bytes_of self.old.objects + bytes_in shapes.now) }
+        ensures codes { IfErr result (λ e. (e ≡ Refused.Error PRIVATE_SPACE) ⊎ (e ≡ Refused.Memory)) }
+        ensures err { OnErr result (self.new ≡ self.old) }
+    {
+        if !fit(shapes, MOST_BYTES - self.space) {
+            return Err(Refused::Error(PRIVATE_SPACE));
+        }
+        if shapes.len() as u64 > MOST_OBJECTS - self.next {
+            return Err(Refused::Memory);
+        }
+        let block = Block {
+            from,
+            first: self.next,
+            objects: self.objects.len(),
+        };
+        match add_block(
+            self.alloc,
+            &mut self.objects,
+            &mut self.blocks,
+            block,
+            shapes,
+        ) {
+            Err(_) => Err(Refused::Memory),
+            Ok(bytes) => {
+                self.next += shapes.len() as u64;
+                self.space += bytes;
+                Ok(block.first)
+            }
+        }
+    }
+
+    /// Leaves the youngest block of the youngest call: its objects end. Where none is open nothing changes.
+    #[tactic(auto, using(crate::proofs::Keeping::kept_taken))]
+    pub fn leave(&mut self)
+        ensures { self.new ≡ left self.old }
+    {
+        if blocks_before(&self.calls) < self.blocks.len() {
+            if let Some(block) = self.blocks.pop() {
+                self.space -= end_objects(&mut self.objects, block.objects);
+            }
+        }
+    }
+
+    /// Begins a call, in as many controlling bodies as its caller. Where `MOST_CALLS` are active the answer is `DEPTH`.
+    pub fn push_call(&mut self) -> Result<(), Refused>
+        ensures ok { OnOk result (self.new ≡ called self.old) }
+        ensures depth { IsErrOf result (Refused.Error DEPTH) ↔ (MOST_CALLS ≤ length self.old.calls) }
+        ensures codes { IfErr result (λ e. (e ≡ Refused.Error DEPTH) ⊎ (e ≡ Refused.Memory)) }
+        ensures err { OnErr result (self.new ≡ self.old) }
+    {
+        if self.calls.len() >= MOST_CALLS {
+            return Err(Refused::Error(DEPTH));
+        }
+        let call = Call {
+            controls: controls_of(&self.calls),
+            blocks: self.blocks.len(),
+            objects: self.objects.len(),
+        };
+        self.calls.push(call)?;
+        Ok(())
+    }
+
+    /// Ends the youngest call, with its blocks and their objects. Where none is active nothing changes.
+    #[tactic(auto, using(crate::proofs::Keeping::kept_taken))]
+    pub fn pop_call(&mut self)
+        ensures { self.new ≡ returned self.old }
+    {
+        if let Some(call) = self.calls.pop() {
+            self.space -= end_objects(&mut self.objects, call.objects);
+            self.blocks.truncate(call.blocks);
+        }
+    }
+
+    /// What the cell of this kind holds. In this order: `NULL_ACCESS` for the null pointer, `PRIVATE_RANGE` where the
+    /// object has ended or a byte of the cell lies outside it, `CELL_TYPE` where no cell of the kind begins there.
+    #[tactic(auto, using(crate::proofs::Things::loaded_is))]
+    pub fn load(&self, p: &LocalPtr, kind: Kind) -> Result<Value, u8>
+        requires { IsPrivate p.now }
+        ensures value { result ≡ loaded p.now kind self.now }
+        ensures fits { IfOk result (λ v. shapes.value_fits v kind ≡ true) }
+    {
+        match reach(&self.objects, p, kind) {
+            Err(code) => Err(code),
+            Ok(spot) => Ok(self.objects[spot.0].get(spot.1, kind)),
+        }
+    }
+
+    /// Another value in the cell of this kind, with the refusals of `load`. It takes no memory.
+    #[tactic(auto, using(crate::proofs::Keeping::kept_put))]
+    pub fn store(&mut self, p: &LocalPtr, kind: Kind, v: Value) -> Result<(), u8>
+        requires private { IsPrivate p.now }
+        requires fits { shapes.value_fits v kind ≡ true }
+        ensures ok { OnOk result (stored p.now kind v self.old ≡ Ok self.new) }
+        ensures code { IfErr result (λ code. stored p.now kind v self.old ≡ Err code) }
+        ensures err { OnErr result (self.new ≡ self.old) }
+    {
+        match reach(&self.objects, p, kind) {
+            Err(code) => Err(code),
+            Ok(spot) => {
+                self.objects[spot.0].set(spot.1, kind, v);
+                Ok(())
+            }
+        }
+    }
+
+    /// The number of the object that the `n`th local name in scope stands for, None where no open block of the youngest
+    /// call was entered with at most `n` names in scope.
+    #[tactic(auto, using(crate::proofs::Frames::firsts_open))]
+    pub fn local(&self, n: u32) -> Option<u64>
+        ensures { result ≡ local_number n self.now }
+    {
+        let open = open_from(&self.blocks, blocks_before(&self.calls));
+        match innermost(open, n) {
+            None => None,
+            Some(block) => Some(block.first + u64::from(n - block.from)),
+        }
+    }
+
+    /// Whether the youngest call is in the body of a controlling `upc_forall`, its own or a caller's (UPC 6.6.2).
+    pub fn is_controlled(&self) -> bool
+        ensures { IsTrue result ↔ (0 < controls self.now) }
+    {
+        controls_of(&self.calls) > 0
+    }
+
+    /// The youngest call comes into one more such body. Where the count cannot rise the answer is want of memory.
+    pub fn control(&mut self) -> Result<(), OutOfMemory>
+        ensures ok { OnOk result (self.new ≡ recounted (controls self.old + 1) self.old) }
+        ensures err { OnErr result (self.new ≡ self.old) }
+    {
+        match self.calls.last_mut() {
+            None => Ok(()),
+            Some(call) => {
+                if call.controls == u64::MAX {
+                    return Err(OutOfMemory);
+                }
+                call.controls += 1;
+                Ok(())
+            }
+        }
+    }
+
+    /// The youngest call leaves one such body. Where it is in none nothing changes.
+    pub fn release(&mut self)
+        ensures { self.new ≡ recounted (controls self.old - 1) self.old }
+    {
+        if let Some(call) = self.calls.last_mut() {
+            call.controls = call.controls.saturating_sub(1);
+        }
+    }
+}

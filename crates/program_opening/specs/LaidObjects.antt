@@ -1,0 +1,10 @@
+-- What contracts say of the types of objects.
+use Rattle.std.specs.Prelude.{List, map}
+use Rattle.upc_types.specs.Types.{CType, Structs}
+use Rattle.typed_tree.specs.Tree.{DeclaredObject}
+use Rattle.typed_tree.specs.Objects.{type_of}
+use Rattle.typed_tree.specs.LocalObjects.{with_layout}
+
+-- The types of these objects, where they have a layout.
+abbrev pub laid_objects : Structs → List DeclaredObject → List CType
+laid_objects s xs = with_layout s (map type_of xs)

@@ -1,0 +1,13 @@
+//! Tests of write buffers, histories, machines and runs.
+#![tactic(auto)]
+
+#[cfg(test)]
+mod buffers;
+#[cfg(test)]
+mod front;
+#[cfg(test)]
+mod histories;
+#[cfg(test)]
+mod machines;
+#[cfg(test)]
+mod runs;

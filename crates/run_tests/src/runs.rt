@@ -1,0 +1,206 @@
+//! Small runs, with the histories, ends and outputs that the rules of the language give.
+
+ghost use Rattle.std.specs.Prelude.{◌≤◌, ◌*◌, IsTrue};
+
+use crate::front::program_of;
+use serial_core::{Limits, run_by};
+use std::test::Fail;
+use upc_values::{Action, End, Journal};
+
+// Whether these are the entries, each by its thread and its number there.
+fn has_history(journal: &Journal, entries: &[(u32, u32)]) -> bool {
+    let history = journal.history.as_slice();
+    history.len() == entries.len()
+        && history.iter().zip(entries).all(|(entry, (thread, index))| entry.thread == *thread
+            && entry.index == *index)
+}
+
+fn name_of(end: &End) -> &'static str {
+    match end {
+        End::Ended(_) => "ended",
+        End::Fault(_, _) => "fault",
+        End::Budget => "budget",
+        End::ActionsFull => "full",
+        End::Exit(_) => "exit",
+        End::Halted => "halted",
+        End::Deadlocked(_) => "deadlocked",
+    }
+}
+
+// Whether the threads end so, with so many items and ticks.
+fn has_strands(journal: &Journal, strands: &[(&str, usize, u64)]) -> bool {
+    let all = journal.strands.as_slice();
+    all.len() == strands.len()
+        && all.iter().zip(strands).all(|(strand, (name, items, ticks))| {
+            name_of(&strand.end) == *name && strand.items.len() == *items && strand.ticks == *ticks
+        })
+}
+
+// Whether the print entries write these lines, in order.
+fn has_printed(journal: &Journal, lines: &[&[u8]]) -> bool {
+    let mut at = 0usize;
+    for entry in journal.history.as_slice() {
+        if let Action::Print(text) = &entry.action {
+            if at >= lines.len() || text.as_slice() != lines[at] {
+                return false;
+            }
+            at += 1;
+        }
+    }
+    at == lines.len()
+}
+
+// A run of a source by picks, and what is seen of it. An empty list is not looked at.
+struct Run {
+    source: &'static [u8],
+    limits: Limits,
+    picks: &'static [u32],
+    history: &'static [(u32, u32)],
+    strands: &'static [(&'static str, usize, u64)],
+    printed: &'static [&'static [u8]],
+}
+
+// Each thread writes a variable of its own and then reads the other's.
+const STORE_BUFFER: &[u8] = b"shared int x; shared int y; int main(){\
+while ((1 - MYTHREAD) * (1 - x)) {x = 1; printf(\"%d\\n\", y);} \
+while (MYTHREAD * (1 - y)) {y = 1; printf(\"%d\\n\", x);} return 0;}";
+
+const ENDLESS: &[u8] = b"int main(){while (1) {} return 0;}";
+
+const RUNS: [Run; 7] = [
+    // A relaxed read of a pending location gives the pending value and is no entry; another read passes the pending
+    // writes.
+    Run {
+        source: b"shared int x; shared int y; int main(){x = 1; x = y + x; return 0;}",
+        limits: Limits {
+            threads: 1,
+            budget: 1000,
+            actions: 8,
+        },
+        picks: &[],
+        history: &[(0, 0), (0, 1), (0, 3), (0, 2), (0, 5), (0, 6), (0, 7)],
+        strands: &[("ended", 8, 0)],
+        printed: &[],
+    },
+    // The second barrier of thread 1 is met by the barrier after main of thread 0, its third by none.
+    Run {
+        source: b"int main(){while (MYTHREAD) {upc_barrier;} return 0;}",
+        limits: Limits {
+            threads: 2,
+            budget: 1000,
+            actions: 100,
+        },
+        picks: &[],
+        history: &[],
+        strands: &[("ended", 5, 1), ("deadlocked", 7, 2)],
+        printed: &[],
+    },
+    Run {
+        source: ENDLESS,
+        limits: Limits {
+            threads: 1,
+            budget: 1024,
+            actions: 100,
+        },
+        picks: &[],
+        history: &[],
+        strands: &[("budget", 3, 1024)],
+        printed: &[],
+    },
+    // Three threads by picks: when the first has spent its budget, each other rests at its next Beat.
+    Run {
+        source: ENDLESS,
+        limits: Limits {
+            threads: 3,
+            budget: 2000,
+            actions: 100,
+        },
+        picks: &[2, 1, 0, 0, 0, 0],
+        history: &[],
+        strands: &[
+            ("budget", 3, 2000),
+            ("halted", 3, 1024),
+            ("halted", 3, 1024),
+        ],
+        printed: &[],
+    },
+    // A thread that wants one action more than it may have.
+    Run {
+        source: b"strict shared int x; int main(){while (1) {x = 1;} return 0;}",
+        limits: Limits {
+            threads: 1,
+            budget: 1000,
+            actions: 5,
+        },
+        picks: &[],
+        history: &[(0, 0), (0, 1), (0, 2), (0, 3), (0, 4)],
+        strands: &[("full", 5, 4)],
+        printed: &[],
+    },
+    // Turn by turn both threads read 0, as relaxed accesses may (UPC Appendix B).
+    Run {
+        source: STORE_BUFFER,
+        limits: Limits {
+            threads: 2,
+            budget: 1000,
+            actions: 100,
+        },
+        picks: &[0, 1, 0, 1, 0, 1, 0, 1, 0, 1, 0, 1, 0, 1, 0, 1],
+        history: &[],
+        strands: &[],
+        printed: &[b"0\n", b"0\n"],
+    },
+    // One after the other the second reads 1.
+    Run {
+        source: STORE_BUFFER,
+        limits: Limits {
+            threads: 2,
+            budget: 1000,
+            actions: 100,
+        },
+        picks: &[],
+        history: &[],
+        strands: &[],
+        printed: &[b"0\n", b"1\n"],
+    },
+];
+
+// Whether the limits are such as a run may have.
+fn may_be(limits: Limits) -> bool
+    ensures threads { IsTrue result → (1 ≤ limits.threads) × (limits.threads ≤ 32) }
+    ensures budget { IsTrue result → (1 ≤ limits.budget) × (limits.budget ≤ 1000000000000) }
+    ensures actions { IsTrue result → (1 ≤ limits.actions)
+        × (limits.threads * limits.actions ≤ 8388608) }
+{
+    let Some(total) = u64::from(limits.threads).checked_mul(limits.actions) else {
+        return false;
+    };
+    1 <= limits.threads
+        && limits.threads <= 32
+        && 1 <= limits.budget
+        && limits.budget <= 1_000_000
+        && 1 <= limits.actions
+        && total <= 8_388_608
+}
+
+#[test]
+fn runs(rt: HostRuntime) -> Result<(), Fail> {
+    for (number, run) in RUNS.iter().enumerate() {
+        let program = program_of(rt.alloc(), run.source)?.expect(&rt, "a program of the language");
+        assert!(rt; may_be(run.limits));
+        let journal = run_by(&rt, rt.alloc(), &program, run.limits, run.picks)?;
+        assert!(rt;
+            run.history.is_empty() || has_history(&journal, run.history),
+            "{number}"
+        );
+        assert!(rt;
+            run.strands.is_empty() || has_strands(&journal, run.strands),
+            "{number}"
+        );
+        assert!(rt;
+            run.printed.is_empty() || has_printed(&journal, run.printed),
+            "{number}"
+        );
+    }
+    Ok(())
+}

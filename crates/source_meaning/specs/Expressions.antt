@@ -1,0 +1,345 @@
+-- What an expression does and gives (C99 6.5, UPC 6.4).
+use Rattle.std.specs.Prelude.{ℕ, ℤ, pos, neg_ℤ, ◌*ℤ◌, int_le, int_lt, Bool, true, false, ◌&&◌, not, if◌then◌else◌}
+use Rattle.std.specs.Prelude.{List, [], ◌∷◌, ◌++◌, map, Option, Some, None}
+use Rattle.upc_text.specs.declared.place.Place.{Place}
+use Rattle.block_layout.specs.declared.kind.Kind.{Kind}
+use Rattle.block_layout.specs.declared.place.LocalPtr.TheVariants as local
+use Rattle.block_layout.specs.declared.run_error.TheConstants.{OUT_OF_OBJECT, PRIVATE_RANGE}
+use Rattle.integers.specs.declared.operator.BinOp.{BinOp}
+use Rattle.integers.specs.declared.operator.BinOp.TheVariants as op
+use Rattle.integers.specs.declared.operator.UnOp.{UnOp}
+use Rattle.integers.specs.declared.operator.UnOp.TheVariants as un
+use Rattle.upc_values.specs.declared.scalar.Value.{Value}
+use Rattle.upc_values.specs.declared.scalar.Value.TheVariants.{Scalar, Local}
+use Rattle.upc_values.specs.declared.library.LibraryCall.{LibraryCall}
+use Rattle.upc_values.specs.declared.library.LibraryCall.TheVariants.{Printf}
+use Rattle.upc_types.specs.Types.{CType, Base, Array, base_of}
+use Rattle.upc_types.specs.Cells.{leaves}
+use Rattle.upc_types.specs.Arithmetic.{promoted}
+use Rattle.typing_rules.specs.declared.setting.Home.{Home}
+use Rattle.typing_rules.specs.declared.setting.Home.TheVariants as home
+use Rattle.typing_rules.specs.declared.attribute.Form.{Form}
+use Rattle.typing_rules.specs.declared.attribute.Form.TheVariants.{Lvalue}
+use Rattle.typing_rules.specs.Library.{int, call_parameters, is_allocation}
+use Rattle.typing_rules.specs.Constants.{working_kind, right_kind}
+use Rattle.typing_rules.specs.Nodes.{Attr}
+use Rattle.typed_tree.specs.declared.tree.StepOperator.{StepOperator}
+use Rattle.typed_tree.specs.declared.tree.StepOperator.TheVariants as step
+use Rattle.typed_tree.specs.declared.tree.Target.TheVariants as target
+use Rattle.typed_tree.specs.Initials.{known_or_zero}
+use Rattle.typed_tree.specs.Elements.{element_shape, number_among}
+use Rattle.typed_tree.specs.Tree.{Expr, Is, ExprKind, Literal, Mythread, Object, Callee, Format, Paren, Subscript}
+use Rattle.typed_tree.specs.Tree.{Call, Member, MemberBehind, Step, Address, Dereference, Unary, SizeOf, SizeOfType}
+use Rattle.typed_tree.specs.Tree.{Cast, Binary, And, Or, Assign, Compound, Conditional, Comma, Exprs, NoExprs}
+use Rattle.typed_tree.specs.Tree.{AndExpr, attr_of, place_of, attrs_of}
+use Rattle.thread_steps.specs.declared.cast.CastTo.{CastTo}
+use Rattle.thread_steps.specs.States.{Doing, ◌>>=◌, ◌>>◌, give, skip, choose, fault}
+use Rattle.thread_steps.specs.Values.{number, number_of, truth_value, is_zero}
+use Rattle.thread_steps.specs.Accesses.{load, save}
+use Rattle.thread_steps.specs.Library.{library, print}
+use Rattle.thread_steps.specs.Pointers.{advance, member, difference, order, same}
+use Rattle.thread_steps.specs.Operators.{operate, apply, cast}
+use Rattle.thread_steps.specs.Blocks.{local_object}
+use Rattle.source_meaning.specs.Types.{target_of, integer_of, is_strict, conversion, conversions}
+use Rattle.source_meaning.specs.Types.{parameter_conversion, promotion, cell_kind, elements_of, member_offset}
+use Rattle.source_meaning.specs.Types.{target_offset}
+use Rattle.source_meaning.specs.Running.{Running, shared_object, parameters_of}
+
+-- What a call of a function does, by its number, with its arguments, at a place.
+abbrev pub Calls : Type 0
+Calls = ℕ → List Value → Place → Doing Value
+
+-- What stands where there is no value: what gives none is only done.
+abbrev pub no_value : Value
+no_value = number (pos 0)
+
+-- The type of an expression, and the types of some.
+abbrev pub type_of : Expr → CType
+type_of e = (attr_of e).ctype
+
+abbrev pub types_of : Exprs → List CType
+types_of es = map (λ a. a.ctype) (attrs_of es)
+
+abbrev mutual
+  -- Where an expression begins inside its parentheses: the place of a read of what it names.
+  pub inner_place : Expr → Place
+  inner_place (Is at attr kind) = inner_place_in at kind
+
+  pub inner_place_in : Place → ExprKind → Place
+  inner_place_in at (Paren a) = inner_place a
+  inner_place_in at kind = at
+
+abbrev pub count_in : Base → Option ℕ
+count_in (Array element count) = Some count
+count_in b = None
+
+abbrev mutual
+  -- The dimension that a further subscript of an array of arrays has to lie in: how many elements the array has that
+  -- a subscript names.
+  pub dimension : Expr → Option ℕ
+  dimension (Is at attr kind) = dimension_in attr kind
+
+  pub dimension_in : Attr → ExprKind → Option ℕ
+  dimension_in attr (Paren a) = dimension a
+  dimension_in attr (Subscript a i) = count_in (base_of attr.ctype)
+  dimension_in attr kind = None
+
+abbrev mutual
+  -- The format of a printf, which is its first argument.
+  pub format_of : Expr → List ℕ
+  format_of (Is at attr kind) = format_in kind
+
+  pub format_in : ExprKind → List ℕ
+  format_in (Format bytes) = bytes
+  format_in (Paren a) = format_of a
+  format_in kind = []
+
+abbrev pub is_printf : LibraryCall → Bool
+is_printf Printf = true
+is_printf call = false
+
+abbrev pub is_lvalue : Form → Bool
+is_lvalue (Lvalue address) = true
+is_lvalue form = false
+
+-- ---- steps that several constructs take
+
+-- The run error of a place outside its object: of a shared one, or of a private one.
+abbrev pub outside : Value → ℕ
+outside (Scalar v) = OUT_OF_OBJECT
+outside (Local p) = PRIVATE_RANGE
+
+-- A further subscript of an array of arrays lies in its dimension.
+abbrev pub within_row : Place → Option ℕ → Value → ℤ → Doing (Unit {0})
+within_row at None p i = skip
+within_row at (Some count) p i = choose (int_le (pos 0) i && int_lt i (pos count)) skip (fault (outside p) at)
+
+-- A unary operator, on an integer where the operand is one (C99 6.5.3.3).
+abbrev pub unary : Place → UnOp → Option Kind → Value → Doing Value
+unary at un.Not kind v = give (truth_value (is_zero v))
+unary at o (Some kind) v = apply o (promoted kind) at v
+unary at o None v = give no_value
+
+-- A binary operator on two integers (C99 6.3.1.8).
+abbrev pub integers : Place → BinOp → (left right : Option Kind) → Value → Value → Doing Value
+integers at o (Some j) (Some k) x y = operate o (working_kind o j k) (right_kind o j k) at x y
+integers at o j k x y = give no_value
+
+module _ (ρ : Running) where
+  -- The place i objects of a type behind another (C99 6.5.6, UPC 6.4.2).
+  abbrev pub behind : Place → CType → Value → ℤ → Doing Value
+  behind at t p i = advance ρ.thread (elements_of ρ.structs t) at p (i *ℤ pos (leaves (base_of t)))
+
+  -- A binary operator on two pointers to a type; the constant 0 may stand for one in an equality (C99 6.5.6, 6.5.8,
+  -- 6.5.9).
+  abbrev pub on_pointers : Place → BinOp → CType → Value → Value → Doing Value
+  on_pointers at op.Subtract t x y = difference ρ.thread (elements_of ρ.structs t) at x y
+  on_pointers at op.Equal t x y = same ρ.thread x y
+  on_pointers at op.NotEqual t x y = do
+    v ← same ρ.thread x y
+    give (truth_value (is_zero v))
+  on_pointers at o t x y = order ρ.thread o (elements_of ρ.structs t) at x y
+
+  -- On a pointer and an integer.
+  abbrev pub on_pointer : Place → BinOp → CType → Value → Value → Doing Value
+  on_pointer at op.Add t x y = behind at t x (number_of y)
+  on_pointer at op.Subtract t x y = behind at t x (neg_ℤ (number_of y))
+  on_pointer at o t x y = on_pointers at o t x y
+
+  -- On an integer and a pointer.
+  abbrev pub before_pointer : Place → BinOp → CType → Value → Value → Doing Value
+  before_pointer at op.Add t x y = behind at t y (number_of x)
+  before_pointer at o t x y = on_pointers at o t x y
+
+  abbrev pub operated : Place → BinOp → (left right : Option CType) → (j k : Option Kind) → Value → Value → Doing Value
+  operated at o (Some t) (Some u) j k x y = on_pointers at o t x y
+  operated at o (Some t) None j k x y = on_pointer at o t x y
+  operated at o None (Some u) j k x y = before_pointer at o u x y
+  operated at o None None j k x y = integers at o j k x y
+
+  -- A binary operator on values of two types (C99 6.5.5 to 6.5.12).
+  abbrev pub binary : Place → BinOp → (left right : CType) → Value → Value → Doing Value
+  binary at o a b x y = operated at o (target_of a) (target_of b) (integer_of a) (integer_of b) x y
+
+  abbrev pub loaded : Bool → Place → CType → Option Kind → Value → Doing Value
+  loaded strict at t (Some kind) p = load ρ.thread kind (is_strict strict t) at p
+  loaded strict at t None p = give p
+
+  -- The value of the object of a type at a place; of an array or a struct it is the place (C99 6.3.2.1).
+  abbrev pub held : Bool → Place → CType → Value → Doing Value
+  held strict at t p = loaded strict at t (cell_kind ρ.structs t) p
+
+  abbrev pub saved : Bool → Place → CType → Option Kind → Value → Value → Doing (Unit {0})
+  saved strict at t (Some kind) p v = save ρ.thread kind (is_strict strict t) at p v
+  saved strict at t None p v = skip
+
+  -- The object of a type at a place has a new value (C99 6.5.16).
+  abbrev pub put : Bool → Place → CType → Value → Value → Doing (Unit {0})
+  put strict at t p v = saved strict at t (cell_kind ρ.structs t) p v
+
+  -- What an expression gives that names an object or not: the value of the object, or its own (C99 6.3.2.1).
+  abbrev pub value_in : Bool → Place → Attr → Value → Doing Value
+  value_in strict at attr v = choose (is_lvalue attr.form) (held strict at attr.ctype v) (give v)
+
+  -- Where a named object lies (C99 6.2.4, UPC 6.5.1).
+  abbrev pub object : Home → Doing Value
+  object (home.Private n) = give (Local (local.Private n (pos 0)))
+  object (home.Shared n) = give (shared_object ρ n)
+  object (home.Local n) = local_object n
+
+  -- The operator of `++` and `--`, and which value of the two they give (C99 6.5.2.4, 6.5.3.1).
+  abbrev pub step_operator : StepOperator → BinOp
+  step_operator step.IncrementFirst = op.Add
+  step_operator step.IncrementAfter = op.Add
+  step_operator step.DecrementFirst = op.Subtract
+  step_operator step.DecrementAfter = op.Subtract
+
+  abbrev pub step_value : StepOperator → (old new : Value) → Value
+  step_value step.IncrementFirst old new = new
+  step_value step.DecrementFirst old new = new
+  step_value step.IncrementAfter old new = old
+  step_value step.DecrementAfter old new = old
+
+  -- The value of an expression, converted into a type (C99 6.5.16.1).
+  abbrev pub converted_to : CType → Expr → Doing Value → Doing Value
+  converted_to t a v = do
+    x ← v
+    cast ρ.thread (conversion (type_of a) t) (place_of a) x
+
+  -- 1 for a value that is not 0, else 0 (C99 6.5.13, 6.5.14).
+  abbrev pub truth_after : Doing Value → Doing Value
+  truth_after v = do
+    x ← v
+    give (truth_value (not (is_zero x)))
+
+  -- ---- calls of the library (C99 7.19.6.3, UPC 7.2, 7.3)
+
+  abbrev pub shape_number : Option CType → ℕ
+  shape_number (Some t) = number_among ρ.thread.shapes (element_shape ρ.structs t)
+  shape_number None = 0
+
+  -- The number of the shape of the elements that an allocation makes: those to which its pointer leads (UPC 7.2.2).
+  abbrev pub allocated_shape : LibraryCall → CType → ℕ
+  allocated_shape c t = if is_allocation c then shape_number (target_of t) else 0
+
+  -- ---- expressions. In a block whose accesses are strict or not; `call` says what calls of functions do.
+  module _ (call : Calls) (strict : Bool) where
+    abbrev mutual
+      -- The value of an expression.
+      pub value : Expr → Doing Value
+      value (Is at attr kind) = do
+        v ← given at attr kind
+        value_in strict (inner_place_in at kind) attr v
+
+      -- Where the object lies that an expression names.
+      pub address : Expr → Doing Value
+      address (Is at attr kind) = given at attr kind
+
+      -- What an expression gives: the place of an object where it names one (C99 6.3.2.1), else its value.
+      pub given : Place → Attr → ExprKind → Doing Value
+      -- constants, and the number of the thread (C99 6.5.1, 6.5.3.4; UPC 6.4.1)
+      given at attr Literal = give (number (known_or_zero attr.constant))
+      given at attr Mythread = give (number (pos ρ.thread.number))
+      given at attr (SizeOf o a) = give (number (known_or_zero attr.constant))
+      given at attr (SizeOfType o t) = give (number (known_or_zero attr.constant))
+      -- names and parentheses (C99 6.5.1)
+      given at attr (Object home) = object home
+      given at attr (Callee target) = give no_value
+      given at attr (Format bytes) = give no_value
+      given at attr (Paren a) = address a
+      -- subscripts (C99 6.5.2.1)
+      given at attr (Subscript a i) = do
+        p ← value a
+        n ← value i
+        q ← behind at attr.ctype p (number_of n)
+        within_row at (dimension a) p (number_of n)
+        give q
+      -- calls (C99 6.5.2.2)
+      given at attr (Call (target.Function n) args) = do
+        vs ← arguments (conversions (types_of args) (parameters_of ρ n)) args []
+        call n vs at
+      given at attr (Call (target.Library c) args) =
+          choose (is_printf c) (printed args) (do
+            vs ← arguments (map parameter_conversion (call_parameters c)) args []
+            library ρ.thread c (allocated_shape c attr.ctype) at vs)
+      -- members (C99 6.5.2.3, UPC 6.4.4)
+      given at attr (Member a index) = do
+        p ← address a
+        member ρ.thread (member_offset ρ.structs (type_of a) index) at p
+      given at attr (MemberBehind a index) = do
+        p ← value a
+        member ρ.thread (target_offset ρ.structs (target_of (type_of a)) index) at p
+      -- ++ and -- (C99 6.5.2.4, 6.5.3.1)
+      given at attr (Step o a) = do
+        p ← address a
+        v ← held strict at (type_of a) p
+        w ← binary at (step_operator o) (type_of a) int v (number (pos 1))
+        u ← cast ρ.thread (conversion (type_of a) (type_of a)) at w
+        put strict at (type_of a) p u
+        give (step_value o v u)
+      -- & and * (C99 6.5.3.2)
+      given at attr (Address a) = address a
+      given at attr (Dereference a) = value a
+      -- + - ~ ! (C99 6.5.3.3)
+      given at attr (Unary o a) = do
+        v ← value a
+        unary at o (integer_of (type_of a)) v
+      -- casts (C99 6.5.4, UPC 6.4.3)
+      given at attr (Cast a) = do
+        v ← value a
+        cast ρ.thread (conversion (type_of a) attr.ctype) at v
+      -- * / % + - << >> < > <= >= == != & ^ | (C99 6.5.5 to 6.5.12)
+      given at attr (Binary o a b) = do
+        x ← value a
+        y ← value b
+        binary at o (type_of a) (type_of b) x y
+      -- && and || (C99 6.5.13, 6.5.14)
+      given at attr (And a b) = do
+        x ← value a
+        choose (is_zero x) (give (truth_value false)) (truth_after (value b))
+      given at attr (Or a b) = do
+        x ← value a
+        choose (is_zero x) (truth_after (value b)) (give (truth_value true))
+      -- ? : (C99 6.5.15)
+      given at attr (Conditional test a b) = do
+        t ← value test
+        choose (is_zero t) (converted_to attr.ctype b (value b)) (converted_to attr.ctype a (value a))
+      -- = (C99 6.5.16.1)
+      given at attr (Assign a b) = do
+        p ← address a
+        w ← converted_to (type_of a) b (value b)
+        put strict at (type_of a) p w
+        give w
+      -- *= /= %= += -= <<= >>= &= ^= |= (C99 6.5.16.2)
+      given at attr (Compound o a b) = do
+        p ← address a
+        y ← value b
+        x ← held strict at (type_of a) p
+        z ← binary at o (type_of a) (type_of b) x y
+        w ← cast ρ.thread (conversion (type_of a) (type_of a)) at z
+        put strict at (type_of a) p w
+        give w
+      -- , (C99 6.5.17)
+      given at attr (Comma parts) = last no_value parts
+
+      -- printf with its format and its arguments (C99 7.19.6.3).
+      pub printed : Exprs → Doing Value
+      printed NoExprs = give no_value
+      printed (AndExpr format more) = do
+        vs ← arguments (map promotion (types_of more)) more []
+        print ρ.thread (format_of format) vs
+
+      -- The values of arguments, behind those that are there, each with its conversion (C99 6.5.2.2).
+      pub arguments : List CastTo → Exprs → List Value → Doing (List Value)
+      arguments (c ∷ cs) (AndExpr a more) before = do
+        v ← value a
+        w ← cast ρ.thread c (place_of a) v
+        arguments cs more (before ++ (w ∷ []))
+      arguments cs args before = give before
+
+      -- The value of the last of some expressions.
+      pub last : Value → Exprs → Doing Value
+      last v NoExprs = give v
+      last v (AndExpr a more) = do
+        w ← value a
+        last w more

@@ -1,0 +1,112 @@
+-- What holds of every thread of every program.
+use Rattle.std.specs.Prelude.{◌≡◌, ◌⊎◌, ℕ, ◌<◌, ◌≤◌, ℤ, true, false, List, [], ◌∷◌, ◌++◌, length, Option}
+use Rattle.block_layout.specs.declared.kind.Kind.{Kind}
+use Rattle.upc_values.specs.declared.action.Action.{Action}
+use Rattle.upc_values.specs.declared.action.Reply.{Reply}
+use Rattle.upc_values.specs.declared.record.ToldEnd.{ToldEnd}
+use Rattle.upc_values.specs.declared.scalar.Mark.TheVariants.{Start, Finish}
+use Rattle.upc_values.specs.declared.action.Action.TheVariants.{Notify, Wait}
+use Rattle.upc_values.specs.declared.record.ToldEnd.TheVariants.{Wants, Misfit, Ended, OutOfTicks}
+use Rattle.upc_values.specs.Outcomes.{Outcome}
+use Rattle.upc_values.specs.Formed.{fits}
+use Rattle.typed_tree.specs.Programs.{Checked}
+use Rattle.thread_steps.specs.States.{Thread, Res, Val, Over, Unfinished}
+use Rattle.source_meaning.specs.Running.{running}
+use Rattle.thread_steps.specs.Fronts.{Begins, IsInTurn}
+use Rattle.source_meaning.specs.Threads.{course, initial_state, thread_outcome}
+
+-- A value came, or the thread ended: no definition lacked turns.
+abbrev pub IsFinished : {A : Type 0} → Res A → Type 0
+IsFinished (Val v σ) = Unit {0}
+IsFinished (Over e σ) = Unit {0}
+IsFinished Unfinished = ⊥
+
+-- With a budget of at least one tick no thread of a program is unfinished.
+pub record IsTotal (program : Checked) : Type 0 where
+  pub finished :
+      (thread budget : ℕ) (replies : List Reply) → 0 < budget
+      → IsFinished (course (running program thread budget) (initial_state program replies))
+
+-- An end that no further reply changes.
+abbrev pub IsSettled : ToldEnd → Type 0
+IsSettled (Wants a) = ⊥
+IsSettled e = Unit {0}
+
+-- Of a further reply to an action that was wanted: where the reply fits the action, a read being of a cell of that
+-- kind, the action is done; and
+-- where it does not fit, the thread ends with that, before the action.
+pub record IsAnswered (τ : Thread) (kind : Option Kind) (a : Action) (r : Reply) (before : Outcome) (number : ℕ)
+    (after : Outcome) : Type 0 where
+  pub done : fits τ.threads τ.shapes kind a r ≡ true → Begins (before.actions ++ a ∷ []) after.actions
+  pub misfit : fits τ.threads τ.shapes kind a r ≡ false
+      → (after.«end» ≡ Misfit number) × (after.actions ≡ before.actions)
+
+-- The reply with this number was one to an action that was wanted without it.
+pub record IsLast (outcome : List Reply → Outcome) (rs : List Reply) (number : ℕ) : Type 0 where
+  pub front : List Reply
+  pub reply : Reply
+  pub more : List Reply
+  pub is : rs ≡ front ++ reply ∷ more
+  pub place : length front ≡ number
+  pub action : Action
+  pub wanted : (outcome front).«end» ≡ Wants action
+
+-- What a thread comes to takes the replies in order: each answers one action, and none is looked at before its action
+-- is wanted.
+pub record TakesReplies (τ : Thread) (outcome : List Reply → Outcome) : Type 0 where
+  pub once : (rs : List Reply) → length (outcome rs).actions ≤ length rs
+  pub wants : (rs : List Reply) (a : Action) → (outcome rs).«end» ≡ Wants a → length (outcome rs).actions ≡ length rs
+  pub goes :
+      (rs : List Reply) (a : Action) → (outcome rs).«end» ≡ Wants a
+      → (kind : Option Kind)
+      × ((r : Reply) (more : List Reply) → IsAnswered τ kind a r (outcome rs) (length rs) (outcome (rs ++ r ∷ more)))
+  pub stays :
+      (rs : List Reply) (r : Reply) (more : List Reply) → IsSettled (outcome rs).«end» → outcome (rs ++ r ∷ more) ≡
+      outcome rs
+  pub misfits : (rs : List Reply) (k : ℕ) → (outcome rs).«end» ≡ Misfit k → IsLast outcome rs k
+
+-- So of each thread of a program, with a budget of at least one tick.
+pub record AllTakeReplies (program : Checked) : Type 0 where
+  pub each : (thread budget : ℕ) → 0 < budget
+      → TakesReplies (running program thread budget).thread (thread_outcome program thread budget)
+
+-- The barrier before main (UPC 6.6.1).
+abbrev pub beginning : List Action
+beginning = Notify Start ∷ Wait Start ∷ []
+
+-- The barrier after it.
+abbrev pub finish : List Action
+finish = Notify Finish ∷ Wait Finish ∷ []
+
+-- A thread begins with the barrier before main, or it ended in it; and where main has given its value it ends with
+-- the barrier after main.
+pub record IsFramed (outcome : Outcome) : Type 0 where
+  pub begins : Begins outcome.actions beginning ⊎ Begins beginning outcome.actions
+  pub ends : (v : ℤ) → outcome.«end» ≡ Ended v → (before : List Action) × (outcome.actions ≡ before ++ finish)
+
+-- So does each thread of a program, with a budget of at least one tick.
+pub record AllAreFramed (program : Checked) : Type 0 where
+  pub each : (thread budget : ℕ) (replies : List Reply) → 0 < budget
+      → IsFramed (thread_outcome program thread budget replies)
+
+-- A thread counts no more ticks than its budget, and its ticks are out where they are the budget.
+pub record KeepsBudget (budget : ℕ) (outcome : Outcome) : Type 0 where
+  pub ticks : outcome.ticks ≤ budget
+  pub spent : outcome.«end» ≡ OutOfTicks → outcome.ticks ≡ budget
+
+-- So does each thread of a program, with a budget of at least one tick.
+pub record AllKeepBudgets (program : Checked) : Type 0 where
+  pub each :
+      (thread budget : ℕ) (replies : List Reply) → 0 < budget
+      → KeepsBudget budget (thread_outcome program thread budget replies)
+
+-- Notifies and waits alternate in what a thread did, with the action that it wants, if it wants one (UPC 6.6.1).
+pub record KeepsTurns (outcome : Outcome) : Type 0 where
+  pub wants : (a : Action) → outcome.«end» ≡ Wants a → IsInTurn (outcome.actions ++ a ∷ [])
+  pub settled : IsSettled outcome.«end» → IsInTurn outcome.actions
+
+-- So does each thread of a program, with a budget of at least one tick.
+pub record AllKeepTurns (program : Checked) : Type 0 where
+  pub each :
+      (thread budget : ℕ) (replies : List Reply) → 0 < budget
+      → KeepsTurns (thread_outcome program thread budget replies)

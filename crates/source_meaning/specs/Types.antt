@@ -1,0 +1,138 @@
+-- What the types of a program say to its meaning: kinds of cells, elements of pointers, shapes of objects, conversions.
+use Rattle.std.specs.Prelude.{ℕ, zero, suc, ◌+◌, min, Bool, true, false, if◌then◌else◌, List, [], ◌∷◌}
+use Rattle.std.specs.Prelude.{Option, Some, None, is_some}
+use Rattle.block_layout.specs.declared.kind.Kind.{Kind}
+use Rattle.block_layout.specs.declared.kind.Kind.TheVariants as kind
+use Rattle.block_layout.specs.declared.kind.Shape.{Shape}
+use Rattle.upc_types.specs.declared.ctype.Access.{Access}
+use Rattle.upc_types.specs.declared.ctype.Access.TheVariants.{Unsaid, Strict, Relaxed}
+use Rattle.upc_types.specs.declared.layout.Layout.{Layout}
+use Rattle.upc_types.specs.Types.{CType, Base, Integer, Pointer, base_of, block_of, access_of, Member, Structs}
+use Rattle.upc_types.specs.Types.{members_of}
+use Rattle.upc_types.specs.Same.{same_block, is_lock_object}
+use Rattle.upc_types.specs.Layout.{base_within, base_layout, layout_in, aligned}
+use Rattle.upc_types.specs.Cells.{leaf_base, object_shape}
+use Rattle.upc_types.specs.Arithmetic.{promoted}
+use Rattle.typing_rules.specs.declared.library.LibraryParameter.{LibraryParameter}
+use Rattle.typing_rules.specs.declared.library.LibraryParameter.TheVariants.{SharedPointer, PrivatePointer}
+use Rattle.typing_rules.specs.declared.library.LibraryParameter.TheVariants.{LockPointer, Size, Int, NoFunction}
+use Rattle.typing_rules.specs.Values.{base_kind, base_target, base_struct}
+use Rattle.typing_rules.specs.Constants.{block_or_none}
+use Rattle.typing_rules.specs.Attributes.{target_block}
+use Rattle.typed_tree.specs.Initials.{scalar_kind}
+use Rattle.thread_steps.specs.declared.cast.CastTo.{CastTo}
+use Rattle.thread_steps.specs.declared.cast.CastTo.TheVariants as to
+use Rattle.thread_steps.specs.declared.elements.Elements.{Elements}
+
+-- What a value of this type points to, an array being the pointer to its first element (C99 6.3.2.1).
+abbrev pub target_of : CType → Option CType
+target_of t = base_target (base_of t)
+
+-- The kind of an integer type.
+abbrev pub integer_of : CType → Option Kind
+integer_of t = base_kind (base_of t)
+
+-- Whether an access to an object of this type is strict: by the type, else by the block that it stands in (UPC
+-- 6.5.1.1, 6.7).
+abbrev pub strict_by : Bool → Access → Bool
+strict_by block Unsaid = block
+strict_by block Strict = true
+strict_by block Relaxed = false
+
+abbrev pub is_strict : Bool → CType → Bool
+is_strict block t = strict_by block (access_of t)
+
+-- ---- conversions (C99 6.3, 6.5.4; UPC 6.4.3)
+
+-- Into a pointer to this target, from a pointer whose target has this block.
+abbrev pub pointer_conversion : Option ℕ → CType → CastTo
+pointer_conversion from target =
+    if is_lock_object (base_of target)
+    then to.Lock
+    else (if is_some (block_of target)
+    then (if same_block from (block_of target) then to.Shared else to.OtherBlock)
+    else to.Local)
+
+abbrev pub base_conversion : Option ℕ → Base → CastTo
+base_conversion from (Integer kind) = to.Integer kind
+base_conversion from (Pointer target) = pointer_conversion from target
+base_conversion from base = to.Nothing
+
+-- From a value of one type into another type.
+abbrev pub conversion : CType → CType → CastTo
+conversion from t = base_conversion (target_block (target_of from)) (base_of t)
+
+-- Into the type of a parameter of the library. A pointer-to-shared keeps its phase there.
+abbrev pub parameter_conversion : LibraryParameter → CastTo
+parameter_conversion SharedPointer = to.Shared
+parameter_conversion PrivatePointer = to.Local
+parameter_conversion LockPointer = to.Lock
+parameter_conversion Size = to.Integer kind.ULong
+parameter_conversion Int = to.Integer kind.Int
+parameter_conversion NoFunction = to.Integer kind.Int
+
+abbrev pub promotion_of : Option Kind → CastTo
+promotion_of (Some k) = to.Integer (promoted k)
+promotion_of None = to.Nothing
+
+-- The integer promotion of a value of this type (C99 6.3.1.1, 6.5.2.2).
+abbrev pub promotion : CType → CastTo
+promotion t = promotion_of (integer_of t)
+
+-- Each argument's conversion into its parameter's type, while there are both (C99 6.5.2.2).
+abbrev pub conversions : (arguments parameters : List CType) → List CastTo
+conversions (a ∷ as_) (p ∷ ps) = conversion a p ∷ conversions as_ ps
+conversions as_ ps = []
+
+-- ---- layout, where the structs have these members and the targets of pointers these numbers. A type without layout
+-- is as one byte without cells;
+-- in a typed program no object has such a type.
+module _ (structs : Structs) where
+  abbrev pub bytes_or_one : Option Layout → ℕ
+  bytes_or_one (Some l) = l.size
+  bytes_or_one None = 1
+
+  -- The bytes of an object.
+  abbrev pub bytes_of : Base → ℕ
+  bytes_of b = bytes_or_one (base_within structs.completed b)
+
+  -- The kind of the cell of a scalar; an array or a struct has none of its own.
+  abbrev pub cell_kind : CType → Option Kind
+  cell_kind t = scalar_kind structs.targets (base_of t)
+
+  abbrev pub shape_or_byte : Option Layout → Base → Shape
+  shape_or_byte (Some l) b = object_shape structs b
+  shape_or_byte None b = record { size = 1; cells = [] }
+
+  -- The cells of an object.
+  abbrev pub shape_of : CType → Shape
+  shape_of t = shape_or_byte (base_within structs.completed (base_of t)) (base_of t)
+
+  -- The elements that a pointer to this type names: leaf elements (UPC 6.5.1.1). A block is at most 16,777,216; in a
+  -- typed program each is.
+  abbrev pub elements_of : CType → Elements
+  elements_of target = record {
+    block = min (block_or_none (block_of target)) 16777216;
+    size = bytes_of (leaf_base (base_of target));
+  }
+
+  -- The bytes before the member with this number, where `end` bytes of the struct stand before the first of these
+  -- (C99 6.7.2.1).
+  abbrev pub offset_from : ℕ → ℕ → List Member → ℕ
+  offset_from end n [] = 0
+  offset_from end zero (m ∷ ms) = aligned end (base_layout (layout_in structs.completed) (base_of m.ctype)).align
+  offset_from end (suc n) (m ∷ ms) =
+      let l = base_layout (layout_in structs.completed) (base_of m.ctype) in
+      offset_from (aligned end l.align + l.size) n ms
+
+  abbrev pub offset_in : Option ℕ → ℕ → ℕ
+  offset_in (Some number) n = offset_from 0 n (members_of structs number)
+  offset_in None n = 0
+
+  -- The bytes before member n of a struct of this type.
+  abbrev pub member_offset : CType → ℕ → ℕ
+  member_offset t n = offset_in (base_struct (base_of t)) n
+
+  abbrev pub target_offset : Option CType → ℕ → ℕ
+  target_offset (Some t) n = member_offset t n
+  target_offset None n = 0

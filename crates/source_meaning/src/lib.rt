@@ -1,0 +1,36 @@
+//! The meaning of a program: what each of its threads does, whatever it is answered.
+#![tactic(auto)]
+
+ghost use Rattle.typed_tree.specs.Programs.{Checked};
+ghost use Rattle.source_meaning.specs.Laws.{AllAreFramed, AllKeepBudgets, AllKeepTurns, AllTakeReplies, IsTotal};
+
+/// Every thread of every program comes to a value or to its end, where its budget has at least one tick.
+#[tactic(auto, using(crate::proofs::Finished::is_total))]
+pub fn threads_are_finished()
+    ensures { (program : Checked) → IsTotal program }
+{}
+
+/// Every thread takes its replies in order: each answers the action that was wanted without it, and once nothing is
+/// wanted further replies change nothing.
+#[tactic(auto, using(crate::proofs::Replies::all_take_replies))]
+pub fn replies_are_taken_in_order()
+    ensures { (program : Checked) → AllTakeReplies program }
+{}
+
+/// Every thread stands between the barrier before main and the one after it (UPC 6.6.1).
+#[tactic(auto, using(crate::proofs::Framed::all_are_framed))]
+pub fn threads_are_framed()
+    ensures { (program : Checked) → AllAreFramed program }
+{}
+
+/// No thread counts more ticks than its budget, and each whose ticks are out has counted just so many.
+#[tactic(auto, using(crate::proofs::Finished::all_keep_budgets))]
+pub fn budgets_are_kept()
+    ensures { (program : Checked) → AllKeepBudgets program }
+{}
+
+/// Every thread notifies and waits in turn, beginning with a notify (UPC 6.6.1).
+#[tactic(auto, using(crate::proofs::InTurn::all_keep_turns))]
+pub fn notifies_and_waits_alternate()
+    ensures { (program : Checked) → AllKeepTurns program }
+{}

@@ -1,0 +1,2 @@
+pub mod StatementTurns
+pub mod StatementsBring

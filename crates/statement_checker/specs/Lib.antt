@@ -1,0 +1,3 @@
+pub mod Statements
+pub mod Groups
+pub mod Parts

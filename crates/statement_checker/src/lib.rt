@@ -1,0 +1,6 @@
+//! Statements: from a syntax tree to trees with types, or to the first rule that is broken.
+#![tactic(auto)]
+
+mod heads;
+mod statement_nodes;
+pub mod statements;

@@ -1,0 +1,10 @@
+use Rattle.std.proofs.Common.{rules}
+use Rattle.upc_expressions.specs.Outcome.{starts}
+use Rattle.upc_expressions.specs.Ahead.{is_pragma}
+use Rattle.upc_expressions.proofs.Ran.{ran_same}
+use Rattle.statement_parser.specs.Parse.{pragma, pragmas}
+use Rattle.statement_parser.proofs.heads.pragmas.Goals as goal
+
+pub returns : goal.returns
+unfolding pragmas
+returns c = ran_same (starts is_pragma) pragma _ (λ old new r p. search rules) c.args.tokens.now.rest.now c.many.result c.many.new.tokens.rest.now c.many.ensures

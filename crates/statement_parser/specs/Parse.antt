@@ -1,0 +1,312 @@
+-- The parser of declarations, statements and whole sources, as a function on lists of tokens.
+use Rattle.std.specs.Prelude.{ℕ, zero, suc, Bool, true, false, not, if◌then◌else◌, List, [], ◌∷◌, Option, Some, None, Ok, Err}
+use Rattle.upc_lexer.specs.declared.token.Token.{Token}
+use Rattle.upc_lexer.specs.declared.token.TokenKind.{TokenKind}
+use Rattle.upc_lexer.specs.declared.token.TokenKind.TheVariants as k
+use Rattle.upc_lexer.specs.declared.token.Punct.{Punct}
+use Rattle.upc_lexer.specs.declared.token.Punct.TheVariants as p
+use Rattle.upc_lexer.specs.declared.token.Word.TheVariants as w
+use Rattle.upc_tree.specs.declared.mark.BarrierWord.{BarrierWord}
+use Rattle.upc_tree.specs.declared.span.Span.{Span}
+use Rattle.upc_tree.specs.declared.span.Name.{Name}
+use Rattle.upc_tree.specs.declared.span.Pragma.{Pragma}
+use Rattle.upc_tree.specs.Expression as t
+use Rattle.upc_tree.specs.Expression.{Expr, Specs, Pointers, Declarator, Parameters}
+use Rattle.upc_tree.specs.Declaration as d
+use Rattle.upc_tree.specs.Declaration.{Initial, Declared, NextDeclareds, DeclaredList, Declaration}
+use Rattle.upc_tree.specs.Statement as s
+use Rattle.upc_tree.specs.Statement.{Test, First, Affinity, ForHead, ForallHead, Statement, Compound, BlockItem, BlockItems, SwitchItem, SwitchItems, ElseIfs, Otherwise}
+use Rattle.upc_tree.specs.Unit as q
+use Rattle.upc_tree.specs.Unit.{External}
+use Rattle.upc_tree.specs.Lists.{next_declareds_of, block_items_of, switch_items_of, else_ifs_of}
+use Rattle.upc_expressions.specs.declared.cursor.Fault.TheVariants.{NoTree, TooHigh}
+use Rattle.upc_expressions.specs.Outcome.{Parser, ◌>>=◌, span_of, is_punct, is_word, starts, starts_two, expect_punct, expect_word, all, listed}
+use Rattle.upc_expressions.specs.Tables.{is_spec}
+use Rattle.upc_expressions.specs.Ahead.{is_pragma, is_any}
+use Rattle.upc_expressions.specs.Expression.{at_height, name, next_exprs, specs, pointers, dimensions, declarator, parameters}
+use Rattle.statement_parser.specs.declared.start.StatementStart.{StatementStart}
+use Rattle.statement_parser.specs.declared.start.StatementStart.TheVariants as start
+use Rattle.statement_parser.specs.Tables.{statement_start}
+
+-- ---- declarations, whose parts are at most n high
+
+module _ (n : ℕ) where
+  unfoldable pub value_initial : Parser Initial
+  value_initial ts = expect_punct p.Equal ts >>= λ q. (at_height n).expr 1 q.1 >>= λ e. Ok (d.ValueInitial q.0 e.0, e.1)
+
+  unfoldable pub list_initial : Parser Initial
+  list_initial ts =
+      expect_punct p.Equal ts >>= λ q. expect_punct p.LBrace q.1 >>= λ o. (at_height n).expr 1 o.1 >>= λ f. next_exprs (at_height n) f.1 >>= λ m. expect_punct p.RBrace m.1 >>= λ c. Ok (d.ListInitial q.0 o.0 f.0 m.0 c.0, c.1)
+
+  unfoldable pub initial : Parser Initial
+  initial ts =
+      if starts (is_punct p.Equal) ts
+      then (if starts_two (is_punct p.Equal) (is_punct p.LBrace) ts then list_initial ts else value_initial ts)
+      else Ok (d.NoInitial, ts)
+
+  unfoldable pub declared : Parser Declared
+  declared ts = declarator (at_height n) ts >>= λ x. initial x.1 >>= λ i. Ok (d.DeclaredAs x.0 i.0, i.1)
+
+  unfoldable pub next_declared : Parser (Span × Declared)
+  next_declared ts = expect_punct p.Comma ts >>= λ c. declared c.1 >>= λ x. Ok ((c.0, x.0), x.1)
+
+  unfoldable pub next_declareds : Parser NextDeclareds
+  next_declareds ts = listed next_declareds_of (starts (is_punct p.Comma)) next_declared ts
+
+  unfoldable pub some_declared : Parser DeclaredList
+  some_declared ts = declared ts >>= λ f. next_declareds f.1 >>= λ m. Ok (d.SomeDeclared f.0 m.0, m.1)
+
+  abbrev pub declared_list : Parser DeclaredList
+  declared_list ts = if starts (is_punct p.Semicolon) ts then Ok (d.NoneDeclared, ts) else some_declared ts
+
+  -- a declaration at block scope
+  unfoldable pub declaration : Parser Declaration
+  declaration ts = specs (at_height n) true ts >>= λ s. declared_list s.1 >>= λ x. expect_punct p.Semicolon x.1 >>= λ c. Ok (d.Declares s.0 x.0 c.0, c.1)
+
+-- a declaration at block scope that is at most so high
+unfoldable pub declaration_at : ℕ → Parser Declaration
+declaration_at zero ts = Err TooHigh
+declaration_at (suc n) ts = declaration n ts
+
+unfoldable pub continue_affinity : Parser Affinity
+continue_affinity ts = expect_word w.Continue ts >>= λ c. Ok (s.ContinueAffinity c.0, c.1)
+
+-- ---- parts of statements that are no statements, at most n high
+
+module _ (n : ℕ) where
+  -- an expression, if what ends it does not come next
+  unfoldable pub value : Punct → Parser (Option Expr)
+  value end ts = if starts (is_punct end) ts then Ok (None, ts) else ((at_height n).expr 0 ts >>= λ e. Ok (Some e.0, e.1))
+
+  unfoldable pub controlling : Parser Test
+  controlling ts = expect_punct p.LParen ts >>= λ o. (at_height n).expr 0 o.1 >>= λ e. expect_punct p.RParen e.1 >>= λ c. Ok (s.Tests o.0 e.0 c.0, c.1)
+
+  unfoldable pub first_value : Parser First
+  first_value ts = value p.Semicolon ts >>= λ v. expect_punct p.Semicolon v.1 >>= λ c. Ok (s.FirstValue v.0 c.0, c.1)
+
+  unfoldable pub first_declaration : Parser First
+  first_declaration ts = declaration_at n ts >>= λ x. Ok (s.FirstDeclaration x.0, x.1)
+
+  abbrev pub first : Parser First
+  first ts = if starts (is_spec true) ts then first_declaration ts else first_value ts
+
+  unfoldable pub value_affinity : Parser Affinity
+  value_affinity ts = (at_height n).expr 0 ts >>= λ e. Ok (s.ValueAffinity e.0, e.1)
+
+  abbrev pub affinity : Parser Affinity
+  affinity ts =
+      if starts (is_punct p.RParen) ts then Ok (s.NoAffinity, ts)
+      else if starts (is_word w.Continue) ts then continue_affinity ts
+      else value_affinity ts
+
+  unfoldable pub for_head : Parser ForHead
+  for_head ts =
+      expect_punct p.LParen ts >>= λ o. first o.1 >>= λ f. value p.Semicolon f.1 >>= λ v. expect_punct p.Semicolon v.1 >>= λ e. value p.RParen e.1 >>= λ x. expect_punct p.RParen x.1 >>= λ c.
+      Ok (s.ForParts o.0 f.0 v.0 e.0 x.0 c.0, c.1)
+
+  unfoldable pub forall_head : Parser ForallHead
+  forall_head ts =
+      expect_punct p.LParen ts >>= λ o. first o.1 >>= λ f. value p.Semicolon f.1 >>= λ v. expect_punct p.Semicolon v.1 >>= λ e. value p.Semicolon e.1 >>= λ x. expect_punct p.Semicolon x.1 >>= λ g. affinity g.1 >>= λ a. expect_punct p.RParen a.1 >>= λ c.
+      Ok (s.ForallParts o.0 f.0 v.0 e.0 x.0 g.0 a.0 c.0, c.1)
+
+abbrev pub pragma_by : TokenKind → Span → Parser Pragma
+pragma_by (k.Pragma strict) span ts = Ok (record { strict = strict; span = span }, ts)
+pragma_by _ span ts = Err NoTree
+
+abbrev pub pragma : Parser Pragma
+pragma [] = Err NoTree
+pragma (x ∷ ts) = pragma_by x.kind (span_of x) ts
+
+unfoldable pub pragmas : Parser (List Pragma)
+pragmas ts = all (starts is_pragma) pragma ts
+
+-- any token but a closing brace
+abbrev pub no_brace : TokenKind → Bool
+no_brace kind = not (is_punct p.RBrace kind)
+
+-- ---- parts and statements that hold no statements
+
+module _ (n : ℕ) where
+  unfoldable pub declaration_item : Parser BlockItem
+  declaration_item ts = declaration_at n ts >>= λ x. Ok (s.DeclarationItem x.0, x.1)
+
+  unfoldable pub case_item : Parser SwitchItem
+  case_item ts = expect_word w.Case ts >>= λ a. (at_height n).expr 2 a.1 >>= λ e. expect_punct p.Colon e.1 >>= λ c. Ok (s.CaseItem a.0 e.0 c.0, c.1)
+
+  unfoldable pub value_statement : Parser Statement
+  value_statement ts = value n p.Semicolon ts >>= λ v. expect_punct p.Semicolon v.1 >>= λ c. Ok (s.Value v.0 c.0, c.1)
+
+  unfoldable pub return_statement : Span → Parser Statement
+  return_statement at ts = value n p.Semicolon ts >>= λ v. expect_punct p.Semicolon v.1 >>= λ c. Ok (s.Return at v.0 c.0, c.1)
+
+  unfoldable pub barrier_statement : BarrierWord → Span → Parser Statement
+  barrier_statement kind at ts = value n p.Semicolon ts >>= λ v. expect_punct p.Semicolon v.1 >>= λ c. Ok (s.Barrier kind at v.0 c.0, c.1)
+
+unfoldable pub default_item : Parser SwitchItem
+default_item ts = expect_word w.Default ts >>= λ a. expect_punct p.Colon a.1 >>= λ c. Ok (s.DefaultItem a.0 c.0, c.1)
+
+unfoldable pub break_statement : Span → Parser Statement
+break_statement at ts = expect_punct p.Semicolon ts >>= λ c. Ok (s.Break at c.0, c.1)
+
+unfoldable pub continue_statement : Span → Parser Statement
+continue_statement at ts = expect_punct p.Semicolon ts >>= λ c. Ok (s.Continue at c.0, c.1)
+
+unfoldable pub fence_statement : Span → Parser Statement
+fence_statement at ts = expect_punct p.Semicolon ts >>= λ c. Ok (s.Fence at c.0, c.1)
+
+-- ---- the parsers of statements one level down
+
+pub record Statements : Type 0 where
+  pub statement : Parser Statement
+  pub compound : Parser Compound
+  pub items : Parser BlockItems
+  pub switch_items : Parser SwitchItems
+
+abbrev pub floor : Statements
+floor = record { statement = λ ts. Err TooHigh; compound = λ ts. Err TooHigh; items = λ ts. Err TooHigh; switch_items = λ ts. Err TooHigh }
+
+module _ (n : ℕ) (below : Statements) where
+  -- ---- lists
+
+  unfoldable pub statement_item : Parser BlockItem
+  statement_item ts = below.statement ts >>= λ x. Ok (s.StatementItem x.0, x.1)
+
+  abbrev pub item : Parser BlockItem
+  item ts = if starts (is_spec true) ts then declaration_item n ts else statement_item ts
+
+  unfoldable pub items : Parser BlockItems
+  items ts = listed block_items_of (starts no_brace) item ts
+
+  unfoldable pub switch_statement : Parser SwitchItem
+  switch_statement ts = below.statement ts >>= λ x. Ok (s.SwitchStatement x.0, x.1)
+
+  abbrev pub switch_item : Parser SwitchItem
+  switch_item ts =
+      if starts (is_word w.Case) ts then case_item n ts
+      else if starts (is_word w.Default) ts then default_item ts
+      else switch_statement ts
+
+  unfoldable pub switch_items : Parser SwitchItems
+  switch_items ts = listed switch_items_of (starts no_brace) switch_item ts
+
+  -- ---- statements
+
+  unfoldable pub compound : Parser Compound
+  compound ts = expect_punct p.LBrace ts >>= λ o. pragmas o.1 >>= λ g. below.items g.1 >>= λ b. expect_punct p.RBrace b.1 >>= λ c. Ok (s.Braces o.0 g.0 b.0 c.0, c.1)
+
+  unfoldable pub else_if : Parser (Span × Span × Test × Statement)
+  else_if ts = expect_word w.Else ts >>= λ e. expect_word w.If e.1 >>= λ a. controlling n a.1 >>= λ h. below.statement h.1 >>= λ b. Ok ((e.0, a.0, h.0, b.0), b.1)
+
+  unfoldable pub else_ifs : Parser ElseIfs
+  else_ifs ts = listed else_ifs_of (starts_two (is_word w.Else) (is_word w.If)) else_if ts
+
+  unfoldable pub else_part : Parser Otherwise
+  else_part ts = expect_word w.Else ts >>= λ e. below.statement e.1 >>= λ b. Ok (s.Else e.0 b.0, b.1)
+
+  abbrev pub otherwise : Parser Otherwise
+  otherwise ts = if starts (is_word w.Else) ts then else_part ts else Ok (s.NoOtherwise, ts)
+
+  unfoldable pub if_statement : Span → Parser Statement
+  if_statement at ts = controlling n ts >>= λ h. below.statement h.1 >>= λ b. else_ifs b.1 >>= λ m. otherwise m.1 >>= λ o. Ok (s.If at h.0 b.0 m.0 o.0, o.1)
+
+  unfoldable pub switch : Span → Parser Statement
+  switch at ts = controlling n ts >>= λ h. expect_punct p.LBrace h.1 >>= λ o. below.switch_items o.1 >>= λ b. expect_punct p.RBrace b.1 >>= λ c. Ok (s.Switch at h.0 o.0 b.0 c.0, c.1)
+
+  unfoldable pub while_statement : Span → Parser Statement
+  while_statement at ts = controlling n ts >>= λ h. below.statement h.1 >>= λ b. Ok (s.While at h.0 b.0, b.1)
+
+  unfoldable pub do_statement : Span → Parser Statement
+  do_statement at ts = below.statement ts >>= λ b. expect_word w.While b.1 >>= λ u. controlling n u.1 >>= λ h. expect_punct p.Semicolon h.1 >>= λ c. Ok (s.DoWhile at b.0 u.0 h.0 c.0, c.1)
+
+  unfoldable pub for_statement : Span → Parser Statement
+  for_statement at ts = for_head n ts >>= λ h. below.statement h.1 >>= λ b. Ok (s.For at h.0 b.0, b.1)
+
+  unfoldable pub forall_statement : Span → Parser Statement
+  forall_statement at ts = forall_head n ts >>= λ h. below.statement h.1 >>= λ b. Ok (s.Forall at h.0 b.0, b.1)
+
+  unfoldable pub block : Parser Statement
+  block ts = compound ts >>= λ c. Ok (s.Block c.0, c.1)
+
+  -- behind the word that a statement begins with
+  abbrev pub statement_from : StatementStart → Span → Parser Statement
+  statement_from start.If at ts = if_statement at ts
+  statement_from start.Switch at ts = switch at ts
+  statement_from start.While at ts = while_statement at ts
+  statement_from start.Do at ts = do_statement at ts
+  statement_from start.For at ts = for_statement at ts
+  statement_from start.Forall at ts = forall_statement at ts
+  statement_from start.Break at ts = break_statement at ts
+  statement_from start.Continue at ts = continue_statement at ts
+  statement_from start.Return at ts = return_statement n at ts
+  statement_from (start.Barrier kind) at ts = barrier_statement n kind at ts
+  statement_from start.Fence at ts = fence_statement at ts
+  statement_from start.Block at ts = Err NoTree
+  statement_from start.Value at ts = Err NoTree
+
+  abbrev pub statement_by : StatementStart → Token → Parser Statement
+  statement_by start.Block x ts = block (x ∷ ts)
+  statement_by start.Value x ts = value_statement n (x ∷ ts)
+  statement_by other x ts = statement_from other (span_of x) ts
+
+  unfoldable pub statement : Parser Statement
+  statement [] = Err NoTree
+  statement (x ∷ ts) = statement_by (statement_start x.kind) x ts
+
+  abbrev pub level_above : Statements
+  level_above = record { statement = statement; compound = compound; items = items; switch_items = switch_items }
+
+unfoldable pub statements_at : ℕ → Statements
+statements_at zero = floor
+statements_at (suc n) = level_above n (statements_at n)
+
+-- ---- whole sources
+
+unfoldable pub none_declared : Specs → Parser External
+none_declared s ts = expect_punct p.Semicolon ts >>= λ c. Ok (q.DeclarationPart (d.Declares s d.NoneDeclared c.0), c.1)
+
+module _ (n : ℕ) where
+  -- what stands behind the first declarator of a declaration
+  unfoldable pub behind_declarator : Specs → Declarator → Parser External
+  behind_declarator s x ts =
+      initial n ts >>= λ i. next_declareds n i.1 >>= λ m. expect_punct p.Semicolon m.1 >>= λ c. Ok (q.DeclarationPart (d.Declares s (d.SomeDeclared (d.DeclaredAs x i.0) m.0) c.0), c.1)
+
+  unfoldable pub function_body : Specs → Pointers → Name → Parameters → Parser External
+  function_body s stars x r ts = (statements_at n).compound ts >>= λ b. Ok (q.FunctionPart s stars x r b.0, b.1)
+
+  abbrev pub behind_parameters : Specs → Pointers → Name → Parameters → Parser External
+  behind_parameters s stars x r ts = if starts (is_punct p.LBrace) ts then function_body s stars x r ts else behind_declarator s (t.FunctionDeclarator stars x r) ts
+
+  unfoldable pub behind_name : Specs → Pointers → Name → Parser External
+  behind_name s stars x ts =
+      if starts (is_punct p.LParen) ts
+      then (parameters (at_height n) ts >>= λ r. behind_parameters s stars x r.0 r.1)
+      else (dimensions (at_height n) ts >>= λ m. behind_declarator s (t.ObjectDeclarator stars x m.0) m.1)
+
+  unfoldable pub behind_specs : Specs → Parser External
+  behind_specs s ts = pointers (at_height n) ts >>= λ g. name g.1 >>= λ x. behind_name s g.0 x.0 x.1
+
+  unfoldable pub declaration_or_function : Parser External
+  declaration_or_function ts =
+      specs (at_height n) false ts >>= λ s. if starts (is_punct p.Semicolon) s.1 then none_declared s.0 s.1 else behind_specs s.0 s.1
+
+-- at most so high
+unfoldable pub node_at : ℕ → Parser External
+node_at zero ts = Err TooHigh
+node_at (suc n) ts = declaration_or_function n ts
+
+unfoldable pub pragma_part : Parser External
+pragma_part ts = pragma ts >>= λ g. Ok (q.PragmaPart g.0, g.1)
+
+abbrev pub external_at : ℕ → Parser External
+external_at n ts = if starts is_pragma ts then pragma_part ts else node_at n ts
+
+unfoldable pub all_externals : ℕ → Parser (List External)
+all_externals n ts = all (starts is_any) (external_at n) ts
+
+abbrev pub externals_at : ℕ → Parser (List External)
+externals_at n [] = Err NoTree
+externals_at n (x ∷ ts) = all_externals n (x ∷ ts)
+
+unfoldable pub unit_at : ℕ → Parser (List External)
+unit_at zero ts = Err TooHigh
+unit_at (suc n) ts = externals_at n ts

@@ -1,0 +1,7 @@
+pub mod Depths
+pub mod Kept
+pub mod Lasting
+pub mod Following
+pub mod Barriers
+pub mod Orderly
+pub mod Turning

@@ -1,0 +1,268 @@
+//! The top call over memory.
+use std::test::Fail;
+use upc_text::{MemFiles, MemSink, OpenGate};
+use upc_top::upc_main;
+
+const SUM: &[u8] =
+    b"strict shared int x; int main(){x = 6 * 7; upc_barrier; printf(\"%d\\n\", x); return 0;}";
+
+// One call: the words, the calls of the source and of the output that fail, and what it must answer.
+#[derive(Clone, Copy)]
+struct Row {
+    words: &'static [&'static str],
+    source: &'static [u8],
+    failing_reads: &'static [u64],
+    failing_puts: &'static [u64],
+    status: u8,
+    out: &'static [u8],
+    err: &'static [u8],
+    ran: bool,
+}
+
+const ROWS: [Row; 7] = [
+    // It answers with ample memory, and returns.
+    Row {
+        words: &["run", "-T", "1", "f.upc"],
+        source: SUM,
+        failing_reads: &[],
+        failing_puts: &[],
+        status: 0,
+        out: b"42\n",
+        err: b"",
+        ran: true,
+    },
+    Row {
+        words: &["run", "-T", "2", "f.upc"],
+        source: SUM,
+        failing_reads: &[],
+        failing_puts: &[],
+        status: 0,
+        out: b"42\n42\n",
+        err: b"",
+        ran: true,
+    },
+    // A read fails in the middle of the file.
+    Row {
+        words: &["run", "-T", "1", "f.upc"],
+        source: SUM,
+        failing_reads: &[2],
+        failing_puts: &[],
+        status: 102,
+        out: b"",
+        err: b"upc: read fault\n",
+        ran: false,
+    },
+    // The output takes two bytes and then fails: the run stands, and no line is tried.
+    Row {
+        words: &["run", "-T", "1", "f.upc"],
+        source: SUM,
+        failing_reads: &[],
+        failing_puts: &[2],
+        status: 103,
+        out: b"42",
+        err: b"",
+        ran: true,
+    },
+    Row {
+        words: &["run", "-T", "1", "other.upc"],
+        source: SUM,
+        failing_reads: &[],
+        failing_puts: &[],
+        status: 102,
+        out: b"",
+        err: b"upc: read fault\n",
+        ran: false,
+    },
+    Row {
+        words: &["run", "-T", "1", "f.upc"],
+        source: b"int main(){return y;}",
+        failing_reads: &[],
+        failing_puts: &[],
+        status: 101,
+        out: b"",
+        err: b"upc: refused at 1:19: typing 1\n",
+        ran: false,
+    },
+    Row {
+        words: &["run", "-T", "+1", "f.upc"],
+        source: SUM,
+        failing_reads: &[],
+        failing_puts: &[],
+        status: 100,
+        out: b"",
+        err: b"upc: usage\n",
+        ran: false,
+    },
+];
+
+// A source on one thread, its status, and what it writes to the output and to the error output.
+type Program = (&'static [u8], u8, &'static [u8], &'static [u8]);
+
+const PROGRAMS: [Program; 27] = [
+    // Sums, variables, loops and their run errors.
+    (
+        b"strict shared int x; int main(){x = 2147483647 + 1; return 0;}",
+        105,
+        b"",
+        b"upc: run error E1 at 1:37 on thread 0\n",
+    ),
+    (
+        b"int main(){return\n 1 - 2147483647 * (3) - 2;}",
+        105,
+        b"",
+        b"upc: run error E1 at 2:6 on thread 0\n",
+    ),
+    (b"int main(void){return 100;}", 99, b"", b""),
+    (b"int main(){return 3 - 2 - 1;}", 0, b"", b""),
+    (b"int main(){return 2 + 3 * 4;}", 14, b"", b""),
+    (b"int main(){return (2 + 3) * 4;}", 20, b"", b""),
+    (b"int main(){return MYTHREAD + 10 * THREADS;}", 10, b"", b""),
+    (
+        b"shared int i; relaxed shared int s; int main(){i = 3; while (i) { s = s + i; i = i - 1; } \
+printf(\"%d\\n\", s); upc_fence; return s;}",
+        6,
+        b"6\n",
+        b"",
+    ),
+    (
+        b"shared int x; shared int y; int main(){y = 5; printf(\"%d\\n\", 0 - x - y); return 0;}",
+        0,
+        b"-5\n",
+        b"",
+    ),
+    // Comments, macros, headers, and numbers however they are spelled.
+    (
+        b"#include <upc.h>\n/* a\n b */ #define N 0x2A // c\nint main(void){return N;}",
+        42,
+        b"",
+        b"",
+    ),
+    (
+        b"#include <upc.h>\n#define N 0x2A // c\nint main(void){return N /* d */ + 010 - NULL;}",
+        50,
+        b"",
+        b"",
+    ),
+    (b"#define N 5\nint main(void){return N*2;}", 10, b"", b""),
+    // What is refused, stage by stage.
+    (b"@", 101, b"", b"upc: refused at 1:1: lex\n"),
+    (
+        b"int main(void){return 18446744073709551616;}",
+        101,
+        b"",
+        b"upc: refused at 1:23: limit 2\n",
+    ),
+    (b"#if 1\n", 101, b"", b"upc: refused at 1:1: directive\n"),
+    (
+        b"\n\nunion u { int x; };",
+        101,
+        b"",
+        b"upc: refused at 3:1: profile 11\n",
+    ),
+    (b"", 101, b"", b"upc: refused at 1:1: syntax\n"),
+    (
+        b"int main(){return 0;} }",
+        101,
+        b"",
+        b"upc: refused at 1:23: syntax\n",
+    ),
+    (
+        b"#define A A+1\nint main(void){return A;}",
+        101,
+        b"",
+        b"upc: refused at 2:23: typing 1\n",
+    ),
+    (
+        b"shared int x; shared int x; int main(){return 0;}",
+        101,
+        b"",
+        b"upc: refused at 1:26: typing 2\n",
+    ),
+    (
+        b"shared int upc_all_alloc; int main(){return 0;}",
+        101,
+        b"",
+        b"upc: refused at 1:12: typing 2\n",
+    ),
+    // What is C or UPC, but none of the first language.
+    (
+        b"int main(void){int i;return 0;}",
+        101,
+        b"",
+        b"upc: refused at 1:1: profile 0\n",
+    ),
+    (
+        b"int main(){return 2147483648;}",
+        101,
+        b"",
+        b"upc: refused at 1:1: profile 0\n",
+    ),
+    (
+        b"int main(){return 'a';}",
+        101,
+        b"",
+        b"upc: refused at 1:1: profile 0\n",
+    ),
+    (
+        b"shared [2] int x; int main(){return 0;}",
+        101,
+        b"",
+        b"upc: refused at 1:1: profile 0\n",
+    ),
+    (
+        b"int main(){return 1 + + 1;}",
+        101,
+        b"",
+        b"upc: refused at 1:1: profile 0\n",
+    ),
+    (
+        b"int main(){{} return 1;}",
+        101,
+        b"",
+        b"upc: refused at 1:1: profile 0\n",
+    ),
+];
+
+const ONE_THREAD: [&str; 4] = ["run", "-T", "1", "f.upc"];
+
+fn row_of((source, status, out, err): &Program) -> Row {
+    Row {
+        words: &ONE_THREAD,
+        source,
+        failing_reads: &[],
+        failing_puts: &[],
+        status: *status,
+        out,
+        err,
+        ran: *status != 101,
+    }
+}
+
+#[test]
+fn answers(rt: HostRuntime) -> Result<(), Fail> {
+    for row in ROWS.iter().copied().chain(PROGRAMS.iter().map(row_of)) {
+        let mut words = Vec::new(rt.alloc());
+        for word in row.words {
+            words.push(String::from_str(rt.alloc(), word)?)?;
+        }
+        let mut files = MemFiles::make(rt.alloc(), row.failing_reads, 32)?;
+        files.add("f.upc", row.source)?;
+        let mut out = MemSink::make(rt.alloc(), row.failing_puts, 2)?;
+        let mut err = MemSink::make(rt.alloc(), &[], 64)?;
+        let done = upc_main(
+            &rt,
+            rt.alloc(),
+            words.as_slice(),
+            &mut files,
+            &mut out,
+            &mut err,
+            &OpenGate,
+        );
+        assert_eq!(rt; done.status, row.status);
+        assert_eq!(rt; out.taken(), row.out);
+        assert_eq!(rt; err.taken(), row.err);
+        assert_eq!(rt; done.journal.is_some(), row.ran);
+        assert_eq!(rt; done.refusal.is_some(), row.status == 101);
+    }
+    Ok(())
+}

@@ -1,0 +1,27 @@
+-- Members of structs and parameters of functions, one by one (C99 6.7.2.1, 6.7.5.3).
+use Rattle.std.specs.Prelude.{ℕ, ◌+◌, nat_eq, Bool, List, [], ◌∷◌, ◌++◌, Option, Some, None}
+use Rattle.std.specs.List.{list_any}
+use Rattle.std.specs.Cmp.Lexicographic.{pointwise}
+use Rattle.upc_tree.specs.declared.span.Name.{Name}
+use Rattle.upc_types.specs.Types.{CType, Member}
+use Rattle.typed_tree.specs.Scopes.{Env, declare, declare_unnamed}
+use Rattle.type_specifiers.specs.Shapes.{adjusted}
+
+abbrev pub has_member : List Member → List ℕ → Bool
+has_member members name = list_any (λ x. pointwise nat_eq x.name name) members
+
+abbrev pub with_member : List Member → List ℕ → CType → List Member
+with_member members name t = members ++ (record { name = name; ctype = t } ∷ [])
+
+-- The parameters of a function: their types in order, and the scope in which they are declared.
+pub record Declared : Type 0 where
+  pub types : List CType
+  pub scope : Env
+
+abbrev pub declare_parameter : Option Name → CType → Env → Env
+declare_parameter None t Γ = declare_unnamed t Γ
+declare_parameter (Some name) t Γ = declare name.number t Γ
+
+abbrev pub with_parameter : Declared → Option Name → CType → Declared
+with_parameter before name t =
+    record { types = before.types ++ (adjusted t ∷ []); scope = declare_parameter name (adjusted t) before.scope }

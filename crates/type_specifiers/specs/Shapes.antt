@@ -1,0 +1,46 @@
+-- What stands around specifiers, and what stars and sizes make of their type (C99 6.7, UPC 6.5).
+use Rattle.std.specs.Prelude.{ℕ, Bool, true, false, ◌&&◌, if◌then◌else◌, [], ◌∷◌, Option, Some, None, pos, int_le}
+use Rattle.std.specs.Prelude.{unsigned_abs}
+use Rattle.upc_tree.specs.Expression.{Pointers, NoPointers, AndPointer, Dimensions, NoDimensions, AndDimension}
+use Rattle.upc_types.specs.Types.{CType}
+use Rattle.typing_rules.specs.declared.attribute.Constant.{Constant as Value}
+use Rattle.typing_rules.specs.declared.attribute.Constant.TheVariants.{Known}
+use Rattle.typing_rules.specs.Values.{value_type, is_array}
+use Rattle.typing_rules.specs.Nodes.{Formed}
+use Rattle.type_specifiers.specs.Specifiers.{Shaped, array_of, elements}
+
+-- The block size that a constant says, 1 where it is none (UPC 6.5.1.1).
+abbrev pub block_size : Value → ℕ
+block_size (Known v) = if int_le (pos 0) v && int_le v (pos 16777216) then unsigned_abs v else 1
+block_size other = 1
+
+-- An array as a parameter is a pointer to its first element (C99 6.7.5.3).
+abbrev pub adjusted : CType → CType
+adjusted t = if is_array t then value_type t else t
+
+-- What stands around specifiers: `[*]` may stand there, `static` may, and they declare nothing but a tag.
+pub record Specifying : Type 0 where
+  pub star : Bool
+  pub static : Bool
+  pub alone : Bool
+
+abbrev pub in_type : Specifying
+in_type = record { star = false; static = false; alone = false }
+
+abbrev pub is_none : Pointers → Bool
+is_none NoPointers = true
+is_none (AndPointer star quals more) = false
+
+abbrev pub has_sizes : Dimensions → Bool
+has_sizes NoDimensions = false
+has_sizes (AndDimension left size right more) = true
+
+-- A type name or parameter, whose specifiers are judged with it.
+abbrev pub named_type : Bool → Shaped → Shaped
+named_type forms t = record t { forms = forms && t.forms }
+
+-- A parameter's type before its adjustment.
+abbrev pub parameter_array : ℕ → Shaped → Option Value → Formed
+parameter_array threads s None = record { forms = s.forms; ctype = array_of s.ctype 1; sizes = [] }
+parameter_array threads s (Some size) =
+    record { forms = s.forms; ctype = array_of s.ctype (elements size); sizes = size ∷ [] }

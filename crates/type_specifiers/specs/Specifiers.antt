@@ -1,0 +1,239 @@
+-- The types that specifiers and qualifiers form (C99 6.7.1 to 6.7.3, UPC 6.5.1).
+use Rattle.std.specs.Prelude.{ℕ, ◌+◌, ◌-◌, ◌*◌, ◌/◌, min, nat_eq, nat_le, ◌==◌, Bool, true, false, ◌&&◌, ◌||◌, not}
+use Rattle.std.specs.Prelude.{if◌then◌else◌, List, [], ◌∷◌, ◌++◌, length, Option, Some, None, pos, int_le}
+use Rattle.std.specs.Prelude.{unsigned_abs}
+use Rattle.std.specs.List.{list_all}
+use Rattle.block_layout.specs.declared.kind.Kind.TheVariants as k
+use Rattle.upc_tree.specs.declared.mark.TypeWord.{TypeWord}
+use Rattle.upc_tree.specs.declared.mark.TypeWord.TheVariants.{Static, Void, Char, Short, Int, Long, Signed, Unsigned}
+use Rattle.upc_tree.specs.declared.mark.TypeWord.TheVariants.{SizeT, PtrdiffT, LockT, OpT, FlagT}
+use Rattle.upc_types.specs.declared.ctype.Access.{Access}
+use Rattle.upc_types.specs.declared.ctype.Access.TheVariants as a
+use Rattle.upc_types.specs.Types as t
+use Rattle.upc_types.specs.Types.{CType, Qualified, Base}
+use Rattle.typing_rules.specs.declared.attribute.Constant.{Constant}
+use Rattle.typing_rules.specs.declared.attribute.Constant.TheVariants.{Known}
+use Rattle.typing_rules.specs.Nodes.{Formed}
+
+-- ---- words
+
+-- Words that form a type, in any order, and the type (C99 6.7.2; long long is long).
+pub record Row : Type 0 where
+  pub words : List TypeWord
+  pub base : Base
+
+abbrev pub row : List TypeWord → Base → Row
+row words base = record { words = words; base = base }
+
+abbrev pub rows : List Row
+rows =
+    row (Void ∷ []) t.Void ∷
+    row (Char ∷ []) (t.Integer k.Char) ∷
+    row (Signed ∷ Char ∷ []) (t.Integer k.Char) ∷
+    row (Unsigned ∷ Char ∷ []) (t.Integer k.UChar) ∷
+    row (Short ∷ []) (t.Integer k.Short) ∷
+    row (Signed ∷ Short ∷ []) (t.Integer k.Short) ∷
+    row (Short ∷ Int ∷ []) (t.Integer k.Short) ∷
+    row (Signed ∷ Short ∷ Int ∷ []) (t.Integer k.Short) ∷
+    row (Unsigned ∷ Short ∷ []) (t.Integer k.UShort) ∷
+    row (Unsigned ∷ Short ∷ Int ∷ []) (t.Integer k.UShort) ∷
+    row (Int ∷ []) (t.Integer k.Int) ∷
+    row (Signed ∷ []) (t.Integer k.Int) ∷
+    row (Signed ∷ Int ∷ []) (t.Integer k.Int) ∷
+    row (Unsigned ∷ []) (t.Integer k.UInt) ∷
+    row (Unsigned ∷ Int ∷ []) (t.Integer k.UInt) ∷
+    row (Long ∷ []) (t.Integer k.Long) ∷
+    row (Signed ∷ Long ∷ []) (t.Integer k.Long) ∷
+    row (Long ∷ Int ∷ []) (t.Integer k.Long) ∷
+    row (Signed ∷ Long ∷ Int ∷ []) (t.Integer k.Long) ∷
+    row (Unsigned ∷ Long ∷ []) (t.Integer k.ULong) ∷
+    row (Unsigned ∷ Long ∷ Int ∷ []) (t.Integer k.ULong) ∷
+    row (Long ∷ Long ∷ []) (t.Integer k.Long) ∷
+    row (Signed ∷ Long ∷ Long ∷ []) (t.Integer k.Long) ∷
+    row (Long ∷ Long ∷ Int ∷ []) (t.Integer k.Long) ∷
+    row (Signed ∷ Long ∷ Long ∷ Int ∷ []) (t.Integer k.Long) ∷
+    row (Unsigned ∷ Long ∷ Long ∷ []) (t.Integer k.ULong) ∷
+    row (Unsigned ∷ Long ∷ Long ∷ Int ∷ []) (t.Integer k.ULong) ∷
+    row (SizeT ∷ []) (t.Integer k.ULong) ∷
+    row (PtrdiffT ∷ []) (t.Integer k.Long) ∷
+    row (LockT ∷ []) t.LockObject ∷
+    row (OpT ∷ []) (t.Integer k.Int) ∷
+    row (FlagT ∷ []) (t.Integer k.Int) ∷ []
+
+abbrev pub is_word : TypeWord → TypeWord → Bool
+is_word Static Static = true
+is_word Void Void = true
+is_word Char Char = true
+is_word Short Short = true
+is_word Int Int = true
+is_word Long Long = true
+is_word Signed Signed = true
+is_word Unsigned Unsigned = true
+is_word SizeT SizeT = true
+is_word PtrdiffT PtrdiffT = true
+is_word LockT LockT = true
+is_word OpT OpT = true
+is_word FlagT FlagT = true
+is_word v w = false
+
+-- How often a word stands among others.
+abbrev pub count : TypeWord → List TypeWord → ℕ
+count w [] = 0
+count w (v ∷ vs) = (if is_word w v then 1 else 0) + count w vs
+
+abbrev pub type_words : List TypeWord
+type_words = Void ∷ Char ∷ Short ∷ Int ∷ Long ∷ Signed ∷ Unsigned ∷ SizeT ∷ PtrdiffT ∷ LockT ∷ OpT ∷ FlagT ∷ []
+
+-- The same words that are no `static`, in any order.
+abbrev pub same_words : List TypeWord → List TypeWord → Bool
+same_words xs ys = list_all (λ w. count w xs == count w ys) type_words
+
+abbrev pub base_among : List Row → List TypeWord → Option Base
+base_among [] words = None
+base_among (r ∷ rs) words = if same_words r.words words then Some r.base else base_among rs words
+
+-- ---- qualifiers
+
+-- A layout (UPC 6.5.1.1): a block size, 0 for indefinite, or `[*]`.
+pub data Layout : Type 0 where
+  Blocks : (size : ℕ) → Layout
+  Star : Layout
+
+-- The qualifiers at one place: const, the layout of each `shared`, and how often strict and relaxed stand there.
+pub record Quals : Type 0 where
+  pub constant : Bool
+  pub layouts : List Layout
+  pub strict : Bool
+  pub relaxed : Bool
+
+abbrev pub no_quals : Quals
+no_quals = record { constant = false; layouts = []; strict = false; relaxed = false }
+
+abbrev pub both_quals : Quals → Quals → Quals
+both_quals p q = record {
+  constant = p.constant || q.constant;
+  layouts = p.layouts ++ q.layouts;
+  strict = p.strict || q.strict;
+  relaxed = p.relaxed || q.relaxed;
+}
+
+-- They go together: `shared` once at most, strict and relaxed not both, and neither without `shared`.
+abbrev pub quals_fit : Quals → Bool
+quals_fit q =
+    nat_le (length q.layouts) 1 && not (q.strict && q.relaxed) && (nat_eq (length q.layouts) 1 || not (q.strict ||
+    q.relaxed))
+
+abbrev pub layout_block : Layout → ℕ
+layout_block (Blocks size) = size
+layout_block Star = 1
+
+abbrev pub first_block : List Layout → Option ℕ
+first_block [] = None
+first_block (l ∷ ls) = Some (layout_block l)
+
+abbrev pub first_star : List Layout → Bool
+first_star (Star ∷ ls) = true
+first_star ls = false
+
+abbrev pub access_by : Bool → Bool → Access
+access_by true relaxed = a.Strict
+access_by false true = a.Relaxed
+access_by false false = a.Unsaid
+
+-- A type with these qualifiers.
+abbrev pub qualify : Base → Quals → CType
+qualify b q = Qualified b q.constant (first_block q.layouts) (access_by q.strict q.relaxed)
+
+-- ---- specifiers
+
+-- What stands among specifiers: words, structs by their numbers, and qualifiers.
+pub record Specified : Type 0 where
+  pub words : List TypeWord
+  pub structs : List ℕ
+  pub quals : Quals
+
+abbrev pub nothing_specified : Specified
+nothing_specified = record { words = []; structs = []; quals = no_quals }
+
+abbrev pub both_specified : Specified → Specified → Specified
+both_specified p q =
+    record { words = p.words ++ q.words; structs = p.structs ++ q.structs; quals = both_quals p.quals q.quals }
+
+abbrev pub no_types : List TypeWord → Bool
+no_types words = list_all (λ w. count w words == 0) type_words
+
+-- The type without its qualifiers: of words alone, or of one struct alone.
+abbrev pub base_of_parts : List TypeWord → List ℕ → Option Base
+base_of_parts words [] = base_among rows words
+base_of_parts words (number ∷ []) = if no_types words then Some (t.Struct number) else None
+base_of_parts words more = None
+
+abbrev pub specified_base : Specified → Option Base
+specified_base s = base_of_parts s.words s.structs
+
+abbrev pub base_or_int : Option Base → Base
+base_or_int None = t.Integer k.Int
+base_or_int (Some b) = b
+
+abbrev pub is_formed : Option Base → Bool
+is_formed None = false
+is_formed (Some b) = true
+
+-- The specifiers form a type; `static` stands once at most, and only where it may.
+abbrev pub specifiers_form : Bool → Specified → Bool
+specifiers_form static s =
+    is_formed (specified_base s) && quals_fit s.quals && nat_le (count Static s.words) (if static then 1 else 0)
+
+-- ---- what specifiers, pointers and sizes make
+
+-- A type so far: whether its parts fit, and whether its last layout is `[*]`.
+pub record Shaped : Type 0 where
+  pub forms : Bool
+  pub ctype : CType
+  pub star : Bool
+
+-- The type of the specifiers, int where they form none. Whether they do is judged at their declaration.
+abbrev pub specified_type : Specified → Shaped
+specified_type s = record {
+  forms = true;
+  ctype = qualify (base_or_int (specified_base s)) s.quals;
+  star = first_star s.quals.layouts;
+}
+
+-- A pointer to that, with qualifiers of its own.
+abbrev pub pointer_to : Shaped → Quals → Shaped
+pointer_to s q =
+    record { forms = s.forms && quals_fit q; ctype = qualify (t.Pointer s.ctype) q; star = first_star q.layouts }
+
+-- The number of elements that a size says, 1 where it is none.
+abbrev pub elements : Constant → ℕ
+elements (Known v) = if int_le (pos 1) v && int_le v (pos 16777216) then unsigned_abs v else 1
+elements c = 1
+
+-- How many elements there are in all; 16777217 where there are more than an object can have.
+abbrev pub all_elements : List Constant → ℕ
+all_elements [] = 1
+all_elements (c ∷ cs) = min (elements c * all_elements cs) 16777217
+
+-- An array of arrays, which has the qualifiers of its elements (C99 6.7.3).
+abbrev pub array_of : CType → ℕ → CType
+array_of (Qualified b c s x) n = Qualified (t.Array (Qualified b c s x) n) c s x
+
+abbrev pub arrays_of : CType → List Constant → CType
+arrays_of t [] = t
+arrays_of t (c ∷ cs) = array_of (arrays_of t cs) (elements c)
+
+-- The block of `[*]` (UPC 6.5.1.1): the least with which no thread has two blocks.
+abbrev pub star_size : ℕ → ℕ → ℕ
+star_size threads n = (n + (threads - 1)) / threads
+
+abbrev pub with_block : ℕ → CType → CType
+with_block block (Qualified b c s x) = Qualified b c (Some block) x
+
+abbrev pub element_type : ℕ → Shaped → List Constant → CType
+element_type threads s sizes = if s.star then with_block (star_size threads (all_elements sizes)) s.ctype else s.ctype
+
+-- The type with sizes behind it.
+abbrev pub formed : ℕ → Shaped → List Constant → Formed
+formed threads s sizes =
+    record { forms = s.forms; ctype = arrays_of (element_type threads s sizes) sizes; sizes = sizes }

@@ -1,0 +1,44 @@
+-- The elements of shared objects (UPC 6.5.1.1), and their shapes by number.
+use Rattle.std.specs.Prelude.{ℕ, ◌+◌, nat_lt, ◌==◌, Bool, ◌&&◌, not, if◌then◌else◌, List, [], ◌∷◌, ◌++◌, length, map}
+use Rattle.std.specs.Prelude.{filter}
+use Rattle.block_layout.specs.declared.kind.Kind.{Kind}
+use Rattle.block_layout.specs.declared.kind.Shape.{Shape}
+use Rattle.block_layout.specs.Shapes.{same_kind}
+use Rattle.upc_values.specs.Openings.{is_private}
+use Rattle.upc_values.specs.Views.{same_cells}
+use Rattle.upc_types.specs.Types.{CType, base_of, Structs}
+use Rattle.upc_types.specs.Cells.{leaf_shape}
+
+-- The cells that a shared object can have: pointers to private objects are none (UPC 6.5.1.1).
+abbrev pub sharable : List (ℕ × Kind) → List (ℕ × Kind)
+sharable cells = filter (λ c. not (is_private c.1)) cells
+
+-- One leaf element of a shared object of this type.
+abbrev pub element_shape : Structs → CType → Shape
+element_shape structs t = record {
+  size = (leaf_shape structs (base_of t)).size;
+  cells = sharable (leaf_shape structs (base_of t)).cells;
+}
+
+abbrev pub same_cell : ℕ × Kind → ℕ × Kind → Bool
+same_cell c d = c.0 == d.0 && same_kind c.1 d.1
+
+abbrev pub same_shape : Shape → Shape → Bool
+same_shape a b = a.size == b.size && same_cells a.cells b.cells
+
+-- The place of the first shape that is equal, and where none is, their count.
+abbrev pub number_among : List Shape → Shape → ℕ
+number_among [] s = 0
+number_among (x ∷ xs) s = if same_shape x s then 0 else number_among xs s + 1
+
+-- The shapes once this one has a number.
+abbrev pub with_shape : List Shape → Shape → List Shape
+with_shape xs s = if nat_lt (number_among xs s) (length xs) then xs else xs ++ (s ∷ [])
+
+abbrev pub with_shapes : List Shape → List Shape → List Shape
+with_shapes xs [] = xs
+with_shapes xs (s ∷ ss) = with_shapes (with_shape xs s) ss
+
+-- The shapes of the elements of objects of these types; equal ones are one, at the first.
+abbrev pub element_shapes : Structs → List CType → List Shape
+element_shapes structs ts = with_shapes [] (map (element_shape structs) ts)

@@ -1,0 +1,132 @@
+-- What the objects of a file begin with (C99 6.7.8): the constants of their initialisers (C99 6.6). Where one is no
+-- such constant it gives 0 or null.
+use Rattle.std.specs.Prelude.{ℕ, zero, suc, ℤ, pos, ◌+◌, nat_lt, ◌==◌, Bool, ◌&&◌, ◌||◌, if◌then◌else◌, List, []}
+use Rattle.std.specs.Prelude.{◌∷◌, ◌++◌, map, take, Option, Some, None, slice_get}
+use Rattle.block_layout.specs.declared.kind.Kind.{Kind}
+use Rattle.block_layout.specs.declared.kind.Kind.TheVariants as k
+use Rattle.block_layout.specs.declared.place.Loc.{Loc}
+use Rattle.block_layout.specs.declared.place.LocalPtr.{LocalPtr}
+use Rattle.block_layout.specs.declared.place.ObjectRef.{ObjectRef}
+use Rattle.block_layout.specs.declared.place.LocalPtr.TheVariants as local
+use Rattle.block_layout.specs.declared.place.SharedPtr.{SharedPtr}
+use Rattle.block_layout.specs.Places.{in_range}
+use Rattle.block_layout.specs.Pointers.{null}
+use Rattle.block_layout.specs.Shapes.{kind_size}
+use Rattle.upc_values.specs.declared.scalar.Scalar.{Scalar}
+use Rattle.upc_values.specs.declared.scalar.Scalar.TheVariants as scalar
+use Rattle.upc_types.specs.Types.{CType, Qualified, Base, Integer, Array, Pointer, base_of, Structs}
+use Rattle.upc_types.specs.Cells.{pointer_kind}
+use Rattle.typing_rules.specs.declared.attribute.Static.TheVariants as static
+use Rattle.typing_rules.specs.declared.attribute.Constant.{Constant}
+use Rattle.typing_rules.specs.declared.attribute.Constant.TheVariants.{Known, Address}
+use Rattle.typing_rules.specs.Constants.{cast_constant}
+use Rattle.typing_rules.specs.Attributes.{constant_of}
+use Rattle.typed_tree.specs.Tree.{DeclaredObject, Initial, InitialValue, InitialList, attr_of, attrs_of}
+use Rattle.typed_tree.specs.declared.beginning.SharedDecl.{SharedDecl}
+use Rattle.typed_tree.specs.Objects.{object_of}
+use Rattle.upc_values.specs.declared.scalar.Value.{Value}
+use Rattle.upc_values.specs.declared.scalar.Value.TheVariants as value
+
+-- What there is: threads, private objects of the file, structs, and shared objects of the file.
+pub record Setting : Type 0 where
+  pub threads : ℕ
+  pub privates : ℕ
+  pub structs : Structs
+  pub shared : List SharedDecl
+
+-- ---- values
+
+abbrev pub known_or_zero : Constant → ℤ
+known_or_zero (Known v) = v
+known_or_zero c = pos 0
+
+-- The integer that a constant is in an object of this kind (C99 6.3.1.3).
+abbrev pub integer_in : Kind → Constant → ℤ
+integer_in kind c = known_or_zero (cast_constant kind c)
+
+-- A thread of the run, a phase of the block, and an offset in range.
+abbrev pub fits : ℕ → ℕ → SharedPtr → Bool
+fits threads block p = nat_lt p.thread threads && ((p.phase == 0 || nat_lt p.phase block) && in_range p.offset)
+
+abbrev pub fitting : ℕ → ℕ → SharedPtr → SharedPtr
+fitting threads block p = if fits threads block p then p else null
+
+-- The shared object with this number, from 1 on.
+abbrev pub numbered : List SharedDecl → ℕ → Option ObjectRef
+numbered shared zero = None
+numbered shared (suc n) = slice_get (map object_of shared) n
+
+abbrev pub pointer_into : ℕ → ℕ → Option ObjectRef → ℕ → ℕ → ℤ → SharedPtr
+pointer_into threads block None thread phase offset = null
+pointer_into threads block (Some object) thread phase offset =
+    fitting threads block (record { object = object; thread = thread; phase = phase; offset = offset })
+
+-- The pointer-to-shared that a constant is.
+abbrev pub shared_pointer_in : Setting → ℕ → Constant → SharedPtr
+shared_pointer_in σ block (Address (static.Shared object thread phase offset)) =
+    pointer_into σ.threads block (numbered σ.shared object) thread phase offset
+shared_pointer_in σ block c = null
+
+-- The pointer-to-local that a constant is.
+abbrev pub local_pointer_in : Setting → Constant → LocalPtr
+local_pointer_in σ (Address (static.Private object offset)) =
+    if nat_lt object σ.privates && in_range offset then local.Private object offset else local.Null
+local_pointer_in σ c = local.Null
+
+-- What a constant is in an object of this kind. A lock pointer is null.
+abbrev pub value_in : Setting → Kind → Constant → Value
+value_in σ (k.Shared n block) c = value.Scalar (scalar.Shared (shared_pointer_in σ block c))
+value_in σ (k.Private n) c = value.Local (local_pointer_in σ c)
+value_in σ k.Lock c = value.Scalar (scalar.Lock 0)
+value_in σ kind c = value.Scalar (scalar.Int (integer_in kind c))
+
+-- ---- initialisers
+
+-- The kind of a scalar.
+abbrev pub scalar_kind : List CType → Base → Option Kind
+scalar_kind targets (Integer kind) = Some kind
+scalar_kind targets (Pointer target) = Some (pointer_kind targets target)
+scalar_kind targets b = None
+
+-- What an object without braces begins with.
+abbrev pub single : Setting → Option Kind → Initial → Option Value
+single σ (Some kind) (InitialValue e) = Some (value_in σ kind (constant_of (attr_of e)))
+single σ kind other = None
+
+-- Those of a shared object: it is no pointer to a private object.
+abbrev pub at_start : ℕ → Option Value → List (Loc × Scalar)
+at_start number (Some (value.Scalar v)) = (record { object = number; thread = 0; offset = 0 }, v) ∷ []
+at_start number v = []
+
+abbrev pub shared_from : Setting → ℕ → List DeclaredObject → List (Loc × Scalar)
+shared_from σ number [] = []
+shared_from σ number (x ∷ xs) =
+    at_start number (single σ (scalar_kind σ.structs.targets (base_of x.ctype)) x.initial)
+    ++ shared_from σ (number + 1) xs
+
+-- The constants of an initialiser: of a list as many as the array has elements.
+abbrev pub constants_in : Base → Initial → List Constant
+constants_in (Array t count) (InitialList values) = take count (map constant_of (attrs_of values))
+constants_in (Array t count) other = []
+constants_in b (InitialValue e) = constant_of (attr_of e) ∷ []
+constants_in b other = []
+
+-- What has these values: the elements of an array, or the object.
+abbrev pub part_of : Base → Base
+part_of (Array (Qualified e c s x) count) = e
+part_of b = b
+
+abbrev pub cells_from : Setting → ℕ → Kind → ℕ → List Constant → List (LocalPtr × Value)
+cells_from σ number kind offset [] = []
+cells_from σ number kind offset (c ∷ cs) =
+    (local.Private number (pos offset), value_in σ kind c) ∷ cells_from σ number kind (offset + kind_size kind) cs
+
+abbrev pub cells_in : Setting → ℕ → Option Kind → List Constant → List (LocalPtr × Value)
+cells_in σ number None cs = []
+cells_in σ number (Some kind) cs = cells_from σ number kind 0 cs
+
+abbrev pub private_from : Setting → ℕ → List DeclaredObject → List (LocalPtr × Value)
+private_from σ number [] = []
+private_from σ number (x ∷ xs) =
+    cells_in σ number (scalar_kind σ.structs.targets (part_of (base_of x.ctype)))
+    (constants_in (base_of x.ctype) x.initial) ++ private_from σ (number + 1) xs

@@ -1,0 +1,74 @@
+-- The objects of a file, and its shared objects with where they lie (UPC 6.5.1.1).
+use Rattle.std.specs.Prelude.{ℕ, ◌+◌, ◌*◌, min, Bool, true, false, List, [], ◌∷◌, filter}
+use Rattle.std.specs.List.{sum_by}
+use Rattle.block_layout.specs.declared.kind.Shape.{Shape}
+use Rattle.block_layout.specs.declared.place.ObjectRef.{ObjectRef}
+use Rattle.upc_types.specs.Types.{CType, Structs, base_of, block_of}
+use Rattle.upc_types.specs.Layout.{size}
+use Rattle.upc_types.specs.Cells.{leaves}
+use Rattle.typing_rules.specs.declared.setting.Home.{Home}
+use Rattle.typing_rules.specs.declared.setting.Home.TheVariants.{Private, Shared}
+use Rattle.typing_rules.specs.Constants.{block_or_none}
+use Rattle.typed_tree.specs.Tree.{DeclaredObject}
+use Rattle.typed_tree.specs.declared.beginning.SharedDecl.{SharedDecl}
+use Rattle.typed_tree.specs.Elements.{element_shape, number_among}
+
+abbrev pub is_shared : Home → Bool
+is_shared (Shared number) = true
+is_shared home = false
+
+abbrev pub is_private : Home → Bool
+is_private (Private number) = true
+is_private home = false
+
+abbrev pub shared_in : List DeclaredObject → List DeclaredObject
+shared_in objects = filter (λ x. is_shared x.home) objects
+
+abbrev pub private_in : List DeclaredObject → List DeclaredObject
+private_in objects = filter (λ x. is_private x.home) objects
+
+abbrev pub type_of : DeclaredObject → CType
+type_of x = x.ctype
+
+-- The bytes of these objects.
+abbrev pub bytes_in : Structs → List DeclaredObject → ℕ
+bytes_in structs objects = sum_by (λ x. size structs x.ctype) objects
+
+-- The private objects of the file have at most so many bytes in all.
+abbrev pub most_private_bytes : ℕ
+most_private_bytes = 1048576
+
+-- The shared objects have at most so many bytes in all.
+abbrev pub most_shared_bytes : ℕ
+most_shared_bytes = 16777216
+
+-- Where a shared object of this type and number lies, behind so many bytes of others. Its block is in bytes, and no
+-- longer than the object.
+abbrev pub lies : Structs → List Shape → ℕ → ℕ → CType → ObjectRef
+lies structs shapes number base t = record {
+  number = number;
+  total = size structs t;
+  block = min (block_or_none (block_of t) * (element_shape structs t).size) (size structs t);
+  home = 0;
+  shape = number_among shapes (element_shape structs t);
+  base = base;
+}
+
+-- A shared object with this number, behind so many bytes of others.
+abbrev pub placed : Structs → List Shape → ℕ → ℕ → DeclaredObject → SharedDecl
+placed structs shapes number base x = record {
+  name = x.name;
+  object = lies structs shapes number base x.ctype;
+  block = block_or_none (block_of x.ctype);
+  elements = leaves (base_of x.ctype);
+  size = (element_shape structs x.ctype).size;
+}
+
+abbrev pub object_of : SharedDecl → ObjectRef
+object_of x = x.object
+
+-- Shared objects, one behind the other.
+abbrev pub placed_from : Structs → List Shape → ℕ → ℕ → List DeclaredObject → List SharedDecl
+placed_from structs shapes number base [] = []
+placed_from structs shapes number base (x ∷ xs) =
+    placed structs shapes number base x ∷ placed_from structs shapes (number + 1) (base + size structs x.ctype) xs

@@ -1,0 +1,292 @@
+-- What each expression is to the node above it (C99 6.5, UPC 6.4).
+use Rattle.std.specs.Prelude.{ℕ, ◌+◌, ◌-◌, ◌*◌, ◌/◌, ◌==◌, nat_eq, Bool, true, ◌&&◌, ◌||◌, if◌then◌else◌, List, []}
+use Rattle.std.specs.Prelude.{◌∷◌, Option, Some, None, ℤ, pos, neg_ℤ, ◌*ℤ◌, int_le}
+use Rattle.std.specs.Cmp.Lexicographic.{pointwise}
+use Rattle.block_layout.specs.declared.kind.Kind.{Kind}
+use Rattle.block_layout.specs.declared.kind.Kind.TheVariants as kind
+use Rattle.integers.specs.declared.operator.BinOp.{BinOp}
+use Rattle.integers.specs.declared.operator.BinOp.TheVariants as op
+use Rattle.integers.specs.declared.operator.UnOp.{UnOp}
+use Rattle.integers.specs.Operators.{binary_kind, unary_kind}
+use Rattle.upc_types.specs.declared.ctype.Access.{Access}
+use Rattle.upc_types.specs.Types.{CType, Qualified, Base, Void, Array, Pointer, base_of, block_of, Member, Structs}
+use Rattle.upc_types.specs.Types.{members_of}
+use Rattle.upc_types.specs.Layout.{size, base_layout, layout_in, aligned}
+use Rattle.upc_types.specs.Arithmetic.{promoted, usual}
+use Rattle.typing_rules.specs.declared.setting.Home.{Home}
+use Rattle.typing_rules.specs.declared.setting.Home.TheVariants as home
+use Rattle.typing_rules.specs.declared.setting.SizeOperator.{SizeOperator}
+use Rattle.typing_rules.specs.declared.setting.SizeOperator.TheVariants.{Bytes, LocalBytes, BlockSize, ElementBytes}
+use Rattle.typing_rules.specs.declared.attribute.Static.TheVariants as static
+use Rattle.typing_rules.specs.declared.attribute.Constant.{Constant}
+use Rattle.typing_rules.specs.declared.attribute.Constant.TheVariants.{Variable, Known, Undefined, Null, Address}
+use Rattle.typing_rules.specs.declared.attribute.Form.{Form}
+use Rattle.typing_rules.specs.declared.attribute.Form.TheVariants.{Value, Lvalue, Callable, Text}
+use Rattle.upc_values.specs.declared.library.LibraryCall.{LibraryCall}
+use Rattle.typing_rules.specs.Library.{plain, int, constant_value, call_result, is_allocation}
+use Rattle.typing_rules.specs.Values.{value_base, value_type, plainly, base_is_array, base_kind, base_target}
+use Rattle.typing_rules.specs.Values.{base_struct}
+use Rattle.typing_rules.specs.Meanings as m
+use Rattle.typing_rules.specs.Meanings.{Meaning}
+use Rattle.typing_rules.specs.Constants.{working_kind, on_known, binary_constant, unary_constant, cast_constant}
+use Rattle.typing_rules.specs.Constants.{and_constant, or_constant, choice_constant, ranged, address_plus}
+use Rattle.typing_rules.specs.Constants.{member_place, cast_address, block_or_none}
+use Rattle.typing_rules.specs.Nodes as n
+use Rattle.typing_rules.specs.Nodes.{Attr, Use, Node}
+use Rattle.upc_types.specs.Cells.{leaf_base, leaves}
+
+-- What every node may look at: the structs that are declared so far, and the number of threads.
+pub record Facts : Type 0 where
+  pub structs : Structs
+  pub threads : ℕ
+
+-- A value of this type, which is no constant.
+abbrev pub value : CType → Attr
+value t = record { ctype = t; form = Value; constant = Variable }
+
+-- A constant of this kind.
+abbrev pub constant : Kind → Constant → Attr
+constant k c = record { ctype = plain k; form = Value; constant = c }
+
+abbrev pub known : Kind → ℤ → Attr
+known k v = constant k (Known v)
+
+-- The address of what an expression names.
+abbrev pub address_in : Form → Constant
+address_in (Lvalue address) = address
+address_in f = Variable
+
+-- The type of an expression's value, without qualifiers.
+abbrev pub base : Attr → Base
+base a = value_base (base_of a.ctype)
+
+-- The constant that an expression's value is: an array is the address of its first element.
+abbrev pub constant_of : Attr → Constant
+constant_of a = if base_is_array (base_of a.ctype) then address_in a.form else a.constant
+
+-- ---- names (C99 6.5.1)
+
+abbrev pub home_address : Home → Constant
+home_address (home.Private object) = Address (static.Private object (pos 0))
+home_address (home.Shared object) = Address (static.Shared object 0 0 (pos 0))
+home_address (home.Local object) = Variable
+
+abbrev pub named : Meaning → Attr
+named m.Unknown = value int
+named (m.Object t place) = record { ctype = t; form = Lvalue (home_address place); constant = Variable }
+named (m.Function signature) = record { ctype = int; form = Callable; constant = Variable }
+named (m.Library call) = record { ctype = int; form = Callable; constant = Variable }
+named (m.Named c) = known kind.Int (pos (constant_value c))
+
+-- ---- what pointers lead to (C99 6.5.2.1, 6.5.3.2)
+
+-- The object at an address.
+abbrev pub object_at : Option CType → Constant → Attr
+object_at None address = value int
+object_at (Some t) address = record { ctype = t; form = Lvalue address; constant = Variable }
+
+-- An index of an array of n elements lies in it, or is one behind its end.
+abbrev pub in_array : Base → ℤ → Bool
+in_array (Array element count) i = int_le (pos 0) i && int_le i (pos count)
+in_array b i = true
+
+-- The address a number of objects of type t behind another.
+abbrev pub address_behind : Facts → CType → Constant → ℤ → Constant
+address_behind φ t address i =
+    address_plus φ.threads (block_of t) (size φ.structs (plainly (leaf_base (base_of t)))) address
+    (i *ℤ pos (leaves (base_of t)))
+
+-- So by an index that is constant.
+abbrev pub indexed : Facts → Base → CType → Constant → Constant → Constant
+indexed φ array t address (Known i) = if in_array array i then address_behind φ t address i else Undefined
+indexed φ array t address Undefined = Undefined
+indexed φ array t address c = Variable
+
+abbrev pub element_address : Facts → Attr → Attr → Option CType → Constant
+element_address φ a i None = Variable
+element_address φ a i (Some t) = indexed φ (base_of a.ctype) t (constant_of a) i.constant
+
+-- ---- members (C99 6.5.2.3, UPC 6.4.4)
+
+-- The members from the one of this name on, with the number and the bytes before it.
+pub record Found : Type 0 where
+  pub index : ℕ
+  pub offset : ℕ
+  pub ctype : CType
+
+abbrev pub find_member : Structs → ℕ → ℕ → List Member → List ℕ → Option Found
+find_member structs index end [] name = None
+find_member structs index end (x ∷ xs) name =
+    let l = base_layout (layout_in structs.completed) (base_of x.ctype) in
+    if pointwise nat_eq x.name name
+    then Some record { index = index; offset = aligned end l.align; ctype = x.ctype }
+    else find_member structs (index + 1) (aligned end l.align + l.size) xs name
+
+abbrev pub member_of : Structs → Option ℕ → List ℕ → Option Found
+member_of structs None name = None
+member_of structs (Some number) name = find_member structs 0 0 (members_of structs number) name
+
+-- A member of a struct of type t, by its name.
+abbrev pub member_named : Structs → CType → List ℕ → Option Found
+member_named structs t name = member_of structs (base_struct (base_of t)) name
+
+-- The number of a member that is found.
+abbrev pub found_index : Option Found → ℕ
+found_index None = 0
+found_index (Some x) = x.index
+
+-- So of a struct that a pointer leads to.
+abbrev pub target_index : Structs → Option CType → List ℕ → ℕ
+target_index structs None name = 0
+target_index structs (Some t) name = found_index (member_named structs t name)
+
+-- A member of a shared object is shared with an indefinite block.
+abbrev pub member_block : Option ℕ → Option ℕ
+member_block None = None
+member_block (Some block) = Some 0
+
+-- The type of a member: const where the member or the struct is, shared and strict or relaxed as the struct is.
+abbrev pub spread : Bool → Option ℕ → Access → Base → Base
+spread c s x (Array (Qualified e d t y) count) = Array (Qualified (spread c s x e) (c || d) (member_block s) x) count
+spread c s x b = b
+
+abbrev pub member_type : CType → CType → CType
+member_type (Qualified struct c s x) (Qualified b d t y) = Qualified (spread c s x b) (c || d) (member_block s) x
+
+abbrev pub member_address : Constant → ℕ → Constant
+member_address (Address p) offset = ranged (member_place offset p)
+member_address Null offset = Undefined
+member_address Undefined offset = Undefined
+member_address c offset = Variable
+
+abbrev pub member_at : CType → Constant → Option Found → Attr
+member_at t address None = value int
+member_at t address (Some x) =
+    record { ctype = member_type t x.ctype; form = Lvalue (member_address address x.offset); constant = Variable }
+
+abbrev pub member_behind : Structs → Option CType → Constant → List ℕ → Attr
+member_behind structs None address name = value int
+member_behind structs (Some t) address name = member_at t address (member_named structs t name)
+
+-- ---- calls (C99 6.5.2.2)
+
+abbrev pub allocated : Use → CType
+allocated (n.Into t) = value_type t
+allocated how = int
+
+abbrev pub library_given : Use → LibraryCall → CType
+library_given how call = if is_allocation call then allocated how else call_result call
+
+abbrev pub given : Use → Meaning → CType
+given how (m.Function signature) = value_type signature.result
+given how (m.Library call) = library_given how call
+given how meaning = int
+
+-- ---- sizes (C99 6.5.3.4, UPC 6.4.1)
+
+-- The least number of parts of d that cover n, for d of at least 1.
+abbrev pub parts : ℕ → ℕ → ℕ
+parts n d = (n + (d - 1)) / d
+
+-- The bytes that an array takes on each thread at most, where each has a part of whole blocks; all where the block is
+-- indefinite.
+abbrev pub local_bytes : ℕ → ℕ → ℕ → ℕ → ℕ
+local_bytes threads elements block bytes =
+    if block == 0 then elements * bytes else parts (parts elements block) threads * block * bytes
+
+abbrev pub measured : Facts → SizeOperator → CType → ℕ
+measured φ Bytes t = size φ.structs t
+measured φ BlockSize t = block_or_none (block_of t)
+measured φ ElementBytes t = size φ.structs (plainly (leaf_base (base_of t)))
+measured φ LocalBytes t =
+    local_bytes φ.threads (leaves (base_of t)) (block_or_none (block_of t))
+    (size φ.structs (plainly (leaf_base (base_of t))))
+
+abbrev pub size_attr : Facts → SizeOperator → CType → Attr
+size_attr φ o t = known kind.ULong (pos (measured φ o t))
+
+-- ---- operators (C99 6.5.3.3, 6.5.4 to 6.5.17)
+
+abbrev pub unary_attr : UnOp → Option Kind → Constant → Attr
+unary_attr o None c = value int
+unary_attr o (Some k) c = constant (unary_kind o (promoted k)) (unary_constant o k c)
+
+abbrev pub target_block : Option CType → Option ℕ
+target_block None = None
+target_block (Some t) = block_of t
+
+abbrev pub cast_by : CType → Option Kind → Attr → Constant
+cast_by t (Some k) a = cast_constant k a.constant
+cast_by t None a =
+    cast_address (target_block (base_target (base a))) (target_block (base_target (base_of t))) (constant_of a)
+
+abbrev pub cast_attr : CType → Attr → Attr
+cast_attr t a = record { ctype = t; form = Value; constant = cast_by t (base_kind (base_of t)) a }
+
+-- A pointer, some objects behind another.
+abbrev pub pointer_attr : Facts → CType → Constant → Constant → Attr
+pointer_attr φ t address steps =
+    record { ctype = plainly (Pointer t); form = Value; constant = indexed φ Void t address steps }
+
+abbrev pub negated : Constant → Constant
+negated c = on_known (λ v. Known (neg_ℤ v)) c
+
+abbrev pub arithmetic_attr : BinOp → Option Kind → Option Kind → Constant → Constant → Attr
+arithmetic_attr o (Some a) (Some b) x y = constant (binary_kind o (working_kind o a b)) (binary_constant o a b x y)
+arithmetic_attr o a b x y = value int
+
+abbrev pub sum_attr : Facts → Attr → Attr → Option CType → Option CType → Attr
+sum_attr φ a b (Some t) u = pointer_attr φ t (constant_of a) b.constant
+sum_attr φ a b None (Some u) = pointer_attr φ u (constant_of b) a.constant
+sum_attr φ a b None None = arithmetic_attr op.Add (base_kind (base a)) (base_kind (base b)) a.constant b.constant
+
+-- The difference of two pointers is a ptrdiff_t, which is long (C99 6.5.6).
+abbrev pub difference_attr : Facts → Attr → Attr → Option CType → Option CType → Attr
+difference_attr φ a b (Some t) (Some u) = value (plain kind.Long)
+difference_attr φ a b (Some t) None = pointer_attr φ t (constant_of a) (negated b.constant)
+difference_attr φ a b None u =
+    arithmetic_attr op.Subtract (base_kind (base a)) (base_kind (base b)) a.constant b.constant
+
+abbrev pub binary_attr : Facts → BinOp → Attr → Attr → Attr
+binary_attr φ op.Add a b = sum_attr φ a b (base_target (base a)) (base_target (base b))
+binary_attr φ op.Subtract a b = difference_attr φ a b (base_target (base a)) (base_target (base b))
+binary_attr φ o a b = arithmetic_attr o (base_kind (base a)) (base_kind (base b)) a.constant b.constant
+
+abbrev pub other_choice : Attr → Attr → Option CType → Attr
+other_choice a b (Some t) = value (value_type a.ctype)
+other_choice a b None = value (value_type b.ctype)
+
+-- The type of a choice: the common kind of two integers, else the type of the pointer among them, else void.
+abbrev pub choice_attr : Constant → Attr → Attr → Option Kind → Option Kind → Option CType → Attr
+choice_attr test a b (Some j) (Some k) t = constant (usual j k) (choice_constant (usual j k) test a.constant b.constant)
+choice_attr test a b j k t = other_choice a b t
+
+-- What a node is; where it breaks a rule, that is never asked.
+abbrev pub attr : Facts → Node → Attr
+attr φ (n.Name how meaning) = named meaning
+attr φ (n.Number k v) = known k (pos v)
+attr φ (n.Character v) = known kind.Int (pos v)
+attr φ (n.Strings how) = record { ctype = int; form = Text; constant = Variable }
+attr φ n.Mythread = value int
+attr φ (n.Threads threads) = known kind.Int (pos threads)
+attr φ n.MaxBlockSize = known kind.Int (pos 16777216)
+attr φ (n.Subscript how a i) = object_at (base_target (base a)) (element_address φ a i (base_target (base a)))
+attr φ (n.Call how meaning runs format args) = value (given how meaning)
+attr φ (n.MemberOf a name) = member_at a.ctype (address_in a.form) (member_named φ.structs a.ctype name)
+attr φ (n.MemberBehind a name) = member_behind φ.structs (base_target (base a)) (constant_of a) name
+attr φ (n.Step a) = value (value_type a.ctype)
+attr φ (n.Address a) = record { ctype = plainly (Pointer a.ctype); form = Value; constant = address_in a.form }
+attr φ (n.Dereference a) = object_at (base_target (base a)) (constant_of a)
+attr φ (n.Unary o a) = unary_attr o (base_kind (base a)) a.constant
+attr φ (n.SizeOf o a) = size_attr φ o a.ctype
+attr φ (n.SizeOfType o t) = size_attr φ o t.ctype
+attr φ (n.Cast t a) = cast_attr (value_type t.ctype) a
+attr φ (n.Binary o a b) = binary_attr φ o a b
+attr φ (n.And a b) = constant kind.Int (and_constant a.constant b.constant)
+attr φ (n.Or a b) = constant kind.Int (or_constant a.constant b.constant)
+attr φ (n.Assign a b) = value (value_type a.ctype)
+attr φ (n.Compound o a b) = value (value_type a.ctype)
+attr φ (n.Conditional test a b) =
+    choice_attr test.constant a b (base_kind (base a)) (base_kind (base b)) (base_target (base a))
+attr φ (n.Comma last) = value (value_type last.ctype)
+attr φ x = value int

@@ -1,0 +1,10 @@
+pub mod Library
+pub mod Values
+pub mod Meanings
+pub mod Constants
+pub mod Format
+pub mod Nodes
+pub mod Attributes
+pub mod Rules
+pub mod Faults
+pub mod Views

@@ -1,0 +1,744 @@
+-- The typing rules, each a test on a node and what its children are: whether the node breaks it. docs/LANGUAGE.md
+-- lists them with a program each.
+use Rattle.std.specs.Prelude.{◌≡◌, ℕ, nat_eq, nat_lt, nat_le, Bool, true, false, ◌&&◌, ◌||◌, not, List, [], ◌∷◌, map}
+use Rattle.std.specs.Prelude.{length, IsTrue, ◌⊎◌, Option, Some, None, is_some, ℤ, pos, int_le}
+use Rattle.std.specs.List.{list_any}
+use Rattle.std.specs.Ordering.{int_eq}
+use Rattle.std.specs.Cmp.Lexicographic.{pointwise}
+use Rattle.block_layout.specs.declared.kind.Kind.{Kind}
+use Rattle.integers.specs.declared.operator.BinOp.{BinOp}
+use Rattle.integers.specs.declared.operator.BinOp.TheVariants.{Add, Subtract, Less, Greater, LessOrEqual}
+use Rattle.integers.specs.declared.operator.BinOp.TheVariants.{GreaterOrEqual, Equal, NotEqual}
+use Rattle.integers.specs.declared.operator.UnOp.{UnOp}
+use Rattle.integers.specs.declared.operator.UnOp.TheVariants.{Not}
+use Rattle.integers.specs.Integers.{converted}
+use Rattle.upc_types.specs.Types as types
+use Rattle.upc_types.specs.Types.{CType, Base, Array, base_of, is_constant, Structs, members_of}
+use Rattle.upc_types.specs.Layout.{is_complete, size, base_within, most_bytes, holds_private}
+use Rattle.upc_types.specs.Same.{same_type, is_lock_object}
+use Rattle.upc_types.specs.Arithmetic.{promoted}
+use Rattle.upc_types.specs.Conversions.{is_integer, assignable, castable, takes_allocation, to_shared_void}
+use Rattle.upc_types.specs.Conversions.{to_void_pointer}
+use Rattle.typing_rules.specs.declared.setting.SizeOperator.{SizeOperator}
+use Rattle.typing_rules.specs.declared.setting.SizeOperator.TheVariants.{Bytes}
+use Rattle.typing_rules.specs.declared.setting.Enclosing.{Enclosing}
+use Rattle.typing_rules.specs.declared.setting.Enclosing.TheVariants as around
+use Rattle.upc_values.specs.declared.library.LibraryCall.{LibraryCall}
+use Rattle.upc_values.specs.declared.library.LibraryCall.TheVariants.{Printf}
+use Rattle.typing_rules.specs.declared.library.LibraryParameter.{LibraryParameter}
+use Rattle.typing_rules.specs.declared.library.LibraryParameter.TheVariants as p
+use Rattle.typing_rules.specs.declared.attribute.Constant.{Constant}
+use Rattle.typing_rules.specs.declared.attribute.Constant.TheVariants.{Known}
+use Rattle.typing_rules.specs.declared.attribute.Form.{Form}
+use Rattle.typing_rules.specs.declared.attribute.Form.TheVariants.{Lvalue}
+use Rattle.typing_rules.specs.Library.{call_parameters, is_allocation}
+use Rattle.typing_rules.specs.Values.{value_type, plainly, is_void, is_array, is_struct, is_lock, is_shared, present}
+use Rattle.typing_rules.specs.Values.{base_kind, base_target, is_nested, is_no_object, equal_targets}
+use Rattle.typing_rules.specs.Meanings.{Meaning, Unknown, Object, Function, Library, Signature}
+use Rattle.typing_rules.specs.Constants as c
+use Rattle.typing_rules.specs.Format.{prints}
+use Rattle.typing_rules.specs.Attributes.{Facts, base, constant_of}
+use Rattle.typing_rules.specs.Nodes.{Attr, Use, Called, Indexed, Measured, Prints, Into, Formed, Node, Name, Strings}
+use Rattle.typing_rules.specs.Nodes.{Subscript, Call, MemberOf, MemberBehind, Step, Address, Dereference, Unary}
+use Rattle.typing_rules.specs.Nodes.{SizeOf, SizeOfType, Cast, Binary, And, Or, Assign, Compound, Conditional, Comma}
+use Rattle.typing_rules.specs.Nodes.{Constantly, Block, StarBlock, Specifies, Struct, Member, MemberFunction}
+use Rattle.typing_rules.specs.Nodes.{DeclaresObject, DeclaresFunction, Parameter, InitialValue, InitialList, Defines}
+use Rattle.typing_rules.specs.Nodes.{File, Tests, Switch, Affinity, Break, Continue, Returns, ReturnsNothing}
+use Rattle.typing_rules.specs.Nodes.{Barrier}
+use Rattle.upc_types.specs.Cells.{leaf_base}
+
+-- ---- words of the rules
+
+-- The value is an integer.
+abbrev pub counts : Attr → Bool
+counts a = is_integer (base a)
+
+-- What the value points to.
+abbrev pub target : Attr → Option CType
+target a = base_target (base a)
+
+-- The value is a pointer.
+abbrev pub points : Attr → Bool
+points a = present (target a)
+
+-- The value is an integer or a pointer (C99 6.2.5).
+abbrev pub is_scalar : Attr → Bool
+is_scalar a = counts a || points a
+
+abbrev pub is_no_condition : Attr → Bool
+is_no_condition a = not (is_scalar a)
+
+abbrev pub gives_void : Attr → Bool
+gives_void a = is_void a.ctype
+
+-- The value is the constant 0.
+abbrev pub is_zero : Attr → Bool
+is_zero a = c.is_zero a.constant
+
+-- The value converts into the type without a cast.
+abbrev pub converts : Attr → CType → Bool
+converts a t = assignable (value_type a.ctype) t (is_zero a)
+
+-- So with a cast.
+abbrev pub casts : Attr → CType → Bool
+casts a t = castable (value_type a.ctype) t (is_zero a)
+
+abbrev pub form_is_lvalue : Form → Bool
+form_is_lvalue (Lvalue address) = true
+form_is_lvalue f = false
+
+-- The expression names an object.
+abbrev pub is_lvalue : Attr → Bool
+is_lvalue a = form_is_lvalue a.form
+
+-- It names an object that can be assigned to (C99 6.3.2.1).
+abbrev pub is_modifiable : Attr → Bool
+is_modifiable a = is_lvalue a && not (is_array a.ctype || (is_struct a.ctype || is_constant a.ctype))
+
+-- A type has a size: it is complete, and has no more bytes than an object can have. One with more is refused where it
+-- is formed.
+abbrev pub has_size : Structs → CType → Bool
+has_size structs t = is_some (base_within structs.completed (base_of t))
+
+-- A pointer to void, to an incomplete type or to a lock.
+abbrev pub is_loose_target : Structs → Option CType → Bool
+is_loose_target structs None = false
+is_loose_target structs (Some t) = not (has_size structs t)
+
+abbrev pub is_loose : Structs → Attr → Bool
+is_loose structs a = is_loose_target structs (target a)
+
+abbrev pub target_is_empty : Option CType → Bool
+target_is_empty None = false
+target_is_empty (Some t) = is_no_object (base_of t)
+
+-- A pointer to void or to a lock.
+abbrev pub leads_nowhere : Attr → Bool
+leads_nowhere a = target_is_empty (target a)
+
+-- An array of arrays may stand here with fewer subscripts than dimensions.
+abbrev pub takes_rows : Use → Bool
+takes_rows Indexed = true
+takes_rows Measured = true
+takes_rows how = false
+
+abbrev pub is_called : Use → Bool
+is_called Called = true
+is_called how = false
+
+abbrev pub target_is_array : Option CType → Bool
+target_is_array None = false
+target_is_array (Some t) = is_array t
+
+abbrev pub is_no_array_size : Constant → Bool
+is_no_array_size (Known v) = not (int_le (pos 1) v && int_le v (pos 16777216))
+is_no_array_size k = true
+
+abbrev pub is_block_size : Constant → Bool
+is_block_size (Known v) = int_le (pos 0) v && int_le v (pos 16777216)
+is_block_size k = false
+
+abbrev pub base_lacks_members : Structs → Base → Bool
+base_lacks_members structs (types.Struct number) = not (is_complete structs (plainly (types.Struct number)))
+base_lacks_members structs b = false
+
+-- The element type is a struct that is not complete.
+abbrev pub lacks_members : Structs → CType → Bool
+lacks_members structs t = base_lacks_members structs (leaf_base (base_of t))
+
+-- A type of more bytes than an object can have.
+abbrev pub is_too_large : Structs → CType → Bool
+is_too_large structs t = is_complete structs t && not (nat_le (size structs t) most_bytes)
+
+-- A size is none, there are more than three, or the type is too large.
+abbrev pub has_wrong_sizes : Structs → Formed → Bool
+has_wrong_sizes structs t =
+    list_any is_no_array_size t.sizes || (nat_lt 3 (length t.sizes) || is_too_large structs t.ctype)
+
+abbrev pub leaf : CType → Base
+leaf t = leaf_base (base_of t)
+
+-- An object of type void, or a lock without a pointer.
+abbrev pub declares_nothing : CType → Bool
+declares_nothing t = is_no_object (leaf t)
+
+abbrev pub is_struct_type : CType → Bool
+is_struct_type t = is_struct t
+
+-- A shared object holds a pointer to a private object.
+abbrev pub shares_private : Structs → CType → Bool
+shares_private structs t = is_shared t && holds_private structs t
+
+-- A lock, or an array of locks.
+abbrev pub is_lock_leaf : CType → Bool
+is_lock_leaf t = is_lock_object (leaf t)
+
+-- A struct among the result and the parameters.
+abbrev pub passes_struct : Signature → Bool
+passes_struct s = is_struct s.result || list_any is_struct_type s.parameters
+
+-- ---- arguments
+
+-- A lock that is neither const nor shared.
+abbrev pub leads_to_lock : CType → Bool
+leads_to_lock t = is_lock t && not (is_shared t) && not (is_constant t)
+
+abbrev pub target_leads_to_lock : Option CType → Bool
+target_leads_to_lock None = false
+target_leads_to_lock (Some t) = leads_to_lock t
+
+abbrev pub takes : LibraryParameter → Attr → Bool
+takes p.SharedPointer a = to_shared_void (base a) (is_zero a)
+takes p.PrivatePointer a = to_void_pointer (base a) (is_zero a)
+takes p.LockPointer a = target_leads_to_lock (target a) || is_zero a && counts a
+takes p.Size a = counts a
+takes p.Int a = counts a
+takes p.NoFunction a = not (gives_void a)
+
+-- Each argument converts into the type of its parameter; those that are too many are judged elsewhere.
+abbrev pub all_convert : List Attr → List CType → Bool
+all_convert (a ∷ args) (t ∷ ts) = converts a t && all_convert args ts
+all_convert args ts = true
+
+abbrev pub first_converts : List Attr → CType → Bool
+first_converts [] t = true
+first_converts (a ∷ args) t = converts a t
+
+abbrev pub all_taken : List Attr → List LibraryParameter → Bool
+all_taken (a ∷ args) (x ∷ xs) = takes x a && all_taken args xs
+all_taken args xs = true
+
+abbrev pub first_taken : List Attr → LibraryParameter → Bool
+first_taken [] x = true
+first_taken (a ∷ args) x = takes x a
+
+abbrev pub no_function : LibraryParameter → Attr → Bool
+no_function p.NoFunction a = is_zero a
+no_function x a = true
+
+abbrev pub no_functions : List Attr → List LibraryParameter → Bool
+no_functions (a ∷ args) (x ∷ xs) = no_function x a && no_functions args xs
+no_functions args xs = true
+
+abbrev pub first_is_no_function : List Attr → LibraryParameter → Bool
+first_is_no_function [] x = true
+first_is_no_function (a ∷ args) x = no_function x a
+
+abbrev pub library_passes : LibraryCall → List Attr → Bool
+library_passes Printf args = not (list_any gives_void args)
+library_passes call args = all_taken args (call_parameters call)
+
+abbrev pub passes : Meaning → List Attr → Bool
+passes (Function s) args = all_convert args s.parameters
+passes (Library call) args = library_passes call args
+passes meaning args = true
+
+-- The name can be called here with that many arguments; `runs` says that the file defines it and that it is not main.
+abbrev pub library_takes : LibraryCall → ℕ → Bool
+library_takes Printf n = nat_lt 0 n
+library_takes call n = nat_eq n (length (call_parameters call))
+
+abbrev pub can_be_called : Meaning → Bool → ℕ → Bool
+can_be_called (Function s) runs n = runs && nat_eq n (length s.parameters)
+can_be_called (Library call) runs n = library_takes call n
+can_be_called meaning runs n = false
+
+-- The first argument is a string, and the others fit it.
+abbrev pub format_fits : Option (List ℕ) → List Attr → Bool
+format_fits format [] = true
+format_fits None (a ∷ args) = false
+format_fits (Some format) (a ∷ args) = prints format (map base args)
+
+abbrev pub is_printf : LibraryCall → Bool
+is_printf Printf = true
+is_printf call = false
+
+abbrev pub printf_fits : Meaning → Option (List ℕ) → List Attr → Bool
+printf_fits (Library call) format args = not (is_printf call) || format_fits format args
+printf_fits meaning format args = true
+
+abbrev pub is_allocated_at : Structs → Use → Bool
+is_allocated_at structs (Into t) = takes_allocation structs (base_of t)
+is_allocated_at structs how = false
+
+abbrev pub allocates_well : Structs → Use → Meaning → Bool
+allocates_well structs how (Library call) = not (is_allocation call) || is_allocated_at structs how
+allocates_well structs how meaning = true
+
+abbrev pub target_holds_private : Structs → Option CType → Bool
+target_holds_private structs None = false
+target_holds_private structs (Some t) = holds_private structs t
+
+abbrev pub leads_to_private : Structs → CType → Bool
+leads_to_private structs t = target_holds_private structs (base_target (base_of t))
+
+abbrev pub is_private_at : Structs → Use → Bool
+is_private_at structs (Into t) = leads_to_private structs t
+is_private_at structs how = false
+
+abbrev pub allocates_private : Structs → Use → Meaning → Bool
+allocates_private structs how (Library call) = is_allocation call && is_private_at structs how
+allocates_private structs how meaning = false
+
+abbrev pub reduces_well : Meaning → List Attr → Bool
+reduces_well (Library call) args = no_functions args (call_parameters call)
+reduces_well meaning args = true
+
+-- ---- operators
+
+-- The operands of `+`: integers, or a pointer and an integer (C99 6.5.6).
+abbrev pub adds : Attr → Attr → Bool
+adds a b = (counts a || points a) && (counts b || points b) && not (points a && points b)
+
+-- The operands of `-`: integers, a pointer and an integer, or two pointers (C99 6.5.6).
+abbrev pub subtracts : Attr → Attr → Bool
+subtracts a b = counts a && counts b || points a && is_scalar b
+
+-- The operands of an order: integers or pointers (C99 6.5.8).
+abbrev pub orders : Attr → Attr → Bool
+orders a b = counts a && counts b || points a && points b
+
+-- The operands of an equality: besides, a pointer and the constant 0 (C99 6.5.9).
+abbrev pub equates : Attr → Attr → Bool
+equates a b = orders a b || (points a && is_zero b || is_zero a && points b)
+
+abbrev pub fits : BinOp → Attr → Attr → Bool
+fits Add a b = adds a b
+fits Subtract a b = subtracts a b
+fits Less a b = orders a b
+fits Greater a b = orders a b
+fits LessOrEqual a b = orders a b
+fits GreaterOrEqual a b = orders a b
+fits Equal a b = equates a b
+fits NotEqual a b = equates a b
+fits op a b = counts a && counts b
+
+-- So in a compound assignment (C99 6.5.16.2).
+abbrev pub fits_compound : BinOp → Attr → Attr → Bool
+fits_compound Add a b = is_scalar a && counts b
+fits_compound Subtract a b = is_scalar a && counts b
+fits_compound op a b = counts a && counts b
+
+abbrev pub moves : BinOp → Bool
+moves Add = true
+moves Subtract = true
+moves op = false
+
+abbrev pub is_order : BinOp → Bool
+is_order Less = true
+is_order Greater = true
+is_order LessOrEqual = true
+is_order GreaterOrEqual = true
+is_order op = false
+
+abbrev pub compares : BinOp → Bool
+compares Subtract = true
+compares Equal = true
+compares NotEqual = true
+compares op = is_order op
+
+abbrev pub targets_differ : Option CType → Option CType → Bool
+targets_differ (Some t) (Some u) = not (equal_targets t u)
+targets_differ t u = false
+
+abbrev pub target_is_lock : Option CType → Bool
+target_is_lock None = false
+target_is_lock (Some t) = is_lock t
+
+-- Both are lock pointers.
+abbrev pub are_locks : Attr → Attr → Bool
+are_locks a b = target_is_lock (target a) && target_is_lock (target b)
+
+abbrev pub is_difference : BinOp → Bool
+is_difference Subtract = true
+is_difference op = false
+
+-- Arithmetic on a pointer that leads to no object of known size. The difference of lock pointers is judged elsewhere.
+abbrev pub moves_loosely : Structs → BinOp → Attr → Attr → Bool
+moves_loosely structs op a b =
+    moves op && (is_loose structs a || is_loose structs b) && not (is_difference op && are_locks a b)
+
+abbrev pub same_pointers : Option CType → Option CType → Bool
+same_pointers (Some t) (Some u) = same_type t u
+same_pointers t u = false
+
+-- Pointers that may not be compared or subtracted (C99 6.5.6, 6.5.8, 6.5.9).
+abbrev pub mismatches : BinOp → Attr → Attr → Bool
+mismatches op a b =
+    compares op && targets_differ (target a) (target b) || (is_order op || is_difference op) && are_locks a b
+
+-- The operands of a choice (C99 6.5.15): integers, two of type void, pointers of equal types, or a pointer and the
+-- constant 0.
+abbrev pub chooses : Attr → Attr → Bool
+chooses a b =
+    counts a && counts b
+    || (gives_void a && gives_void b
+    || (same_pointers (target a) (target b)
+    || (points a && is_zero b || is_zero a && points b)))
+
+-- The operand of a unary operator: an integer, for `!` also a pointer (C99 6.5.3.3).
+abbrev pub fits_unary : UnOp → Attr → Bool
+fits_unary Not a = is_scalar a
+fits_unary op a = counts a
+
+abbrev pub target_is_shared : Option CType → Bool
+target_is_shared None = false
+target_is_shared (Some t) = is_shared t && not (is_lock t)
+
+-- A pointer-to-shared; a lock pointer is none.
+abbrev pub leads_to_shared : Attr → Bool
+leads_to_shared a = target_is_shared (target a)
+
+-- ---- switch
+
+abbrev pub label_kind : Option Kind → ℤ → ℤ
+label_kind None v = v
+label_kind (Some k) v = converted (promoted k) v
+
+abbrev pub is_label : Option Kind → ℤ → Constant → Bool
+is_label kind v (Known w) = int_eq (label_kind kind v) (label_kind kind w)
+is_label kind v other = false
+
+-- A label is no integer constant, or a later one has the same value at the kind of the switch (C99 6.8.4.2).
+abbrev pub is_wrong_label : Option Kind → Constant → List Constant → Bool
+is_wrong_label kind (Known v) later = list_any (is_label kind v) later
+is_wrong_label kind other later = true
+
+abbrev pub has_wrong_label : Option Kind → List Constant → Bool
+has_wrong_label kind [] = false
+has_wrong_label kind (label ∷ later) = is_wrong_label kind label later || has_wrong_label kind later
+
+-- ---- initialisers
+
+-- A private array of one dimension.
+abbrev pub is_list_type : CType → Bool
+is_list_type t = is_array t && not (is_nested t) && not (is_shared t)
+
+abbrev pub base_count : Base → ℕ
+base_count (Array element count) = count
+base_count b = 0
+
+abbrev pub is_variable : Attr → Bool
+is_variable a = not (c.is_constant (constant_of a))
+
+-- Each value converts into this type.
+abbrev pub all_fit : CType → List Attr → Bool
+all_fit t [] = true
+all_fit t (a ∷ values) = converts a t && all_fit t values
+
+abbrev pub element_takes : Option CType → List Attr → Bool
+element_takes None values = true
+element_takes (Some t) values = all_fit t values
+
+-- The values convert into the type of the elements.
+abbrev pub elements_take : CType → List Attr → Bool
+elements_take t values = element_takes (base_target (base_of t)) values
+
+-- There are more values than elements.
+abbrev pub has_too_many : CType → List Attr → Bool
+has_too_many t values = nat_lt (base_count (base_of t)) (length values)
+
+abbrev pub jumps_nowhere : Enclosing → Bool
+jumps_nowhere around.Nothing = true
+jumps_nowhere other = false
+
+abbrev pub leaves_forall : Enclosing → Bool
+leaves_forall around.Forall = true
+leaves_forall other = false
+
+-- Among the members of a struct one has this name.
+abbrev pub has_name : List types.Member → List ℕ → Bool
+has_name members name = list_any (λ x. pointwise nat_eq x.name name) members
+
+abbrev pub base_names : Structs → Base → List ℕ → Bool
+base_names structs (types.Struct number) name = has_name (members_of structs number) name
+base_names structs b name = false
+
+-- A struct with a member of this name.
+abbrev pub names_member : Structs → CType → List ℕ → Bool
+names_member structs t name = base_names structs (base_of t) name
+
+abbrev pub target_names : Structs → Option CType → List ℕ → Bool
+target_names structs None name = false
+target_names structs (Some t) name = names_member structs t name
+
+abbrev pub is_plain_size : SizeOperator → Bool
+is_plain_size Bytes = true
+is_plain_size op = false
+
+-- A size operator has no size to give (C99 6.5.3.4, UPC 6.4.1).
+abbrev pub has_no_size : Structs → SizeOperator → CType → Bool
+has_no_size structs op t = not (has_size structs t) || not (is_plain_size op || is_shared t)
+
+-- ---- the rules
+
+-- A name has no declaration in scope.
+abbrev pub rule_1 : Node → Bool
+rule_1 (Name how Unknown) = true
+rule_1 x = false
+
+-- A name or tag is declared twice in one scope, other than by a prototype with the same types; a library name is
+-- declared.
+abbrev pub rule_2 : Node → Bool
+rule_2 (Struct again members bytes) = again
+rule_2 (DeclaresObject again file t) = again
+rule_2 (DeclaresFunction again forms s) = again
+rule_2 (Parameter again t) = again
+rule_2 (Defines again differs forms s) = again
+rule_2 x = false
+
+-- The file has no function main with no parameters and result int.
+abbrev pub rule_3 : Node → Bool
+rule_3 (File main) = not main
+rule_3 x = false
+
+-- The specifiers and qualifiers form no type, an object or parameter is of type void, or a lock stands without a
+-- pointer.
+abbrev pub rule_4 : Node → Bool
+rule_4 (Specifies forms) = not forms
+rule_4 (Member again t) = not t.forms || declares_nothing t.ctype
+rule_4 (DeclaresObject again file t) = not t.forms || declares_nothing t.ctype
+rule_4 (DeclaresFunction again forms s) = not forms || is_lock s.result
+rule_4 (Parameter again t) = not t.forms || declares_nothing t.ctype
+rule_4 (Defines again differs forms s) = not forms || is_lock s.result
+rule_4 (SizeOfType op t) = not t.forms || is_lock_leaf t.ctype
+rule_4 (Cast t a) = not t.forms || is_lock t.ctype
+rule_4 x = false
+
+-- A block size is no integer constant from 0 to UPC_MAX_BLOCK_SIZE; `[*]` stands elsewhere than on a declared array.
+abbrev pub rule_5 : Node → Bool
+rule_5 (Block a) = not (is_block_size a.constant)
+rule_5 (StarBlock declares) = not declares
+rule_5 x = false
+
+-- An array size is no integer constant of at least 1, an array has more than three dimensions, or a type has more
+-- than 16,777,216 bytes.
+abbrev pub rule_6 : Facts → Node → Bool
+rule_6 φ (Struct again members bytes) = nat_lt most_bytes bytes
+rule_6 φ (Member again t) = has_wrong_sizes φ.structs t
+rule_6 φ (DeclaresObject again file t) = has_wrong_sizes φ.structs t
+rule_6 φ (Parameter again t) = has_wrong_sizes φ.structs t
+rule_6 φ (SizeOfType op t) = has_wrong_sizes φ.structs t
+rule_6 φ x = false
+
+-- A shared object at block scope, as a parameter, as a member or as a result.
+abbrev pub rule_7 : Node → Bool
+rule_7 (DeclaresObject again file t) = is_shared t.ctype && not file
+rule_7 (Member again t) = is_shared t.ctype
+rule_7 (Parameter again t) = is_shared t.ctype && not (is_array t.ctype)
+rule_7 (DeclaresFunction again forms s) = is_shared s.result
+rule_7 (Defines again differs forms s) = is_shared s.result
+rule_7 x = false
+
+-- A struct is empty, is incomplete where its size is needed, names a member twice or has a function or an array of
+-- arrays as a member; a shared object holds a pointer to a private object.
+abbrev pub rule_8 : Facts → Node → Bool
+rule_8 φ (Struct again members bytes) = nat_eq members 0
+rule_8 φ (Member again t) = again || (lacks_members φ.structs t.ctype || nat_lt 1 (length t.sizes))
+rule_8 φ MemberFunction = true
+rule_8 φ (DeclaresObject again file t) = lacks_members φ.structs t.ctype || shares_private φ.structs t.ctype
+rule_8 φ (Parameter again t) = is_array t.ctype && lacks_members φ.structs t.ctype
+rule_8 φ (Call how meaning runs format args) = allocates_private φ.structs how meaning
+rule_8 φ x = false
+
+-- An initialiser of a file-scope object is no constant; a brace list for anything but a private array of one
+-- dimension, or with more values than elements; an initialiser without braces for an array or struct.
+abbrev pub rule_9 : Node → Bool
+rule_9 (InitialValue file object t a) = object && (file && is_variable a || (is_array t || is_struct t))
+rule_9 (InitialList file object t values) =
+    not (object && is_list_type t) || (has_too_many t values || file && list_any is_variable values)
+rule_9 x = false
+
+-- A called name is no function, is only declared, or is main; a wrong number of arguments.
+abbrev pub rule_10 : Node → Bool
+rule_10 (Call how meaning runs format args) = not (can_be_called meaning runs (length args))
+rule_10 x = false
+
+-- A result or parameter is a struct; a definition differs from its prototype; a function is used other than in a call.
+abbrev pub rule_11 : Node → Bool
+rule_11 (Name how (Function s)) = not (is_called how)
+rule_11 (Name how (Library call)) = not (is_called how)
+rule_11 (DeclaresFunction again forms s) = passes_struct s
+rule_11 (Defines again differs forms s) = differs || passes_struct s
+rule_11 x = false
+
+-- A value is assigned, passed, returned or given as initialiser against the table of conversions.
+abbrev pub rule_12 : Node → Bool
+rule_12 (Assign a b) = not (is_array a.ctype || is_struct a.ctype) && not (converts b a.ctype)
+rule_12 (Call how meaning runs format args) = not (passes meaning args)
+rule_12 (Returns around a) = not (is_void around.result) && not (converts a around.result)
+rule_12 (InitialValue file object t a) = not (object && converts a t)
+rule_12 (InitialList file object t values) = not (elements_take t values)
+rule_12 x = false
+
+-- The left side of an assignment, `++` or `--` is no lvalue, is an array, a struct or const.
+abbrev pub rule_13 : Node → Bool
+rule_13 (Assign a b) = not (is_modifiable a)
+rule_13 (Compound op a b) = not (is_modifiable a)
+rule_13 (Step a) = not (is_modifiable a)
+rule_13 x = false
+
+-- An operator has operands of kinds that it does not take; a void value is used.
+abbrev pub rule_14 : Node → Bool
+rule_14 (Subscript how a i) = points a && not (counts i)
+rule_14 (Dereference a) = leads_nowhere a
+rule_14 (Unary op a) = not (fits_unary op a)
+rule_14 (Cast t a) = gives_void a && not (is_void t.ctype)
+rule_14 (Binary op a b) = not (fits op a b)
+rule_14 (And a b) = not (is_scalar a && is_scalar b)
+rule_14 (Or a b) = not (is_scalar a && is_scalar b)
+rule_14 (Compound op a b) = not (fits_compound op a b)
+rule_14 (Step a) = not (is_scalar a)
+rule_14 (Conditional test a b) = not (is_scalar test && chooses a b)
+rule_14 (Comma last) = is_struct last.ctype
+rule_14 (Tests tests) = list_any gives_void tests
+rule_14 (Switch a labels defaults) = gives_void a
+rule_14 (Affinity a) = gives_void a
+rule_14 (Barrier a) = gives_void a
+rule_14 x = false
+
+-- Arithmetic on a pointer to void, to an incomplete type or to a lock.
+abbrev pub rule_15 : Facts → Node → Bool
+rule_15 φ (Subscript how a i) = is_loose φ.structs a
+rule_15 φ (Step a) = is_loose φ.structs a
+rule_15 φ (Binary op a b) = moves_loosely φ.structs op a b
+rule_15 φ (Compound op a b) = moves op && is_loose φ.structs a
+rule_15 φ x = false
+
+-- A difference, an order or an equality of two pointers with different targets or blocks; an order or difference of
+-- lock pointers.
+abbrev pub rule_16 : Node → Bool
+rule_16 (Binary op a b) = mismatches op a b
+rule_16 x = false
+
+-- A cast against the table of conversions.
+abbrev pub rule_17 : Node → Bool
+rule_17 (Cast t a) = not (casts a t.ctype)
+rule_17 x = false
+
+-- `*` or a subscript on what is no pointer or array; an array of arrays with fewer subscripts than dimensions.
+abbrev pub rule_18 : Node → Bool
+rule_18 (Name how (Object t home)) = is_nested t && not (takes_rows how)
+rule_18 (Subscript how a i) = not (points a) || target_is_array (target a) && not (takes_rows how)
+rule_18 (Dereference a) = not (points a)
+rule_18 x = false
+
+-- `.` or `->` on what is no struct, or with an unknown member.
+abbrev pub rule_19 : Facts → Node → Bool
+rule_19 φ (MemberOf a name) = not (names_member φ.structs a.ctype name)
+rule_19 φ (MemberBehind a name) = not (target_names φ.structs (target a) name)
+rule_19 φ x = false
+
+-- `&` of what is no lvalue, or of an array.
+abbrev pub rule_20 : Node → Bool
+rule_20 (Address a) = not (is_lvalue a) || is_array a.ctype
+rule_20 x = false
+
+-- `sizeof` of void, a function or an incomplete type; a UPC size operator on a type that is not shared.
+abbrev pub rule_21 : Facts → Node → Bool
+rule_21 φ (SizeOf op a) = has_no_size φ.structs op a.ctype
+rule_21 φ (SizeOfType op t) = has_no_size φ.structs op t.ctype
+rule_21 φ x = false
+
+-- A condition is neither an integer nor a pointer.
+abbrev pub rule_22 : Node → Bool
+rule_22 (Tests tests) = list_any is_no_condition tests
+rule_22 x = false
+
+-- A `break` outside every loop and every switch, or a `continue` outside every loop; an affinity that is neither an
+-- integer nor a pointer-to-shared.
+abbrev pub rule_23 : Node → Bool
+rule_23 (Break around) = jumps_nowhere around.breaks
+rule_23 (Continue around) = not around.loops
+rule_23 (Affinity a) = not (counts a || leads_to_shared a)
+rule_23 x = false
+
+-- A `break` or `return` that leaves the body of a upc_forall.
+abbrev pub rule_24 : Node → Bool
+rule_24 (Break around) = leaves_forall around.breaks
+rule_24 (Returns around a) = around.forall
+rule_24 (ReturnsNothing around) = around.forall
+rule_24 x = false
+
+-- A `case` label that is no integer constant, or stands twice in its switch; `default` twice; a switch on no integer.
+abbrev pub rule_25 : Node → Bool
+rule_25 (Switch a labels defaults) =
+    not (counts a) || (has_wrong_label (base_kind (base a)) labels || nat_lt 1 defaults)
+rule_25 x = false
+
+-- `return` with a value in a void function, or without one elsewhere.
+abbrev pub rule_26 : Node → Bool
+rule_26 (Returns around a) = is_void around.result
+rule_26 (ReturnsNothing around) = not (is_void around.result)
+rule_26 x = false
+
+-- The expression of a notify, wait or barrier is no integer.
+abbrev pub rule_27 : Node → Bool
+rule_27 (Barrier a) = not (counts a)
+rule_27 x = false
+
+-- A printf whose first argument is no string, whose format is none, or whose arguments do not fit it.
+abbrev pub rule_28 : Node → Bool
+rule_28 (Call how meaning runs format args) = not (printf_fits meaning format args)
+rule_28 x = false
+
+-- An allocation call's result is not converted to a pointer-to-shared to a complete type at that place.
+abbrev pub rule_29 : Facts → Node → Bool
+rule_29 φ (Call how meaning runs format args) = not (allocates_well φ.structs how meaning)
+rule_29 φ x = false
+
+-- A string elsewhere than as the first argument of printf.
+abbrev pub rule_30 : Node → Bool
+rule_30 (Strings Prints) = false
+rule_30 (Strings how) = true
+rule_30 x = false
+
+-- The function argument of a reduction is not the constant 0.
+abbrev pub rule_31 : Node → Bool
+rule_31 (Call how meaning runs format args) = not (reduces_well meaning args)
+rule_31 x = false
+
+-- An expression at a place where a constant is asked for has a value that is undefined in C99.
+abbrev pub rule_32 : Node → Bool
+rule_32 (Constantly a) = c.is_undefined (constant_of a)
+rule_32 x = false
+
+-- ---- the table
+
+-- A rule, and whether a node breaks it.
+pub record Verdict : Type 0 where
+  pub rule : ℕ
+  pub broken : Bool
+
+abbrev pub judge : ℕ → Bool → Verdict
+judge n broken = record { rule = n; broken = broken }
+
+-- All rules.
+abbrev pub table : Facts → Node → List Verdict
+table φ x =
+    judge 1 (rule_1 x) ∷ judge 2 (rule_2 x) ∷ judge 3 (rule_3 x) ∷ judge 4 (rule_4 x) ∷
+    judge 5 (rule_5 x) ∷ judge 6 (rule_6 φ x) ∷ judge 7 (rule_7 x) ∷ judge 8 (rule_8 φ x) ∷
+    judge 9 (rule_9 x) ∷ judge 10 (rule_10 x) ∷ judge 11 (rule_11 x) ∷ judge 12 (rule_12 x) ∷
+    judge 13 (rule_13 x) ∷ judge 14 (rule_14 x) ∷ judge 15 (rule_15 φ x) ∷ judge 16 (rule_16 x) ∷
+    judge 17 (rule_17 x) ∷ judge 18 (rule_18 x) ∷ judge 19 (rule_19 φ x) ∷ judge 20 (rule_20 x) ∷
+    judge 21 (rule_21 φ x) ∷ judge 22 (rule_22 x) ∷ judge 23 (rule_23 x) ∷ judge 24 (rule_24 x) ∷
+    judge 25 (rule_25 x) ∷ judge 26 (rule_26 x) ∷ judge 27 (rule_27 x) ∷ judge 28 (rule_28 x) ∷
+    judge 29 (rule_29 φ x) ∷ judge 30 (rule_30 x) ∷ judge 31 (rule_31 x) ∷ judge 32 (rule_32 x) ∷
+    []
+
+abbrev pub or_above : ℕ → Bool → Option ℕ → Option ℕ
+or_above n true above = Some n
+or_above n false above = above
+
+abbrev pub lowest_in : List Verdict → Option ℕ
+lowest_in [] = None
+lowest_in (v ∷ vs) = or_above v.rule v.broken (lowest_in vs)
+
+-- The lowest rule that a node breaks.
+abbrev pub lowest : Facts → Node → Option ℕ
+lowest φ x = lowest_in (table φ x)
+
+-- A rule of the table is broken.
+abbrev pub Breaks : ℕ → List Verdict → Type 0
+Breaks n [] = ⊥
+Breaks n (v ∷ vs) = ((n ≡ v.rule) × IsTrue v.broken) ⊎ Breaks n vs

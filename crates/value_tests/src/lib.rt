@@ -1,0 +1,27 @@
+//! Tests of places, values and types.
+#![tactic(auto)]
+
+#[cfg(test)]
+mod actions;
+#[cfg(test)]
+mod arithmetic_rows;
+#[cfg(test)]
+mod calls;
+#[cfg(test)]
+mod counted;
+#[cfg(test)]
+mod edges;
+#[cfg(test)]
+mod integer_rows;
+#[cfg(test)]
+mod journals;
+#[cfg(test)]
+mod orders;
+#[cfg(test)]
+mod places;
+#[cfg(test)]
+mod plain;
+#[cfg(test)]
+mod pointers;
+#[cfg(test)]
+mod types;

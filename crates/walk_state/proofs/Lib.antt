@@ -1,0 +1,7 @@
+pub mod Walks
+pub mod Steps
+pub mod Turns
+pub mod Closing
+pub mod OwnTags
+pub mod PlacesOfNames
+pub mod Numbers

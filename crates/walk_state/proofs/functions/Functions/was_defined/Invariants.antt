@@ -1,0 +1,14 @@
+use Rattle.std.proofs.Common.{◌≡◌, map, reverse, take}
+use Rattle.typed_tree.specs.Scopes as pure
+use Rattle.walk_state.specs.ViewFunctions.{view_function}
+use Rattle.walk_state.specs.Views.{view_functions}
+use Rattle.walk_state.proofs.PlacesOfNames.{IsAt, up_to}
+use Rattle.walk_state.proofs.functions.Functions.was_defined.Given as goal
+
+-- what stands up to the place decides
+abbrev pub invariant-loop-at : goal.invariant-loop-at
+invariant-loop-at l =
+    IsAt l.self.places.names.items l.name l.at × (pure.was_defined l.name (view_functions l.self) ≡ pure.was_defined l.name (reverse (take (up_to l.at) (map view_function l.self.list.items))))
+
+abbrev pub decreases-loop-at : goal.decreases-loop-at
+decreases-loop-at l = up_to l.at

@@ -1,0 +1,17 @@
+-- What contracts see of tags.
+use Rattle.std.specs.Prelude.{List, [], ◌++◌}
+use Rattle.typed_tree.specs.Scopes.{Tag}
+use Rattle.walk_state.specs.declared.own_tags.OwnTags as o
+use Rattle.walk_state.specs.declared.tags.Tags as t
+use Rattle.walk_state.specs.declared.tags.Around as a
+use Rattle.walk_state.specs.ViewOwnTags.{view_own}
+
+abbrev pub view_own_tags : o.OwnTags → List Tag
+view_own_tags x = view_own x.list.items
+
+abbrev pub view_around : a.Around → List Tag
+view_around a.Nothing = []
+view_around (a.Within' p own outer) = view_own_tags own ++ view_around outer
+
+abbrev pub view_tags : t.Tags → List Tag
+view_tags x = view_own_tags x.own ++ view_around x.outer
