@@ -8,3 +8,4 @@ pub mod Order
 pub mod Within
 pub mod Ranks
 pub mod Steps
+pub mod Offsets
