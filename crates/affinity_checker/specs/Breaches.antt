@@ -1,7 +1,11 @@
 -- All breaches of a source, as its nodes are finished: children before their parent, from left to right.
 use Rattle.std.specs.Prelude.{List, [], ◌∷◌, ◌++◌}
 use Rattle.upc_text.specs.declared.place.Refusal.{Refusal}
-use Rattle.upc_tree.specs.Statement.{Statement, Block, Value, If, Switch, While, DoWhile, For, Forall, Break, Continue, Return, Barrier, Fence, Compound, Braces, BlockItems, NoBlockItems, AndBlockItem, BlockItem, DeclarationItem, StatementItem, SwitchItems, NoSwitchItems, AndSwitchItem, SwitchItem, CaseItem, DefaultItem, SwitchStatement, ElseIfs, NoElseIfs, AndElseIf, Otherwise, NoOtherwise, Else}
+use Rattle.upc_tree.specs.Statement.{Statement, Block, Value, If, Switch, While, DoWhile, For, Forall, Break}
+use Rattle.upc_tree.specs.Statement.{Continue, Return, Barrier, Fence, Compound, Braces, BlockItems, NoBlockItems}
+use Rattle.upc_tree.specs.Statement.{AndBlockItem, BlockItem, DeclarationItem, StatementItem, SwitchItems}
+use Rattle.upc_tree.specs.Statement.{NoSwitchItems, AndSwitchItem, SwitchItem, CaseItem, DefaultItem, SwitchStatement}
+use Rattle.upc_tree.specs.Statement.{ElseIfs, NoElseIfs, AndElseIf, Otherwise, NoOtherwise, Else}
 use Rattle.upc_tree.specs.Unit.{External, PragmaPart, DeclarationPart, FunctionPart}
 use Rattle.affinity_checker.specs.declared.around.Around.{Around}
 use Rattle.affinity_checker.specs.Rules.{in_loop, in_switch, in_forall, nothing, at_break, at_continue, at_return}

@@ -1,5 +1,6 @@
 -- Where `break`, `continue` and `return` may stand (C99 6.8.6.2, 6.8.6.3; UPC 6.6.2).
-use Rattle.std.specs.Prelude.{ℕ, Bool, true, false, ◌&&◌, ◌||◌, not, if◌then◌else◌, List, [], ◌∷◌, ◌++◌, Option, Some, None}
+use Rattle.std.specs.Prelude.{ℕ, Bool, true, false, ◌&&◌, ◌||◌, not, if◌then◌else◌, List, [], ◌∷◌, ◌++◌, Option, Some}
+use Rattle.std.specs.Prelude.{None}
 use Rattle.upc_text.specs.declared.place.Place.{Place}
 use Rattle.upc_text.specs.declared.place.Refusal.{Refusal}
 use Rattle.upc_text.specs.declared.place.Code.TheVariants.{Typing}

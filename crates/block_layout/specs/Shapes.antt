@@ -2,7 +2,8 @@
 use Rattle.std.specs.List.{list_any}
 use Rattle.std.specs.Prelude.{Bool, true, false, ◌==◌, ◌&&◌, ℕ, ◌+◌, ◌<◌, ◌≤◌, List, [], ◌∷◌}
 use Rattle.block_layout.specs.declared.kind.Kind.{Kind}
-use Rattle.block_layout.specs.declared.kind.Kind.TheVariants.{Char, UChar, Short, UShort, Int, UInt, Long, ULong, Shared, Lock, Private}
+use Rattle.block_layout.specs.declared.kind.Kind.TheVariants.{Char, UChar, Short, UShort, Int, UInt, Long, ULong}
+use Rattle.block_layout.specs.declared.kind.Kind.TheVariants.{Shared, Lock, Private}
 use Rattle.block_layout.specs.declared.kind.Shape.{Shape}
 
 -- The bytes of a cell of a kind.

@@ -146,5 +146,9 @@ specifying Γ list = record { star = declares_arrays list; static = is_file Γ; 
 abbrev pub walk_declaration : Setting → Env → Declaration → Walk Behind
 walk_declaration ξ Γ (Declares specs list semicolon) =
     andthen (walk_specs ξ Γ (specifying Γ list) specs) (λ p.
-    andthen (walk_declared_list ξ (specs_place specs) (specified_type p) (record { scope = Γ; objects = [] }) list) (λ b.
+    andthen (walk_declared_list ξ (specs_place specs) (specified_type p) (record {
+      scope =
+          Γ;
+      objects = [];
+    }) list) (λ b.
     andthen (judge ξ (specs_place specs) (n.Specifies (specifiers_form (is_file Γ) p))) (λ u. give b)))

@@ -1,5 +1,6 @@
 -- What a machine has still to do.
-use Rattle.std.specs.Prelude.{ℕ, ◌≡◌, ℤ, pos, ◌+◌, ◌-◌, ◌≤◌, nat_le, length, take, slice_index_or, ◌++◌, cond, List, [], ◌∷◌, Bool, true, false}
+use Rattle.std.specs.Prelude.{ℕ, ◌≡◌, ℤ, pos, ◌+◌, ◌-◌, ◌≤◌, nat_le, length, take, slice_index_or, ◌++◌, cond, List}
+use Rattle.std.specs.Prelude.{[], ◌∷◌, Bool, true, false}
 use Rattle.std.specs.Ordering.{int_eq}
 use Rattle.upc_values.specs.declared.scalar.Scalar.TheVariants.{Int}
 use Rattle.upc_values.specs.declared.action.Action.TheVariants as a
@@ -8,7 +9,8 @@ use Rattle.first_language.specs.declared.instr.Instr.TheVariants as i
 use Rattle.first_language.specs.Tree.{Expr, Block}
 use Rattle.first_language.specs.Course.{Course, Gives, Over, Spent, bind, ask}
 use Rattle.first_language.specs.Postfix.{code_expr, code_block, size_expr, size_block}
-use Rattle.first_language.specs.Meaning.{value, statements, turns, operate, fetch, beat, check, line_of, loc_of, is_strict}
+use Rattle.first_language.specs.Meaning.{value, statements, turns, operate, fetch, beat, check, line_of, loc_of}
+use Rattle.first_language.specs.Meaning.{is_strict}
 
 -- a part of what is left: an expression, statements, or one step; behind a condition, the choice of a loop that takes
 -- at most so many further turns; behind a body, that loop again

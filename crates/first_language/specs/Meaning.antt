@@ -1,5 +1,6 @@
 -- The meaning of a program (C99 6.5, 6.8; UPC 6.5.1, 6.6.1): what a thread does, whatever it is answered.
-use Rattle.std.specs.Prelude.{ℕ, zero, suc, ℤ, pos, ◌+ℤ◌, ◌-ℤ◌, ◌*ℤ◌, ◌==◌, nat_le, ◌+◌, ◌-◌, ◌*◌, ◌%◌, ◌++◌, Bool, false, cond, List, [], ◌∷◌, length, slice_index_or}
+use Rattle.std.specs.Prelude.{ℕ, zero, suc, ℤ, pos, ◌+ℤ◌, ◌-ℤ◌, ◌*ℤ◌, ◌==◌, nat_le, ◌+◌, ◌-◌, ◌*◌, ◌%◌, ◌++◌, Bool}
+use Rattle.std.specs.Prelude.{false, cond, List, [], ◌∷◌, length, slice_index_or}
 use Rattle.std.specs.Fmt.{signed_decimal}
 use Rattle.std.specs.Ordering.{int_eq}
 use Rattle.block_layout.specs.declared.place.Loc.{Loc}
@@ -16,7 +17,8 @@ use Rattle.upc_values.specs.Outcomes.{Outcome}
 use Rattle.first_language.specs.declared.instr.Operator.{Operator}
 use Rattle.first_language.specs.declared.instr.Operator.TheVariants.{Plus, Minus, Times}
 use Rattle.first_language.specs.declared.tree.First.{First}
-use Rattle.first_language.specs.Tree.{Expr, Number, Variable, Mythread, Threads, Binary, Stmt, Assign, Barrier, Fence, Print, While, Block, End, Then, Program}
+use Rattle.first_language.specs.Tree.{Expr, Number, Variable, Mythread, Threads, Binary, Stmt, Assign, Barrier, Fence}
+use Rattle.first_language.specs.Tree.{Print, While, Block, End, Then, Program}
 use Rattle.first_language.specs.Course.{Course, Gives, Over, Asks, Faults, Spent, bind, ask, shapes, outcome_after}
 use Rattle.first_language.specs.Postfix.{read}
 

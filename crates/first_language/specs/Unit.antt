@@ -4,7 +4,8 @@
 --     decl  : ('strict' | 'relaxed')? 'shared' 'int' name ';'
 --
 -- Each name is declared once, and each name that is used is declared.
-use Rattle.std.specs.Prelude.{◌≡◌, ℕ, nat_eq, map, Bool, true, false, ◌&&◌, List, [], ◌∷◌, ◌++◌, Option, Some, None, codes, if◌then◌else◌}
+use Rattle.std.specs.Prelude.{◌≡◌, ℕ, nat_eq, map, Bool, true, false, ◌&&◌, List, [], ◌∷◌, ◌++◌, Option, Some, None}
+use Rattle.std.specs.Prelude.{codes, if◌then◌else◌}
 use Rattle.std.specs.List.{list_any}
 use Rattle.upc_tree.specs.declared.mark.TypeWord.{TypeWord}
 use Rattle.upc_tree.specs.declared.mark.TypeWord.TheVariants as w

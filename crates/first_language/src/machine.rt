@@ -1,6 +1,7 @@
 //! The machine that runs a program reply by reply.
 
-ghost use Rattle.std.specs.Prelude.{◌≡◌, ◌<◌, ◌≤◌, ◌+◌, ◌-◌, ◌++◌, [], ℕ, pos, List, IfOk, length, min, nat_le, true, false};
+ghost use Rattle.std.specs.Prelude.{◌≡◌, ◌<◌, ◌≤◌, ◌+◌, ◌-◌, ◌++◌, [], ℕ, pos, List, IfOk, length, min, nat_le, true};
+ghost use Rattle.std.specs.Prelude.{false};
 ghost use Rattle.std.specs.Ordering.{int_eq};
 ghost use Rattle.upc_values.specs.declared.action.Reply.{Reply};
 

@@ -7,7 +7,8 @@ ghost use Rattle.upc_tree.specs.ViewStatement.{view_value, view_test, view_state
 ghost use Rattle.first_language.specs.declared.instr.Instr.TheVariants as i;
 ghost use Rattle.first_language.specs.Tree.{Fence};
 ghost use Rattle.first_language.specs.Statements as spec;
-ghost use Rattle.first_language.specs.Statements.{is_plain, is_format, is_printf, statement_of, body_of, block_of, items_of, item_of};
+ghost use Rattle.first_language.specs.Statements.{is_plain, is_format, is_printf, statement_of, body_of, block_of};
+ghost use Rattle.first_language.specs.Statements.{items_of, item_of};
 ghost use Rattle.first_language.specs.Emit.{Writes, Opened, emit_expr, emit_stmt, emit_block};
 
 use crate::instr::Instr;

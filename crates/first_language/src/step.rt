@@ -6,7 +6,8 @@ ghost use Rattle.first_language.specs.Ahead.{last_of, front_of};
 ghost use Rattle.first_language.specs.Meaning as spec;
 ghost use Rattle.first_language.specs.Meaning.{exact, is_strict, loc_of};
 ghost use Rattle.first_language.specs.Turns.{seen, asked, Moves};
-ghost use Rattle.first_language.specs.declared.instr.Instr.TheVariants.{Operate, Variable, Assign, Print, Tick, Beat, Check};
+ghost use Rattle.first_language.specs.declared.instr.Instr.TheVariants.{Operate, Variable, Assign, Print, Tick, Beat};
+ghost use Rattle.first_language.specs.declared.instr.Instr.TheVariants.{Check};
 
 use crate::instr::{Instr, Operator};
 use crate::machine::{Machine, Turn, Wish};

@@ -1,16 +1,21 @@
 //! Whole sources: the declarations, and then main.
 
 ghost use Rattle.std.specs.Prelude.{◌≡◌, ◌≤◌, [], length, map, None, Some, IfOk, MatchOption};
-ghost use Rattle.upc_tree.specs.View.{view_spec, view_specs, view_declarator, view_parameters, view_pointer, view_pointers, view_dimension};
+ghost use Rattle.upc_tree.specs.View.{view_spec, view_specs, view_declarator, view_parameters, view_pointer};
+ghost use Rattle.upc_tree.specs.View.{view_pointers, view_dimension};
 ghost use Rattle.upc_tree.specs.Lists.{specs_of, pointers_of, dimensions_of, block_items_of};
-ghost use Rattle.upc_tree.specs.ViewStatement.{view_value, view_statement, view_block_item, view_compound, view_declared, view_declared_list, view_declaration, view_external, view_unit};
+ghost use Rattle.upc_tree.specs.ViewStatement.{view_value, view_statement, view_block_item, view_compound};
+ghost use Rattle.upc_tree.specs.ViewStatement.{view_declared, view_declared_list, view_declaration, view_external};
+ghost use Rattle.upc_tree.specs.ViewStatement.{view_unit};
 ghost use Rattle.upc_tree.specs.Expression.{ObjectDeclarator};
 ghost use Rattle.upc_tree.specs.Unit.{tokens_of};
 ghost use Rattle.first_language.specs.declared.tree.First.{First};
 ghost use Rattle.first_language.specs.Meaning.{program_of};
 ghost use Rattle.first_language.specs.Statements as statement;
 ghost use Rattle.first_language.specs.Unit as spec;
-ghost use Rattle.first_language.specs.Unit.{is_int, is_shared, strict_of, is_int_alone, is_shared_int, strictness, plain_name, declared_name, name_of, variable_in, declared_in, first_program, AreDeclared};
+ghost use Rattle.first_language.specs.Unit.{is_int, is_shared, strict_of, is_int_alone, is_shared_int, strictness};
+ghost use Rattle.first_language.specs.Unit.{plain_name, declared_name, name_of, variable_in, declared_in};
+ghost use Rattle.first_language.specs.Unit.{first_program, AreDeclared};
 ghost use Rattle.first_language.specs.Emit.{Writes, IsCode, emit_expr, emit_main};
 
 use crate::instr::Instr;

@@ -117,7 +117,10 @@ fn own_parameters(
     known: &mut Known,
 ) -> Result<Own, Stop>
     ensures { Meets
-        (λ own. record { types = map view own.types.items; scope = view_detached own.scope (scopes.Within (view_env env.now)) })
+        (λ own. record {
+          types = map view own.types.items;
+          scope = view_detached own.scope (scopes.Within (view_env env.now));
+        })
         (walks.walk_parameters (view_setting setting.entry) (scopes.inside (view_env env.now))
         (views.view_parameters parameters.now) (state_of tags.old known.old)) (state_of tags.new known.new) result }
 {
@@ -235,9 +238,14 @@ fn walk_definition(
     ensures { (objects : List DeclaredObject) → Meets
         (λ u. record { scope = view_env env.new; objects = objects; functions = map view_function functions.new.items })
         (inclosed (pure.walk_definition (view_setting setting.entry) strict
-        (record { scope = view_env env.old; objects = objects; functions = map view_function functions.old.items }) place forms
+        (record {
+          scope = view_env env.old;
+          objects = objects;
+          functions = map view_function functions.old.items;
+        }) place forms
         (view gives) function.now.name (views.view_parameters function.now.parameters.value)
-        (trees.view_compound function.now.body.value)) (state_of tags.now known.old)) (state_of tags.now known.new) result }
+        (trees.view_compound function.now.body.value)) (state_of tags.now known.old))
+        (state_of tags.now known.new) result }
 {
     let mut inner = enclosed(setting.alloc, tags);
     let own = own_parameters(&function.parameters, setting, env, &mut inner, known)?;

@@ -1,8 +1,10 @@
 -- The integer kinds, their ranges and conversions between them (C99 6.2.5, 6.3.1.3).
-use Rattle.std.specs.Prelude.{IsTrue, ℕ, ◌^◌, ◌≡◌, ◌&&◌, Bool, true, false, if◌then◌else◌, ℤ, pos, neg_ℤ, ◌+ℤ◌, ◌-ℤ◌, ◌*ℤ◌, ◌≤ℤ◌, ◌<ℤ◌, int_le, int_lt, Result, Ok, Err}
+use Rattle.std.specs.Prelude.{IsTrue, ℕ, ◌^◌, ◌≡◌, ◌&&◌, Bool, true, false, if◌then◌else◌, ℤ, pos, neg_ℤ, ◌+ℤ◌, ◌-ℤ◌}
+use Rattle.std.specs.Prelude.{◌*ℤ◌, ◌≤ℤ◌, ◌<ℤ◌, int_le, int_lt, Result, Ok, Err}
 use Rattle.block_layout.specs.Floor.{floor_mod}
 use Rattle.block_layout.specs.declared.kind.Kind.{Kind}
-use Rattle.block_layout.specs.declared.kind.Kind.TheVariants.{Char, UChar, Short, UShort, Int, UInt, Long, ULong, Shared, Lock, Private}
+use Rattle.block_layout.specs.declared.kind.Kind.TheVariants.{Char, UChar, Short, UShort, Int, UInt, Long, ULong}
+use Rattle.block_layout.specs.declared.kind.Kind.TheVariants.{Shared, Lock, Private}
 use Rattle.block_layout.specs.declared.run_error.TheConstants.{SIGNED_OVERFLOW}
 
 -- The bits of an integer kind. A kind that is no integer has none.

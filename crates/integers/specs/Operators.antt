@@ -1,12 +1,16 @@
 -- The operators on integers of a promoted kind (C99 6.5.3.3, 6.5.5 to 6.5.12).
-use Rattle.std.specs.Prelude.{◌≢◌, ◌⊎◌, IsTrue, ℕ, ◌^◌, ◌&&◌, not, Bool, if◌then◌else◌, ℤ, pos, neg_ℤ, ◌+ℤ◌, ◌-ℤ◌, ◌*ℤ◌, ◌≤ℤ◌, ◌<ℤ◌, int_le, int_lt, int_div, int_rem, unsigned_abs, bit_and, bit_or, bit_xor, Result, Ok, Err}
+use Rattle.std.specs.Prelude.{◌≢◌, ◌⊎◌, IsTrue, ℕ, ◌^◌, ◌&&◌, not, Bool, if◌then◌else◌, ℤ, pos, neg_ℤ, ◌+ℤ◌, ◌-ℤ◌}
+use Rattle.std.specs.Prelude.{◌*ℤ◌, ◌≤ℤ◌, ◌<ℤ◌, int_le, int_lt, int_div, int_rem, unsigned_abs, bit_and, bit_or}
+use Rattle.std.specs.Prelude.{bit_xor, Result, Ok, Err}
 use Rattle.std.specs.Ordering.{int_eq}
 use Rattle.block_layout.specs.Floor.{floor_div, floor_mod}
 use Rattle.block_layout.specs.declared.kind.Kind.{Kind}
 use Rattle.block_layout.specs.declared.kind.Kind.TheVariants.{Int}
 use Rattle.block_layout.specs.declared.run_error.TheConstants.{SIGNED_OVERFLOW, ZERO_DIVISOR, SHIFT_RANGE}
 use Rattle.integers.specs.declared.operator.BinOp.{BinOp}
-use Rattle.integers.specs.declared.operator.BinOp.TheVariants.{Multiply, Divide, Remainder, Add, Subtract, ShiftLeft, ShiftRight, Less, Greater, LessOrEqual, GreaterOrEqual, Equal, NotEqual, BitAnd, BitXor, BitOr}
+use Rattle.integers.specs.declared.operator.BinOp.TheVariants.{Multiply, Divide, Remainder, Add, Subtract, ShiftLeft}
+use Rattle.integers.specs.declared.operator.BinOp.TheVariants.{ShiftRight, Less, Greater, LessOrEqual, GreaterOrEqual}
+use Rattle.integers.specs.declared.operator.BinOp.TheVariants.{Equal, NotEqual, BitAnd, BitXor, BitOr}
 use Rattle.integers.specs.declared.operator.UnOp.{UnOp}
 use Rattle.integers.specs.declared.operator.UnOp.TheVariants.{Plus, Minus, Complement, Not}
 use Rattle.integers.specs.Integers.{IsLost, width, values, in_kind, InKind, converted, brought}

@@ -1,8 +1,11 @@
 //! What operators give at integers.
 
-ghost use Rattle.std.specs.Prelude.{◌≡◌, ◌≢◌, ◌≤◌, ◌<◌, ◌^◌, ◌↔◌, ◌⊎◌, false, pos, ◌*ℤ◌, ◌≤ℤ◌, ◌<ℤ◌, int_div, int_rem, neg_ℤ, unsigned_abs, IsTrue, IfOk, IfErr, IsErrOf};
+ghost use Rattle.std.specs.Prelude.{◌≡◌, ◌≢◌, ◌≤◌, ◌<◌, ◌^◌, ◌↔◌, ◌⊎◌, false, pos, ◌*ℤ◌, ◌≤ℤ◌, ◌<ℤ◌, int_div};
+ghost use Rattle.std.specs.Prelude.{int_rem, neg_ℤ, unsigned_abs, IsTrue, IfOk, IfErr, IsErrOf};
 ghost use Rattle.integers.specs.Integers.{IsLost, width, is_signed, InKind, IsPromoted, converted, brought};
-ghost use Rattle.integers.specs.Operators.{truth, bits_of, is_count, quotient_of, remainder_of, left_shift_of, right_shift_of, binary_of, unary_of, binary_kind, unary_kind, RightFits, IsDivision, Overflows, LacksCount};
+ghost use Rattle.integers.specs.Operators.{truth, bits_of, is_count, quotient_of, remainder_of, left_shift_of};
+ghost use Rattle.integers.specs.Operators.{right_shift_of, binary_of, unary_of, binary_kind, unary_kind, RightFits};
+ghost use Rattle.integers.specs.Operators.{IsDivision, Overflows, LacksCount};
 
 use crate::integer::{bring, is_signed, lies_in, rest, values_of, wrap};
 use crate::operator::{BinOp, UnOp};

@@ -2,7 +2,8 @@
 
 ghost use Rattle.std.specs.Prelude.{◌≡◌, ◌≤◌, ◌<◌, ◌^◌, ◌↔◌, pos, unsigned_abs, IsTrue, IfOk, IfErr, IsErrOf};
 ghost use Rattle.block_layout.specs.Floor.{floor_mod};
-ghost use Rattle.integers.specs.Integers.{IsLost, is_signed, least, values, in_kind, InKind, IsInteger, AreCongruent, converted, brought};
+ghost use Rattle.integers.specs.Integers.{IsLost, is_signed, least, values, in_kind, InKind, IsInteger, AreCongruent};
+ghost use Rattle.integers.specs.Integers.{converted, brought};
 
 use block_layout::Kind;
 use block_layout::run_error::SIGNED_OVERFLOW;

@@ -1,7 +1,8 @@
 //! The memory calls `upc_memcpy`, `upc_memget`, `upc_memput` and `upc_memset` (UPC 7.2.5).
 
 ghost use Rattle.block_layout.specs.declared.kind.Shape.{Shape};
-ghost use Rattle.std.specs.Prelude.{◌≡◌, ℕ, List, Option, ◌<◌, ◌≤◌, ◌^◌, ◌-◌, ◌/◌, ◌||◌, ◌∷◌, not, false, true, [], None, IfOk, unsigned_abs};
+ghost use Rattle.std.specs.Prelude.{◌≡◌, ℕ, List, Option, ◌<◌, ◌≤◌, ◌^◌, ◌-◌, ◌/◌, ◌||◌, ◌∷◌, not, false, true, []};
+ghost use Rattle.std.specs.Prelude.{None, IfOk, unsigned_abs};
 ghost use Rattle.std.specs.Option.{option_copied};
 ghost use Rattle.std.specs.List.{All, list_any};
 ghost use Rattle.block_layout.specs.Shapes.{kind_size};

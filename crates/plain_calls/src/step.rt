@@ -1,6 +1,7 @@
 //! One step of a reduction (UPC 7.3), at any two numbers.
 
-ghost use Rattle.std.specs.Prelude.{◌≡◌, ◌≢◌, ◌≤◌, ◌<◌, ◌^◌, ℤ, true, false, pos, ◌+ℤ◌, ◌*ℤ◌, unsigned_abs, SomeIff, FitsSigned, Ok};
+ghost use Rattle.std.specs.Prelude.{◌≡◌, ◌≢◌, ◌≤◌, ◌<◌, ◌^◌, ℤ, true, false, pos, ◌+ℤ◌, ◌*ℤ◌, unsigned_abs, SomeIff};
+ghost use Rattle.std.specs.Prelude.{FitsSigned, Ok};
 ghost use mir.Syntax.{w128};
 ghost use Rattle.integers.specs.Integers.{is_signed, values, converted, brought, IsInteger, IsPromoted};
 ghost use Rattle.integers.specs.Operators.{bits_of, truth};

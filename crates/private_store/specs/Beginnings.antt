@@ -1,5 +1,6 @@
 -- What a store begins with.
-use Rattle.std.specs.Prelude.{ℕ, ◌≤◌, ◌≡◌, ◌≢◌, pos, Bool, true, false, List, [], length, fold, Option, Some, None, slice_get, Result, Ok, Err}
+use Rattle.std.specs.Prelude.{ℕ, ◌≤◌, ◌≡◌, ◌≢◌, pos, Bool, true, false, List, [], length, fold, Option, Some, None}
+use Rattle.std.specs.Prelude.{slice_get, Result, Ok, Err}
 use Rattle.block_layout.specs.declared.kind.Kind.{Kind}
 use Rattle.block_layout.specs.declared.kind.Shape.{Shape}
 use Rattle.block_layout.specs.declared.place.LocalPtr.{LocalPtr}

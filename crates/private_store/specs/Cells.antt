@@ -1,5 +1,6 @@
 -- What the cells of private objects hold, and which accesses are refused.
-use Rattle.std.specs.Prelude.{ℕ, ◌+◌, ◌==◌, ◌&&◌, if◌then◌else◌, nat_le, ℤ, pos, negsuc, unsigned_abs, Bool, false, List, map, Option, Some, None, Result, Ok, Err, slice_index_or, slice_set}
+use Rattle.std.specs.Prelude.{ℕ, ◌+◌, ◌==◌, ◌&&◌, if◌then◌else◌, nat_le, ℤ, pos, negsuc, unsigned_abs, Bool, false}
+use Rattle.std.specs.Prelude.{List, map, Option, Some, None, Result, Ok, Err, slice_index_or, slice_set}
 use Rattle.std.specs.List.{position}
 use Rattle.block_layout.specs.declared.kind.Kind.{Kind}
 use Rattle.block_layout.specs.declared.place.LocalPtr.{LocalPtr}
@@ -28,7 +29,8 @@ abbrev pub cell_there : Thing → Option ℕ → Result Cell ℕ
 cell_there x (Some c) = Ok record { object = x; place = c }
 cell_there x None = Err CELL_TYPE
 
--- The cell of an object that an access of this kind at this offset reaches. All bytes of the kind must lie in the object.
+-- The cell of an object that an access of this kind at this offset reaches. All bytes of the kind must lie in the
+-- object.
 abbrev pub cell_in : Option Thing → ℤ → Kind → Result Cell ℕ
 cell_in None offset kind = Err PRIVATE_RANGE
 cell_in (Some x) offset kind =

@@ -1,5 +1,6 @@
 -- What lives of a thread's private objects, and how blocks and calls come and go.
-use Rattle.std.specs.Prelude.{ℕ, ◌+◌, ◌-◌, ◌==◌, nat_le, List, [], ◌∷◌, ◌++◌, length, map, take, drop, reverse, Option, Some, None, slice_get, slice_set, option_map}
+use Rattle.std.specs.Prelude.{ℕ, ◌+◌, ◌-◌, ◌==◌, nat_le, List, [], ◌∷◌, ◌++◌, length, map, take, drop, reverse}
+use Rattle.std.specs.Prelude.{Option, Some, None, slice_get, slice_set, option_map}
 use Rattle.std.specs.List.{find, sum_by}
 use Rattle.block_layout.specs.declared.kind.Shape.{Shape}
 use Rattle.upc_values.specs.declared.scalar.Value.{Value}
@@ -107,7 +108,7 @@ recounted_from (Some c) n s = record s { calls = slice_set s.calls (length s.cal
 abbrev pub recounted : ℕ → Live → Live
 recounted n s = recounted_from (youngest s.calls) n s
 
--- The number of the object that the n-th local name in scope stands for: the youngest block of the call that was entered
--- with at most n names in scope has it.
+-- The number of the object that the n-th local name in scope stands for: the youngest block of the call that was
+-- entered with at most n names in scope has it.
 abbrev pub local_number : ℕ → Live → Option ℕ
 local_number n s = option_map (λ b. b.first + (n - b.from)) (find (λ b. nat_le b.from n) (reverse (open_blocks s)))

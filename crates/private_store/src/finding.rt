@@ -34,7 +34,8 @@ pub(crate) fn byte_at(offset: i64, width: u32, size: u32) -> Option<u32>
     Some(byte)
 }
 
-/// The place of the cell that begins at a byte, where offsets rise. Where all cells are as wide the first look finds it.
+/// The place of the cell that begins at a byte, where offsets rise. Where all cells are as wide the first look finds
+/// it.
 pub(crate) fn byte_place(cells: &[(u32, Kind)], byte: u32, size: u32) -> Option<usize>
     requires up { AllPairs (λ a b. a.0 < b.0) cells.now }
     requires some_byte { 0 < size }

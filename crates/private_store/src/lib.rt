@@ -1,4 +1,5 @@
-//! The private objects of one thread: those that live, what their cells hold, and the blocks and calls that they live in.
+//! The private objects of one thread: those that live, what their cells hold, and the blocks and calls that they live
+//! in.
 #![tactic(auto)]
 
 mod beginning;

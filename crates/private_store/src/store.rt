@@ -1,10 +1,12 @@
 //! The store: the private objects of a thread, its open blocks and its active calls.
 
-ghost use Rattle.std.specs.Prelude.{◌≡◌, ◌+◌, ◌-◌, ◌<◌, ◌≤◌, ◌^◌, ◌⊎◌, ◌↔◌, ◌++◌, ◌==◌, nat_lt, true, length, IsTrue, IfOk, IfErr, IsErrOf, OnOk, OnErr, option_map, option_copied};
+ghost use Rattle.std.specs.Prelude.{◌≡◌, ◌+◌, ◌-◌, ◌<◌, ◌≤◌, ◌^◌, ◌⊎◌, ◌↔◌, ◌++◌, ◌==◌, nat_lt, true, length, IsTrue};
+ghost use Rattle.std.specs.Prelude.{IfOk, IfErr, IsErrOf, OnOk, OnErr, option_map, option_copied};
 ghost use Rattle.block_layout.specs.Shapes.{IsShape};
 ghost use Rattle.upc_values.specs.Lists.{Each};
 ghost use Rattle.upc_values.specs.Shapes as shapes;
-ghost use Rattle.private_store.specs.Live.{thing, bytes_of, bytes_in, entered, left, called, returned, controls, recounted, local_number};
+ghost use Rattle.private_store.specs.Live.{thing, bytes_of, bytes_in, entered, left, called, returned, controls};
+ghost use Rattle.private_store.specs.Live.{recounted, local_number};
 ghost use Rattle.private_store.specs.Beginnings.{IsBeginning, begun, blank};
 ghost use Rattle.private_store.specs.Cells.{loaded, stored, IsPrivate};
 
@@ -48,7 +50,12 @@ impl Model for Store {
 
     ghost Value = { Live };
 
-    ghost view = { λ s. record { objects = s.objects.items; blocks = s.blocks.items; calls = s.calls.items; next = s.next } };
+    ghost view = { λ s. record {
+      objects = s.objects.items;
+      blocks = s.blocks.items;
+      calls = s.calls.items;
+      next = s.next;
+    } };
 
     ghost invariant = { λ s. IsKept s.objects.items s.blocks.items s.next s.space };
 }
@@ -73,8 +80,8 @@ fn blank_store(alloc: Global, shapes: &[Shape]) -> Result<Store, OutOfMemory>
 }
 
 impl Store {
-    /// The file-scope objects of these shapes, numbered from 0, with these initial values and 0 or null elsewhere. No block
-    /// is open and no call is active.
+    /// The file-scope objects of these shapes, numbered from 0, with these initial values and 0 or null elsewhere. No
+    /// block is open and no call is active.
     pub fn make(
         alloc: Global,
         shapes: &[Shape],
@@ -102,9 +109,10 @@ impl Store {
         }
     }
 
-    /// Enters a block of the youngest call: makes its objects, with 0 or null in each cell, and answers the first number.
-    /// `from` is how many objects of the function were in scope before. Numbers rise and none is used again; where too
-    /// few are left the answer is `Memory`. Where the live bytes would pass `MOST_BYTES` it is `PRIVATE_SPACE`.
+    /// Enters a block of the youngest call: makes its objects, with 0 or null in each cell, and answers the first
+    /// number. `from` is how many objects of the function were in scope before. Numbers rise and none is used again;
+    /// where too few are left the answer is `Memory`. Where the live bytes would pass `MOST_BYTES` it is
+    /// `PRIVATE_SPACE`.
     #[tactic(auto, using(crate::proofs::Keeping::kept_entered))]
     pub fn enter(&mut self, from: u32, shapes: &[Shape]) -> Result<u64, Refused>
         requires { Each IsShape shapes.now }

@@ -1,6 +1,7 @@
 //! Runs of all tasks on one thread.
 
-ghost use Rattle.std.specs.Prelude.{◌≡◌, ◌<◌, ◌≤◌, ◌*◌, List, [], true, false, Some, None, is_some, IfOk, IfSome, IsNone, MatchOption, length, map, slice_index_or, vec_capacity};
+ghost use Rattle.std.specs.Prelude.{◌≡◌, ◌<◌, ◌≤◌, ◌*◌, List, [], true, false, Some, None, is_some, IfOk, IfSome};
+ghost use Rattle.std.specs.Prelude.{IsNone, MatchOption, length, map, slice_index_or, vec_capacity};
 ghost use Rattle.upc_values.specs.declared.record.End.{End};
 ghost use Rattle.upc_values.specs.declared.journal.Entry.{Entry};
 ghost use Rattle.upc_values.specs.Lists.{Numbered};
@@ -14,7 +15,9 @@ ghost use Rattle.first_language.specs.Meaning.{meaning, opening_of};
 ghost use Rattle.serial_core.specs.declared.task.Task.{Task};
 ghost use Rattle.serial_core.specs.Sources.{Outcomes, HasOutcomes};
 ghost use Rattle.serial_core.specs.Kept.{AreLimits, IsKept, Paused, strand_of};
-ghost use Rattle.serial_core.specs.Runs.{IsAt, IsRunning, GoesOn, StaysRunning, IsStart, AreSame, IsOpenAt, OthersStay, IsChosen, open_among, Rested, Stops, StopsAt, NoneStops, Wanting, IsOver, AreEach, halted, locked, CanLock};
+ghost use Rattle.serial_core.specs.Runs.{IsAt, IsRunning, GoesOn, StaysRunning, IsStart, AreSame, IsOpenAt};
+ghost use Rattle.serial_core.specs.Runs.{OthersStay, IsChosen, open_among, Rested, Stops, StopsAt, NoneStops};
+ghost use Rattle.serial_core.specs.Runs.{Wanting, IsOver, AreEach, halted, locked, CanLock};
 
 use crate::limits::Limits;
 use crate::task::{Pause, Task};

@@ -1,6 +1,7 @@
 //! A task: a thread's machine, which acts on the history through its write buffer.
 
-ghost use Rattle.std.specs.Prelude.{◌≡◌, ◌<◌, List, [], true, false, Some, None, is_some, IfOk, IfSome, IsNone, length, option_copied};
+ghost use Rattle.std.specs.Prelude.{◌≡◌, ◌<◌, List, [], true, false, Some, None, is_some, IfOk, IfSome, IsNone};
+ghost use Rattle.std.specs.Prelude.{length, option_copied};
 ghost use Rattle.upc_values.specs.declared.action.Action.{Action};
 ghost use Rattle.upc_values.specs.declared.journal.Entry.{Entry};
 ghost use Rattle.upc_values.specs.Drain.{entries_of};
@@ -12,7 +13,8 @@ ghost use Rattle.first_language.specs.declared.machine.Wish.TheVariants.{Act};
 ghost use Rattle.serial_core.specs.declared.task.Pause.TheVariants.{Finished};
 ghost use Rattle.serial_core.specs.Sources.{Outcomes, HasOutcomes};
 ghost use Rattle.serial_core.specs.Kept as kept;
-ghost use Rattle.serial_core.specs.Kept.{AreLimits, IsKept, Keeps, StaysKept, IsSame, Grew, Paused, CanEnd, Adds, Leaves, Waits, is_given, outcome_of, strand_of};
+ghost use Rattle.serial_core.specs.Kept.{AreLimits, IsKept, Keeps, StaysKept, IsSame, Grew, Paused, CanEnd, Adds};
+ghost use Rattle.serial_core.specs.Kept.{Leaves, Waits, is_given, outcome_of, strand_of};
 
 use crate::emit::{emit, empty};
 use crate::limits::Limits;

@@ -225,7 +225,12 @@ fn boxed_head(
     step: Option<Box<Expr>>,
 ) -> Result<Box<Head>, OutOfMemory>
     ensures { IfOk result (λ h. view_head h.value
-        ≡ record { objects = map view_object begun.objects.items; first = view_value begun.first; test = view_value test; step = view_value step }) }
+        ≡ record {
+          objects = map view_object begun.objects.items;
+          first = view_value begun.first;
+          test = view_value test;
+          step = view_value step;
+        }) }
 {
     let head = Head {
         objects: begun.objects,

@@ -1,5 +1,6 @@
 -- The parser of declarations, statements and whole sources, as a function on lists of tokens.
-use Rattle.std.specs.Prelude.{ℕ, zero, suc, Bool, true, false, not, if◌then◌else◌, List, [], ◌∷◌, Option, Some, None, Ok, Err}
+use Rattle.std.specs.Prelude.{ℕ, zero, suc, Bool, true, false, not, if◌then◌else◌, List, [], ◌∷◌, Option, Some, None}
+use Rattle.std.specs.Prelude.{Ok, Err}
 use Rattle.upc_lexer.specs.declared.token.Token.{Token}
 use Rattle.upc_lexer.specs.declared.token.TokenKind.{TokenKind}
 use Rattle.upc_lexer.specs.declared.token.TokenKind.TheVariants as k
@@ -15,15 +16,18 @@ use Rattle.upc_tree.specs.Expression.{Expr, Specs, Pointers, Declarator, Paramet
 use Rattle.upc_tree.specs.Declaration as d
 use Rattle.upc_tree.specs.Declaration.{Initial, Declared, NextDeclareds, DeclaredList, Declaration}
 use Rattle.upc_tree.specs.Statement as s
-use Rattle.upc_tree.specs.Statement.{Test, First, Affinity, ForHead, ForallHead, Statement, Compound, BlockItem, BlockItems, SwitchItem, SwitchItems, ElseIfs, Otherwise}
+use Rattle.upc_tree.specs.Statement.{Test, First, Affinity, ForHead, ForallHead, Statement, Compound, BlockItem}
+use Rattle.upc_tree.specs.Statement.{BlockItems, SwitchItem, SwitchItems, ElseIfs, Otherwise}
 use Rattle.upc_tree.specs.Unit as q
 use Rattle.upc_tree.specs.Unit.{External}
 use Rattle.upc_tree.specs.Lists.{next_declareds_of, block_items_of, switch_items_of, else_ifs_of}
 use Rattle.upc_expressions.specs.declared.cursor.Fault.TheVariants.{NoTree, TooHigh}
-use Rattle.upc_expressions.specs.Outcome.{Parser, ◌>>=◌, span_of, is_punct, is_word, starts, starts_two, expect_punct, expect_word, all, listed}
+use Rattle.upc_expressions.specs.Outcome.{Parser, ◌>>=◌, span_of, is_punct, is_word, starts, starts_two, expect_punct}
+use Rattle.upc_expressions.specs.Outcome.{expect_word, all, listed}
 use Rattle.upc_expressions.specs.Tables.{is_spec}
 use Rattle.upc_expressions.specs.Ahead.{is_pragma, is_any}
-use Rattle.upc_expressions.specs.Expression.{at_height, name, next_exprs, specs, pointers, dimensions, declarator, parameters}
+use Rattle.upc_expressions.specs.Expression.{at_height, name, next_exprs, specs, pointers, dimensions, declarator}
+use Rattle.upc_expressions.specs.Expression.{parameters}
 use Rattle.statement_parser.specs.declared.start.StatementStart.{StatementStart}
 use Rattle.statement_parser.specs.declared.start.StatementStart.TheVariants as start
 use Rattle.statement_parser.specs.Tables.{statement_start}
@@ -32,11 +36,19 @@ use Rattle.statement_parser.specs.Tables.{statement_start}
 
 module _ (n : ℕ) where
   unfoldable pub value_initial : Parser Initial
-  value_initial ts = expect_punct p.Equal ts >>= λ q. (at_height n).expr 1 q.1 >>= λ e. Ok (d.ValueInitial q.0 e.0, e.1)
+  value_initial ts = do
+    q ← expect_punct p.Equal ts
+    e ← (at_height n).expr 1 q.1
+    Ok (d.ValueInitial q.0 e.0, e.1)
 
   unfoldable pub list_initial : Parser Initial
-  list_initial ts =
-      expect_punct p.Equal ts >>= λ q. expect_punct p.LBrace q.1 >>= λ o. (at_height n).expr 1 o.1 >>= λ f. next_exprs (at_height n) f.1 >>= λ m. expect_punct p.RBrace m.1 >>= λ c. Ok (d.ListInitial q.0 o.0 f.0 m.0 c.0, c.1)
+  list_initial ts = do
+    q ← expect_punct p.Equal ts
+    o ← expect_punct p.LBrace q.1
+    f ← (at_height n).expr 1 o.1
+    m ← next_exprs (at_height n) f.1
+    c ← expect_punct p.RBrace m.1
+    Ok (d.ListInitial q.0 o.0 f.0 m.0 c.0, c.1)
 
   unfoldable pub initial : Parser Initial
   initial ts =
@@ -45,23 +57,36 @@ module _ (n : ℕ) where
       else Ok (d.NoInitial, ts)
 
   unfoldable pub declared : Parser Declared
-  declared ts = declarator (at_height n) ts >>= λ x. initial x.1 >>= λ i. Ok (d.DeclaredAs x.0 i.0, i.1)
+  declared ts = do
+    x ← declarator (at_height n) ts
+    i ← initial x.1
+    Ok (d.DeclaredAs x.0 i.0, i.1)
 
   unfoldable pub next_declared : Parser (Span × Declared)
-  next_declared ts = expect_punct p.Comma ts >>= λ c. declared c.1 >>= λ x. Ok ((c.0, x.0), x.1)
+  next_declared ts = do
+    c ← expect_punct p.Comma ts
+    x ← declared c.1
+    Ok ((c.0, x.0), x.1)
 
   unfoldable pub next_declareds : Parser NextDeclareds
   next_declareds ts = listed next_declareds_of (starts (is_punct p.Comma)) next_declared ts
 
   unfoldable pub some_declared : Parser DeclaredList
-  some_declared ts = declared ts >>= λ f. next_declareds f.1 >>= λ m. Ok (d.SomeDeclared f.0 m.0, m.1)
+  some_declared ts = do
+    f ← declared ts
+    m ← next_declareds f.1
+    Ok (d.SomeDeclared f.0 m.0, m.1)
 
   abbrev pub declared_list : Parser DeclaredList
   declared_list ts = if starts (is_punct p.Semicolon) ts then Ok (d.NoneDeclared, ts) else some_declared ts
 
   -- a declaration at block scope
   unfoldable pub declaration : Parser Declaration
-  declaration ts = specs (at_height n) true ts >>= λ s. declared_list s.1 >>= λ x. expect_punct p.Semicolon x.1 >>= λ c. Ok (d.Declares s.0 x.0 c.0, c.1)
+  declaration ts = do
+    s ← specs (at_height n) true ts
+    x ← declared_list s.1
+    c ← expect_punct p.Semicolon x.1
+    Ok (d.Declares s.0 x.0 c.0, c.1)
 
 -- a declaration at block scope that is at most so high
 unfoldable pub declaration_at : ℕ → Parser Declaration
@@ -76,13 +101,21 @@ continue_affinity ts = expect_word w.Continue ts >>= λ c. Ok (s.ContinueAffinit
 module _ (n : ℕ) where
   -- an expression, if what ends it does not come next
   unfoldable pub value : Punct → Parser (Option Expr)
-  value end ts = if starts (is_punct end) ts then Ok (None, ts) else ((at_height n).expr 0 ts >>= λ e. Ok (Some e.0, e.1))
+  value end ts =
+      if starts (is_punct end) ts then Ok (None, ts) else ((at_height n).expr 0 ts >>= λ e. Ok (Some e.0, e.1))
 
   unfoldable pub controlling : Parser Test
-  controlling ts = expect_punct p.LParen ts >>= λ o. (at_height n).expr 0 o.1 >>= λ e. expect_punct p.RParen e.1 >>= λ c. Ok (s.Tests o.0 e.0 c.0, c.1)
+  controlling ts = do
+    o ← expect_punct p.LParen ts
+    e ← (at_height n).expr 0 o.1
+    c ← expect_punct p.RParen e.1
+    Ok (s.Tests o.0 e.0 c.0, c.1)
 
   unfoldable pub first_value : Parser First
-  first_value ts = value p.Semicolon ts >>= λ v. expect_punct p.Semicolon v.1 >>= λ c. Ok (s.FirstValue v.0 c.0, c.1)
+  first_value ts = do
+    v ← value p.Semicolon ts
+    c ← expect_punct p.Semicolon v.1
+    Ok (s.FirstValue v.0 c.0, c.1)
 
   unfoldable pub first_declaration : Parser First
   first_declaration ts = declaration_at n ts >>= λ x. Ok (s.FirstDeclaration x.0, x.1)
@@ -100,14 +133,26 @@ module _ (n : ℕ) where
       else value_affinity ts
 
   unfoldable pub for_head : Parser ForHead
-  for_head ts =
-      expect_punct p.LParen ts >>= λ o. first o.1 >>= λ f. value p.Semicolon f.1 >>= λ v. expect_punct p.Semicolon v.1 >>= λ e. value p.RParen e.1 >>= λ x. expect_punct p.RParen x.1 >>= λ c.
-      Ok (s.ForParts o.0 f.0 v.0 e.0 x.0 c.0, c.1)
+  for_head ts = do
+    o ← expect_punct p.LParen ts
+    f ← first o.1
+    v ← value p.Semicolon f.1
+    e ← expect_punct p.Semicolon v.1
+    x ← value p.RParen e.1
+    c ← expect_punct p.RParen x.1
+    Ok (s.ForParts o.0 f.0 v.0 e.0 x.0 c.0, c.1)
 
   unfoldable pub forall_head : Parser ForallHead
-  forall_head ts =
-      expect_punct p.LParen ts >>= λ o. first o.1 >>= λ f. value p.Semicolon f.1 >>= λ v. expect_punct p.Semicolon v.1 >>= λ e. value p.Semicolon e.1 >>= λ x. expect_punct p.Semicolon x.1 >>= λ g. affinity g.1 >>= λ a. expect_punct p.RParen a.1 >>= λ c.
-      Ok (s.ForallParts o.0 f.0 v.0 e.0 x.0 g.0 a.0 c.0, c.1)
+  forall_head ts = do
+    o ← expect_punct p.LParen ts
+    f ← first o.1
+    v ← value p.Semicolon f.1
+    e ← expect_punct p.Semicolon v.1
+    x ← value p.Semicolon e.1
+    g ← expect_punct p.Semicolon x.1
+    a ← affinity g.1
+    c ← expect_punct p.RParen a.1
+    Ok (s.ForallParts o.0 f.0 v.0 e.0 x.0 g.0 a.0 c.0, c.1)
 
 abbrev pub pragma_by : TokenKind → Span → Parser Pragma
 pragma_by (k.Pragma strict) span ts = Ok (record { strict = strict; span = span }, ts)
@@ -131,19 +176,35 @@ module _ (n : ℕ) where
   declaration_item ts = declaration_at n ts >>= λ x. Ok (s.DeclarationItem x.0, x.1)
 
   unfoldable pub case_item : Parser SwitchItem
-  case_item ts = expect_word w.Case ts >>= λ a. (at_height n).expr 2 a.1 >>= λ e. expect_punct p.Colon e.1 >>= λ c. Ok (s.CaseItem a.0 e.0 c.0, c.1)
+  case_item ts = do
+    a ← expect_word w.Case ts
+    e ← (at_height n).expr 2 a.1
+    c ← expect_punct p.Colon e.1
+    Ok (s.CaseItem a.0 e.0 c.0, c.1)
 
   unfoldable pub value_statement : Parser Statement
-  value_statement ts = value n p.Semicolon ts >>= λ v. expect_punct p.Semicolon v.1 >>= λ c. Ok (s.Value v.0 c.0, c.1)
+  value_statement ts = do
+    v ← value n p.Semicolon ts
+    c ← expect_punct p.Semicolon v.1
+    Ok (s.Value v.0 c.0, c.1)
 
   unfoldable pub return_statement : Span → Parser Statement
-  return_statement at ts = value n p.Semicolon ts >>= λ v. expect_punct p.Semicolon v.1 >>= λ c. Ok (s.Return at v.0 c.0, c.1)
+  return_statement at ts = do
+    v ← value n p.Semicolon ts
+    c ← expect_punct p.Semicolon v.1
+    Ok (s.Return at v.0 c.0, c.1)
 
   unfoldable pub barrier_statement : BarrierWord → Span → Parser Statement
-  barrier_statement kind at ts = value n p.Semicolon ts >>= λ v. expect_punct p.Semicolon v.1 >>= λ c. Ok (s.Barrier kind at v.0 c.0, c.1)
+  barrier_statement kind at ts = do
+    v ← value n p.Semicolon ts
+    c ← expect_punct p.Semicolon v.1
+    Ok (s.Barrier kind at v.0 c.0, c.1)
 
 unfoldable pub default_item : Parser SwitchItem
-default_item ts = expect_word w.Default ts >>= λ a. expect_punct p.Colon a.1 >>= λ c. Ok (s.DefaultItem a.0 c.0, c.1)
+default_item ts = do
+  a ← expect_word w.Default ts
+  c ← expect_punct p.Colon a.1
+  Ok (s.DefaultItem a.0 c.0, c.1)
 
 unfoldable pub break_statement : Span → Parser Statement
 break_statement at ts = expect_punct p.Semicolon ts >>= λ c. Ok (s.Break at c.0, c.1)
@@ -163,7 +224,14 @@ pub record Statements : Type 0 where
   pub switch_items : Parser SwitchItems
 
 abbrev pub floor : Statements
-floor = record { statement = λ ts. Err TooHigh; compound = λ ts. Err TooHigh; items = λ ts. Err TooHigh; switch_items = λ ts. Err TooHigh }
+floor =
+    record {
+      statement = λ ts. Err TooHigh;
+      compound = λ ts. Err TooHigh;
+      items = λ ts. Err TooHigh;
+      switch_items
+          = λ ts. Err TooHigh;
+    }
 
 module _ (n : ℕ) (below : Statements) where
   -- ---- lists
@@ -192,37 +260,74 @@ module _ (n : ℕ) (below : Statements) where
   -- ---- statements
 
   unfoldable pub compound : Parser Compound
-  compound ts = expect_punct p.LBrace ts >>= λ o. pragmas o.1 >>= λ g. below.items g.1 >>= λ b. expect_punct p.RBrace b.1 >>= λ c. Ok (s.Braces o.0 g.0 b.0 c.0, c.1)
+  compound ts = do
+    o ← expect_punct p.LBrace ts
+    g ← pragmas o.1
+    b ← below.items g.1
+    c ← expect_punct p.RBrace b.1
+    Ok (s.Braces o.0 g.0 b.0 c.0, c.1)
 
   unfoldable pub else_if : Parser (Span × Span × Test × Statement)
-  else_if ts = expect_word w.Else ts >>= λ e. expect_word w.If e.1 >>= λ a. controlling n a.1 >>= λ h. below.statement h.1 >>= λ b. Ok ((e.0, a.0, h.0, b.0), b.1)
+  else_if ts = do
+    e ← expect_word w.Else ts
+    a ← expect_word w.If e.1
+    h ← controlling n a.1
+    b ← below.statement h.1
+    Ok ((e.0, a.0, h.0, b.0), b.1)
 
   unfoldable pub else_ifs : Parser ElseIfs
   else_ifs ts = listed else_ifs_of (starts_two (is_word w.Else) (is_word w.If)) else_if ts
 
   unfoldable pub else_part : Parser Otherwise
-  else_part ts = expect_word w.Else ts >>= λ e. below.statement e.1 >>= λ b. Ok (s.Else e.0 b.0, b.1)
+  else_part ts = do
+    e ← expect_word w.Else ts
+    b ← below.statement e.1
+    Ok (s.Else e.0 b.0, b.1)
 
   abbrev pub otherwise : Parser Otherwise
   otherwise ts = if starts (is_word w.Else) ts then else_part ts else Ok (s.NoOtherwise, ts)
 
   unfoldable pub if_statement : Span → Parser Statement
-  if_statement at ts = controlling n ts >>= λ h. below.statement h.1 >>= λ b. else_ifs b.1 >>= λ m. otherwise m.1 >>= λ o. Ok (s.If at h.0 b.0 m.0 o.0, o.1)
+  if_statement at ts = do
+    h ← controlling n ts
+    b ← below.statement h.1
+    m ← else_ifs b.1
+    o ← otherwise m.1
+    Ok (s.If at h.0 b.0 m.0 o.0, o.1)
 
   unfoldable pub switch : Span → Parser Statement
-  switch at ts = controlling n ts >>= λ h. expect_punct p.LBrace h.1 >>= λ o. below.switch_items o.1 >>= λ b. expect_punct p.RBrace b.1 >>= λ c. Ok (s.Switch at h.0 o.0 b.0 c.0, c.1)
+  switch at ts = do
+    h ← controlling n ts
+    o ← expect_punct p.LBrace h.1
+    b ← below.switch_items o.1
+    c ← expect_punct p.RBrace b.1
+    Ok (s.Switch at h.0 o.0 b.0 c.0, c.1)
 
   unfoldable pub while_statement : Span → Parser Statement
-  while_statement at ts = controlling n ts >>= λ h. below.statement h.1 >>= λ b. Ok (s.While at h.0 b.0, b.1)
+  while_statement at ts = do
+    h ← controlling n ts
+    b ← below.statement h.1
+    Ok (s.While at h.0 b.0, b.1)
 
   unfoldable pub do_statement : Span → Parser Statement
-  do_statement at ts = below.statement ts >>= λ b. expect_word w.While b.1 >>= λ u. controlling n u.1 >>= λ h. expect_punct p.Semicolon h.1 >>= λ c. Ok (s.DoWhile at b.0 u.0 h.0 c.0, c.1)
+  do_statement at ts = do
+    b ← below.statement ts
+    u ← expect_word w.While b.1
+    h ← controlling n u.1
+    c ← expect_punct p.Semicolon h.1
+    Ok (s.DoWhile at b.0 u.0 h.0 c.0, c.1)
 
   unfoldable pub for_statement : Span → Parser Statement
-  for_statement at ts = for_head n ts >>= λ h. below.statement h.1 >>= λ b. Ok (s.For at h.0 b.0, b.1)
+  for_statement at ts = do
+    h ← for_head n ts
+    b ← below.statement h.1
+    Ok (s.For at h.0 b.0, b.1)
 
   unfoldable pub forall_statement : Span → Parser Statement
-  forall_statement at ts = forall_head n ts >>= λ h. below.statement h.1 >>= λ b. Ok (s.Forall at h.0 b.0, b.1)
+  forall_statement at ts = do
+    h ← forall_head n ts
+    b ← below.statement h.1
+    Ok (s.Forall at h.0 b.0, b.1)
 
   unfoldable pub block : Parser Statement
   block ts = compound ts >>= λ c. Ok (s.Block c.0, c.1)
@@ -268,13 +373,16 @@ module _ (n : ℕ) where
   -- what stands behind the first declarator of a declaration
   unfoldable pub behind_declarator : Specs → Declarator → Parser External
   behind_declarator s x ts =
-      initial n ts >>= λ i. next_declareds n i.1 >>= λ m. expect_punct p.Semicolon m.1 >>= λ c. Ok (q.DeclarationPart (d.Declares s (d.SomeDeclared (d.DeclaredAs x i.0) m.0) c.0), c.1)
+      initial n ts >>= λ i. next_declareds n i.1 >>= λ m. expect_punct p.Semicolon m.1 >>= λ c. Ok
+      (q.DeclarationPart (d.Declares s (d.SomeDeclared (d.DeclaredAs x i.0) m.0) c.0), c.1)
 
   unfoldable pub function_body : Specs → Pointers → Name → Parameters → Parser External
   function_body s stars x r ts = (statements_at n).compound ts >>= λ b. Ok (q.FunctionPart s stars x r b.0, b.1)
 
   abbrev pub behind_parameters : Specs → Pointers → Name → Parameters → Parser External
-  behind_parameters s stars x r ts = if starts (is_punct p.LBrace) ts then function_body s stars x r ts else behind_declarator s (t.FunctionDeclarator stars x r) ts
+  behind_parameters s stars x r ts =
+      if starts (is_punct p.LBrace) ts then function_body s stars x r ts
+      else behind_declarator s (t.FunctionDeclarator stars x r) ts
 
   unfoldable pub behind_name : Specs → Pointers → Name → Parser External
   behind_name s stars x ts =
@@ -283,11 +391,15 @@ module _ (n : ℕ) where
       else (dimensions (at_height n) ts >>= λ m. behind_declarator s (t.ObjectDeclarator stars x m.0) m.1)
 
   unfoldable pub behind_specs : Specs → Parser External
-  behind_specs s ts = pointers (at_height n) ts >>= λ g. name g.1 >>= λ x. behind_name s g.0 x.0 x.1
+  behind_specs s ts = do
+    g ← pointers (at_height n) ts
+    x ← name g.1
+    behind_name s g.0 x.0 x.1
 
   unfoldable pub declaration_or_function : Parser External
   declaration_or_function ts =
-      specs (at_height n) false ts >>= λ s. if starts (is_punct p.Semicolon) s.1 then none_declared s.0 s.1 else behind_specs s.0 s.1
+      specs (at_height n) false ts >>= λ s. if starts (is_punct p.Semicolon) s.1 then none_declared s.0 s.1
+      else behind_specs s.0 s.1
 
 -- at most so high
 unfoldable pub node_at : ℕ → Parser External

@@ -10,8 +10,10 @@ use Rattle.upc_expressions.specs.Run.{Reads, boxed}
 use Rattle.statement_parser.specs.Parse.{statements_at}
 
 -- a function value that parses statements of at most this height
-pub record Nests (height : ℕ) (pre : Global → MutBor Tokens → ℕ → Type 0) (post : Global → MutBor Tokens → ℕ → Result (Box Statement Global) Fail → MutBor Tokens → Type 0) : Type 0 where
+pub record Nests (height : ℕ) (pre : Global → MutBor Tokens → ℕ → Type 0) (post : Global → MutBor Tokens → ℕ
+    → Result (Box Statement Global) Fail → MutBor Tokens → Type 0) : Type 0 where
   pub small : height < 4294967295
   pub callable : (alloc : Global) (old : MutBor Tokens) (h : ℕ) → h ≤ height → pre alloc old h
-  pub reads : (alloc : Global) (old new : MutBor Tokens) (h : ℕ) (r : Result (Box Statement Global) Fail) → post alloc old h r new
+  pub reads : (alloc : Global) (old new : MutBor Tokens) (h : ℕ) (r : Result (Box Statement Global) Fail)
+      → post alloc old h r new
       → Reads (boxed view_statement) ((statements_at h).statement old.now.rest.now) r new.now.rest.now

@@ -1,7 +1,8 @@
 //! Declarations (C99 6.7).
 
 ghost use Rattle.std.specs.Prelude.{◌<◌};
-ghost use Rattle.upc_tree.specs.ViewStatement.{view_initial, view_declared, view_next_declared, view_next_declareds, view_declared_list, view_declaration};
+ghost use Rattle.upc_tree.specs.ViewStatement.{view_initial, view_declared, view_next_declared, view_next_declareds};
+ghost use Rattle.upc_tree.specs.ViewStatement.{view_declared_list, view_declaration};
 ghost use Rattle.upc_expressions.specs.Run.{Reads, boxed};
 ghost use Rattle.statement_parser.specs.Parse as spec;
 
@@ -151,7 +152,8 @@ pub fn declaration(
     tokens: &mut Tokens<'_>,
     height: u32,
 ) -> Result<Box<Declaration>, Fail>
-    ensures { Reads (boxed view_declaration) (spec.declaration_at height tokens.old.rest.now) result tokens.new.rest.now }
+    ensures { Reads (boxed view_declaration) (spec.declaration_at height tokens.old.rest.now) result
+        tokens.new.rest.now }
 {
     if height == 0 {
         return Err(Fail::Fault(Fault::TooHigh));

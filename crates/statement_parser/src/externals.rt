@@ -20,7 +20,8 @@ use upc_tree::{Declarator, External, Function, Name, Parameters, Pointer, Spec, 
 
 #[tactic(auto, unfolding(crate::specs::Parse::none_declared))]
 fn none_declared(alloc: Global, tokens: &mut Tokens<'_>, specs: Vec<Spec>) -> Result<External, Fail>
-    ensures { Reads view_external (spec.none_declared (view_specs specs) tokens.old.rest.now) result tokens.new.rest.now }
+    ensures { Reads view_external (spec.none_declared (view_specs specs) tokens.old.rest.now) result
+        tokens.new.rest.now }
 {
     let semicolon = expect_punct(tokens, Punct::Semicolon)?;
     let declaration = declares(alloc, specs, None, semicolon)?;
@@ -37,7 +38,8 @@ fn behind_declarator(
     declarator: Box<Declarator>,
 ) -> Result<External, Fail>
     requires { n < 4294967295 }
-    ensures { Reads view_external (spec.behind_declarator n (view_specs specs) (view_declarator declarator.value) tokens.old.rest.now) result tokens.new.rest.now }
+    ensures { Reads view_external (spec.behind_declarator n (view_specs specs)
+        (view_declarator declarator.value) tokens.old.rest.now) result tokens.new.rest.now }
 {
     let initial = initial(alloc, tokens, n)?;
     let first = declared_as(alloc, declarator, initial)?;
@@ -58,7 +60,8 @@ fn function_body(
     name: Name,
     parameters: Box<Parameters>,
 ) -> Result<External, Fail>
-    ensures { Reads view_external (spec.function_body n (view_specs specs) (view_pointers pointers) name (view_parameters parameters.value) tokens.old.rest.now) result tokens.new.rest.now }
+    ensures { Reads view_external (spec.function_body n (view_specs specs) (view_pointers pointers)
+        name (view_parameters parameters.value) tokens.old.rest.now) result tokens.new.rest.now }
 {
     let body = compound(alloc, tokens, n)?;
     let function = Function {
@@ -81,7 +84,9 @@ fn behind_parameters(
     parameters: Box<Parameters>,
 ) -> Result<External, Fail>
     requires { n < 4294967295 }
-    ensures { Reads view_external (spec.behind_parameters n (view_specs specs) (view_pointers pointers) name (view_parameters parameters.value) tokens.old.rest.now) result tokens.new.rest.now }
+    ensures { Reads view_external (spec.behind_parameters n (view_specs specs)
+        (view_pointers pointers) name (view_parameters parameters.value) tokens.old.rest.now) result
+        tokens.new.rest.now }
 {
     if starts(Sign::Punct(Punct::LBrace), tokens.rest) {
         return function_body(alloc, tokens, n, specs, pointers, name, parameters);
@@ -100,7 +105,8 @@ fn behind_name(
     name: Name,
 ) -> Result<External, Fail>
     requires { n < 4294967295 }
-    ensures { Reads view_external (spec.behind_name n (view_specs specs) (view_pointers pointers) name tokens.old.rest.now) result tokens.new.rest.now }
+    ensures { Reads view_external (spec.behind_name n (view_specs specs) (view_pointers pointers)
+        name tokens.old.rest.now) result tokens.new.rest.now }
 {
     if starts(Sign::Punct(Punct::LParen), tokens.rest) {
         let parameters = parameters(alloc, tokens, n)?;
@@ -119,7 +125,8 @@ fn behind_specs(
     specs: Vec<Spec>,
 ) -> Result<External, Fail>
     requires { n < 4294967295 }
-    ensures { Reads view_external (spec.behind_specs n (view_specs specs) tokens.old.rest.now) result tokens.new.rest.now }
+    ensures { Reads view_external (spec.behind_specs n (view_specs specs) tokens.old.rest.now)
+        result tokens.new.rest.now }
 {
     let pointers = pointers(alloc, tokens, n)?;
     let name = name(tokens)?;
@@ -176,7 +183,8 @@ pub fn unit(alloc: Global, tokens: &mut Tokens<'_>, height: u32) -> Result<Unit,
 }
 
 fn externals(alloc: Global, tokens: &mut Tokens<'_>, height: u32) -> Result<Vec<External>, Fail>
-    ensures { Reads (λ v. map view_external v.items) (spec.all_externals height tokens.old.rest.now) result tokens.new.rest.now }
+    ensures { Reads (λ v. map view_external v.items) (spec.all_externals height tokens.old.rest.now)
+        result tokens.new.rest.now }
 {
     many(alloc, tokens, Ahead::One(Sign::Any), |t| {
         external(alloc, t, height)

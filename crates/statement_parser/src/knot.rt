@@ -15,7 +15,8 @@ pub fn statement(
     tokens: &mut Tokens<'_>,
     height: u32,
 ) -> Result<Box<Statement>, Fail>
-    ensures { Reads (boxed view_statement) ((statements_at height).statement tokens.old.rest.now) result tokens.new.rest.now }
+    ensures { Reads (boxed view_statement) ((statements_at height).statement tokens.old.rest.now)
+        result tokens.new.rest.now }
 {
     if height == 0 {
         return Err(Fail::Fault(Fault::TooHigh));
@@ -31,7 +32,8 @@ pub fn statement(
 
 /// A compound statement of at most this height.
 pub fn compound(alloc: Global, tokens: &mut Tokens<'_>, height: u32) -> Result<Box<Compound>, Fail>
-    ensures { Reads (boxed view_compound) ((statements_at height).compound tokens.old.rest.now) result tokens.new.rest.now }
+    ensures { Reads (boxed view_compound) ((statements_at height).compound tokens.old.rest.now)
+        result tokens.new.rest.now }
 {
     if height == 0 {
         return Err(Fail::Fault(Fault::TooHigh));

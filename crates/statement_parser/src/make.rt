@@ -4,7 +4,9 @@ ghost use Rattle.std.specs.Prelude.{◌≡◌, IfOk};
 ghost use Rattle.upc_tree.specs.Declaration as d;
 ghost use Rattle.upc_tree.specs.Statement as t;
 ghost use Rattle.upc_tree.specs.View.{view_declarator, view_specs};
-ghost use Rattle.upc_tree.specs.ViewStatement.{view_initial, view_declared, view_next_declareds, view_declared_list, view_declaration, view_statement, view_compound, view_test, view_for, view_forall, view_switch_items, view_else_ifs, view_otherwise};
+ghost use Rattle.upc_tree.specs.ViewStatement.{view_initial, view_declared, view_next_declareds, view_declared_list};
+ghost use Rattle.upc_tree.specs.ViewStatement.{view_declaration, view_statement, view_compound, view_test, view_for};
+ghost use Rattle.upc_tree.specs.ViewStatement.{view_forall, view_switch_items, view_else_ifs, view_otherwise};
 
 use std::alloc::Global;
 use upc_expressions::boxed;
@@ -19,7 +21,8 @@ pub fn declared_as(
     declarator: Box<Declarator>,
     initial: Box<Initial>,
 ) -> Result<Box<Declared>, OutOfMemory>
-    ensures { IfOk result (λ made. view_declared made.value ≡ d.DeclaredAs (view_declarator declarator.value) (view_initial initial.value)) }
+    ensures { IfOk result (λ made. view_declared made.value ≡ d.DeclaredAs
+        (view_declarator declarator.value) (view_initial initial.value)) }
 {
     Ok(boxed(
         alloc,
@@ -35,7 +38,8 @@ pub fn some_list(
     first: Box<Declared>,
     more: Vec<NextDeclared>,
 ) -> Result<Option<Box<DeclaredList>>, OutOfMemory>
-    ensures { IfOk result (λ made. view_declared_list made ≡ d.SomeDeclared (view_declared first.value) (view_next_declareds more)) }
+    ensures { IfOk result (λ made. view_declared_list made ≡ d.SomeDeclared
+        (view_declared first.value) (view_next_declareds more)) }
 {
     Ok(Some(boxed(alloc, DeclaredList { first, more })?))
 }
@@ -46,7 +50,8 @@ pub fn declares(
     declared: Option<Box<DeclaredList>>,
     semicolon: Span,
 ) -> Result<Box<Declaration>, OutOfMemory>
-    ensures { IfOk result (λ made. view_declaration made.value ≡ d.Declares (view_specs specs) (view_declared_list declared) semicolon) }
+    ensures { IfOk result (λ made. view_declaration made.value ≡ d.Declares (view_specs specs)
+        (view_declared_list declared) semicolon) }
 {
     Ok(boxed(
         alloc,
@@ -72,7 +77,8 @@ pub fn if_statement(
     more: Vec<ElseIf>,
     otherwise: Otherwise,
 ) -> Result<Box<Statement>, OutOfMemory>
-    ensures { IfOk result (λ made. view_statement made.value ≡ t.If word (view_test test.value) (view_statement body.value) (view_else_ifs more) (view_otherwise otherwise)) }
+    ensures { IfOk result (λ made. view_statement made.value ≡ t.If word (view_test test.value)
+        (view_statement body.value) (view_else_ifs more) (view_otherwise otherwise)) }
 {
     Ok(boxed(
         alloc,
@@ -94,7 +100,8 @@ pub fn switch(
     body: Vec<SwitchItem>,
     right: Span,
 ) -> Result<Box<Statement>, OutOfMemory>
-    ensures { IfOk result (λ made. view_statement made.value ≡ t.Switch word (view_test test.value) left (view_switch_items body) right) }
+    ensures { IfOk result (λ made. view_statement made.value ≡ t.Switch word (view_test test.value)
+        left (view_switch_items body) right) }
 {
     Ok(boxed(
         alloc,
@@ -114,7 +121,8 @@ pub fn while_statement(
     test: Box<Test>,
     body: Box<Statement>,
 ) -> Result<Box<Statement>, OutOfMemory>
-    ensures { IfOk result (λ made. view_statement made.value ≡ t.While word (view_test test.value) (view_statement body.value)) }
+    ensures { IfOk result (λ made. view_statement made.value ≡ t.While word (view_test test.value)
+        (view_statement body.value)) }
 {
     Ok(boxed(alloc, Statement::While { word, test, body })?)
 }
@@ -127,7 +135,8 @@ pub fn do_statement(
     test: Box<Test>,
     semicolon: Span,
 ) -> Result<Box<Statement>, OutOfMemory>
-    ensures { IfOk result (λ made. view_statement made.value ≡ t.DoWhile word (view_statement body.value) until (view_test test.value) semicolon) }
+    ensures { IfOk result (λ made. view_statement made.value ≡ t.DoWhile word
+        (view_statement body.value) until (view_test test.value) semicolon) }
 {
     Ok(boxed(
         alloc,
@@ -147,7 +156,8 @@ pub fn for_statement(
     head: Box<ForHead>,
     body: Box<Statement>,
 ) -> Result<Box<Statement>, OutOfMemory>
-    ensures { IfOk result (λ made. view_statement made.value ≡ t.For word (view_for head.value) (view_statement body.value)) }
+    ensures { IfOk result (λ made. view_statement made.value ≡ t.For word (view_for head.value)
+        (view_statement body.value)) }
 {
     Ok(boxed(alloc, Statement::For { word, head, body })?)
 }
@@ -158,7 +168,8 @@ pub fn forall_statement(
     head: Box<ForallHead>,
     body: Box<Statement>,
 ) -> Result<Box<Statement>, OutOfMemory>
-    ensures { IfOk result (λ made. view_statement made.value ≡ t.Forall word (view_forall head.value) (view_statement body.value)) }
+    ensures { IfOk result (λ made. view_statement made.value ≡ t.Forall word
+        (view_forall head.value) (view_statement body.value)) }
 {
     Ok(boxed(alloc, Statement::Forall { word, head, body })?)
 }

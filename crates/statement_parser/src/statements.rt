@@ -1,7 +1,9 @@
 //! The rules of statements, over a function that parses their parts (C99 6.8, UPC 6.6).
 
 ghost use Rattle.std.specs.Prelude.{◌≤◌};
-ghost use Rattle.upc_tree.specs.ViewStatement.{view_statement, view_compound, view_block_item, view_block_items, view_switch_item, view_switch_items, view_else_if, view_else_ifs, view_otherwise};
+ghost use Rattle.upc_tree.specs.ViewStatement.{view_statement, view_compound, view_block_item, view_block_items};
+ghost use Rattle.upc_tree.specs.ViewStatement.{view_switch_item, view_switch_items, view_else_if, view_else_ifs};
+ghost use Rattle.upc_tree.specs.ViewStatement.{view_otherwise};
 ghost use Rattle.upc_expressions.specs.Outcome.{span_of};
 ghost use Rattle.upc_expressions.specs.Run.{Reads, boxed};
 ghost use Rattle.statement_parser.specs.Parse as spec;
@@ -39,7 +41,8 @@ fn continue_statement(
     tokens: &mut Tokens<'_>,
     word: Span,
 ) -> Result<Box<Statement>, Fail>
-    ensures { Reads (boxed view_statement) (spec.continue_statement word tokens.old.rest.now) result tokens.new.rest.now }
+    ensures { Reads (boxed view_statement) (spec.continue_statement word tokens.old.rest.now) result
+        tokens.new.rest.now }
 {
     let semicolon = expect_punct(tokens, Punct::Semicolon)?;
     Ok(boxed(alloc, Statement::Continue { word, semicolon })?)
@@ -71,7 +74,8 @@ impl<H: Fn(Global, &mut Tokens<'_>, u32) -> Result<Box<Statement>, Fail>> Rules<
     fn below(&self, tokens: &mut Tokens<'_>, n: u32) -> Result<Box<Statement>, Fail>
         requires within { n ≤ self.now.below }
         requires nests { Nests self.now.below (H.pre self.now.statement) (H.post self.now.statement) }
-        ensures { Reads (boxed view_statement) ((statements_at n).statement tokens.old.rest.now) result tokens.new.rest.now }
+        ensures { Reads (boxed view_statement) ((statements_at n).statement tokens.old.rest.now)
+            result tokens.new.rest.now }
     {
         (self.statement)(self.alloc, tokens, n)
     }
@@ -90,7 +94,8 @@ impl<H: Fn(Global, &mut Tokens<'_>, u32) -> Result<Box<Statement>, Fail>> Rules<
     fn statement_item(&self, tokens: &mut Tokens<'_>, n: u32) -> Result<BlockItem, Fail>
         requires within { n ≤ self.now.below }
         requires nests { Nests self.now.below (H.pre self.now.statement) (H.post self.now.statement) }
-        ensures { Reads view_block_item (spec.statement_item n (statements_at n) tokens.old.rest.now) result tokens.new.rest.now }
+        ensures { Reads view_block_item (spec.statement_item n (statements_at n)
+            tokens.old.rest.now) result tokens.new.rest.now }
     {
         let statement = self.below(tokens, n)?;
         Ok(BlockItem::Statement(statement))
@@ -110,7 +115,8 @@ impl<H: Fn(Global, &mut Tokens<'_>, u32) -> Result<Box<Statement>, Fail>> Rules<
     fn items(&self, tokens: &mut Tokens<'_>, n: u32) -> Result<Vec<BlockItem>, Fail>
         requires within { n ≤ self.now.below }
         requires nests { Nests self.now.below (H.pre self.now.statement) (H.post self.now.statement) }
-        ensures { Reads view_block_items (spec.items n (statements_at n) tokens.old.rest.now) result tokens.new.rest.now }
+        ensures { Reads view_block_items (spec.items n (statements_at n) tokens.old.rest.now) result
+            tokens.new.rest.now }
     {
         many(
             self.alloc,
@@ -159,7 +165,8 @@ impl<H: Fn(Global, &mut Tokens<'_>, u32) -> Result<Box<Statement>, Fail>> Rules<
     fn switch_statement(&self, tokens: &mut Tokens<'_>, n: u32) -> Result<SwitchItem, Fail>
         requires within { n ≤ self.now.below }
         requires nests { Nests self.now.below (H.pre self.now.statement) (H.post self.now.statement) }
-        ensures { Reads view_switch_item (spec.switch_statement n (statements_at n) tokens.old.rest.now) result tokens.new.rest.now }
+        ensures { Reads view_switch_item (spec.switch_statement n (statements_at n)
+            tokens.old.rest.now) result tokens.new.rest.now }
     {
         let statement = self.below(tokens, n)?;
         Ok(SwitchItem::Statement(statement))
@@ -168,7 +175,8 @@ impl<H: Fn(Global, &mut Tokens<'_>, u32) -> Result<Box<Statement>, Fail>> Rules<
     fn switch_item(&self, tokens: &mut Tokens<'_>, n: u32) -> Result<SwitchItem, Fail>
         requires within { n ≤ self.now.below }
         requires nests { Nests self.now.below (H.pre self.now.statement) (H.post self.now.statement) }
-        ensures { Reads view_switch_item (spec.switch_item n (statements_at n) tokens.old.rest.now) result tokens.new.rest.now }
+        ensures { Reads view_switch_item (spec.switch_item n (statements_at n) tokens.old.rest.now)
+            result tokens.new.rest.now }
     {
         if starts(Sign::Word(Word::Case), tokens.rest) {
             return self.case_item(tokens, n);
@@ -182,7 +190,8 @@ impl<H: Fn(Global, &mut Tokens<'_>, u32) -> Result<Box<Statement>, Fail>> Rules<
     fn switch_items(&self, tokens: &mut Tokens<'_>, n: u32) -> Result<Vec<SwitchItem>, Fail>
         requires within { n ≤ self.now.below }
         requires nests { Nests self.now.below (H.pre self.now.statement) (H.post self.now.statement) }
-        ensures { Reads view_switch_items (spec.switch_items n (statements_at n) tokens.old.rest.now) result tokens.new.rest.now }
+        ensures { Reads view_switch_items (spec.switch_items n (statements_at n)
+            tokens.old.rest.now) result tokens.new.rest.now }
     {
         many(
             self.alloc,
@@ -196,7 +205,8 @@ impl<H: Fn(Global, &mut Tokens<'_>, u32) -> Result<Box<Statement>, Fail>> Rules<
     fn switch_items_below(&self, tokens: &mut Tokens<'_>, n: u32) -> Result<Vec<SwitchItem>, Fail>
         requires within { n ≤ self.now.below }
         requires nests { Nests self.now.below (H.pre self.now.statement) (H.post self.now.statement) }
-        ensures { Reads view_switch_items ((statements_at n).switch_items tokens.old.rest.now) result tokens.new.rest.now }
+        ensures { Reads view_switch_items ((statements_at n).switch_items tokens.old.rest.now)
+            result tokens.new.rest.now }
     {
         if n == 0 {
             return Err(Fail::Fault(Fault::TooHigh));
@@ -208,7 +218,8 @@ impl<H: Fn(Global, &mut Tokens<'_>, u32) -> Result<Box<Statement>, Fail>> Rules<
     pub fn compound(&self, tokens: &mut Tokens<'_>, n: u32) -> Result<Box<Compound>, Fail>
         requires within { n ≤ self.now.below }
         requires nests { Nests self.now.below (H.pre self.now.statement) (H.post self.now.statement) }
-        ensures { Reads (boxed view_compound) (spec.compound n (statements_at n) tokens.old.rest.now) result tokens.new.rest.now }
+        ensures { Reads (boxed view_compound) (spec.compound n (statements_at n)
+            tokens.old.rest.now) result tokens.new.rest.now }
     {
         let open = expect_punct(tokens, Punct::LBrace)?;
         let pragmas = pragmas(self.alloc, tokens)?;
@@ -246,7 +257,8 @@ impl<H: Fn(Global, &mut Tokens<'_>, u32) -> Result<Box<Statement>, Fail>> Rules<
     fn else_ifs(&self, tokens: &mut Tokens<'_>, n: u32) -> Result<Vec<ElseIf>, Fail>
         requires within { n ≤ self.now.below }
         requires nests { Nests self.now.below (H.pre self.now.statement) (H.post self.now.statement) }
-        ensures { Reads view_else_ifs (spec.else_ifs n (statements_at n) tokens.old.rest.now) result tokens.new.rest.now }
+        ensures { Reads view_else_ifs (spec.else_ifs n (statements_at n) tokens.old.rest.now) result
+            tokens.new.rest.now }
     {
         many(
             self.alloc,
@@ -260,7 +272,8 @@ impl<H: Fn(Global, &mut Tokens<'_>, u32) -> Result<Box<Statement>, Fail>> Rules<
     fn else_part(&self, tokens: &mut Tokens<'_>, n: u32) -> Result<Otherwise, Fail>
         requires within { n ≤ self.now.below }
         requires nests { Nests self.now.below (H.pre self.now.statement) (H.post self.now.statement) }
-        ensures { Reads view_otherwise (spec.else_part n (statements_at n) tokens.old.rest.now) result tokens.new.rest.now }
+        ensures { Reads view_otherwise (spec.else_part n (statements_at n) tokens.old.rest.now)
+            result tokens.new.rest.now }
     {
         let word = expect_word(tokens, Word::Else)?;
         let body = self.below(tokens, n)?;
@@ -270,7 +283,8 @@ impl<H: Fn(Global, &mut Tokens<'_>, u32) -> Result<Box<Statement>, Fail>> Rules<
     fn otherwise(&self, tokens: &mut Tokens<'_>, n: u32) -> Result<Otherwise, Fail>
         requires within { n ≤ self.now.below }
         requires nests { Nests self.now.below (H.pre self.now.statement) (H.post self.now.statement) }
-        ensures { Reads view_otherwise (spec.otherwise n (statements_at n) tokens.old.rest.now) result tokens.new.rest.now }
+        ensures { Reads view_otherwise (spec.otherwise n (statements_at n) tokens.old.rest.now)
+            result tokens.new.rest.now }
     {
         if starts(Sign::Word(Word::Else), tokens.rest) {
             return self.else_part(tokens, n);
@@ -287,7 +301,8 @@ impl<H: Fn(Global, &mut Tokens<'_>, u32) -> Result<Box<Statement>, Fail>> Rules<
     ) -> Result<Box<Statement>, Fail>
         requires within { n ≤ self.now.below }
         requires nests { Nests self.now.below (H.pre self.now.statement) (H.post self.now.statement) }
-        ensures { Reads (boxed view_statement) (spec.if_statement n (statements_at n) word tokens.old.rest.now) result tokens.new.rest.now }
+        ensures { Reads (boxed view_statement) (spec.if_statement n (statements_at n) word
+            tokens.old.rest.now) result tokens.new.rest.now }
     {
         let test = test(self.alloc, tokens, n)?;
         let body = self.below(tokens, n)?;
@@ -300,7 +315,8 @@ impl<H: Fn(Global, &mut Tokens<'_>, u32) -> Result<Box<Statement>, Fail>> Rules<
     fn switch(&self, tokens: &mut Tokens<'_>, n: u32, word: Span) -> Result<Box<Statement>, Fail>
         requires within { n ≤ self.now.below }
         requires nests { Nests self.now.below (H.pre self.now.statement) (H.post self.now.statement) }
-        ensures { Reads (boxed view_statement) (spec.switch n (statements_at n) word tokens.old.rest.now) result tokens.new.rest.now }
+        ensures { Reads (boxed view_statement) (spec.switch n (statements_at n) word
+            tokens.old.rest.now) result tokens.new.rest.now }
     {
         let test = test(self.alloc, tokens, n)?;
         let left = expect_punct(tokens, Punct::LBrace)?;
@@ -318,7 +334,8 @@ impl<H: Fn(Global, &mut Tokens<'_>, u32) -> Result<Box<Statement>, Fail>> Rules<
     ) -> Result<Box<Statement>, Fail>
         requires within { n ≤ self.now.below }
         requires nests { Nests self.now.below (H.pre self.now.statement) (H.post self.now.statement) }
-        ensures { Reads (boxed view_statement) (spec.while_statement n (statements_at n) word tokens.old.rest.now) result tokens.new.rest.now }
+        ensures { Reads (boxed view_statement) (spec.while_statement n (statements_at n) word
+            tokens.old.rest.now) result tokens.new.rest.now }
     {
         let test = test(self.alloc, tokens, n)?;
         let body = self.below(tokens, n)?;
@@ -334,7 +351,8 @@ impl<H: Fn(Global, &mut Tokens<'_>, u32) -> Result<Box<Statement>, Fail>> Rules<
     ) -> Result<Box<Statement>, Fail>
         requires within { n ≤ self.now.below }
         requires nests { Nests self.now.below (H.pre self.now.statement) (H.post self.now.statement) }
-        ensures { Reads (boxed view_statement) (spec.do_statement n (statements_at n) word tokens.old.rest.now) result tokens.new.rest.now }
+        ensures { Reads (boxed view_statement) (spec.do_statement n (statements_at n) word
+            tokens.old.rest.now) result tokens.new.rest.now }
     {
         let body = self.below(tokens, n)?;
         let until = expect_word(tokens, Word::While)?;
@@ -352,7 +370,8 @@ impl<H: Fn(Global, &mut Tokens<'_>, u32) -> Result<Box<Statement>, Fail>> Rules<
     ) -> Result<Box<Statement>, Fail>
         requires within { n ≤ self.now.below }
         requires nests { Nests self.now.below (H.pre self.now.statement) (H.post self.now.statement) }
-        ensures { Reads (boxed view_statement) (spec.for_statement n (statements_at n) word tokens.old.rest.now) result tokens.new.rest.now }
+        ensures { Reads (boxed view_statement) (spec.for_statement n (statements_at n) word
+            tokens.old.rest.now) result tokens.new.rest.now }
     {
         let head = for_head(self.alloc, tokens, n)?;
         let body = self.below(tokens, n)?;
@@ -368,7 +387,8 @@ impl<H: Fn(Global, &mut Tokens<'_>, u32) -> Result<Box<Statement>, Fail>> Rules<
     ) -> Result<Box<Statement>, Fail>
         requires within { n ≤ self.now.below }
         requires nests { Nests self.now.below (H.pre self.now.statement) (H.post self.now.statement) }
-        ensures { Reads (boxed view_statement) (spec.forall_statement n (statements_at n) word tokens.old.rest.now) result tokens.new.rest.now }
+        ensures { Reads (boxed view_statement) (spec.forall_statement n (statements_at n) word
+            tokens.old.rest.now) result tokens.new.rest.now }
     {
         let head = forall_head(self.alloc, tokens, n)?;
         let body = self.below(tokens, n)?;
@@ -395,7 +415,8 @@ impl<H: Fn(Global, &mut Tokens<'_>, u32) -> Result<Box<Statement>, Fail>> Rules<
     ) -> Result<Box<Statement>, Fail>
         requires within { n ≤ self.now.below }
         requires nests { Nests self.now.below (H.pre self.now.statement) (H.post self.now.statement) }
-        ensures { Reads (boxed view_statement) (spec.return_statement n word tokens.old.rest.now) result tokens.new.rest.now }
+        ensures { Reads (boxed view_statement) (spec.return_statement n word tokens.old.rest.now)
+            result tokens.new.rest.now }
     {
         let value = value(self.alloc, tokens, n, Punct::Semicolon)?;
         let semicolon = expect_punct(tokens, Punct::Semicolon)?;
@@ -419,7 +440,8 @@ impl<H: Fn(Global, &mut Tokens<'_>, u32) -> Result<Box<Statement>, Fail>> Rules<
     ) -> Result<Box<Statement>, Fail>
         requires within { n ≤ self.now.below }
         requires nests { Nests self.now.below (H.pre self.now.statement) (H.post self.now.statement) }
-        ensures { Reads (boxed view_statement) (spec.barrier_statement n word at tokens.old.rest.now) result tokens.new.rest.now }
+        ensures { Reads (boxed view_statement) (spec.barrier_statement n word at
+            tokens.old.rest.now) result tokens.new.rest.now }
     {
         let value = value(self.alloc, tokens, n, Punct::Semicolon)?;
         let semicolon = expect_punct(tokens, Punct::Semicolon)?;
@@ -438,7 +460,8 @@ impl<H: Fn(Global, &mut Tokens<'_>, u32) -> Result<Box<Statement>, Fail>> Rules<
     fn block_statement(&self, tokens: &mut Tokens<'_>, n: u32) -> Result<Box<Statement>, Fail>
         requires within { n ≤ self.now.below }
         requires nests { Nests self.now.below (H.pre self.now.statement) (H.post self.now.statement) }
-        ensures { Reads (boxed view_statement) (spec.block n (statements_at n) tokens.old.rest.now) result tokens.new.rest.now }
+        ensures { Reads (boxed view_statement) (spec.block n (statements_at n) tokens.old.rest.now)
+            result tokens.new.rest.now }
     {
         let compound = self.compound(tokens, n)?;
         Ok(block(self.alloc, compound)?)
@@ -454,7 +477,8 @@ impl<H: Fn(Global, &mut Tokens<'_>, u32) -> Result<Box<Statement>, Fail>> Rules<
     ) -> Result<Box<Statement>, Fail>
         requires within { n ≤ self.now.below }
         requires nests { Nests self.now.below (H.pre self.now.statement) (H.post self.now.statement) }
-        ensures { Reads (boxed view_statement) (spec.statement_from n (statements_at n) start word tokens.old.rest.now) result tokens.new.rest.now }
+        ensures { Reads (boxed view_statement) (spec.statement_from n (statements_at n) start word
+            tokens.old.rest.now) result tokens.new.rest.now }
     {
         match start {
             StatementStart::If => self.if_statement(tokens, n, word),
@@ -477,7 +501,8 @@ impl<H: Fn(Global, &mut Tokens<'_>, u32) -> Result<Box<Statement>, Fail>> Rules<
     pub fn whole(&self, tokens: &mut Tokens<'_>, n: u32) -> Result<Box<Statement>, Fail>
         requires within { n ≤ self.now.below }
         requires nests { Nests self.now.below (H.pre self.now.statement) (H.post self.now.statement) }
-        ensures { Reads (boxed view_statement) (spec.statement n (statements_at n) tokens.old.rest.now) result tokens.new.rest.now }
+        ensures { Reads (boxed view_statement) (spec.statement n (statements_at n)
+            tokens.old.rest.now) result tokens.new.rest.now }
     {
         match tokens.rest {
             [] => Err(Fail::Fault(Fault::NoTree)),

@@ -2,11 +2,20 @@
 
 ghost use Rattle.std.specs.Prelude.{◌≡◌, ◌∷◌, map, OnOk};
 ghost use Rattle.upc_lexer.specs.declared.token.Punct.TheVariants as p;
-ghost use Rattle.upc_tree.specs.Marks.{unary_punct, postfix_punct, member_punct, binary_punct, assign_punct, size_word, constant_word, type_word};
+ghost use Rattle.upc_tree.specs.Marks.{unary_punct, postfix_punct, member_punct, binary_punct, assign_punct};
+ghost use Rattle.upc_tree.specs.Marks.{size_word, constant_word, type_word};
 ghost use Rattle.upc_tree.specs.Tokens.{punct, word, name_token, string_token, spell_strings};
-ghost use Rattle.upc_tree.specs.Expression.{spell, spell_arguments, spell_next_exprs, spell_type, spell_specs, spell_spec, spell_quals, spell_qual, spell_layout, spell_pointers, spell_dimensions, spell_members, spell_next_declarators, spell_declarator, spell_parameters, spell_parameter, spell_next_parameters, spell_array, spell_name};
-ghost use Rattle.upc_tree.specs.Lists.{spell_member, next_exprs_of, specs_of, quals_of, pointers_of, dimensions_of, members_of, next_declarators_of, next_parameters_of};
-ghost use Rattle.upc_tree.specs.View.{view, view_arguments, view_next_expr, view_type, view_spec, view_qual, view_layout, view_pointer, view_dimension, view_member, view_next_declarator, view_declarator, view_parameters, view_parameter, view_next_parameter, view_array};
+ghost use Rattle.upc_tree.specs.Expression.{spell, spell_arguments, spell_next_exprs, spell_type, spell_specs};
+ghost use Rattle.upc_tree.specs.Expression.{spell_spec, spell_quals, spell_qual, spell_layout, spell_pointers};
+ghost use Rattle.upc_tree.specs.Expression.{spell_dimensions, spell_members, spell_next_declarators};
+ghost use Rattle.upc_tree.specs.Expression.{spell_declarator, spell_parameters, spell_parameter};
+ghost use Rattle.upc_tree.specs.Expression.{spell_next_parameters, spell_array, spell_name};
+ghost use Rattle.upc_tree.specs.Lists.{spell_member, next_exprs_of, specs_of, quals_of, pointers_of, dimensions_of};
+ghost use Rattle.upc_tree.specs.Lists.{members_of, next_declarators_of, next_parameters_of};
+ghost use Rattle.upc_tree.specs.View.{view, view_arguments, view_next_expr, view_type, view_spec, view_qual};
+ghost use Rattle.upc_tree.specs.View.{view_layout, view_pointer, view_dimension, view_member, view_next_declarator};
+ghost use Rattle.upc_tree.specs.View.{view_declarator, view_parameters, view_parameter, view_next_parameter};
+ghost use Rattle.upc_tree.specs.View.{view_array};
 
 use crate::backwards::Backwards;
 use upc_lexer::{Punct, TokenKind, Word};
@@ -313,7 +322,8 @@ fn put_enclosed_type(
     name: &TypeName,
     right: Span,
 ) -> Result<(), OutOfMemory>
-    ensures { OnOk result (out.new ≡ punct p.LParen left ∷ spell_type (view_type name.now) (punct p.RParen right ∷ out.old)) }
+    ensures { OnOk result (out.new ≡ punct p.LParen left ∷ spell_type (view_type name.now)
+        (punct p.RParen right ∷ out.old)) }
 {
     out.put_punct(Punct::RParen, right)?;
     put_type(out, name)?;
@@ -330,7 +340,8 @@ fn put_sized_type(
     name: &TypeName,
     right: Span,
 ) -> Result<(), OutOfMemory>
-    ensures { OnOk result (out.new ≡ word size at ∷ punct p.LParen left ∷ spell_type (view_type name.now) (punct p.RParen right ∷ out.old)) }
+    ensures { OnOk result (out.new ≡ word size at ∷ punct p.LParen left ∷ spell_type
+        (view_type name.now) (punct p.RParen right ∷ out.old)) }
 {
     put_enclosed_type(out, left, name, right)?;
     out.put_word(size, at)
@@ -506,7 +517,8 @@ fn put_member(out: &mut Backwards, member: &Member) -> Result<(), OutOfMemory>
 
 #[cycle(put)]
 fn put_next_declarators(out: &mut Backwards, more: &[NextDeclarator]) -> Result<(), OutOfMemory>
-    ensures { OnOk result (out.new ≡ spell_next_declarators (next_declarators_of (map view_next_declarator more.now)) out.old) }
+    ensures { OnOk result (out.new ≡ spell_next_declarators
+        (next_declarators_of (map view_next_declarator more.now)) out.old) }
 {
     for i in (0..more.len()).rev() {
         let part = &more[i];
@@ -582,7 +594,8 @@ fn put_parameter(out: &mut Backwards, parameter: &Parameter) -> Result<(), OutOf
 
 #[cycle(put)]
 fn put_next_parameters(out: &mut Backwards, more: &[NextParameter]) -> Result<(), OutOfMemory>
-    ensures { OnOk result (out.new ≡ spell_next_parameters (next_parameters_of (map view_next_parameter more.now)) out.old) }
+    ensures { OnOk result (out.new ≡ spell_next_parameters
+        (next_parameters_of (map view_next_parameter more.now)) out.old) }
 {
     for i in (0..more.len()).rev() {
         let part = &more[i];

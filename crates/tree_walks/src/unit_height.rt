@@ -1,11 +1,19 @@
 //! The height of a tree.
 
 ghost use Rattle.std.specs.Prelude.{◌≡◌, map};
-ghost use Rattle.upc_tree.specs.Declaration.{height_initial, height_declared, height_next_declareds, height_declared_list, height_declaration};
-ghost use Rattle.upc_tree.specs.Statement.{height_value, height_first, height_affinity, height_for, height_forall, height_statement, height_compound, height_block_items, height_block_item, height_switch_items, height_switch_item, height_else_ifs, height_otherwise};
+ghost use Rattle.upc_tree.specs.Declaration.{height_initial, height_declared, height_next_declareds};
+ghost use Rattle.upc_tree.specs.Declaration.{height_declared_list, height_declaration};
+ghost use Rattle.upc_tree.specs.Statement.{height_value, height_first, height_affinity, height_for, height_forall};
+ghost use Rattle.upc_tree.specs.Statement.{height_statement, height_compound, height_block_items, height_block_item};
+ghost use Rattle.upc_tree.specs.Statement.{height_switch_items, height_switch_item, height_else_ifs};
+ghost use Rattle.upc_tree.specs.Statement.{height_otherwise};
 ghost use Rattle.upc_tree.specs.Unit.{height_external, height_unit};
 ghost use Rattle.upc_tree.specs.Lists.{capped, next_declareds_of, block_items_of, switch_items_of, else_ifs_of};
-ghost use Rattle.upc_tree.specs.ViewStatement.{view_initial, view_declared, view_next_declared, view_declared_list, view_declaration, view_value, view_first, view_affinity, view_for, view_forall, view_statement, view_compound, view_block_item, view_switch_item, view_else_if, view_otherwise, view_function, view_external, view_unit};
+ghost use Rattle.upc_tree.specs.ViewStatement.{view_initial, view_declared, view_next_declared, view_declared_list};
+ghost use Rattle.upc_tree.specs.ViewStatement.{view_declaration, view_value, view_first, view_affinity, view_for};
+ghost use Rattle.upc_tree.specs.ViewStatement.{view_forall, view_statement, view_compound, view_block_item};
+ghost use Rattle.upc_tree.specs.ViewStatement.{view_switch_item, view_else_if, view_otherwise, view_function};
+ghost use Rattle.upc_tree.specs.ViewStatement.{view_external, view_unit};
 
 use upc_tree::{
     Affinity, BlockItem, Compound, Declaration, Declared, DeclaredList, ElseIf, Expr, External,

@@ -5,11 +5,19 @@ ghost use Rattle.upc_lexer.specs.declared.token.Punct.TheVariants as p;
 ghost use Rattle.upc_tree.specs.Marks.{barrier_word};
 ghost use Rattle.upc_tree.specs.Tokens.{punct, word, spell_pragmas};
 ghost use Rattle.upc_tree.specs.Statement as t;
-ghost use Rattle.upc_tree.specs.Declaration.{spell_initial, spell_declared, spell_next_declareds, spell_declared_list, spell_declaration};
-ghost use Rattle.upc_tree.specs.Statement.{spell_value, spell_test, spell_first, spell_affinity, spell_for, spell_forall, spell_statement, spell_compound, spell_block_items, spell_block_item, spell_switch_items, spell_switch_item, spell_else_ifs, spell_otherwise};
+ghost use Rattle.upc_tree.specs.Declaration.{spell_initial, spell_declared, spell_next_declareds};
+ghost use Rattle.upc_tree.specs.Declaration.{spell_declared_list, spell_declaration};
+ghost use Rattle.upc_tree.specs.Statement.{spell_value, spell_test, spell_first, spell_affinity, spell_for};
+ghost use Rattle.upc_tree.specs.Statement.{spell_forall, spell_statement, spell_compound, spell_block_items};
+ghost use Rattle.upc_tree.specs.Statement.{spell_block_item, spell_switch_items, spell_switch_item, spell_else_ifs};
+ghost use Rattle.upc_tree.specs.Statement.{spell_otherwise};
 ghost use Rattle.upc_tree.specs.Unit.{spell_external, spell_externals, tokens_of};
 ghost use Rattle.upc_tree.specs.Lists.{next_declareds_of, block_items_of, switch_items_of, else_ifs_of};
-ghost use Rattle.upc_tree.specs.ViewStatement.{view_initial, view_declared, view_next_declared, view_declared_list, view_declaration, view_value, view_test, view_first, view_affinity, view_for, view_forall, view_statement, view_compound, view_block_item, view_switch_item, view_else_if, view_otherwise, view_function, view_external, view_unit};
+ghost use Rattle.upc_tree.specs.ViewStatement.{view_initial, view_declared, view_next_declared, view_declared_list};
+ghost use Rattle.upc_tree.specs.ViewStatement.{view_declaration, view_value, view_test, view_first, view_affinity};
+ghost use Rattle.upc_tree.specs.ViewStatement.{view_for, view_forall, view_statement, view_compound, view_block_item};
+ghost use Rattle.upc_tree.specs.ViewStatement.{view_switch_item, view_else_if, view_otherwise, view_function};
+ghost use Rattle.upc_tree.specs.ViewStatement.{view_external, view_unit};
 
 use crate::backwards::Backwards;
 use crate::expression_tokens::{
@@ -67,7 +75,8 @@ fn put_declared(out: &mut Backwards, declared: &Declared) -> Result<(), OutOfMem
 }
 
 fn put_next_declareds(out: &mut Backwards, more: &[NextDeclared]) -> Result<(), OutOfMemory>
-    ensures { OnOk result (out.new ≡ spell_next_declareds (next_declareds_of (map view_next_declared more.now)) out.old) }
+    ensures { OnOk result (out.new ≡ spell_next_declareds
+        (next_declareds_of (map view_next_declared more.now)) out.old) }
 {
     for i in (0..more.len()).rev() {
         let part = &more[i];
@@ -198,7 +207,8 @@ fn put_value_behind(
     value: &Option<Box<Expr>>,
     semicolon: Span,
 ) -> Result<(), OutOfMemory>
-    ensures { OnOk result (out.new ≡ word kind at ∷ spell_value (view_value value.now) (punct p.Semicolon semicolon ∷ out.old)) }
+    ensures { OnOk result (out.new ≡ word kind at ∷ spell_value (view_value value.now)
+        (punct p.Semicolon semicolon ∷ out.old)) }
 {
     put_ended(out, value, semicolon)?;
     out.put_word(kind, at)
@@ -278,7 +288,8 @@ fn put_governed(
     test: &Test,
     body: &Statement,
 ) -> Result<(), OutOfMemory>
-    ensures { OnOk result (out.new ≡ word kind at ∷ spell_test (view_test test.now) (spell_statement (view_statement body.now) out.old)) }
+    ensures { OnOk result (out.new ≡ word kind at ∷ spell_test (view_test test.now)
+        (spell_statement (view_statement body.now) out.old)) }
 {
     put_statement(out, body)?;
     put_test_behind(out, kind, at, test)
@@ -294,7 +305,8 @@ fn put_switch(
     body: &[SwitchItem],
     right: Span,
 ) -> Result<(), OutOfMemory>
-    ensures { OnOk result (out.new ≡ spell_statement (t.Switch at (view_test test.now) left (switch_items_of (map view_switch_item body.now)) right) out.old) }
+    ensures { OnOk result (out.new ≡ spell_statement (t.Switch at (view_test test.now) left
+        (switch_items_of (map view_switch_item body.now)) right) out.old) }
 {
     out.put_punct(Punct::RBrace, right)?;
     put_switch_items(out, body)?;
@@ -312,7 +324,8 @@ fn put_do_while(
     test: &Test,
     semicolon: Span,
 ) -> Result<(), OutOfMemory>
-    ensures { OnOk result (out.new ≡ spell_statement (t.DoWhile at (view_statement body.now) until (view_test test.now) semicolon) out.old) }
+    ensures { OnOk result (out.new ≡ spell_statement (t.DoWhile at (view_statement body.now) until
+        (view_test test.now) semicolon) out.old) }
 {
     out.put_punct(Punct::Semicolon, semicolon)?;
     put_test_behind(out, Word::While, until, test)?;
@@ -343,7 +356,8 @@ fn put_forall_statement(
     head: &ForallHead,
     body: &Statement,
 ) -> Result<(), OutOfMemory>
-    ensures { OnOk result (out.new ≡ spell_statement (t.Forall at (view_forall head.now) (view_statement body.now)) out.old) }
+    ensures { OnOk result (out.new ≡ spell_statement (t.Forall at (view_forall head.now)
+        (view_statement body.now)) out.old) }
 {
     put_statement(out, body)?;
     put_forall(out, head)?;

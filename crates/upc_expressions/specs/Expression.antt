@@ -1,5 +1,6 @@
 -- The parser of expressions and types, as a function on lists of tokens.
-use Rattle.std.specs.Prelude.{ℕ, zero, suc, ◌+◌, Bool, false, ◌&&◌, nat_le, if◌then◌else◌, List, [], ◌∷◌, length, Option, Some, None, Ok, Err}
+use Rattle.std.specs.Prelude.{ℕ, zero, suc, ◌+◌, Bool, false, ◌&&◌, nat_le, if◌then◌else◌, List, [], ◌∷◌, length}
+use Rattle.std.specs.Prelude.{Option, Some, None, Ok, Err}
 use Rattle.upc_lexer.specs.declared.token.Token.{Token}
 use Rattle.upc_lexer.specs.declared.token.TokenKind.{TokenKind}
 use Rattle.upc_lexer.specs.declared.token.TokenKind.TheVariants as k
@@ -13,9 +14,12 @@ use Rattle.upc_tree.specs.declared.span.Name.{Name}
 use Rattle.upc_tree.specs.declared.span.StringLiteral.{StringLiteral}
 use Rattle.upc_tree.specs.Marks.{binary_level, operand_level}
 use Rattle.upc_tree.specs.Expression as t
-use Rattle.upc_tree.specs.Expression.{Expr, Arguments, NextExprs, TypeName, Specs, Spec, Quals, Qual, Layout, Pointers, Dimensions, Members, NextDeclarators, Declarator, Parameters, Parameter, NextParameters, ParameterArray, height}
+use Rattle.upc_tree.specs.Expression.{Expr, Arguments, NextExprs, TypeName, Specs, Spec, Quals, Qual, Layout}
+use Rattle.upc_tree.specs.Expression.{Pointers, Dimensions, Members, NextDeclarators, Declarator, Parameters}
+use Rattle.upc_tree.specs.Expression.{Parameter, NextParameters, ParameterArray, height}
 use Rattle.upc_tree.specs.Proper.{level}
-use Rattle.upc_tree.specs.Lists.{next_exprs_of, specs_of, quals_of, pointers_of, dimensions_of, members_of, next_declarators_of, next_parameters_of}
+use Rattle.upc_tree.specs.Lists.{next_exprs_of, specs_of, quals_of, pointers_of, dimensions_of, members_of}
+use Rattle.upc_tree.specs.Lists.{next_declarators_of, next_parameters_of}
 use Rattle.upc_expressions.specs.declared.start.Prefix.{Prefix}
 use Rattle.upc_expressions.specs.declared.start.Prefix.TheVariants as prefix
 use Rattle.upc_expressions.specs.declared.start.Suffix.{Suffix}
@@ -27,8 +31,10 @@ use Rattle.upc_expressions.specs.declared.start.QualWord.TheVariants as q
 use Rattle.upc_expressions.specs.declared.start.SpecStart.{SpecStart}
 use Rattle.upc_expressions.specs.declared.start.SpecStart.TheVariants as s
 use Rattle.upc_expressions.specs.declared.cursor.Fault.TheVariants.{NoTree, TooHigh}
-use Rattle.upc_expressions.specs.Outcome.{Outcome, Parser, ◌>>=◌, span_of, is_punct, is_word, starts, starts_two, expect_punct, expect_word, all, listed}
-use Rattle.upc_expressions.specs.Tables.{prefix_of, suffix_of, joint_of, joint_level, left_least, qual_start, spec_start, is_qual, is_spec, is_string}
+use Rattle.upc_expressions.specs.Outcome.{Outcome, Parser, ◌>>=◌, span_of, is_punct, is_word, starts, starts_two}
+use Rattle.upc_expressions.specs.Outcome.{expect_punct, expect_word, all, listed}
+use Rattle.upc_expressions.specs.Tables.{prefix_of, suffix_of, joint_of, joint_level, left_least, qual_start}
+use Rattle.upc_expressions.specs.Tables.{spec_start, is_qual, is_spec, is_string}
 
 -- ---- what needs no part
 
@@ -86,16 +92,27 @@ goes_on least left mark = nat_le least (joint_level mark) && nat_le (left_least 
 
 module _ (below : Level) where
   unfoldable pub dimension : Parser (Span × Expr × Span)
-  dimension ts = expect_punct p.LBracket ts >>= λ o. below.expr 2 o.1 >>= λ e. expect_punct p.RBracket e.1 >>= λ c. Ok ((o.0, e.0, c.0), c.1)
+  dimension ts = do
+    o ← expect_punct p.LBracket ts
+    e ← below.expr 2 o.1
+    c ← expect_punct p.RBracket e.1
+    Ok ((o.0, e.0, c.0), c.1)
 
   unfoldable pub dimensions : Parser Dimensions
   dimensions ts = listed dimensions_of (starts (is_punct p.LBracket)) dimension ts
 
   unfoldable pub empty_layout : Parser Layout
-  empty_layout ts = expect_punct p.LBracket ts >>= λ o. expect_punct p.RBracket o.1 >>= λ c. Ok (t.IndefiniteLayout o.0 c.0, c.1)
+  empty_layout ts = do
+    o ← expect_punct p.LBracket ts
+    c ← expect_punct p.RBracket o.1
+    Ok (t.IndefiniteLayout o.0 c.0, c.1)
 
   unfoldable pub star_layout : Parser Layout
-  star_layout ts = expect_punct p.LBracket ts >>= λ o. expect_punct p.Star o.1 >>= λ s. expect_punct p.RBracket s.1 >>= λ c. Ok (t.StarLayout o.0 s.0 c.0, c.1)
+  star_layout ts = do
+    o ← expect_punct p.LBracket ts
+    s ← expect_punct p.Star o.1
+    c ← expect_punct p.RBracket s.1
+    Ok (t.StarLayout o.0 s.0 c.0, c.1)
 
   unfoldable pub block_layout : Parser Layout
   block_layout ts = dimension ts >>= λ d. Ok (t.BlockLayout d.0.0 d.0.1 d.0.2, d.1)
@@ -103,7 +120,8 @@ module _ (below : Level) where
   unfoldable pub layout : Parser Layout
   layout ts =
       if starts (is_punct p.LBracket) ts
-      then (if starts_two (is_punct p.LBracket) (is_punct p.RBracket) ts then empty_layout ts else if star_fills ts then star_layout ts else block_layout ts)
+      then (if starts_two (is_punct p.LBracket) (is_punct p.RBracket) ts then empty_layout ts
+      else if star_fills ts then star_layout ts else block_layout ts)
       else Ok (t.NoLayout, ts)
 
   unfoldable pub qual_by : QualWord → Span → Parser Qual
@@ -124,7 +142,10 @@ module _ (below : Level) where
   quals ts = listed quals_of (starts is_qual) qual ts
 
   unfoldable pub pointer : Parser (Span × Quals)
-  pointer ts = expect_punct p.Star ts >>= λ s. quals s.1 >>= λ q. Ok ((s.0, q.0), q.1)
+  pointer ts = do
+    s ← expect_punct p.Star ts
+    q ← quals s.1
+    Ok ((s.0, q.0), q.1)
 
   unfoldable pub pointers : Parser Pointers
   pointers ts = listed pointers_of (starts (is_punct p.Star)) pointer ts
@@ -145,15 +166,25 @@ module _ (below : Level) where
 
   -- a type name without sizes
   unfoldable pub plain_type : Parser TypeName
-  plain_type ts = specs false ts >>= λ s. pointers s.1 >>= λ p. Ok (t.Typed s.0 p.0 t.NoDimensions, p.1)
+  plain_type ts = do
+    s ← specs false ts
+    p ← pointers s.1
+    Ok (t.Typed s.0 p.0 t.NoDimensions, p.1)
 
   unfoldable pub type_name : Parser TypeName
-  type_name ts = specs false ts >>= λ s. pointers s.1 >>= λ p. dimensions p.1 >>= λ d. Ok (t.Typed s.0 p.0 d.0, d.1)
+  type_name ts = do
+    s ← specs false ts
+    p ← pointers s.1
+    d ← dimensions p.1
+    Ok (t.Typed s.0 p.0 d.0, d.1)
 
   -- ---- declarators
 
   unfoldable pub unsized_array : Parser ParameterArray
-  unsized_array ts = expect_punct p.LBracket ts >>= λ o. expect_punct p.RBracket o.1 >>= λ c. Ok (t.UnsizedArray o.0 c.0, c.1)
+  unsized_array ts = do
+    o ← expect_punct p.LBracket ts
+    c ← expect_punct p.RBracket o.1
+    Ok (t.UnsizedArray o.0 c.0, c.1)
 
   unfoldable pub sized_array : Parser ParameterArray
   sized_array ts = dimension ts >>= λ d. Ok (t.SizedArray d.0.0 d.0.1 d.0.2, d.1)
@@ -165,10 +196,18 @@ module _ (below : Level) where
       else Ok (t.NoArray, ts)
 
   unfoldable pub parameter : Parser Parameter
-  parameter ts = specs false ts >>= λ s. pointers s.1 >>= λ p. optional_name p.1 >>= λ x. array x.1 >>= λ a. Ok (t.Parametric s.0 p.0 x.0 a.0, a.1)
+  parameter ts = do
+    s ← specs false ts
+    p ← pointers s.1
+    x ← optional_name p.1
+    a ← array x.1
+    Ok (t.Parametric s.0 p.0 x.0 a.0, a.1)
 
   unfoldable pub next_parameter : Parser (Span × Parameter)
-  next_parameter ts = expect_punct p.Comma ts >>= λ c. parameter c.1 >>= λ x. Ok ((c.0, x.0), x.1)
+  next_parameter ts = do
+    c ← expect_punct p.Comma ts
+    x ← parameter c.1
+    Ok ((c.0, x.0), x.1)
 
   unfoldable pub next_parameters : Parser NextParameters
   next_parameters ts = listed next_parameters_of (starts (is_punct p.Comma)) next_parameter ts
@@ -177,10 +216,17 @@ module _ (below : Level) where
   no_parameters left ts = expect_punct p.RParen ts >>= λ c. Ok (t.NoParameters left c.0, c.1)
 
   unfoldable pub void_parameters : Span → Parser Parameters
-  void_parameters left ts = expect_word w.Void ts >>= λ v. expect_punct p.RParen v.1 >>= λ c. Ok (t.VoidParameters left v.0 c.0, c.1)
+  void_parameters left ts = do
+    v ← expect_word w.Void ts
+    c ← expect_punct p.RParen v.1
+    Ok (t.VoidParameters left v.0 c.0, c.1)
 
   unfoldable pub some_parameters : Span → Parser Parameters
-  some_parameters left ts = parameter ts >>= λ f. next_parameters f.1 >>= λ m. expect_punct p.RParen m.1 >>= λ c. Ok (t.SomeParameters left f.0 m.0 c.0, c.1)
+  some_parameters left ts = do
+    f ← parameter ts
+    m ← next_parameters f.1
+    c ← expect_punct p.RParen m.1
+    Ok (t.SomeParameters left f.0 m.0 c.0, c.1)
 
   unfoldable pub parameters_in : Span → Parser Parameters
   parameters_in left ts =
@@ -198,10 +244,16 @@ module _ (below : Level) where
       else (dimensions ts >>= λ d. Ok (t.ObjectDeclarator stars x d.0, d.1))
 
   unfoldable pub declarator : Parser Declarator
-  declarator ts = pointers ts >>= λ s. name s.1 >>= λ x. declarator_by s.0 x.0 x.1
+  declarator ts = do
+    s ← pointers ts
+    x ← name s.1
+    declarator_by s.0 x.0 x.1
 
   unfoldable pub next_declarator : Parser (Span × Declarator)
-  next_declarator ts = expect_punct p.Comma ts >>= λ c. declarator c.1 >>= λ d. Ok ((c.0, d.0), d.1)
+  next_declarator ts = do
+    c ← expect_punct p.Comma ts
+    d ← declarator c.1
+    Ok ((c.0, d.0), d.1)
 
   unfoldable pub next_declarators : Parser NextDeclarators
   next_declarators ts = listed next_declarators_of (starts (is_punct p.Comma)) next_declarator ts
@@ -209,30 +261,49 @@ module _ (below : Level) where
   -- ---- structs, which are one level up
 
   unfoldable pub member : Parser (Specs × Declarator × NextDeclarators × Span)
-  member ts = specs false ts >>= λ s. declarator s.1 >>= λ f. next_declarators f.1 >>= λ n. expect_punct p.Semicolon n.1 >>= λ c. Ok ((s.0, f.0, n.0, c.0), c.1)
+  member ts = do
+    s ← specs false ts
+    f ← declarator s.1
+    n ← next_declarators f.1
+    c ← expect_punct p.Semicolon n.1
+    Ok ((s.0, f.0, n.0, c.0), c.1)
 
   unfoldable pub members : Parser Members
   members ts = listed members_of (starts (is_spec false)) member ts
 
   unfoldable pub struct_body : Span → Name → Parser Spec
-  struct_body word tag ts = expect_punct p.LBrace ts >>= λ o. members o.1 >>= λ m. expect_punct p.RBrace m.1 >>= λ c. Ok (t.StructSpec word tag o.0 m.0 c.0, c.1)
+  struct_body word tag ts = do
+    o ← expect_punct p.LBrace ts
+    m ← members o.1
+    c ← expect_punct p.RBrace m.1
+    Ok (t.StructSpec word tag o.0 m.0 c.0, c.1)
 
   abbrev pub struct_by : Span → Name → Parser Spec
   struct_by word tag ts = if starts (is_punct p.LBrace) ts then struct_body word tag ts else Ok (t.TagSpec word tag, ts)
 
   unfoldable pub structure : Parser Spec
-  structure ts = expect_word w.Struct ts >>= λ s. name s.1 >>= λ x. struct_by s.0 x.0 x.1
+  structure ts = do
+    s ← expect_word w.Struct ts
+    x ← name s.1
+    struct_by s.0 x.0 x.1
 
   -- ---- lists of expressions
 
   unfoldable pub next_expr : Parser (Span × Expr)
-  next_expr ts = expect_punct p.Comma ts >>= λ c. below.expr 1 c.1 >>= λ e. Ok ((c.0, e.0), e.1)
+  next_expr ts = do
+    c ← expect_punct p.Comma ts
+    e ← below.expr 1 c.1
+    Ok ((c.0, e.0), e.1)
 
   unfoldable pub next_exprs : Parser NextExprs
   next_exprs ts = listed next_exprs_of (starts (is_punct p.Comma)) next_expr ts
 
   unfoldable pub some_arguments : Parser Arguments
-  some_arguments ts = below.expr 1 ts >>= λ f. next_exprs f.1 >>= λ m. expect_punct p.RParen m.1 >>= λ c. Ok (t.SomeArguments f.0 m.0 c.0, c.1)
+  some_arguments ts = do
+    f ← below.expr 1 ts
+    m ← next_exprs f.1
+    c ← expect_punct p.RParen m.1
+    Ok (t.SomeArguments f.0 m.0 c.0, c.1)
 
   abbrev pub no_arguments : Parser Arguments
   no_arguments ts = expect_punct p.RParen ts >>= λ c. Ok (t.NoArguments c.0, c.1)
@@ -246,7 +317,11 @@ module _ (below : Level) where
   unary mark at ts = below.expr (operand_level mark) ts >>= λ e. Ok (t.Unary mark at e.0, e.1)
 
   unfoldable pub size_type : SizeWord → Span → Parser Expr
-  size_type word at ts = expect_punct p.LParen ts >>= λ o. type_name o.1 >>= λ n. expect_punct p.RParen n.1 >>= λ c. Ok (t.SizeOfType word at o.0 n.0 c.0, c.1)
+  size_type word at ts = do
+    o ← expect_punct p.LParen ts
+    n ← type_name o.1
+    c ← expect_punct p.RParen n.1
+    Ok (t.SizeOfType word at o.0 n.0 c.0, c.1)
 
   unfoldable pub size_expr : SizeWord → Span → Parser Expr
   size_expr word at ts = below.expr 14 ts >>= λ e. Ok (t.SizeOfExpr word at e.0, e.1)
@@ -255,12 +330,20 @@ module _ (below : Level) where
   size word at ts = if opens_type ts then size_type word at ts else size_expr word at ts
 
   unfoldable pub cast : Parser Expr
-  cast ts = expect_punct p.LParen ts >>= λ o. plain_type o.1 >>= λ n. expect_punct p.RParen n.1 >>= λ c. below.expr 13 c.1 >>= λ e. Ok (t.Cast o.0 n.0 c.0 e.0, e.1)
+  cast ts = do
+    o ← expect_punct p.LParen ts
+    n ← plain_type o.1
+    c ← expect_punct p.RParen n.1
+    e ← below.expr 13 c.1
+    Ok (t.Cast o.0 n.0 c.0 e.0, e.1)
 
   -- ---- expressions that begin otherwise
 
   unfoldable pub paren : Span → Parser Expr
-  paren left ts = below.expr 0 ts >>= λ e. expect_punct p.RParen e.1 >>= λ c. Ok (t.Paren left e.0 c.0, c.1)
+  paren left ts = do
+    e ← below.expr 0 ts
+    c ← expect_punct p.RParen e.1
+    Ok (t.Paren left e.0 c.0, c.1)
 
   abbrev pub primary_by : TokenKind → Span → Parser Expr
   primary_by (k.Name number) span ts = Ok (t.Named (record { number = number; span = span }), ts)
@@ -281,7 +364,10 @@ module _ (n : ℕ) (below : Level) where
   grown base u ts = if nat_le (height base) n then Ok (u, ts) else Err TooHigh
 
   abbrev pub suffixed : Suffix → Expr → Span → Parser Expr
-  suffixed suffix.Subscript base at ts = below.expr 0 ts >>= λ e. expect_punct p.RBracket e.1 >>= λ c. grown base (t.Subscript base at e.0 c.0) c.1
+  suffixed suffix.Subscript base at ts = do
+    e ← below.expr 0 ts
+    c ← expect_punct p.RBracket e.1
+    grown base (t.Subscript base at e.0 c.0) c.1
   suffixed suffix.Call base at ts = below.arguments ts >>= λ a. grown base (t.Call base at a.0) a.1
   suffixed (suffix.Member mark) base at ts = name ts >>= λ x. grown base (t.MemberOf base mark at x.0) x.1
   suffixed (suffix.Step mark) base at ts = grown base (t.Postfix base mark at) ts
@@ -302,7 +388,8 @@ module _ (n : ℕ) (below : Level) where
   abbrev pub prefix_by : ℕ → Prefix → Token → Parser Expr
   prefix_by least (prefix.Unary mark) x ts = unary below mark (span_of x) ts
   prefix_by least (prefix.Size word) x ts = size below word (span_of x) ts
-  prefix_by least prefix.Other x ts = if opens_type (x ∷ ts) then (if nat_le least 13 then cast below (x ∷ ts) else Err NoTree) else primary x ts
+  prefix_by least prefix.Other x ts =
+      if opens_type (x ∷ ts) then (if nat_le least 13 then cast below (x ∷ ts) else Err NoTree) else primary x ts
 
   unfoldable pub first : ℕ → Parser Expr
   first least [] = Err NoTree
@@ -312,14 +399,20 @@ module _ (n : ℕ) (below : Level) where
   joined_comma left ts = next_exprs below ts >>= λ m. grown left (t.Comma left m.0) m.1
 
   unfoldable pub conditional : Expr → Span → Parser Expr
-  conditional left at ts = below.expr 0 ts >>= λ y. expect_punct p.Colon y.1 >>= λ c. below.expr 2 c.1 >>= λ z. grown left (t.Conditional left at y.0 c.0 z.0) z.1
+  conditional left at ts = do
+    y ← below.expr 0 ts
+    c ← expect_punct p.Colon y.1
+    z ← below.expr 2 c.1
+    grown left (t.Conditional left at y.0 c.0 z.0) z.1
 
   -- the joint is the first token
   abbrev pub joined : Joint → Expr → Token → Parser Expr
   joined joint.Comma left x ts = joined_comma left (x ∷ ts)
   joined (joint.Assign mark) left x ts = below.expr 1 ts >>= λ e. grown left (t.Assign left mark (span_of x) e.0) e.1
   joined joint.Question left x ts = conditional left (span_of x) ts
-  joined (joint.Binary mark) left x ts = below.expr (binary_level mark + 1) ts >>= λ e. grown left (t.Binary left mark (span_of x) e.0) e.1
+  joined (joint.Binary mark) left x ts = do
+    e ← below.expr (binary_level mark + 1) ts
+    grown left (t.Binary left mark (span_of x) e.0) e.1
 
   abbrev pub joined_at : Joint → Expr → Parser Expr
   joined_at mark left [] = Err NoTree
@@ -327,7 +420,8 @@ module _ (n : ℕ) (below : Level) where
 
   abbrev pub climb_by : (Expr → Parser Expr) → ℕ → Expr → Option Joint → Token → Parser Expr
   climb_by more least left None x ts = Ok (left, x ∷ ts)
-  climb_by more least left (Some mark) x ts = if goes_on least left mark then (joined mark left x ts >>= λ u. more u.0 u.1) else Ok (left, x ∷ ts)
+  climb_by more least left (Some mark) x ts =
+      if goes_on least left mark then (joined mark left x ts >>= λ u. more u.0 u.1) else Ok (left, x ∷ ts)
 
   unfoldable pub climb : ℕ → ℕ → Expr → Parser Expr
   climb zero least left ts = Ok (left, ts)

@@ -61,7 +61,8 @@ expect_word w = expect (is_word w)
 -- items one after the other, while the tokens go on so, and at most so many
 unfoldable pub many : {X : Type 0} → (List Token → Bool) → Parser X → ℕ → Parser (List X)
 many goes item zero ts = Ok ([], ts)
-many goes item (suc count) ts = if goes ts then (item ts >>= λ x. many goes item count x.1 >>= λ r. Ok (x.0 ∷ r.0, r.1)) else Ok ([], ts)
+many goes item (suc count) ts =
+    if goes ts then (item ts >>= λ x. many goes item count x.1 >>= λ r. Ok (x.0 ∷ r.0, r.1)) else Ok ([], ts)
 
 -- items one after the other, while the tokens go on so
 abbrev pub all : {X : Type 0} → (List Token → Bool) → Parser X → Parser (List X)

@@ -1,7 +1,9 @@
 //! Declarators, parameters and structs (C99 6.7.2.1, 6.7.5).
 
 ghost use Rattle.std.specs.Prelude.{◌≤◌};
-ghost use Rattle.upc_tree.specs.View.{view_spec, view_member, view_members, view_declarator, view_next_declarator, view_next_declarators, view_parameters, view_parameter, view_next_parameter, view_next_parameters, view_array, view_pointers};
+ghost use Rattle.upc_tree.specs.View.{view_spec, view_member, view_members, view_declarator, view_next_declarator};
+ghost use Rattle.upc_tree.specs.View.{view_next_declarators, view_parameters, view_parameter, view_next_parameter};
+ghost use Rattle.upc_tree.specs.View.{view_next_parameters, view_array, view_pointers};
 ghost use Rattle.upc_expressions.specs.Expression as spec;
 ghost use Rattle.upc_expressions.specs.Expression.{at_height};
 ghost use Rattle.upc_expressions.specs.Run.{Reads, Nests, boxed, same};
@@ -46,7 +48,8 @@ impl<
     #[tactic(auto, unfolding(crate::specs::Expression::unsized_array))]
     fn unsized_array(&self, tokens: &mut Tokens<'_>, n: u32) -> Result<ParameterArray, Fail>
         requires within { n ≤ self.now.below }
-        requires nests { Nests self.now.below (F.pre self.now.expr) (F.post self.now.expr) (G.pre self.now.structure) (G.post self.now.structure) }
+        requires nests { Nests self.now.below (F.pre self.now.expr) (F.post self.now.expr)
+            (G.pre self.now.structure) (G.post self.now.structure) }
         ensures { Reads view_array (spec.unsized_array (at_height n) tokens.old.rest.now) result tokens.new.rest.now }
     {
         let open = expect_punct(tokens, Punct::LBracket)?;
@@ -57,7 +60,8 @@ impl<
     #[tactic(auto, unfolding(crate::specs::Expression::sized_array))]
     fn sized_array(&self, tokens: &mut Tokens<'_>, n: u32) -> Result<ParameterArray, Fail>
         requires within { n ≤ self.now.below }
-        requires nests { Nests self.now.below (F.pre self.now.expr) (F.post self.now.expr) (G.pre self.now.structure) (G.post self.now.structure) }
+        requires nests { Nests self.now.below (F.pre self.now.expr) (F.post self.now.expr)
+            (G.pre self.now.structure) (G.post self.now.structure) }
         ensures { Reads view_array (spec.sized_array (at_height n) tokens.old.rest.now) result tokens.new.rest.now }
     {
         let size = self.dimension(tokens, n)?;
@@ -67,7 +71,8 @@ impl<
     #[tactic(auto, unfolding(crate::specs::Expression::array))]
     fn array(&self, tokens: &mut Tokens<'_>, n: u32) -> Result<ParameterArray, Fail>
         requires within { n ≤ self.now.below }
-        requires nests { Nests self.now.below (F.pre self.now.expr) (F.post self.now.expr) (G.pre self.now.structure) (G.post self.now.structure) }
+        requires nests { Nests self.now.below (F.pre self.now.expr) (F.post self.now.expr)
+            (G.pre self.now.structure) (G.post self.now.structure) }
         ensures { Reads view_array (spec.array (at_height n) tokens.old.rest.now) result tokens.new.rest.now }
     {
         if !starts(Sign::Punct(Punct::LBracket), tokens.rest) {
@@ -86,8 +91,10 @@ impl<
     #[tactic(auto, unfolding(crate::specs::Expression::parameter))]
     fn parameter(&self, tokens: &mut Tokens<'_>, n: u32) -> Result<Box<Parameter>, Fail>
         requires within { n ≤ self.now.below }
-        requires nests { Nests self.now.below (F.pre self.now.expr) (F.post self.now.expr) (G.pre self.now.structure) (G.post self.now.structure) }
-        ensures { Reads (boxed view_parameter) (spec.parameter (at_height n) tokens.old.rest.now) result tokens.new.rest.now }
+        requires nests { Nests self.now.below (F.pre self.now.expr) (F.post self.now.expr)
+            (G.pre self.now.structure) (G.post self.now.structure) }
+        ensures { Reads (boxed view_parameter) (spec.parameter (at_height n) tokens.old.rest.now)
+            result tokens.new.rest.now }
     {
         let specs = self.specs(tokens, n, false)?;
         let pointers = self.pointers(tokens, n)?;
@@ -99,8 +106,10 @@ impl<
     #[tactic(auto, unfolding(crate::specs::Expression::next_parameter))]
     fn next_parameter(&self, tokens: &mut Tokens<'_>, n: u32) -> Result<NextParameter, Fail>
         requires within { n ≤ self.now.below }
-        requires nests { Nests self.now.below (F.pre self.now.expr) (F.post self.now.expr) (G.pre self.now.structure) (G.post self.now.structure) }
-        ensures { Reads view_next_parameter (spec.next_parameter (at_height n) tokens.old.rest.now) result tokens.new.rest.now }
+        requires nests { Nests self.now.below (F.pre self.now.expr) (F.post self.now.expr)
+            (G.pre self.now.structure) (G.post self.now.structure) }
+        ensures { Reads view_next_parameter (spec.next_parameter (at_height n) tokens.old.rest.now)
+            result tokens.new.rest.now }
     {
         let comma = expect_punct(tokens, Punct::Comma)?;
         let parameter = self.parameter(tokens, n)?;
@@ -109,8 +118,10 @@ impl<
 
     fn next_parameters(&self, tokens: &mut Tokens<'_>, n: u32) -> Result<Vec<NextParameter>, Fail>
         requires within { n ≤ self.now.below }
-        requires nests { Nests self.now.below (F.pre self.now.expr) (F.post self.now.expr) (G.pre self.now.structure) (G.post self.now.structure) }
-        ensures { Reads view_next_parameters (spec.next_parameters (at_height n) tokens.old.rest.now) result tokens.new.rest.now }
+        requires nests { Nests self.now.below (F.pre self.now.expr) (F.post self.now.expr)
+            (G.pre self.now.structure) (G.post self.now.structure) }
+        ensures { Reads view_next_parameters (spec.next_parameters (at_height n)
+            tokens.old.rest.now) result tokens.new.rest.now }
     {
         many(
             self.alloc,
@@ -128,8 +139,10 @@ impl<
         left: Span,
     ) -> Result<Box<Parameters>, Fail>
         requires within { n ≤ self.now.below }
-        requires nests { Nests self.now.below (F.pre self.now.expr) (F.post self.now.expr) (G.pre self.now.structure) (G.post self.now.structure) }
-        ensures { Reads (boxed view_parameters) (spec.no_parameters (at_height n) left tokens.old.rest.now) result tokens.new.rest.now }
+        requires nests { Nests self.now.below (F.pre self.now.expr) (F.post self.now.expr)
+            (G.pre self.now.structure) (G.post self.now.structure) }
+        ensures { Reads (boxed view_parameters) (spec.no_parameters (at_height n) left
+            tokens.old.rest.now) result tokens.new.rest.now }
     {
         let close = expect_punct(tokens, Punct::RParen)?;
         Ok(boxed(self.alloc, Parameters::Empty { open: left, close })?)
@@ -143,8 +156,10 @@ impl<
         left: Span,
     ) -> Result<Box<Parameters>, Fail>
         requires within { n ≤ self.now.below }
-        requires nests { Nests self.now.below (F.pre self.now.expr) (F.post self.now.expr) (G.pre self.now.structure) (G.post self.now.structure) }
-        ensures { Reads (boxed view_parameters) (spec.void_parameters (at_height n) left tokens.old.rest.now) result tokens.new.rest.now }
+        requires nests { Nests self.now.below (F.pre self.now.expr) (F.post self.now.expr)
+            (G.pre self.now.structure) (G.post self.now.structure) }
+        ensures { Reads (boxed view_parameters) (spec.void_parameters (at_height n) left
+            tokens.old.rest.now) result tokens.new.rest.now }
     {
         let word = expect_word(tokens, Word::Void)?;
         let close = expect_punct(tokens, Punct::RParen)?;
@@ -166,8 +181,10 @@ impl<
         left: Span,
     ) -> Result<Box<Parameters>, Fail>
         requires within { n ≤ self.now.below }
-        requires nests { Nests self.now.below (F.pre self.now.expr) (F.post self.now.expr) (G.pre self.now.structure) (G.post self.now.structure) }
-        ensures { Reads (boxed view_parameters) (spec.some_parameters (at_height n) left tokens.old.rest.now) result tokens.new.rest.now }
+        requires nests { Nests self.now.below (F.pre self.now.expr) (F.post self.now.expr)
+            (G.pre self.now.structure) (G.post self.now.structure) }
+        ensures { Reads (boxed view_parameters) (spec.some_parameters (at_height n) left
+            tokens.old.rest.now) result tokens.new.rest.now }
     {
         let first = self.parameter(tokens, n)?;
         let more = self.next_parameters(tokens, n)?;
@@ -183,8 +200,10 @@ impl<
         left: Span,
     ) -> Result<Box<Parameters>, Fail>
         requires within { n ≤ self.now.below }
-        requires nests { Nests self.now.below (F.pre self.now.expr) (F.post self.now.expr) (G.pre self.now.structure) (G.post self.now.structure) }
-        ensures { Reads (boxed view_parameters) (spec.parameters_in (at_height n) left tokens.old.rest.now) result tokens.new.rest.now }
+        requires nests { Nests self.now.below (F.pre self.now.expr) (F.post self.now.expr)
+            (G.pre self.now.structure) (G.post self.now.structure) }
+        ensures { Reads (boxed view_parameters) (spec.parameters_in (at_height n) left
+            tokens.old.rest.now) result tokens.new.rest.now }
     {
         if starts(Sign::Punct(Punct::RParen), tokens.rest) {
             return self.no_parameters(tokens, n, left);
@@ -202,8 +221,10 @@ impl<
     #[tactic(auto, unfolding(crate::specs::Expression::parameters))]
     pub fn parameters(&self, tokens: &mut Tokens<'_>, n: u32) -> Result<Box<Parameters>, Fail>
         requires within { n ≤ self.now.below }
-        requires nests { Nests self.now.below (F.pre self.now.expr) (F.post self.now.expr) (G.pre self.now.structure) (G.post self.now.structure) }
-        ensures { Reads (boxed view_parameters) (spec.parameters (at_height n) tokens.old.rest.now) result tokens.new.rest.now }
+        requires nests { Nests self.now.below (F.pre self.now.expr) (F.post self.now.expr)
+            (G.pre self.now.structure) (G.post self.now.structure) }
+        ensures { Reads (boxed view_parameters) (spec.parameters (at_height n) tokens.old.rest.now)
+            result tokens.new.rest.now }
     {
         let left = expect_punct(tokens, Punct::LParen)?;
         self.parameters_in(tokens, n, left)
@@ -218,8 +239,10 @@ impl<
         named: Name,
     ) -> Result<Box<Declarator>, Fail>
         requires within { n ≤ self.now.below }
-        requires nests { Nests self.now.below (F.pre self.now.expr) (F.post self.now.expr) (G.pre self.now.structure) (G.post self.now.structure) }
-        ensures { Reads (boxed view_declarator) (spec.declarator_by (at_height n) (view_pointers stars) named tokens.old.rest.now) result tokens.new.rest.now }
+        requires nests { Nests self.now.below (F.pre self.now.expr) (F.post self.now.expr)
+            (G.pre self.now.structure) (G.post self.now.structure) }
+        ensures { Reads (boxed view_declarator) (spec.declarator_by (at_height n)
+            (view_pointers stars) named tokens.old.rest.now) result tokens.new.rest.now }
     {
         if starts(Sign::Punct(Punct::LParen), tokens.rest) {
             let parameters = self.parameters(tokens, n)?;
@@ -232,8 +255,10 @@ impl<
     #[tactic(auto, unfolding(crate::specs::Expression::declarator))]
     pub fn declarator(&self, tokens: &mut Tokens<'_>, n: u32) -> Result<Box<Declarator>, Fail>
         requires within { n ≤ self.now.below }
-        requires nests { Nests self.now.below (F.pre self.now.expr) (F.post self.now.expr) (G.pre self.now.structure) (G.post self.now.structure) }
-        ensures { Reads (boxed view_declarator) (spec.declarator (at_height n) tokens.old.rest.now) result tokens.new.rest.now }
+        requires nests { Nests self.now.below (F.pre self.now.expr) (F.post self.now.expr)
+            (G.pre self.now.structure) (G.post self.now.structure) }
+        ensures { Reads (boxed view_declarator) (spec.declarator (at_height n) tokens.old.rest.now)
+            result tokens.new.rest.now }
     {
         let stars = self.pointers(tokens, n)?;
         let named = name(tokens)?;
@@ -243,8 +268,10 @@ impl<
     #[tactic(auto, unfolding(crate::specs::Expression::next_declarator))]
     fn next_declarator(&self, tokens: &mut Tokens<'_>, n: u32) -> Result<NextDeclarator, Fail>
         requires within { n ≤ self.now.below }
-        requires nests { Nests self.now.below (F.pre self.now.expr) (F.post self.now.expr) (G.pre self.now.structure) (G.post self.now.structure) }
-        ensures { Reads view_next_declarator (spec.next_declarator (at_height n) tokens.old.rest.now) result tokens.new.rest.now }
+        requires nests { Nests self.now.below (F.pre self.now.expr) (F.post self.now.expr)
+            (G.pre self.now.structure) (G.post self.now.structure) }
+        ensures { Reads view_next_declarator (spec.next_declarator (at_height n)
+            tokens.old.rest.now) result tokens.new.rest.now }
     {
         let comma = expect_punct(tokens, Punct::Comma)?;
         let declarator = self.declarator(tokens, n)?;
@@ -253,8 +280,10 @@ impl<
 
     fn next_declarators(&self, tokens: &mut Tokens<'_>, n: u32) -> Result<Vec<NextDeclarator>, Fail>
         requires within { n ≤ self.now.below }
-        requires nests { Nests self.now.below (F.pre self.now.expr) (F.post self.now.expr) (G.pre self.now.structure) (G.post self.now.structure) }
-        ensures { Reads view_next_declarators (spec.next_declarators (at_height n) tokens.old.rest.now) result tokens.new.rest.now }
+        requires nests { Nests self.now.below (F.pre self.now.expr) (F.post self.now.expr)
+            (G.pre self.now.structure) (G.post self.now.structure) }
+        ensures { Reads view_next_declarators (spec.next_declarators (at_height n)
+            tokens.old.rest.now) result tokens.new.rest.now }
     {
         many(
             self.alloc,
@@ -267,7 +296,8 @@ impl<
     #[tactic(auto, unfolding(crate::specs::Expression::member))]
     fn member(&self, tokens: &mut Tokens<'_>, n: u32) -> Result<Member, Fail>
         requires within { n ≤ self.now.below }
-        requires nests { Nests self.now.below (F.pre self.now.expr) (F.post self.now.expr) (G.pre self.now.structure) (G.post self.now.structure) }
+        requires nests { Nests self.now.below (F.pre self.now.expr) (F.post self.now.expr)
+            (G.pre self.now.structure) (G.post self.now.structure) }
         ensures { Reads view_member (spec.member (at_height n) tokens.old.rest.now) result tokens.new.rest.now }
     {
         let specs = self.specs(tokens, n, false)?;
@@ -279,7 +309,8 @@ impl<
 
     fn members(&self, tokens: &mut Tokens<'_>, n: u32) -> Result<Vec<Member>, Fail>
         requires within { n ≤ self.now.below }
-        requires nests { Nests self.now.below (F.pre self.now.expr) (F.post self.now.expr) (G.pre self.now.structure) (G.post self.now.structure) }
+        requires nests { Nests self.now.below (F.pre self.now.expr) (F.post self.now.expr)
+            (G.pre self.now.structure) (G.post self.now.structure) }
         ensures { Reads view_members (spec.members (at_height n) tokens.old.rest.now) result tokens.new.rest.now }
     {
         many(
@@ -299,8 +330,10 @@ impl<
         tag: Name,
     ) -> Result<Spec, Fail>
         requires within { n ≤ self.now.below }
-        requires nests { Nests self.now.below (F.pre self.now.expr) (F.post self.now.expr) (G.pre self.now.structure) (G.post self.now.structure) }
-        ensures { Reads view_spec (spec.struct_body (at_height n) word tag tokens.old.rest.now) result tokens.new.rest.now }
+        requires nests { Nests self.now.below (F.pre self.now.expr) (F.post self.now.expr)
+            (G.pre self.now.structure) (G.post self.now.structure) }
+        ensures { Reads view_spec (spec.struct_body (at_height n) word tag tokens.old.rest.now)
+            result tokens.new.rest.now }
     {
         let left = expect_punct(tokens, Punct::LBrace)?;
         let members = self.members(tokens, n)?;
@@ -311,7 +344,8 @@ impl<
     #[tactic(auto, unfolding(crate::specs::Expression::structure))]
     pub fn whole_structure(&self, tokens: &mut Tokens<'_>, n: u32) -> Result<Spec, Fail>
         requires within { n ≤ self.now.below }
-        requires nests { Nests self.now.below (F.pre self.now.expr) (F.post self.now.expr) (G.pre self.now.structure) (G.post self.now.structure) }
+        requires nests { Nests self.now.below (F.pre self.now.expr) (F.post self.now.expr)
+            (G.pre self.now.structure) (G.post self.now.structure) }
         ensures { Reads view_spec (spec.structure (at_height n) tokens.old.rest.now) result tokens.new.rest.now }
     {
         let word = expect_word(tokens, Word::Struct)?;

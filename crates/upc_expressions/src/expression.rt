@@ -99,7 +99,8 @@ impl<
     #[tactic(auto, unfolding(crate::specs::Expression::next_expr))]
     fn next_expr(&self, tokens: &mut Tokens<'_>, n: u32) -> Result<NextExpr, Fail>
         requires within { n ≤ self.now.below }
-        requires nests { Nests self.now.below (F.pre self.now.expr) (F.post self.now.expr) (G.pre self.now.structure) (G.post self.now.structure) }
+        requires nests { Nests self.now.below (F.pre self.now.expr) (F.post self.now.expr)
+            (G.pre self.now.structure) (G.post self.now.structure) }
         ensures { Reads view_next_expr (spec.next_expr (at_height n) tokens.old.rest.now) result tokens.new.rest.now }
     {
         let comma = expect_punct(tokens, Punct::Comma)?;
@@ -109,7 +110,8 @@ impl<
 
     pub fn next_exprs(&self, tokens: &mut Tokens<'_>, n: u32) -> Result<Vec<NextExpr>, Fail>
         requires within { n ≤ self.now.below }
-        requires nests { Nests self.now.below (F.pre self.now.expr) (F.post self.now.expr) (G.pre self.now.structure) (G.post self.now.structure) }
+        requires nests { Nests self.now.below (F.pre self.now.expr) (F.post self.now.expr)
+            (G.pre self.now.structure) (G.post self.now.structure) }
         ensures { Reads view_next_exprs (spec.next_exprs (at_height n) tokens.old.rest.now) result tokens.new.rest.now }
     {
         many(
@@ -123,8 +125,10 @@ impl<
     #[tactic(auto, unfolding(crate::specs::Expression::some_arguments))]
     fn some_arguments(&self, tokens: &mut Tokens<'_>, n: u32) -> Result<Box<Arguments>, Fail>
         requires within { n ≤ self.now.below }
-        requires nests { Nests self.now.below (F.pre self.now.expr) (F.post self.now.expr) (G.pre self.now.structure) (G.post self.now.structure) }
-        ensures { Reads (boxed view_arguments) (spec.some_arguments (at_height n) tokens.old.rest.now) result tokens.new.rest.now }
+        requires nests { Nests self.now.below (F.pre self.now.expr) (F.post self.now.expr)
+            (G.pre self.now.structure) (G.post self.now.structure) }
+        ensures { Reads (boxed view_arguments) (spec.some_arguments (at_height n)
+            tokens.old.rest.now) result tokens.new.rest.now }
     {
         let first = self.expr(tokens, n, 1)?;
         let more = self.next_exprs(tokens, n)?;
@@ -135,8 +139,10 @@ impl<
     #[tactic(auto, unfolding(crate::specs::Expression::arguments))]
     fn whole_arguments(&self, tokens: &mut Tokens<'_>, n: u32) -> Result<Box<Arguments>, Fail>
         requires within { n ≤ self.now.below }
-        requires nests { Nests self.now.below (F.pre self.now.expr) (F.post self.now.expr) (G.pre self.now.structure) (G.post self.now.structure) }
-        ensures { Reads (boxed view_arguments) (spec.arguments (at_height n) tokens.old.rest.now) result tokens.new.rest.now }
+        requires nests { Nests self.now.below (F.pre self.now.expr) (F.post self.now.expr)
+            (G.pre self.now.structure) (G.post self.now.structure) }
+        ensures { Reads (boxed view_arguments) (spec.arguments (at_height n) tokens.old.rest.now)
+            result tokens.new.rest.now }
     {
         if starts(Sign::Punct(Punct::RParen), tokens.rest) {
             let close = expect_punct(tokens, Punct::RParen)?;
@@ -147,8 +153,10 @@ impl<
 
     fn arguments(&self, tokens: &mut Tokens<'_>, n: u32) -> Result<Box<Arguments>, Fail>
         requires within { n ≤ self.now.below }
-        requires nests { Nests self.now.below (F.pre self.now.expr) (F.post self.now.expr) (G.pre self.now.structure) (G.post self.now.structure) }
-        ensures { Reads (boxed view_arguments) ((at_height n).arguments tokens.old.rest.now) result tokens.new.rest.now }
+        requires nests { Nests self.now.below (F.pre self.now.expr) (F.post self.now.expr)
+            (G.pre self.now.structure) (G.post self.now.structure) }
+        ensures { Reads (boxed view_arguments) ((at_height n).arguments tokens.old.rest.now) result
+            tokens.new.rest.now }
     {
         if n == 0 {
             return Err(Fail::Fault(Fault::TooHigh));
@@ -165,7 +173,8 @@ impl<
         at: Span,
     ) -> Result<Box<Expr>, Fail>
         requires within { n ≤ self.now.below }
-        requires nests { Nests self.now.below (F.pre self.now.expr) (F.post self.now.expr) (G.pre self.now.structure) (G.post self.now.structure) }
+        requires nests { Nests self.now.below (F.pre self.now.expr) (F.post self.now.expr)
+            (G.pre self.now.structure) (G.post self.now.structure) }
         ensures { Reads (boxed view) (spec.unary (at_height n) mark at tokens.old.rest.now) result tokens.new.rest.now }
     {
         let operand = self.expr(tokens, n, operand_level(mark))?;
@@ -181,8 +190,10 @@ impl<
         at: Span,
     ) -> Result<Box<Expr>, Fail>
         requires within { n ≤ self.now.below }
-        requires nests { Nests self.now.below (F.pre self.now.expr) (F.post self.now.expr) (G.pre self.now.structure) (G.post self.now.structure) }
-        ensures { Reads (boxed view) (spec.size_type (at_height n) word at tokens.old.rest.now) result tokens.new.rest.now }
+        requires nests { Nests self.now.below (F.pre self.now.expr) (F.post self.now.expr)
+            (G.pre self.now.structure) (G.post self.now.structure) }
+        ensures { Reads (boxed view) (spec.size_type (at_height n) word at tokens.old.rest.now)
+            result tokens.new.rest.now }
     {
         let left = expect_punct(tokens, Punct::LParen)?;
         let operand = self.type_name(tokens, n)?;
@@ -199,8 +210,10 @@ impl<
         at: Span,
     ) -> Result<Box<Expr>, Fail>
         requires within { n ≤ self.now.below }
-        requires nests { Nests self.now.below (F.pre self.now.expr) (F.post self.now.expr) (G.pre self.now.structure) (G.post self.now.structure) }
-        ensures { Reads (boxed view) (spec.size_expr (at_height n) word at tokens.old.rest.now) result tokens.new.rest.now }
+        requires nests { Nests self.now.below (F.pre self.now.expr) (F.post self.now.expr)
+            (G.pre self.now.structure) (G.post self.now.structure) }
+        ensures { Reads (boxed view) (spec.size_expr (at_height n) word at tokens.old.rest.now)
+            result tokens.new.rest.now }
     {
         let operand = self.expr(tokens, n, 14)?;
         Ok(size_of_expr(self.alloc, word, at, operand)?)
@@ -214,7 +227,8 @@ impl<
         at: Span,
     ) -> Result<Box<Expr>, Fail>
         requires within { n ≤ self.now.below }
-        requires nests { Nests self.now.below (F.pre self.now.expr) (F.post self.now.expr) (G.pre self.now.structure) (G.post self.now.structure) }
+        requires nests { Nests self.now.below (F.pre self.now.expr) (F.post self.now.expr)
+            (G.pre self.now.structure) (G.post self.now.structure) }
         ensures { Reads (boxed view) (spec.size (at_height n) word at tokens.old.rest.now) result tokens.new.rest.now }
     {
         if opens_type(tokens.rest) {
@@ -226,7 +240,8 @@ impl<
     #[tactic(auto, unfolding(crate::specs::Expression::cast))]
     fn cast(&self, tokens: &mut Tokens<'_>, n: u32) -> Result<Box<Expr>, Fail>
         requires within { n ≤ self.now.below }
-        requires nests { Nests self.now.below (F.pre self.now.expr) (F.post self.now.expr) (G.pre self.now.structure) (G.post self.now.structure) }
+        requires nests { Nests self.now.below (F.pre self.now.expr) (F.post self.now.expr)
+            (G.pre self.now.structure) (G.post self.now.structure) }
         ensures { Reads (boxed view) (spec.cast (at_height n) tokens.old.rest.now) result tokens.new.rest.now }
     {
         let left = expect_punct(tokens, Punct::LParen)?;
@@ -239,7 +254,8 @@ impl<
     #[tactic(auto, unfolding(crate::specs::Expression::paren))]
     fn paren(&self, tokens: &mut Tokens<'_>, n: u32, left: Span) -> Result<Box<Expr>, Fail>
         requires within { n ≤ self.now.below }
-        requires nests { Nests self.now.below (F.pre self.now.expr) (F.post self.now.expr) (G.pre self.now.structure) (G.post self.now.structure) }
+        requires nests { Nests self.now.below (F.pre self.now.expr) (F.post self.now.expr)
+            (G.pre self.now.structure) (G.post self.now.structure) }
         ensures { Reads (boxed view) (spec.paren (at_height n) left tokens.old.rest.now) result tokens.new.rest.now }
     {
         let inner = self.expr(tokens, n, 0)?;
@@ -255,8 +271,10 @@ impl<
         span: Span,
     ) -> Result<Box<Expr>, Fail>
         requires within { n ≤ self.now.below }
-        requires nests { Nests self.now.below (F.pre self.now.expr) (F.post self.now.expr) (G.pre self.now.structure) (G.post self.now.structure) }
-        ensures { Reads (boxed view) (spec.primary_by (at_height n) (TokenKind.Str bytes.now) span tokens.old.rest.now) result tokens.new.rest.now }
+        requires nests { Nests self.now.below (F.pre self.now.expr) (F.post self.now.expr)
+            (G.pre self.now.structure) (G.post self.now.structure) }
+        ensures { Reads (boxed view) (spec.primary_by (at_height n) (TokenKind.Str bytes.now) span
+            tokens.old.rest.now) result tokens.new.rest.now }
     {
         let bytes = bytes.copy(self.alloc)?;
         let more = strings(self.alloc, tokens)?;
@@ -271,8 +289,10 @@ impl<
         rest: &'a [Token],
     ) -> Result<Box<Expr>, Fail>
         requires within { n ≤ self.now.below }
-        requires nests { Nests self.now.below (F.pre self.now.expr) (F.post self.now.expr) (G.pre self.now.structure) (G.post self.now.structure) }
-        ensures { Reads (boxed view) (spec.primary_by (at_height n) first.now.kind (span_of first.now) rest.now) result tokens.new.rest.now }
+        requires nests { Nests self.now.below (F.pre self.now.expr) (F.post self.now.expr)
+            (G.pre self.now.structure) (G.post self.now.structure) }
+        ensures { Reads (boxed view) (spec.primary_by (at_height n) first.now.kind
+            (span_of first.now) rest.now) result tokens.new.rest.now }
     {
         let span = span_of(first);
         match &first.kind {
@@ -321,8 +341,10 @@ impl<
         at: Span,
     ) -> Result<Box<Expr>, Fail>
         requires within { n ≤ self.now.below }
-        requires nests { Nests self.now.below (F.pre self.now.expr) (F.post self.now.expr) (G.pre self.now.structure) (G.post self.now.structure) }
-        ensures { Reads (boxed view) (spec.suffixed n (at_height n) Suffix.Subscript (view base.value) at tokens.old.rest.now) result tokens.new.rest.now }
+        requires nests { Nests self.now.below (F.pre self.now.expr) (F.post self.now.expr)
+            (G.pre self.now.structure) (G.post self.now.structure) }
+        ensures { Reads (boxed view) (spec.suffixed n (at_height n) Suffix.Subscript
+            (view base.value) at tokens.old.rest.now) result tokens.new.rest.now }
     {
         let index = self.expr(tokens, n, 0)?;
         let right = expect_punct(tokens, Punct::RBracket)?;
@@ -340,8 +362,10 @@ impl<
         at: Span,
     ) -> Result<Box<Expr>, Fail>
         requires within { n ≤ self.now.below }
-        requires nests { Nests self.now.below (F.pre self.now.expr) (F.post self.now.expr) (G.pre self.now.structure) (G.post self.now.structure) }
-        ensures { Reads (boxed view) (spec.suffixed n (at_height n) Suffix.Call (view base.value) at tokens.old.rest.now) result tokens.new.rest.now }
+        requires nests { Nests self.now.below (F.pre self.now.expr) (F.post self.now.expr)
+            (G.pre self.now.structure) (G.post self.now.structure) }
+        ensures { Reads (boxed view) (spec.suffixed n (at_height n) Suffix.Call (view base.value) at
+            tokens.old.rest.now) result tokens.new.rest.now }
     {
         let arguments = self.arguments(tokens, n)?;
         if !fits(&base, n) {
@@ -359,8 +383,10 @@ impl<
         at: Span,
     ) -> Result<Box<Expr>, Fail>
         requires within { n ≤ self.now.below }
-        requires nests { Nests self.now.below (F.pre self.now.expr) (F.post self.now.expr) (G.pre self.now.structure) (G.post self.now.structure) }
-        ensures { Reads (boxed view) (spec.suffixed n (at_height n) (Suffix.Member mark) (view base.value) at tokens.old.rest.now) result tokens.new.rest.now }
+        requires nests { Nests self.now.below (F.pre self.now.expr) (F.post self.now.expr)
+            (G.pre self.now.structure) (G.post self.now.structure) }
+        ensures { Reads (boxed view) (spec.suffixed n (at_height n) (Suffix.Member mark)
+            (view base.value) at tokens.old.rest.now) result tokens.new.rest.now }
     {
         let member = name(tokens)?;
         if !fits(&base, n) {
@@ -378,8 +404,10 @@ impl<
         at: Span,
     ) -> Result<Box<Expr>, Fail>
         requires within { n ≤ self.now.below }
-        requires nests { Nests self.now.below (F.pre self.now.expr) (F.post self.now.expr) (G.pre self.now.structure) (G.post self.now.structure) }
-        ensures { Reads (boxed view) (spec.suffixed n (at_height n) (Suffix.Step mark) (view base.value) at tokens.old.rest.now) result tokens.new.rest.now }
+        requires nests { Nests self.now.below (F.pre self.now.expr) (F.post self.now.expr)
+            (G.pre self.now.structure) (G.post self.now.structure) }
+        ensures { Reads (boxed view) (spec.suffixed n (at_height n) (Suffix.Step mark)
+            (view base.value) at tokens.old.rest.now) result tokens.new.rest.now }
     {
         if !fits(&base, n) {
             return Err(Fail::Fault(Fault::TooHigh));
@@ -396,8 +424,10 @@ impl<
         at: Span,
     ) -> Result<Box<Expr>, Fail>
         requires within { n ≤ self.now.below }
-        requires nests { Nests self.now.below (F.pre self.now.expr) (F.post self.now.expr) (G.pre self.now.structure) (G.post self.now.structure) }
-        ensures { Reads (boxed view) (spec.suffixed n (at_height n) suffix (view base.value) at tokens.old.rest.now) result tokens.new.rest.now }
+        requires nests { Nests self.now.below (F.pre self.now.expr) (F.post self.now.expr)
+            (G.pre self.now.structure) (G.post self.now.structure) }
+        ensures { Reads (boxed view) (spec.suffixed n (at_height n) suffix (view base.value) at
+            tokens.old.rest.now) result tokens.new.rest.now }
     {
         match suffix {
             Suffix::Subscript => self.subscripted(tokens, n, base, at),
@@ -414,8 +444,10 @@ impl<
         mut base: Box<Expr>,
     ) -> Result<Box<Expr>, Fail>
         requires within { n ≤ self.now.below }
-        requires nests { Nests self.now.below (F.pre self.now.expr) (F.post self.now.expr) (G.pre self.now.structure) (G.post self.now.structure) }
-        ensures { Reads (boxed view) (spec.postfix n (at_height n) (length tokens.old.rest.now) (view base.value) tokens.old.rest.now) result tokens.new.rest.now }
+        requires nests { Nests self.now.below (F.pre self.now.expr) (F.post self.now.expr)
+            (G.pre self.now.structure) (G.post self.now.structure) }
+        ensures { Reads (boxed view) (spec.postfix n (at_height n) (length tokens.old.rest.now)
+            (view base.value) tokens.old.rest.now) result tokens.new.rest.now }
     {
         for _turn in 0..tokens.rest.len() {
             let [first, rest @ ..] = tokens.rest else {
@@ -439,7 +471,8 @@ impl<
         rest: &'a [Token],
     ) -> Result<Box<Expr>, Fail>
         requires within { n ≤ self.now.below }
-        requires nests { Nests self.now.below (F.pre self.now.expr) (F.post self.now.expr) (G.pre self.now.structure) (G.post self.now.structure) }
+        requires nests { Nests self.now.below (F.pre self.now.expr) (F.post self.now.expr)
+            (G.pre self.now.structure) (G.post self.now.structure) }
         ensures { Reads (boxed view) (spec.primary n (at_height n) first.now rest.now) result tokens.new.rest.now }
     {
         let base = self.primary_by(tokens, n, first, rest)?;
@@ -449,7 +482,8 @@ impl<
     #[tactic(auto, unfolding(crate::specs::Expression::first))]
     fn first(&self, tokens: &mut Tokens<'_>, n: u32, least: u8) -> Result<Box<Expr>, Fail>
         requires within { n ≤ self.now.below }
-        requires nests { Nests self.now.below (F.pre self.now.expr) (F.post self.now.expr) (G.pre self.now.structure) (G.post self.now.structure) }
+        requires nests { Nests self.now.below (F.pre self.now.expr) (F.post self.now.expr)
+            (G.pre self.now.structure) (G.post self.now.structure) }
         ensures { Reads (boxed view) (spec.first n (at_height n) least tokens.old.rest.now) result tokens.new.rest.now }
     {
         match tokens.rest {
@@ -485,8 +519,10 @@ impl<
         left: Box<Expr>,
     ) -> Result<Box<Expr>, Fail>
         requires within { n ≤ self.now.below }
-        requires nests { Nests self.now.below (F.pre self.now.expr) (F.post self.now.expr) (G.pre self.now.structure) (G.post self.now.structure) }
-        ensures { Reads (boxed view) (spec.joined_comma n (at_height n) (view left.value) tokens.old.rest.now) result tokens.new.rest.now }
+        requires nests { Nests self.now.below (F.pre self.now.expr) (F.post self.now.expr)
+            (G.pre self.now.structure) (G.post self.now.structure) }
+        ensures { Reads (boxed view) (spec.joined_comma n (at_height n) (view left.value)
+            tokens.old.rest.now) result tokens.new.rest.now }
     {
         let more = self.next_exprs(tokens, n)?;
         if !fits(&left, n) {
@@ -504,8 +540,10 @@ impl<
         at: Span,
     ) -> Result<Box<Expr>, Fail>
         requires within { n ≤ self.now.below }
-        requires nests { Nests self.now.below (F.pre self.now.expr) (F.post self.now.expr) (G.pre self.now.structure) (G.post self.now.structure) }
-        ensures { Reads (boxed view) (spec.conditional n (at_height n) (view left.value) at tokens.old.rest.now) result tokens.new.rest.now }
+        requires nests { Nests self.now.below (F.pre self.now.expr) (F.post self.now.expr)
+            (G.pre self.now.structure) (G.post self.now.structure) }
+        ensures { Reads (boxed view) (spec.conditional n (at_height n) (view left.value) at
+            tokens.old.rest.now) result tokens.new.rest.now }
     {
         let chosen = self.expr(tokens, n, 0)?;
         let colon = expect_punct(tokens, Punct::Colon)?;
@@ -525,8 +563,10 @@ impl<
         first: &Token,
     ) -> Result<Box<Expr>, Fail>
         requires within { n ≤ self.now.below }
-        requires nests { Nests self.now.below (F.pre self.now.expr) (F.post self.now.expr) (G.pre self.now.structure) (G.post self.now.structure) }
-        ensures { Reads (boxed view) (spec.joined n (at_height n) (Joint.Assign mark) (view left.value) first.now tokens.old.rest.now) result tokens.new.rest.now }
+        requires nests { Nests self.now.below (F.pre self.now.expr) (F.post self.now.expr)
+            (G.pre self.now.structure) (G.post self.now.structure) }
+        ensures { Reads (boxed view) (spec.joined n (at_height n) (Joint.Assign mark)
+            (view left.value) first.now tokens.old.rest.now) result tokens.new.rest.now }
     {
         let right = self.expr(tokens, n, 1)?;
         if !fits(&left, n) {
@@ -544,8 +584,10 @@ impl<
         first: &Token,
     ) -> Result<Box<Expr>, Fail>
         requires within { n ≤ self.now.below }
-        requires nests { Nests self.now.below (F.pre self.now.expr) (F.post self.now.expr) (G.pre self.now.structure) (G.post self.now.structure) }
-        ensures { Reads (boxed view) (spec.joined n (at_height n) (Joint.Binary mark) (view left.value) first.now tokens.old.rest.now) result tokens.new.rest.now }
+        requires nests { Nests self.now.below (F.pre self.now.expr) (F.post self.now.expr)
+            (G.pre self.now.structure) (G.post self.now.structure) }
+        ensures { Reads (boxed view) (spec.joined n (at_height n) (Joint.Binary mark)
+            (view left.value) first.now tokens.old.rest.now) result tokens.new.rest.now }
     {
         let right = self.expr(tokens, n, joint_level(Joint::Binary(mark)) + 1)?;
         if !fits(&left, n) {
@@ -562,8 +604,10 @@ impl<
         left: Box<Expr>,
     ) -> Result<Box<Expr>, Fail>
         requires within { n ≤ self.now.below }
-        requires nests { Nests self.now.below (F.pre self.now.expr) (F.post self.now.expr) (G.pre self.now.structure) (G.post self.now.structure) }
-        ensures { Reads (boxed view) (spec.joined_at n (at_height n) joint (view left.value) tokens.old.rest.now) result tokens.new.rest.now }
+        requires nests { Nests self.now.below (F.pre self.now.expr) (F.post self.now.expr)
+            (G.pre self.now.structure) (G.post self.now.structure) }
+        ensures { Reads (boxed view) (spec.joined_at n (at_height n) joint (view left.value)
+            tokens.old.rest.now) result tokens.new.rest.now }
     {
         let [first, rest @ ..] = tokens.rest else {
             return Err(Fail::Fault(Fault::NoTree));
@@ -593,8 +637,10 @@ impl<
         mut left: Box<Expr>,
     ) -> Result<Box<Expr>, Fail>
         requires within { n ≤ self.now.below }
-        requires nests { Nests self.now.below (F.pre self.now.expr) (F.post self.now.expr) (G.pre self.now.structure) (G.post self.now.structure) }
-        ensures { Reads (boxed view) (spec.climb n (at_height n) (length tokens.old.rest.now) least (view left.value) tokens.old.rest.now) result tokens.new.rest.now }
+        requires nests { Nests self.now.below (F.pre self.now.expr) (F.post self.now.expr)
+            (G.pre self.now.structure) (G.post self.now.structure) }
+        ensures { Reads (boxed view) (spec.climb n (at_height n) (length tokens.old.rest.now) least
+            (view left.value) tokens.old.rest.now) result tokens.new.rest.now }
     {
         for _turn in 0..tokens.rest.len() {
             let [first, ..] = tokens.rest else {
@@ -614,7 +660,8 @@ impl<
     #[tactic(auto, unfolding(crate::specs::Expression::expr))]
     pub fn whole(&self, tokens: &mut Tokens<'_>, n: u32, least: u8) -> Result<Box<Expr>, Fail>
         requires within { n ≤ self.now.below }
-        requires nests { Nests self.now.below (F.pre self.now.expr) (F.post self.now.expr) (G.pre self.now.structure) (G.post self.now.structure) }
+        requires nests { Nests self.now.below (F.pre self.now.expr) (F.post self.now.expr)
+            (G.pre self.now.structure) (G.post self.now.structure) }
         ensures { Reads (boxed view) (spec.expr n (at_height n) least tokens.old.rest.now) result tokens.new.rest.now }
     {
         let left = self.first(tokens, n, least)?;

@@ -26,7 +26,8 @@ impl<
     /// An expression of at most height n, joined at least so tightly.
     pub fn expr(&self, tokens: &mut Tokens<'_>, n: u32, least: u8) -> Result<Box<Expr>, Fail>
         requires within { n ≤ self.now.below }
-        requires nests { Nests self.now.below (F.pre self.now.expr) (F.post self.now.expr) (G.pre self.now.structure) (G.post self.now.structure) }
+        requires nests { Nests self.now.below (F.pre self.now.expr) (F.post self.now.expr)
+            (G.pre self.now.structure) (G.post self.now.structure) }
         ensures { Reads (boxed view) ((at_height n).expr least tokens.old.rest.now) result tokens.new.rest.now }
     {
         (self.expr)(self.alloc, tokens, n, least)
@@ -35,7 +36,8 @@ impl<
     /// A struct of at most height n.
     pub fn structure(&self, tokens: &mut Tokens<'_>, n: u32) -> Result<Spec, Fail>
         requires within { n ≤ self.now.below }
-        requires nests { Nests self.now.below (F.pre self.now.expr) (F.post self.now.expr) (G.pre self.now.structure) (G.post self.now.structure) }
+        requires nests { Nests self.now.below (F.pre self.now.expr) (F.post self.now.expr)
+            (G.pre self.now.structure) (G.post self.now.structure) }
         ensures { Reads view_spec ((at_height n).structure tokens.old.rest.now) result tokens.new.rest.now }
     {
         (self.structure)(self.alloc, tokens, n)

@@ -2,7 +2,10 @@
 
 ghost use Rattle.std.specs.Prelude.{◌≡◌, IfOk, Vec};
 ghost use Rattle.upc_tree.specs.Expression as t;
-ghost use Rattle.upc_tree.specs.View.{view, view_arguments, view_next_exprs, view_type, view_spec, view_specs, view_layout, view_pointers, view_dimensions, view_members, view_member, view_next_declarators, view_declarator, view_parameters, view_parameter, view_next_parameter, view_next_parameters, view_array};
+ghost use Rattle.upc_tree.specs.View.{view, view_arguments, view_next_exprs, view_type, view_spec, view_specs};
+ghost use Rattle.upc_tree.specs.View.{view_layout, view_pointers, view_dimensions, view_members, view_member};
+ghost use Rattle.upc_tree.specs.View.{view_next_declarators, view_declarator, view_parameters, view_parameter};
+ghost use Rattle.upc_tree.specs.View.{view_next_parameter, view_next_parameters, view_array};
 
 use std::alloc::Global;
 use upc_lexer::NumberKind;
@@ -258,7 +261,8 @@ pub fn conditional(
     colon: Span,
     other: Box<Expr>,
 ) -> Result<Box<Expr>, OutOfMemory>
-    ensures { IfOk result (λ made. view made.value ≡ t.Conditional (view test.value) question (view chosen.value) colon (view other.value)) }
+    ensures { IfOk result (λ made. view made.value ≡ t.Conditional (view test.value) question
+        (view chosen.value) colon (view other.value)) }
 {
     Ok(boxed(
         alloc,
@@ -284,7 +288,8 @@ pub fn arguments(
     more: Vec<NextExpr>,
     right: Span,
 ) -> Result<Box<Arguments>, OutOfMemory>
-    ensures { IfOk result (λ made. view_arguments made.value ≡ t.SomeArguments (view first.value) (view_next_exprs more) right) }
+    ensures { IfOk result (λ made. view_arguments made.value ≡ t.SomeArguments (view first.value)
+        (view_next_exprs more) right) }
 {
     Ok(boxed(
         alloc,
@@ -302,7 +307,8 @@ pub fn type_name(
     pointers: Vec<Pointer>,
     sizes: Vec<Dimension>,
 ) -> Result<Box<TypeName>, OutOfMemory>
-    ensures { IfOk result (λ made. view_type made.value ≡ t.Typed (view_specs specs) (view_pointers pointers) (view_dimensions sizes)) }
+    ensures { IfOk result (λ made. view_type made.value ≡ t.Typed (view_specs specs)
+        (view_pointers pointers) (view_dimensions sizes)) }
 {
     Ok(boxed(
         alloc,
@@ -352,7 +358,12 @@ pub fn member(
     more: Vec<NextDeclarator>,
     semicolon: Span,
 ) -> Member
-    ensures { view_member result ≡ (view_specs specs, view_declarator first.value, view_next_declarators more, semicolon) }
+    ensures { view_member result ≡ (
+      view_specs specs,
+      view_declarator first.value,
+      view_next_declarators more,
+      semicolon,
+    ) }
 {
     Member {
         specs,
@@ -368,7 +379,8 @@ pub fn object(
     name: Name,
     sizes: Vec<Dimension>,
 ) -> Result<Box<Declarator>, OutOfMemory>
-    ensures { IfOk result (λ made. view_declarator made.value ≡ t.ObjectDeclarator (view_pointers pointers) name (view_dimensions sizes)) }
+    ensures { IfOk result (λ made. view_declarator made.value ≡ t.ObjectDeclarator
+        (view_pointers pointers) name (view_dimensions sizes)) }
 {
     Ok(boxed(
         alloc,
@@ -386,7 +398,8 @@ pub fn function(
     name: Name,
     parameters: Box<Parameters>,
 ) -> Result<Box<Declarator>, OutOfMemory>
-    ensures { IfOk result (λ made. view_declarator made.value ≡ t.FunctionDeclarator (view_pointers pointers) name (view_parameters parameters.value)) }
+    ensures { IfOk result (λ made. view_declarator made.value ≡ t.FunctionDeclarator
+        (view_pointers pointers) name (view_parameters parameters.value)) }
 {
     Ok(boxed(
         alloc,
@@ -405,7 +418,8 @@ pub fn parameters(
     more: Vec<NextParameter>,
     right: Span,
 ) -> Result<Box<Parameters>, OutOfMemory>
-    ensures { IfOk result (λ made. view_parameters made.value ≡ t.SomeParameters left (view_parameter first.value) (view_next_parameters more) right) }
+    ensures { IfOk result (λ made. view_parameters made.value ≡ t.SomeParameters left
+        (view_parameter first.value) (view_next_parameters more) right) }
 {
     Ok(boxed(
         alloc,
@@ -425,7 +439,8 @@ pub fn parameter(
     name: Option<Name>,
     array: ParameterArray,
 ) -> Result<Box<Parameter>, OutOfMemory>
-    ensures { IfOk result (λ made. view_parameter made.value ≡ t.Parametric (view_specs specs) (view_pointers pointers) name (view_array array)) }
+    ensures { IfOk result (λ made. view_parameter made.value ≡ t.Parametric (view_specs specs)
+        (view_pointers pointers) name (view_array array)) }
 {
     Ok(boxed(
         alloc,

@@ -1,7 +1,8 @@
 //! Lists and parts of types, each of at most height n.
 
 ghost use Rattle.std.specs.Prelude.{◌<◌};
-ghost use Rattle.upc_tree.specs.View.{view_next_exprs, view_specs, view_pointers, view_dimensions, view_declarator, view_parameters};
+ghost use Rattle.upc_tree.specs.View.{view_next_exprs, view_specs, view_pointers, view_dimensions, view_declarator};
+ghost use Rattle.upc_tree.specs.View.{view_parameters};
 ghost use Rattle.upc_expressions.specs.Expression as spec;
 ghost use Rattle.upc_expressions.specs.Expression.{at_height};
 ghost use Rattle.upc_expressions.specs.Run.{Reads, boxed};
@@ -71,7 +72,8 @@ pub fn dimensions(alloc: Global, tokens: &mut Tokens<'_>, n: u32) -> Result<Vec<
 /// A declarator.
 pub fn declarator(alloc: Global, tokens: &mut Tokens<'_>, n: u32) -> Result<Box<Declarator>, Fail>
     requires { n < 4294967295 }
-    ensures { Reads (boxed view_declarator) (spec.declarator (at_height n) tokens.old.rest.now) result tokens.new.rest.now }
+    ensures { Reads (boxed view_declarator) (spec.declarator (at_height n) tokens.old.rest.now)
+        result tokens.new.rest.now }
 {
     Grammar {
         alloc,
@@ -85,7 +87,8 @@ pub fn declarator(alloc: Global, tokens: &mut Tokens<'_>, n: u32) -> Result<Box<
 /// The parameters of a function, in their parentheses.
 pub fn parameters(alloc: Global, tokens: &mut Tokens<'_>, n: u32) -> Result<Box<Parameters>, Fail>
     requires { n < 4294967295 }
-    ensures { Reads (boxed view_parameters) (spec.parameters (at_height n) tokens.old.rest.now) result tokens.new.rest.now }
+    ensures { Reads (boxed view_parameters) (spec.parameters (at_height n) tokens.old.rest.now)
+        result tokens.new.rest.now }
 {
     Grammar {
         alloc,

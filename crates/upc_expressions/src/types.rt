@@ -1,7 +1,8 @@
 //! Types (C99 6.7.2, 6.7.3, 6.7.6; UPC 6.5.1).
 
 ghost use Rattle.std.specs.Prelude.{◌≡◌, ◌≤◌};
-ghost use Rattle.upc_tree.specs.View.{view_type, view_spec, view_specs, view_qual, view_quals, view_layout, view_pointer, view_pointers, view_dimension, view_dimensions};
+ghost use Rattle.upc_tree.specs.View.{view_type, view_spec, view_specs, view_qual, view_quals, view_layout};
+ghost use Rattle.upc_tree.specs.View.{view_pointer, view_pointers, view_dimension, view_dimensions};
 ghost use Rattle.upc_expressions.specs.Expression as spec;
 ghost use Rattle.upc_expressions.specs.Expression.{at_height};
 ghost use Rattle.upc_expressions.specs.Outcome.{span_of};
@@ -33,7 +34,8 @@ impl<
     #[tactic(auto, unfolding(crate::specs::Expression::dimension))]
     pub fn dimension(&self, tokens: &mut Tokens<'_>, n: u32) -> Result<Dimension, Fail>
         requires within { n ≤ self.now.below }
-        requires nests { Nests self.now.below (F.pre self.now.expr) (F.post self.now.expr) (G.pre self.now.structure) (G.post self.now.structure) }
+        requires nests { Nests self.now.below (F.pre self.now.expr) (F.post self.now.expr)
+            (G.pre self.now.structure) (G.post self.now.structure) }
         ensures { Reads view_dimension (spec.dimension (at_height n) tokens.old.rest.now) result tokens.new.rest.now }
     {
         let open = expect_punct(tokens, Punct::LBracket)?;
@@ -44,7 +46,8 @@ impl<
 
     pub fn dimensions(&self, tokens: &mut Tokens<'_>, n: u32) -> Result<Vec<Dimension>, Fail>
         requires within { n ≤ self.now.below }
-        requires nests { Nests self.now.below (F.pre self.now.expr) (F.post self.now.expr) (G.pre self.now.structure) (G.post self.now.structure) }
+        requires nests { Nests self.now.below (F.pre self.now.expr) (F.post self.now.expr)
+            (G.pre self.now.structure) (G.post self.now.structure) }
         ensures { Reads view_dimensions (spec.dimensions (at_height n) tokens.old.rest.now) result tokens.new.rest.now }
     {
         many(
@@ -58,8 +61,10 @@ impl<
     #[tactic(auto, unfolding(crate::specs::Expression::empty_layout))]
     fn empty_layout(&self, tokens: &mut Tokens<'_>, n: u32) -> Result<Box<Layout>, Fail>
         requires within { n ≤ self.now.below }
-        requires nests { Nests self.now.below (F.pre self.now.expr) (F.post self.now.expr) (G.pre self.now.structure) (G.post self.now.structure) }
-        ensures { Reads (boxed view_layout) (spec.empty_layout (at_height n) tokens.old.rest.now) result tokens.new.rest.now }
+        requires nests { Nests self.now.below (F.pre self.now.expr) (F.post self.now.expr)
+            (G.pre self.now.structure) (G.post self.now.structure) }
+        ensures { Reads (boxed view_layout) (spec.empty_layout (at_height n) tokens.old.rest.now)
+            result tokens.new.rest.now }
     {
         let open = expect_punct(tokens, Punct::LBracket)?;
         let close = expect_punct(tokens, Punct::RBracket)?;
@@ -69,8 +74,10 @@ impl<
     #[tactic(auto, unfolding(crate::specs::Expression::star_layout))]
     fn star_layout(&self, tokens: &mut Tokens<'_>, n: u32) -> Result<Box<Layout>, Fail>
         requires within { n ≤ self.now.below }
-        requires nests { Nests self.now.below (F.pre self.now.expr) (F.post self.now.expr) (G.pre self.now.structure) (G.post self.now.structure) }
-        ensures { Reads (boxed view_layout) (spec.star_layout (at_height n) tokens.old.rest.now) result tokens.new.rest.now }
+        requires nests { Nests self.now.below (F.pre self.now.expr) (F.post self.now.expr)
+            (G.pre self.now.structure) (G.post self.now.structure) }
+        ensures { Reads (boxed view_layout) (spec.star_layout (at_height n) tokens.old.rest.now)
+            result tokens.new.rest.now }
     {
         let open = expect_punct(tokens, Punct::LBracket)?;
         let star = expect_punct(tokens, Punct::Star)?;
@@ -81,8 +88,10 @@ impl<
     #[tactic(auto, unfolding(crate::specs::Expression::block_layout))]
     fn block_layout(&self, tokens: &mut Tokens<'_>, n: u32) -> Result<Box<Layout>, Fail>
         requires within { n ≤ self.now.below }
-        requires nests { Nests self.now.below (F.pre self.now.expr) (F.post self.now.expr) (G.pre self.now.structure) (G.post self.now.structure) }
-        ensures { Reads (boxed view_layout) (spec.block_layout (at_height n) tokens.old.rest.now) result tokens.new.rest.now }
+        requires nests { Nests self.now.below (F.pre self.now.expr) (F.post self.now.expr)
+            (G.pre self.now.structure) (G.post self.now.structure) }
+        ensures { Reads (boxed view_layout) (spec.block_layout (at_height n) tokens.old.rest.now)
+            result tokens.new.rest.now }
     {
         let size = self.dimension(tokens, n)?;
         Ok(boxed(self.alloc, block_layout(size))?)
@@ -91,7 +100,8 @@ impl<
     #[tactic(auto, unfolding(crate::specs::Expression::layout))]
     fn layout(&self, tokens: &mut Tokens<'_>, n: u32) -> Result<Box<Layout>, Fail>
         requires within { n ≤ self.now.below }
-        requires nests { Nests self.now.below (F.pre self.now.expr) (F.post self.now.expr) (G.pre self.now.structure) (G.post self.now.structure) }
+        requires nests { Nests self.now.below (F.pre self.now.expr) (F.post self.now.expr)
+            (G.pre self.now.structure) (G.post self.now.structure) }
         ensures { Reads (boxed view_layout) (spec.layout (at_height n) tokens.old.rest.now) result tokens.new.rest.now }
     {
         if !starts(Sign::Punct(Punct::LBracket), tokens.rest) {
@@ -119,8 +129,10 @@ impl<
         span: Span,
     ) -> Result<Qual, Fail>
         requires within { n ≤ self.now.below }
-        requires nests { Nests self.now.below (F.pre self.now.expr) (F.post self.now.expr) (G.pre self.now.structure) (G.post self.now.structure) }
-        ensures { Reads view_qual (spec.qual_by (at_height n) word span tokens.old.rest.now) result tokens.new.rest.now }
+        requires nests { Nests self.now.below (F.pre self.now.expr) (F.post self.now.expr)
+            (G.pre self.now.structure) (G.post self.now.structure) }
+        ensures { Reads view_qual (spec.qual_by (at_height n) word span tokens.old.rest.now) result
+            tokens.new.rest.now }
     {
         match word {
             QualWord::Const => Ok(Qual::Const(span)),
@@ -136,7 +148,8 @@ impl<
     #[tactic(auto, unfolding(crate::specs::Expression::qual))]
     fn qual(&self, tokens: &mut Tokens<'_>, n: u32) -> Result<Qual, Fail>
         requires within { n ≤ self.now.below }
-        requires nests { Nests self.now.below (F.pre self.now.expr) (F.post self.now.expr) (G.pre self.now.structure) (G.post self.now.structure) }
+        requires nests { Nests self.now.below (F.pre self.now.expr) (F.post self.now.expr)
+            (G.pre self.now.structure) (G.post self.now.structure) }
         ensures { Reads view_qual (spec.qual (at_height n) tokens.old.rest.now) result tokens.new.rest.now }
     {
         match tokens.rest {
@@ -153,7 +166,8 @@ impl<
 
     fn quals(&self, tokens: &mut Tokens<'_>, n: u32) -> Result<Vec<Qual>, Fail>
         requires within { n ≤ self.now.below }
-        requires nests { Nests self.now.below (F.pre self.now.expr) (F.post self.now.expr) (G.pre self.now.structure) (G.post self.now.structure) }
+        requires nests { Nests self.now.below (F.pre self.now.expr) (F.post self.now.expr)
+            (G.pre self.now.structure) (G.post self.now.structure) }
         ensures { Reads view_quals (spec.quals (at_height n) tokens.old.rest.now) result tokens.new.rest.now }
     {
         many(
@@ -167,7 +181,8 @@ impl<
     #[tactic(auto, unfolding(crate::specs::Expression::pointer))]
     fn pointer(&self, tokens: &mut Tokens<'_>, n: u32) -> Result<Pointer, Fail>
         requires within { n ≤ self.now.below }
-        requires nests { Nests self.now.below (F.pre self.now.expr) (F.post self.now.expr) (G.pre self.now.structure) (G.post self.now.structure) }
+        requires nests { Nests self.now.below (F.pre self.now.expr) (F.post self.now.expr)
+            (G.pre self.now.structure) (G.post self.now.structure) }
         ensures { Reads view_pointer (spec.pointer (at_height n) tokens.old.rest.now) result tokens.new.rest.now }
     {
         let star = expect_punct(tokens, Punct::Star)?;
@@ -177,7 +192,8 @@ impl<
 
     pub fn pointers(&self, tokens: &mut Tokens<'_>, n: u32) -> Result<Vec<Pointer>, Fail>
         requires within { n ≤ self.now.below }
-        requires nests { Nests self.now.below (F.pre self.now.expr) (F.post self.now.expr) (G.pre self.now.structure) (G.post self.now.structure) }
+        requires nests { Nests self.now.below (F.pre self.now.expr) (F.post self.now.expr)
+            (G.pre self.now.structure) (G.post self.now.structure) }
         ensures { Reads view_pointers (spec.pointers (at_height n) tokens.old.rest.now) result tokens.new.rest.now }
     {
         many(
@@ -191,7 +207,8 @@ impl<
     #[tactic(auto, unfolding(crate::specs::Expression::spec))]
     fn spec(&self, tokens: &mut Tokens<'_>, n: u32) -> Result<Spec, Fail>
         requires within { n ≤ self.now.below }
-        requires nests { Nests self.now.below (F.pre self.now.expr) (F.post self.now.expr) (G.pre self.now.structure) (G.post self.now.structure) }
+        requires nests { Nests self.now.below (F.pre self.now.expr) (F.post self.now.expr)
+            (G.pre self.now.structure) (G.post self.now.structure) }
         ensures { Reads view_spec (spec.spec (at_height n) tokens.old.rest.now) result tokens.new.rest.now }
     {
         match tokens.rest {
@@ -217,7 +234,8 @@ impl<
 
     pub fn specs(&self, tokens: &mut Tokens<'_>, n: u32, local: bool) -> Result<Vec<Spec>, Fail>
         requires within { n ≤ self.now.below }
-        requires nests { Nests self.now.below (F.pre self.now.expr) (F.post self.now.expr) (G.pre self.now.structure) (G.post self.now.structure) }
+        requires nests { Nests self.now.below (F.pre self.now.expr) (F.post self.now.expr)
+            (G.pre self.now.structure) (G.post self.now.structure) }
         ensures { Reads view_specs (spec.specs (at_height n) local tokens.old.rest.now) result tokens.new.rest.now }
     {
         if !starts(Sign::Spec(local), tokens.rest) {
@@ -234,8 +252,10 @@ impl<
     #[tactic(auto, unfolding(crate::specs::Expression::plain_type))]
     pub fn plain_type(&self, tokens: &mut Tokens<'_>, n: u32) -> Result<Box<TypeName>, Fail>
         requires within { n ≤ self.now.below }
-        requires nests { Nests self.now.below (F.pre self.now.expr) (F.post self.now.expr) (G.pre self.now.structure) (G.post self.now.structure) }
-        ensures { Reads (boxed view_type) (spec.plain_type (at_height n) tokens.old.rest.now) result tokens.new.rest.now }
+        requires nests { Nests self.now.below (F.pre self.now.expr) (F.post self.now.expr)
+            (G.pre self.now.structure) (G.post self.now.structure) }
+        ensures { Reads (boxed view_type) (spec.plain_type (at_height n) tokens.old.rest.now) result
+            tokens.new.rest.now }
     {
         let specs = self.specs(tokens, n, false)?;
         let pointers = self.pointers(tokens, n)?;
@@ -245,8 +265,10 @@ impl<
     #[tactic(auto, unfolding(crate::specs::Expression::type_name))]
     pub fn type_name(&self, tokens: &mut Tokens<'_>, n: u32) -> Result<Box<TypeName>, Fail>
         requires within { n ≤ self.now.below }
-        requires nests { Nests self.now.below (F.pre self.now.expr) (F.post self.now.expr) (G.pre self.now.structure) (G.post self.now.structure) }
-        ensures { Reads (boxed view_type) (spec.type_name (at_height n) tokens.old.rest.now) result tokens.new.rest.now }
+        requires nests { Nests self.now.below (F.pre self.now.expr) (F.post self.now.expr)
+            (G.pre self.now.structure) (G.post self.now.structure) }
+        ensures { Reads (boxed view_type) (spec.type_name (at_height n) tokens.old.rest.now) result
+            tokens.new.rest.now }
     {
         let specs = self.specs(tokens, n, false)?;
         let pointers = self.pointers(tokens, n)?;

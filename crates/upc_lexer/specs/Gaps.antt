@@ -1,5 +1,6 @@
 -- Blanks and comments (C99 6.4, 6.4.9).
-use Rattle.std.specs.Prelude.{◌≡◌, ℕ, Bool, true, false, ◌||◌, ◌&&◌, ◌==◌, List, [], ◌∷◌, ◌++◌, ◌<◌, ◌≤◌, length, take, drop, codes}
+use Rattle.std.specs.Prelude.{◌≡◌, ℕ, Bool, true, false, ◌||◌, ◌&&◌, ◌==◌, List, [], ◌∷◌, ◌++◌, ◌<◌, ◌≤◌, length}
+use Rattle.std.specs.Prelude.{take, drop, codes}
 use Rattle.upc_lexer.specs.declared.gaps.Gap.{Gap}
 use Rattle.upc_lexer.specs.declared.gaps.Gap.TheVariants.{Taken, Unclosed, Absent}
 use Rattle.std.specs.List.{list_all}

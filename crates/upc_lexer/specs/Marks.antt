@@ -1,7 +1,15 @@
 -- How each mark is spelled (C99 6.4.6).
 use Rattle.std.specs.Prelude.{ℕ, List, codes}
 use Rattle.upc_lexer.specs.declared.token.Punct.{Punct}
-use Rattle.upc_lexer.specs.declared.token.Punct.TheVariants.{LBracket, RBracket, LParen, RParen, LBrace, RBrace, Dot, Arrow, PlusPlus, MinusMinus, Ampersand, Star, Plus, Minus, Tilde, Exclamation, Slash, Percent, ShiftLeft, ShiftRight, Less, Greater, LessEqual, GreaterEqual, EqualEqual, NotEqual, Caret, Bar, AndAnd, OrOr, Question, Colon, Semicolon, Equal, StarEqual, SlashEqual, PercentEqual, PlusEqual, MinusEqual, ShiftLeftEqual, ShiftRightEqual, AmpersandEqual, CaretEqual, BarEqual, Comma, Hash, HashHash}
+use Rattle.upc_lexer.specs.declared.token.Punct.TheVariants.{LBracket, RBracket, LParen, RParen, LBrace, RBrace, Dot}
+use Rattle.upc_lexer.specs.declared.token.Punct.TheVariants.{Arrow, PlusPlus, MinusMinus, Ampersand, Star, Plus}
+use Rattle.upc_lexer.specs.declared.token.Punct.TheVariants.{Minus, Tilde, Exclamation, Slash, Percent, ShiftLeft}
+use Rattle.upc_lexer.specs.declared.token.Punct.TheVariants.{ShiftRight, Less, Greater, LessEqual, GreaterEqual}
+use Rattle.upc_lexer.specs.declared.token.Punct.TheVariants.{EqualEqual, NotEqual, Caret, Bar, AndAnd, OrOr, Question}
+use Rattle.upc_lexer.specs.declared.token.Punct.TheVariants.{Colon, Semicolon, Equal, StarEqual, SlashEqual}
+use Rattle.upc_lexer.specs.declared.token.Punct.TheVariants.{PercentEqual, PlusEqual, MinusEqual, ShiftLeftEqual}
+use Rattle.upc_lexer.specs.declared.token.Punct.TheVariants.{ShiftRightEqual, AmpersandEqual, CaretEqual, BarEqual}
+use Rattle.upc_lexer.specs.declared.token.Punct.TheVariants.{Comma, Hash, HashHash}
 
 abbrev pub mark_bytes : Punct → List ℕ
 mark_bytes LBracket = codes "["

@@ -7,7 +7,8 @@ use Rattle.upc_lexer.specs.declared.token.Token.{Token}
 use Rattle.upc_lexer.specs.declared.token.TokenKind.{TokenKind}
 use Rattle.upc_lexer.specs.declared.token.TokenKind.TheVariants.{Name}
 use Rattle.upc_lexer.specs.Names.{firsts, insert_name}
-use Rattle.upc_lexer.specs.Tokens.{Piece, gap, lexeme, text_of, joined, names_in, tokens_in, IsPiece, Cuts, Refuses, RefusedAt}
+use Rattle.upc_lexer.specs.Tokens.{Piece, gap, lexeme, text_of, joined, names_in, tokens_in, IsPiece, Cuts, Refuses}
+use Rattle.upc_lexer.specs.Tokens.{RefusedAt}
 use Rattle.upc_lexer.specs.Places.{place_after}
 
 -- a token of so many bytes, which begins so far behind the source's beginning, at this place

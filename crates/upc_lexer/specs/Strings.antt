@@ -1,5 +1,6 @@
 -- Character constants and string literals (C99 6.4.4.4, 6.4.5).
-use Rattle.std.specs.Prelude.{◌≡◌, ℕ, Bool, true, not, ◌||◌, ◌&&◌, nat_le, ◌==◌, if◌then◌else◌, List, [], ◌∷◌, ◌++◌, Option, Some, None, option_map, option_and_then, ◌⊎◌, ◌≤◌, length, take, drop}
+use Rattle.std.specs.Prelude.{◌≡◌, ℕ, Bool, true, not, ◌||◌, ◌&&◌, nat_le, ◌==◌, if◌then◌else◌, List, [], ◌∷◌, ◌++◌}
+use Rattle.std.specs.Prelude.{Option, Some, None, option_map, option_and_then, ◌⊎◌, ◌≤◌, length, take, drop}
 
 -- the byte that `\` and this one stand for: \n \t \r \a \b \f \v \\ \' \" \? \0
 abbrev pub escape : ℕ → Option ℕ

@@ -1,5 +1,6 @@
 -- The tokens of a source (C99 6.4).
-use Rattle.std.specs.Prelude.{◌≡◌, ◌≢◌, ℕ, ◌+◌, ◌<◌, ◌≤◌, Bool, true, false, ◌||◌, ◌&&◌, ◌==◌, List, [], ◌∷◌, ◌++◌, length, Some, slice_get}
+use Rattle.std.specs.Prelude.{◌≡◌, ◌≢◌, ℕ, ◌+◌, ◌<◌, ◌≤◌, Bool, true, false, ◌||◌, ◌&&◌, ◌==◌, List, [], ◌∷◌, ◌++◌}
+use Rattle.std.specs.Prelude.{length, Some, slice_get}
 use Rattle.std.specs.List.{list_all}
 use Rattle.upc_text.specs.declared.place.Code.{Code}
 use Rattle.upc_text.specs.declared.place.Code.TheVariants.{Lex, Limit}

@@ -1,7 +1,15 @@
 -- How each word is spelled (C99 6.4.1; UPC 6.1), and the type words.
 use Rattle.std.specs.Prelude.{ℕ, List, codes}
 use Rattle.upc_lexer.specs.declared.token.Word.{Word}
-use Rattle.upc_lexer.specs.declared.token.Word.TheVariants.{Break, Case, Char, Const, Continue, Default, Do, Else, For, If, Int, Long, Return, Short, Signed, Sizeof, Static, Struct, Switch, Unsigned, Void, While, Shared, Strict, Relaxed, Mythread, Threads, UpcMaxBlockSize, UpcBarrier, UpcBlocksizeof, UpcElemsizeof, UpcFence, UpcForall, UpcLocalsizeof, UpcNotify, UpcWait, SizeT, PtrdiffT, UpcLockT, UpcOpT, UpcFlagT, Auto, Double, Enum, Extern, Float, Goto, Inline, Register, Restrict, Typedef, Union, Volatile, Bool, Complex, Imaginary}
+use Rattle.upc_lexer.specs.declared.token.Word.TheVariants.{Break, Case, Char, Const, Continue, Default, Do, Else}
+use Rattle.upc_lexer.specs.declared.token.Word.TheVariants.{For, If, Int, Long, Return, Short, Signed, Sizeof, Static}
+use Rattle.upc_lexer.specs.declared.token.Word.TheVariants.{Struct, Switch, Unsigned, Void, While, Shared, Strict}
+use Rattle.upc_lexer.specs.declared.token.Word.TheVariants.{Relaxed, Mythread, Threads, UpcMaxBlockSize, UpcBarrier}
+use Rattle.upc_lexer.specs.declared.token.Word.TheVariants.{UpcBlocksizeof, UpcElemsizeof, UpcFence, UpcForall}
+use Rattle.upc_lexer.specs.declared.token.Word.TheVariants.{UpcLocalsizeof, UpcNotify, UpcWait, SizeT, PtrdiffT}
+use Rattle.upc_lexer.specs.declared.token.Word.TheVariants.{UpcLockT, UpcOpT, UpcFlagT, Auto, Double, Enum, Extern}
+use Rattle.upc_lexer.specs.declared.token.Word.TheVariants.{Float, Goto, Inline, Register, Restrict, Typedef, Union}
+use Rattle.upc_lexer.specs.declared.token.Word.TheVariants.{Volatile, Bool, Complex, Imaginary}
 
 abbrev pub word_bytes : Word → List ℕ
 word_bytes Break = codes "break"

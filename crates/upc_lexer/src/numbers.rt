@@ -1,7 +1,8 @@
 //! Integer constants (C99 6.4.4.1).
 ghost use Rattle.std.specs.Prelude.{◌≡◌, ◌<◌, ◌^◌, IfOk, IfErr, SomeIff};
 ghost use Rattle.std.specs.List.{prefix_len};
-ghost use Rattle.upc_lexer.specs.Numbers.{is_digit_in, radix, digit_value, value_in, is_u, is_l, is_ll, suffix_of, kinds, greatest, kind_of, IsNumber, RefusesNumber};
+ghost use Rattle.upc_lexer.specs.Numbers.{is_digit_in, radix, digit_value, value_in, is_u, is_l, is_ll, suffix_of};
+ghost use Rattle.upc_lexer.specs.Numbers.{kinds, greatest, kind_of, IsNumber, RefusesNumber};
 ghost use Rattle.upc_lexer.specs.NumberParts.{base_of, behind_prefix};
 
 use crate::bytes::is_digit;

@@ -1,6 +1,7 @@
 //! Character constants and string literals (C99 6.4.4.4, 6.4.5).
 ghost use Rattle.std.specs.Prelude.{◌≡◌, IfOk};
-ghost use Rattle.upc_lexer.specs.Strings.{escape, is_plain_character, is_plain_string, spelled_at, IsStringBody, FindsCharacter, FindsString};
+ghost use Rattle.upc_lexer.specs.Strings.{escape, is_plain_character, is_plain_string, spelled_at, IsStringBody};
+ghost use Rattle.upc_lexer.specs.Strings.{FindsCharacter, FindsString};
 
 use std::alloc::Global;
 use upc_text::{OutOfMemory, Text};

@@ -1,5 +1,6 @@
 -- The expansion of the tokens of a source, line by line.
-use Rattle.std.specs.Prelude.{◌≡◌, ℕ, ◌+◌, nat_le, Bool, true, false, ◌==◌, List, [], ◌∷◌, ◌++◌, Option, Some, None, length, map, replicate, slice_set, if◌then◌else◌}
+use Rattle.std.specs.Prelude.{◌≡◌, ℕ, ◌+◌, nat_le, Bool, true, false, ◌==◌, List, [], ◌∷◌, ◌++◌, Option, Some, None}
+use Rattle.std.specs.Prelude.{length, map, replicate, slice_set, if◌then◌else◌}
 use Rattle.upc_text.specs.declared.place.Place.{Place}
 use Rattle.upc_text.specs.declared.place.Refusal.{Refusal}
 use Rattle.upc_text.specs.declared.place.Code.TheVariants.{Directive, Profile, Limit}
@@ -9,7 +10,9 @@ use Rattle.upc_lexer.specs.declared.token.Token.{Token}
 use Rattle.upc_lexer.specs.declared.token.TokenKind.{TokenKind}
 use Rattle.upc_lexer.specs.declared.token.TokenKind.TheVariants as kind
 use Rattle.upc_lexer.specs.declared.token.Word.{Word}
-use Rattle.upc_lexer.specs.declared.token.Word.TheVariants.{Auto, Double, Enum, Extern, Float, Goto, Inline, Register, Restrict, Typedef, Union, Volatile, Bool as BoolWord, Complex, Imaginary}
+use Rattle.upc_lexer.specs.declared.token.Word.TheVariants.{Auto, Double, Enum, Extern, Float, Goto, Inline, Register}
+use Rattle.upc_lexer.specs.declared.token.Word.TheVariants.{Restrict, Typedef, Union, Volatile, Bool as BoolWord}
+use Rattle.upc_lexer.specs.declared.token.Word.TheVariants.{Complex, Imaginary}
 use Rattle.upc_lexer.specs.declared.token.Punct.TheVariants.{Hash}
 use Rattle.upc_macros.specs.Spelling.{last_end}
 use Rattle.upc_macros.specs.Replacing.{Macros, replaced, placed}

@@ -1,5 +1,6 @@
 -- Macro replacement (C99 6.10.3, object-like macros; 6.10.3.4).
-use Rattle.std.specs.Prelude.{ℕ, zero, suc, List, [], ◌∷◌, Option, Some, None, option_and_then, slice_index_or, slice_set, flat_map, codes, if◌then◌else◌}
+use Rattle.std.specs.Prelude.{ℕ, zero, suc, List, [], ◌∷◌, Option, Some, None, option_and_then, slice_index_or}
+use Rattle.std.specs.Prelude.{slice_set, flat_map, codes, if◌then◌else◌}
 use Rattle.upc_lexer.specs.declared.token.Token.{Token}
 use Rattle.upc_lexer.specs.declared.token.TokenKind.{TokenKind}
 use Rattle.upc_lexer.specs.declared.token.TokenKind.TheVariants.{Name, Number}

@@ -1,5 +1,6 @@
 -- The table of macros in the code: where their tokens stand among the source's.
-use Rattle.std.specs.Prelude.{◌≡◌, ℕ, suc, ◌-◌, ◌<◌, ◌≤◌, List, [], ◌∷◌, ◌++◌, Option, Some, None, option_map, map, length, take, drop, slice_get, slice_index_or}
+use Rattle.std.specs.Prelude.{◌≡◌, ℕ, suc, ◌-◌, ◌<◌, ◌≤◌, List, [], ◌∷◌, ◌++◌, Option, Some, None, option_map, map}
+use Rattle.std.specs.Prelude.{length, take, drop, slice_get, slice_index_or}
 use Rattle.upc_text.specs.declared.faults.Stop.{Stop}
 use Rattle.upc_text.specs.declared.faults.Stop.TheVariants.{Refused, Memory}
 use Rattle.upc_lexer.specs.declared.token.Token.{Token}

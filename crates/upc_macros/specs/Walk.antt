@@ -1,5 +1,6 @@
 -- What is still to be put out while macros lie in one another.
-use Rattle.std.specs.Prelude.{◌≡◌, ℕ, suc, ◌-◌, ◌+◌, ◌<◌, ◌≤◌, List, [], ◌∷◌, ◌++◌, Option, Some, None, map, length, take, drop, slice_set, flat_map}
+use Rattle.std.specs.Prelude.{◌≡◌, ℕ, suc, ◌-◌, ◌+◌, ◌<◌, ◌≤◌, List, [], ◌∷◌, ◌++◌, Option, Some, None, map, length}
+use Rattle.std.specs.Prelude.{take, drop, slice_set, flat_map}
 use Rattle.upc_text.specs.declared.place.Place.{Place}
 use Rattle.upc_lexer.specs.declared.token.Token.{Token}
 use Rattle.upc_macros.specs.declared.table.Body.{Body}

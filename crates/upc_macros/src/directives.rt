@@ -3,7 +3,9 @@ ghost use Rattle.std.specs.Prelude.{◌≡◌, ◌-◌, ◌<◌, ◌≤◌, ℕ,
 ghost use Rattle.std.specs.Option.{option_map, ForSome};
 ghost use Rattle.upc_lexer.specs.declared.token.Token.{Token as Item};
 ghost use Rattle.upc_macros.specs.Spelling.{are_alike};
-ghost use Rattle.upc_macros.specs.Directives.{header_effect, include_effect, macro_name, has_parameters, define_effect, define_name, undefine_effect, access_effect, pragma_effect, effect_of};
+ghost use Rattle.upc_macros.specs.Directives.{header_effect, include_effect, macro_name, has_parameters};
+ghost use Rattle.upc_macros.specs.Directives.{define_effect, define_name, undefine_effect, access_effect};
+ghost use Rattle.upc_macros.specs.Directives.{pragma_effect, effect_of};
 ghost use Rattle.upc_macros.specs.Effects.{effect_seen, IsChange, IsKeyword};
 ghost use Rattle.upc_macros.specs.Table.{seen, AreInOrder, AreOrdered, AreBodies, IsBody, body_tokens};
 

@@ -5,7 +5,8 @@ ghost use Rattle.upc_text.specs.declared.place.Code.TheVariants as code;
 ghost use Rattle.upc_tree.specs.Unit as tree;
 ghost use Rattle.upc_tree.specs.Unit.{IsTree, ProperUnit};
 ghost use Rattle.upc_tree.specs.ViewStatement.{view_unit};
-ghost use Rattle.upc_parser.specs.Answer.{Answers, RefusedBy, OnlyRefused, IsRefusal, Ends, HasPlace, answer, settled_fault};
+ghost use Rattle.upc_parser.specs.Answer.{Answers, RefusedBy, OnlyRefused, IsRefusal, Ends, HasPlace, answer};
+ghost use Rattle.upc_parser.specs.Answer.{settled_fault};
 
 use statement_parser::unit;
 use std::alloc::Global;
@@ -17,7 +18,8 @@ use upc_tree::Unit;
 /// How high a tree may be. With fewer tokens it is not higher.
 const HEIGHT_LIMIT: u32 = 256;
 
-/// The place of the token behind which there are fewer than `left`; of the last token, if there is none; 1:1 without tokens.
+/// The place of the token behind which there are fewer than `left`; of the last token, if there is none; 1:1 without
+/// tokens.
 fn place_of(tokens: &[Token], left: usize) -> Place
     ensures { HasPlace tokens.now result }
 {
@@ -61,17 +63,19 @@ fn whole(alloc: Global, tokens: &[Token]) -> Result<Unit, Stop>
 
 /// The proper tree of at most 256 levels that has these tokens (C99 6.9, UPC 6.4 to 6.7).
 ///
-/// Refused as `Syntax` where no proper tree has them, at the first token that cannot go on, or at the last one. Refused as
-/// `Limit(3)` where there are at least 256 tokens and each such tree is higher, at the first token.
+/// Refused as `Syntax` where no proper tree has them, at the first token that cannot go on, or at the last one.
+/// Refused as `Limit(3)` where there are at least 256 tokens and each such tree is higher, at the first token.
 pub fn parse(alloc: Global, tokens: &[Token]) -> Result<Unit, Stop>
     // What is answered is a proper tree of at most 256 levels that has these tokens.
     ensures found { IfOk result (λ unit. IsTree tokens.now (view_unit unit)) }
     // Where there is such a tree, it is answered.
     ensures answered { (u : List tree.External) → IsTree tokens.now u → Answers u result }
     // Where the syntax is refused, no proper tree of any height has these tokens.
-    ensures syntax { RefusedBy code.Syntax result → (u : List tree.External) → ProperUnit u → tree.tokens_of u ≡ tokens.now → ⊥ }
+    ensures syntax { RefusedBy code.Syntax result → (u : List tree.External) → ProperUnit u →
+        tree.tokens_of u ≡ tokens.now → ⊥ }
     // Where the limit is passed, there are at least 256 tokens, and no proper tree of at most 256 levels has them.
-    ensures limit { RefusedBy (code.Limit 3) result → (256 ≤ length tokens.now) × ((u : List tree.External) → IsTree tokens.now u → ⊥) }
+    ensures limit { RefusedBy (code.Limit 3) result → (256 ≤ length tokens.now) ×
+        ((u : List tree.External) → IsTree tokens.now u → ⊥) }
     // There is no other refusal, and each stands at a token, or at 1:1 where there is none.
     ensures refused { OnlyRefused tokens.now result }
 {

@@ -1,5 +1,6 @@
 -- What the outside tells of itself: the bytes of its names, the bytes that it took, and its counts of faults.
-use Rattle.std.specs.Prelude.{◌≡◌, ℕ, ◌-◌, ◌^◌, ◌<◌, ◌≤◌, ◌⊎◌, Option, None, Some, IfSome, List, ◌++◌, length, take, drop}
+use Rattle.std.specs.Prelude.{◌≡◌, ℕ, ◌-◌, ◌^◌, ◌<◌, ◌≤◌, ◌⊎◌, Option, None, Some, IfSome, List, ◌++◌, length, take}
+use Rattle.std.specs.Prelude.{drop}
 
 -- A count rose in a call: it is greater after the call than before, or stands after it at the last value of 64 bits,
 -- where it stays.

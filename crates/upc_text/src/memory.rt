@@ -1,5 +1,6 @@
 //! Sources and sinks in memory, whose calls fail where it was said.
-ghost use Rattle.std.specs.Prelude.{◌≡◌, ◌<◌, ◌≤◌, ◌↔◌, ◌⊎◌, [], ◌∷◌, ◌++◌, length, take, drop, min, Some, Contains, IfOk, OnOk, OnErr, IsErr, IsNone, IfSome};
+ghost use Rattle.std.specs.Prelude.{◌≡◌, ◌<◌, ◌≤◌, ◌↔◌, ◌⊎◌, [], ◌∷◌, ◌++◌, length, take, drop, min, Some, Contains};
+ghost use Rattle.std.specs.Prelude.{IfOk, OnOk, OnErr, IsErr, IsNone, IfSome};
 ghost use Rattle.std.specs.Option.{option_copied};
 ghost use Rattle.upc_text.specs.Outside.{StandsAt, EndsBy};
 ghost use Rattle.upc_text.specs.Memory.{held_under, one_more, given};

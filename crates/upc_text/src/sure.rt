@@ -1,5 +1,6 @@
 //! Sources and a sink that never fail.
-ghost use Rattle.std.specs.Prelude.{◌≡◌, ◌<◌, ◌≤◌, ℕ, List, [], ◌∷◌, ◌++◌, length, take, Some, None, Ok, unwrap_or, IfOk, OnOk, OnErr, IsNone, IsOkAnd};
+ghost use Rattle.std.specs.Prelude.{◌≡◌, ◌<◌, ◌≤◌, ℕ, List, [], ◌∷◌, ◌++◌, length, take, Some, None, Ok, unwrap_or};
+ghost use Rattle.std.specs.Prelude.{IfOk, OnOk, OnErr, IsNone, IsOkAnd};
 ghost use Rattle.upc_text.specs.Outside.{StandsAt};
 ghost use Rattle.upc_text.specs.Memory.{held_under, given};
 

@@ -8,7 +8,8 @@ use Rattle.upc_top.specs.declared.done.Done.{Done}
 use Rattle.upc_top.specs.Sources.{IsAccepted}
 use Rattle.upc_top.specs.Words.{AreTaken}
 use Rattle.upc_top.specs.Output.{status_of}
-use Rattle.upc_top.specs.Verdicts.{Reading, Caused, text_of, line_of, status_for, refusal_of, journal_of, without_memory}
+use Rattle.upc_top.specs.Verdicts.{Reading, Caused, text_of, line_of, status_for, refusal_of, journal_of}
+use Rattle.upc_top.specs.Verdicts.{without_memory}
 
 -- What a sink has taken, where it tells it, and its count of faults, before and after.
 pub record Writing : Type 0 where

@@ -1,5 +1,6 @@
 -- What a journal's run writes, its status, and the line of a status.
-use Rattle.std.specs.Prelude.{ℕ, ℤ, pos, negsuc, ◌+◌, nat_lt, Bool, true, false, cond, List, [], ◌∷◌, ◌++◌, Option, Some, None, codes, decimal}
+use Rattle.std.specs.Prelude.{ℕ, ℤ, pos, negsuc, ◌+◌, nat_lt, Bool, true, false, cond, List, [], ◌∷◌, ◌++◌, Option}
+use Rattle.std.specs.Prelude.{Some, None, codes, decimal}
 use Rattle.std.specs.List.{flat_map, list_all}
 use Rattle.upc_text.specs.declared.place.Place.{Place}
 use Rattle.upc_text.specs.declared.place.Code.{Code}

@@ -5,7 +5,9 @@ use Rattle.upc_lexer.specs.declared.token.Punct.TheVariants as p
 use Rattle.upc_tree.specs.declared.mark.TypeWord.TheVariants as t
 use Rattle.upc_tree.specs.declared.span.Span.{Span}
 use Rattle.upc_tree.specs.Tokens.{punct}
-use Rattle.upc_tree.specs.Expression.{Expr, NextExprs, Specs, NoSpecs, AndSpec, Spec, WordSpec, Declarator, spell, spell_next_exprs, spell_specs, spell_declarator, height, height_next_exprs, height_specs, height_declarator}
+use Rattle.upc_tree.specs.Expression.{Expr, NextExprs, Specs, NoSpecs, AndSpec, Spec, WordSpec, Declarator, spell}
+use Rattle.upc_tree.specs.Expression.{spell_next_exprs, spell_specs, spell_declarator, height, height_next_exprs}
+use Rattle.upc_tree.specs.Expression.{height_specs, height_declarator}
 use Rattle.upc_tree.specs.Proper.{level, IsSome, Proper, ProperNextExprs, ProperSpecs, ProperDeclarator}
 
 -- an initialiser (C99 6.7.8)
@@ -45,14 +47,16 @@ spell_declared (DeclaredAs declarator initial) rest = spell_declarator declarato
 
 abbrev pub spell_next_declareds : NextDeclareds → List Token → List Token
 spell_next_declareds NoNextDeclareds rest = rest
-spell_next_declareds (AndDeclared comma declared more) rest = punct p.Comma comma ∷ spell_declared declared (spell_next_declareds more rest)
+spell_next_declareds (AndDeclared comma declared more) rest =
+    punct p.Comma comma ∷ spell_declared declared (spell_next_declareds more rest)
 
 abbrev pub spell_declared_list : DeclaredList → List Token → List Token
 spell_declared_list NoneDeclared rest = rest
 spell_declared_list (SomeDeclared first more) rest = spell_declared first (spell_next_declareds more rest)
 
 abbrev pub spell_declaration : Declaration → List Token → List Token
-spell_declaration (Declares specs declared semicolon) rest = spell_specs specs (spell_declared_list declared (punct p.Semicolon semicolon ∷ rest))
+spell_declaration (Declares specs declared semicolon) rest =
+    spell_specs specs (spell_declared_list declared (punct p.Semicolon semicolon ∷ rest))
 
 -- ---- the height of a tree: what a declaration declares belongs to it directly
 

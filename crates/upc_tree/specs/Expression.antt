@@ -1,5 +1,6 @@
 -- Expressions and types: their trees, their tokens and their heights.
--- A tree of the grammar is a value here: each line of the grammar is a constructor, and each `Span` the place of a token.
+-- A tree of the grammar is a value here: each line of the grammar is a constructor, and each `Span` the place of a
+-- token.
 use Rattle.std.specs.Prelude.{ℕ, ◌+◌, max, List, ◌∷◌, Option, Some, None}
 use Rattle.upc_lexer.specs.declared.token.Token.{Token}
 use Rattle.upc_lexer.specs.declared.token.TokenKind.TheVariants as k
@@ -17,7 +18,8 @@ use Rattle.upc_tree.specs.declared.mark.TypeWord.{TypeWord}
 use Rattle.upc_tree.specs.declared.span.Span.{Span}
 use Rattle.upc_tree.specs.declared.span.Name.{Name}
 use Rattle.upc_tree.specs.declared.span.StringLiteral.{StringLiteral}
-use Rattle.upc_tree.specs.Marks.{unary_punct, postfix_punct, member_punct, binary_punct, assign_punct, size_word, constant_word, type_word}
+use Rattle.upc_tree.specs.Marks.{unary_punct, postfix_punct, member_punct, binary_punct, assign_punct, size_word}
+use Rattle.upc_tree.specs.Marks.{constant_word, type_word}
 use Rattle.upc_tree.specs.Tokens.{token, punct, word, name_token, string_token, spell_strings}
 
 mutual
@@ -99,7 +101,8 @@ mutual
   -- the members of a struct, line by line (C99 6.7.2.1)
   pub data Members : Type 0 where
     NoMembers : Members
-    AndMember : (specs : Specs) (first : Declarator) (next : NextDeclarators) (semicolon : Span) (more : Members) → Members
+    AndMember : (specs : Specs) (first : Declarator) (next : NextDeclarators) (semicolon : Span) (more : Members)
+        → Members
 
   -- further declarators of a line, each behind its comma
   pub data NextDeclarators : Type 0 where
@@ -145,29 +148,35 @@ abbrev mutual
   spell (Strings first more) rest = string_token first ∷ spell_strings more rest
   spell (Constant c span) rest = word (constant_word c) span ∷ rest
   spell (Paren left inner right) rest = punct p.LParen left ∷ spell inner (punct p.RParen right ∷ rest)
-  spell (Subscript base left index right) rest = spell base (punct p.LBracket left ∷ spell index (punct p.RBracket right ∷ rest))
+  spell (Subscript base left index right) rest =
+      spell base (punct p.LBracket left ∷ spell index (punct p.RBracket right ∷ rest))
   spell (Call callee left arguments) rest = spell callee (punct p.LParen left ∷ spell_arguments arguments rest)
   spell (MemberOf base mark at member) rest = spell base (punct (member_punct mark) at ∷ name_token member ∷ rest)
   spell (Postfix base mark at) rest = spell base (punct (postfix_punct mark) at ∷ rest)
   spell (Unary mark at operand) rest = punct (unary_punct mark) at ∷ spell operand rest
   spell (SizeOfExpr s at operand) rest = word (size_word s) at ∷ spell operand rest
-  spell (SizeOfType s at left operand right) rest = word (size_word s) at ∷ punct p.LParen left ∷ spell_type operand (punct p.RParen right ∷ rest)
-  spell (Cast left target right operand) rest = punct p.LParen left ∷ spell_type target (punct p.RParen right ∷ spell operand rest)
+  spell (SizeOfType s at left operand right) rest =
+      word (size_word s) at ∷ punct p.LParen left ∷ spell_type operand (punct p.RParen right ∷ rest)
+  spell (Cast left target right operand) rest =
+      punct p.LParen left ∷ spell_type target (punct p.RParen right ∷ spell operand rest)
   spell (Binary a mark at b) rest = spell a (punct (binary_punct mark) at ∷ spell b rest)
   spell (Assign a mark at b) rest = spell a (punct (assign_punct mark) at ∷ spell b rest)
-  spell (Conditional test question chosen colon other) rest = spell test (punct p.Question question ∷ spell chosen (punct p.Colon colon ∷ spell other rest))
+  spell (Conditional test question chosen colon other) rest =
+      spell test (punct p.Question question ∷ spell chosen (punct p.Colon colon ∷ spell other rest))
   spell (Comma first more) rest = spell first (spell_next_exprs more rest)
 
   pub spell_arguments : Arguments → List Token → List Token
   spell_arguments (NoArguments right) rest = punct p.RParen right ∷ rest
-  spell_arguments (SomeArguments first more right) rest = spell first (spell_next_exprs more (punct p.RParen right ∷ rest))
+  spell_arguments (SomeArguments first more right) rest =
+      spell first (spell_next_exprs more (punct p.RParen right ∷ rest))
 
   pub spell_next_exprs : NextExprs → List Token → List Token
   spell_next_exprs NoNextExprs rest = rest
   spell_next_exprs (AndExpr comma value more) rest = punct p.Comma comma ∷ spell value (spell_next_exprs more rest)
 
   pub spell_type : TypeName → List Token → List Token
-  spell_type (Typed specs pointers sizes) rest = spell_specs specs (spell_pointers pointers (spell_dimensions sizes rest))
+  spell_type (Typed specs pointers sizes) rest =
+      spell_specs specs (spell_pointers pointers (spell_dimensions sizes rest))
 
   pub spell_specs : Specs → List Token → List Token
   spell_specs NoSpecs rest = rest
@@ -177,7 +186,8 @@ abbrev mutual
   spell_spec (WordSpec t span) rest = word (type_word t) span ∷ rest
   spell_spec (QualSpec qual) rest = spell_qual qual rest
   spell_spec (TagSpec at tag) rest = word w.Struct at ∷ name_token tag ∷ rest
-  spell_spec (StructSpec at tag left members right) rest = word w.Struct at ∷ name_token tag ∷ punct p.LBrace left ∷ spell_members members (punct p.RBrace right ∷ rest)
+  spell_spec (StructSpec at tag left members right) rest =
+      word w.Struct at ∷ name_token tag ∷ punct p.LBrace left ∷ spell_members members (punct p.RBrace right ∷ rest)
 
   pub spell_quals : Quals → List Token → List Token
   spell_quals NoQuals rest = rest
@@ -192,7 +202,8 @@ abbrev mutual
   pub spell_layout : Layout → List Token → List Token
   spell_layout NoLayout rest = rest
   spell_layout (IndefiniteLayout left right) rest = punct p.LBracket left ∷ punct p.RBracket right ∷ rest
-  spell_layout (StarLayout left star right) rest = punct p.LBracket left ∷ punct p.Star star ∷ punct p.RBracket right ∷ rest
+  spell_layout (StarLayout left star right) rest =
+      punct p.LBracket left ∷ punct p.Star star ∷ punct p.RBracket right ∷ rest
   spell_layout (BlockLayout left size right) rest = punct p.LBracket left ∷ spell size (punct p.RBracket right ∷ rest)
 
   pub spell_pointers : Pointers → List Token → List Token
@@ -201,33 +212,41 @@ abbrev mutual
 
   pub spell_dimensions : Dimensions → List Token → List Token
   spell_dimensions NoDimensions rest = rest
-  spell_dimensions (AndDimension left size right more) rest = punct p.LBracket left ∷ spell size (punct p.RBracket right ∷ spell_dimensions more rest)
+  spell_dimensions (AndDimension left size right more) rest =
+      punct p.LBracket left ∷ spell size (punct p.RBracket right ∷ spell_dimensions more rest)
 
   pub spell_members : Members → List Token → List Token
   spell_members NoMembers rest = rest
   spell_members (AndMember specs first next semicolon more) rest =
-      spell_specs specs (spell_declarator first (spell_next_declarators next (punct p.Semicolon semicolon ∷ spell_members more rest)))
+      spell_specs specs (spell_declarator first
+      (spell_next_declarators next (punct p.Semicolon semicolon ∷ spell_members more rest)))
 
   pub spell_next_declarators : NextDeclarators → List Token → List Token
   spell_next_declarators NoNextDeclarators rest = rest
-  spell_next_declarators (AndDeclarator comma declarator more) rest = punct p.Comma comma ∷ spell_declarator declarator (spell_next_declarators more rest)
+  spell_next_declarators (AndDeclarator comma declarator more) rest =
+      punct p.Comma comma ∷ spell_declarator declarator (spell_next_declarators more rest)
 
   pub spell_declarator : Declarator → List Token → List Token
-  spell_declarator (ObjectDeclarator pointers name sizes) rest = spell_pointers pointers (name_token name ∷ spell_dimensions sizes rest)
-  spell_declarator (FunctionDeclarator pointers name parameters) rest = spell_pointers pointers (name_token name ∷ spell_parameters parameters rest)
+  spell_declarator (ObjectDeclarator pointers name sizes) rest =
+      spell_pointers pointers (name_token name ∷ spell_dimensions sizes rest)
+  spell_declarator (FunctionDeclarator pointers name parameters) rest =
+      spell_pointers pointers (name_token name ∷ spell_parameters parameters rest)
 
   pub spell_parameters : Parameters → List Token → List Token
   spell_parameters (NoParameters left right) rest = punct p.LParen left ∷ punct p.RParen right ∷ rest
-  spell_parameters (VoidParameters left at right) rest = punct p.LParen left ∷ word w.Void at ∷ punct p.RParen right ∷ rest
+  spell_parameters (VoidParameters left at right) rest =
+      punct p.LParen left ∷ word w.Void at ∷ punct p.RParen right ∷ rest
   spell_parameters (SomeParameters left first more right) rest =
       punct p.LParen left ∷ spell_parameter first (spell_next_parameters more (punct p.RParen right ∷ rest))
 
   pub spell_parameter : Parameter → List Token → List Token
-  spell_parameter (Parametric specs pointers name array) rest = spell_specs specs (spell_pointers pointers (spell_name name (spell_array array rest)))
+  spell_parameter (Parametric specs pointers name array) rest =
+      spell_specs specs (spell_pointers pointers (spell_name name (spell_array array rest)))
 
   pub spell_next_parameters : NextParameters → List Token → List Token
   spell_next_parameters NoNextParameters rest = rest
-  spell_next_parameters (AndParameter comma parameter more) rest = punct p.Comma comma ∷ spell_parameter parameter (spell_next_parameters more rest)
+  spell_next_parameters (AndParameter comma parameter more) rest =
+      punct p.Comma comma ∷ spell_parameter parameter (spell_next_parameters more rest)
 
   pub spell_array : ParameterArray → List Token → List Token
   spell_array NoArray rest = rest
@@ -235,8 +254,9 @@ abbrev mutual
   spell_array (SizedArray left size right) rest = punct p.LBracket left ∷ spell size (punct p.RBracket right ∷ rest)
 
 -- ---- the height of a tree
--- A node is one higher than the highest of its parts. The arguments of a call are a part with a level of their own, and so
--- are the members of a struct. Specifiers, pointers, sizes, declarators and parameters belong to their node directly.
+-- A node is one higher than the highest of its parts. The arguments of a call are a part with a level of their own,
+-- and so are the members of a struct. Specifiers, pointers, sizes, declarators and parameters belong to their node
+-- directly.
 
 abbrev mutual
   pub height : Expr → ℕ
@@ -268,7 +288,8 @@ abbrev mutual
   height_next_exprs (AndExpr comma value more) = max (height value) (height_next_exprs more)
 
   pub height_type : TypeName → ℕ
-  height_type (Typed specs pointers sizes) = max (height_specs specs) (max (height_pointers pointers) (height_dimensions sizes))
+  height_type (Typed specs pointers sizes) =
+      max (height_specs specs) (max (height_pointers pointers) (height_dimensions sizes))
 
   pub height_specs : Specs → ℕ
   height_specs NoSpecs = 0
@@ -307,15 +328,18 @@ abbrev mutual
   pub height_members : Members → ℕ
   height_members NoMembers = 0
   height_members (AndMember specs first next semicolon more) =
-      max (max (height_specs specs) (max (height_declarator first) (height_next_declarators next))) (height_members more)
+      max (max (height_specs specs) (max (height_declarator first) (height_next_declarators next)))
+      (height_members more)
 
   pub height_next_declarators : NextDeclarators → ℕ
   height_next_declarators NoNextDeclarators = 0
-  height_next_declarators (AndDeclarator comma declarator more) = max (height_declarator declarator) (height_next_declarators more)
+  height_next_declarators (AndDeclarator comma declarator more) =
+      max (height_declarator declarator) (height_next_declarators more)
 
   pub height_declarator : Declarator → ℕ
   height_declarator (ObjectDeclarator pointers name sizes) = max (height_pointers pointers) (height_dimensions sizes)
-  height_declarator (FunctionDeclarator pointers name parameters) = max (height_pointers pointers) (height_parameters parameters)
+  height_declarator (FunctionDeclarator pointers name parameters) =
+      max (height_pointers pointers) (height_parameters parameters)
 
   pub height_parameters : Parameters → ℕ
   height_parameters (NoParameters left right) = 0
@@ -323,11 +347,13 @@ abbrev mutual
   height_parameters (SomeParameters left first more right) = max (height_parameter first) (height_next_parameters more)
 
   pub height_parameter : Parameter → ℕ
-  height_parameter (Parametric specs pointers name array) = max (height_specs specs) (max (height_pointers pointers) (height_array array))
+  height_parameter (Parametric specs pointers name array) =
+      max (height_specs specs) (max (height_pointers pointers) (height_array array))
 
   pub height_next_parameters : NextParameters → ℕ
   height_next_parameters NoNextParameters = 0
-  height_next_parameters (AndParameter comma parameter more) = max (height_parameter parameter) (height_next_parameters more)
+  height_next_parameters (AndParameter comma parameter more) =
+      max (height_parameter parameter) (height_next_parameters more)
 
   pub height_array : ParameterArray → ℕ
   height_array NoArray = 0

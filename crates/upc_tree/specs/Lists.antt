@@ -4,9 +4,15 @@ use Rattle.upc_lexer.specs.declared.token.Token.{Token}
 use Rattle.upc_tree.specs.declared.span.Span.{Span}
 use Rattle.upc_lexer.specs.declared.token.Punct.TheVariants as p
 use Rattle.upc_tree.specs.Tokens.{punct}
-use Rattle.upc_tree.specs.Expression.{spell_specs, spell_declarator, spell_next_declarators, height_specs, height_declarator, height_next_declarators, Expr, NextExprs, NoNextExprs, AndExpr, Specs, NoSpecs, AndSpec, Spec, Quals, NoQuals, AndQual, Qual, Pointers, NoPointers, AndPointer, Dimensions, NoDimensions, AndDimension, Members, NoMembers, AndMember, NextDeclarators, NoNextDeclarators, AndDeclarator, Declarator, NextParameters, NoNextParameters, AndParameter, Parameter}
+use Rattle.upc_tree.specs.Expression.{spell_specs, spell_declarator, spell_next_declarators, height_specs}
+use Rattle.upc_tree.specs.Expression.{height_declarator, height_next_declarators, Expr, NextExprs, NoNextExprs}
+use Rattle.upc_tree.specs.Expression.{AndExpr, Specs, NoSpecs, AndSpec, Spec, Quals, NoQuals, AndQual, Qual, Pointers}
+use Rattle.upc_tree.specs.Expression.{NoPointers, AndPointer, Dimensions, NoDimensions, AndDimension, Members}
+use Rattle.upc_tree.specs.Expression.{NoMembers, AndMember, NextDeclarators, NoNextDeclarators, AndDeclarator}
+use Rattle.upc_tree.specs.Expression.{Declarator, NextParameters, NoNextParameters, AndParameter, Parameter}
 use Rattle.upc_tree.specs.Declaration.{Declared, NextDeclareds, NoNextDeclareds, AndDeclared}
-use Rattle.upc_tree.specs.Statement.{Test, Statement, BlockItem, BlockItems, NoBlockItems, AndBlockItem, SwitchItem, SwitchItems, NoSwitchItems, AndSwitchItem, ElseIfs, NoElseIfs, AndElseIf}
+use Rattle.upc_tree.specs.Statement.{Test, Statement, BlockItem, BlockItems, NoBlockItems, AndBlockItem, SwitchItem}
+use Rattle.upc_tree.specs.Statement.{SwitchItems, NoSwitchItems, AndSwitchItem, ElseIfs, NoElseIfs, AndElseIf}
 
 -- each part's tokens, and what follows them
 abbrev pub spell_all : {X : Type 0} → (X → List Token → List Token) → List X → List Token → List Token

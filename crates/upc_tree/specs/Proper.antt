@@ -1,9 +1,21 @@
--- Which trees of expressions and types are proper: precedence and joining are respected, and a layout follows `shared` wherever a bracket does.
+-- Which trees of expressions and types are proper: precedence and joining are respected, and a layout follows
+-- `shared` wherever a bracket does.
 use Rattle.std.specs.Prelude.{◌≡◌, ℕ, ◌+◌, ◌≤◌, Bool, true, false, Option, Some, None}
 use Rattle.upc_tree.specs.declared.mark.TypeWord.TheVariants as t
 use Rattle.upc_tree.specs.declared.span.Name.{Name}
 use Rattle.upc_tree.specs.Marks.{binary_level, operand_level}
-use Rattle.upc_tree.specs.Expression.{Expr, Named, Number, Character, Strings, Constant, Paren, Subscript, Call, MemberOf, Postfix, Unary, SizeOfExpr, SizeOfType, Cast, Binary, Assign, Conditional, Comma, Arguments, NoArguments, SomeArguments, NextExprs, NoNextExprs, AndExpr, TypeName, Typed, Specs, NoSpecs, AndSpec, Spec, WordSpec, QualSpec, TagSpec, StructSpec, Quals, NoQuals, AndQual, Qual, Const, Strict, Relaxed, Shared, Layout, NoLayout, IndefiniteLayout, StarLayout, BlockLayout, Pointers, NoPointers, AndPointer, Dimensions, NoDimensions, AndDimension, Members, NoMembers, AndMember, NextDeclarators, NoNextDeclarators, AndDeclarator, Declarator, ObjectDeclarator, FunctionDeclarator, Parameters, NoParameters, VoidParameters, SomeParameters, Parameter, Parametric, NextParameters, NoNextParameters, AndParameter, ParameterArray, NoArray, UnsizedArray, SizedArray}
+use Rattle.upc_tree.specs.Expression.{Expr, Named, Number, Character, Strings, Constant, Paren, Subscript, Call}
+use Rattle.upc_tree.specs.Expression.{MemberOf, Postfix, Unary, SizeOfExpr, SizeOfType, Cast, Binary, Assign}
+use Rattle.upc_tree.specs.Expression.{Conditional, Comma, Arguments, NoArguments, SomeArguments, NextExprs}
+use Rattle.upc_tree.specs.Expression.{NoNextExprs, AndExpr, TypeName, Typed, Specs, NoSpecs, AndSpec, Spec, WordSpec}
+use Rattle.upc_tree.specs.Expression.{QualSpec, TagSpec, StructSpec, Quals, NoQuals, AndQual, Qual, Const, Strict}
+use Rattle.upc_tree.specs.Expression.{Relaxed, Shared, Layout, NoLayout, IndefiniteLayout, StarLayout, BlockLayout}
+use Rattle.upc_tree.specs.Expression.{Pointers, NoPointers, AndPointer, Dimensions, NoDimensions, AndDimension}
+use Rattle.upc_tree.specs.Expression.{Members, NoMembers, AndMember, NextDeclarators, NoNextDeclarators}
+use Rattle.upc_tree.specs.Expression.{AndDeclarator, Declarator, ObjectDeclarator, FunctionDeclarator, Parameters}
+use Rattle.upc_tree.specs.Expression.{NoParameters, VoidParameters, SomeParameters, Parameter, Parametric}
+use Rattle.upc_tree.specs.Expression.{NextParameters, NoNextParameters, AndParameter, ParameterArray, NoArray}
+use Rattle.upc_tree.specs.Expression.{UnsizedArray, SizedArray}
 
 -- how tightly an expression is joined (C99 6.5)
 abbrev pub level : Expr → ℕ
@@ -101,7 +113,8 @@ abbrev mutual
   Proper (Cast left target right operand) = IsUnsized target × ProperType target × (13 ≤ level operand) × Proper operand
   Proper (Binary a mark at b) = (binary_level mark ≤ level a) × (binary_level mark + 1 ≤ level b) × Proper a × Proper b
   Proper (Assign a mark at b) = (14 ≤ level a) × (1 ≤ level b) × Proper a × Proper b
-  Proper (Conditional test question chosen colon other) = (3 ≤ level test) × (2 ≤ level other) × Proper test × Proper chosen × Proper other
+  Proper (Conditional test question chosen colon other) =
+      (3 ≤ level test) × (2 ≤ level other) × Proper test × Proper chosen × Proper other
   Proper (Comma first more) = (1 ≤ level first) × IsMore more × Proper first × ProperNextExprs more
 
   pub ProperArguments : Arguments → Type 0
@@ -114,7 +127,8 @@ abbrev mutual
 
   pub ProperType : TypeName → Type 0
   ProperType (Typed specs pointers sizes) =
-      IsSome specs × ProperSpecs specs × ProperPointers pointers × ProperDimensions sizes × KeepsSizes (open_pointers (open_specs false specs) pointers) sizes
+      IsSome specs × ProperSpecs specs × ProperPointers pointers × ProperDimensions sizes
+      × KeepsSizes (open_pointers (open_specs false specs) pointers) sizes
 
   pub ProperSpecs : Specs → Type 0
   ProperSpecs NoSpecs = Unit {0}
@@ -166,11 +180,13 @@ abbrev mutual
   pub ProperParameters : Parameters → Type 0
   ProperParameters (NoParameters left right) = Unit {0}
   ProperParameters (VoidParameters left word right) = Unit {0}
-  ProperParameters (SomeParameters left first more right) = (is_void first more ≡ false) × ProperParameter first × ProperNextParameters more
+  ProperParameters (SomeParameters left first more right) =
+      (is_void first more ≡ false) × ProperParameter first × ProperNextParameters more
 
   pub ProperParameter : Parameter → Type 0
   ProperParameter (Parametric specs pointers name array) =
-      IsSome specs × ProperSpecs specs × ProperPointers pointers × ProperArray array × KeepsArray (open_pointers (open_specs false specs) pointers) name array
+      IsSome specs × ProperSpecs specs × ProperPointers pointers × ProperArray array
+      × KeepsArray (open_pointers (open_specs false specs) pointers) name array
 
   pub ProperNextParameters : NextParameters → Type 0
   ProperNextParameters NoNextParameters = Unit {0}

@@ -29,11 +29,13 @@ pub data Affinity : Type 0 where
 
 -- the parentheses of a `for` (C99 6.8.5.3)
 pub data ForHead : Type 0 where
-  ForParts : (left : Span) (first : First) (test : Option Expr) (test_end : Span) (step : Option Expr) (right : Span) → ForHead
+  ForParts : (left : Span) (first : First) (test : Option Expr) (test_end : Span) (step : Option Expr)
+      (right : Span) → ForHead
 
 -- the parentheses of a `upc_forall` (UPC 6.6.2)
 pub data ForallHead : Type 0 where
-  ForallParts : (left : Span) (first : First) (test : Option Expr) (test_end : Span) (step : Option Expr) (step_end : Span) (affinity : Affinity) (right : Span) → ForallHead
+  ForallParts : (left : Span) (first : First) (test : Option Expr) (test_end : Span) (step : Option Expr)
+      (step_end : Span) (affinity : Affinity) (right : Span) → ForallHead
 
 mutual
   -- a statement (C99 6.8, UPC 6.6)
@@ -105,11 +107,13 @@ spell_affinity (ValueAffinity value) rest = spell value rest
 
 abbrev pub spell_for : ForHead → List Token → List Token
 spell_for (ForParts left first test test_end step right) rest =
-    punct p.LParen left ∷ spell_first first (spell_value test (punct p.Semicolon test_end ∷ spell_value step (punct p.RParen right ∷ rest)))
+    punct p.LParen left ∷ spell_first first (spell_value test (punct p.Semicolon test_end
+    ∷ spell_value step (punct p.RParen right ∷ rest)))
 
 abbrev pub spell_forall : ForallHead → List Token → List Token
 spell_forall (ForallParts left first test test_end step step_end affinity right) rest =
-    punct p.LParen left ∷ spell_first first (spell_value test (punct p.Semicolon test_end ∷ spell_value step (punct p.Semicolon step_end ∷ spell_affinity affinity (punct p.RParen right ∷ rest))))
+    punct p.LParen left ∷ spell_first first (spell_value test (punct p.Semicolon test_end
+    ∷ spell_value step (punct p.Semicolon step_end ∷ spell_affinity affinity (punct p.RParen right ∷ rest))))
 
 abbrev mutual
   pub spell_statement : Statement → List Token → List Token
@@ -126,12 +130,15 @@ abbrev mutual
   spell_statement (Forall at head body) rest = word w.UpcForall at ∷ spell_forall head (spell_statement body rest)
   spell_statement (Break at semicolon) rest = word w.Break at ∷ punct p.Semicolon semicolon ∷ rest
   spell_statement (Continue at semicolon) rest = word w.Continue at ∷ punct p.Semicolon semicolon ∷ rest
-  spell_statement (Return at value semicolon) rest = word w.Return at ∷ spell_value value (punct p.Semicolon semicolon ∷ rest)
-  spell_statement (Barrier kind at value semicolon) rest = word (barrier_word kind) at ∷ spell_value value (punct p.Semicolon semicolon ∷ rest)
+  spell_statement (Return at value semicolon) rest =
+      word w.Return at ∷ spell_value value (punct p.Semicolon semicolon ∷ rest)
+  spell_statement (Barrier kind at value semicolon) rest =
+      word (barrier_word kind) at ∷ spell_value value (punct p.Semicolon semicolon ∷ rest)
   spell_statement (Fence at semicolon) rest = word w.UpcFence at ∷ punct p.Semicolon semicolon ∷ rest
 
   pub spell_compound : Compound → List Token → List Token
-  spell_compound (Braces left pragmas items right) rest = punct p.LBrace left ∷ spell_pragmas pragmas (spell_block_items items (punct p.RBrace right ∷ rest))
+  spell_compound (Braces left pragmas items right) rest =
+      punct p.LBrace left ∷ spell_pragmas pragmas (spell_block_items items (punct p.RBrace right ∷ rest))
 
   pub spell_block_items : BlockItems → List Token → List Token
   spell_block_items NoBlockItems rest = rest
@@ -160,8 +167,9 @@ abbrev mutual
   spell_otherwise (Else at body) rest = word w.Else at ∷ spell_statement body rest
 
 -- ---- the height of a tree
--- A node is one higher than the highest of its parts. The list of a compound statement or of the body of a `switch` is a part
--- with a level of its own. The arms of an `if` and the parts of a loop's parentheses belong to their statement directly.
+-- A node is one higher than the highest of its parts. The list of a compound statement or of the body of a `switch`
+-- is a part with a level of its own. The arms of an `if` and the parts of a loop's parentheses belong to their
+-- statement directly.
 
 abbrev pub height_value : Option Expr → ℕ
 height_value None = 0
@@ -180,7 +188,8 @@ height_affinity (ContinueAffinity at) = 0
 height_affinity (ValueAffinity value) = height value
 
 abbrev pub height_for : ForHead → ℕ
-height_for (ForParts left first test test_end step right) = max (height_first first) (max (height_value test) (height_value step))
+height_for (ForParts left first test test_end step right) =
+    max (height_first first) (max (height_value test) (height_value step))
 
 abbrev pub height_forall : ForallHead → ℕ
 height_forall (ForallParts left first test test_end step step_end affinity right) =
@@ -190,7 +199,8 @@ abbrev mutual
   pub height_statement : Statement → ℕ
   height_statement (Block compound) = height_compound compound
   height_statement (Value value semicolon) = height_value value + 1
-  height_statement (If at test body more last) = max (height_test test) (max (height_statement body) (max (height_else_ifs more) (height_otherwise last))) + 1
+  height_statement (If at test body more last) =
+      max (height_test test) (max (height_statement body) (max (height_else_ifs more) (height_otherwise last))) + 1
   height_statement (Switch at test left body right) = max (height_test test) (height_switch_items body + 1) + 1
   height_statement (While at test body) = max (height_test test) (height_statement body) + 1
   height_statement (DoWhile at body until test semicolon) = max (height_statement body) (height_test test) + 1
@@ -224,7 +234,8 @@ abbrev mutual
 
   pub height_else_ifs : ElseIfs → ℕ
   height_else_ifs NoElseIfs = 0
-  height_else_ifs (AndElseIf other at test body more) = max (max (height_test test) (height_statement body)) (height_else_ifs more)
+  height_else_ifs (AndElseIf other at test body more) =
+      max (max (height_test test) (height_statement body)) (height_else_ifs more)
 
   pub height_otherwise : Otherwise → ℕ
   height_otherwise NoOtherwise = 0

@@ -4,7 +4,8 @@ use Rattle.upc_lexer.specs.declared.token.Token.{Token}
 use Rattle.upc_tree.specs.declared.span.Name.{Name}
 use Rattle.upc_tree.specs.declared.span.Pragma.{Pragma}
 use Rattle.upc_tree.specs.Tokens.{name_token, pragma_token}
-use Rattle.upc_tree.specs.Expression.{Specs, Pointers, Parameters, spell_specs, spell_pointers, spell_parameters, height_specs, height_pointers, height_parameters}
+use Rattle.upc_tree.specs.Expression.{Specs, Pointers, Parameters, spell_specs, spell_pointers, spell_parameters}
+use Rattle.upc_tree.specs.Expression.{height_specs, height_pointers, height_parameters}
 use Rattle.upc_tree.specs.Proper.{IsSome, ProperSpecs, ProperPointers, ProperParameters}
 use Rattle.upc_tree.specs.Declaration.{Declaration, spell_declaration, height_declaration, ProperDeclaration}
 use Rattle.upc_tree.specs.Statement.{Compound, spell_compound, height_compound, ProperCompound}
@@ -13,14 +14,16 @@ use Rattle.upc_tree.specs.Statement.{Compound, spell_compound, height_compound, 
 pub data External : Type 0 where
   PragmaPart : (pragma : Pragma) → External
   DeclarationPart : (declaration : Declaration) → External
-  FunctionPart : (specs : Specs) (pointers : Pointers) (name : Name) (parameters : Parameters) (body : Compound) → External
+  FunctionPart : (specs : Specs) (pointers : Pointers) (name : Name) (parameters : Parameters) (body : Compound)
+      → External
 
 -- the tokens of a tree, and what follows them
 abbrev pub spell_external : External → List Token → List Token
 spell_external (PragmaPart pragma) rest = pragma_token pragma ∷ rest
 spell_external (DeclarationPart declaration) rest = spell_declaration declaration rest
 spell_external (FunctionPart specs pointers name parameters body) rest =
-    spell_specs specs (spell_pointers pointers (name_token name ∷ spell_parameters parameters (spell_compound body rest)))
+    spell_specs specs (spell_pointers pointers (name_token name
+    ∷ spell_parameters parameters (spell_compound body rest)))
 
 abbrev pub spell_externals : List External → List Token → List Token
 spell_externals [] rest = rest
@@ -31,7 +34,8 @@ abbrev pub height_external : External → ℕ
 height_external (PragmaPart pragma) = 0
 height_external (DeclarationPart declaration) = height_declaration declaration
 height_external (FunctionPart specs pointers name parameters body) =
-    max (height_specs specs) (max (height_pointers pointers) (max (height_parameters parameters) (height_compound body))) + 1
+    max (height_specs specs) (max (height_pointers pointers)
+    (max (height_parameters parameters) (height_compound body))) + 1
 
 abbrev pub height_externals : List External → ℕ
 height_externals [] = 0

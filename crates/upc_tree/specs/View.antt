@@ -2,13 +2,17 @@
 use Rattle.std.specs.Prelude.{map, Vec}
 use Rattle.std.specs.declared.alloc.Global.{Global}
 use Rattle.upc_tree.specs.declared.span.Span.{Span}
-use Rattle.upc_tree.specs.Lists.{next_exprs_of, specs_of, quals_of, pointers_of, dimensions_of, members_of, next_declarators_of, next_parameters_of}
+use Rattle.upc_tree.specs.Lists.{next_exprs_of, specs_of, quals_of, pointers_of, dimensions_of, members_of}
+use Rattle.upc_tree.specs.Lists.{next_declarators_of, next_parameters_of}
 use Rattle.upc_tree.specs.declared.expression.Expr as e
 use Rattle.upc_tree.specs.declared.expression.Expr.{Expr, Row_of-NextExpr, end_of-NextExpr, more_of-NextExpr}
 use Rattle.upc_tree.specs.declared.expression.Arguments as a
 use Rattle.upc_tree.specs.declared.expression.Arguments.{Arguments}
 use Rattle.upc_tree.specs.declared.expression.NextExpr.{NextExpr}
-use Rattle.upc_tree.specs.declared.expression.TypeName.{TypeName, TypeName', Row_of-Spec, end_of-Spec, more_of-Spec, Row_of-Pointer, end_of-Pointer, more_of-Pointer, Row_of-Dimension, end_of-Dimension, more_of-Dimension, Row_of-Qual, end_of-Qual, more_of-Qual}
+use Rattle.upc_tree.specs.declared.expression.TypeName.{TypeName, TypeName', Row_of-Spec, end_of-Spec, more_of-Spec}
+use Rattle.upc_tree.specs.declared.expression.TypeName.{Row_of-Pointer, end_of-Pointer, more_of-Pointer}
+use Rattle.upc_tree.specs.declared.expression.TypeName.{Row_of-Dimension, end_of-Dimension, more_of-Dimension}
+use Rattle.upc_tree.specs.declared.expression.TypeName.{Row_of-Qual, end_of-Qual, more_of-Qual}
 use Rattle.upc_tree.specs.declared.expression.Spec as s
 use Rattle.upc_tree.specs.declared.expression.Spec.{Spec, Row_of-Member, end_of-Member, more_of-Member}
 use Rattle.upc_tree.specs.declared.expression.Qual as q
@@ -17,12 +21,14 @@ use Rattle.upc_tree.specs.declared.expression.Layout as l
 use Rattle.upc_tree.specs.declared.expression.Layout.{Layout}
 use Rattle.upc_tree.specs.declared.expression.Pointer.{Pointer}
 use Rattle.upc_tree.specs.declared.expression.Dimension.{Dimension}
-use Rattle.upc_tree.specs.declared.expression.Member.{Member, Member', Row_of-NextDeclarator, end_of-NextDeclarator, more_of-NextDeclarator}
+use Rattle.upc_tree.specs.declared.expression.Member.{Member, Member', Row_of-NextDeclarator, end_of-NextDeclarator}
+use Rattle.upc_tree.specs.declared.expression.Member.{more_of-NextDeclarator}
 use Rattle.upc_tree.specs.declared.expression.NextDeclarator.{NextDeclarator}
 use Rattle.upc_tree.specs.declared.expression.Declarator as d
 use Rattle.upc_tree.specs.declared.expression.Declarator.{Declarator}
 use Rattle.upc_tree.specs.declared.expression.Parameters as r
-use Rattle.upc_tree.specs.declared.expression.Parameters.{Parameters, Row_of-NextParameter, end_of-NextParameter, more_of-NextParameter}
+use Rattle.upc_tree.specs.declared.expression.Parameters.{Parameters, Row_of-NextParameter, end_of-NextParameter}
+use Rattle.upc_tree.specs.declared.expression.Parameters.{more_of-NextParameter}
 use Rattle.upc_tree.specs.declared.expression.NextParameter.{NextParameter, NextParameter'}
 use Rattle.upc_tree.specs.declared.expression.Parameter.{Parameter, Parameter'}
 use Rattle.upc_tree.specs.declared.expression.ParameterArray as y
@@ -47,7 +53,8 @@ abbrev mutual
   view (e.Cast' left p target right o operand) = t.Cast left (view_type target) right (view operand)
   view (e.Binary' p a mark at o b) = t.Binary (view a) mark at (view b)
   view (e.Assign' p a mark at o b) = t.Assign (view a) mark at (view b)
-  view (e.Conditional' p test question o chosen colon n other) = t.Conditional (view test) question (view chosen) colon (view other)
+  view (e.Conditional' p test question o chosen colon n other) =
+      t.Conditional (view test) question (view chosen) colon (view other)
   view (e.Comma' p first shape more) = t.Comma (view first) (view_expr_row more)
 
   pub view_expr_row : {m : _} → Row_of-NextExpr m → t.NextExprs
@@ -59,7 +66,8 @@ abbrev mutual
   view_arguments (a.Filled' p first shape more right) = t.SomeArguments (view first) (view_expr_row more) right
 
   pub view_type : TypeName → t.TypeName
-  view_type (TypeName' m specs n pointers o sizes) = t.Typed (view_spec_row specs) (view_pointer_row pointers) (view_dimension_row sizes)
+  view_type (TypeName' m specs n pointers o sizes) =
+      t.Typed (view_spec_row specs) (view_pointer_row pointers) (view_dimension_row sizes)
 
   pub view_spec_row : {m : _} → Row_of-Spec m → t.Specs
   view_spec_row end_of-Spec = t.NoSpecs
@@ -89,36 +97,45 @@ abbrev mutual
 
   pub view_pointer_row : {m : _} → Row_of-Pointer m → t.Pointers
   view_pointer_row end_of-Pointer = t.NoPointers
-  view_pointer_row (more_of-Pointer star shape quals more) = t.AndPointer star (view_qual_row quals) (view_pointer_row more)
+  view_pointer_row (more_of-Pointer star shape quals more) =
+      t.AndPointer star (view_qual_row quals) (view_pointer_row more)
 
   pub view_dimension_row : {m : _} → Row_of-Dimension m → t.Dimensions
   view_dimension_row end_of-Dimension = t.NoDimensions
-  view_dimension_row (more_of-Dimension left p size right more) = t.AndDimension left (view size) right (view_dimension_row more)
+  view_dimension_row (more_of-Dimension left p size right more) =
+      t.AndDimension left (view size) right (view_dimension_row more)
 
   pub view_member_row : {m : _} → Row_of-Member m → t.Members
   view_member_row end_of-Member = t.NoMembers
   view_member_row (more_of-Member (Member' m specs p first n next semicolon) more) =
-      t.AndMember (view_spec_row specs) (view_declarator first) (view_declarator_row next) semicolon (view_member_row more)
+      t.AndMember (view_spec_row specs) (view_declarator first) (view_declarator_row next) semicolon
+      (view_member_row more)
 
   pub view_declarator_row : {m : _} → Row_of-NextDeclarator m → t.NextDeclarators
   view_declarator_row end_of-NextDeclarator = t.NoNextDeclarators
-  view_declarator_row (more_of-NextDeclarator comma p declarator more) = t.AndDeclarator comma (view_declarator declarator) (view_declarator_row more)
+  view_declarator_row (more_of-NextDeclarator comma p declarator more) =
+      t.AndDeclarator comma (view_declarator declarator) (view_declarator_row more)
 
   pub view_declarator : Declarator → t.Declarator
-  view_declarator (d.Object' m pointers name n sizes) = t.ObjectDeclarator (view_pointer_row pointers) name (view_dimension_row sizes)
-  view_declarator (d.Function' m pointers name p parameters) = t.FunctionDeclarator (view_pointer_row pointers) name (view_parameters parameters)
+  view_declarator (d.Object' m pointers name n sizes) =
+      t.ObjectDeclarator (view_pointer_row pointers) name (view_dimension_row sizes)
+  view_declarator (d.Function' m pointers name p parameters) =
+      t.FunctionDeclarator (view_pointer_row pointers) name (view_parameters parameters)
 
   pub view_parameters : Parameters → t.Parameters
   view_parameters (r.Empty left right) = t.NoParameters left right
   view_parameters (r.Void left word right) = t.VoidParameters left word right
-  view_parameters (r.Filled' left p first shape more right) = t.SomeParameters left (view_parameter first) (view_parameter_row more) right
+  view_parameters (r.Filled' left p first shape more right) =
+      t.SomeParameters left (view_parameter first) (view_parameter_row more) right
 
   pub view_parameter_row : {m : _} → Row_of-NextParameter m → t.NextParameters
   view_parameter_row end_of-NextParameter = t.NoNextParameters
-  view_parameter_row (more_of-NextParameter (NextParameter' comma p parameter) more) = t.AndParameter comma (view_parameter parameter) (view_parameter_row more)
+  view_parameter_row (more_of-NextParameter (NextParameter' comma p parameter) more) =
+      t.AndParameter comma (view_parameter parameter) (view_parameter_row more)
 
   pub view_parameter : Parameter → t.Parameter
-  view_parameter (Parameter' m specs n pointers name array) = t.Parametric (view_spec_row specs) (view_pointer_row pointers) name (view_array array)
+  view_parameter (Parameter' m specs n pointers name array) =
+      t.Parametric (view_spec_row specs) (view_pointer_row pointers) name (view_array array)
 
   pub view_array : ParameterArray → t.ParameterArray
   view_array y.Absent = t.NoArray
@@ -137,7 +154,8 @@ abbrev pub view_dimension : Dimension → Span × t.Expr × Span
 view_dimension x = (x.open, view x.size.value, x.close)
 
 abbrev pub view_member : Member → t.Specs × t.Declarator × t.NextDeclarators × Span
-view_member (Member' m specs p first n next semicolon) = (view_spec_row specs, view_declarator first, view_declarator_row next, semicolon)
+view_member (Member' m specs p first n next semicolon) =
+    (view_spec_row specs, view_declarator first, view_declarator_row next, semicolon)
 
 abbrev pub view_next_declarator : NextDeclarator → Span × t.Declarator
 view_next_declarator x = (x.comma, view_declarator x.declarator.value)

@@ -10,7 +10,10 @@ use Rattle.upc_tree.specs.declared.declaration.NextDeclared.{NextDeclared}
 use Rattle.upc_tree.specs.declared.declaration.Initial.{Initial}
 use Rattle.upc_tree.specs.declared.declaration.Initial.TheVariants as i
 use Rattle.upc_tree.specs.declared.statement.Statement as s
-use Rattle.upc_tree.specs.declared.statement.Statement.{Statement, Row_of-BlockItem, end_of-BlockItem, more_of-BlockItem, Row_of-SwitchItem, end_of-SwitchItem, more_of-SwitchItem, Row_of-ElseIf, end_of-ElseIf, more_of-ElseIf}
+use Rattle.upc_tree.specs.declared.statement.Statement.{Statement, Row_of-BlockItem, end_of-BlockItem}
+use Rattle.upc_tree.specs.declared.statement.Statement.{more_of-BlockItem, Row_of-SwitchItem, end_of-SwitchItem}
+use Rattle.upc_tree.specs.declared.statement.Statement.{more_of-SwitchItem, Row_of-ElseIf, end_of-ElseIf}
+use Rattle.upc_tree.specs.declared.statement.Statement.{more_of-ElseIf}
 use Rattle.upc_tree.specs.declared.statement.Compound.{Compound}
 use Rattle.upc_tree.specs.declared.statement.BlockItem as b
 use Rattle.upc_tree.specs.declared.statement.BlockItem.{BlockItem}
@@ -42,7 +45,8 @@ use Rattle.upc_tree.specs.View.{view, view_next_exprs, view_specs, view_pointers
 abbrev pub view_initial : Initial → d.Initial
 view_initial i.Absent = d.NoInitial
 view_initial (i.Value equal value) = d.ValueInitial equal (view value.value)
-view_initial (i.List equal left first more right) = d.ListInitial equal left (view first.value) (view_next_exprs more) right
+view_initial (i.List equal left first more right) =
+    d.ListInitial equal left (view first.value) (view_next_exprs more) right
 
 abbrev pub view_declared : Declared → d.Declared
 view_declared x = d.DeclaredAs (view_declarator x.declarator.value) (view_initial x.initial.value)
@@ -82,17 +86,22 @@ abbrev pub view_for : ForHead → p.ForHead
 view_for x = p.ForParts x.open (view_first x.first.value) (view_value x.test) x.test_end (view_value x.step) x.close
 
 abbrev pub view_forall : ForallHead → p.ForallHead
-view_forall x = p.ForallParts x.open (view_first x.first.value) (view_value x.test) x.test_end (view_value x.step) x.step_end (view_affinity x.affinity.value) x.close
+view_forall x =
+    p.ForallParts x.open (view_first x.first.value) (view_value x.test) x.test_end (view_value x.step) x.step_end
+    (view_affinity x.affinity.value) x.close
 
 abbrev mutual
   pub view_statement : Statement → p.Statement
-  view_statement (s.Compound' at left pragmas shape items right) = p.Block (p.Braces left pragmas.items (view_block_row items) right)
+  view_statement (s.Compound' at left pragmas shape items right) =
+      p.Block (p.Braces left pragmas.items (view_block_row items) right)
   view_statement (s.Expression value semicolon) = p.Value (view_value value) semicolon
   view_statement (s.If' word test at body shape more otherwise) =
       p.If word (view_test test.value) (view_statement body) (view_else_if_row more) (view_otherwise otherwise)
-  view_statement (s.Switch' word test left shape body right) = p.Switch word (view_test test.value) left (view_switch_row body) right
+  view_statement (s.Switch' word test left shape body right) =
+      p.Switch word (view_test test.value) left (view_switch_row body) right
   view_statement (s.While' word test at body) = p.While word (view_test test.value) (view_statement body)
-  view_statement (s.DoWhile' word at body until test semicolon) = p.DoWhile word (view_statement body) until (view_test test.value) semicolon
+  view_statement (s.DoWhile' word at body until test semicolon) =
+      p.DoWhile word (view_statement body) until (view_test test.value) semicolon
   view_statement (s.For' word head at body) = p.For word (view_for head.value) (view_statement body)
   view_statement (s.Forall' word head at body) = p.Forall word (view_forall head.value) (view_statement body)
   view_statement (s.Break word semicolon) = p.Break word semicolon
@@ -120,7 +129,8 @@ abbrev mutual
 
   pub view_else_if_row : {m : _} → Row_of-ElseIf m → p.ElseIfs
   view_else_if_row end_of-ElseIf = p.NoElseIfs
-  view_else_if_row (more_of-ElseIf other word test at body more) = p.AndElseIf other word (view_test test.value) (view_statement body) (view_else_if_row more)
+  view_else_if_row (more_of-ElseIf other word test at body more) =
+      p.AndElseIf other word (view_test test.value) (view_statement body) (view_else_if_row more)
 
   pub view_otherwise : Otherwise → p.Otherwise
   view_otherwise o.Absent = p.NoOtherwise
@@ -144,7 +154,9 @@ view_compound x = p.Braces x.open x.pragmas.items (view_block_items x.items) x.c
 -- ---- whole sources
 
 abbrev pub view_function : Function → q.External
-view_function f = q.FunctionPart (view_specs f.specs) (view_pointers f.pointers) f.name (view_parameters f.parameters.value) (view_compound f.body.value)
+view_function f =
+    q.FunctionPart (view_specs f.specs) (view_pointers f.pointers) f.name (view_parameters f.parameters.value)
+    (view_compound f.body.value)
 
 abbrev pub view_external : External → q.External
 view_external (x.Pragma pragma) = q.PragmaPart pragma

@@ -1,9 +1,17 @@
 //! The height of expressions and types.
 
 ghost use Rattle.std.specs.Prelude.{◌≡◌, ◌+◌, map};
-ghost use Rattle.upc_tree.specs.Expression.{height, height_arguments, height_next_exprs, height_type, height_specs, height_spec, height_quals, height_qual, height_layout, height_pointers, height_dimensions, height_members, height_next_declarators, height_declarator, height_parameters, height_parameter, height_next_parameters, height_array};
-ghost use Rattle.upc_tree.specs.Lists.{capped, height_member, next_exprs_of, specs_of, quals_of, pointers_of, dimensions_of, members_of, next_declarators_of, next_parameters_of};
-ghost use Rattle.upc_tree.specs.View.{view, view_arguments, view_next_expr, view_type, view_spec, view_qual, view_layout, view_pointer, view_dimension, view_member, view_next_declarator, view_declarator, view_parameters, view_parameter, view_next_parameter, view_array};
+ghost use Rattle.upc_tree.specs.Expression.{height, height_arguments, height_next_exprs, height_type, height_specs};
+ghost use Rattle.upc_tree.specs.Expression.{height_spec, height_quals, height_qual, height_layout, height_pointers};
+ghost use Rattle.upc_tree.specs.Expression.{height_dimensions, height_members, height_next_declarators};
+ghost use Rattle.upc_tree.specs.Expression.{height_declarator, height_parameters, height_parameter};
+ghost use Rattle.upc_tree.specs.Expression.{height_next_parameters, height_array};
+ghost use Rattle.upc_tree.specs.Lists.{capped, height_member, next_exprs_of, specs_of, quals_of, pointers_of};
+ghost use Rattle.upc_tree.specs.Lists.{dimensions_of, members_of, next_declarators_of, next_parameters_of};
+ghost use Rattle.upc_tree.specs.View.{view, view_arguments, view_next_expr, view_type, view_spec, view_qual};
+ghost use Rattle.upc_tree.specs.View.{view_layout, view_pointer, view_dimension, view_member, view_next_declarator};
+ghost use Rattle.upc_tree.specs.View.{view_declarator, view_parameters, view_parameter, view_next_parameter};
+ghost use Rattle.upc_tree.specs.View.{view_array};
 
 use crate::expression::{
     Arguments, Declarator, Dimension, Expr, Layout, Member, NextDeclarator, NextExpr,

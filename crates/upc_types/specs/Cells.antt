@@ -1,10 +1,12 @@
 -- The cells of objects: the offset in bytes and the kind of each (C99 6.2.5, 6.5.2.1, 6.7.2.1; UPC 6.5.1).
-use Rattle.std.specs.Prelude.{◌≡◌, ◌<◌, ◌↔◌, true, ℕ, zero, suc, ◌+◌, ◌*◌, nat_lt, ◌==◌, Bool, ◌&&◌, if◌then◌else◌, List, [], ◌∷◌, ◌++◌, length, map, Option, Some, None}
+use Rattle.std.specs.Prelude.{◌≡◌, ◌<◌, ◌↔◌, true, ℕ, zero, suc, ◌+◌, ◌*◌, nat_lt, ◌==◌, Bool, ◌&&◌, if◌then◌else◌}
+use Rattle.std.specs.Prelude.{List, [], ◌∷◌, ◌++◌, length, map, Option, Some, None}
 use Rattle.block_layout.specs.declared.kind.Kind.{Kind}
 use Rattle.block_layout.specs.declared.kind.Kind.TheVariants as k
 use Rattle.block_layout.specs.declared.kind.Shape.{Shape}
 use Rattle.upc_types.specs.declared.layout.Layout.{Layout}
-use Rattle.upc_types.specs.Types.{CType, Qualified, Base, Integer, Struct, Array, Pointer, LockObject, base_of, Member, Completed, Structs}
+use Rattle.upc_types.specs.Types.{CType, Qualified, Base, Integer, Struct, Array, Pointer, LockObject, base_of}
+use Rattle.upc_types.specs.Types.{Member, Completed, Structs}
 use Rattle.upc_types.specs.Same.{same_base, same_block}
 use Rattle.upc_types.specs.Layout.{aligned, base_layout, layout_in}
 

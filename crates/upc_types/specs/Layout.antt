@@ -1,10 +1,12 @@
 -- Sizes and alignments (C99 6.5.3.4, 6.7.2.1), in bytes.
-use Rattle.std.specs.Prelude.{ℕ, zero, suc, ◌+◌, ◌-◌, ◌*◌, ◌/◌, max, nat_lt, nat_le, Bool, true, false, ◌==◌, ◌&&◌, not, if◌then◌else◌, List, [], ◌∷◌, length, map, Option, Some, None, is_some}
+use Rattle.std.specs.Prelude.{ℕ, zero, suc, ◌+◌, ◌-◌, ◌*◌, ◌/◌, max, nat_lt, nat_le, Bool, true, false, ◌==◌, ◌&&◌}
+use Rattle.std.specs.Prelude.{not, if◌then◌else◌, List, [], ◌∷◌, length, map, Option, Some, None, is_some}
 use Rattle.std.specs.List.{list_any}
 use Rattle.block_layout.specs.Shapes.{kind_size}
 use Rattle.upc_types.specs.declared.layout.Layout.{Layout}
 use Rattle.upc_types.specs.declared.layout.Known.{Known}
-use Rattle.upc_types.specs.Types.{CType, Qualified, Base, Void, Integer, Struct, Array, Pointer, LockObject, base_of, Member, Completed, Structs, members_of}
+use Rattle.upc_types.specs.Types.{CType, Qualified, Base, Void, Integer, Struct, Array, Pointer, LockObject, base_of}
+use Rattle.upc_types.specs.Types.{Member, Completed, Structs, members_of}
 use Rattle.upc_types.specs.Same.{is_lock_object}
 
 -- The alignment of a scalar is its size.
@@ -103,14 +105,15 @@ known_in (c ∷ older) number =
 abbrev pub layout_in : List Completed → ℕ → Layout
 layout_in completed number = layout_or_none (known_in completed number)
 
--- The offset of a member by its number, among members with these layouts that stand behind so many bytes, each at the first place of its
--- alignment behind the one before it (C99 6.7.2.1).
+-- The offset of a member by its number, among members with these layouts that stand behind so many bytes, each at the
+-- first place of its alignment behind the one before it (C99 6.7.2.1).
 abbrev pub offset_behind : (end : ℕ) → List Layout → (member : ℕ) → ℕ
 offset_behind end [] member = end
 offset_behind end (m ∷ ms) zero = aligned end m.align
 offset_behind end (m ∷ ms) (suc member) = offset_behind (aligned end m.align + m.size) ms member
 
--- The offset in bytes of the member with this number, from 0, in the struct with this number; where the members end, if it has no such member.
+-- The offset in bytes of the member with this number, from 0, in the struct with this number; where the members end,
+-- if it has no such member.
 abbrev pub member_offset : Structs → (number member : ℕ) → ℕ
 member_offset structs number member =
     offset_behind 0 (member_layouts (layout_in structs.completed) (members_of structs number)) member

@@ -3,7 +3,8 @@
 ghost use Rattle.std.specs.Prelude.{◌≡◌, ◌+◌, ◌*◌, ◌<◌, ◌≤◌, ◌++◌, ◌∷◌, [], true, IfOk, OnOk};
 ghost use Rattle.block_layout.specs.Shapes.{CellsWithin, IsShape};
 ghost use Rattle.upc_types.specs.Cells as pure;
-ghost use Rattle.upc_types.specs.Layout.{base_layout, base_complete, layout_in, complete_in, is_complete, size, most_bytes};
+ghost use Rattle.upc_types.specs.Layout.{base_layout, base_complete, layout_in, complete_in, is_complete, size};
+ghost use Rattle.upc_types.specs.Layout.{most_bytes};
 ghost use Rattle.upc_types.specs.View.{view, view_base};
 ghost use Rattle.upc_types.specs.ViewStructs.{view_structs};
 

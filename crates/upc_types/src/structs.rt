@@ -51,9 +51,12 @@ fn make_room(known: &mut Vec<Option<Known>>, number: u32) -> Result<(), OutOfMem
 }
 
 impl Structs {
-    ghost use Rattle.std.specs.Prelude.{◌≡◌, ◌<◌, ◌∷◌, ◌+◌, [], true, IfOk, OnOk, OnErr, IfSome, Some, None, length, map};
+    ghost use Rattle.std.specs.Prelude.{◌≡◌, ◌<◌, ◌∷◌, ◌+◌, [], true, IfOk, OnOk, OnErr, IfSome, Some, None, length};
+    ghost use Rattle.std.specs.Prelude.{map};
     ghost use Rattle.upc_types.specs.Cells.{IsItsOwn, number_of, pointer_kind, with_target};
-    ghost use Rattle.upc_types.specs.Layout.{base_within, members_within, known_in, base_complete, base_layout, complete_in, layout_in, most_bytes, is_private_target, base_holds_private, members_hold_private, private_in, member_offset};
+    ghost use Rattle.upc_types.specs.Layout.{base_within, members_within, known_in, base_complete, base_layout};
+    ghost use Rattle.upc_types.specs.Layout.{complete_in, layout_in, most_bytes, is_private_target};
+    ghost use Rattle.upc_types.specs.Layout.{base_holds_private, members_hold_private, private_in, member_offset};
     ghost use Rattle.upc_types.specs.Kept.{IsFine};
     ghost use Rattle.upc_types.specs.Types as pure;
     ghost use Rattle.upc_types.specs.Types.{with_members, members_of};
@@ -240,8 +243,8 @@ impl Structs {
         }
     }
 
-    /// The offset in bytes of the member with this number, from 0, in a complete struct (C99 6.7.2.1); where the members end,
-    /// if it has no such member. Takes no memory.
+    /// The offset in bytes of the member with this number, from 0, in a complete struct (C99 6.7.2.1); where the
+    /// members end, if it has no such member. Takes no memory.
     pub fn member_offset(&self, number: u32, member: u32) -> u32
         requires complete { complete_in (view_structs self.now).completed number ≡ true }
         ensures value { result ≡ member_offset (view_structs self.now) number member }

@@ -6,7 +6,8 @@ use Rattle.block_layout.specs.declared.place.Loc.{Loc}
 use Rattle.block_layout.specs.Shapes.{kind_size}
 use Rattle.upc_values.specs.declared.scalar.Scalar.{Scalar}
 use Rattle.upc_values.specs.declared.scalar.Scalar.TheVariants.{Int}
-use Rattle.upc_values.specs.Calls.{Way, Broadcast, Scatter, Gather, Gather_all, Exchange, Call, Copies, Permutes, Reduces, Reduces_prefixes}
+use Rattle.upc_values.specs.Calls.{Way, Broadcast, Scatter, Gather, Gather_all, Exchange, Call, Copies, Permutes}
+use Rattle.upc_values.specs.Calls.{Reduces, Reduces_prefixes}
 use Rattle.upc_values.specs.Reductions.{Reduction, reduction, element_kind, folded}
 use Rattle.block_layout.specs.Pointers.{location}
 use Rattle.upc_values.specs.Views.{destination, source, byte_at, from_phase_0, with_block, element}

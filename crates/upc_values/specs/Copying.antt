@@ -1,5 +1,6 @@
 -- The memory calls upc_memcpy, upc_memget, upc_memput and upc_memset (UPC 7.2.5).
-use Rattle.std.specs.Prelude.{ℕ, ◌-◌, ◌*◌, ◌/◌, ◌^◌, ◌==◌, ℤ, pos, ◌+ℤ◌, unsigned_abs, Bool, true, false, not, ◌||◌, cond, List, [], ◌∷◌, Option, Some, None}
+use Rattle.std.specs.Prelude.{ℕ, ◌-◌, ◌*◌, ◌/◌, ◌^◌, ◌==◌, ℤ, pos, ◌+ℤ◌, unsigned_abs, Bool, true, false, not, ◌||◌}
+use Rattle.std.specs.Prelude.{cond, List, [], ◌∷◌, Option, Some, None}
 use Rattle.std.specs.List.{list_any}
 use Rattle.block_layout.specs.declared.place.SharedPtr.{SharedPtr}
 use Rattle.block_layout.specs.declared.place.LocalPtr.{LocalPtr}
@@ -15,7 +16,8 @@ use Rattle.upc_values.specs.declared.action.Action.TheVariants as act
 use Rattle.integers.specs.Integers.{converted}
 use Rattle.upc_values.specs.Shapes.{is_integer}
 use Rattle.upc_values.specs.Expansion.{Expansion, Reads, Loads, Stores, nothing, does, each_in_turn, refused_by}
-use Rattle.upc_values.specs.Views.{is_within, leaves_piece, cuts_cell, cells_within, same_cells, shape_at, location_behind}
+use Rattle.upc_values.specs.Views.{is_within, leaves_piece, cuts_cell, cells_within, same_cells, shape_at}
+use Rattle.upc_values.specs.Views.{location_behind}
 
 -- where a range of bytes begins: nowhere, in a shared object, or in a private one
 pub data Area : Type 0 where

@@ -1,22 +1,28 @@
 -- The collective calls 5 to 12 as what each thread does (UPC 7.3): tests, one Meet, a barrier, the work, a barrier.
-use Rattle.std.specs.Prelude.{ℕ, ◌+◌, ◌*◌, ◌/◌, ◌%◌, ◌==◌, nat_lt, ℤ, pos, int_le, int_lt, unsigned_abs, Bool, true, false, not, ◌&&◌, ◌||◌, cond, List, [], ◌∷◌, ◌++◌, map, Option, Some, is_none, Result, Ok, Err}
+use Rattle.std.specs.Prelude.{ℕ, ◌+◌, ◌*◌, ◌/◌, ◌%◌, ◌==◌, nat_lt, ℤ, pos, int_le, int_lt, unsigned_abs, Bool, true}
+use Rattle.std.specs.Prelude.{false, not, ◌&&◌, ◌||◌, cond, List, [], ◌∷◌, ◌++◌, map, Option, Some, is_none, Result}
+use Rattle.std.specs.Prelude.{Ok, Err}
 use Rattle.std.specs.List.{list_any, range_with_len, position_or_len}
 use Rattle.std.specs.Ordering.{int_eq}
 use Rattle.block_layout.specs.declared.place.SharedPtr.{SharedPtr}
 use Rattle.block_layout.specs.declared.kind.Kind.{Kind}
 use Rattle.block_layout.specs.declared.kind.Kind.TheVariants as kind
 use Rattle.block_layout.specs.declared.kind.Shape.{Shape}
-use Rattle.block_layout.specs.declared.run_error.TheConstants.{NULL_ACCESS, OUT_OF_OBJECT, POINTER_RANGE, CELL_TYPE, LIBRARY_ARGS}
+use Rattle.block_layout.specs.declared.run_error.TheConstants.{NULL_ACCESS, OUT_OF_OBJECT, POINTER_RANGE, CELL_TYPE}
+use Rattle.block_layout.specs.declared.run_error.TheConstants.{LIBRARY_ARGS}
 use Rattle.block_layout.specs.Pointers.{is_null, location}
 use Rattle.block_layout.specs.Shapes.{kind_size}
 use Rattle.upc_values.specs.declared.scalar.Scalar.{Scalar}
 use Rattle.upc_values.specs.declared.scalar.Scalar.TheVariants.{Int}
 use Rattle.upc_values.specs.declared.action.Action.TheVariants as act
-use Rattle.upc_values.specs.Calls.{Way, Broadcast, Scatter, Gather, Gather_all, Exchange, Call, Copies, Permutes, Reduces, Reduces_prefixes, call_of}
+use Rattle.upc_values.specs.Calls.{Way, Broadcast, Scatter, Gather, Gather_all, Exchange, Call, Copies, Permutes}
+use Rattle.upc_values.specs.Calls.{Reduces, Reduces_prefixes, call_of}
 use Rattle.upc_values.specs.History.{each_thread}
 use Rattle.upc_values.specs.Reductions.{Reduction, reduction, step, element_kind}
-use Rattle.upc_values.specs.Expansion.{Expansion, Gives, Fails, Reads, nothing, bind, does, barrier, each_in_turn, gathered, refused_by}
-use Rattle.upc_values.specs.Views.{destination, source, byte_at, from_phase_0, with_block, element, location_behind, leaves_range, leaves_piece, cuts_cell, cells_within, same_cells, shape_at, is_cell}
+use Rattle.upc_values.specs.Expansion.{Expansion, Gives, Fails, Reads, nothing, bind, does, barrier, each_in_turn}
+use Rattle.upc_values.specs.Expansion.{gathered, refused_by}
+use Rattle.upc_values.specs.Views.{destination, source, byte_at, from_phase_0, with_block, element, location_behind}
+use Rattle.upc_values.specs.Views.{leaves_range, leaves_piece, cuts_cell, cells_within, same_cells, shape_at, is_cell}
 
 -- a group of flags: none, or NOSYNC 1, MYSYNC 2 or ALLSYNC 4; those of the exit are 8 times as much
 abbrev pub is_sync : ℕ → Bool

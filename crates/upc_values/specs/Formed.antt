@@ -1,9 +1,12 @@
 -- Which actions may be asked for after a history, and which replies fit an action.
-use Rattle.std.specs.Prelude.{ℕ, ◌≡◌, ◌*◌, ◌%◌, ◌==◌, nat_lt, nat_le, Bool, true, false, not, ◌&&◌, ◌||◌, List, [], ◌∷◌, ◌++◌, Option, Some, None, is_some, slice_get}
+use Rattle.std.specs.Prelude.{ℕ, ◌≡◌, ◌*◌, ◌%◌, ◌==◌, nat_lt, nat_le, Bool, true, false, not, ◌&&◌, ◌||◌, List, []}
+use Rattle.std.specs.Prelude.{◌∷◌, ◌++◌, Option, Some, None, is_some, slice_get}
 use Rattle.block_layout.specs.declared.place.SharedPtr.{SharedPtr}
 use Rattle.block_layout.specs.declared.kind.Kind.{Kind}
 use Rattle.block_layout.specs.declared.kind.Shape.{Shape}
-use Rattle.block_layout.specs.declared.run_error.TheConstants.{BARRIER_MISMATCH, LOCK_AGAIN, LOCK_NOT_HELD, LOCK_FREED, BAD_FREE, COLLECTIVE_MISMATCH, SHARED_SPACE}
+use Rattle.block_layout.specs.declared.run_error.TheConstants.{BARRIER_MISMATCH, LOCK_AGAIN, LOCK_NOT_HELD}
+use Rattle.block_layout.specs.declared.run_error.TheConstants.{LOCK_FREED, BAD_FREE, COLLECTIVE_MISMATCH}
+use Rattle.block_layout.specs.declared.run_error.TheConstants.{SHARED_SPACE}
 use Rattle.block_layout.specs.Places.{in_range}
 use Rattle.block_layout.specs.Pointers.{is_null}
 use Rattle.upc_values.specs.declared.scalar.Scalar.{Scalar}
@@ -14,7 +17,8 @@ use Rattle.upc_values.specs.declared.action.Reply.{Reply}
 use Rattle.upc_values.specs.declared.action.Reply.TheVariants.{Done, Value, Flag, Refused}
 use Rattle.upc_values.specs.declared.journal.Entry.{Entry}
 use Rattle.upc_values.specs.Shapes.{fits_cell}
-use Rattle.upc_values.specs.Calls.{Call, Allocates, Makes_lock, Frees, Frees_lock, Copies, Permutes, Reduces, Reduces_prefixes, Other, call_of}
+use Rattle.upc_values.specs.Calls.{Call, Allocates, Makes_lock, Frees, Frees_lock, Copies, Permutes, Reduces}
+use Rattle.upc_values.specs.Calls.{Reduces_prefixes, Other, call_of}
 use Rattle.upc_values.specs.Openings.{Opening, cell_of, is_named}
 use Rattle.upc_values.specs.History.{objects, locks}
 

@@ -1,11 +1,14 @@
 -- One history of all threads' entries: what it has made, and the one lawful reply of each action after it.
-use Rattle.std.specs.Prelude.{ℕ, ◌≡◌, ◌<◌, ◌+◌, ◌*◌, ◌==◌, nat_lt, pos, Bool, true, false, not, ◌&&◌, ◌||◌, cond, List, [], ◌∷◌, ◌++◌, length, Option, Some, None, is_some, is_none, slice_get}
+use Rattle.std.specs.Prelude.{ℕ, ◌≡◌, ◌<◌, ◌+◌, ◌*◌, ◌==◌, nat_lt, pos, Bool, true, false, not, ◌&&◌, ◌||◌, cond}
+use Rattle.std.specs.Prelude.{List, [], ◌∷◌, ◌++◌, length, Option, Some, None, is_some, is_none, slice_get}
 use Rattle.std.specs.List.{last_or, filter, filter_map, list_any, count_by}
 use Rattle.std.specs.Ordering.{int_eq}
 use Rattle.block_layout.specs.declared.place.Loc.{Loc}
 use Rattle.block_layout.specs.declared.place.ObjectRef.{ObjectRef}
 use Rattle.block_layout.specs.declared.place.SharedPtr.{SharedPtr}
-use Rattle.block_layout.specs.declared.run_error.TheConstants.{BARRIER_MISMATCH, LOCK_AGAIN, LOCK_NOT_HELD, LOCK_FREED, BAD_FREE, COLLECTIVE_MISMATCH, SHARED_SPACE}
+use Rattle.block_layout.specs.declared.run_error.TheConstants.{BARRIER_MISMATCH, LOCK_AGAIN, LOCK_NOT_HELD}
+use Rattle.block_layout.specs.declared.run_error.TheConstants.{LOCK_FREED, BAD_FREE, COLLECTIVE_MISMATCH}
+use Rattle.block_layout.specs.declared.run_error.TheConstants.{SHARED_SPACE}
 use Rattle.block_layout.specs.Pointers.{null, is_null, same_object}
 use Rattle.upc_values.specs.declared.scalar.Scalar.{Scalar}
 use Rattle.upc_values.specs.declared.scalar.Scalar.TheVariants.{Shared, Lock}

@@ -8,7 +8,8 @@ use Rattle.upc_values.specs.Openings.{Opening}
 use Rattle.upc_values.specs.History.{IsLegal}
 use Rattle.upc_values.specs.Formed.{is_known, AreWellFormed}
 
--- What a reply gives is known after a history: a pointer or a lock is null or names what the opening or the history has.
+-- What a reply gives is known after a history: a pointer or a lock is null or names what the opening or the history
+-- has.
 abbrev pub gives_known : Opening → List Entry → Reply → Bool
 gives_known o es (Value v) = is_known o es v
 gives_known o es r = true

@@ -1,5 +1,6 @@
 -- What each call of the library does on the calling thread, and the value that it gives (C99 7.19.6.3, UPC 7.2, 7.3).
-use Rattle.std.specs.Prelude.{ℕ, ◌*◌, ◌==◌, nat_le, ℤ, pos, ◌+ℤ◌, unsigned_abs, not, ◌&&◌, ◌||◌, if◌then◌else◌, List, [], ◌∷◌, length, Option, Some, None, slice_get}
+use Rattle.std.specs.Prelude.{ℕ, ◌*◌, ◌==◌, nat_le, ℤ, pos, ◌+ℤ◌, unsigned_abs, not, ◌&&◌, ◌||◌, if◌then◌else◌, List}
+use Rattle.std.specs.Prelude.{[], ◌∷◌, length, Option, Some, None, slice_get}
 use Rattle.std.specs.List.{filter_map}
 use Rattle.block_layout.specs.declared.place.ObjectRef.{ObjectRef}
 use Rattle.block_layout.specs.declared.place.SharedPtr.{SharedPtr}

@@ -3,7 +3,9 @@ use Rattle.std.specs.Prelude.{ℕ, Bool, true, false, List, [], ◌∷◌}
 use Rattle.block_layout.specs.declared.place.Loc.{Loc}
 use Rattle.upc_values.specs.declared.scalar.Scalar.{Scalar}
 use Rattle.upc_values.specs.declared.action.Action.{Action}
-use Rattle.upc_values.specs.declared.action.Action.TheVariants.{Read, Write, Fence, Beat, Notify, Wait, Lock, Attempt, Unlock, LockMake, LockFree, Alloc, Free, Meet, Print, Exit}
+use Rattle.upc_values.specs.declared.action.Action.TheVariants.{Read, Write, Fence, Beat, Notify, Wait, Lock, Attempt}
+use Rattle.upc_values.specs.declared.action.Action.TheVariants.{Unlock, LockMake, LockFree, Alloc, Free, Meet, Print}
+use Rattle.upc_values.specs.declared.action.Action.TheVariants.{Exit}
 use Rattle.upc_values.specs.declared.action.Reply.{Reply}
 use Rattle.upc_values.specs.declared.action.Reply.TheVariants.{Value, Flag, Refused}
 use Rattle.upc_values.specs.declared.journal.Entry.{Entry}

@@ -1,5 +1,6 @@
 -- The operators of reductions (UPC 7.3): their numbers, and the values that they build from left to right.
-use Rattle.std.specs.Prelude.{ℕ, ℤ, pos, int_lt, unsigned_abs, not, ◌&&◌, ◌||◌, cond, List, [], ◌∷◌, Option, None, Result, Ok, Err, slice_index_or}
+use Rattle.std.specs.Prelude.{ℕ, ℤ, pos, int_lt, unsigned_abs, not, ◌&&◌, ◌||◌, cond, List, [], ◌∷◌, Option, None}
+use Rattle.std.specs.Prelude.{Result, Ok, Err, slice_index_or}
 use Rattle.std.specs.Int.{int_min, int_max}
 use Rattle.std.specs.Ordering.{int_eq}
 use Rattle.block_layout.specs.declared.kind.Kind.{Kind}

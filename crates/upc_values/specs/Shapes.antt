@@ -1,5 +1,6 @@
 -- The cells of objects, and which values fit them.
-use Rattle.std.specs.Prelude.{ℕ, ◌%◌, ◌==◌, nat_lt, pos, Bool, true, false, ◌&&◌, ◌||◌, cond, List, Option, Some, None, slice_get}
+use Rattle.std.specs.Prelude.{ℕ, ◌%◌, ◌==◌, nat_lt, pos, Bool, true, false, ◌&&◌, ◌||◌, cond, List, Option, Some}
+use Rattle.std.specs.Prelude.{None, slice_get}
 use Rattle.block_layout.specs.declared.place.ObjectRef.{ObjectRef}
 use Rattle.block_layout.specs.declared.place.Loc.{Loc}
 use Rattle.block_layout.specs.declared.place.LocalPtr.TheVariants as local

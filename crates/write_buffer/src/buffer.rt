@@ -1,6 +1,7 @@
 //! The pending writes of a thread.
 
-ghost use Rattle.std.specs.Prelude.{◌≡◌, ◌≤◌, ◌<◌, ◌↔◌, [], ◌∷◌, ◌++◌, length, All, IfOk, IsSome, IsNone, false, option_map, option_to_list};
+ghost use Rattle.std.specs.Prelude.{◌≡◌, ◌≤◌, ◌<◌, ◌↔◌, [], ◌∷◌, ◌++◌, length, All, IfOk, IsSome, IsNone, false};
+ghost use Rattle.std.specs.Prelude.{option_map, option_to_list};
 ghost use Rattle.upc_values.specs.Scalars as scalars;
 ghost use Rattle.write_buffer.specs.Buffer.{youngest};
 

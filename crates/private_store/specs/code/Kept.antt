@@ -1,5 +1,6 @@
 -- What holds of the fields of a store at any time.
-use Rattle.std.specs.Prelude.{ℕ, ℤ, pos, negsuc, ◌≡◌, ◌≤◌, ◌<◌, ◌^◌, true, false, unsigned_abs, List, length, slice_index_or, All, Option, Some, None, Result, Ok, Err}
+use Rattle.std.specs.Prelude.{ℕ, ℤ, pos, negsuc, ◌≡◌, ◌≤◌, ◌<◌, ◌^◌, true, false, unsigned_abs, List, length}
+use Rattle.std.specs.Prelude.{slice_index_or, All, Option, Some, None, Result, Ok, Err}
 use Rattle.std.specs.List.{AllPairs, AllZip}
 use Rattle.block_layout.specs.declared.kind.Kind.{Kind}
 use Rattle.block_layout.specs.declared.kind.Shape.{Shape}
