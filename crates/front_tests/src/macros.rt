@@ -47,7 +47,7 @@ fn shown(alloc: Global, source: &str) -> Result<String, Fail> {
 }
 
 // A source, and its tokens after expansion or its refusal.
-const SOURCES: [(&str, &str); 45] = [
+const SOURCES: [(&str, &str); 48] = [
     (
         "#define N 5\nint main(void){return N*2;}",
         "int main ( void ) { return 5 * 2 ; } ",
@@ -59,6 +59,18 @@ const SOURCES: [(&str, &str); 45] = [
     ("#define X (1 + 2)\n#define X (1/**/+2)\nX", "( 1 + 2 ) "),
     ("#define X 1\n#undef X\n#define X 2\nX", "2 "),
     ("#define E\nE E x E", "x "),
+    (
+        "#define E\n#define F E E\nF\n#undef E\nF\n#define E x\nF",
+        "E E x x ",
+    ),
+    (
+        "#define E\n#define F E G E\nF F\n#define G E E\nF F G\n#undef G\nF",
+        "G G G ",
+    ),
+    (
+        "#define G H E\n#define H E G E\n#define E\nG H E G",
+        "G H G ",
+    ),
     ("#define F (x)\nF", "( x ) "),
     ("#define Z NULL\nNULL Z", "0 0 "),
     ("#define U union\nx", "x "),
@@ -147,6 +159,30 @@ fn limit(rt: HostRuntime) -> Result<(), Fail> {
         let more = format!(in rt.alloc(); "{}{text}", source.as_str())?;
         let got = shown(rt.alloc(), more.as_str())?;
         assert_eq!(rt; got.as_str(), want);
+    }
+    Ok(())
+}
+
+// Macros that stand for nothing, each for twice the one before, take no time: 60 of them, which would be 2^60 turns.
+#[test]
+fn nothing_doubled(rt: HostRuntime) -> Result<(), Fail> {
+    let mut source = format!(in rt.alloc(); "#define A0\n")?;
+    for level in 1..61u32 {
+        let line = format!(in rt.alloc(); "#define A{level} A{} A{}\n", level - 1, level - 1)?;
+        source.push_str(line.as_str())?;
+    }
+    let rows = [
+        ("A60 x A60", "x "),
+        ("A60\n#define B A60 x A60\nB A60 B", "x x "),
+        (
+            "A60\n#undef A0\n#define A0 union\n\nA60",
+            "66:1 Profile(11)",
+        ),
+    ];
+    for (text, want) in rows {
+        let whole = format!(in rt.alloc(); "{}{text}", source.as_str())?;
+        let got = shown(rt.alloc(), whole.as_str())?;
+        assert_eq!(rt; got.as_str(), want, "{text}");
     }
     Ok(())
 }

@@ -6,3 +6,4 @@ pub mod DirectiveLemmas
 pub mod LineLemmas
 pub mod Order
 pub mod DepthLemmas
+pub mod SilenceLemmas

@@ -19,8 +19,8 @@ use Rattle.upc_macros.proofs.Refusals.{takes_append, stops_later, stops_before}
 use Rattle.upc_macros.proofs.WalkLemmas.{entered, replaced_plain, replaced_macro}
 
 -- the whole of a macro that was taken out of the table
-pub whole_macro : (source : List ℕ) (tokens : List Token) (table taken : List (Option Body)) (t : Token) (n : ℕ) (b : Body) → t.kind ≡ Name n → slice_get table n ≡ Some (Some b) → taken ≡ set table n None → pending source tokens (length taken - 1) taken (entered n b ∷ []) ≡ replaced (length table) source (seen tokens table) t
-whole_macro source tokens table taken t n b k e f =
+pub whole_macro : (source : List ℕ) (tokens : List Token) (before : ℕ) (table taken : List (Option Body)) (t : Token) (n : ℕ) (b : Body) → t.kind ≡ Name n → slice_get table n ≡ Some (Some b) → taken ≡ set table n None → pending source tokens (length taken - 1) taken (entered n before b ∷ []) ≡ replaced (length table) source (seen tokens table) t
+whole_macro source tokens before table taken t n b k e f =
     let one : length table ≡ suc (length taken - 1) = omega (arith, ap length f, length-set table n None, taken_count table n b e, count_within table) in
     let macros : seen tokens taken ≡ _ = ap (seen tokens) f ∙ seen-taken tokens table n in
     rw (one, replaced_macro (length taken - 1) source (seen tokens table) t n _ k (names_some tokens table t n b k e), macros) (append-nil _)

@@ -40,7 +40,7 @@ work tokens depth table (f ∷ fs) = 1 + total (steps depth (seen tokens table))
 -- ---- the rest of a macro
 
 abbrev pub next_frame : Frame → Frame
-next_frame f = record { name = f.name; next = f.next + 1; body = f.body }
+next_frame f = record { name = f.name; next = f.next + 1; before = f.before; body = f.body }
 
 rest_step : (tokens : List Token) (f : Frame) (t : Token) → f.next < f.body.end → f.body.end ≤ length tokens → t ≡ get_or tokens f.next t → rest_of tokens f ≡ t ∷ rest_of tokens (next_frame f)
 rest_step tokens f t lt le e =
@@ -73,6 +73,9 @@ one_token out new x [] e f = absurd cc
 one_token out new x (y ∷ []) e f = let same : x ≡ y = given_is cc in rw same e
 one_token out new x (y ∷ z ∷ ts) e f = absurd cc
 
+pub one_more : (out new : List Token) (x : Token) → Takes out new (given x ∷ []) → length out < length new
+one_more out new x k = omega (arith, ap length (one_token out new x k.tokens k.new_is k.items_are), length-append out (x ∷ []))
+
 pub step_plain : (source : List ℕ) (tokens : List Token) (place : Place) (first whole : List Token) (old table : List (Option Body)) (f : Frame) (fs : List Frame) (out new : List Token) (t : Token) → IsWalk source tokens place first whole old table (f ∷ fs) out → f.next < f.body.end → t ≡ get_or tokens f.next t → NamesNoMacro table t.kind → Takes out new (given (placed place (plain source t)) ∷ []) → IsWalk source tokens place first whole old table (next_frame f ∷ fs) new
 step_plain source tokens place first whole old table f fs out new t w lt e none k =
     let x = placed place (plain source t) in
@@ -94,10 +97,39 @@ pub work_plain : (tokens : List Token) (depth : ℕ) (table : List (Option Body)
 work_plain tokens depth table f fs t lt le e none =
     rw (rest_step tokens f t lt le e, steps_plain depth (seen tokens table) t (names_none tokens table t t.kind refl none)) (omega arith)
 
+-- ---- a token that becomes nothing
+
+pub step_skip : (source : List ℕ) (tokens : List Token) (place : Place) (first whole : List Token) (old table : List (Option Body)) (f : Frame) (fs : List Frame) (out : List Token) (t : Token) → IsWalk source tokens place first whole old table (f ∷ fs) out → f.next < f.body.end → t ≡ get_or tokens f.next t → replaced (length table - suc (length fs)) source (seen tokens table) t ≡ [] → IsWalk source tokens place first whole old table (next_frame f ∷ fs) out
+step_skip source tokens place first whole old table f fs out t w lt e none =
+    let r = rest_step tokens f t lt w.frames_are.0.body.within e in
+    let d = length table - suc (length fs) in
+    record {
+      done = w.done;
+      whole_is = w.whole_is ∙ ap (λ l. w.done ++ l) (rw (r, none) refl);
+      out_is = w.out_is;
+      passes = w.passes;
+      old_is = w.old_is;
+      frames_are = (record { numbered = w.frames_are.0.numbered; forward = omega arith; body = w.frames_are.0.body }, w.frames_are.1);
+      bodies_are = w.bodies_are;
+      few = w.few;
+    }
+
+steps_some : (depth : ℕ) (macros : Macros) (t : Token) → 1 ≤ steps depth macros t
+steps_some zero macros t = omega arith
+steps_some (suc depth) macros t = by_body (body_of macros t) (total (steps depth (without macros t.kind)))
+  where
+    by_body : (body : Option (List Token)) (f : List Token → ℕ) → 1 ≤ steps_by body f
+    by_body None f = omega arith
+    by_body (Some body) f = omega arith
+
+pub work_skip : (tokens : List Token) (depth : ℕ) (table : List (Option Body)) (f : Frame) (fs : List Frame) (t : Token) → f.next < f.body.end → f.body.end ≤ length tokens → t ≡ get_or tokens f.next t → work tokens depth table (next_frame f ∷ fs) < work tokens depth table (f ∷ fs)
+work_skip tokens depth table f fs t lt le e =
+    rw (rest_step tokens f t lt le e) (omega (arith, steps_some depth (seen tokens table) t))
+
 -- ---- a token that is one
 
-abbrev pub entered : ℕ → Body → Frame
-entered n b = record { name = n; next = b.begin; body = b }
+abbrev pub entered : ℕ → ℕ → Body → Frame
+entered n before b = record { name = n; next = b.begin; before = before; body = b }
 
 pub replaced_macro : (depth : ℕ) (source : List ℕ) (macros : Macros) (t : Token) (n : ℕ) (body : List Token) → t.kind ≡ Name n → body_of macros t ≡ Some body → replaced (suc depth) source macros t ≡ flat_map (replaced depth source (without macros (Name n))) body
 replaced_macro depth source macros t n body k e = rw (e, k) refl
@@ -105,15 +137,15 @@ replaced_macro depth source macros t n body k e = rw (e, k) refl
 steps_macro : (depth : ℕ) (macros : Macros) (t : Token) (n : ℕ) (body : List Token) → t.kind ≡ Name n → body_of macros t ≡ Some body → steps (suc depth) macros t ≡ 2 + total (steps depth (without macros (Name n))) body
 steps_macro depth macros t n body k e = rw (e, k) refl
 
-pending_macro : (source : List ℕ) (tokens : List Token) (depth : ℕ) (table : List (Option Body)) (f : Frame) (fs : List Frame) (t : Token) (n : ℕ) (b : Body) → rest_of tokens f ≡ t ∷ rest_of tokens (next_frame f) → t.kind ≡ Name n → slice_get table n ≡ Some (Some b) → pending source tokens (suc depth) table (f ∷ fs) ≡ pending source tokens depth (set table n None) (entered n b ∷ next_frame f ∷ fs)
-pending_macro source tokens depth table f fs t n b r k e =
+pending_macro : (source : List ℕ) (tokens : List Token) (depth before : ℕ) (table : List (Option Body)) (f : Frame) (fs : List Frame) (t : Token) (n : ℕ) (b : Body) → rest_of tokens f ≡ t ∷ rest_of tokens (next_frame f) → t.kind ≡ Name n → slice_get table n ≡ Some (Some b) → pending source tokens (suc depth) table (f ∷ fs) ≡ pending source tokens depth (set table n None) (entered n before b ∷ next_frame f ∷ fs)
+pending_macro source tokens depth before table f fs t n b r k e =
     let inner : replaced (suc depth) source (seen tokens table) t ≡ flat_map (replaced depth source (seen tokens (set table n None))) (body_tokens tokens b) =
     replaced_macro depth source (seen tokens table) t n (body_tokens tokens b) k (names_some tokens table t n b k e)
     ∙ ap (λ m. flat_map (replaced depth source m) (body_tokens tokens b)) (sym (seen-taken tokens table n)) in
     rw (set-back table n (Some b) None e, r, inner) (append_assoc (flat_map (replaced depth source (seen tokens (set table n None))) (body_tokens tokens b)) (flat_map (replaced (suc depth) source (seen tokens table)) (rest_of tokens (next_frame f))) (pending source tokens (suc (suc depth)) (put_back table f) fs))
 
-work_macro : (tokens : List Token) (depth : ℕ) (table : List (Option Body)) (f : Frame) (fs : List Frame) (t : Token) (n : ℕ) (b : Body) → rest_of tokens f ≡ t ∷ rest_of tokens (next_frame f) → t.kind ≡ Name n → slice_get table n ≡ Some (Some b) → work tokens depth (set table n None) (entered n b ∷ next_frame f ∷ fs) < work tokens (suc depth) table (f ∷ fs)
-work_macro tokens depth table f fs t n b r k e =
+work_macro : (tokens : List Token) (depth before : ℕ) (table : List (Option Body)) (f : Frame) (fs : List Frame) (t : Token) (n : ℕ) (b : Body) → rest_of tokens f ≡ t ∷ rest_of tokens (next_frame f) → t.kind ≡ Name n → slice_get table n ≡ Some (Some b) → work tokens depth (set table n None) (entered n before b ∷ next_frame f ∷ fs) < work tokens (suc depth) table (f ∷ fs)
+work_macro tokens depth before table f fs t n b r k e =
     let inner : steps (suc depth) (seen tokens table) t ≡ 2 + total (steps depth (seen tokens (set table n None))) (body_tokens tokens b) =
     steps_macro depth (seen tokens table) t n (body_tokens tokens b) k (names_some tokens table t n b k e)
     ∙ ap (λ m. 2 + total (steps depth m) (body_tokens tokens b)) (sym (seen-taken tokens table n)) in
@@ -126,29 +158,29 @@ deeper table count n b e few = omega (arith, taken_count table n b e, length-set
 back_frames : (tokens : List Token) (names m : ℕ) (fs : List Frame) → names ≡ m → AreFrames tokens names fs → AreFrames tokens m fs
 back_frames tokens names m fs e h = subst (λ k. AreFrames tokens k fs) e h
 
-pub step_enter : (source : List ℕ) (tokens : List Token) (place : Place) (first whole : List Token) (old table : List (Option Body)) (f : Frame) (fs : List Frame) (out : List Token) (t : Token) (n : ℕ) (b : Body) → IsWalk source tokens place first whole old table (f ∷ fs) out → f.next < f.body.end → t ≡ get_or tokens f.next t → t.kind ≡ Name n → n < length table → slice_get table n ≡ Some (Some b) → IsWalk source tokens place first whole old (set table n None) (entered n b ∷ next_frame f ∷ fs) out
-step_enter source tokens place first whole old table f fs out t n b w lt e k within m =
+pub step_enter : (source : List ℕ) (tokens : List Token) (place : Place) (before : ℕ) (first whole : List Token) (old table : List (Option Body)) (f : Frame) (fs : List Frame) (out : List Token) (t : Token) (n : ℕ) (b : Body) → IsWalk source tokens place first whole old table (f ∷ fs) out → f.next < f.body.end → t ≡ get_or tokens f.next t → t.kind ≡ Name n → n < length table → slice_get table n ≡ Some (Some b) → IsWalk source tokens place first whole old (set table n None) (entered n before b ∷ next_frame f ∷ fs) out
+step_enter source tokens place before first whole old table f fs out t n b w lt e k within m =
     let r = rest_step tokens f t lt w.frames_are.0.body.within e in
     let d = deeper table (length fs) n b m w.few in
     let body = w.bodies_are n b m in
     let names : length table ≡ length (set table n None) = sym (length-set table n None) in
     let f' : IsFrame tokens (length table) (next_frame f) = record { numbered = w.frames_are.0.numbered; forward = omega arith; body = w.frames_are.0.body } in
-    let g : IsFrame tokens (length table) (entered n b) = record { numbered = within; forward = body.forward; body = body } in
+    let g : IsFrame tokens (length table) (entered n before b) = record { numbered = within; forward = body.forward; body = body } in
     let back : set (set table n None) n (Some b) ≡ table = set-back table n (Some b) None m in
     record {
       done = w.done;
-      whole_is = w.whole_is ∙ ap (λ l. w.done ++ l) (ap (λ d. pending source tokens d table (f ∷ fs)) d ∙ pending_macro source tokens (length (set table n None) - suc (suc (length fs))) table f fs t n b r k m);
+      whole_is = w.whole_is ∙ ap (λ l. w.done ++ l) (ap (λ d. pending source tokens d table (f ∷ fs)) d ∙ pending_macro source tokens (length (set table n None) - suc (suc (length fs))) before table f fs t n b r k m);
       out_is = w.out_is;
       passes = w.passes;
       old_is = ap (λ x. all_back x (next_frame f ∷ fs)) back ∙ w.old_is;
-      frames_are = back_frames tokens (length table) (length (set table n None)) (entered n b ∷ next_frame f ∷ fs) names (g, (f', w.frames_are.1));
+      frames_are = back_frames tokens (length table) (length (set table n None)) (entered n before b ∷ next_frame f ∷ fs) names (g, (f', w.frames_are.1));
       bodies_are = taken_bodies tokens table n w.bodies_are;
       few = omega (arith, taken_count table n b m, names, w.few);
     }
 
-pub work_enter : (tokens : List Token) (table : List (Option Body)) (f : Frame) (fs : List Frame) (t : Token) (n : ℕ) (b : Body) → f.next < f.body.end → f.body.end ≤ length tokens → t ≡ get_or tokens f.next t → t.kind ≡ Name n → slice_get table n ≡ Some (Some b) → macro_count table + suc (length fs) ≤ length table → work tokens (length (set table n None) - suc (suc (length fs))) (set table n None) (entered n b ∷ next_frame f ∷ fs) < work tokens (length table - suc (length fs)) table (f ∷ fs)
-work_enter tokens table f fs t n b lt le e k m few =
-    rw (deeper table (length fs) n b m few) (work_macro tokens (length (set table n None) - suc (suc (length fs))) table f fs t n b (rest_step tokens f t lt le e) k m)
+pub work_enter : (tokens : List Token) (before : ℕ) (table : List (Option Body)) (f : Frame) (fs : List Frame) (t : Token) (n : ℕ) (b : Body) → f.next < f.body.end → f.body.end ≤ length tokens → t ≡ get_or tokens f.next t → t.kind ≡ Name n → slice_get table n ≡ Some (Some b) → macro_count table + suc (length fs) ≤ length table → work tokens (length (set table n None) - suc (suc (length fs))) (set table n None) (entered n before b ∷ next_frame f ∷ fs) < work tokens (length table - suc (length fs)) table (f ∷ fs)
+work_enter tokens before table f fs t n b lt le e k m few =
+    rw (deeper table (length fs) n b m few) (work_macro tokens (length (set table n None) - suc (suc (length fs))) before table f fs t n b (rest_step tokens f t lt le e) k m)
 
 -- ---- the end of a macro
 

@@ -4,6 +4,7 @@
 mod directives;
 mod lines;
 mod output;
+mod silent;
 mod spelling;
 mod table;
 mod walk;

@@ -7,9 +7,11 @@ ghost use Rattle.upc_lexer.specs.declared.token.Token.{Token as Item};
 ghost use Rattle.upc_macros.specs.Replacing.{Macros, replaced};
 ghost use Rattle.upc_macros.specs.Lines.{line_effect, line_items, LineDone, LineStops};
 ghost use Rattle.upc_macros.specs.Table.{seen, AreInOrder, AreBodies, Takes, StopsIn};
+ghost use Rattle.upc_macros.specs.Silence.{AreSilent};
 
 use crate::directives::{Effect, effect_of};
 use crate::output::emit;
+use crate::silent::Silent;
 use crate::table::Body;
 use crate::walk::replace;
 use std::alloc::Global;
@@ -28,12 +30,16 @@ fn text_line(
     source: &[u8],
     tokens: &[Token],
     macros: &mut Vec<Option<Body>>,
+    silent: &mut Silent,
     line: &[Token],
     expanded: &mut Vec<Token>,
 ) -> Result<(), Stop>
     requires tokens { AreInOrder (length source.now) (length macros.old.items) tokens.now }
     requires line { AreInOrder (length source.now) (length macros.old.items) line.now }
     requires bodies { AreBodies tokens.now macros.old.items }
+    requires silent { AreSilent tokens.now macros.old.items silent.old }
+    ensures since { OnOk result (silent.new.since ≡ silent.old.since) }
+    ensures silent { OnOk result (AreSilent tokens.now macros.old.items silent.new) }
     ensures macros { OnOk result (macros.new.items ≡ macros.old.items) }
     ensures ok { OnOk result (Takes expanded.old.items expanded.new.items
         (text_items source.now (seen tokens.now macros.old.items) line.now)) }
@@ -47,7 +53,7 @@ fn text_line(
                 code: Code::Directive,
             }));
         }
-        replace(alloc, source, tokens, macros, token, expanded)?;
+        replace(alloc, source, tokens, macros, silent, token, expanded)?;
     }
     Ok(())
 }
@@ -57,6 +63,7 @@ fn directive_line(
     source: &[u8],
     tokens: &[Token],
     macros: &mut Vec<Option<Body>>,
+    silent: &mut Silent,
     begin: usize,
     end: usize,
     expanded: &mut Vec<Token>,
@@ -65,6 +72,10 @@ fn directive_line(
     requires bodies { AreBodies tokens.now macros.old.items }
     requires forward { begin < end }
     requires within { end ≤ length tokens.now }
+    requires silent { AreSilent tokens.now macros.old.items silent.old }
+    requires since { silent.old.since ≤ begin }
+    ensures since { OnOk result (silent.new.since ≤ end) }
+    ensures silent { OnOk result (AreSilent tokens.now macros.new.items silent.new) }
     ensures length { OnOk result (length macros.new.items ≡ length macros.old.items) }
     ensures bodies { OnOk result (AreBodies tokens.now macros.new.items) }
     ensures macros { OnOk result (seen tokens.now macros.new.items
@@ -94,10 +105,12 @@ fn directive_line(
         }
         Some(Effect::Define(number, body)) => {
             macros[number] = Some(body);
+            silent.forget(end);
             Ok(())
         }
         Some(Effect::Undefine(number)) => {
             macros[number] = None;
+            silent.forget(end);
             Ok(())
         }
     }
@@ -128,6 +141,7 @@ fn expand_line(
     source: &[u8],
     tokens: &[Token],
     macros: &mut Vec<Option<Body>>,
+    silent: &mut Silent,
     begin: usize,
     end: usize,
     expanded: &mut Vec<Token>,
@@ -136,6 +150,10 @@ fn expand_line(
     requires bodies { AreBodies tokens.now macros.old.items }
     requires forward { begin < end }
     requires within { end ≤ length tokens.now }
+    requires silent { AreSilent tokens.now macros.old.items silent.old }
+    requires since { silent.old.since ≤ begin }
+    ensures since { OnOk result (silent.new.since ≤ end) }
+    ensures silent { OnOk result (AreSilent tokens.now macros.new.items silent.new) }
     ensures ok { OnOk result (LineDone source.now tokens.now
         (take (end - begin) (drop begin tokens.now)) macros.old.items macros.new.items
         expanded.old.items expanded.new.items) }
@@ -143,9 +161,17 @@ fn expand_line(
         (take (end - begin) (drop begin tokens.now)) macros.old.items expanded.old.items) }
 {
     if is_hash(&tokens[begin].kind) {
-        directive_line(source, tokens, macros, begin, end, expanded)
+        directive_line(source, tokens, macros, silent, begin, end, expanded)
     } else {
-        text_line(alloc, source, tokens, macros, &tokens[begin..end], expanded)
+        text_line(
+            alloc,
+            source,
+            tokens,
+            macros,
+            silent,
+            &tokens[begin..end],
+            expanded,
+        )
     }
 }
 
@@ -162,11 +188,21 @@ pub fn expand(alloc: Global, source: &[u8], lexed: &Lexed) -> Result<Vec<Token>,
 {
     let tokens = lexed.tokens.as_slice();
     let mut macros: Vec<Option<Body>> = vec![in alloc; None; lexed.names.len()]?;
+    let mut silent = Silent::new(alloc, lexed.names.len())?;
     let mut expanded = Vec::new(alloc);
     let mut at = 0;
     while at < tokens.len() {
         let end = at + line_length(&tokens[at..]);
-        expand_line(alloc, source, tokens, &mut macros, at, end, &mut expanded)?;
+        expand_line(
+            alloc,
+            source,
+            tokens,
+            &mut macros,
+            &mut silent,
+            at,
+            end,
+            &mut expanded,
+        )?;
         at = end;
     }
     Ok(expanded)

@@ -7,6 +7,7 @@ use Rattle.upc_macros.specs.Expansion.{lines_of, StopsExpansion}
 use Rattle.upc_macros.specs.Lines.{LineDone, LineStops}
 use Rattle.upc_macros.proofs.Order.{tokens_in_order}
 use Rattle.upc_macros.proofs.DirectiveLemmas.{rest_is}
+use Rattle.upc_macros.proofs.SilenceLemmas.{none_known}
 use Rattle.upc_macros.proofs.LineLemmas.{start, line_more, line_refused}
 use Rattle.upc_macros.proofs.lines.expand.Goals as goal
 
@@ -14,11 +15,16 @@ pub loop-at-init : goal.loop-at-init
 loop-at-init c =
     let same : c.in_ok-macros.macros.items ≡ replicate c.len.result None = c.in_ok-macros.ensures.items_if_clones_equal (λ y h. search rules) in
     let none = same ∙ ap (λ (n : ℕ). replicate {A = Option Body} n None) c.len.ensures in
-    rw c.new-expanded.ensures.items (start c.args.source.now c.as_slice-tokens.result.now (length c.args.lexed.now.names) c.in_ok-macros.macros.items none)
+    let lines = start c.args.source.now c.as_slice-tokens.result.now (length c.args.lexed.now.names) c.in_ok-macros.macros.items none in
+    record {
+      lines = rw c.new-expanded.ensures.items lines;
+      since = omega (arith, c.in_ok-silent.ensures.since);
+      silent = none_known c.as_slice-tokens.result.now c.in_ok-macros.macros.items c.in_ok-silent.silent (length c.args.lexed.now.names) lines.same_length (c.in_ok-silent.ensures.found ∙ ap (λ (n : ℕ). replicate {A = Option ℕ} n None) c.len-2.ensures);
+    }
 
 pub expand_line-requires-clause-tokens : goal.expand_line-requires-clause-tokens
 expand_line-requires-clause-tokens c =
-    rw (c.as_slice-tokens.ensures.value, c.loop-at.invariant.same_length) (tokens_in_order c.args.source.now c.args.lexed.now.tokens.items c.args.lexed.now.names c.requires)
+    rw (c.as_slice-tokens.ensures.value, c.loop-at.invariant.lines.same_length) (tokens_in_order c.args.source.now c.args.lexed.now.tokens.items c.args.lexed.now.names c.requires)
 
 pub returns-in_err-expand_line-clause-refused : goal.returns-in_err-expand_line-clause-refused
 returns-in_err-expand_line-clause-refused c =
@@ -29,7 +35,7 @@ returns-in_err-expand_line-clause-refused c =
     let lines = subst (λ (l : List Token). lines_of l ≡ take n l ∷ lines_of (drop n l)) (rest_is c.loop-at.at tokens) c.line_length.ensures.lines in
     let count : c.loop-at.at + n - c.loop-at.at ≡ n = omega arith in
     let stops = subst (λ k. LineStops c.args.source.now tokens (take k (drop c.loop-at.at tokens)) c.loop-at.macros.items c.loop-at.expanded.items stop) count c.in_err-expand_line.ensures.err in
-    let refused = line_refused c.args.source.now tokens (length c.args.lexed.now.names) c.loop-at.at n c.loop-at.macros.items c.loop-at.expanded.items stop c.loop-at.invariant lines stops in
+    let refused = line_refused c.args.source.now tokens (length c.args.lexed.now.names) c.loop-at.at n c.loop-at.macros.items c.loop-at.expanded.items stop c.loop-at.invariant.lines lines stops in
     rw (p.1, p.2) (subst (λ (ts : List Token). StopsExpansion c.args.source.now ts (length c.args.lexed.now.names) stop) c.as_slice-tokens.ensures.value refused)
 
 pub loop-at-preserved : goal.loop-at-preserved
@@ -40,4 +46,8 @@ loop-at-preserved c =
     let within = subst (λ (l : List Token). n ≤ length l) (rest_is c.loop-at.at tokens) c.line_length.ensures.within in
     let count : c.loop-at.at + n - c.loop-at.at ≡ n = omega arith in
     let done = subst (λ k. LineDone c.args.source.now tokens (take k (drop c.loop-at.at tokens)) c.loop-at.macros.items c.expand_line.new.macros.items c.loop-at.expanded.items c.expand_line.new.expanded.items) count c.in_ok-expand_line.ensures.ok in
-    line_more c.args.source.now tokens (length c.args.lexed.now.names) c.loop-at.at n c.loop-at.macros.items c.expand_line.new.macros.items c.loop-at.expanded.items c.expand_line.new.expanded.items c.loop-at.invariant within lines done
+    record {
+      lines = line_more c.args.source.now tokens (length c.args.lexed.now.names) c.loop-at.at n c.loop-at.macros.items c.expand_line.new.macros.items c.loop-at.expanded.items c.expand_line.new.expanded.items c.loop-at.invariant.lines within lines done;
+      since = c.in_ok-expand_line.ensures.since;
+      silent = c.in_ok-expand_line.ensures.silent;
+    }
