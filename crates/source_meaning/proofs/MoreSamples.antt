@@ -1,7 +1,8 @@
 -- Further worked examples: operators, loops, pointers and the library.
-use Rattle.std.specs.Prelude.{ℤ, pos, ◌≡◌, false, [], ◌∷◌, ◌++◌, Some, None}
+use Rattle.std.specs.Prelude.{ℤ, pos, ◌≡◌, false, [], ◌∷◌, ◌++◌, Some, None, codes}
 use Rattle.std.proofs.Common.{refl}
 use Rattle.block_layout.specs.declared.place.SharedPtr.{SharedPtr}
+use Rattle.block_layout.specs.declared.kind.Kind.TheVariants as kind
 use Rattle.integers.specs.declared.operator.BinOp.TheVariants as op
 use Rattle.upc_values.specs.declared.scalar.Scalar.TheVariants as scalar
 use Rattle.upc_values.specs.declared.scalar.Scalar.TheVariants.{Int}
@@ -10,19 +11,24 @@ use Rattle.upc_values.specs.declared.action.Reply.TheVariants.{Value}
 use Rattle.upc_values.specs.declared.library.LibraryCall.TheVariants.{Alloc, AllLockAlloc, Lock, GlobalExit, ThreadOf}
 use Rattle.upc_values.specs.declared.record.ToldEnd.TheVariants as told
 use Rattle.upc_types.specs.declared.ctype.Access.TheVariants.{Unsaid}
-use Rattle.upc_types.specs.Types.{CType, Qualified, Pointer}
-use Rattle.typing_rules.specs.Library.{int, void, size_type, lock_pointer}
-use Rattle.typed_tree.specs.Tree.{Expr}
+use Rattle.upc_types.specs.Types.{CType, Qualified, Integer, Struct, Pointer, Structs}
+use Rattle.typing_rules.specs.declared.setting.SizeOperator.{SizeOperator}
+use Rattle.typing_rules.specs.declared.setting.SizeOperator.TheVariants as size
+use Rattle.typing_rules.specs.Attributes.{Facts, attr}
+use Rattle.typing_rules.specs.Nodes as n
+use Rattle.typing_rules.specs.Library.{int, void, size_type, lock_pointer, plain}
+use Rattle.typed_tree.specs.Tree as t
+use Rattle.typed_tree.specs.Tree.{Expr, Is, attr_of}
 use Rattle.typed_tree.specs.Programs.{Checked}
-use Rattle.thread_steps.specs.Actions.{ask, tick, notify, wait, meet, exit}
+use Rattle.thread_steps.specs.Actions.{ask, tick, notify, wait, meet, fence, exit}
 use Rattle.thread_steps.specs.Accesses.{load, save, run}
-use Rattle.thread_steps.specs.Pointers.{advance, difference}
+use Rattle.thread_steps.specs.Pointers.{advance, member, difference}
 use Rattle.thread_steps.specs.Operators.{operate, cast}
 use Rattle.thread_steps.specs.Blocks.{open_block, close_block, local_object, begin_call, end_call, control, mine}
 use Rattle.thread_steps.specs.Library.{library}
 use Rattle.source_meaning.specs.Threads.{thread_outcome, most_calls}
 use Rattle.source_meaning.proofs.Trees.{num, local, home_of, object_at, shared, set, grown, operation, element}
-use Rattle.source_meaning.proofs.Trees.{cast_into, address_of, behind_pointer}
+use Rattle.source_meaning.proofs.Trees.{cast_into, address_of, behind_pointer, facts, stands, with_structs}
 use Rattle.source_meaning.proofs.Trees.{compound, choice, comma, call_library, exprs, blocked_ints, pointer_to_shared}
 use Rattle.source_meaning.proofs.Trees.{int_object, object_with, shared_object, block, does, gives, do_while}
 use Rattle.source_meaning.proofs.Trees.{for_loop, goes_on}
@@ -203,3 +209,91 @@ meets-faults : thread_outcome meets 0 100 (done 4) ≡ outcome begins 1 (told.Fa
 unfolding thread_outcome most_calls ask notify wait begin_call open_block
     local_object tick control mine operate cast load save library meet
 meets-faults = refl
+
+-- ---- members
+
+-- `struct pair { char c; int i; };`
+abbrev pairs : Structs
+pairs = record {
+  declared = 1;
+  completed =
+      record {
+        number = 0;
+        members = record { name = codes "c"; ctype = plain kind.Char } ∷ record { name = codes "i"; ctype = int } ∷ [];
+      } ∷ [];
+  targets = [];
+}
+
+abbrev shared_pair : CType
+shared_pair = Qualified (Struct 0) false (Some 1) Unsaid
+
+abbrev pair_facts : Facts
+pair_facts = record { structs = pairs; threads = 1 }
+
+-- `x.i` of the first shared object of the file.
+abbrev second : Expr
+second =
+    let x = shared shared_pair 1 in
+    Is here (attr pair_facts (n.MemberOf (attr_of x) (codes "i"))) (t.Member x 1)
+
+-- `shared struct pair x; int main(void){return x.i;}`: i lies 4 bytes behind the beginning.
+abbrev paired : Checked
+paired =
+    with_structs pairs
+    (program 1 (shared_object shared_pair 1 ∷ []) (main (block [] (gives second ∷ [])) ∷ []))
+
+paired-gives :
+    thread_outcome paired 0 100 (done 2 ++ Value (Int (pos 7)) ∷ done 2)
+    ≡ outcome
+    (begins ++ act.Read (record { object = 1; thread = 0; offset = 4 }) false ∷ ends) 0 (told.Ended (pos 7))
+unfolding thread_outcome most_calls ask notify wait begin_call end_call open_block close_block
+    cast member load
+paired-gives = refl
+
+-- `(&x)->i`
+abbrev second_behind : Expr
+second_behind =
+    let p = address_of (shared shared_pair 1) in
+    Is here (attr pair_facts (n.MemberBehind (attr_of p) (codes "i"))) (t.MemberBehind p 1)
+
+abbrev paired_behind : Checked
+paired_behind =
+    with_structs pairs
+    (program 1 (shared_object shared_pair 1 ∷ []) (main (block [] (gives second_behind ∷ [])) ∷ []))
+
+paired_behind-gives :
+    thread_outcome paired_behind 0 100 (done 2 ++ Value (Int (pos 7)) ∷ done 2)
+    ≡ outcome
+    (begins ++ act.Read (record { object = 1; thread = 0; offset = 4 }) false ∷ ends) 0 (told.Ended (pos 7))
+unfolding thread_outcome most_calls ask notify wait begin_call end_call open_block close_block
+    cast member load
+paired_behind-gives = refl
+
+-- ---- size operators, and a fence
+
+abbrev measured : SizeOperator → Expr → Expr
+measured o a = Is here (attr facts (n.SizeOf o (attr_of a))) (t.SizeOf o a)
+
+-- `shared [3] int a[20]; int main(void){return sizeof(1 / 0) + upc_blocksizeof(a);}`: no operand is evaluated.
+abbrev sized : Checked
+sized =
+    program 4 (shared_object (blocked_ints 3 20) 1 ∷ [])
+    (main
+    (block []
+    (gives (operation op.Add (measured size.Bytes (operation op.Divide (num (pos 1)) (num (pos 0))))
+    (measured size.BlockSize (shared (blocked_ints 3 20) 1))) ∷ []))
+    ∷ [])
+
+sized-gives : thread_outcome sized 0 100 (done 4) ≡ comes_to (pos 7)
+unfolding thread_outcome most_calls ask notify wait begin_call end_call open_block close_block
+    operate cast
+sized-gives = refl
+
+-- `int main(void){upc_fence;return 0;}`
+abbrev fenced : Checked
+fenced = program 1 [] (main (block [] (stands t.Fence ∷ gives (num (pos 0)) ∷ [])) ∷ [])
+
+fenced-ends : thread_outcome fenced 0 100 (done 5) ≡ outcome (begins ++ act.Fence ∷ ends) 0 (told.Ended (pos 0))
+unfolding thread_outcome most_calls ask notify wait begin_call end_call open_block close_block
+    fence cast
+fenced-ends = refl

@@ -238,3 +238,7 @@ program threads objects functions = record {
   functions =
       functions;
 }
+
+-- The program with these structs.
+abbrev pub with_structs : Structs → Checked → Checked
+with_structs s x = record x { structs = s }

@@ -1,15 +1,20 @@
 -- What holds of every thread of every program.
-use Rattle.std.specs.Prelude.{◌≡◌, ◌⊎◌, ℕ, ◌<◌, ◌≤◌, ℤ, true, false, List, [], ◌∷◌, ◌++◌, length, Option}
+use Rattle.std.specs.Prelude.{◌≡◌, ◌⊎◌, ℕ, ◌+◌, ◌*◌, ◌<◌, ◌≤◌, ℤ, Bool, true, false, List, [], ◌∷◌, ◌++◌, length}
+use Rattle.std.specs.Prelude.{Option}
 use Rattle.block_layout.specs.declared.kind.Kind.{Kind}
 use Rattle.upc_values.specs.declared.action.Action.{Action}
 use Rattle.upc_values.specs.declared.action.Reply.{Reply}
 use Rattle.upc_values.specs.declared.record.ToldEnd.{ToldEnd}
 use Rattle.upc_values.specs.declared.scalar.Mark.TheVariants.{Start, Finish}
-use Rattle.upc_values.specs.declared.action.Action.TheVariants.{Notify, Wait}
+use Rattle.upc_values.specs.declared.action.Action.TheVariants.{Notify, Wait, Beat, Read}
 use Rattle.upc_values.specs.declared.record.ToldEnd.TheVariants.{Wants, Misfit, Ended, OutOfTicks}
+use Rattle.upc_values.specs.declared.journal.Entry.{Entry}
 use Rattle.upc_values.specs.Outcomes.{Outcome}
-use Rattle.upc_values.specs.Formed.{fits}
-use Rattle.typed_tree.specs.Programs.{Checked}
+use Rattle.upc_values.specs.Formed.{fits, fits_after}
+use Rattle.upc_values.specs.Openings.{Opening}
+use Rattle.upc_values.specs.Records.{beats}
+use Rattle.typed_tree.specs.Beginnings.{opening_in}
+use Rattle.typed_tree.specs.Programs.{Checked, start_of}
 use Rattle.thread_steps.specs.States.{Thread, Res, Val, Over, Unfinished}
 use Rattle.source_meaning.specs.Running.{running}
 use Rattle.thread_steps.specs.Fronts.{Begins, IsInTurn}
@@ -110,3 +115,39 @@ pub record AllKeepTurns (program : Checked) : Type 0 where
   pub each :
       (thread budget : ℕ) (replies : List Reply) → 0 < budget
       → KeepsTurns (thread_outcome program thread budget replies)
+
+-- A Beat is wanted at a multiple of 1,024 ticks, where each such multiple before it had its own.
+pub record BeatsInTime (outcome : List Reply → Outcome) : Type 0 where
+  pub ticks : (rs : List Reply) → (outcome rs).«end» ≡ Wants Beat
+      → (outcome rs).ticks ≡ 1024 * (beats (outcome rs).actions + 1)
+
+-- So does each thread of a program.
+pub record AllBeatInTime (program : Checked) : Type 0 where
+  pub each : (thread budget : ℕ) → BeatsInTime (thread_outcome program thread budget)
+
+-- The shared part of what a program begins with.
+abbrev pub opening_of : Checked → Opening
+opening_of program = opening_in program.threads (start_of program)
+
+abbrev pub is_read : Action → Bool
+is_read (Read l strict) = true
+is_read a = false
+
+-- On no reply nothing is done. A reply that fits the wanted action adds it to what was done, and nothing else; a reply
+-- to a read fits by the kind of the cell that the thread reads, any other by what the action is, whatever happened
+-- before.
+pub record GoesOn (o : Opening) (outcome : List Reply → Outcome) : Type 0 where
+  pub begins : (outcome []).actions ≡ []
+  pub goes :
+      (rs : List Reply) (before : List Entry) (a : Action) (r : Reply) → (outcome rs).«end» ≡ Wants a
+      → is_read a ≡ false → fits_after o before a r ≡ true
+      → (outcome (rs ++ r ∷ [])).actions ≡ (outcome rs).actions ++ a ∷ []
+  pub reads :
+      (rs : List Reply) (a : Action) → (outcome rs).«end» ≡ Wants a
+      → (kind : Option Kind)
+      × ((r : Reply) → fits o.threads o.shapes kind a r ≡ true
+      → (outcome (rs ++ r ∷ [])).actions ≡ (outcome rs).actions ++ a ∷ [])
+
+-- So does each thread of a program, with a budget of at least one tick.
+pub record AllGoOn (program : Checked) : Type 0 where
+  pub each : (thread budget : ℕ) → 0 < budget → GoesOn (opening_of program) (thread_outcome program thread budget)

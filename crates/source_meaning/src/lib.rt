@@ -2,7 +2,8 @@
 #![tactic(auto)]
 
 ghost use Rattle.typed_tree.specs.Programs.{Checked};
-ghost use Rattle.source_meaning.specs.Laws.{AllAreFramed, AllKeepBudgets, AllKeepTurns, AllTakeReplies, IsTotal};
+ghost use Rattle.source_meaning.specs.Laws.{AllAreFramed, AllBeatInTime, AllGoOn, AllKeepBudgets, AllKeepTurns};
+ghost use Rattle.source_meaning.specs.Laws.{AllTakeReplies, IsTotal};
 
 /// Every thread of every program comes to a value or to its end, where its budget has at least one tick.
 #[tactic(auto, using(crate::proofs::Finished::is_total))]
@@ -33,4 +34,16 @@ pub fn budgets_are_kept()
 #[tactic(auto, using(crate::proofs::InTurn::all_keep_turns))]
 pub fn notifies_and_waits_alternate()
     ensures { (program : Checked) → AllKeepTurns program }
+{}
+
+/// Where a thread wants a Beat, its ticks are 1,024 for each Beat that it has done, and 1,024 more.
+#[tactic(auto, using(crate::proofs::Beats::all_beat_in_time))]
+pub fn beats_come_in_time()
+    ensures { (program : Checked) → AllBeatInTime program }
+{}
+
+/// Every thread begins with nothing done, and each reply that fits the wanted action adds just this action.
+#[tactic(auto, using(crate::proofs::Going::all_go_on))]
+pub fn fitting_replies_are_taken()
+    ensures { (program : Checked) → AllGoOn program }
 {}

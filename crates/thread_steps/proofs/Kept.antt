@@ -78,14 +78,14 @@ module _ (P : Property) (H : IsBasic P) (n d : ℕ) where
       → P n d B (m >>= f)
   basic_first {A = A} {B = B} m f pm pf = H.of_bind n d A B m f pm pf
 
-  basic_choose_kept : {A : Type 0} (test : Bool) (m k : Doing A) → P n d A m → P n d A k → P n d A (choose test m k)
+  pub basic_choose_kept : {A : Type 0} (test : Bool) (m k : Doing A) → P n d A m → P n d A k → P n d A (choose test m k)
   basic_choose_kept true m k pm pk = pm
   basic_choose_kept false m k pm pk = pk
 
   basic_skip_kept : P n d (Unit {0}) skip
   basic_skip_kept = H.of_give n d (Unit {0}) tt
 
-  basic_fault_if_kept : (test : State → Bool) (code : ℕ) (at : Place) → Ignores test
+  pub basic_fault_if_kept : (test : State → Bool) (code : ℕ) (at : Place) → Ignores test
       → P n d (Unit {0}) (fault_if test code at)
   basic_fault_if_kept test code at ig =
       basic_first (know test) (λ v. choose v (fault code at) skip) (H.of_know n d Bool test ig) (λ v.
@@ -95,19 +95,19 @@ module _ (P : Property) (H : IsBasic P) (n d : ℕ) where
   basic_valued_kept {A = A} at (Ok v) = H.of_give n d A v
   basic_valued_kept {A = A} at (Err code) = H.of_over n d A (told.Fault code at) tt
 
-  basic_unless_refused_kept : (at : Place) (r : Reply) → P n d (Unit {0}) (a.unless_refused at r)
+  pub basic_unless_refused_kept : (at : Place) (r : Reply) → P n d (Unit {0}) (a.unless_refused at r)
   basic_unless_refused_kept at reply.Done = basic_skip_kept
   basic_unless_refused_kept at (reply.Value v) = basic_skip_kept
   basic_unless_refused_kept at (reply.Flag v) = basic_skip_kept
   basic_unless_refused_kept at (reply.Refused code) = H.of_over n d (Unit {0}) (told.Fault code at) tt
 
-  basic_load_private_kept : (kind : Kind) (at : Place) (q : LocalPtr) → P n d Value (x.load_private kind at q)
+  pub basic_load_private_kept : (kind : Kind) (at : Place) (q : LocalPtr) → P n d Value (x.load_private kind at q)
   basic_load_private_kept kind at q =
       basic_first (know (λ σ. loaded q kind σ.store)) (valued at)
       (H.of_know n d (Result Value ℕ) (λ σ. loaded q kind σ.store) (λ σ as_ rs. refl)) (λ r.
       basic_valued_kept at r)
 
-  basic_save_private_kept : (kind : Kind) (at : Place) (q : LocalPtr) (v : Value)
+  pub basic_save_private_kept : (kind : Kind) (at : Place) (q : LocalPtr) (v : Value)
       → P n d (Unit {0}) (x.save_private kind at q v)
   basic_save_private_kept kind at q v = H.of_store n d at (λ s. stored q kind (kept kind v) s)
       (λ s. stored_depth q kind (kept kind v) s)

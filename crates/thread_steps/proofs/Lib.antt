@@ -5,3 +5,4 @@ pub mod Following
 pub mod Barriers
 pub mod Orderly
 pub mod Turning
+pub mod Beating
