@@ -67,7 +67,7 @@ while (MYTHREAD * (1 - y)) {y = 1; printf(\"%d\\n\", x);} return 0;}";
 
 const ENDLESS: &[u8] = b"int main(){while (1) {} return 0;}";
 
-const RUNS: [Run; 7] = [
+const RUNS: [Run; 8] = [
     // A relaxed read of a pending location gives the pending value and is no entry; another read passes the pending
     // writes.
     Run {
@@ -122,6 +122,19 @@ const RUNS: [Run; 7] = [
             ("halted", 3, 1024),
             ("halted", 3, 1024),
         ],
+        printed: &[],
+    },
+    // The second stands at its Beat when the first has spent its budget, and does not go on, whatever is picked then.
+    Run {
+        source: ENDLESS,
+        limits: Limits {
+            threads: 2,
+            budget: 2000,
+            actions: 100,
+        },
+        picks: &[0, 1, 0, 1, 1, 0, 0, 1, 1],
+        history: &[],
+        strands: &[("budget", 3, 2000), ("halted", 3, 1024)],
         printed: &[],
     },
     // A thread that wants one action more than it may have.

@@ -1,5 +1,5 @@
 -- A run of tasks: at a step, at its end, and as a journal.
-use Rattle.std.proofs.Common.{◌≡◌, ◌≢◌, ℕ, ◌<◌, ◌≤◌, ◌*◌, true, false, List, map, length, Option, Some, None, is_some, refl, sym, ap, subst, ◌∙◌, inl, inr, get_or, set, get_or-set_same, get_or-set_other}
+use Rattle.std.proofs.Common.{◌≡◌, ◌≢◌, ℕ, ◌<◌, ◌≤◌, ◌*◌, true, false, List, [], map, length, Option, Some, None, is_some, refl, sym, ap, subst, ◌∙◌, inl, inr, get_or, set, get_or-set_same, get_or-set_other}
 use Rattle.std.proofs.lemmas.Bool.{cases_eq, false≢true}
 use Rattle.std.proofs.lemmas.List.{length-set, length-map, get_or-map}
 use Rattle.upc_values.specs.declared.action.Action.{Action}
@@ -22,8 +22,9 @@ use Rattle.serial_core.specs.declared.task.Task.{Task}
 use Rattle.serial_core.specs.declared.task.Pause.{Pause}
 use Rattle.serial_core.specs.declared.task.Pause.TheVariants as pauses
 use Rattle.serial_core.specs.Sources.{Outcomes}
+use Rattle.serial_core.specs.Course.{Standing}
 use Rattle.serial_core.specs.Kept.{AreLimits, IsKept, IsSame, Grew, Paused, is_given, outcome_of, settled, Holds, end_or, strand_of}
-use Rattle.serial_core.specs.Runs.{IsAt, HasOwnEnd, IsRunning, IsStart, IsNew, AreSame, Rested, Stops, Wanting, Given, IsOver, AreEach, halted, halted_end, locked, locked_end, CanLock}
+use Rattle.serial_core.specs.Runs.{IsAt, HasOwnEnd, IsIdle, IsRunning, IsStart, IsNew, AreSame, Rested, Stops, Wanting, Given, IsOver, AreEach, halted, halted_end, locked, locked_end, CanLock}
 use Rattle.std.proofs.lemmas.List.Sums.{count_by_more_yes, count_by_more_no}
 use Rattle.std.proofs.Common.{take, ◌+◌}
 use Rattle.std.specs.Prelude.{not}
@@ -41,8 +42,8 @@ paused-own pauses.Beat k h e q = absurd (let z : Some e ≡ None = sym q ∙ h.0
 paused-own pauses.Stalled k h e q = absurd (let z : Some e ≡ None = sym q ∙ h.0 in cc)
 paused-own pauses.Finished k h e q = let z : h.0 ≡ e = cc in subst (λ f. is_given f ≡ false) z h.2
 
-pub running-set : (op : Opening) (p : First) (src : Outcomes) (t : ℕ) (seen later : List Entry) (ks : List Task) (k : Task) → IsRunning op p src seen ks → t < length ks → Grew t seen later → IsAt op p src later t k → HasOwnEnd k → IsRunning op p src later (set ks t k)
-running-set op p src t seen later ks k r lt g a o = record {
+pub running-set : (op : Opening) (p : First) (src : Outcomes) (t : ℕ) (seen later : List Entry) (ks : List Task) (k : Task) → IsRunning op p src seen ks → t < length ks → Grew t seen later → IsAt op p src later t k → HasOwnEnd k → IsIdle k → IsRunning op p src later (set ks t k)
+running-set op p src t seen later ks k r lt g a o idle = record {
   many = length-set ks t k ∙ r.many;
   tasks = λ i d l. elim (cases_eq i t) as (λ z. IsAt op p src later i (get_or (set ks t k) i d)) [
     | inl e ↦ subst (λ j. IsAt op p src later j (get_or (set ks t k) j d)) (sym e) (subst (IsAt op p src later t) (sym (get_or-set_same ks t k d lt)) a)
@@ -51,6 +52,10 @@ running-set op p src t seen later ks k r lt g a o = record {
   own = λ i d l. elim (cases_eq i t) as (λ z. HasOwnEnd (get_or (set ks t k) i d)) [
     | inl e ↦ subst (λ j. HasOwnEnd (get_or (set ks t k) j d)) (sym e) (subst HasOwnEnd (sym (get_or-set_same ks t k d lt)) o)
     | inr ne ↦ subst HasOwnEnd (sym (get_or-set_other ks t i k d ne)) (r.own i d (subst (λ m. i < m) (length-set ks t k) l))
+  ];
+  idle = λ i d l. elim (cases_eq i t) as (λ z. IsIdle (get_or (set ks t k) i d)) [
+    | inl e ↦ subst (λ j. IsIdle (get_or (set ks t k) j d)) (sym e) (subst IsIdle (sym (get_or-set_same ks t k d lt)) idle)
+    | inr ne ↦ subst IsIdle (sym (get_or-set_other ks t i k d ne)) (r.idle i d (subst (λ m. i < m) (length-set ks t k) l))
   ];
 }
 
@@ -269,8 +274,11 @@ start-of op p src l ks many new = record {
     many = many;
     tasks = λ i d lt. record { thread = (new i d lt).thread; kept = (new i d lt).kept };
     own = λ i d lt e q. absurd (none-some (get_or ks i d).«end» e (new i d lt).opened q);
+    idle = λ i d lt q s. absurd (false≢true (sym (ap is_some (new i d lt).waits) ∙ s));
   };
   limits = λ i d lt. (new i d lt).limits;
+  fresh = λ i d lt. ap (λ z. let s : Standing = record { items = z; «end» = (get_or ks i d).«end» } in s) (new i d lt).empty
+      ∙ ap (λ z. let s : Standing = record { items = []; «end» = z } in s) (new i d lt).opened;
 }
 
 -- one task more, with and without an end

@@ -1,6 +1,6 @@
 -- What a run of tasks keeps.
-use Rattle.std.specs.Prelude.{ℕ, ◌≡◌, ◌≢◌, ◌<◌, true, false, List, [], length, slice_index_or, Option, Some, None}
-use Rattle.std.specs.Prelude.{is_some, Bool, not, count_by, take, ◌%◌}
+use Rattle.std.specs.Prelude.{ℕ, ◌≡◌, ◌≢◌, ◌<◌, true, false, List, [], length, map, slice_index_or, Option, Some}
+use Rattle.std.specs.Prelude.{None, is_some, Bool, not, count_by, take, ◌%◌}
 use Rattle.upc_values.specs.declared.action.Action.{Action}
 use Rattle.upc_values.specs.declared.record.End.{End}
 use Rattle.upc_values.specs.declared.record.End.TheVariants.{Halted, Deadlocked}
@@ -16,7 +16,8 @@ use Rattle.first_language.specs.declared.machine.Wish.TheVariants.{Act}
 use Rattle.serial_core.specs.declared.limits.Limits.{Limits}
 use Rattle.serial_core.specs.declared.task.Task.{Task}
 use Rattle.serial_core.specs.Sources.{Outcomes}
-use Rattle.serial_core.specs.Kept.{IsKept, IsSame, IsPausing, is_given}
+use Rattle.serial_core.specs.Kept.{IsKept, IsSame, IsPausing, is_given, strand_of}
+use Rattle.serial_core.specs.Course.{Standing, Moment, GoesOut, AreOf}
 
 -- the task of thread i of the program p, after the entries seen
 pub record IsAt (o : Opening) (p : First) (f : Outcomes) (seen : List Entry) (i : ℕ) (k : Task) : Type 0 where
@@ -27,11 +28,28 @@ pub record IsAt (o : Opening) (p : First) (f : Outcomes) (seen : List Entry) (i 
 abbrev pub HasOwnEnd : Task → Type 0
 HasOwnEnd k = (e : End) → k.«end» ≡ Some e → is_given e ≡ false
 
+-- a task without an end has a wish only where it stands at a Stall
+abbrev pub IsIdle : Task → Type 0
+IsIdle k = k.«end» ≡ None → is_some k.wish ≡ true → is_stall (last_item k.items.items) ≡ true
+
+-- How a task's thread stands.
+abbrev pub standing_of : Task → Standing
+standing_of k = record { items = k.items.items; «end» = k.«end» }
+
+-- The moment of a run that the tasks and the world have come to.
+abbrev pub moment_of : Opening × List Entry → List Task → Moment
+moment_of w ks = record { threads = map standing_of ks; history = w.1 }
+
+-- The task of thread i is so related to what it was.
+abbrev pub GoesAt : (Standing → Standing → Type 0) → ℕ → List Task → List Task → Type 0
+GoesAt R i ks ms = (d : Task) → R (standing_of (slice_index_or ks i d)) (standing_of (slice_index_or ms i d))
+
 -- a run of p that goes on: one task for each thread, and none was given its end
 pub record IsRunning (o : Opening) (p : First) (f : Outcomes) (seen : List Entry) (ks : List Task) : Type 0 where
   pub many : length ks ≡ o.threads
   pub tasks : Numbered (λ i k. IsAt o p f seen i k) ks
   pub own : Numbered (λ i k. HasOwnEnd k) ks
+  pub idle : Numbered (λ i k. IsIdle k) ks
 
 -- a run of p goes on, whatever its outcomes are
 abbrev pub GoesOn : First → Opening × List Entry → List Task → Type 0
@@ -46,12 +64,15 @@ pub record IsNew (o : Opening) (p : First) (f : Outcomes) (l : Limits) (i : ℕ)
   pub thread : k.thread ≡ i
   pub limits : k.limits ≡ l
   pub opened : k.«end» ≡ None
+  pub empty : k.items.items ≡ []
+  pub waits : k.wish ≡ None
   pub kept : IsKept o p f [] k
 
 -- a run of p that begins
 pub record IsStart (o : Opening) (p : First) (f : Outcomes) (l : Limits) (ks : List Task) : Type 0 where
   pub running : IsRunning o p f [] ks
   pub limits : Numbered (λ i k. k.limits ≡ l) ks
+  pub fresh : Numbered (λ i k. standing_of k ≡ record { items = []; «end» = None }) ks
 
 -- the same threads and limits
 pub record AreSame (ks ms : List Task) : Type 0 where
@@ -148,3 +169,8 @@ locked k = record k { «end» = locked_end k.wish k.«end» }
 -- the task may be given the end Deadlocked
 abbrev pub CanLock : Task → Type 0
 CanLock k = (a : Action) × (k.wish ≡ Some (Act a)) × (is_stall (last_item k.items.items) ≡ true)
+
+-- From the one moment the run goes out to a last one, of which the tasks are the strands, with their ends.
+abbrev pub EndsOut : Opening × List Entry → List Task → Opening × List Entry → List Task → Type 0
+EndsOut w ks x ms = (last : Moment) × GoesOut (moment_of w ks) last
+    × ((f : Outcomes) → AreOf last x.1 (map (strand_of f) ms))

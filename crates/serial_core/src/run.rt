@@ -1,7 +1,7 @@
 //! Runs of all tasks on one thread.
 
-ghost use Rattle.std.specs.Prelude.{◌≡◌, ◌<◌, ◌≤◌, ◌*◌, List, [], true, false, Some, None, is_some, IfOk, IfSome};
-ghost use Rattle.std.specs.Prelude.{IsNone, MatchOption, length, map, slice_index_or, vec_capacity};
+ghost use Rattle.std.specs.Prelude.{ℕ, ◌≡◌, ◌<◌, ◌≤◌, ◌*◌, List, [], true, false, Some, None, is_some, IfOk, IfSome};
+ghost use Rattle.std.specs.Prelude.{IsNone, Option, MatchOption, length, map, slice_index_or, vec_capacity};
 ghost use Rattle.upc_values.specs.declared.record.End.{End};
 ghost use Rattle.upc_values.specs.declared.journal.Entry.{Entry};
 ghost use Rattle.upc_values.specs.Lists.{Numbered};
@@ -11,13 +11,18 @@ ghost use Rattle.upc_values.specs.Ends.{AreSpent};
 ghost use Rattle.upc_values.specs.Sound.{IsSound};
 ghost use Rattle.upc_values.specs.Waits.{WaitsFollow};
 ghost use Rattle.first_language.specs.declared.tree.First.{First};
+ghost use Rattle.first_language.specs.declared.machine.Wish.{Wish};
 ghost use Rattle.first_language.specs.Meaning.{meaning, opening_of};
 ghost use Rattle.serial_core.specs.declared.task.Task.{Task};
 ghost use Rattle.serial_core.specs.Sources.{Outcomes, HasOutcomes};
-ghost use Rattle.serial_core.specs.Kept.{AreLimits, IsKept, Paused, strand_of};
-ghost use Rattle.serial_core.specs.Runs.{IsAt, IsRunning, GoesOn, StaysRunning, IsStart, AreSame, IsOpenAt};
-ghost use Rattle.serial_core.specs.Runs.{OthersStay, IsChosen, open_among, Rested, Stops, StopsAt, NoneStops};
-ghost use Rattle.serial_core.specs.Runs.{Wanting, IsOver, AreEach, halted, locked, CanLock};
+ghost use Rattle.serial_core.specs.Kept.{AreLimits, IsKept, Paused, Adds, strand_of};
+ghost use Rattle.serial_core.specs.Course as course;
+ghost use Rattle.serial_core.specs.Course.{Grows, Steps, TakesPart, InRound, ToRest};
+ghost use Rattle.serial_core.specs.Course.{Obeys, ArePicked, IsRound, ComesToRest, IsCourse};
+ghost use Rattle.serial_core.specs.Runs.{standing_of, moment_of, GoesAt, EndsOut, IsAt, IsRunning, GoesOn};
+ghost use Rattle.serial_core.specs.Runs.{StaysRunning, IsStart, AreSame, IsOpenAt, OthersStay, IsChosen, open_among};
+ghost use Rattle.serial_core.specs.Runs.{Rested, Stops, StopsAt, NoneStops, Wanting, IsOver, AreEach, halted, locked};
+ghost use Rattle.serial_core.specs.Runs.{CanLock};
 
 use crate::limits::Limits;
 use crate::task::{Pause, Task};
@@ -54,6 +59,10 @@ fn turn(
     ensures same { IfOk result (λ _. AreSame tasks.old.items tasks.new.items) }
     ensures others { IfOk result (λ _. OthersStay at tasks.old.items tasks.new.items) }
     ensures pause { IfOk result (λ p. (d : Task) → Paused p (slice_index_or tasks.new.items at d)) }
+    ensures adds { IfOk result (λ p. (d : Task) → (wish : Option Wish) × Adds p wish
+        (slice_index_or tasks.old.items at d).items.items (slice_index_or tasks.new.items at d).items.items) }
+    ensures steps { IfOk result (λ _. GoesAt Steps at tasks.old.items tasks.new.items) }
+    ensures grows { IfOk result (λ _. Grows world.old.1 world.new.1) }
     ensures opening { IfOk result (λ _. world.new.0 ≡ world.old.0) }
 {
     let task = &mut tasks[at];
@@ -76,6 +85,8 @@ fn round<R: Wait>(
     ensures same { IfOk result (λ _. AreSame tasks.old.items tasks.new.items) }
     ensures others { IfOk result (λ _. OthersStay at tasks.old.items tasks.new.items) }
     ensures rested { IfOk result (λ _. (d : Task) → Rested (slice_index_or tasks.new.items at d)) }
+    ensures part { IfOk result (λ _. GoesAt TakesPart at tasks.old.items tasks.new.items) }
+    ensures grows { IfOk result (λ _. Grows world.old.1 world.new.1) }
     ensures opening { IfOk result (λ _. world.new.0 ≡ world.old.0) }
 {
     for _ in rt.forever() {
@@ -112,30 +123,94 @@ fn visit<R: Wait>(
     ensures same { IfOk result (λ _. AreSame tasks.old.items tasks.new.items) }
     ensures others { IfOk result (λ _. OthersStay at tasks.old.items tasks.new.items) }
     ensures rested { IfOk result (λ _. (d : Task) → Rested (slice_index_or tasks.new.items at d)) }
+    ensures part { IfOk result (λ _. GoesAt InRound at tasks.old.items tasks.new.items) }
+    ensures grows { IfOk result (λ _. Grows world.old.1 world.new.1) }
     ensures opening { IfOk result (λ _. world.new.0 ≡ world.old.0) }
 {
-    if is_open(tasks, at) {
-        round(rt, program, tasks, world, at)?;
+    if !is_open(tasks, at) {
+        return Ok(());
     }
+    round(rt, program, tasks, world, at)?;
     Ok(())
 }
 
-// A round of all tasks, by number of thread.
+// A round of all tasks, by number of thread. None is begun once an end has ended the run.
 fn round_all<R: Wait>(
     rt: &R,
     program: &First,
     tasks: &mut Vec<Task>,
     world: &mut World,
 ) -> Result<(), AllocError>
-    requires { GoesOn program.now world.old tasks.old.items }
+    requires running { GoesOn program.now world.old tasks.old.items }
+    requires quiet { NoneStops tasks.old.items }
     ensures running { IfOk result (λ _. StaysRunning program.now world.old tasks.old.items world.new tasks.new.items) }
     ensures same { IfOk result (λ _. AreSame tasks.old.items tasks.new.items) }
     ensures rested { IfOk result (λ _. Numbered (λ _ k. Rested k) tasks.new.items) }
+    ensures round { IfOk result (λ _.
+        IsRound (moment_of world.old tasks.old.items) (moment_of world.new tasks.new.items)) }
     ensures opening { IfOk result (λ _. world.new.0 ≡ world.old.0) }
 {
     let many = tasks.len();
     for at in 0..many {
         visit(rt, program, tasks, world, at)?;
+    }
+    Ok(())
+}
+
+// Whether the task has its end, or stands at a Beat or a Stall.
+fn is_at_rest(tasks: &Vec<Task>, at: usize) -> bool
+    requires { at < length tasks.now.items }
+    ensures { (d : Task) → result ≡ course.rests (standing_of (slice_index_or tasks.now.items at d)) }
+{
+    let task = &tasks[at];
+    task.has_ended() || task.is_pausing()
+}
+
+// One task goes on to a Beat, a Stall or its end, if it is not at rest.
+fn finish<R: Wait>(
+    rt: &R,
+    program: &First,
+    tasks: &mut Vec<Task>,
+    world: &mut World,
+    at: usize,
+) -> Result<(), AllocError>
+    requires running { GoesOn program.now world.old tasks.old.items }
+    requires at { at < length tasks.old.items }
+    ensures running { IfOk result (λ _. StaysRunning program.now world.old tasks.old.items world.new tasks.new.items) }
+    ensures same { IfOk result (λ _. AreSame tasks.old.items tasks.new.items) }
+    ensures others { IfOk result (λ _. OthersStay at tasks.old.items tasks.new.items) }
+    ensures rested { IfOk result (λ _. (d : Task) → Rested (slice_index_or tasks.new.items at d)) }
+    ensures part { IfOk result (λ _. GoesAt ToRest at tasks.old.items tasks.new.items) }
+    ensures grows { IfOk result (λ _. Grows world.old.1 world.new.1) }
+    ensures opening { IfOk result (λ _. world.new.0 ≡ world.old.0) }
+{
+    if is_at_rest(tasks, at) {
+        return Ok(());
+    }
+    round(rt, program, tasks, world, at)?;
+    Ok(())
+}
+
+// An end has ended the run: each task that is not at rest goes on to a Beat, a Stall or its end.
+fn finish_all<R: Wait>(
+    rt: &R,
+    program: &First,
+    tasks: &mut Vec<Task>,
+    world: &mut World,
+) -> Result<(), AllocError>
+    requires running { GoesOn program.now world.old tasks.old.items }
+    requires stopped { (u : ℕ) × StopsAt tasks.old.items u }
+    ensures running { IfOk result (λ _. StaysRunning program.now world.old tasks.old.items world.new tasks.new.items) }
+    ensures same { IfOk result (λ _. AreSame tasks.old.items tasks.new.items) }
+    ensures rested { IfOk result (λ _. Numbered (λ _ k. Rested k) tasks.new.items) }
+    ensures stopped { IfOk result (λ _. (u : ℕ) × StopsAt tasks.new.items u) }
+    ensures rest { IfOk result (λ _.
+        ComesToRest (moment_of world.old tasks.old.items) (moment_of world.new tasks.new.items)) }
+    ensures opening { IfOk result (λ _. world.new.0 ≡ world.old.0) }
+{
+    let many = tasks.len();
+    for at in 0..many {
+        finish(rt, program, tasks, world, at)?;
     }
     Ok(())
 }
@@ -262,11 +337,13 @@ fn rounds<R: Wait>(
     tasks: &mut Vec<Task>,
     world: &mut World,
 ) -> Result<(), AllocError>
-    requires { GoesOn program.now world.old tasks.old.items }
+    requires running { GoesOn program.now world.old tasks.old.items }
+    requires quiet { NoneStops tasks.old.items }
     ensures over { IfOk result (λ _. (f : Outcomes)
         → IsRunning world.old.0 program.now f world.old.1 tasks.old.items
         → IsOver world.new.0 program.now f world.new.1 tasks.new.items) }
     ensures same { IfOk result (λ _. AreSame tasks.old.items tasks.new.items) }
+    ensures out { IfOk result (λ _. EndsOut world.old tasks.old.items world.new tasks.new.items) }
     ensures opening { IfOk result (λ _. world.new.0 ≡ world.old.0) }
 {
     for _ in rt.forever() {
@@ -284,6 +361,31 @@ fn rounds<R: Wait>(
         }
     }
     unreachable!()
+}
+
+// After the picks: rounds; but where an end has ended the run already, none is begun, and each task comes to its rest.
+fn go_out<R: Wait>(
+    rt: &R,
+    alloc: Global,
+    program: &First,
+    tasks: &mut Vec<Task>,
+    world: &mut World,
+) -> Result<(), AllocError>
+    requires { GoesOn program.now world.old tasks.old.items }
+    ensures over { IfOk result (λ _. (f : Outcomes)
+        → IsRunning world.old.0 program.now f world.old.1 tasks.old.items
+        → IsOver world.new.0 program.now f world.new.1 tasks.new.items) }
+    ensures same { IfOk result (λ _. AreSame tasks.old.items tasks.new.items) }
+    ensures out { IfOk result (λ _. EndsOut world.old tasks.old.items world.new tasks.new.items) }
+    ensures opening { IfOk result (λ _. world.new.0 ≡ world.old.0) }
+{
+    if stopped(tasks).is_some() {
+        finish_all(rt, program, tasks, world)?;
+        halt_all(tasks);
+        return Ok(());
+    }
+    rounds(rt, alloc, program, tasks, world)?;
+    Ok(())
 }
 
 fn count_open(tasks: &Vec<Task>) -> usize
@@ -319,6 +421,30 @@ fn chosen(tasks: &Vec<Task>, pick: u32) -> Option<usize>
     unreachable!()
 }
 
+// One step of the task that a pick chooses, and whether there is one.
+fn obey(
+    program: &First,
+    tasks: &mut Vec<Task>,
+    world: &mut World,
+    pick: u32,
+) -> Result<bool, AllocError>
+    requires running { GoesOn program.now world.old tasks.old.items }
+    requires quiet { NoneStops tasks.old.items }
+    ensures running { IfOk result (λ _. StaysRunning program.now world.old tasks.old.items world.new tasks.new.items) }
+    ensures same { IfOk result (λ _. AreSame tasks.old.items tasks.new.items) }
+    ensures yes { IfOk result (λ moved. moved ≡ true
+        → Obeys pick (moment_of world.old tasks.old.items) (moment_of world.new tasks.new.items)) }
+    ensures no { IfOk result (λ moved. moved ≡ false
+        → (open_among tasks.old.items ≡ 0) × (tasks.new.items ≡ tasks.old.items) × (world.new ≡ world.old)) }
+    ensures opening { IfOk result (λ _. world.new.0 ≡ world.old.0) }
+{
+    let Some(at) = chosen(tasks, pick) else {
+        return Ok(false);
+    };
+    turn(program, tasks, world, at)?;
+    Ok(true)
+}
+
 // One step for each pick, while no end ends the run.
 fn pick_all(
     program: &First,
@@ -329,16 +455,18 @@ fn pick_all(
     requires { GoesOn program.now world.old tasks.old.items }
     ensures running { IfOk result (λ _. StaysRunning program.now world.old tasks.old.items world.new tasks.new.items) }
     ensures same { IfOk result (λ _. AreSame tasks.old.items tasks.new.items) }
+    ensures picked { IfOk result (λ _.
+        ArePicked picks.now (moment_of world.old tasks.old.items) (moment_of world.new tasks.new.items)) }
     ensures opening { IfOk result (λ _. world.new.0 ≡ world.old.0) }
 {
     for pick in picks {
         if stopped(tasks).is_some() {
             return Ok(());
         }
-        let Some(at) = chosen(tasks, *pick) else {
+        let moved = obey(program, tasks, world, *pick)?;
+        if !moved {
             return Ok(());
-        };
-        turn(program, tasks, world, at)?;
+        }
     }
     Ok(())
 }
@@ -360,6 +488,10 @@ fn strands_of(tasks: Vec<Task>, mut strands: Vec<Strand>) -> Vec<Strand>
 /// ends the run, or where all threads have ended, the other picks are passed over. Then rounds go by number of thread:
 /// in each, every thread without an end goes on to a Beat, a Stall or its end.
 ///
+/// Where an end has ended the run already after the picks, no round is begun: every thread that stands neither at a
+/// Beat
+/// nor at a Stall goes on to one, or to its end.
+///
 /// The journal is sound: each thread's record is what its source comes to on the recorded replies, and one legal
 /// history takes these records as the write buffers drain.
 pub fn run_by<R: Wait>(
@@ -378,6 +510,7 @@ pub fn run_by<R: Wait>(
         × (j.actions ≡ limits.actions)) }
     ensures waits { IfOk result (λ j. WaitsFollow limits.threads j.history) }
     ensures spent { IfOk result (λ j. AreSpent limits.budget j.strands) }
+    ensures course { IfOk result (λ j. IsCourse picks.now j) }
 {
     let declared = program.declared(alloc)?;
     let shapes = First::shapes(alloc)?;
@@ -391,7 +524,7 @@ pub fn run_by<R: Wait>(
     let mut tasks = make_all(alloc, program, limits)?;
     let strands = Vec::with_capacity(alloc, tasks.len())?;
     pick_all(program, &mut tasks, &mut world, picks)?;
-    rounds(rt, alloc, program, &mut tasks, &mut world)?;
+    go_out(rt, alloc, program, &mut tasks, &mut world)?;
     let strands = strands_of(tasks, strands);
     let history = world.take_history();
     Ok(Journal {

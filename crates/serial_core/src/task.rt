@@ -7,6 +7,7 @@ ghost use Rattle.upc_values.specs.declared.journal.Entry.{Entry};
 ghost use Rattle.upc_values.specs.Drain.{entries_of};
 ghost use Rattle.upc_values.specs.Openings.{Opening};
 ghost use Rattle.upc_values.specs.Records as records;
+ghost use Rattle.upc_values.specs.Ends as ends;
 ghost use Rattle.upc_values.specs.Ends.{OwnEnd};
 ghost use Rattle.first_language.specs.declared.tree.First.{First};
 ghost use Rattle.first_language.specs.declared.machine.Wish.TheVariants.{Act};
@@ -70,6 +71,22 @@ fn ends_with_stall(items: &[Item]) -> bool
     }
 }
 
+fn is_pause(item: &Item) -> bool
+    ensures { result ≡ ends.is_pause (Some item.now) }
+{
+    matches!(item, Item::Stall | Item::Did(Action::Beat, _))
+}
+
+// Whether the last item is a Beat or a Stall.
+fn ends_with_pause(items: &[Item]) -> bool
+    ensures { result ≡ ends.is_pause (records.last_item items.now) }
+{
+    match items.last() {
+        Some(item) => is_pause(item),
+        None => false,
+    }
+}
+
 fn is_beat(action: &Action) -> bool
     ensures { result ≡ records.is_beat action.now }
 {
@@ -103,6 +120,7 @@ impl Task {
             → HasOutcomes o program.now limits f → entries_of thread seen ≡ []
             → IsKept o program.now f seen k) }
         ensures new { IfOk result (λ k. (k.thread ≡ thread) × (k.limits ≡ limits) × (k.«end» ≡ None)) }
+        ensures fresh { IfOk result (λ k. (k.items.items ≡ []) × (k.wish ≡ None)) }
     {
         Ok(Task {
             machine: Machine::make(alloc, program, thread, limits.threads, limits.budget)?,
@@ -257,6 +275,13 @@ impl Task {
         ensures { result ≡ records.is_stall (records.last_item self.now.items.items) }
     {
         ends_with_stall(self.items.as_slice())
+    }
+
+    /// Whether the task's last item is a Beat or a Stall.
+    pub fn is_pausing(&self) -> bool
+        ensures { result ≡ ends.is_pause (records.last_item self.now.items.items) }
+    {
+        ends_with_pause(self.items.as_slice())
     }
 
     /// Gives a task that stands at a Beat or a Stall its end: Halted, or at a Stall Deadlocked with what it wants.

@@ -24,6 +24,8 @@ loop-thread-preserved c =
             thread = e.new.0 ∙ sym h.0;
             limits = e.new.1;
             opened = e.new.2;
+            empty = e.fresh.0;
+            waits = e.fresh.1;
             kept = e.kept o f [] has refl;
           } in
           subst (Numbered (λ i k. IsNew o p f l i k)) (sym is) (numbered-push (λ i k. IsNew o p f l i k) xs k (h.1 o f has) new),

@@ -1,5 +1,9 @@
 use Rattle.std.proofs.Common.{◌≡◌, ◌<◌, length}
-use Rattle.serial_core.specs.Runs.{StaysRunning, AreSame, IsOpenAt, OthersStay}
+use Rattle.std.specs.Prelude.{slice_index_or}
+use Rattle.serial_core.specs.declared.task.Task.{Task}
+use Rattle.serial_core.specs.Course.{Grows}
+use Rattle.serial_core.specs.Runs.{StaysRunning, AreSame, IsOpenAt, OthersStay, standing_of}
+use Rattle.serial_core.proofs.Standings.{Going}
 use Rattle.serial_core.proofs.run.round.Given as goal
 
 abbrev pub invariant-loop : goal.invariant-loop
@@ -9,5 +13,7 @@ invariant-loop g l = record {
   others : OthersStay l.at l.initial.tasks.items l.tasks.items;
   within : l.at < length l.tasks.items;
   is_open : IsOpenAt l.tasks.items l.at;
+  going : (d : Task) → Going (standing_of (slice_index_or l.initial.tasks.items l.at d)) (standing_of (slice_index_or l.tasks.items l.at d));
+  grows : Grows l.initial.world.1 l.world.1;
   opening : l.world.0 ≡ l.initial.world.0;
 }

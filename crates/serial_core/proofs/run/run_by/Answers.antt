@@ -1,4 +1,4 @@
-use Rattle.std.proofs.Common.{◌≡◌, List, [], refl, sym, subst, ap, ◌∙◌}
+use Rattle.std.proofs.Common.{◌≡◌, List, [], map, refl, sym, subst, ap, ◌∙◌}
 use Rattle.block_layout.specs.declared.place.ObjectRef.{ObjectRef}
 use Rattle.block_layout.specs.declared.kind.Shape.{Shape}
 use Rattle.upc_values.specs.declared.journal.Entry.{Entry}
@@ -12,10 +12,12 @@ use Rattle.first_language.specs.Meaning.{meaning, declared_of, opening_of}
 use Rattle.serial_core.specs.declared.limits.Limits.{Limits}
 use Rattle.serial_core.specs.declared.task.Task.{Task}
 use Rattle.serial_core.specs.Sources.{Outcomes, HasOutcomes}
-use Rattle.serial_core.specs.Kept.{AreLimits}
-use Rattle.serial_core.specs.Runs.{IsRunning, IsStart, IsOver}
+use Rattle.serial_core.specs.Kept.{AreLimits, strand_of}
+use Rattle.serial_core.specs.Course.{Moment, AreOf}
+use Rattle.serial_core.specs.Runs.{IsRunning, IsStart, IsOver, moment_of}
 use Rattle.serial_core.proofs.Sources.{first-outcomes, has-outcomes}
 use Rattle.serial_core.proofs.Running.{limits-of, over-sound, same-trans}
+use Rattle.serial_core.proofs.Standings.{outset-of}
 use Rattle.serial_core.proofs.Spending.{sound-spent}
 use Rattle.serial_core.proofs.run.run_by.Goals as goal
 
@@ -36,8 +38,8 @@ returns-clause-sound g c =
     let p = c.args.program.now in let l = c.args.limits in let o : Opening = opening_of p l.threads in
     let f : Outcomes = first-outcomes p l in
     let limits : AreLimits l = limits-of l c.requires.threads c.requires.budget c.requires.actions in
-    let start = c.in_ok-tasks.ensures in let picked = c.in_ok-pick_all.ensures in let went = c.in_ok-rounds.ensures in let took = c.take_history-history.ensures in
-    let ks = c.in_ok-tasks.tasks.items in let ms = c.rounds.new.tasks.items in let w = c.rounds.new.world in
+    let start = c.in_ok-tasks.ensures in let picked = c.in_ok-pick_all.ensures in let went = c.in_ok-go_out.ensures in let took = c.take_history-history.ensures in
+    let ks = c.in_ok-tasks.tasks.items in let ms = c.go_out.new.tasks.items in let w = c.go_out.new.world in
     let made : c.in_ok-world.world.0 ≡ o = c.in_ok-world.ensures.opening
     ∙ ap (λ z. opening_with l z c.as_slice-2.result.now) (c.as_slice.ensures.value ∙ c.in_ok-declared.ensures.objects)
     ∙ ap (opening_with l (declared_of p)) (c.as_slice-2.ensures.value ∙ c.in_ok-shapes.ensures) in
@@ -55,8 +57,8 @@ returns-clause-sound g c =
 pub returns-clause-waits : goal.returns-clause-waits
 returns-clause-waits g c =
     let p = c.args.program.now in let l = c.args.limits in let o : Opening = opening_of p l.threads in
-    let picked = c.in_ok-pick_all.ensures in let went = c.in_ok-rounds.ensures in let took = c.take_history-history.ensures in
-    let w = c.rounds.new.world in
+    let picked = c.in_ok-pick_all.ensures in let went = c.in_ok-go_out.ensures in let took = c.take_history-history.ensures in
+    let w = c.go_out.new.world in
     let opened : w.0 ≡ o = went.opening ∙ picked.opening ∙ c.in_ok-world.ensures.opening
     ∙ ap (λ z. opening_with l z c.as_slice-2.result.now) (c.as_slice.ensures.value ∙ c.in_ok-declared.ensures.objects)
     ∙ ap (opening_with l (declared_of p)) (c.as_slice-2.ensures.value ∙ c.in_ok-shapes.ensures) in
@@ -68,6 +70,32 @@ returns-clause-spent g c =
     let limits : AreLimits l = limits-of l c.requires.threads c.requires.budget c.requires.actions in
     let j : Journal = record { threads = l.threads; budget = l.budget; actions = l.actions; strands = c.from_vec.result; history = c.take_history-history.result } in
     sound-spent (opening_of p l.threads) (λ b t. meaning p t l.threads b) j (has-outcomes p l limits).sources (returns-clause-sound g c)
+
+pub returns-clause-course : goal.returns-clause-course
+returns-clause-course g c =
+    let p = c.args.program.now in let l = c.args.limits in let o : Opening = opening_of p l.threads in
+    let f : Outcomes = first-outcomes p l in
+    let limits : AreLimits l = limits-of l c.requires.threads c.requires.budget c.requires.actions in
+    let start = c.in_ok-tasks.ensures in let picked = c.in_ok-pick_all.ensures in let went = c.in_ok-go_out.ensures in let took = c.take_history-history.ensures in
+    let ks = c.in_ok-tasks.tasks.items in let w = c.go_out.new.world in
+    let made : c.in_ok-world.world.0 ≡ o = c.in_ok-world.ensures.opening
+    ∙ ap (λ z. opening_with l z c.as_slice-2.result.now) (c.as_slice.ensures.value ∙ c.in_ok-declared.ensures.objects)
+    ∙ ap (opening_with l (declared_of p)) (c.as_slice-2.ensures.value ∙ c.in_ok-shapes.ensures) in
+    let begun : IsStart o p f l ks = start o f (has-outcomes p l limits) in
+    let ended : IsOver w.0 p f w.1 c.go_out.new.tasks.items =
+    went.over f (picked.running f (begins p l c.in_ok-world.world ks limits made c.in_ok-world.ensures.empty start)) in
+    let strands : c.from_vec.result ≡ map (strand_of f) c.go_out.new.tasks.items =
+    c.from_vec.ensures ∙ c.strands_of-strands.ensures w.0 p f w.1 ended.tasks in
+    let last : Moment = went.out.0 in
+    record {
+      first = moment_of c.in_ok-world.world ks;
+      picked = moment_of c.pick_all.new.world c.pick_all.new.tasks.items;
+      last = last;
+      outset = outset-of l.threads c.in_ok-world.world ks begun.running.many begun.fresh c.in_ok-world.ensures.empty;
+      obeyed = picked.picked;
+      went = went.out.1;
+      out = subst (λ h. AreOf last h c.from_vec.result) (sym took.taken) (subst (AreOf last w.1) (sym strands) (went.out.2 f));
+    }
 
 pub make-requires : goal.make-requires
 make-requires g c =
@@ -86,8 +114,8 @@ pick_all-requires g c =
     ∙ ap (opening_with l (declared_of p)) (c.as_slice-2.ensures.value ∙ c.in_ok-shapes.ensures) in
     (first-outcomes p l, begins p l c.in_ok-world.world c.in_ok-tasks.tasks.items limits made c.in_ok-world.ensures.empty c.in_ok-tasks.ensures)
 
-pub rounds-requires : goal.rounds-requires
-rounds-requires g c =
+pub go_out-requires : goal.go_out-requires
+go_out-requires g c =
     let p = c.args.program.now in let l = c.args.limits in let o : Opening = opening_of p l.threads in
     let limits : AreLimits l = limits-of l c.requires.threads c.requires.budget c.requires.actions in
     let made : c.in_ok-world.world.0 ≡ o = c.in_ok-world.ensures.opening
@@ -105,5 +133,5 @@ strands_of-strands-requires-clause-ended g c =
     let made : c.in_ok-world.world.0 ≡ o = c.in_ok-world.ensures.opening
     ∙ ap (λ z. opening_with l z c.as_slice-2.result.now) (c.as_slice.ensures.value ∙ c.in_ok-declared.ensures.objects)
     ∙ ap (opening_with l (declared_of p)) (c.as_slice-2.ensures.value ∙ c.in_ok-shapes.ensures) in
-    (c.in_ok-rounds.ensures.over f (c.in_ok-pick_all.ensures.running f
+    (c.in_ok-go_out.ensures.over f (c.in_ok-pick_all.ensures.running f
     (begins p l c.in_ok-world.world c.in_ok-tasks.tasks.items limits made c.in_ok-world.ensures.empty c.in_ok-tasks.ensures))).ended
