@@ -1,6 +1,6 @@
 -- Pointers of both kinds (C99 6.5.6, 6.5.8, 6.5.9; UPC 6.4.2 to 6.4.4).
 use Rattle.std.specs.Prelude.{ℕ, ℤ, pos, ◌+ℤ◌, ◌-ℤ◌, ◌*ℤ◌, ◌==◌, nat_lt, Bool, true, false, ◌&&◌, ◌||◌, if◌then◌else◌}
-use Rattle.std.specs.Prelude.{Result, Ok, Err}
+use Rattle.std.specs.Prelude.{int_le, int_lt, Result, Ok, Err}
 use Rattle.std.specs.Ordering.{int_eq}
 use Rattle.upc_text.specs.declared.place.Place.{Place}
 use Rattle.block_layout.specs.declared.place.SharedPtr.{SharedPtr}
@@ -8,6 +8,7 @@ use Rattle.block_layout.specs.declared.place.LocalPtr.{LocalPtr}
 use Rattle.block_layout.specs.declared.place.LocalPtr.TheVariants as local
 use Rattle.block_layout.specs.declared.kind.Kind.TheVariants as kind
 use Rattle.block_layout.specs.declared.run_error.TheConstants.{NULL_ACCESS, POINTER_RANGE, POINTER_PAIR}
+use Rattle.block_layout.specs.declared.run_error.TheConstants.{OUT_OF_OBJECT, PRIVATE_RANGE}
 use Rattle.block_layout.specs.Floor.{floor_div}
 use Rattle.block_layout.specs.Places.{in_range}
 use Rattle.block_layout.specs.Pointers.{same_object}
@@ -19,7 +20,7 @@ use Rattle.upc_values.specs.declared.scalar.Scalar.TheVariants.{Int, Shared, Loc
 use Rattle.upc_values.specs.declared.scalar.Value.{Value}
 use Rattle.upc_values.specs.declared.scalar.Value.TheVariants as value
 use Rattle.thread_steps.specs.declared.elements.Elements.{Elements}
-use Rattle.thread_steps.specs.States.{Thread, Doing, ◌>>=◌, give, valued}
+use Rattle.thread_steps.specs.States.{Thread, Doing, ◌>>=◌, give, skip, choose, fault, valued}
 use Rattle.thread_steps.specs.Values.{number, truth_value, is_zero}
 
 -- The pointer, whose phase is 0 where it is none of the block. In a typed program it always is.
@@ -77,6 +78,16 @@ same_value (value.Scalar (Shared q)) (value.Scalar (Shared p)) = same_target q p
 same_value (value.Scalar (Lock m)) (value.Scalar (Lock n)) = m == n
 same_value (value.Local q) (value.Local p) = same_local q p
 same_value q p = false
+
+-- The run error of a place outside its object: of a shared one, or of a private one.
+abbrev pub outside : Value → ℕ
+outside (value.Scalar v) = OUT_OF_OBJECT
+outside (value.Local p) = PRIVATE_RANGE
+
+-- An index lies in a row of an array of arrays, which has so many elements; else a run error of the pointer's object
+-- (C99 6.5.2.1, 6.5.6).
+abbrev pub in_row : (count : ℕ) → Place → Value → ℤ → Doing (Unit {0})
+in_row count at p i = choose (int_le (pos 0) i && int_lt i (pos count)) skip (fault (outside p) at)
 
 module _ (τ : Thread) where
   -- The pointer i elements behind another; what is no pointer is as null.
