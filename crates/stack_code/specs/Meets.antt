@@ -1,10 +1,10 @@
 -- How a part of code is said to do what a meaning says.
-use Rattle.std.specs.Prelude.{ℕ, ◌≡◌, ◌+◌, List, [], ◌∷◌, Option, Some, slice_get}
+use Rattle.std.specs.Prelude.{ℕ, ◌≡◌, ◌+◌, List, [], ◌∷◌, Some, slice_get}
 use Rattle.upc_values.specs.declared.scalar.Value.{Value}
 use Rattle.thread_steps.specs.States.{Thread, State, Res, Val, Over, Unfinished}
 use Rattle.stack_code.specs.declared.instruction.Instr.{Instr}
 use Rattle.stack_code.specs.Codes.{function_at}
-use Rattle.stack_code.specs.Steps.{Spot, Conf, At, Halt, further, steps}
+use Rattle.stack_code.specs.Steps.{Spot, Conf, At, Halt, steps}
 
 -- These instructions stand in a list from this place on.
 abbrev pub HasAt : List Instr → ℕ → List Instr → Type 0

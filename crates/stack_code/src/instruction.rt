@@ -119,10 +119,7 @@ pub enum ObjectWork {
     Load(CellAccess),
     Save(CellAccess),
     /// So many names of the function are in scope before the block, and its own objects have these shapes.
-    Enter {
-        from: u32,
-        shapes: Listing<Shape>,
-    },
+    Enter { from: u32, shapes: Listing<Shape> },
     Leave,
 }
 
@@ -132,26 +129,17 @@ pub enum Jump {
     GoOn(usize),
     SkipIfZero(usize),
     SkipIfControlled(usize),
-    Case {
-        label: i128,
-        distance: usize,
-    },
+    Case { label: i128, distance: usize },
     Tick,
     /// The distance from this instruction back to that one.
     GoBack(usize),
-    Exit {
-        blocks: usize,
-        distance: usize,
-    },
+    Exit { blocks: usize, distance: usize },
 }
 
 /// Calls. Functions have numbers from 0; a thread begins in function 0.
 #[derive(Drop)]
 pub enum CallWork {
-    CallTo {
-        function: usize,
-        arguments: usize,
-    },
+    CallTo { function: usize, arguments: usize },
     Begin(usize),
     /// For each parameter the access that keeps the argument, where it is a scalar.
     Receive(Listing<Option<CellAccess>>),
