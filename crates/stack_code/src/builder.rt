@@ -1,6 +1,6 @@
 //! Code that is being made.
 
-ghost use Rattle.std.specs.Prelude.{◌≡◌, [], true, IfOk, OnOk, OnErr, IsErr, map};
+ghost use Rattle.std.specs.Prelude.{◌≡◌, [], true, ◌↔◌, IfOk, OnOk, OnErr, IsErr, IsTrue, map};
 ghost use Rattle.block_layout.specs.Shapes.{IsShape};
 ghost use Rattle.shared_pointers.specs.Ranges.{IsThreads};
 ghost use Rattle.upc_values.specs.Lists.{Each};
@@ -10,6 +10,7 @@ ghost use Rattle.stack_code.specs.Kept.{IsCode, IsFitting, IsKnown};
 ghost use Rattle.stack_code.specs.Making.{Making, empty, with_instruction, with_function, with_object, with_initial};
 
 use crate::code::Code;
+use crate::fitting::is_known;
 use crate::instruction::Instr;
 use block_layout::{LocalPtr, Shape};
 use std::alloc::Global;
@@ -88,6 +89,13 @@ impl Builder {
             private_initials: Vec::new(alloc),
             failed: false,
         })
+    }
+
+    /// Whether the code may name a value.
+    pub fn knows(&self, value: &Value) -> bool
+        ensures { IsTrue result ↔ IsKnown self.now.codes.threads self.now.codes.shapes value.now }
+    {
+        is_known(self.threads, &self.shapes, value)
     }
 
     /// Appends an instruction to the function that is not ended yet.

@@ -3,11 +3,13 @@
 
 mod builder;
 mod code;
+mod fitting;
 mod instruction;
 mod laws;
 
 pub use builder::Builder;
 pub use code::Code;
+pub use fitting::work_fits;
 pub use instruction::{
     CallWork, CellAccess, Instr, Jump, ObjectWork, Operation, StackWork, ThreadWork, ValueWork,
 };

@@ -1,0 +1,116 @@
+//! Tests of what code may name.
+
+ghost use Rattle.std.specs.Prelude.{◌↔◌, IsTrue, length};
+ghost use Rattle.block_layout.specs.declared.kind.Shape.{Shape};
+ghost use Rattle.integers.specs.Integers.{IsInteger, IsPromoted};
+ghost use Rattle.shared_pointers.specs.Ranges.{IsTarget};
+ghost use Rattle.stack_code.specs.Kept.{IsNumber, IsShared, IsKnownScalar, IsKnown, CastFits, ElementsFit, ValuesFit};
+
+use crate::instruction::ValueWork;
+use block_layout::{Kind, LocalPtr, ObjectRef, Shape, is_in_range};
+use thread_steps::{CastTo, Elements};
+use upc_values::{Scalar, Value};
+
+/// The most bytes of an object, elements of a block, and elements of one step.
+const MOST: u32 = 16_777_216;
+
+fn is_number(v: i128) -> bool
+    ensures { IsTrue result ↔ IsNumber v }
+{
+    v >= -9_223_372_036_854_775_808 && v < 18_446_744_073_709_551_616
+}
+
+fn is_integer(kind: Kind) -> bool
+    ensures { IsTrue result ↔ IsInteger kind }
+{
+    !matches!(kind, Kind::Shared(_, _) | Kind::Lock | Kind::Private(_))
+}
+
+fn is_promoted(kind: Kind) -> bool
+    ensures { IsTrue result ↔ IsPromoted kind }
+{
+    matches!(kind, Kind::Int | Kind::UInt | Kind::Long | Kind::ULong)
+}
+
+fn is_target(elements: &Elements) -> bool
+    ensures { IsTrue result ↔ IsTarget elements.now.block elements.now.size }
+{
+    elements.block <= MOST && elements.size > 0 && elements.size <= MOST
+}
+
+fn is_shared(threads: u32, shapes: &[Shape], object: &ObjectRef, thread: u32, offset: i64) -> bool
+    ensures { IsTrue result ↔ IsShared threads shapes.now object.now thread offset }
+{
+    (object.shape as usize) < shapes.len()
+        && thread < threads
+        && object.home < threads
+        && is_in_range(i128::from(offset))
+        && object.total <= MOST
+        && object.block <= MOST
+}
+
+fn is_known_scalar(threads: u32, shapes: &[Shape], scalar: &Scalar) -> bool
+    ensures { IsTrue result ↔ IsKnownScalar threads shapes.now scalar.now }
+{
+    match scalar {
+        Scalar::Int(v) => is_number(*v),
+        Scalar::Shared(p) => p.is_null() || is_shared(threads, shapes, &p.object, p.thread, p.offset),
+        Scalar::Lock(l) => *l == 0,
+    }
+}
+
+fn is_known_local(threads: u32, shapes: &[Shape], local: &LocalPtr) -> bool
+    ensures { IsTrue result ↔ IsKnown threads shapes.now (Value.Local local.now) }
+{
+    match local {
+        LocalPtr::Null => true,
+        LocalPtr::Private { offset, .. } => is_in_range(i128::from(*offset)),
+        LocalPtr::Shared {
+            object,
+            thread,
+            offset,
+        } => is_shared(threads, shapes, object, *thread, *offset),
+    }
+}
+
+/// Whether code for so many threads with these shapes may name a value.
+pub(crate) fn is_known(threads: u32, shapes: &[Shape], value: &Value) -> bool
+    ensures { IsTrue result ↔ IsKnown threads shapes.now value.now }
+{
+    match value {
+        Value::Scalar(scalar) => is_known_scalar(threads, shapes, scalar),
+        Value::Local(local) => is_known_local(threads, shapes, local),
+    }
+}
+
+fn cast_fits(into: &CastTo) -> bool
+    ensures { IsTrue result ↔ CastFits into.now }
+{
+    match into {
+        CastTo::Integer(kind) => is_integer(*kind),
+        _ => true,
+    }
+}
+
+fn elements_fit(elements: &Elements, count: u32) -> bool
+    ensures { IsTrue result ↔ ElementsFit elements.now count }
+{
+    is_target(elements) && count <= MOST
+}
+
+/// Whether code may make values so: operators work at kinds that promotion leaves as they are, and elements are in
+/// range.
+pub fn work_fits(work: &ValueWork) -> bool
+    ensures { IsTrue result ↔ ValuesFit work.now }
+{
+    match work {
+        ValueWork::Operate { left, right, .. } => is_promoted(*left) && is_promoted(*right),
+        ValueWork::Apply { kind, .. } => is_promoted(*kind),
+        ValueWork::Cast(into) => cast_fits(into),
+        ValueWork::Advance { elements, count } | ValueWork::Retreat { elements, count } => {
+            elements_fit(elements, *count)
+        }
+        ValueWork::Difference(elements) | ValueWork::Order { elements, .. } => is_target(elements),
+        ValueWork::InRow(_) | ValueWork::Member(_) | ValueWork::Same => true,
+    }
+}
