@@ -4,7 +4,8 @@ ghost use Rattle.std.specs.Prelude.{◌↔◌, IsTrue, length};
 ghost use Rattle.block_layout.specs.declared.kind.Shape.{Shape};
 ghost use Rattle.integers.specs.Integers.{IsInteger, IsPromoted};
 ghost use Rattle.shared_pointers.specs.Ranges.{IsTarget};
-ghost use Rattle.stack_code.specs.Kept.{IsNumber, IsShared, IsKnownScalar, IsKnown, CastFits, ElementsFit, ValuesFit};
+ghost use Rattle.stack_code.specs.Kept.{IsNumber, IsObject, IsShared, IsKnownScalar, IsKnown};
+ghost use Rattle.stack_code.specs.Kept.{CastFits, ElementsFit, ValuesFit};
 
 use crate::instruction::ValueWork;
 use block_layout::{Kind, LocalPtr, ObjectRef, Shape, is_in_range};
@@ -38,15 +39,20 @@ fn is_target(elements: &Elements) -> bool
     elements.block <= MOST && elements.size > 0 && elements.size <= MOST
 }
 
+fn is_object(threads: u32, shapes: &[Shape], object: &ObjectRef) -> bool
+    ensures { IsTrue result ↔ IsObject threads shapes.now object.now }
+{
+    object.number > 0
+        && (object.shape as usize) < shapes.len()
+        && object.home < threads
+        && object.total <= MOST
+        && object.block <= MOST
+}
+
 fn is_shared(threads: u32, shapes: &[Shape], object: &ObjectRef, thread: u32, offset: i64) -> bool
     ensures { IsTrue result ↔ IsShared threads shapes.now object.now thread offset }
 {
-    (object.shape as usize) < shapes.len()
-        && thread < threads
-        && object.home < threads
-        && is_in_range(i128::from(offset))
-        && object.total <= MOST
-        && object.block <= MOST
+    is_object(threads, shapes, object) && thread < threads && is_in_range(i128::from(offset))
 }
 
 fn is_known_scalar(threads: u32, shapes: &[Shape], scalar: &Scalar) -> bool
