@@ -7,7 +7,7 @@ use Rattle.shared_pointers.specs.Ranges.{IsThreads}
 use Rattle.upc_values.specs.Lists.{Each}
 use Rattle.upc_values.specs.declared.scalar.Value.{Value}
 use Rattle.stack_code.specs.declared.instruction.Instr.{Instr}
-use Rattle.stack_code.specs.Codes.{Codes}
+use Rattle.stack_code.specs.Codes.{Codes, codes_of}
 use Rattle.stack_code.specs.Kept.{IsFitting, IsKnown}
 
 -- The code so far, the instructions of the function that is not ended yet, and whether memory was wanting.
@@ -19,13 +19,7 @@ pub record Making : Type 0 where
 -- Nothing but shapes.
 abbrev pub empty : ℕ → List Shape → Making
 empty threads shapes = record {
-  codes = record {
-    threads = threads;
-    shapes = shapes;
-    functions = [];
-    private_shapes = [];
-    private_initials = [];
-  };
+  codes = codes_of threads shapes [] [] [];
   current = [];
   failed = false;
 }

@@ -33,30 +33,21 @@ pub struct Builder {
 
 impl Model for Builder {
     ghost use Rattle.std.specs.Prelude.{map};
+    ghost use Rattle.stack_code.specs.Codes.{codes_of};
     ghost use Rattle.stack_code.specs.Making.{Making, IsMaking};
 
     ghost Value = { Making };
 
     ghost view = { λ b. record {
-      codes = record {
-        threads = b.threads;
-        shapes = b.shapes.items;
-        functions = map (λ f. f.items) b.functions.items;
-        private_shapes = b.private_shapes.items;
-        private_initials = b.private_initials.items;
-      };
+      codes = codes_of b.threads b.shapes.items (map (λ f. f.items) b.functions.items)
+          b.private_shapes.items b.private_initials.items;
       current = b.current.items;
       failed = b.failed;
     } };
 
     ghost invariant = { λ b. IsMaking record {
-      codes = record {
-        threads = b.threads;
-        shapes = b.shapes.items;
-        functions = map (λ f. f.items) b.functions.items;
-        private_shapes = b.private_shapes.items;
-        private_initials = b.private_initials.items;
-      };
+      codes = codes_of b.threads b.shapes.items (map (λ f. f.items) b.functions.items)
+          b.private_shapes.items b.private_initials.items;
       current = b.current.items;
       failed = b.failed;
     } };

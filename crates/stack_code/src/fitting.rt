@@ -60,7 +60,8 @@ fn is_known_scalar(threads: u32, shapes: &[Shape], scalar: &Scalar) -> bool
 {
     match scalar {
         Scalar::Int(v) => is_number(*v),
-        Scalar::Shared(p) => p.is_null() || is_shared(threads, shapes, &p.object, p.thread, p.offset),
+        Scalar::Shared(p) => p.is_null()
+            || is_shared(threads, shapes, &p.object, p.thread, p.offset),
         Scalar::Lock(l) => *l == 0,
     }
 }
