@@ -1,0 +1,41 @@
+//! The bytes before members (C99 6.7.2.1).
+
+ghost use Rattle.std.specs.Prelude.{◌≡◌, Some};
+ghost use Rattle.upc_types.specs.View.{view};
+ghost use Rattle.upc_types.specs.ViewStructs.{view_structs};
+ghost use Rattle.typing_rules.specs.Views.{view_target};
+ghost use Rattle.source_meaning.specs.Types as pure;
+
+use upc_types::{Base, CType, Structs};
+
+// The bytes before a member of a struct, by their numbers.
+fn offset_in(structs: &Structs, number: u32, index: u32) -> u32
+    ensures { result ≡ pure.offset_in (view_structs structs.now) (Some number) index }
+{
+    let count = structs.members(number).len();
+    if (index as usize) < count && structs.is_complete(&Base::Struct(number)) {
+        structs.member_offset(number, index)
+    } else {
+        0
+    }
+}
+
+/// The bytes before a member of a struct of this type.
+pub fn member_offset(structs: &Structs, t: &CType, index: u32) -> u32
+    ensures { result ≡ pure.member_offset (view_structs structs.now) (view t.now) index }
+{
+    match t.base {
+        Base::Struct(number) => offset_in(structs, number, index),
+        _ => 0,
+    }
+}
+
+/// The bytes before a member of the struct that a pointer leads to.
+pub fn target_offset(structs: &Structs, target: Option<&CType>, index: u32) -> u32
+    ensures { result ≡ pure.target_offset (view_structs structs.now) (view_target target.entry) index }
+{
+    match target {
+        Some(t) => member_offset(structs, t, index),
+        None => 0,
+    }
+}

@@ -1,0 +1,5 @@
+pub mod Parts
+pub mod Simulation
+pub mod Deepening
+pub mod Depths
+pub mod Starts

@@ -1,0 +1,16 @@
+-- How many operands the code of an expression leaves.
+use Rattle.std.specs.Prelude.{Bool, [], ◌∷◌, ◌++◌}
+use Rattle.upc_text.specs.declared.place.Place.{Place}
+use Rattle.typed_tree.specs.Tree.{Expr}
+use Rattle.stack_code.specs.declared.instruction.CallWork.TheVariants.{GiveBack}
+use Rattle.stack_code.specs.declared.instruction.Operation.TheVariants as work
+use Rattle.stack_code.specs.Depths.{IsDeep}
+use Rattle.gen_expr.specs.Sources.{Source}
+use Rattle.gen_expr.specs.Codes.{value_code}
+
+-- The depths of the code of an expression agree, and it leaves its value alone: so it stands in a function that gives
+-- the value back.
+abbrev pub ExpressionsAreDeep : Type 0
+ExpressionsAreDeep =
+    (ς : Source) (strict : Bool) (e : Expr) (at : Place)
+    → IsDeep (value_code ς strict e ++ (record { place = at; does = work.Call (GiveBack 0) } ∷ []))

@@ -1,0 +1,5 @@
+pub mod Sources
+pub mod Codes
+pub mod Meanings
+pub mod Depths
+pub mod ViewSource

@@ -1,0 +1,14 @@
+-- What contracts see of what code is made from.
+use Rattle.std.specs.Prelude.{map}
+use Rattle.upc_types.specs.ViewStructs.{view_structs}
+use Rattle.typed_tree.specs.ViewStatements.{view_function}
+use Rattle.gen_expr.specs.declared.source.Source as s
+use Rattle.gen_expr.specs.Sources.{Source}
+
+abbrev pub view_source : s.Source → Source
+view_source x = record {
+  functions = map view_function x.functions.now;
+  structs = view_structs x.structs.now;
+  shared = x.shared.now;
+  shapes = x.shapes.now;
+}

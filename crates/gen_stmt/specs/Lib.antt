@@ -1,0 +1,4 @@
+pub mod Ways
+pub mod Codes
+pub mod Programs
+pub mod Meanings

@@ -1,0 +1,50 @@
+-- How code leaves a statement before its end.
+use Rattle.std.specs.Prelude.{ℕ, suc, ◌+◌}
+
+-- A way out of a statement: how many blocks are left on it, and how many instructions behind the statement it passes.
+pub record Way : Type 0 where
+  pub blocks : ℕ
+  pub distance : ℕ
+
+abbrev pub way : (blocks distance : ℕ) → Way
+way blocks distance = record { blocks = blocks; distance = distance }
+
+-- The same way from so many instructions before.
+abbrev pub past : ℕ → Way → Way
+past n w = way w.blocks (n + w.distance)
+
+-- The same way from inside one more block, whose end is one instruction.
+abbrev pub inner : Way → Way
+inner w = way (suc w.blocks) (1 + w.distance)
+
+-- The ways out of a statement that are not its end: of `break`, of `continue`, and how many blocks of its call a
+-- `return` leaves.
+pub record Ways : Type 0 where
+  pub broken : Way
+  pub again : Way
+  pub blocks : ℕ
+
+-- From so many instructions before.
+abbrev pub all_past : ℕ → Ways → Ways
+all_past n ω = record { broken = past n ω.broken; again = past n ω.again; blocks = ω.blocks }
+
+-- From inside one more block.
+abbrev pub all_inner : Ways → Ways
+all_inner ω = record { broken = inner ω.broken; again = inner ω.again; blocks = suc ω.blocks }
+
+-- In the body of a loop, behind which so many instructions stand: `break` passes them and the jump back, `continue`
+-- leads to the first of them.
+abbrev pub in_loop : ℕ → Ways → Ways
+in_loop n ω = record { broken = way 0 (n + 1); again = way 0 0; blocks = ω.blocks }
+
+-- In the body of a switch: `break` leads to its end.
+abbrev pub in_switch : Ways → Ways
+in_switch ω = record { broken = way 0 0; again = ω.again; blocks = ω.blocks }
+
+-- In the body of a upc_forall, which `break` and `continue` end alike.
+abbrev pub in_forall : Ways → Ways
+in_forall ω = record { broken = way 0 0; again = way 0 0; blocks = ω.blocks }
+
+-- In a function, where so many blocks are open.
+abbrev pub in_function : ℕ → Ways
+in_function blocks = record { broken = way 0 0; again = way 0 0; blocks = blocks }

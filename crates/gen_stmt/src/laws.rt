@@ -1,0 +1,23 @@
+//! What holds of the code of every program.
+
+ghost use Rattle.typed_tree.specs.Programs.{Checked};
+ghost use Rattle.upc_values.specs.Lists.{Each};
+ghost use Rattle.stack_code.specs.Depths.{BeginsOnce, IsDeep};
+ghost use Rattle.gen_stmt.specs.Programs.{program_code};
+ghost use Rattle.gen_stmt.specs.Meanings.{MeansProgram};
+
+/// The code of a program means what the program means: each of its threads comes to the same outcome, whatever it is
+/// answered.
+pub fn programs_are_meant()
+    ensures { (program : Checked) → MeansProgram (program_code program) program }
+{}
+
+/// The depths of the operands agree in each of its functions.
+pub fn depths_agree()
+    ensures { (program : Checked) → Each IsDeep (program_code program).functions }
+{}
+
+/// Only its entry begins a function without a tick.
+pub fn entries_begin_once()
+    ensures { (program : Checked) → BeginsOnce (program_code program).functions }
+{}
