@@ -19,7 +19,7 @@ struct Row {
     ran: bool,
 }
 
-const ROWS: [Row; 7] = [
+const ROWS: [Row; 6] = [
     // It answers with ample memory, and returns.
     Row {
         words: &["run", "-T", "1", "f.upc"],
@@ -83,16 +83,147 @@ const ROWS: [Row; 7] = [
         err: b"upc: refused at 1:19: typing 1\n",
         ran: false,
     },
-    Row {
-        words: &["run", "-T", "+1", "f.upc"],
-        source: SUM,
-        failing_reads: &[],
-        failing_puts: &[],
-        status: 100,
-        out: b"",
-        err: b"upc: usage\n",
-        ran: false,
-    },
+];
+
+// Words that are refused.
+const USAGES: [&[&str]; 18] = [
+    &[],
+    &["run", "f.upc"],
+    &["run", "-T", "1"],
+    &["run", "-T", "0", "f.upc"],
+    &["run", "-T", "33", "f.upc"],
+    &["run", "-T", "-1", "f.upc"],
+    &["run", "-T", "one", "f.upc"],
+    &["run", "-T", "1", "-T", "1", "f.upc"],
+    &["run", "-T", "1", "f.upc", "g.upc"],
+    &["walk", "-T", "1", "f.upc"],
+    &["run", "-T", "1", "--budget", "0", "f.upc"],
+    &["run", "-T", "1", "--budget", "1000000000001", "f.upc"],
+    &["run", "-T", "1", "--actions", "0", "f.upc"],
+    &["run", "-T", "1", "--actions", "8388609", "f.upc"],
+    &["run", "-T", "2", "--actions", "4194305", "f.upc"],
+    &["--help"],
+    // Modes that do not run yet.
+    &["record", "-T", "1", "f.upc"],
+    &["sample", "-T", "1", "1"],
+];
+
+// Words with a source, its status, and what it writes to the output and to the error output.
+type Call = (
+    &'static [&'static str],
+    &'static [u8],
+    u8,
+    &'static [u8],
+    &'static [u8],
+);
+
+const FOREVER: &[u8] = b"strict shared int x; int main(void){while(1) { x = 1; } return 0;}";
+
+const OBJECTS: &[u8] = b"shared [3] int a[20]; shared [] int s[8]; int p; shared [*] int d[10]; \
+struct pair { int a; char c; }; shared [2] struct pair q[5]; shared [2] char m[3][4]; strict shared long x; \
+int main(void){int i; return 0;}";
+
+const CALLS: [Call; 13] = [
+    // However the words are spelled and ordered.
+    (
+        &["run", "-T", "+04", "f.upc"],
+        b"int main(){return THREADS;}",
+        4,
+        b"",
+        b"",
+    ),
+    (
+        &["-T2", "--budget=7", "--actions=9", "run", "f.upc"],
+        b"int main(){return THREADS;}",
+        2,
+        b"",
+        b"",
+    ),
+    // A thread comes to its budget, and to the end of its record.
+    (
+        &["run", "-T", "1", "--budget", "10", "f.upc"],
+        FOREVER,
+        107,
+        b"",
+        b"upc: budget on thread 0\n",
+    ),
+    (
+        &["run", "-T", "1", "--actions", "5", "f.upc"],
+        FOREVER,
+        108,
+        b"",
+        b"upc: actions full on thread 0\n",
+    ),
+    (
+        &["run", "-T", "1", "--actions", "4", "f.upc"],
+        b"int main(void){return 0;}",
+        0,
+        b"",
+        b"",
+    ),
+    (
+        &["run", "-T", "1", "--actions", "3", "f.upc"],
+        b"int main(void){return 0;}",
+        108,
+        b"",
+        b"upc: actions full on thread 0\n",
+    ),
+    // What is accepted, of the first language or not.
+    (
+        &["check", "-T", "2", "f.upc"],
+        b"int main(void){int i; return 0;}",
+        0,
+        b"ok\n",
+        b"",
+    ),
+    (
+        &["check", "-T", "2", "f.upc"],
+        b"int main(void){return x;}",
+        101,
+        b"",
+        b"upc: refused at 1:23: typing 1\n",
+    ),
+    (
+        &["run", "-T", "2", "f.upc"],
+        OBJECTS,
+        101,
+        b"",
+        b"upc: refused at 1:1: profile 0\n",
+    ),
+    // Where shared objects lie.
+    (
+        &["layout", "-T", "4", "f.upc"],
+        OBJECTS,
+        0,
+        b"a block 3 elements 20 size 4 pieces 24 24 20 12\n\
+s block 0 elements 8 size 4 pieces 32 0 0 0\n\
+d block 3 elements 10 size 4 pieces 12 12 12 4\n\
+q block 2 elements 5 size 8 pieces 16 16 8 0\n\
+m block 2 elements 12 size 1 pieces 4 4 2 2\n\
+x block 1 elements 1 size 8 pieces 8 0 0 0\n",
+        b"",
+    ),
+    (
+        &["layout", "-T", "1", "f.upc"],
+        b"shared [*] int d[10]; int main(){return 0;}",
+        0,
+        b"d block 10 elements 10 size 4 pieces 40\n",
+        b"",
+    ),
+    (
+        &["layout", "-T", "32", "f.upc"],
+        b"int main(){return 0;}",
+        0,
+        b"",
+        b"",
+    ),
+    (
+        &["layout", "-T", "1", "f.upc"],
+        b"",
+        101,
+        b"",
+        b"upc: refused at 1:1: syntax\n",
+    ),
 ];
 
 // A source on one thread, its status, and what it writes to the output and to the error output.
@@ -238,9 +369,32 @@ fn row_of((source, status, out, err): &Program) -> Row {
     }
 }
 
+fn usage_of(words: &&'static [&'static str]) -> Row {
+    called(&(*words, SUM, 100, b"", b"upc: usage\n"))
+}
+
+fn called((words, source, status, out, err): &Call) -> Row {
+    Row {
+        words,
+        source,
+        failing_reads: &[],
+        failing_puts: &[],
+        status: *status,
+        out,
+        err,
+        ran: !matches!(*status, 100 | 101) && words.iter().any(|word| *word == "run"),
+    }
+}
+
 #[test]
 fn answers(rt: HostRuntime) -> Result<(), Fail> {
-    for row in ROWS.iter().copied().chain(PROGRAMS.iter().map(row_of)) {
+    let calls = USAGES.iter().map(usage_of).chain(CALLS.iter().map(called));
+    for row in ROWS
+        .iter()
+        .copied()
+        .chain(PROGRAMS.iter().map(row_of))
+        .chain(calls)
+    {
         let mut words = Vec::new(rt.alloc());
         for word in row.words {
             words.push(String::from_str(rt.alloc(), word)?)?;

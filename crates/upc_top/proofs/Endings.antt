@@ -1,36 +1,27 @@
 -- What follows from how the top call answers.
-use Rattle.std.proofs.Common.{◌≡◌, ℕ, ◌<◌, ◌≤◌, List, length, Option, Some, sym, ap, subst, ◌∙◌, inl, inr, arith, slice_index_or}
+use Rattle.std.proofs.Common.{◌≡◌, ℕ, ◌<◌, ◌≤◌, List, length, Option, Some, refl, sym, subst, ◌∙◌, inl, inr, arith, codes}
 use Rattle.std.specs.Prelude.{◌⊎◌}
-use Rattle.std.proofs.lemmas.Fmt.{decimal_injective}
 use Rattle.upc_text.specs.Outside.{Rose, IsWhole, IsLonger}
-use Rattle.upc_values.specs.declared.journal.Journal.{Journal}
+use Rattle.upc_text.specs.declared.place.Refusal.{Refusal}
+use Rattle.typed_tree.specs.Programs.{Checked}
+use Rattle.command_words.specs.declared.call.Mode.{Mode}
+use Rattle.command_words.specs.declared.call.Mode.TheVariants.{Run, Record, Check, Layout, Sample}
+use Rattle.command_words.specs.Values.{Asked}
+use Rattle.command_words.proofs.Taken.{one_asked}
+use Rattle.first_language.specs.declared.tree.First.{First}
 use Rattle.upc_top.specs.declared.done.Done.{Done}
 use Rattle.upc_top.specs.declared.verdict.Verdict.{Verdict}
-use Rattle.upc_top.specs.declared.verdict.Verdict.TheVariants.{Usage, ReadFault, TooLong, Refused, Ran, NoMemory}
-use Rattle.upc_top.specs.Words.{AreTaken}
-use Rattle.upc_top.specs.Output.{status_of}
-use Rattle.upc_top.specs.Sources.{IsAccepted, IsRefused}
-use Rattle.upc_top.proofs.Readings.{never_both}
-use Rattle.upc_top.specs.Verdicts.{Reading, Holds, Caused, IsSoundRun, status_for, journal_of}
-use Rattle.upc_top.specs.Delivery.{Writing, Delivered, Delivered.Whole, Delivered.Out_broke, Delivered.Err_broke, Answered, RefusesOtherWords, RefusesLongFiles, Succeeds, IsComplete}
+use Rattle.upc_top.specs.declared.verdict.Verdict.TheVariants.{Usage, ReadFault, TooLong, Refused, Ran, Passed, Laid, NoMemory}
+use Rattle.upc_top.specs.Words.{IsTaken}
+use Rattle.upc_top.specs.Layout.{layout}
+use Rattle.upc_top.specs.Sources.{IsAccepted, IsRunnable, IsRefusedIn, not_accepted, not_runnable}
+use Rattle.upc_top.proofs.Readings.{accepted_of, never_both, never_outside, same_checked}
+use Rattle.upc_top.specs.Verdicts.{Reading, Holds, Taken, Caused, CameTo, ComesFrom, status_for, text_of, journal_of}
+use Rattle.upc_top.specs.Delivery.{Writing, Gained, Delivered, Delivered.Whole, Delivered.Out_broke, Delivered.Err_broke, Answered, RefusesOtherWords, RefusesLongFiles, Succeeds, HasRun, HasWritten, IsDone, IsComplete}
 
--- words that are taken name one file
-one-file : (words : List (List ℕ)) (m n : ℕ) (f g : List ℕ) → AreTaken words m f → AreTaken words n g → g ≡ f
-one-file words m n f g a b = ap (λ ws. slice_index_or ws 3 f) (sym b.are ∙ a.are)
-
--- and one number of threads
-same-threads : (words : List (List ℕ)) (m n : ℕ) (f g : List ℕ) → AreTaken words m f → AreTaken words n g → n ≡ m
-same-threads words m n f g a b =
-    let low = a.most in
-    let high = b.most in
-    decimal_injective n m (omega arith) (omega arith) (ap (λ ws. slice_index_or ws 2 f) (sym b.are ∙ a.are))
-
--- where both sinks took what they were given, the status is the verdict's
-whole-status : (v : Verdict) (out err : Writing) (status : ℕ) → Delivered v out err status
-    → (Rose out.faults_before out.faults_after → ⊥) → (Rose err.faults_before err.faults_after → ⊥) → status ≡ status_for v
-whole-status v out err status (Whole e o l) ho he = e
-whole-status v out err status (Out_broke e b l) ho he = absurd (ho b.cause)
-whole-status v out err status (Err_broke e o b) ho he = absurd (he b.cause)
+-- words that are taken ask for one thing
+same-asked : (words : List (List ℕ)) (a b : Asked) → IsTaken words a → IsTaken words b → b ≡ a
+same-asked words a b h k = one_asked words b a k.asks h.asks
 
 whole-is : (told : Option (List ℕ)) (bytes given : List ℕ) → told ≡ Some bytes → IsWhole told given → given ≡ bytes
 whole-is told bytes given e h = let P : Option (List ℕ) → Type 0 = λ o. IsWhole o given in subst P e h
@@ -38,69 +29,135 @@ whole-is told bytes given e h = let P : Option (List ℕ) → Type 0 = λ o. IsW
 longer-is : (told : Option (List ℕ)) (bytes : List ℕ) → told ≡ Some bytes → IsLonger told 1048576 → 1048576 < length bytes
 longer-is told bytes e h = let P : Option (List ℕ) → Type 0 = λ o. IsLonger o 1048576 in subst P e h
 
-complete-by : (words : List (List ℕ)) (r : Reading) (out err : Writing) (d : Done) (v : Verdict) → Caused words r v → d.status ≡ status_for v
-    → d.journal ≡ journal_of v → Succeeds words r out err
-    → ((j : Journal) × (d.journal ≡ Some j) × (d.status ≡ status_of j)) ⊎ (d.status ≡ 104)
-complete-by words r out err d Usage c s j h = absurd (c h.threads h.file h.taken)
-complete-by words r out err d ReadFault c s j h =
-    let P : List ℕ → Type 0 = λ f. Rose (r.before f) (r.after f) in
-    absurd (h.read (subst P (one-file words h.threads c.threads h.file c.file h.taken c.taken) c.holds))
-complete-by words r out err d TooLong c s j h =
-    let P : List ℕ → Type 0 = λ f. IsLonger (r.told f) 1048576 in
-    let long = longer-is (r.told h.file) h.bytes h.told (subst P (one-file words h.threads c.threads h.file c.file h.taken c.taken) c.holds) in
-    let short = h.short in
-    absurd (omega arith)
-complete-by words r out err d (Refused refusal) c s j h =
-    let e = one-file words h.threads c.threads h.file c.file h.taken c.taken in
-    let P : List ℕ → Type 0 = λ f. IsWhole (r.told f) c.holds.bytes in
-    let same = whole-is (r.told h.file) h.bytes c.holds.bytes h.told (subst P e c.holds.whole) in
-    let t : c.threads ≡ h.threads = same-threads words h.threads c.threads h.file c.file h.taken c.taken in
-    let holds = subst (λ n. IsRefused n c.holds.bytes refusal) t c.holds.holds in
-    absurd (never_both h.threads c.holds.bytes h.program refusal (subst (λ b. IsAccepted h.threads b h.program) (sym same) h.accepted) holds)
-complete-by words r out err d (Ran journal) c s j h = inl (journal, j, s)
-complete-by words r out err d (NoMemory o) c s j h = inr s
+-- ---- where nothing failed
+
+-- both sinks took what they were given
+record Written (v : Verdict) (out : Writing) (d : Done) : Type 0 where
+  status : d.status ≡ status_for v
+  text : Gained out (text_of v)
+  journal : d.journal ≡ journal_of v
+
+written : (v : Verdict) (out err : Writing) (d : Done) → Delivered v out err d.status → d.journal ≡ journal_of v
+    → (Rose out.faults_before out.faults_after → ⊥) → (Rose err.faults_before err.faults_after → ⊥) → Written v out d
+written v out err d (Whole e o l) j ho he = record { status = e; text = o; journal = j }
+written v out err d (Out_broke e b l) j ho he = absurd (ho b.cause)
+written v out err d (Err_broke e o b) j ho he = absurd (he b.cause)
+
+module _ (words : List (List ℕ)) (r : Reading) (out err : Writing) (d : Done) (a : Asked) (bytes : List ℕ) (s : Succeeds words r out err a bytes) where
+  -- what a verdict came from is what was asked for, and these bytes
+  came-from : (v : Verdict) → CameTo words r v → ComesFrom a bytes v
+  came-from v c =
+      let e : c.asked ≡ a = same-asked words a c.asked s.taken c.taken in
+      let P : Asked → Type 0 = λ b. Holds r b.file (λ held. ComesFrom b held v) in
+      let h : Holds r a.file (λ held. ComesFrom a held v) = subst P e c.holds in
+      subst (λ held. ComesFrom a held v) (whole-is (r.told a.file) bytes h.bytes s.told h.whole) h.holds
+
+  no-fault : Taken words (λ b. Rose (r.before b.file) (r.after b.file)) → ⊥
+  no-fault c =
+      let P : Asked → Type 0 = λ b. Rose (r.before b.file) (r.after b.file) in
+      s.read (subst P (same-asked words a c.asked s.taken c.taken) c.holds)
+
+  not-longer : Taken words (λ b. IsLonger (r.told b.file) 1048576) → ⊥
+  not-longer c =
+      let P : Asked → Type 0 = λ b. IsLonger (r.told b.file) 1048576 in
+      let long = longer-is (r.told a.file) bytes s.told (subst P (same-asked words a c.asked s.taken c.taken) c.holds) in
+      let short = s.short in
+      omega arith
+
+  run-refused : (program : First) (x : Refusal) → IsRunnable a.threads bytes program → IsRefusedIn a.mode a.threads bytes x → ⊥
+  run-refused program x h (not_accepted why) = never_both a.threads bytes h.checked x (accepted_of a.threads bytes program h) why
+  run-refused program x h (not_runnable mode why) = never_outside a.threads bytes program x h why
+
+  done-run : a.mode ≡ Run → (program : First) → IsRunnable a.threads bytes program → (v : Verdict) → Caused words r v → Written v out d → HasRun out d ⊎ (d.status ≡ 104)
+  done-run m program h Usage c w = absurd (c a s.taken)
+  done-run m program h ReadFault c w = absurd (no-fault c)
+  done-run m program h TooLong c w = absurd (not-longer c)
+  done-run m program h (Refused x) c w = absurd (run-refused program x h (came-from (Refused x) c))
+  done-run m program h (Ran j) c w = inl (record { journal = j; is = w.journal; status = w.status; text = w.text })
+  done-run m program h Passed c w = let bad = sym m ∙ (came-from Passed c).mode in absurd cc
+  done-run m program h (Laid p) c w = let bad = sym m ∙ (came-from (Laid p) c).mode in absurd cc
+  done-run m program h (NoMemory o) c w = inr w.status
+
+  accepted-refused : (a.mode ≡ Run → ⊥) → (checked : Checked) (x : Refusal) → IsAccepted a.threads bytes checked → IsRefusedIn a.mode a.threads bytes x → ⊥
+  accepted-refused m checked x h (not_accepted why) = never_both a.threads bytes checked x h why
+  accepted-refused m checked x h (not_runnable mode why) = m mode
+
+  done-check : a.mode ≡ Check → (checked : Checked) → IsAccepted a.threads bytes checked → (v : Verdict) → Caused words r v → Written v out d
+      → HasWritten out d (codes "ok\n") ⊎ (d.status ≡ 104)
+  done-check m checked h Usage c w = absurd (c a s.taken)
+  done-check m checked h ReadFault c w = absurd (no-fault c)
+  done-check m checked h TooLong c w = absurd (not-longer c)
+  done-check m checked h (Refused x) c w = absurd (accepted-refused (λ e. let bad = sym m ∙ e in absurd cc) checked x h (came-from (Refused x) c))
+  done-check m checked h (Ran j) c w = let bad = sym m ∙ (came-from (Ran j) c).mode in absurd cc
+  done-check m checked h Passed c w = inl (record { status = w.status; gained = w.text })
+  done-check m checked h (Laid p) c w = let bad = sym m ∙ (came-from (Laid p) c).mode in absurd cc
+  done-check m checked h (NoMemory o) c w = inr w.status
+
+  done-layout : a.mode ≡ Layout → (checked : Checked) → IsAccepted a.threads bytes checked → (v : Verdict) → Caused words r v → Written v out d
+      → HasWritten out d (layout checked) ⊎ (d.status ≡ 104)
+  done-layout m checked h Usage c w = absurd (c a s.taken)
+  done-layout m checked h ReadFault c w = absurd (no-fault c)
+  done-layout m checked h TooLong c w = absurd (not-longer c)
+  done-layout m checked h (Refused x) c w = absurd (accepted-refused (λ e. let bad = sym m ∙ e in absurd cc) checked x h (came-from (Refused x) c))
+  done-layout m checked h (Ran j) c w = let bad = sym m ∙ (came-from (Ran j) c).mode in absurd cc
+  done-layout m checked h Passed c w = let bad = sym m ∙ (came-from Passed c).mode in absurd cc
+  done-layout m checked h (Laid p) c w =
+      let e = same_checked a.threads bytes _ checked (came-from (Laid p) c).accepted h in
+      inl (record { status = w.status; gained = subst (λ x. Gained out (layout x)) e w.text })
+  done-layout m checked h (NoMemory o) c w = inr w.status
+
+  done-by : (v : Verdict) → Caused words r v → Written v out d → (m : Mode) → a.mode ≡ m → IsDone m a.threads bytes out d
+  done-by v c w Run e = λ program h. done-run e program h v c w
+  done-by v c w Check e = λ checked h. done-check e checked h v c w
+  done-by v c w Layout e = λ checked h. done-layout e checked h v c w
+  done-by v c w Record e = tt
+  done-by v c w Sample e = tt
 
 pub complete : (words : List (List ℕ)) (r : Reading) (out err : Writing) (d : Done) → Answered words r out err d → IsComplete words r out err d
-complete words r out err d a h =
-    complete-by words r out err d a.verdict a.caused (whole-status a.verdict out err d.status a.delivered h.out_written h.err_written) a.journal h
+complete words r out err d x a bytes s =
+    done-by words r out err d a bytes s x.verdict x.caused (written x.verdict out err d x.delivered x.journal s.out_written s.err_written) a.mode refl
+
+-- ---- other words
 
 other-words-by : (words : List (List ℕ)) (r : Reading) (out err : Writing) (d : Done) (v : Verdict) → Caused words r v
     → Delivered v out err d.status → RefusesOtherWords words d
 other-words-by words r out err d v c (Out_broke e b l) n = inr (inl e)
 other-words-by words r out err d v c (Err_broke e o b) n = inr (inl e)
 other-words-by words r out err d Usage c (Whole e o l) n = inl e
-other-words-by words r out err d ReadFault c (Whole e o l) n = absurd (n c.threads c.file c.taken)
-other-words-by words r out err d TooLong c (Whole e o l) n = absurd (n c.threads c.file c.taken)
-other-words-by words r out err d (Refused x) c (Whole e o l) n = absurd (n c.threads c.file c.taken)
-other-words-by words r out err d (Ran x) c (Whole e o l) n = absurd (n c.threads c.file c.taken)
+other-words-by words r out err d ReadFault c (Whole e o l) n = absurd (n c.asked c.taken)
+other-words-by words r out err d TooLong c (Whole e o l) n = absurd (n c.asked c.taken)
+other-words-by words r out err d (Refused x) c (Whole e o l) n = absurd (n c.asked c.taken)
+other-words-by words r out err d (Ran x) c (Whole e o l) n = absurd (n c.asked c.taken)
+other-words-by words r out err d Passed c (Whole e o l) n = absurd (n c.asked c.taken)
+other-words-by words r out err d (Laid x) c (Whole e o l) n = absurd (n c.asked c.taken)
 other-words-by words r out err d (NoMemory x) c (Whole e o l) n = inr (inr e)
 
 pub other-words : (words : List (List ℕ)) (r : Reading) (out err : Writing) (d : Done) → Answered words r out err d → RefusesOtherWords words d
 other-words words r out err d a = other-words-by words r out err d a.verdict a.caused a.delivered
 
+-- ---- long files
+
 -- what is held of a told file is short
-not-long : (words : List (List ℕ)) (r : Reading) (threads : ℕ) (file bytes : List ℕ) → AreTaken words threads file
-    → r.told file ≡ Some bytes → 1048576 < length bytes
-    → (m : ℕ) (f : List ℕ) → AreTaken words m f → (P : List ℕ → Type 0) → Holds r f P → ⊥
-not-long words r threads file bytes taken told long m f other P held =
-    let e = one-file words threads m file f taken other in
-    let Q : List ℕ → Type 0 = λ g. IsWhole (r.told g) held.bytes in
-    let same = whole-is (r.told file) bytes held.bytes told (subst Q e held.whole) in
-    let short = subst (λ b. length b ≤ 1048576) same held.short in
-    absurd (omega arith)
+not-long : (words : List (List ℕ)) (r : Reading) (a : Asked) (bytes : List ℕ) → IsTaken words a → r.told a.file ≡ Some bytes → 1048576 < length bytes
+    → (v : Verdict) → CameTo words r v → ⊥
+not-long words r a bytes taken told long v c =
+    let P : Asked → Type 0 = λ b. Holds r b.file (λ held. ComesFrom b held v) in
+    let h : Holds r a.file (λ held. ComesFrom a held v) = subst P (same-asked words a c.asked taken c.taken) c.holds in
+    let short = subst (λ b. length b ≤ 1048576) (whole-is (r.told a.file) bytes h.bytes told h.whole) h.short in
+    omega arith
 
 long-files-by : (words : List (List ℕ)) (r : Reading) (out err : Writing) (d : Done) (v : Verdict) → Caused words r v
     → Delivered v out err d.status → RefusesLongFiles words r d
-long-files-by words r out err d v c (Out_broke e b l) threads file bytes taken told long = inr (inr (inl e))
-long-files-by words r out err d v c (Err_broke e o b) threads file bytes taken told long = inr (inr (inl e))
-long-files-by words r out err d Usage c (Whole e o l) threads file bytes taken told long = absurd (c threads file taken)
-long-files-by words r out err d ReadFault c (Whole e o l) threads file bytes taken told long = inr (inl e)
-long-files-by words r out err d TooLong c (Whole e o l) threads file bytes taken told long = inl e
-long-files-by words r out err d (Refused x) c (Whole e o l) threads file bytes taken told long =
-    absurd (not-long words r threads file bytes taken told long c.threads c.file c.taken _ c.holds)
-long-files-by words r out err d (Ran x) c (Whole e o l) threads file bytes taken told long =
-    absurd (not-long words r threads file bytes taken told long c.threads c.file c.taken _ c.holds)
-long-files-by words r out err d (NoMemory x) c (Whole e o l) threads file bytes taken told long = inr (inr (inr e))
+long-files-by words r out err d v c (Out_broke e b l) a bytes taken told long = inr (inr (inl e))
+long-files-by words r out err d v c (Err_broke e o b) a bytes taken told long = inr (inr (inl e))
+long-files-by words r out err d Usage c (Whole e o l) a bytes taken told long = absurd (c a taken)
+long-files-by words r out err d ReadFault c (Whole e o l) a bytes taken told long = inr (inl e)
+long-files-by words r out err d TooLong c (Whole e o l) a bytes taken told long = inl e
+long-files-by words r out err d (Refused x) c (Whole e o l) a bytes taken told long = absurd (not-long words r a bytes taken told long (Refused x) c)
+long-files-by words r out err d (Ran x) c (Whole e o l) a bytes taken told long = absurd (not-long words r a bytes taken told long (Ran x) c)
+long-files-by words r out err d Passed c (Whole e o l) a bytes taken told long = absurd (not-long words r a bytes taken told long Passed c)
+long-files-by words r out err d (Laid x) c (Whole e o l) a bytes taken told long = absurd (not-long words r a bytes taken told long (Laid x) c)
+long-files-by words r out err d (NoMemory x) c (Whole e o l) a bytes taken told long = inr (inr (inr e))
 
 pub long-files : (words : List (List ℕ)) (r : Reading) (out err : Writing) (d : Done) → Answered words r out err d
     → RefusesLongFiles words r d

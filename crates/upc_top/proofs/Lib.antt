@@ -1,4 +1,5 @@
-mod Lists
 mod Endings
+mod Laid
+mod Lines
 pub mod Readings
 pub mod Stages

@@ -12,7 +12,8 @@ use Rattle.upc_checker.specs.Outcomes.{outcome}
 use Rattle.first_language.specs.declared.tree.First.{First}
 use Rattle.first_language.specs.Meaning.{program_of}
 use Rattle.first_language.specs.Unit.{first_program}
-use Rattle.upc_top.specs.Sources.{IsExpanded, IsRead, IsAccepted, no_syntax, too_high, IsRefused, no_tokens, no_expansion, no_tree, no_typing, no_first}
+use Rattle.typed_tree.specs.Programs.{Checked}
+use Rattle.upc_top.specs.Sources.{IsExpanded, IsRead, IsTyped, IsAccepted, IsRunnable, IsOutside, no_syntax, too_high, IsRefused, no_tokens, no_expansion, no_tree, no_typing}
 use Rattle.first_language.proofs.Logic.{some_same}
 use Rattle.std.specs.Option.{option_or}
 
@@ -38,35 +39,50 @@ same_tree bytes m n u v a b =
     let c = same_expanded bytes m n a.expanded b.expanded a.expands b.expands in
     (c.0, laws.one_tree u v a.grammar.proper b.grammar.proper (a.grammar.spelled ∙ c.1 ∙ sym b.grammar.spelled))
 
-pub same_program : (threads : ℕ) (bytes : List ℕ) (p q : First) → IsAccepted threads bytes p → IsAccepted threads bytes q → program_of p ≡ program_of q
+pub same_checked : (threads : ℕ) (bytes : List ℕ) (c d : Checked) → IsAccepted threads bytes c → IsAccepted threads bytes d → c ≡ d
+same_checked threads bytes c d a b =
+    let s = same_tree bytes a.names b.names a.tree b.tree a.typed.read b.typed.read in
+    let e : outcome a.names threads a.tree ≡ outcome b.names threads b.tree = rw (s.0, s.1) refl in
+    let f : o.Accepted c ≡ o.Accepted d = sym a.typed.typed ∙ e ∙ b.typed.typed in
+    cc
+
+-- what can run is accepted
+pub accepted_of : (threads : ℕ) (bytes : List ℕ) (p : First) → (a : IsRunnable threads bytes p) → IsAccepted threads bytes a.checked
+accepted_of threads bytes p a = record { names = a.names; tree = a.tree; typed = a.typed }
+
+pub same_program : (threads : ℕ) (bytes : List ℕ) (p q : First) → IsRunnable threads bytes p → IsRunnable threads bytes q → program_of p ≡ program_of q
 same_program threads bytes p q a b =
-    let c = same_tree bytes a.names b.names a.tree b.tree a.read b.read in
+    let c = same_tree bytes a.names b.names a.tree b.tree a.typed.read b.typed.read in
     let e : first_program a.names a.tree ≡ first_program b.names b.tree = rw (c.0, c.1) refl in
     some_same (program_of p) (program_of q) (sym a.first ∙ e ∙ b.first)
 
+-- a source that can run is not outside
+pub never_outside : (threads : ℕ) (bytes : List ℕ) (p : First) (r : Refusal) → IsRunnable threads bytes p → IsOutside threads bytes r → ⊥
+never_outside threads bytes p r a b =
+    let c = same_tree bytes a.names b.names a.tree b.tree a.typed.read b.typed.read in
+    let e : first_program a.names a.tree ≡ first_program b.names b.tree = rw (c.0, c.1) refl in
+    let f = sym a.first ∙ e ∙ b.foreign.none in
+    absurd cc
+
 -- a source is not both accepted and refused
-pub never_both : (threads : ℕ) (bytes : List ℕ) (p : First) (r : Refusal) → IsAccepted threads bytes p → IsRefused threads bytes r → ⊥
-never_both threads bytes p r a (no_tokens h) = tokens_or_refusal bytes a.read.expands.tokens a.names r a.read.expands.cut h
-never_both threads bytes p r a (no_expansion tokens names cut stop) =
-    let c = tokens_once bytes a.read.expands.tokens tokens a.names names a.read.expands.cut cut in
-    let e : expansion bytes a.read.expands.tokens (length a.names) ≡ expansion bytes tokens (length names) = rw (c.0, c.1) refl in
-    let f = sym a.read.expands.expansion.passes ∙ ap (first_refusal 0) e ∙ stop in
+pub never_both : (threads : ℕ) (bytes : List ℕ) (d : Checked) (r : Refusal) → IsAccepted threads bytes d → IsRefused threads bytes r → ⊥
+never_both threads bytes d r a (no_tokens h) = tokens_or_refusal bytes a.typed.read.expands.tokens a.names r a.typed.read.expands.cut h
+never_both threads bytes d r a (no_expansion tokens names cut stop) =
+    let x = a.typed.read.expands in
+    let c = tokens_once bytes x.tokens tokens a.names names x.cut cut in
+    let e : expansion bytes x.tokens (length a.names) ≡ expansion bytes tokens (length names) = rw (c.0, c.1) refl in
+    let f = sym x.expansion.passes ∙ ap (first_refusal 0) e ∙ stop in
     absurd cc
-never_both threads bytes p r a (no_tree names expanded h (no_syntax code none) place) =
-    let c = same_expanded bytes a.names names a.read.expanded expanded a.read.expands h in
-    none a.tree a.read.grammar.proper (a.read.grammar.spelled ∙ c.1)
-never_both threads bytes p r a (no_tree names expanded h (too_high code most none) place) =
-    let c = same_expanded bytes a.names names a.read.expanded expanded a.read.expands h in
-    none a.tree (subst (λ ts. IsTree ts a.tree) c.1 a.read.grammar)
-never_both threads bytes p r a (no_typing names tree read refused) =
-    let c = same_tree bytes a.names names a.tree tree a.read read in
+never_both threads bytes d r a (no_tree names expanded h (no_syntax code none) place) =
+    let c = same_expanded bytes a.names names a.typed.read.expanded expanded a.typed.read.expands h in
+    none a.tree a.typed.read.grammar.proper (a.typed.read.grammar.spelled ∙ c.1)
+never_both threads bytes d r a (no_tree names expanded h (too_high code most none) place) =
+    let c = same_expanded bytes a.names names a.typed.read.expanded expanded a.typed.read.expands h in
+    none a.tree (subst (λ ts. IsTree ts a.tree) c.1 a.typed.read.grammar)
+never_both threads bytes d r a (no_typing names tree read refused) =
+    let c = same_tree bytes a.names names a.tree tree a.typed.read read in
     let e : outcome a.names threads a.tree ≡ outcome names threads tree = rw (c.0, c.1) refl in
-    let f = sym a.typed ∙ e ∙ refused in
-    absurd cc
-never_both threads bytes p r a (no_first names tree checked read typed none code place) =
-    let c = same_tree bytes a.names names a.tree tree a.read read in
-    let e : first_program a.names a.tree ≡ first_program names tree = rw (c.0, c.1) refl in
-    let f = sym a.first ∙ e ∙ none in
+    let f = sym a.typed.typed ∙ e ∙ refused in
     absurd cc
 
 -- ---- an expansion has at most 1,048,576 tokens

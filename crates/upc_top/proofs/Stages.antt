@@ -1,6 +1,6 @@
 -- What each stage of a source leads to.
 use Rattle.std.proofs.Common.{◌≡◌, ℕ, ◌≤◌, List, length, Some, None, Err, ap, inl, inr, arith}
-use Rattle.upc_text.specs.declared.place.Code.TheVariants.{Syntax, Profile, Limit}
+use Rattle.upc_text.specs.declared.place.Code.TheVariants.{Syntax, Limit}
 use Rattle.upc_text.specs.declared.place.Refusal.{Refusal}
 use Rattle.upc_text.specs.declared.faults.Stop.{Stop}
 use Rattle.upc_text.specs.declared.faults.Stop.TheVariants.{Refused, Memory}
@@ -13,10 +13,7 @@ use Rattle.upc_parser.specs.Answer.{RefusedBy, OnlyRefused}
 use Rattle.upc_checker.specs.Outcomes as o
 use Rattle.upc_checker.specs.Outcomes.{Answers, outcome}
 use Rattle.typed_tree.specs.Programs.{Checked}
-use Rattle.first_language.specs.declared.tree.First.{First}
-use Rattle.first_language.specs.Meaning.{program_of}
-use Rattle.first_language.specs.Unit.{first_program}
-use Rattle.upc_top.specs.Sources.{IsExpanded, IsRead, IsAccepted, no_syntax, too_high, IsRefused, no_tokens, no_expansion, no_tree, no_typing, no_first, IsAtTheBeginning, StopsReading}
+use Rattle.upc_top.specs.Sources.{IsExpanded, IsRead, IsTyped, no_syntax, too_high, no_tokens, no_expansion, no_tree, no_typing, StopsReading}
 use Rattle.upc_top.proofs.Readings.{few_tokens}
 
 pub stops_lexing : (threads : ℕ) (bytes : List ℕ) (s : Stop) → StopsSource bytes s → StopsReading threads bytes s
@@ -38,13 +35,8 @@ module _ (threads : ℕ) (bytes : List ℕ) (tokens : List Token) (names : List 
     pub few_in : (u : List External) → IsTree expanded u → length (tokens_of u) ≤ 1048576
     few_in u h = let few = few_tokens bytes tokens (length names) expanded exp in omega (arith, ap length h.spelled)
 
-    pub accepts : (u : List External) (p : First) (x : Checked) → IsTree expanded u → outcome names threads u ≡ o.Accepted x → first_program names u ≡ Some (program_of p) →
-        IsAccepted threads bytes p
-    accepts u p x h t g = record { names = names; tree = u; read = reads u h; checked = x; typed = t; first = g }
-
-    pub refuses_tree : (u : List External) (r : Refusal) (x : Checked) → IsTree expanded u → outcome names threads u ≡ o.Accepted x → first_program names u ≡ None → r.code ≡ Profile 0 → IsAtTheBeginning r →
-        IsRefused threads bytes r
-    refuses_tree u r x h t g code place = no_first names u x (reads u h) t g code place
+    pub types : (u : List External) (x : Checked) → IsTree expanded u → outcome names threads u ≡ o.Accepted x → IsTyped threads bytes names u x
+    types u x h t = record { read = reads u h; typed = t }
 
     pub stops_checking : {P : Type 0} (view : P → Checked) (u : List External) (s : Stop) → IsTree expanded u → Answers view (outcome names threads u) (Err s) → StopsReading threads bytes s
     stops_checking view u Memory h a = tt

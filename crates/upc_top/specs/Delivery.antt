@@ -1,13 +1,18 @@
 -- How a verdict is written: the text to the output, then the line to the error output.
-use Rattle.std.specs.Prelude.{ℕ, ◌≡◌, ◌≤◌, ◌<◌, ◌⊎◌, List, [], length, Option, Some}
+use Rattle.std.specs.Prelude.{ℕ, ◌≡◌, ◌≤◌, ◌<◌, ◌⊎◌, List, [], length, Option, Some, codes}
 use Rattle.upc_text.specs.Outside.{Rose, taken_with, TookPrefix}
 use Rattle.upc_values.specs.declared.journal.Journal.{Journal}
+use Rattle.typed_tree.specs.Programs.{Checked}
+use Rattle.command_words.specs.declared.call.Mode.{Mode}
+use Rattle.command_words.specs.declared.call.Mode.TheVariants.{Run, Check, Layout}
+use Rattle.command_words.specs.Values.{Asked}
 use Rattle.first_language.specs.declared.tree.First.{First}
 use Rattle.upc_top.specs.declared.verdict.Verdict.{Verdict}
 use Rattle.upc_top.specs.declared.done.Done.{Done}
-use Rattle.upc_top.specs.Sources.{IsAccepted}
-use Rattle.upc_top.specs.Words.{AreTaken}
-use Rattle.upc_top.specs.Output.{status_of}
+use Rattle.upc_top.specs.Sources.{IsAccepted, IsRunnable}
+use Rattle.upc_top.specs.Words.{IsTaken}
+use Rattle.upc_top.specs.Layout.{layout}
+use Rattle.upc_top.specs.Output.{output, status_of}
 use Rattle.upc_top.specs.Verdicts.{Reading, Caused, text_of, line_of, status_for, refusal_of, journal_of}
 use Rattle.upc_top.specs.Verdicts.{without_memory}
 
@@ -18,6 +23,7 @@ pub record Writing : Type 0 where
   pub faults_before : ℕ
   pub faults_after : ℕ
 
+-- What a sink has taken and its counts, together.
 abbrev pub writing : Option (List ℕ) → Option (List ℕ) → ℕ → ℕ → Writing
 writing taken_before taken_after faults_before faults_after = record {
   taken_before = taken_before;
@@ -64,33 +70,50 @@ pub record Answered (words : List (List ℕ)) (reading : Reading) (out err : Wri
 -- Where the words are not taken, the answer is usage, a failed write or want of memory.
 abbrev pub RefusesOtherWords : List (List ℕ) → Done → Type 0
 RefusesOtherWords words done =
-    ((threads : ℕ) (file : List ℕ) → AreTaken words threads file → ⊥)
-    → (done.status ≡ 100) ⊎ (done.status ≡ 103) ⊎ (done.status ≡ 104)
+    ((a : Asked) → IsTaken words a → ⊥) → (done.status ≡ 100) ⊎ (done.status ≡ 103) ⊎ (done.status ≡ 104)
 
 -- A file that is told and has more bytes than a source may have is not run, and not refused for what it holds: the
 -- answer is that it is too long, a failed read, a failed write or want of memory.
 abbrev pub RefusesLongFiles : List (List ℕ) → Reading → Done → Type 0
 RefusesLongFiles words reading done =
-    (threads : ℕ) (file bytes : List ℕ)
-    → AreTaken words threads file → reading.told file ≡ Some bytes → 1048576 < length bytes
+    (a : Asked) (bytes : List ℕ) → IsTaken words a → reading.told a.file ≡ Some bytes → 1048576 < length bytes
     → (done.status ≡ 110) ⊎ (done.status ≡ 102) ⊎ (done.status ≡ 103) ⊎ (done.status ≡ 104)
 
--- The words were taken, the file is told and is accepted as a program, and nothing failed.
-pub record Succeeds (words : List (List ℕ)) (reading : Reading) (out err : Writing) : Type 0 where
-  pub threads : ℕ
-  pub file : List ℕ
-  pub bytes : List ℕ
-  pub program : First
-  pub taken : AreTaken words threads file
-  pub told : reading.told file ≡ Some bytes
+-- The words were taken, the file is told and no longer than a source may be, and nothing failed.
+pub record Succeeds (words : List (List ℕ)) (reading : Reading) (out err : Writing) (a : Asked)
+    (bytes : List ℕ) : Type 0 where
+  pub taken : IsTaken words a
+  pub told : reading.told a.file ≡ Some bytes
   pub short : length bytes ≤ 1048576
-  pub accepted : IsAccepted threads bytes program
-  pub read : Rose (reading.before file) (reading.after file) → ⊥
+  pub read : Rose (reading.before a.file) (reading.after a.file) → ⊥
   pub out_written : Rose out.faults_before out.faults_after → ⊥
   pub err_written : Rose err.faults_before err.faults_after → ⊥
 
--- Then there is a journal with its status, or memory was wanting.
+-- There is a journal, with its status, and the output gained what it prints.
+pub record HasRun (out : Writing) (done : Done) : Type 0 where
+  pub journal : Journal
+  pub is : done.journal ≡ Some journal
+  pub status : done.status ≡ status_of journal
+  pub text : Gained out (output journal.history)
+
+-- The status is 0, and the output gained this text.
+pub record HasWritten (out : Writing) (done : Done) (text : List ℕ) : Type 0 where
+  pub status : done.status ≡ 0
+  pub gained : Gained out text
+
+-- What bytes come to in each mode that runs today, or memory was wanting: a program that can run is run, an accepted
+-- source is passed, and an accepted source is laid out.
+abbrev pub IsDone : Mode → ℕ → List ℕ → Writing → Done → Type 0
+IsDone Run threads bytes out done =
+    (program : First) → IsRunnable threads bytes program → HasRun out done ⊎ (done.status ≡ 104)
+IsDone Check threads bytes out done =
+    (checked : Checked) → IsAccepted threads bytes checked → HasWritten out done (codes "ok\n") ⊎ (done.status ≡ 104)
+IsDone Layout threads bytes out done =
+    (checked : Checked) → IsAccepted threads bytes checked
+    → HasWritten out done (layout checked) ⊎ (done.status ≡ 104)
+IsDone mode threads bytes out done = Unit {0}
+
+-- Where the words were taken, the file is told and nothing failed, an accepted source comes to what its mode says.
 abbrev pub IsComplete : List (List ℕ) → Reading → Writing → Writing → Done → Type 0
 IsComplete words reading out err done =
-    Succeeds words reading out err
-    → ((j : Journal) × (done.journal ≡ Some j) × (done.status ≡ status_of j)) ⊎ (done.status ≡ 104)
+    (a : Asked) (bytes : List ℕ) → Succeeds words reading out err a bytes → IsDone a.mode a.threads bytes out done

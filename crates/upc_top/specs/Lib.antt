@@ -1,5 +1,6 @@
-pub mod Sources
 pub mod Words
+pub mod Sources
+pub mod Layout
 pub mod Output
 pub mod Verdicts
 pub mod Delivery

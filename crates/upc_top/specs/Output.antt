@@ -15,44 +15,46 @@ use Rattle.upc_values.specs.declared.journal.Strand.{Strand}
 use Rattle.upc_values.specs.declared.journal.Journal.{Journal}
 use Rattle.upc_values.specs.Ends.{stops}
 
--- the text of a Print
+-- The text of a Print.
 abbrev pub printed : Action → List ℕ
 printed (Print text) = text
 printed a = []
 
--- the texts of all Prints, in the order of the history
+-- The texts of all Prints, in the order of the history.
 abbrev pub output : List Entry → List ℕ
 output history = flat_map (λ e. printed e.action) history
 
--- a value as a status: itself from 0 to 99, else 99
+-- A value as a status: itself from 0 to 99, else 99.
 abbrev pub clipped : ℤ → ℕ
 clipped (pos n) = cond (nat_lt n 100) n 99
 clipped (negsuc n) = 99
 
--- a thread and its end
+-- A thread and its end.
 pub record Ending : Type 0 where
   pub thread : ℕ
   pub «end» : End
 
--- the lowest thread whose end ends the run
+-- The lowest thread whose end ends the run.
 abbrev pub first_stop : ℕ → List Strand → Option Ending
 first_stop t [] = None
 first_stop t (s ∷ strands) =
     cond (stops s.«end») (Some record { thread = t; «end» = s.«end» }) (first_stop (t + 1) strands)
 
+-- The end is Ended.
 abbrev pub is_ended : End → Bool
 is_ended (Ended v) = true
 is_ended e = false
 
+-- All threads are Ended.
 abbrev pub all_ended : List Strand → Bool
 all_ended strands = list_all (λ s. is_ended s.«end») strands
 
--- what thread 0's main returned
+-- What thread 0's main returned.
 abbrev pub first_value : List Strand → ℤ
 first_value (s ∷ strands) = elim s.«end» [ Ended v ↦ v | _ ↦ pos 0 ]
 first_value [] = pos 0
 
--- the status of an end that ends the run
+-- The status of an end that ends the run.
 abbrev pub stop_status : End → ℕ
 stop_status (Fault c p) = 105
 stop_status Budget = 107
@@ -60,19 +62,21 @@ stop_status ActionsFull = 108
 stop_status (Exit v) = clipped v
 stop_status e = 106
 
+-- The status by the end that decides, if there is one.
 abbrev pub status_by : Option Ending → List Strand → ℕ
 status_by (Some s) strands = stop_status s.«end»
 status_by None strands = cond (all_ended strands) (clipped (first_value strands)) 106
 
--- the status of a journal: where some end ends the run, that of the lowest such thread decides; else where all are
--- Ended, the value of thread 0; else the run is deadlocked
+-- The status of a journal: where some end ends the run, that of the lowest such thread decides; else where all are
+-- Ended, the value of thread 0; else the run is deadlocked.
 abbrev pub status_of : Journal → ℕ
 status_of j = status_by (first_stop 0 j.strands) j.strands
 
--- L:C
+-- L:C.
 abbrev pub place_text : Place → List ℕ
 place_text p = decimal p.line ++ codes ":" ++ decimal p.column
 
+-- The code of a refusal in words.
 abbrev pub code_text : Code → List ℕ
 code_text Lex = codes "lex"
 code_text Directive = codes "directive"
@@ -81,11 +85,11 @@ code_text Syntax = codes "syntax"
 code_text (Typing n) = codes "typing " ++ decimal n
 code_text (Limit n) = codes "limit " ++ decimal n
 
--- the line of a refused source
+-- The line of a refused source.
 abbrev pub refusal_line : Refusal → List ℕ
 refusal_line r = codes "upc: refused at " ++ place_text r.place ++ codes ": " ++ code_text r.code ++ codes "\n"
 
--- the line of an end that ends the run
+-- The line of an end that ends the run.
 abbrev pub stop_line : ℕ → End → List ℕ
 stop_line t (Fault c p) =
     codes "upc: run error E" ++ decimal c ++ codes " at " ++ place_text p ++ codes " on thread " ++ decimal t
@@ -94,10 +98,11 @@ stop_line t Budget = codes "upc: budget on thread " ++ decimal t ++ codes "\n"
 stop_line t ActionsFull = codes "upc: actions full on thread " ++ decimal t ++ codes "\n"
 stop_line t e = []
 
+-- The line by the end that decides, if there is one.
 abbrev pub line_by : Option Ending → List Strand → List ℕ
 line_by (Some s) strands = stop_line s.thread s.«end»
 line_by None strands = cond (all_ended strands) [] (codes "upc: deadlock\n")
 
--- the line of a journal's status
+-- The line of a journal's status.
 abbrev pub run_line : Journal → List ℕ
 run_line j = line_by (first_stop 0 j.strands) j.strands

@@ -14,62 +14,91 @@ use Rattle.upc_parser.specs.Answer.{HasPlace}
 use Rattle.upc_checker.specs.Outcomes as o
 use Rattle.upc_checker.specs.Outcomes.{outcome}
 use Rattle.typed_tree.specs.Programs.{Checked}
+use Rattle.command_words.specs.declared.call.Mode.{Mode}
+use Rattle.command_words.specs.declared.call.Mode.TheVariants.{Run}
 use Rattle.first_language.specs.declared.tree.First.{First}
 use Rattle.first_language.specs.Meaning.{program_of}
 use Rattle.first_language.specs.Unit.{first_program}
 
--- the bytes have tokens over these names, which expand to these
+-- The bytes have tokens over these names, which expand to these.
 pub record IsExpanded (bytes : List ℕ) (names : List (List ℕ)) (expanded : List Token) : Type 0 where
   pub tokens : List Token
   pub cut : AreTokensOf bytes tokens names
   pub expansion : IsExpansion bytes tokens (length names) expanded
 
--- these have this tree, a proper one of at most 256 levels
+-- These have this tree, a proper one of at most 256 levels.
 pub record IsRead (bytes : List ℕ) (names : List (List ℕ)) (tree : List External) : Type 0 where
   pub expanded : List Token
   pub expands : IsExpanded bytes names expanded
   pub grammar : IsTree expanded tree
 
--- and the tree is well typed, and one of the first language, with this program: the source is accepted
-pub record IsAccepted (threads : ℕ) (bytes : List ℕ) (program : First) : Type 0 where
+-- The tree breaks no typing rule and passes no limit on so many threads: it is this.
+pub record IsTyped (threads : ℕ) (bytes : List ℕ) (names : List (List ℕ)) (tree : List External)
+    (checked : Checked) : Type 0 where
+  pub read : IsRead bytes names tree
+  pub typed : outcome names threads tree ≡ o.Accepted checked
+
+-- The source is accepted: its tree is this.
+pub record IsAccepted (threads : ℕ) (bytes : List ℕ) (checked : Checked) : Type 0 where
   pub names : List (List ℕ)
   pub tree : List External
-  pub read : IsRead bytes names tree
+  pub typed : IsTyped threads bytes names tree checked
+
+-- The source is accepted, and its tree is one of the first language, with this program: it can run.
+pub record IsRunnable (threads : ℕ) (bytes : List ℕ) (program : First) : Type 0 where
+  pub names : List (List ℕ)
+  pub tree : List External
   pub checked : Checked
-  pub typed : outcome names threads tree ≡ o.Accepted checked
+  pub typed : IsTyped threads bytes names tree checked
   pub first : first_program names tree ≡ Some (program_of program)
 
--- why expanded tokens have no tree: no proper tree of any height has them, or each that has them is too high
+-- Why expanded tokens have no tree: no proper tree of any height has them, or each that has them is too high.
 pub data HasNoTree (expanded : List Token) (code : Code) : Type 0 where
   no_syntax : code ≡ Syntax → ((u : List External) → ProperUnit u → tokens_of u ≡ expanded → ⊥)
       → HasNoTree expanded code
   too_high : code ≡ Limit 3 → 256 ≤ length expanded → ((u : List External) → IsTree expanded u → ⊥)
       → HasNoTree expanded code
 
--- at the beginning
-pub record IsAtTheBeginning (r : Refusal) : Type 0 where
+-- Why a source is refused.
+pub data IsRefused (threads : ℕ) (bytes : List ℕ) (r : Refusal) : Type 0 where
+  -- It has no tokens.
+  no_tokens : RefusedAt bytes r → IsRefused threads bytes r
+  -- Its tokens have no expansion.
+  no_expansion : (tokens : List Token) (names : List (List ℕ)) → AreTokensOf bytes tokens names
+      → StopsExpansion bytes tokens (length names) (Refused r) → IsRefused threads bytes r
+  -- The expanded tokens have no tree.
+  no_tree : (names : List (List ℕ)) (expanded : List Token) → IsExpanded bytes names expanded
+      → HasNoTree expanded r.code → HasPlace expanded r.place → IsRefused threads bytes r
+  -- The tree breaks a typing rule, or passes a limit.
+  no_typing : (names : List (List ℕ)) (tree : List External) → IsRead bytes names tree
+      → outcome names threads tree ≡ o.Refused r → IsRefused threads bytes r
+
+-- A tree is none of the first language, for which the answer is `profile 0` at 1:1.
+pub record IsForeign (names : List (List ℕ)) (tree : List External) (r : Refusal) : Type 0 where
+  pub none : first_program names tree ≡ None
+  pub code : r.code ≡ Profile 0
   pub line : r.place.line ≡ 1
   pub column : r.place.column ≡ 1
 
--- why a source is refused
-pub data IsRefused (threads : ℕ) (bytes : List ℕ) (r : Refusal) : Type 0 where
-  -- it has no tokens
-  no_tokens : RefusedAt bytes r → IsRefused threads bytes r
-  -- its tokens have no expansion
-  no_expansion : (tokens : List Token) (names : List (List ℕ)) → AreTokensOf bytes tokens names
-      → StopsExpansion bytes tokens (length names) (Refused r) → IsRefused threads bytes r
-  -- the expanded tokens have no tree
-  no_tree : (names : List (List ℕ)) (expanded : List Token) → IsExpanded bytes names expanded
-      → HasNoTree expanded r.code → HasPlace expanded r.place → IsRefused threads bytes r
-  -- the tree breaks a typing rule, or passes a limit
-  no_typing : (names : List (List ℕ)) (tree : List External) → IsRead bytes names tree
-      → outcome names threads tree ≡ o.Refused r → IsRefused threads bytes r
-  -- the tree is well typed, and none of the first language
-  no_first : (names : List (List ℕ)) (tree : List External) (checked : Checked) → IsRead bytes names tree
-      → outcome names threads tree ≡ o.Accepted checked → first_program names tree ≡ None → r.code ≡ Profile 0
-      → IsAtTheBeginning r → IsRefused threads bytes r
+-- The source is accepted, but cannot run: its tree is none of the first language.
+pub record IsOutside (threads : ℕ) (bytes : List ℕ) (r : Refusal) : Type 0 where
+  pub names : List (List ℕ)
+  pub tree : List External
+  pub checked : Checked
+  pub typed : IsTyped threads bytes names tree checked
+  pub foreign : IsForeign names tree r
 
--- the source is refused, or there was no memory
+-- Why a source is refused in a mode: it is refused, or it is to run and cannot.
+pub data IsRefusedIn (mode : Mode) (threads : ℕ) (bytes : List ℕ) (r : Refusal) : Type 0 where
+  not_accepted : IsRefused threads bytes r → IsRefusedIn mode threads bytes r
+  not_runnable : mode ≡ Run → IsOutside threads bytes r → IsRefusedIn mode threads bytes r
+
+-- The source is refused, or there was no memory.
 abbrev pub StopsReading : ℕ → List ℕ → Stop → Type 0
 StopsReading threads bytes (Refused r) = IsRefused threads bytes r
 StopsReading threads bytes Memory = Unit {0}
+
+-- The tree is none of the first language, or there was no memory.
+abbrev pub StopsRunning : List (List ℕ) → List External → Stop → Type 0
+StopsRunning names tree (Refused r) = IsForeign names tree r
+StopsRunning names tree Memory = Unit {0}

@@ -1,16 +1,18 @@
--- The command line: run -T n FILE, with n from 1 to 32.
-use Rattle.std.specs.Prelude.{ℕ, ◌≡◌, ◌≤◌, ◌/◌, List, [], ◌∷◌, codes, decimal}
+-- What the words of the command line ask for, in the modes that run today.
+use Rattle.std.specs.Prelude.{ℕ, ◌≡◌, Bool, true, false, List}
+use Rattle.command_words.specs.declared.call.Mode.{Mode}
+use Rattle.command_words.specs.declared.call.Mode.TheVariants.{Run, Record, Check, Layout, Sample}
+use Rattle.command_words.specs.Values.{Asked, Asks}
 
--- the words ask for a run of the file with so many threads
-pub record AreTaken (words : List (List ℕ)) (threads : ℕ) (file : List ℕ) : Type 0 where
-  pub are : words ≡ codes "run" ∷ codes "-T" ∷ decimal threads ∷ file ∷ []
-  pub least : 1 ≤ threads
-  pub most : threads ≤ 32
+-- The modes that run today are `run`, `check` and `layout`.
+abbrev pub is_served : Mode → Bool
+is_served Run = true
+is_served Check = true
+is_served Layout = true
+is_served Record = false
+is_served Sample = false
 
--- the ticks that each thread is allowed
-abbrev pub budget : ℕ
-budget = 100000000
-
--- the items that each thread's record may have
-abbrev pub actions : ℕ → ℕ
-actions threads = 4194304 / threads
+-- The words are taken: they ask for this, in a mode that runs today.
+pub record IsTaken (words : List (List ℕ)) (a : Asked) : Type 0 where
+  pub asks : Asks words a
+  pub served : is_served a.mode ≡ true

@@ -6,6 +6,7 @@ ghost use Rattle.upc_top.specs.Verdicts.{text_of, line_of, refusal_of, journal_o
 ghost use Rattle.upc_top.specs.Delivery.{writing, Delivered, Delivers};
 
 use crate::done::Done;
+use crate::layout::layout_text;
 use crate::status::status_of;
 use crate::text::{output_text, refusal_text, run_text};
 use crate::verdict::Verdict;
@@ -17,6 +18,8 @@ fn text_for(alloc: Global, verdict: &Verdict) -> Result<Vec<u8>, AllocError>
 {
     match verdict {
         Verdict::Ran(journal) => output_text(alloc, journal.history.as_slice()),
+        Verdict::Passed => Vec::from_slice(alloc, b"ok\n"),
+        Verdict::Laid(program) => layout_text(alloc, program),
         _ => Ok(Vec::new(alloc)),
     }
 }
@@ -31,6 +34,7 @@ fn line_for(alloc: Global, verdict: &Verdict) -> Result<Vec<u8>, AllocError>
         Verdict::TooLong => Vec::from_slice(alloc, b"upc: source too long\n"),
         Verdict::Refused(refusal) => refusal_text(alloc, *refusal),
         Verdict::Ran(journal) => run_text(alloc, journal),
+        Verdict::Passed | Verdict::Laid(_) => Ok(Vec::new(alloc)),
         Verdict::NoMemory(_) => Vec::from_slice(alloc, b"upc: no memory\n"),
     }
 }
@@ -46,6 +50,7 @@ fn status_for(verdict: &Verdict) -> u8
         Verdict::TooLong => 110,
         Verdict::Refused(_) => 101,
         Verdict::Ran(journal) => status_of(journal),
+        Verdict::Passed | Verdict::Laid(_) => 0,
         Verdict::NoMemory(_) => 104,
     }
 }
@@ -61,6 +66,7 @@ fn done(verdict: Verdict, status: u8) -> Done
         Verdict::Refused(refusal) => (Some(refusal), None),
         Verdict::Ran(journal) => (None, Some(journal)),
         Verdict::NoMemory(journal) => (None, journal),
+        Verdict::Laid(_program) => (None, None),
         _ => (None, None),
     };
     Done {

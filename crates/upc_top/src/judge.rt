@@ -1,42 +1,74 @@
 //! From the words to what the top call comes to.
 
-ghost use Rattle.std.specs.Prelude.{◌≤◌, length, map, string_bytes};
+ghost use Rattle.std.specs.Prelude.{◌≡◌, ◌≤◌, true, length, map, string_bytes};
+ghost use Rattle.upc_tree.specs.Unit.{tokens_of};
+ghost use Rattle.upc_tree.specs.ViewStatement.{view_unit};
+ghost use Rattle.typed_tree.specs.ViewProgram.{view_program};
+ghost use Rattle.command_words.specs.Values.{IsInRange, view_call};
+ghost use Rattle.command_words.specs.Values.{IsAllowed};
+ghost use Rattle.command_words.specs.declared.call.Mode.TheVariants as mode;
+ghost use Rattle.upc_top.specs.Words.{is_served};
+ghost use Rattle.upc_top.specs.Sources.{IsTyped};
 ghost use Rattle.upc_top.specs.Verdicts.{reading, Caused, ComesFrom};
 
-use crate::front::read_program;
+use crate::front::{Accepted, first_program, read_source};
 use crate::verdict::Verdict;
-use crate::words::read_words;
+use crate::words::read_call;
+use command_words::{Call, Mode, NoCall};
 use serial_core::{Limits, run_by};
 use std::alloc::Global;
 use std::sync::Wait;
 use upc_text::{ReadEnd, Sources, Stop, read_all};
 
-// The ticks that each thread is allowed.
-const BUDGET: u64 = 100_000_000;
-
-// The items that all threads' records may have.
-const ITEMS: u64 = 4_194_304;
-
-// Runs a source with so many threads.
-fn run_source<R: Wait>(rt: &R, alloc: Global, threads: u32, source: &[u8]) -> Verdict
-    requires least { 1 ≤ threads }
-    requires most { threads ≤ 32 }
-    requires short { length source.now ≤ 1048576 }
-    ensures { ComesFrom threads source.now result }
+// Runs a source that is accepted.
+fn run_accepted<R: Wait>(
+    rt: &R,
+    alloc: Global,
+    call: &Call<'_>,
+    bytes: &[u8],
+    source: &Accepted,
+) -> Verdict
+    requires mode { call.now.mode ≡ mode.Run }
+    requires range { IsInRange (view_call call.now) }
+    requires allowed { IsAllowed (view_call call.now) }
+    requires typed { IsTyped call.now.threads bytes.now source.now.names (view_unit source.now.unit)
+        (view_program source.now.program) }
+    requires few { length (tokens_of (view_unit source.now.unit)) ≤ 1048576 }
+    ensures { ComesFrom (view_call call.now) bytes.now result }
 {
-    let program = match read_program(alloc, threads, source) {
+    let program = match first_program(alloc, source) {
         Ok(program) => program,
         Err(Stop::Refused(refusal)) => return Verdict::Refused(refusal),
         Err(Stop::Memory) => return Verdict::NoMemory(None),
     };
     let limits = Limits {
-        threads,
-        budget: BUDGET,
-        actions: ITEMS / u64::from(threads),
+        threads: call.threads,
+        budget: call.budget,
+        actions: call.actions,
     };
     match run_by(rt, alloc, &program, limits, &[]) {
         Ok(journal) => Verdict::Ran(journal),
         Err(_) => Verdict::NoMemory(None),
+    }
+}
+
+// What a source comes to in a mode that runs today.
+fn come_to<R: Wait>(rt: &R, alloc: Global, call: &Call<'_>, bytes: &[u8]) -> Verdict
+    requires served { is_served call.now.mode ≡ true }
+    requires range { IsInRange (view_call call.now) }
+    requires allowed { IsAllowed (view_call call.now) }
+    requires short { length bytes.now ≤ 1048576 }
+    ensures { ComesFrom (view_call call.now) bytes.now result }
+{
+    let source = match read_source(alloc, call.threads, bytes) {
+        Ok(source) => source,
+        Err(Stop::Refused(refusal)) => return Verdict::Refused(refusal),
+        Err(Stop::Memory) => return Verdict::NoMemory(None),
+    };
+    match call.mode {
+        Mode::Check => Verdict::Passed,
+        Mode::Layout => Verdict::Laid(source.program),
+        _ => run_accepted(rt, alloc, call, bytes, &source),
     }
 }
 
@@ -46,11 +78,13 @@ pub fn judge<R: Wait, S: Sources>(rt: &R, alloc: Global, words: &[String], files
         (reading (S.bytes_of files.old) (S.faults files.old) (S.faults files.new))
         result }
 {
-    let Some(call) = read_words(words) else {
-        return Verdict::Usage;
+    let call = match read_call(alloc, words) {
+        Ok(call) => call,
+        Err(NoCall::Usage) => return Verdict::Usage,
+        Err(NoCall::Memory) => return Verdict::NoMemory(None),
     };
     match read_all(alloc, files, call.file) {
-        Ok(source) => run_source(rt, alloc, call.threads, source.as_slice()),
+        Ok(source) => come_to(rt, alloc, &call, source.as_slice()),
         Err(ReadEnd::ReadFault) => Verdict::ReadFault,
         Err(ReadEnd::TooLong) => Verdict::TooLong,
         Err(ReadEnd::Memory) => Verdict::NoMemory(None),

@@ -5,6 +5,7 @@ mod deliver;
 mod done;
 mod front;
 mod judge;
+mod layout;
 mod status;
 mod text;
 mod top;

@@ -22,14 +22,16 @@ pub fn output_text(alloc: Global, history: &[Entry]) -> Result<Vec<u8>, AllocErr
     Ok(text)
 }
 
-fn add(line: &mut Vec<u8>, text: &[u8]) -> Result<(), AllocError>
+/// Puts a text behind a line.
+pub fn add(line: &mut Vec<u8>, text: &[u8]) -> Result<(), AllocError>
     ensures { IfOk result (λ _. line.new.items ≡ line.old.items ++ text.now) }
 {
     line.extend_from_slice(text)?;
     Ok(())
 }
 
-fn add_number(line: &mut Vec<u8>, number: u32) -> Result<(), AllocError>
+/// Puts a number behind a line, in decimal.
+pub fn add_number(line: &mut Vec<u8>, number: u32) -> Result<(), AllocError>
     ensures { IfOk result (λ _. line.new.items ≡ line.old.items ++ decimal number) }
 {
     let mut buffer = Buffer::new();

@@ -1,5 +1,6 @@
 //! What the top call comes to, before it is written.
 
+use typed_tree::Program;
 use upc_text::Refusal;
 use upc_values::Journal;
 
@@ -16,6 +17,10 @@ pub enum Verdict {
     Refused(Refusal),
     /// The source ran.
     Ran(Journal),
+    /// The source is accepted, and no more was asked.
+    Passed,
+    /// The source is accepted as this program, whose layout was asked for.
+    Laid(Program),
     /// Memory was wanting, perhaps after a run.
     NoMemory(Option<Journal>),
 }

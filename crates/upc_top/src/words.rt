@@ -1,48 +1,31 @@
-//! The words of the command line.
+//! The words of the command line, and the modes that run today.
 
-ghost use Rattle.std.specs.Prelude.{◌≡◌, ◌≤◌, ℕ, List, map, IfSome, IfNone, decimal, string_bytes};
-ghost use Rattle.upc_top.specs.Words.{AreTaken};
+ghost use Rattle.std.specs.Prelude.{◌≡◌, map, IfOk, string_bytes};
+ghost use Rattle.std.specs.Result.{IsErrOf};
+ghost use Rattle.command_words.specs.Values.{Asked, IsInRange, view_call};
+ghost use Rattle.command_words.specs.declared.call.NoCall.TheVariants.{Usage};
+ghost use Rattle.upc_top.specs.Words;
+ghost use Rattle.upc_top.specs.Words.{IsTaken};
 
-use itoa::Buffer;
+use command_words::{Call, Mode, NoCall, read_words};
+use std::alloc::Global;
 
-/// What the words ask for.
-#[derive(Clone, Copy)]
-pub struct Call<'a> {
-    pub threads: u32,
-    pub file: &'a str,
+// Whether a mode runs today.
+fn is_served(mode: Mode) -> bool
+    ensures { result ≡ Words.is_served mode }
+{
+    matches!(mode, Mode::Run | Mode::Check | Mode::Layout)
 }
 
-// The number of threads that a word gives in plain decimal.
-fn threads_of(word: &str) -> Option<u32>
-    ensures found { IfSome result (λ n. (word.now ≡ decimal n) × (1 ≤ n) × (n ≤ 32)) }
-    ensures none { IfNone result ((n : ℕ) → 1 ≤ n → n ≤ 32 → word.now ≡ decimal n → ⊥) }
+/// Reads the words: what they ask for, in a mode that runs today.
+pub fn read_call<'a>(alloc: Global, words: &'a [String]) -> Result<Call<'a>, NoCall>
+    ensures taken { IfOk result (λ c. IsTaken (map string_bytes words.entry.now) (view_call c)) }
+    ensures range { IfOk result (λ c. IsInRange (view_call c)) }
+    ensures usage { IsErrOf result Usage → (a : Asked) → IsTaken (map string_bytes words.entry.now) a → ⊥ }
 {
-    let mut buffer = Buffer::new();
-    for threads in 1..33u32 {
-        if buffer.format(threads) == word {
-            return Some(threads);
-        }
+    let call = read_words(alloc, words)?;
+    if !is_served(call.mode) {
+        return Err(NoCall::Usage);
     }
-    None
-}
-
-/// Reads the words.
-pub fn read_words(words: &[String]) -> Option<Call<'_>>
-    ensures found { IfSome result (λ c. AreTaken (map string_bytes words.now) c.threads c.file.now) }
-    ensures none { IfNone result ((threads : ℕ) (file : List ℕ)
-        → AreTaken (map string_bytes words.now) threads file → ⊥) }
-{
-    let [mode, flag, count, file] = words else {
-        return None;
-    };
-    if mode.as_str() != "run" || flag.as_str() != "-T" {
-        return None;
-    }
-    match threads_of(count.as_str()) {
-        Some(threads) => Some(Call {
-            threads,
-            file: file.as_str(),
-        }),
-        None => None,
-    }
+    Ok(call)
 }

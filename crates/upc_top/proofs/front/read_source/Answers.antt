@@ -1,11 +1,10 @@
-use Rattle.std.proofs.Common.{◌≡◌, length, refl, sym, subst, None, rules}
+use Rattle.std.proofs.Common.{length, sym, subst}
 use Rattle.std.proofs.lemmas.Result.{err_from_is_err_and}
 use Rattle.upc_macros.specs.Expansion.{IsExpansion}
 use Rattle.upc_tree.specs.ViewStatement.{view_unit}
 use Rattle.typed_tree.specs.ViewProgram.{view_program}
-use Rattle.first_language.specs.Unit.{first_program}
-use Rattle.upc_top.proofs.Stages.{stops_expanding, stops_parsing, few_in, stops_checking, refuses_tree}
-use Rattle.upc_top.proofs.front.read_program.Goals as goal
+use Rattle.upc_top.proofs.Stages.{stops_expanding, stops_parsing, few_in, stops_checking, types}
+use Rattle.upc_top.proofs.front.read_source.Goals as goal
 
 pub returns-in_err-tokens-clause-refused : goal.returns-in_err-tokens-clause-refused
 returns-in_err-tokens-clause-refused c =
@@ -20,24 +19,22 @@ returns-in_err-unit-clause-refused c =
     let e = c.in_err-unit.ensures in
     rw (p.1, p.2) (stops_parsing c.args.threads c.args.source.now _ _ c.in_ok-lexed.ensures.tokens c.as_slice.result.now expansion c.in_err-unit.field-0.0 e.syntax e.limit e.refused)
 
-pub returns-in_err-_checked-clause-refused : goal.returns-in_err-_checked-clause-refused
-returns-in_err-_checked-clause-refused c =
-    let p = err_from_is_err_and c.from_residual-in_err-_checked.result c.from_residual-in_err-_checked.ensures.1 in
+pub returns-in_err-program-clause-refused : goal.returns-in_err-program-clause-refused
+returns-in_err-program-clause-refused c =
+    let p = err_from_is_err_and c.from_residual-in_err-program.result c.from_residual-in_err-program.ensures.1 in
     let lexed = c.in_ok-lexed.lexed in
     let tree = view_unit c.in_ok-unit.unit in
     let expansion = subst (IsExpansion c.args.source.now lexed.tokens.items (length lexed.names)) (sym c.as_slice.ensures.value) c.in_ok-tokens.ensures.expansion in
-    rw (p.1, p.2) (stops_checking c.args.threads c.args.source.now _ _ c.in_ok-lexed.ensures.tokens c.as_slice.result.now expansion view_program tree c.in_err-_checked.field-0.0 c.in_ok-unit.ensures.found c.in_err-_checked.ensures)
+    rw (p.1, p.2) (stops_checking c.args.threads c.args.source.now _ _ c.in_ok-lexed.ensures.tokens c.as_slice.result.now expansion view_program tree c.in_err-program.field-0.0 c.in_ok-unit.ensures.found c.in_err-program.ensures)
 
-pub first_of-requires : goal.first_of-requires
-first_of-requires c =
+pub returns-clause-accepted : goal.returns-clause-accepted
+returns-clause-accepted c =
+    let lexed = c.in_ok-lexed.lexed in
+    let expansion = subst (IsExpansion c.args.source.now lexed.tokens.items (length lexed.names)) (sym c.as_slice.ensures.value) c.in_ok-tokens.ensures.expansion in
+    types c.args.threads c.args.source.now _ _ c.in_ok-lexed.ensures.tokens c.as_slice.result.now expansion _ _ c.in_ok-unit.ensures.found c.in_ok-program.ensures
+
+pub returns-clause-few : goal.returns-clause-few
+returns-clause-few c =
     let lexed = c.in_ok-lexed.lexed in
     let expansion = subst (IsExpansion c.args.source.now lexed.tokens.items (length lexed.names)) (sym c.as_slice.ensures.value) c.in_ok-tokens.ensures.expansion in
     few_in c.args.threads c.args.source.now _ _ c.in_ok-lexed.ensures.tokens c.as_slice.result.now expansion _ c.in_ok-unit.ensures.found
-
-pub returns-in-Ok-None-clause-refused : goal.returns-in-Ok-None-clause-refused
-returns-in-Ok-None-clause-refused c =
-    let lexed = c.in_ok-lexed.lexed in
-    let tree = view_unit c.in_ok-unit.unit in
-    let expansion = subst (IsExpansion c.args.source.now lexed.tokens.items (length lexed.names)) (sym c.as_slice.ensures.value) c.in_ok-tokens.ensures.expansion in
-    let none : first_program lexed.names tree ≡ None = search rules in
-    refuses_tree c.args.threads c.args.source.now _ _ c.in_ok-lexed.ensures.tokens c.as_slice.result.now expansion tree _ _ c.in_ok-unit.ensures.found c.in_ok-_checked.ensures none refl (record { line = refl; column = refl })
