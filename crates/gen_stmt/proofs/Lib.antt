@@ -4,3 +4,4 @@ pub mod Runs
 pub mod Courses
 pub mod Deeps
 pub mod Begins
+mod Samples
