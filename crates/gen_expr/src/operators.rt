@@ -197,7 +197,8 @@ pub(crate) fn put_binary(
     right: &CType,
 ) -> Result<(), OutOfMemory>
     ensures { OnOk result (code.new.items
-        ≡ code.old.items ++ pure.binary_code (view_source source.entry) place operator (view left.now) (view right.now)) }
+        ≡ code.old.items ++ pure.binary_code (view_source source.entry) place operator
+        (view left.now) (view right.now)) }
 {
     match (target_of(left), target_of(right)) {
         (Some(t), Some(_)) => put_on_pointers(code, source, place, operator, t),
