@@ -133,7 +133,7 @@ const CALLS: [Call; 13] = [
         b"",
     ),
     (
-        &["-T2", "--budget=7", "--actions=9", "run", "f.upc"],
+        &["-T+2", "--budget=7", "--actions=9", "run", "f.upc"],
         b"int main(){return THREADS;}",
         2,
         b"",
