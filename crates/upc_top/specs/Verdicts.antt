@@ -12,6 +12,7 @@ use Rattle.command_words.specs.declared.call.Mode.TheVariants.{Run, Check, Layou
 use Rattle.command_words.specs.Values.{Asked, IsInRange}
 use Rattle.first_language.specs.declared.tree.First.{First}
 use Rattle.first_language.specs.Meaning.{meaning, opening_of}
+use Rattle.serial_core.specs.Course.{IsCourse}
 use Rattle.upc_top.specs.declared.verdict.Verdict.{Verdict}
 use Rattle.upc_top.specs.declared.verdict.Verdict.TheVariants.{Usage, ReadFault, TooLong, Refused, Ran, Passed, Laid}
 use Rattle.upc_top.specs.declared.verdict.Verdict.TheVariants.{NoMemory}
@@ -31,13 +32,15 @@ abbrev pub reading : (List ℕ → Option (List ℕ)) → (List ℕ → ℕ) →
 reading told before after = record { told = told; before = before; after = after }
 
 -- The journal is a sound run of the program with what was asked for; each thread's p-th wait stands after the p-th
--- notify of all threads, and a thread that came to its budget has had that many ticks.
+-- notify of all threads, a thread that came to its budget has had that many ticks, and it went round by round, with no
+-- round begun once an end had ended the run.
 pub record IsRun (a : Asked) (p : First) (j : Journal) : Type 0 where
   pub budget_is : j.budget ≡ a.budget
   pub actions_is : j.actions ≡ a.actions
   pub sound : IsSound (opening_of p a.threads) (λ budget t. meaning p t a.threads budget) j
   pub waits : WaitsFollow a.threads j.history
   pub spent : AreSpent a.budget j.strands
+  pub course : IsCourse [] j
 
 -- A run was asked for, and the bytes are a program that can run, of which the journal is a sound run.
 pub record RanFrom (a : Asked) (bytes : List ℕ) (j : Journal) : Type 0 where
