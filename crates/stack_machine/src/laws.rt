@@ -1,0 +1,22 @@
+//! What holds of every code.
+
+ghost use Rattle.std.specs.Prelude.{ℕ, List};
+ghost use Rattle.thread_steps.specs.States.{Thread};
+ghost use Rattle.stack_code.specs.declared.instruction.Instr.{Instr};
+ghost use Rattle.stack_code.specs.Codes.{Codes};
+ghost use Rattle.stack_machine.specs.Bodies.{GoesOn};
+ghost use Rattle.stack_machine.specs.Standing.{GoesByReplies};
+
+/// What one instruction does goes by the body and the replies that it hears alone: not by the actions before, nor by
+/// the replies that follow.
+#[tactic(auto, using(crate::proofs::Instructions::goes_on))]
+pub fn instructions_go_on()
+    ensures { (τ : Thread) (functions : List (List Instr)) → GoesOn τ functions }
+{}
+
+/// A machine that goes on as its instructions say, and keeps nothing of the actions and replies before, tells what the
+/// code means on the replies that it was given.
+#[tactic(auto, using(crate::proofs::Standings::goes_by_replies))]
+pub fn machines_go_by_replies()
+    ensures { (codes : Codes) (thread budget : ℕ) → GoesByReplies codes thread budget }
+{}
