@@ -67,7 +67,7 @@ module _ (ρ : Running) (P : Property) (K : IsKept ρ.thread P) where
 
     within_row_kept : (at : Place) (count : Option ℕ) (q : Value) (i : ℤ) → P n d (Unit {0}) (e.within_row at count q i)
     within_row_kept at None q i = given tt
-    within_row_kept at (Some count) q i = chosen _ skip (fault (e.outside q) at) (given tt)
+    within_row_kept at (Some count) q i = chosen _ skip (fault (p.outside q) at) (given tt)
         (K.basic.of_over n d (Unit {0}) _ tt)
 
     unary_kept : (at : Place) (op : UnOp) (kind : Option Kind) (v : Value) → P n d Value (e.unary at op kind v)

@@ -1,16 +1,15 @@
 -- What an expression does and gives (C99 6.5, UPC 6.4).
-use Rattle.std.specs.Prelude.{ℕ, ℤ, pos, neg_ℤ, ◌*ℤ◌, int_le, int_lt, Bool, true, false, ◌&&◌, not, if◌then◌else◌}
+use Rattle.std.specs.Prelude.{ℕ, ℤ, pos, neg_ℤ, ◌*ℤ◌, Bool, true, false, not, if◌then◌else◌}
 use Rattle.std.specs.Prelude.{List, [], ◌∷◌, ◌++◌, map, Option, Some, None}
 use Rattle.upc_text.specs.declared.place.Place.{Place}
 use Rattle.block_layout.specs.declared.kind.Kind.{Kind}
 use Rattle.block_layout.specs.declared.place.LocalPtr.TheVariants as local
-use Rattle.block_layout.specs.declared.run_error.TheConstants.{OUT_OF_OBJECT, PRIVATE_RANGE}
 use Rattle.integers.specs.declared.operator.BinOp.{BinOp}
 use Rattle.integers.specs.declared.operator.BinOp.TheVariants as op
 use Rattle.integers.specs.declared.operator.UnOp.{UnOp}
 use Rattle.integers.specs.declared.operator.UnOp.TheVariants as un
 use Rattle.upc_values.specs.declared.scalar.Value.{Value}
-use Rattle.upc_values.specs.declared.scalar.Value.TheVariants.{Scalar, Local}
+use Rattle.upc_values.specs.declared.scalar.Value.TheVariants.{Local}
 use Rattle.upc_values.specs.declared.library.LibraryCall.{LibraryCall}
 use Rattle.upc_values.specs.declared.library.LibraryCall.TheVariants.{Printf}
 use Rattle.upc_types.specs.Types.{CType, Base, Array, base_of}
@@ -33,11 +32,11 @@ use Rattle.typed_tree.specs.Tree.{Call, Member, MemberBehind, Step, Address, Der
 use Rattle.typed_tree.specs.Tree.{Cast, Binary, And, Or, Assign, Compound, Conditional, Comma, Exprs, NoExprs}
 use Rattle.typed_tree.specs.Tree.{AndExpr, attr_of, place_of, attrs_of}
 use Rattle.thread_steps.specs.declared.cast.CastTo.{CastTo}
-use Rattle.thread_steps.specs.States.{Doing, ◌>>=◌, ◌>>◌, give, skip, choose, fault}
+use Rattle.thread_steps.specs.States.{Doing, ◌>>=◌, ◌>>◌, give, skip, choose}
 use Rattle.thread_steps.specs.Values.{number, number_of, truth_value, is_zero}
 use Rattle.thread_steps.specs.Accesses.{load, save}
 use Rattle.thread_steps.specs.Library.{library, print}
-use Rattle.thread_steps.specs.Pointers.{advance, member, difference, order, same}
+use Rattle.thread_steps.specs.Pointers.{advance, in_row, member, difference, order, same}
 use Rattle.thread_steps.specs.Operators.{operate, apply, cast}
 use Rattle.thread_steps.specs.Blocks.{local_object}
 use Rattle.source_meaning.specs.Types.{target_of, integer_of, is_strict, conversion, conversions}
@@ -104,15 +103,10 @@ is_lvalue form = false
 
 -- ---- steps that several constructs take
 
--- The run error of a place outside its object: of a shared one, or of a private one.
-abbrev pub outside : Value → ℕ
-outside (Scalar v) = OUT_OF_OBJECT
-outside (Local p) = PRIVATE_RANGE
-
 -- A further subscript of an array of arrays lies in its dimension.
 abbrev pub within_row : Place → Option ℕ → Value → ℤ → Doing (Unit {0})
 within_row at None p i = skip
-within_row at (Some count) p i = choose (int_le (pos 0) i && int_lt i (pos count)) skip (fault (outside p) at)
+within_row at (Some count) p i = in_row count at p i
 
 -- A unary operator, on an integer where the operand is one (C99 6.5.3.3).
 abbrev pub unary : Place → UnOp → Option Kind → Value → Doing Value
