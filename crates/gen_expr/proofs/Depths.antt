@@ -1,5 +1,5 @@
 -- Wherever the code of an expression stands, the depths agree, and it leaves one operand more.
-use Rattle.std.proofs.Common.{ℕ, suc, ◌+◌, List, [], ◌∷◌, ◌++◌, map, Option, Some, None}
+use Rattle.std.proofs.Common.{ℕ, suc, List, [], ◌∷◌, ◌++◌, map, Option, Some, None}
 use Rattle.std.proofs.Common.{Bool, true, false, refl, sym, subst, pos}
 use Rattle.std.specs.Prelude.{if◌then◌else◌}
 use Rattle.upc_text.specs.declared.place.Place.{Place}

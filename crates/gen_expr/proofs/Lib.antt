@@ -1,5 +1,8 @@
+pub mod Counts
+pub mod Parameters
 pub mod Parts
 pub mod Simulation
 pub mod Deepening
 pub mod Depths
 pub mod Starts
+pub mod Gathered

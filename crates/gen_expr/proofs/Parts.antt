@@ -3,7 +3,7 @@ use Rattle.std.proofs.Common.{◌≡◌, ℕ, ◌+◌, List, [], ◌∷◌, ◌+
 use Rattle.std.proofs.Common.{refl, sym, ap, ◌∙◌, subst, arith, length-append}
 use Rattle.upc_text.specs.declared.place.Place.{Place}
 use Rattle.upc_values.specs.declared.scalar.Value.{Value}
-use Rattle.thread_steps.specs.States.{Thread, State, Res, Val, Over, Unfinished, bind, Doing, ◌>>=◌, ◌>>◌, give}
+use Rattle.thread_steps.specs.States.{Thread, State, Res, Val, Over, Unfinished, bind, Doing, ◌>>=◌, give}
 use Rattle.thread_steps.specs.States.{choose}
 use Rattle.thread_steps.specs.Values.{is_zero}
 use Rattle.stack_code.specs.declared.instruction.StackWork.{StackWork}

@@ -45,7 +45,7 @@ fn put_under(code: &mut Vec<Instr>, place: Place) -> Result<(), OutOfMemory>
 }
 
 /// Appends the code that keeps the value on top in the object of a type at the place below it.
-pub(crate) fn put_kept(
+pub fn put_kept(
     code: &mut Vec<Instr>,
     source: Source<'_>,
     strict: bool,

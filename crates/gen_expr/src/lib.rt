@@ -2,6 +2,10 @@
 #![tactic(auto)]
 
 mod access;
+mod branches;
+mod building;
+mod calls;
+mod expressions;
 mod laws;
 mod objects;
 mod operators;
@@ -9,5 +13,11 @@ mod places;
 mod put;
 mod source;
 
+pub use access::put_kept;
+pub use building::expr_code;
+pub use expressions::{put_address_code, put_value_code};
 pub use laws::{expressions_keep_their_meaning, expressions_leave_a_value};
+pub use objects::put_object;
+pub use operators::put_advance;
+pub use put::{put_cast, put_jump, put_push, put_stack};
 pub use source::Source;

@@ -43,7 +43,7 @@ fn shared_object(source: Source<'_>, number: u32) -> Value
 }
 
 /// Appends the code of the place of a named object.
-pub(crate) fn put_object(
+pub fn put_object(
     code: &mut Vec<Instr>,
     source: Source<'_>,
     place: Place,

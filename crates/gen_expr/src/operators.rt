@@ -93,7 +93,7 @@ fn put_integers(
 }
 
 /// Appends the code of a pointer that an integer on top moves on.
-pub(crate) fn put_advance(
+pub fn put_advance(
     code: &mut Vec<Instr>,
     source: Source<'_>,
     place: Place,

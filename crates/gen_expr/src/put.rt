@@ -17,11 +17,8 @@ pub(crate) fn put(code: &mut Vec<Instr>, place: Place, does: Operation) -> Resul
     Ok(())
 }
 
-pub(crate) fn put_stack(
-    code: &mut Vec<Instr>,
-    place: Place,
-    work: StackWork,
-) -> Result<(), OutOfMemory>
+/// Appends an instruction that works on the stack alone.
+pub fn put_stack(code: &mut Vec<Instr>, place: Place, work: StackWork) -> Result<(), OutOfMemory>
     ensures { OnOk result (code.new.items ≡ code.old.items ++ (stacks place work ∷ [])) }
 {
     put(code, place, Operation::Stack(work))
@@ -37,19 +34,22 @@ pub(crate) fn put_value(
     put(code, place, Operation::Value(work))
 }
 
-pub(crate) fn put_jump(code: &mut Vec<Instr>, place: Place, work: Jump) -> Result<(), OutOfMemory>
+/// Appends a jump.
+pub fn put_jump(code: &mut Vec<Instr>, place: Place, work: Jump) -> Result<(), OutOfMemory>
     ensures { OnOk result (code.new.items ≡ code.old.items ++ (jumps place work ∷ [])) }
 {
     put(code, place, Operation::Way(work))
 }
 
-pub(crate) fn put_push(code: &mut Vec<Instr>, place: Place, value: Value) -> Result<(), OutOfMemory>
+/// Appends a constant.
+pub fn put_push(code: &mut Vec<Instr>, place: Place, value: Value) -> Result<(), OutOfMemory>
     ensures { OnOk result (code.new.items ≡ code.old.items ++ (pushes place value ∷ [])) }
 {
     put_stack(code, place, StackWork::Push(value))
 }
 
-pub(crate) fn put_cast(code: &mut Vec<Instr>, place: Place, into: CastTo) -> Result<(), OutOfMemory>
+/// Appends a conversion.
+pub fn put_cast(code: &mut Vec<Instr>, place: Place, into: CastTo) -> Result<(), OutOfMemory>
     ensures { OnOk result (code.new.items ≡ code.old.items ++ (casts place into ∷ [])) }
 {
     put_value(code, place, ValueWork::Cast(into))

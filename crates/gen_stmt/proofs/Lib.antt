@@ -1,7 +1,12 @@
 pub mod Lengths
+pub mod Backward
+pub mod Steps
+pub mod Behind
+pub mod Mains
+pub mod Compiling
 pub mod Counts
 pub mod Runs
 pub mod Courses
 pub mod Deeps
-pub mod Begins
+pub mod Gathered
 mod Samples

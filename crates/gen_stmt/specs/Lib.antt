@@ -1,4 +1,6 @@
 pub mod Ways
 pub mod Codes
 pub mod Programs
+pub mod Pushes
 pub mod Meanings
+pub mod code

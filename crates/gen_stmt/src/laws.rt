@@ -4,6 +4,7 @@ ghost use Rattle.typed_tree.specs.Programs.{Checked};
 ghost use Rattle.upc_values.specs.Lists.{Each};
 ghost use Rattle.stack_code.specs.Depths.{BeginsOnce, IsDeep};
 ghost use Rattle.gen_stmt.specs.Programs.{program_code};
+ghost use Rattle.gen_stmt.specs.Pushes.{PushesOnly};
 ghost use Rattle.gen_stmt.specs.Meanings.{MeansProgram};
 
 /// The code of a program means what the program means: each of its threads comes to the same outcome, whatever it is
@@ -20,4 +21,9 @@ pub fn depths_agree()
 /// Only its entry begins a function without a tick.
 pub fn entries_begin_once()
     ensures { (program : Checked) → BeginsOnce (program_code program).functions }
+{}
+
+/// It pushes integers, places of objects of the file, and 0 or null.
+pub fn pushes_are_known()
+    ensures { (program : Checked) → PushesOnly program }
 {}

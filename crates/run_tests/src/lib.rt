@@ -10,4 +10,6 @@ mod histories;
 #[cfg(test)]
 mod machines;
 #[cfg(test)]
+mod orders;
+#[cfg(test)]
 mod runs;

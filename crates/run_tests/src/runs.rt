@@ -3,7 +3,8 @@
 ghost use Rattle.std.specs.Prelude.{◌≤◌, ◌*◌, IsTrue};
 
 use crate::front::program_of;
-use serial_core::{Limits, run_by};
+use program_runs::run_program;
+use serial_core::Limits;
 use std::test::Fail;
 use upc_values::{Action, End, Journal};
 
@@ -67,7 +68,7 @@ while (MYTHREAD * (1 - y)) {y = 1; printf(\"%d\\n\", x);} return 0;}";
 
 const ENDLESS: &[u8] = b"int main(){while (1) {} return 0;}";
 
-const RUNS: [Run; 8] = [
+const RUNS: [Run; 9] = [
     // A relaxed read of a pending location gives the pending value and is no entry; another read passes the pending
     // writes.
     Run {
@@ -80,6 +81,93 @@ const RUNS: [Run; 8] = [
         picks: &[],
         history: &[(0, 0), (0, 1), (0, 3), (0, 2), (0, 5), (0, 6), (0, 7)],
         strands: &[("ended", 8, 0)],
+        printed: &[],
+    },
+    // The 65th pending write makes the oldest leave; a read of another location passes the others, and a fence empties the
+    // buffer.
+    Run {
+        source: b"shared int x[65]; shared int y; int main(void){int i; int r; \
+for (i = 0; i < 65; i++) x[i] = i; r = y; upc_fence; return 0;}",
+        limits: Limits {
+            threads: 1,
+            budget: 1000,
+            actions: 100,
+        },
+        picks: &[],
+        history: &[
+            (0, 0),
+            (0, 1),
+            (0, 2),
+            (0, 67),
+            (0, 3),
+            (0, 4),
+            (0, 5),
+            (0, 6),
+            (0, 7),
+            (0, 8),
+            (0, 9),
+            (0, 10),
+            (0, 11),
+            (0, 12),
+            (0, 13),
+            (0, 14),
+            (0, 15),
+            (0, 16),
+            (0, 17),
+            (0, 18),
+            (0, 19),
+            (0, 20),
+            (0, 21),
+            (0, 22),
+            (0, 23),
+            (0, 24),
+            (0, 25),
+            (0, 26),
+            (0, 27),
+            (0, 28),
+            (0, 29),
+            (0, 30),
+            (0, 31),
+            (0, 32),
+            (0, 33),
+            (0, 34),
+            (0, 35),
+            (0, 36),
+            (0, 37),
+            (0, 38),
+            (0, 39),
+            (0, 40),
+            (0, 41),
+            (0, 42),
+            (0, 43),
+            (0, 44),
+            (0, 45),
+            (0, 46),
+            (0, 47),
+            (0, 48),
+            (0, 49),
+            (0, 50),
+            (0, 51),
+            (0, 52),
+            (0, 53),
+            (0, 54),
+            (0, 55),
+            (0, 56),
+            (0, 57),
+            (0, 58),
+            (0, 59),
+            (0, 60),
+            (0, 61),
+            (0, 62),
+            (0, 63),
+            (0, 64),
+            (0, 65),
+            (0, 66),
+            (0, 68),
+            (0, 69),
+            (0, 70),
+        ],
+        strands: &[],
         printed: &[],
     },
     // The second barrier of thread 1 is met by the barrier after main of thread 0, its third by none.
@@ -178,8 +266,8 @@ const RUNS: [Run; 8] = [
     },
 ];
 
-// Whether the limits are such as a run may have.
-fn may_be(limits: Limits) -> bool
+/// Whether the limits are such as a run may have.
+pub fn may_be(limits: Limits) -> bool
     ensures threads { IsTrue result → (1 ≤ limits.threads) × (limits.threads ≤ 32) }
     ensures budget { IsTrue result → (1 ≤ limits.budget) × (limits.budget ≤ 1000000000000) }
     ensures actions { IsTrue result → (1 ≤ limits.actions)
@@ -199,9 +287,13 @@ fn may_be(limits: Limits) -> bool
 #[test]
 fn runs(rt: HostRuntime) -> Result<(), Fail> {
     for (number, run) in RUNS.iter().enumerate() {
-        let program = program_of(rt.alloc(), run.source)?.expect(&rt, "a program of the language");
+        let program = program_of(rt.alloc(), run.limits.threads, run.source)?.expect(
+            &rt,
+            "a program",
+        );
         assert!(rt; may_be(run.limits));
-        let journal = run_by(&rt, rt.alloc(), &program, run.limits, run.picks)?;
+        assert!(rt; program.threads() == run.limits.threads);
+        let journal = run_program(&rt, rt.alloc(), &program, run.limits, run.picks)?;
         assert!(rt;
             run.history.is_empty() || has_history(&journal, run.history),
             "{number}"

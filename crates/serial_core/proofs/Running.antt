@@ -14,9 +14,9 @@ use Rattle.upc_values.specs.History.{reply, IsLegal, EachBelow}
 use Rattle.upc_values.specs.Formed.{AreWellFormed}
 use Rattle.upc_values.specs.Ends.{stops, settles, SharedEnd, OwnEnd}
 use Rattle.upc_values.specs.Sound.{IsStrand, IsSound}
-use Rattle.first_language.specs.declared.tree.First.{First}
-use Rattle.first_language.specs.declared.machine.Wish.{Wish}
-use Rattle.first_language.specs.declared.machine.Wish.TheVariants.{Act}
+use Rattle.stack_code.specs.Codes.{Codes}
+use Rattle.stack_machine.specs.declared.wish.Wish.{Wish}
+use Rattle.stack_machine.specs.declared.wish.Wish.TheVariants.{Act}
 use Rattle.serial_core.specs.declared.limits.Limits.{Limits}
 use Rattle.serial_core.specs.declared.task.Task.{Task}
 use Rattle.serial_core.specs.declared.task.Pause.{Pause}
@@ -33,7 +33,7 @@ use Rattle.serial_core.proofs.Lists.{numbered-map, both, some-of}
 use Rattle.serial_core.proofs.Options.{none-some}
 use Rattle.serial_core.proofs.Tasks.{kept-grow, kept-ended}
 
-at-grow : (op : Opening) (p : First) (src : Outcomes) (i t : ℕ) (seen later : List Entry) (k : Task) → (i ≢ t) → Grew t seen later → IsAt op p src seen i k → IsAt op p src later i k
+at-grow : (op : Opening) (p : Codes) (src : Outcomes) (i t : ℕ) (seen later : List Entry) (k : Task) → (i ≢ t) → Grew t seen later → IsAt op p src seen i k → IsAt op p src later i k
 at-grow op p src i t seen later k ne g h = record { thread = h.thread; kept = kept-grow op p src t seen later k h.kept (λ q. ne (sym h.thread ∙ q)) g }
 
 pub paused-own : (p : Pause) (k : Task) → Paused p k → HasOwnEnd k
@@ -42,7 +42,7 @@ paused-own pauses.Beat k h e q = absurd (let z : Some e ≡ None = sym q ∙ h.0
 paused-own pauses.Stalled k h e q = absurd (let z : Some e ≡ None = sym q ∙ h.0 in cc)
 paused-own pauses.Finished k h e q = let z : h.0 ≡ e = cc in subst (λ f. is_given f ≡ false) z h.2
 
-pub running-set : (op : Opening) (p : First) (src : Outcomes) (t : ℕ) (seen later : List Entry) (ks : List Task) (k : Task) → IsRunning op p src seen ks → t < length ks → Grew t seen later → IsAt op p src later t k → HasOwnEnd k → IsIdle k → IsRunning op p src later (set ks t k)
+pub running-set : (op : Opening) (p : Codes) (src : Outcomes) (t : ℕ) (seen later : List Entry) (ks : List Task) (k : Task) → IsRunning op p src seen ks → t < length ks → Grew t seen later → IsAt op p src later t k → HasOwnEnd k → IsIdle k → IsRunning op p src later (set ks t k)
 running-set op p src t seen later ks k r lt g a o idle = record {
   many = length-set ks t k ∙ r.many;
   tasks = λ i d l. elim (cases_eq i t) as (λ z. IsAt op p src later i (get_or (set ks t k) i d)) [
@@ -60,13 +60,13 @@ running-set op p src t seen later ks k r lt g a o idle = record {
 }
 
 -- what f makes of each, where it makes a task that keeps its thread, limit and invariant
-each-at : (f : Task → Task) (op : Opening) (p : First) (src : Outcomes) (seen : List Entry) (ks ms : List Task) → AreEach f ks ms → ((i : ℕ) (d : Task) → i < length ks → IsAt op p src seen i (f (get_or ks i d))) → Numbered (λ i k. IsAt op p src seen i k) ms
+each-at : (f : Task → Task) (op : Opening) (p : Codes) (src : Outcomes) (seen : List Entry) (ks ms : List Task) → AreEach f ks ms → ((i : ℕ) (d : Task) → i < length ks → IsAt op p src seen i (f (get_or ks i d))) → Numbered (λ i k. IsAt op p src seen i k) ms
 each-at f op p src seen ks ms e h i d lt = let l : i < length ks = subst (λ m. i < m) e.many lt in subst (IsAt op p src seen i) (sym (e.each i d l)) (h i d l)
 
 same-end : (k : Task) (o : Option End) → k.«end» ≡ o → k ≡ record k { «end» = o }
 same-end k o q = ap (λ z. let m : Task = record k { «end» = z } in m) q
 
-at-halted : (op : Opening) (p : First) (src : Outcomes) (i : ℕ) (seen : List Entry) (k : Task) → IsAt op p src seen i k → Rested k → IsAt op p src seen i (halted k)
+at-halted : (op : Opening) (p : Codes) (src : Outcomes) (i : ℕ) (seen : List Entry) (k : Task) → IsAt op p src seen i k → Rested k → IsAt op p src seen i (halted k)
 at-halted op p src i seen k a r =
     let go : (o : Option End) → k.«end» ≡ o → IsAt op p src seen i (record k { «end» = halted_end o }) =
     λ o. elim o as (λ o. k.«end» ≡ o → IsAt op p src seen i (record k { «end» = halted_end o })) [
@@ -79,7 +79,7 @@ locked-some : (w : Option Wish) (e : End) → Some e ≡ locked_end w (Some e)
 locked-some None e = refl
 locked-some (Some w) e = refl
 
-at-locked : (op : Opening) (p : First) (src : Outcomes) (i : ℕ) (seen : List Entry) (k : Task) → IsAt op p src seen i k → (k.«end» ≡ None → CanLock k) → IsAt op p src seen i (locked k)
+at-locked : (op : Opening) (p : Codes) (src : Outcomes) (i : ℕ) (seen : List Entry) (k : Task) → IsAt op p src seen i k → (k.«end» ≡ None → CanLock k) → IsAt op p src seen i (locked k)
 at-locked op p src i seen k a r =
     let go : (o : Option End) → k.«end» ≡ o → IsAt op p src seen i (record k { «end» = locked_end k.wish o }) =
     λ o. elim o as (λ o. k.«end» ≡ o → IsAt op p src seen i (record k { «end» = locked_end k.wish o })) [
@@ -101,7 +101,7 @@ halted-ended (Some e) = refl
 stops-halted : (k : Task) → Stops k → Stops (halted k)
 stops-halted k s = (s.0, ap halted_end s.1, s.2)
 
-pub over-halted : (op : Opening) (p : First) (src : Outcomes) (seen : List Entry) (ks ms : List Task) (u : ℕ) → IsRunning op p src seen ks → Numbered (λ j k. Rested k) ks → u < length ks → ((d : Task) → Stops (get_or ks u d)) → AreEach halted ks ms → IsOver op p src seen ms
+pub over-halted : (op : Opening) (p : Codes) (src : Outcomes) (seen : List Entry) (ks ms : List Task) (u : ℕ) → IsRunning op p src seen ks → Numbered (λ j k. Rested k) ks → u < length ks → ((d : Task) → Stops (get_or ks u d)) → AreEach halted ks ms → IsOver op p src seen ms
 over-halted op p src seen ks ms u r rested ul stop e = record {
   many = e.many ∙ r.many;
   tasks = each-at halted op p src seen ks ms e (λ i d l. at-halted op p src i seen (get_or ks i d) (r.tasks i d l) (rested i d l));
@@ -138,7 +138,7 @@ locked-settles : (w : Option Wish) (o : Option End) (f : End) → (o ≡ None �
 locked-settles w (Some e) f h k q = let z : Some e ≡ Some f = locked-some w e ∙ q in let y : e ≡ f = cc in let p = k e refl in subst (λ g. settles g ≡ true) y (own-settles e p.0 p.1)
 locked-settles w None f h k q = let c = h refl in let z : Some (Deadlocked c.0) ≡ Some f = ap (λ y. locked_end y None) (sym c.1) ∙ q in let y : Deadlocked c.0 ≡ f = cc in subst (λ g. settles g ≡ true) y refl
 
-pub over-locked : (op : Opening) (p : First) (src : Outcomes) (seen : List Entry) (ks ms : List Task) → IsRunning op p src seen ks → Numbered (λ j k. k.«end» ≡ None → Wanting op seen k) ks → Numbered (λ j k. (e : End) → k.«end» ≡ Some e → stops e ≡ false) ks → AreEach locked ks ms → IsOver op p src seen ms
+pub over-locked : (op : Opening) (p : Codes) (src : Outcomes) (seen : List Entry) (ks ms : List Task) → IsRunning op p src seen ks → Numbered (λ j k. k.«end» ≡ None → Wanting op seen k) ks → Numbered (λ j k. (e : End) → k.«end» ≡ Some e → stops e ≡ false) ks → AreEach locked ks ms → IsOver op p src seen ms
 over-locked op p src seen ks ms r want quiet e = record {
   many = e.many ∙ r.many;
   tasks = each-at locked op p src seen ks ms e (λ i d l. at-locked op p src i seen (get_or ks i d) (r.tasks i d l) (λ q. let w = want i d l q in (w.action, w.wish_is, w.stalled)));
@@ -160,7 +160,7 @@ over-locked op p src seen ks ms r want quiet e = record {
       ] in go k.«end» refl q';
 }
 
-pub over-ended : (op : Opening) (p : First) (src : Outcomes) (seen : List Entry) (ks : List Task) → IsRunning op p src seen ks → Numbered (λ j k. is_some k.«end» ≡ true) ks → IsOver op p src seen ks
+pub over-ended : (op : Opening) (p : Codes) (src : Outcomes) (seen : List Entry) (ks : List Task) → IsRunning op p src seen ks → Numbered (λ j k. is_some k.«end» ≡ true) ks → IsOver op p src seen ks
 over-ended op p src seen ks r ended = record {
   many = r.many;
   tasks = r.tasks;
@@ -169,7 +169,7 @@ over-ended op p src seen ks r ended = record {
 }
 
 -- a strand of a task
-strand-own : (op : Opening) (p : First) (src : Outcomes) (seen : List Entry) (k : Task) (e : End) → IsKept op p src seen k → k.«end» ≡ Some e
+strand-own : (op : Opening) (p : Codes) (src : Outcomes) (seen : List Entry) (k : Task) (e : End) → IsKept op p src seen k → k.«end» ≡ Some e
     → IsStrand op k.thread k.limits.actions seen (src k.thread) (strand_of src k)
 strand-own op p src seen k e h q =
     let he = h.ended e q in let ends : end_or k.«end» ≡ e = ap end_or q in
@@ -187,7 +187,7 @@ some-end : (o : Option End) → is_some o ≡ true → (e : End) × (o ≡ Some 
 some-end None h = absurd (false≢true h)
 some-end (Some e) h = (e, refl)
 
-strand-at : (op : Opening) (p : First) (src : Outcomes) (l : Limits) (i : ℕ) (seen : List Entry) (k : Task) → IsAt op p src seen i k → is_some k.«end» ≡ true
+strand-at : (op : Opening) (p : Codes) (src : Outcomes) (l : Limits) (i : ℕ) (seen : List Entry) (k : Task) → IsAt op p src seen i k → is_some k.«end» ≡ true
     → k.limits ≡ l → IsStrand op i l.actions seen (src i) (strand_of src k)
 strand-at op p src l i seen k a h q = let e = some-end k.«end» h in
     subst (λ t. IsStrand op t l.actions seen (src t) (strand_of src k)) a.thread
@@ -220,7 +220,7 @@ shared-end op src j ms i k ActionsFull s ended h = tt
 shared-end op src j ms i k (Exit v) s ended h = tt
 
 -- the journal of a run that is over is sound
-pub over-sound : (op : Opening) (p : First) (all : ℕ → Outcomes) (l : Limits) (ks ms : List Task) (j : Journal) → IsOver op p (all l.budget) j.history ms → IsLegal op j.history
+pub over-sound : (op : Opening) (p : Codes) (all : ℕ → Outcomes) (l : Limits) (ks ms : List Task) (j : Journal) → IsOver op p (all l.budget) j.history ms → IsLegal op j.history
     → AreWellFormed op j.history → EachBelow op.threads j.history → AreSame ks ms → Numbered (λ i k. k.limits ≡ l) ks
     → j.threads ≡ op.threads → j.budget ≡ l.budget → j.actions ≡ l.actions → j.strands ≡ map (strand_of (all l.budget)) ms
     → IsSound op all j
@@ -267,7 +267,7 @@ pub limits-of : (l : Limits) → (1 ≤ l.threads) × (l.threads ≤ 32) → (1 
 limits-of l t b a = record { some = t.0; threads = t.1; ticks = b.0; budget = b.1; items = a.0; all = a.1 }
 
 -- a run that begins
-pub start-of : (op : Opening) (p : First) (src : Outcomes) (l : Limits) (ks : List Task) → length ks ≡ op.threads → Numbered (λ i k. IsNew op p src l i k) ks
+pub start-of : (op : Opening) (p : Codes) (src : Outcomes) (l : Limits) (ks : List Task) → length ks ≡ op.threads → Numbered (λ i k. IsNew op p src l i k) ks
     → IsStart op p src l ks
 start-of op p src l ks many new = record {
   running = record {

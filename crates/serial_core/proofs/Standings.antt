@@ -16,9 +16,9 @@ use Rattle.upc_values.specs.Openings.{Opening}
 use Rattle.upc_values.specs.Ends.{stops, is_pause}
 use Rattle.upc_values.proofs.Lists.{each-push}
 use Rattle.upc_values.proofs.Walks.{stall-pauses, beat-pauses}
-use Rattle.first_language.specs.declared.tree.First.{First}
-use Rattle.first_language.specs.declared.machine.Wish.{Wish}
-use Rattle.first_language.specs.declared.machine.Wish.TheVariants.{Act}
+use Rattle.stack_code.specs.Codes.{Codes}
+use Rattle.stack_machine.specs.declared.wish.Wish.{Wish}
+use Rattle.stack_machine.specs.declared.wish.Wish.TheVariants.{Act}
 use Rattle.serial_core.specs.declared.task.Task.{Task}
 use Rattle.serial_core.specs.declared.task.Pause.{Pause}
 use Rattle.serial_core.specs.declared.task.Pause.TheVariants as pauses
@@ -75,7 +75,7 @@ rested-rests k h =
       | Some e ↦ λ q. refl
     ] in go k.«end» refl
 
-pub rests-rested : (op : Opening) (p : First) (f : Outcomes) (seen : List Entry) (i : ℕ) (k : Task) → IsAt op p f seen i k → IsIdle k → rests (standing_of k) ≡ true → Rested k
+pub rests-rested : (op : Opening) (p : Codes) (f : Outcomes) (seen : List Entry) (i : ℕ) (k : Task) → IsAt op p f seen i k → IsIdle k → rests (standing_of k) ≡ true → Rested k
 rests-rested op p f seen i k a idle h = λ q.
     let last = last_item k.items.items in
     let pause : is_pause last ≡ true = subst (λ o. rests (with k.items.items o) ≡ true) q h in
@@ -100,12 +100,12 @@ unrested-open k h =
     ] in go k.«end» refl h
 
 -- moments
-pub drained-of : (p : First) (f : Outcomes) (w : Opening × List Entry) (ks : List Task) → IsRunning w.0 p f w.1 ks → IsDrained (moment_of w ks)
+pub drained-of : (p : Codes) (f : Outcomes) (w : Opening × List Entry) (ks : List Task) → IsRunning w.0 p f w.1 ks → IsDrained (moment_of w ks)
 drained-of p f w ks r =
     numbered-map standing_of (λ i k. IsAt w.0 p f w.1 i k) (λ t s. entries_of t w.1 ≡ (settled s.«end» (walked t s.items)).emitted)
     (λ i k a. subst (λ t. entries_of t w.1 ≡ (settled k.«end» (walked t k.items.items)).emitted) a.thread a.kept.holds.out) ks r.tasks
 
-pub later-of : (p : First) (f : Outcomes) (w x : Opening × List Entry) (ks ms : List Task) → IsRunning x.0 p f x.1 ms → length ms ≡ length ks → Grows w.1 x.1
+pub later-of : (p : Codes) (f : Outcomes) (w x : Opening × List Entry) (ks ms : List Task) → IsRunning x.0 p f x.1 ms → length ms ≡ length ks → Grows w.1 x.1
     → IsLater (moment_of w ks) (moment_of x ms)
 later-of p f w x ks ms r same g = record {
   many = length-map ms standing_of ∙ same ∙ sym (length-map ks standing_of);
@@ -163,7 +163,7 @@ others-of ks ms t at d same ne h =
     ]
 
 -- a pick
-pub obeys-of : (p : First) (f : Outcomes) (w x : Opening × List Entry) (ks ms : List Task) (pick at : ℕ) → NoneStops ks → IsChosen ks pick at → IsRunning x.0 p f x.1 ms
+pub obeys-of : (p : Codes) (f : Outcomes) (w x : Opening × List Entry) (ks ms : List Task) (pick at : ℕ) → NoneStops ks → IsChosen ks pick at → IsRunning x.0 p f x.1 ms
     → AreSame ks ms → OthersStay at ks ms → GoesAt Steps at ks ms → Grows w.1 x.1 → Obeys pick (moment_of w ks) (moment_of x ms)
 obeys-of p f w x ks ms pick at quiet ch r same others steps g =
     let k = some-of ks at ch.within in

@@ -26,33 +26,33 @@ use Rattle.upc_values.proofs.Known.{known-grow}
 use Rattle.upc_values.proofs.Lists.{each-push}
 use Rattle.upc_values.proofs.Walks.{walked-push, paused-empty, stall-pauses, beat-pauses, emptied-same, entries-other}
 use Rattle.upc_values.proofs.Records.{last-push, actions-did, replies-did, actions-stall, replies-stall, stand-did, stand-stall, justified-did, justified-stall, justified-grow, beats-push, beat-of, stall-no_beat}
-use Rattle.first_language.specs.declared.tree.First.{First}
-use Rattle.first_language.specs.declared.machine.Machine.{Machine}
-use Rattle.first_language.specs.declared.machine.Wish.{Wish}
-use Rattle.first_language.specs.declared.machine.Wish.TheVariants.{Act, Ended, Exit, Fault, Budget}
-use Rattle.first_language.specs.Machine.{Stands, HasAsked, listed, told_of}
+use Rattle.stack_code.specs.Codes.{Codes}
+use Rattle.stack_machine.specs.Machine.{Seen}
+use Rattle.stack_machine.specs.declared.wish.Wish.{Wish}
+use Rattle.stack_machine.specs.declared.wish.Wish.TheVariants.{Act, Ended, Exit, Fault, Budget}
+use Rattle.stack_machine.specs.Machine.{Answered, HasAsked, HasHeard, listed, told_of}
 use Rattle.write_buffer.specs.Buffer.{committed}
 use Rattle.serial_core.specs.declared.limits.Limits.{Limits}
 use Rattle.serial_core.specs.declared.task.Task.{Task}
-use Rattle.serial_core.specs.Sources.{Outcomes, IsSource, HasOutcomes, Follows, Answered}
+use Rattle.serial_core.specs.Sources.{Outcomes, IsSource, HasOutcomes, Follows}
 use Rattle.serial_core.specs.Kept.{AreLimits, Holds, outcome_of, IsRecord, Goes, settled, IsKept, Grew, Emitted, IsAnswer, IsPausing, CanEnd, is_given, own_end}
 use Rattle.serial_core.proofs.Lists.{map-nil}
 use Rattle.serial_core.proofs.Options.{none-some, some-is}
 use Rattle.serial_core.proofs.Buffers.{holds-unemptied, holds-grow}
 
 -- the history may have given the replies of the record
-kept-given : (o : Opening) (p : First) (f : Outcomes) (seen : List Entry) (k : Task) → IsLegal o seen → AreWellFormed o seen → IsKept o p f seen k
+kept-given : (o : Opening) (p : Codes) (f : Outcomes) (seen : List Entry) (k : Task) → IsLegal o seen → AreWellFormed o seen → IsKept o p f seen k
     → HasGiven o seen (replies_of k.items.items)
 kept-given o p f seen k legal formed h = record { legal = legal; formed = formed; known = h.record_ok.known }
 
 -- what a task wishes to do may be asked for
-pub kept-asks : (o : Opening) (p : First) (f : Outcomes) (seen : List Entry) (k : Task) (a : Action) → IsLegal o seen → AreWellFormed o seen
+pub kept-asks : (o : Opening) (p : Codes) (f : Outcomes) (seen : List Entry) (k : Task) (a : Action) → IsLegal o seen → AreWellFormed o seen
     → IsKept o p f seen k → k.wish ≡ Some (Act a) → IsWellFormed o seen a
 kept-asks o p f seen k a legal formed h w =
     h.source.means.formed (replies_of k.items.items) seen a (sym (h.goes.wished (Act a) w).1) (kept-given o p f seen k legal formed h)
 
 -- and is basic
-pub kept-basic : (o : Opening) (p : First) (f : Outcomes) (seen : List Entry) (k : Task) (a : Action) → IsKept o p f seen k → k.wish ≡ Some (Act a) → is_basic a ≡ true
+pub kept-basic : (o : Opening) (p : Codes) (f : Outcomes) (seen : List Entry) (k : Task) (a : Action) → IsKept o p f seen k → k.wish ≡ Some (Act a) → is_basic a ≡ true
 kept-basic o p f seen k a h w = h.source.basic (replies_of k.items.items) a (sym (h.goes.wished (Act a) w).1)
 
 -- replies that were known stay known
@@ -66,21 +66,21 @@ justified-grew o t seen later want xs g h =
     subst (λ l. AreJustified o t l want [] xs) (sym g.is) (justified-grow o t seen g.more want [] xs h)
 
 -- the machine has had all replies of the record where it has said its wish
-all-given : (o : Opening) (p : First) (f : Outcomes) (seen : List Entry) (k : Task) (w : Wish) (h : IsKept o p f seen k) → k.wish ≡ Some w
+all-given : (o : Opening) (p : Codes) (f : Outcomes) (seen : List Entry) (k : Task) (w : Wish) (h : IsKept o p f seen k) → k.wish ≡ Some w
     → h.goes.given ≡ replies_of k.items.items
 all-given o p f seen k w h q =
     sym (append-nil h.goes.given) ∙ ap (λ z. h.goes.given ++ listed z) (sym (h.goes.wished w q).0) ∙ h.goes.replies
 
 -- the machine has asked where it has said its wish
-has-asked : (p : First) (outcome : List Reply → Outcome) (t n b : ℕ) (machine : Machine) (answer : Option Reply) (wish : Option Wish) (items : List Item) (w : Wish)
-    → Goes p outcome t n b machine answer wish items → wish ≡ Some w → HasAsked machine
-has-asked p outcome t n b machine answer wish items w g q = elim g.asked [
+has-asked : (p : Codes) (outcome : List Reply → Outcome) (t b : ℕ) (machine : Seen) (answer : Option Reply) (wish : Option Wish) (items : List Item) (w : Wish)
+    → Goes p outcome t b machine answer wish items → wish ≡ Some w → HasAsked machine
+has-asked p outcome t b machine answer wish items w g q = elim g.asked [
   | inl z ↦ absurd (none-some wish w z.1 q)
   | inr z ↦ z
 ]
 
 -- an action
-pub kept-did : (o : Opening) (p : First) (f : Outcomes) (seen later : List Entry) (k m : Task) (a : Action) (r : Reply)
+pub kept-did : (o : Opening) (p : Codes) (f : Outcomes) (seen later : List Entry) (k m : Task) (a : Action) (r : Reply)
     → IsLegal o later → AreWellFormed o later → IsKept o p f seen k → k.«end» ≡ None → k.wish ≡ Some (Act a) → length k.items.items < k.limits.actions
     → Grew k.thread seen later
     → ((w : Walk) → Holds o k.thread seen k.buffer k.next w → Emitted o k.thread later m.buffer k.next a (Some r) w)
@@ -137,13 +137,13 @@ kept-did o p f seen later k m a r legal formed h opened wants room g em answer i
             ap (λ l. (f k.thread l).ticks) given ∙ law.ticks (replies_of items) (wanting ∙ ap told.Wants is_a_beat)
             ∙ ap (λ l. 1024 * (beats l + 1)) h.record_ok.did ∙ ap (λ z. 1024 * z) (sym (beats-push (actions_of items)))
             ∙ ap (λ l. 1024 * beats l) (ap (λ b. actions_of items ++ b ∷ []) (sym is_a_beat) ∙ sym actions);
-        asked = inr (has-asked p (f k.thread) t k.limits.threads k.limits.budget k.machine k.answer k.wish items (Act a) h.goes wants);
+        asked = inr (has-asked p (f k.thread) t k.limits.budget k.machine k.answer k.wish items (Act a) h.goes wants);
       };
       ended = λ e q. absurd (none-some k.«end» e opened q);
     }
 
 -- a new stall
-pub kept-stall : (o : Opening) (p : First) (f : Outcomes) (seen later : List Entry) (k m : Task) (a : Action)
+pub kept-stall : (o : Opening) (p : Codes) (f : Outcomes) (seen later : List Entry) (k m : Task) (a : Action)
     → IsKept o p f seen k → k.«end» ≡ None → k.wish ≡ Some (Act a) → length k.items.items < k.limits.actions
     → Grew k.thread seen later
     → ((w : Walk) → Holds o k.thread seen k.buffer k.next w → Emitted o k.thread later m.buffer k.next a None w)
@@ -189,24 +189,24 @@ kept-stall o p f seen later k m a h opened wants room g em none still is =
         wished = λ e q. let z = h.goes.wished e (wants ∙ q) in (z.0, z.1 ∙ ap (λ z. z.«end») (sym same));
         idle = λ q. absurd cc;
         beats = λ b q. absurd cc;
-        asked = inr (has-asked p (f k.thread) t k.limits.threads k.limits.budget k.machine k.answer k.wish items (Act a) h.goes wants);
+        asked = inr (has-asked p (f k.thread) t k.limits.budget k.machine k.answer k.wish items (Act a) h.goes wants);
       };
       ended = λ e q. absurd (none-some k.«end» e opened q);
     }
 
 -- no stall after a stall
-pub kept-stay : (o : Opening) (p : First) (f : Outcomes) (seen later : List Entry) (k m : Task) (a : Action)
+pub kept-stay : (o : Opening) (p : Codes) (f : Outcomes) (seen later : List Entry) (k m : Task) (a : Action)
     → IsKept o p f seen k → k.«end» ≡ None → k.wish ≡ Some (Act a) → Grew k.thread seen later
     → ((w : Walk) → Holds o k.thread seen k.buffer k.next w → Emitted o k.thread later m.buffer k.next a None w)
     → is_stall (last_item k.items.items) ≡ true → m.items.items ≡ k.items.items
     → IsKept o p f later record { machine = k.machine; thread = k.thread; limits = k.limits; items = m.items; buffer = m.buffer; next = k.next; answer = k.answer; wish = Some (Act a); «end» = k.«end» }
 kept-stay o p f seen later k m a h opened wants g em stalls is =
-    let t = k.thread in let items = k.items.items in let w = walked t items in let n = k.limits.threads in let b = k.limits.budget in
+    let t = k.thread in let items = k.items.items in let w = walked t items in let b = k.limits.budget in
     let hw : Holds o t seen k.buffer k.next w = subst (λ e. Holds o t seen k.buffer k.next (settled e w)) opened h.holds in
     let ht : Holds o t later m.buffer k.next w =
     holds-unemptied o t k.next later m.buffer w (paused-empty t items (stall-pauses (last_item items) stalls)) (em w hw) in
     let P : List Item → Type 0 = λ ys. IsRecord o t k.limits.actions later (f k.thread (replies_of ys)) ys in
-    let G : List Item → Type 0 = λ ys. Goes p (f k.thread) t n b k.machine k.answer (Some (Act a)) ys in
+    let G : List Item → Type 0 = λ ys. Goes p (f k.thread) t b k.machine k.answer (Some (Act a)) ys in
     record {
       source = h.source;
       within = h.within;
@@ -221,7 +221,7 @@ kept-stay o p f seen later k m a h opened wants g em stalls is =
         short = h.record_ok.short;
         known = replies-grew o t seen later (replies_of items) g h.record_ok.known;
       });
-      goes = subst G (sym is) (subst (λ z. Goes p (f k.thread) t n b k.machine k.answer z items) wants h.goes);
+      goes = subst G (sym is) (subst (λ z. Goes p (f k.thread) t b k.machine k.answer z items) wants h.goes);
       ended = λ e q. absurd (none-some k.«end» e opened q);
     }
 
@@ -230,7 +230,7 @@ own-ticks m items ends.Halted h = absurd (false≢true (sym h))
 own-ticks m items e h = refl
 
 -- an end of its own
-pub kept-closed : (o : Opening) (p : First) (f : Outcomes) (seen later : List Entry) (k m : Task) (w : Wish) (e : End)
+pub kept-closed : (o : Opening) (p : Codes) (f : Outcomes) (seen later : List Entry) (k m : Task) (w : Wish) (e : End)
     → IsKept o p f seen k → k.«end» ≡ None → k.wish ≡ Some w → Grew k.thread seen later
     → ((z : Walk) → Holds o k.thread seen k.buffer k.next z → Holds o k.thread later m.buffer k.next (emptied z)) → m.buffer ≡ []
     → OwnEnd k.limits.actions (outcome_of f k).«end» k.items.items e → is_given e ≡ false
@@ -256,7 +256,7 @@ kept-closed o p f seen later k m wish e h opened wants g em empty own own_end =
           let same : e ≡ e' = cc in
           record {
             empty = empty;
-            asked = has-asked p (f k.thread) t k.limits.threads k.limits.budget k.machine k.answer k.wish items wish h.goes wants;
+            asked = has-asked p (f k.thread) t k.limits.budget k.machine k.answer k.wish items wish h.goes wants;
             own = subst (OwnEnd k.limits.actions (outcome_of f k).«end» items) same own;
             counted = ap (λ l. (f k.thread l).ticks) (all-given o p f seen k wish h wants)
                 ∙ sym (own-ticks (outcome_of f k).ticks items e' (subst (λ z. is_given z ≡ false) same own_end));
@@ -302,14 +302,14 @@ can-pauses k (ends.Deadlocked a) c = stall-pauses (last_item k.items.items) c.1
 can-pauses k e c = elim c [ ]
 
 -- the machine has asked where its task stands at a Beat or a Stall
-pausing-asked : (o : Opening) (p : First) (f : Outcomes) (seen : List Entry) (k : Task) → IsKept o p f seen k → IsPausing k → HasAsked k.machine
+pausing-asked : (o : Opening) (p : Codes) (f : Outcomes) (seen : List Entry) (k : Task) → IsKept o p f seen k → IsPausing k → HasAsked k.machine
 pausing-asked o p f seen k h c =
     elim h.goes.asked [
       | inr z ↦ z
       | inl z ↦ absurd (false≢true (sym (ap (λ xs. is_pause (last_item xs)) z.0) ∙ pausing-is k c))
     ]
 
-given-ticks : (o : Opening) (p : First) (f : Outcomes) (seen : List Entry) (k : Task) (h : IsKept o p f seen k) → IsPausing k
+given-ticks : (o : Opening) (p : Codes) (f : Outcomes) (seen : List Entry) (k : Task) (h : IsKept o p f seen k) → IsPausing k
     → (f k.thread h.goes.given).ticks ≡ strand_ticks ends.Halted k.items.items (outcome_of f k).ticks
 given-ticks o p f seen k h (inl b) =
     h.goes.beats b.0 b.1
@@ -320,19 +320,19 @@ given-ticks o p f seen k h (inr s) =
     ∙ sym (cond-false (is_beat_item (last_item k.items.items)) (1024 * beats (actions_of k.items.items)) (outcome_of f k).ticks
     (stall-no_beat (last_item k.items.items) s.0))
 
-given-end : (o : Opening) (p : First) (f : Outcomes) (seen : List Entry) (k : Task) (e : End) (h : IsKept o p f seen k) → CanEnd k e
+given-end : (o : Opening) (p : Codes) (f : Outcomes) (seen : List Entry) (k : Task) (e : End) (h : IsKept o p f seen k) → CanEnd k e
     → HasAsked k.machine × OwnEnd k.limits.actions (outcome_of f k).«end» k.items.items e
     × ((f k.thread h.goes.given).ticks ≡ strand_ticks e k.items.items (outcome_of f k).ticks)
 given-end o p f seen k ends.Halted h c = (pausing-asked o p f seen k h c, pausing-is k c, given-ticks o p f seen k h c)
 given-end o p f seen k (ends.Deadlocked a) h c = (
-  has-asked p (f k.thread) k.thread k.limits.threads k.limits.budget k.machine k.answer k.wish k.items.items (Act a) h.goes c.0,
+  has-asked p (f k.thread) k.thread k.limits.budget k.machine k.answer k.wish k.items.items (Act a) h.goes c.0,
   (sym (h.goes.wished (Act a) c.0).1, c.1),
   ap (λ l. (f k.thread l).ticks) (all-given o p f seen k (Act a) h c.0),
 )
 given-end o p f seen k e h c = elim c [ ]
 
 -- an end that is given
-pub kept-ended : (o : Opening) (p : First) (f : Outcomes) (seen : List Entry) (k : Task) (e : End) → IsKept o p f seen k → k.«end» ≡ None → CanEnd k e
+pub kept-ended : (o : Opening) (p : Codes) (f : Outcomes) (seen : List Entry) (k : Task) (e : End) → IsKept o p f seen k → k.«end» ≡ None → CanEnd k e
     → IsKept o p f seen record { machine = k.machine; thread = k.thread; limits = k.limits; items = k.items; buffer = k.buffer; next = k.next; answer = k.answer; wish = k.wish; «end» = Some e }
 kept-ended o p f seen k e h opened can =
     let t = k.thread in let items = k.items.items in let w = walked t items in
@@ -358,7 +358,7 @@ kept-ended o p f seen k e h opened can =
     }
 
 -- what others append changes nothing
-pub kept-grow : (o : Opening) (p : First) (f : Outcomes) (t : ℕ) (seen later : List Entry) (k : Task) → IsKept o p f seen k → (k.thread ≢ t)
+pub kept-grow : (o : Opening) (p : Codes) (f : Outcomes) (t : ℕ) (seen later : List Entry) (k : Task) → IsKept o p f seen k → (k.thread ≢ t)
     → Grew t seen later → IsKept o p f later k
 kept-grow o p f t seen later k h ne g = record {
   source = h.source;
@@ -384,8 +384,8 @@ pub few-actions : (l : Limits) → AreLimits l → l.actions < 2 ^ 32
 few-actions l h = let all = h.all in omega (arith, mul-le-mul_left l.actions h.some)
 
 -- a new task, of whose thread nothing was seen
-pub kept-new : (o : Opening) (p : First) (f : Outcomes) (seen : List Entry) (k : Task) → k.items.items ≡ [] → k.buffer ≡ [] → k.next ≡ 0 → k.answer ≡ None
-    → k.wish ≡ None → k.«end» ≡ None → Stands p k.thread k.limits.threads k.limits.budget [] k.machine → HasOutcomes o p k.limits f
+pub kept-new : (o : Opening) (p : Codes) (f : Outcomes) (seen : List Entry) (k : Task) → k.items.items ≡ [] → k.buffer ≡ [] → k.next ≡ 0 → k.answer ≡ None
+    → k.wish ≡ None → k.«end» ≡ None → HasHeard p k.thread k.limits.budget [] k.machine → HasOutcomes o p k.limits f
     → k.thread < k.limits.threads → k.limits.actions < 2 ^ 32 → entries_of k.thread seen ≡ [] → IsKept o p f seen k
 kept-new o p f seen k items buffer next answer wish none stands has within small seen_none =
     let source : IsSource o k.limits.budget (f k.thread) = has.sources k.thread within in
@@ -414,11 +414,11 @@ kept-new o p f seen k items buffer next answer wish none stands has within small
     }
 
 -- the machine has taken the answer, and said its wish
-pub kept-worked : (o : Opening) (p : First) (f : Outcomes) (seen : List Entry) (k m : Task) (w : Wish)
+pub kept-worked : (o : Opening) (p : Codes) (f : Outcomes) (seen : List Entry) (k m : Task) (w : Wish)
     → IsKept o p f seen k → k.wish ≡ None → k.«end» ≡ None
-    → ((given : List Reply) → Follows p k.thread k.limits.threads k.limits.budget (f k.thread) given k.machine → Answered (f k.thread) given k.answer
+    → ((given : List Reply) → Follows p k.thread k.limits.budget (f k.thread) given k.machine → Answered (f k.thread) given k.answer
     → (told_of w ≡ (f k.thread (given ++ listed k.answer)).«end»)
-    × Follows p k.thread k.limits.threads k.limits.budget (f k.thread) (given ++ listed k.answer) m.machine)
+    × Follows p k.thread k.limits.budget (f k.thread) (given ++ listed k.answer) m.machine)
     → HasAsked m.machine
     → IsKept o p f seen record { machine = m.machine; thread = k.thread; limits = k.limits; items = k.items; buffer = k.buffer; next = k.next; answer = None; wish = Some w; «end» = k.«end» }
 kept-worked o p f seen k m w h wish opened resumed asked =

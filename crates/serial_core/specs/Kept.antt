@@ -20,11 +20,11 @@ use Rattle.upc_values.specs.Outcomes.{Outcome, wanted}
 use Rattle.upc_values.specs.Records.{actions_of, replies_of, last_item, is_stall, is_beat, is_beat_item, beats}
 use Rattle.upc_values.specs.Strands.{StallsStand, AreJustified, strand_ticks, may_wait}
 use Rattle.upc_values.specs.Ends.{OwnEnd}
-use Rattle.first_language.specs.declared.tree.First.{First}
-use Rattle.first_language.specs.declared.machine.Machine.{Machine}
-use Rattle.first_language.specs.declared.machine.Wish.{Wish}
-use Rattle.first_language.specs.declared.machine.Wish.TheVariants.{Act, Ended, Exit, Fault, Budget}
-use Rattle.first_language.specs.Machine.{HasAsked, listed, told_of}
+use Rattle.stack_code.specs.Codes.{Codes}
+use Rattle.stack_machine.specs.Machine.{Seen}
+use Rattle.stack_machine.specs.declared.wish.Wish.{Wish}
+use Rattle.stack_machine.specs.declared.wish.Wish.TheVariants.{Act, Ended, Exit, Fault, Budget}
+use Rattle.stack_machine.specs.Machine.{Answered, HasAsked, listed, told_of}
 use Rattle.write_buffer.specs.declared.pending.Pending.{Pending}
 use Rattle.write_buffer.specs.Buffer.{committed}
 use Rattle.serial_core.specs.declared.emit.Way.{Way}
@@ -33,7 +33,7 @@ use Rattle.serial_core.specs.declared.limits.Limits.{Limits}
 use Rattle.serial_core.specs.declared.task.Task.{Task}
 use Rattle.serial_core.specs.declared.task.Pause.{Pause}
 use Rattle.serial_core.specs.declared.task.Pause.TheVariants as pauses
-use Rattle.serial_core.specs.Sources.{Outcomes, IsSource, Follows, Answered}
+use Rattle.serial_core.specs.Sources.{Outcomes, IsSource, Follows}
 
 -- what a run may be limited to: 1 to 32 threads, up to 10^12 ticks, and 8,388,608 items over all threads
 pub record AreLimits (l : Limits) : Type 0 where
@@ -98,10 +98,10 @@ pub record IsRecord (o : Opening) (t actions : ℕ) (seen : List Entry) (outcome
   pub known : AreKnown o seen (replies_of items)
 
 -- what the machine, and the reply that it has not taken yet, are to the record of a thread with these outcomes
-pub record Goes (p : First) (outcome : List Reply → Outcome) (t n b : ℕ) (machine : Machine) (answer : Option Reply)
+pub record Goes (p : Codes) (outcome : List Reply → Outcome) (t b : ℕ) (machine : Seen) (answer : Option Reply)
     (wish : Option Wish) (items : List Item) : Type 0 where
   pub given : List Reply
-  pub follows : Follows p t n b outcome given machine
+  pub follows : Follows p t b outcome given machine
   pub answered : Answered outcome given answer
   pub replies : given ++ listed answer ≡ replies_of items
   pub wished : (w : Wish) → wish ≡ Some w
@@ -112,7 +112,7 @@ pub record Goes (p : First) (outcome : List Reply → Outcome) (t n b : ℕ) (ma
   pub asked : ((items ≡ []) × (wish ≡ None)) ⊎ HasAsked machine
 
 -- a task has its end: its buffer is empty, the end is one that the outcome allows, and the ticks are those of a strand
-pub record HasEnd (actions ticks : ℕ) (pending : List Pending) (machine : Machine) (outcome : Outcome)
+pub record HasEnd (actions ticks : ℕ) (pending : List Pending) (machine : Seen) (outcome : Outcome)
     (items : List Item) (e : End) : Type 0 where
   pub empty : pending ≡ []
   pub asked : HasAsked machine
@@ -126,23 +126,23 @@ settled (Some e) w = emptied w
 
 -- what a task of the program p keeps between two calls, where these are the threads' outcomes and the entries seen have
 -- all its own
-pub record IsKept (o : Opening) (p : First) (f : Outcomes) (seen : List Entry) (k : Task) : Type 0 where
+pub record IsKept (o : Opening) (p : Codes) (f : Outcomes) (seen : List Entry) (k : Task) : Type 0 where
   pub source : IsSource o k.limits.budget (f k.thread)
   pub within : k.thread < o.threads
   pub small : k.limits.actions < 2 ^ 32
   pub holds : Holds o k.thread seen k.buffer k.next (settled k.«end» (walked k.thread k.items.items))
   pub few : k.next ≤ length k.items.items
   pub record_ok : IsRecord o k.thread k.limits.actions seen (outcome_of f k) k.items.items
-  pub goes : Goes p (f k.thread) k.thread k.limits.threads k.limits.budget k.machine k.answer k.wish k.items.items
+  pub goes : Goes p (f k.thread) k.thread k.limits.budget k.machine k.answer k.wish k.items.items
   pub ended : (e : End) → k.«end» ≡ Some e
       → HasEnd k.limits.actions (f k.thread goes.given).ticks k.buffer k.machine (outcome_of f k) k.items.items e
 
 -- whatever its source, a task that was kept over the one world is kept over the other
 abbrev pub Keeps : Opening × List Entry → Task → Opening × List Entry → Task → Type 0
-Keeps w k x m = (p : First) (f : Outcomes) → IsKept w.0 p f w.1 k → IsKept x.0 p f x.1 m
+Keeps w k x m = (p : Codes) (f : Outcomes) → IsKept w.0 p f w.1 k → IsKept x.0 p f x.1 m
 
 -- over the same entries a task of the program p stays kept
-abbrev pub StaysKept : First → Task → Task → Type 0
+abbrev pub StaysKept : Codes → Task → Task → Type 0
 StaysKept p k m = (f : Outcomes) (o : Opening) (seen : List Entry) → IsKept o p f seen k → IsKept o p f seen m
 
 -- the same thread and limits

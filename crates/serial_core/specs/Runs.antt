@@ -10,9 +10,9 @@ use Rattle.upc_values.specs.Records.{is_stall, last_item}
 use Rattle.upc_values.specs.Openings.{Opening}
 use Rattle.upc_values.specs.History.{reply}
 use Rattle.upc_values.specs.Ends.{stops, settles}
-use Rattle.first_language.specs.declared.tree.First.{First}
-use Rattle.first_language.specs.declared.machine.Wish.{Wish}
-use Rattle.first_language.specs.declared.machine.Wish.TheVariants.{Act}
+use Rattle.stack_code.specs.Codes.{Codes}
+use Rattle.stack_machine.specs.declared.wish.Wish.{Wish}
+use Rattle.stack_machine.specs.declared.wish.Wish.TheVariants.{Act}
 use Rattle.serial_core.specs.declared.limits.Limits.{Limits}
 use Rattle.serial_core.specs.declared.task.Task.{Task}
 use Rattle.serial_core.specs.Sources.{Outcomes}
@@ -20,7 +20,7 @@ use Rattle.serial_core.specs.Kept.{IsKept, IsSame, IsPausing, is_given, strand_o
 use Rattle.serial_core.specs.Course.{Standing, Moment, GoesOut, AreOf}
 
 -- the task of thread i of the program p, after the entries seen
-pub record IsAt (o : Opening) (p : First) (f : Outcomes) (seen : List Entry) (i : ℕ) (k : Task) : Type 0 where
+pub record IsAt (o : Opening) (p : Codes) (f : Outcomes) (seen : List Entry) (i : ℕ) (k : Task) : Type 0 where
   pub thread : k.thread ≡ i
   pub kept : IsKept o p f seen k
 
@@ -45,22 +45,22 @@ abbrev pub GoesAt : (Standing → Standing → Type 0) → ℕ → List Task →
 GoesAt R i ks ms = (d : Task) → R (standing_of (slice_index_or ks i d)) (standing_of (slice_index_or ms i d))
 
 -- a run of p that goes on: one task for each thread, and none was given its end
-pub record IsRunning (o : Opening) (p : First) (f : Outcomes) (seen : List Entry) (ks : List Task) : Type 0 where
+pub record IsRunning (o : Opening) (p : Codes) (f : Outcomes) (seen : List Entry) (ks : List Task) : Type 0 where
   pub many : length ks ≡ o.threads
   pub tasks : Numbered (λ i k. IsAt o p f seen i k) ks
   pub own : Numbered (λ i k. HasOwnEnd k) ks
   pub idle : Numbered (λ i k. IsIdle k) ks
 
 -- a run of p goes on, whatever its outcomes are
-abbrev pub GoesOn : First → Opening × List Entry → List Task → Type 0
+abbrev pub GoesOn : Codes → Opening × List Entry → List Task → Type 0
 GoesOn p w ks = (f : Outcomes) × IsRunning w.0 p f w.1 ks
 
 -- whatever its outcomes, a run of p that went on over the one world goes on over the other
-abbrev pub StaysRunning : First → Opening × List Entry → List Task → Opening × List Entry → List Task → Type 0
+abbrev pub StaysRunning : Codes → Opening × List Entry → List Task → Opening × List Entry → List Task → Type 0
 StaysRunning p w ks x ms = (f : Outcomes) → IsRunning w.0 p f w.1 ks → IsRunning x.0 p f x.1 ms
 
 -- a new task of thread i
-pub record IsNew (o : Opening) (p : First) (f : Outcomes) (l : Limits) (i : ℕ) (k : Task) : Type 0 where
+pub record IsNew (o : Opening) (p : Codes) (f : Outcomes) (l : Limits) (i : ℕ) (k : Task) : Type 0 where
   pub thread : k.thread ≡ i
   pub limits : k.limits ≡ l
   pub opened : k.«end» ≡ None
@@ -69,7 +69,7 @@ pub record IsNew (o : Opening) (p : First) (f : Outcomes) (l : Limits) (i : ℕ)
   pub kept : IsKept o p f [] k
 
 -- a run of p that begins
-pub record IsStart (o : Opening) (p : First) (f : Outcomes) (l : Limits) (ks : List Task) : Type 0 where
+pub record IsStart (o : Opening) (p : Codes) (f : Outcomes) (l : Limits) (ks : List Task) : Type 0 where
   pub running : IsRunning o p f [] ks
   pub limits : Numbered (λ i k. k.limits ≡ l) ks
   pub fresh : Numbered (λ i k. standing_of k ≡ record { items = []; «end» = None }) ks
@@ -138,7 +138,7 @@ Given o seen ks i (Deadlocked a) =
 Given o seen ks i e = Unit {0}
 
 -- a run of p that is over
-pub record IsOver (o : Opening) (p : First) (f : Outcomes) (seen : List Entry) (ks : List Task) : Type 0 where
+pub record IsOver (o : Opening) (p : Codes) (f : Outcomes) (seen : List Entry) (ks : List Task) : Type 0 where
   pub many : length ks ≡ o.threads
   pub tasks : Numbered (λ i k. IsAt o p f seen i k) ks
   pub ended : Numbered (λ i k. is_some k.«end» ≡ true) ks

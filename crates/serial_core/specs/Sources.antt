@@ -1,24 +1,22 @@
--- What a run takes of the language: which outcomes a program has on each thread, and where a thread's machine stands.
-use Rattle.std.specs.Prelude.{ℕ, ◌≡◌, ◌<◌, true, List, ◌++◌, Option, Some, None}
+-- What a run takes of the code: which outcomes it has on each thread, and where a thread's machine stands.
+use Rattle.std.specs.Prelude.{ℕ, ◌≡◌, ◌<◌, true, List}
 use Rattle.upc_values.specs.declared.action.Action.{Action}
 use Rattle.upc_values.specs.declared.action.Reply.{Reply}
 use Rattle.upc_values.specs.declared.record.ToldEnd.TheVariants.{Wants, OutOfTicks}
 use Rattle.upc_values.specs.Basic.{is_basic}
 use Rattle.upc_values.specs.Openings.{Opening}
-use Rattle.upc_values.specs.Outcomes.{Outcome, Suits, IsMeaning}
-use Rattle.first_language.specs.declared.tree.First.{First}
-use Rattle.first_language.specs.declared.machine.Machine.{Machine}
-use Rattle.first_language.specs.Meaning.{meaning}
-use Rattle.first_language.specs.Machine.{Stands}
+use Rattle.upc_values.specs.Outcomes.{Outcome, IsMeaning}
+use Rattle.typed_tree.specs.declared.program.Program.{Program}
+use Rattle.typed_tree.specs.Beginnings.{opening_in, view_beginning}
+use Rattle.stack_code.specs.Codes.{Codes}
+use Rattle.stack_code.specs.Outcomes.{CodeMeans}
+use Rattle.stack_machine.specs.Machine.{Seen}
+use Rattle.stack_machine.specs.Machine.{HasHeard}
 use Rattle.serial_core.specs.declared.limits.Limits.{Limits}
 
 -- The outcome of each thread, by its number, on each list of replies.
 abbrev pub Outcomes : Type 0
 Outcomes = ℕ → List Reply → Outcome
-
--- The program has these outcomes on thread t of n, with a budget of b ticks.
-abbrev pub Means : First → ℕ → ℕ → ℕ → (List Reply → Outcome) → Type 0
-Means p t n b outcome = outcome ≡ meaning p t n b
 
 -- What a run takes of a thread's outcomes: they keep what every meaning keeps, each action that they want is basic, and
 -- where the ticks are spent there were b of them.
@@ -27,19 +25,23 @@ pub record IsSource (o : Opening) (b : ℕ) (outcome : List Reply → Outcome) :
   pub basic : (rs : List Reply) (a : Action) → (outcome rs).«end» ≡ Wants a → is_basic a ≡ true
   pub spends : (rs : List Reply) → (outcome rs).«end» ≡ OutOfTicks → (outcome rs).ticks ≡ b
 
--- The program has these outcomes on the threads of a run with these limits, which begins with the opening.
-pub record HasOutcomes (o : Opening) (p : First) (l : Limits) (f : Outcomes) : Type 0 where
+-- On a thread of the code, with a budget, this is the outcome on each list of replies.
+abbrev pub HasOutcome : Codes → (thread budget : ℕ) → (List Reply → Outcome) → Type 0
+HasOutcome codes thread budget f = (replies : List Reply) → CodeMeans codes thread budget replies (f replies)
+
+-- What a run of a program begins with.
+abbrev pub opening_of : Program → Opening
+opening_of program = opening_in program.threads (view_beginning program.beginning)
+
+-- The code has these outcomes on the threads of a run with these limits, which begins with the opening.
+pub record HasOutcomes (o : Opening) (p : Codes) (l : Limits) (f : Outcomes) : Type 0 where
   pub threads : o.threads ≡ l.threads
-  pub means : (t : ℕ) → t < l.threads → Means p t l.threads l.budget (f t)
+  pub code : p.threads ≡ l.threads
+  pub means : (t : ℕ) → t < l.threads → HasOutcome p t l.budget (f t)
   pub sources : (t : ℕ) → t < l.threads → IsSource o l.budget (f t)
 
--- The machine of thread t of n, which has these outcomes, has had just these replies, in order.
-pub record Follows (p : First) (t n b : ℕ) (outcome : List Reply → Outcome) (given : List Reply) (m : Machine)
+-- The machine of a thread of the code, which has these outcomes, has had just these replies, in order.
+pub record Follows (p : Codes) (t b : ℕ) (outcome : List Reply → Outcome) (given : List Reply) (m : Seen)
     : Type 0 where
-  pub means : Means p t n b outcome
-  pub stands : Stands p t n b given m
-
--- The reply that a machine has not taken yet is none, or suits what is wanted.
-abbrev pub Answered : (List Reply → Outcome) → List Reply → Option Reply → Type 0
-Answered outcome given None = Unit {0}
-Answered outcome given (Some r) = Suits outcome given r
+  pub means : HasOutcome p t b outcome
+  pub stands : HasHeard p t b given m

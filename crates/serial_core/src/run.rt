@@ -10,11 +10,10 @@ ghost use Rattle.upc_values.specs.Ends as ends;
 ghost use Rattle.upc_values.specs.Ends.{AreSpent};
 ghost use Rattle.upc_values.specs.Sound.{IsSound};
 ghost use Rattle.upc_values.specs.Waits.{WaitsFollow};
-ghost use Rattle.first_language.specs.declared.tree.First.{First};
-ghost use Rattle.first_language.specs.declared.machine.Wish.{Wish};
-ghost use Rattle.first_language.specs.Meaning.{meaning, opening_of};
+ghost use Rattle.stack_code.specs.Codes.{Codes};
+ghost use Rattle.stack_machine.specs.declared.wish.Wish.{Wish};
 ghost use Rattle.serial_core.specs.declared.task.Task.{Task};
-ghost use Rattle.serial_core.specs.Sources.{Outcomes, HasOutcomes};
+ghost use Rattle.serial_core.specs.Sources.{Outcomes, HasOutcomes, opening_of};
 ghost use Rattle.serial_core.specs.Kept.{AreLimits, IsKept, Paused, Adds, strand_of};
 ghost use Rattle.serial_core.specs.Course as course;
 ghost use Rattle.serial_core.specs.Course.{Grows, Steps, TakesPart, InRound, ToRest};
@@ -26,21 +25,24 @@ ghost use Rattle.serial_core.specs.Runs.{CanLock};
 
 use crate::limits::Limits;
 use crate::task::{Pause, Task};
-use first_language::First;
+use block_layout::ObjectRef;
 use memory_history::World;
+use stack_code::Code;
 use std::alloc::{AllocError, Global};
 use std::sync::Wait;
+use typed_tree::{Program, SharedDecl};
 use upc_values::{End, Journal, Listing, Strand, copy_action};
 
 // One task for each thread.
-fn make_all(alloc: Global, program: &First, limits: Limits) -> Result<Vec<Task>, AllocError>
-    requires { AreLimits limits }
-    ensures { IfOk result (λ tasks. (o : Opening) (f : Outcomes) → HasOutcomes o program.now limits f
-        → IsStart o program.now f limits tasks.items) }
+fn make_all(alloc: Global, code: &Code, limits: Limits) -> Result<Vec<Task>, AllocError>
+    requires limits { AreLimits limits }
+    requires code { code.now.threads ≡ limits.threads }
+    ensures { IfOk result (λ tasks. (o : Opening) (f : Outcomes) → HasOutcomes o code.now limits f
+        → IsStart o code.now f limits tasks.items) }
 {
     let mut tasks = Vec::new(alloc);
     for thread in 0..limits.threads {
-        let task = Task::make(alloc, program, thread, limits)?;
+        let task = Task::make(alloc, code, thread, limits)?;
         tasks.push(task)?;
     }
     Ok(tasks)
@@ -48,14 +50,14 @@ fn make_all(alloc: Global, program: &First, limits: Limits) -> Result<Vec<Task>,
 
 // One task goes on by one step.
 fn turn(
-    program: &First,
+    code: &Code,
     tasks: &mut Vec<Task>,
     world: &mut World,
     at: usize,
 ) -> Result<Pause, AllocError>
-    requires running { GoesOn program.now world.old tasks.old.items }
+    requires running { GoesOn code.now world.old tasks.old.items }
     requires at { (at < length tasks.old.items) × IsOpenAt tasks.old.items at }
-    ensures running { IfOk result (λ _. StaysRunning program.now world.old tasks.old.items world.new tasks.new.items) }
+    ensures running { IfOk result (λ _. StaysRunning code.now world.old tasks.old.items world.new tasks.new.items) }
     ensures same { IfOk result (λ _. AreSame tasks.old.items tasks.new.items) }
     ensures others { IfOk result (λ _. OthersStay at tasks.old.items tasks.new.items) }
     ensures pause { IfOk result (λ p. (d : Task) → Paused p (slice_index_or tasks.new.items at d)) }
@@ -66,7 +68,7 @@ fn turn(
     ensures opening { IfOk result (λ _. world.new.0 ≡ world.old.0) }
 {
     let task = &mut tasks[at];
-    task.work(program)?;
+    task.work(code)?;
     let pause = task.step(world)?;
     Ok(pause)
 }
@@ -74,14 +76,14 @@ fn turn(
 // One task goes on to a Beat, a Stall or its end.
 fn round<R: Wait>(
     rt: &R,
-    program: &First,
+    code: &Code,
     tasks: &mut Vec<Task>,
     world: &mut World,
     at: usize,
 ) -> Result<(), AllocError>
-    requires running { GoesOn program.now world.old tasks.old.items }
+    requires running { GoesOn code.now world.old tasks.old.items }
     requires at { (at < length tasks.old.items) × IsOpenAt tasks.old.items at }
-    ensures running { IfOk result (λ _. StaysRunning program.now world.old tasks.old.items world.new tasks.new.items) }
+    ensures running { IfOk result (λ _. StaysRunning code.now world.old tasks.old.items world.new tasks.new.items) }
     ensures same { IfOk result (λ _. AreSame tasks.old.items tasks.new.items) }
     ensures others { IfOk result (λ _. OthersStay at tasks.old.items tasks.new.items) }
     ensures rested { IfOk result (λ _. (d : Task) → Rested (slice_index_or tasks.new.items at d)) }
@@ -90,7 +92,7 @@ fn round<R: Wait>(
     ensures opening { IfOk result (λ _. world.new.0 ≡ world.old.0) }
 {
     for _ in rt.forever() {
-        match turn(program, tasks, world, at)? {
+        match turn(code, tasks, world, at)? {
             Pause::Going => {}
             Pause::Beat => return Ok(()),
             Pause::Stalled => return Ok(()),
@@ -112,14 +114,14 @@ fn is_open(tasks: &Vec<Task>, at: usize) -> bool
 // One task goes on, if it has no end.
 fn visit<R: Wait>(
     rt: &R,
-    program: &First,
+    code: &Code,
     tasks: &mut Vec<Task>,
     world: &mut World,
     at: usize,
 ) -> Result<(), AllocError>
-    requires running { GoesOn program.now world.old tasks.old.items }
+    requires running { GoesOn code.now world.old tasks.old.items }
     requires at { at < length tasks.old.items }
-    ensures running { IfOk result (λ _. StaysRunning program.now world.old tasks.old.items world.new tasks.new.items) }
+    ensures running { IfOk result (λ _. StaysRunning code.now world.old tasks.old.items world.new tasks.new.items) }
     ensures same { IfOk result (λ _. AreSame tasks.old.items tasks.new.items) }
     ensures others { IfOk result (λ _. OthersStay at tasks.old.items tasks.new.items) }
     ensures rested { IfOk result (λ _. (d : Task) → Rested (slice_index_or tasks.new.items at d)) }
@@ -130,20 +132,20 @@ fn visit<R: Wait>(
     if !is_open(tasks, at) {
         return Ok(());
     }
-    round(rt, program, tasks, world, at)?;
+    round(rt, code, tasks, world, at)?;
     Ok(())
 }
 
 // A round of all tasks, by number of thread. None is begun once an end has ended the run.
 fn round_all<R: Wait>(
     rt: &R,
-    program: &First,
+    code: &Code,
     tasks: &mut Vec<Task>,
     world: &mut World,
 ) -> Result<(), AllocError>
-    requires running { GoesOn program.now world.old tasks.old.items }
+    requires running { GoesOn code.now world.old tasks.old.items }
     requires quiet { NoneStops tasks.old.items }
-    ensures running { IfOk result (λ _. StaysRunning program.now world.old tasks.old.items world.new tasks.new.items) }
+    ensures running { IfOk result (λ _. StaysRunning code.now world.old tasks.old.items world.new tasks.new.items) }
     ensures same { IfOk result (λ _. AreSame tasks.old.items tasks.new.items) }
     ensures rested { IfOk result (λ _. Numbered (λ _ k. Rested k) tasks.new.items) }
     ensures round { IfOk result (λ _.
@@ -152,7 +154,7 @@ fn round_all<R: Wait>(
 {
     let many = tasks.len();
     for at in 0..many {
-        visit(rt, program, tasks, world, at)?;
+        visit(rt, code, tasks, world, at)?;
     }
     Ok(())
 }
@@ -169,14 +171,14 @@ fn is_at_rest(tasks: &Vec<Task>, at: usize) -> bool
 // One task goes on to a Beat, a Stall or its end, if it is not at rest.
 fn finish<R: Wait>(
     rt: &R,
-    program: &First,
+    code: &Code,
     tasks: &mut Vec<Task>,
     world: &mut World,
     at: usize,
 ) -> Result<(), AllocError>
-    requires running { GoesOn program.now world.old tasks.old.items }
+    requires running { GoesOn code.now world.old tasks.old.items }
     requires at { at < length tasks.old.items }
-    ensures running { IfOk result (λ _. StaysRunning program.now world.old tasks.old.items world.new tasks.new.items) }
+    ensures running { IfOk result (λ _. StaysRunning code.now world.old tasks.old.items world.new tasks.new.items) }
     ensures same { IfOk result (λ _. AreSame tasks.old.items tasks.new.items) }
     ensures others { IfOk result (λ _. OthersStay at tasks.old.items tasks.new.items) }
     ensures rested { IfOk result (λ _. (d : Task) → Rested (slice_index_or tasks.new.items at d)) }
@@ -187,20 +189,20 @@ fn finish<R: Wait>(
     if is_at_rest(tasks, at) {
         return Ok(());
     }
-    round(rt, program, tasks, world, at)?;
+    round(rt, code, tasks, world, at)?;
     Ok(())
 }
 
 // An end has ended the run: each task that is not at rest goes on to a Beat, a Stall or its end.
 fn finish_all<R: Wait>(
     rt: &R,
-    program: &First,
+    code: &Code,
     tasks: &mut Vec<Task>,
     world: &mut World,
 ) -> Result<(), AllocError>
-    requires running { GoesOn program.now world.old tasks.old.items }
+    requires running { GoesOn code.now world.old tasks.old.items }
     requires stopped { (u : ℕ) × StopsAt tasks.old.items u }
-    ensures running { IfOk result (λ _. StaysRunning program.now world.old tasks.old.items world.new tasks.new.items) }
+    ensures running { IfOk result (λ _. StaysRunning code.now world.old tasks.old.items world.new tasks.new.items) }
     ensures same { IfOk result (λ _. AreSame tasks.old.items tasks.new.items) }
     ensures rested { IfOk result (λ _. Numbered (λ _ k. Rested k) tasks.new.items) }
     ensures stopped { IfOk result (λ _. (u : ℕ) × StopsAt tasks.new.items u) }
@@ -210,7 +212,7 @@ fn finish_all<R: Wait>(
 {
     let many = tasks.len();
     for at in 0..many {
-        finish(rt, program, tasks, world, at)?;
+        finish(rt, code, tasks, world, at)?;
     }
     Ok(())
 }
@@ -243,7 +245,7 @@ fn stopped(tasks: &Vec<Task>) -> Option<usize>
 
 // Whether the task wants what is not legal now.
 fn wanting(task: &Task, world: &World) -> bool
-    requires { (p : First) × (f : Outcomes) × IsKept world.now.0 p f world.now.1 task.now }
+    requires { (p : Codes) × (f : Outcomes) × IsKept world.now.0 p f world.now.1 task.now }
     ensures { result ≡ true → Wanting world.now.0 world.now.1 task.now }
 {
     if !task.is_stalled() {
@@ -258,7 +260,7 @@ fn wanting(task: &Task, world: &World) -> bool
 
 // Whether each task without an end wants what is not legal now.
 fn none_goes(tasks: &Vec<Task>, world: &World) -> bool
-    requires { (p : First) × GoesOn p world.now tasks.now.items }
+    requires { (p : Codes) × GoesOn p world.now tasks.now.items }
     ensures { result ≡ true
         → Numbered (λ _ k. k.«end» ≡ None → Wanting world.now.0 world.now.1 k) tasks.now.items }
 {
@@ -333,21 +335,21 @@ fn lock_all(alloc: Global, tasks: &mut Vec<Task>) -> Result<(), AllocError>
 fn rounds<R: Wait>(
     rt: &R,
     alloc: Global,
-    program: &First,
+    code: &Code,
     tasks: &mut Vec<Task>,
     world: &mut World,
 ) -> Result<(), AllocError>
-    requires running { GoesOn program.now world.old tasks.old.items }
+    requires running { GoesOn code.now world.old tasks.old.items }
     requires quiet { NoneStops tasks.old.items }
     ensures over { IfOk result (λ _. (f : Outcomes)
-        → IsRunning world.old.0 program.now f world.old.1 tasks.old.items
-        → IsOver world.new.0 program.now f world.new.1 tasks.new.items) }
+        → IsRunning world.old.0 code.now f world.old.1 tasks.old.items
+        → IsOver world.new.0 code.now f world.new.1 tasks.new.items) }
     ensures same { IfOk result (λ _. AreSame tasks.old.items tasks.new.items) }
     ensures out { IfOk result (λ _. EndsOut world.old tasks.old.items world.new tasks.new.items) }
     ensures opening { IfOk result (λ _. world.new.0 ≡ world.old.0) }
 {
     for _ in rt.forever() {
-        round_all(rt, program, tasks, world)?;
+        round_all(rt, code, tasks, world)?;
         if stopped(tasks).is_some() {
             halt_all(tasks);
             return Ok(());
@@ -367,24 +369,24 @@ fn rounds<R: Wait>(
 fn go_out<R: Wait>(
     rt: &R,
     alloc: Global,
-    program: &First,
+    code: &Code,
     tasks: &mut Vec<Task>,
     world: &mut World,
 ) -> Result<(), AllocError>
-    requires { GoesOn program.now world.old tasks.old.items }
+    requires { GoesOn code.now world.old tasks.old.items }
     ensures over { IfOk result (λ _. (f : Outcomes)
-        → IsRunning world.old.0 program.now f world.old.1 tasks.old.items
-        → IsOver world.new.0 program.now f world.new.1 tasks.new.items) }
+        → IsRunning world.old.0 code.now f world.old.1 tasks.old.items
+        → IsOver world.new.0 code.now f world.new.1 tasks.new.items) }
     ensures same { IfOk result (λ _. AreSame tasks.old.items tasks.new.items) }
     ensures out { IfOk result (λ _. EndsOut world.old tasks.old.items world.new tasks.new.items) }
     ensures opening { IfOk result (λ _. world.new.0 ≡ world.old.0) }
 {
     if stopped(tasks).is_some() {
-        finish_all(rt, program, tasks, world)?;
+        finish_all(rt, code, tasks, world)?;
         halt_all(tasks);
         return Ok(());
     }
-    rounds(rt, alloc, program, tasks, world)?;
+    rounds(rt, alloc, code, tasks, world)?;
     Ok(())
 }
 
@@ -423,14 +425,14 @@ fn chosen(tasks: &Vec<Task>, pick: u32) -> Option<usize>
 
 // One step of the task that a pick chooses, and whether there is one.
 fn obey(
-    program: &First,
+    code: &Code,
     tasks: &mut Vec<Task>,
     world: &mut World,
     pick: u32,
 ) -> Result<bool, AllocError>
-    requires running { GoesOn program.now world.old tasks.old.items }
+    requires running { GoesOn code.now world.old tasks.old.items }
     requires quiet { NoneStops tasks.old.items }
-    ensures running { IfOk result (λ _. StaysRunning program.now world.old tasks.old.items world.new tasks.new.items) }
+    ensures running { IfOk result (λ _. StaysRunning code.now world.old tasks.old.items world.new tasks.new.items) }
     ensures same { IfOk result (λ _. AreSame tasks.old.items tasks.new.items) }
     ensures yes { IfOk result (λ moved. moved ≡ true
         → Obeys pick (moment_of world.old tasks.old.items) (moment_of world.new tasks.new.items)) }
@@ -441,19 +443,19 @@ fn obey(
     let Some(at) = chosen(tasks, pick) else {
         return Ok(false);
     };
-    turn(program, tasks, world, at)?;
+    turn(code, tasks, world, at)?;
     Ok(true)
 }
 
 // One step for each pick, while no end ends the run.
 fn pick_all(
-    program: &First,
+    code: &Code,
     tasks: &mut Vec<Task>,
     world: &mut World,
     picks: &[u32],
 ) -> Result<(), AllocError>
-    requires { GoesOn program.now world.old tasks.old.items }
-    ensures running { IfOk result (λ _. StaysRunning program.now world.old tasks.old.items world.new tasks.new.items) }
+    requires { GoesOn code.now world.old tasks.old.items }
+    ensures running { IfOk result (λ _. StaysRunning code.now world.old tasks.old.items world.new tasks.new.items) }
     ensures same { IfOk result (λ _. AreSame tasks.old.items tasks.new.items) }
     ensures picked { IfOk result (λ _.
         ArePicked picks.now (moment_of world.old tasks.old.items) (moment_of world.new tasks.new.items)) }
@@ -463,7 +465,7 @@ fn pick_all(
         if stopped(tasks).is_some() {
             return Ok(());
         }
-        let moved = obey(program, tasks, world, *pick)?;
+        let moved = obey(code, tasks, world, *pick)?;
         if !moved {
             return Ok(());
         }
@@ -474,7 +476,7 @@ fn pick_all(
 fn strands_of(tasks: Vec<Task>, mut strands: Vec<Strand>) -> Vec<Strand>
     requires room { (strands.items ≡ []) × (length tasks.items ≤ vec_capacity strands) }
     requires ended { Numbered (λ _ k. is_some k.«end» ≡ true) tasks.items }
-    ensures { (o : Opening) (p : First) (f : Outcomes) (seen : List Entry)
+    ensures { (o : Opening) (p : Codes) (f : Outcomes) (seen : List Entry)
         → Numbered (λ i k. IsAt o p f seen i k) tasks.items → result.items ≡ map (strand_of f) tasks.items }
 {
     for task in tasks {
@@ -483,48 +485,61 @@ fn strands_of(tasks: Vec<Task>, mut strands: Vec<Strand>) -> Vec<Strand>
     strands
 }
 
-/// Runs the program on one thread of the machine, in an order that the picks choose. Each pick is taken modulo the
-/// number of threads without an end, and chooses among them by number; the chosen one is given one step. Once an end
-/// ends the run, or where all threads have ended, the other picks are passed over. Then rounds go by number of thread:
-/// in each, every thread without an end goes on to a Beat, a Stall or its end.
+// The declared shared objects, in order.
+fn objects_of(alloc: Global, shared: &[SharedDecl]) -> Result<Vec<ObjectRef>, AllocError>
+    ensures { IfOk result (λ xs. xs.items ≡ map (λ x. x.object) shared.now) }
+{
+    let mut objects = Vec::new(alloc);
+    for declared in shared {
+        objects.push(declared.object)?;
+    }
+    Ok(objects)
+}
+
+/// Runs the code of a program on one thread of the machine, in an order that the picks choose. Each pick is taken
+/// modulo the number of threads without an end, and chooses among them by number; the chosen one is given one step.
+/// Once an end ends the run, or where all threads have ended, the other picks are passed over. Then rounds go by number
+/// of thread: in each, every thread without an end goes on to a Beat, a Stall or its end.
 ///
 /// Where an end has ended the run already after the picks, no round is begun: every thread that stands neither at a
-/// Beat
-/// nor at a Stall goes on to one, or to its end.
+/// Beat nor at a Stall goes on to one, or to its end.
 ///
-/// The journal is sound: each thread's record is what its source comes to on the recorded replies, and one legal
-/// history takes these records as the write buffers drain.
+/// The journal is sound: each thread's record is what its code comes to on the recorded replies, and one legal history
+/// takes these records as the write buffers drain.
 pub fn run_by<R: Wait>(
     rt: &R,
     alloc: Global,
-    program: &First,
+    program: &Program,
+    code: &Code,
     limits: Limits,
     picks: &[u32],
 ) -> Result<Journal, AllocError>
     requires threads { (1 ≤ limits.threads) × (limits.threads ≤ 32) }
     requires budget { (1 ≤ limits.budget) × (limits.budget ≤ 1000000000000) }
     requires actions { (1 ≤ limits.actions) × (limits.threads * limits.actions ≤ 8388608) }
-    ensures sound { IfOk result (λ j. IsSound (opening_of program.now limits.threads)
-        (λ budget t. meaning program.now t limits.threads budget) j) }
+    requires same { (program.now.threads ≡ limits.threads) × (code.now.threads ≡ limits.threads) }
+    requires outcomes { (f : Outcomes) × HasOutcomes (opening_of program.now) code.now limits f }
+    ensures sound { IfOk result (λ j. (f : ℕ → Outcomes)
+        → HasOutcomes (opening_of program.now) code.now limits (f limits.budget)
+        → IsSound (opening_of program.now) f j) }
     ensures limits { IfOk result (λ j. (j.threads ≡ limits.threads) × (j.budget ≡ limits.budget)
         × (j.actions ≡ limits.actions)) }
     ensures waits { IfOk result (λ j. WaitsFollow limits.threads j.history) }
     ensures spent { IfOk result (λ j. AreSpent limits.budget j.strands) }
     ensures course { IfOk result (λ j. IsCourse picks.now j) }
 {
-    let declared = program.declared(alloc)?;
-    let shapes = First::shapes(alloc)?;
+    let declared = objects_of(alloc, program.shared_objects())?;
     let mut world = World::make(
         alloc,
         declared.as_slice(),
-        &[],
-        shapes.as_slice(),
+        program.initials(),
+        program.shapes(),
         limits.threads,
     )?;
-    let mut tasks = make_all(alloc, program, limits)?;
+    let mut tasks = make_all(alloc, code, limits)?;
     let strands = Vec::with_capacity(alloc, tasks.len())?;
-    pick_all(program, &mut tasks, &mut world, picks)?;
-    go_out(rt, alloc, program, &mut tasks, &mut world)?;
+    pick_all(code, &mut tasks, &mut world, picks)?;
+    go_out(rt, alloc, code, &mut tasks, &mut world)?;
     let strands = strands_of(tasks, strands);
     let history = world.take_history();
     Ok(Journal {

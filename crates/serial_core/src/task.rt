@@ -9,8 +9,8 @@ ghost use Rattle.upc_values.specs.Openings.{Opening};
 ghost use Rattle.upc_values.specs.Records as records;
 ghost use Rattle.upc_values.specs.Ends as ends;
 ghost use Rattle.upc_values.specs.Ends.{OwnEnd};
-ghost use Rattle.first_language.specs.declared.tree.First.{First};
-ghost use Rattle.first_language.specs.declared.machine.Wish.TheVariants.{Act};
+ghost use Rattle.stack_code.specs.Codes.{Codes};
+ghost use Rattle.stack_machine.specs.declared.wish.Wish.TheVariants.{Act};
 ghost use Rattle.serial_core.specs.declared.task.Pause.TheVariants.{Finished};
 ghost use Rattle.serial_core.specs.Sources.{Outcomes, HasOutcomes};
 ghost use Rattle.serial_core.specs.Kept as kept;
@@ -19,8 +19,9 @@ ghost use Rattle.serial_core.specs.Kept.{Leaves, Waits, is_given, outcome_of, st
 
 use crate::emit::{emit, empty};
 use crate::limits::Limits;
-use first_language::{First, Machine, Wish};
 use memory_history::{Step, World};
+use stack_code::Code;
+use stack_machine::{Machine, Wish};
 use std::alloc::{AllocError, Global};
 use upc_values::{Action, End, Item, Listing, Reply, Strand};
 use write_buffer::WriteBuffer;
@@ -108,22 +109,18 @@ fn own_end(wish: &Wish, full: bool) -> Option<End>
 
 impl Task {
     /// A task that has done nothing.
-    pub fn make(
-        alloc: Global,
-        program: &First,
-        thread: u32,
-        limits: Limits,
-    ) -> Result<Task, AllocError>
+    pub fn make(alloc: Global, code: &Code, thread: u32, limits: Limits) -> Result<Task, AllocError>
         requires limits { AreLimits limits }
+        requires code { code.now.threads ≡ limits.threads }
         requires thread { thread < limits.threads }
         ensures kept { IfOk result (λ k. (o : Opening) (f : Outcomes) (seen : List Entry)
-            → HasOutcomes o program.now limits f → entries_of thread seen ≡ []
-            → IsKept o program.now f seen k) }
+            → HasOutcomes o code.now limits f → entries_of thread seen ≡ []
+            → IsKept o code.now f seen k) }
         ensures new { IfOk result (λ k. (k.thread ≡ thread) × (k.limits ≡ limits) × (k.«end» ≡ None)) }
         ensures fresh { IfOk result (λ k. (k.items.items ≡ []) × (k.wish ≡ None)) }
     {
         Ok(Task {
-            machine: Machine::make(alloc, program, thread, limits.threads, limits.budget)?,
+            machine: Machine::make(alloc, code, thread, limits.budget)?,
             thread,
             limits,
             items: Vec::new(alloc),
@@ -136,9 +133,9 @@ impl Task {
     }
 
     /// Does the private work up to the next wish, after which the task is ready. A ready task stays as it is.
-    pub fn work(&mut self, program: &First) -> Result<(), AllocError>
+    pub fn work(&mut self, code: &Code) -> Result<(), AllocError>
         requires { self.old.«end» ≡ None }
-        ensures kept { IfOk result (λ _. StaysKept program.now self.old self.new) }
+        ensures kept { IfOk result (λ _. StaysKept code.now self.old self.new) }
         ensures ready { IfOk result (λ _. is_some self.new.wish ≡ true) }
         ensures same { IfOk result (λ _. IsSame self.old self.new × (self.new.«end» ≡ None)) }
         ensures items { IfOk result (λ _. self.new.items ≡ self.old.items) }
@@ -146,7 +143,7 @@ impl Task {
     {
         if self.wish.is_none() {
             let reply = self.answer.take();
-            let wish = self.machine.resume(program, reply)?;
+            let wish = self.machine.resume(code, reply)?;
             self.wish = Some(wish);
         }
         Ok(())
@@ -154,9 +151,9 @@ impl Task {
 
     // The buffer is emptied, and the task has its end.
     fn close(&mut self, world: &mut World, end: End) -> Result<Pause, AllocError>
-        requires kept { (p : First) × (f : Outcomes) × IsKept world.old.0 p f world.old.1 self.old }
+        requires kept { (p : Codes) × (f : Outcomes) × IsKept world.old.0 p f world.old.1 self.old }
         requires ready { (self.old.«end» ≡ None) × (is_some self.old.wish ≡ true) }
-        requires own { (p : First) (f : Outcomes) → IsKept world.old.0 p f world.old.1 self.old
+        requires own { (p : Codes) (f : Outcomes) → IsKept world.old.0 p f world.old.1 self.old
             → OwnEnd self.old.limits.actions (outcome_of f self.old).«end» self.old.items.items «end» }
         requires comes { is_given «end» ≡ false }
         ensures kept { IfOk result (λ _. Keeps world.old self.old world.new self.new) }
@@ -173,7 +170,7 @@ impl Task {
 
     // Does the wanted action, or stalls before it.
     fn act(&mut self, world: &mut World) -> Result<Pause, AllocError>
-        requires kept { (p : First) × (f : Outcomes) × IsKept world.old.0 p f world.old.1 self.old }
+        requires kept { (p : Codes) × (f : Outcomes) × IsKept world.old.0 p f world.old.1 self.old }
         requires open { self.old.«end» ≡ None }
         requires wants { (a : Action) × (self.old.wish ≡ Some (Act a)) }
         requires room { length self.old.items.items < self.old.limits.actions }
@@ -217,7 +214,7 @@ impl Task {
 
     /// Acts on the wish: at most one new item, and the commits that go with it. The machine is not resumed.
     pub fn step(&mut self, world: &mut World) -> Result<Pause, AllocError>
-        requires kept { (p : First) × (f : Outcomes) × IsKept world.old.0 p f world.old.1 self.old }
+        requires kept { (p : Codes) × (f : Outcomes) × IsKept world.old.0 p f world.old.1 self.old }
         requires ready { (self.old.«end» ≡ None) × (is_some self.old.wish ≡ true) }
         ensures kept { IfOk result (λ _. Keeps world.old self.old world.new self.new) }
         ensures same { IsSame self.old self.new }
@@ -288,7 +285,7 @@ impl Task {
     pub fn end_as(&mut self, end: End)
         requires open { self.old.«end» ≡ None }
         requires can { CanEnd self.old «end» }
-        ensures kept { (p : First) → StaysKept p self.old self.new }
+        ensures kept { (p : Codes) → StaysKept p self.old self.new }
         ensures is { self.new ≡ record self.old { «end» = Some «end» } }
     {
         self.end = Some(end);
@@ -297,7 +294,7 @@ impl Task {
     /// The strand of a task that has its end. It takes no memory.
     pub fn into_strand(self) -> Strand
         requires { is_some self.«end» ≡ true }
-        ensures { (o : Opening) (p : First) (f : Outcomes) (seen : List Entry)
+        ensures { (o : Opening) (p : Codes) (f : Outcomes) (seen : List Entry)
             → IsKept o p f seen self → result ≡ strand_of f self }
     {
         let ticks = self.machine.ticks();

@@ -1,5 +1,5 @@
 -- Code that is being made.
-use Rattle.std.specs.Prelude.{ℕ, Bool, false, List, [], ◌∷◌, ◌++◌}
+use Rattle.std.specs.Prelude.{ℕ, Bool, true, false, List, [], ◌∷◌, ◌++◌}
 use Rattle.block_layout.specs.declared.kind.Shape.{Shape}
 use Rattle.block_layout.specs.declared.place.LocalPtr.{LocalPtr}
 use Rattle.block_layout.specs.Shapes.{IsShape}
@@ -27,6 +27,14 @@ empty threads shapes = record {
 -- With one more instruction in the function.
 abbrev pub with_instruction : Instr → Making → Making
 with_instruction i m = record m { current = m.current ++ i ∷ [] }
+
+-- With these instructions more in the function.
+abbrev pub with_instructions : List Instr → Making → Making
+with_instructions is m = record m { current = m.current ++ is }
+
+-- With memory wanting.
+abbrev pub with_failure : Making → Making
+with_failure m = record m { failed = true }
 
 -- With the function ended: the next one begins.
 abbrev pub with_function : Making → Making

@@ -7,10 +7,11 @@ ghost use Rattle.upc_values.specs.Lists.{Each};
 ghost use Rattle.private_store.specs.Beginnings.{IsBeginning};
 ghost use Rattle.stack_code.specs.Depths.{IsDeep, BeginsOnce};
 ghost use Rattle.stack_code.specs.Kept.{IsCode, IsFitting, IsKnown};
-ghost use Rattle.stack_code.specs.Making.{Making, empty, with_instruction, with_function, with_object, with_initial};
+ghost use Rattle.stack_code.specs.Making.{Making, empty, with_instruction, with_instructions};
+ghost use Rattle.stack_code.specs.Making.{with_function, with_object, with_initial, with_failure};
 
 use crate::code::Code;
-use crate::fitting::is_known;
+use crate::fitting::{are_fitting, is_known};
 use crate::instruction::Instr;
 use block_layout::{LocalPtr, Shape};
 use std::alloc::Global;
@@ -103,6 +104,38 @@ impl Builder {
         self.current.push(instr)?;
         self.failed = false;
         Ok(())
+    }
+
+    /// Appends instructions to the function that is not ended yet, where the code may have them; code of a typed
+    /// program may.
+    pub fn append_all(&mut self, code: Vec<Instr>) -> Result<(), OutOfMemory>
+        ensures done { OnOk result (self.new ≡ with_instructions code.items self.old) }
+        ensures failed { OnErr result (self.new.failed ≡ true) }
+        ensures fails { self.old.failed ≡ true → IsErr result }
+    {
+        if self.failed {
+            return Err(OutOfMemory);
+        }
+        self.failed = true;
+        if !are_fitting(self.threads, &self.shapes, code.as_slice()) {
+            return Err(OutOfMemory);
+        }
+        let mut code = code;
+        self.current.append(&mut code)?;
+        self.failed = false;
+        Ok(())
+    }
+
+    /// Memory was wanting elsewhere: each later call answers so.
+    pub fn fail(&mut self)
+        ensures { self.new ≡ with_failure self.old }
+    {
+        self.failed = true;
+    }
+
+    /// Where the code takes its memory.
+    pub fn allocator(&self) -> Global {
+        self.alloc
     }
 
     /// Ends the function, which gets the next number, from 0. The instructions behind it are those of another one.

@@ -2,13 +2,17 @@
 
 ghost use Rattle.std.specs.Prelude.{◌↔◌, IsTrue, length};
 ghost use Rattle.block_layout.specs.declared.kind.Shape.{Shape};
+ghost use Rattle.block_layout.specs.Shapes.{IsShape};
 ghost use Rattle.integers.specs.Integers.{IsInteger, IsPromoted};
 ghost use Rattle.shared_pointers.specs.Ranges.{IsTarget};
-ghost use Rattle.stack_code.specs.Kept.{IsNumber, IsObject, IsShared, IsKnownScalar, IsKnown};
-ghost use Rattle.stack_code.specs.Kept.{CastFits, ElementsFit, ValuesFit};
+ghost use Rattle.thread_steps.specs.Ranges.{IsNumber, IsObject, IsShared};
+ghost use Rattle.upc_values.specs.Lists.{Each};
+ghost use Rattle.stack_code.specs.Kept.{IsKnownScalar, IsKnown, IsFitting, StackFits, ObjectsFit};
+ghost use Rattle.stack_code.specs.Kept.{CastFits, ElementsFit, RightFits, ValuesFit};
 
-use crate::instruction::ValueWork;
+use crate::instruction::{Instr, ObjectWork, Operation, StackWork, ValueWork};
 use block_layout::{Kind, LocalPtr, ObjectRef, Shape, is_in_range};
+use integers::BinOp;
 use thread_steps::{CastTo, Elements};
 use upc_values::{Scalar, Value};
 
@@ -105,13 +109,26 @@ fn elements_fit(elements: &Elements, count: u32) -> bool
     is_target(elements) && count <= MOST
 }
 
+fn right_fits(operator: BinOp, left: Kind, right: Kind) -> bool
+    ensures { IsTrue result ↔ RightFits operator left right }
+{
+    match operator {
+        BinOp::ShiftLeft | BinOp::ShiftRight => true,
+        _ => right == left,
+    }
+}
+
 /// Whether code may make values so: operators work at kinds that promotion leaves as they are, and elements are in
 /// range.
 pub fn work_fits(work: &ValueWork) -> bool
     ensures { IsTrue result ↔ ValuesFit work.now }
 {
     match work {
-        ValueWork::Operate { left, right, .. } => is_promoted(*left) && is_promoted(*right),
+        ValueWork::Operate {
+            operator,
+            left,
+            right,
+        } => { is_promoted(*left) && is_promoted(*right) && right_fits(*operator, *left, *right) }
         ValueWork::Apply { kind, .. } => is_promoted(*kind),
         ValueWork::Cast(into) => cast_fits(into),
         ValueWork::Advance { elements, count } | ValueWork::Retreat { elements, count } => {
@@ -120,4 +137,72 @@ pub fn work_fits(work: &ValueWork) -> bool
         ValueWork::Difference(elements) | ValueWork::Order { elements, .. } => is_target(elements),
         ValueWork::InRow(_) | ValueWork::Member(_) | ValueWork::Same => true,
     }
+}
+
+fn is_shape(shape: &Shape) -> bool
+    ensures { IsTrue result ↔ IsShape shape.now }
+{
+    let mut end: u64 = 0;
+    for cell in shape.cells.as_slice() {
+        if u64::from(cell.0) < end {
+            return false;
+        }
+        end = u64::from(cell.0) + u64::from(cell.1.size());
+        if end > u64::from(shape.size) {
+            return false;
+        }
+    }
+    shape.size > 0
+}
+
+fn are_shapes(shapes: &[Shape]) -> bool
+    ensures { IsTrue result ↔ Each IsShape shapes.now }
+{
+    for shape in shapes {
+        if !is_shape(shape) {
+            return false;
+        }
+    }
+    true
+}
+
+fn stack_fits(threads: u32, shapes: &[Shape], work: &StackWork) -> bool
+    ensures { IsTrue result ↔ StackFits threads shapes.now work.now }
+{
+    match work {
+        StackWork::Push(value) => is_known(threads, shapes, value),
+        _ => true,
+    }
+}
+
+fn objects_fit(work: &ObjectWork) -> bool
+    ensures { IsTrue result ↔ ObjectsFit work.now }
+{
+    match work {
+        ObjectWork::Enter { shapes, .. } => are_shapes(shapes.as_slice()),
+        _ => true,
+    }
+}
+
+fn is_fitting(threads: u32, shapes: &[Shape], instr: &Instr) -> bool
+    ensures { IsTrue result ↔ IsFitting threads shapes.now instr.now }
+{
+    match &instr.does {
+        Operation::Stack(work) => stack_fits(threads, shapes, work),
+        Operation::Value(work) => work_fits(work),
+        Operation::Object(work) => objects_fit(work),
+        _ => true,
+    }
+}
+
+/// Whether code for so many threads with these shapes may have these instructions.
+pub(crate) fn are_fitting(threads: u32, shapes: &[Shape], code: &[Instr]) -> bool
+    ensures { IsTrue result ↔ Each (IsFitting threads shapes.now) code.now }
+{
+    for instr in code {
+        if !is_fitting(threads, shapes, instr) {
+            return false;
+        }
+    }
+    true
 }

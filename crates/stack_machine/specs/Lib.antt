@@ -1,2 +1,4 @@
 pub mod Bodies
 pub mod Standing
+pub mod Machine
+pub mod code

@@ -1,6 +1,23 @@
 //! The machine that runs code reply by reply.
 #![tactic(auto)]
 
+mod accesses;
+mod call_work;
+mod calls;
+mod jumps;
 mod laws;
+mod machine;
+mod objects;
+mod progress;
+mod receiving;
+mod runner;
+mod stack_work;
+mod stacks;
+mod steps;
+mod threads;
+mod value_work;
+mod wish;
 
 pub use laws::{instructions_go_on, machines_go_by_replies};
+pub use machine::Machine;
+pub use wish::Wish;

@@ -1,5 +1,6 @@
 pub mod States
 pub mod Values
+pub mod Ranges
 pub mod Actions
 pub mod Accesses
 pub mod Pointers

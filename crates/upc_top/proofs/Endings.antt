@@ -8,14 +8,13 @@ use Rattle.command_words.specs.declared.call.Mode.{Mode}
 use Rattle.command_words.specs.declared.call.Mode.TheVariants.{Run, Record, Check, Layout, Sample}
 use Rattle.command_words.specs.Values.{Asked}
 use Rattle.command_words.proofs.Taken.{one_asked}
-use Rattle.first_language.specs.declared.tree.First.{First}
 use Rattle.upc_top.specs.declared.done.Done.{Done}
 use Rattle.upc_top.specs.declared.verdict.Verdict.{Verdict}
 use Rattle.upc_top.specs.declared.verdict.Verdict.TheVariants.{Usage, ReadFault, TooLong, Refused, Ran, Passed, Laid, NoMemory}
 use Rattle.upc_top.specs.Words.{IsTaken}
 use Rattle.upc_top.specs.Layout.{layout}
 use Rattle.upc_top.specs.Sources.{IsAccepted, IsRunnable, IsRefusedIn, not_accepted, not_runnable}
-use Rattle.upc_top.proofs.Readings.{accepted_of, never_both, never_outside, same_checked}
+use Rattle.upc_top.proofs.Readings.{never_both, never_outside, same_checked}
 use Rattle.upc_top.specs.Verdicts.{Reading, Holds, Taken, Caused, CameTo, ComesFrom, status_for, text_of, journal_of}
 use Rattle.upc_top.specs.Delivery.{Writing, Gained, Delivered, Delivered.Whole, Delivered.Out_broke, Delivered.Err_broke, Answered, RefusesOtherWords, RefusesLongFiles, Succeeds, HasRun, HasWritten, IsDone, IsComplete}
 
@@ -64,11 +63,11 @@ module _ (words : List (List ℕ)) (r : Reading) (out err : Writing) (d : Done) 
       let short = s.short in
       omega arith
 
-  run-refused : (program : First) (x : Refusal) → IsRunnable a.threads bytes program → IsRefusedIn a.mode a.threads bytes x → ⊥
-  run-refused program x h (not_accepted why) = never_both a.threads bytes h.checked x (accepted_of a.threads bytes program h) why
+  run-refused : (program : Checked) (x : Refusal) → IsRunnable a.threads bytes program → IsRefusedIn a.mode a.threads bytes x → ⊥
+  run-refused program x h (not_accepted why) = never_both a.threads bytes program x h.accepted why
   run-refused program x h (not_runnable mode why) = never_outside a.threads bytes program x h why
 
-  done-run : a.mode ≡ Run → (program : First) → IsRunnable a.threads bytes program → (v : Verdict) → Caused words r v → Written v out d → HasRun out d ⊎ (d.status ≡ 104)
+  done-run : a.mode ≡ Run → (program : Checked) → IsRunnable a.threads bytes program → (v : Verdict) → Caused words r v → Written v out d → HasRun out d ⊎ (d.status ≡ 104)
   done-run m program h Usage c w = absurd (c a s.taken)
   done-run m program h ReadFault c w = absurd (no-fault c)
   done-run m program h TooLong c w = absurd (not-longer c)

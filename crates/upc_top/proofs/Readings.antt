@@ -7,14 +7,13 @@ use Rattle.upc_lexer.proofs.OneList.{tokens_once, tokens_or_refusal}
 use Rattle.upc_macros.specs.Expansion.{given, expansion, first_refusal, token_refusal, refused_word, word_refusal, IsExpansion}
 use Rattle.upc_tree.specs.Unit.{External, IsTree}
 use Rattle.upc_parser.proofs.Laws as laws
+use Rattle.typing_rules.specs.Faults.{Fault}
+use Rattle.upc_checker.specs.Limits.{Passed}
 use Rattle.upc_checker.specs.Outcomes as o
 use Rattle.upc_checker.specs.Outcomes.{outcome}
-use Rattle.first_language.specs.declared.tree.First.{First}
-use Rattle.first_language.specs.Meaning.{program_of}
-use Rattle.first_language.specs.Unit.{first_program}
 use Rattle.typed_tree.specs.Programs.{Checked}
 use Rattle.upc_top.specs.Sources.{IsExpanded, IsRead, IsTyped, IsAccepted, IsRunnable, IsOutside, no_syntax, too_high, IsRefused, no_tokens, no_expansion, no_tree, no_typing}
-use Rattle.first_language.proofs.Logic.{some_same}
+use Rattle.program_runs.specs.Served.{RunsToday}
 use Rattle.std.specs.Option.{option_or}
 
 -- given tokens are equal where they are given alike
@@ -46,23 +45,20 @@ same_checked threads bytes c d a b =
     let f : o.Accepted c ≡ o.Accepted d = sym a.typed.typed ∙ e ∙ b.typed.typed in
     cc
 
--- what can run is accepted
-pub accepted_of : (threads : ℕ) (bytes : List ℕ) (p : First) → (a : IsRunnable threads bytes p) → IsAccepted threads bytes a.checked
-accepted_of threads bytes p a = record { names = a.names; tree = a.tree; typed = a.typed }
+accepted_is : (f : Option Fault) (l : Option Passed) (x c : Checked) → o.outcome_by f l x ≡ o.Accepted c → x ≡ c
+accepted_is (Some f) l x c h = absurd cc
+accepted_is None (Some l) x c h = absurd cc
+accepted_is None None x c h = cc
 
-pub same_program : (threads : ℕ) (bytes : List ℕ) (p q : First) → IsRunnable threads bytes p → IsRunnable threads bytes q → program_of p ≡ program_of q
-same_program threads bytes p q a b =
-    let c = same_tree bytes a.names b.names a.tree b.tree a.typed.read b.typed.read in
-    let e : first_program a.names a.tree ≡ first_program b.names b.tree = rw (c.0, c.1) refl in
-    some_same (program_of p) (program_of q) (sym a.first ∙ e ∙ b.first)
+-- an accepted program is for so many threads
+pub accepted_threads : (threads : ℕ) (bytes : List ℕ) (c : Checked) → IsAccepted threads bytes c → c.threads ≡ threads
+accepted_threads threads bytes c a =
+    sym (ap (λ (x : Checked). x.threads) (accepted_is _ _ _ c a.typed.typed))
 
 -- a source that can run is not outside
-pub never_outside : (threads : ℕ) (bytes : List ℕ) (p : First) (r : Refusal) → IsRunnable threads bytes p → IsOutside threads bytes r → ⊥
-never_outside threads bytes p r a b =
-    let c = same_tree bytes a.names b.names a.tree b.tree a.typed.read b.typed.read in
-    let e : first_program a.names a.tree ≡ first_program b.names b.tree = rw (c.0, c.1) refl in
-    let f = sym a.first ∙ e ∙ b.foreign.none in
-    absurd cc
+pub never_outside : (threads : ℕ) (bytes : List ℕ) (c : Checked) (r : Refusal) → IsRunnable threads bytes c → IsOutside threads bytes r → ⊥
+never_outside threads bytes c r a b =
+    b.not_yet.runs (subst RunsToday (same_checked threads bytes c b.checked a.accepted b.accepted) a.runs)
 
 -- a source is not both accepted and refused
 pub never_both : (threads : ℕ) (bytes : List ℕ) (d : Checked) (r : Refusal) → IsAccepted threads bytes d → IsRefused threads bytes r → ⊥
@@ -84,30 +80,3 @@ never_both threads bytes d r a (no_typing names tree read refused) =
     let e : outcome a.names threads a.tree ≡ outcome names threads tree = rw (c.0, c.1) refl in
     let f = sym a.typed.typed ∙ e ∙ refused in
     absurd cc
-
--- ---- an expansion has at most 1,048,576 tokens
-
-first_passes : (o later : Option Refusal) → option_or o later ≡ None → (o ≡ None) × (later ≡ None)
-first_passes None later h = (refl, h)
-first_passes (Some r) later h = absurd cc
-
-word_passes : (place : _) (o : Option ℕ) (before : ℕ) → word_refusal place o before ≡ None → before < 1048576
-word_passes place (Some n) before h = absurd cc
-word_passes place None before h = below (nat_le 1048576 before) refl h
-  where
-    below : (b : Bool) → nat_le 1048576 before ≡ b → word_refusal place None before ≡ None → before < 1048576
-    below true e h = absurd (cc (rw e at h))
-    below false e h = leb-false 1048576 before e
-
-few_from : (before : ℕ) (ts : List Token) → before ≤ 1048576 → first_refusal before (map given ts) ≡ None → before + length ts ≤ 1048576
-few_from before [] low h = omega arith
-few_from before (t ∷ ts) low h =
-    let f = first_passes (token_refusal before t) (first_refusal (1 + before) (map given ts)) h in
-    let here = word_passes t.place (refused_word t.kind) before f.0 in
-    let more = few_from (1 + before) ts (omega arith) f.1 in
-    omega arith
-
-pub few_tokens : (bytes : List ℕ) (tokens : List Token) (names : ℕ) (out : List Token) → IsExpansion bytes tokens names out → length out ≤ 1048576
-few_tokens bytes tokens names out h =
-    let few = few_from 0 out (omega arith) (ap (first_refusal 0) (sym h.items_are) ∙ h.passes) in
-    omega arith

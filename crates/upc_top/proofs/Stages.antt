@@ -14,7 +14,6 @@ use Rattle.upc_checker.specs.Outcomes as o
 use Rattle.upc_checker.specs.Outcomes.{Answers, outcome}
 use Rattle.typed_tree.specs.Programs.{Checked}
 use Rattle.upc_top.specs.Sources.{IsExpanded, IsRead, IsTyped, no_syntax, too_high, no_tokens, no_expansion, no_tree, no_typing, StopsReading}
-use Rattle.upc_top.proofs.Readings.{few_tokens}
 
 pub stops_lexing : (threads : ℕ) (bytes : List ℕ) (s : Stop) → StopsSource bytes s → StopsReading threads bytes s
 stops_lexing threads bytes (Refused r) h = no_tokens h
@@ -31,9 +30,6 @@ module _ (threads : ℕ) (bytes : List ℕ) (tokens : List Token) (names : List 
 
     pub reads : (u : List External) → IsTree expanded u → IsRead bytes names u
     reads u h = record { expanded = expanded; expands = expands; grammar = h }
-
-    pub few_in : (u : List External) → IsTree expanded u → length (tokens_of u) ≤ 1048576
-    few_in u h = let few = few_tokens bytes tokens (length names) expanded exp in omega (arith, ap length h.spelled)
 
     pub types : (u : List External) (x : Checked) → IsTree expanded u → outcome names threads u ≡ o.Accepted x → IsTyped threads bytes names u x
     types u x h t = record { read = reads u h; typed = t }

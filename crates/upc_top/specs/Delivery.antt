@@ -6,7 +6,6 @@ use Rattle.typed_tree.specs.Programs.{Checked}
 use Rattle.command_words.specs.declared.call.Mode.{Mode}
 use Rattle.command_words.specs.declared.call.Mode.TheVariants.{Run, Check, Layout}
 use Rattle.command_words.specs.Values.{Asked}
-use Rattle.first_language.specs.declared.tree.First.{First}
 use Rattle.upc_top.specs.declared.verdict.Verdict.{Verdict}
 use Rattle.upc_top.specs.declared.done.Done.{Done}
 use Rattle.upc_top.specs.Sources.{IsAccepted, IsRunnable}
@@ -101,11 +100,11 @@ pub record HasWritten (out : Writing) (done : Done) (text : List ℕ) : Type 0 w
   pub status : done.status ≡ 0
   pub gained : Gained out text
 
--- What bytes come to in each mode that runs today, or memory was wanting: a program that can run is run, an accepted
+-- What bytes come to in each mode that runs today, or memory was wanting: a program that runs today is run, an accepted
 -- source is passed, and an accepted source is laid out.
 abbrev pub IsDone : Mode → ℕ → List ℕ → Writing → Done → Type 0
 IsDone Run threads bytes out done =
-    (program : First) → IsRunnable threads bytes program → HasRun out done ⊎ (done.status ≡ 104)
+    (checked : Checked) → IsRunnable threads bytes checked → HasRun out done ⊎ (done.status ≡ 104)
 IsDone Check threads bytes out done =
     (checked : Checked) → IsAccepted threads bytes checked → HasWritten out done (codes "ok\n") ⊎ (done.status ≡ 104)
 IsDone Layout threads bytes out done =

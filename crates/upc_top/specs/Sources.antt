@@ -1,8 +1,8 @@
 -- What a source comes to on its way to a program for so many threads: tokens, then their expansion, then the tree of
 -- that, then the typed tree, then the program.
-use Rattle.std.specs.Prelude.{ℕ, ◌≡◌, ◌≤◌, List, length, Some, None}
+use Rattle.std.specs.Prelude.{ℕ, ◌≡◌, ◌≤◌, List, length}
 use Rattle.upc_text.specs.declared.place.Code.{Code}
-use Rattle.upc_text.specs.declared.place.Code.TheVariants.{Syntax, Profile, Limit}
+use Rattle.upc_text.specs.declared.place.Code.TheVariants.{Syntax, Limit}
 use Rattle.upc_text.specs.declared.place.Refusal.{Refusal}
 use Rattle.upc_text.specs.declared.faults.Stop.{Stop}
 use Rattle.upc_text.specs.declared.faults.Stop.TheVariants.{Refused, Memory}
@@ -16,9 +16,8 @@ use Rattle.upc_checker.specs.Outcomes.{outcome}
 use Rattle.typed_tree.specs.Programs.{Checked}
 use Rattle.command_words.specs.declared.call.Mode.{Mode}
 use Rattle.command_words.specs.declared.call.Mode.TheVariants.{Run}
-use Rattle.first_language.specs.declared.tree.First.{First}
-use Rattle.first_language.specs.Meaning.{program_of}
-use Rattle.first_language.specs.Unit.{first_program}
+use Rattle.program_runs.specs.Served.{RunsToday}
+use Rattle.program_runs.specs.Runs.{IsNotYet}
 
 -- The bytes have tokens over these names, which expand to these.
 pub record IsExpanded (bytes : List ℕ) (names : List (List ℕ)) (expanded : List Token) : Type 0 where
@@ -44,13 +43,10 @@ pub record IsAccepted (threads : ℕ) (bytes : List ℕ) (checked : Checked) : T
   pub tree : List External
   pub typed : IsTyped threads bytes names tree checked
 
--- The source is accepted, and its tree is one of the first language, with this program: it can run.
-pub record IsRunnable (threads : ℕ) (bytes : List ℕ) (program : First) : Type 0 where
-  pub names : List (List ℕ)
-  pub tree : List External
-  pub checked : Checked
-  pub typed : IsTyped threads bytes names tree checked
-  pub first : first_program names tree ≡ Some (program_of program)
+-- The source is accepted as a program that runs today.
+pub record IsRunnable (threads : ℕ) (bytes : List ℕ) (checked : Checked) : Type 0 where
+  pub accepted : IsAccepted threads bytes checked
+  pub runs : RunsToday checked
 
 -- Why expanded tokens have no tree: no proper tree of any height has them, or each that has them is too high.
 pub data HasNoTree (expanded : List Token) (code : Code) : Type 0 where
@@ -73,20 +69,11 @@ pub data IsRefused (threads : ℕ) (bytes : List ℕ) (r : Refusal) : Type 0 whe
   no_typing : (names : List (List ℕ)) (tree : List External) → IsRead bytes names tree
       → outcome names threads tree ≡ o.Refused r → IsRefused threads bytes r
 
--- A tree is none of the first language, for which the answer is `profile 0` at 1:1.
-pub record IsForeign (names : List (List ℕ)) (tree : List External) (r : Refusal) : Type 0 where
-  pub none : first_program names tree ≡ None
-  pub code : r.code ≡ Profile 0
-  pub line : r.place.line ≡ 1
-  pub column : r.place.column ≡ 1
-
--- The source is accepted, but cannot run: its tree is none of the first language.
+-- The source is accepted, but does not run today, for which the answer is `profile 0` at 1:1.
 pub record IsOutside (threads : ℕ) (bytes : List ℕ) (r : Refusal) : Type 0 where
-  pub names : List (List ℕ)
-  pub tree : List External
   pub checked : Checked
-  pub typed : IsTyped threads bytes names tree checked
-  pub foreign : IsForeign names tree r
+  pub accepted : IsAccepted threads bytes checked
+  pub not_yet : IsNotYet checked r
 
 -- Why a source is refused in a mode: it is refused, or it is to run and cannot.
 pub data IsRefusedIn (mode : Mode) (threads : ℕ) (bytes : List ℕ) (r : Refusal) : Type 0 where
@@ -97,8 +84,3 @@ pub data IsRefusedIn (mode : Mode) (threads : ℕ) (bytes : List ℕ) (r : Refus
 abbrev pub StopsReading : ℕ → List ℕ → Stop → Type 0
 StopsReading threads bytes (Refused r) = IsRefused threads bytes r
 StopsReading threads bytes Memory = Unit {0}
-
--- The tree is none of the first language, or there was no memory.
-abbrev pub StopsRunning : List (List ℕ) → List External → Stop → Type 0
-StopsRunning names tree (Refused r) = IsForeign names tree r
-StopsRunning names tree Memory = Unit {0}

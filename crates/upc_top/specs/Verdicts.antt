@@ -3,16 +3,12 @@ use Rattle.std.specs.Prelude.{ℕ, ◌≡◌, ◌≤◌, List, [], length, Optio
 use Rattle.upc_text.specs.declared.place.Refusal.{Refusal}
 use Rattle.upc_text.specs.Outside.{Rose, IsWhole, IsLonger}
 use Rattle.upc_values.specs.declared.journal.Journal.{Journal}
-use Rattle.upc_values.specs.Ends.{AreSpent}
-use Rattle.upc_values.specs.Sound.{IsSound}
-use Rattle.upc_values.specs.Waits.{WaitsFollow}
 use Rattle.typed_tree.specs.Programs.{Checked}
 use Rattle.typed_tree.specs.ViewProgram.{view_program}
 use Rattle.command_words.specs.declared.call.Mode.TheVariants.{Run, Check, Layout}
 use Rattle.command_words.specs.Values.{Asked, IsInRange}
-use Rattle.first_language.specs.declared.tree.First.{First}
-use Rattle.first_language.specs.Meaning.{meaning, opening_of}
-use Rattle.serial_core.specs.Course.{IsCourse}
+use Rattle.serial_core.specs.declared.limits.Limits.{Limits}
+use Rattle.program_runs.specs.Runs.{IsRunOf}
 use Rattle.upc_top.specs.declared.verdict.Verdict.{Verdict}
 use Rattle.upc_top.specs.declared.verdict.Verdict.TheVariants.{Usage, ReadFault, TooLong, Refused, Ran, Passed, Laid}
 use Rattle.upc_top.specs.declared.verdict.Verdict.TheVariants.{NoMemory}
@@ -31,23 +27,16 @@ pub record Reading : Type 0 where
 abbrev pub reading : (List ℕ → Option (List ℕ)) → (List ℕ → ℕ) → (List ℕ → ℕ) → Reading
 reading told before after = record { told = told; before = before; after = after }
 
--- The journal is a sound run of the program with what was asked for; each thread's p-th wait stands after the p-th
--- notify of all threads, a thread that came to its budget has had that many ticks, and it went round by round, with no
--- round begun once an end had ended the run.
-pub record IsRun (a : Asked) (p : First) (j : Journal) : Type 0 where
-  pub budget_is : j.budget ≡ a.budget
-  pub actions_is : j.actions ≡ a.actions
-  pub sound : IsSound (opening_of p a.threads) (λ budget t. meaning p t a.threads budget) j
-  pub waits : WaitsFollow a.threads j.history
-  pub spent : AreSpent a.budget j.strands
-  pub course : IsCourse [] j
+-- What a run is limited to by what was asked for.
+abbrev pub limits_of : Asked → Limits
+limits_of a = record { threads = a.threads; budget = a.budget; actions = a.actions }
 
--- A run was asked for, and the bytes are a program that can run, of which the journal is a sound run.
+-- A run was asked for, and the bytes are a program that runs today, of which the journal is a sound run.
 pub record RanFrom (a : Asked) (bytes : List ℕ) (j : Journal) : Type 0 where
   pub mode : a.mode ≡ Run
-  pub program : First
-  pub runnable : IsRunnable a.threads bytes program
-  pub run : IsRun a program j
+  pub checked : Checked
+  pub runnable : IsRunnable a.threads bytes checked
+  pub run : IsRunOf checked (limits_of a) [] j
 
 -- No more was asked than whether the bytes are accepted, and they are.
 pub record PassedFrom (a : Asked) (bytes : List ℕ) : Type 0 where

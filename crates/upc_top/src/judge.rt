@@ -1,23 +1,23 @@
 //! From the words to what the top call comes to.
 
 ghost use Rattle.std.specs.Prelude.{◌≡◌, ◌≤◌, true, length, map, string_bytes};
-ghost use Rattle.upc_tree.specs.Unit.{tokens_of};
-ghost use Rattle.upc_tree.specs.ViewStatement.{view_unit};
 ghost use Rattle.typed_tree.specs.ViewProgram.{view_program};
 ghost use Rattle.command_words.specs.Values.{IsInRange, view_call};
 ghost use Rattle.command_words.specs.Values.{IsAllowed};
 ghost use Rattle.command_words.specs.declared.call.Mode.TheVariants as mode;
 ghost use Rattle.upc_top.specs.Words.{is_served};
-ghost use Rattle.upc_top.specs.Sources.{IsTyped};
+ghost use Rattle.upc_top.specs.Sources.{IsAccepted};
 ghost use Rattle.upc_top.specs.Verdicts.{reading, Caused, ComesFrom};
 
-use crate::front::{Accepted, first_program, read_source};
+use crate::front::read_source;
 use crate::verdict::Verdict;
 use crate::words::read_call;
 use command_words::{Call, Mode, NoCall};
-use serial_core::{Limits, run_by};
+use program_runs::run_program;
+use serial_core::Limits;
 use std::alloc::Global;
 use std::sync::Wait;
+use typed_tree::Program;
 use upc_text::{ReadEnd, Sources, Stop, read_all};
 
 // Runs a source that is accepted.
@@ -26,29 +26,23 @@ fn run_accepted<R: Wait>(
     alloc: Global,
     call: &Call<'_>,
     bytes: &[u8],
-    source: &Accepted,
+    program: &Program,
 ) -> Verdict
     requires mode { call.now.mode ≡ mode.Run }
     requires range { IsInRange (view_call call.now) }
     requires allowed { IsAllowed (view_call call.now) }
-    requires typed { IsTyped call.now.threads bytes.now source.now.names (view_unit source.now.unit)
-        (view_program source.now.program) }
-    requires few { length (tokens_of (view_unit source.now.unit)) ≤ 1048576 }
+    requires accepted { IsAccepted call.now.threads bytes.now (view_program program.now) }
     ensures { ComesFrom (view_call call.now) bytes.now result }
 {
-    let program = match first_program(alloc, source) {
-        Ok(program) => program,
-        Err(Stop::Refused(refusal)) => return Verdict::Refused(refusal),
-        Err(Stop::Memory) => return Verdict::NoMemory(None),
-    };
     let limits = Limits {
         threads: call.threads,
         budget: call.budget,
         actions: call.actions,
     };
-    match run_by(rt, alloc, &program, limits, &[]) {
+    match run_program(rt, alloc, program, limits, &[]) {
         Ok(journal) => Verdict::Ran(journal),
-        Err(_) => Verdict::NoMemory(None),
+        Err(Stop::Refused(refusal)) => Verdict::Refused(refusal),
+        Err(Stop::Memory) => Verdict::NoMemory(None),
     }
 }
 
@@ -60,15 +54,15 @@ fn come_to<R: Wait>(rt: &R, alloc: Global, call: &Call<'_>, bytes: &[u8]) -> Ver
     requires short { length bytes.now ≤ 1048576 }
     ensures { ComesFrom (view_call call.now) bytes.now result }
 {
-    let source = match read_source(alloc, call.threads, bytes) {
-        Ok(source) => source,
+    let program = match read_source(alloc, call.threads, bytes) {
+        Ok(program) => program,
         Err(Stop::Refused(refusal)) => return Verdict::Refused(refusal),
         Err(Stop::Memory) => return Verdict::NoMemory(None),
     };
     match call.mode {
         Mode::Check => Verdict::Passed,
-        Mode::Layout => Verdict::Laid(source.program),
-        _ => run_accepted(rt, alloc, call, bytes, &source),
+        Mode::Layout => Verdict::Laid(program),
+        _ => run_accepted(rt, alloc, call, bytes, &program),
     }
 }
 

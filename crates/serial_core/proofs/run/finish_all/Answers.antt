@@ -58,7 +58,7 @@ returns-clause-rest g c =
     record {
       stopped = stopped-of w ks c.requires.stopped.0 c.requires.stopped.1;
       each = each-of ToRest w x ks ms h.same.many (λ i d lt. h.done i (omega (arith, lt, over)) d);
-      later = later-of c.args.program.now r.0 w x ks ms (h.running r.0 r.1) h.same.many h.grows;
+      later = later-of c.args.code.now r.0 w x ks ms (h.running r.0 r.1) h.same.many h.grows;
     }
 
 pub returns-clause-stopped : goal.returns-clause-stopped

@@ -20,7 +20,7 @@ rounds-requires-clause-quiet g c =
 pub returns-then-is_some-clause-over : goal.returns-then-is_some-clause-over
 returns-then-is_some-clause-over g c = λ f run.
     let x = c.finish_all.new.world in let e = c.in_ok-finish_all.ensures in let u = e.stopped in
-    over-halted x.0 c.args.program.now f x.1 c.finish_all.new.tasks.items c.halt_all.new.tasks.items u.0 (e.running f run) e.rested u.1.0 u.1.1 c.halt_all.ensures
+    over-halted x.0 c.args.code.now f x.1 c.finish_all.new.tasks.items c.halt_all.new.tasks.items u.0 (e.running f run) e.rested u.1.0 u.1.1 c.halt_all.ensures
 
 pub returns-then-is_some-clause-out : goal.returns-then-is_some-clause-out
 returns-then-is_some-clause-out g c =

@@ -11,12 +11,12 @@ returns c = λ o f has.
     let h = c.loop-thread.invariant in
     let many : length c.loop-thread.tasks.items ≡ o.threads =
     (let a = h.0 in let b = c.loop-thread-test.false in let d = c.loop-thread.auto.thread-end in let e = has.threads in omega arith) in
-    start-of o c.args.program.now f c.args.limits c.loop-thread.tasks.items many (h.1 o f has)
+    start-of o c.args.code.now f c.args.limits c.loop-thread.tasks.items many (h.1 o f has)
 
 pub loop-thread-preserved : goal.loop-thread-preserved
 loop-thread-preserved c =
     let h = c.loop-thread.invariant in let xs = c.loop-thread.tasks.items in let k = c.in_ok-task.task in let e = c.in_ok-task.ensures in
-    let p = c.args.program.now in let l = c.args.limits in
+    let p = c.args.code.now in let l = c.args.limits in
     let is : c.push.new.self.items ≡ xs ++ k ∷ [] = c.in_ok-push.ensures.items in (
       ap length is ∙ length-append xs (k ∷ []) ∙ ap (λ n. n + 1) h.0,
       λ o f has.

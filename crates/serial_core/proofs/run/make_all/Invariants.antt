@@ -7,4 +7,4 @@ use Rattle.serial_core.proofs.run.make_all.Given as goal
 
 abbrev pub invariant-loop-thread : goal.invariant-loop-thread
 invariant-loop-thread l = (length l.tasks.items ≡ l.thread)
-    × ((o : Opening) (f : Outcomes) → HasOutcomes o l.program l.limits f → Numbered (λ i k. IsNew o l.program f l.limits i k) l.tasks.items)
+    × ((o : Opening) (f : Outcomes) → HasOutcomes o l.code l.limits f → Numbered (λ i k. IsNew o l.code f l.limits i k) l.tasks.items)

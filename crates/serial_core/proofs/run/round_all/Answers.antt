@@ -58,5 +58,5 @@ returns-clause-round g c =
     record {
       quiet = quiet-of w ks c.requires.quiet;
       each = each-of InRound w x ks ms h.same.many (λ i d lt. h.done i (omega (arith, lt, over)) d);
-      later = later-of c.args.program.now r.0 w x ks ms (h.running r.0 r.1) h.same.many h.grows;
+      later = later-of c.args.code.now r.0 w x ks ms (h.running r.0 r.1) h.same.many h.grows;
     }

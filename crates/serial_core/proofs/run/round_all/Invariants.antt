@@ -7,7 +7,7 @@ use Rattle.serial_core.proofs.run.round_all.Given as goal
 
 abbrev pub invariant-loop-at : goal.invariant-loop-at
 invariant-loop-at g l = record {
-  running : StaysRunning l.program l.initial.world l.initial.tasks.items l.world l.tasks.items;
+  running : StaysRunning l.code l.initial.world l.initial.tasks.items l.world l.tasks.items;
   same : AreSame l.initial.tasks.items l.tasks.items;
   rested : (i : ℕ) (d : Task) → i < l.at → Rested (slice_index_or l.tasks.items i d);
   done : (i : ℕ) → i < l.at → GoesAt InRound i l.initial.tasks.items l.tasks.items;

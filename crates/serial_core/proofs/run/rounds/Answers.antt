@@ -31,19 +31,19 @@ round_all-requires-clause-running g c = let r = c.requires.running in (r.0, c.lo
 
 pub none_goes-requires : goal.none_goes-requires
 none_goes-requires g c = let r = c.requires.running in
-    (c.args.program.now, (r.0, c.in_ok-round_all.ensures.running r.0 (c.loop.invariant.running r.0 r.1)))
+    (c.args.code.now, (r.0, c.in_ok-round_all.ensures.running r.0 (c.loop.invariant.running r.0 r.1)))
 
 pub returns-then-is_some-clause-over : goal.returns-then-is_some-clause-over
 returns-then-is_some-clause-over g c = λ f run.
     let o = c.round_all.new.world.0 in let seen = c.round_all.new.world.1 in let ks = c.round_all.new.tasks.items in
     let yes : is_some c.stopped.result ≡ true = search rules in
     let u = match-some c.stopped.result (NoneStops ks) (StopsAt ks) yes c.stopped.ensures in
-    over-halted o c.args.program.now f seen ks c.halt_all.new.tasks.items u.0 (c.in_ok-round_all.ensures.running f (c.loop.invariant.running f run)) c.in_ok-round_all.ensures.rested
+    over-halted o c.args.code.now f seen ks c.halt_all.new.tasks.items u.0 (c.in_ok-round_all.ensures.running f (c.loop.invariant.running f run)) c.in_ok-round_all.ensures.rested
     u.1.0 u.1.1 c.halt_all.ensures
 
 pub returns-then-all_ended-clause-over : goal.returns-then-all_ended-clause-over
 returns-then-all_ended-clause-over g c = λ f run.
-    over-ended c.round_all.new.world.0 c.args.program.now f c.round_all.new.world.1 c.round_all.new.tasks.items
+    over-ended c.round_all.new.world.0 c.args.code.now f c.round_all.new.world.1 c.round_all.new.tasks.items
     (c.in_ok-round_all.ensures.running f (c.loop.invariant.running f run)) (c.all_ended.ensures c.if-all_ended.true)
 
 pub returns-then-none_goes-clause-over : goal.returns-then-none_goes-clause-over
@@ -51,7 +51,7 @@ returns-then-none_goes-clause-over g c = λ f run.
     let o = c.round_all.new.world.0 in let seen = c.round_all.new.world.1 in let ks = c.round_all.new.tasks.items in
     let no : is_some c.stopped.result ≡ false = search rules in
     let quiet = match-none c.stopped.result (NoneStops ks) (StopsAt ks) no c.stopped.ensures in
-    over-locked o c.args.program.now f seen ks c.lock_all.new.tasks.items (c.in_ok-round_all.ensures.running f (c.loop.invariant.running f run))
+    over-locked o c.args.code.now f seen ks c.lock_all.new.tasks.items (c.in_ok-round_all.ensures.running f (c.loop.invariant.running f run))
     (c.none_goes.ensures c.if-none_goes.true) quiet c.in_ok-lock_all.ensures
 
 pub returns-then-is_some-clause-out : goal.returns-then-is_some-clause-out

@@ -5,7 +5,7 @@ use Rattle.serial_core.proofs.run.rounds.Given as goal
 
 abbrev pub invariant-loop : goal.invariant-loop
 invariant-loop g l = record {
-  running : StaysRunning l.program l.initial.world l.initial.tasks.items l.world l.tasks.items;
+  running : StaysRunning l.code l.initial.world l.initial.tasks.items l.world l.tasks.items;
   same : AreSame l.initial.tasks.items l.tasks.items;
   quiet : NoneStops l.tasks.items;
   went : (many : ℕ) × GoesRounds many (moment_of l.initial.world l.initial.tasks.items) (moment_of l.world l.tasks.items);

@@ -3,7 +3,7 @@ use Rattle.std.specs.Vec.Iter.{into_iter_items}
 use Rattle.upc_values.specs.declared.journal.Entry.{Entry}
 use Rattle.upc_values.specs.Lists.{Numbered}
 use Rattle.upc_values.specs.Openings.{Opening}
-use Rattle.first_language.specs.declared.tree.First.{First}
+use Rattle.stack_code.specs.Codes.{Codes}
 use Rattle.serial_core.specs.Sources.{Outcomes}
 use Rattle.serial_core.specs.Kept.{strand_of}
 use Rattle.serial_core.specs.Runs.{IsAt}
@@ -14,6 +14,6 @@ invariant-loop-task l = record {
   all : l.yielded ++ into_iter_items l.task-iterator ≡ l.fn.tasks.items;
   many : length l.strands.items ≡ length l.yielded;
   room : length l.fn.tasks.items ≤ vec_capacity l.strands;
-  made : (o : Opening) (p : First) (f : Outcomes) (seen : List Entry) → Numbered (λ i k. IsAt o p f seen i k) l.fn.tasks.items
+  made : (o : Opening) (p : Codes) (f : Outcomes) (seen : List Entry) → Numbered (λ i k. IsAt o p f seen i k) l.fn.tasks.items
       → l.strands.items ≡ map (strand_of f) l.yielded;
 }

@@ -1,6 +1,6 @@
 use Rattle.std.proofs.Common.{◌≡◌, sym, subst, ap, ◌∙◌, set, None, Option, get_or, get_or-set_same}
 use Rattle.std.proofs.lemmas.List.{get_or_read}
-use Rattle.first_language.specs.declared.machine.Wish.{Wish}
+use Rattle.stack_machine.specs.declared.wish.Wish.{Wish}
 use Rattle.serial_core.specs.declared.task.Task.{Task}
 use Rattle.serial_core.specs.Kept.{IsKept, Grew, Adds}
 use Rattle.serial_core.specs.Course.{Steps}
@@ -11,14 +11,14 @@ use Rattle.serial_core.proofs.run.turn.Goals as goal
 
 pub step-requires-clause-kept : goal.step-requires-clause-kept
 step-requires-clause-kept c =
-    let k = c.index_mut-task.result.now in let o = c.args.world.now.0 in let p = c.args.program.now in let seen = c.args.world.now.1 in let t = c.args.at in
+    let k = c.index_mut-task.result.now in let o = c.args.world.now.0 in let p = c.args.code.now in let seen = c.args.world.now.1 in let t = c.args.at in
     let run = c.requires.running in
     let old : IsAt o p run.0 seen t k = subst (IsAt o p run.0 seen t) (sym c.index_mut-task.ensures.value) (run.1.tasks t k c.requires.at.0) in
     (p, run.0, c.in_ok-work.ensures.kept run.0 o seen old.kept)
 
 pub returns-clause-running : goal.returns-clause-running
 returns-clause-running c = λ f run.
-    let k = c.index_mut-task.result.now in let o = c.args.world.now.0 in let p = c.args.program.now in let seen = c.args.world.now.1 in let t = c.args.at in
+    let k = c.index_mut-task.result.now in let o = c.args.world.now.0 in let p = c.args.code.now in let seen = c.args.world.now.1 in let t = c.args.at in
     let old : IsAt o p f seen t k = subst (IsAt o p f seen t) (sym c.index_mut-task.ensures.value) (run.tasks t k c.requires.at.0) in
     let w = c.in_ok-work.ensures in let s = c.in_ok-pause.ensures in
     let thread : c.work.new.self.thread ≡ t = w.same.0.thread ∙ old.thread in

@@ -3,7 +3,7 @@ use Rattle.std.proofs.lemmas.Result.{err_from_is_err_and}
 use Rattle.upc_macros.specs.Expansion.{IsExpansion}
 use Rattle.upc_tree.specs.ViewStatement.{view_unit}
 use Rattle.typed_tree.specs.ViewProgram.{view_program}
-use Rattle.upc_top.proofs.Stages.{stops_expanding, stops_parsing, few_in, stops_checking, types}
+use Rattle.upc_top.proofs.Stages.{stops_expanding, stops_parsing, stops_checking, types}
 use Rattle.upc_top.proofs.front.read_source.Goals as goal
 
 pub returns-in_err-tokens-clause-refused : goal.returns-in_err-tokens-clause-refused
@@ -31,10 +31,9 @@ pub returns-clause-accepted : goal.returns-clause-accepted
 returns-clause-accepted c =
     let lexed = c.in_ok-lexed.lexed in
     let expansion = subst (IsExpansion c.args.source.now lexed.tokens.items (length lexed.names)) (sym c.as_slice.ensures.value) c.in_ok-tokens.ensures.expansion in
-    types c.args.threads c.args.source.now _ _ c.in_ok-lexed.ensures.tokens c.as_slice.result.now expansion _ _ c.in_ok-unit.ensures.found c.in_ok-program.ensures
-
-pub returns-clause-few : goal.returns-clause-few
-returns-clause-few c =
-    let lexed = c.in_ok-lexed.lexed in
-    let expansion = subst (IsExpansion c.args.source.now lexed.tokens.items (length lexed.names)) (sym c.as_slice.ensures.value) c.in_ok-tokens.ensures.expansion in
-    few_in c.args.threads c.args.source.now _ _ c.in_ok-lexed.ensures.tokens c.as_slice.result.now expansion _ c.in_ok-unit.ensures.found
+    record {
+      names = _;
+      tree = _;
+      typed = types c.args.threads c.args.source.now _ _ c.in_ok-lexed.ensures.tokens c.as_slice.result.now expansion _ _
+          c.in_ok-unit.ensures.found c.in_ok-program.ensures;
+    }

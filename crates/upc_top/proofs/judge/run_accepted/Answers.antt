@@ -1,24 +1,25 @@
-use Rattle.upc_tree.specs.ViewStatement.{view_unit}
+use Rattle.std.proofs.Common.{rules}
 use Rattle.typed_tree.specs.ViewProgram.{view_program}
+use Rattle.upc_top.specs.Sources.{not_runnable}
+use Rattle.upc_top.proofs.Readings.{accepted_threads}
 use Rattle.upc_top.proofs.judge.run_accepted.Goals as goal
 
-pub returns-in-Ok-run_by : goal.returns-in-Ok-run_by
-returns-in-Ok-run_by g c = record {
+pub run_program-requires-clause-threads : goal.run_program-requires-clause-threads
+run_program-requires-clause-threads g c = accepted_threads _ _ _ c.requires.accepted
+
+pub returns-in-Ok : goal.returns-in-Ok
+returns-in-Ok g c = record {
   mode = c.requires.mode;
-  program = c.in-Ok.program;
-  runnable = record {
-    names = c.args.source.now.names;
-    tree = view_unit c.args.source.now.unit;
-    checked = view_program c.args.source.now.program;
-    typed = c.requires.typed;
-    first = c.in-Ok.ensures.found;
-  };
-  run = record {
-    budget_is = c.in-Ok-run_by.ensures.limits.1;
-    actions_is = c.in-Ok-run_by.ensures.limits.2;
-    sound = c.in-Ok-run_by.ensures.sound;
-    waits = c.in-Ok-run_by.ensures.waits;
-    spent = c.in-Ok-run_by.ensures.spent;
-    course = c.in-Ok-run_by.ensures.course;
-  };
+  checked = view_program c.args.program.now;
+  runnable = record { accepted = c.requires.accepted; runs = c.in-Ok.ensures.runs };
+  run = c.in-Ok.ensures.ran;
 }
+
+pub returns-in-Err-Refused : goal.returns-in-Err-Refused
+returns-in-Err-Refused g c =
+    not_runnable c.requires.mode
+    (record {
+      checked = view_program c.args.program.now;
+      accepted = c.requires.accepted;
+      not_yet = search rules;
+    })

@@ -4,7 +4,7 @@ use Rattle.upc_values.specs.History.{reply, IsLegal}
 use Rattle.upc_values.specs.Formed.{AreWellFormed}
 use Rattle.upc_values.specs.Records.{is_stall, is_beat, is_beat_item, last_item}
 use Rattle.upc_values.proofs.Records.{last-push}
-use Rattle.first_language.specs.declared.machine.Wish.TheVariants.{Act}
+use Rattle.stack_machine.specs.declared.wish.Wish.TheVariants.{Act}
 use Rattle.memory_history.specs.World.{answer_of}
 use Rattle.serial_core.specs.declared.task.Task.{Task}
 use Rattle.serial_core.specs.Kept.{IsKept, Emitted, IsAnswer, Paused}

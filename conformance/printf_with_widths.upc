@@ -1,0 +1,1 @@
+int main(void){printf("%05d|%4x|%c\n",-42,255,65);return 0;}

@@ -1,0 +1,1 @@
+int main(void){upc_barrier 1;return 0;}

@@ -1,0 +1,236 @@
+-- The calls of the library that ask well whatever they are given, where that is known.
+use Rattle.std.proofs.Common.{◌≡◌, ℕ, ◌*◌, ◌<◌, ◌==◌, nat_lt, Bool, true, false, not, ◌&&◌, ◌||◌, cond}
+use Rattle.std.proofs.Common.{List, [], ◌∷◌, Option, Some, None, refl, sym, arith, lt-ltb, if◌then◌else◌}
+use Rattle.std.proofs.lemmas.Bool.{and_from, false≢true, eqb-false}
+use Rattle.std.specs.Prelude.{nat_le, unsigned_abs, slice_get}
+use Rattle.block_layout.specs.declared.kind.Shape.{Shape}
+use Rattle.block_layout.specs.declared.run_error.TheConstants.{LIBRARY_ARGS, NULL_ACCESS, CELL_TYPE}
+use Rattle.block_layout.specs.Pointers.{null, is_null}
+use Rattle.block_layout.specs.declared.kind.Kind.TheVariants as kind
+use Rattle.integers.specs.Integers.{converted}
+use Rattle.upc_values.specs.declared.scalar.Scalar.{Scalar}
+use Rattle.upc_values.specs.declared.scalar.Scalar.TheVariants as scalar
+use Rattle.upc_values.specs.declared.scalar.Value.{Value}
+use Rattle.upc_values.specs.declared.scalar.Value.TheVariants as value
+use Rattle.upc_values.specs.declared.action.Action.{Action}
+use Rattle.upc_values.specs.declared.action.Action.TheVariants as act
+use Rattle.upc_values.specs.declared.action.Reply.{Reply}
+use Rattle.upc_values.specs.declared.action.Reply.TheVariants as reply
+use Rattle.upc_values.specs.declared.journal.Entry.{Entry}
+use Rattle.upc_values.specs.declared.library.LibraryCall.{LibraryCall}
+use Rattle.upc_values.specs.declared.library.LibraryCall.TheVariants as c
+use Rattle.upc_values.specs.Lists.{Each}
+use Rattle.upc_values.specs.Scalars.{zero}
+use Rattle.upc_values.specs.Openings.{Opening, IsOpening}
+use Rattle.upc_values.specs.History.{locks, IsLegal}
+use Rattle.upc_values.specs.Formed.{is_known, is_whole, is_home, IsWellFormed, fits, fits_after}
+use Rattle.upc_values.specs.Expansion.{Expansion, Gives, Fails}
+use Rattle.upc_values.specs.Copying.{copy, set}
+use Rattle.upc_values.specs.Expansions.{is_large}
+use Rattle.upc_values.specs.LibraryCalls as l
+use Rattle.code_actions.specs.Asking.{is_plain_call}
+use Rattle.code_actions.proofs.KnownValues.{Known}
+use Rattle.code_actions.proofs.Doings.{Nothing}
+use Rattle.code_actions.proofs.Primitives as p
+use Rattle.code_actions.proofs.MemoryCalls as m
+
+not_zero : (n : ℕ) → (n == 0) ≡ false → nat_lt 0 n ≡ true
+not_zero n e = let ne = eqb-false n 0 e in lt-ltb 0 n (omega arith)
+
+-- What is not refused for its size is whole.
+whole_by : (a b : Bool) → a ≡ false → (not a && not b) ≡ false → (not a && b) ≡ true
+whole_by true b e h = absurd (false≢true (sym e))
+whole_by false true e h = refl
+whole_by false false e h = absurd (false≢true (sym h))
+
+module _ (o : Opening) (es : List Entry) (v : IsOpening o) (legal : IsLegal o es) (me budget : ℕ)
+    (one : me < o.threads) where
+  abbrev Goes : Expansion Scalar → Type 0
+  Goes e = p.GoesWell o es v legal me budget {A = Scalar} (λ w. is_known o es w ≡ true) e
+
+  abbrev CallGoes : LibraryCall → ℕ → List Value → Type 0
+  CallGoes call shape args = p.CallGoesWell o es v legal me budget call shape args
+
+  abbrev AreKnown : List Value → Type 0
+  AreKnown args = Each (Known o es) args
+
+  -- ---- tests
+
+  either_goes : (b : Bool) (x y : Expansion Scalar) → Goes x → (b ≡ false → Goes y) → Goes (if b then x else y)
+  either_goes true x y h g = h
+  either_goes false x y h g = g refl
+
+  unless_goes : (b : Bool) (code : ℕ) (y : Expansion Scalar) → (b ≡ false → Goes y) → Goes (cond b (Fails code) y)
+  unless_goes b code y g = m.unless_goes o es v legal me budget (λ w. is_known o es w ≡ true) b code y g
+
+  -- A call that gives no value gives 0.
+  valued_goes : (e : Expansion (Unit {0})) → p.GoesWell o es v legal me budget Nothing e → Goes (l.valued e)
+  valued_goes e h =
+      m.bind_goes o es v legal me budget Nothing (λ w. is_known o es w ≡ true) e (λ u. Gives zero) h (λ u k. refl)
+
+  -- ---- actions
+
+  given_goes : (r : Reply) → p.IsGiven o es v legal me budget r → Goes (l.given_by r)
+  given_goes reply.Done h = refl
+  given_goes (reply.Value w) h = h
+  given_goes (reply.Flag b) h = refl
+  given_goes (reply.Refused code) h = tt
+
+  asks_goes : (a : Action) → IsWellFormed o es a
+      → ((r : Reply) → fits_after o es a r ≡ true → fits o.threads o.shapes None a r ≡ true) → Goes (l.asks a)
+  asks_goes a formed fit = (formed, fit, given_goes)
+
+  -- ---- calls that ask for nothing (UPC 7.2.3)
+
+  thread_of_goes : (shape : ℕ) (args : List Value) → CallGoes c.ThreadOf shape args
+  thread_of_goes shape (value.Scalar (scalar.Shared q) ∷ []) private = refl
+  thread_of_goes shape args private = refl
+
+  phase_of_goes : (shape : ℕ) (args : List Value) → CallGoes c.PhaseOf shape args
+  phase_of_goes shape (value.Scalar (scalar.Shared q) ∷ []) private = refl
+  phase_of_goes shape args private = refl
+
+  address_goes : (shape : ℕ) (args : List Value) → CallGoes c.AddressField shape args
+  address_goes shape (value.Scalar (scalar.Shared q) ∷ []) private = refl
+  address_goes shape args private = refl
+
+  affinity_goes : (shape : ℕ) (args : List Value) → CallGoes c.AffinitySize shape args
+  affinity_goes shape (value.Scalar (scalar.Int n) ∷ value.Scalar (scalar.Int b) ∷ value.Scalar (scalar.Int t) ∷ [])
+      private =
+      unless_goes (nat_le o.threads (unsigned_abs t) || (is_large (unsigned_abs n) || is_large (unsigned_abs b)))
+      LIBRARY_ARGS _ (λ e. refl)
+  affinity_goes shape args private = refl
+
+  -- ---- allocations (UPC 7.2.2)
+
+  allocation_goes : (home : Option ℕ) (shape n b : ℕ) (private : ℕ → Option Shape) → is_home o.threads home ≡ true
+      → Goes (l.allocation o.threads o.shapes me private home shape n b)
+  allocation_goes home shape n b private at_home =
+      let go = l.asks (act.Alloc n b home shape) in
+      let whole = is_whole (slice_get o.shapes shape) b in
+      either_goes (n * b == 0) (Gives (scalar.Shared null)) _ refl (λ some.
+      unless_goes (not (n * b == 0) && not whole) CELL_TYPE go (λ e.
+      asks_goes (act.Alloc n b home shape)
+      (and_from (not (n * b == 0) && whole) (is_home o.threads home) (whole_by (n * b == 0) whole some e) at_home)
+      (λ r f. f)))
+
+  global_alloc_goes : (shape : ℕ) (args : List Value) → CallGoes c.GlobalAlloc shape args
+  global_alloc_goes shape (value.Scalar (scalar.Int n) ∷ value.Scalar (scalar.Int b) ∷ []) private =
+      allocation_goes None shape (unsigned_abs n) (unsigned_abs b) private refl
+  global_alloc_goes shape args private = refl
+
+  alloc_goes : (shape : ℕ) (args : List Value) → CallGoes c.Alloc shape args
+  alloc_goes shape (value.Scalar (scalar.Int b) ∷ []) private =
+      allocation_goes (Some me) shape 1 (unsigned_abs b) private (lt-ltb me o.threads one)
+  alloc_goes shape args private = refl
+
+  free_goes : (shape : ℕ) (args : List Value) → AreKnown args → CallGoes c.Free shape args
+  free_goes shape (value.Scalar (scalar.Shared q) ∷ []) h private =
+      either_goes (is_null q) (Gives zero) _ refl (λ e. asks_goes (act.Free q) h.0 (λ r f. f))
+  free_goes shape args h private = refl
+
+  all_free_goes : (shape : ℕ) (args : List Value) → AreKnown args → CallGoes c.AllFree shape args
+  all_free_goes shape (value.Scalar (scalar.Shared q) ∷ []) h private =
+      asks_goes (act.Meet 3 (scalar.Shared q ∷ [])) h.0 (λ r f. f)
+  all_free_goes shape args h private = refl
+
+  -- ---- locks (UPC 7.2.4)
+
+  lock_alloc_goes : (shape : ℕ) (args : List Value) → CallGoes c.GlobalLockAlloc shape args
+  lock_alloc_goes shape [] private = asks_goes act.LockMake refl (λ r f. f)
+  lock_alloc_goes shape args private = refl
+
+  all_lock_alloc_goes : (shape : ℕ) (args : List Value) → CallGoes c.AllLockAlloc shape args
+  all_lock_alloc_goes shape [] private = asks_goes (act.Meet 2 []) refl (λ r f. f)
+  all_lock_alloc_goes shape args private = refl
+
+  -- A lock that is made, of those that are null or made.
+  made_lock : (n : ℕ) → nat_le n (locks es) ≡ true → (n == 0) ≡ false
+      → (nat_lt 0 n && nat_le n (locks es)) ≡ true
+  made_lock n h e = and_from (nat_lt 0 n) (nat_le n (locks es)) (not_zero n e) h
+
+  lock_goes : (shape : ℕ) (args : List Value) → AreKnown args → CallGoes c.Lock shape args
+  lock_goes shape (value.Scalar (scalar.Lock n) ∷ []) h private =
+      unless_goes (n == 0) NULL_ACCESS _ (λ e. asks_goes (act.Lock n) (made_lock n h.0 e) (λ r f. f))
+  lock_goes shape args h private = refl
+
+  attempt_goes : (shape : ℕ) (args : List Value) → AreKnown args → CallGoes c.LockAttempt shape args
+  attempt_goes shape (value.Scalar (scalar.Lock n) ∷ []) h private =
+      unless_goes (n == 0) NULL_ACCESS _ (λ e. asks_goes (act.Attempt n) (made_lock n h.0 e) (λ r f. f))
+  attempt_goes shape args h private = refl
+
+  unlock_goes : (shape : ℕ) (args : List Value) → AreKnown args → CallGoes c.Unlock shape args
+  unlock_goes shape (value.Scalar (scalar.Lock n) ∷ []) h private =
+      unless_goes (n == 0) NULL_ACCESS _ (λ e. asks_goes (act.Unlock n) (made_lock n h.0 e) (λ r f. f))
+  unlock_goes shape args h private = refl
+
+  lock_free_goes : (shape : ℕ) (args : List Value) → AreKnown args → CallGoes c.LockFree shape args
+  lock_free_goes shape (value.Scalar (scalar.Lock n) ∷ []) h private =
+      either_goes (n == 0) (Gives zero) _ refl (λ e. asks_goes (act.LockFree n) (made_lock n h.0 e) (λ r f. f))
+  lock_free_goes shape args h private = refl
+
+  all_lock_free_goes : (shape : ℕ) (args : List Value) → AreKnown args → CallGoes c.AllLockFree shape args
+  all_lock_free_goes shape (value.Scalar (scalar.Lock n) ∷ []) h private =
+      asks_goes (act.Meet 4 (scalar.Lock n ∷ [])) h.0 (λ r f. f)
+  all_lock_free_goes shape args h private = refl
+
+  -- ---- memory (UPC 7.2.5)
+
+  -- Areas are known where the values are.
+  area_known : (w : Value) → Known o es w → m.IsKnownArea o es v legal me budget (l.area_of w)
+  area_known w h = m.area_known o es v legal me budget w h
+
+  copy_goes : (part : Option Shape) (dst src : Value) (n : ℕ) → Known o es dst → Known o es src
+      → Goes (l.valued (copy o.threads o.shapes part (l.area_of dst) (l.area_of src) n))
+  copy_goes part dst src n h g =
+      valued_goes (copy o.threads o.shapes part (l.area_of dst) (l.area_of src) n)
+      (m.copy_goes o es v legal me budget part (l.area_of dst) (l.area_of src) n (area_known dst h) (area_known src g))
+
+  memcpy_goes : (shape : ℕ) (args : List Value) → AreKnown args → CallGoes c.Memcpy shape args
+  memcpy_goes shape (dst ∷ src ∷ value.Scalar (scalar.Int n) ∷ []) h private =
+      copy_goes None dst src (unsigned_abs n) h.0 h.1.0
+  memcpy_goes shape args h private = refl
+
+  memget_goes : (shape : ℕ) (args : List Value) → AreKnown args → CallGoes c.Memget shape args
+  memget_goes shape (dst ∷ src ∷ value.Scalar (scalar.Int n) ∷ []) h private =
+      copy_goes (l.private_shape o.threads o.shapes me private (l.area_of dst)) dst src (unsigned_abs n) h.0 h.1.0
+  memget_goes shape args h private = refl
+
+  memput_goes : (shape : ℕ) (args : List Value) → AreKnown args → CallGoes c.Memput shape args
+  memput_goes shape (dst ∷ src ∷ value.Scalar (scalar.Int n) ∷ []) h private =
+      copy_goes (l.private_shape o.threads o.shapes me private (l.area_of src)) dst src (unsigned_abs n) h.0 h.1.0
+  memput_goes shape args h private = refl
+
+  memset_goes : (shape : ℕ) (args : List Value) → AreKnown args → CallGoes c.Memset shape args
+  memset_goes shape (dst ∷ value.Scalar (scalar.Int k) ∷ value.Scalar (scalar.Int n) ∷ []) h private =
+      let byte = unsigned_abs (converted kind.UChar k) in
+      valued_goes (set o.threads o.shapes None (l.area_of dst) byte (unsigned_abs n))
+      (m.set_goes o es v legal me budget None (l.area_of dst) byte (unsigned_abs n) (area_known dst h.0))
+  memset_goes shape args h private = refl
+
+  -- ---- all of these
+
+  pub plain_goes : (call : LibraryCall) (shape : ℕ) (args : List Value) → is_plain_call call ≡ true → AreKnown args
+      → CallGoes call shape args
+  plain_goes c.ThreadOf shape args h k = thread_of_goes shape args
+  plain_goes c.PhaseOf shape args h k = phase_of_goes shape args
+  plain_goes c.AddressField shape args h k = address_goes shape args
+  plain_goes c.AffinitySize shape args h k = affinity_goes shape args
+  plain_goes c.GlobalExit shape args h k = λ private. refl
+  plain_goes c.GlobalAlloc shape args h k = global_alloc_goes shape args
+  plain_goes c.Alloc shape args h k = alloc_goes shape args
+  plain_goes c.Free shape args h k = free_goes shape args k
+  plain_goes c.AllFree shape args h k = all_free_goes shape args k
+  plain_goes c.GlobalLockAlloc shape args h k = lock_alloc_goes shape args
+  plain_goes c.AllLockAlloc shape args h k = all_lock_alloc_goes shape args
+  plain_goes c.Lock shape args h k = lock_goes shape args k
+  plain_goes c.LockAttempt shape args h k = attempt_goes shape args k
+  plain_goes c.Unlock shape args h k = unlock_goes shape args k
+  plain_goes c.LockFree shape args h k = lock_free_goes shape args k
+  plain_goes c.AllLockFree shape args h k = all_lock_free_goes shape args k
+  plain_goes c.Memcpy shape args h k = memcpy_goes shape args k
+  plain_goes c.Memget shape args h k = memget_goes shape args k
+  plain_goes c.Memput shape args h k = memput_goes shape args k
+  plain_goes c.Memset shape args h k = memset_goes shape args k
+  plain_goes c.Printf shape args h k = λ private. refl
+  plain_goes call shape args h k = absurd (false≢true h)

@@ -1,0 +1,10 @@
+pub mod KnownValues
+pub mod ObjectNumbers
+pub mod SharedCells
+pub mod Stores
+pub mod Doings
+pub mod Primitives
+pub mod MemoryCalls
+pub mod Calls
+pub mod Instructions
+pub mod Asking

@@ -1,0 +1,15 @@
+//! What holds of every code that names nothing but what an opening declares.
+
+ghost use Rattle.std.specs.Prelude.{ℕ, List};
+ghost use Rattle.upc_values.specs.declared.action.Reply.{Reply};
+ghost use Rattle.upc_values.specs.Outcomes.{Outcome};
+ghost use Rattle.upc_values.specs.Openings.{Opening};
+ghost use Rattle.stack_code.specs.Codes.{Codes};
+ghost use Rattle.code_actions.specs.Asking.{IsThreadOf, AsksWell};
+
+/// Whatever a thread of code wants may be asked for after each history that may have given its replies, and with a
+/// reply that fits it is one more of the actions that the thread did.
+pub fn code_asks_well()
+    ensures { (o : Opening) (codes : Codes) (thread budget : ℕ) (f : List Reply → Outcome)
+        → IsThreadOf o codes thread budget f → AsksWell o f }
+{}

@@ -1,0 +1,6 @@
+//! What threads of code ask for.
+#![tactic(auto)]
+
+mod laws;
+
+pub use laws::code_asks_well;

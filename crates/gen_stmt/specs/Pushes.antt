@@ -1,0 +1,40 @@
+-- What code pushes.
+use Rattle.std.specs.Prelude.{ℕ, ◌≡◌, ℤ, pos}
+use Rattle.block_layout.specs.declared.kind.Kind.{Kind}
+use Rattle.block_layout.specs.declared.place.LocalPtr.TheVariants as local
+use Rattle.upc_values.specs.declared.scalar.Value.{Value}
+use Rattle.upc_values.specs.declared.scalar.Value.TheVariants as value
+use Rattle.upc_values.specs.Lists.{Each}
+use Rattle.upc_values.specs.Shapes.{blank_value}
+use Rattle.typed_tree.specs.Programs.{Checked}
+use Rattle.thread_steps.specs.Values.{number}
+use Rattle.source_meaning.specs.Running.{shared_object}
+use Rattle.stack_code.specs.declared.instruction.StackWork.{StackWork}
+use Rattle.stack_code.specs.declared.instruction.StackWork.TheVariants.{Push}
+use Rattle.stack_code.specs.declared.instruction.Operation.{Operation}
+use Rattle.stack_code.specs.declared.instruction.Operation.TheVariants as work
+use Rattle.gen_expr.specs.Sources.{Source, running_of}
+use Rattle.gen_stmt.specs.Programs.{source, program_code}
+
+-- P holds of what such work pushes, if it pushes a value.
+abbrev pub PushedBy : (Value → Type 0) → StackWork → Type 0
+PushedBy P (Push v) = P v
+PushedBy P w = Unit {0}
+
+-- So of an operation.
+abbrev pub Pushes : (Value → Type 0) → Operation → Type 0
+Pushes P (work.Stack w) = PushedBy P w
+Pushes P w = Unit {0}
+
+-- What the code of a program may push: an integer, where a private object of the file or a declared shared object begins,
+-- and 0 or null.
+pub data IsPushed (ς : Source) (v : Value) : Type 0 where
+  integer : (i : ℤ) → v ≡ number i → IsPushed ς v
+  private : (n : ℕ) → v ≡ value.Local (local.Private n (pos 0)) → IsPushed ς v
+  shared : (n : ℕ) → v ≡ shared_object (running_of ς) n → IsPushed ς v
+  blank : (kind : Kind) → v ≡ blank_value kind → IsPushed ς v
+
+-- Each value that an instruction of the program's code pushes is of these.
+abbrev pub PushesOnly : Checked → Type 0
+PushesOnly program =
+    Each (Each (λ i. Pushes (IsPushed (source program)) i.does)) (program_code program).functions

@@ -1,0 +1,38 @@
+-- Functions and private objects that are added to code that is being made.
+use Rattle.std.specs.Prelude.{ℕ, false, List, [], ◌++◌}
+use Rattle.block_layout.specs.declared.kind.Shape.{Shape}
+use Rattle.block_layout.specs.declared.place.LocalPtr.{LocalPtr}
+use Rattle.upc_values.specs.declared.scalar.Value.{Value}
+use Rattle.typed_tree.specs.Tree.{Function}
+use Rattle.typed_tree.specs.Beginnings.{Beginning}
+use Rattle.stack_code.specs.declared.instruction.Instr.{Instr}
+use Rattle.stack_code.specs.Codes.{codes_of}
+use Rattle.stack_code.specs.Making.{Making}
+use Rattle.gen_expr.specs.Sources.{Source}
+use Rattle.gen_stmt.specs.Programs.{functions_code}
+
+-- With these functions behind those that are ended.
+abbrev pub with_functions : List (List Instr) → Making → Making
+with_functions functions m = record m { codes = record m.codes { functions = m.codes.functions ++ functions } }
+
+-- With these private objects of the file behind the others.
+abbrev pub with_objects : List Shape → Making → Making
+with_objects shapes m = record m { codes = record m.codes { private_shapes = m.codes.private_shapes ++ shapes } }
+
+-- With these initial values behind the others.
+abbrev pub with_initials : List (LocalPtr × Value) → Making → Making
+with_initials initials m =
+    record m { codes = record m.codes { private_initials = m.codes.private_initials ++ initials } }
+
+-- What the code of these functions is made from, where a program begins so.
+abbrev pub source_with : List Function → Beginning → Source
+source_with functions b =
+    record { functions = functions; structs = b.structs; shared = b.shared_objects; shapes = b.shapes }
+
+-- All of the code of so many threads with these functions, where a program begins so.
+abbrev pub made : ℕ → List Function → Beginning → Making
+made threads functions b = record {
+  codes = codes_of threads b.shapes (functions_code (source_with functions b)) b.private_shapes b.private_initials;
+  current = [];
+  failed = false;
+}

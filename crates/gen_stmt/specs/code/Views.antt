@@ -1,0 +1,27 @@
+-- What contracts see of what a statement stands in, and of the ways out of it.
+use Rattle.std.specs.Prelude.{ℕ, reverse}
+use Rattle.upc_types.specs.View.{view}
+use Rattle.source_meaning.specs.Statements.{Standing}
+use Rattle.gen_stmt.specs.declared.exits.Exit as e
+use Rattle.gen_stmt.specs.declared.exits.Exits as es
+use Rattle.gen_stmt.specs.declared.labelled.Labelled as l
+use Rattle.gen_stmt.specs.declared.standing.Standing as s
+use Rattle.gen_stmt.specs.Ways.{Way, Ways, way}
+use Rattle.gen_stmt.specs.code.Parts.{Labelled}
+
+abbrev pub view_exit : e.Exit → Way
+view_exit w = way w.blocks w.distance
+
+abbrev pub view_exits : es.Exits → Ways
+view_exits x = record { broken = view_exit x.broken; again = view_exit x.again; blocks = x.blocks }
+
+abbrev pub view_standing : s.Standing → Standing
+view_standing x = record { strict = x.strict; count = x.count; result = view x.result.now }
+
+-- Where so many objects are in scope.
+abbrev pub with_count : ℕ → Standing → Standing
+with_count count κ = record κ { count = count }
+
+-- The body of a switch with its labels, in order.
+abbrev pub view_labelled : l.Labelled → Labelled
+view_labelled x = record { code = x.code; labels = reverse x.labels.items; default = x.default }

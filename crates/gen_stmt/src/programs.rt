@@ -1,0 +1,116 @@
+//! The code of a program.
+
+ghost use Rattle.std.specs.Prelude.{◌≡◌, [], ◌∷◌, map, IfOk, OnOk};
+ghost use Rattle.typed_tree.specs.ViewProgram.{view_program};
+ghost use Rattle.typed_tree.specs.ViewStatements.{view_function};
+ghost use Rattle.gen_expr.specs.ViewSource.{view_source};
+ghost use Rattle.gen_stmt.specs.Programs as pure;
+ghost use Rattle.gen_stmt.specs.Meanings.{MeansProgram};
+ghost use Rattle.typed_tree.specs.Beginnings.{view_beginning};
+ghost use Rattle.gen_stmt.specs.code.Compiled.{made, source_with, with_functions, with_initials, with_objects};
+
+use crate::entry::entry_of;
+use crate::functions::function_of;
+use block_layout::{LocalPtr, Shape};
+use gen_expr::Source;
+use stack_code::{Builder, Code, Instr};
+use std::alloc::Global;
+use typed_tree::{Function, Program};
+use upc_text::OutOfMemory;
+use upc_values::{Value, copy_shape};
+
+// A function of the code.
+fn put_code(builder: &mut Builder, code: Vec<Instr>) -> Result<(), OutOfMemory>
+    requires { builder.old.current ≡ [] }
+    ensures { OnOk result (builder.new ≡ with_functions (code.items ∷ []) builder.old) }
+{
+    builder.append_all(code)?;
+    builder.end_function()
+}
+
+// The functions of the program.
+fn put_functions(
+    builder: &mut Builder,
+    alloc: Global,
+    source: Source<'_>,
+    functions: &[Function],
+) -> Result<(), OutOfMemory>
+    requires { builder.old.current ≡ [] }
+    ensures { OnOk result (builder.new
+        ≡ with_functions (map (pure.function_code (view_source source.entry)) (map view_function functions.now))
+        builder.old) }
+{
+    for function in functions {
+        let code = function_of(alloc, source, function)?;
+        put_code(builder, code)?;
+    }
+    Ok(())
+}
+
+// The private objects of the file.
+fn put_objects(builder: &mut Builder, alloc: Global, shapes: &[Shape]) -> Result<(), OutOfMemory>
+    ensures { OnOk result (builder.new ≡ with_objects shapes.now builder.old) }
+{
+    for shape in shapes {
+        let copy = copy_shape(alloc, shape)?;
+        builder.append_object(copy)?;
+    }
+    Ok(())
+}
+
+fn put_initial(builder: &mut Builder, given: &(LocalPtr, Value)) -> Result<(), OutOfMemory>
+    ensures { OnOk result (builder.new ≡ with_initials (given.now ∷ []) builder.old) }
+{
+    if !builder.knows(&given.1) {
+        return Err(OutOfMemory);
+    }
+    builder.append_initial(given.0, given.1)
+}
+
+// Their initial values, which the code may name in a typed program.
+fn put_initials(builder: &mut Builder, initials: &[(LocalPtr, Value)]) -> Result<(), OutOfMemory>
+    ensures { OnOk result (builder.new ≡ with_initials initials.now builder.old) }
+{
+    for given in initials {
+        put_initial(builder, given)?;
+    }
+    Ok(())
+}
+
+// What the code of a program is made from.
+fn source_in(program: &Program) -> Source<'_>
+    ensures { view_source result ≡ source_with (view_program program.now).functions
+        (view_beginning program.now.beginning) }
+{
+    Source {
+        functions: program.functions(),
+        structs: program.structs(),
+        shared: program.shared_objects(),
+        shapes: program.shapes(),
+    }
+}
+
+// All of the code of a program.
+fn builder_of(alloc: Global, program: &Program) -> Result<Builder, OutOfMemory>
+    ensures { IfOk result (λ b. b ≡ made program.now.threads (view_program program.now).functions
+        (view_beginning program.now.beginning)) }
+{
+    let source = source_in(program);
+    let mut builder = Builder::make(alloc, program.threads(), program.shapes())?;
+    let entry = entry_of(alloc, source)?;
+    put_code(&mut builder, entry)?;
+    put_functions(&mut builder, alloc, source, source.functions)?;
+    put_objects(&mut builder, alloc, program.private_shapes())?;
+    put_initials(&mut builder, program.private_initials())?;
+    Ok(builder)
+}
+
+/// The code of a program, which means what the program means: each of its threads comes to the same outcome, whatever
+/// it is answered.
+pub fn compile(alloc: Global, program: &Program) -> Result<Code, OutOfMemory>
+    ensures code { IfOk result (λ code. code ≡ pure.program_code (view_program program.now)) }
+    ensures means { IfOk result (λ code. MeansProgram code (view_program program.now)) }
+{
+    let builder = builder_of(alloc, program)?;
+    builder.finish()
+}

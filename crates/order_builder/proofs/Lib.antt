@@ -1,0 +1,5 @@
+pub mod Finding
+pub mod Draining
+pub mod Following
+pub mod Choosing
+pub mod Satisfying

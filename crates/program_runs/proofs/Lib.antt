@@ -1,0 +1,5 @@
+pub mod Spots
+pub mod Basics
+pub mod Naming
+pub mod Begun
+pub mod ThreadSources

@@ -1,0 +1,7 @@
+//! Runs of programs: compiled, and then run.
+#![tactic(auto)]
+
+mod run;
+mod served;
+
+pub use run::run_program;

@@ -1,0 +1,76 @@
+//! Which code runs today.
+
+ghost use Rattle.std.specs.Prelude.{◌≡◌, ◌↔◌, IsTrue, true};
+ghost use Rattle.upc_values.specs.Basic as basic;
+ghost use Rattle.upc_values.specs.Lists.{Each};
+ghost use Rattle.stack_code.specs.Codes.{function_at};
+ghost use Rattle.program_runs.specs.Served as pure;
+ghost use Rattle.program_runs.specs.Served.{AreServed};
+
+use stack_code::{Code, Operation, ThreadWork};
+use upc_values::{LibraryCall, Mark};
+
+/// Whether the machine does each instruction of the code today.
+pub(crate) fn is_served(code: &Code) -> bool
+    ensures { IsTrue result ↔ AreServed code.now }
+{
+    for function in 0..code.functions() {
+        if !is_function_served(code, function) {
+            return false;
+        }
+    }
+    true
+}
+
+// Whether it does each instruction of a function.
+fn is_function_served(code: &Code, function: usize) -> bool
+    ensures { IsTrue result
+        ↔ Each (λ i. pure.is_served i.does ≡ true) (function_at code.now.functions function) }
+{
+    for place in 0..code.size(function) {
+        if let Some(instruction) = code.fetch(function, place) {
+            if !is_operation_served(&instruction.does) {
+                return false;
+            }
+        }
+    }
+    true
+}
+
+fn is_operation_served(operation: &Operation) -> bool
+    ensures { result ≡ pure.is_served operation.now }
+{
+    match operation {
+        Operation::Thread(work) => is_work_served(work),
+        _ => true,
+    }
+}
+
+fn is_work_served(work: &ThreadWork) -> bool
+    ensures { result ≡ pure.is_served_work work.now }
+{
+    match work {
+        ThreadWork::Notify(mark) | ThreadWork::Wait(mark) => is_unvalued(*mark),
+        ThreadWork::NotifyValue | ThreadWork::WaitValue => false,
+        ThreadWork::Library { call, .. } => is_call_served(*call),
+        _ => true,
+    }
+}
+
+fn is_call_served(call: LibraryCall) -> bool
+    ensures { result ≡ pure.is_served_call call }
+{
+    matches!(
+        call,
+        LibraryCall::ThreadOf
+            | LibraryCall::PhaseOf
+            | LibraryCall::AddressField
+            | LibraryCall::AffinitySize
+    )
+}
+
+fn is_unvalued(mark: Mark) -> bool
+    ensures { result ≡ basic.is_unvalued mark }
+{
+    !matches!(mark, Mark::Given(_))
+}

@@ -1,0 +1,11 @@
+pub mod Spots
+pub mod Turns
+pub mod Jumps
+pub mod Tasks
+pub mod Ahead
+pub mod Kept
+pub mod Works
+pub mod Steps
+pub mod Runs
+pub mod Machines
+pub mod Receiving
