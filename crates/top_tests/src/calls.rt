@@ -168,7 +168,7 @@ const CALLS: [Call; 13] = [
         b"",
         b"upc: actions full on thread 0\n",
     ),
-    // What is accepted, of the first language or not.
+    // What is accepted.
     (
         &["check", "-T", "2", "f.upc"],
         b"int main(void){int i; return 0;}",
@@ -183,13 +183,7 @@ const CALLS: [Call; 13] = [
         b"",
         b"upc: refused at 1:23: typing 1\n",
     ),
-    (
-        &["run", "-T", "2", "f.upc"],
-        OBJECTS,
-        101,
-        b"",
-        b"upc: refused at 1:1: profile 0\n",
-    ),
+    (&["run", "-T", "2", "f.upc"], OBJECTS, 0, b"", b""),
     // Where shared objects lie.
     (
         &["layout", "-T", "4", "f.upc"],
@@ -229,7 +223,7 @@ x block 1 elements 1 size 8 pieces 8 0 0 0\n",
 // A source on one thread, its status, and what it writes to the output and to the error output.
 type Program = (&'static [u8], u8, &'static [u8], &'static [u8]);
 
-const PROGRAMS: [Program; 27] = [
+const PROGRAMS: [Program; 29] = [
     // Sums, variables, loops and their run errors.
     (
         b"strict shared int x; int main(){x = 2147483647 + 1; return 0;}",
@@ -315,39 +309,22 @@ printf(\"%d\\n\", s); upc_fence; return s;}",
         b"",
         b"upc: refused at 1:12: typing 2\n",
     ),
-    // What is C or UPC, but none of the first language.
+    // C as it stands: declarations, constants, signs, blocks.
+    (b"int main(void){int i;return 0;}", 0, b"", b""),
+    (b"int main(){return 2147483648;}", 99, b"", b""),
+    (b"int main(){return 'a';}", 97, b"", b""),
+    (b"shared [2] int x; int main(){return 0;}", 0, b"", b""),
+    (b"int main(){return 1 + + 1;}", 2, b"", b""),
+    (b"int main(){{} return 1;}", 1, b"", b""),
+    // What does not run yet: a value at a barrier, other calls of the library.
     (
-        b"int main(void){int i;return 0;}",
+        b"int main(){upc_barrier 1; return 0;}",
         101,
         b"",
         b"upc: refused at 1:1: profile 0\n",
     ),
     (
-        b"int main(){return 2147483648;}",
-        101,
-        b"",
-        b"upc: refused at 1:1: profile 0\n",
-    ),
-    (
-        b"int main(){return 'a';}",
-        101,
-        b"",
-        b"upc: refused at 1:1: profile 0\n",
-    ),
-    (
-        b"shared [2] int x; int main(){return 0;}",
-        101,
-        b"",
-        b"upc: refused at 1:1: profile 0\n",
-    ),
-    (
-        b"int main(){return 1 + + 1;}",
-        101,
-        b"",
-        b"upc: refused at 1:1: profile 0\n",
-    ),
-    (
-        b"int main(){{} return 1;}",
+        b"#include <upc.h>\nint main(){upc_lock_t *l = upc_all_lock_alloc(); return 0;}",
         101,
         b"",
         b"upc: refused at 1:1: profile 0\n",
