@@ -97,17 +97,20 @@ fn asked<'a>(matches: &ArgMatches<'a>) -> Option<Call<'a>>
     })
 }
 
-// Whether the text is the plain decimal text of a number from 1 to 1,000.
-fn is_sample_number(text: &str) -> bool
-    ensures { IsTrue result ↔ IsSampleNumber text.now }
+/// The number from 1 to 1,000 of which the text is the plain decimal text.
+pub fn sample_number(text: &str) -> Option<u32>
+    // It is that number.
+    ensures found { IfSome result (λ stages. (1 ≤ stages) × (stages ≤ 1000) × (text.now ≡ decimal stages)) }
+    // There is one exactly where the text is one's.
+    ensures some { IsSome result ↔ IsSampleNumber text.now }
 {
     let mut buffer = Buffer::new();
     for stages in 1..1001u32 {
         if buffer.format(stages) == text {
-            return true;
+            return Some(stages);
         }
     }
-    false
+    None
 }
 
 fn is_allowed(call: &Call<'_>) -> bool
@@ -115,7 +118,7 @@ fn is_allowed(call: &Call<'_>) -> bool
     ensures { IsTrue result ↔ IsAllowed (view_call call.now) }
 {
     let items = u64::from(call.threads) * call.actions;
-    items <= MOST_ITEMS && (call.mode != Mode::Sample || is_sample_number(call.file))
+    items <= MOST_ITEMS && (call.mode != Mode::Sample || sample_number(call.file).is_some())
 }
 
 // What `clap` finds in the words.

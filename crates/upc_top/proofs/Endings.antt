@@ -1,32 +1,124 @@
 -- What follows from how the top call answers.
-use Rattle.std.proofs.Common.{◌≡◌, ℕ, ◌<◌, ◌≤◌, List, length, Option, Some, refl, sym, subst, ◌∙◌, inl, inr, arith, codes}
+use Rattle.std.proofs.Common.{◌≡◌, ℕ, ◌<◌, ◌≤◌, Bool, true, false, List, length, Option, Some, None, refl, sym, ap, subst, ◌∙◌, inl, inr, arith, codes, decimal}
+use Rattle.upc_sample.specs.Sample.{sample}
 use Rattle.std.specs.Prelude.{◌⊎◌}
+use Rattle.std.proofs.lemmas.Fmt.{decimal_injective}
 use Rattle.upc_text.specs.Outside.{Rose, IsWhole, IsLonger}
 use Rattle.upc_text.specs.declared.place.Refusal.{Refusal}
 use Rattle.typed_tree.specs.Programs.{Checked}
 use Rattle.command_words.specs.declared.call.Mode.{Mode}
 use Rattle.command_words.specs.declared.call.Mode.TheVariants.{Run, Record, Check, Layout, Sample}
-use Rattle.command_words.specs.Values.{Asked}
+use Rattle.command_words.specs.Values.{Asked, Asks}
 use Rattle.command_words.proofs.Taken.{one_asked}
 use Rattle.upc_top.specs.declared.done.Done.{Done}
 use Rattle.upc_top.specs.declared.verdict.Verdict.{Verdict}
-use Rattle.upc_top.specs.declared.verdict.Verdict.TheVariants.{Usage, ReadFault, TooLong, Refused, Ran, Passed, Laid, NoMemory}
-use Rattle.upc_top.specs.Words.{IsTaken}
+use Rattle.upc_top.specs.declared.verdict.Verdict.TheVariants.{Usage, ReadFault, TooLong, Refused, Ran, Recorded, Overlong, Passed, Laid, NoMemory}
+use Rattle.upc_top.specs.Words.{prints, runs}
 use Rattle.upc_top.specs.Layout.{layout}
 use Rattle.upc_top.specs.Sources.{IsAccepted, IsRunnable, IsRefusedIn, not_accepted, not_runnable}
 use Rattle.upc_top.proofs.Readings.{never_both, never_outside, same_checked}
-use Rattle.upc_top.specs.Verdicts.{Reading, Holds, Taken, Caused, CameTo, ComesFrom, status_for, text_of, journal_of}
-use Rattle.upc_top.specs.Delivery.{Writing, Gained, Delivered, Delivered.Whole, Delivered.Out_broke, Delivered.Err_broke, Answered, RefusesOtherWords, RefusesLongFiles, Succeeds, HasRun, HasWritten, IsDone, IsComplete}
+use Rattle.upc_top.specs.Verdicts.{Reading, IsSample, IsSource, Holds, Taken, Caused, CameTo, ComesFrom, FailedToRead, IsTooLong, status_for, text_of, journal_of, orders_in, without_memory, IsWritable}
+use Rattle.upc_top.specs.Delivery.{Writing, Gained, Delivered, Delivered.Whole, Delivered.Out_broke, Delivered.Err_broke, Delivers, Answered, RefusesOtherWords, RefusesLongFiles, Succeeds, IsThere, IsToldWhole, HasRun, HasRecorded, IsOverlong, HasWritten, IsDone, IsComplete}
 
 -- words that are taken ask for one thing
-same-asked : (words : List (List ℕ)) (a b : Asked) → IsTaken words a → IsTaken words b → b ≡ a
-same-asked words a b h k = one_asked words b a k.asks h.asks
+same-asked : (words : List (List ℕ)) (a b : Asked) → Asks words a → Asks words b → b ≡ a
+same-asked words a b h k = one_asked words b a k h
 
 whole-is : (told : Option (List ℕ)) (bytes given : List ℕ) → told ≡ Some bytes → IsWhole told given → given ≡ bytes
 whole-is told bytes given e h = let P : Option (List ℕ) → Type 0 = λ o. IsWhole o given in subst P e h
 
 longer-is : (told : Option (List ℕ)) (bytes : List ℕ) → told ≡ Some bytes → IsLonger told 1048576 → 1048576 < length bytes
 longer-is told bytes e h = let P : Option (List ℕ) → Type 0 = λ o. IsLonger o 1048576 in subst P e h
+
+-- a mode of which a test says yes is none of which it says no
+not-both : (test : Mode → Bool) (m k : Mode) → test k ≡ false → test m ≡ true → m ≡ k → ⊥
+not-both test m k f h e = let bad = sym f ∙ ap test (sym e) ∙ h in absurd cc
+
+sample-is : (file bytes given : List ℕ) → IsSample file bytes → IsSample file given → given ≡ bytes
+sample-is file bytes given h k =
+    let few = h.most in
+    let few_too = k.most in
+    let e : k.stages ≡ h.stages = decimal_injective k.stages h.stages (omega arith) (omega arith) (sym k.plain ∙ h.plain) in
+    k.made ∙ ap sample e ∙ sym h.made
+
+-- a source that is there is what was read or made
+there-is : (m : Mode) (r : Reading) (file bytes given : List ℕ) → IsThere m r file bytes → IsSource m file (r.told file) given → given ≡ bytes
+there-is Sample r file bytes given h k = sample-is file bytes given h k
+there-is Run r file bytes given h k = whole-is (r.told file) bytes given h.told k.whole
+there-is Record r file bytes given h k = whole-is (r.told file) bytes given h.told k.whole
+there-is Check r file bytes given h k = whole-is (r.told file) bytes given h.told k.whole
+there-is Layout r file bytes given h k = whole-is (r.told file) bytes given h.told k.whole
+
+-- a file that is there is told
+there-file : (m : Mode) (r : Reading) (file bytes : List ℕ) → (m ≡ Sample → ⊥) → IsThere m r file bytes → IsToldWhole r file bytes
+there-file Sample r file bytes n h = absurd (n refl)
+there-file Run r file bytes n h = h
+there-file Record r file bytes n h = h
+there-file Check r file bytes n h = h
+there-file Layout r file bytes n h = h
+
+-- what is read of a told file is short
+source-short : (m : Mode) (told : Option (List ℕ)) (file bytes given : List ℕ) → (m ≡ Sample → ⊥) → told ≡ Some bytes
+    → IsSource m file told given → length bytes ≤ 1048576
+source-short Sample told file bytes given n e h = absurd (n refl)
+source-short Run told file bytes given n e h = subst (λ b. length b ≤ 1048576) (whole-is told bytes given e h.whole) h.short
+source-short Record told file bytes given n e h = subst (λ b. length b ≤ 1048576) (whole-is told bytes given e h.whole) h.short
+source-short Check told file bytes given n e h = subst (λ b. length b ≤ 1048576) (whole-is told bytes given e h.whole) h.short
+source-short Layout told file bytes given n e h = subst (λ b. length b ≤ 1048576) (whole-is told bytes given e h.whole) h.short
+
+-- ---- the answer
+
+-- what came to one verdict came to another that follows from it
+came-on : (words : List (List ℕ)) (r : Reading) (v w : Verdict)
+    → ((a : Asked) (bytes : List ℕ) → ComesFrom a bytes v → ComesFrom a bytes w) → CameTo words r v → CameTo words r w
+came-on words r v w f c = record {
+  asked = c.asked;
+  asks = c.asks;
+  range = c.range;
+  holds = record { bytes = c.holds.bytes; source = c.holds.source; holds = f c.asked c.holds.bytes c.holds.holds };
+}
+
+caused-without : (words : List (List ℕ)) (r : Reading) (v : Verdict) → Caused words r v → Caused words r (without_memory v)
+caused-without words r Usage c = tt
+caused-without words r ReadFault c = tt
+caused-without words r TooLong c = tt
+caused-without words r (Refused x) c = tt
+caused-without words r (Ran j) c = came-on words r (Ran j) (NoMemory (Some j)) (λ a bytes h. h.run) c
+caused-without words r (Recorded j o) c = came-on words r (Recorded j o) (NoMemory (Some j)) (λ a bytes h. h.run) c
+caused-without words r (Overlong j) c = came-on words r (Overlong j) (NoMemory (Some j)) (λ a bytes h. h.run) c
+caused-without words r Passed c = tt
+caused-without words r (Laid p) c = tt
+caused-without words r (NoMemory None) c = tt
+caused-without words r (NoMemory (Some j)) c = c
+
+caused-written : (words : List (List ℕ)) (r : Reading) (v w : Verdict) → (w ≡ v) ⊎ (w ≡ without_memory v) → Caused words r v → Caused words r w
+caused-written words r v w (inl e) c = subst (Caused words r) (sym e) c
+caused-written words r v w (inr e) c = subst (Caused words r) (sym e) (caused-without words r v c)
+
+-- a verdict with its cause is delivered
+pub answered : (words : List (List ℕ)) (r : Reading) (out err : Writing) (d : Done) (v : Verdict) → Caused words r v
+    → Delivers v out err d → Answered words r out err d
+answered words r out err d v c h = record {
+  verdict = h.written;
+  caused = caused-written words r v h.written h.is c;
+  delivered = h.delivered;
+  refusal = h.refusal;
+  journal = h.journal;
+  orders = h.orders;
+}
+
+-- what is written of a verdict with its cause can be
+pub writable : (words : List (List ℕ)) (r : Reading) (v : Verdict) → Caused words r v → IsWritable v
+writable words r Usage c = tt
+writable words r ReadFault c = tt
+writable words r TooLong c = tt
+writable words r (Refused x) c = tt
+writable words r (Ran j) c = tt
+writable words r (Recorded j o) c = c.holds.holds.has
+writable words r (Overlong j) c = tt
+writable words r Passed c = tt
+writable words r (Laid p) c = tt
+writable words r (NoMemory o) c = tt
 
 -- ---- where nothing failed
 
@@ -35,70 +127,100 @@ record Written (v : Verdict) (out : Writing) (d : Done) : Type 0 where
   status : d.status ≡ status_for v
   text : Gained out (text_of v)
   journal : d.journal ≡ journal_of v
+  orders : d.orders ≡ orders_in v
 
-written : (v : Verdict) (out err : Writing) (d : Done) → Delivered v out err d.status → d.journal ≡ journal_of v
+written : (v : Verdict) (out err : Writing) (d : Done) → Delivered v out err d.status → d.journal ≡ journal_of v → d.orders ≡ orders_in v
     → (Rose out.faults_before out.faults_after → ⊥) → (Rose err.faults_before err.faults_after → ⊥) → Written v out d
-written v out err d (Whole e o l) j ho he = record { status = e; text = o; journal = j }
-written v out err d (Out_broke e b l) j ho he = absurd (ho b.cause)
-written v out err d (Err_broke e o b) j ho he = absurd (he b.cause)
+written v out err d (Whole e o l) j k ho he = record { status = e; text = o; journal = j; orders = k }
+written v out err d (Out_broke e b l) j k ho he = absurd (ho b.cause)
+written v out err d (Err_broke e o b) j k ho he = absurd (he b.cause)
 
 module _ (words : List (List ℕ)) (r : Reading) (out err : Writing) (d : Done) (a : Asked) (bytes : List ℕ) (s : Succeeds words r out err a bytes) where
+  asked-same : (b : Asked) → Asks words b → b ≡ a
+  asked-same b h = same-asked words a b s.asks h
+
   -- what a verdict came from is what was asked for, and these bytes
   came-from : (v : Verdict) → CameTo words r v → ComesFrom a bytes v
   came-from v c =
-      let e : c.asked ≡ a = same-asked words a c.asked s.taken c.taken in
-      let P : Asked → Type 0 = λ b. Holds r b.file (λ held. ComesFrom b held v) in
-      let h : Holds r a.file (λ held. ComesFrom a held v) = subst P e c.holds in
-      subst (λ held. ComesFrom a held v) (whole-is (r.told a.file) bytes h.bytes s.told h.whole) h.holds
+      let P : Asked → Type 0 = λ b. Holds r b (λ held. ComesFrom b held v) in
+      let h : Holds r a (λ held. ComesFrom a held v) = subst P (asked-same c.asked c.asks) c.holds in
+      subst (λ held. ComesFrom a held v) (there-is a.mode r a.file bytes h.bytes s.source h.source) h.holds
 
-  no-fault : Taken words (λ b. Rose (r.before b.file) (r.after b.file)) → ⊥
+  no-fault : Taken words (λ b. FailedToRead r b) → ⊥
   no-fault c =
-      let P : Asked → Type 0 = λ b. Rose (r.before b.file) (r.after b.file) in
-      s.read (subst P (same-asked words a c.asked s.taken c.taken) c.holds)
+      let h : FailedToRead r a = subst (λ b. FailedToRead r b) (asked-same c.asked c.asks) c.holds in
+      (there-file a.mode r a.file bytes h.file s.source).read h.rose
 
-  not-longer : Taken words (λ b. IsLonger (r.told b.file) 1048576) → ⊥
+  not-longer : Taken words (λ b. IsTooLong r b) → ⊥
   not-longer c =
-      let P : Asked → Type 0 = λ b. IsLonger (r.told b.file) 1048576 in
-      let long = longer-is (r.told a.file) bytes s.told (subst P (same-asked words a c.asked s.taken c.taken) c.holds) in
-      let short = s.short in
+      let h : IsTooLong r a = subst (λ b. IsTooLong r b) (asked-same c.asked c.asks) c.holds in
+      let t = there-file a.mode r a.file bytes h.file s.source in
+      let long = longer-is (r.told a.file) bytes t.told h.longer in
+      let short = t.short in
       omega arith
 
   run-refused : (program : Checked) (x : Refusal) → IsRunnable a.threads bytes program → IsRefusedIn a.mode a.threads bytes x → ⊥
   run-refused program x h (not_accepted why) = never_both a.threads bytes program x h.accepted why
   run-refused program x h (not_runnable mode why) = never_outside a.threads bytes program x h why
 
-  done-run : a.mode ≡ Run → (program : Checked) → IsRunnable a.threads bytes program → (v : Verdict) → Caused words r v → Written v out d → HasRun out d ⊎ (d.status ≡ 104)
-  done-run m program h Usage c w = absurd (c a s.taken)
+  -- a run of a mode that prints
+  done-run : prints a.mode ≡ true → (program : Checked) → IsRunnable a.threads bytes program → (v : Verdict) → Caused words r v → Written v out d → HasRun out d ⊎ (d.status ≡ 104)
+  done-run m program h Usage c w = absurd (c a s.asks)
   done-run m program h ReadFault c w = absurd (no-fault c)
   done-run m program h TooLong c w = absurd (not-longer c)
   done-run m program h (Refused x) c w = absurd (run-refused program x h (came-from (Refused x) c))
   done-run m program h (Ran j) c w = inl (record { journal = j; is = w.journal; status = w.status; text = w.text })
-  done-run m program h Passed c w = let bad = sym m ∙ (came-from Passed c).mode in absurd cc
-  done-run m program h (Laid p) c w = let bad = sym m ∙ (came-from (Laid p) c).mode in absurd cc
+  done-run m program h (Recorded j o) c w = absurd (not-both prints a.mode Record refl m (came-from (Recorded j o) c).mode)
+  done-run m program h (Overlong j) c w = absurd (not-both prints a.mode Record refl m (came-from (Overlong j) c).mode)
+  done-run m program h Passed c w = absurd (not-both prints a.mode Check refl m (came-from Passed c).mode)
+  done-run m program h (Laid p) c w = absurd (not-both prints a.mode Layout refl m (came-from (Laid p) c).mode)
   done-run m program h (NoMemory o) c w = inr w.status
 
-  accepted-refused : (a.mode ≡ Run → ⊥) → (checked : Checked) (x : Refusal) → IsAccepted a.threads bytes checked → IsRefusedIn a.mode a.threads bytes x → ⊥
+  done-record : a.mode ≡ Record → (program : Checked) → IsRunnable a.threads bytes program → (v : Verdict) → Caused words r v → Written v out d
+      → HasRecorded out d ⊎ IsOverlong d ⊎ (d.status ≡ 104)
+  done-record m program h Usage c w = absurd (c a s.asks)
+  done-record m program h ReadFault c w = absurd (no-fault c)
+  done-record m program h TooLong c w = absurd (not-longer c)
+  done-record m program h (Refused x) c w = absurd (run-refused program x h (came-from (Refused x) c))
+  done-record m program h (Ran j) c w = absurd (not-both prints a.mode Record refl (came-from (Ran j) c).prints m)
+  done-record m program h (Recorded j o) c w =
+      inl (record { journal = j; is = w.journal; orders = o; are = w.orders; status = w.status; text = w.text })
+  done-record m program h (Overlong j) c w =
+      inr (inl (record { journal = j; is = w.journal; long = (came-from (Overlong j) c).long; status = w.status }))
+  done-record m program h Passed c w = let bad = sym m ∙ (came-from Passed c).mode in absurd cc
+  done-record m program h (Laid p) c w = let bad = sym m ∙ (came-from (Laid p) c).mode in absurd cc
+  done-record m program h (NoMemory o) c w = inr (inr w.status)
+
+  accepted-refused : runs a.mode ≡ false → (checked : Checked) (x : Refusal) → IsAccepted a.threads bytes checked → IsRefusedIn a.mode a.threads bytes x → ⊥
   accepted-refused m checked x h (not_accepted why) = never_both a.threads bytes checked x h why
-  accepted-refused m checked x h (not_runnable mode why) = m mode
+  accepted-refused m checked x h (not_runnable mode why) = let bad = sym m ∙ mode in absurd cc
+
+  -- no run where the mode runs none
+  no-run : runs a.mode ≡ false → runs a.mode ≡ true → ⊥
+  no-run m k = let bad = sym m ∙ k in absurd cc
 
   done-check : a.mode ≡ Check → (checked : Checked) → IsAccepted a.threads bytes checked → (v : Verdict) → Caused words r v → Written v out d
       → HasWritten out d (codes "ok\n") ⊎ (d.status ≡ 104)
-  done-check m checked h Usage c w = absurd (c a s.taken)
+  done-check m checked h Usage c w = absurd (c a s.asks)
   done-check m checked h ReadFault c w = absurd (no-fault c)
   done-check m checked h TooLong c w = absurd (not-longer c)
-  done-check m checked h (Refused x) c w = absurd (accepted-refused (λ e. let bad = sym m ∙ e in absurd cc) checked x h (came-from (Refused x) c))
-  done-check m checked h (Ran j) c w = let bad = sym m ∙ (came-from (Ran j) c).mode in absurd cc
+  done-check m checked h (Refused x) c w = absurd (accepted-refused (ap runs m) checked x h (came-from (Refused x) c))
+  done-check m checked h (Ran j) c w = absurd (no-run (ap runs m) (came-from (Ran j) c).run.mode)
+  done-check m checked h (Recorded j o) c w = absurd (no-run (ap runs m) (came-from (Recorded j o) c).run.mode)
+  done-check m checked h (Overlong j) c w = absurd (no-run (ap runs m) (came-from (Overlong j) c).run.mode)
   done-check m checked h Passed c w = inl (record { status = w.status; gained = w.text })
   done-check m checked h (Laid p) c w = let bad = sym m ∙ (came-from (Laid p) c).mode in absurd cc
   done-check m checked h (NoMemory o) c w = inr w.status
 
   done-layout : a.mode ≡ Layout → (checked : Checked) → IsAccepted a.threads bytes checked → (v : Verdict) → Caused words r v → Written v out d
       → HasWritten out d (layout checked) ⊎ (d.status ≡ 104)
-  done-layout m checked h Usage c w = absurd (c a s.taken)
+  done-layout m checked h Usage c w = absurd (c a s.asks)
   done-layout m checked h ReadFault c w = absurd (no-fault c)
   done-layout m checked h TooLong c w = absurd (not-longer c)
-  done-layout m checked h (Refused x) c w = absurd (accepted-refused (λ e. let bad = sym m ∙ e in absurd cc) checked x h (came-from (Refused x) c))
-  done-layout m checked h (Ran j) c w = let bad = sym m ∙ (came-from (Ran j) c).mode in absurd cc
+  done-layout m checked h (Refused x) c w = absurd (accepted-refused (ap runs m) checked x h (came-from (Refused x) c))
+  done-layout m checked h (Ran j) c w = absurd (no-run (ap runs m) (came-from (Ran j) c).run.mode)
+  done-layout m checked h (Recorded j o) c w = absurd (no-run (ap runs m) (came-from (Recorded j o) c).run.mode)
+  done-layout m checked h (Overlong j) c w = absurd (no-run (ap runs m) (came-from (Overlong j) c).run.mode)
   done-layout m checked h Passed c w = let bad = sym m ∙ (came-from Passed c).mode in absurd cc
   done-layout m checked h (Laid p) c w =
       let e = same_checked a.threads bytes _ checked (came-from (Laid p) c).accepted h in
@@ -106,15 +228,15 @@ module _ (words : List (List ℕ)) (r : Reading) (out err : Writing) (d : Done) 
   done-layout m checked h (NoMemory o) c w = inr w.status
 
   done-by : (v : Verdict) → Caused words r v → Written v out d → (m : Mode) → a.mode ≡ m → IsDone m a.threads bytes out d
-  done-by v c w Run e = λ program h. done-run e program h v c w
+  done-by v c w Run e = λ program h. done-run (ap prints e) program h v c w
+  done-by v c w Sample e = λ program h. done-run (ap prints e) program h v c w
+  done-by v c w Record e = λ program h. done-record e program h v c w
   done-by v c w Check e = λ checked h. done-check e checked h v c w
   done-by v c w Layout e = λ checked h. done-layout e checked h v c w
-  done-by v c w Record e = tt
-  done-by v c w Sample e = tt
 
 pub complete : (words : List (List ℕ)) (r : Reading) (out err : Writing) (d : Done) → Answered words r out err d → IsComplete words r out err d
 complete words r out err d x a bytes s =
-    done-by words r out err d a bytes s x.verdict x.caused (written x.verdict out err d x.delivered x.journal s.out_written s.err_written) a.mode refl
+    done-by words r out err d a bytes s x.verdict x.caused (written x.verdict out err d x.delivered x.journal x.orders s.out_written s.err_written) a.mode refl
 
 -- ---- other words
 
@@ -123,12 +245,14 @@ other-words-by : (words : List (List ℕ)) (r : Reading) (out err : Writing) (d 
 other-words-by words r out err d v c (Out_broke e b l) n = inr (inl e)
 other-words-by words r out err d v c (Err_broke e o b) n = inr (inl e)
 other-words-by words r out err d Usage c (Whole e o l) n = inl e
-other-words-by words r out err d ReadFault c (Whole e o l) n = absurd (n c.asked c.taken)
-other-words-by words r out err d TooLong c (Whole e o l) n = absurd (n c.asked c.taken)
-other-words-by words r out err d (Refused x) c (Whole e o l) n = absurd (n c.asked c.taken)
-other-words-by words r out err d (Ran x) c (Whole e o l) n = absurd (n c.asked c.taken)
-other-words-by words r out err d Passed c (Whole e o l) n = absurd (n c.asked c.taken)
-other-words-by words r out err d (Laid x) c (Whole e o l) n = absurd (n c.asked c.taken)
+other-words-by words r out err d ReadFault c (Whole e o l) n = absurd (n c.asked c.asks)
+other-words-by words r out err d TooLong c (Whole e o l) n = absurd (n c.asked c.asks)
+other-words-by words r out err d (Refused x) c (Whole e o l) n = absurd (n c.asked c.asks)
+other-words-by words r out err d (Ran x) c (Whole e o l) n = absurd (n c.asked c.asks)
+other-words-by words r out err d (Recorded x y) c (Whole e o l) n = absurd (n c.asked c.asks)
+other-words-by words r out err d (Overlong x) c (Whole e o l) n = absurd (n c.asked c.asks)
+other-words-by words r out err d Passed c (Whole e o l) n = absurd (n c.asked c.asks)
+other-words-by words r out err d (Laid x) c (Whole e o l) n = absurd (n c.asked c.asks)
 other-words-by words r out err d (NoMemory x) c (Whole e o l) n = inr (inr e)
 
 pub other-words : (words : List (List ℕ)) (r : Reading) (out err : Writing) (d : Done) → Answered words r out err d → RefusesOtherWords words d
@@ -137,26 +261,28 @@ other-words words r out err d a = other-words-by words r out err d a.verdict a.c
 -- ---- long files
 
 -- what is held of a told file is short
-not-long : (words : List (List ℕ)) (r : Reading) (a : Asked) (bytes : List ℕ) → IsTaken words a → r.told a.file ≡ Some bytes → 1048576 < length bytes
-    → (v : Verdict) → CameTo words r v → ⊥
-not-long words r a bytes taken told long v c =
-    let P : Asked → Type 0 = λ b. Holds r b.file (λ held. ComesFrom b held v) in
-    let h : Holds r a.file (λ held. ComesFrom a held v) = subst P (same-asked words a c.asked taken c.taken) c.holds in
-    let short = subst (λ b. length b ≤ 1048576) (whole-is (r.told a.file) bytes h.bytes told h.whole) h.short in
+not-long : (words : List (List ℕ)) (r : Reading) (a : Asked) (bytes : List ℕ) → Asks words a → (a.mode ≡ Sample → ⊥)
+    → r.told a.file ≡ Some bytes → 1048576 < length bytes → (v : Verdict) → CameTo words r v → ⊥
+not-long words r a bytes asks file told long v c =
+    let P : Asked → Type 0 = λ b. Holds r b (λ held. ComesFrom b held v) in
+    let h : Holds r a (λ held. ComesFrom a held v) = subst P (same-asked words a c.asked asks c.asks) c.holds in
+    let short = source-short a.mode (r.told a.file) a.file bytes h.bytes file told h.source in
     omega arith
 
 long-files-by : (words : List (List ℕ)) (r : Reading) (out err : Writing) (d : Done) (v : Verdict) → Caused words r v
     → Delivered v out err d.status → RefusesLongFiles words r d
-long-files-by words r out err d v c (Out_broke e b l) a bytes taken told long = inr (inr (inl e))
-long-files-by words r out err d v c (Err_broke e o b) a bytes taken told long = inr (inr (inl e))
-long-files-by words r out err d Usage c (Whole e o l) a bytes taken told long = absurd (c a taken)
-long-files-by words r out err d ReadFault c (Whole e o l) a bytes taken told long = inr (inl e)
-long-files-by words r out err d TooLong c (Whole e o l) a bytes taken told long = inl e
-long-files-by words r out err d (Refused x) c (Whole e o l) a bytes taken told long = absurd (not-long words r a bytes taken told long (Refused x) c)
-long-files-by words r out err d (Ran x) c (Whole e o l) a bytes taken told long = absurd (not-long words r a bytes taken told long (Ran x) c)
-long-files-by words r out err d Passed c (Whole e o l) a bytes taken told long = absurd (not-long words r a bytes taken told long Passed c)
-long-files-by words r out err d (Laid x) c (Whole e o l) a bytes taken told long = absurd (not-long words r a bytes taken told long (Laid x) c)
-long-files-by words r out err d (NoMemory x) c (Whole e o l) a bytes taken told long = inr (inr (inr e))
+long-files-by words r out err d v c (Out_broke e b l) a bytes asks file told long = inr (inr (inl e))
+long-files-by words r out err d v c (Err_broke e o b) a bytes asks file told long = inr (inr (inl e))
+long-files-by words r out err d Usage c (Whole e o l) a bytes asks file told long = absurd (c a asks)
+long-files-by words r out err d ReadFault c (Whole e o l) a bytes asks file told long = inr (inl e)
+long-files-by words r out err d TooLong c (Whole e o l) a bytes asks file told long = inl e
+long-files-by words r out err d (Refused x) c (Whole e o l) a bytes asks file told long = absurd (not-long words r a bytes asks file told long (Refused x) c)
+long-files-by words r out err d (Ran x) c (Whole e o l) a bytes asks file told long = absurd (not-long words r a bytes asks file told long (Ran x) c)
+long-files-by words r out err d (Recorded x y) c (Whole e o l) a bytes asks file told long = absurd (not-long words r a bytes asks file told long (Recorded x y) c)
+long-files-by words r out err d (Overlong x) c (Whole e o l) a bytes asks file told long = absurd (not-long words r a bytes asks file told long (Overlong x) c)
+long-files-by words r out err d Passed c (Whole e o l) a bytes asks file told long = absurd (not-long words r a bytes asks file told long Passed c)
+long-files-by words r out err d (Laid x) c (Whole e o l) a bytes asks file told long = absurd (not-long words r a bytes asks file told long (Laid x) c)
+long-files-by words r out err d (NoMemory x) c (Whole e o l) a bytes asks file told long = inr (inr (inr e))
 
 pub long-files : (words : List (List ℕ)) (r : Reading) (out err : Writing) (d : Done) → Answered words r out err d
     → RefusesLongFiles words r d

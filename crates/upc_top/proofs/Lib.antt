@@ -3,3 +3,5 @@ mod Laid
 mod Lines
 pub mod Readings
 pub mod Stages
+mod Agreement
+mod Records

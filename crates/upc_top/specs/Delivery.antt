@@ -1,19 +1,21 @@
 -- How a verdict is written: the text to the output, then the line to the error output.
-use Rattle.std.specs.Prelude.{ℕ, ◌≡◌, ◌≤◌, ◌<◌, ◌⊎◌, List, [], length, Option, Some, codes}
+use Rattle.std.specs.Prelude.{ℕ, ◌≡◌, ◌≤◌, ◌<◌, ◌⊎◌, false, List, [], length, Option, Some, codes}
 use Rattle.upc_text.specs.Outside.{Rose, taken_with, TookPrefix}
 use Rattle.upc_values.specs.declared.journal.Journal.{Journal}
+use Rattle.upc_values.specs.declared.order.Orders.{Orders}
+use Rattle.record_text.specs.Short.{is_short}
+use Rattle.record_text.specs.Lines.{text}
 use Rattle.typed_tree.specs.Programs.{Checked}
 use Rattle.command_words.specs.declared.call.Mode.{Mode}
-use Rattle.command_words.specs.declared.call.Mode.TheVariants.{Run, Check, Layout}
-use Rattle.command_words.specs.Values.{Asked}
+use Rattle.command_words.specs.declared.call.Mode.TheVariants.{Run, Record, Check, Layout, Sample}
+use Rattle.command_words.specs.Values.{Asked, Asks}
 use Rattle.upc_top.specs.declared.verdict.Verdict.{Verdict}
 use Rattle.upc_top.specs.declared.done.Done.{Done}
 use Rattle.upc_top.specs.Sources.{IsAccepted, IsRunnable}
-use Rattle.upc_top.specs.Words.{IsTaken}
 use Rattle.upc_top.specs.Layout.{layout}
 use Rattle.upc_top.specs.Output.{output, status_of}
 use Rattle.upc_top.specs.Verdicts.{Reading, Caused, text_of, line_of, status_for, refusal_of, journal_of}
-use Rattle.upc_top.specs.Verdicts.{without_memory}
+use Rattle.upc_top.specs.Verdicts.{without_memory, orders_in, IsSample}
 
 -- What a sink has taken, where it tells it, and its count of faults, before and after.
 pub record Writing : Type 0 where
@@ -57,6 +59,7 @@ pub record Delivers (verdict : Verdict) (out err : Writing) (done : Done) : Type
   pub delivered : Delivered written out err done.status
   pub refusal : done.refusal ≡ refusal_of written
   pub journal : done.journal ≡ journal_of written
+  pub orders : done.orders ≡ orders_in written
 
 -- How the top call answers: some verdict, which has its cause, was delivered and handed out.
 pub record Answered (words : List (List ℕ)) (reading : Reading) (out err : Writing) (done : Done) : Type 0 where
@@ -65,26 +68,36 @@ pub record Answered (words : List (List ℕ)) (reading : Reading) (out err : Wri
   pub delivered : Delivered verdict out err done.status
   pub refusal : done.refusal ≡ refusal_of verdict
   pub journal : done.journal ≡ journal_of verdict
+  pub orders : done.orders ≡ orders_in verdict
 
 -- Where the words are not taken, the answer is usage, a failed write or want of memory.
 abbrev pub RefusesOtherWords : List (List ℕ) → Done → Type 0
 RefusesOtherWords words done =
-    ((a : Asked) → IsTaken words a → ⊥) → (done.status ≡ 100) ⊎ (done.status ≡ 103) ⊎ (done.status ≡ 104)
+    ((a : Asked) → Asks words a → ⊥) → (done.status ≡ 100) ⊎ (done.status ≡ 103) ⊎ (done.status ≡ 104)
 
--- A file that is told and has more bytes than a source may have is not run, and not refused for what it holds: the
--- answer is that it is too long, a failed read, a failed write or want of memory.
+-- A file that is read, is told and has more bytes than a source may have is not run, and not refused for what it holds:
+-- the answer is that it is too long, a failed read, a failed write or want of memory.
 abbrev pub RefusesLongFiles : List (List ℕ) → Reading → Done → Type 0
 RefusesLongFiles words reading done =
-    (a : Asked) (bytes : List ℕ) → IsTaken words a → reading.told a.file ≡ Some bytes → 1048576 < length bytes
-    → (done.status ≡ 110) ⊎ (done.status ≡ 102) ⊎ (done.status ≡ 103) ⊎ (done.status ≡ 104)
+    (a : Asked) (bytes : List ℕ) → Asks words a → (a.mode ≡ Sample → ⊥) → reading.told a.file ≡ Some bytes
+    → 1048576 < length bytes → (done.status ≡ 110) ⊎ (done.status ≡ 102) ⊎ (done.status ≡ 103) ⊎ (done.status ≡ 104)
 
--- The words were taken, the file is told and no longer than a source may be, and nothing failed.
+-- The file is told and no longer than a source may be, and no read of it failed.
+pub record IsToldWhole (reading : Reading) (file bytes : List ℕ) : Type 0 where
+  pub told : reading.told file ≡ Some bytes
+  pub short : length bytes ≤ 1048576
+  pub read : Rose (reading.before file) (reading.after file) → ⊥
+
+-- The source that the words ask for is there: made in mode `sample`, in every other mode the file's bytes.
+abbrev pub IsThere : Mode → Reading → List ℕ → List ℕ → Type 0
+IsThere Sample reading file bytes = IsSample file bytes
+IsThere mode reading file bytes = IsToldWhole reading file bytes
+
+-- The words were taken, their source is there, and no write failed.
 pub record Succeeds (words : List (List ℕ)) (reading : Reading) (out err : Writing) (a : Asked)
     (bytes : List ℕ) : Type 0 where
-  pub taken : IsTaken words a
-  pub told : reading.told a.file ≡ Some bytes
-  pub short : length bytes ≤ 1048576
-  pub read : Rose (reading.before a.file) (reading.after a.file) → ⊥
+  pub asks : Asks words a
+  pub source : IsThere a.mode reading a.file bytes
   pub out_written : Rose out.faults_before out.faults_after → ⊥
   pub err_written : Rose err.faults_before err.faults_after → ⊥
 
@@ -95,24 +108,44 @@ pub record HasRun (out : Writing) (done : Done) : Type 0 where
   pub status : done.status ≡ status_of journal
   pub text : Gained out (output journal.history)
 
+-- There are a journal and its orders, with the journal's status, and the output gained their text.
+pub record HasRecorded (out : Writing) (done : Done) : Type 0 where
+  pub journal : Journal
+  pub is : done.journal ≡ Some journal
+  pub orders : Orders
+  pub are : done.orders ≡ Some orders
+  pub status : done.status ≡ status_of journal
+  pub text : Gained out (text journal orders)
+
+-- There is a journal that is too long for a text, with the status that says so.
+pub record IsOverlong (done : Done) : Type 0 where
+  pub journal : Journal
+  pub is : done.journal ≡ Some journal
+  pub long : is_short journal ≡ false
+  pub status : done.status ≡ 109
+
 -- The status is 0, and the output gained this text.
 pub record HasWritten (out : Writing) (done : Done) (text : List ℕ) : Type 0 where
   pub status : done.status ≡ 0
   pub gained : Gained out text
 
--- What bytes come to in each mode that runs today, or memory was wanting: a program that runs today is run, an accepted
--- source is passed, and an accepted source is laid out.
+-- What bytes come to in each mode, or memory was wanting: a program that runs today is run, or run and recorded, unless
+-- its run is too long for a text; an accepted source is passed, or laid out.
 abbrev pub IsDone : Mode → ℕ → List ℕ → Writing → Done → Type 0
 IsDone Run threads bytes out done =
     (checked : Checked) → IsRunnable threads bytes checked → HasRun out done ⊎ (done.status ≡ 104)
+IsDone Sample threads bytes out done =
+    (checked : Checked) → IsRunnable threads bytes checked → HasRun out done ⊎ (done.status ≡ 104)
+IsDone Record threads bytes out done =
+    (checked : Checked) → IsRunnable threads bytes checked
+    → HasRecorded out done ⊎ IsOverlong done ⊎ (done.status ≡ 104)
 IsDone Check threads bytes out done =
     (checked : Checked) → IsAccepted threads bytes checked → HasWritten out done (codes "ok\n") ⊎ (done.status ≡ 104)
 IsDone Layout threads bytes out done =
     (checked : Checked) → IsAccepted threads bytes checked
     → HasWritten out done (layout checked) ⊎ (done.status ≡ 104)
-IsDone mode threads bytes out done = Unit {0}
 
--- Where the words were taken, the file is told and nothing failed, an accepted source comes to what its mode says.
+-- Where the words were taken, their source is there and nothing failed, an accepted source comes to what its mode says.
 abbrev pub IsComplete : List (List ℕ) → Reading → Writing → Writing → Done → Type 0
 IsComplete words reading out err done =
     (a : Asked) (bytes : List ℕ) → Succeeds words reading out err a bytes → IsDone a.mode a.threads bytes out done

@@ -4,3 +4,4 @@ pub mod Layout
 pub mod Output
 pub mod Verdicts
 pub mod Delivery
+pub mod Records

@@ -1,6 +1,6 @@
 -- What a source comes to on its way to a program for so many threads: tokens, then their expansion, then the tree of
 -- that, then the typed tree, then the program.
-use Rattle.std.specs.Prelude.{ℕ, ◌≡◌, ◌≤◌, List, length}
+use Rattle.std.specs.Prelude.{ℕ, ◌≡◌, ◌≤◌, true, List, length}
 use Rattle.upc_text.specs.declared.place.Code.{Code}
 use Rattle.upc_text.specs.declared.place.Code.TheVariants.{Syntax, Limit}
 use Rattle.upc_text.specs.declared.place.Refusal.{Refusal}
@@ -15,9 +15,9 @@ use Rattle.upc_checker.specs.Outcomes as o
 use Rattle.upc_checker.specs.Outcomes.{outcome}
 use Rattle.typed_tree.specs.Programs.{Checked}
 use Rattle.command_words.specs.declared.call.Mode.{Mode}
-use Rattle.command_words.specs.declared.call.Mode.TheVariants.{Run}
 use Rattle.program_runs.specs.Served.{RunsToday}
 use Rattle.program_runs.specs.Runs.{IsNotYet}
+use Rattle.upc_top.specs.Words.{runs}
 
 -- The bytes have tokens over these names, which expand to these.
 pub record IsExpanded (bytes : List ℕ) (names : List (List ℕ)) (expanded : List Token) : Type 0 where
@@ -78,7 +78,7 @@ pub record IsOutside (threads : ℕ) (bytes : List ℕ) (r : Refusal) : Type 0 w
 -- Why a source is refused in a mode: it is refused, or it is to run and cannot.
 pub data IsRefusedIn (mode : Mode) (threads : ℕ) (bytes : List ℕ) (r : Refusal) : Type 0 where
   not_accepted : IsRefused threads bytes r → IsRefusedIn mode threads bytes r
-  not_runnable : mode ≡ Run → IsOutside threads bytes r → IsRefusedIn mode threads bytes r
+  not_runnable : runs mode ≡ true → IsOutside threads bytes r → IsRefusedIn mode threads bytes r
 
 -- The source is refused, or there was no memory.
 abbrev pub StopsReading : ℕ → List ℕ → Stop → Type 0

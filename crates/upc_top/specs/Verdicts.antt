@@ -1,18 +1,26 @@
 -- What the top call comes to, why, and what it then writes.
-use Rattle.std.specs.Prelude.{ℕ, ◌≡◌, ◌≤◌, List, [], length, Option, Some, None, codes}
+use Rattle.std.specs.Prelude.{ℕ, ◌≡◌, ◌≤◌, true, false, List, [], length, Option, Some, None, codes, decimal}
 use Rattle.upc_text.specs.declared.place.Refusal.{Refusal}
+use Rattle.upc_text.specs.declared.faults.ReadEnd.{ReadEnd}
+use Rattle.upc_text.specs.declared.faults.ReadEnd.TheVariants as ends
 use Rattle.upc_text.specs.Outside.{Rose, IsWhole, IsLonger}
 use Rattle.upc_values.specs.declared.journal.Journal.{Journal}
+use Rattle.upc_values.specs.declared.order.Orders.{Orders}
 use Rattle.typed_tree.specs.Programs.{Checked}
 use Rattle.typed_tree.specs.ViewProgram.{view_program}
-use Rattle.command_words.specs.declared.call.Mode.TheVariants.{Run, Check, Layout}
-use Rattle.command_words.specs.Values.{Asked, IsInRange}
+use Rattle.command_words.specs.declared.call.Mode.{Mode}
+use Rattle.command_words.specs.declared.call.Mode.TheVariants.{Run, Record, Check, Layout, Sample}
+use Rattle.command_words.specs.Values.{Asked, Asks, IsInRange}
 use Rattle.serial_core.specs.declared.limits.Limits.{Limits}
 use Rattle.program_runs.specs.Runs.{IsRunOf}
+use Rattle.order_builder.specs.Named.{orders_of}
+use Rattle.record_text.specs.Short.{HasText, is_short}
+use Rattle.record_text.specs.Lines.{text}
+use Rattle.upc_sample.specs.Sample.{sample}
 use Rattle.upc_top.specs.declared.verdict.Verdict.{Verdict}
 use Rattle.upc_top.specs.declared.verdict.Verdict.TheVariants.{Usage, ReadFault, TooLong, Refused, Ran, Passed, Laid}
-use Rattle.upc_top.specs.declared.verdict.Verdict.TheVariants.{NoMemory}
-use Rattle.upc_top.specs.Words.{IsTaken}
+use Rattle.upc_top.specs.declared.verdict.Verdict.TheVariants.{Recorded, Overlong, NoMemory}
+use Rattle.upc_top.specs.Words.{prints, runs}
 use Rattle.upc_top.specs.Sources.{IsAccepted, IsRunnable, IsRefusedIn}
 use Rattle.upc_top.specs.Layout.{layout}
 use Rattle.upc_top.specs.Output.{output, status_of, run_line, refusal_line}
@@ -31,12 +39,30 @@ reading told before after = record { told = told; before = before; after = after
 abbrev pub limits_of : Asked → Limits
 limits_of a = record { threads = a.threads; budget = a.budget; actions = a.actions }
 
--- A run was asked for, and the bytes are a program that runs today, of which the journal is a sound run.
-pub record RanFrom (a : Asked) (bytes : List ℕ) (j : Journal) : Type 0 where
-  pub mode : a.mode ≡ Run
+-- The bytes are a program that runs today, of which the journal is a sound run within what was asked for.
+pub record RunsAs (a : Asked) (bytes : List ℕ) (j : Journal) : Type 0 where
+  pub mode : runs a.mode ≡ true
   pub checked : Checked
   pub runnable : IsRunnable a.threads bytes checked
   pub run : IsRunOf checked (limits_of a) [] j
+
+-- What the program prints was asked for, and it ran so.
+pub record RanFrom (a : Asked) (bytes : List ℕ) (j : Journal) : Type 0 where
+  pub prints : prints a.mode ≡ true
+  pub run : RunsAs a bytes j
+
+-- The record of a run was asked for, it ran so, and these are the run's orders, with which it has a text.
+pub record RecordedFrom (a : Asked) (bytes : List ℕ) (j : Journal) (o : Orders) : Type 0 where
+  pub mode : a.mode ≡ Record
+  pub run : RunsAs a bytes j
+  pub orders : o ≡ orders_of j
+  pub has : HasText j o
+
+-- The record of a run was asked for, it ran so, and is too long for a text.
+pub record OverlongFrom (a : Asked) (bytes : List ℕ) (j : Journal) : Type 0 where
+  pub mode : a.mode ≡ Record
+  pub run : RunsAs a bytes j
+  pub long : is_short j ≡ false
 
 -- No more was asked than whether the bytes are accepted, and they are.
 pub record PassedFrom (a : Asked) (bytes : List ℕ) : Type 0 where
@@ -49,51 +75,88 @@ pub record LaidFrom (a : Asked) (bytes : List ℕ) (checked : Checked) : Type 0 
   pub mode : a.mode ≡ Layout
   pub accepted : IsAccepted a.threads bytes checked
 
--- What a source comes to that was read whole.
+-- What a source comes to that was read whole or made.
 abbrev pub ComesFrom : Asked → List ℕ → Verdict → Type 0
 ComesFrom a bytes (Refused refusal) = IsRefusedIn a.mode a.threads bytes refusal
 ComesFrom a bytes (Ran j) = RanFrom a bytes j
+ComesFrom a bytes (Recorded j o) = RecordedFrom a bytes j o
+ComesFrom a bytes (Overlong j) = OverlongFrom a bytes j
 ComesFrom a bytes Passed = PassedFrom a bytes
 ComesFrom a bytes (Laid program) = LaidFrom a bytes (view_program program)
 ComesFrom a bytes (NoMemory None) = Unit {0}
+ComesFrom a bytes (NoMemory (Some j)) = RunsAs a bytes j
 ComesFrom a bytes v = ⊥
 
--- These are the file's bytes, where it is told, no more than a source may have, and P holds of them.
-pub record Holds (r : Reading) (file : List ℕ) (P : List ℕ → Type 0) : Type 0 where
-  pub bytes : List ℕ
-  pub whole : IsWhole (r.told file) bytes
+-- These are the file's bytes, where it is told, no more than a source may have.
+pub record IsFile (told : Option (List ℕ)) (bytes : List ℕ) : Type 0 where
+  pub whole : IsWhole told bytes
   pub short : length bytes ≤ 1048576
+
+-- The source that the FILE word asks for in mode `sample`: that of the number which the word is.
+pub record IsSample (file bytes : List ℕ) : Type 0 where
+  pub stages : ℕ
+  pub most : stages ≤ 1000
+  pub plain : file ≡ decimal stages
+  pub made : bytes ≡ sample stages
+
+-- The source that the words ask for: made in mode `sample`, in every other mode the file's bytes.
+abbrev pub IsSource : Mode → List ℕ → Option (List ℕ) → List ℕ → Type 0
+IsSource Sample file told bytes = IsSample file bytes
+IsSource mode file told bytes = IsFile told bytes
+
+-- These are the bytes of the source that is asked for, and P holds of them.
+pub record Holds (r : Reading) (a : Asked) (P : List ℕ → Type 0) : Type 0 where
+  pub bytes : List ℕ
+  pub source : IsSource a.mode a.file (r.told a.file) bytes
   pub holds : P bytes
 
 -- The words were taken, with each value in its range, and P holds of what they ask for.
 pub record Taken (words : List (List ℕ)) (P : Asked → Type 0) : Type 0 where
   pub asked : Asked
-  pub taken : IsTaken words asked
+  pub asks : Asks words asked
   pub range : IsInRange asked
   pub holds : P asked
 
--- The words were taken, the file was read whole, and this is what its bytes come to.
+-- The words were taken, the source was read whole or made, and this is what its bytes come to.
 abbrev pub CameTo : List (List ℕ) → Reading → Verdict → Type 0
-CameTo words r v = Taken words (λ a. Holds r a.file (λ bytes. ComesFrom a bytes v))
+CameTo words r v = Taken words (λ a. Holds r a (λ bytes. ComesFrom a bytes v))
+
+-- A file is read in every mode but `sample`, and its count of faults rose.
+pub record FailedToRead (r : Reading) (a : Asked) : Type 0 where
+  pub file : a.mode ≡ Sample → ⊥
+  pub rose : Rose (r.before a.file) (r.after a.file)
+
+-- A file is read in every mode but `sample`, and where it is told, it has more bytes than a source may have.
+pub record IsTooLong (r : Reading) (a : Asked) : Type 0 where
+  pub file : a.mode ≡ Sample → ⊥
+  pub longer : IsLonger (r.told a.file) 1048576
+
+-- Why there is no source: a read failed, the file is too long, or there was no memory.
+abbrev pub NoSource : Reading → Asked → ReadEnd → Type 0
+NoSource r a ends.ReadFault = FailedToRead r a
+NoSource r a ends.TooLong = IsTooLong r a
+NoSource r a ends.Memory = Unit {0}
 
 -- The cause of a verdict; want of memory needs none.
 abbrev pub Caused : List (List ℕ) → Reading → Verdict → Type 0
-Caused words r Usage = (a : Asked) → IsTaken words a → ⊥
-Caused words r ReadFault = Taken words (λ a. Rose (r.before a.file) (r.after a.file))
-Caused words r TooLong = Taken words (λ a. IsLonger (r.told a.file) 1048576)
+Caused words r Usage = (a : Asked) → Asks words a → ⊥
+Caused words r ReadFault = Taken words (λ a. FailedToRead r a)
+Caused words r TooLong = Taken words (λ a. IsTooLong r a)
 Caused words r (NoMemory None) = Unit {0}
-Caused words r (NoMemory (Some j)) = CameTo words r (Ran j)
 Caused words r v = CameTo words r v
 
 -- The verdict where memory was wanting for what it writes.
 abbrev pub without_memory : Verdict → Verdict
 without_memory (Ran j) = NoMemory (Some j)
+without_memory (Recorded j o) = NoMemory (Some j)
+without_memory (Overlong j) = NoMemory (Some j)
 without_memory (NoMemory o) = NoMemory o
 without_memory v = NoMemory None
 
 -- What goes to the output.
 abbrev pub text_of : Verdict → List ℕ
 text_of (Ran j) = output j.history
+text_of (Recorded j o) = text j o
 text_of Passed = codes "ok\n"
 text_of (Laid program) = layout (view_program program)
 text_of v = []
@@ -105,6 +168,8 @@ line_of ReadFault = codes "upc: read fault\n"
 line_of TooLong = codes "upc: source too long\n"
 line_of (Refused r) = refusal_line r
 line_of (Ran j) = run_line j
+line_of (Recorded j o) = run_line j
+line_of (Overlong j) = codes "upc: too long for a text\n"
 line_of Passed = []
 line_of (Laid program) = []
 line_of (NoMemory j) = codes "upc: no memory\n"
@@ -116,6 +181,8 @@ status_for ReadFault = 102
 status_for TooLong = 110
 status_for (Refused r) = 101
 status_for (Ran j) = status_of j
+status_for (Recorded j o) = status_of j
+status_for (Overlong j) = 109
 status_for Passed = 0
 status_for (Laid program) = 0
 status_for (NoMemory j) = 104
@@ -128,5 +195,17 @@ refusal_of v = None
 -- The journal that is handed out.
 abbrev pub journal_of : Verdict → Option Journal
 journal_of (Ran j) = Some j
+journal_of (Recorded j o) = Some j
+journal_of (Overlong j) = Some j
 journal_of (NoMemory o) = o
 journal_of v = None
+
+-- The orders that are handed out: where a text was made.
+abbrev pub orders_in : Verdict → Option Orders
+orders_in (Recorded j o) = Some o
+orders_in v = None
+
+-- What is written can be: a record has a text.
+abbrev pub IsWritable : Verdict → Type 0
+IsWritable (Recorded j o) = HasText j o
+IsWritable v = Unit {0}

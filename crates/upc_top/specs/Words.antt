@@ -1,18 +1,20 @@
--- What the words of the command line ask for, in the modes that run today.
-use Rattle.std.specs.Prelude.{ℕ, ◌≡◌, Bool, true, false, List}
+-- What the modes of the command line do with a program.
+use Rattle.std.specs.Prelude.{Bool, true, false}
 use Rattle.command_words.specs.declared.call.Mode.{Mode}
 use Rattle.command_words.specs.declared.call.Mode.TheVariants.{Run, Record, Check, Layout, Sample}
-use Rattle.command_words.specs.Values.{Asked, Asks}
 
--- The modes that run today are `run`, `check` and `layout`.
-abbrev pub is_served : Mode → Bool
-is_served Run = true
-is_served Check = true
-is_served Layout = true
-is_served Record = false
-is_served Sample = false
+-- The modes `run` and `sample` run a program, and write what it prints.
+abbrev pub prints : Mode → Bool
+prints Run = true
+prints Sample = true
+prints Record = false
+prints Check = false
+prints Layout = false
 
--- The words are taken: they ask for this, in a mode that runs today.
-pub record IsTaken (words : List (List ℕ)) (a : Asked) : Type 0 where
-  pub asks : Asks words a
-  pub served : is_served a.mode ≡ true
+-- They and the mode `record` run a program.
+abbrev pub runs : Mode → Bool
+runs Run = true
+runs Sample = true
+runs Record = true
+runs Check = false
+runs Layout = false

@@ -2,7 +2,8 @@
 
 ghost use Rattle.std.specs.Prelude.{◌≡◌, ◌<◌, ◌^◌, None, IfOk, IfSome, length};
 ghost use Rattle.upc_top.specs.Verdicts;
-ghost use Rattle.upc_top.specs.Verdicts.{text_of, line_of, refusal_of, journal_of, without_memory};
+ghost use Rattle.upc_top.specs.Verdicts.{text_of, line_of, refusal_of, journal_of, orders_in};
+ghost use Rattle.upc_top.specs.Verdicts.{without_memory, IsWritable};
 ghost use Rattle.upc_top.specs.Delivery.{writing, Delivered, Delivers};
 
 use crate::done::Done;
@@ -10,14 +11,17 @@ use crate::layout::layout_text;
 use crate::status::status_of;
 use crate::text::{output_text, refusal_text, run_text};
 use crate::verdict::Verdict;
+use record_text::render;
 use std::alloc::{AllocError, Global};
 use upc_text::{Sink, put_all};
 
 fn text_for(alloc: Global, verdict: &Verdict) -> Result<Vec<u8>, AllocError>
+    requires { IsWritable verdict.now }
     ensures { IfOk result (λ text. text.items ≡ text_of verdict.now) }
 {
     match verdict {
         Verdict::Ran(journal) => output_text(alloc, journal.history.as_slice()),
+        Verdict::Recorded(journal, orders) => render(alloc, journal, orders),
         Verdict::Passed => Vec::from_slice(alloc, b"ok\n"),
         Verdict::Laid(program) => layout_text(alloc, program),
         _ => Ok(Vec::new(alloc)),
@@ -33,7 +37,8 @@ fn line_for(alloc: Global, verdict: &Verdict) -> Result<Vec<u8>, AllocError>
         Verdict::ReadFault => Vec::from_slice(alloc, b"upc: read fault\n"),
         Verdict::TooLong => Vec::from_slice(alloc, b"upc: source too long\n"),
         Verdict::Refused(refusal) => refusal_text(alloc, *refusal),
-        Verdict::Ran(journal) => run_text(alloc, journal),
+        Verdict::Ran(journal) | Verdict::Recorded(journal, _) => run_text(alloc, journal),
+        Verdict::Overlong(_) => Vec::from_slice(alloc, b"upc: too long for a text\n"),
         Verdict::Passed | Verdict::Laid(_) => Ok(Vec::new(alloc)),
         Verdict::NoMemory(_) => Vec::from_slice(alloc, b"upc: no memory\n"),
     }
@@ -50,6 +55,8 @@ fn status_for(verdict: &Verdict) -> u8
         Verdict::TooLong => 110,
         Verdict::Refused(_) => 101,
         Verdict::Ran(journal) => status_of(journal),
+        Verdict::Recorded(journal, _) => status_of(journal),
+        Verdict::Overlong(_) => 109,
         Verdict::Passed | Verdict::Laid(_) => 0,
         Verdict::NoMemory(_) => 104,
     }
@@ -60,20 +67,21 @@ fn done(verdict: Verdict, status: u8) -> Done
     ensures status { result.status ≡ status }
     ensures refusal { result.refusal ≡ refusal_of verdict }
     ensures journal { result.journal ≡ journal_of verdict }
-    ensures orders { result.orders ≡ None }
+    ensures orders { result.orders ≡ orders_in verdict }
 {
-    let (refusal, journal) = match verdict {
-        Verdict::Refused(refusal) => (Some(refusal), None),
-        Verdict::Ran(journal) => (None, Some(journal)),
-        Verdict::NoMemory(journal) => (None, journal),
-        Verdict::Laid(_program) => (None, None),
-        _ => (None, None),
+    let (refusal, journal, orders) = match verdict {
+        Verdict::Refused(refusal) => (Some(refusal), None, None),
+        Verdict::Ran(journal) | Verdict::Overlong(journal) => (None, Some(journal), None),
+        Verdict::Recorded(journal, orders) => (None, Some(journal), Some(orders)),
+        Verdict::NoMemory(journal) => (None, journal, None),
+        Verdict::Laid(_program) => (None, None, None),
+        _ => (None, None, None),
     };
     Done {
         status,
         refusal,
         journal,
-        orders: None,
+        orders,
     }
 }
 
@@ -107,6 +115,8 @@ fn without_memory(verdict: Verdict) -> Verdict
 {
     match verdict {
         Verdict::Ran(journal) => Verdict::NoMemory(Some(journal)),
+        Verdict::Recorded(journal, _) => Verdict::NoMemory(Some(journal)),
+        Verdict::Overlong(journal) => Verdict::NoMemory(Some(journal)),
         Verdict::NoMemory(journal) => Verdict::NoMemory(journal),
         _ => Verdict::NoMemory(None),
     }
@@ -115,11 +125,11 @@ fn without_memory(verdict: Verdict) -> Verdict
 /// Writes what a verdict says. Where memory is wanting for it, that is the verdict.
 pub fn deliver<O: Sink, E: Sink>(alloc: Global, verdict: Verdict, out: &mut O, err: &mut E) -> Done
     requires few { IfSome (journal_of verdict) (λ j. length j.strands < 2 ^ 32) }
+    requires writable { IsWritable verdict }
     ensures delivers { Delivers verdict
         (writing (O.taken out.old) (O.taken out.new) (O.faults out.old) (O.faults out.new))
         (writing (E.taken err.old) (E.taken err.new) (E.faults err.old) (E.faults err.new))
         result }
-    ensures orders { result.orders ≡ None }
 {
     match (text_for(alloc, &verdict), line_for(alloc, &verdict)) {
         (Ok(text), Ok(line)) => {

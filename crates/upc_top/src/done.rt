@@ -12,6 +12,6 @@ pub struct Done {
     pub refusal: Option<Refusal>,
     /// The run, wherever one was had.
     pub journal: Option<Journal>,
-    /// The orders of the run's operations.
+    /// The orders of the run's operations, where the text of a record was made.
     pub orders: Option<Orders>,
 }

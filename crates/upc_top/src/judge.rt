@@ -2,23 +2,38 @@
 
 ghost use Rattle.std.specs.Prelude.{◌≡◌, ◌≤◌, true, length, map, string_bytes};
 ghost use Rattle.typed_tree.specs.ViewProgram.{view_program};
+ghost use Rattle.upc_values.specs.Consistent.{FollowsBuffers};
 ghost use Rattle.command_words.specs.Values.{IsInRange, view_call};
 ghost use Rattle.command_words.specs.Values.{IsAllowed};
-ghost use Rattle.command_words.specs.declared.call.Mode.TheVariants as mode;
-ghost use Rattle.upc_top.specs.Words.{is_served};
+ghost use Rattle.upc_top.specs.Words.{runs};
 ghost use Rattle.upc_top.specs.Sources.{IsAccepted};
 ghost use Rattle.upc_top.specs.Verdicts.{reading, Caused, ComesFrom};
+ghost use Rattle.upc_top.specs.Records.{IsShown};
 
 use crate::front::read_source;
+use crate::record::recorded;
+use crate::source::source_of;
 use crate::verdict::Verdict;
-use crate::words::read_call;
-use command_words::{Call, Mode, NoCall};
+use command_words::{Call, Mode, NoCall, read_words};
 use program_runs::run_program;
 use serial_core::Limits;
 use std::alloc::Global;
 use std::sync::Wait;
 use typed_tree::Program;
-use upc_text::{ReadEnd, Sources, Stop, read_all};
+use upc_text::{ReadEnd, Sources, Stop};
+use upc_values::Journal;
+
+// What a run comes to: its record where that was asked for, else what it prints.
+fn shown(alloc: Global, mode: Mode, journal: Journal) -> Verdict
+    requires follows { FollowsBuffers journal }
+    requires runs { runs mode ≡ true }
+    ensures { IsShown mode journal result }
+{
+    match mode {
+        Mode::Record => recorded(alloc, journal),
+        _ => Verdict::Ran(journal),
+    }
+}
 
 // Runs a source that is accepted.
 fn run_accepted<R: Wait>(
@@ -28,7 +43,7 @@ fn run_accepted<R: Wait>(
     bytes: &[u8],
     program: &Program,
 ) -> Verdict
-    requires mode { call.now.mode ≡ mode.Run }
+    requires mode { runs call.now.mode ≡ true }
     requires range { IsInRange (view_call call.now) }
     requires allowed { IsAllowed (view_call call.now) }
     requires accepted { IsAccepted call.now.threads bytes.now (view_program program.now) }
@@ -40,15 +55,14 @@ fn run_accepted<R: Wait>(
         actions: call.actions,
     };
     match run_program(rt, alloc, program, limits, &[]) {
-        Ok(journal) => Verdict::Ran(journal),
+        Ok(journal) => shown(alloc, call.mode, journal),
         Err(Stop::Refused(refusal)) => Verdict::Refused(refusal),
         Err(Stop::Memory) => Verdict::NoMemory(None),
     }
 }
 
-// What a source comes to in a mode that runs today.
+// What a source comes to.
 fn come_to<R: Wait>(rt: &R, alloc: Global, call: &Call<'_>, bytes: &[u8]) -> Verdict
-    requires served { is_served call.now.mode ≡ true }
     requires range { IsInRange (view_call call.now) }
     requires allowed { IsAllowed (view_call call.now) }
     requires short { length bytes.now ≤ 1048576 }
@@ -72,12 +86,12 @@ pub fn judge<R: Wait, S: Sources>(rt: &R, alloc: Global, words: &[String], files
         (reading (S.bytes_of files.old) (S.faults files.old) (S.faults files.new))
         result }
 {
-    let call = match read_call(alloc, words) {
+    let call = match read_words(alloc, words) {
         Ok(call) => call,
         Err(NoCall::Usage) => return Verdict::Usage,
         Err(NoCall::Memory) => return Verdict::NoMemory(None),
     };
-    match read_all(alloc, files, call.file) {
+    match source_of(alloc, &call, files) {
         Ok(source) => come_to(rt, alloc, &call, source.as_slice()),
         Err(ReadEnd::ReadFault) => Verdict::ReadFault,
         Err(ReadEnd::TooLong) => Verdict::TooLong,

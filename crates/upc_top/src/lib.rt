@@ -6,11 +6,12 @@ mod done;
 mod front;
 mod judge;
 mod layout;
+mod record;
+mod source;
 mod status;
 mod text;
 mod top;
 mod verdict;
-mod words;
 
 pub use done::Done;
 pub use front::one_reading;

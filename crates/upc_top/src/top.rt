@@ -1,6 +1,6 @@
 //! The top call.
 
-ghost use Rattle.std.specs.Prelude.{◌≡◌, map, string_bytes, None};
+ghost use Rattle.std.specs.Prelude.{map, string_bytes};
 ghost use Rattle.upc_top.specs.Verdicts.{reading};
 ghost use Rattle.upc_top.specs.Delivery.{writing, Answered, RefusesOtherWords, RefusesLongFiles, IsComplete};
 
@@ -12,11 +12,12 @@ use std::sync::Wait;
 use upc_text::{Gate, Sink, Sources};
 
 /// Reads the words and the file, and does with its program what the mode says: `run` writes what it prints to `out`,
-/// `check` writes `ok`, and `layout` where its shared objects lie. A line on any other ending goes to `err`. The status
-/// is 0 to 99 where the program ended by itself, and 0 in the modes `check` and `layout`; 100 where the words are
-/// refused; 101 where the source is; 102 where a read failed; 103 where a write failed; 104 where memory was wanting;
-/// 105 for a run error; 106 for a deadlock; 107 and 108 where a thread reached its limit of ticks or of items; 110
-/// where the file has more than 1,048,576 bytes.
+/// `record` the record of its run, `check` writes `ok`, and `layout` where its shared objects lie; `sample` reads no file,
+/// and runs the source of so many stages. A line on any other ending goes to `err`. The status is 0 to 99 where the
+/// program ended by itself, and 0 in the modes `check` and `layout`; 100 where the words are refused; 101 where the
+/// source is; 102 where a read failed; 103 where a write failed; 104 where memory was wanting; 105 for a run error; 106
+/// for a deadlock; 107 and 108 where a thread reached its limit of ticks or of items; 109 where a run is too long for a
+/// text; 110 where the file has more than 1,048,576 bytes.
 pub fn upc_main<R: Wait, S: Sources, O: Sink, E: Sink, G: Gate>(
     rt: &R,
     alloc: Global,
@@ -38,13 +39,12 @@ pub fn upc_main<R: Wait, S: Sources, O: Sink, E: Sink, G: Gate>(
     ensures long { RefusesLongFiles (map string_bytes words.now)
         (reading (S.bytes_of files.old) (S.faults files.old) (S.faults files.new))
         result }
-    // Where nothing fails, an accepted source is run, passed or laid out.
+    // Where nothing fails, an accepted source is run, recorded, passed or laid out.
     ensures complete { IsComplete (map string_bytes words.now)
         (reading (S.bytes_of files.old) (S.faults files.old) (S.faults files.new))
         (writing (O.taken out.old) (O.taken out.new) (O.faults out.old) (O.faults out.new))
         (writing (E.taken err.old) (E.taken err.new) (E.faults err.old) (E.faults err.new))
         result }
-    ensures orders { result.orders ≡ None }
 {
     let _ = gate;
     let verdict = judge(rt, alloc, words, files);

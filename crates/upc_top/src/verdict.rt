@@ -2,7 +2,7 @@
 
 use typed_tree::Program;
 use upc_text::Refusal;
-use upc_values::Journal;
+use upc_values::{Journal, Orders};
 
 /// What the top call comes to.
 #[derive(Drop)]
@@ -17,6 +17,10 @@ pub enum Verdict {
     Refused(Refusal),
     /// The source ran.
     Ran(Journal),
+    /// The source ran, with these orders, and its record was asked for.
+    Recorded(Journal, Orders),
+    /// The source ran, its record was asked for, and is too long for a text.
+    Overlong(Journal),
     /// The source is accepted, and no more was asked.
     Passed,
     /// The source is accepted as this program, whose layout was asked for.

@@ -1,0 +1,4 @@
+pub mod Joins
+pub mod Wholes
+pub mod SomeWords
+pub mod Counting

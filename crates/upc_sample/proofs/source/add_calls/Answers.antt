@@ -1,0 +1,14 @@
+use Rattle.std.proofs.Common.{◌≡◌, ◌∙◌, ◌++◌, ◌+◌, ◌<◌, ap, rules}
+use Rattle.std.specs.List.{flat_map, range_with_len}
+use Rattle.upc_sample.specs.Sample as source
+use Rattle.upc_sample.proofs.Parts.{onward, parts_from}
+use Rattle.upc_sample.proofs.source.add_calls.Goals as goal
+
+pub loop-number-preserved : goal.loop-number-preserved
+loop-number-preserved c =
+    let i = c.loop-number.number in
+    let lt : i < c.args.stages = search rules in
+    let text : c.add_call.new.text.items ≡ c.loop-number.text.items ++ source.call i = search rules in
+    ap (λ l. l ++ parts_from source.call c.args.stages (i + 1)) text
+    ∙ onward source.call c.args.stages c.loop-number.text.items
+    (c.args.text.now.items ++ flat_map source.call (range_with_len 0 c.args.stages)) i lt c.loop-number.invariant
