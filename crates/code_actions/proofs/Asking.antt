@@ -21,7 +21,7 @@ use Rattle.stack_code.specs.Codes.{Codes, thread_of}
 use Rattle.stack_code.specs.Steps.{Spot, Conf, At, Halt, nowhere, step, steps}
 use Rattle.stack_code.specs.Outcomes.{told_by, HasEnded, initial_state, beginning}
 use Rattle.stack_code.proofs.Ends.{steps_add, steps_ended}
-use Rattle.code_actions.specs.Asking.{IsPlain, IsDeclaredIn, IsThreadOf, AsksWell}
+use Rattle.code_actions.specs.Asking.{IsDeclaredIn, IsThreadOf, AsksWell}
 use Rattle.code_actions.proofs.KnownValues.{runner}
 use Rattle.code_actions.proofs.Stores.{begun_filled}
 use Rattle.code_actions.proofs.Doings.{begins_itself, begins_on, total, plus, Later, GrownTo, Grown, Reaches, grown_to}
@@ -82,8 +82,7 @@ module _ (τ : Thread) (functions : List (List Instr)) where
   ended_stays n (Halt e σ) p h = steps_ended τ functions n e σ
 
 module _ (o : Opening) (es : List Entry) (v : IsOpening o) (legal : IsLegal o es) (me budget : ℕ)
-    (one : me < o.threads) (functions : List (List Instr)) (declared : Each (Each (IsDeclaredIn o)) functions)
-    (plain : Each (Each IsPlain) functions) where
+    (one : me < o.threads) (functions : List (List Instr)) (declared : Each (Each (IsDeclaredIn o)) functions) where
   abbrev τ : Thread
   τ = runner o me budget
 
@@ -94,7 +93,7 @@ module _ (o : Opening) (es : List Entry) (v : IsOpening o) (legal : IsLegal o es
       let c = step τ functions (At here given operands calls σ) in
       grown_to σ (state_of c) (state_of (steps τ functions n c))
       (grown_state σ c
-      ((step_asks o es v legal me budget one functions declared plain here given operands calls).grows σ))
+      ((step_asks o es v legal me budget one functions declared here given operands calls).grows σ))
       (steps_grow n c)
   steps_grow (suc n) (Halt e σ) = steps_grow n (Halt e σ)
 
@@ -147,7 +146,7 @@ module _ (o : Opening) (es : List Entry) (v : IsOpening o) (legal : IsLegal o es
       → IsWanted p a σ (with_more here given operands calls σ p a w)
   wanted_from zero here given operands calls σ k good p a w h = absurd h
   wanted_from (suc n) here given operands calls σ k good p a w h =
-      let s = step_asks o es v legal me budget one functions declared plain here given operands calls in
+      let s = step_asks o es v legal me budget one functions declared here given operands calls in
       by_next (step τ functions (At here given operands calls σ)) (s.by k σ good) (s.grows σ) h (wanted_from n)
     where
       from : List Reply → Conf
@@ -207,11 +206,11 @@ module _ (o : Opening) (codes : Codes) (thread budget : ℕ) (f : List Reply →
     abbrev origin : Spot
     origin = record { function = 0; place = 0 }
 
-    is_wanted : IsWanted o es h.opening has.legal thread budget one codes.functions h.declared.pushed h.declared.plain
+    is_wanted : IsWanted o es h.opening has.legal thread budget one codes.functions h.declared.pushed
         (f rs) a
         (initial_state codes rs) (λ more. beginning codes (rs ++ more))
     is_wanted =
-        wanted_from o es h.opening has.legal thread budget one codes.functions h.declared.pushed h.declared.plain
+        wanted_from o es h.opening has.legal thread budget one codes.functions h.declared.pushed
         (count_of rs) origin [] [] [] (initial_state codes rs) (tt, tt)
         (record {
           store = begun_filled o es codes.private_shapes codes.private_initials h.declared.initials
@@ -228,7 +227,7 @@ module _ (o : Opening) (codes : Codes) (thread budget : ℕ) (f : List Reply →
         let n = count_of (rs ++ r ∷ []) in
         let end = steps τ codes.functions n first in
         let grow =
-        steps_grow o es h.opening has.legal thread budget one codes.functions h.declared.pushed h.declared.plain in
+        steps_grow o es h.opening has.legal thread budget one codes.functions h.declared.pushed in
         let acts = ended_actions end (f (rs ++ r ∷ [])) (ended (rs ++ r ∷ [])) in
         let further = steps τ codes.functions n (steps τ codes.functions k.0 first) in
         let swap : k.0 + n ≡ n + k.0 = omega arith in

@@ -1,8 +1,9 @@
--- The calls of the library that ask well whatever they are given, where that is known.
-use Rattle.std.proofs.Common.{◌≡◌, ℕ, ◌*◌, ◌<◌, ◌==◌, nat_lt, Bool, true, false, not, ◌&&◌, ◌||◌, cond}
-use Rattle.std.proofs.Common.{List, [], ◌∷◌, Option, Some, None, refl, sym, arith, lt-ltb, if◌then◌else◌}
-use Rattle.std.proofs.lemmas.Bool.{and_from, false≢true, eqb-false}
-use Rattle.std.specs.Prelude.{nat_le, unsigned_abs, slice_get}
+-- The calls of the library ask well where what they are given is known, and of their parameters' types.
+use Rattle.std.proofs.Common.{◌≡◌, ℕ, ◌*◌, ◌<◌, ◌==◌, nat_lt, ℤ, pos, Bool, true, false, not, ◌&&◌, ◌||◌, cond}
+use Rattle.std.proofs.Common.{List, [], ◌∷◌, Option, Some, None, is_some, refl, sym, subst, arith, lt-ltb}
+use Rattle.std.proofs.Common.{if◌then◌else◌}
+use Rattle.std.proofs.lemmas.Bool.{and_parts, and_from, false≢true, eqb-false}
+use Rattle.std.specs.Prelude.{nat_le, unsigned_abs, negsuc, slice_get}
 use Rattle.block_layout.specs.declared.kind.Shape.{Shape}
 use Rattle.block_layout.specs.declared.run_error.TheConstants.{LIBRARY_ARGS, NULL_ACCESS, CELL_TYPE}
 use Rattle.block_layout.specs.Pointers.{null, is_null}
@@ -17,22 +18,25 @@ use Rattle.upc_values.specs.declared.action.Action.TheVariants as act
 use Rattle.upc_values.specs.declared.action.Reply.{Reply}
 use Rattle.upc_values.specs.declared.action.Reply.TheVariants as reply
 use Rattle.upc_values.specs.declared.journal.Entry.{Entry}
+use Rattle.upc_values.specs.declared.library.ElementKind.{ElementKind}
 use Rattle.upc_values.specs.declared.library.LibraryCall.{LibraryCall}
 use Rattle.upc_values.specs.declared.library.LibraryCall.TheVariants as c
 use Rattle.upc_values.specs.Lists.{Each}
 use Rattle.upc_values.specs.Scalars.{zero}
 use Rattle.upc_values.specs.Openings.{Opening, IsOpening}
 use Rattle.upc_values.specs.History.{locks, IsLegal}
-use Rattle.upc_values.specs.Formed.{is_known, is_whole, is_home, IsWellFormed, fits, fits_after}
+use Rattle.upc_values.specs.Formed.{is_known, is_whole, is_home, may_alloc, may_call, IsWellFormed, fits, fits_after}
+use Rattle.upc_values.specs.Calls.{Allocates, Other, is_size, call_of}
 use Rattle.upc_values.specs.Expansion.{Expansion, Gives, Fails}
 use Rattle.upc_values.specs.Copying.{copy, set}
-use Rattle.upc_values.specs.Expansions.{is_large}
+use Rattle.upc_values.specs.Expansions.{is_large, collective}
 use Rattle.upc_values.specs.LibraryCalls as l
-use Rattle.code_actions.specs.Asking.{is_plain_call}
+use Rattle.thread_steps.specs.Library.{is_call, is_formed}
 use Rattle.code_actions.proofs.KnownValues.{Known}
 use Rattle.code_actions.proofs.Doings.{Nothing}
 use Rattle.code_actions.proofs.Primitives as p
 use Rattle.code_actions.proofs.MemoryCalls as m
+use Rattle.code_actions.proofs.Collectives.{AreKnownScalars, tested, collective_goes}
 
 not_zero : (n : ℕ) → (n == 0) ≡ false → nat_lt 0 n ≡ true
 not_zero n e = let ne = eqb-false n 0 e in lt-ltb 0 n (omega arith)
@@ -42,6 +46,16 @@ whole_by : (a b : Bool) → a ≡ false → (not a && not b) ≡ false → (not 
 whole_by true b e h = absurd (false≢true (sym e))
 whole_by false true e h = refl
 whole_by false false e h = absurd (false≢true (sym h))
+
+none_or_whole : (a b : Bool) → (not a && not b) ≡ false → (a || (not a && b)) ≡ true
+none_or_whole true b h = refl
+none_or_whole false true h = refl
+none_or_whole false false h = absurd (false≢true (sym h))
+
+-- A size_t is no less than 0.
+size_of : (n : ℤ) → is_size n ≡ true → is_size (pos (unsigned_abs n)) ≡ true
+size_of (pos n) h = h
+size_of (negsuc n) h = absurd (false≢true h)
 
 module _ (o : Opening) (es : List Entry) (v : IsOpening o) (legal : IsLegal o es) (me budget : ℕ)
     (one : me < o.threads) where
@@ -123,6 +137,35 @@ module _ (o : Opening) (es : List Entry) (v : IsOpening o) (legal : IsLegal o es
   alloc_goes shape (value.Scalar (scalar.Int b) ∷ []) private =
       allocation_goes (Some me) shape 1 (unsigned_abs b) private (lt-ltb me o.threads one)
   alloc_goes shape args private = refl
+
+  -- All threads may meet for these sizes, which are a size_t each.
+  may_meet : (n b s : ℕ) → (is_size (pos n) && (is_size (pos b) && is_size (pos s))) ≡ true
+      → is_some (slice_get o.shapes s) ≡ true → (not (n * b == 0) && not (is_whole (slice_get o.shapes s) b)) ≡ false
+      → may_call o es (call_of 1 (scalar.Int (pos n) ∷ scalar.Int (pos b) ∷ scalar.Int (pos s) ∷ [])) ≡ true
+  may_meet n b s sizes there e =
+      subst (λ t. may_call o es (cond t (Allocates n b s) Other) ≡ true) (sym sizes)
+      (and_from (is_some (slice_get o.shapes s)) ((n * b == 0) || may_alloc o n b s) there
+      (none_or_whole (n * b == 0) (is_whole (slice_get o.shapes s) b) e))
+
+  all_alloc_goes : (shape : ℕ) (args : List Value) → is_formed o.shapes c.AllAlloc shape args ≡ true
+      → CallGoes c.AllAlloc shape args
+  all_alloc_goes shape (value.Scalar (scalar.Int n) ∷ value.Scalar (scalar.Int b) ∷ []) h private =
+      let size = unsigned_abs n in
+      let block = unsigned_abs b in
+      let sizes = is_size n && (is_size b && is_size (pos shape)) in
+      let formed =
+      and_parts (is_call (cond sizes (Allocates size block (unsigned_abs (pos shape))) Other))
+      (is_some (slice_get o.shapes shape)) h in
+      let all = and_parts (is_size n) (is_size b && is_size (pos shape)) (tested sizes _ formed.0) in
+      let rest = and_parts (is_size b) (is_size (pos shape)) all.1 in
+      let whole = is_whole (slice_get o.shapes shape) block in
+      unless_goes (not (size * block == 0) && not whole) CELL_TYPE _ (λ e.
+      asks_goes (act.Meet 1 (scalar.Int (pos size) ∷ scalar.Int (pos block) ∷ scalar.Int (pos shape) ∷ []))
+      (may_meet size block shape
+      (and_from (is_size (pos size)) (is_size (pos block) && is_size (pos shape)) (size_of n all.0)
+      (and_from (is_size (pos block)) (is_size (pos shape)) (size_of b rest.0) rest.1)) formed.1 e)
+      (λ r f. f))
+  all_alloc_goes shape args h private = refl
 
   free_goes : (shape : ℕ) (args : List Value) → AreKnown args → CallGoes c.Free shape args
   free_goes shape (value.Scalar (scalar.Shared q) ∷ []) h private =
@@ -208,29 +251,58 @@ module _ (o : Opening) (es : List Entry) (v : IsOpening o) (legal : IsLegal o es
       (m.set_goes o es v legal me budget None (l.area_of dst) byte (unsigned_abs n) (area_known dst h.0))
   memset_goes shape args h private = refl
 
+  -- ---- collective calls (UPC 7.3)
+
+  scalars_known : (args : List Value) → AreKnown args → AreKnownScalars o es (l.scalars args)
+  scalars_known [] h = tt
+  scalars_known (value.Scalar w ∷ args) h = (h.0, scalars_known args h.1)
+  scalars_known (value.Local q ∷ args) h = scalars_known args h.1
+
+  element_known : (k : ElementKind) (args : List Value) → AreKnown args → AreKnown (l.with_element k args)
+  element_known k (dst ∷ src ∷ op ∷ n ∷ block ∷ function ∷ f ∷ []) h =
+      (h.0, (h.1.0, (h.1.1.0, (h.1.1.1.0, (h.1.1.1.1.0, (refl, h.1.1.1.1.1.1))))))
+  element_known k args h = h
+
+  together_goes : (n : ℕ) (args : List Value) → (n == 1) ≡ false → AreKnown args
+      → (is_call (call_of n (l.scalars args)) && true) ≡ true → (private : ℕ → Option Shape)
+      → Goes (l.together o.threads o.shapes me private n args)
+  together_goes n args e k h private =
+      valued_goes (collective o.threads o.shapes me n (l.scalars args))
+      (collective_goes o es v legal me budget n (l.scalars args) e (scalars_known args k)
+      (and_parts (is_call (call_of n (l.scalars args))) true h).0)
+
   -- ---- all of these
 
-  pub plain_goes : (call : LibraryCall) (shape : ℕ) (args : List Value) → is_plain_call call ≡ true → AreKnown args
-      → CallGoes call shape args
-  plain_goes c.ThreadOf shape args h k = thread_of_goes shape args
-  plain_goes c.PhaseOf shape args h k = phase_of_goes shape args
-  plain_goes c.AddressField shape args h k = address_goes shape args
-  plain_goes c.AffinitySize shape args h k = affinity_goes shape args
-  plain_goes c.GlobalExit shape args h k = λ private. refl
-  plain_goes c.GlobalAlloc shape args h k = global_alloc_goes shape args
-  plain_goes c.Alloc shape args h k = alloc_goes shape args
-  plain_goes c.Free shape args h k = free_goes shape args k
-  plain_goes c.AllFree shape args h k = all_free_goes shape args k
-  plain_goes c.GlobalLockAlloc shape args h k = lock_alloc_goes shape args
-  plain_goes c.AllLockAlloc shape args h k = all_lock_alloc_goes shape args
-  plain_goes c.Lock shape args h k = lock_goes shape args k
-  plain_goes c.LockAttempt shape args h k = attempt_goes shape args k
-  plain_goes c.Unlock shape args h k = unlock_goes shape args k
-  plain_goes c.LockFree shape args h k = lock_free_goes shape args k
-  plain_goes c.AllLockFree shape args h k = all_lock_free_goes shape args k
-  plain_goes c.Memcpy shape args h k = memcpy_goes shape args k
-  plain_goes c.Memget shape args h k = memget_goes shape args k
-  plain_goes c.Memput shape args h k = memput_goes shape args k
-  plain_goes c.Memset shape args h k = memset_goes shape args k
-  plain_goes c.Printf shape args h k = λ private. refl
-  plain_goes call shape args h k = absurd (false≢true h)
+  pub call_goes : (call : LibraryCall) (shape : ℕ) (args : List Value) → is_formed o.shapes call shape args ≡ true
+      → AreKnown args → CallGoes call shape args
+  call_goes c.ThreadOf shape args h k = thread_of_goes shape args
+  call_goes c.PhaseOf shape args h k = phase_of_goes shape args
+  call_goes c.AddressField shape args h k = address_goes shape args
+  call_goes c.AffinitySize shape args h k = affinity_goes shape args
+  call_goes c.GlobalExit shape args h k = λ private. refl
+  call_goes c.GlobalAlloc shape args h k = global_alloc_goes shape args
+  call_goes c.AllAlloc shape args h k = all_alloc_goes shape args h
+  call_goes c.Alloc shape args h k = alloc_goes shape args
+  call_goes c.Free shape args h k = free_goes shape args k
+  call_goes c.AllFree shape args h k = all_free_goes shape args k
+  call_goes c.GlobalLockAlloc shape args h k = lock_alloc_goes shape args
+  call_goes c.AllLockAlloc shape args h k = all_lock_alloc_goes shape args
+  call_goes c.Lock shape args h k = lock_goes shape args k
+  call_goes c.LockAttempt shape args h k = attempt_goes shape args k
+  call_goes c.Unlock shape args h k = unlock_goes shape args k
+  call_goes c.LockFree shape args h k = lock_free_goes shape args k
+  call_goes c.AllLockFree shape args h k = all_lock_free_goes shape args k
+  call_goes c.Memcpy shape args h k = memcpy_goes shape args k
+  call_goes c.Memget shape args h k = memget_goes shape args k
+  call_goes c.Memput shape args h k = memput_goes shape args k
+  call_goes c.Memset shape args h k = memset_goes shape args k
+  call_goes c.Broadcast shape args h k = together_goes 5 args refl k h
+  call_goes c.Scatter shape args h k = together_goes 6 args refl k h
+  call_goes c.Gather shape args h k = together_goes 7 args refl k h
+  call_goes c.GatherAll shape args h k = together_goes 8 args refl k h
+  call_goes c.Exchange shape args h k = together_goes 9 args refl k h
+  call_goes c.Permute shape args h k = together_goes 10 args refl k h
+  call_goes (c.Reduce t) shape args h k = together_goes 11 (l.with_element t args) refl (element_known t args k) h
+  call_goes (c.PrefixReduce t) shape args h k =
+      together_goes 12 (l.with_element t args) refl (element_known t args k) h
+  call_goes c.Printf shape args h k = λ private. refl

@@ -42,12 +42,12 @@ use Rattle.stack_code.specs.Steps.{Spot, Conf, At, Halt, further, back, conf_of,
 use Rattle.stack_code.specs.Steps.{youngest, gives, leaves, pick, close_blocks, given_back, begun, stacked, made}
 use Rattle.stack_code.specs.Steps.{placed}
 use Rattle.stack_code.specs.Steps.{acted, jumped, kept_in, received, called, worked, act, step}
-use Rattle.code_actions.specs.Asking.{IsPlainWork, IsPlainOperation, IsPlain, PushesKnown, NamesKnown, IsDeclaredIn}
+use Rattle.code_actions.specs.Asking.{PushesKnown, NamesKnown, IsDeclaredIn}
 use Rattle.code_actions.proofs.KnownValues.{runner, Known, value_stays}
 use Rattle.code_actions.proofs.Doings.{Grown, Nothing, Asks, then_asks, give_asks, skip_asks, exit_asks}
 use Rattle.code_actions.proofs.Doings.{know_asks}
 use Rattle.code_actions.proofs.Primitives as p
-use Rattle.code_actions.proofs.Calls.{plain_goes}
+use Rattle.code_actions.proofs.Calls.{call_goes}
 
 -- ---- what code has come to, as what comes of a step of a thread
 
@@ -271,38 +271,38 @@ module _ (o : Opening) (es : List Entry) (v : IsOpening o) (legal : IsLegal o es
         leaves_asks o es Before there given operands calls (λ h. h.0) (λ h. h.1) _
         (p.close_asks o es v legal me budget Before)
 
-    acted_asks : (w : ThreadWork) (at : Place) (there : Spot) → IsPlainWork w
+    acted_asks : (w : ThreadWork) (at : Place) (there : Spot)
         → Going o es Before (acted τ w at operands (λ vs. At there given vs calls))
-    acted_asks (Notify mark) at there d =
+    acted_asks (Notify mark) at there =
         leaves_asks o es Before there given operands calls (λ h. h.0) (λ h. h.1) _
         (p.notify_asks o es v legal me budget Before at mark)
-    acted_asks (Wait mark) at there d =
+    acted_asks (Wait mark) at there =
         leaves_asks o es Before there given operands calls (λ h. h.0) (λ h. h.1) _
         (p.wait_asks o es v legal me budget Before at mark)
-    acted_asks NotifyValue at there d =
+    acted_asks NotifyValue at there =
         leaves_asks o es Before there given (rest operands) calls (λ h. h.0) (λ h. rest_known o es operands h.1) _
         (p.notify_asks o es v legal me budget Before at _)
-    acted_asks WaitValue at there d =
+    acted_asks WaitValue at there =
         leaves_asks o es Before there given (rest operands) calls (λ h. h.0) (λ h. rest_known o es operands h.1) _
         (p.wait_asks o es v legal me budget Before at _)
-    acted_asks Fence at there d =
+    acted_asks Fence at there =
         leaves_asks o es Before there given operands calls (λ h. h.0) (λ h. h.1) _
         (p.fence_asks o es v legal me budget Before)
-    acted_asks Control at there d =
+    acted_asks Control at there =
         leaves_asks o es Before there given operands calls (λ h. h.0) (λ h. h.1) _
         (p.control_asks o es v legal me budget Before)
-    acted_asks Release at there d =
+    acted_asks Release at there =
         leaves_asks o es Before there given operands calls (λ h. h.0) (λ h. h.1) _
         (p.release_asks o es v legal me budget Before)
-    acted_asks Mine at there d =
+    acted_asks Mine at there =
         gives_asks o es Before there given (rest operands) calls (λ h. h.0) (λ h. rest_known o es operands h.1) _
         (p.mine_asks o es v legal me budget Before at (top operands))
-    acted_asks (Library call shape n) at there d =
+    acted_asks (Library call shape n) at there =
         gives_asks o es Before there given (drop n operands) calls (λ h. h.0) (λ h. dropped_known o es n operands h.1) _
         (p.library_asks o es v legal me budget Before call shape at (youngest n operands)
-        (λ h. plain_goes o es v legal me budget one call shape (youngest n operands) d
+        (λ h f. call_goes o es v legal me budget one call shape (youngest n operands) f
         (youngest_known o es n operands h.1)))
-    acted_asks (Print format n) at there d =
+    acted_asks (Print format n) at there =
         gives_asks o es Before there given (drop n operands) calls (λ h. h.0) (λ h. dropped_known o es n operands h.1) _
         (p.print_asks o es v legal me budget Before _ (youngest n operands))
 
@@ -370,29 +370,28 @@ module _ (o : Opening) (es : List Entry) (v : IsOpening o) (legal : IsLegal o es
         (λ h. rest_known o es operands h.0.1))
     called_asks Quit at here = quit_asks o es (Before given operands calls) _
 
-    worked_asks : (w : Operation) (at : Place) (here : Spot) → NamesKnown o w → IsPlainOperation w
+    worked_asks : (w : Operation) (at : Place) (here : Spot) → NamesKnown o w
         → Going o es (Before given operands calls) (worked τ w at here given operands calls)
-    worked_asks (work.Stack w) at here d e =
+    worked_asks (work.Stack w) at here d =
         at_asks o es (Before given operands calls) (further 1 here) given (stacked τ w operands) calls (λ h. h.0)
         (λ h. stacked_known w operands d h.1)
-    worked_asks (work.Value w) at here d e = made_asks given operands calls w at (further 1 here)
-    worked_asks (work.Object w) at here d e = placed_asks given operands calls w at (further 1 here)
-    worked_asks (work.Way j) at here d e = jumped_asks given operands calls j here
-    worked_asks (work.Call w) at here d e = called_asks w at here
-    worked_asks (work.Thread w) at here d e = acted_asks given operands calls w at (further 1 here) e
+    worked_asks (work.Value w) at here d = made_asks given operands calls w at (further 1 here)
+    worked_asks (work.Object w) at here d = placed_asks given operands calls w at (further 1 here)
+    worked_asks (work.Way j) at here d = jumped_asks given operands calls j here
+    worked_asks (work.Call w) at here d = called_asks w at here
+    worked_asks (work.Thread w) at here d = acted_asks given operands calls w at (further 1 here)
 
-    act_asks : (i : Option Instr) (here : Spot) → IfSome i (IsDeclaredIn o) → IfSome i IsPlain
+    act_asks : (i : Option Instr) (here : Spot) → IfSome i (IsDeclaredIn o)
         → Going o es (Before given operands calls) (act τ i here given operands calls)
-    act_asks (Some i) here d e = worked_asks i.does i.place here d e
-    act_asks None here d e =
+    act_asks (Some i) here d = worked_asks i.does i.place here d
+    act_asks None here d =
         returns_asks (Before given operands calls) (number (pos 0)) operands calls (λ h. refl) (λ h. h.1)
 
-  module _ (functions : List (List Instr)) (declared : Each (Each (IsDeclaredIn o)) functions)
-      (plain : Each (Each IsPlain) functions) where
+  module _ (functions : List (List Instr)) (declared : Each (Each (IsDeclaredIn o)) functions) where
     -- One instruction.
     pub step_asks : (here : Spot) (given operands : List Value) (calls : List Spot)
         → Going o es (AllKnown o es given × AllKnown o es operands)
         (λ σ. step τ functions (At here given operands calls σ))
     step_asks here given operands calls =
         act_asks given operands calls (slice_get (function_at functions here.function) here.place) here
-        (found (IsDeclaredIn o) functions here declared) (found IsPlain functions here plain)
+        (found (IsDeclaredIn o) functions here declared)

@@ -5,6 +5,7 @@ pub mod Stores
 pub mod Doings
 pub mod Primitives
 pub mod MemoryCalls
+pub mod Collectives
 pub mod Calls
 pub mod Instructions
 pub mod Asking

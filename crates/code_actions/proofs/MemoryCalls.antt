@@ -38,7 +38,7 @@ use Rattle.upc_values.proofs.Membership.{each-weaker}
 use Rattle.thread_steps.specs.Values.{scalar_of}
 use Rattle.code_actions.specs.Asking.{names}
 use Rattle.code_actions.proofs.KnownValues.{Known, pointer_names, scalar_known}
-use Rattle.code_actions.proofs.SharedCells.{kind_is, cell_behind, shared_kind}
+use Rattle.code_actions.proofs.SharedCells.{kind_is, not_false, cell_behind, shared_kind}
 use Rattle.code_actions.proofs.Doings.{Nothing}
 use Rattle.code_actions.proofs.Primitives as p
 
@@ -71,13 +71,9 @@ converted_in k w =
 
 -- ---- cells in a range of bytes
 
-neither : (a b : Bool) → (a || b) ≡ false → (a ≡ false) × (b ≡ false)
+pub neither : (a b : Bool) → (a || b) ≡ false → (a ≡ false) × (b ≡ false)
 neither true b h = absurd (false≢true (sym h))
 neither false b h = (refl, h)
-
-not_false : (b : Bool) → not b ≡ false → b ≡ true
-not_false true h = refl
-not_false false h = absurd (false≢true (sym h))
 
 range_below : (a m n : ℕ) → a + m ≤ n → Each (λ i. i < n) (range_with_len a m)
 range_below a zero n le = tt
@@ -105,7 +101,7 @@ cells_are s x n = cells_from s x n (range_with_len 0 n) (range_below 0 n n (omeg
 same_cell : (c d : ℕ × Kind) → c.0 ≡ d.0 → c.1 ≡ d.1 → c ≡ d
 same_cell c d e f = λ i. (e i, f i)
 
-cells_same : (cs ds : List (ℕ × Kind)) → same_cells cs ds ≡ true → cs ≡ ds
+pub cells_same : (cs ds : List (ℕ × Kind)) → same_cells cs ds ≡ true → cs ≡ ds
 cells_same [] [] h = refl
 cells_same [] (d ∷ ds) h = absurd (false≢true h)
 cells_same (c ∷ cs) [] h = absurd (false≢true h)
@@ -170,7 +166,7 @@ module _ (o : Opening) (es : List Entry) (v : IsOpening o) (legal : IsLegal o es
   refused_goes V (t ∷ tests) e g =
       unless_goes V t.0 t.1 (refused_by tests e) (λ h. refused_goes V tests e (λ hs. g (h, hs)))
 
-  unrefused : (r : Reply) → Goes Nothing (unless_refused r)
+  pub unrefused : (r : Reply) → Goes Nothing (unless_refused r)
   unrefused reply.Done = tt
   unrefused (reply.Value w) = tt
   unrefused (reply.Flag b) = tt
@@ -236,11 +232,22 @@ module _ (o : Opening) (es : List Entry) (v : IsOpening o) (legal : IsLegal o es
     copied_goes dst (In_private object offset) c t u =
         λ w h. written_goes dst c (scalar_of w) t (scalar_known o es w h.known) (λ e. loaded_fits w c.1 h.fits e)
 
+    -- So does the copy of the cells of two known areas that are the same.
+    pub copy_cells_goes : (n : ℕ) (dst src : Area) → IsKnownArea dst → IsKnownArea src
+        → m.leaves_shared o.threads o.shapes private n dst ≡ false
+        → m.leaves_shared o.threads o.shapes private n src ≡ false → cells n dst ≡ cells n src
+        → Goes Nothing (each_in_turn (m.copied o.threads o.shapes private dst src) (cells n dst))
+    copy_cells_goes n dst src hd hs into from equal =
+        let f = m.copied o.threads o.shapes private dst src in
+        each_goes f (cells n dst)
+        (each_both (IsThere dst) (IsThere src) (λ c. Goes Nothing (f c)) (λ c t u. copied_goes dst src c t u)
+        (cells n dst)
+        (cells_there n dst hd into) (subst (Each (IsThere src)) (sym equal) (cells_there n src hs from)))
+
     -- A copy from a known area to a known one goes well.
     pub copy_goes : (dst src : Area) (n : ℕ) → IsKnownArea dst → IsKnownArea src
         → Goes Nothing (m.copy o.threads o.shapes private dst src n)
     copy_goes dst src n hd hs =
-        let f = m.copied o.threads o.shapes private dst src in
         let leaves = m.leaves_shared o.threads o.shapes private n in
         let gone = m.leaves_private o.threads o.shapes private n in
         let cut = m.is_cut o.threads o.shapes private n in
@@ -251,17 +258,13 @@ module _ (o : Opening) (es : List Entry) (v : IsOpening o) (legal : IsLegal o es
         ∷ (gone dst || gone src, PRIVATE_RANGE)
         ∷ (cut dst || (cut src || not same), CELL_TYPE)
         ∷ [] in
-        let go = each_in_turn f (cells n dst) in
+        let go = each_in_turn (m.copied o.threads o.shapes private dst src) (cells n dst) in
         cond_goes Nothing (n == 0) nothing (refused_by tests go) tt (λ some.
         refused_goes Nothing tests go (λ h.
         let room = neither (leaves dst) (leaves src) h.1.0 in
         let after = (neither (cut dst) (cut src || not same) h.1.1.1.0).1 in
         let differ = (neither (cut src) (not same) after).1 in
-        let equal = cells_same (cells n dst) (cells n src) (not_false same differ) in
-        each_goes f (cells n dst)
-        (each_both (IsThere dst) (IsThere src) (λ c. Goes Nothing (f c)) (λ c t u. copied_goes dst src c t u)
-        (cells n dst)
-        (cells_there n dst hd room.0) (subst (Each (IsThere src)) (sym equal) (cells_there n src hs room.1)))))
+        copy_cells_goes n dst src hd hs room.0 room.1 (cells_same (cells n dst) (cells n src) (not_false same differ))))
 
     filled_fits : (b : ℕ) (k : Kind) → is_integer k ≡ true → fits_kind (filled b k) k ≡ true
     filled_fits b k h =

@@ -461,13 +461,21 @@ module _ (op : Opening) (es : List Entry) (v : IsOpening op) (legal : IsLegal op
       (λ q. h (f q.0) private)) (λ w.
       give_asks op es Value ((Q × Unit {0}) × IsKnownScalar w) IsKnown (value.Scalar w) (λ q. q.1))))
 
+  formed_asks : (P : Type 0) (call : LibraryCall) (shape : ℕ) (at : Place) (args : List Value)
+      → (P → l.is_formed op.shapes call shape args ≡ true → CallGoesWell call shape args) → (b : Bool)
+      → l.is_formed op.shapes call shape args ≡ b
+      → Asks op es Value P IsKnown (choose b (l.called τ call shape at args) (give (number (pos 0))))
+  formed_asks P call shape at args h true e = called_asks P call shape at args (λ q. h q e)
+  formed_asks P call shape at args h false e = give_asks op es Value P IsKnown (number (pos 0)) (λ q. refl)
+
   pub library_asks : (P : Type 0) (call : LibraryCall) (shape : ℕ) (at : Place) (args : List Value)
-      → (P → CallGoesWell call shape args) → Asks op es Value P IsKnown (l.library τ call shape at args)
+      → (P → l.is_formed op.shapes call shape args ≡ true → CallGoesWell call shape args)
+      → Asks op es Value P IsKnown (l.library τ call shape at args)
   unfolding l.library
   library_asks P call shape at args h =
       choose_asks op es Value P IsKnown (l.is_exit call) (a.exit τ (l.first_number args))
-      (l.called τ call shape at args) (leave_asks Value P IsKnown (l.first_number args))
-      (called_asks P call shape at args h)
+      (l.formed_call τ call shape at args) (leave_asks Value P IsKnown (l.first_number args))
+      (formed_asks P call shape at args h (l.is_formed op.shapes call shape args) refl)
 
   pub print_asks : (P : Type 0) (format : List ℕ) (args : List Value)
       → Asks op es Value P IsKnown (l.print τ format args)

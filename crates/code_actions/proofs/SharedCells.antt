@@ -55,7 +55,7 @@ kind_is kind.Lock kind.Lock h = refl
 kind_is (kind.Private n) (kind.Private m) h = ap kind.Private (eqb-true n m h)
 kind_is k l h = absurd cc
 
-some_bytes : (k : Kind) → 1 ≤ kind_size k
+pub some_bytes : (k : Kind) → 1 ≤ kind_size k
 some_bytes kind.Char = omega arith
 some_bytes kind.UChar = omega arith
 some_bytes kind.Short = omega arith
@@ -132,7 +132,7 @@ lies_before (pos n) width piece i h lt =
     lt-ltb (n + i) piece below
 lies_before (negsuc n) width piece i h lt = absurd (false≢true h)
 
-not_false : (b : Bool) → not b ≡ false → b ≡ true
+pub not_false : (b : Bool) → not b ≡ false → b ≡ true
 not_false true h = refl
 not_false false h = absurd (false≢true (sym h))
 

@@ -1,5 +1,5 @@
 -- What code may name, and what it is to ask well.
-use Rattle.std.specs.Prelude.{ℕ, ℤ, ◌≡◌, ◌<◌, ◌≤◌, nat_lt, Bool, true, false, ◌&&◌, List, [], ◌∷◌, ◌++◌}
+use Rattle.std.specs.Prelude.{ℕ, ℤ, ◌≡◌, ◌<◌, ◌≤◌, nat_lt, Bool, true, ◌&&◌, List, [], ◌∷◌, ◌++◌}
 use Rattle.std.specs.List.{list_any}
 use Rattle.block_layout.specs.declared.place.ObjectRef.{ObjectRef}
 use Rattle.block_layout.specs.declared.place.LocalPtr.TheVariants as local
@@ -11,10 +11,6 @@ use Rattle.upc_values.specs.declared.action.Action.{Action}
 use Rattle.upc_values.specs.declared.action.Reply.{Reply}
 use Rattle.upc_values.specs.declared.record.ToldEnd.TheVariants.{Wants}
 use Rattle.upc_values.specs.declared.journal.Entry.{Entry}
-use Rattle.upc_values.specs.declared.library.LibraryCall.{LibraryCall}
-use Rattle.upc_values.specs.declared.library.LibraryCall.TheVariants.{AllAlloc, Broadcast, Scatter, Gather}
-use Rattle.upc_values.specs.declared.library.LibraryCall.TheVariants.{GatherAll, Exchange, Permute, Reduce}
-use Rattle.upc_values.specs.declared.library.LibraryCall.TheVariants.{PrefixReduce}
 use Rattle.upc_values.specs.Lists.{Each}
 use Rattle.upc_values.specs.Openings.{Opening, IsOpening}
 use Rattle.upc_values.specs.History.{objects}
@@ -23,8 +19,6 @@ use Rattle.upc_values.specs.Known.{HasGiven}
 use Rattle.upc_values.specs.Outcomes.{Outcome}
 use Rattle.stack_code.specs.declared.instruction.StackWork.{StackWork}
 use Rattle.stack_code.specs.declared.instruction.StackWork.TheVariants.{Push}
-use Rattle.stack_code.specs.declared.instruction.ThreadWork.{ThreadWork}
-use Rattle.stack_code.specs.declared.instruction.ThreadWork.TheVariants.{Library}
 use Rattle.stack_code.specs.declared.instruction.Operation.{Operation}
 use Rattle.stack_code.specs.declared.instruction.Operation.TheVariants as work
 use Rattle.stack_code.specs.declared.instruction.Instr.{Instr}
@@ -49,34 +43,6 @@ IsKnownValue o before (value.Local p) = Unit {0}
 
 -- ---- code
 
--- A call of the library that needs no more than that its arguments are known: each but upc_all_alloc and the calls of
--- UPC 7.3, whose arguments must be values of their parameters' types.
-abbrev pub is_plain_call : LibraryCall → Bool
-is_plain_call AllAlloc = false
-is_plain_call Broadcast = false
-is_plain_call Scatter = false
-is_plain_call Gather = false
-is_plain_call GatherAll = false
-is_plain_call Exchange = false
-is_plain_call Permute = false
-is_plain_call (Reduce kind) = false
-is_plain_call (PrefixReduce kind) = false
-is_plain_call call = true
-
--- Work among the other threads that is no call of the library, or such a call.
-abbrev pub IsPlainWork : ThreadWork → Type 0
-IsPlainWork (Library call shape n) = is_plain_call call ≡ true
-IsPlainWork w = Unit {0}
-
--- So of an operation.
-abbrev pub IsPlainOperation : Operation → Type 0
-IsPlainOperation (work.Thread w) = IsPlainWork w
-IsPlainOperation w = Unit {0}
-
--- So of an instruction.
-abbrev pub IsPlain : Instr → Type 0
-IsPlain i = IsPlainOperation i.does
-
 -- Work on the stack that pushes no value, or one that is known before any action.
 abbrev pub PushesKnown : Opening → StackWork → Type 0
 PushesKnown o (Push v) = IsKnownValue o [] v
@@ -91,13 +57,12 @@ NamesKnown o w = Unit {0}
 abbrev pub IsDeclaredIn : Opening → Instr → Type 0
 IsDeclaredIn o i = NamesKnown o i.does
 
--- Code that names nothing but what an opening declares, and calls the library plainly.
+-- Code that names nothing but what an opening declares.
 pub record NamesDeclared (o : Opening) (codes : Codes) : Type 0 where
   pub threads : codes.threads ≡ o.threads
   pub shapes : codes.shapes ≡ o.shapes
   pub pushed : Each (Each (IsDeclaredIn o)) codes.functions
   pub initials : Each (λ x. IsKnownValue o [] x.1) codes.private_initials
-  pub plain : Each (Each IsPlain) codes.functions
 
 -- What a thread of such code means on each list of replies.
 pub record IsThreadOf (o : Opening) (codes : Codes) (thread budget : ℕ) (f : List Reply → Outcome) : Type 0 where

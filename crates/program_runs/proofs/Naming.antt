@@ -1,4 +1,4 @@
--- The code of a program that runs today names nothing but what the program begins with.
+-- The code of a program names nothing but what the program begins with.
 use Rattle.std.proofs.Common.{◌≡◌, ℕ, zero, suc, nat_lt, pos, true, List, [], ◌∷◌, map}
 use Rattle.std.proofs.Common.{Option, Some, None, refl, sym, subst, append-nil, arith, lt-ltb, le-leb}
 use Rattle.std.proofs.Common.{eqb-true}
@@ -11,8 +11,6 @@ use Rattle.block_layout.specs.declared.place.SharedPtr.{SharedPtr}
 use Rattle.block_layout.specs.Places.{in_range}
 use Rattle.block_layout.specs.Pointers.{is_null, same_object}
 use Rattle.block_layout.proofs.Pointers.{same_object-refl}
-use Rattle.upc_values.specs.declared.library.LibraryCall.{LibraryCall}
-use Rattle.upc_values.specs.declared.library.LibraryCall.TheVariants as c
 use Rattle.upc_values.specs.declared.scalar.Scalar.{Scalar}
 use Rattle.upc_values.specs.declared.scalar.Scalar.TheVariants as scalar
 use Rattle.upc_values.specs.declared.scalar.Value.{Value}
@@ -28,17 +26,12 @@ use Rattle.typed_tree.specs.Programs.{Checked, start_of}
 use Rattle.source_meaning.specs.Laws.{opening_of}
 use Rattle.source_meaning.specs.Running.{start_in}
 use Rattle.stack_code.specs.declared.instruction.StackWork.TheVariants as stack
-use Rattle.stack_code.specs.declared.instruction.ThreadWork.{ThreadWork}
-use Rattle.stack_code.specs.declared.instruction.ThreadWork.TheVariants.{Notify, Wait, NotifyValue, WaitValue, Fence}
-use Rattle.stack_code.specs.declared.instruction.ThreadWork.TheVariants.{Control, Release, Mine, Library, Print}
 use Rattle.stack_code.specs.declared.instruction.Operation.{Operation}
 use Rattle.stack_code.specs.declared.instruction.Operation.TheVariants as work
 use Rattle.gen_stmt.specs.Programs.{source, program_code}
 use Rattle.gen_stmt.specs.Pushes.{Pushes, IsPushed, integer, private as private_place, shared, blank, PushesOnly}
-use Rattle.code_actions.specs.Asking.{IsKnownValue, is_plain_call, IsPlainWork, IsPlainOperation, IsPlain, NamesKnown}
-use Rattle.code_actions.specs.Asking.{IsDeclaredIn, NamesDeclared}
+use Rattle.code_actions.specs.Asking.{IsKnownValue, NamesKnown, IsDeclaredIn, NamesDeclared}
 use Rattle.code_actions.proofs.KnownValues.{blank_value_known}
-use Rattle.program_runs.specs.Served.{is_served_call, is_served_work, is_served, RunsToday}
 
 pub each_map : {X : Type 0} (P Q : X → Type 0) → ((x : X) → P x → Q x) → (xs : List X) → Each P xs → Each Q xs
 each_map P Q f [] h = tt
@@ -120,48 +113,16 @@ module _ (program : Checked) (opens : IsOpening (opening_of program)) where
   work_known (work.Call w) h = tt
   work_known (work.Thread w) h = tt
 
--- ---- what code calls
-
-plain_call : (call : LibraryCall) → is_served_call call ≡ true → is_plain_call call ≡ true
-plain_call c.ThreadOf h = refl
-plain_call c.PhaseOf h = refl
-plain_call c.AddressField h = refl
-plain_call c.AffinitySize h = refl
-plain_call call h = absurd (false≢true h)
-
-plain_work : (w : ThreadWork) → is_served_work w ≡ true → IsPlainWork w
-plain_work (Notify mark) h = tt
-plain_work (Wait mark) h = tt
-plain_work NotifyValue h = tt
-plain_work WaitValue h = tt
-plain_work Fence h = tt
-plain_work Control h = tt
-plain_work Release h = tt
-plain_work Mine h = tt
-plain_work (Library call shape n) h = plain_call call h
-plain_work (Print format n) h = tt
-
-plain_operation : (w : Operation) → is_served w ≡ true → IsPlainOperation w
-plain_operation (work.Thread w) h = plain_work w h
-plain_operation (work.Stack w) h = tt
-plain_operation (work.Value w) h = tt
-plain_operation (work.Object w) h = tt
-plain_operation (work.Way w) h = tt
-plain_operation (work.Call w) h = tt
-
 -- ---- the whole
 
 pub names_declared : (program : Checked) → IsOpening (opening_of program)
     → Each (λ x. IsKnownValue (opening_of program) [] x.1) (start_of program).private_initials → PushesOnly program
-    → RunsToday program → NamesDeclared (opening_of program) (program_code program)
-names_declared program opens initials pushes runs = record {
+    → NamesDeclared (opening_of program) (program_code program)
+names_declared program opens initials pushes = record {
   threads = refl;
   shapes = refl;
   pushed = each_map (Each (λ i. Pushes (IsPushed (source program)) i.does)) (Each (IsDeclaredIn (opening_of program)))
       (λ code. each_map (λ i. Pushes (IsPushed (source program)) i.does) (IsDeclaredIn (opening_of program))
       (λ i. work_known program opens i.does) code) (program_code program).functions pushes;
   initials = initials;
-  plain = each_map (Each (λ i. is_served i.does ≡ true)) (Each IsPlain)
-      (λ code. each_map (λ i. is_served i.does ≡ true) IsPlain (λ i. plain_operation i.does) code)
-      (program_code program).functions runs;
 }

@@ -44,7 +44,7 @@ module _ (program : Checked) (opens : IsOpening (opening_of program))
         (record {
           opening = opens;
           code = code;
-          declared = names_declared program opens initials (program_pushes program) runs;
+          declared = names_declared program opens initials (program_pushes program);
           number = within;
           ticks = some;
           means = has_outcome thread budget some;

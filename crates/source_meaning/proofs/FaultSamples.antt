@@ -18,7 +18,7 @@ use Rattle.upc_values.specs.Outcomes.{Outcome}
 use Rattle.upc_types.specs.declared.ctype.Access.TheVariants.{Unsaid}
 use Rattle.upc_types.specs.Types.{CType, Qualified, Integer, Pointer}
 use Rattle.typing_rules.specs.Library.{void, size_type, lock_pointer}
-use Rattle.typed_tree.specs.declared.tree.Synchronises.TheVariants.{Barrier}
+use Rattle.typed_tree.specs.declared.tree.Synchronises.TheVariants.{Wait, Barrier}
 use Rattle.typed_tree.specs.Tree.{Expr, Statement, Stands, Synchronise}
 use Rattle.typed_tree.specs.Programs.{Checked}
 use Rattle.thread_steps.specs.States.{Over}
@@ -80,6 +80,16 @@ unequal-faults :
     ≡ outcome (begins ++ act.Notify (Given (pos 1)) ∷ act.Wait (Given (pos 1)) ∷ []) 0 (told.Fault 11 (column 16))
 unfolding thread_outcome most_calls ask notify wait begin_call open_block
 unequal-faults = refl
+
+-- `int main(void){upc_wait;return 0;}`: there was no notify.
+abbrev waiting : Checked
+waiting =
+    program 1 []
+    (main (block [] (Stands (column 16) (Synchronise Wait None) ∷ gives (num (pos 0)) ∷ [])) ∷ [])
+
+waits-alone : thread_outcome waiting 0 100 (done 4) ≡ outcome begins 0 (told.Fault 10 (column 16))
+unfolding thread_outcome most_calls ask notify wait begin_call open_block
+waits-alone = refl
 
 -- ---- private objects
 

@@ -9,3 +9,4 @@ pub mod Framed
 pub mod InTurn
 pub mod Beats
 pub mod Going
+pub mod Forming

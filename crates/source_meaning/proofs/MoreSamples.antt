@@ -1,14 +1,19 @@
 -- Further worked examples: operators, loops, pointers and the library.
-use Rattle.std.specs.Prelude.{ℤ, pos, ◌≡◌, false, [], ◌∷◌, ◌++◌, Some, None, codes}
+use Rattle.std.specs.Prelude.{ℕ, ℤ, pos, ◌≡◌, false, List, [], ◌∷◌, ◌++◌, Some, None, codes}
 use Rattle.std.proofs.Common.{refl}
 use Rattle.block_layout.specs.declared.place.SharedPtr.{SharedPtr}
 use Rattle.block_layout.specs.declared.kind.Kind.TheVariants as kind
 use Rattle.integers.specs.declared.operator.BinOp.TheVariants as op
+use Rattle.upc_values.specs.declared.scalar.Scalar.{Scalar}
 use Rattle.upc_values.specs.declared.scalar.Scalar.TheVariants as scalar
 use Rattle.upc_values.specs.declared.scalar.Scalar.TheVariants.{Int}
+use Rattle.upc_values.specs.declared.scalar.Mark.TheVariants.{Absent}
+use Rattle.upc_values.specs.declared.action.Action.{Action}
 use Rattle.upc_values.specs.declared.action.Action.TheVariants as act
 use Rattle.upc_values.specs.declared.action.Reply.TheVariants.{Value}
-use Rattle.upc_values.specs.declared.library.LibraryCall.TheVariants.{Alloc, AllLockAlloc, Lock, GlobalExit, ThreadOf}
+use Rattle.upc_values.specs.declared.library.LibraryCall.TheVariants.{Alloc, AllAlloc, AllLockAlloc, Lock, GlobalExit}
+use Rattle.upc_values.specs.declared.library.LibraryCall.TheVariants.{Reduce, ThreadOf}
+use Rattle.upc_values.specs.declared.library.ElementKind.TheVariants as element_kind
 use Rattle.upc_values.specs.declared.record.ToldEnd.TheVariants as told
 use Rattle.upc_types.specs.declared.ctype.Access.TheVariants.{Unsaid}
 use Rattle.upc_types.specs.Types.{CType, Qualified, Integer, Struct, Pointer, Structs}
@@ -30,10 +35,10 @@ use Rattle.source_meaning.specs.Threads.{thread_outcome, most_calls}
 use Rattle.source_meaning.proofs.Trees.{num, local, home_of, object_at, shared, set, grown, operation, element}
 use Rattle.source_meaning.proofs.Trees.{cast_into, address_of, behind_pointer, facts, stands, with_structs}
 use Rattle.source_meaning.proofs.Trees.{compound, choice, comma, call_library, exprs, blocked_ints, pointer_to_shared}
-use Rattle.source_meaning.proofs.Trees.{int_object, object_with, shared_object, block, does, gives, do_while}
-use Rattle.source_meaning.proofs.Trees.{for_loop, goes_on}
+use Rattle.source_meaning.proofs.Trees.{shared_int, int_object, object_with, shared_object, block, does, gives}
+use Rattle.source_meaning.proofs.Trees.{do_while, for_loop, goes_on}
 use Rattle.source_meaning.proofs.Trees.{leaves, if_so, head_of, for_all, program, main, here}
-use Rattle.source_meaning.proofs.Samples.{outcome, begins, ends, done, comes_to}
+use Rattle.source_meaning.proofs.Samples.{outcome, begins, ends, done, at_object, comes_to}
 
 -- ---- operators
 
@@ -193,6 +198,31 @@ unfolding thread_outcome most_calls ask notify wait begin_call end_call open_blo
     local_object cast load save library run
 allocates-on-its-thread = refl
 
+-- `int main(void){shared [] int *p = upc_all_alloc(1, 8); return upc_threadof(p);}` on two threads: all threads meet
+-- with the two sizes and the number of the shape of an int.
+abbrev meets_for_ints : Checked
+meets_for_ints =
+    program 2 []
+    (main
+    (block (object_with pointer 0 (call_library AllAlloc pointer (exprs (num (pos 1) ∷ num (pos 8) ∷ []))) ∷ [])
+    (gives (call_library ThreadOf size_type (exprs (object_at here pointer (home_of 0) ∷ []))) ∷ []))
+    ∷ [])
+
+abbrev met : SharedPtr
+met = record {
+  object = record { number = 1; total = 8; block = 8; home = 0; shape = 0; base = 0 };
+  thread = 0;
+  phase = 0;
+  offset = pos 0;
+}
+
+allocates-by-meeting :
+    thread_outcome meets_for_ints 1 100 (done 2 ++ Value (scalar.Shared met) ∷ done 2)
+    ≡ outcome (begins ++ act.Meet 1 (Int (pos 1) ∷ Int (pos 8) ∷ Int (pos 0) ∷ []) ∷ ends) 0 (told.Ended (pos 0))
+unfolding thread_outcome most_calls ask notify wait begin_call end_call open_block close_block
+    local_object cast load save library run meet
+allocates-by-meeting = refl
+
 -- `int main(void){int i; upc_forall (i = 0; i < 1; i++; 0) upc_all_lock_alloc(); return 0;}`: a collective call in a
 -- controlling body
 abbrev meets : Checked
@@ -209,6 +239,48 @@ meets-faults : thread_outcome meets 0 100 (done 4) ≡ outcome begins 1 (told.Fa
 unfolding thread_outcome most_calls ask notify wait begin_call open_block
     local_object tick control mine operate cast load save library meet
 meets-faults = refl
+
+-- `shared int x, y; int main(void){upc_all_reduceI(&y, &x, UPC_ADD, 1, 0, 0, 0);return 0;}`: all threads meet, with 4
+-- for the elements' type, and between two barriers the thread of y reads x and writes y.
+abbrev reduces : Checked
+reduces =
+    program 1 (shared_object shared_int 1 ∷ shared_object shared_int 2 ∷ [])
+    (main
+    (block []
+    (does
+    (call_library (Reduce element_kind.Int) void
+    (exprs
+    (address_of (shared shared_int 2) ∷ address_of (shared shared_int 1) ∷ num (pos 1) ∷ num (pos 1) ∷ num (pos 0)
+    ∷ num (pos 0) ∷ num (pos 0) ∷ [])))
+    ∷ gives (num (pos 0)) ∷ []))
+    ∷ [])
+
+-- The place of a shared int of the file with this number, behind so many bytes of others.
+abbrev placed_int : (number base : ℕ) → SharedPtr
+placed_int number base = record {
+  object = record { number = number; total = 4; block = 4; home = 0; shape = 0; base = base };
+  thread = 0;
+  phase = 0;
+  offset = pos 0;
+}
+
+abbrev reduction_with : List Scalar
+reduction_with =
+    scalar.Shared (placed_int 2 4) ∷ scalar.Shared (placed_int 1 0) ∷ Int (pos 1) ∷ Int (pos 1) ∷ Int (pos 0)
+    ∷ Int (pos 4) ∷ Int (pos 0) ∷ []
+
+abbrev all_at_once : List Action
+all_at_once = act.Notify Absent ∷ act.Wait Absent ∷ []
+
+reduces-one :
+    thread_outcome reduces 0 100 (done 5 ++ Value (Int (pos 7)) ∷ done 5)
+    ≡ outcome
+    (begins ++ act.Meet 11 reduction_with ∷ all_at_once
+    ++ act.Read (at_object 1 0) false ∷ act.Write (at_object 2 0) (Int (pos 7)) false ∷ all_at_once ++ ends) 0
+    (told.Ended (pos 0))
+unfolding thread_outcome most_calls ask notify wait begin_call end_call open_block close_block
+    cast library run meet
+reduces-one = refl
 
 -- ---- members
 

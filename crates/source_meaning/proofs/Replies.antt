@@ -1,12 +1,14 @@
 -- A thread takes its replies in order.
 use Rattle.std.proofs.Common.{◌≡◌, ℕ, zero, suc, ◌<◌, ◌≤◌, ℤ, List, [], ◌∷◌, ◌++◌, length, Option, Some, None}
-use Rattle.std.proofs.Common.{refl, sym, ◌∙◌, ap, subst, arith, ◌⊎◌, inl, inr}
+use Rattle.std.proofs.Common.{Bool, true, false, refl, sym, ◌∙◌, ap, subst, arith, ◌⊎◌, inl, inr}
+use Rattle.std.proofs.lemmas.List.{length-append, length_push}
 use Rattle.block_layout.specs.declared.kind.Kind.{Kind}
 use Rattle.upc_values.specs.declared.action.Action.{Action}
 use Rattle.upc_values.specs.declared.action.Reply.{Reply}
 use Rattle.upc_values.specs.declared.record.ToldEnd.{ToldEnd}
 use Rattle.upc_values.specs.declared.record.ToldEnd.TheVariants.{Wants, Misfit, Ended, Exit, Fault, OutOfTicks}
 use Rattle.upc_values.specs.Outcomes.{Outcome, wanted}
+use Rattle.upc_values.specs.Formed.{fits}
 use Rattle.typed_tree.specs.Programs.{Checked, start_of}
 use Rattle.thread_steps.specs.States.{Thread, State, Res, Val, Over, Unfinished}
 use Rattle.thread_steps.specs.Fronts.{Begins}
@@ -14,7 +16,7 @@ use Rattle.thread_steps.proofs.Depths.{depth}
 use Rattle.thread_steps.proofs.Following as f
 use Rattle.source_meaning.specs.Running.{Running, running}
 use Rattle.source_meaning.specs.Threads.{course, initial_state, thread_outcome, outcome_of}
-use Rattle.source_meaning.specs.Laws.{IsFinished, IsSettled, IsAnswered, IsLast, TakesReplies, AllTakeReplies}
+use Rattle.source_meaning.specs.Laws.{IsFinished, IsSettled, IsAnswered, IsUnfit, TakesReplies, AllTakeReplies}
 use Rattle.source_meaning.proofs.Kept.{course_kept}
 use Rattle.source_meaning.proofs.Finished.{begun_depth, is_total}
 
@@ -127,6 +129,17 @@ module _ (τ : Thread) (σ : State) (none : σ.actions ≡ []) where
 
 -- ---- the replies before one that does not fit
 
+-- A reply behind which no further action is done did not fit.
+unfit_by : (b : Bool) (a : Action) (before after : List Action) → length after ≡ length before
+    → (b ≡ true → Begins (before ++ a ∷ []) after) → b ≡ false
+unfit_by false a before after e f = refl
+unfit_by true a before after e f =
+    let g = f refl in
+    let n = ap length g.1 in
+    let m = length-append (before ++ a ∷ []) g.0 in
+    let l = length_push before a in
+    absurd (omega arith)
+
 -- What an end wants, or that it is settled.
 wants_or_settled : (e : ToldEnd) → ((a : Action) × (e ≡ Wants a)) ⊎ IsSettled e
 wants_or_settled (Wants a) = inl (a, refl)
@@ -195,19 +208,37 @@ all_take_replies program = record { each = λ thread budget some. of thread budg
         stays rs x xs s = stays_in τ (σ rs) refl (r rs) (λ y ys. r (rs ++ y ∷ ys)) x xs (goes thread budget rs)
             (finished rs) s
 
-        misfits : (rs : List Reply) (k : ℕ) → (outcome_of (r rs)).«end» ≡ Misfit k → IsLast (λ l. outcome_of (r l)) rs k
+        misfits : (rs : List Reply) (k : ℕ) → (outcome_of (r rs)).«end» ≡ Misfit k
+            → IsUnfit τ (λ l. outcome_of (r l)) rs k
         misfits rs k e =
             let m = misfit_in τ (σ rs) refl (r rs) k (goes thread budget rs).grown e in
             let t = split_at k rs m.1 in
-            by_end t.0 t.1 t.2 t.3 t.4 (wants_or_settled (outcome_of (r t.0)).«end»)
+            by_end m.0 t.0 t.1 t.2 t.3 t.4 (wants_or_settled (outcome_of (r t.0)).«end»)
           where
-            by_end : (front : List Reply) (x : Reply) (more : List Reply) → rs ≡ front ++ x ∷ more
-                → length front ≡ k
+            by_end : length (outcome_of (r rs)).actions ≡ k → (front : List Reply) (x : Reply) (more : List Reply)
+                → rs ≡ front ++ x ∷ more → length front ≡ k
                 → ((a : Action) × ((outcome_of (r front)).«end» ≡ Wants a)) ⊎ IsSettled (outcome_of (r front)).«end»
-                → IsLast (λ l. outcome_of (r l)) rs k
-            by_end front x more is place (inl w) =
-                record { front = front; reply = x; more = more; is = is; place = place; action = w.0; wanted = w.1 }
-            by_end front x more is place (inr s) =
+                → IsUnfit τ (λ l. outcome_of (r l)) rs k
+            by_end many front x more is place (inl w) =
+                let i = wanted front w.0 w.1 in
+                let there = subst (λ l. length (outcome_of (r l)).actions ≡ k) is many in
+                let count = i.count in
+                record {
+                  front = front;
+                  reply = x;
+                  more = more;
+                  is = is;
+                  place = place;
+                  action = w.0;
+                  wanted = w.1;
+                  kind = i.kind;
+                  answered = λ y ys.
+                      subst (λ j. IsAnswered τ i.kind w.0 y (outcome_of (r front)) j (outcome_of (r (front ++ y ∷ ys))))
+                      place (i.answered y ys);
+                  unfit = unfit_by (fits τ.threads τ.shapes i.kind w.0 x) w.0 (outcome_of (r front)).actions
+                      (outcome_of (r (front ++ x ∷ more))).actions (omega arith) (i.answered x more).done;
+                }
+            by_end many front x more is place (inr s) =
                 let same = stays front x more s in
                 let there = subst (λ l. (outcome_of (r l)).«end» ≡ Misfit k) is e in
                 let here = sym (ap (λ o. o.«end») same) ∙ there in

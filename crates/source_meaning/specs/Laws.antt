@@ -1,6 +1,6 @@
 -- What holds of every thread of every program.
-use Rattle.std.specs.Prelude.{◌≡◌, ◌⊎◌, ℕ, ◌+◌, ◌*◌, ◌<◌, ◌≤◌, ℤ, Bool, true, false, List, [], ◌∷◌, ◌++◌, length}
-use Rattle.std.specs.Prelude.{Option}
+use Rattle.std.specs.Prelude.{◌≡◌, ◌⊎◌, ℕ, zero, suc, ◌+◌, ◌*◌, ◌^◌, ◌<◌, ◌≤◌, ℤ, Bool, true, false, List, [], ◌∷◌}
+use Rattle.std.specs.Prelude.{◌++◌, length, map, Option}
 use Rattle.block_layout.specs.declared.kind.Kind.{Kind}
 use Rattle.upc_values.specs.declared.action.Action.{Action}
 use Rattle.upc_values.specs.declared.action.Reply.{Reply}
@@ -15,9 +15,16 @@ use Rattle.upc_values.specs.Openings.{Opening}
 use Rattle.upc_values.specs.Records.{beats}
 use Rattle.typed_tree.specs.Beginnings.{opening_in}
 use Rattle.typed_tree.specs.Programs.{Checked, start_of}
-use Rattle.thread_steps.specs.States.{Thread, Res, Val, Over, Unfinished}
-use Rattle.source_meaning.specs.Running.{running}
+use Rattle.typed_tree.specs.Tree.{Exprs, NoExprs, AndExpr}
+use Rattle.typing_rules.specs.Library.{call_parameters}
+use Rattle.upc_values.specs.declared.library.LibraryCall.{LibraryCall}
+use Rattle.upc_values.specs.declared.scalar.Value.{Value}
+use Rattle.thread_steps.specs.States.{Thread, State, Res, Val, Over, Unfinished, Doing}
 use Rattle.thread_steps.specs.Fronts.{Begins, IsInTurn}
+use Rattle.thread_steps.specs.Library.{has_shape, is_formed}
+use Rattle.source_meaning.specs.Types.{parameter_conversion}
+use Rattle.source_meaning.specs.Running.{Running, running}
+use Rattle.source_meaning.specs.Expressions.{Calls, arguments}
 use Rattle.source_meaning.specs.Threads.{course, initial_state, thread_outcome}
 
 -- A value came, or the thread ended: no definition lacked turns.
@@ -46,8 +53,9 @@ pub record IsAnswered (τ : Thread) (kind : Option Kind) (a : Action) (r : Reply
   pub misfit : fits τ.threads τ.shapes kind a r ≡ false
       → (after.«end» ≡ Misfit number) × (after.actions ≡ before.actions)
 
--- The reply with this number was one to an action that was wanted without it.
-pub record IsLast (outcome : List Reply → Outcome) (rs : List Reply) (number : ℕ) : Type 0 where
+-- The reply with this number does not fit the action that was wanted without it, a read being of a cell of that kind;
+-- what other replies to it would do goes by the same kind.
+pub record IsUnfit (τ : Thread) (outcome : List Reply → Outcome) (rs : List Reply) (number : ℕ) : Type 0 where
   pub front : List Reply
   pub reply : Reply
   pub more : List Reply
@@ -55,6 +63,10 @@ pub record IsLast (outcome : List Reply → Outcome) (rs : List Reply) (number :
   pub place : length front ≡ number
   pub action : Action
   pub wanted : (outcome front).«end» ≡ Wants action
+  pub kind : Option Kind
+  pub answered :
+      (r : Reply) (rest : List Reply) → IsAnswered τ kind action r (outcome front) number (outcome (front ++ r ∷ rest))
+  pub unfit : fits τ.threads τ.shapes kind action reply ≡ false
 
 -- What a thread comes to takes the replies in order: each answers one action, and none is looked at before its action
 -- is wanted.
@@ -68,7 +80,7 @@ pub record TakesReplies (τ : Thread) (outcome : List Reply → Outcome) : Type 
   pub stays :
       (rs : List Reply) (r : Reply) (more : List Reply) → IsSettled (outcome rs).«end» → outcome (rs ++ r ∷ more) ≡
       outcome rs
-  pub misfits : (rs : List Reply) (k : ℕ) → (outcome rs).«end» ≡ Misfit k → IsLast outcome rs k
+  pub misfits : (rs : List Reply) (k : ℕ) → (outcome rs).«end» ≡ Misfit k → IsUnfit τ outcome rs k
 
 -- So of each thread of a program, with a budget of at least one tick.
 pub record AllTakeReplies (program : Checked) : Type 0 where
@@ -151,3 +163,31 @@ pub record GoesOn (o : Opening) (outcome : List Reply → Outcome) : Type 0 wher
 -- So does each thread of a program, with a budget of at least one tick.
 pub record AllGoOn (program : Checked) : Type 0 where
   pub each : (thread budget : ℕ) → 0 < budget → GoesOn (opening_of program) (thread_outcome program thread budget)
+
+-- So many arguments.
+abbrev pub AreSoMany : ℕ → Exprs → Type 0
+AreSoMany zero NoExprs = Unit {0}
+AreSoMany (suc n) (AndExpr a more) = AreSoMany n more
+AreSoMany n args = ⊥
+
+abbrev pub GivesIn : {A : Type 0} → (A → Type 0) → Res A → Type 0
+GivesIn V (Val v σ) = V v
+GivesIn V (Over e σ) = Unit {0}
+GivesIn V Unfinished = Unit {0}
+
+-- Whatever value comes of what is done passes.
+pub record Gives (A : Type 0) (V : A → Type 0) (m : Doing A) : Type 0 where
+  pub by : (σ : State) → GivesIn V (m σ)
+
+-- Where a call of the library has as many arguments as parameters, all threads may meet with what comes of them. In an
+-- allocation by all threads the program has the shape, whose number is below 2^64.
+pub record FormsCalls (ρ : Running) : Type 0 where
+  pub formed :
+      (functions : Calls) (strict : Bool) (call : LibraryCall) (shape : ℕ) (args : Exprs)
+      → AreSoMany (length (call_parameters call)) args → has_shape ρ.thread.shapes call shape ≡ true → shape < 2 ^ 64
+      → Gives (List Value) (λ vs. is_formed ρ.thread.shapes call shape vs ≡ true)
+      (arguments ρ functions strict (map parameter_conversion (call_parameters call)) args [])
+
+-- So does each thread of a program.
+pub record AllFormCalls (program : Checked) : Type 0 where
+  pub each : (thread budget : ℕ) → FormsCalls (running program thread budget)

@@ -2,8 +2,8 @@
 #![tactic(auto)]
 
 ghost use Rattle.typed_tree.specs.Programs.{Checked};
-ghost use Rattle.source_meaning.specs.Laws.{AllAreFramed, AllBeatInTime, AllGoOn, AllKeepBudgets, AllKeepTurns};
-ghost use Rattle.source_meaning.specs.Laws.{AllTakeReplies, IsTotal};
+ghost use Rattle.source_meaning.specs.Laws.{AllAreFramed, AllBeatInTime, AllFormCalls, AllGoOn, AllKeepBudgets};
+ghost use Rattle.source_meaning.specs.Laws.{AllKeepTurns, AllTakeReplies, IsTotal};
 
 /// Every thread of every program comes to a value or to its end, where its budget has at least one tick.
 #[tactic(auto, using(crate::proofs::Finished::is_total))]
@@ -46,4 +46,11 @@ pub fn beats_come_in_time()
 #[tactic(auto, using(crate::proofs::Going::all_go_on))]
 pub fn fitting_replies_are_taken()
     ensures { (program : Checked) → AllGoOn program }
+{}
+
+/// All threads may meet with what comes of the arguments of a collective call, where they are as many as its parameters
+/// (UPC 7.2.2, 7.3). So no call of a typed program is left undone for what its arguments are.
+#[tactic(auto, using(crate::proofs::Forming::all_form_calls))]
+pub fn calls_are_formed()
+    ensures { (program : Checked) → AllFormCalls program }
 {}

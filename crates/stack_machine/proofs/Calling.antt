@@ -1,7 +1,8 @@
 -- Calls of the library that ask for nothing.
-use Rattle.std.proofs.Common.{◌≡◌, ℕ, List, Option, Some, None, Bool, true, false, refl, sym, ap, ◌∙◌, subst}
+use Rattle.std.proofs.Common.{◌≡◌, ℕ, pos, List, Option, Some, None, Bool, true, false, refl, sym, ap, ◌∙◌, subst}
 use Rattle.std.specs.Prelude.{Result, Ok, Err, is_some, IfOk, if◌then◌else◌}
 use Rattle.upc_text.specs.declared.place.Place.{Place}
+use Rattle.block_layout.specs.declared.kind.Shape.{Shape}
 use Rattle.upc_values.specs.declared.scalar.Scalar.{Scalar}
 use Rattle.upc_values.specs.declared.scalar.Value.{Value}
 use Rattle.upc_values.specs.declared.scalar.Value.TheVariants as value
@@ -13,15 +14,17 @@ use Rattle.upc_values.specs.LibraryCalls.{library_call, meet_number}
 use Rattle.thread_steps.specs.States.{Thread, State, Res, Val, Over, bind, give, skip, choose}
 use Rattle.thread_steps.specs.Actions.{meet, exit}
 use Rattle.thread_steps.specs.Accesses.{run}
-use Rattle.thread_steps.specs.Library.{library, called, is_exit, first_number, private_shapes}
+use Rattle.thread_steps.specs.Values.{number}
+use Rattle.thread_steps.specs.Library.{library, called, formed_call, is_formed, is_exit, first_number, private_shapes}
 use Rattle.step_values.specs.Results.{asks_nothing, given_at_once}
 
-plain_call : (c : LibraryCall) → asks_nothing c ≡ true → (is_exit c ≡ false) × (is_some (meet_number c) ≡ false)
-plain_call call.ThreadOf h = (refl, refl)
-plain_call call.PhaseOf h = (refl, refl)
-plain_call call.AddressField h = (refl, refl)
-plain_call call.AffinitySize h = (refl, refl)
-plain_call c h = absurd (cc)
+plain_call : (shapes : List Shape) (shape : ℕ) (args : List Value) (c : LibraryCall) → asks_nothing c ≡ true
+    → (is_exit c ≡ false) × (is_formed shapes c shape args ≡ true) × (is_some (meet_number c) ≡ false)
+plain_call shapes shape args call.ThreadOf h = (refl, refl, refl)
+plain_call shapes shape args call.PhaseOf h = (refl, refl, refl)
+plain_call shapes shape args call.AddressField h = (refl, refl, refl)
+plain_call shapes shape args call.AffinitySize h = (refl, refl, refl)
+plain_call shapes shape args c h = absurd (cc)
 
 some_if : {X : Type 0} (b : Bool) (o : Option X) (x : X) → Some x ≡ (if b then o else None) → (b ≡ true) × (Some x ≡ o)
 some_if true o x h = (refl, h)
@@ -60,8 +63,10 @@ module _ (τ : Thread) (at : Place) (σ : State) where
     library_is : asks_nothing c ≡ true → library τ c shape at args σ ≡ going comes_to
     unfolding library going comes_to behind_meet
     library_is h =
-        let p = plain_call c h in
-        ap (λ b. choose b (exit τ (first_number args)) (called τ c shape at args) σ) p.0 ∙ ap behind_meet p.1
+        let p = plain_call τ.shapes shape args c h in
+        ap (λ b. choose b (exit τ (first_number args)) (formed_call τ c shape at args) σ) p.0
+        ∙ ap (λ b. choose b (called τ c shape at args) (give (number (pos 0))) σ) p.1
+        ∙ ap behind_meet p.2
 
     pub library_err : (code : ℕ)
         → Some (Err code) ≡ (if asks_nothing c

@@ -1,5 +1,5 @@
 -- What every operation of a thread keeps, if the few from which they are made do.
-use Rattle.std.proofs.Common.{◌≡◌, ℕ, suc, ◌<◌, ◌≤◌, ℤ, List, Option, Some}
+use Rattle.std.proofs.Common.{◌≡◌, ℕ, suc, ◌<◌, ◌≤◌, ℤ, pos, List, Option, Some}
 use Rattle.std.proofs.Common.{None, Bool, true, false, refl}
 use Rattle.std.specs.Prelude.{Result, Ok, Err, pred, is_some}
 use Rattle.upc_text.specs.declared.place.Place.{Place}
@@ -32,7 +32,7 @@ use Rattle.thread_steps.specs.declared.cast.CastTo.{CastTo}
 use Rattle.thread_steps.specs.declared.elements.Elements.{Elements}
 use Rattle.thread_steps.specs.States.{Thread, State, Res, Doing, ◌>>=◌, ◌>>◌, give, skip, know, choose, over, fault}
 use Rattle.thread_steps.specs.States.{fault_if, valued, Unfinished}
-use Rattle.thread_steps.specs.Values.{kept, kept_scalar, scalar_of}
+use Rattle.thread_steps.specs.Values.{number, kept, kept_scalar, scalar_of}
 use Rattle.thread_steps.specs.Actions as a
 use Rattle.thread_steps.specs.Accesses as x
 use Rattle.thread_steps.specs.Pointers as p
@@ -381,11 +381,17 @@ module _ (τ : Thread) (P : Property) (K : IsKept τ P) (n d : ℕ) where
   print_kept format args =
       first (a.ask τ None (act.Print _)) _ (K.of_ask n d None (act.Print _) tt) (λ r. K.basic.of_give n d Value _)
 
+  formed_kept : (call : LibraryCall) (shape : ℕ) (at : Place) (args : List Value)
+      → P n d Value (l.formed_call τ call shape at args)
+  formed_kept call shape at args =
+      choose_kept (l.is_formed τ.shapes call shape args) (l.called τ call shape at args) (give (number (pos 0)))
+      (K.of_called n d call shape at args) (K.basic.of_give n d Value (number (pos 0)))
+
   by_exit : (test : Bool) (call : LibraryCall) (shape : ℕ) (at : Place) (args : List Value)
-      → P n d Value (choose test (a.exit τ (l.first_number args)) (l.called τ call shape at args))
+      → P n d Value (choose test (a.exit τ (l.first_number args)) (l.formed_call τ call shape at args))
   by_exit test call shape at args =
-      choose_kept test (a.exit τ (l.first_number args)) (l.called τ call shape at args)
-      (exit_kept (l.first_number args)) (K.of_called n d call shape at args)
+      choose_kept test (a.exit τ (l.first_number args)) (l.formed_call τ call shape at args)
+      (exit_kept (l.first_number args)) (formed_kept call shape at args)
 
   pub library_kept : (call : LibraryCall) (shape : ℕ) (at : Place) (args : List Value)
       → P n d Value (l.library τ call shape at args)

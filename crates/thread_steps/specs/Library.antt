@@ -1,6 +1,6 @@
 -- The calls of the library (C99 7.19.6.3; UPC 7.2, 7.3).
-use Rattle.std.specs.Prelude.{ℕ, ℤ, pos, Bool, true, false, List, [], ◌∷◌, length, map, Option, None, is_some}
-use Rattle.std.specs.Prelude.{option_map}
+use Rattle.std.specs.Prelude.{ℕ, ℤ, pos, Bool, true, false, ◌&&◌, List, [], ◌∷◌, ◌++◌, length, map, Option, Some}
+use Rattle.std.specs.Prelude.{None, is_some, option_map, slice_get}
 use Rattle.upc_text.specs.declared.place.Place.{Place}
 use Rattle.block_layout.specs.declared.kind.Kind.TheVariants as kind
 use Rattle.block_layout.specs.declared.kind.Shape.{Shape}
@@ -8,9 +8,11 @@ use Rattle.integers.specs.Integers.{converted}
 use Rattle.upc_values.specs.declared.scalar.Value.{Value}
 use Rattle.upc_values.specs.declared.scalar.Value.TheVariants as value
 use Rattle.upc_values.specs.declared.action.Action.TheVariants as act
+use Rattle.upc_values.specs.declared.scalar.Scalar.{Scalar}
 use Rattle.upc_values.specs.declared.library.LibraryCall.{LibraryCall}
-use Rattle.upc_values.specs.declared.library.LibraryCall.TheVariants.{GlobalExit}
-use Rattle.upc_values.specs.LibraryCalls.{library_call, meet_number}
+use Rattle.upc_values.specs.declared.library.LibraryCall.TheVariants.{AllAlloc, Reduce, PrefixReduce, GlobalExit}
+use Rattle.upc_values.specs.Calls.{Call, Other, call_of}
+use Rattle.upc_values.specs.LibraryCalls.{library_call, meet_number, scalars, with_element}
 use Rattle.upc_values.specs.Printing.{printed}
 use Rattle.private_store.specs.Live.{thing}
 use Rattle.thread_steps.specs.States.{Thread, State, Doing, ◌>>=◌, ◌>>◌, give, skip, know, choose}
@@ -30,6 +32,33 @@ abbrev pub is_exit : LibraryCall → Bool
 is_exit GlobalExit = true
 is_exit call = false
 
+abbrev pub is_call : Call → Bool
+is_call Other = false
+is_call call = true
+
+-- What all threads meet with: the arguments; the number of its shape is one more in an allocation, and that of the type
+-- of its elements stands for the function in a reduction (UPC 7.2.2, 7.3.2.1).
+abbrev pub met_with : LibraryCall → (shape : ℕ) → List Value → List Value
+met_with AllAlloc shape args = args ++ number (pos shape) ∷ []
+met_with (Reduce k) shape args = with_element k args
+met_with (PrefixReduce k) shape args = with_element k args
+met_with call shape args = args
+
+-- They are of the types of a collective call's parameters, if the call has this number.
+abbrev pub are_met : Option ℕ → List Scalar → Bool
+are_met (Some n) args = is_call (call_of n args)
+are_met None args = true
+
+-- The program has the shape of the elements that upc_all_alloc makes.
+abbrev pub has_shape : List Shape → LibraryCall → (shape : ℕ) → Bool
+has_shape shapes AllAlloc shape = is_some (slice_get shapes shape)
+has_shape shapes call shape = true
+
+-- Whether all threads may meet with these arguments. In a typed program they always may.
+abbrev pub is_formed : List Shape → LibraryCall → (shape : ℕ) → List Value → Bool
+is_formed shapes call shape args =
+    are_met (meet_number call) (scalars (met_with call shape args)) && has_shape shapes call shape
+
 module _ (τ : Thread) where
   -- A call that goes on as its definition says; a collective one may begin where all threads may meet.
   abbrev pub called : LibraryCall → (shape : ℕ) → Place → List Value → Doing Value
@@ -39,11 +68,15 @@ module _ (τ : Thread) where
     v ← run τ at (library_call τ.threads τ.shapes τ.number private call shape args)
     give (value.Scalar v)
 
+  -- A call that does nothing where its arguments are none of its parameters' types.
+  abbrev pub formed_call : LibraryCall → (shape : ℕ) → Place → List Value → Doing Value
+  formed_call call shape at args =
+      choose (is_formed τ.shapes call shape args) (called call shape at args) (give (number (pos 0)))
+
   -- A call of the library with arguments of its parameters' types; an allocation makes elements of the shape with
-  -- that number, and
-  -- upc_global_exit ends the thread.
+  -- that number, and upc_global_exit ends the thread.
   unfoldable pub library : LibraryCall → (shape : ℕ) → Place → List Value → Doing Value
-  library call shape at args = choose (is_exit call) (exit τ (first_number args)) (called call shape at args)
+  library call shape at args = choose (is_exit call) (exit τ (first_number args)) (formed_call call shape at args)
 
   -- printf: one Print; it gives the number of bytes (C99 7.19.6.3).
   unfoldable pub print : (format : List ℕ) → List Value → Doing Value
