@@ -1,8 +1,5 @@
 //! The code of an expression alone.
 
-ghost use Rattle.std.specs.Prelude.{IfOk};
-ghost use Rattle.shared_pointers.specs.Ranges.{IsThreads};
-
 use gen_expr::{Source, expr_code};
 use gen_stmt::compile;
 use stack_code::{Builder, CallWork, Code, Instr, Operation};
@@ -10,15 +7,20 @@ use std::alloc::Global;
 use typed_tree::{Expr, Program};
 use upc_text::OutOfMemory;
 
-/// Code whose first function gives the value of an expression of a program.
-pub fn code_alone(alloc: Global, program: &Program, e: &Expr) -> Result<Code, OutOfMemory> {
-    let whole = compile(alloc, program)?;
-    let source = Source {
+// What code of a program is made from.
+fn source_of(program: &Program) -> Source<'_> {
+    Source {
         functions: program.functions(),
         structs: program.structs(),
         shared: program.shared_objects(),
         shapes: program.shapes(),
-    };
+    }
+}
+
+/// Code whose first function gives the value of an expression of a program.
+pub fn code_alone(alloc: Global, program: &Program, e: &Expr) -> Result<Code, OutOfMemory> {
+    let whole = compile(alloc, program)?;
+    let source = source_of(program);
     let mut builder = Builder::make(alloc, whole.threads(), whole.shapes())?;
     expr_code(&mut builder, source, false, e)?;
     builder.append(Instr {

@@ -6,6 +6,8 @@ mod alone;
 #[cfg(test)]
 mod front;
 #[cfg(test)]
+mod hand;
+#[cfg(test)]
 mod listings;
 #[cfg(test)]
 mod parts;

@@ -4,6 +4,7 @@ ghost use Rattle.std.specs.Prelude.{◌<◌, ◌≤◌};
 
 use crate::alone::code_alone;
 use crate::front::program_of;
+use crate::hand::code_by_hand;
 use crate::words::{put_mark, put_number, word};
 use gen_stmt::compile;
 use stack_code::Code;
@@ -112,11 +113,18 @@ fn returned(program: &Program) -> Option<&Expr> {
     }
 }
 
-// A thread of so many by a source, or by the expression alone that its main returns, what its reads are answered, and
-// all that it tells.
+// What code is made of: a whole source, the expression alone that its main returns, or nothing, but by hand.
+#[derive(Clone, Copy)]
+enum Made {
+    Whole,
+    Alone,
+    ByHand,
+}
+
+// A thread of so many by a source, what its reads are answered, and all that it tells.
 struct Row {
     source: &'static [u8],
-    alone: bool,
+    made: Made,
     threads: u32,
     thread: u32,
     budget: u64,
@@ -124,11 +132,21 @@ struct Row {
     told: &'static [&'static str],
 }
 
-const ROWS: [Row; 9] = [
+const ROWS: [Row; 10] = [
+    // What an object of the file begins with.
+    Row {
+        source: b"int x = 7; int main(void) { return x; }",
+        made: Made::ByHand,
+        threads: 1,
+        thread: 0,
+        budget: 1,
+        reads: &[],
+        told: &["ended 7, ticks 0"],
+    },
     // C99 6.5 (5): a sum that no int is.
     Row {
         source: b"int main(void) { return 2147483647 + 1; }",
-        alone: true,
+        made: Made::Alone,
         threads: 1,
         thread: 0,
         budget: 1,
@@ -138,7 +156,7 @@ const ROWS: [Row; 9] = [
     // UPC 6.5.1.1: element 7 is the second of the third block.
     Row {
         source: b"shared [3] int a[20]; int main(void) { return a[7]; }",
-        alone: true,
+        made: Made::Alone,
         threads: 4,
         thread: 1,
         budget: 1,
@@ -151,7 +169,7 @@ const ROWS: [Row; 9] = [
     // C99 6.3.1.3: the value modulo 65,536.
     Row {
         source: b"int main(void) { return (short)40000; }",
-        alone: true,
+        made: Made::Alone,
         threads: 1,
         thread: 0,
         budget: 1,
@@ -163,7 +181,7 @@ const ROWS: [Row; 9] = [
         source: b"struct s { int a; int b; }; shared [2] int x[8]; int m[2][3]; int main(void) { \
 struct s t; struct s *p = &t; shared [2] int *q = &x[5]; int i = 1; p->b = -6; m[i][2] = ~t.b; q = q - 2; *q = m[1][2]; \
 return (q - x) * 100 + (q < &x[4]) * 10 + (q == x + 3) + !i; }",
-        alone: false,
+        made: Made::Whole,
         threads: 2,
         thread: 0,
         budget: 1,
@@ -182,7 +200,7 @@ return (q - x) * 100 + (q < &x[4]) * 10 + (q == x + 3) + !i; }",
         source: b"int f(int n) { switch (n) { case 1: return 10; case 2: n++; break; default: n = 0; } return n; } \
 int main(void) { int r = 0; int i = 0; do { i++; if (i == 2 && r) continue; if (i > 3) break; r = r * 10 + f(i); } \
 while (1); return i, r; }",
-        alone: false,
+        made: Made::Whole,
         threads: 1,
         thread: 0,
         budget: 100,
@@ -202,7 +220,7 @@ while (1); return i, r; }",
 upc_notify 3; upc_wait 3; upc_barrier 4; upc_fence; \
 upc_forall (i = 0; i < 4; i++; i) upc_forall (j = 0; j < 2; j++; j) n++; \
 s = n; a[3] = s; printf(\"%d\\n\", (int)upc_threadof(&a[3])); return MYTHREAD; }",
-        alone: false,
+        made: Made::Whole,
         threads: 2,
         thread: 1,
         budget: 100,
@@ -227,7 +245,7 @@ s = n; a[3] = s; printf(\"%d\\n\", (int)upc_threadof(&a[3])); return MYTHREAD; }
     // A recursion of 999 calls, with main as deep as calls may be.
     Row {
         source: b"int f(int n) { if (n == 0) return 0; return 1 + f(n - 1); } int main(void) { return f(998); }",
-        alone: false,
+        made: Made::Whole,
         threads: 1,
         thread: 0,
         budget: 1000,
@@ -243,7 +261,7 @@ s = n; a[3] = s; printf(\"%d\\n\", (int)upc_threadof(&a[3])); return MYTHREAD; }
     // The budget is reached inside a call.
     Row {
         source: b"int f(void) { while (1) {} return 0; } int main(void) { return f(); }",
-        alone: false,
+        made: Made::Whole,
         threads: 1,
         thread: 0,
         budget: 10,
@@ -257,7 +275,7 @@ s = n; a[3] = s; printf(\"%d\\n\", (int)upc_threadof(&a[3])); return MYTHREAD; }
     // UPC 7.2.1: the thread ends at once, also inside a call.
     Row {
         source: b"int f(int n) { upc_global_exit(n); return 0; } int main(void) { return f(3); }",
-        alone: false,
+        made: Made::Whole,
         threads: 1,
         thread: 0,
         budget: 10,
@@ -348,11 +366,13 @@ fn machines_tell(rt: HostRuntime) -> Result<(), Fail> {
     let mut seen = [false; 45];
     for (number, row) in ROWS.iter().enumerate() {
         let program = program_of(alloc, row.threads, row.source)?.expect(&rt, "a program");
-        let code = if row.alone {
-            let e = returned(&program).expect(&rt, "a value");
-            code_alone(alloc, &program, e)?
-        } else {
-            compile(alloc, &program)?
+        let code = match row.made {
+            Made::Whole => compile(alloc, &program)?,
+            Made::Alone => {
+                let e = returned(&program).expect(&rt, "a value");
+                code_alone(alloc, &program, e)?
+            }
+            Made::ByHand => code_by_hand(alloc)?,
         };
         mark_words(&code, &mut seen);
         assert!(rt; row.thread < code.threads());
