@@ -50,9 +50,11 @@ module _ (ς : Source) (strict : Bool) (e : Expr) (at : Place) (threads : ℕ) (
 
   pub alone_begins : (m : Making) → m ≡ made → BeginsOnce m.codes.functions
   alone_begins m h =
-      subst (λ (x : Making). BeginsOnce x.codes.functions) (sym h)
-      (each-append (λ (i : Instr). OnCall BeginsOther i.does) (value_code ς strict e) _
-      (value_gathers ς (λ i. OnCall BeginsOther i.does) (begins ς) strict e) (tt, tt), tt)
+      subst (λ (x : Making). BeginsOnce x.codes.functions) (sym h) (
+        each-append (λ (i : Instr). OnCall BeginsOther i.does) (value_code ς strict e) _
+            (value_gathers ς (λ i. OnCall BeginsOther i.does) (begins ς) strict e) (tt, tt),
+        tt,
+      )
 
   -- Step by step.
   pub are_made : (m₀ m₁ m₂ m₃ : Making) → m₀ ≡ empty threads shapes

@@ -158,11 +158,11 @@ const LISTED: [Listed; 7] = [
         lines: &[
             "1:16 Enter 0 4-bytes",
             "1:16 Receive",
-            "2:7 Local 0",
+            "2:3 Local 0",
             "2:11 Push 0",
             "2:11 Cast int",
-            "2:7 Save int relaxed",
-            "2:7 Pop",
+            "2:3 Save int relaxed",
+            "2:3 Pop",
             "3:11 Me",
             "3:3 Cast int",
             "3:3 Case 0 3",
@@ -315,7 +315,11 @@ fn code_of_five_programs(rt: HostRuntime) -> Result<(), Fail> {
         let code = compile(alloc, &program)?;
         let lines = lines_of(alloc, &code, listed.function)?;
         for (at, line) in lines.as_slice().iter().enumerate() {
-            assert_eq!(rt; Some(line.as_str()), listed.lines.get(at).copied(), "{number}, {at}");
+            assert_eq!(rt;
+                Some(line.as_str()),
+                listed.lines.get(at).copied(),
+                "{number}, {at}"
+            );
         }
         assert_eq!(rt; lines.len(), listed.lines.len(), "{number}");
     }

@@ -110,7 +110,10 @@ fn part_of(statement: &Statement) -> Option<&Expr> {
 // Whether a text stands before the first line that is left out.
 fn are(lines: &[String], wanted: &[&str]) -> bool {
     lines.len() >= wanted.len()
-        && lines.iter().zip(wanted).all(|(line, want)| line.as_str() == *want)
+        && lines
+            .iter()
+            .zip(wanted)
+            .all(|(line, want)| line.as_str() == *want)
 }
 
 // Whether the lines stand together somewhere in the text.

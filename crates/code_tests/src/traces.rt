@@ -22,7 +22,11 @@ fn put_access(
 ) -> Result<(), AllocError> {
     text.push_str(if strict { "strict" } else { "relaxed" })?;
     text.push_str(word)?;
-    write!(text, " {} thread {} offset {}", loc.object, loc.thread, loc.offset)
+    write!(
+        text,
+        " {} thread {} offset {}",
+        loc.object, loc.thread, loc.offset
+    )
 }
 
 // An action in words.
@@ -53,17 +57,14 @@ fn put_action(text: &mut String, action: &Action) -> Result<(), AllocError> {
             }
             Ok(())
         }
+        Action::Exit(value) => write!(text, "ask to exit {value}"),
         _ => text.push_str("another"),
     }
 }
 
 // What the thread of a row tells in turn, to the end with its ticks. Its reads are answered by the values of the row in
 // turn, and by 0 behind them.
-fn told_by(
-    alloc: Global,
-    code: &Code,
-    row: &Row,
-) -> Result<Vec<String>, AllocError>
+fn told_by(alloc: Global, code: &Code, row: &Row) -> Result<Vec<String>, AllocError>
     requires thread { row.now.thread < code.now.threads }
     requires budget { 1 ≤ row.now.budget }
 {
@@ -161,10 +162,7 @@ const ROWS: [Row; 10] = [
         thread: 1,
         budget: 1,
         reads: &[9],
-        told: &[
-            "relaxed read 1 thread 2 offset 4",
-            "ended 9, ticks 0",
-        ],
+        told: &["relaxed read 1 thread 2 offset 4", "ended 9, ticks 0"],
     },
     // C99 6.3.1.3: the value modulo 65,536.
     Row {
@@ -179,8 +177,8 @@ const ROWS: [Row; 10] = [
     // Members, rows, and pointers moved, subtracted and compared: element 3 is the second of the second block.
     Row {
         source: b"struct s { int a; int b; }; shared [2] int x[8]; int m[2][3]; int main(void) { \
-struct s t; struct s *p = &t; shared [2] int *q = &x[5]; int i = 1; p->b = -6; m[i][2] = ~t.b; q = q - 2; *q = m[1][2]; \
-return (q - x) * 100 + (q < &x[4]) * 10 + (q == x + 3) + !i; }",
+struct s t; struct s *p = &t; shared [2] int *q = &x[5]; int i = 1; p->b = -6; m[i][2] = ~t.b; q = q - 2; \
+*q = m[1][2]; return (q - x) * 100 + (q < &x[4]) * 10 + (q == x + 3) + !i; }",
         made: Made::Whole,
         threads: 2,
         thread: 0,
@@ -266,11 +264,7 @@ s = n; a[3] = s; printf(\"%d\\n\", (int)upc_threadof(&a[3])); return MYTHREAD; }
         thread: 0,
         budget: 10,
         reads: &[],
-        told: &[
-            "notify start",
-            "wait start",
-            "budget, ticks 10",
-        ],
+        told: &["notify start", "wait start", "budget, ticks 10"],
     },
     // UPC 7.2.1: the thread ends at once, also inside a call.
     Row {
@@ -283,6 +277,7 @@ s = n; a[3] = s; printf(\"%d\\n\", (int)upc_threadof(&a[3])); return MYTHREAD; }
         told: &[
             "notify start",
             "wait start",
+            "ask to exit 3",
             "exit 3, ticks 1",
         ],
     },
@@ -379,7 +374,11 @@ fn machines_tell(rt: HostRuntime) -> Result<(), Fail> {
         assert!(rt; 1 <= row.budget);
         let told = told_by(alloc, &code, row)?;
         for (at, line) in told.as_slice().iter().enumerate() {
-            assert_eq!(rt; Some(line.as_str()), row.told.get(at).copied(), "{number}, {at}");
+            assert_eq!(rt;
+                Some(line.as_str()),
+                row.told.get(at).copied(),
+                "{number}, {at}"
+            );
         }
         assert_eq!(rt; told.len(), row.told.len(), "{number}");
     }

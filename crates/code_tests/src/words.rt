@@ -3,7 +3,8 @@
 use block_layout::{Kind, LocalPtr};
 use integers::{BinOp, UnOp};
 use stack_code::{
-    CallWork, CellAccess, Code, Instr, Jump, ObjectWork, Operation, StackWork, ThreadWork, ValueWork,
+    CallWork, CellAccess, Code, Instr, Jump, ObjectWork, Operation, StackWork, ThreadWork,
+    ValueWork,
 };
 use std::alloc::{AllocError, Global};
 use thread_steps::{CastTo, Elements};
@@ -288,7 +289,9 @@ fn put_thread_work(text: &mut String, work: &ThreadWork) -> Result<(), AllocErro
     match work {
         ThreadWork::Notify(mark) | ThreadWork::Wait(mark) => put_mark(text, *mark),
         ThreadWork::Library {
-            call, arguments, ..
+            call,
+            arguments,
+            ..
         } => write!(text, " {call:?} {arguments}"),
         ThreadWork::Print { arguments, .. } => put_number(text, *arguments as i128),
         _ => Ok(()),

@@ -38,17 +38,17 @@ deep = (0 ∷ 1 ∷ 1 ∷ [], refl, ((0, refl, refl), ((0, refl, refl), ((0, ref
 pub finish-requires-clause-depths : goal.finish-requires-clause-depths
 finish-requires-clause-depths c =
     let made : c.end_function.new.self ≡ with_function (with_instruction give (with_instruction load
-        (with_instruction push c.append_initial.new.self))) =
-      c.in_ok-end_function.ensures.done
-      ∙ ap with_function (c.in_ok-append-3.ensures.done
-      ∙ ap (with_instruction give) (c.in_ok-append-2.ensures.done
-      ∙ ap (with_instruction load) c.in_ok-append.ensures.done)) in
+    (with_instruction push c.append_initial.new.self))) =
+    c.in_ok-end_function.ensures.done
+    ∙ ap with_function (c.in_ok-append-3.ensures.done
+    ∙ ap (with_instruction give) (c.in_ok-append-2.ensures.done
+    ∙ ap (with_instruction load) c.in_ok-append.ensures.done)) in
     let before : c.append_initial.new.self ≡ with_initial object (value.Scalar (scalar.Int (pos 7)))
-        (with_object c.in_ok-int_shape.field-0 c.in_ok-builder.builder) =
-      c.in_ok-append_initial.ensures.done
-      ∙ ap (with_initial object (value.Scalar (scalar.Int (pos 7)))) c.in_ok-append_object.ensures.done in
+    (with_object c.in_ok-int_shape.field-0 c.in_ok-builder.builder) =
+    c.in_ok-append_initial.ensures.done
+    ∙ ap (with_initial object (value.Scalar (scalar.Int (pos 7)))) c.in_ok-append_object.ensures.done in
     let all = made ∙ ap (λ (m : Making). with_function (with_instruction give (with_instruction load
-        (with_instruction push m)))) (before
-      ∙ ap (λ (m : Making). with_initial object (value.Scalar (scalar.Int (pos 7)))
-        (with_object c.in_ok-int_shape.field-0 m)) c.in_ok-builder.ensures) in
+    (with_instruction push m)))) (before
+    ∙ ap (λ (m : Making). with_initial object (value.Scalar (scalar.Int (pos 7)))
+    (with_object c.in_ok-int_shape.field-0 m)) c.in_ok-builder.ensures) in
     subst (λ (m : Making). Each IsDeep m.codes.functions) (sym all) (deep, tt)
