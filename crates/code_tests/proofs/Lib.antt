@@ -1,1 +1,1 @@
-mod Alone
+mod OneFunction

@@ -1,7 +1,6 @@
 //! The code of an expression alone.
 
 use gen_expr::{Source, expr_code};
-use gen_stmt::compile;
 use stack_code::{Builder, CallWork, Code, Instr, Operation};
 use std::alloc::Global;
 use typed_tree::{Expr, Program};
@@ -17,9 +16,14 @@ fn source_of(program: &Program) -> Source<'_> {
     }
 }
 
-/// Code whose first function gives the value of an expression of a program.
-pub fn code_alone(alloc: Global, program: &Program, e: &Expr) -> Result<Code, OutOfMemory> {
-    let whole = compile(alloc, program)?;
+/// Code whose first function gives the value of an expression of a program, for the threads and with the shapes of the
+/// whole code of the program.
+pub fn code_alone(
+    alloc: Global,
+    whole: &Code,
+    program: &Program,
+    e: &Expr,
+) -> Result<Code, OutOfMemory> {
     let source = source_of(program);
     let mut builder = Builder::make(alloc, whole.threads(), whole.shapes())?;
     expr_code(&mut builder, source, false, e)?;

@@ -145,7 +145,7 @@ fn code_of_parts(rt: HostRuntime) -> Result<(), Fail> {
             let Some(e) = part_of(statement) else {
                 continue;
             };
-            let code = code_alone(alloc, &program, e)?;
+            let code = code_alone(alloc, &whole, &program, e)?;
             let lines = lines_of(alloc, &code, 0)?;
             let wanted = PARTS.get(number).expect(&rt, "a part");
             assert!(rt; are(lines.as_slice(), wanted), "{number}");

@@ -364,8 +364,9 @@ fn machines_tell(rt: HostRuntime) -> Result<(), Fail> {
         let code = match row.made {
             Made::Whole => compile(alloc, &program)?,
             Made::Alone => {
+                let whole = compile(alloc, &program)?;
                 let e = returned(&program).expect(&rt, "a value");
-                code_alone(alloc, &program, e)?
+                code_alone(alloc, &whole, &program, e)?
             }
             Made::ByHand => code_by_hand(alloc)?,
         };

@@ -1,7 +1,7 @@
 use Rattle.std.proofs.Common.{false}
 use Rattle.typed_tree.specs.ViewTree.{view_expr}
 use Rattle.gen_expr.specs.ViewSource.{view_source}
-use Rattle.code_tests.proofs.Alone.{alone_deep, alone_begins, are_made}
+use Rattle.code_tests.proofs.OneFunction.{alone_deep, alone_begins, are_made}
 use Rattle.code_tests.proofs.alone.code_alone.Goals as goal
 
 pub finish-requires-clause-depths : goal.finish-requires-clause-depths
