@@ -62,31 +62,36 @@ fn put_action(text: &mut String, action: &Action) -> Result<(), AllocError> {
     }
 }
 
-// What the thread of a row tells in turn, to the end with its ticks. Its reads are answered by the values of the row in
-// turn, and by 0 behind them.
-fn told_by(alloc: Global, code: &Code, row: &Row) -> Result<Vec<String>, AllocError>
+// What a wish tells, where it ends the thread.
+fn put_end(text: &mut String, wish: &Wish) -> Result<(), AllocError> {
+    match wish {
+        Wish::Act(_) => Ok(()),
+        Wish::Ended(value) => write!(text, "ended {value}"),
+        Wish::Exit(value) => write!(text, "exit {value}"),
+        Wish::Fault(number, at) => write!(text, "fault {number} at {}:{}", at.line, at.column),
+        Wish::Budget => text.push_str("budget"),
+    }
+}
+
+// What the thread of a row tells in turn, a line each, to the end with its ticks. Its reads are answered by the values
+// of the row in turn, and by 0 behind them.
+fn told_by(alloc: Global, code: &Code, row: &Row) -> Result<String, AllocError>
     requires thread { row.now.thread < code.now.threads }
     requires budget { 1 ≤ row.now.budget }
 {
     let mut machine = Machine::make(alloc, code, row.thread, row.budget)?;
-    let mut told = Vec::new(alloc);
+    let mut text = String::new(alloc);
     let mut values = row.reads.iter();
     let mut reply = None;
     for _turn in 0..1000 {
         let wish = machine.resume(code, reply)?;
-        let mut text = String::new(alloc);
-        match &wish {
-            Wish::Act(action) => put_action(&mut text, action)?,
-            Wish::Ended(value) => write!(text, "ended {value}")?,
-            Wish::Exit(value) => write!(text, "exit {value}")?,
-            Wish::Fault(number, at) => write!(text, "fault {number} at {}:{}", at.line, at.column)?,
-            Wish::Budget => text.push_str("budget")?,
-        }
         let Wish::Act(action) = &wish else {
-            write!(text, ", ticks {}", machine.ticks())?;
-            told.push(text)?;
-            return Ok(told);
+            put_end(&mut text, &wish)?;
+            writeln!(text, ", ticks {}", machine.ticks())?;
+            return Ok(text);
         };
+        put_action(&mut text, action)?;
+        text.push_str("\n")?;
         reply = Some(match action {
             Action::Read { .. } => {
                 let value = values.next().copied().unwrap_or(0);
@@ -94,9 +99,8 @@ fn told_by(alloc: Global, code: &Code, row: &Row) -> Result<Vec<String>, AllocEr
             }
             _ => Reply::Done,
         });
-        told.push(text)?;
     }
-    Ok(told)
+    Ok(text)
 }
 
 // What main returns first.
@@ -130,7 +134,7 @@ struct Row {
     thread: u32,
     budget: u64,
     reads: &'static [i128],
-    told: &'static [&'static str],
+    told: &'static str,
 }
 
 const ROWS: [Row; 10] = [
@@ -142,7 +146,8 @@ const ROWS: [Row; 10] = [
         thread: 0,
         budget: 1,
         reads: &[],
-        told: &["ended 7, ticks 0"],
+        told: "ended 7, ticks 0
+",
     },
     // C99 6.5 (5): a sum that no int is.
     Row {
@@ -152,7 +157,8 @@ const ROWS: [Row; 10] = [
         thread: 0,
         budget: 1,
         reads: &[],
-        told: &["fault 1 at 1:25, ticks 0"],
+        told: "fault 1 at 1:25, ticks 0
+",
     },
     // UPC 6.5.1.1: element 7 is the second of the third block.
     Row {
@@ -162,7 +168,9 @@ const ROWS: [Row; 10] = [
         thread: 1,
         budget: 1,
         reads: &[9],
-        told: &["relaxed read 1 thread 2 offset 4", "ended 9, ticks 0"],
+        told: "relaxed read 1 thread 2 offset 4
+ended 9, ticks 0
+",
     },
     // C99 6.3.1.3: the value modulo 65,536.
     Row {
@@ -172,7 +180,8 @@ const ROWS: [Row; 10] = [
         thread: 0,
         budget: 1,
         reads: &[],
-        told: &["ended -25536, ticks 0"],
+        told: "ended -25536, ticks 0
+",
     },
     // Members, rows, and pointers moved, subtracted and compared: element 3 is the second of the second block.
     Row {
@@ -184,14 +193,13 @@ struct s t; struct s *p = &t; shared [2] int *q = &x[5]; int i = 1; p->b = -6; m
         thread: 0,
         budget: 1,
         reads: &[],
-        told: &[
-            "notify start",
-            "wait start",
-            "relaxed write 1 thread 1 offset 4 5",
-            "notify finish",
-            "wait finish",
-            "ended 311, ticks 0",
-        ],
+        told: "notify start
+wait start
+relaxed write 1 thread 1 offset 4 5
+notify finish
+wait finish
+ended 311, ticks 0
+",
     },
     // Three turns back and two calls.
     Row {
@@ -203,13 +211,12 @@ while (1); return i, r; }",
         thread: 0,
         budget: 100,
         reads: &[],
-        told: &[
-            "notify start",
-            "wait start",
-            "notify finish",
-            "wait finish",
-            "ended 100, ticks 5",
-        ],
+        told: "notify start
+wait start
+notify finish
+wait finish
+ended 100, ticks 5
+",
     },
     // Inside a upc_forall that controls, another has every turn. Five ticks of the outer one, three for each of its two
     // turns.
@@ -223,22 +230,21 @@ s = n; a[3] = s; printf(\"%d\\n\", (int)upc_threadof(&a[3])); return MYTHREAD; }
         thread: 1,
         budget: 100,
         reads: &[7],
-        told: &[
-            "notify start",
-            "wait start",
-            "notify 3",
-            "wait 3",
-            "notify 4",
-            "wait 4",
-            "fence",
-            "strict write 2 thread 0 offset 0 4",
-            "strict read 2 thread 0 offset 0",
-            "relaxed write 1 thread 1 offset 4 7",
-            "print 1\n",
-            "notify finish",
-            "wait finish",
-            "ended 1, ticks 11",
-        ],
+        told: "notify start
+wait start
+notify 3
+wait 3
+notify 4
+wait 4
+fence
+strict write 2 thread 0 offset 0 4
+strict read 2 thread 0 offset 0
+relaxed write 1 thread 1 offset 4 7
+print 1\n
+notify finish
+wait finish
+ended 1, ticks 11
+",
     },
     // A recursion of 999 calls, with main as deep as calls may be.
     Row {
@@ -248,13 +254,12 @@ s = n; a[3] = s; printf(\"%d\\n\", (int)upc_threadof(&a[3])); return MYTHREAD; }
         thread: 0,
         budget: 1000,
         reads: &[],
-        told: &[
-            "notify start",
-            "wait start",
-            "notify finish",
-            "wait finish",
-            "ended 998, ticks 999",
-        ],
+        told: "notify start
+wait start
+notify finish
+wait finish
+ended 998, ticks 999
+",
     },
     // The budget is reached inside a call.
     Row {
@@ -264,7 +269,10 @@ s = n; a[3] = s; printf(\"%d\\n\", (int)upc_threadof(&a[3])); return MYTHREAD; }
         thread: 0,
         budget: 10,
         reads: &[],
-        told: &["notify start", "wait start", "budget, ticks 10"],
+        told: "notify start
+wait start
+budget, ticks 10
+",
     },
     // UPC 7.2.1: the thread ends at once, also inside a call.
     Row {
@@ -274,91 +282,36 @@ s = n; a[3] = s; printf(\"%d\\n\", (int)upc_threadof(&a[3])); return MYTHREAD; }
         thread: 0,
         budget: 10,
         reads: &[],
-        told: &[
-            "notify start",
-            "wait start",
-            "ask to exit 3",
-            "exit 3, ticks 1",
-        ],
+        told: "notify start
+wait start
+ask to exit 3
+exit 3, ticks 1
+",
     },
 ];
 
-// Every instruction.
-const WORDS: [&str; 45] = [
-    "Push",
-    "Me",
-    "Pop",
-    "Copy",
-    "Over",
-    "Swap",
-    "Truth",
-    "Not",
-    "Operate",
-    "Apply",
-    "Cast",
-    "Advance",
-    "Retreat",
-    "InRow",
-    "Member",
-    "Difference",
-    "Order",
-    "Same",
-    "Local",
-    "Load",
-    "Save",
-    "Enter",
-    "Leave",
-    "GoOn",
-    "SkipIfZero",
-    "SkipIfControlled",
-    "Case",
-    "Tick",
-    "GoBack",
-    "Exit",
-    "CallTo",
-    "Begin",
-    "Receive",
-    "GiveBack",
-    "Quit",
-    "Notify",
-    "Wait",
-    "NotifyValue",
-    "WaitValue",
-    "Fence",
-    "Control",
-    "Release",
-    "Mine",
-    "Library",
-    "Print",
-];
-
-// Marks the words of the instructions of a code.
-fn mark_words(code: &Code, seen: &mut [bool; 45]) {
-    for function in 0..code.functions() {
-        mark_function(code, function, seen);
-    }
-}
-
-fn mark_function(code: &Code, function: usize, seen: &mut [bool; 45]) {
+// Adds the names of the instructions of a function that are not there yet.
+fn add_words(
+    words: &mut Vec<&'static str>,
+    code: &Code,
+    function: usize,
+) -> Result<(), AllocError> {
     for place in 0..code.size(function) {
         if let Some(instr) = code.fetch(function, place) {
-            mark_word(word(&instr.does), seen);
+            let name = word(&instr.does);
+            if !words.as_slice().iter().any(|other| *other == name) {
+                words.push(name)?;
+            }
         }
     }
+    Ok(())
 }
 
-fn mark_word(word: &str, seen: &mut [bool; 45]) {
-    for at in 0..45 {
-        if WORDS[at] == word {
-            seen[at] = true;
-        }
-    }
-}
-
+// Each of the 45 instructions is in the code of some row.
 #[test]
 fn machines_tell(rt: HostRuntime) -> Result<(), Fail> {
     let alloc = rt.alloc();
-    let mut seen = [false; 45];
+    let mut words = Vec::new(alloc);
     for (number, row) in ROWS.iter().enumerate() {
         let program = program_of(alloc, row.threads, row.source)?.expect(&rt, "a program");
         let code = match row.made {
@@ -370,21 +323,14 @@ fn machines_tell(rt: HostRuntime) -> Result<(), Fail> {
             }
             Made::ByHand => code_by_hand(alloc)?,
         };
-        mark_words(&code, &mut seen);
+        for function in 0..code.functions() {
+            add_words(&mut words, &code, function)?;
+        }
         assert!(rt; row.thread < code.threads());
         assert!(rt; 1 <= row.budget);
         let told = told_by(alloc, &code, row)?;
-        for (at, line) in told.as_slice().iter().enumerate() {
-            assert_eq!(rt;
-                Some(line.as_str()),
-                row.told.get(at).copied(),
-                "{number}, {at}"
-            );
-        }
-        assert_eq!(rt; told.len(), row.told.len(), "{number}");
+        assert_eq!(rt; told.as_str(), row.told, "{number}");
     }
-    for at in 0..45 {
-        assert!(rt; seen[at], "{at}");
-    }
+    assert_eq!(rt; words.len(), 45);
     Ok(())
 }

@@ -298,29 +298,30 @@ fn put_thread_work(text: &mut String, work: &ThreadWork) -> Result<(), AllocErro
     }
 }
 
-/// An instruction with its place in the source, in front, and with what it names.
-pub fn line_of(alloc: Global, instr: &Instr) -> Result<String, AllocError> {
+// Adds an instruction, in a line that begins with its place in the source.
+fn put_line(text: &mut String, instr: &Instr) -> Result<(), AllocError> {
     let at = instr.place;
-    let mut text = format!(in alloc; "{}:{} {}", at.line, at.column, word(&instr.does))?;
+    write!(text, "{}:{} ", at.line, at.column)?;
+    text.push_str(word(&instr.does))?;
     match &instr.does {
-        Operation::Stack(StackWork::Push(value)) => put_value(&mut text, *value)?,
+        Operation::Stack(StackWork::Push(value)) => put_value(text, *value)?,
         Operation::Stack(_) => {}
-        Operation::Value(work) => put_value_work(&mut text, *work)?,
-        Operation::Object(work) => put_object_work(&mut text, work)?,
-        Operation::Way(work) => put_jump(&mut text, *work)?,
-        Operation::Call(work) => put_call(&mut text, work)?,
-        Operation::Thread(work) => put_thread_work(&mut text, work)?,
+        Operation::Value(work) => put_value_work(text, *work)?,
+        Operation::Object(work) => put_object_work(text, work)?,
+        Operation::Way(work) => put_jump(text, *work)?,
+        Operation::Call(work) => put_call(text, work)?,
+        Operation::Thread(work) => put_thread_work(text, work)?,
     }
-    Ok(text)
+    text.push_str("\n")
 }
 
-/// The instructions of a function, one a line.
-pub fn lines_of(alloc: Global, code: &Code, function: usize) -> Result<Vec<String>, AllocError> {
-    let mut lines = Vec::new(alloc);
+/// The instructions of a function, a line each.
+pub fn text_of(alloc: Global, code: &Code, function: usize) -> Result<String, AllocError> {
+    let mut text = String::new(alloc);
     for place in 0..code.size(function) {
         if let Some(instr) = code.fetch(function, place) {
-            lines.push(line_of(alloc, instr)?)?;
+            put_line(&mut text, instr)?;
         }
     }
-    Ok(lines)
+    Ok(text)
 }
