@@ -111,7 +111,7 @@ fn code_of_parts(rt: HostRuntime) -> Result<(), Fail> {
     assert_eq!(rt; whole.size(0), 6);
     let text = text_of(alloc, &whole, 1)?;
     let main = program.functions().first().expect(&rt, "main");
-    let mut number = 0;
+    let mut parts = PARTS.iter();
     if let StatementKind::Block(_, items) = &main.body.kind {
         for item in items.as_slice() {
             let Item::Do(statement) = item else {
@@ -122,13 +122,12 @@ fn code_of_parts(rt: HostRuntime) -> Result<(), Fail> {
             };
             let code = code_alone(alloc, &whole, &program, e)?;
             let part = text_of(alloc, &code, 0)?;
-            let wanted = PARTS.get(number).copied().unwrap_or("none");
+            let wanted = parts.next().copied().unwrap_or("none");
             let rest = part.as_str().strip_prefix(wanted).expect(&rt, "the part");
-            assert!(rt; rest.ends_with(" GiveBack 0\n"), "{number}");
-            assert!(rt; text.as_str().contains(wanted), "{number}");
-            number += 1;
+            assert!(rt; rest.ends_with(" GiveBack 0\n"));
+            assert!(rt; text.as_str().contains(wanted), "{wanted}");
         }
     }
-    assert_eq!(rt; number, PARTS.len());
+    assert!(rt; parts.next().is_none());
     Ok(())
 }

@@ -1,5 +1,4 @@
 use Rattle.std.proofs.Common.{◌≡◌, [], ◌∷◌, pos, false, refl, sym, ap, ◌∙◌, subst}
-use Rattle.upc_text.specs.declared.place.Place.{Place}
 use Rattle.block_layout.specs.declared.kind.Kind.TheVariants as kind
 use Rattle.block_layout.specs.declared.place.LocalPtr.{LocalPtr}
 use Rattle.block_layout.specs.declared.place.LocalPtr.TheVariants as local
