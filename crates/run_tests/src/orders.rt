@@ -159,3 +159,118 @@ fn orders_of_runs(rt: HostRuntime) -> Result<(), Fail> {
     }
     Ok(())
 }
+
+// A source that two threads run by picks.
+struct Case {
+    source: &'static [u8],
+    picks: &'static [u32],
+}
+
+const TWO: Limits = Limits {
+    threads: 2,
+    budget: 10_000,
+    actions: 10_000,
+};
+
+const IN_TURN: &[u32] = &[
+    0, 1, 0, 1, 0, 1, 0, 1, 0, 1, 0, 1, 0, 1, 0, 1, 0, 1, 0, 1, 0, 1, 0, 1, 0, 1, 0, 1, 0, 1, 0, 1,
+];
+
+const CASES: [Case; 10] = [
+    // Message passing behind a strict flag.
+    Case {
+        source: b"relaxed shared int data; strict shared int flag; int main(void){int r = 0; \
+if (MYTHREAD == 0) {data = 42; flag = 1;} else {while (flag == 0) {} r = data;} return r;}",
+        picks: &[1, 1, 1, 0, 1, 0, 1, 0, 1, 0, 0, 1],
+    },
+    // Message passing behind a fence, both accesses relaxed.
+    Case {
+        source: b"shared int data; shared int flag; int main(void){int r; int s = 0; \
+if (MYTHREAD == 0) {data = 42; upc_fence; flag = 1;} else {r = flag; upc_fence; s = data;} return s;}",
+        picks: IN_TURN,
+    },
+    // Store buffering where the writes are strict.
+    Case {
+        source: b"strict shared int x; strict shared int y; int main(void){int r; \
+if (MYTHREAD == 0) {x = 1; r = y;} else {y = 1; r = x;} return r;}",
+        picks: IN_TURN,
+    },
+    // Each thread reads before the other writes.
+    Case {
+        source: b"shared int x; shared int y; int main(void){int r; \
+if (MYTHREAD == 0) {r = x; y = 1;} else {r = y; x = 1;} return r;}",
+        picks: IN_TURN,
+    },
+    // Two writers of one location, which each reads its own pending write and then what the memory has.
+    Case {
+        source: b"shared int x; int main(void){int r; x = MYTHREAD + 1; r = x; x = 10 * r; r = x; \
+upc_fence; return r + x;}",
+        picks: IN_TURN,
+    },
+    // A write in memory is read by another thread while an older one of the same thread is pending elsewhere.
+    Case {
+        source: b"shared int x; strict shared int y; shared int z; int main(void){int r; \
+if (MYTHREAD == 0) {x = 1; z = 2; r = x + z; y = 3; x = 4;} else {r = y; z = 5; r = x + z + y;} return r;}",
+        picks: &[1, 0, 0, 1, 0, 1, 0, 1, 1, 0, 0, 1, 0, 1, 0, 1],
+    },
+    // Initial values are read, and then written over.
+    Case {
+        source: b"shared int x = 5; strict shared int y = 6; int main(void){int r; r = x + y; \
+if (MYTHREAD == 0) {x = 7; y = 8;} r = x + y; return r;}",
+        picks: IN_TURN,
+    },
+    // Writes between upc_notify and upc_wait.
+    Case {
+        source: b"shared int a[2]; int main(void){int r; a[MYTHREAD] = 1; upc_notify; a[1 - MYTHREAD] = 2; \
+r = a[MYTHREAD]; upc_wait; r = a[0] + a[1]; upc_barrier; return r;}",
+        picks: IN_TURN,
+    },
+    // More writes than may be pending, which the other thread reads.
+    Case {
+        source: b"shared int x[70]; int main(void){int i; int r = 0; \
+for (i = 0; i < 70; i++) {if (MYTHREAD == 0) x[i] = i + 1; else r += x[69 - i];} return r;}",
+        picks: IN_TURN,
+    },
+    // A run error while writes are pending.
+    Case {
+        source: b"shared int x; strict shared int y; int main(void){int r = 0; x = 1; r = x; \
+if (MYTHREAD == 1) r = 1 / y; y = r; return x;}",
+        picks: IN_TURN,
+    },
+];
+
+#[test]
+fn orders_of_cases(rt: HostRuntime) -> Result<(), Fail> {
+    let alloc = rt.alloc();
+    for (number, case) in CASES.iter().enumerate() {
+        let program = program_of(alloc, 2, case.source)?.expect(&rt, "a program");
+        assert!(rt; program.threads() == 2);
+        let journal = run_program(&rt, alloc, &program, TWO, case.picks)?;
+        let found = orders(alloc, &journal)?;
+        assert!(rt;
+            is_consistent(alloc, &journal, program.initials(), &found)?,
+            "{number}"
+        );
+    }
+    Ok(())
+}
+
+// Each turn of a thread is a relaxed write, a relaxed read and a strict write.
+const MANY: &[u8] = b"shared int x[4]; strict shared int s; int main(void){int i; \
+for (i = 0; i < 340; i++) {x[i % 4] = i; s = x[(i + 1) % 4];} return 0;}";
+
+// Around main each thread notifies and waits twice.
+#[test]
+fn orders_of_many_entries(rt: HostRuntime) -> Result<(), Fail> {
+    let alloc = rt.alloc();
+    let program = program_of(alloc, 2, MANY)?.expect(&rt, "a program");
+    assert!(rt; program.threads() == 2);
+    let journal = run_program(&rt, alloc, &program, TWO, &[])?;
+    assert_eq!(rt; journal.history.len(), 2 * (3 * 340 + 4));
+    let found = orders(alloc, &journal)?;
+    assert_eq!(rt; found.strict.len(), 2 * (340 + 4));
+    for order in found.threads.as_slice() {
+        assert_eq!(rt; order.len(), 3 * 340 + 4 + 2 * 340 + 4);
+    }
+    Ok(())
+}
