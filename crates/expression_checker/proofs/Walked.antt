@@ -1,5 +1,5 @@
 -- Walks over expressions and types whose parts the code names otherwise.
-use Rattle.std.proofs.Common.{Box, Global, ◌≡◌, ℕ, Bool, false, List, Option, None, Result, Ok, Err, IsErrAnd, IfErr, OnOk, refl, sym, ap, ◌∙◌, subst}
+use Rattle.std.proofs.Common.{Box, Global, ◌≡◌, ℕ, Bool, true, false, List, Option, Some, None, Result, Ok, Err, IsErrAnd, IfErr, OnOk, refl, sym, ap, ◌∙◌, subst}
 use Rattle.upc_text.specs.declared.place.Place.{Place}
 use Rattle.upc_text.specs.declared.faults.Stop.{Stop}
 use Rattle.upc_tree.specs.declared.mark.AssignMark.{AssignMark}
@@ -13,7 +13,7 @@ use Rattle.typing_rules.specs.Meanings.{Meaning}
 use Rattle.typed_tree.specs.Scopes.{Setting, Env, inside, State, spelling}
 use Rattle.typing_rules.specs.Nodes as n
 use Rattle.typing_rules.specs.Nodes.{Use, Formed, view_attr}
-use Rattle.typing_rules.specs.Rules.{lowest}
+use Rattle.typing_rules.specs.Rules.{lowest, or_above}
 use Rattle.typing_rules.specs.Faults.{first_fault}
 use Rattle.typed_tree.specs.Tree as k
 use Rattle.typed_tree.specs.Tree.{Expr, Exprs, attrs_of}
@@ -154,20 +154,25 @@ member_stops view ξ Γ t0 t1 before stars name sizes s s1 s2 after cs f again a
     let same : lowest (facts_in ξ s2) (n.Member again f) ≡ lowest (facts_in ξ s2) (n.Member (has_member before (spelling ξ name.number)) (formed ξ.threads t1 cs)) = ap (λ a. lowest (facts_in ξ s2) (n.Member a f)) a ∙ ap (λ f. lowest (facts_in ξ s2) (n.Member (has_member before (spelling ξ name.number)) f)) g in
     next _ _ h (next _ _ i (stopped _ _ s2 e j (judge_stops ξ (pointers_place stars name) (n.Member (has_member before (spelling ξ name.number)) (formed ξ.threads t1 cs)) s2 rule e (l ∙ same) (subst (λ at. Refuses rule at e) p o))))
 
+breaks_one : (a b : Bool) → or_above 4 a (or_above 7 b (Some 8)) ≡ None → ⊥
+breaks_one true b h = absurd cc
+breaks_one false true h = absurd cc
+breaks_one false false h = absurd cc
+
 -- A member that is a function: it breaks a rule.
 function_ends : {C : Type 0} (view : C → List Member) (ξ : Setting) (Γ inner : Env) (t0 t1 : Shaped) (before : List Member) (stars : t.Pointers) (name : Name) (ps : t.Parameters) (s s1 first s2 after : State) (d : Declared) (at : Place) (rule : Option ℕ) (r : Result C Stop) →
     Comes (walk_pointers ξ Γ false t0 stars s) s1 t1 → inner ≡ inside Γ → first ≡ s1 → Comes (walk_parameters ξ inner ps first) s2 d → at ≡ pointers_place stars name →
-    rule ≡ lowest (facts_in ξ (record s2 { tags = s1.tags })) n.MemberFunction → OnOk r (rule ≡ None) → IfErr r (Refuses rule at) →
+    rule ≡ lowest (facts_in ξ (record s2 { tags = s1.tags })) (n.MemberFunction t1.forms t1.ctype) → OnOk r (rule ≡ None) → IfErr r (Refuses rule at) →
     Reaches view (walk_member ξ Γ t0 before (t.FunctionDeclarator stars name ps) s) after r
-function_ends view ξ Γ inner t0 t1 before stars name ps s s1 first s2 after d at rule (Ok x) h e f i p l ok bad = absurd (cc (l, ok))
+function_ends view ξ Γ inner t0 t1 before stars name ps s s1 first s2 after d at rule (Ok x) h e f i p l ok bad = absurd (breaks_one _ _ (sym l ∙ ok))
 function_ends view ξ Γ inner t0 t1 before stars name ps s s1 first s2 after d at rule (Err y) h e f i p l ok bad =
     let inside = enclosed_comes ξ Γ inner ps s1 first s2 d e f i in
     let state = record s2 { tags = s1.tags } in
-    next _ _ h (next _ _ inside (stopped _ _ state y refl (judge_stops ξ (pointers_place stars name) n.MemberFunction state rule y l (subst (λ at. Refuses rule at y) p bad))))
+    next _ _ h (next _ _ inside (stopped _ _ state y refl (judge_stops ξ (pointers_place stars name) (n.MemberFunction t1.forms t1.ctype) state rule y l (subst (λ at. Refuses rule at y) p bad))))
 
 pub function_is_none : {C : Type 0} (view : C → List Member) (ξ : Setting) (Γ inner : Env) (t0 t1 : Shaped) (before : List Member) (x : t.Declarator) (stars : t.Pointers) (name : Name) (ps : t.Parameters) (s s1 first s2 after : State) (d : Declared) (at : Place) (rule : Option ℕ) (r : Result C Stop) →
     x ≡ t.FunctionDeclarator stars name ps → Comes (walk_pointers ξ Γ false t0 stars s) s1 t1 → inner ≡ inside Γ → first ≡ s1 → Comes (walk_parameters ξ inner ps first) s2 d → at ≡ pointers_place stars name →
-    rule ≡ lowest (facts_in ξ (record s2 { tags = s1.tags })) n.MemberFunction → OnOk r (rule ≡ None) → IfErr r (Refuses rule at) →
+    rule ≡ lowest (facts_in ξ (record s2 { tags = s1.tags })) (n.MemberFunction t1.forms t1.ctype) → OnOk r (rule ≡ None) → IfErr r (Refuses rule at) →
     Meets view (walk_member ξ Γ t0 before x s) after r
 function_is_none view ξ Γ inner t0 t1 before x stars name ps s s1 first s2 after d at rule r g h e f i p l ok bad =
     subst (λ z. Meets view (walk_member ξ Γ t0 before z s) after r) (sym g) (function_ends view ξ Γ inner t0 t1 before stars name ps s s1 first s2 after d at rule r h e f i p l ok bad).met

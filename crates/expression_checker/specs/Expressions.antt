@@ -186,7 +186,8 @@ abbrev mutual
   walk_member ξ Γ t before (FunctionDeclarator pointers name parameters) =
       andthen (walk_pointers ξ Γ false t pointers) (λ p.
       andthen (enclosed (walk_parameters ξ (inside Γ) parameters)) (λ ps.
-      andthen (judge ξ (pointers_place pointers name) n.MemberFunction) (λ u. give before)))
+      andthen (judge ξ (pointers_place pointers name) (n.MemberFunction p.forms p.ctype)) (λ u.
+      give before)))
 
   -- Parameters, in a scope of their own.
   pub walk_parameters : Setting → Env → Parameters → Walk Declared

@@ -351,11 +351,11 @@ fn walk_member(
             name,
             parameters,
         } => {
-            walk_pointers(pointers.as_slice(), false, t, setting, env, tags, known)?;
+            let t = walk_pointers(pointers.as_slice(), false, t, setting, env, tags, known)?;
             let mut scope = inside(setting.alloc, env)?;
             let mut inner = enclosed(setting.alloc, &*tags);
             walk_parameters(parameters, setting, &mut scope, &mut inner, known)?;
-            judged(member_function(), at)
+            judged(member_function(t.forms, &t.ctype), at)
         }
     }
 }

@@ -1,5 +1,5 @@
 -- What a thread does in a library call, over a list of replies.
-use Rattle.std.specs.Prelude.{◌≡◌, List, [], ◌∷◌}
+use Rattle.std.specs.Prelude.{◌≡◌, ℕ, nat_le, ◌&&◌, if◌then◌else◌, List, [], ◌∷◌, Option, Some, None}
 use Rattle.upc_values.specs.declared.action.Reply.{Reply}
 use Rattle.upc_values.specs.Expansion.{Expansion, Gives, Fails, Reads, Asks, Loads, Stores, value_in, after_replies}
 use Rattle.plain_calls.specs.declared.told.Step.{Step}
@@ -28,6 +28,10 @@ told (Loads p k go) [] = at_once (end.Asks (Load p k))
 told (Loads p k go) (r ∷ rs) = after (Load p k) (told (go (value_in r)) rs)
 told (Stores p k v go) [] = at_once (end.Asks (Store p k v))
 told (Stores p k v go) (r ∷ rs) = after (Store p k v) (told go rs)
+
+-- A collective call has a number from 5 to 12; what is told of it, and nothing of another number (UPC 7.3).
+abbrev pub if_collective : ℕ → Told → Option Told
+if_collective call t = if nat_le 5 call && nat_le call 12 then Some t else None
 
 -- how an expansion that has come so far ends where there is no more reply
 abbrev pub end_now : Expansion (Unit {0}) → End

@@ -6,7 +6,7 @@ ghost use Rattle.upc_values.specs.Expansion.{bind, does, nothing, barrier};
 ghost use Rattle.upc_values.specs.Expansions as said;
 ghost use Rattle.plain_calls.specs.Calls.{call_in, way_in, FitsLimits};
 ghost use Rattle.plain_calls.specs.Run.{Follows};
-ghost use Rattle.plain_calls.specs.Told.{told};
+ghost use Rattle.plain_calls.specs.Told.{if_collective, told};
 
 use crate::arguments::refusal;
 use crate::call::{Call, Way, call_of};
@@ -155,18 +155,23 @@ fn call_together(
     take_part(alloc, telling, thread, &asked)
 }
 
-/// What a thread does in a collective call from 5 to 12, by its number and arguments, with these replies (UPC 7.3).
+/// What a thread does in a collective call, by its number and arguments, with these replies (UPC 7.3). None where the
+/// number is none from 5 to 12.
 pub fn collective(
     alloc: Global,
     thread: &Thread<'_>,
     call: u8,
     args: &[Scalar],
     replies: &[Reply],
-) -> Result<Told, AllocError>
-    ensures { IfOk result (λ t. t ≡ told (said.collective thread.now.threads thread.now.shapes.now
-        thread.now.number call args.now) replies.now) }
+) -> Result<Option<Told>, AllocError>
+    ensures { IfOk result (λ t. t ≡ if_collective call (told (said.collective thread.now.threads
+        thread.now.shapes.now thread.now.number call args.now) replies.now)) }
 {
+    if !(5 <= call && call <= 12) {
+        return Ok(None);
+    }
     let mut telling = Telling::begin(alloc, replies);
     let end = call_together(alloc, &mut telling, thread, call, args);
-    telling.finish(end)
+    let told = telling.finish(end)?;
+    Ok(Some(told))
 }

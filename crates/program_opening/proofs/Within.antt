@@ -25,8 +25,8 @@ use Rattle.upc_values.specs.declared.scalar.Value.{Value}
 use Rattle.upc_values.specs.declared.scalar.Value.TheVariants as value
 use Rattle.typed_tree.specs.Initials.{Setting, scalar_kind, constants_in, part_of, cells_from, cells_in}
 use Rattle.typed_tree.specs.Initials.{private_from, value_in}
-use Rattle.typed_tree.specs.PrivateOpenings as private
 use Rattle.typed_tree.specs.PrivateOpenings.{kind_in, private_cell, fits_cell, is_local, is_known}
+use Rattle.upc_values.specs.Shapes.{value_fits}
 use Rattle.program_opening.proofs.Starts.{each_grow, scalar_cells}
 use Rattle.program_opening.proofs.Worth.{is_scalar, value_worth, value_local}
 use Rattle.upc_types.proofs.Within.{kind_bytes}
@@ -197,9 +197,9 @@ slice_shapes s [] i e h = absurd (omega arith)
 slice_shapes s (x ∷ xs) zero e h = refl
 slice_shapes s (x ∷ xs) (suc i) e h = slice_shapes s xs i e (omega arith)
 
-value_fits : (σ : Setting) (kind : Kind) (c : Constant) (v : Value) → value_in σ kind c ≡ v → private.fits v kind ≡ true
-value_fits σ kind c (value.Scalar w) e = (value_worth σ kind c w e).fit
-value_fits σ kind c (value.Local p) e = (value_local σ kind c p e).fit
+its_value_fits : (σ : Setting) (kind : Kind) (c : Constant) (v : Value) → value_in σ kind c ≡ v → value_fits v kind ≡ true
+its_value_fits σ kind c (value.Scalar w) e = (value_worth σ kind c w e).fit
+its_value_fits σ kind c (value.Local p) e = (value_local σ kind c p e).fit
 
 pub private_fit : (σ : Setting) (xs : List DeclaredObject) (e : DeclaredObject) →
     Each (λ x. fits_cell x.1 (private_cell (shapes_of σ.structs xs) x.0) ≡ true) (private_from σ 0 xs)
@@ -214,7 +214,7 @@ private_fit σ xs e =
     ap (λ (r : Option Shape). kind_in r offset) (slice_shapes σ.structs xs i e h)
     ∙ cell_at σ.structs (base_of x.ctype) x.initial kind j k l in
     subst (λ n. fits_cell (value_in σ kind c) (kind_in (slice_get (shapes_of σ.structs xs) n) offset) ≡ true) z
-    (ap (fits_cell (value_in σ kind c)) shape ∙ value_fits σ kind c (value_in σ kind c) refl))
+    (ap (fits_cell (value_in σ kind c)) shape ∙ its_value_fits σ kind c (value_in σ kind c) refl))
 
 known_is : (σ : Setting) (o : Opening) (privates : ℕ) (kind : Kind) (c : Constant) (v : Value) → σ.privates
     ≡ privates → ((w : Scalar) → is_scalar σ w ≡ true → is_initial o w ≡ true) →

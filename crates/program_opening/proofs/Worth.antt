@@ -23,7 +23,7 @@ use Rattle.integers.specs.Integers.{width, least, values, in_kind, converted}
 use Rattle.upc_values.specs.declared.scalar.Scalar.{Scalar}
 use Rattle.upc_values.specs.declared.scalar.Scalar.TheVariants as scalar
 use Rattle.upc_values.specs.Openings.{is_private, is_named}
-use Rattle.upc_values.specs.Shapes.{fits_kind}
+use Rattle.upc_values.specs.Shapes.{fits_kind, value_fits}
 use Rattle.typing_rules.specs.declared.attribute.Static.TheVariants as static
 use Rattle.typing_rules.specs.declared.attribute.Constant.{Constant}
 use Rattle.typing_rules.specs.declared.attribute.Constant.TheVariants.{Variable, Known, Undefined, Null, Address}
@@ -36,7 +36,6 @@ use Rattle.typed_tree.specs.Initials.{local_pointer_in, value_in}
 use Rattle.block_layout.specs.declared.place.LocalPtr.{LocalPtr}
 use Rattle.block_layout.specs.declared.place.LocalPtr.TheVariants as local
 use Rattle.typed_tree.specs.PrivateOpenings.{is_local}
-use Rattle.typed_tree.specs.PrivateOpenings as private
 
 -- ---- integers
 
@@ -69,7 +68,7 @@ integer_fits kind Variable = zero_in kind
 integer_fits kind (Known v) = converted_in kind v
 integer_fits kind Undefined = zero_in kind
 integer_fits kind Null = zero_in kind
-integer_fits kind (Address p) = zero_in kind
+integer_fits kind (Address p e) = zero_in kind
 
 -- ---- pointers-to-shared
 
@@ -92,9 +91,9 @@ into_phase threads block (Some x) thread phase offset =
     fitting_phase (fits threads block p) threads block p refl
 
 pub pointer_phase : (σ : Setting) (block : ℕ) (c : Constant) → phase_fits block (shared_pointer_in σ block c) ≡ true
-pointer_phase σ block (Address (static.Shared object thread phase offset)) =
+pointer_phase σ block (Address (static.Shared object thread phase offset) e) =
     into_phase σ.threads block (numbered σ.shared object) thread phase offset
-pointer_phase σ block (Address (static.Private object offset)) = refl
+pointer_phase σ block (Address (static.Private object offset) e) = refl
 pointer_phase σ block Variable = refl
 pointer_phase σ block (Known v) = refl
 pointer_phase σ block Undefined = refl
@@ -148,9 +147,9 @@ into_named threads block xs n (Some x) thread phase offset e =
 
 pub pointer_named : (σ : Setting) (block : ℕ) (c : Constant) →
     is_named σ.threads (map object_of σ.shared) (shared_pointer_in σ block c) ≡ true
-pointer_named σ block (Address (static.Shared object thread phase offset)) =
+pointer_named σ block (Address (static.Shared object thread phase offset) e) =
     into_named σ.threads block σ.shared object (numbered σ.shared object) thread phase offset refl
-pointer_named σ block (Address (static.Private object offset)) = null_named σ.threads (map object_of σ.shared)
+pointer_named σ block (Address (static.Private object offset) e) = null_named σ.threads (map object_of σ.shared)
 pointer_named σ block Variable = null_named σ.threads (map object_of σ.shared)
 pointer_named σ block (Known v) = null_named σ.threads (map object_of σ.shared)
 pointer_named σ block Undefined = null_named σ.threads (map object_of σ.shared)
@@ -205,7 +204,7 @@ value_worth σ (Private n) c v e = absurd cc
 
 -- A pointer-to-local fits a kind of a pointer to a private object, and names nothing but private objects of the file.
 pub record IsLocal (σ : Setting) (kind : Kind) (p : LocalPtr) : Type 0 where
-  pub fit : private.fits (value.Local p) kind ≡ true
+  pub fit : value_fits (value.Local p) kind ≡ true
   pub known : is_local σ.privates p ≡ true
 
 if_local : (b : Bool) (privates object : ℕ) (offset : ℤ) → (nat_lt object privates && in_range offset) ≡ b →
@@ -214,9 +213,9 @@ if_local true privates object offset e = e
 if_local false privates object offset e = refl
 
 pointer_local : (σ : Setting) (c : Constant) → is_local σ.privates (local_pointer_in σ c) ≡ true
-pointer_local σ (Address (static.Private object offset)) =
+pointer_local σ (Address (static.Private object offset) e) =
     if_local (nat_lt object σ.privates && in_range offset) σ.privates object offset refl
-pointer_local σ (Address (static.Shared object thread phase offset)) = refl
+pointer_local σ (Address (static.Shared object thread phase offset) e) = refl
 pointer_local σ Variable = refl
 pointer_local σ (Known v) = refl
 pointer_local σ Undefined = refl

@@ -99,6 +99,7 @@ fn shared_pointer_in(setting: &Setting<'_>, block: u32, constant: Constant) -> S
                 phase,
                 offset,
             },
+            _,
         ) => {
             let named = numbered(setting.shared, object);
             pointer_into(setting.threads, block, named, thread, phase, offset)
@@ -111,7 +112,7 @@ fn local_pointer_in(setting: &Setting<'_>, constant: Constant) -> LocalPtr
     ensures { result ≡ pure.local_pointer_in (view_setting setting.now) constant }
 {
     match constant {
-        Constant::Address(Static::Private { object, offset }) => {
+        Constant::Address(Static::Private { object, offset }, _) => {
             let object = u64::from(object);
             if object < setting.privates && is_in_range(offset) {
                 LocalPtr::Private { object, offset }

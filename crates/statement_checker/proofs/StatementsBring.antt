@@ -86,22 +86,22 @@ mutual
   statement_brings ξ Γ c strict (s.Block compound) = block_brings ξ _ c strict compound
   statement_brings ξ Γ c strict (s.Value value semicolon) = kept (value_keeps ξ Γ value) (λ a. brings_give _ refl)
   statement_brings ξ Γ c strict (s.If word test body more last) =
-      brings_enclosed (kept (test_keeps ξ _ test) (λ a. brings (statement_brings ξ _ c strict body) (λ b. brings (else_ifs_bring ξ _ c strict more) (λ x.
+      brings_enclosed (kept (test_keeps ξ _ test) (λ a. brings (brings_enclosed (statement_brings ξ _ c strict body)) (λ b. brings (else_ifs_bring ξ _ c strict more) (λ x.
       brings (otherwise_brings ξ _ c strict last) (λ o. kept (keeps_judge ξ _ _ (λ s. refl)) (λ u. brings_give _ (omega (arith, length-append {A = k.DeclaredObject}))))))))
   statement_brings ξ Γ c strict (s.Switch word test left items right) =
-      brings_enclosed (kept (test_keeps ξ _ test) (λ a. brings (switch_brings ξ _ _ strict _ items) (λ x.
+      brings_enclosed (kept (test_keeps ξ _ test) (λ a. brings (brings_enclosed (switch_brings ξ _ _ strict _ items)) (λ x.
       kept (keeps_judge ξ _ _ (λ s. refl)) (λ u. brings_give _ (omega (arith, length-append {A = k.DeclaredObject}))))))
   statement_brings ξ Γ c strict (s.While word test body) =
-      brings_enclosed (kept (test_keeps ξ _ test) (λ a. brings (statement_brings ξ _ _ strict body) (λ b.
+      brings_enclosed (kept (test_keeps ξ _ test) (λ a. brings (brings_enclosed (statement_brings ξ _ _ strict body)) (λ b.
       kept (keeps_judge ξ _ _ (λ s. refl)) (λ u. brings_give _ (omega (arith, length-append {A = k.DeclaredObject}))))))
   statement_brings ξ Γ c strict (s.DoWhile word body until test semicolon) =
-      brings_enclosed (brings (statement_brings ξ _ _ strict body) (λ b. kept (test_keeps ξ _ test) (λ a.
+      brings_enclosed (brings (brings_enclosed (statement_brings ξ _ _ strict body)) (λ b. kept (test_keeps ξ _ test) (λ a.
       kept (keeps_judge ξ _ _ (λ s. refl)) (λ u. brings_give _ (omega (arith, length-append {A = k.DeclaredObject}))))))
   statement_brings ξ Γ c strict (s.For word head body) =
-      brings_enclosed (brings (for_head_brings ξ _ head) (λ h. brings (statement_brings ξ _ _ strict body) (λ b.
+      brings_enclosed (brings (for_head_brings ξ _ head) (λ h. brings (brings_enclosed (statement_brings ξ _ _ strict body)) (λ b.
       kept (keeps_judge ξ _ _ (λ s. refl)) (λ u. brings_give _ (omega (arith, length-append {A = k.DeclaredObject}))))))
   statement_brings ξ Γ c strict (s.Forall word head body) =
-      brings_enclosed (brings (forall_head_brings ξ _ head) (λ h. brings (statement_brings ξ _ _ strict body) (λ b.
+      brings_enclosed (brings (forall_head_brings ξ _ head) (λ h. brings (brings_enclosed (statement_brings ξ _ _ strict body)) (λ b.
       kept (keeps_judge ξ _ _ (λ s. refl)) (λ u. brings_give _ (omega (arith, length-append {A = k.DeclaredObject}))))))
   statement_brings ξ Γ c strict (s.Break word semicolon) = kept (keeps_judge ξ _ _ (λ s. refl)) (λ u. brings_give _ refl)
   statement_brings ξ Γ c strict (s.Continue word semicolon) = kept (keeps_judge ξ _ _ (λ s. refl)) (λ u. brings_give _ refl)
@@ -130,9 +130,9 @@ mutual
   else_ifs_bring : (ξ : Setting) (Γ : Env) (c : Around) (strict : Bool) (x : ElseIfs) → Brings 0 (walk_else_ifs ξ Γ c strict x) by_armed
   else_ifs_bring ξ Γ c strict NoElseIfs = brings_give _ refl
   else_ifs_bring ξ Γ c strict (AndElseIf other word test body more) =
-      kept (test_keeps ξ Γ test) (λ a. brings (statement_brings ξ Γ c strict body) (λ b.
+      kept (test_keeps ξ Γ test) (λ a. brings (brings_enclosed (statement_brings ξ _ c strict body)) (λ b.
       brings (else_ifs_bring ξ Γ c strict more) (λ x. brings_give _ (omega (arith, length-append {A = k.DeclaredObject})))))
 
   otherwise_brings : (ξ : Setting) (Γ : Env) (c : Around) (strict : Bool) (x : Otherwise) → Brings 0 (walk_otherwise ξ Γ c strict x) declared_by_last
   otherwise_brings ξ Γ c strict NoOtherwise = brings_give _ refl
-  otherwise_brings ξ Γ c strict (Else word body) = brings (statement_brings ξ Γ c strict body) (λ b. brings_give _ (omega (arith, length-append {A = k.DeclaredObject})))
+  otherwise_brings ξ Γ c strict (Else word body) = brings (brings_enclosed (statement_brings ξ _ c strict body)) (λ b. brings_give _ (omega (arith, length-append {A = k.DeclaredObject})))

@@ -7,11 +7,11 @@ use Rattle.typing_rules.specs.Attributes.{base}
 use Rattle.typing_rules.specs.Values.{base_kind}
 use Rattle.typing_rules.specs.Nodes as n
 use Rattle.typing_rules.specs.Nodes.{Around}
-use Rattle.typed_tree.specs.Scopes.{Setting, Env}
+use Rattle.typed_tree.specs.Scopes.{Setting, Env, inside}
 use Rattle.typed_tree.specs.Tree as k
 use Rattle.typed_tree.specs.Tree.{attr_of}
 use Rattle.walk_state.specs.Places.{at}
-use Rattle.walk_state.specs.Walk.{Walk, give, andthen, judge}
+use Rattle.walk_state.specs.Walk.{Walk, give, andthen, judge, enclosed}
 use Rattle.statement_checker.specs.Statements.{in_loop, in_switch, in_forall, tests_of, walk_test, walk_for_head}
 use Rattle.statement_checker.specs.Statements.{walk_forall_head, walk_statement, walk_switch, walk_else_ifs}
 use Rattle.statement_checker.specs.Statements.{walk_otherwise}
@@ -24,7 +24,7 @@ returned_node c (Some a) = n.Returns c (attr_of a)
 -- An `if` with its arms.
 abbrev pub if_part : Setting → Bool → Span → Test → s.Statement → ElseIfs → Otherwise → Around → Env → Walk k.Statement
 if_part ξ strict word test body more last c Γ =
-    andthen (walk_test ξ Γ test) (λ a. andthen (walk_statement ξ Γ c strict body) (λ b.
+    andthen (walk_test ξ Γ test) (λ a. andthen (enclosed (walk_statement ξ (inside Γ) c strict body)) (λ b.
     andthen (walk_else_ifs ξ Γ c strict more) (λ x. andthen (walk_otherwise ξ Γ c strict last) (λ o.
     andthen (judge ξ (at word) (n.Tests (attr_of a ∷ x.tests))) (λ u.
     give (k.Stands (at word) (k.If (k.AndArm a b x.arms) o)))))))
@@ -32,32 +32,34 @@ if_part ξ strict word test body more last c Γ =
 -- A `switch`.
 abbrev pub switch_part : Setting → Bool → Span → Test → SwitchItems → Around → Env → Walk k.Statement
 switch_part ξ strict word test items c Γ =
-    andthen (walk_test ξ Γ test) (λ a. andthen (walk_switch ξ Γ c strict (base_kind (base (attr_of a))) items) (λ x.
+    andthen (walk_test ξ Γ test) (λ a.
+    andthen (enclosed (walk_switch ξ (inside Γ) c strict (base_kind (base (attr_of a))) items)) (λ x.
     andthen (judge ξ (at word) (n.Switch (attr_of a) x.labels x.defaults)) (λ u.
     give (k.Stands (at word) (k.Switch a x.items)))))
 
 -- A `while`.
 abbrev pub while_part : Setting → Bool → Span → Test → s.Statement → Around → Env → Walk k.Statement
 while_part ξ strict word test body c Γ =
-    andthen (walk_test ξ Γ test) (λ a. andthen (walk_statement ξ Γ c strict body) (λ b.
+    andthen (walk_test ξ Γ test) (λ a. andthen (enclosed (walk_statement ξ (inside Γ) c strict body)) (λ b.
     andthen (judge ξ (at word) (n.Tests (attr_of a ∷ []))) (λ u. give (k.Stands (at word) (k.While a b)))))
 
 -- A `do` with its `while`.
 abbrev pub do_part : Setting → Bool → Span → Test → s.Statement → Around → Env → Walk k.Statement
 do_part ξ strict word test body c Γ =
-    andthen (walk_statement ξ Γ c strict body) (λ b. andthen (walk_test ξ Γ test) (λ a.
+    andthen (enclosed (walk_statement ξ (inside Γ) c strict body)) (λ b. andthen (walk_test ξ Γ test) (λ a.
     andthen (judge ξ (at word) (n.Tests (attr_of a ∷ []))) (λ u. give (k.Stands (at word) (k.DoWhile b a)))))
 
 -- A `for`.
 abbrev pub for_part : Setting → Bool → Span → ForHead → s.Statement → Around → Env → Walk k.Statement
 for_part ξ strict word head body c Γ =
-    andthen (walk_for_head ξ Γ head) (λ h. andthen (walk_statement ξ h.scope c strict body) (λ b.
+    andthen (walk_for_head ξ Γ head) (λ h. andthen (enclosed (walk_statement ξ (inside h.scope) c strict body)) (λ b.
     andthen (judge ξ (at word) (n.Tests (tests_of h.head.test))) (λ u. give (k.Stands (at word) (k.For h.head b)))))
 
 -- A `upc_forall` (UPC 6.6.2).
 abbrev pub forall_part : Setting → Bool → Span → ForallHead → s.Statement → Around → Env → Walk k.Statement
 forall_part ξ strict word head body c Γ =
-    andthen (walk_forall_head ξ Γ head) (λ h. andthen (walk_statement ξ h.scope c strict body) (λ b.
+    andthen (walk_forall_head ξ Γ head) (λ h.
+    andthen (enclosed (walk_statement ξ (inside h.scope) c strict body)) (λ b.
     andthen (judge ξ (at word) (n.Tests (tests_of h.head.test))) (λ u.
     give (k.Stands (at word) (k.Forall h.head h.affinity b)))))
 

@@ -162,36 +162,38 @@ statement_place None semicolon = at semicolon
 statement_place (Some a) semicolon = place_of a
 
 abbrev mutual
-  -- A statement. Those that choose and those that repeat are blocks (C99 6.8.4, 6.8.5).
+  -- A statement. Those that choose and those that repeat are blocks, and so are their parts (C99 6.8.4, 6.8.5).
   pub walk_statement : Setting → Env → Around → Bool → Statement → Walk k.Statement
   walk_statement ξ Γ c strict (s.Block compound) = walk_block ξ (inside Γ) c strict compound
   walk_statement ξ Γ c strict (s.Value value semicolon) =
       andthen (walk_value ξ Γ value) (λ a. give (k.Stands (statement_place a semicolon) (k.Value a)))
   walk_statement ξ Γ c strict (s.If word test body more last) =
-      enclosed (andthen (walk_test ξ (inside Γ) test) (λ a. andthen (walk_statement ξ (inside Γ) c strict body) (λ b.
+      enclosed (andthen (walk_test ξ (inside Γ) test) (λ a.
+      andthen (enclosed (walk_statement ξ (inside (inside Γ)) c strict body)) (λ b.
       andthen (walk_else_ifs ξ (inside Γ) c strict more) (λ x. andthen (walk_otherwise ξ (inside Γ) c strict last) (λ o.
       andthen (judge ξ (at word) (n.Tests (attr_of a ∷ x.tests))) (λ u.
       give (k.Stands (at word) (k.If (k.AndArm a b x.arms) o))))))))
   walk_statement ξ Γ c strict (s.Switch word test left items right) =
       enclosed (andthen (walk_test ξ (inside Γ) test) (λ a.
-      andthen (walk_switch ξ (inside Γ) (in_switch c) strict (base_kind (base (attr_of a))) items) (λ x.
+      andthen (enclosed (walk_switch ξ (inside (inside Γ)) (in_switch c) strict (base_kind (base (attr_of a)))
+      items)) (λ x.
       andthen (judge ξ (at word) (n.Switch (attr_of a) x.labels x.defaults)) (λ u.
       give (k.Stands (at word) (k.Switch a x.items))))))
   walk_statement ξ Γ c strict (s.While word test body) =
       enclosed (andthen (walk_test ξ (inside Γ) test) (λ a.
-      andthen (walk_statement ξ (inside Γ) (in_loop c) strict body) (λ b.
+      andthen (enclosed (walk_statement ξ (inside (inside Γ)) (in_loop c) strict body)) (λ b.
       andthen (judge ξ (at word) (n.Tests (attr_of a ∷ []))) (λ u. give (k.Stands (at word) (k.While a b))))))
   walk_statement ξ Γ c strict (s.DoWhile word body until test semicolon) =
-      enclosed (andthen (walk_statement ξ (inside Γ) (in_loop c) strict body) (λ b.
+      enclosed (andthen (enclosed (walk_statement ξ (inside (inside Γ)) (in_loop c) strict body)) (λ b.
       andthen (walk_test ξ (inside Γ) test) (λ a.
       andthen (judge ξ (at word) (n.Tests (attr_of a ∷ []))) (λ u. give (k.Stands (at word) (k.DoWhile b a))))))
   walk_statement ξ Γ c strict (s.For word head body) =
       enclosed (andthen (walk_for_head ξ (inside Γ) head) (λ h.
-      andthen (walk_statement ξ h.scope (in_loop c) strict body) (λ b.
+      andthen (enclosed (walk_statement ξ (inside h.scope) (in_loop c) strict body)) (λ b.
       andthen (judge ξ (at word) (n.Tests (tests_of h.head.test))) (λ u. give (k.Stands (at word) (k.For h.head b))))))
   walk_statement ξ Γ c strict (s.Forall word head body) =
       enclosed (andthen (walk_forall_head ξ (inside Γ) head) (λ h.
-      andthen (walk_statement ξ h.scope (in_forall c) strict body) (λ b.
+      andthen (enclosed (walk_statement ξ (inside h.scope) (in_forall c) strict body)) (λ b.
       andthen (judge ξ (at word) (n.Tests (tests_of h.head.test))) (λ u.
       give (k.Stands (at word) (k.Forall h.head h.affinity b))))))
   walk_statement ξ Γ c strict (s.Break word semicolon) =
@@ -234,10 +236,10 @@ abbrev mutual
   pub walk_else_ifs : Setting → Env → Around → Bool → ElseIfs → Walk Armed
   walk_else_ifs ξ Γ c strict NoElseIfs = give (record { arms = k.NoArms; tests = [] })
   walk_else_ifs ξ Γ c strict (AndElseIf other word test body more) =
-      andthen (walk_test ξ Γ test) (λ a. andthen (walk_statement ξ Γ c strict body) (λ b.
+      andthen (walk_test ξ Γ test) (λ a. andthen (enclosed (walk_statement ξ (inside Γ) c strict body)) (λ b.
       andthen (walk_else_ifs ξ Γ c strict more) (λ x. give (with_arm a b x))))
 
   pub walk_otherwise : Setting → Env → Around → Bool → Otherwise → Walk k.StatementOption
   walk_otherwise ξ Γ c strict NoOtherwise = give k.NoStatement
   walk_otherwise ξ Γ c strict (Else word body) =
-      andthen (walk_statement ξ Γ c strict body) (λ b. give (k.TheStatement b))
+      andthen (enclosed (walk_statement ξ (inside Γ) c strict body)) (λ b. give (k.TheStatement b))

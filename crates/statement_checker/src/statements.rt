@@ -20,6 +20,7 @@ ghost use Rattle.statement_checker.specs.Groups.{is_if, is_scoped, is_simple};
 ghost use Rattle.statement_checker.specs.Parts as parts;
 ghost use Rattle.statement_checker.specs.Statements as pure;
 ghost use Rattle.walk_state.specs.Views.{state_of, view_setting};
+ghost use Rattle.walk_state.specs.Walk as walks;
 ghost use Rattle.walk_state.specs.Walk.{andthen, give};
 
 use crate::heads::{
@@ -147,7 +148,7 @@ fn walk_simple(
 
 // ---- statements
 
-// A statement. Those that choose and those that repeat are blocks (C99 6.8.4, 6.8.5).
+// A statement. Those that choose and those that repeat are blocks, and so are their parts (C99 6.8.4, 6.8.5).
 #[cycle(statement)]
 fn walk_statement(
     statement: &upc_tree::Statement,
@@ -175,6 +176,25 @@ fn walk_statement(
         | upc_tree::Statement::Barrier { .. }
         | upc_tree::Statement::Fence { .. } => walk_simple(statement, here, env, tags, known),
     }
+}
+
+// A statement that is part of another, in a scope of its own.
+#[cycle(statement)]
+fn walk_part(
+    statement: &upc_tree::Statement,
+    here: Position<'_, '_>,
+    env: &Env<'_>,
+    tags: &Tags<'_>,
+    known: &mut Known,
+) -> Result<Box<Statement>, Stop>
+    ensures { Meets (boxed view_statement)
+        (walks.enclosed (pure.walk_statement (view_setting here.entry.setting) (scopes.inside (view_env env.now))
+        (view_around here.entry.around) here.entry.strict (trees.view_statement statement.now))
+        (state_of tags.now known.old)) (state_of tags.now known.new) result }
+{
+    let scope = inside(here.setting.alloc, &*env)?;
+    let mut inner = enclosed(here.setting.alloc, &*tags);
+    walk_statement(statement, here, &scope, &mut inner, known)
 }
 
 // A compound statement is a scope of its own.
@@ -289,7 +309,7 @@ fn walk_if(
             otherwise,
         } => {
             let test = walk_test(test, here.setting, env, tags, known)?;
-            let body = walk_statement(body, here, env, tags, known)?;
+            let body = walk_part(body, here, env, tags, known)?;
             let first = Arm {
                 test,
                 body: Box::into_inner(body),
@@ -382,8 +402,32 @@ fn walk_switch(
         around: in_switch(here.around),
         strict: here.strict,
     };
-    let labelled = walk_labelled(items, &a.attr, there, env, tags, known)?;
+    let labelled = walk_switch_body(items, &a.attr, there, env, tags, known)?;
     finish_switch(here.setting.alloc, word.place, a, labelled)
+}
+
+// The parts of a switch over this expression, in a scope of their own.
+#[cycle(statement)]
+fn walk_switch_body(
+    items: &[upc_tree::SwitchItem],
+    a: &Attr,
+    here: Position<'_, '_>,
+    env: &Env<'_>,
+    tags: &Tags<'_>,
+    known: &mut Known,
+) -> Result<Labelled, Stop>
+    ensures { Meets (λ x. record {
+      items = view_switch_items x.items.items;
+      labels = x.labels.items;
+      defaults = x.defaults;
+    }) (walks.enclosed (pure.walk_switch (view_setting here.entry.setting) (scopes.inside (view_env env.now))
+        (view_around here.entry.around) here.entry.strict (base_kind (base (view_attr a.now)))
+        (switch_items_of (map trees.view_switch_item items.now))) (state_of tags.now known.old))
+        (state_of tags.now known.new) result }
+{
+    let scope = inside(here.setting.alloc, &*env)?;
+    let mut inner = enclosed(here.setting.alloc, &*tags);
+    walk_labelled(items, a, here, &scope, &mut inner, known)
 }
 
 // The parts of a switch over this expression.
@@ -453,7 +497,7 @@ fn walk_while(
         around: in_loop(here.around),
         strict: here.strict,
     };
-    let body = walk_statement(body, there, env, tags, known)?;
+    let body = walk_part(body, there, env, tags, known)?;
     finish_while(here.setting.alloc, word.place, test, body)
 }
 
@@ -478,7 +522,7 @@ fn walk_do_while(
         around: in_loop(here.around),
         strict: here.strict,
     };
-    let body = walk_statement(body, there, env, tags, known)?;
+    let body = walk_part(body, there, env, tags, known)?;
     let test = walk_test(test, here.setting, env, tags, known)?;
     finish_do_while(here.setting.alloc, word.place, body, test)
 }
@@ -505,7 +549,7 @@ fn walk_for(
         around: in_loop(here.around),
         strict: here.strict,
     };
-    let body = walk_statement(body, there, env, tags, known)?;
+    let body = walk_part(body, there, env, tags, known)?;
     finish_for(here.setting.alloc, word.place, head, body)
 }
 
@@ -531,7 +575,7 @@ fn walk_forall(
         around: in_forall(here.around),
         strict: here.strict,
     };
-    let body = walk_statement(body, there, env, tags, known)?;
+    let body = walk_part(body, there, env, tags, known)?;
     finish_forall(here.setting.alloc, word.place, headed, body)
 }
 
@@ -559,7 +603,7 @@ fn walk_else_ifs(
     arms.push(first)?;
     for part in more {
         let test = walk_test(&part.test, here.setting, env, tags, known)?;
-        let body = walk_statement(&part.body, here, env, tags, known)?;
+        let body = walk_part(&part.body, here, env, tags, known)?;
         arms.push(Arm {
             test,
             body: Box::into_inner(body),
@@ -573,17 +617,17 @@ fn walk_otherwise(
     otherwise: &Otherwise,
     here: Position<'_, '_>,
     env: &Env<'_>,
-    tags: &mut Tags<'_>,
+    tags: &Tags<'_>,
     known: &mut Known,
 ) -> Result<Option<Box<Statement>>, Stop>
     ensures { Meets view_last (pure.walk_otherwise (view_setting here.entry.setting) (view_env
         env.now) (view_around here.entry.around) here.entry.strict (trees.view_otherwise
-        otherwise.now) (state_of tags.old known.old)) (state_of tags.new known.new) result }
+        otherwise.now) (state_of tags.now known.old)) (state_of tags.now known.new) result }
 {
     match otherwise {
         Otherwise::Absent => Ok(None),
         Otherwise::Else { body, .. } => {
-            let x = walk_statement(body, here, env, tags, known)?;
+            let x = walk_part(body, here, env, tags, known)?;
             Ok(Some(x))
         }
     }

@@ -205,9 +205,11 @@ abbrev pub pointer_to : Shaped → Quals → Shaped
 pointer_to s q =
     record { forms = s.forms && quals_fit q; ctype = qualify (t.Pointer s.ctype) q; star = first_star q.layouts }
 
--- The number of elements that a size says, 1 where it is none.
+-- The number of elements that a size says, 1 where it is none, and 16777217 where there are more than an object can
+-- have.
 abbrev pub elements : Constant → ℕ
-elements (Known v) = if int_le (pos 1) v && int_le v (pos 16777216) then unsigned_abs v else 1
+elements (Known v) =
+    if int_le (pos 1) v then (if int_le v (pos 16777216) then unsigned_abs v else 16777217) else 1
 elements c = 1
 
 -- How many elements there are in all; 16777217 where there are more than an object can have.

@@ -118,13 +118,19 @@ pub fn named_type(forms: bool, t: Shaped) -> Shaped
     }
 }
 
-// The number of elements that a size says, 1 where it is none.
+// The number of elements that a size says, 1 where it is none, at most one more than an object can have.
 fn elements(size: Constant) -> u32
     ensures value { result ≡ pure.elements size }
-    ensures most { result ≤ 16777216 }
+    ensures most { result ≤ 16777217 }
 {
     match size {
-        Constant::Known(v) if 1 <= v && v <= 16_777_216 => v as u32,
+        Constant::Known(v) if 1 <= v => {
+            if v <= 16_777_216 {
+                v as u32
+            } else {
+                16_777_217
+            }
+        }
         _ => 1,
     }
 }

@@ -63,13 +63,13 @@ pointer_into threads block (Some object) thread phase offset =
 
 -- The pointer-to-shared that a constant is.
 abbrev pub shared_pointer_in : Setting → ℕ → Constant → SharedPtr
-shared_pointer_in σ block (Address (static.Shared object thread phase offset)) =
+shared_pointer_in σ block (Address (static.Shared object thread phase offset) e) =
     pointer_into σ.threads block (numbered σ.shared object) thread phase offset
 shared_pointer_in σ block c = null
 
 -- The pointer-to-local that a constant is.
 abbrev pub local_pointer_in : Setting → Constant → LocalPtr
-local_pointer_in σ (Address (static.Private object offset)) =
+local_pointer_in σ (Address (static.Private object offset) e) =
     if nat_lt object σ.privates && in_range offset then local.Private object offset else local.Null
 local_pointer_in σ c = local.Null
 

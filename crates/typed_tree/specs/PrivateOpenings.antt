@@ -3,7 +3,6 @@ use Rattle.std.specs.Prelude.{ℕ, pos, nat_lt, Bool, true, false, ◌≡◌, �
 use Rattle.std.specs.Prelude.{None, slice_get}
 use Rattle.std.specs.List.{sum_by}
 use Rattle.block_layout.specs.declared.kind.Kind.{Kind}
-use Rattle.block_layout.specs.declared.kind.Kind.TheVariants as k
 use Rattle.block_layout.specs.declared.kind.Shape.{Shape}
 use Rattle.block_layout.specs.declared.place.LocalPtr.{LocalPtr}
 use Rattle.block_layout.specs.declared.place.LocalPtr.TheVariants as local
@@ -11,7 +10,7 @@ use Rattle.block_layout.specs.Places.{in_range}
 use Rattle.block_layout.specs.Shapes.{IsShape}
 use Rattle.upc_values.specs.Lists.{Each, Pairwise, under}
 use Rattle.upc_values.specs.Openings.{Opening, is_initial}
-use Rattle.upc_values.specs.Shapes.{fits_kind}
+use Rattle.upc_values.specs.Shapes.{value_fits}
 use Rattle.upc_values.specs.declared.scalar.Value.{Value}
 use Rattle.upc_values.specs.declared.scalar.Value.TheVariants as value
 use Rattle.typed_tree.specs.Objects.{most_private_bytes}
@@ -26,14 +25,8 @@ abbrev pub private_cell : List Shape → LocalPtr → Option Kind
 private_cell shapes (local.Private object (pos offset)) = kind_in (slice_get shapes object) offset
 private_cell shapes p = None
 
--- Whether a value fits a cell of this kind.
-abbrev pub fits : Value → Kind → Bool
-fits (value.Scalar v) kind = fits_kind v kind
-fits (value.Local p) (k.Private n) = true
-fits (value.Local p) kind = false
-
 abbrev pub fits_cell : Value → Option Kind → Bool
-fits_cell v (Some kind) = fits v kind
+fits_cell v (Some kind) = value_fits v kind
 fits_cell v None = false
 
 -- Whether a pointer-to-local is null, or names one of so many private objects with an offset in range.

@@ -216,9 +216,9 @@ with_function name signature is_defined s =
 abbrev pub same_types : List CType → List CType → Bool
 same_types xs ys = pointwise (λ a b. same_type (value_type a) (value_type b)) xs ys
 
--- The same types, but for qualifiers of results and parameters themselves (C99 6.7.5.3).
+-- The same types, but for qualifiers of parameters themselves (C99 6.7.5.3).
 abbrev pub same_signature : Signature → Signature → Bool
-same_signature s t = same_type (value_type s.result) (value_type t.result) && same_types s.parameters t.parameters
+same_signature s t = same_type s.result t.result && same_types s.parameters t.parameters
 
 -- The function was declared with other types.
 abbrev pub differs : ℕ → Signature → List KnownFunction → Bool

@@ -1,6 +1,6 @@
 //! Addresses that are known before the run, and what lies behind them (C99 6.5.6, 6.6; UPC 6.4.2, 6.4.4).
 
-ghost use Rattle.std.specs.Prelude.{◌≡◌, ◌*◌, ◌<◌, ◌≤◌, ◌^◌, pos, ◌+ℤ◌, ◌*ℤ◌, unsigned_abs};
+ghost use Rattle.std.specs.Prelude.{◌≡◌, ◌*◌, ◌<◌, ◌≤◌, ◌^◌, IfSome, pos, ◌+ℤ◌, ◌*ℤ◌, unsigned_abs};
 ghost use Rattle.block_layout.specs.Places.{in_range, offset_at};
 ghost use Rattle.shared_pointers.specs.Steps.{element_in_row, row_offset, moved, moved_by_blocks};
 ghost use Rattle.typing_rules.specs.Constants as c;
@@ -8,7 +8,10 @@ ghost use Rattle.typing_rules.specs.Constants.{IsWithin};
 ghost use Rattle.typing_rules.specs.Attributes as attributes;
 
 use block_layout::{ObjectRef, SharedPtr, wide};
-use typing_rules::{Constant, Static};
+use typing_rules::{Constant, Element, Static};
+
+/// An object that is no element of an array.
+pub(crate) const ALONE: Element = Element { index: 0, count: 1 };
 
 // A place in a shared object whose offset may be out of range.
 #[derive(Clone, Copy)]
@@ -24,32 +27,34 @@ fn lies_in_range(offset: i128) -> bool
     -1_099_511_627_776 <= offset && offset <= 1_099_511_627_776
 }
 
-fn private_at(object: u32, offset: i128) -> Constant
-    ensures value { result ≡ c.ranged (Static.Private object offset) }
+fn private_at(element: Element, object: u32, offset: i128) -> Constant
+    ensures value { result ≡ c.ranged element (Static.Private object offset) }
     ensures within { IsWithin result }
 {
     if !lies_in_range(offset) {
         return Constant::Undefined;
     }
-    Constant::Address(Static::Private {
+    let place = Static::Private {
         object,
         offset: offset as i64,
-    })
+    };
+    Constant::Address(place, element)
 }
 
-fn shared_at(object: u32, spot: Spot) -> Constant
-    ensures value { result ≡ c.ranged (Static.Shared object spot.thread spot.phase spot.offset) }
+fn shared_at(element: Element, object: u32, spot: Spot) -> Constant
+    ensures value { result ≡ c.ranged element (Static.Shared object spot.thread spot.phase spot.offset) }
     ensures within { IsWithin result }
 {
     if !lies_in_range(spot.offset) {
         return Constant::Undefined;
     }
-    Constant::Address(Static::Shared {
+    let place = Static::Shared {
         object,
         thread: spot.thread,
         phase: spot.phase,
         offset: spot.offset as i64,
-    })
+    };
+    Constant::Address(place, element)
 }
 
 fn pointer_into(object: u32, thread: u32, phase: u32, offset: i64) -> SharedPtr
@@ -162,15 +167,24 @@ pub(crate) fn block_or_none(block: Option<u32>) -> u32
     }
 }
 
-// An address some elements behind another.
-fn place_plus(threads: u32, block: Option<u32>, size: u32, p: Static, i: i128) -> Constant
+// An address some leaf elements behind another.
+fn place_plus(
+    threads: u32,
+    block: Option<u32>,
+    size: u32,
+    element: Element,
+    p: Static,
+    i: i128,
+) -> Constant
     requires some_thread { 0 < threads }
     requires step { unsigned_abs i ≤ 2 ^ 90 }
-    ensures value { result ≡ c.ranged (c.stepped threads block size p i) }
+    ensures value { result ≡ c.ranged element (c.stepped threads block size p i) }
     ensures within { IsWithin result }
 {
     match p {
-        Static::Private { object, offset } => { private_at(object, offset_plus(offset, i, size)) }
+        Static::Private { object, offset } => {
+            private_at(element, object, offset_plus(offset, i, size))
+        }
         Static::Shared {
             object,
             thread,
@@ -178,28 +192,64 @@ fn place_plus(threads: u32, block: Option<u32>, size: u32, p: Static, i: i128) -
             offset,
         } => {
             let p = pointer_into(object, thread, phase, offset);
-            shared_at(object, moved(&p, i, block_or_none(block), size, threads))
+            shared_at(
+                element,
+                object,
+                moved(&p, i, block_or_none(block), size, threads),
+            )
         }
     }
 }
 
-/// An address and a number of elements with this block and this size.
+// The element so many behind another, where it lies in their array or right behind its end.
+fn element_behind(e: Element, i: i128) -> Option<Element>
+    requires { unsigned_abs i ≤ 2 ^ 64 }
+    ensures value { result ≡ c.element_behind e i }
+    ensures near { IfSome result (λ behind. unsigned_abs i ≤ 2 ^ 32) }
+{
+    let at = i128::from(e.index) + i;
+    if 0 <= at && at <= i128::from(e.count) {
+        let index = at as u32;
+        Some(Element {
+            index,
+            count: e.count,
+        })
+    } else {
+        None
+    }
+}
+
+/// What lies behind an address by a step that has no value.
+pub(crate) fn lost_behind(address: Constant) -> Constant
+    ensures value { result ≡ c.lost_behind address }
+    ensures within { IsWithin result }
+{
+    match address {
+        Constant::Address(_, _) | Constant::Null | Constant::Undefined => Constant::Undefined,
+        Constant::Variable | Constant::Known(_) => Constant::Variable,
+    }
+}
+
+/// An address and a number of elements, each of so many leaf elements with this block and this size.
 pub(crate) fn address_plus(
     threads: u32,
     block: Option<u32>,
     size: u32,
+    leaves: u32,
     address: Constant,
     i: i128,
 ) -> Constant
     requires some_thread { 0 < threads }
-    requires step { unsigned_abs i ≤ 2 ^ 90 }
-    ensures value { result ≡ c.address_plus threads block size address i }
+    requires near { unsigned_abs i ≤ 2 ^ 64 }
+    ensures value { result ≡ c.address_plus threads block size leaves address i }
     ensures within { IsWithin result }
 {
     match address {
-        Constant::Address(p) => place_plus(threads, block, size, p, i),
-        Constant::Null | Constant::Undefined => Constant::Undefined,
-        Constant::Variable | Constant::Known(_) => Constant::Variable,
+        Constant::Address(p, element) => match element_behind(element, i) {
+            Some(behind) => place_plus(threads, block, size, behind, p, times(i, leaves)),
+            None => Constant::Undefined,
+        },
+        other => lost_behind(other),
     }
 }
 
@@ -209,8 +259,8 @@ pub(crate) fn member_address(address: Constant, bytes: u32) -> Constant
     ensures within { IsWithin result }
 {
     match address {
-        Constant::Address(Static::Private { object, offset }) => {
-            private_at(object, i128::from(offset) + i128::from(bytes))
+        Constant::Address(Static::Private { object, offset }, _) => {
+            private_at(ALONE, object, i128::from(offset) + i128::from(bytes))
         }
         Constant::Address(
             Static::Shared {
@@ -219,6 +269,7 @@ pub(crate) fn member_address(address: Constant, bytes: u32) -> Constant
                 offset,
                 ..
             },
+            _,
         ) => {
             let offset = i128::from(offset) + i128::from(bytes);
             let spot = Spot {
@@ -226,9 +277,8 @@ pub(crate) fn member_address(address: Constant, bytes: u32) -> Constant
                 phase: 0,
                 offset,
             };
-            shared_at(object, spot)
+            shared_at(ALONE, object, spot)
         }
-        Constant::Null | Constant::Undefined => Constant::Undefined,
-        Constant::Variable | Constant::Known(_) => Constant::Variable,
+        other => lost_behind(other),
     }
 }

@@ -16,6 +16,7 @@ ghost use Rattle.typing_rules.specs.Nodes.{view_attr};
 ghost use Rattle.typing_rules.specs.Attributes as pure;
 ghost use Rattle.typing_rules.specs.Attributes.{Facts, attr};
 
+use crate::addresses::ALONE;
 use block_layout::Kind;
 use integers::{BinOp, UnOp};
 use std::alloc::Global;
@@ -27,7 +28,7 @@ use typing_rules::constants::{
 use typing_rules::declarations::{address_in, constant_of};
 use typing_rules::names::constant_value;
 use typing_rules::types::{base_kind, kind_of, target_of};
-use typing_rules::{Attr, Constant, Form, Home, Meaning, Static, Use};
+use typing_rules::{Attr, Constant, Element, Form, Home, Meaning, Static, Use};
 use upc_text::OutOfMemory;
 use upc_types::{Access, Base, CType, copy_base, copy_type, promoted, usual};
 use upc_values::LibraryCall;
@@ -233,13 +234,16 @@ fn home_address(home: Home) -> Constant
     ensures within { IsWithin result }
 {
     match home {
-        Home::Private(object) => Constant::Address(Static::Private { object, offset: 0 }),
-        Home::Shared(object) => Constant::Address(Static::Shared {
-            object,
-            thread: 0,
-            phase: 0,
-            offset: 0,
-        }),
+        Home::Private(object) => Constant::Address(Static::Private { object, offset: 0 }, ALONE),
+        Home::Shared(object) => Constant::Address(
+            Static::Shared {
+                object,
+                thread: 0,
+                phase: 0,
+                offset: 0,
+            },
+            ALONE,
+        ),
         Home::Local(_) => Constant::Variable,
     }
 }
@@ -344,13 +348,13 @@ pub fn call(alloc: Global, how: Use<'_>, meaning: Meaning<'_>) -> Result<Attr, O
     Ok(value(given(alloc, how, meaning)?))
 }
 
-fn cast_place(from: Option<u32>, into: Option<u32>, p: Static) -> Constant
-    ensures value { result ≡ c.cast_place from into p }
+fn cast_place(from: Option<u32>, into: Option<u32>, element: Element, p: Static) -> Constant
+    ensures value { result ≡ c.cast_place from into element p }
     ensures within { IsWithin result }
 {
     match (p, from, into) {
         (Static::Private { object, offset }, _, _) => {
-            Constant::Address(Static::Private { object, offset })
+            Constant::Address(Static::Private { object, offset }, element)
         }
         (
             Static::Shared {
@@ -361,12 +365,15 @@ fn cast_place(from: Option<u32>, into: Option<u32>, p: Static) -> Constant
             },
             Some(b),
             Some(c),
-        ) => Constant::Address(Static::Shared {
-            object,
-            thread,
-            phase: if b == c { phase } else { 0 },
-            offset,
-        }),
+        ) => Constant::Address(
+            Static::Shared {
+                object,
+                thread,
+                phase: if b == c { phase } else { 0 },
+                offset,
+            },
+            element,
+        ),
         _ => Constant::Variable,
     }
 }
@@ -376,7 +383,7 @@ fn cast_address(from: Option<u32>, into: Option<u32>, x: Constant) -> Constant
     ensures within { IsWithin result }
 {
     match x {
-        Constant::Address(p) => cast_place(from, into, p),
+        Constant::Address(p, element) => cast_place(from, into, element, p),
         Constant::Known(v) => {
             if v == 0 {
                 Constant::Null
@@ -397,6 +404,16 @@ fn target_block(target: Option<&CType>) -> Option<u32>
     }
 }
 
+fn cast_pointer(target: Option<&CType>, a: &Attr) -> Constant
+    ensures value { result ≡ pure.cast_pointer (view_target target.entry) (view_attr a.now) }
+    ensures within { IsWithin result }
+{
+    match target {
+        Some(t) => cast_address(target_block(target_of(a)), t.shared, constant_of(a)),
+        None => Constant::Variable,
+    }
+}
+
 fn cast_by(t: &CType, a: &Attr) -> Constant
     ensures value { result
         ≡ pure.cast_by (values.value_type (view t.now))
@@ -405,11 +422,7 @@ fn cast_by(t: &CType, a: &Attr) -> Constant
 {
     match base_kind(&t.base) {
         Some(kind) => cast_constant(kind, a.constant),
-        None => cast_address(
-            target_block(target_of(a)),
-            target_block(target_in(&t.base)),
-            constant_of(a),
-        ),
+        None => cast_pointer(target_in(&t.base), a),
     }
 }
 

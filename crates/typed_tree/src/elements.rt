@@ -2,7 +2,7 @@
 
 ghost use Rattle.std.specs.Prelude.{◌≡◌, ◌<◌, ◌≤◌, ◌^◌, IfOk, IfSome, true, false, unsigned_abs};
 ghost use Rattle.upc_types.specs.Types as types;
-ghost use Rattle.upc_types.specs.View.{view, view_base};
+ghost use Rattle.upc_types.specs.View.{view};
 ghost use Rattle.upc_types.specs.ViewStructs.{view_structs};
 ghost use Rattle.typing_rules.specs.Constants as c;
 ghost use Rattle.typing_rules.specs.Constants.{IsWithin};
@@ -12,7 +12,7 @@ ghost use Rattle.typing_rules.specs.Attributes as pure;
 ghost use Rattle.typing_rules.specs.Attributes.{attr};
 ghost use Rattle.typing_rules.specs.Rules as rules;
 
-use crate::addresses::{address_plus, times};
+use crate::addresses::{address_plus, lost_behind};
 use crate::attributes::{arithmetic, int_value, object_at, plainly, value};
 use crate::sizes::leaves_of;
 use block_layout::Kind;
@@ -23,15 +23,6 @@ use typing_rules::types::target_of;
 use typing_rules::{Attr, Constant, Form};
 use upc_text::OutOfMemory;
 use upc_types::{Base, CType, Structs, copy_type};
-
-fn lies_in_array(array: &Base, i: i128) -> bool
-    ensures { result ≡ pure.in_array (view_base array.now) i }
-{
-    match array {
-        Base::Array(_, count) => 0 <= i && i <= i128::from(*count),
-        _ => true,
-    }
-}
 
 // The address so many objects of this type behind another.
 fn address_behind(
@@ -50,32 +41,22 @@ fn address_behind(
     ensures within { IsWithin result }
 {
     let leaves = leaves_of(structs, &t.base);
-    let steps = times(i, leaves.count);
-    address_plus(threads, t.shared, leaves.bytes, address, steps)
+    address_plus(threads, t.shared, leaves.bytes, leaves.count, address, i)
 }
 
-// So by an index that is constant.
-fn indexed(
-    structs: &Structs,
-    threads: u32,
-    array: &Base,
-    t: &CType,
-    address: Constant,
-    i: Constant,
-) -> Constant
+// So by a number that is constant.
+fn indexed(structs: &Structs, threads: u32, t: &CType, address: Constant, i: Constant) -> Constant
     requires some_thread { 0 < threads }
     requires sized { rules.has_size (view_structs structs.now) (view t.now) ≡ true }
     requires near { IfSome (c.number_of i) (λ v. unsigned_abs v ≤ 2 ^ 64) }
     ensures value { result
         ≡ pure.indexed (record { structs = view_structs structs.now; threads = threads })
-        (view_base array.now) (view t.now) address i }
+        (view t.now) address i }
     ensures within { IsWithin result }
 {
     match i {
-        Constant::Known(v) if lies_in_array(array, v) => {
-            address_behind(structs, threads, t, address, v)
-        }
-        Constant::Known(_) | Constant::Undefined => Constant::Undefined,
+        Constant::Known(v) => address_behind(structs, threads, t, address, v),
+        Constant::Undefined => lost_behind(address),
         _ => Constant::Variable,
     }
 }
@@ -96,8 +77,7 @@ pub fn subscript(
 {
     match target_of(a) {
         Some(t) => {
-            let array = &a.ctype.base;
-            let address = indexed(structs, threads, array, t, constant_of(a), i.constant);
+            let address = indexed(structs, threads, t, constant_of(a), i.constant);
             object_at(alloc, Some(t), address)
         }
         None => Ok(int_value()),
@@ -120,7 +100,7 @@ fn pointer(
         ≡ pure.pointer_attr (record { structs = view_structs structs.now; threads = threads })
         (view t.now) address steps) }
 {
-    let constant = indexed(structs, threads, &Base::Void, t, address, steps);
+    let constant = indexed(structs, threads, t, address, steps);
     let target = copy_type(alloc, t)?;
     Ok(Attr {
         ctype: plainly(Base::Pointer(Box::new(alloc, target)?)),

@@ -10,7 +10,7 @@ ghost use Rattle.typing_rules.specs.Rules as r;
 ghost use Rattle.typing_rules.specs.Rules.{lowest};
 
 use typing_rules::Attr;
-use typing_rules::types::target_of;
+use typing_rules::types::{gives_void, target_of};
 use upc_types::{Base, CType, Member, Structs};
 
 fn has_name(members: &[Member], name: &[u8]) -> bool
@@ -48,10 +48,12 @@ pub fn member_of(structs: &Structs, a: &Attr, name: &[u8]) -> Option<u8>
         ≡ lowest (record { structs = view_structs structs.now; threads = threads })
         (n.MemberOf (view_attr a.now) name.now) }
 {
-    if names_member(structs, &a.ctype, name) {
-        None
-    } else {
+    if gives_void(a) {
+        Some(14)
+    } else if !names_member(structs, &a.ctype, name) {
         Some(19)
+    } else {
+        None
     }
 }
 
@@ -61,9 +63,11 @@ pub fn member_behind(structs: &Structs, a: &Attr, name: &[u8]) -> Option<u8>
         ≡ lowest (record { structs = view_structs structs.now; threads = threads })
         (n.MemberBehind (view_attr a.now) name.now) }
 {
-    if target_names(structs, target_of(a), name) {
-        None
-    } else {
+    if gives_void(a) {
+        Some(14)
+    } else if !target_names(structs, target_of(a), name) {
         Some(19)
+    } else {
+        None
     }
 }

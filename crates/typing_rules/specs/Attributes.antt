@@ -1,6 +1,6 @@
 -- What each expression is to the node above it (C99 6.5, UPC 6.4).
-use Rattle.std.specs.Prelude.{ℕ, ◌+◌, ◌-◌, ◌*◌, ◌/◌, ◌==◌, nat_eq, Bool, true, ◌&&◌, ◌||◌, if◌then◌else◌, List, []}
-use Rattle.std.specs.Prelude.{◌∷◌, Option, Some, None, ℤ, pos, neg_ℤ, ◌*ℤ◌, int_le}
+use Rattle.std.specs.Prelude.{ℕ, ◌+◌, ◌-◌, ◌*◌, ◌/◌, ◌==◌, nat_eq, Bool, ◌||◌, if◌then◌else◌, List, []}
+use Rattle.std.specs.Prelude.{◌∷◌, Option, Some, None, ℤ, pos, neg_ℤ}
 use Rattle.std.specs.Cmp.Lexicographic.{pointwise}
 use Rattle.block_layout.specs.declared.kind.Kind.{Kind}
 use Rattle.block_layout.specs.declared.kind.Kind.TheVariants as kind
@@ -9,7 +9,7 @@ use Rattle.integers.specs.declared.operator.BinOp.TheVariants as op
 use Rattle.integers.specs.declared.operator.UnOp.{UnOp}
 use Rattle.integers.specs.Operators.{binary_kind, unary_kind}
 use Rattle.upc_types.specs.declared.ctype.Access.{Access}
-use Rattle.upc_types.specs.Types.{CType, Qualified, Base, Void, Array, Pointer, base_of, block_of, Member, Structs}
+use Rattle.upc_types.specs.Types.{CType, Qualified, Base, Array, Pointer, base_of, block_of, Member, Structs}
 use Rattle.upc_types.specs.Types.{members_of}
 use Rattle.upc_types.specs.Layout.{size, base_layout, layout_in, aligned}
 use Rattle.upc_types.specs.Arithmetic.{promoted, usual}
@@ -19,18 +19,18 @@ use Rattle.typing_rules.specs.declared.setting.SizeOperator.{SizeOperator}
 use Rattle.typing_rules.specs.declared.setting.SizeOperator.TheVariants.{Bytes, LocalBytes, BlockSize, ElementBytes}
 use Rattle.typing_rules.specs.declared.attribute.Static.TheVariants as static
 use Rattle.typing_rules.specs.declared.attribute.Constant.{Constant}
-use Rattle.typing_rules.specs.declared.attribute.Constant.TheVariants.{Variable, Known, Undefined, Null, Address}
+use Rattle.typing_rules.specs.declared.attribute.Constant.TheVariants.{Variable, Known, Undefined, Address}
 use Rattle.typing_rules.specs.declared.attribute.Form.{Form}
 use Rattle.typing_rules.specs.declared.attribute.Form.TheVariants.{Value, Lvalue, Callable, Text}
 use Rattle.upc_values.specs.declared.library.LibraryCall.{LibraryCall}
 use Rattle.typing_rules.specs.Library.{plain, int, constant_value, call_result, is_allocation}
-use Rattle.typing_rules.specs.Values.{value_base, value_type, plainly, base_is_array, base_kind, base_target}
+use Rattle.typing_rules.specs.Values.{value_base, value_type, plainly, base_kind, base_target}
 use Rattle.typing_rules.specs.Values.{base_struct}
 use Rattle.typing_rules.specs.Meanings as m
 use Rattle.typing_rules.specs.Meanings.{Meaning}
 use Rattle.typing_rules.specs.Constants.{working_kind, on_known, binary_constant, unary_constant, cast_constant}
-use Rattle.typing_rules.specs.Constants.{and_constant, or_constant, choice_constant, ranged, address_plus}
-use Rattle.typing_rules.specs.Constants.{member_place, cast_address, block_or_none}
+use Rattle.typing_rules.specs.Constants.{and_constant, or_constant, choice_constant, ranged, address_plus, alone}
+use Rattle.typing_rules.specs.Constants.{member_place, cast_address, block_or_none, first_element, lost_behind}
 use Rattle.typing_rules.specs.Nodes as n
 use Rattle.typing_rules.specs.Nodes.{Attr, Use, Node}
 use Rattle.upc_types.specs.Cells.{leaf_base, leaves}
@@ -60,15 +60,19 @@ address_in f = Variable
 abbrev pub base : Attr → Base
 base a = value_base (base_of a.ctype)
 
+abbrev pub value_constant : Base → Attr → Constant
+value_constant (Array element count) a = first_element count (address_in a.form)
+value_constant b a = a.constant
+
 -- The constant that an expression's value is: an array is the address of its first element.
 abbrev pub constant_of : Attr → Constant
-constant_of a = if base_is_array (base_of a.ctype) then address_in a.form else a.constant
+constant_of a = value_constant (base_of a.ctype) a
 
 -- ---- names (C99 6.5.1)
 
 abbrev pub home_address : Home → Constant
-home_address (home.Private object) = Address (static.Private object (pos 0))
-home_address (home.Shared object) = Address (static.Shared object 0 0 (pos 0))
+home_address (home.Private object) = Address (static.Private object (pos 0)) alone
+home_address (home.Shared object) = Address (static.Shared object 0 0 (pos 0)) alone
 home_address (home.Local object) = Variable
 
 abbrev pub named : Meaning → Attr
@@ -85,26 +89,21 @@ abbrev pub object_at : Option CType → Constant → Attr
 object_at None address = value int
 object_at (Some t) address = record { ctype = t; form = Lvalue address; constant = Variable }
 
--- An index of an array of n elements lies in it, or is one behind its end.
-abbrev pub in_array : Base → ℤ → Bool
-in_array (Array element count) i = int_le (pos 0) i && int_le i (pos count)
-in_array b i = true
-
 -- The address a number of objects of type t behind another.
 abbrev pub address_behind : Facts → CType → Constant → ℤ → Constant
 address_behind φ t address i =
-    address_plus φ.threads (block_of t) (size φ.structs (plainly (leaf_base (base_of t)))) address
-    (i *ℤ pos (leaves (base_of t)))
+    address_plus φ.threads (block_of t) (size φ.structs (plainly (leaf_base (base_of t)))) (leaves (base_of t))
+    address i
 
--- So by an index that is constant.
-abbrev pub indexed : Facts → Base → CType → Constant → Constant → Constant
-indexed φ array t address (Known i) = if in_array array i then address_behind φ t address i else Undefined
-indexed φ array t address Undefined = Undefined
-indexed φ array t address c = Variable
+-- So by a number that is constant.
+abbrev pub indexed : Facts → CType → Constant → Constant → Constant
+indexed φ t address (Known i) = address_behind φ t address i
+indexed φ t address Undefined = lost_behind address
+indexed φ t address c = Variable
 
 abbrev pub element_address : Facts → Attr → Attr → Option CType → Constant
 element_address φ a i None = Variable
-element_address φ a i (Some t) = indexed φ (base_of a.ctype) t (constant_of a) i.constant
+element_address φ a i (Some t) = indexed φ t (constant_of a) i.constant
 
 -- ---- members (C99 6.5.2.3, UPC 6.4.4)
 
@@ -154,10 +153,8 @@ abbrev pub member_type : CType → CType → CType
 member_type (Qualified struct c s x) (Qualified b d t y) = Qualified (spread c s x b) (c || d) (member_block s) x
 
 abbrev pub member_address : Constant → ℕ → Constant
-member_address (Address p) offset = ranged (member_place offset p)
-member_address Null offset = Undefined
-member_address Undefined offset = Undefined
-member_address c offset = Variable
+member_address (Address p e) offset = ranged alone (member_place offset p)
+member_address c offset = lost_behind c
 
 abbrev pub member_at : CType → Constant → Option Found → Attr
 member_at t address None = value int
@@ -215,10 +212,14 @@ abbrev pub target_block : Option CType → Option ℕ
 target_block None = None
 target_block (Some t) = block_of t
 
+-- A pointer, cast to one with this target; what is cast to void is no constant.
+abbrev pub cast_pointer : Option CType → Attr → Constant
+cast_pointer None a = Variable
+cast_pointer (Some t) a = cast_address (target_block (base_target (base a))) (block_of t) (constant_of a)
+
 abbrev pub cast_by : CType → Option Kind → Attr → Constant
 cast_by t (Some k) a = cast_constant k a.constant
-cast_by t None a =
-    cast_address (target_block (base_target (base a))) (target_block (base_target (base_of t))) (constant_of a)
+cast_by t None a = cast_pointer (base_target (base_of t)) a
 
 abbrev pub cast_attr : CType → Attr → Attr
 cast_attr t a = record { ctype = t; form = Value; constant = cast_by t (base_kind (base_of t)) a }
@@ -226,7 +227,7 @@ cast_attr t a = record { ctype = t; form = Value; constant = cast_by t (base_kin
 -- A pointer, some objects behind another.
 abbrev pub pointer_attr : Facts → CType → Constant → Constant → Attr
 pointer_attr φ t address steps =
-    record { ctype = plainly (Pointer t); form = Value; constant = indexed φ Void t address steps }
+    record { ctype = plainly (Pointer t); form = Value; constant = indexed φ t address steps }
 
 abbrev pub negated : Constant → Constant
 negated c = on_known (λ v. Known (neg_ℤ v)) c

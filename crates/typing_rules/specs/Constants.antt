@@ -1,6 +1,6 @@
 -- The values of constant expressions (C99 6.6).
 use Rattle.std.specs.Prelude.{ℕ, ◌==◌, ◌^◌, Bool, true, false, ◌&&◌, not, if◌then◌else◌, Option, Some, None, IfSome}
-use Rattle.std.specs.Prelude.{Result, Ok, Err, ℤ, pos, neg_ℤ, ◌+ℤ◌, ◌*ℤ◌, ◌≤ℤ◌, ◌<ℤ◌}
+use Rattle.std.specs.Prelude.{Result, Ok, Err, ℤ, pos, neg_ℤ, ◌+ℤ◌, ◌*ℤ◌, ◌≤ℤ◌, ◌<ℤ◌, int_le, unsigned_abs}
 use Rattle.std.specs.Ordering.{int_eq}
 use Rattle.block_layout.specs.declared.kind.Kind.{Kind}
 use Rattle.block_layout.specs.declared.place.SharedPtr.{SharedPtr}
@@ -14,6 +14,7 @@ use Rattle.integers.specs.Operators.{binary_of, unary_of, truth}
 use Rattle.upc_types.specs.Arithmetic.{promoted, usual}
 use Rattle.typing_rules.specs.declared.attribute.Static.{Static}
 use Rattle.typing_rules.specs.declared.attribute.Static.TheVariants.{Private, Shared}
+use Rattle.typing_rules.specs.declared.attribute.Element.{Element}
 use Rattle.typing_rules.specs.declared.attribute.Constant.{Constant}
 use Rattle.typing_rules.specs.declared.attribute.Constant.TheVariants.{Variable, Known, Undefined, Null, Address}
 use Rattle.typing_rules.specs.declared.attribute.Form.{Form}
@@ -156,26 +157,54 @@ abbrev pub static_offset : Static → ℤ
 static_offset (Private object offset) = offset
 static_offset (Shared object thread phase offset) = offset
 
+-- An object that is no element of an array is the one element of its own (C99 6.5.6).
+abbrev pub alone : Element
+alone = record { index = 0; count = 1 }
+
+-- The element so many behind another, where it lies in their array or right behind its end (C99 6.5.6).
+abbrev pub element_behind : Element → ℤ → Option Element
+element_behind e i =
+    let at = pos e.index +ℤ i in
+    if int_le (pos 0) at && int_le at (pos e.count)
+    then Some record { index = unsigned_abs at; count = e.count }
+    else None
+
+-- The address of an array of so many elements is that of its first one.
+abbrev pub first_element : ℕ → Constant → Constant
+first_element count (Address p e) = Address p (record { index = 0; count = count })
+first_element count c = c
+
 -- The address, where its offset is in range.
-abbrev pub ranged : Static → Constant
-ranged p = if in_range (static_offset p) then Address p else Undefined
+abbrev pub ranged : Element → Static → Constant
+ranged e p = if in_range (static_offset p) then Address p e else Undefined
+
+abbrev pub ranged_at : Option Element → Static → Constant
+ranged_at None p = Undefined
+ranged_at (Some e) p = ranged e p
+
+-- What lies behind an address by a step that has no value: none that is known where the address itself is not.
+abbrev pub lost_behind : Constant → Constant
+lost_behind (Address p e) = Undefined
+lost_behind Null = Undefined
+lost_behind Undefined = Undefined
+lost_behind c = Variable
 
 abbrev pub block_or_none : Option ℕ → ℕ
 block_or_none None = 0
 block_or_none (Some block) = block
 
--- The place i elements behind another, where elements have this block and this size (UPC 6.4.2).
+-- The place i leaf elements behind another, where these have this block and this size (UPC 6.4.2).
 abbrev pub stepped : ℕ → Option ℕ → ℕ → Static → ℤ → Static
 stepped threads block size (Private object offset) i = Private object (offset +ℤ i *ℤ pos size)
 stepped threads block size (Shared object thread phase offset) i =
     static_of object (moved (pointer_into object thread phase offset) i (block_or_none block) size threads)
 
--- An address and a number of elements; no element lies behind null.
-abbrev pub address_plus : ℕ → Option ℕ → ℕ → Constant → ℤ → Constant
-address_plus threads block size (Address p) i = ranged (stepped threads block size p i)
-address_plus threads block size Null i = Undefined
-address_plus threads block size Undefined i = Undefined
-address_plus threads block size c i = Variable
+-- An address and a number of elements, each of so many leaf elements. It stays in its array, and no element lies behind
+-- null.
+abbrev pub address_plus : ℕ → Option ℕ → (size leaves : ℕ) → Constant → ℤ → Constant
+address_plus threads block size leaves (Address p e) i =
+    ranged_at (element_behind e i) (stepped threads block size p (i *ℤ pos leaves))
+address_plus threads block size leaves c i = lost_behind c
 
 -- The place of a member with this offset: a member of a shared object has an indefinite block (UPC 6.4.4).
 abbrev pub member_place : ℕ → Static → Static
@@ -183,20 +212,20 @@ member_place bytes (Private object offset) = Private object (offset +ℤ pos byt
 member_place bytes (Shared object thread phase offset) = Shared object thread 0 (offset +ℤ pos bytes)
 
 abbrev pub place_in : Constant → Option Static
-place_in (Address p) = Some p
+place_in (Address p e) = Some p
 place_in c = None
 
 -- A cast to another block gives phase 0; a cast to a private pointer is none that is known before the run (UPC 6.4.3).
-abbrev pub cast_place : Option ℕ → Option ℕ → Static → Constant
-cast_place from into (Private object offset) = Address (Private object offset)
-cast_place None into (Shared object thread phase offset) = Variable
-cast_place (Some b) None (Shared object thread phase offset) = Variable
-cast_place (Some b) (Some c) (Shared object thread phase offset) =
-    Address (Shared object thread (if b == c then phase else 0) offset)
+abbrev pub cast_place : Option ℕ → Option ℕ → Element → Static → Constant
+cast_place from into e (Private object offset) = Address (Private object offset) e
+cast_place None into e (Shared object thread phase offset) = Variable
+cast_place (Some b) None e (Shared object thread phase offset) = Variable
+cast_place (Some b) (Some c) e (Shared object thread phase offset) =
+    Address (Shared object thread (if b == c then phase else 0) offset) e
 
 -- A pointer constant of a block, cast to a pointer with another block.
 abbrev pub cast_address : Option ℕ → Option ℕ → Constant → Constant
-cast_address from into (Address p) = cast_place from into p
+cast_address from into (Address p e) = cast_place from into e p
 cast_address from into (Known v) = if int_eq v (pos 0) then Null else Variable
 cast_address from into Null = Null
 cast_address from into Undefined = Undefined

@@ -81,7 +81,7 @@ pub data Node : Type 0 where
   Specifies : (forms : Bool) → Node
   Struct : (again : Bool) (members bytes : ℕ) → Node
   Member : (again : Bool) (t : Formed) → Node
-  MemberFunction : Node
+  MemberFunction : (forms : Bool) (result : CType) → Node
   DeclaresObject : (again file : Bool) (t : Formed) → Node
   DeclaresFunction : (again forms : Bool) (signature : Signature) → Node
   Parameter : (again : Bool) (t : Formed) → Node

@@ -131,7 +131,7 @@ target_is_array None = false
 target_is_array (Some t) = is_array t
 
 abbrev pub is_no_array_size : Constant → Bool
-is_no_array_size (Known v) = not (int_le (pos 1) v && int_le v (pos 16777216))
+is_no_array_size (Known v) = not (int_le (pos 1) v)
 is_no_array_size k = true
 
 abbrev pub is_block_size : Constant → Bool
@@ -150,10 +150,13 @@ lacks_members structs t = base_lacks_members structs (leaf_base (base_of t))
 abbrev pub is_too_large : Structs → CType → Bool
 is_too_large structs t = is_complete structs t && not (nat_le (size structs t) most_bytes)
 
--- A size is none, there are more than three, or the type is too large.
+-- A size is none, or there are more than three.
+abbrev pub has_wrong_dimensions : Formed → Bool
+has_wrong_dimensions t = list_any is_no_array_size t.sizes || nat_lt 3 (length t.sizes)
+
+-- So, or the type is too large.
 abbrev pub has_wrong_sizes : Structs → Formed → Bool
-has_wrong_sizes structs t =
-    list_any is_no_array_size t.sizes || (nat_lt 3 (length t.sizes) || is_too_large structs t.ctype)
+has_wrong_sizes structs t = has_wrong_dimensions t || is_too_large structs t.ctype
 
 abbrev pub leaf : CType → Base
 leaf t = leaf_base (base_of t)
@@ -265,12 +268,13 @@ abbrev pub allocates_well : Structs → Use → Meaning → Bool
 allocates_well structs how (Library call) = not (is_allocation call) || is_allocated_at structs how
 allocates_well structs how meaning = true
 
-abbrev pub target_holds_private : Structs → Option CType → Bool
-target_holds_private structs None = false
-target_holds_private structs (Some t) = holds_private structs t
+-- A pointer to shared objects that hold pointers to private objects.
+abbrev pub target_shares_private : Structs → Option CType → Bool
+target_shares_private structs None = false
+target_shares_private structs (Some t) = shares_private structs t
 
 abbrev pub leads_to_private : Structs → CType → Bool
-leads_to_private structs t = target_holds_private structs (base_target (base_of t))
+leads_to_private structs t = target_shares_private structs (base_target (base_of t))
 
 abbrev pub is_private_at : Structs → Use → Bool
 is_private_at structs (Into t) = leads_to_private structs t
@@ -497,6 +501,7 @@ rule_3 x = false
 abbrev pub rule_4 : Node → Bool
 rule_4 (Specifies forms) = not forms
 rule_4 (Member again t) = not t.forms || declares_nothing t.ctype
+rule_4 (MemberFunction forms result) = not forms || is_lock result
 rule_4 (DeclaresObject again file t) = not t.forms || declares_nothing t.ctype
 rule_4 (DeclaresFunction again forms s) = not forms || is_lock s.result
 rule_4 (Parameter again t) = not t.forms || declares_nothing t.ctype
@@ -512,12 +517,12 @@ rule_5 (StarBlock declares) = not declares
 rule_5 x = false
 
 -- An array size is no integer constant of at least 1, an array has more than three dimensions, or a type has more
--- than 16,777,216 bytes.
+-- than 16,777,216 bytes; a parameter that is declared as an array is a pointer.
 abbrev pub rule_6 : Facts → Node → Bool
 rule_6 φ (Struct again members bytes) = nat_lt most_bytes bytes
 rule_6 φ (Member again t) = has_wrong_sizes φ.structs t
 rule_6 φ (DeclaresObject again file t) = has_wrong_sizes φ.structs t
-rule_6 φ (Parameter again t) = has_wrong_sizes φ.structs t
+rule_6 φ (Parameter again t) = has_wrong_dimensions t
 rule_6 φ (SizeOfType op t) = has_wrong_sizes φ.structs t
 rule_6 φ x = false
 
@@ -525,6 +530,7 @@ rule_6 φ x = false
 abbrev pub rule_7 : Node → Bool
 rule_7 (DeclaresObject again file t) = is_shared t.ctype && not file
 rule_7 (Member again t) = is_shared t.ctype
+rule_7 (MemberFunction forms result) = is_shared result
 rule_7 (Parameter again t) = is_shared t.ctype && not (is_array t.ctype)
 rule_7 (DeclaresFunction again forms s) = is_shared s.result
 rule_7 (Defines again differs forms s) = is_shared s.result
@@ -535,7 +541,7 @@ rule_7 x = false
 abbrev pub rule_8 : Facts → Node → Bool
 rule_8 φ (Struct again members bytes) = nat_eq members 0
 rule_8 φ (Member again t) = again || (lacks_members φ.structs t.ctype || nat_lt 1 (length t.sizes))
-rule_8 φ MemberFunction = true
+rule_8 φ (MemberFunction forms result) = true
 rule_8 φ (DeclaresObject again file t) = lacks_members φ.structs t.ctype || shares_private φ.structs t.ctype
 rule_8 φ (Parameter again t) = is_array t.ctype && lacks_members φ.structs t.ctype
 rule_8 φ (Call how meaning runs format args) = allocates_private φ.structs how meaning
@@ -564,7 +570,7 @@ rule_11 x = false
 
 -- A value is assigned, passed, returned or given as initialiser against the table of conversions.
 abbrev pub rule_12 : Node → Bool
-rule_12 (Assign a b) = not (is_array a.ctype || is_struct a.ctype) && not (converts b a.ctype)
+rule_12 (Assign a b) = gives_void b || not (is_array a.ctype || is_struct a.ctype) && not (converts b a.ctype)
 rule_12 (Call how meaning runs format args) = not (passes meaning args)
 rule_12 (Returns around a) = not (is_void around.result) && not (converts a around.result)
 rule_12 (InitialValue file object t a) = not (object && converts a t)
@@ -580,8 +586,11 @@ rule_13 x = false
 
 -- An operator has operands of kinds that it does not take; a void value is used.
 abbrev pub rule_14 : Node → Bool
-rule_14 (Subscript how a i) = points a && not (counts i)
-rule_14 (Dereference a) = leads_nowhere a
+rule_14 (Subscript how a i) = (gives_void a || gives_void i) || points a && not (counts i)
+rule_14 (MemberOf a name) = gives_void a
+rule_14 (MemberBehind a name) = gives_void a
+rule_14 (Address a) = gives_void a
+rule_14 (Dereference a) = gives_void a || leads_nowhere a
 rule_14 (Unary op a) = not (fits_unary op a)
 rule_14 (Cast t a) = gives_void a && not (is_void t.ctype)
 rule_14 (Binary op a b) = not (fits op a b)

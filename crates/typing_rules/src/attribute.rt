@@ -21,6 +21,15 @@ pub enum Static {
     },
 }
 
+/// Which element of its array an object is, from 0 to the number of elements: the last is the place behind the array's
+/// end. An object that is no element of an array is the one element of its own (C99 6.5.6).
+#[derive(Clone, Copy)]
+pub struct Element {
+    pub index: u32,
+    /// How many elements the array has.
+    pub count: u32,
+}
+
 /// The value of a constant expression (C99 6.6).
 #[derive(Clone, Copy)]
 pub enum Constant {
@@ -32,8 +41,8 @@ pub enum Constant {
     Undefined,
     /// A null pointer.
     Null,
-    /// An address.
-    Address(Static),
+    /// An address, and which element of its array the object there is.
+    Address(Static, Element),
 }
 
 /// What an expression is beside its type (C99 6.3.2.1).

@@ -9,6 +9,7 @@ ghost use Rattle.typing_rules.specs.Nodes.{view_attr};
 ghost use Rattle.typing_rules.specs.Rules as r;
 
 use crate::attribute::Attr;
+use crate::declarations::shares_private;
 use crate::library::LibraryParameter;
 use crate::meaning::{Meaning, Use};
 use crate::types::is_zero;
@@ -126,12 +127,12 @@ pub fn allocates_well(structs: &Structs, how: Use<'_>, meaning: Meaning<'_>) -> 
     }
 }
 
-fn target_holds_private(structs: &Structs, t: &CType) -> bool
+fn target_shares_private(structs: &Structs, t: &CType) -> bool
     ensures { result ≡ r.leads_to_private (view_structs structs.now) (view t.now) }
 {
     match &t.base {
-        Base::Pointer(target) => structs.holds_private(&target.base),
-        Base::Array(element, _) => structs.holds_private(&element.base),
+        Base::Pointer(target) => shares_private(structs, target),
+        Base::Array(element, _) => shares_private(structs, element),
         _ => false,
     }
 }
@@ -140,7 +141,7 @@ fn is_private_at(structs: &Structs, how: Use<'_>) -> bool
     ensures { result ≡ r.is_private_at (view_structs structs.now) (view_use how.entry) }
 {
     match how {
-        Use::Into(t) => target_holds_private(structs, t),
+        Use::Into(t) => target_shares_private(structs, t),
         _ => false,
     }
 }

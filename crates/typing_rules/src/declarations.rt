@@ -13,7 +13,7 @@ ghost use Rattle.typing_rules.specs.Attributes.{Facts};
 ghost use Rattle.typing_rules.specs.Rules as r;
 ghost use Rattle.typing_rules.specs.Rules.{lowest};
 
-use crate::attribute::{Attr, Constant, Form};
+use crate::attribute::{Attr, Constant, Element, Form};
 use crate::conversion::converts;
 use crate::meaning::{Formed, Signature};
 use crate::rules::has_no_size;
@@ -66,15 +66,24 @@ pub fn address_in(form: Form) -> Constant
     }
 }
 
+fn first_element(count: u32, address: Constant) -> Constant
+    ensures value { result ≡ c.first_element count address }
+    ensures within { c.IsWithin address → c.IsWithin result }
+{
+    match address {
+        Constant::Address(place, _) => Constant::Address(place, Element { index: 0, count }),
+        other => other,
+    }
+}
+
 /// The constant that an expression's value is.
 pub fn constant_of(a: &Attr) -> Constant
     ensures value { result ≡ attributes.constant_of (view_attr a.now) }
     ensures within { c.IsWithin result }
 {
-    if is_array(&a.ctype) {
-        address_in(a.form)
-    } else {
-        a.constant
+    match &a.ctype.base {
+        Base::Array(_, count) => first_element(*count, address_in(a.form)),
+        _ => a.constant,
     }
 }
 
@@ -99,7 +108,7 @@ fn is_no_array_size(k: Constant) -> bool
     ensures { result ≡ r.is_no_array_size k }
 {
     match k {
-        Constant::Known(v) => !(1 <= v && v <= 16_777_216),
+        Constant::Known(v) => v < 1,
         _ => true,
     }
 }
@@ -137,11 +146,17 @@ pub fn lacks_members(structs: &Structs, t: &CType) -> bool
     base_lacks_members(structs, leaf(&t.base))
 }
 
-/// A member of a struct that is a function.
-pub fn member_function() -> Option<u8>
-    ensures { (φ : Facts) → result ≡ lowest φ n.MemberFunction }
+/// A member of a struct that is a function with this result.
+pub fn member_function(forms: bool, t: &CType) -> Option<u8>
+    ensures { (φ : Facts) → result ≡ lowest φ (n.MemberFunction forms (view t.now)) }
 {
-    Some(8)
+    if !forms || is_lock(t) {
+        Some(4)
+    } else if is_shared(t) {
+        Some(7)
+    } else {
+        Some(8)
+    }
 }
 
 /// The file, with its function main or without it.
@@ -211,10 +226,16 @@ fn is_too_large(structs: &Structs, t: &CType) -> bool
     }
 }
 
+fn has_wrong_dimensions(t: &Formed) -> bool
+    ensures { result ≡ r.has_wrong_dimensions (view_formed t.now) }
+{
+    any_is_no_size(t.sizes.as_slice()) || t.sizes.len() > 3
+}
+
 fn has_wrong_sizes(structs: &Structs, t: &Formed) -> bool
     ensures { result ≡ r.has_wrong_sizes (view_structs structs.now) (view_formed t.now) }
 {
-    any_is_no_size(t.sizes.as_slice()) || t.sizes.len() > 3 || is_too_large(structs, &t.ctype)
+    has_wrong_dimensions(t) || is_too_large(structs, &t.ctype)
 }
 
 /// A size operator on a type.
@@ -234,7 +255,8 @@ pub fn size_of_type(structs: &Structs, op: SizeOperator, t: &Formed) -> Option<u
     }
 }
 
-fn shares_private(structs: &Structs, t: &CType) -> bool
+/// Whether a shared object of this type holds a pointer to a private object.
+pub fn shares_private(structs: &Structs, t: &CType) -> bool
     ensures { result ≡ r.shares_private (view_structs structs.now) (view t.now) }
 {
     is_shared(t) && structs.holds_private(&t.base)
@@ -296,7 +318,7 @@ pub fn parameter(structs: &Structs, again: bool, t: &Formed) -> Option<u8>
         Some(2)
     } else if !t.forms || declares_nothing(&t.ctype) {
         Some(4)
-    } else if has_wrong_sizes(structs, t) {
+    } else if has_wrong_dimensions(t) {
         Some(6)
     } else if is_shared(&t.ctype) && !is_array(&t.ctype) {
         Some(7)

@@ -19,7 +19,7 @@ pub mod statements;
 pub mod switch;
 pub mod types;
 
-pub use attribute::{Attr, Constant, Form, Static};
+pub use attribute::{Attr, Constant, Element, Form, Static};
 pub use format::{Awaits, FormatStep, Printed};
 pub use library::{LibraryConstant, LibraryParameter};
 pub use meaning::{Around, Formed, Meaning, Signature, Use};

@@ -70,7 +70,7 @@ pub fn subscript(structs: &Structs, how: Use<'_>, a: &Attr, i: &Attr) -> Option<
         ≡ lowest (record { structs = view_structs structs.now; threads = threads })
         (n.Subscript (view_use how.entry) (view_attr a.now) (view_attr i.now)) }
 {
-    if points(a) && !counts(i) {
+    if gives_void(a) || gives_void(i) || (points(a) && !counts(i)) {
         Some(14)
     } else if is_loose(structs, a) {
         Some(15)
@@ -101,7 +101,9 @@ pub fn step(structs: &Structs, a: &Attr) -> Option<u8>
 pub fn address(a: &Attr) -> Option<u8>
     ensures { (φ : Facts) → result ≡ lowest φ (n.Address (view_attr a.now)) }
 {
-    if !is_lvalue(a) || is_array(&a.ctype) {
+    if gives_void(a) {
+        Some(14)
+    } else if !is_lvalue(a) || is_array(&a.ctype) {
         Some(20)
     } else {
         None
@@ -112,7 +114,7 @@ pub fn address(a: &Attr) -> Option<u8>
 pub fn dereference(a: &Attr) -> Option<u8>
     ensures { (φ : Facts) → result ≡ lowest φ (n.Dereference (view_attr a.now)) }
 {
-    if leads_nowhere(a) {
+    if gives_void(a) || leads_nowhere(a) {
         Some(14)
     } else if !points(a) {
         Some(18)
@@ -296,7 +298,7 @@ pub fn logical(a: &Attr, b: &Attr) -> Option<u8>
 pub fn assign(a: &Attr, b: &Attr) -> Option<u8>
     ensures { (φ : Facts) → result ≡ lowest φ (n.Assign (view_attr a.now) (view_attr b.now)) }
 {
-    if !(is_array(&a.ctype) || is_struct(&a.ctype)) && !converts(b, &a.ctype) {
+    if gives_void(b) || (!(is_array(&a.ctype) || is_struct(&a.ctype)) && !converts(b, &a.ctype)) {
         Some(12)
     } else if !is_modifiable(a) {
         Some(13)

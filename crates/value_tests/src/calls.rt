@@ -79,6 +79,14 @@ fn is_told(told: &Told, rows: &[Row], last: Last) -> bool {
             .all(|(step, row)| row_of(step) == *row)
 }
 
+// So of a collective call.
+fn is_told_of(told: &Option<Told>, steps: &[Row], last: Last) -> bool {
+    match told {
+        Some(told) => is_told(told, steps, last),
+        None => false,
+    }
+}
+
 // Elements of type int, and of type pointer-to-shared.
 fn shapes(alloc: Global) -> Result<Vec<Shape>, AllocError> {
     let mut list = Vec::new(alloc);
@@ -164,10 +172,10 @@ fn scatter(rt: HostRuntime) -> Result<(), Fail> {
     ];
     let args = four(d(), s(), 8, 0);
     let told = collective(alloc, &thread, 6, &args, &replies)?;
-    assert!(rt; is_told(&told, &rows, Last::Done));
+    assert!(rt; is_told_of(&told, &rows, Last::Done));
     for k in 0..9 {
         let told = collective(alloc, &thread, 6, &args, &replies[..k])?;
-        assert!(rt; is_told(&told, &rows[..k], Last::Asks(rows[k])));
+        assert!(rt; is_told_of(&told, &rows[..k], Last::Asks(rows[k])));
     }
     Ok(())
 }
@@ -214,13 +222,17 @@ fn refusals(rt: HostRuntime) -> Result<(), Fail> {
         let args = four(dst, src, bytes, flags);
         let (given, steps): (&[Reply], &[Row]) = if is_met { (&replies, &met) } else { (&[], &[]) };
         let told = collective(alloc, &thread, 6, &args, given)?;
-        assert!(rt; is_told(&told, steps, Last::Fails(code)));
+        assert!(rt; is_told_of(&told, steps, Last::Fails(code)));
     }
     let args = four(d(), s(), 0, 9);
     let told = collective(alloc, &thread, 6, &args, &replies)?;
-    assert!(rt; is_told(&told, &met, Last::Done));
+    assert!(rt; is_told_of(&told, &met, Last::Done));
     let told = collective(alloc, &thread, 6, &args, &[Reply::Refused(17)])?;
-    assert!(rt; is_told(&told, &met, Last::Fails(17)));
+    assert!(rt; is_told_of(&told, &met, Last::Fails(17)));
+    for call in [0, 4, 13, 255] {
+        let told = collective(alloc, &thread, call, &args, &replies)?;
+        assert!(rt; told.is_none());
+    }
     Ok(())
 }
 
@@ -264,7 +276,7 @@ fn one_int_of_each_thread(rt: HostRuntime) -> Result<(), Fail> {
             }
         }
         let told = collective(alloc, &thread, call, &four(dst, src, 4, 9), &replies)?;
-        assert!(rt; is_told(&told, rows.as_slice(), Last::Done));
+        assert!(rt; is_told_of(&told, rows.as_slice(), Last::Done));
     }
     Ok(())
 }
@@ -297,15 +309,15 @@ fn permute(rt: HostRuntime) -> Result<(), Fail> {
     ];
     let swapped = [Reply::Done, value(1), value(0), value(7), Reply::Done];
     let told = collective(alloc, &thread, 10, &five(4), &swapped)?;
-    assert!(rt; is_told(&told, &rows, Last::Done));
+    assert!(rt; is_told_of(&told, &rows, Last::Done));
     let told = collective(alloc, &thread, 10, &five(0), &swapped)?;
-    assert!(rt; is_told(&told, &rows[..3], Last::Done));
+    assert!(rt; is_told_of(&told, &rows[..3], Last::Done));
     let twice = [Reply::Done, value(1), value(1)];
     let told = collective(alloc, &thread, 10, &five(4), &twice)?;
-    assert!(rt; is_told(&told, &rows[..3], Last::Fails(22)));
+    assert!(rt; is_told_of(&told, &rows[..3], Last::Fails(22)));
     for (bytes, code) in [(12, 5), (3, 18)] {
         let told = collective(alloc, &thread, 10, &five(bytes), &twice)?;
-        assert!(rt; is_told(&told, &rows[..1], Last::Fails(code)));
+        assert!(rt; is_told_of(&told, &rows[..1], Last::Fails(code)));
     }
     Ok(())
 }
@@ -351,7 +363,7 @@ fn reduce(rt: HostRuntime) -> Result<(), Fail> {
             shapes: shapes.as_slice(),
         };
         let told = collective(alloc, &thread, 11, &seven(r, 1, 4, 2, 4), &replies)?;
-        assert!(rt; is_told(&told, &rows[..steps], Last::Done));
+        assert!(rt; is_told_of(&told, &rows[..steps], Last::Done));
     }
     let thread = Thread {
         number: 0,
@@ -360,7 +372,7 @@ fn reduce(rt: HostRuntime) -> Result<(), Fail> {
     };
     let large = [Reply::Done, value(2_147_483_647), value(1)];
     let told = collective(alloc, &thread, 11, &seven(r, 1, 4, 2, 4), &large)?;
-    assert!(rt; is_told(&told, &rows[..3], Last::Fails(1)));
+    assert!(rt; is_told_of(&told, &rows[..3], Last::Fails(1)));
     for (op, count, kind, met, code) in [
         (3, 4, 4, 0, 22),
         (1, 0, 4, 0, 22),
@@ -368,7 +380,7 @@ fn reduce(rt: HostRuntime) -> Result<(), Fail> {
         (1, 40, 4, 1, 5),
     ] {
         let told = collective(alloc, &thread, 11, &seven(r, op, count, 2, kind), &replies)?;
-        assert!(rt; is_told(&told, &rows[..met], Last::Fails(code)));
+        assert!(rt; is_told_of(&told, &rows[..met], Last::Fails(code)));
     }
     Ok(())
 }
@@ -504,7 +516,7 @@ fn operators(rt: HostRuntime) -> Result<(), Fail> {
         let replies = [Reply::Done, value(a), value(b)];
         let rows = [Row::Meet(11), Row::Read(2, 0, 0), Row::Read(2, 1, 0)];
         let told = collective(alloc, &thread, 11, &seven(r, op, 2, 1, kind), &replies)?;
-        assert!(rt; is_told(&told, &rows, want));
+        assert!(rt; is_told_of(&told, &rows, want));
     }
     Ok(())
 }
@@ -538,10 +550,10 @@ fn prefixes(rt: HostRuntime) -> Result<(), Fail> {
         Row::Write(3, 1, 0, 24),
     ];
     let told = collective(alloc, &thread, 12, &seven(c, 2, 3, 2, 4), &replies)?;
-    assert!(rt; is_told(&told, &rows, Last::Done));
+    assert!(rt; is_told_of(&told, &rows, Last::Done));
     let askew = SharedPtr { phase: 1, ..c };
     let told = collective(alloc, &thread, 12, &seven(askew, 2, 3, 2, 4), &replies)?;
-    assert!(rt; is_told(&told, &[], Last::Fails(22)));
+    assert!(rt; is_told_of(&told, &[], Last::Fails(22)));
     Ok(())
 }
 

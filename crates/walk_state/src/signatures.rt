@@ -67,6 +67,5 @@ fn same_types(a: &[CType], b: &[CType]) -> bool
 pub fn same_signature(s: &Signature, t: &Signature) -> bool
     ensures { result ≡ pure.same_signature (view_signature s.now) (view_signature t.now) }
 {
-    same_values(&s.result, &t.result)
-        && same_types(s.parameters.as_slice(), t.parameters.as_slice())
+    same_type(&s.result, &t.result) && same_types(s.parameters.as_slice(), t.parameters.as_slice())
 }

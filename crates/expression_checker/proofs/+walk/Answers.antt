@@ -737,14 +737,14 @@ types::walk_member-returns-in_ok-add_member-in-Object t c =
     of_form (walk_member ξ Γ (view_shaped c.args.t.now) (map types.view_member c.args.members.now.items)) (λ (ms : List Member). ms) (view_declarator c.args.declarator.now) (tree.ObjectDeclarator (view_pointers c.in-Object.pointers) c.in-Object.name (view_dimensions c.in-Object.sizes)) s (state_of c.walk_sizes.new.tags c.walk_sizes.new.known) (Ok (map types.view_member c.add_member.new.members.items)) (ap view_declarator c.in-Object.is ∙ object_is c.in-Object.pointers c.in-Object.name c.in-Object.sizes)
     (member_ends (λ (ms : List Member). ms) (map types.view_member c.add_member.new.members.items) ξ Γ (view_shaped c.args.t.now) (view_shaped c.in_ok-t-in-Object.t) (map types.view_member c.args.members.now.items) (view_pointers c.in-Object.pointers) c.in-Object.name (view_dimensions c.in-Object.sizes) s (state_of c.walk_pointers.new.tags c.walk_pointers.new.known) (state_of c.walk_sizes.new.tags c.walk_sizes.new.known) c.in_ok-sizes-in-Object.sizes.items (view_formed c.in_ok-t-in-Object-2.t) c.has_member-again.result c.declarator_place-at.result c.member.result (moved (λ (t : Shaped). rest_of_stars ξ Γ false t c.in-Object.pointers.items) (view_shaped c.in_ok-t.t) (view_shaped c.args.t.now) _ _ _ c.in_ok-t.ensures (moved (rest_of_stars ξ Γ false (view_shaped c.in_ok-t.t)) c.as_slice.result.now c.in-Object.pointers.items _ _ _ c.as_slice.ensures.value c.in_ok-t-in-Object.ensures)) (moved (rest_of_sizes ξ Γ) c.as_slice-in-Object.result.now c.in-Object.sizes.items _ _ _ c.as_slice-in-Object.ensures.value c.in_ok-sizes-in-Object.ensures) c.in_ok-t-in-Object-2.ensures (c.has_member-again.ensures ∙ ap (λ (l : List RustMember). has_member (map types.view_member l) c.spelling-text.result.now) c.as_slice-in-Object-2.ensures.value ∙ ap (has_member (map types.view_member c.args.members.now.items)) c.spelling-text.ensures) (c.declarator_place-at.ensures ∙ ap declarator_place (ap view_declarator c.in-Object.is ∙ object_is c.in-Object.pointers c.in-Object.name c.in-Object.sizes)) (c.member.ensures ξ.threads) c.in_ok-judged-in-Object.ensures.ok (c.in_ok-add_member-in-Object.ensures ∙ ap (λ (name : List ℕ). with_member (map types.view_member c.args.members.now.items) name (view_formed c.in_ok-t-in-Object-2.t).ctype) c.spelling-text.ensures))
 
-pub types::walk_member-returns-in_err-walk_pointers-in-Function : goal.types::walk_member-returns-in_err-walk_pointers-in-Function
-types::walk_member-returns-in_err-walk_pointers-in-Function t c =
+pub types::walk_member-returns-in_err-t-in-Function : goal.types::walk_member-returns-in_err-t-in-Function
+types::walk_member-returns-in_err-t-in-Function t c =
     let ξ = view_setting c.args.setting in
     let Γ = view_env c.args.env.now in
     let s = state_of c.args.tags.now c.args.known.now in
-    let p = err_from_is_err_and c.from_residual-in_err-walk_pointers-in-Function.result c.from_residual-in_err-walk_pointers-in-Function.ensures.1 in
+    let p = err_from_is_err_and c.from_residual-in_err-t-in-Function.result c.from_residual-in_err-t-in-Function.ensures.1 in
     rw (p.1, p.2) (of_form (walk_member ξ Γ (view_shaped c.args.t.now) (map types.view_member c.args.members.now.items)) (λ (ms : List Member). ms) (view_declarator c.args.declarator.now) (tree.FunctionDeclarator (view_pointers c.in-Function.pointers) c.in-Function.name (view_parameters c.in-Function.parameters.value)) s s (Err _) (ap view_declarator c.in-Function.is ∙ function_is c.in-Function.pointers c.in-Function.name c.in-Function.parameters)
-    (stopped _ _ s _ refl (moved_stop (λ (t : Shaped). rest_of_stars ξ Γ false t c.in-Function.pointers.items) (view_shaped c.in_ok-t.t) (view_shaped c.args.t.now) s _ c.in_ok-t.ensures (moved_stop (rest_of_stars ξ Γ false (view_shaped c.in_ok-t.t)) c.as_slice-in-Function.result.now c.in-Function.pointers.items s _ c.as_slice-in-Function.ensures.value c.in_err-walk_pointers-in-Function.ensures))))
+    (stopped _ _ s _ refl (moved_stop (λ (t : Shaped). rest_of_stars ξ Γ false t c.in-Function.pointers.items) (view_shaped c.in_ok-t.t) (view_shaped c.args.t.now) s _ c.in_ok-t.ensures (moved_stop (rest_of_stars ξ Γ false (view_shaped c.in_ok-t.t)) c.as_slice-in-Function.result.now c.in-Function.pointers.items s _ c.as_slice-in-Function.ensures.value c.in_err-t-in-Function.ensures))))
 
 pub types::walk_member-returns-in_err-walk_parameters-in-Function : goal.types::walk_member-returns-in_err-walk_parameters-in-Function
 types::walk_member-returns-in_err-walk_parameters-in-Function t c =
@@ -753,14 +753,14 @@ types::walk_member-returns-in_err-walk_parameters-in-Function t c =
     let s = state_of c.args.tags.now c.args.known.now in
     let p = err_from_is_err_and c.from_residual-in_err-walk_parameters-in-Function.result c.from_residual-in_err-walk_parameters-in-Function.ensures.1 in
     rw (p.1, p.2) (of_form (walk_member ξ Γ (view_shaped c.args.t.now) (map types.view_member c.args.members.now.items)) (λ (ms : List Member). ms) (view_declarator c.args.declarator.now) (tree.FunctionDeclarator (view_pointers c.in-Function.pointers) c.in-Function.name (view_parameters c.in-Function.parameters.value)) s s (Err _) (ap view_declarator c.in-Function.is ∙ function_is c.in-Function.pointers c.in-Function.name c.in-Function.parameters)
-    (function_stops (λ (ms : List Member). ms) ξ Γ (view_env c.in_ok-scope-in-Function.scope) (view_shaped c.args.t.now) (view_shaped c.in_ok-walk_pointers-in-Function.field-0) (map types.view_member c.args.members.now.items) (view_pointers c.in-Function.pointers) c.in-Function.name (view_parameters c.in-Function.parameters.value) s (state_of c.walk_pointers-in-Function.new.tags c.walk_pointers-in-Function.new.known) (state_of c.enclosed-inner.result c.walk_pointers-in-Function.new.known) s _ (Err _) (moved (λ (t : Shaped). rest_of_stars ξ Γ false t c.in-Function.pointers.items) (view_shaped c.in_ok-t.t) (view_shaped c.args.t.now) _ _ _ c.in_ok-t.ensures (moved (rest_of_stars ξ Γ false (view_shaped c.in_ok-t.t)) c.as_slice-in-Function.result.now c.in-Function.pointers.items _ _ _ c.as_slice-in-Function.ensures.value c.in_ok-walk_pointers-in-Function.ensures)) c.in_ok-scope-in-Function.ensures (ap (λ (ts : List Tag). state_with ts c.walk_pointers-in-Function.new.known) c.enclosed-inner.ensures) (moved_stop (λ (z : ParametersTree). walk_parameters ξ (view_env c.in_ok-scope-in-Function.scope) (view_parameters z)) c.deref.result.now c.in-Function.parameters.value (state_of c.enclosed-inner.result c.walk_pointers-in-Function.new.known) _ c.deref.ensures c.in_err-walk_parameters-in-Function.ensures) refl))
+    (function_stops (λ (ms : List Member). ms) ξ Γ (view_env c.in_ok-scope-in-Function.scope) (view_shaped c.args.t.now) (view_shaped c.in_ok-t-in-Function.t) (map types.view_member c.args.members.now.items) (view_pointers c.in-Function.pointers) c.in-Function.name (view_parameters c.in-Function.parameters.value) s (state_of c.walk_pointers-in-Function.new.tags c.walk_pointers-in-Function.new.known) (state_of c.enclosed-inner.result c.walk_pointers-in-Function.new.known) s _ (Err _) (moved (λ (t : Shaped). rest_of_stars ξ Γ false t c.in-Function.pointers.items) (view_shaped c.in_ok-t.t) (view_shaped c.args.t.now) _ _ _ c.in_ok-t.ensures (moved (rest_of_stars ξ Γ false (view_shaped c.in_ok-t.t)) c.as_slice-in-Function.result.now c.in-Function.pointers.items _ _ _ c.as_slice-in-Function.ensures.value c.in_ok-t-in-Function.ensures)) c.in_ok-scope-in-Function.ensures (ap (λ (ts : List Tag). state_with ts c.walk_pointers-in-Function.new.known) c.enclosed-inner.ensures) (moved_stop (λ (z : ParametersTree). walk_parameters ξ (view_env c.in_ok-scope-in-Function.scope) (view_parameters z)) c.deref.result.now c.in-Function.parameters.value (state_of c.enclosed-inner.result c.walk_pointers-in-Function.new.known) _ c.deref.ensures c.in_err-walk_parameters-in-Function.ensures) refl))
 
 pub types::walk_member-returns-in_ok-walk_parameters-in-Function : goal.types::walk_member-returns-in_ok-walk_parameters-in-Function
 types::walk_member-returns-in_ok-walk_parameters-in-Function t c =
     let ξ = view_setting c.args.setting in
     let Γ = view_env c.args.env.now in
     let s = state_of c.args.tags.now c.args.known.now in
-    function_is_none _ ξ Γ (view_env c.in_ok-scope-in-Function.scope) (view_shaped c.args.t.now) (view_shaped c.in_ok-walk_pointers-in-Function.field-0) (map types.view_member c.args.members.now.items) (view_declarator c.args.declarator.now) (view_pointers c.in-Function.pointers) c.in-Function.name (view_parameters c.in-Function.parameters.value) s (state_of c.walk_pointers-in-Function.new.tags c.walk_pointers-in-Function.new.known) (state_of c.enclosed-inner.result c.walk_pointers-in-Function.new.known) (state_of c.walk_parameters.new.tags c.walk_parameters.new.known) _ _ c.declarator_place-at.result c.member_function.result c.judged-in-Function.result (ap view_declarator c.in-Function.is ∙ function_is c.in-Function.pointers c.in-Function.name c.in-Function.parameters) (moved (λ (t : Shaped). rest_of_stars ξ Γ false t c.in-Function.pointers.items) (view_shaped c.in_ok-t.t) (view_shaped c.args.t.now) _ _ _ c.in_ok-t.ensures (moved (rest_of_stars ξ Γ false (view_shaped c.in_ok-t.t)) c.as_slice-in-Function.result.now c.in-Function.pointers.items _ _ _ c.as_slice-in-Function.ensures.value c.in_ok-walk_pointers-in-Function.ensures)) c.in_ok-scope-in-Function.ensures (ap (λ (ts : List Tag). state_with ts c.walk_pointers-in-Function.new.known) c.enclosed-inner.ensures) (moved (λ (z : ParametersTree). walk_parameters ξ (view_env c.in_ok-scope-in-Function.scope) (view_parameters z)) c.deref.result.now c.in-Function.parameters.value _ _ _ c.deref.ensures c.in_ok-walk_parameters-in-Function.ensures) (c.declarator_place-at.ensures ∙ ap declarator_place (ap view_declarator c.in-Function.is ∙ function_is c.in-Function.pointers c.in-Function.name c.in-Function.parameters)) (c.member_function.ensures (facts_in ξ (state_of c.walk_parameters.new.tags c.walk_parameters.new.known))) c.judged-in-Function.ensures.ok c.judged-in-Function.ensures.err
+    function_is_none _ ξ Γ (view_env c.in_ok-scope-in-Function.scope) (view_shaped c.args.t.now) (view_shaped c.in_ok-t-in-Function.t) (map types.view_member c.args.members.now.items) (view_declarator c.args.declarator.now) (view_pointers c.in-Function.pointers) c.in-Function.name (view_parameters c.in-Function.parameters.value) s (state_of c.walk_pointers-in-Function.new.tags c.walk_pointers-in-Function.new.known) (state_of c.enclosed-inner.result c.walk_pointers-in-Function.new.known) (state_of c.walk_parameters.new.tags c.walk_parameters.new.known) _ _ c.declarator_place-at.result c.member_function.result c.judged-in-Function.result (ap view_declarator c.in-Function.is ∙ function_is c.in-Function.pointers c.in-Function.name c.in-Function.parameters) (moved (λ (t : Shaped). rest_of_stars ξ Γ false t c.in-Function.pointers.items) (view_shaped c.in_ok-t.t) (view_shaped c.args.t.now) _ _ _ c.in_ok-t.ensures (moved (rest_of_stars ξ Γ false (view_shaped c.in_ok-t.t)) c.as_slice-in-Function.result.now c.in-Function.pointers.items _ _ _ c.as_slice-in-Function.ensures.value c.in_ok-t-in-Function.ensures)) c.in_ok-scope-in-Function.ensures (ap (λ (ts : List Tag). state_with ts c.walk_pointers-in-Function.new.known) c.enclosed-inner.ensures) (moved (λ (z : ParametersTree). walk_parameters ξ (view_env c.in_ok-scope-in-Function.scope) (view_parameters z)) c.deref.result.now c.in-Function.parameters.value _ _ _ c.deref.ensures c.in_ok-walk_parameters-in-Function.ensures) (c.declarator_place-at.ensures ∙ ap declarator_place (ap view_declarator c.in-Function.is ∙ function_is c.in-Function.pointers c.in-Function.name c.in-Function.parameters)) (c.member_function.ensures (facts_in ξ (state_of c.walk_parameters.new.tags c.walk_parameters.new.known))) c.judged-in-Function.ensures.ok c.judged-in-Function.ensures.err
 
 pub types::walk_parameters-returns-in_err-walk_parameter-in-Filled : goal.types::walk_parameters-returns-in_err-walk_parameter-in-Filled
 types::walk_parameters-returns-in_err-walk_parameter-in-Filled t c =

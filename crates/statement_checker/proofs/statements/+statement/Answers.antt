@@ -75,11 +75,11 @@ walk_while-returns-in_err-body t c =
     let body = trees.view_statement c.args.body.now in
     let id = λ (x : k.Statement). x in
     let s1 = state_of c.walk_test.new.tags c.walk_test.new.known in
-    let s2 = state_of c.walk_statement.new.tags c.walk_statement.new.known in
+    let s2 = state_of c.walk_test.new.tags c.walk_part.new.known in
     let e = c.in_err-body.field-0.0 in
     let p = err_from_is_err_and c.from_residual-in_err-body.result c.from_residual-in_err-body.ensures.1 in
     rw (p.1, p.2) (goes id (pure.walk_test ξ Γ test) _ s s1 s2 (view_expr c.in_ok-test.test.value) (Err e) c.in_ok-test.ensures
-    (stops id (pure.walk_statement ξ Γ (pure.in_loop A) strict body) _ s1 s2 e (rw c.in_loop.ensures at c.in_err-body.ensures)))
+    (stops id (enclosed (pure.walk_statement ξ (inside Γ) (pure.in_loop A) strict body)) _ s1 s2 e (rw c.in_loop.ensures at c.in_err-body.ensures)))
 
 pub walk_while-returns : goal.walk_while-returns
 walk_while-returns t c =
@@ -91,10 +91,10 @@ walk_while-returns t c =
     let test = trees.view_test c.args.test.now in
     let body = trees.view_statement c.args.body.now in
     let s1 = state_of c.walk_test.new.tags c.walk_test.new.known in
-    let s2 = state_of c.walk_statement.new.tags c.walk_statement.new.known in
+    let s2 = state_of c.walk_test.new.tags c.walk_part.new.known in
     let r = c.finish_while.result in
     goes (boxed view_statement) (pure.walk_test ξ Γ test) _ s s1 s2 (view_expr c.in_ok-test.test.value) r c.in_ok-test.ensures
-    (goes (boxed view_statement) (pure.walk_statement ξ Γ (pure.in_loop A) strict body) _ s1 s2 s2 (view_statement c.in_ok-body.body.value) r (rw c.in_loop.ensures at c.in_ok-body.ensures) (c.finish_while.ensures ξ s2))
+    (goes (boxed view_statement) (enclosed (pure.walk_statement ξ (inside Γ) (pure.in_loop A) strict body)) _ s1 s2 s2 (view_statement c.in_ok-body.body.value) r (rw c.in_loop.ensures at c.in_ok-body.ensures) (c.finish_while.ensures ξ s2))
 
 pub walk_do_while-returns-in_err-body : goal.walk_do_while-returns-in_err-body
 walk_do_while-returns-in_err-body t c =
@@ -105,10 +105,10 @@ walk_do_while-returns-in_err-body t c =
     let s = state_of c.args.tags.now c.args.known.now in
     let body = trees.view_statement c.args.body.now in
     let id = λ (x : k.Statement). x in
-    let s1 = state_of c.walk_statement.new.tags c.walk_statement.new.known in
+    let s1 = state_of c.args.tags.now c.walk_part.new.known in
     let e = c.in_err-body.field-0.0 in
     let p = err_from_is_err_and c.from_residual.result c.from_residual.ensures.1 in
-    rw (p.1, p.2) (stops id (pure.walk_statement ξ Γ (pure.in_loop A) strict body) _ s s1 e (rw c.in_loop.ensures at c.in_err-body.ensures))
+    rw (p.1, p.2) (stops id (enclosed (pure.walk_statement ξ (inside Γ) (pure.in_loop A) strict body)) _ s s1 e (rw c.in_loop.ensures at c.in_err-body.ensures))
 
 pub walk_do_while-returns-in_err-test : goal.walk_do_while-returns-in_err-test
 walk_do_while-returns-in_err-test t c =
@@ -120,11 +120,11 @@ walk_do_while-returns-in_err-test t c =
     let test = trees.view_test c.args.test.now in
     let body = trees.view_statement c.args.body.now in
     let id = λ (x : k.Statement). x in
-    let s1 = state_of c.walk_statement.new.tags c.walk_statement.new.known in
+    let s1 = state_of c.args.tags.now c.walk_part.new.known in
     let s2 = state_of c.walk_test.new.tags c.walk_test.new.known in
     let e = c.in_err-test.field-0.0 in
     let p = err_from_is_err_and c.from_residual-in_err-test.result c.from_residual-in_err-test.ensures.1 in
-    rw (p.1, p.2) (goes id (pure.walk_statement ξ Γ (pure.in_loop A) strict body) _ s s1 s2 (view_statement c.in_ok-body.body.value) (Err e) (rw c.in_loop.ensures at c.in_ok-body.ensures)
+    rw (p.1, p.2) (goes id (enclosed (pure.walk_statement ξ (inside Γ) (pure.in_loop A) strict body)) _ s s1 s2 (view_statement c.in_ok-body.body.value) (Err e) (rw c.in_loop.ensures at c.in_ok-body.ensures)
     (stops id (pure.walk_test ξ Γ test) _ s1 s2 e c.in_err-test.ensures))
 
 pub walk_do_while-returns : goal.walk_do_while-returns
@@ -136,10 +136,10 @@ walk_do_while-returns t c =
     let s = state_of c.args.tags.now c.args.known.now in
     let test = trees.view_test c.args.test.now in
     let body = trees.view_statement c.args.body.now in
-    let s1 = state_of c.walk_statement.new.tags c.walk_statement.new.known in
+    let s1 = state_of c.args.tags.now c.walk_part.new.known in
     let s2 = state_of c.walk_test.new.tags c.walk_test.new.known in
     let r = c.finish_do_while.result in
-    goes (boxed view_statement) (pure.walk_statement ξ Γ (pure.in_loop A) strict body) _ s s1 s2 (view_statement c.in_ok-body.body.value) r (rw c.in_loop.ensures at c.in_ok-body.ensures)
+    goes (boxed view_statement) (enclosed (pure.walk_statement ξ (inside Γ) (pure.in_loop A) strict body)) _ s s1 s2 (view_statement c.in_ok-body.body.value) r (rw c.in_loop.ensures at c.in_ok-body.ensures)
     (goes (boxed view_statement) (pure.walk_test ξ Γ test) _ s1 s2 s2 (view_expr c.in_ok-test.test.value) r c.in_ok-test.ensures (c.finish_do_while.ensures ξ s2))
 
 pub walk_switch-returns-in_err-a : goal.walk_switch-returns-in_err-a
@@ -167,12 +167,12 @@ walk_switch-returns-in_err-labelled t c =
     let items = switch_items_of (map trees.view_switch_item c.args.items.now) in
     let id = λ (x : k.Statement). x in
     let s1 = state_of c.walk_test.new.tags c.walk_test.new.known in
-    let s2 = state_of c.walk_labelled.new.tags c.walk_labelled.new.known in
+    let s2 = state_of c.walk_test.new.tags c.walk_switch_body.new.known in
     let kind = base_kind (base (view_attr c.in_ok-a.a.value.attr)) in
     let e = c.in_err-labelled.field-0.0 in
     let p = err_from_is_err_and c.from_residual-in_err-labelled.result c.from_residual-in_err-labelled.ensures.1 in
     rw (p.1, p.2) (goes id (pure.walk_test ξ Γ test) _ s s1 s2 (view_expr c.in_ok-a.a.value) (Err e) c.in_ok-a.ensures
-    (stops id (pure.walk_switch ξ Γ (pure.in_switch A) strict kind items) _ s1 s2 e (rw (c.in_switch.ensures, c.deref.ensures) at c.in_err-labelled.ensures)))
+    (stops id (enclosed (pure.walk_switch ξ (inside Γ) (pure.in_switch A) strict kind items)) _ s1 s2 e (rw (c.in_switch.ensures, c.deref.ensures) at c.in_err-labelled.ensures)))
 
 pub walk_switch-returns : goal.walk_switch-returns
 walk_switch-returns t c =
@@ -184,13 +184,13 @@ walk_switch-returns t c =
     let test = trees.view_test c.args.test.now in
     let items = switch_items_of (map trees.view_switch_item c.args.items.now) in
     let s1 = state_of c.walk_test.new.tags c.walk_test.new.known in
-    let s2 = state_of c.walk_labelled.new.tags c.walk_labelled.new.known in
+    let s2 = state_of c.walk_test.new.tags c.walk_switch_body.new.known in
     let kind = base_kind (base (view_attr c.in_ok-a.a.value.attr)) in
     let l = c.in_ok-labelled.labelled in
     let x : Labelled = record { items = view_switch_items l.items.items; labels = l.labels.items; defaults = l.defaults } in
     let r = c.finish_switch.result in
     goes (boxed view_statement) (pure.walk_test ξ Γ test) _ s s1 s2 (view_expr c.in_ok-a.a.value) r c.in_ok-a.ensures
-    (goes (boxed view_statement) (pure.walk_switch ξ Γ (pure.in_switch A) strict kind items) _ s1 s2 s2 x r (rw (c.in_switch.ensures, c.deref.ensures) at c.in_ok-labelled.ensures) (c.finish_switch.ensures ξ s2))
+    (goes (boxed view_statement) (enclosed (pure.walk_switch ξ (inside Γ) (pure.in_switch A) strict kind items)) _ s1 s2 s2 x r (rw (c.in_switch.ensures, c.deref.ensures) at c.in_ok-labelled.ensures) (c.finish_switch.ensures ξ s2))
 
 pub walk_for-returns-in_err-head : goal.walk_for-returns-in_err-head
 walk_for-returns-in_err-head t c =
@@ -219,11 +219,11 @@ walk_for-returns-in_err-body t c =
     let x : Headed = record { scope = Δ; head = view_head c.in_ok-head.head.value; affinity = k.Everyone } in
     let id = λ (x : k.Statement). x in
     let s1 = state_of c.walk_for_head.new.tags c.walk_for_head.new.known in
-    let s2 = state_of c.walk_statement.new.tags c.walk_statement.new.known in
+    let s2 = state_of c.walk_for_head.new.tags c.walk_part.new.known in
     let e = c.in_err-body.field-0.0 in
     let p = err_from_is_err_and c.from_residual-in_err-body.result c.from_residual-in_err-body.ensures.1 in
     rw (p.1, p.2) (goes id (pure.walk_for_head ξ Γ head) _ s s1 s2 x (Err e) c.in_ok-head.ensures
-    (stops id (pure.walk_statement ξ Δ (pure.in_loop A) strict body) _ s1 s2 e (rw c.in_loop.ensures at c.in_err-body.ensures)))
+    (stops id (enclosed (pure.walk_statement ξ (inside Δ) (pure.in_loop A) strict body)) _ s1 s2 e (rw c.in_loop.ensures at c.in_err-body.ensures)))
 
 pub walk_for-returns : goal.walk_for-returns
 walk_for-returns t c =
@@ -237,10 +237,10 @@ walk_for-returns t c =
     let Δ = view_env c.walk_for_head.new.env in
     let x : Headed = record { scope = Δ; head = view_head c.in_ok-head.head.value; affinity = k.Everyone } in
     let s1 = state_of c.walk_for_head.new.tags c.walk_for_head.new.known in
-    let s2 = state_of c.walk_statement.new.tags c.walk_statement.new.known in
+    let s2 = state_of c.walk_for_head.new.tags c.walk_part.new.known in
     let r = c.finish_for.result in
     goes (boxed view_statement) (pure.walk_for_head ξ Γ head) _ s s1 s2 x r c.in_ok-head.ensures
-    (goes (boxed view_statement) (pure.walk_statement ξ Δ (pure.in_loop A) strict body) _ s1 s2 s2 (view_statement c.in_ok-body.body.value) r (rw c.in_loop.ensures at c.in_ok-body.ensures) (c.finish_for.ensures ξ s2))
+    (goes (boxed view_statement) (enclosed (pure.walk_statement ξ (inside Δ) (pure.in_loop A) strict body)) _ s1 s2 s2 (view_statement c.in_ok-body.body.value) r (rw c.in_loop.ensures at c.in_ok-body.ensures) (c.finish_for.ensures ξ s2))
 
 pub walk_forall-returns-in_err-headed : goal.walk_forall-returns-in_err-headed
 walk_forall-returns-in_err-headed t c =
@@ -269,11 +269,11 @@ walk_forall-returns-in_err-body t c =
     let x : Headed = record { scope = Δ; head = view_head c.in_ok-headed.headed.head.value; affinity = view_affinity c.in_ok-headed.headed.affinity } in
     let id = λ (x : k.Statement). x in
     let s1 = state_of c.walk_forall_head.new.tags c.walk_forall_head.new.known in
-    let s2 = state_of c.walk_statement.new.tags c.walk_statement.new.known in
+    let s2 = state_of c.walk_forall_head.new.tags c.walk_part.new.known in
     let e = c.in_err-body.field-0.0 in
     let p = err_from_is_err_and c.from_residual-in_err-body.result c.from_residual-in_err-body.ensures.1 in
     rw (p.1, p.2) (goes id (pure.walk_forall_head ξ Γ head) _ s s1 s2 x (Err e) c.in_ok-headed.ensures
-    (stops id (pure.walk_statement ξ Δ (pure.in_forall A) strict body) _ s1 s2 e (rw c.in_forall.ensures at c.in_err-body.ensures)))
+    (stops id (enclosed (pure.walk_statement ξ (inside Δ) (pure.in_forall A) strict body)) _ s1 s2 e (rw c.in_forall.ensures at c.in_err-body.ensures)))
 
 pub walk_forall-returns : goal.walk_forall-returns
 walk_forall-returns t c =
@@ -287,10 +287,10 @@ walk_forall-returns t c =
     let Δ = view_env c.walk_forall_head.new.env in
     let x : Headed = record { scope = Δ; head = view_head c.in_ok-headed.headed.head.value; affinity = view_affinity c.in_ok-headed.headed.affinity } in
     let s1 = state_of c.walk_forall_head.new.tags c.walk_forall_head.new.known in
-    let s2 = state_of c.walk_statement.new.tags c.walk_statement.new.known in
+    let s2 = state_of c.walk_forall_head.new.tags c.walk_part.new.known in
     let r = c.finish_forall.result in
     goes (boxed view_statement) (pure.walk_forall_head ξ Γ head) _ s s1 s2 x r c.in_ok-headed.ensures
-    (goes (boxed view_statement) (pure.walk_statement ξ Δ (pure.in_forall A) strict body) _ s1 s2 s2 (view_statement c.in_ok-body.body.value) r (rw c.in_forall.ensures at c.in_ok-body.ensures) (c.finish_forall.ensures ξ s2))
+    (goes (boxed view_statement) (enclosed (pure.walk_statement ξ (inside Δ) (pure.in_forall A) strict body)) _ s1 s2 s2 (view_statement c.in_ok-body.body.value) r (rw c.in_forall.ensures at c.in_ok-body.ensures) (c.finish_forall.ensures ξ s2))
 
 pub walk_inside-returns-in-If : goal.walk_inside-returns-in-If
 walk_inside-returns-in-If t c = c.walk_if.ensures
@@ -343,6 +343,24 @@ walk_statement-returns-in-If t c = c.walk_scoped.ensures
 pub walk_statement-returns-in-Expression : goal.walk_statement-returns-in-Expression
 walk_statement-returns-in-Expression t c = c.walk_simple.ensures
 
+pub walk_part-returns : goal.walk_part-returns
+walk_part-returns t c =
+    let ξ = view_setting c.args.here.setting in
+    let A = view_around c.args.here.around in
+    let x = trees.view_statement c.args.statement.now in
+    let W = λ (Δ : Env). pure.walk_statement ξ Δ A c.args.here.strict x in
+    encloses_part (boxed view_statement) W (inside (view_env c.args.env.now)) (view_env c.in_ok-scope.scope) (view_tags c.args.tags.now) (view_tags c.enclosed-inner.result) (view_tags c.walk_statement.new.tags) c.args.known.now c.walk_statement.new.known c.walk_statement.result c.in_ok-scope.ensures c.enclosed-inner.ensures c.walk_statement.ensures
+
+pub walk_switch_body-returns : goal.walk_switch_body-returns
+walk_switch_body-returns t c =
+    let ξ = view_setting c.args.here.setting in
+    let A = view_around c.args.here.around in
+    let kind = base_kind (base (view_attr c.args.a.now)) in
+    let items = switch_items_of (map trees.view_switch_item c.args.items.now) in
+    let W = λ (Δ : Env). pure.walk_switch ξ Δ A c.args.here.strict kind items in
+    let view = λ (x : RustLabelled). let y : Labelled = record { items = view_switch_items x.items.items; labels = x.labels.items; defaults = x.defaults } in y in
+    encloses_part view W (inside (view_env c.args.env.now)) (view_env c.in_ok-scope.scope) (view_tags c.args.tags.now) (view_tags c.enclosed-inner.result) (view_tags c.walk_labelled.new.tags) c.args.known.now c.walk_labelled.new.known c.walk_labelled.result c.in_ok-scope.ensures c.enclosed-inner.ensures c.walk_labelled.ensures
+
 pub walk_compound-returns : goal.walk_compound-returns
 walk_compound-returns t c =
     let ξ = view_setting c.args.here.setting in
@@ -388,8 +406,8 @@ walk_if-returns-in_err-body-in-If t c =
     let v = ap trees.view_statement c.in-If.is ∙ if_is word c.in-If.test c.in-If.body c.in-If.more c.in-If.otherwise in
     let one = pure.walk_test ξ Γ test in
     let s1 = state_of c.walk_test.new.tags c.walk_test.new.known in
-    let two = pure.walk_statement ξ Γ A strict body in
-    let s2 = state_of c.walk_statement.new.tags c.walk_statement.new.known in
+    let two = enclosed (pure.walk_statement ξ (inside Γ) A strict body) in
+    let s2 = state_of c.walk_test.new.tags c.walk_part.new.known in
     let a = view_expr c.in_ok-test-in-If.test.value in
     let h1 = rw c.deref.ensures at c.in_ok-test-in-If.ensures in
     let id = λ (x : k.Statement). x in
@@ -413,8 +431,8 @@ walk_if-returns-in_err-arms-in-If t c =
     let v = ap trees.view_statement c.in-If.is ∙ if_is word c.in-If.test c.in-If.body c.in-If.more c.in-If.otherwise in
     let one = pure.walk_test ξ Γ test in
     let s1 = state_of c.walk_test.new.tags c.walk_test.new.known in
-    let two = pure.walk_statement ξ Γ A strict body in
-    let s2 = state_of c.walk_statement.new.tags c.walk_statement.new.known in
+    let two = enclosed (pure.walk_statement ξ (inside Γ) A strict body) in
+    let s2 = state_of c.walk_test.new.tags c.walk_part.new.known in
     let a = view_expr c.in_ok-test-in-If.test.value in
     let h1 = rw c.deref.ensures at c.in_ok-test-in-If.ensures in
     let three = pure.walk_else_ifs ξ Γ A strict more in
@@ -445,8 +463,8 @@ walk_if-returns-in_err-last-in-If t c =
     let v = ap trees.view_statement c.in-If.is ∙ if_is word c.in-If.test c.in-If.body c.in-If.more c.in-If.otherwise in
     let one = pure.walk_test ξ Γ test in
     let s1 = state_of c.walk_test.new.tags c.walk_test.new.known in
-    let two = pure.walk_statement ξ Γ A strict body in
-    let s2 = state_of c.walk_statement.new.tags c.walk_statement.new.known in
+    let two = enclosed (pure.walk_statement ξ (inside Γ) A strict body) in
+    let s2 = state_of c.walk_test.new.tags c.walk_part.new.known in
     let a = view_expr c.in_ok-test-in-If.test.value in
     let h1 = rw c.deref.ensures at c.in_ok-test-in-If.ensures in
     let three = pure.walk_else_ifs ξ Γ A strict more in
@@ -457,7 +475,7 @@ walk_if-returns-in_err-last-in-If t c =
     let walks = λ (xs : List ElseIf). andthen (pure.walk_else_ifs ξ Γ A strict (else_ifs_of (map trees.view_else_if xs))) (λ x. give (joined x)) s2 in
     let d : Armed = record { arms = view_arms c.in_ok-arms-in-If.arms.items; tests = map attr_tested c.in_ok-arms-in-If.arms.items } in
     let came = subst (λ (xs : List ElseIf). Comes (walks xs) s3 d) c.as_slice.ensures.value (rw c.into_inner.ensures at c.in_ok-arms-in-If.ensures) in
-    let s4 = state_of c.walk_otherwise.new.tags c.walk_otherwise.new.known in
+    let s4 = state_of c.walk_else_ifs.new.tags c.walk_otherwise.new.known in
     let four = pure.walk_otherwise ξ Γ A strict last in
     let go = λ (y : Armed). andthen four (λ o. andthen (judge ξ word.place (n.Tests y.tests)) (λ u. give (k.Stands word.place (k.If y.arms o)))) in
     let id = λ (x : k.Statement). x in
@@ -482,8 +500,8 @@ walk_if-returns t c =
     let v = ap trees.view_statement c.in-If.is ∙ if_is word c.in-If.test c.in-If.body c.in-If.more c.in-If.otherwise in
     let one = pure.walk_test ξ Γ test in
     let s1 = state_of c.walk_test.new.tags c.walk_test.new.known in
-    let two = pure.walk_statement ξ Γ A strict body in
-    let s2 = state_of c.walk_statement.new.tags c.walk_statement.new.known in
+    let two = enclosed (pure.walk_statement ξ (inside Γ) A strict body) in
+    let s2 = state_of c.walk_test.new.tags c.walk_part.new.known in
     let a = view_expr c.in_ok-test-in-If.test.value in
     let h1 = rw c.deref.ensures at c.in_ok-test-in-If.ensures in
     let three = pure.walk_else_ifs ξ Γ A strict more in
@@ -494,7 +512,7 @@ walk_if-returns t c =
     let walks = λ (xs : List ElseIf). andthen (pure.walk_else_ifs ξ Γ A strict (else_ifs_of (map trees.view_else_if xs))) (λ x. give (joined x)) s2 in
     let d : Armed = record { arms = view_arms c.in_ok-arms-in-If.arms.items; tests = map attr_tested c.in_ok-arms-in-If.arms.items } in
     let came = subst (λ (xs : List ElseIf). Comes (walks xs) s3 d) c.as_slice.ensures.value (rw c.into_inner.ensures at c.in_ok-arms-in-If.ensures) in
-    let s4 = state_of c.walk_otherwise.new.tags c.walk_otherwise.new.known in
+    let s4 = state_of c.walk_else_ifs.new.tags c.walk_otherwise.new.known in
     let four = pure.walk_otherwise ξ Γ A strict last in
     let go = λ (y : Armed). andthen four (λ o. andthen (judge ξ word.place (n.Tests y.tests)) (λ u. give (k.Stands word.place (k.If y.arms o)))) in
     let r = c.finish_if.result in
@@ -597,7 +615,7 @@ walk_else_ifs-returns-in_err-body t c =
     let h0 = subst (λ (xs : List ElseIf). IsLeft whole f (w xs) s) next c.loop-part.invariant in
     let part = c.part-item.result in
     let one = pure.walk_test ξ Γ (trees.view_test part.test.value) in
-    let two = pure.walk_statement ξ Γ A strict (trees.view_statement part.body.value) in
+    let two = enclosed (pure.walk_statement ξ (inside Γ) A strict (trees.view_statement part.body.value)) in
     let t = state_of c.walk_test.new.tags c.walk_test.new.known in
     let h = left_goes whole f one _ s t (view_expr c.in_ok-test.test.value) h0 (rw c.deref.ensures at c.in_ok-test.ensures) in
     let e = c.in_err-body.field-0.0 in
@@ -621,9 +639,9 @@ walk_else_ifs-loop-part-preserved t c =
     let h0 = subst (λ (xs : List ElseIf). IsLeft whole f (w xs) s) next c.loop-part.invariant in
     let part = c.part-item.result in
     let one = pure.walk_test ξ Γ (trees.view_test part.test.value) in
-    let two = pure.walk_statement ξ Γ A strict (trees.view_statement part.body.value) in
+    let two = enclosed (pure.walk_statement ξ (inside Γ) A strict (trees.view_statement part.body.value)) in
     let t = state_of c.walk_test.new.tags c.walk_test.new.known in
-    let u = state_of c.walk_statement.new.tags c.walk_statement.new.known in
+    let u = state_of c.walk_test.new.tags c.walk_part.new.known in
     let x : Arm = record { test = c.in_ok-test.test; body = c.in_ok-body.body.value } in
     let put = c.in_ok-push-2.ensures.items ∙ ap (λ (y : Statement). let z : Arm = record { test = c.in_ok-test.test; body = y } in all ++ (z ∷ [])) c.into_inner.ensures in
     let h = left_goes whole f one _ s t (view_expr x.test.value) h0 (rw c.deref.ensures at c.in_ok-test.ensures) in
@@ -658,8 +676,8 @@ walk_otherwise-returns-in_err-x-in-Else t c =
     let e = c.in_err-x-in-Else.field-0.0 in
     let p = err_from_is_err_and c.from_residual.result c.from_residual.ensures.1 in
     let id = λ (x : k.StatementOption). x in
-    let w = pure.walk_statement ξ Γ A strict (trees.view_statement c.deref.result.now) in
-    let t1 = state_of c.walk_statement.new.tags c.walk_statement.new.known in
+    let w = enclosed (pure.walk_statement ξ (inside Γ) A strict (trees.view_statement c.deref.result.now)) in
+    let t1 = state_of c.args.tags.now c.walk_part.new.known in
     let v = ap trees.view_otherwise c.in-Else.is ∙ ap (λ (b : Tree). tree.Else c.in-Else.word (trees.view_statement b)) (sym c.deref.ensures) in
     rw (v, p.1, p.2) (stops id w _ s t1 e c.in_err-x-in-Else.ensures)
 
@@ -670,8 +688,8 @@ walk_otherwise-returns-in_ok-x-in-Else t c =
     let strict = c.args.here.strict in
     let Γ = view_env c.args.env.now in
     let s = state_of c.args.tags.now c.args.known.now in
-    let w = pure.walk_statement ξ Γ A strict (trees.view_statement c.deref.result.now) in
-    let t1 = state_of c.walk_statement.new.tags c.walk_statement.new.known in
+    let w = enclosed (pure.walk_statement ξ (inside Γ) A strict (trees.view_statement c.deref.result.now)) in
+    let t1 = state_of c.args.tags.now c.walk_part.new.known in
     let x = c.in_ok-x-in-Else.x in
     let v = ap trees.view_otherwise c.in-Else.is ∙ ap (λ (b : Tree). tree.Else c.in-Else.word (trees.view_statement b)) (sym c.deref.ensures) in
     rw v (goes view_last w _ s t1 t1 (view_statement x.value) (Ok (Some x)) c.in_ok-x-in-Else.ensures (gives t1 (k.TheStatement (view_statement x.value))))
