@@ -4,8 +4,8 @@ use Rattle.std.proofs.Math.IntN.{ℤ, pos, negsuc, neg_ℤ, ◌-ℤ◌, ◌*ℤ�
 use Rattle.std.proofs.lemmas.Int.{ints}
 use Rattle.std.proofs.lemmas.Nat.{pow_pos}
 use borrow.Author.Differences.{neg_is}
-use Rattle.block_layout.specs.Floor.{floor_div}
-use Rattle.block_layout.proofs.Numbers.{floor-sum}
+use Rattle.block_layout.specs.Floor.{floor_div, floor_mod}
+use Rattle.block_layout.proofs.Numbers.{floor-sum, floor_mod-unique}
 use Rattle.block_layout.specs.declared.kind.Kind.{Kind}
 use Rattle.integers.specs.Integers.{width, values, least, AreCongruent, converted, brought, InKind, IsLost, is_signed}
 use Rattle.block_layout.specs.declared.run_error.TheConstants.{SIGNED_OVERFLOW}
@@ -25,6 +25,14 @@ converted-congruent v kind =
 
 pub congruent-as : (r v : ℤ) (kind : Kind) → r ≡ converted kind v → AreCongruent r v kind
 congruent-as r v kind e = subst (λ (x : ℤ). AreCongruent x v kind) (sym e) (converted-congruent v kind)
+
+-- A number of the kind's range stays as it is.
+pub converted-same : (v : ℤ) (kind : Kind) → InKind v kind → v ≡ converted kind v
+converted-same v kind h =
+    let from : ℤ = v -ℤ least kind in
+    let left : floor_mod from (values kind) ≡ unsigned_abs from =
+    floor_mod-unique from (pos 0) (unsigned_abs from) (values kind) (omega (arith, ints, h.low, h.high)) (omega (arith, ints, h.low)) in
+    omega (arith, ints, left, h.low)
 
 -- A result that is brought into range, by another form of it.
 pub brought-as : (kind : Kind) (r : Result ℤ ℕ) (v w : ℤ) → r ≡ brought kind v → v ≡ w → r ≡ brought kind w

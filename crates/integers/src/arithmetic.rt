@@ -18,6 +18,7 @@ use block_layout::{Kind, floor_quotient};
 /// `SIGNED_OVERFLOW` where a signed result does not fit, a negative value is shifted left, or the quotient of a
 /// remainder does not fit; `ZERO_DIVISOR`; `SHIFT_RANGE` where a count is negative or at least the width, and no
 /// negative value is shifted left.
+#[inline(always)]
 pub fn binary(op: BinOp, kind: Kind, a: i128, b: i128) -> Result<i128, u8>
     requires promoted { IsPromoted kind }
     requires left { InKind a kind }
@@ -137,6 +138,31 @@ fn quotient(kind: Kind, a: i128, b: i128) -> Result<i128, u8>
     bring(kind, divided(a, b))
 }
 
+// Whether a number has at most 31 bits and is none of the ends of their range: such numbers are divided fast.
+fn is_short(v: i128) -> bool
+    ensures { IsTrue result ↔ (unsigned_abs v < 2 ^ 31) }
+{
+    -2_147_483_648 < v && v < 2_147_483_648
+}
+
+// The quotient of short numbers, rounded towards zero.
+fn short_quotient(dividend: i32, by: i32) -> i32
+    requires short { unsigned_abs dividend < 2 ^ 31 }
+    requires divisor { by ≢ pos 0 }
+    ensures { result ≡ int_div dividend by }
+{
+    dividend / by
+}
+
+// What it leaves.
+fn short_rest(dividend: i32, by: i32) -> i32
+    requires short { unsigned_abs dividend < 2 ^ 31 }
+    requires divisor { by ≢ pos 0 }
+    ensures { result ≡ int_rem dividend by }
+{
+    dividend % by
+}
+
 // The quotient, rounded towards zero.
 fn divided(a: i128, b: i128) -> i128
     requires left { unsigned_abs a ≤ 2 ^ 64 }
@@ -144,6 +170,9 @@ fn divided(a: i128, b: i128) -> i128
     ensures value { result ≡ int_div a b }
     ensures bound { unsigned_abs result ≤ unsigned_abs a }
 {
+    if is_short(a) && is_short(b) {
+        return i128::from(short_quotient(a as i32, b as i32));
+    }
     a / b
 }
 
@@ -172,6 +201,9 @@ fn left_over(a: i128, b: i128) -> i128
     requires divisor { b ≢ pos 0 }
     ensures value { result ≡ int_rem a b }
 {
+    if is_short(a) && is_short(b) {
+        return i128::from(short_rest(a as i32, b as i32));
+    }
     a % b
 }
 

@@ -9,6 +9,7 @@ use block_layout::Kind;
 use block_layout::run_error::SIGNED_OVERFLOW;
 
 /// A number converted to a kind: the number of the kind's range that is congruent to it (C99 6.3.1.3).
+#[inline(always)]
 pub fn convert(v: i128, kind: Kind) -> i128
     requires integer { IsInteger kind }
     requires near { unsigned_abs v ≤ 2 ^ 66 }
@@ -19,7 +20,8 @@ pub fn convert(v: i128, kind: Kind) -> i128
     wrap(v, kind)
 }
 
-// The same for any number that arithmetic can give.
+// The same for any number that arithmetic can give. Most lie in the range already, and a division takes long.
+#[inline(always)]
 pub fn wrap(v: i128, kind: Kind) -> i128
     requires { unsigned_abs v ≤ 2 ^ 126 }
     ensures value { result ≡ converted kind v }
@@ -27,11 +29,15 @@ pub fn wrap(v: i128, kind: Kind) -> i128
     ensures congruent { AreCongruent result v kind }
     ensures bound { unsigned_abs result ≤ 2 ^ 64 }
 {
+    if lies_in(kind, v) {
+        return v;
+    }
     let least = least_of(kind);
     least + rest(v - least, values_of(kind))
 }
 
 // An exact result at a kind: an unsigned one wraps, a signed one has to lie in the range.
+#[inline(always)]
 pub fn bring(kind: Kind, v: i128) -> Result<i128, u8>
     requires { unsigned_abs v ≤ 2 ^ 126 }
     ensures value { result ≡ brought kind v }
@@ -49,6 +55,7 @@ pub fn bring(kind: Kind, v: i128) -> Result<i128, u8>
 }
 
 // Whether a kind has negative values.
+#[inline(always)]
 pub fn is_signed(kind: Kind) -> bool
     ensures { result ≡ is_signed kind }
 {
@@ -56,6 +63,7 @@ pub fn is_signed(kind: Kind) -> bool
 }
 
 /// Whether a number lies in the range of a kind; a kind that is no integer has 0 alone.
+#[inline(always)]
 pub fn lies_in(kind: Kind, v: i128) -> bool
     ensures value { result ≡ in_kind kind v }
     ensures exact { IsTrue result ↔ InKind v kind }

@@ -1,7 +1,6 @@
 -- The cells of an object: which an access reaches, and what they hold.
 use Rattle.std.proofs.Common.{◌≡◌, ℕ, ◌<◌, ℤ, unsigned_abs, true, false, List, [], ◌∷◌, length, map, get_or, set, Some, None, Ok, Err, refl, subst, arith}
 use Rattle.std.specs.List.{AllZip}
-use Rattle.std.proofs.lemmas.Bool.{false≢true}
 use Rattle.std.proofs.lemmas.List.{length-map, map-set}
 use Rattle.std.proofs.lemmas.Slice.Zip.{AllZip-long}
 use Rattle.block_layout.specs.declared.kind.Kind.{Kind}
@@ -9,15 +8,12 @@ use Rattle.block_layout.specs.declared.kind.Kind.TheVariants as kind
 use Rattle.block_layout.specs.declared.kind.Shape.{Shape}
 use Rattle.block_layout.specs.declared.run_error.TheConstants.{CELL_TYPE, PRIVATE_RANGE}
 use Rattle.block_layout.specs.Shapes.{kind_size, IsShape}
-use Rattle.upc_values.specs.declared.scalar.Scalar.TheVariants as scalar
 use Rattle.upc_values.specs.declared.scalar.Value.{Value}
-use Rattle.upc_values.specs.declared.scalar.Value.TheVariants as value
 use Rattle.upc_values.specs.Shapes.{value_fits, blank_value}
 use Rattle.private_store.specs.declared.held.Held.{Held}
-use Rattle.private_store.specs.declared.held.Held.TheVariants.{Number, Other}
 use Rattle.private_store.specs.Live.{Thing}
 use Rattle.private_store.specs.Cells.{lies_within, cell_in, cell_place}
-use Rattle.private_store.specs.code.Held.{held_value, held_values, Takes}
+use Rattle.private_store.specs.code.Held.{held_value, held_values}
 use Rattle.private_store.specs.code.Kept.{IsFilled, CellIs}
 use Rattle.private_store.proofs.Places.{Cells}
 
@@ -33,16 +29,6 @@ pub a_cell : (x : Thing) (offset : ℤ) (k : Kind) (b c : ℕ) → lies_within o
 a_cell x offset k b c e same there = rw (e, same, ← there) refl
 
 -- ---- values
-
-pub takes : (h : Held) (v : Value) (k : Kind) → value_fits (held_value h) k ≡ true → value_fits v k ≡ true → Takes h v
-takes (Number n) (value.Scalar (scalar.Int m)) k h g = tt
-takes (Number n) (value.Scalar (scalar.Shared p)) (kind.Shared t b) h g = absurd (false≢true h)
-takes (Number n) (value.Scalar (scalar.Shared p)) k h g = absurd (false≢true g)
-takes (Number n) (value.Scalar (scalar.Lock l)) kind.Lock h g = absurd (false≢true h)
-takes (Number n) (value.Scalar (scalar.Lock l)) k h g = absurd (false≢true g)
-takes (Number n) (value.Local p) (kind.Private t) h g = absurd (false≢true h)
-takes (Number n) (value.Local p) k h g = absurd (false≢true g)
-takes (Other b) v k h g = tt
 
 abbrev pub Fit : Cells → List Value → Type 0
 Fit cells values = AllZip (λ c v. value_fits v c.1 ≡ true) cells values
@@ -115,4 +101,4 @@ filled_set shape held i k h v filled cell is fits =
 
 pub ruleset reaching = (outside, no_cell, a_cell)
 
-pub ruleset holding = (takes, stands, value_at, value_at_fits, filled_set)
+pub ruleset holding = (stands, value_at, value_at_fits, filled_set)

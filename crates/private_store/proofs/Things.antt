@@ -15,7 +15,7 @@ use Rattle.upc_values.specs.Shapes.{blank_value}
 use Rattle.private_store.specs.Live.{Live, Thing, thing}
 use Rattle.private_store.specs.Cells.{Cell, cell_in, reached, loaded, stored}
 use Rattle.private_store.specs.code.Kept.{AreNumbered, CellIs, Reaches}
-use Rattle.private_store.proofs.Searches.{differs, equals}
+use Rattle.private_store.proofs.Searches.{differs, equals, only_place}
 
 some_is : (b : Bool) (n i : ℕ) → Some i ≡ cond b (Some n) None → n ≡ i
 some_is true n i e = cc
@@ -41,6 +41,13 @@ a_thing number things i x e is =
     let n = position_or_len t things in
     let lt = (position-Some t things i x (sym e)).0 in
     find_at t things ∙ ap (slice_get things) (some_is (nat_lt n (length things)) n i e) ∙ slice_get-get_or things i x lt ∙ ap Some (sym is)
+
+pub thing_here : (things : List Thing) (number : ℕ) → AreNumbered things → (i : ℕ) (x : Thing) → i < length things → x ≡ get_or things i x
+    → x.number ≡ number → Some i ≡ position (λ y. y.number == number) things
+thing_here things number up i x lt is here =
+    let there : (get_or things i x).number ≡ number = ap (λ (y : Thing). y.number) (sym is) ∙ here in
+    sym (only_place (λ (y : Thing). y.number) number things up (λ y. y.number == number) (λ y ne. differs y.number number ne)
+    i x lt there true (equals (get_or things i x).number number there))
 
 -- ---- what an access reaches
 

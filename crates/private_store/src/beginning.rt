@@ -18,7 +18,7 @@ fn kind_at(shape: &Shape, offset: i64) -> Option<Kind>
     let cells = shape.cells.as_slice();
     match byte_at(offset, 1, shape.size) {
         None => None,
-        Some(byte) => match byte_place(cells, byte, shape.size) {
+        Some(byte) => match byte_place(cells, byte, 0) {
             None => None,
             Some(place) => Some(cells[place].1),
         },

@@ -10,17 +10,32 @@ use crate::object::Object;
 use block_layout::run_error::{NULL_ACCESS, PRIVATE_RANGE};
 use block_layout::{Kind, LocalPtr};
 
-/// The place of the object with a number, where numbers rise.
+/// The place of the object with a number, where numbers rise. A look at two places finds it where no number before its
+/// own is that of an object that has ended, and where none behind it is.
+#[inline(always)]
 pub(crate) fn object_place(objects: &[Object], number: u64) -> Option<usize>
     requires { AreNumbered objects.now }
     ensures { result ≡ position (λ x. x.number == number) objects.now }
 {
+    let first = number as usize;
+    if first < objects.len() && objects[first].number() == number {
+        return Some(first);
+    }
+    let behind = match objects.last() {
+        None => 0,
+        Some(youngest) => youngest.number().saturating_sub(number) as usize,
+    };
+    let second = objects.len().saturating_sub(1).saturating_sub(behind);
+    if second < objects.len() && objects[second].number() == number {
+        return Some(second);
+    }
     objects
         .binary_search_by_key(&number, |object| object.number())
         .ok()
 }
 
 /// The byte at an offset, where so many bytes from there on lie in an object of this size.
+#[inline(always)]
 pub(crate) fn byte_at(offset: i64, width: u32, size: u32) -> Option<u32>
     ensures { IsByte offset width size result }
 {
@@ -34,15 +49,12 @@ pub(crate) fn byte_at(offset: i64, width: u32, size: u32) -> Option<u32>
     Some(byte)
 }
 
-/// The place of the cell that begins at a byte, where offsets rise. Where all cells are as wide the first look finds
-/// it.
-pub(crate) fn byte_place(cells: &[(u32, Kind)], byte: u32, size: u32) -> Option<usize>
-    requires up { AllPairs (λ a b. a.0 < b.0) cells.now }
-    requires some_byte { 0 < size }
+/// The place of the cell that begins at a byte, where offsets rise. The first look is at a guess.
+#[inline(always)]
+pub(crate) fn byte_place(cells: &[(u32, Kind)], byte: u32, guess: usize) -> Option<usize>
+    requires { AllPairs (λ a b. a.0 < b.0) cells.now }
     ensures { result ≡ position (λ c. c.0 == byte) cells.now }
 {
-    let guess = u64::from(byte).saturating_mul(cells.len() as u64) / u64::from(size);
-    let guess = guess as usize;
     if guess < cells.len() && cells[guess].0 == byte {
         return Some(guess);
     }
@@ -51,6 +63,7 @@ pub(crate) fn byte_place(cells: &[(u32, Kind)], byte: u32, size: u32) -> Option<
 
 // The places of the object with a number and of the cell that an access to it reaches, or the code of the run error.
 #[tactic(auto, using(crate::proofs::Things::reaching_in))]
+#[inline(always)]
 fn reach_in(objects: &[Object], number: u64, offset: i64, kind: Kind) -> Result<(usize, usize), u8>
     requires { AreNumbered objects.now }
     ensures { IsReached objects.now (LocalPtr.Private number offset) kind result }
@@ -65,6 +78,7 @@ fn reach_in(objects: &[Object], number: u64, offset: i64, kind: Kind) -> Result<
 }
 
 /// The places of the object and of its cell that an access reaches, or the code of the run error, where numbers rise.
+#[inline(always)]
 pub(crate) fn reach(objects: &[Object], p: &LocalPtr, kind: Kind) -> Result<(usize, usize), u8>
     requires numbered { AreNumbered objects.now }
     requires private { IsPrivate p.now }
@@ -77,15 +91,16 @@ pub(crate) fn reach(objects: &[Object], p: &LocalPtr, kind: Kind) -> Result<(usi
     }
 }
 
-/// The place of the cell of this kind that begins at a byte of a shape with so many bytes, where offsets rise.
+/// The place of the cell of this kind that begins at a byte, where offsets rise. Where all cells are of the kind the
+/// first look finds it.
 #[tactic(auto, using(crate::proofs::Places::kind_place, crate::proofs::Places::kind_nowhere))]
-pub(crate) fn cell_place(cells: &[(u32, Kind)], byte: u32, kind: Kind, size: u32) -> Option<usize>
-    requires up { AllPairs (λ a b. a.0 < b.0) cells.now }
-    requires some_byte { 0 < size }
+#[inline(always)]
+pub(crate) fn cell_place(cells: &[(u32, Kind)], byte: u32, kind: Kind) -> Option<usize>
+    requires { AllPairs (λ a b. a.0 < b.0) cells.now }
     ensures value { result ≡ pure.cell_place cells.now byte kind }
     ensures found { IfSome result (λ place. CellIs cells.now place kind) }
 {
-    match byte_place(cells, byte, size) {
+    match byte_place(cells, byte, (byte / kind.size()) as usize) {
         None => None,
         Some(place) => {
             if cells[place].1.is(kind) {

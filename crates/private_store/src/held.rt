@@ -1,54 +1,52 @@
 //! How a cell lies in memory.
 
-ghost use Rattle.std.specs.Prelude.{◌≡◌, IfOk};
-ghost use Rattle.upc_values.specs.Shapes as shapes;
-ghost use Rattle.private_store.specs.code.Held.{held_value, Takes};
+ghost use Rattle.std.specs.Prelude.{◌≡◌};
+ghost use Rattle.private_store.specs.code.Held.{held_value};
 
-use block_layout::Kind;
-use std::alloc::Global;
-use upc_text::OutOfMemory;
-use upc_values::{Scalar, Value, blank_value};
+use block_layout::{LocalPtr, SharedPtr};
+use upc_values::{Scalar, Value};
 
-/// What a cell holds, in 32 bytes: a number as it is, and all else behind a box, which is made with the cell.
-#[derive(Drop)]
+/// What a cell holds, in 48 bytes, where a value takes 64.
+#[derive(Clone, Copy)]
 pub(crate) enum Held {
     Number(i128),
-    Other(Box<Value>),
+    Shared(SharedPtr),
+    Lock(u32),
+    Local(LocalPtr),
 }
 
 impl Held {
-    /// What a cell of this kind begins with.
-    pub(crate) fn blank(alloc: Global, kind: Kind) -> Result<Held, OutOfMemory>
-        ensures { IfOk result (λ h. held_value h ≡ shapes.blank_value kind) }
+    /// The form of a value.
+    #[inline(always)]
+    pub(crate) fn of(v: Value) -> Held
+        ensures { held_value result ≡ v }
     {
-        match blank_value(kind) {
-            Value::Scalar(Scalar::Int(number)) => Ok(Held::Number(number)),
-            other => Ok(Held::Other(Box::new(alloc, other)?)),
+        match v {
+            Value::Scalar(Scalar::Int(number)) => Held::Number(number),
+            Value::Scalar(Scalar::Shared(pointer)) => Held::Shared(pointer),
+            Value::Scalar(Scalar::Lock(lock)) => Held::Lock(lock),
+            Value::Local(pointer) => Held::Local(pointer),
         }
     }
 
     /// The value.
+    #[inline(always)]
     pub(crate) fn value(&self) -> Value
         ensures { result ≡ held_value self.now }
     {
-        match self {
-            Held::Number(number) => Value::Scalar(Scalar::Int(*number)),
-            Held::Other(place) => **place,
+        match *self {
+            Held::Number(number) => Value::Scalar(Scalar::Int(number)),
+            Held::Shared(pointer) => Value::Scalar(Scalar::Shared(pointer)),
+            Held::Lock(lock) => Value::Scalar(Scalar::Lock(lock)),
+            Held::Local(pointer) => Value::Local(pointer),
         }
     }
 
-    /// Another value. It takes no memory.
+    /// Another value.
+    #[inline(always)]
     pub(crate) fn put(&mut self, v: Value)
-        requires { Takes self.old v }
         ensures { held_value self.new ≡ v }
     {
-        match self {
-            Held::Number(number) => {
-                if let Value::Scalar(Scalar::Int(n)) = v {
-                    *number = n;
-                }
-            }
-            Held::Other(place) => **place = v,
-        }
+        *self = Held::of(v);
     }
 }

@@ -17,7 +17,7 @@ use block_layout::{Kind, Shape};
 use std::alloc::Global;
 use std::marker::Model;
 use upc_text::OutOfMemory;
-use upc_values::{Value, copy_shape};
+use upc_values::{Value, blank_value, copy_shape};
 
 /// A live object. Contracts see its number, its shape and the value of each cell.
 #[derive(Drop)]
@@ -45,7 +45,7 @@ fn blanks(alloc: Global, cells: &[(u32, Kind)]) -> Result<Vec<Held>, OutOfMemory
 {
     let mut held = Vec::with_capacity(alloc, cells.len())?;
     for cell in cells {
-        held.push(Held::blank(alloc, cell.1)?)?;
+        held.push(Held::of(blank_value(cell.1)))?;
     }
     Ok(held)
 }
@@ -64,6 +64,7 @@ impl Object {
     }
 
     /// Its number.
+    #[inline(always)]
     pub(crate) fn number(&self) -> u64
         ensures { result ≡ self.now.number }
     {
@@ -87,13 +88,14 @@ impl Object {
 
     /// The place of the cell that an access reaches, or the code of the run error.
     #[tactic(auto, using(crate::proofs::Objects::reaching))]
+    #[inline(always)]
     pub(crate) fn place(&self, offset: i64, kind: Kind) -> Result<usize, u8>
         ensures { IsPlace self.now offset kind result }
     {
         let cells = self.shape.cells.as_slice();
         match byte_at(offset, kind.size(), self.shape.size) {
             None => Err(PRIVATE_RANGE),
-            Some(byte) => match cell_place(cells, byte, kind, self.shape.size) {
+            Some(byte) => match cell_place(cells, byte, kind) {
                 None => Err(CELL_TYPE),
                 Some(place) => Ok(place),
             },
@@ -102,6 +104,7 @@ impl Object {
 
     /// What the cell holds.
     #[tactic(auto, using(crate::proofs::Objects::holding))]
+    #[inline(always)]
     pub(crate) fn get(&self, place: usize, kind: Kind) -> Value
         requires { CellIs self.now.shape.cells place kind }
         ensures value { (d : Value) → result ≡ slice_index_or self.now.values place d }
@@ -112,6 +115,7 @@ impl Object {
 
     /// Another value in the cell. It takes no memory.
     #[tactic(auto, using(crate::proofs::Objects::holding))]
+    #[inline(always)]
     pub(crate) fn set(&mut self, place: usize, kind: Kind, v: Value)
         requires there { CellIs self.old.shape.cells place kind }
         requires fits { shapes.value_fits v kind ≡ true }

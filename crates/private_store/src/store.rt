@@ -195,6 +195,7 @@ impl Store {
     /// What the cell of this kind holds. In this order: `NULL_ACCESS` for the null pointer, `PRIVATE_RANGE` where the
     /// object has ended or a byte of the cell lies outside it, `CELL_TYPE` where no cell of the kind begins there.
     #[tactic(auto, using(crate::proofs::Things::loaded_is))]
+    #[inline(always)]
     pub fn load(&self, p: &LocalPtr, kind: Kind) -> Result<Value, u8>
         requires { IsPrivate p.now }
         ensures value { result ≡ loaded p.now kind self.now }
@@ -208,6 +209,7 @@ impl Store {
 
     /// Another value in the cell of this kind, with the refusals of `load`. It takes no memory.
     #[tactic(auto, using(crate::proofs::Keeping::kept_put))]
+    #[inline(always)]
     pub fn store(&mut self, p: &LocalPtr, kind: Kind, v: Value) -> Result<(), u8>
         requires private { IsPrivate p.now }
         requires fits { shapes.value_fits v kind ≡ true }
@@ -227,6 +229,7 @@ impl Store {
     /// The number of the object that the `n`th local name in scope stands for, None where no open block of the youngest
     /// call was entered with at most `n` names in scope.
     #[tactic(auto, using(crate::proofs::Frames::firsts_open))]
+    #[inline(always)]
     pub fn local(&self, n: u32) -> Option<u64>
         ensures { result ≡ local_number n self.now }
     {

@@ -12,5 +12,7 @@ pub mod Advancing
 pub mod Halting
 pub mod Stepping
 pub mod Calling
+pub mod Asking
 pub mod Parameters
 pub mod Machines
+pub mod Putting

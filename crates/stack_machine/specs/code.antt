@@ -4,8 +4,10 @@ pub mod Jumps
 pub mod Tasks
 pub mod Ahead
 pub mod Kept
+pub mod Libraries
 pub mod Works
 pub mod Steps
 pub mod Runs
 pub mod Machines
 pub mod Receiving
+pub mod Quick

@@ -87,7 +87,7 @@ impl Task {
         ensures firm { IsFirm result }
     {
         Halt::Stops(
-            Stop::Ended(int_of(&self.operands.top())),
+            Stop::Ended(int_of(self.operands.top())),
             self.progress.ticks,
         )
     }

@@ -57,7 +57,7 @@ fn load(
     ensures kept { OnOk result
         (HasKept code.now.threads code.now.shapes progress.old progress.new operands.new) }
 {
-    match progress.load(code, access, place, operands.top()) {
+    match progress.load(code, access, place, *operands.top()) {
         Err(e) => Err(e),
         Ok(v) => {
             operands.pop();
@@ -84,8 +84,8 @@ fn save(
     ensures kept { OnOk result
         (HasKept code.now.threads code.now.shapes progress.old progress.new operands.new) }
 {
-    let v = operands.top();
-    match progress.save(code, access, place, operands.second(), v) {
+    let v = *operands.top();
+    match progress.save(code, access, place, *operands.second(), v) {
         Err(e) => Err(e),
         Ok(()) => {
             operands.pop();

@@ -28,7 +28,7 @@ fn mark_on(operands: &Operands) -> Mark
     requires { IsNumber (number_of (top operands.now)) }
     ensures { result ≡ Mark.Given (steps.int_of (top operands.now)) }
 {
-    Mark::Given(int_of(&operands.top()))
+    Mark::Given(int_of(operands.top()))
 }
 
 // upc_notify.
@@ -208,7 +208,7 @@ fn mine(
     ensures kept { OnOk result
         (HasKept code.now.threads code.now.shapes progress.old progress.new operands.new) }
 {
-    match has_turn(code.threads(), runner.number, &operands.top()) {
+    match has_turn(code.threads(), runner.number, operands.top()) {
         Err(error) => Err(progress.fault(error, place)),
         Ok(is_mine) => {
             operands.pop();
@@ -300,7 +300,43 @@ fn exit(
     }
 }
 
-// A call of the library. Not built yet are those that ask for anything but an exit: they answer want of memory, and
+// A call that may ask for an action.
+fn asking(
+    operands: &mut Operands,
+    progress: &mut Progress,
+    call: LibraryCall,
+    shape: u32,
+    arguments: usize,
+    place: Place,
+    code: &Code,
+    runner: &Runner,
+) -> Result<(), Halt>
+    requires thread { runner.now.number < code.now.threads }
+    requires held { AreAllHeld code.now.threads code.now.shapes operands.old progress.old.store }
+    ensures does { Acts code.now runner.now (work.Library call shape arguments) place result operands.old operands.new
+        progress.old progress.new }
+    ensures rests { Rests result operands.old operands.new }
+    ensures kept { OnOk result
+        (HasKept code.now.threads code.now.shapes progress.old progress.new operands.new) }
+{
+    match progress.library(
+        call,
+        shape,
+        operands.youngest(arguments),
+        place,
+        code,
+        runner,
+    ) {
+        Err(e) => Err(e),
+        Ok(v) => {
+            operands.drop_youngest(arguments);
+            operands.push(v)?;
+            Ok(())
+        }
+    }
+}
+
+// A call of the library. Not built yet are those that ask for more than one action: they answer want of memory, and
 // the top call refuses the programs that have them.
 fn library(
     operands: &mut Operands,
@@ -324,7 +360,9 @@ fn library(
         return exit(operands, progress, shape, arguments, place, code, runner);
     }
     match library_value(code.threads(), call, operands.youngest(arguments)) {
-        None => Err(Halt::Memory),
+        None => asking(
+            operands, progress, call, shape, arguments, place, code, runner,
+        ),
         Some(answer) => match answer {
             Err(error) => Err(progress.fault(error, place)),
             Ok(v) => {

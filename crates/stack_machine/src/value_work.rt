@@ -28,6 +28,7 @@ use upc_text::Place;
 use upc_values::Value;
 
 // So many elements for each of so many objects.
+#[inline(always)]
 fn times(i: i128, count: u32) -> i128
     requires index { unsigned_abs i ≤ 2 ^ 64 }
     requires few { count ≤ 16777216 }
@@ -38,6 +39,7 @@ fn times(i: i128, count: u32) -> i128
 }
 
 // A number that may be a count.
+#[inline(always)]
 fn index_of(v: &Value) -> i128
     requires { IsNumber (values.number_of v.now) }
     ensures value { result ≡ values.number_of v.now }
@@ -55,6 +57,7 @@ fn negated(i: i128) -> i128
 }
 
 // The pointer so many objects behind another, each of `count` elements.
+#[inline(always)]
 fn ahead(code: &Code, elements: Elements, count: u32, p: Value, i: &Value) -> Result<Value, u8>
     requires elements { ElementsFit elements count }
     requires pointer { IsHeld code.now.threads code.now.shapes p }
@@ -94,8 +97,9 @@ fn within(count: u32, row: &Value, i: &Value, p: Value) -> Result<Value, u8>
     }
 }
 
-// How many operands the work takes.
-fn taken(work: &ValueWork) -> usize
+/// How many operands the work takes.
+#[inline(always)]
+pub(crate) fn taken(work: &ValueWork) -> usize
     ensures { result ≡ pure.taken work.now }
 {
     match work {
@@ -105,8 +109,9 @@ fn taken(work: &ValueWork) -> usize
     }
 }
 
-// What the work makes of the three youngest operands on a thread with this number, or its run error.
-fn worth(
+/// What the work makes of the three youngest operands on a thread with this number, or its run error.
+#[inline(always)]
+pub(crate) fn worth(
     work: &ValueWork,
     x: &Value,
     a: &Value,
@@ -160,9 +165,9 @@ pub(crate) fn value_work(
 {
     match worth(
         work,
-        &operands.third(),
-        &operands.second(),
-        &operands.top(),
+        operands.third(),
+        operands.second(),
+        operands.top(),
         code,
         me,
     ) {

@@ -62,7 +62,7 @@ pub fn is_read(threads: u32, shapes: &[Shape], kind: Kind, v: &Scalar) -> bool
 }
 
 // A null pointer, or one in range.
-fn is_pointer(threads: u32, shapes: &[Shape], p: &SharedPtr) -> bool
+pub(crate) fn is_pointer(threads: u32, shapes: &[Shape], p: &SharedPtr) -> bool
     ensures value { result ≡ formed.is_pointer threads shapes.now p.now }
     ensures held { IsTrue result → IsHeldScalar threads shapes.now (scalar.Shared p.now) }
 {

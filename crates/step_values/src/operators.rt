@@ -24,6 +24,7 @@ pub fn int_of(v: &Value) -> i32
 
 /// What a binary operator gives, the left operand at the kind at which it works and the right one at its own (C99
 /// 6.5.5 to 6.5.12), or its run error.
+#[inline(always)]
 pub fn operated(op: BinOp, left: Kind, right: Kind, a: &Value, b: &Value) -> Result<Value, u8>
     requires left_kind { IsPromoted left }
     requires right_kind { IsPromoted right }

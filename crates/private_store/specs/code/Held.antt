@@ -4,21 +4,14 @@ use Rattle.upc_values.specs.declared.scalar.Scalar.TheVariants as scalar
 use Rattle.upc_values.specs.declared.scalar.Value.{Value}
 use Rattle.upc_values.specs.declared.scalar.Value.TheVariants as value
 use Rattle.private_store.specs.declared.held.Held.{Held}
-use Rattle.private_store.specs.declared.held.Held.TheVariants.{Number, Other}
+use Rattle.private_store.specs.declared.held.Held.TheVariants.{Number, Shared, Lock, Local}
 
--- A number stands for itself, a box for what it holds.
+-- Each form stands for the value with what it has.
 abbrev pub held_value : Held → Value
 held_value (Number n) = value.Scalar (scalar.Int n)
-held_value (Other b) = b.value
+held_value (Shared p) = value.Scalar (scalar.Shared p)
+held_value (Lock l) = value.Scalar (scalar.Lock l)
+held_value (Local p) = value.Local p
 
 abbrev pub held_values : List Held → List Value
 held_values held = map held_value held
-
-abbrev pub IsNumber : Value → Type 0
-IsNumber (value.Scalar (scalar.Int n)) = Unit {0}
-IsNumber v = ⊥
-
--- A cell's form can hold the value without memory.
-abbrev pub Takes : Held → Value → Type 0
-Takes (Number n) v = IsNumber v
-Takes (Other b) v = Unit {0}

@@ -6,8 +6,8 @@ use Rattle.private_store.proofs.CellKinds.{there_at, there_none}
 use Rattle.private_store.proofs.Places.{rise_within}
 use Rattle.private_store.proofs.beginning.kind_at.Goals as goal
 
-pub byte_place-requires-clause-up : goal.byte_place-requires-clause-up
-byte_place-requires-clause-up c =
+pub byte_place-requires : goal.byte_place-requires
+byte_place-requires c =
     rw c.as_slice-cells.ensures (rise_within c.args.shape.now.cells 0 c.args.shape.now.size c.requires.1)
 
 pub returns-in-None-byte_place : goal.returns-in-None-byte_place

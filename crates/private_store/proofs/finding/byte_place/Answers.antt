@@ -8,8 +8,8 @@ pub returns : goal.returns
 returns c =
     let facts = c.binary_search_by_key.ensures in
     let by_key = facts.position (λ x. x.0) (answers_always _ _ _ (λ f a r g called. search rules)) in
-    c.ok.ensures.value ∙ searched (λ x. x.0) c.args.byte c.args.cells.now c.requires.up _ facts.bound by_key
+    c.ok.ensures.value ∙ searched (λ x. x.0) c.args.byte c.args.cells.now c.requires _ facts.bound by_key
 
 pub returns-then-cells-guess : goal.returns-then-cells-guess
 returns-then-cells-guess c =
-    byte_here c.args.cells.now c.args.byte c.requires.up _ _ c.if-guess-cells.true c.if-cells-guess.true
+    byte_here c.args.cells.now c.args.byte c.requires _ _ c.if-guess-cells.true c.if-cells-guess.true

@@ -14,5 +14,5 @@ returns-in-Err-clause-does c = λ there given calls before.
     (subst (λ (v : Value). Came before (pure.save (thread_of c.args.code.now c.args.runner.now.number c.args.runner.now.budget) c.args.access.kind c.args.access.strict c.args.place
     (second c.args.operands.now) v (state_seen before c.args.progress.now)) (Err c.in-Err.e) c.args.progress.now c.save.new.self) c.top-v.ensures
     (subst (λ (p : Value). Came before (pure.save (thread_of c.args.code.now c.args.runner.now.number c.args.runner.now.budget) c.args.access.kind c.args.access.strict c.args.place
-    p c.top-v.result (state_seen before c.args.progress.now)) (Err c.in-Err.e) c.args.progress.now c.save.new.self) c.second.ensures
+    p c.top-v.result.now (state_seen before c.args.progress.now)) (Err c.in-Err.e) c.args.progress.now c.save.new.self) c.second.ensures
     (c.in-Err.ensures.does c.args.runner.now.number c.args.runner.now.budget before)))

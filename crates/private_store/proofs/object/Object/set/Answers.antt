@@ -1,10 +1,9 @@
-use Rattle.std.proofs.Common.{◌≡◌, true, List, set, sym, subst, ap, ◌∙◌, arith}
+use Rattle.std.proofs.Common.{List, set, ap, ◌∙◌, arith}
 use Rattle.std.proofs.lemmas.List.{map-set}
-use Rattle.upc_values.specs.Shapes.{value_fits}
 use Rattle.upc_values.specs.declared.scalar.Value.{Value}
 use Rattle.private_store.specs.Live.{Thing}
 use Rattle.private_store.specs.code.Held.{held_value, held_values}
-use Rattle.private_store.proofs.Objects.{stands, takes, value_at_fits, filled_set}
+use Rattle.private_store.proofs.Objects.{stands, filled_set}
 use Rattle.private_store.proofs.object.Object.set.Goals as goal
 
 pub index_mut-requires : goal.index_mut-requires
@@ -12,13 +11,6 @@ index_mut-requires c =
     let o = c.self.inside in
     let in_place = stands o.shape o.held.items c.args.place c.args.kind c.self.invariant (rw (← c.self.view_is) at c.requires.there) in
     omega arith
-
-pub put-requires : goal.put-requires
-put-requires c =
-    let o = c.self.inside in
-    let held = c.index_mut.result.now in
-    let fits = value_at_fits o.shape o.held.items c.args.place c.args.kind held c.self.invariant (rw (← c.self.view_is) at c.requires.there) in
-    takes held c.args.v c.args.kind (subst (λ x. value_fits (held_value x) c.args.kind ≡ true) (sym c.index_mut.ensures.value) fits) c.requires.fits
 
 pub invariant_of-self : goal.invariant_of-self
 invariant_of-self c =
