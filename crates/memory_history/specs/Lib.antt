@@ -1,2 +1,9 @@
 pub mod World
-pub mod Marks
+pub mod HeapAfter
+pub mod LocksAfter
+pub mod BarrierAfter
+pub mod MeetsAfter
+pub mod After
+pub mod Calls
+pub mod Acting
+pub mod code

@@ -1,35 +1,13 @@
 //! Whether an action may be asked for.
 
-ghost use Rattle.std.specs.Prelude.{◌≡◌, ◌<◌, List, true, is_some};
-ghost use Rattle.block_layout.specs.Pointers as pointers;
-ghost use Rattle.std.specs.List.{list_any};
-ghost use Rattle.upc_values.specs.declared.journal.Entry.{Entry};
-ghost use Rattle.upc_values.specs.Basic.{is_basic, AreBasic};
+ghost use Rattle.std.specs.Prelude.{◌≡◌};
 ghost use Rattle.upc_values.specs.Shapes as shapes;
-ghost use Rattle.upc_values.specs.Openings as openings;
 ghost use Rattle.upc_values.specs.Formed as formed;
+ghost use Rattle.memory_history.specs.Acting as said;
 
-use crate::beginning::Beginning;
-use block_layout::is_in_range;
-use upc_values::{Action, Kind, ObjectRef, Scalar, SharedPtr, fits_kind};
-
-fn same_object(a: &ObjectRef, b: &ObjectRef) -> bool
-    ensures { result ≡ pointers.same_object a.now b.now }
-{
-    *a == *b
-}
-
-// Whether one of the objects is this one.
-fn has_object(object: &ObjectRef, objects: &[ObjectRef]) -> bool
-    ensures { result ≡ list_any (pointers.same_object object.now) objects.now }
-{
-    for other in objects {
-        if same_object(object, other) {
-            return true;
-        }
-    }
-    false
-}
+use crate::calls::{Asked, read_call};
+use crate::parts::Parts;
+use upc_values::{Action, Kind, Scalar, fits_kind};
 
 // Whether there is a cell, and the value fits it.
 fn fits_cell(value: &Scalar, kind: Option<Kind>) -> bool
@@ -41,38 +19,92 @@ fn fits_cell(value: &Scalar, kind: Option<Kind>) -> bool
     }
 }
 
-impl Beginning {
-    // Whether the pointer is null or names a declared object.
-    fn is_named(&self, pointer: &SharedPtr) -> bool
-        ensures { result ≡ openings.is_named self.now.threads self.now.declared pointer.now }
-    {
-        pointer.is_null()
-            || (has_object(&pointer.object, self.declared())
-                && pointer.thread < self.threads()
-                && is_in_range(i128::from(pointer.offset)))
+// Whether the home, if there is one, is below the number of threads.
+fn is_home(threads: u32, home: Option<u32>) -> bool
+    ensures { result ≡ formed.is_home threads home }
+{
+    match home {
+        Some(thread) => thread < threads,
+        None => true,
     }
+}
 
-    // Whether the value refers to nothing but declared objects. There are no locks.
+impl Parts {
+    // Whether the value refers to nothing but objects and locks that are there.
     fn is_known(&self, value: &Scalar) -> bool
-        ensures { (es : List Entry) → AreBasic es → result ≡ formed.is_known self.now es value.now }
+        ensures { result ≡ said.is_known self.now value.now }
     {
         match value {
             Scalar::Int(_) => true,
-            Scalar::Shared(pointer) => self.is_named(pointer),
-            Scalar::Lock(lock) => *lock == 0,
+            Scalar::Shared(pointer) => self.heap.knows(pointer),
+            Scalar::Lock(lock) => *lock as usize <= self.locks.len(),
         }
     }
 
-    // Whether the basic action may be asked for after any basic entries.
+    // Whether the lock is made.
+    fn is_lock(&self, lock: u32) -> bool
+        ensures { result ≡ said.is_lock self.now lock }
+    {
+        0 < lock && lock as usize <= self.locks.len()
+    }
+
+    // Whether an object of the leader of a call may be asked for.
+    fn may_lead_alloc(&self, nblocks: u64, nbytes: u64, shape: u64) -> bool
+        ensures { result ≡ said.may_call self.now (Asked.Allocates nblocks nbytes shape) }
+    {
+        let beginning = self.heap.beginning();
+        if shape >= beginning.shapes().len() as u64 {
+            return false;
+        }
+        nblocks == 0 || nbytes == 0 || beginning.may_alloc(nblocks, nbytes, shape)
+    }
+
+    // Whether the collective call may be asked for.
+    fn may_call(&self, asks: &Asked) -> bool
+        ensures { result ≡ said.may_call self.now asks.now }
+    {
+        match asks {
+            Asked::Allocates {
+                nblocks,
+                nbytes,
+                shape,
+            } => self.may_lead_alloc(*nblocks, *nbytes, *shape),
+            Asked::MakesLock => true,
+            Asked::Frees(pointer) => self.heap.knows(pointer),
+            Asked::FreesLock(lock) => *lock as usize <= self.locks.len(),
+            Asked::Uses(dst, src) => self.heap.knows(dst) && self.heap.knows(src),
+            Asked::UsesThree(dst, src, perm) => {
+                self.heap.knows(dst) && self.heap.knows(src) && self.heap.knows(perm)
+            }
+            Asked::Nothing => false,
+        }
+    }
+
+    // Whether the action may be asked for.
     pub(crate) fn may_ask(&self, action: &Action) -> bool
-        requires { is_basic action.now ≡ true }
-        ensures { (es : List Entry) → AreBasic es → result ≡ formed.may_ask self.now es action.now }
+        ensures { result ≡ said.may_ask self.now action.now }
     {
         match action {
-            Action::Read { loc, .. } => self.cell_of(*loc).is_some(),
+            Action::Read { loc, .. } => self.heap.cell_of(*loc).is_some(),
             Action::Write { loc, value, .. } => {
-                fits_cell(value, self.cell_of(*loc)) && self.is_known(value)
+                fits_cell(value, self.heap.cell_of(*loc)) && self.is_known(value)
             }
+            Action::Lock(lock)
+            | Action::Attempt(lock)
+            | Action::Unlock(lock)
+            | Action::LockFree(lock) => self.is_lock(*lock),
+            Action::Alloc {
+                nblocks,
+                nbytes,
+                home,
+                shape,
+            } => {
+                let beginning = self.heap.beginning();
+                beginning.may_alloc(*nblocks, *nbytes, u64::from(*shape))
+                    && is_home(beginning.threads(), *home)
+            }
+            Action::Free(pointer) => self.heap.knows(pointer),
+            Action::Meet { call, args } => self.may_call(&read_call(*call, args.as_slice())),
             _ => true,
         }
     }

@@ -1,15 +1,21 @@
 //! The shared memory as one history of all threads' entries: the lawful reply of an action after it, and its one entry.
 #![tactic(auto)]
 
-mod beginning;
+mod allocations;
+mod barrier;
+mod calls;
+mod collective;
 mod formed;
-mod lawful;
-mod legal;
+mod leader;
+mod locks;
+mod meets;
+mod parts;
 mod step;
 mod walk;
 mod world;
+mod writes;
 
-pub use beginning::Beginning;
+pub use shared_heap::Beginning;
 pub use step::Step;
 pub use walk::drain;
 pub use world::World;

@@ -3,7 +3,7 @@
 ghost use Rattle.std.specs.Prelude.{◌≡◌, ◌+◌, ◌-◌, ◌<◌, ◌≤◌, ◌^◌, length, IfOk, OnOk, IfSome, is_some};
 ghost use Rattle.upc_values.specs.Drain as drain;
 
-use crate::lawful::last_written;
+use crate::writes::last_written;
 use std::alloc::{AllocError, Global};
 use std::marker::Model;
 use upc_values::{

@@ -1,27 +1,29 @@
 //! The shared memory as a history.
 
 ghost use Rattle.std.specs.Prelude.{◌≡◌, ◌<◌, ◌^◌, [], length, true, ◌↔◌, IsTrue, IfOk, OnErr, IfSome, None, is_some};
-ghost use Rattle.upc_values.specs.Basic.{is_basic, AreBasic};
 ghost use Rattle.upc_values.specs.Openings.{IsOpening};
 ghost use Rattle.upc_values.specs.History as history;
 ghost use Rattle.upc_values.specs.History.{IsLegal, EachBelow};
 ghost use Rattle.upc_values.specs.Formed.{IsWellFormed, AreWellFormed, fits_after};
 ghost use Rattle.upc_values.specs.Known.{gives_known};
 ghost use Rattle.upc_values.specs.Waits.{WaitsFollow};
+ghost use Rattle.upc_values.specs.Locks.{LocksExclude};
 ghost use Rattle.upc_values.specs.Strands.{may_wait};
 ghost use Rattle.memory_history.specs.World.{answer_of, performed};
 
-use crate::beginning::Beginning;
+use crate::parts::Parts;
 use crate::step::Step;
-use std::alloc::{AllocError, Global};
+use shared_heap::Beginning;
+use std::alloc::Global;
 use std::marker::Model;
+use upc_text::OutOfMemory;
 use upc_values::{Action, Entries, Entry, Listing, Loc, ObjectRef, Scalar, Shape, copy_action};
 
 /// The shared memory: what the run began with, and the list of its entries. Contracts see both. The opening is a valid
 /// one, the history is legal from it, and each entry was well formed after the entries before it.
 #[derive(Drop)]
 pub struct World {
-    beginning: Beginning,
+    parts: Parts,
     entries: Vec<Entry>,
 }
 
@@ -29,13 +31,13 @@ impl Model for World {
     ghost use Rattle.std.specs.Prelude.{List};
     ghost use Rattle.upc_values.specs.declared.journal.Entry.{Entry};
     ghost use Rattle.upc_values.specs.Openings.{Opening};
-    ghost use Rattle.memory_history.specs.World.{IsKept};
+    ghost use Rattle.memory_history.specs.World.{IsWorld};
 
     ghost Value = { Opening × List Entry };
 
-    ghost view = { λ w. (w.beginning, w.entries.items) };
+    ghost view = { λ w. (w.parts.heap.opening, w.entries.items) };
 
-    ghost invariant = { λ w. IsKept w.beginning w.entries.items };
+    ghost invariant = { λ w. IsWorld w.parts w.entries.items };
 }
 
 impl World {
@@ -46,7 +48,7 @@ impl World {
         initials: &[(Loc, Scalar)],
         shapes: &[Shape],
         threads: u32,
-    ) -> Result<World, AllocError>
+    ) -> Result<World, OutOfMemory>
         requires { IsOpening record {
           threads = threads;
           declared = declared.now;
@@ -63,18 +65,17 @@ impl World {
         ensures empty { IfOk result (λ w. w.1 ≡ []) }
     {
         Ok(World {
-            beginning: Beginning::make(alloc, declared, initials, shapes, threads)?,
+            parts: Parts::make(alloc, declared, initials, shapes, threads)?,
             entries: Vec::new(alloc),
         })
     }
 
-    /// Acts on the history: the lawful reply, with one entry appended, or `Disabled` where there is none. The action is
-    /// basic: it needs no lock, no new object, no collective call and no value at a barrier. After want of memory,
-    /// which also comes where there would be 2^62 entries, the history is as it was.
-    pub fn perform(&mut self, thread: u32, index: u32, action: &Action) -> Result<Step, AllocError>
+    /// Acts on the history: the lawful reply, with one entry appended, or `Disabled` where there is none, which only a
+    /// Lock and a Wait come to. It reads no older entry. After want of memory, which also comes where there would be
+    /// 2^62 entries, the history is as it was.
+    pub fn perform(&mut self, thread: u32, index: u32, action: &Action) -> Result<Step, OutOfMemory>
         requires below { thread < self.old.0.threads }
         requires formed { IsWellFormed self.old.0 self.old.1 action.now }
-        requires basic { is_basic action.now ≡ true }
         ensures reply { IfOk result (λ s. answer_of s ≡ history.reply self.old.0 self.old.1 thread action.now) }
         ensures fits { IfOk result (λ s. IfSome (answer_of s) (λ r.
             fits_after self.old.0 self.old.1 action.now r ≡ true)) }
@@ -84,33 +85,34 @@ impl World {
         ensures opening { self.new.0 ≡ self.old.0 }
         ensures err { OnErr result (self.new.1 ≡ self.old.1) }
     {
-        let Some(reply) = self
-            .beginning
-            .reply(self.entries.as_slice(), thread, action)
-        else {
+        if self.entries.len() as u64 >= (1 << 62) - 1 {
+            return Err(OutOfMemory);
+        }
+        let alloc = *self.entries.allocator();
+        let copy = copy_action(alloc, action)?;
+        self.entries.reserve(1)?;
+        let Some(reply) = self.parts.act(alloc, thread, action)? else {
             return Ok(Step::Disabled);
         };
-        if self.entries.len() as u64 >= (1 << 62) - 1 {
-            return Err(AllocError);
-        }
-        let action = copy_action(*self.entries.allocator(), action)?;
-        self.entries.push(Entry {
+        let entry = Entry {
             thread,
             index,
-            action,
+            action: copy,
             reply,
-        })?;
-        Ok(Step::Done(reply))
+        };
+        // There is room for it.
+        match self.entries.push(entry) {
+            Ok(()) => Ok(Step::Done(reply)),
+            Err(_) => unreachable!(),
+        }
     }
 
-    /// Whether a basic action may be asked for now: a Read or a Write only where its location is a cell; a Write where
-    /// the value fits that cell, and is null or names a declared object if it is a pointer; every other. It takes no
-    /// memory.
+    /// Whether an action may be asked for now: its location is a cell, its value fits that cell, what it names has been
+    /// made, and its numbers are in their ranges. It takes no memory.
     pub fn is_well_formed(&self, action: &Action) -> bool
-        requires { is_basic action.now ≡ true }
         ensures { IsTrue result ↔ IsWellFormed self.now.0 self.now.1 action.now }
     {
-        self.beginning.may_ask(action)
+        self.parts.may_ask(action)
     }
 
     /// Whether an action has a lawful reply now. It takes no memory.
@@ -119,12 +121,9 @@ impl World {
         requires formed { IsWellFormed self.now.0 self.now.1 action.now }
         ensures { result ≡ is_some (history.reply self.now.0 self.now.1 thread action.now) }
     {
-        // There is no lock, so a Wait alone may find no reply.
         match action {
-            Action::Wait(mark) => self
-                .beginning
-                .wait_reply(self.entries.as_slice(), thread, *mark)
-                .is_some(),
+            Action::Wait(_) => self.parts.may_pass(thread),
+            Action::Lock(lock) => !self.parts.would_wait(thread, *lock),
             _ => true,
         }
     }
@@ -141,22 +140,21 @@ impl World {
     pub fn threads(&self) -> u32
         ensures { result ≡ self.now.0.threads }
     {
-        self.beginning.threads()
+        self.parts.heap.beginning().threads()
     }
 
     /// What the run began with.
     pub fn beginning(&self) -> &Beginning
         ensures { result.now ≡ self.now.0 }
     {
-        &self.beginning
+        self.parts.heap.beginning()
     }
 
-    /// A law: the opening is valid, and the history is legal from it, with entries that were well formed and are basic.
+    /// A law: the opening is valid, and the history is legal from it, with entries that were well formed.
     pub fn keeps(&self)
         ensures opening { IsOpening self.now.0 }
         ensures legal { IsLegal self.now.0 self.now.1 }
         ensures formed { AreWellFormed self.now.0 self.now.1 }
-        ensures basic { AreBasic self.now.1 }
         ensures below { EachBelow self.now.0.threads self.now.1 }
     {
         let _ = &self.entries;
@@ -168,9 +166,9 @@ impl World {
         ensures opening { IsOpening self.0 }
         ensures legal { IsLegal self.0 self.1 }
         ensures formed { AreWellFormed self.0 self.1 }
-        ensures basic { AreBasic self.1 }
         ensures below { EachBelow self.0.threads self.1 }
         ensures waits { WaitsFollow self.0.threads self.1 }
+        ensures locks { LocksExclude self.1 }
     {
         Listing::from_vec(self.entries)
     }

@@ -22,14 +22,11 @@ use Rattle.code_actions.proofs.Asking.{asks_well}
 use Rattle.serial_core.specs.declared.limits.Limits.{Limits}
 use Rattle.serial_core.specs.Sources.{Outcomes, IsSource, HasOutcomes}
 use Rattle.serial_core.specs.Sources as serial
-use Rattle.program_runs.specs.Served.{AreServed, RunsToday}
-use Rattle.program_runs.proofs.Basics.{served_basic}
 use Rattle.program_runs.proofs.Begun.{KnowsInitials, same_opening, begun_opening, begun_initials}
 use Rattle.program_runs.proofs.Naming.{names_declared}
 
 module _ (program : Checked) (opens : IsOpening (opening_of program))
-    (initials : KnowsInitials program.threads (start_of program)) (code : IsCode (program_code program))
-    (runs : RunsToday program) where
+    (initials : KnowsInitials program.threads (start_of program)) (code : IsCode (program_code program)) where
   -- The code has the outcomes of the program.
   has_outcome : (thread budget : ℕ) → 1 ≤ budget
       → HasOutcome (program_code program) thread budget (thread_outcome program thread budget)
@@ -58,9 +55,6 @@ module _ (program : Checked) (opens : IsOpening (opening_of program))
         ticks = ((all_beat_in_time program).each thread budget).ticks;
         formed = asks.formed;
       };
-      basic = λ rs a w.
-          served_basic (program_code program) thread budget rs (thread_outcome program thread budget rs) a runs
-          (has_outcome thread budget some rs) w;
       spends = λ rs e. ((all_keep_budgets program).each thread budget rs some).spent e;
     }
 
@@ -82,10 +76,10 @@ module _ (program : Program) where
   openings_agree = same_opening program.threads (view_beginning program.beginning) (start_of parts) program.begins
 
   -- The code of a program has the outcomes of the program on a run's threads.
-  pub code_outcomes : (codes : Codes) (limits : Limits) → codes ≡ program_code parts → IsCode codes → AreServed codes
+  pub code_outcomes : (codes : Codes) (limits : Limits) → codes ≡ program_code parts → IsCode codes
       → program.threads ≡ limits.threads → 1 ≤ limits.budget
       → HasOutcomes (serial.opening_of program) codes limits (λ t. thread_outcome parts t limits.budget)
-  code_outcomes codes limits same code served threads some =
+  code_outcomes codes limits same code threads some =
       let b = view_beginning program.beginning in
       let opens = begun_opening program.threads b (start_of parts) program.begins program.opening in
       let initials = begun_initials program.threads b (start_of parts) program.begins program.private in
@@ -93,4 +87,4 @@ module _ (program : Program) where
       subst (λ z. HasOutcomes (serial.opening_of program) z limits f) (sym same)
       (subst (λ o. HasOutcomes o (program_code parts) limits f)
       (sym openings_agree)
-      (has_outcomes parts opens initials (subst IsCode same code) (subst AreServed same served) limits threads some))
+      (has_outcomes parts opens initials (subst IsCode same code) limits threads some))

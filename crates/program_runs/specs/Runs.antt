@@ -9,6 +9,7 @@ use Rattle.upc_values.specs.Ends.{AreSpent}
 use Rattle.upc_values.specs.Sound.{IsSound}
 use Rattle.upc_values.specs.Consistent.{begins}
 use Rattle.upc_values.specs.Waits.{WaitsFollow}
+use Rattle.upc_values.specs.Locks.{LocksExclude}
 use Rattle.typed_tree.specs.Programs.{Checked}
 use Rattle.source_meaning.specs.Laws.{opening_of}
 use Rattle.source_meaning.specs.Threads.{thread_outcome}
@@ -20,8 +21,9 @@ use Rattle.program_runs.specs.Served.{RunsToday}
 -- The journal is a sound run of the program within these limits: each thread's record is what its source comes to on
 -- the recorded replies, and one legal history takes these records as the write buffers drain. The strict order and the
 -- orders of the threads that this gives make the records UPC consistent (UPC Appendix B). Each thread's p-th wait
--- stands after the p-th notify of all threads; a thread whose ticks are spent has had as many as the budget; and the
--- run went by the picks and then round by round, with no round begun once an end had ended it.
+-- stands after the p-th notify of all threads; between two acquisitions of one lock its first holder lets it go; a
+-- thread whose ticks are spent has had as many as the budget; and the run went by the picks and then round by round,
+-- with no round begun once an end had ended it.
 pub record IsRunOf (program : Checked) (l : Limits) (picks : List ℕ) (j : Journal) : Type 0 where
   pub threads : j.threads ≡ l.threads
   pub budget : j.budget ≡ l.budget
@@ -29,6 +31,7 @@ pub record IsRunOf (program : Checked) (l : Limits) (picks : List ℕ) (j : Jour
   pub sound : IsSound (opening_of program) (λ budget t. thread_outcome program t budget) j
   pub orders : AreConsistentOrders (begins (opening_of program) j.history) j (orders_of j)
   pub waits : WaitsFollow l.threads j.history
+  pub locks : LocksExclude j.history
   pub spent : AreSpent l.budget j.strands
   pub course : IsCourse picks j
 

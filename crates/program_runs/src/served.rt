@@ -1,14 +1,13 @@
 //! Which code runs today.
 
 ghost use Rattle.std.specs.Prelude.{◌≡◌, ◌↔◌, IsTrue, true};
-ghost use Rattle.upc_values.specs.Basic as basic;
 ghost use Rattle.upc_values.specs.Lists.{Each};
 ghost use Rattle.stack_code.specs.Codes.{function_at};
 ghost use Rattle.program_runs.specs.Served as pure;
 ghost use Rattle.program_runs.specs.Served.{AreServed};
 
 use stack_code::{Code, Operation, ThreadWork};
-use upc_values::{LibraryCall, Mark};
+use upc_values::LibraryCall;
 
 /// Whether the machine does each instruction of the code today.
 pub(crate) fn is_served(code: &Code) -> bool
@@ -50,8 +49,6 @@ fn is_work_served(work: &ThreadWork) -> bool
     ensures { result ≡ pure.is_served_work work.now }
 {
     match work {
-        ThreadWork::Notify(mark) | ThreadWork::Wait(mark) => is_unvalued(*mark),
-        ThreadWork::NotifyValue | ThreadWork::WaitValue => false,
         ThreadWork::Library { call, .. } => is_call_served(*call),
         _ => true,
     }
@@ -60,17 +57,19 @@ fn is_work_served(work: &ThreadWork) -> bool
 fn is_call_served(call: LibraryCall) -> bool
     ensures { result ≡ pure.is_served_call call }
 {
-    matches!(
-        call,
-        LibraryCall::ThreadOf
-            | LibraryCall::PhaseOf
-            | LibraryCall::AddressField
-            | LibraryCall::AffinitySize
-    )
-}
-
-fn is_unvalued(mark: Mark) -> bool
-    ensures { result ≡ basic.is_unvalued mark }
-{
-    !matches!(mark, Mark::Given(_))
+    match call {
+        LibraryCall::Memcpy => false,
+        LibraryCall::Memget => false,
+        LibraryCall::Memput => false,
+        LibraryCall::Memset => false,
+        LibraryCall::Broadcast => false,
+        LibraryCall::Scatter => false,
+        LibraryCall::Gather => false,
+        LibraryCall::GatherAll => false,
+        LibraryCall::Exchange => false,
+        LibraryCall::Permute => false,
+        LibraryCall::Reduce(_) => false,
+        LibraryCall::PrefixReduce(_) => false,
+        _ => true,
+    }
 }

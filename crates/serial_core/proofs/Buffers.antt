@@ -14,13 +14,13 @@ use Rattle.upc_values.specs.declared.journal.Entry.{Entry}
 use Rattle.upc_values.specs.Scalars.{same_loc}
 use Rattle.upc_values.specs.Drain.{Walk, emptied, oldest_out, stored, passed, looked_up, gone, last_written, entry_of, entries_of}
 use Rattle.upc_values.specs.Openings.{Opening, IsOpening}
-use Rattle.upc_values.specs.History.{objects, reply}
-use Rattle.upc_values.specs.Formed.{IsWellFormed, fits_after}
+use Rattle.upc_values.specs.History.{reply, IsLegal}
+use Rattle.upc_values.specs.Formed.{IsWellFormed, AreWellFormed, fits_after}
 use Rattle.upc_values.specs.Known.{gives_known}
 use Rattle.upc_values.proofs.Walks.{emptied-same, room-left, room-made, entries_of-append, entries-own, entries-all}
 use Rattle.upc_values.proofs.Legality.{unlawful-waits}
 use Rattle.upc_values.proofs.Replies.{formed-grow, fits-grow}
-use Rattle.upc_values.proofs.Fitting.{written-fits}
+use Rattle.memory_history.proofs.ReadValues.{pending-fits}
 use Rattle.upc_values.proofs.Known.{written-known}
 use Rattle.upc_values.proofs.Scalars.{same_scalar-refl}
 use Rattle.upc_values.proofs.Sameness.{same_loc-true}
@@ -334,15 +334,15 @@ youngest-loc l (p ∷ ps) q e =
     go (youngest l ps) (same_loc p.loc l) refl refl e
 
 -- a forwarded value fits and is known
-pub forwarded-answers : (o : Opening) (t i : ℕ) (l : Loc) (v : Scalar) (seen : List Entry) (ps : List Pending) (a : Action) → IsOpening o → objects o seen ≡ o.declared
-    → AreFormed o seen ps → way_of a ≡ Looks l → hit i v ≡ hits (youngest l ps) → IsAnswer o t seen a (Some (Value v))
-forwarded-answers o t i l v seen ps a valid declared formed h y =
+pub forwarded-answers : (o : Opening) (t i : ℕ) (l : Loc) (v : Scalar) (seen : List Entry) (ps : List Pending) (a : Action) → IsOpening o → IsLegal o seen
+    → AreWellFormed o seen → AreFormed o seen ps → way_of a ≡ Looks l → hit i v ≡ hits (youngest l ps) → IsAnswer o t seen a (Some (Value v))
+forwarded-answers o t i l v seen ps a valid legal lawful formed h y =
     let f = found-some (youngest l ps) i v y in
     let asked : IsWellFormed o seen (Write l f.0.value false) =
     subst (λ k. IsWellFormed o seen (Write k f.0.value false)) (youngest-loc l ps f.0 f.1) (youngest-formed o seen l ps f.0 formed f.1) in
     subst (λ b. IsAnswer o t seen b (Some (Value v))) (sym (looks-is a l h))
     (subst (λ u. IsAnswer o t seen (Read l false) (Some (Value u))) f.2
-    (written-fits o seen l false false f.0.value valid declared asked, written-known o seen l f.0.value false asked))
+    (pending-fits o seen l false false f.0.value valid legal lawful asked, written-known o seen l f.0.value false asked))
 
 -- the buffer is emptied, as at an end
 pub holds-finished : (o : Opening) (t n : ℕ) (seen new : List Entry) (ps qs : List Pending) (w : Walk) → qs ≡ []

@@ -14,7 +14,6 @@ use Rattle.upc_values.specs.declared.record.End.TheVariants as ends
 use Rattle.upc_values.specs.declared.journal.Entry.{Entry}
 use Rattle.upc_values.specs.Drain.{Walk, emptied, walked, gone, entry_of, entries_of}
 use Rattle.upc_values.specs.Openings.{Opening}
-use Rattle.upc_values.specs.Basic.{is_basic}
 use Rattle.upc_values.specs.History.{IsLegal}
 use Rattle.upc_values.specs.Formed.{IsWellFormed, AreWellFormed}
 use Rattle.upc_values.specs.Known.{gives_known, AreKnown, HasGiven}
@@ -50,10 +49,6 @@ pub kept-asks : (o : Opening) (p : Codes) (f : Outcomes) (seen : List Entry) (k 
     → IsKept o p f seen k → k.wish ≡ Some (Act a) → IsWellFormed o seen a
 kept-asks o p f seen k a legal formed h w =
     h.source.means.formed (replies_of k.items.items) seen a (sym (h.goes.wished (Act a) w).1) (kept-given o p f seen k legal formed h)
-
--- and is basic
-pub kept-basic : (o : Opening) (p : Codes) (f : Outcomes) (seen : List Entry) (k : Task) (a : Action) → IsKept o p f seen k → k.wish ≡ Some (Act a) → is_basic a ≡ true
-kept-basic o p f seen k a h w = h.source.basic (replies_of k.items.items) a (sym (h.goes.wished (Act a) w).1)
 
 -- replies that were known stay known
 replies-grew : (o : Opening) (t : ℕ) (seen later : List Entry) (rs : List Reply) → Grew t seen later → AreKnown o seen rs → AreKnown o later rs

@@ -4,7 +4,6 @@ ghost use Rattle.std.specs.Prelude.{◌≡◌, ◌<◌, [], ◌∷◌, ◌++◌,
 ghost use Rattle.upc_values.specs.declared.action.Action.TheVariants.{Write};
 ghost use Rattle.upc_values.specs.declared.action.Reply.TheVariants.{Done};
 ghost use Rattle.upc_values.specs.Drain.{Walk};
-ghost use Rattle.upc_values.specs.Basic.{is_basic};
 ghost use Rattle.upc_values.specs.Formed.{IsWellFormed};
 ghost use Rattle.memory_history.specs.World.{answer_of};
 ghost use Rattle.write_buffer.specs.Buffer.{committed};
@@ -109,7 +108,6 @@ pub fn emit(
     requires below { thread < world.old.0.threads }
     requires pending { AreFormed world.old.0 world.old.1 buffer.old }
     requires asked { IsWellFormed world.old.0 world.old.1 action.now }
-    requires basic { is_basic action.now ≡ true }
     ensures holds { IfOk result (λ s. (w : Walk)
         → Holds world.old.0 thread world.old.1 buffer.old next w
         → Emitted world.old.0 thread world.new.1 buffer.new next action.now (answer_of s) w) }

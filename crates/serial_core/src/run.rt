@@ -10,6 +10,7 @@ ghost use Rattle.upc_values.specs.Ends as ends;
 ghost use Rattle.upc_values.specs.Ends.{AreSpent};
 ghost use Rattle.upc_values.specs.Sound.{IsSound};
 ghost use Rattle.upc_values.specs.Waits.{WaitsFollow};
+ghost use Rattle.upc_values.specs.Locks.{LocksExclude};
 ghost use Rattle.stack_code.specs.Codes.{Codes};
 ghost use Rattle.stack_machine.specs.declared.wish.Wish.{Wish};
 ghost use Rattle.serial_core.specs.declared.task.Task.{Task};
@@ -525,6 +526,7 @@ pub fn run_by<R: Wait>(
     ensures limits { IfOk result (λ j. (j.threads ≡ limits.threads) × (j.budget ≡ limits.budget)
         × (j.actions ≡ limits.actions)) }
     ensures waits { IfOk result (λ j. WaitsFollow limits.threads j.history) }
+    ensures locks { IfOk result (λ j. LocksExclude j.history) }
     ensures spent { IfOk result (λ j. AreSpent limits.budget j.strands) }
     ensures course { IfOk result (λ j. IsCourse picks.now j) }
 {

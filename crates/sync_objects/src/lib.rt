@@ -1,8 +1,10 @@
 //! What threads wait for: the locks and the barrier of a run.
 #![tactic(auto)]
 
+mod attendance;
 mod barrier;
 mod locks;
 
-pub use barrier::{Barrier, Visit};
+pub use attendance::Attendance;
+pub use barrier::Barrier;
 pub use locks::{LockState, Locks};

@@ -43,6 +43,13 @@ impl Locks {
         })
     }
 
+    /// How many locks were made.
+    pub fn len(&self) -> usize
+        ensures { result ≡ length self.now }
+    {
+        self.states.len()
+    }
+
     /// A new lock, which nobody holds; its number is the next one. Where there is no memory, no lock is made.
     pub fn make_lock(&mut self) -> Result<u32, OutOfMemory>
         ensures number { IfOk result (λ number. number ≡ length self.new) }
@@ -145,8 +152,7 @@ impl Locks {
 
     /// The lock, which was given up, is freed, held or not.
     pub fn free(&mut self, lock: u32)
-        requires made { IsMade lock self.old }
-        requires given_up { IsTrue (lock_of lock self.old).given_up }
+        requires { IsMade lock self.old }
         ensures { self.new ≡ with_lock lock said.as_freed self.old }
     {
         self.states[lock as usize - 1].freed = true;

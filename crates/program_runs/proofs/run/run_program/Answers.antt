@@ -14,10 +14,9 @@ use Rattle.program_runs.proofs.run.run_program.Goals as goal
 pub run_by-requires-clause-outcomes : goal.run_by-requires-clause-outcomes
 run_by-requires-clause-outcomes g c =
     let program = c.args.program.now in
-    let code = subst IsCode c.code.view_is c.code.invariant in
-    let served = c.if-not-is_served.ensures.0 refl in (
+    let code = subst IsCode c.code.view_is c.code.invariant in (
       λ t. thread_outcome (view_program program) t c.args.limits.budget,
-      code_outcomes program c.in_ok-code.code c.args.limits c.in_ok-code.ensures.code code served c.requires.threads
+      code_outcomes program c.in_ok-code.code c.args.limits c.in_ok-code.ensures.code code c.requires.threads
           c.requires.budget.0,
     )
 
@@ -25,11 +24,10 @@ pub returns-clause-follows : goal.returns-clause-follows
 returns-clause-follows g c =
     let program = c.args.program.now in
     let code = subst IsCode c.code.view_is c.code.invariant in
-    let served = c.if-not-is_served.ensures.0 refl in
     let meaning : ℕ → ℕ → List Reply → Outcome = λ budget t. thread_outcome (view_program program) t budget in
     sound-follows _ meaning c.in_ok-journal.journal
     (c.in_ok-journal.ensures.sound meaning
-    (code_outcomes program c.in_ok-code.code c.args.limits c.in_ok-code.ensures.code code served c.requires.threads
+    (code_outcomes program c.in_ok-code.code c.args.limits c.in_ok-code.ensures.code code c.requires.threads
     c.requires.budget.0))
 
 pub returns-clause-ran : goal.returns-clause-ran
@@ -39,12 +37,11 @@ returns-clause-ran g c =
     let journal = c.in_ok-journal.journal in
     let kept = c.in_ok-journal.ensures in
     let code = subst IsCode c.code.view_is c.code.invariant in
-    let served = c.if-not-is_served.ensures.0 refl in
     let meaning : ℕ → ℕ → List Reply → Outcome = λ budget t. thread_outcome (view_program program) t budget in
     let sound : IsSound (opening_of (view_program program)) meaning journal =
     subst (λ o. IsSound o meaning journal) (openings_agree program)
     (kept.sound meaning
-    (code_outcomes program c.in_ok-code.code limits c.in_ok-code.ensures.code code served c.requires.threads
+    (code_outcomes program c.in_ok-code.code limits c.in_ok-code.ensures.code code c.requires.threads
     c.requires.budget.0)) in
     record {
       threads = kept.limits.0;
@@ -53,6 +50,7 @@ returns-clause-ran g c =
       sound = sound;
       orders = sound-consistent (opening_of (view_program program)) meaning journal sound;
       waits = kept.waits;
+      locks = kept.locks;
       spent = kept.spent;
       course = kept.course;
     }

@@ -4,7 +4,6 @@ use Rattle.upc_values.specs.Drain.{emptied}
 use Rattle.upc_values.specs.History.{reply}
 use Rattle.upc_values.specs.Formed.{IsWellFormed, fits_after}
 use Rattle.upc_values.specs.Known.{gives_known}
-use Rattle.upc_values.proofs.Unmade.{basic-declared}
 use Rattle.memory_history.specs.World.{answer_of}
 use Rattle.serial_core.specs.Kept.{Holds, Emitted}
 use Rattle.serial_core.proofs.Buffers.{emitted-forwarded, forwarded-answers, emitted-looked, emitted-passed, emitted-empties, found-none, answer-is, holds-emptied, grew-then, grew-performed, asked-grew}
@@ -18,7 +17,7 @@ returns-in-Some-clause-holds c = λ w k.
 pub returns-in-Some-clause-answer : goal.returns-in-Some-clause-answer
 returns-in-Some-clause-answer c =
     forwarded-answers c.args.world.now.0 c.args.thread c.in-Some.field-0-0 c.in-Looks.loc c.in-Some.value c.args.world.now.1 c.args.buffer.now c.args.action.now
-    c.keeps.ensures.opening (basic-declared c.args.world.now.0 c.args.world.now.1 c.keeps.ensures.basic) c.requires.pending (sym c.in-Looks.ensures) c.in-Some.ensures.youngest
+    c.keeps.ensures.opening c.keeps.ensures.legal c.keeps.ensures.formed c.requires.pending (sym c.in-Looks.ensures) c.in-Some.ensures.youngest
 
 pub returns-in_ok-step-in-None-clause-holds : goal.returns-in_ok-step-in-None-clause-holds
 returns-in_ok-step-in-None-clause-holds c = λ w k.

@@ -9,6 +9,7 @@ use Rattle.upc_values.specs.Openings.{Opening, IsOpening}
 use Rattle.upc_values.specs.History.{IsLegal, EachBelow}
 use Rattle.upc_values.specs.Formed.{AreWellFormed}
 use Rattle.upc_values.specs.Waits.{WaitsFollow}
+use Rattle.upc_values.specs.Locks.{LocksExclude}
 use Rattle.stack_code.specs.Codes.{Codes}
 use Rattle.serial_core.specs.declared.limits.Limits.{Limits}
 use Rattle.serial_core.specs.declared.task.Task.{Task}
@@ -137,6 +138,10 @@ returns-clause-waits g c =
     let opened : w.0 ≡ o = went.opening ∙ picked.opening ∙ c.in_ok-world.ensures.opening ∙ same in
     subst (λ n. WaitsFollow n c.take_history-history.result) c.requires.same.0
     (subst (WaitsFollow o.threads) (sym took.taken) (subst (λ z. WaitsFollow z.threads w.1) opened took.waits))
+
+pub returns-clause-locks : goal.returns-clause-locks
+returns-clause-locks g c =
+    let took = c.take_history-history.ensures in subst LocksExclude (sym took.taken) took.locks
 
 pub returns-clause-spent : goal.returns-clause-spent
 returns-clause-spent g c =

@@ -1,0 +1,36 @@
+//! The wait at the barrier (UPC 6.6.1).
+
+ghost use Rattle.std.specs.Prelude.{◌≡◌, ◌<◌, length, None, IfSome};
+ghost use Rattle.upc_values.specs.declared.action.Action.TheVariants as act;
+ghost use Rattle.sync_objects.specs.Barrier.{may_pass};
+ghost use Rattle.memory_history.specs.Acting as said;
+ghost use Rattle.memory_history.specs.Acting.{next};
+
+use crate::parts::Parts;
+use upc_values::{Mark, Reply};
+
+impl Parts {
+    // Whether the thread may pass its next round.
+    pub(crate) fn may_pass(&self, thread: u32) -> bool
+        requires { thread < length self.now.barrier }
+        ensures { result ≡ may_pass thread self.now.barrier }
+    {
+        self.barrier.may_pass(thread)
+    }
+
+    // The thread waits, in a round that all threads have notified, or has to go on waiting.
+    pub(crate) fn wait(&mut self, thread: u32, mark: Mark) -> Option<Reply>
+        requires { thread < length self.old.barrier }
+        ensures answer { result ≡ said.answer thread (act.Wait mark) self.old }
+        ensures passed { IfSome result (λ r. self.new ≡ next thread (act.Wait mark) r self.old) }
+        ensures waits { result ≡ None → self.new ≡ self.old }
+    {
+        if !self.barrier.may_pass(thread) {
+            return None;
+        }
+        match self.barrier.pass(thread, mark) {
+            Ok(()) => Some(Reply::Done),
+            Err(code) => Some(Reply::Refused(code)),
+        }
+    }
+}
