@@ -1,10 +1,9 @@
 -- Words that are written one after the other are joined.
-use Rattle.std.proofs.Common.{◌≡◌, ◌∙◌, ◌<◌, ◌+◌, ℕ, suc, List, [], ◌∷◌, ◌++◌, length}
+use Rattle.std.proofs.Common.{◌≡◌, ◌∙◌, ◌<◌, ℕ, List, [], ◌∷◌, ◌++◌, length}
 use Rattle.std.proofs.Common.{sym, ap, refl, arith, append_assoc, codes}
 use Rattle.std.specs.List.{join_with_byte}
 use Rattle.std.proofs.lemmas.List.{append-nil}
 use Rattle.record_text.specs.Words.{Text, with_blanks, with_colons}
-use Rattle.record_text.specs.Lines.{thread_line}
 use Rattle.record_text.specs.code.Rows.{after_blanks}
 
 -- The first word, and the others with a blank before each.

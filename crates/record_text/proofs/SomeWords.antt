@@ -1,5 +1,5 @@
 -- There are words.
-use Rattle.std.proofs.Common.{◌≡◌, ◌<◌, ℕ, List, [], ◌∷◌, ◌++◌, length, ap, arith}
+use Rattle.std.proofs.Common.{◌<◌, List, [], ◌++◌, length, ap, arith}
 use Rattle.std.proofs.lemmas.List.{append-nil}
 use Rattle.upc_values.specs.declared.action.Action.{Action}
 use Rattle.upc_values.specs.declared.action.Action.TheVariants as action

@@ -1,6 +1,6 @@
 -- Lines that are written one after the other are the text.
 use Rattle.std.proofs.Common.{◌≡◌, ◌∙◌, ◌<◌, ◌+◌, ℕ, suc, List, [], ◌∷◌, ◌++◌, length, drop}
-use Rattle.std.proofs.Common.{drop-cons, add-one, sym, ap, refl, arith, append_assoc, codes}
+use Rattle.std.proofs.Common.{drop-cons, add-one, sym, ap, refl, append_assoc, codes}
 use Rattle.std.specs.List.{flat_map, slice_index_or}
 use Rattle.record_text.specs.Words.{Text}
 use Rattle.record_text.specs.Lines.{numbered_lines}

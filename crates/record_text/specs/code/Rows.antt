@@ -1,5 +1,5 @@
 -- Words and lines behind others, as they are written one by one.
-use Rattle.std.specs.Prelude.{List, [], ◌∷◌, ◌++◌, codes}
+use Rattle.std.specs.Prelude.{List, [], ◌∷◌, ◌++◌}
 use Rattle.record_text.specs.Words.{Text}
 
 -- Each word with a blank before it.

@@ -5,4 +5,5 @@ use Rattle.record_text.proofs.lines.entries.Given as goal
 
 abbrev pub invariant-loop-one : goal.invariant-loop-one
 invariant-loop-one l =
-    l.out.items ++ rows (map entry_line (drop l.one-index l.entries)) ≡ l.fn.out.items ++ rows (map entry_line l.entries)
+    l.out.items ++ rows (map entry_line (drop l.one-index l.entries))
+    ≡ l.fn.out.items ++ rows (map entry_line l.entries)

@@ -1,4 +1,4 @@
-use Rattle.std.proofs.Common.{◌≡◌, ◌∙◌, ap, length, decimal, ◌++◌}
+use Rattle.std.proofs.Common.{◌∙◌, ap, length, decimal, ◌++◌}
 use Rattle.std.proofs.lemmas.Result.{on_ok_weaker}
 use Rattle.record_text.specs.Words.{end_words}
 use Rattle.record_text.proofs.Joins.{thread_joined}

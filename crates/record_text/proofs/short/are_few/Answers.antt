@@ -1,4 +1,4 @@
-use Rattle.std.proofs.Common.{◌≡◌, ◌≤◌, ◌<◌, arith, ap, length}
+use Rattle.std.proofs.Common.{arith, ap, length}
 use Rattle.record_text.proofs.Counting.{few, none_left, one_more, too_many}
 use Rattle.record_text.proofs.short.are_few.Goals as goal
 

@@ -1,4 +1,4 @@
-use Rattle.std.proofs.Common.{◌≡◌, ◌∙◌, ◌++◌, ap}
+use Rattle.std.proofs.Common.{◌∙◌, ◌++◌, ap}
 use Rattle.record_text.specs.Lines.{order_lines}
 use Rattle.record_text.specs.code.Rows.{rows}
 use Rattle.record_text.proofs.Wholes.{numbered_step}

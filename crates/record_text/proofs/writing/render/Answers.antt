@@ -1,4 +1,4 @@
-use Rattle.std.proofs.Common.{◌≡◌, ◌∙◌, ◌++◌, ◌∷◌, [], ap, codes, List}
+use Rattle.std.proofs.Common.{◌∙◌, ◌++◌, ◌∷◌, [], ap, codes}
 use Rattle.record_text.specs.Lines.{limits_line, strand_lines, entry_line, op_line, order_lines}
 use Rattle.record_text.specs.Lines.{numbered_lines, section_lines}
 use Rattle.record_text.specs.code.Rows.{rows}

@@ -1,0 +1,20 @@
+//! The parts of a run's text, read back one after the other: words, actions, items, ends, threads, sections and orders.
+#![tactic(auto)]
+
+mod actions;
+mod composed;
+mod ends;
+mod fail;
+mod fields;
+mod items;
+mod limits;
+mod names;
+mod parts;
+mod series;
+mod strands;
+
+pub use fail::Fail;
+pub use limits::{Limits, read_limits};
+pub use names::{Name, section};
+pub use parts::{Parts, expect, split};
+pub use series::{Part, many};

@@ -1,0 +1,13 @@
+pub mod Forms
+pub mod WordLaws
+pub mod PartLaws
+pub mod Hexes
+pub mod ActionLaws
+pub mod ItemLaws
+pub mod EndLaws
+pub mod StrandLaws
+pub mod OrderLaws
+pub mod Tables
+pub mod Agreement
+pub mod Whole
+pub mod Answering

@@ -1,0 +1,48 @@
+-- Reading a whole text.
+use Rattle.std.specs.Prelude.{List, [], Option, codes}
+use Rattle.upc_values.specs.declared.journal.Entry.{Entry}
+use Rattle.upc_values.specs.declared.journal.Strand.{Strand}
+use Rattle.upc_values.specs.declared.journal.Journal.{Journal}
+use Rattle.upc_values.specs.declared.order.Op.{Op}
+use Rattle.upc_values.specs.declared.order.Orders.{Orders}
+use Rattle.record_text.specs.Words.{Text}
+use Rattle.record_text.specs.Short.{is_short}
+use Rattle.record_parts.specs.declared.limits.Limits.{Limits}
+use Rattle.record_parts.specs.code.Readers.{Reader, ◌>>=◌, field, many, each, expect, lift, guarded, whole}
+use Rattle.record_parts.specs.code.Lines.{limits_of, strand_of, section_of, name_of, op_of, order_of}
+use Rattle.run_recorder.specs.code.Finding.{entries_of}
+
+-- The journal of these numbers, strands and entries.
+abbrev pub journal_of : Limits → List Strand → List Entry → Journal
+journal_of limits strands history =
+    record {
+      threads = limits.threads;
+      budget = limits.budget;
+      actions = limits.actions;
+      strands = strands;
+      history = history;
+    }
+
+-- The run, where it is short.
+abbrev pub short_run_of : Limits → List Strand → List Entry → List Op → List (List Op) → Option (Journal × Orders)
+short_run_of limits strands history strict threads =
+    let journal = journal_of limits strands history in
+    guarded (is_short journal) (journal, record { strict = strict; threads = threads })
+
+-- The lines of a run, and the nothing behind the last line end.
+abbrev pub run_of_lines : Reader (Journal × Orders)
+run_of_lines = do
+  _ ← expect (codes "upc-record 1")
+  limits ← field limits_of
+  strands ← many 0 limits.threads strand_of
+  names ← section_of (codes "history") (each name_of)
+  strict ← section_of (codes "strict") (each op_of)
+  threads ← many 0 limits.threads order_of
+  _ ← expect (codes "end")
+  _ ← expect []
+  history ← lift (entries_of strands names)
+  lift (short_run_of limits strands history strict threads)
+
+-- The run with this text.
+abbrev pub run_of : Text → Option (Journal × Orders)
+run_of bytes = whole 10 run_of_lines bytes
