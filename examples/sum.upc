@@ -1,26 +1,27 @@
-/* The sum of an array that lies on all threads. Each thread fills and adds the elements that lie on it, and thread 0
-   adds what the threads have come to (UPC 6.5.1.1, 6.6.1, 6.6.2). */
+/* The sum of an array that lies on all threads. Each thread fills the elements that lie on it, adds up its part, and adds
+   that to the total behind a lock; thread 0 prints the total when all have met (UPC 6.5.1.1, 6.6.1, 6.6.2, 7.2.4). */
 #include <upc_relaxed.h>
 #include <stdio.h>
 
 #define N 400
 
 shared int a[N];
-shared int part[THREADS];
+shared int total;
 
 int main(void) {
   int i;
-  int total = 0;
+  int part = 0;
+  upc_lock_t *guard = upc_all_lock_alloc();
   upc_forall (i = 0; i < N; i++; &a[i])
     a[i] = i;
   upc_barrier;
   for (i = MYTHREAD; i < N; i += THREADS)
-    part[MYTHREAD] += a[i];
+    part += a[i];
+  upc_lock(guard);
+  total += part;
+  upc_unlock(guard);
   upc_barrier;
-  if (MYTHREAD == 0) {
-    for (i = 0; i < THREADS; i++)
-      total += part[i];
+  if (MYTHREAD == 0)
     printf("%d\n", total);
-  }
   return 0;
 }

@@ -12,4 +12,6 @@ mod machines;
 #[cfg(test)]
 mod orders;
 #[cfg(test)]
+mod records;
+#[cfg(test)]
 mod runs;

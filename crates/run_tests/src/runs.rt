@@ -279,7 +279,7 @@ pub fn may_be(limits: Limits) -> bool
     1 <= limits.threads
         && limits.threads <= 32
         && 1 <= limits.budget
-        && limits.budget <= 1_000_000
+        && limits.budget <= 1_000_000_000_000
         && 1 <= limits.actions
         && total <= 8_388_608
 }

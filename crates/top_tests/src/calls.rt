@@ -103,9 +103,8 @@ const USAGES: [&[&str]; 18] = [
     &["run", "-T", "1", "--actions", "8388609", "f.upc"],
     &["run", "-T", "2", "--actions", "4194305", "f.upc"],
     &["--help"],
-    // Modes that do not run yet.
-    &["record", "-T", "1", "f.upc"],
-    &["sample", "-T", "1", "1"],
+    &["sample", "-T", "1", "01"],
+    &["sample", "-T", "1", "1001"],
 ];
 
 // Words with a source, its status, and what it writes to the output and to the error output.
@@ -123,7 +122,7 @@ const OBJECTS: &[u8] = b"shared [3] int a[20]; shared [] int s[8]; int p; shared
 struct pair { int a; char c; }; shared [2] struct pair q[5]; shared [2] char m[3][4]; strict shared long x; \
 int main(void){int i; return 0;}";
 
-const CALLS: [Call; 13] = [
+const CALLS: [Call; 15] = [
     // However the words are spelled and ordered.
     (
         &["run", "-T", "+04", "f.upc"],
@@ -184,6 +183,23 @@ const CALLS: [Call; 13] = [
         b"upc: refused at 1:23: typing 1\n",
     ),
     (&["run", "-T", "2", "f.upc"], OBJECTS, 0, b"", b""),
+    // The text of a run, and a source of stages.
+    (
+        &["record", "-T", "1", "--actions", "9", "f.upc"],
+        b"int main(){return 1 / 0;}",
+        105,
+        b"upc-record 1\nthreads 1 budget 100000000 actions 9\nthread 0 items 2 ticks 0 fault 2 1:19\n\
+notify start -> done\nwait start -> done\nhistory 2\n0.0\n0.1\nstrict 2\n0.0.w\n0.1.r\n\
+order 0 2\n0.0.w\n0.1.r\nend\n",
+        b"upc: run error E2 at 1:19 on thread 0\n",
+    ),
+    (
+        &["sample", "-T", "1", "1"],
+        b"",
+        0,
+        b"stages 1 sum 120\n",
+        b"",
+    ),
     // Where shared objects lie.
     (
         &["layout", "-T", "4", "f.upc"],
@@ -223,7 +239,7 @@ x block 1 elements 1 size 8 pieces 8 0 0 0\n",
 // A source on one thread, its status, and what it writes to the output and to the error output.
 type Program = (&'static [u8], u8, &'static [u8], &'static [u8]);
 
-const PROGRAMS: [Program; 29] = [
+const PROGRAMS: [Program; 31] = [
     // Sums, variables, loops and their run errors.
     (
         b"strict shared int x; int main(){x = 2147483647 + 1; return 0;}",
@@ -316,15 +332,23 @@ printf(\"%d\\n\", s); upc_fence; return s;}",
     (b"shared [2] int x; int main(){return 0;}", 0, b"", b""),
     (b"int main(){return 1 + + 1;}", 2, b"", b""),
     (b"int main(){{} return 1;}", 1, b"", b""),
-    // What does not run yet: a value at a barrier, other calls of the library.
+    // Values at barriers, and locks.
+    (b"int main(){upc_barrier 1; return 0;}", 0, b"", b""),
     (
-        b"int main(){upc_barrier 1; return 0;}",
+        b"int main(){upc_lock_t *l = upc_all_lock_alloc(); upc_lock(l); upc_lock(l); return 0;}",
+        105,
+        b"",
+        b"upc: run error E13 at 1:63 on thread 0\n",
+    ),
+    // What does not run yet: memory calls and the collective functions of UPC 7.3.
+    (
+        b"shared char a[4]; int main(){upc_memset(a, 0, 1); return 0;}",
         101,
         b"",
         b"upc: refused at 1:1: profile 0\n",
     ),
     (
-        b"#include <upc.h>\nint main(){upc_lock_t *l = upc_all_lock_alloc(); return 0;}",
+        b"shared int a[2]; shared int b[2]; int main(){upc_all_exchange(a, b, 4, 0); return 0;}",
         101,
         b"",
         b"upc: refused at 1:1: profile 0\n",
@@ -350,6 +374,11 @@ fn usage_of(words: &&'static [&'static str]) -> Row {
     called(&(*words, SUM, 100, b"", b"upc: usage\n"))
 }
 
+// Whether the word is a mode that runs the source.
+fn runs(word: &str) -> bool {
+    word == "run" || word == "record" || word == "sample"
+}
+
 fn called((words, source, status, out, err): &Call) -> Row {
     Row {
         words,
@@ -359,7 +388,7 @@ fn called((words, source, status, out, err): &Call) -> Row {
         status: *status,
         out,
         err,
-        ran: !matches!(*status, 100 | 101) && words.iter().any(|word| *word == "run"),
+        ran: !matches!(*status, 100 | 101) && words.iter().any(|word| runs(word)),
     }
 }
 

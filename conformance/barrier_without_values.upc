@@ -1,0 +1,5 @@
+int main(void) {
+  upc_notify;
+  upc_wait;
+  return 0;
+}

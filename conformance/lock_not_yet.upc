@@ -1,1 +1,0 @@
-int main(void){upc_lock_t *l=upc_global_lock_alloc();return l==NULL;}

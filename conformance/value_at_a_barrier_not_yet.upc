@@ -1,1 +1,0 @@
-int main(void){upc_barrier 1;return 0;}

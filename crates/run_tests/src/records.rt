@@ -1,0 +1,122 @@
+//! The text of a run, written and read back.
+
+use crate::front::program_of;
+use crate::runs::may_be;
+use order_builder::orders;
+use program_runs::run_program;
+use run_recorder::{ReadRecord, is_short, read_record, render};
+use serial_core::Limits;
+use std::alloc::Global;
+use std::test::Fail;
+use upc_values::{Journal, Orders, agrees};
+
+// The text of `int main(){return 0;}`, run by one thread.
+const RECORD: &str = "upc-record 1\n\
+threads 1 budget 100000000 actions 4194304\n\
+thread 0 items 4 ticks 0 ended 0\n\
+notify start -> done\n\
+wait start -> done\n\
+notify finish -> done\n\
+wait finish -> done\n\
+history 4\n0.0\n0.1\n0.2\n0.3\n\
+strict 4\n0.0.w\n0.1.r\n0.2.w\n0.3.r\n\
+order 0 4\n0.0.w\n0.1.r\n0.2.w\n0.3.r\n\
+end\n";
+
+// A text with every kind of value.
+const EACH: &str = "upc-record 1\n\
+threads 2 budget 1 actions 7\n\
+thread 0 items 8 ticks 18446744073709551615 fault 5 3:14\n\
+read relaxed @1.0.4 -> value -170141183460469231731687303715884105728\n\
+write strict @1.0.4 l:7 -> done\n\
+stall\n\
+alloc 3 8 any 0 -> value p:1:2:3:0:0:0:1:0:-9223372036854775808\n\
+meet 5 2 -1 p:0:0:0:0:0:0:0:0:0 -> refused 17\n\
+free p:1:2:3:0:0:0:1:0:8 -> flag 1\n\
+print 00ff7a -> done\n\
+print - -> done\n\
+thread 1 items 0 ticks 0 deadlocked alloc 1 1 31 0\n\
+history 2\n0.6\n0.0\n\
+strict 0\n\
+order 0 0\n\
+order 1 1\n0.1.w\n\
+end\n";
+
+// The text of a run, where it has one.
+fn text_of(alloc: Global, journal: &Journal, orders: &Orders) -> Result<Option<Vec<u8>>, Fail> {
+    if journal.strands.len() != journal.threads as usize
+        || orders.threads.len() != journal.threads as usize
+        || !agrees(journal)
+        || !is_short(journal)
+    {
+        return Ok(None);
+    }
+    Ok(Some(render(alloc, journal, orders)?))
+}
+
+// Whether no run has this text, as its line of this number shows.
+fn is_bad(alloc: Global, text: &[u8], line: u32) -> bool {
+    match read_record(alloc, text) {
+        Err(ReadRecord::Bad(place)) => place.line == line,
+        _ => false,
+    }
+}
+
+#[test]
+fn a_run_is_written(rt: HostRuntime) -> Result<(), Fail> {
+    let alloc = rt.alloc();
+    let limits = Limits {
+        threads: 1,
+        budget: 100_000_000,
+        actions: 4_194_304,
+    };
+    let program = program_of(alloc, 1, b"int main(){return 0;}")?.expect(&rt, "a program");
+    assert!(rt; may_be(limits));
+    assert!(rt; program.threads() == limits.threads);
+    let journal = run_program(&rt, alloc, &program, limits, &[])?;
+    let orders = orders(alloc, &journal)?;
+    let text = text_of(alloc, &journal, &orders)?.expect(&rt, "a text");
+    assert!(rt; text.as_slice() == RECORD.as_bytes());
+    Ok(())
+}
+
+#[test]
+fn texts_are_read_back(rt: HostRuntime) -> Result<(), Fail> {
+    let alloc = rt.alloc();
+    for text in [RECORD, EACH] {
+        let (journal, orders) = read_record(alloc, text.as_bytes())?;
+        let again = text_of(alloc, &journal, &orders)?.expect(&rt, "a text");
+        assert!(rt; again.as_slice() == text.as_bytes());
+    }
+    Ok(())
+}
+
+#[test]
+fn other_texts_are_bad(rt: HostRuntime) -> Result<(), Fail> {
+    let alloc = rt.alloc();
+    let cut = RECORD.as_bytes().split_last().expect(&rt, "a byte").1;
+    assert!(rt; is_bad(alloc, cut, 23));
+    assert!(rt; is_bad(alloc, b"", 1));
+    assert!(rt;
+        is_bad(
+            alloc,
+            b"upc-record 1\nthreads 00 budget 1 actions 1\nhistory 0\nstrict 0\nend\n",
+            2
+        )
+    );
+    assert!(rt;
+        is_bad(
+            alloc,
+            b"upc-record 1\nthreads 0 budget 1  actions 1\nhistory 0\nstrict 0\nend\n",
+            2
+        )
+    );
+    assert!(rt;
+        is_bad(
+            alloc,
+            b"upc-record 1\nthreads 0 budget 1 actions 1\nhistory 0\nstrict 0\nend\n\n",
+            6
+        )
+    );
+    Ok(())
+}

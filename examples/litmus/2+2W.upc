@@ -1,0 +1,27 @@
+/* 2+2W, two and two writes: both threads write both variables, in opposite orders: 1 first and then 2.
+
+   Outcomes, as (x, y) behind the barrier:
+   - Relaxed, by UPC: (1, 1), (1, 2), (2, 1), (2, 2). In (1, 1) both first writes come last. The threads' orders may
+     even differ, so that two threads find different values behind the barrier.
+   - Strict, by UPC: all but (1, 1). The write that stands last of all is the second of its thread, and it writes 2.
+   - By the write buffer: all but (1, 1). The writes of a thread leave its buffer in order.
+   - By the order of the rounds: (1, 2). All of thread 1 stands before all of thread 0. */
+#include <upc_relaxed.h>
+#include <stdio.h>
+
+shared int x;
+shared int y;
+
+int main(void) {
+  if (MYTHREAD == 0) {
+    x = 1;
+    y = 2;
+  } else {
+    y = 1;
+    x = 2;
+  }
+  upc_barrier;
+  if (MYTHREAD == 0)
+    printf("in the end x %d, y %d\n", x, y);
+  return 0;
+}

@@ -1,0 +1,28 @@
+/* R: thread 0 writes x and then 1 into y; thread 1 writes 2 into y and then reads x.
+
+   Outcomes, as (what thread 1 read of x, what y is behind the barrier):
+   - Relaxed, by UPC: (0, 1), (0, 2), (1, 1), (1, 2). In (0, 2) the write of 2 comes behind that of 1, and yet the read
+     that follows it misses x, which was written before that 1.
+   - Strict, by UPC: all but (0, 2).
+   - By the write buffer: all four. For (0, 2) the write of 2 waits while thread 1 reads and thread 0 does all its work.
+   - By the order of the rounds: (0, 1). All of thread 1 stands before all of thread 0. */
+#include <upc_relaxed.h>
+#include <stdio.h>
+
+shared int x;
+shared int y;
+shared int seen;
+
+int main(void) {
+  if (MYTHREAD == 0) {
+    x = 1;
+    y = 1;
+  } else {
+    y = 2;
+    seen = x;
+  }
+  upc_barrier;
+  if (MYTHREAD == 0)
+    printf("x %d, in the end y %d\n", seen, y);
+  return 0;
+}
