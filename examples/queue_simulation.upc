@@ -1,6 +1,6 @@
-/* Customers at tills. Each till has a queue of its own, a ring in private memory, and is simulated by one thread, minute
-   by minute; what came of it goes into a shared array of structs (C99 6.7.2.1, UPC 6.6.2). How many threads there are
-   changes who does the work, and nothing of the answer. */
+/* Customers at tills. Each till has a queue of its own, a ring in private memory, and is simulated by one thread,
+   minute by minute; what came of it goes into a shared array of structs (C99 6.7.2.1, UPC 6.6.2). How many threads
+   there are changes who does the work, and nothing of the answer. */
 #include <upc_relaxed.h>
 #include <stdio.h>
 
