@@ -1,9 +1,9 @@
 -- Which programs run today.
 use Rattle.std.specs.Prelude.{◌≡◌, Bool, true, false}
 use Rattle.upc_values.specs.declared.library.LibraryCall.{LibraryCall}
-use Rattle.upc_values.specs.declared.library.LibraryCall.TheVariants.{Memcpy, Memget, Memput, Memset, Broadcast, Scatter}
-use Rattle.upc_values.specs.declared.library.LibraryCall.TheVariants.{Gather, GatherAll, Exchange, Permute, Reduce}
-use Rattle.upc_values.specs.declared.library.LibraryCall.TheVariants.{PrefixReduce}
+use Rattle.upc_values.specs.declared.library.LibraryCall.TheVariants.{Memcpy, Memget, Memput, Memset, Broadcast}
+use Rattle.upc_values.specs.declared.library.LibraryCall.TheVariants.{Scatter, Gather, GatherAll, Exchange, Permute}
+use Rattle.upc_values.specs.declared.library.LibraryCall.TheVariants.{Reduce, PrefixReduce}
 use Rattle.upc_values.specs.Lists.{Each}
 use Rattle.typed_tree.specs.Programs.{Checked}
 use Rattle.stack_code.specs.declared.instruction.ThreadWork.{ThreadWork}

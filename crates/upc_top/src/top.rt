@@ -12,9 +12,9 @@ use std::sync::Wait;
 use upc_text::{Gate, Sink, Sources};
 
 /// Reads the words and the file, and does with its program what the mode says: `run` writes what it prints to `out`,
-/// `record` the record of its run, `check` writes `ok`, and `layout` where its shared objects lie; `sample` reads no file,
-/// and runs the source of so many stages. A line on any other ending goes to `err`. The status is 0 to 99 where the
-/// program ended by itself, and 0 in the modes `check` and `layout`; 100 where the words are refused; 101 where the
+/// `record` the record of its run, `check` writes `ok`, and `layout` where its shared objects lie; `sample` reads no
+/// file, and runs the source of so many stages. A line on any other ending goes to `err`. The status is 0 to 99 where
+/// the program ended by itself, and 0 in the modes `check` and `layout`; 100 where the words are refused; 101 where the
 /// source is; 102 where a read failed; 103 where a write failed; 104 where memory was wanting; 105 for a run error; 106
 /// for a deadlock; 107 and 108 where a thread reached its limit of ticks or of items; 109 where a run is too long for a
 /// text; 110 where the file has more than 1,048,576 bytes.
