@@ -16,3 +16,4 @@ pub mod Asking
 pub mod Parameters
 pub mod Machines
 pub mod Putting
+pub mod SmallWork

@@ -4,11 +4,13 @@
 mod accesses;
 mod call_work;
 mod calls;
+mod ints;
 mod jumps;
 mod laws;
 mod library;
 mod machine;
 mod objects;
+mod private_pointers;
 mod progress;
 mod quick;
 mod quick_objects;
