@@ -1,3 +1,4 @@
+pub mod Pendings
 pub mod Pointed
 pub mod Allocations
 pub mod Shapes

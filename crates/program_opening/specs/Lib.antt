@@ -1,2 +1,3 @@
 pub mod ViewSettings
 pub mod LaidObjects
+pub mod Pending

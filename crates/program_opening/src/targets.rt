@@ -10,6 +10,7 @@ ghost use Rattle.typing_rules.specs.Rules.{has_size};
 ghost use Rattle.typed_tree.specs.Objects.{type_of};
 ghost use Rattle.typed_tree.specs.Targets as pure;
 ghost use Rattle.typed_tree.specs.ViewStatements.{view_object};
+ghost use Rattle.program_opening.specs.Pending.{pending_targets, all_pending};
 
 use std::alloc::Global;
 use typed_tree::Object;
@@ -20,21 +21,27 @@ use upc_types::{Base, CType, Structs, copy_type};
 pub(crate) fn leaf_of(base: &Base) -> &Base
     ensures { view_base result.now ≡ leaf_base (view_base base.now) }
 {
-    match base {
-        Base::Array(element, _) => leaf_of(&element.base),
-        _ => base,
+    let mut leaf = base;
+    while let Base::Array(element, _) = leaf {
+        leaf = &element.base;
     }
+    leaf
+}
+
+/// A struct of whose members those from one on are still to come.
+#[derive(Clone, Copy)]
+struct Pending {
+    number: u32,
+    member: usize,
 }
 
 // Adds copies of the targets of the pointers in an object that is no array.
-#[cycle(targets)]
 fn push_leaf(
     alloc: Global,
     structs: &Structs,
     found: &mut Vec<CType>,
     leaf: &Base,
 ) -> Result<(), OutOfMemory>
-    requires complete { base_complete (complete_in (view_structs structs.now).completed) (view_base leaf.now) ≡ true }
     ensures { OnOk result (map view found.new.items
         ≡ map view found.old.items
         ++ pure.leaf_targets (pure.struct_targets (view_structs structs.now).completed) (view_base leaf.now)) }
@@ -46,21 +53,75 @@ fn push_leaf(
     }
 }
 
-// So of a complete struct.
-#[cycle(targets)]
+// So of a struct. A loop, since as many structs may lie in one another as a source declares.
 fn push_members(
     alloc: Global,
     structs: &Structs,
     found: &mut Vec<CType>,
     number: u32,
 ) -> Result<(), OutOfMemory>
-    requires complete { complete_in (view_structs structs.now).completed number ≡ true }
     ensures { OnOk result (map view found.new.items
         ≡ map view found.old.items ++ pure.struct_targets (view_structs structs.now).completed number) }
 {
-    for member in structs.members(number) {
-        push_leaf(alloc, structs, found, leaf_of(&member.ctype.base))?;
+    let mut pending = Vec::new(alloc);
+    pending.push(Pending { number, member: 0 })?;
+    for _ in 0..u64::MAX {
+        match pending.pop() {
+            None => return Ok(()),
+            Some(next) => push_next(alloc, structs, found, &mut pending, next)?,
+        }
     }
+    Err(OutOfMemory)
+}
+
+// Adds the target of a leaf element where it is a pointer; where it is a struct, that struct is to come first.
+fn push_found(
+    alloc: Global,
+    structs: &Structs,
+    found: &mut Vec<CType>,
+    pending: &mut Vec<Pending>,
+    leaf: &Base,
+) -> Result<(), OutOfMemory>
+    ensures { OnOk result (map view found.new.items
+        ++ all_pending (view_structs structs.now).completed pending.new.items
+        ≡ map view found.old.items
+        ++ (pure.leaf_targets (pure.struct_targets (view_structs structs.now).completed) (view_base leaf.now)
+        ++ all_pending (view_structs structs.now).completed pending.old.items)) }
+{
+    match leaf {
+        Base::Pointer(target) => push_copy(alloc, found, target)?,
+        Base::Struct(number) => pending.push(Pending {
+            number: *number,
+            member: 0,
+        })?,
+        Base::Void | Base::Integer(_) | Base::Array(_, _) | Base::LockObject => {}
+    }
+    Ok(())
+}
+
+// Goes on with the next member, and leaves those behind it.
+fn push_next(
+    alloc: Global,
+    structs: &Structs,
+    found: &mut Vec<CType>,
+    pending: &mut Vec<Pending>,
+    next: Pending,
+) -> Result<(), OutOfMemory>
+    ensures { OnOk result (map view found.new.items
+        ++ all_pending (view_structs structs.now).completed pending.new.items
+        ≡ map view found.old.items ++ (pending_targets (view_structs structs.now).completed next
+        ++ all_pending (view_structs structs.now).completed pending.old.items)) }
+{
+    let members = structs.members(next.number);
+    if next.member >= members.len() {
+        return Ok(());
+    }
+    let leaf = leaf_of(&members[next.member].ctype.base);
+    pending.push(Pending {
+        number: next.number,
+        member: next.member + 1,
+    })?;
+    push_found(alloc, structs, found, pending, leaf)?;
     Ok(())
 }
 

@@ -10,8 +10,8 @@ ghost use Rattle.program_opening.specs.ViewSettings.{view_setting};
 
 use crate::setting::Setting;
 use block_layout::{Kind, LocalPtr, ObjectRef, SharedPtr};
+use rule_checks::constants::cast_constant;
 use typed_tree::SharedDecl;
-use typing_rules::constants::cast_constant;
 use typing_rules::{Constant, Static};
 use upc_types::{Base, Structs};
 use upc_values::{Scalar, Value};

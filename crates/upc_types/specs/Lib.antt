@@ -8,3 +8,4 @@ pub mod Arithmetic
 pub mod Conversions
 pub mod View
 pub mod ViewStructs
+pub mod KeptCells

@@ -1,8 +1,10 @@
 //! The cells of objects (C99 6.2.5, 6.5.2.1, 6.7.2.1; UPC 6.5.1).
 
-ghost use Rattle.std.specs.Prelude.{◌≡◌, ◌+◌, ◌*◌, ◌<◌, ◌≤◌, ◌++◌, ◌∷◌, [], true, IfOk, OnOk};
+ghost use Rattle.std.specs.Prelude.{◌≡◌, ◌+◌, ◌*◌, ◌<◌, ◌≤◌, ◌++◌, ◌∷◌, [], true, ℕ, List, IfOk, IfSome, OnOk};
+ghost use Rattle.block_layout.specs.declared.kind.Kind.{Kind};
 ghost use Rattle.block_layout.specs.Shapes.{CellsWithin, IsShape};
 ghost use Rattle.upc_types.specs.Cells as pure;
+ghost use Rattle.upc_types.specs.KeptCells.{AreKept};
 ghost use Rattle.upc_types.specs.Layout.{base_layout, base_complete, layout_in, complete_in, is_complete, size};
 ghost use Rattle.upc_types.specs.Layout.{most_bytes};
 ghost use Rattle.upc_types.specs.View.{view, view_base};
@@ -46,11 +48,82 @@ pub fn object_shape(alloc: Global, t: &CType, structs: &Structs) -> Result<Shape
     })
 }
 
+/// The cells of a struct, kept for those that hold it.
+#[derive(Drop)]
+pub struct KeptCells {
+    pub number: u32,
+    pub cells: Vec<(u32, Kind)>,
+}
+
+// So many structs may lie in one another until the cells of one are kept: so no call goes deeper, while a source may
+// declare 65,535 structs that each hold the one before.
+const LEVELS: u32 = 4_096;
+
 impl Structs {
     // The cells of an object that is no array.
-    #[cycle(cells)]
     pub fn leaf_cells(&self, alloc: Global, leaf: &Base) -> Result<Vec<(u32, Kind)>, OutOfMemory>
         requires complete { base_complete (complete_in (view_structs self.now).completed) (view_base leaf.now) ≡ true }
+        ensures { IfOk result (λ cells. cells.items
+            ≡ pure.leaf_cells (view_structs self.now).targets
+            (pure.struct_cells (view_structs self.now).targets (view_structs self.now).completed)
+            (view_base leaf.now)) }
+    {
+        let kept = self.kept_cells(alloc, leaf)?;
+        self.leaf_cells_by(alloc, kept.as_slice(), leaf)
+    }
+
+    // The cells of structs inside an object, of one in so many levels.
+    fn kept_cells(&self, alloc: Global, leaf: &Base) -> Result<Vec<KeptCells>, OutOfMemory>
+        ensures { IfOk result (λ kept. AreKept (pure.struct_cells (view_structs self.now).targets
+            (view_structs self.now).completed) kept.items) }
+    {
+        let mut kept = Vec::new(alloc);
+        if self.depth_of(leaf) <= LEVELS {
+            return Ok(kept);
+        }
+        let inside = self.structs_inside(alloc, leaf)?;
+        for place in 0..inside.len() {
+            if inside[place] {
+                self.keep_cells(alloc, &mut kept, place)?;
+            }
+        }
+        Ok(kept)
+    }
+
+    // Keeps the cells of a struct by its place in the order of completion, where it stands on such a level.
+    fn keep_cells(
+        &self,
+        alloc: Global,
+        kept: &mut Vec<KeptCells>,
+        place: usize,
+    ) -> Result<(), OutOfMemory>
+        requires kept { AreKept (pure.struct_cells (view_structs self.now).targets
+            (view_structs self.now).completed) kept.old.items }
+        ensures { OnOk result (AreKept (pure.struct_cells (view_structs self.now).targets
+            (view_structs self.now).completed) kept.new.items) }
+    {
+        let Some(completed) = self.completed().get(place) else {
+            return Ok(());
+        };
+        let number = completed.number;
+        if completed.depth % LEVELS == LEVELS - 1 && self.is_complete(&Base::Struct(number)) {
+            let cells = self.struct_cells(alloc, kept.as_slice(), number)?;
+            kept.push(KeptCells { number, cells })?;
+        }
+        Ok(())
+    }
+
+    // The cells of an object that is no array, where these are kept.
+    #[cycle(cells)]
+    fn leaf_cells_by(
+        &self,
+        alloc: Global,
+        kept: &[KeptCells],
+        leaf: &Base,
+    ) -> Result<Vec<(u32, Kind)>, OutOfMemory>
+        requires complete { base_complete (complete_in (view_structs self.now).completed) (view_base leaf.now) ≡ true }
+        requires kept { AreKept (pure.struct_cells (view_structs self.now).targets
+            (view_structs self.now).completed) kept.now }
         ensures { IfOk result (λ cells. cells.items
             ≡ pure.leaf_cells (view_structs self.now).targets
             (pure.struct_cells (view_structs self.now).targets (view_structs self.now).completed)
@@ -59,15 +132,25 @@ impl Structs {
         match leaf {
             Base::Integer(kind) => one_cell(alloc, *kind),
             Base::Pointer(target) => one_cell(alloc, self.pointer_kind(target)),
-            Base::Struct(number) => self.struct_cells(alloc, *number),
+            Base::Struct(number) => match kept_among(kept, *number) {
+                Some(cells) => copy_cells(alloc, cells),
+                None => self.struct_cells(alloc, kept, *number),
+            },
             Base::Void | Base::Array(_, _) | Base::LockObject => Ok(Vec::new(alloc)),
         }
     }
 
-    // The cells of a complete struct.
+    // The cells of a complete struct, where these are kept.
     #[cycle(cells)]
-    fn struct_cells(&self, alloc: Global, number: u32) -> Result<Vec<(u32, Kind)>, OutOfMemory>
+    fn struct_cells(
+        &self,
+        alloc: Global,
+        kept: &[KeptCells],
+        number: u32,
+    ) -> Result<Vec<(u32, Kind)>, OutOfMemory>
         requires complete { complete_in (view_structs self.now).completed number ≡ true }
+        requires kept { AreKept (pure.struct_cells (view_structs self.now).targets
+            (view_structs self.now).completed) kept.now }
         ensures { IfOk result (λ cells. cells.items
             ≡ pure.struct_cells (view_structs self.now).targets
             (view_structs self.now).completed number) }
@@ -78,7 +161,7 @@ impl Structs {
         for member in members {
             let base = &member.ctype.base;
             let layout = self.whole_layout(base);
-            let part = self.leaf_cells(alloc, leaf_of(base))?;
+            let part = self.leaf_cells_by(alloc, kept, leaf_of(base))?;
             let start = aligned(end, layout.align);
             self.push_leaves(&mut cells, start, base, part.as_slice())?;
             end = start + layout.size;
@@ -113,6 +196,25 @@ impl Structs {
     }
 }
 
+// The cells of a struct, where they are kept.
+fn kept_among(kept: &[KeptCells], number: u32) -> Option<&[(u32, Kind)]>
+    ensures { (f : ℕ → List (ℕ × Kind)) → AreKept f kept.now → IfSome result (λ cells. cells.now ≡ f number) }
+{
+    for x in kept {
+        if x.number == number {
+            return Some(x.cells.as_slice());
+        }
+    }
+    None
+}
+
+// The same cells once more.
+fn copy_cells(alloc: Global, cells: &[(u32, Kind)]) -> Result<Vec<(u32, Kind)>, OutOfMemory>
+    ensures { IfOk result (λ copy. copy.items ≡ cells.now) }
+{
+    cells.iter().copied().collect(alloc)
+}
+
 // A list of one cell, at the beginning.
 fn one_cell(alloc: Global, kind: Kind) -> Result<Vec<(u32, Kind)>, OutOfMemory>
     ensures { IfOk result (λ cells. cells.items ≡ (0, kind) ∷ []) }
@@ -122,14 +224,15 @@ fn one_cell(alloc: Global, kind: Kind) -> Result<Vec<(u32, Kind)>, OutOfMemory>
     Ok(cells)
 }
 
-// The type of the leaf elements of an object.
-fn leaf_of(base: &Base) -> &Base
+/// The type of the leaf elements of an object.
+pub(crate) fn leaf_of(base: &Base) -> &Base
     ensures { view_base result.now ≡ pure.leaf_base (view_base base.now) }
 {
-    match base {
-        Base::Array(element, _) => leaf_of(&element.base),
-        _ => base,
+    let mut leaf = base;
+    while let Base::Array(element, _) = leaf {
+        leaf = &element.base;
     }
+    leaf
 }
 
 // Adds these cells, moved on by so many bytes.

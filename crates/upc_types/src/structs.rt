@@ -9,6 +9,7 @@ use crate::ctype::{Base, CType};
 use crate::layout::{
     Known, Layout, MOST_BYTES, aligned, finished, many, pointer_size, scalar, wider,
 };
+use crate::shape::leaf_of;
 use crate::targets::number_among;
 use block_layout::Kind;
 use std::alloc::Global;
@@ -26,6 +27,8 @@ pub struct Member {
 pub struct Completed {
     pub number: u32,
     pub members: Vec<Member>,
+    /// How many structs lie in one another in it: 0 where it holds none, 4,294,967,295 where there are more.
+    pub depth: u32,
 }
 
 /// What the numbers in types and in kinds stand for: structs, and targets of pointers.
@@ -192,6 +195,72 @@ impl Structs {
         }
     }
 
+    // How many structs lie in one another in an object of this type, itself the first.
+    pub(crate) fn depth_of(&self, base: &Base) -> u32 {
+        let Base::Struct(number) = leaf_of(base) else {
+            return 0;
+        };
+        match self.completed_by(*number) {
+            Some(completed) => completed.depth.saturating_add(1),
+            None => 0,
+        }
+    }
+
+    // The greatest depth of an object among these members.
+    fn depth_among(&self, members: &[Member]) -> u32 {
+        let mut depth = 0;
+        for member in members {
+            depth = depth.max(self.depth_of(&member.ctype.base));
+        }
+        depth
+    }
+
+    // Which of the complete structs, in the order of completion, are the leaf elements of this object or lie in them.
+    pub(crate) fn structs_inside(
+        &self,
+        alloc: Global,
+        base: &Base,
+    ) -> Result<Vec<bool>, OutOfMemory> {
+        let mut inside = vec![in alloc; false; self.completed.len()]?;
+        self.mark(&mut inside, base);
+        for place in (0..self.completed.len()).rev() {
+            if inside.get(place).copied().unwrap_or(false) {
+                self.mark_members(&mut inside, self.completed[place].members.as_slice());
+            }
+        }
+        Ok(inside)
+    }
+
+    // Marks the structs that are the leaf elements of these members.
+    fn mark_members(&self, inside: &mut Vec<bool>, members: &[Member]) {
+        for member in members {
+            self.mark(inside, &member.ctype.base);
+        }
+    }
+
+    // Marks the struct that is the leaf element of this object.
+    fn mark(&self, inside: &mut Vec<bool>, base: &Base) {
+        if let Base::Struct(number) = leaf_of(base)
+            && let Some(known) = self.known_of(*number)
+            && known.place < inside.len()
+        {
+            inside[known.place] = true;
+        }
+    }
+
+    // The complete structs in the order of completion.
+    pub(crate) fn completed(&self) -> &[Completed] {
+        self.completed.as_slice()
+    }
+
+    // A struct that is complete.
+    fn completed_by(&self, number: u32) -> Option<&Completed> {
+        match self.known_of(number) {
+            Some(known) => self.completed.get(known.place),
+            None => None,
+        }
+    }
+
     // Whether one of these members holds a pointer to a private object.
     fn members_hold_private(&self, members: &[Member]) -> bool
         ensures { result ≡ members_hold_private (private_in (view_structs self.now).completed)
@@ -221,10 +290,15 @@ impl Structs {
         ensures err { OnErr result (view_structs self.new ≡ view_structs self.old) }
     {
         let holds_private = self.members_hold_private(members.as_slice());
+        let depth = self.depth_among(members.as_slice());
         self.completed.reserve(1)?;
         make_room(&mut self.known, number)?;
         let place = self.completed.len();
-        self.completed.push(Completed { number, members })?;
+        self.completed.push(Completed {
+            number,
+            members,
+            depth,
+        })?;
         self.known[number as usize] = Some(Known {
             place,
             layout,

@@ -30,12 +30,12 @@ struct_cells-whole_layout-layout-requires-clause-few t c =
     let a = at_index cs (place_or_none (known_in cs c.args.number)) c.loop-member.end c.members-members.result.now c.loop-member.member-index c.member-item.result (omega arith) c.member-item.is c.loop-member.invariant.before c.loop-member.invariant.ends in
     a.few
 
-pub struct_cells-leaf_cells-requires : goal.struct_cells-leaf_cells-requires
-struct_cells-leaf_cells-requires t c =
+pub struct_cells-leaf_cells_by-requires : goal.struct_cells-leaf_cells_by-requires
+struct_cells-leaf_cells_by-requires t c =
     let cs = reverse (map view_completed c.args.self.now.completed.items) in
     let a = at_index cs (place_or_none (known_in cs c.args.number)) c.loop-member.end c.members-members.result.now c.loop-member.member-index c.member-item.result (omega arith) c.member-item.is c.loop-member.invariant.before c.loop-member.invariant.ends in
     let deep : rank cs (view_base c.leaf_of.result.now) ≤ place_or_none (known_in cs c.args.number) = subst (λ b. rank cs b ≤ place_or_none (known_in cs c.args.number)) (sym c.leaf_of.ensures) a.deep in
-    (omega (arith, deep, c.decreases), subst (λ b. base_complete (complete_in cs) b ≡ true) (sym c.leaf_of.ensures) a.leaf)
+    (omega (arith, deep, c.decreases), (subst (λ b. base_complete (complete_in cs) b ≡ true) (sym c.leaf_of.ensures) a.leaf, c.requires.kept))
 
 pub struct_cells-aligned-start-requires-clause-near : goal.struct_cells-aligned-start-requires-clause-near
 struct_cells-aligned-start-requires-clause-near t c =

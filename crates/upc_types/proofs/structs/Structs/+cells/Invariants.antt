@@ -6,8 +6,8 @@ use Rattle.upc_types.proofs.Order.{complete_before}
 use Rattle.upc_types.proofs.Ranks.{place_or_none, rank, struct_rank}
 use Rattle.upc_types.proofs.structs.Structs.+cells.Given as goal
 
-abbrev pub decreases-leaf_cells : goal.decreases-leaf_cells
-decreases-leaf_cells l = 2 * rank (reverse (map view_completed l.self.now.completed.items)) (view_base l.leaf.now) + 1
+abbrev pub decreases-leaf_cells_by : goal.decreases-leaf_cells_by
+decreases-leaf_cells_by l = 2 * rank (reverse (map view_completed l.self.now.completed.items)) (view_base l.leaf.now) + 1
 
 abbrev pub decreases-struct_cells : goal.decreases-struct_cells
 decreases-struct_cells l = 2 * struct_rank (reverse (map view_completed l.self.now.completed.items)) l.number

@@ -15,7 +15,7 @@ invariant_of-self-2-clause-kept c =
     let ms = map view_member c.args.members.items in
     let n : c.len-place.result ≡ length cs = grind (arith, common_steps, c.len-place.ensures, length-reverse (map view_completed xs), length-map xs view_completed) in
     let x : Completed = record { number = c.args.number; members = ms } in
-    let y : d.Completed = record { number = c.args.number; members = c.args.members } in
+    let y : d.Completed = record { number = c.args.number; members = c.args.members; depth = c.depth_among-depth.result } in
     let s : c.push.new.self.items ≡ xs ++ (y ∷ []) = c.in_ok-push.ensures.items ∙ ap (λ zs. zs ++ (y ∷ [])) c.reserve.ensures.items in
     let e : reverse (map view_completed c.push.new.self.items) ≡ x ∷ cs =
     ap (λ ys. reverse (map view_completed ys)) s ∙ ap reverse (map-append view_completed xs (y ∷ [])) ∙ reverse-append (map view_completed xs) (x ∷ []) in
