@@ -25,6 +25,7 @@ use Rattle.type_specifiers.specs.Members.{Declared}
 use Rattle.expression_checker.specs.Expressions.{walk, walk_specs, walk_pointers, walk_sizes, walk_parameters}
 use Rattle.expression_checker.specs.Expressions.{constantly}
 use Rattle.walk_state.specs.Known.{prototype_again, object_again}
+pub use Rattle.typed_tree.specs.Words.{element_use}
 
 -- ---- where `[*]` may stand, and what declares a tag alone
 
@@ -75,10 +76,6 @@ walk_initial_values ξ Γ file how NoNextExprs = give k.NoExprs
 walk_initial_values ξ Γ file how (AndExpr comma value more) =
     andthen (walk_initial_value ξ Γ file how value) (λ x. andthen (walk_initial_values ξ Γ file how more) (λ xs.
     give (k.AndExpr x xs)))
-
-abbrev pub element_use : Option CType → Use
-element_use None = n.Plain
-element_use (Some t) = n.Into t
 
 -- The initialiser of what a declarator declares: of an object of a type, or of a function.
 abbrev pub walk_initial : Setting → Env → Place → Bool → CType → d.Initial → Walk k.Initial

@@ -37,12 +37,12 @@ use block_layout::Kind;
 use expression_checker::expressions::{constantly, walk};
 use expression_checker::types::{walk_parameters, walk_pointers, walk_sizes, walk_specs};
 use expression_nodes::nodes::joined;
+use rule_checks::declarations::{declares_object, initial_value, specifies};
+use tree_builders::lists::initial_list;
 use type_specifiers::shaped::{Shaped, copy_shaped, formed, specified_type};
 use type_specifiers::specified::{Specified, Specifying, specifiers_form};
 use typed_tree::env::{Env, declare, enter_function, inside, is_file, next_home};
-use typed_tree::lists::initial_list;
 use typed_tree::{Expr, Initial, Object};
-use typing_rules::declarations::{declares_object, initial_value, specifies};
 use typing_rules::{Formed, Signature, Use};
 use upc_text::{Place, Stop, Text};
 use upc_tree::{
@@ -195,7 +195,7 @@ fn declares_function(
 {
     let again = prototype_again(setting, env, known, name, signature);
     judged(
-        typing_rules::declarations::declares_function(again, forms, signature),
+        rule_checks::declarations::declares_function(again, forms, signature),
         place,
     )?;
     let copy = copy_signature(setting.alloc, signature)?;

@@ -25,9 +25,10 @@ use expression_nodes::nodes::{
     finish_size_of, finish_size_of_type, finish_strings, finish_subscript, finish_unary, joined,
     paren,
 };
+use rule_checks::declarations;
 use typed_tree::Expr;
 use typed_tree::env::Env;
-use typing_rules::{Constant, Use, declarations};
+use typing_rules::{Constant, Use};
 use upc_text::Stop;
 use upc_tree::{Arguments, NextExpr};
 use walk_state::finish::judged;

@@ -17,6 +17,7 @@ ghost use Rattle.type_specifiers.specs.ViewShapes.{view_blocks, view_qualifier, 
 ghost use Rattle.type_specifiers.specs.ViewShapes.{view_specified, view_specifier, view_specifying};
 
 use crate::expressions::{constantly, walk};
+use rule_checks::declarations::{block, member, member_function, parameter, specifies, star_block};
 use type_specifiers::members::{add_member, add_parameter, has_member};
 use type_specifiers::shaped::{
     Shaped, copy_shaped, formed, named_type, parameter_array, pointer_to, specified_type,
@@ -26,9 +27,6 @@ use type_specifiers::specified::{
     block_size, in_type, no_quals, nothing_specified, specifiers_form,
 };
 use typed_tree::env::{Env, inside};
-use typing_rules::declarations::{
-    block, member, member_function, parameter, specifies, star_block,
-};
 use typing_rules::{Constant, Formed, Use};
 use upc_text::Stop;
 use upc_tree::{

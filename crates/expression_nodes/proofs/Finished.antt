@@ -3,7 +3,7 @@ use Rattle.std.proofs.Common.{Box, Global, ◌≡◌, ℕ, List, [], ◌∷◌, 
 use Rattle.upc_text.specs.declared.place.Place.{Place}
 use Rattle.upc_text.specs.declared.faults.Stop.{Stop}
 use Rattle.typing_rules.specs.declared.attribute.Attr.{Attr as RustAttr}
-use Rattle.typed_tree.specs.declared.reached.MemberNode.{MemberNode}
+use Rattle.node_attributes.specs.declared.reached.MemberNode.{MemberNode}
 use Rattle.typed_tree.specs.declared.tree.Expr.{Expr as RustExpr}
 use Rattle.typing_rules.specs.Attributes.{Facts, attr}
 use Rattle.typing_rules.specs.Nodes as n

@@ -15,6 +15,7 @@ use Rattle.typed_tree.specs.Tree as k
 use Rattle.typed_tree.specs.Tree.{ExprKind}
 use Rattle.walk_state.specs.Defined.{number_in}
 use Rattle.walk_state.specs.Known.{is_main}
+pub use Rattle.typed_tree.specs.Words.{uses_by, first_use, later_uses}
 
 -- The name that is called, seen through parentheses.
 abbrev pub called_name : Expr → Option Name
@@ -51,16 +52,3 @@ name_kind ξ (m.Object t home) name = k.Object home
 name_kind ξ (m.Function signature) name = k.Callee (target.Function (number_in ξ.defined name))
 name_kind ξ (m.Library call) name = k.Callee (target.Library call)
 name_kind ξ meaning name = k.Literal
-
-abbrev pub uses_by : Meaning → List Use
-uses_by (m.Function signature) = map n.Into signature.parameters
-uses_by (m.Library Printf) = n.Prints ∷ []
-uses_by meaning = []
-
-abbrev pub first_use : List Use → Use
-first_use [] = n.Plain
-first_use (u ∷ us) = u
-
-abbrev pub later_uses : List Use → List Use
-later_uses [] = []
-later_uses (u ∷ us) = us

@@ -12,29 +12,11 @@ use Rattle.typing_rules.specs.Nodes as n
 use Rattle.typing_rules.specs.Nodes.{Attr}
 use Rattle.typed_tree.specs.Tree as k
 use Rattle.typed_tree.specs.Tree.{ExprKind, Exprs, attr_of}
+pub use Rattle.typed_tree.specs.Words.{text_in, text_of, format_in, last_of}
 
 abbrev pub joined : List StringLiteral → List ℕ
 joined [] = []
 joined (x ∷ xs) = x.bytes ++ joined xs
-
--- The text of an expression that is a string, seen through parentheses.
-abbrev mutual
-  pub text_in : k.Expr → Option (List ℕ)
-  text_in (k.Is place attr kind) = text_of kind
-
-  pub text_of : ExprKind → Option (List ℕ)
-  text_of (k.Format bytes) = Some bytes
-  text_of (k.Paren a) = text_in a
-  text_of x = None
-
--- The format among the arguments.
-abbrev pub format_in : Exprs → Option (List ℕ)
-format_in k.NoExprs = None
-format_in (k.AndExpr a more) = text_in a
-
-abbrev pub last_of : k.Expr → Exprs → Attr
-last_of x k.NoExprs = attr_of x
-last_of x (k.AndExpr y more) = last_of y more
 
 abbrev pub member_of : MemberMark → Attr → List ℕ → n.Node
 member_of Dot a name = n.MemberOf a name

@@ -5,7 +5,7 @@ use Rattle.upc_text.specs.declared.faults.Stop.{Stop}
 use Rattle.typing_rules.specs.Attributes.{Facts, attr}
 use Rattle.typing_rules.specs.Nodes.{Node, view_attr}
 use Rattle.typing_rules.specs.Rules.{lowest}
-use Rattle.typed_tree.specs.declared.reached.MemberNode.{MemberNode}
+use Rattle.node_attributes.specs.declared.reached.MemberNode.{MemberNode}
 use Rattle.walk_state.specs.Finishes.{Refuses}
 
 -- The node meets every rule, and this is what it is, with the number of the member; else the lowest rule that it

@@ -28,10 +28,13 @@ use crate::judgements::{
 };
 use crate::marks::{number_kind, postfix_operator, size_operator};
 use integers::{BinOp, UnOp};
+use node_attributes::attributes;
+use rule_checks::rules;
 use std::alloc::Global;
+use tree_builders::build;
 use typed_tree::env::Env;
-use typed_tree::{Expr, StepOperator, Target, attributes, build};
-use typing_rules::{Attr, Formed, Meaning, Use, rules};
+use typed_tree::{Expr, StepOperator, Target};
+use typing_rules::{Attr, Formed, Meaning, Use};
 use upc_lexer::NumberKind;
 use upc_text::{OutOfMemory, Place, Stop, Text};
 use upc_tree::{

@@ -23,12 +23,12 @@ use Rattle.typed_tree.specs.Tree.{DeclaredObject, Function, Statement}
 use Rattle.walk_state.specs.Walk.{Walk, give, andthen, judge, update, look, enclosed}
 use Rattle.type_specifiers.specs.Specifiers.{specifiers_form, specified_type}
 use Rattle.walk_state.specs.Places.{no_place, specs_place}
-use Rattle.walk_state.specs.Known.{main_text}
 use Rattle.type_specifiers.specs.Shapes.{Specifying}
 use Rattle.expression_checker.specs.Expressions.{walk_specs, walk_pointers, walk_parameters}
 use Rattle.declaration_checker.specs.Declarations.{walk_declaration}
 use Rattle.walk_state.specs.Known.{definition_again}
 use Rattle.statement_checker.specs.Statements.{walk_block}
+pub use Rattle.typed_tree.specs.Words.{is_int_base, is_empty, is_main_function}
 
 -- ---- what the source defines
 
@@ -128,18 +128,6 @@ walk_externals ξ strict before (x ∷ xs) =
     andthen (walk_external ξ strict before x) (λ b. walk_externals ξ (strict_from strict x) b xs)
 
 -- ---- the whole source
-
-abbrev pub is_int_base : Base → Bool
-is_int_base (Integer kind.Int) = true
-is_int_base b = false
-
-abbrev pub is_empty : {A : Type 0} → List A → Bool
-is_empty [] = true
-is_empty (x ∷ xs) = false
-
--- A function main without parameters that gives an int (C99 5.1.2.2.1).
-abbrev pub is_main_function : Function → Bool
-is_main_function f = pointwise nat_eq f.name main_text && (is_int_base (base_of f.result) && is_empty f.parameters)
 
 abbrev pub setting : List (List ℕ) → ℕ → List External → Setting
 setting names threads unit = record { names = names; threads = threads; defined = defined_in unit; most = 65535 }

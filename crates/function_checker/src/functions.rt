@@ -24,14 +24,15 @@ ghost use Rattle.function_checker.specs.Units as pure;
 ghost use Rattle.function_checker.specs.ViewEarlier.{view_earlier};
 
 use expression_checker::types::{walk_parameters, walk_pointers, walk_specs};
+use node_attributes::attributes::value_type;
+use rule_checks::declarations;
 use statement_checker::statements::walk_block;
 use std::alloc::Global;
 use type_specifiers::shaped::specified_type;
 use type_specifiers::specified::{Specified, Specifying, specifiers_form};
-use typed_tree::attributes::value_type;
 use typed_tree::env::{Detached, Env, alone, enter_function, inside, within};
 use typed_tree::{Function, Statement};
-use typing_rules::{Around, Enclosing, Signature, declarations};
+use typing_rules::{Around, Enclosing, Signature};
 use upc_text::{OutOfMemory, Place, Stop, Text};
 use upc_tree::Parameters;
 use upc_types::CType;

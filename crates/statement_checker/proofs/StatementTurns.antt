@@ -1,10 +1,9 @@
 -- Parts of statements: lists whose parts take several steps, scopes inside, and nodes that are judged behind their
 -- parts.
-use Rattle.std.proofs.Common.{IsTrue, Some, ◌≡◌, ℕ, ◌+◌, ◌<◌, map, List, [], ◌∷◌, ◌++◌, Bool, true, false, Option, None, Result, Ok, Err, refl, sym, ap, ◌∙◌, subst, arith, Box, Vec, Global}
+use Rattle.std.proofs.Common.{IsTrue, ◌≡◌, ℕ, ◌+◌, ◌<◌, map, List, [], ◌∷◌, ◌++◌, Bool, true, false, Option, Result, refl, sym, ap, ◌∙◌, subst, arith, Box, Vec, Global}
 use Rattle.std.proofs.lemmas.List.{append_assoc, append-nil, map-append}
 use denote.Param.Weighed.{most}
 use Rattle.block_layout.specs.declared.kind.Kind.{Kind}
-use Rattle.upc_text.specs.declared.place.Place.{Place}
 use Rattle.upc_text.specs.declared.faults.Stop.{Stop}
 use Rattle.upc_tree.specs.declared.span.Span.{Span}
 use Rattle.upc_tree.specs.declared.statement.ElseIf.{ElseIf as ElseIfTree}
@@ -16,7 +15,7 @@ use Rattle.upc_tree.specs.declared.statement.Test.{Test as TestTree}
 use Rattle.upc_tree.proofs.statement.ElseIf.TheLaws as else_if
 use Rattle.upc_tree.proofs.statement.Statement.TheLaws as statement
 use Rattle.upc_tree.specs.Statement as s
-use Rattle.upc_tree.specs.Statement.{SwitchItems, ElseIfs, Otherwise, Test, ForHead, ForallHead}
+use Rattle.upc_tree.specs.Statement.{SwitchItems}
 use Rattle.typing_rules.specs.declared.attribute.Constant.{Constant}
 use Rattle.typed_tree.specs.declared.tree.Arm.{Arm}
 use Rattle.typed_tree.specs.declared.tree.Item.{Item}
@@ -24,28 +23,21 @@ use Rattle.typed_tree.specs.declared.tree.SwitchItem as w
 use Rattle.typed_tree.specs.declared.tree.SwitchItem.{SwitchItem}
 use Rattle.typed_tree.specs.declared.tree.Statement.{Statement}
 use Rattle.typing_rules.specs.Faults.{first_fault, or_later}
-use Rattle.typing_rules.specs.Attributes.{base}
-use Rattle.typing_rules.specs.Nodes as n
-use Rattle.typing_rules.specs.Nodes.{Node, Around}
-use Rattle.typing_rules.specs.Rules.{lowest}
+use Rattle.typing_rules.specs.Nodes.{Around}
 use Rattle.typed_tree.specs.Tree as k
-use Rattle.typed_tree.specs.Tree.{attr_of}
-use Rattle.typing_rules.specs.Values.{base_kind}
 use Rattle.typed_tree.specs.ViewStatements.{view_arms, view_item, view_items, view_statement, view_switch_item, view_switch_items}
 use Rattle.typed_tree.specs.ViewTree.{view_expr}
 use Rattle.typed_tree.specs.ViewStatements.{attr_tested}
 use Rattle.typed_tree.specs.Scopes.{Setting, Env, Tag, State, inside}
 use Rattle.walk_state.specs.declared.known.Known.{Known}
-use Rattle.walk_state.specs.Counts.{counted}
-use Rattle.walk_state.specs.Ends.{Comes, Meets, boxed}
+use Rattle.walk_state.specs.Ends.{Comes, Meets}
 use Rattle.walk_state.specs.Places.{at}
-use Rattle.walk_state.specs.Finishes.{Refuses}
-use Rattle.statement_checker.specs.Statements.{Armed, Labelled, label_value, returns, walk_statement, with_arm, with_case, with_default, with_statement}
+use Rattle.statement_checker.specs.Statements.{Armed, Labelled, label_value, walk_statement, with_arm, with_case, with_default, with_statement}
 use Rattle.statement_checker.specs.Groups.{is_scoped}
-use Rattle.statement_checker.specs.Parts.{returned_node, scoped_part}
+use Rattle.statement_checker.specs.Parts.{scoped_part}
 use Rattle.walk_state.specs.Views.{state_with}
-use Rattle.walk_state.specs.Walk.{Walked, Walk, give, andthen, judge, enclosed, facts_in}
-use Rattle.walk_state.proofs.Walks.{stops, goes, first_of_two, encloses, judge_goes, judge_stops, Same, same_trans}
+use Rattle.walk_state.specs.Walk.{Walked, Walk, give, andthen, enclosed}
+use Rattle.walk_state.proofs.Walks.{first_of_two, encloses, Same, same_trans}
 use Rattle.walk_state.proofs.Turns.{fault_at_end, IsLeft, behind, behind-append}
 
 -- ---- lists
@@ -123,30 +115,6 @@ scoped_is ξ Γ c strict (s.Continue word semicolon) h = absurd (never h)
 scoped_is ξ Γ c strict (s.Return word value semicolon) h = absurd (never h)
 scoped_is ξ Γ c strict (s.Barrier kind word value semicolon) h = absurd (never h)
 scoped_is ξ Γ c strict (s.Fence word semicolon) h = absurd (never h)
-
--- What a `return` gives, or that it gives nothing.
-pub returns_is : (ξ : Setting) (c : Around) (place : Place) (a : Option k.Expr) → returns ξ c place a ≡ andthen (judge ξ place (returned_node c a)) (λ u. give (k.Stands place (k.Return a)))
-returns_is ξ c place None = refl
-returns_is ξ c place (Some a) = refl
-
--- ---- nodes
-
--- A node that is judged last meets its rules, or the walk stops at it.
-pub judges : {B C : Type 0} (view : C → B) (ξ : Setting) (at : Place) (x : Node) (b : B) (s : State) (rule : Option ℕ) (y : C) →
-    rule ≡ lowest (facts_in ξ s) x → rule ≡ None → counted ξ at x s ≡ s → view y ≡ b → Meets view (andthen (judge ξ at x) (λ u. give b) s) s (Ok y)
-judges view ξ at x b s rule y h n e f =
-    goes view (judge ξ at x) (λ u. give b) s (counted ξ at x s) s (tt {0}) (Ok y) (judge_goes ξ at x s rule h n) (record { fine = refl; state = e; value = sym f })
-
-pub refuses : {B C : Type 0} (view : C → B) (ξ : Setting) (at : Place) (x : Node) (b : B) (s : State) (rule : Option ℕ) (e : Stop) →
-    rule ≡ lowest (facts_in ξ s) x → Refuses rule at e → Meets view (andthen (judge ξ at x) (λ u. give b) s) s (Err e)
-refuses view ξ at x b s rule e h r = stops view (judge ξ at x) (λ u. give b) s s e (judge_stops ξ at x s rule e h r)
-
--- So of a `return`.
-pub judges_returned : (ξ : Setting) (c : Around) (place : Place) (a : Option k.Expr) (s : State) (rule : Option ℕ) (y : Box Statement Global) →
-    rule ≡ lowest (facts_in ξ s) (returned_node c a) → rule ≡ None → view_statement y.value ≡ k.Stands place (k.Return a) →
-    Meets (boxed view_statement) (andthen (judge ξ place (returned_node c a)) (λ u. give (k.Stands place (k.Return a))) s) s (Ok y)
-judges_returned ξ c place None s rule y h n f = judges (boxed view_statement) ξ place (returned_node c None) (k.Stands place (k.Return None)) s rule y h n refl f
-judges_returned ξ c place (Some a) s rule y h n f = judges (boxed view_statement) ξ place (returned_node c (Some a)) (k.Stands place (k.Return (Some a))) s rule y h n refl f
 
 -- ---- what loops collect
 

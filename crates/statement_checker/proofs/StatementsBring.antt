@@ -1,5 +1,5 @@
 -- As many objects come in with a statement as it declares.
-use Rattle.std.proofs.Common.{◌≡◌, ℕ, ◌+◌, Bool, length, List, Option, Some, None, refl, sym, arith}
+use Rattle.std.proofs.Common.{ℕ, Bool, length, Option, Some, None, refl, arith}
 use Rattle.std.proofs.lemmas.List.{length-append}
 use Rattle.block_layout.specs.declared.kind.Kind.{Kind}
 use Rattle.upc_text.specs.declared.place.Place.{Place}
@@ -8,12 +8,12 @@ use Rattle.upc_tree.specs.Statement as s
 use Rattle.upc_tree.specs.Statement.{Statement, Compound, Braces, BlockItems, NoBlockItems, AndBlockItem, DeclarationItem, StatementItem, SwitchItems, NoSwitchItems, AndSwitchItem, CaseItem, DefaultItem, SwitchStatement, ElseIfs, NoElseIfs, AndElseIf, Otherwise, NoOtherwise, Else, Test, Tests, First, FirstValue, FirstDeclaration, Affinity, NoAffinity, ContinueAffinity, ValueAffinity, ForHead, ForParts, ForallHead, ForallParts}
 use Rattle.typed_tree.specs.declared.tree.Synchronises.{Synchronises}
 use Rattle.typing_rules.specs.Nodes.{Around}
-use Rattle.typed_tree.specs.Scopes.{Setting, Env, inside}
+use Rattle.typed_tree.specs.Scopes.{Setting, Env}
 use Rattle.typed_tree.specs.Tree as k
-use Rattle.walk_state.specs.Walk.{Walk, give}
 use Rattle.declaration_checker.proofs.Coming.{Keeps, keeps_then, keeps_give, keeps_judge, keeps_constantly, keeps, Brings, kept, brings, brings_give, brings_enclosed, declaration_brings}
 use Rattle.typed_tree.specs.LocalObjects.{objects_in, last_objects, arms_objects, items_objects, switch_objects}
-use Rattle.statement_checker.specs.Statements.{walk_value, walk_test, Begun, walk_first, walk_affinity, Headed, walk_for_head, walk_forall_head, Labelled, Armed, returns, synchronise, walk_returned, walk_statement, walk_block, walk_items, walk_switch, walk_else_ifs, walk_otherwise}
+use Rattle.statement_nodes.specs.Judged.{returns, synchronise}
+use Rattle.statement_checker.specs.Statements.{walk_value, walk_test, Begun, walk_first, walk_affinity, Headed, walk_for_head, walk_forall_head, Labelled, Armed, walk_returned, walk_statement, walk_block, walk_items, walk_switch, walk_else_ifs, walk_otherwise}
 
 value_keeps : (ξ : Setting) (Γ : Env) (x : Option Expr) → Keeps (walk_value ξ Γ x)
 value_keeps ξ Γ None = keeps_give _

@@ -1,5 +1,5 @@
 -- Statements in a scope of their own, without that scope, as the code walks over them (C99 6.8.4, 6.8.5).
-use Rattle.std.specs.Prelude.{Bool, [], ◌∷◌, Option, None, Some}
+use Rattle.std.specs.Prelude.{Bool, [], ◌∷◌}
 use Rattle.upc_tree.specs.declared.span.Span.{Span}
 use Rattle.upc_tree.specs.Statement as s
 use Rattle.upc_tree.specs.Statement.{SwitchItems, ElseIfs, Otherwise, Test, ForHead, ForallHead}
@@ -12,14 +12,10 @@ use Rattle.typed_tree.specs.Tree as k
 use Rattle.typed_tree.specs.Tree.{attr_of}
 use Rattle.walk_state.specs.Places.{at}
 use Rattle.walk_state.specs.Walk.{Walk, give, andthen, judge, enclosed}
-use Rattle.statement_checker.specs.Statements.{in_loop, in_switch, in_forall, tests_of, walk_test, walk_for_head}
+use Rattle.statement_checker.specs.Statements.{in_loop, in_switch, in_forall, walk_test, walk_for_head}
 use Rattle.statement_checker.specs.Statements.{walk_forall_head, walk_statement, walk_switch, walk_else_ifs}
 use Rattle.statement_checker.specs.Statements.{walk_otherwise}
-
--- The node of a `return` that gives this, or nothing (C99 6.8.6.4).
-abbrev pub returned_node : Around → Option k.Expr → n.Node
-returned_node c None = n.ReturnsNothing c
-returned_node c (Some a) = n.Returns c (attr_of a)
+use Rattle.statement_nodes.specs.Judged.{tests_of}
 
 -- An `if` with its arms.
 abbrev pub if_part : Setting → Bool → Span → Test → s.Statement → ElseIfs → Otherwise → Around → Env → Walk k.Statement

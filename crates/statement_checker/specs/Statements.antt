@@ -31,17 +31,10 @@ use Rattle.walk_state.specs.Walk.{Walk, give, andthen, judge, enclosed}
 use Rattle.walk_state.specs.Places.{at}
 use Rattle.expression_checker.specs.Expressions.{walk, constantly}
 use Rattle.declaration_checker.specs.Declarations.{walk_declaration}
+use Rattle.statement_nodes.specs.Judged.{tests_of, returns, synchronise}
+pub use Rattle.typed_tree.specs.Words.{in_loop, in_switch, in_forall, label_value}
 
 -- ---- what stands around
-
-abbrev pub in_loop : Around → Around
-in_loop c = record { result = c.result; breaks = enclosing.Loop; loops = true; forall = c.forall }
-
-abbrev pub in_switch : Around → Around
-in_switch c = record { result = c.result; breaks = enclosing.Switch; loops = c.loops; forall = c.forall }
-
-abbrev pub in_forall : Around → Around
-in_forall c = record { result = c.result; breaks = enclosing.Forall; loops = true; forall = true }
 
 -- Whether accesses are strict behind these pragmas (UPC 6.7).
 abbrev pub strict_behind : Bool → List Pragma → Bool
@@ -61,10 +54,6 @@ walk_value ξ Γ (Some e) = andthen (walk ξ Γ n.Plain e) (λ a. give (Some a))
 
 abbrev pub walk_test : Setting → Env → Test → Walk k.Expr
 walk_test ξ Γ (Tests left value right) = walk ξ Γ n.Plain value
-
-abbrev pub tests_of : Option k.Expr → List Attr
-tests_of None = []
-tests_of (Some a) = attr_of a ∷ []
 
 -- ---- the heads of loops
 
@@ -119,10 +108,6 @@ pub record Labelled : Type 0 where
   pub labels : List Constant
   pub defaults : ℕ
 
-abbrev pub label_value : Option Kind → Constant → ℤ
-label_value kind (Known v) = label_kind kind v
-label_value kind other = pos 0
-
 abbrev pub with_case : Option Kind → Constant → Labelled → Labelled
 with_case kind c x =
     record { items = k.AndCase (label_value kind c) x.items; labels = c ∷ x.labels; defaults = x.defaults }
@@ -142,16 +127,6 @@ pub record Armed : Type 0 where
 
 abbrev pub with_arm : k.Expr → k.Statement → Armed → Armed
 with_arm test body x = record { arms = k.AndArm test body x.arms; tests = attr_of test ∷ x.tests }
-
-abbrev pub returns : Setting → Around → Place → Option k.Expr → Walk k.Statement
-returns ξ c place None = andthen (judge ξ place (n.ReturnsNothing c)) (λ u. give (k.Stands place (k.Return None)))
-returns ξ c place (Some a) =
-    andthen (judge ξ place (n.Returns c (attr_of a))) (λ u. give (k.Stands place (k.Return (Some a))))
-
-abbrev pub synchronise : Setting → Place → Synchronises → Option k.Expr → Walk k.Statement
-synchronise ξ place how None = give (k.Stands place (k.Synchronise how None))
-synchronise ξ place how (Some a) =
-    andthen (judge ξ place (n.Barrier (attr_of a))) (λ u. give (k.Stands place (k.Synchronise how (Some a))))
 
 abbrev pub walk_returned : Setting → Env → Around → Option Expr → Walk (Option k.Expr)
 walk_returned ξ Γ c None = give None

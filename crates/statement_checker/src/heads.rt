@@ -21,11 +21,13 @@ ghost use Rattle.walk_state.specs.Walk.{andthen};
 
 use declaration_checker::declarations::walk_declaration;
 use expression_checker::expressions::{constantly, walk};
+use rule_checks::statements as rules;
+use rule_checks::switch::label_kind;
+use statement_nodes::parts::Headed;
 use std::alloc::Global;
 use typed_tree::env::Env;
 use typed_tree::{Affinity, Expr, Head, Object, SwitchItem, Synchronises};
-use typing_rules::switch::label_kind;
-use typing_rules::{Around, Attr, Constant, Enclosing, Use, kind_of, statements as rules};
+use typing_rules::{Around, Attr, Constant, Enclosing, Use, kind_of};
 use upc_text::{OutOfMemory, Place, Stop};
 use upc_tree::{BarrierWord, First, ForHead, ForallHead, Pragma, Span, Test};
 use walk_state::finish::judged;
@@ -264,13 +266,6 @@ pub(crate) fn walk_for_head(
     Ok(head)
 }
 
-/// The head of a upc_forall with its affinity.
-#[derive(Drop)]
-pub(crate) struct Headed {
-    pub head: Box<Head>,
-    pub affinity: Affinity,
-}
-
 pub(crate) fn walk_forall_head(
     head: &ForallHead,
     setting: Setting<'_>,
@@ -296,14 +291,6 @@ pub(crate) fn walk_forall_head(
 }
 
 // ---- switch
-
-/// The labels of a switch, and how often `default` stands there.
-#[derive(Drop)]
-pub(crate) struct Labelled {
-    pub items: Vec<SwitchItem>,
-    pub labels: Vec<Constant>,
-    pub defaults: usize,
-}
 
 // The value with which a switch over this expression compares, 0 where the label is no integer constant.
 fn label_value(a: &Attr, label: Constant) -> i128

@@ -2,5 +2,4 @@
 #![tactic(auto)]
 
 mod heads;
-mod statement_nodes;
 pub mod statements;

@@ -24,17 +24,19 @@ ghost use Rattle.walk_state.specs.Walk as walks;
 ghost use Rattle.walk_state.specs.Walk.{andthen, give};
 
 use crate::heads::{
-    Labelled, case_item, in_forall, in_loop, in_switch, one_more, statement_place, strict_behind,
+    case_item, in_forall, in_loop, in_switch, one_more, statement_place, strict_behind,
     synchronises, walk_for_head, walk_forall_head, walk_label, walk_returned, walk_test,
     walk_value,
 };
-use crate::statement_nodes::{
+use declaration_checker::declarations::walk_declaration;
+use statement_nodes::nodes::{
     finish_break, finish_continue, finish_do_while, finish_for, finish_forall, finish_if,
     finish_switch, finish_while, returns, synchronise,
 };
-use declaration_checker::declarations::walk_declaration;
+use statement_nodes::parts::Labelled;
+use tree_builders::build_statements as build;
 use typed_tree::env::{Env, inside};
-use typed_tree::{Arm, Item, Statement, SwitchItem, build_statements as build};
+use typed_tree::{Arm, Item, Statement, SwitchItem};
 use typing_rules::{Around, Attr};
 use upc_text::Stop;
 use upc_tree::{

@@ -9,8 +9,8 @@ ghost use Rattle.type_specifiers.specs.ViewShapes.{view_blocks, view_quals, view
 
 use crate::specified::{Blocks, Quals, Specified, quals_fit, specified_base};
 use block_layout::Kind;
+use node_attributes::attributes::value_type;
 use std::alloc::Global;
-use typed_tree::attributes::value_type;
 use typing_rules::{Constant, Formed};
 use upc_text::OutOfMemory;
 use upc_types::{Access, Base, CType, copy_type};

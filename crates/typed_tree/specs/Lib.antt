@@ -9,10 +9,13 @@ pub mod Initials
 pub mod Beginnings
 pub mod PrivateOpenings
 pub mod Programs
+pub mod Words
+pub mod Judged
+pub mod TypedNodes
+pub mod ExpressionLaws
 pub mod ViewEntries
 pub mod ViewScopes
 pub mod ViewEnv
 pub mod ViewTree
-pub mod ViewFound
 pub mod ViewStatements
 pub mod ViewProgram

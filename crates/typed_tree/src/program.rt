@@ -5,6 +5,7 @@ ghost use Rattle.upc_values.specs.Openings.{IsOpening};
 ghost use Rattle.typed_tree.specs.Objects.{most_private_bytes, most_shared_bytes};
 ghost use Rattle.typed_tree.specs.Beginnings.{opening_in, view_beginning};
 ghost use Rattle.typed_tree.specs.PrivateOpenings.{IsPrivateOpening};
+ghost use Rattle.typed_tree.specs.TypedNodes.{MeetsRules};
 ghost use Rattle.typed_tree.specs.Programs as pure;
 ghost use Rattle.typed_tree.specs.Programs.{start_of, view_parts};
 
@@ -15,8 +16,8 @@ use upc_types::Structs;
 use upc_values::{Scalar, Value};
 
 /// A program for a number of threads: its objects of the file, its functions, and what it begins with. It keeps the
-/// limits on the bytes of its objects and on how many structs, objects, parameters and functions there are, and
-/// begins with what its parts say, which is an opening.
+/// limits on the bytes of its objects and on how many structs, objects, parameters and functions there are, begins with
+/// what its parts say, which is an opening, and every node of its tree meets its typing rules.
 #[derive(Drop)]
 pub struct Program {
     threads: u32,
@@ -32,6 +33,7 @@ pub struct Program {
     ghost begins: { ∥ view_beginning beginning ≡ start_of (view_parts threads objects functions beginning) ∥₁ },
     ghost opening: { ∥ IsOpening (opening_in threads (view_beginning beginning)) ∥₁ },
     ghost private: { ∥ IsPrivateOpening threads (view_beginning beginning) ∥₁ },
+    ghost nodes: { ∥ MeetsRules (view_parts threads objects functions beginning) ∥₁ },
 }
 
 impl Program {
@@ -40,10 +42,11 @@ impl Program {
     ghost use Rattle.typed_tree.specs.Objects.{most_private_bytes, most_shared_bytes};
     ghost use Rattle.typed_tree.specs.Beginnings.{opening_in, view_beginning};
     ghost use Rattle.typed_tree.specs.PrivateOpenings.{IsPrivateOpening};
+    ghost use Rattle.typed_tree.specs.TypedNodes.{MeetsRules};
     ghost use Rattle.typed_tree.specs.Programs as pure;
     ghost use Rattle.typed_tree.specs.Programs.{start_of, view_parts};
 
-    /// A program of its parts: it keeps the limits, and begins with what these parts say.
+    /// A program of its parts: it keeps the limits, begins with what these parts say, and its nodes meet their rules.
     pub fn make(
         threads: u32,
         objects: Vec<Object>,
@@ -60,6 +63,7 @@ impl Program {
         requires begins { view_beginning beginning ≡ start_of (view_parts threads objects functions beginning) }
         requires opening { IsOpening (opening_in threads (view_beginning beginning)) }
         requires private { IsPrivateOpening threads (view_beginning beginning) }
+        requires nodes { MeetsRules (view_parts threads objects functions beginning) }
         ensures threads { result.threads ≡ threads }
         ensures objects { result.objects ≡ objects }
         ensures functions { result.functions ≡ functions }
@@ -72,6 +76,11 @@ impl Program {
             beginning,
         }
     }
+
+    /// Every node of the program's tree meets its typing rules, and every expression has the attribute of its node.
+    pub fn keeps_rules(&self)
+        ensures { ∥ MeetsRules (view_parts self.now.threads self.now.objects self.now.functions self.now.beginning) ∥₁ }
+    {}
 
     /// The number of threads, from 1 to 32.
     pub fn threads(&self) -> u32

@@ -1,22 +1,14 @@
-//! The typing rules: what names stand for, what an expression is to the node above it, and the lowest of the 32 rules
-//! that a node breaks, by what its children are.
+//! The typing rules, as definitions; what names stand for, and tests on types.
 #![tactic(auto)]
 
 mod attribute;
-pub mod calls;
-pub mod constants;
-pub mod conversion;
-pub mod declarations;
 pub mod format;
 pub mod laws;
 mod library;
 mod meaning;
 pub mod names;
-mod numbers;
-pub mod rules;
 mod setting;
-pub mod statements;
-pub mod switch;
+pub mod structs;
 pub mod types;
 
 pub use attribute::{Attr, Constant, Element, Form, Static};

@@ -12,7 +12,7 @@ use Rattle.upc_checker.specs.Outcomes.{Accepted, Refused, outcome_by, outcome}
 use Rattle.typed_tree.specs.Programs.{Checked, without_targets}
 use Rattle.upc_checker.specs.Causes.{IsWellTyped, HasCause, breaks_a_rule, passes_a_limit}
 
-accepted_by : (o : Option Fault) (l : Option Passed) (c x : Checked) → outcome_by o l c ≡ Accepted x → (o ≡ None) × (l ≡ None) × (c ≡ x)
+pub accepted_by : (o : Option Fault) (l : Option Passed) (c x : Checked) → outcome_by o l c ≡ Accepted x → (o ≡ None) × (l ≡ None) × (c ≡ x)
 accepted_by (Some f) l c x h = absurd cc
 accepted_by None (Some l) c x h = absurd cc
 accepted_by None None c x h = (refl, refl, cc)

@@ -1,3 +1,13 @@
 pub mod Outcomes
 pub mod Causes
 pub mod Begun
+pub mod Saying
+pub mod TreeSaid
+pub mod UnitSaid
+pub mod SameTypes
+pub mod Passing
+pub mod TypedExpressions
+pub mod TypedDeclarations
+pub mod TypedStatements
+pub mod TypedSources
+pub mod TypedLaws

@@ -3,3 +3,6 @@ pub mod Outcomes
 pub mod Causes
 pub mod Accepted
 pub mod ViewUnits
+pub mod Lines
+pub mod TreeNodes
+pub mod Jumps

@@ -14,7 +14,7 @@ use Rattle.upc_top.specs.declared.done.Done.{Done}
 use Rattle.upc_top.specs.declared.verdict.Verdict.{Verdict}
 use Rattle.upc_top.specs.declared.verdict.Verdict.TheVariants.{Usage, ReadFault, TooLong, Refused, Ran, Recorded, Overlong, Passed, Laid, NoMemory}
 use Rattle.upc_top.specs.Words.{prints, runs}
-use Rattle.upc_top.specs.Layout.{layout}
+use Rattle.run_output.specs.Layout.{layout}
 use Rattle.upc_top.specs.Sources.{IsAccepted, IsRunnable, IsRefusedIn, not_accepted, not_runnable}
 use Rattle.upc_top.proofs.Readings.{never_both, never_outside, same_checked}
 use Rattle.upc_top.specs.Verdicts.{Reading, IsSample, IsSource, Holds, Taken, Caused, CameTo, ComesFrom, FailedToRead, IsTooLong, status_for, text_of, journal_of, orders_in, without_memory, IsWritable}

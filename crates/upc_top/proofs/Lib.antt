@@ -1,6 +1,4 @@
 mod Endings
-mod Laid
-mod Lines
 pub mod Readings
 pub mod Stages
 mod Agreement

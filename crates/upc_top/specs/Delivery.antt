@@ -12,8 +12,8 @@ use Rattle.command_words.specs.Values.{Asked, Asks}
 use Rattle.upc_top.specs.declared.verdict.Verdict.{Verdict}
 use Rattle.upc_top.specs.declared.done.Done.{Done}
 use Rattle.upc_top.specs.Sources.{IsAccepted, IsRunnable}
-use Rattle.upc_top.specs.Layout.{layout}
-use Rattle.upc_top.specs.Output.{output, status_of}
+use Rattle.run_output.specs.Layout.{layout}
+use Rattle.run_output.specs.Output.{output, status_of}
 use Rattle.upc_top.specs.Verdicts.{Reading, Caused, text_of, line_of, status_for, refusal_of, journal_of}
 use Rattle.upc_top.specs.Verdicts.{without_memory, orders_in, IsSample}
 

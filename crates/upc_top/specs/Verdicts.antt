@@ -22,8 +22,8 @@ use Rattle.upc_top.specs.declared.verdict.Verdict.TheVariants.{Usage, ReadFault,
 use Rattle.upc_top.specs.declared.verdict.Verdict.TheVariants.{Recorded, Overlong, NoMemory}
 use Rattle.upc_top.specs.Words.{prints, runs}
 use Rattle.upc_top.specs.Sources.{IsAccepted, IsRunnable, IsRefusedIn}
-use Rattle.upc_top.specs.Layout.{layout}
-use Rattle.upc_top.specs.Output.{output, status_of, run_line, refusal_line}
+use Rattle.run_output.specs.Layout.{layout}
+use Rattle.run_output.specs.Output.{output, status_of, run_line, refusal_line}
 
 -- What the files hold, where it is told, and their counts of faults before and after.
 pub record Reading : Type 0 where

@@ -7,11 +7,11 @@ ghost use Rattle.upc_top.specs.Verdicts.{without_memory, IsWritable};
 ghost use Rattle.upc_top.specs.Delivery.{writing, Delivered, Delivers};
 
 use crate::done::Done;
-use crate::layout::layout_text;
-use crate::status::status_of;
-use crate::text::{output_text, refusal_text, run_text};
 use crate::verdict::Verdict;
 use record_text::render;
+use run_output::layout::layout_text;
+use run_output::status::status_of;
+use run_output::text::{output_text, refusal_text, run_text};
 use std::alloc::{AllocError, Global};
 use upc_text::{Sink, put_all};
 

@@ -5,11 +5,8 @@ mod deliver;
 mod done;
 mod front;
 mod judge;
-mod layout;
 mod record;
 mod source;
-mod status;
-mod text;
 mod top;
 mod verdict;
 

@@ -12,9 +12,7 @@ use Rattle.typed_tree.specs.Scopes.{tag_here, with_tag, with_members, is_object,
 use Rattle.typing_rules.specs.Nodes as n
 use Rattle.walk_state.specs.Walk.{Walk, andthen, judge, update, look}
 use Rattle.typing_rules.specs.Meanings.{Signature}
-
-abbrev pub main_text : List ℕ
-main_text = 109 ∷ 97 ∷ 105 ∷ 110 ∷ []
+pub use Rattle.typed_tree.specs.Words.{main_text}
 
 abbrev pub is_main : Setting → ℕ → Bool
 is_main ξ name = pointwise nat_eq (spelling ξ name) main_text

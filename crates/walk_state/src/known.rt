@@ -19,7 +19,7 @@ use crate::setting::{Setting, is_known, is_taken};
 use crate::tags::{Tags, find_tag, note_tag, tag_here};
 use std::alloc::Global;
 use typed_tree::env::{Env, here, level};
-use typing_rules::declarations::struct_members;
+use typing_rules::structs::struct_members;
 use typing_rules::{Meaning, Signature};
 use upc_text::{OutOfMemory, Place, Stop};
 use upc_tree::Name;

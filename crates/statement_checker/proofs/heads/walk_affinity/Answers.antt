@@ -14,7 +14,7 @@ use Rattle.expression_checker.specs.Expressions.{walk}
 use Rattle.walk_state.specs.Views.{view_setting, state_of}
 use Rattle.walk_state.specs.Walk.{facts_in}
 use Rattle.walk_state.proofs.Walks.{goes, stops}
-use Rattle.statement_checker.proofs.StatementTurns.{judges, refuses}
+use Rattle.statement_nodes.proofs.Judged.{judges, refuses}
 use Rattle.statement_checker.proofs.heads.walk_affinity.Goals as goal
 
 pub returns-in_err-a-in-Value : goal.returns-in_err-a-in-Value

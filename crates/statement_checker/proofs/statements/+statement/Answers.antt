@@ -14,7 +14,7 @@ use Rattle.upc_tree.specs.Lists.{block_items_of, else_ifs_of, switch_items_of}
 use Rattle.upc_tree.specs.ViewStatement as trees
 use Rattle.upc_tree.specs.View.{view}
 use Rattle.typing_rules.specs.Faults.{first_fault}
-use Rattle.statement_checker.specs.declared.heads.Labelled.{Labelled as RustLabelled}
+use Rattle.statement_nodes.specs.declared.parts.Labelled.{Labelled as RustLabelled}
 use Rattle.expression_checker.specs.Expressions.{constantly, walk}
 use Rattle.upc_tree.specs.declared.statement.BlockItem.{BlockItem}
 use Rattle.upc_tree.specs.declared.statement.ElseIf.{ElseIf}

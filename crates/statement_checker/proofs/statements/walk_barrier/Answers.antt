@@ -7,6 +7,7 @@ use Rattle.typed_tree.specs.ViewStatements.{view_statement, view_value}
 use Rattle.typed_tree.specs.declared.tree.Synchronises.{Synchronises}
 use Rattle.walk_state.specs.Ends.{Meets}
 use Rattle.statement_checker.specs.Statements as pure
+use Rattle.statement_nodes.specs.Judged as judged
 use Rattle.walk_state.specs.Ends.{boxed}
 use Rattle.walk_state.specs.Views.{view_setting, state_of}
 use Rattle.walk_state.proofs.Walks.{goes, stops}
@@ -29,5 +30,5 @@ returns c = λ semicolon.
     let Γ = view_env c.args.env.now in
     let s = state_of c.args.tags.now c.args.known.now in
     let t = (state_of c.walk_value.new.tags c.walk_value.new.known) in
-    let done = subst (λ (how : Synchronises). Meets (boxed view_statement) (pure.synchronise ξ c.args.at.place how (view_value c.in_ok-a.a) t) t c.synchronise.result) c.synchronises.ensures (c.synchronise.ensures ξ t) in
+    let done = subst (λ (how : Synchronises). Meets (boxed view_statement) (judged.synchronise ξ c.args.at.place how (view_value c.in_ok-a.a) t) t c.synchronise.result) c.synchronises.ensures (c.synchronise.ensures ξ t) in
     goes (boxed view_statement) (pure.walk_value ξ Γ (trees.view_value c.args.value.now)) _ s t t (view_value c.in_ok-a.a) c.synchronise.result c.in_ok-a.ensures done

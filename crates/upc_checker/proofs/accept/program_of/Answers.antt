@@ -1,15 +1,15 @@
-use Rattle.std.proofs.Common.{◌≡◌, ℕ, ◌≤◌, true, List, map, sym, ap, ◌∙◌, subst, arith}
+use Rattle.std.proofs.Common.{◌≡◌, ℕ, ◌≤◌, true, List, map, sym, ap, ◌∙◌, subst}
 use Rattle.upc_values.specs.Lists.{Each}
-use Rattle.upc_types.specs.Types.{Structs}
 use Rattle.upc_types.specs.ViewStructs.{view_structs}
 use Rattle.typing_rules.specs.Rules.{has_size}
 use Rattle.typed_tree.specs.declared.tree.Object.{Object}
 use Rattle.typed_tree.specs.declared.tree.Function.{Function}
-use Rattle.typed_tree.specs.Beginnings.{view_beginning}
 use Rattle.typed_tree.specs.Objects.{bytes_in, private_in, shared_in}
-use Rattle.typed_tree.specs.Programs.{Checked, checked_of, count_of, private_bytes, shared_bytes, start_of, view_parts}
+use Rattle.typed_tree.specs.Programs.{Checked, checked_of, count_of, private_bytes, shared_bytes, start_of}
 use Rattle.typed_tree.specs.ViewStatements.{view_function, view_object}
 use Rattle.upc_checker.specs.ViewUnits.{view_checked}
+use Rattle.typed_tree.specs.TypedNodes.{MeetsRules}
+use Rattle.upc_checker.proofs.TypedSources.{accepted_meets}
 use Rattle.upc_checker.proofs.Begun.{have_room, parts_same}
 use Rattle.upc_checker.proofs.accept.program_of.Goals as goal
 
@@ -65,6 +65,14 @@ make-requires-clause-private c =
     let same = parts_same x.threads (view_structs b.structs) (view_structs x.structs) (map view_object x.objects.items) (map view_function x.functions.items) c.in_ok-beginning.ensures.same in
     let e = c.in_ok-beginning.ensures.private_bytes ∙ ap (λ (os : List Object). bytes_in (view_structs x.structs) (private_in (map view_object os))) c.as_slice.ensures.value in
     record { values = c.in_ok-beginning.ensures.private; bytes = subst (λ (n : ℕ). n ≤ 1048576) (sym e) r.privates }
+
+pub make-requires-clause-nodes : goal.make-requires-clause-nodes
+make-requires-clause-nodes c =
+    let x = c.args.source in
+    let a = c.requires.accepted in
+    let b = c.in_ok-beginning.beginning in
+    let same = parts_same x.threads (view_structs b.structs) (view_structs x.structs) (map view_object x.objects.items) (map view_function x.functions.items) c.in_ok-beginning.ensures.same in
+    subst MeetsRules (sym same) (accepted_meets a.names x.threads a.unit (view_checked x) a.accepted)
 
 pub returns : goal.returns
 returns c =

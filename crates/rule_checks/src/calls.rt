@@ -1,0 +1,156 @@
+//! The calls of the library, and what a call must meet beside its arguments.
+
+ghost use Rattle.std.specs.Prelude.{◌≡◌};
+ghost use Rattle.upc_types.specs.View.{view};
+ghost use Rattle.upc_types.specs.ViewStructs.{view_structs};
+ghost use Rattle.typing_rules.specs.Views.{view_meaning, view_use};
+ghost use Rattle.typing_rules.specs.Library as library;
+ghost use Rattle.typing_rules.specs.Nodes.{view_attr};
+ghost use Rattle.typing_rules.specs.Rules as r;
+
+use crate::declarations::shares_private;
+use LibraryParameter::{Int, LockPointer, NoFunction, PrivatePointer, SharedPointer, Size};
+use typing_rules::types::is_zero;
+use typing_rules::{Attr, LibraryParameter, Meaning, Use};
+use upc_types::{Base, CType, Structs, takes_allocation};
+use upc_values::LibraryCall;
+
+/// What a call of the library takes. The arguments of printf are judged by its format.
+pub fn call_parameters(call: LibraryCall) -> &'static [LibraryParameter]
+    ensures { result.now ≡ library.call_parameters call }
+{
+    match call {
+        LibraryCall::Printf | LibraryCall::GlobalLockAlloc | LibraryCall::AllLockAlloc => &[],
+        LibraryCall::ThreadOf
+        | LibraryCall::PhaseOf
+        | LibraryCall::AddressField
+        | LibraryCall::Free
+        | LibraryCall::AllFree => &[SharedPointer],
+        LibraryCall::AffinitySize => &[Size, Size, Size],
+        LibraryCall::GlobalAlloc | LibraryCall::AllAlloc => &[Size, Size],
+        LibraryCall::Alloc => &[Size],
+        LibraryCall::Lock
+        | LibraryCall::LockAttempt
+        | LibraryCall::Unlock
+        | LibraryCall::LockFree
+        | LibraryCall::AllLockFree => &[LockPointer],
+        LibraryCall::Memcpy => &[SharedPointer, SharedPointer, Size],
+        LibraryCall::Memget => &[PrivatePointer, SharedPointer, Size],
+        LibraryCall::Memput => &[SharedPointer, PrivatePointer, Size],
+        LibraryCall::Memset => &[SharedPointer, Int, Size],
+        LibraryCall::GlobalExit => &[Int],
+        LibraryCall::Broadcast
+        | LibraryCall::Scatter
+        | LibraryCall::Gather
+        | LibraryCall::GatherAll
+        | LibraryCall::Exchange => &[SharedPointer, SharedPointer, Size, Int],
+        LibraryCall::Permute => &[SharedPointer, SharedPointer, SharedPointer, Size, Int],
+        LibraryCall::Reduce(_) | LibraryCall::PrefixReduce(_) => {
+            &[
+                SharedPointer,
+                SharedPointer,
+                Int,
+                Size,
+                Size,
+                NoFunction,
+                Int,
+            ]
+        }
+    }
+}
+
+/// Whether a call's result has its type only where it is converted (UPC 7.2.3).
+pub fn is_allocation(call: LibraryCall) -> bool
+    ensures { result ≡ library.is_allocation call }
+{
+    matches!(
+        call,
+        LibraryCall::GlobalAlloc | LibraryCall::AllAlloc | LibraryCall::Alloc
+    )
+}
+
+fn library_takes(call: LibraryCall, n: usize) -> bool
+    ensures { result ≡ r.library_takes call n }
+{
+    match call {
+        LibraryCall::Printf => n > 0,
+        _ => n == call_parameters(call).len(),
+    }
+}
+
+/// Whether a name stands for what can be called with so many arguments.
+pub fn can_be_called(meaning: Meaning<'_>, runs: bool, n: usize) -> bool
+    ensures { result ≡ r.can_be_called (view_meaning meaning.entry) runs n }
+{
+    match meaning {
+        Meaning::Function(s) => runs && n == s.parameters.len(),
+        Meaning::Library(call) => library_takes(call, n),
+        _ => false,
+    }
+}
+
+/// Whether the argument of this parameter is the constant 0, where it is to be.
+pub fn no_function(x: LibraryParameter, a: &Attr) -> bool
+    ensures { result ≡ r.no_function x (view_attr a.now) }
+{
+    match x {
+        LibraryParameter::NoFunction => is_zero(a),
+        _ => true,
+    }
+}
+
+/// Whether it is printf, whose arguments its format judges.
+pub fn is_printf(call: LibraryCall) -> bool
+    ensures { result ≡ r.is_printf call }
+{
+    matches!(call, LibraryCall::Printf)
+}
+
+fn is_allocated_at(structs: &Structs, how: Use<'_>) -> bool
+    ensures { result ≡ r.is_allocated_at (view_structs structs.now) (view_use how.entry) }
+{
+    match how {
+        Use::Into(t) => takes_allocation(t, structs),
+        _ => false,
+    }
+}
+
+/// Whether an allocation is converted into a pointer to shared elements.
+pub fn allocates_well(structs: &Structs, how: Use<'_>, meaning: Meaning<'_>) -> bool
+    ensures { result ≡ r.allocates_well (view_structs structs.now) (view_use how.entry) (view_meaning meaning.entry) }
+{
+    match meaning {
+        Meaning::Library(call) => !is_allocation(call) || is_allocated_at(structs, how),
+        _ => true,
+    }
+}
+
+fn target_shares_private(structs: &Structs, t: &CType) -> bool
+    ensures { result ≡ r.leads_to_private (view_structs structs.now) (view t.now) }
+{
+    match &t.base {
+        Base::Pointer(target) => shares_private(structs, target),
+        Base::Array(element, _) => shares_private(structs, element),
+        _ => false,
+    }
+}
+
+fn is_private_at(structs: &Structs, how: Use<'_>) -> bool
+    ensures { result ≡ r.is_private_at (view_structs structs.now) (view_use how.entry) }
+{
+    match how {
+        Use::Into(t) => target_shares_private(structs, t),
+        _ => false,
+    }
+}
+
+/// Whether it allocates elements that hold pointers to private objects.
+pub fn allocates_private(structs: &Structs, how: Use<'_>, meaning: Meaning<'_>) -> bool
+    ensures { result ≡ r.allocates_private (view_structs structs.now) (view_use how.entry)
+        (view_meaning meaning.entry) }
+{
+    match meaning {
+        Meaning::Library(call) => is_allocation(call) && is_private_at(structs, how),
+        _ => false,
+    }
+}

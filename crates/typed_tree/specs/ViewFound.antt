@@ -1,9 +1,0 @@
--- What contracts see of a member that is found.
-use Rattle.std.specs.Prelude.{Option, Some, None}
-use Rattle.upc_types.specs.View.{view}
-use Rattle.typed_tree.specs.declared.reached.Found as f
-use Rattle.typing_rules.specs.Attributes.{Found}
-
-abbrev pub view_found : Option f.Found → Option Found
-view_found None = None
-view_found (Some x) = Some record { index = x.index; offset = x.offset; ctype = view x.ctype.now }
