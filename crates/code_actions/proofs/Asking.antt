@@ -1,5 +1,5 @@
 -- What threads of code ask for.
-use Rattle.std.proofs.Common.{◌≡◌, ℕ, zero, suc, ◌+◌, ◌<◌, ◌≤◌, List, [], ◌∷◌, ◌++◌, length, true}
+use Rattle.std.proofs.Common.{◌≡◌, ℕ, zero, suc, ◌+◌, ◌<◌, ◌≤◌, List, [], ◌∷◌, ◌++◌, length, true, false}
 use Rattle.std.proofs.Common.{refl, sym, ◌∙◌, ap, subst, arith, append-nil}
 use Rattle.std.proofs.lemmas.List.{length-append, length_push}
 use Rattle.upc_values.specs.declared.scalar.Value.{Value}
@@ -24,7 +24,8 @@ use Rattle.stack_code.proofs.Ends.{steps_add, steps_ended}
 use Rattle.code_actions.specs.Asking.{IsDeclaredIn, IsThreadOf, AsksWell}
 use Rattle.code_actions.proofs.KnownValues.{runner}
 use Rattle.code_actions.proofs.Stores.{begun_filled}
-use Rattle.code_actions.proofs.Doings.{begins_itself, begins_on, total, plus, Later, GrownTo, Grown, Reaches, grown_to}
+use Rattle.code_actions.proofs.Doings.{begins_itself, begins_on, total, plus, Later, GrownTo, Grown, Reaches, Misses}
+use Rattle.code_actions.proofs.Doings.{grown_to}
 use Rattle.code_actions.proofs.Doings.{IsGood, EndsWell, Comes}
 use Rattle.code_actions.proofs.Instructions.{Point, res_of, AllKnown, Stands, step_asks}
 
@@ -68,6 +69,16 @@ ended_actions : (c : Conf) (p : Outcome) → HasEnded c p → (state_of c).actio
 ended_actions (At at given operands calls σ) p h = absurd h
 ended_actions (Halt e σ) p h = ap (λ q. q.actions) h
 
+-- The thread has ended behind what an outcome has done, since a reply does not fit.
+abbrev HasMissed : Outcome → Conf → Type 0
+HasMissed p (At at given operands calls σ) = ⊥
+HasMissed p (Halt e υ) = (e ≡ Misfit (length p.actions)) × (υ.actions ≡ p.actions)
+
+missed_at : (p : Outcome) (actions : List Action) (c : Conf) → actions ≡ p.actions → Misses actions (res_of c)
+    → HasMissed p c
+missed_at p actions (At at given operands calls σ) e h = absurd h
+missed_at p actions (Halt t υ) e h = (h.0 ∙ ap (λ (xs : List Action). Misfit (length xs)) e, h.1 ∙ e)
+
 action_or : Action → ToldEnd → Action
 action_or other (Wants a) = a
 action_or other e = other
@@ -80,6 +91,13 @@ module _ (τ : Thread) (functions : List (List Instr)) where
   ended_stays : (n : ℕ) (c : Conf) (p : Outcome) → HasEnded c p → steps τ functions n c ≡ c
   ended_stays n (At at given operands calls σ) p h = absurd h
   ended_stays n (Halt e σ) p h = steps_ended τ functions n e σ
+
+  missed_stays : (n : ℕ) (c : Conf) (p q : Outcome) → HasMissed p c → HasEnded (steps τ functions n c) q
+      → (q.«end» ≡ Misfit (length p.actions)) × (q.actions ≡ p.actions)
+  missed_stays n (At at given operands calls σ) p q h e = absurd h
+  missed_stays n (Halt t υ) p q h e =
+      let g : told_by t υ ≡ q = subst (λ d. HasEnded d q) (steps_ended τ functions n t υ) e in
+      (sym (ap (λ x. x.«end») g) ∙ h.0, sym (ap (λ x. x.actions) g) ∙ h.1)
 
 module _ (o : Opening) (es : List Entry) (v : IsOpening o) (legal : IsLegal o es) (me budget : ℕ)
     (one : me < o.threads) (functions : List (List Instr)) (declared : Each (Each (IsDeclaredIn o)) functions) where
@@ -98,13 +116,15 @@ module _ (o : Opening) (es : List Entry) (v : IsOpening o) (legal : IsLegal o es
   steps_grow (suc n) (Halt e σ) = steps_grow n (Halt e σ)
 
   -- An action is wanted at the end of what begins at a point: it may be asked for, each reply was heard, and with a
-  -- further reply that fits it, it is done.
+  -- further reply that fits it, it is done; with one that does not, the thread ends.
   record IsWanted (p : Outcome) (a : Action) (σ : State) (begins : List Reply → Conf) : Type 0 where
     formed : IsWellFormed o es a
     heard : length p.actions ≡ total σ
     fit : (r : Reply) → fits_after o es a r ≡ true
         → (count : ℕ)
         × Begins (p.actions ++ a ∷ []) (state_of (steps τ functions count (begins (r ∷ [])))).actions
+    misfit : (r : Reply) → fits_after o es a r ≡ false
+        → (count : ℕ) × HasMissed p (steps τ functions count (begins (r ∷ [])))
 
   module _ (here : Spot) (given operands : List Value) (calls : List Spot) (σ : State) (p : Outcome) (a : Action)
       (w : p.«end» ≡ Wants a) where
@@ -132,6 +152,11 @@ module _ (o : Opening) (es : List Entry) (v : IsOpening o) (legal : IsLegal o es
                 (ap (λ l. l ++ b ∷ []) acts ∙ ap (λ c. p.actions ++ c ∷ []) same)
                 (reached_state (υ.actions ++ b ∷ []) (step τ functions (with_more (r ∷ [])))
                 (h.fit r [] (subst (λ c. fits_after o es c r ≡ true) (sym same) f))),
+          );
+          misfit = λ r f. (
+            1,
+            missed_at p υ.actions (step τ functions (with_more (r ∷ []))) acts
+                (h.misfit r [] (subst (λ c. fits_after o es c r ≡ false) (sym same) f)),
           );
         }
     halted (Misfit k) υ h g t = let q = ap (λ q. q.«end») t ∙ w in absurd cc
@@ -174,6 +199,14 @@ module _ (o : Opening) (es : List Entry) (v : IsOpening o) (legal : IsLegal o es
                 sym (conf_is there) ∙ ap conf_of (c.2 r []) in (
                   suc j.0,
                   subst (λ d. Begins (p.actions ++ a ∷ []) (state_of (steps τ functions j.0 d)).actions) (sym same) j.1,
+                );
+            misfit = λ r f.
+                let j = i.misfit r f in
+                let there = step τ functions (At here given operands calls (plus σ r [])) in
+                let same : there ≡ At at vs ws back (plus υ r []) =
+                sym (conf_is there) ∙ ap conf_of (c.2 r []) in (
+                  suc j.0,
+                  subst (λ d. HasMissed p (steps τ functions j.0 d)) (sym same) j.1,
                 );
           }
       by_next (Halt e υ) c g h next =
@@ -246,9 +279,30 @@ module _ (o : Opening) (codes : Codes) (thread budget : ℕ) (f : List Reply →
         let more = length_push (f rs).actions a in
         all_of ((f rs).actions ++ a ∷ []) (f (rs ++ r ∷ [])).actions begins (omega arith)
 
+    missed : (r : Reply) → fits_after o es a r ≡ false
+        → ((f (rs ++ r ∷ [])).«end» ≡ Misfit (length rs)) × ((f (rs ++ r ∷ [])).actions ≡ (f rs).actions)
+    missed r misfit =
+        let τ = runner o thread budget in
+        let k = is_wanted.misfit r misfit in
+        let first = beginning codes (rs ++ r ∷ []) in
+        let n = count_of (rs ++ r ∷ []) in
+        let q = f (rs ++ r ∷ []) in
+        let end = steps τ codes.functions n first in
+        let swap : n + k.0 ≡ k.0 + n = omega arith in
+        let same : end ≡ steps τ codes.functions n (steps τ codes.functions k.0 first) =
+        sym (ended_stays τ codes.functions k.0 end q (ended (rs ++ r ∷ [])))
+        ∙ sym (steps_add τ codes.functions n k.0 first) ∙ ap (λ m. steps τ codes.functions m first) swap
+        ∙ steps_add τ codes.functions k.0 n first in
+        let m = missed_stays τ codes.functions n (steps τ codes.functions k.0 first) (f rs) q k.1
+        (subst (λ c. HasEnded c q) same (ended (rs ++ r ∷ []))) in
+        let all = is_wanted.heard in
+        let heard : length (f rs).actions ≡ length rs = omega arith in
+        (m.0 ∙ ap Misfit heard, m.1)
+
 pub asks_well : (o : Opening) (codes : Codes) (thread budget : ℕ) (f : List Reply → Outcome)
     → IsThreadOf o codes thread budget f → AsksWell o f
 asks_well o codes thread budget f h = record {
   goes = λ rs before a r w has fit. taken o codes thread budget f h rs before a w has r fit;
+  misfits = λ rs before a r w has misfit. missed o codes thread budget f h rs before a w has r misfit;
   formed = λ rs before a w has. (is_wanted o codes thread budget f h rs before a w has).formed;
 }

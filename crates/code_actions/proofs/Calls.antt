@@ -91,7 +91,7 @@ module _ (o : Opening) (es : List Entry) (v : IsOpening o) (legal : IsLegal o es
   given_goes (reply.Refused code) h = tt
 
   asks_goes : (a : Action) → IsWellFormed o es a
-      → ((r : Reply) → fits_after o es a r ≡ true → fits o.threads o.shapes None a r ≡ true) → Goes (l.asks a)
+      → ((r : Reply) → fits_after o es a r ≡ fits o.threads o.shapes None a r) → Goes (l.asks a)
   asks_goes a formed fit = (formed, fit, given_goes)
 
   -- ---- calls that ask for nothing (UPC 7.2.3)
@@ -126,7 +126,7 @@ module _ (o : Opening) (es : List Entry) (v : IsOpening o) (legal : IsLegal o es
       unless_goes (not (n * b == 0) && not whole) CELL_TYPE go (λ e.
       asks_goes (act.Alloc n b home shape)
       (and_from (not (n * b == 0) && whole) (is_home o.threads home) (whole_by (n * b == 0) whole some e) at_home)
-      (λ r f. f)))
+      (λ r. refl)))
 
   global_alloc_goes : (shape : ℕ) (args : List Value) → CallGoes c.GlobalAlloc shape args
   global_alloc_goes shape (value.Scalar (scalar.Int n) ∷ value.Scalar (scalar.Int b) ∷ []) private =
@@ -164,27 +164,27 @@ module _ (o : Opening) (es : List Entry) (v : IsOpening o) (legal : IsLegal o es
       (may_meet size block shape
       (and_from (is_size (pos size)) (is_size (pos block) && is_size (pos shape)) (size_of n all.0)
       (and_from (is_size (pos block)) (is_size (pos shape)) (size_of b rest.0) rest.1)) formed.1 e)
-      (λ r f. f))
+      (λ r. refl))
   all_alloc_goes shape args h private = refl
 
   free_goes : (shape : ℕ) (args : List Value) → AreKnown args → CallGoes c.Free shape args
   free_goes shape (value.Scalar (scalar.Shared q) ∷ []) h private =
-      either_goes (is_null q) (Gives zero) _ refl (λ e. asks_goes (act.Free q) h.0 (λ r f. f))
+      either_goes (is_null q) (Gives zero) _ refl (λ e. asks_goes (act.Free q) h.0 (λ r. refl))
   free_goes shape args h private = refl
 
   all_free_goes : (shape : ℕ) (args : List Value) → AreKnown args → CallGoes c.AllFree shape args
   all_free_goes shape (value.Scalar (scalar.Shared q) ∷ []) h private =
-      asks_goes (act.Meet 3 (scalar.Shared q ∷ [])) h.0 (λ r f. f)
+      asks_goes (act.Meet 3 (scalar.Shared q ∷ [])) h.0 (λ r. refl)
   all_free_goes shape args h private = refl
 
   -- ---- locks (UPC 7.2.4)
 
   lock_alloc_goes : (shape : ℕ) (args : List Value) → CallGoes c.GlobalLockAlloc shape args
-  lock_alloc_goes shape [] private = asks_goes act.LockMake refl (λ r f. f)
+  lock_alloc_goes shape [] private = asks_goes act.LockMake refl (λ r. refl)
   lock_alloc_goes shape args private = refl
 
   all_lock_alloc_goes : (shape : ℕ) (args : List Value) → CallGoes c.AllLockAlloc shape args
-  all_lock_alloc_goes shape [] private = asks_goes (act.Meet 2 []) refl (λ r f. f)
+  all_lock_alloc_goes shape [] private = asks_goes (act.Meet 2 []) refl (λ r. refl)
   all_lock_alloc_goes shape args private = refl
 
   -- A lock that is made, of those that are null or made.
@@ -194,27 +194,27 @@ module _ (o : Opening) (es : List Entry) (v : IsOpening o) (legal : IsLegal o es
 
   lock_goes : (shape : ℕ) (args : List Value) → AreKnown args → CallGoes c.Lock shape args
   lock_goes shape (value.Scalar (scalar.Lock n) ∷ []) h private =
-      unless_goes (n == 0) NULL_ACCESS _ (λ e. asks_goes (act.Lock n) (made_lock n h.0 e) (λ r f. f))
+      unless_goes (n == 0) NULL_ACCESS _ (λ e. asks_goes (act.Lock n) (made_lock n h.0 e) (λ r. refl))
   lock_goes shape args h private = refl
 
   attempt_goes : (shape : ℕ) (args : List Value) → AreKnown args → CallGoes c.LockAttempt shape args
   attempt_goes shape (value.Scalar (scalar.Lock n) ∷ []) h private =
-      unless_goes (n == 0) NULL_ACCESS _ (λ e. asks_goes (act.Attempt n) (made_lock n h.0 e) (λ r f. f))
+      unless_goes (n == 0) NULL_ACCESS _ (λ e. asks_goes (act.Attempt n) (made_lock n h.0 e) (λ r. refl))
   attempt_goes shape args h private = refl
 
   unlock_goes : (shape : ℕ) (args : List Value) → AreKnown args → CallGoes c.Unlock shape args
   unlock_goes shape (value.Scalar (scalar.Lock n) ∷ []) h private =
-      unless_goes (n == 0) NULL_ACCESS _ (λ e. asks_goes (act.Unlock n) (made_lock n h.0 e) (λ r f. f))
+      unless_goes (n == 0) NULL_ACCESS _ (λ e. asks_goes (act.Unlock n) (made_lock n h.0 e) (λ r. refl))
   unlock_goes shape args h private = refl
 
   lock_free_goes : (shape : ℕ) (args : List Value) → AreKnown args → CallGoes c.LockFree shape args
   lock_free_goes shape (value.Scalar (scalar.Lock n) ∷ []) h private =
-      either_goes (n == 0) (Gives zero) _ refl (λ e. asks_goes (act.LockFree n) (made_lock n h.0 e) (λ r f. f))
+      either_goes (n == 0) (Gives zero) _ refl (λ e. asks_goes (act.LockFree n) (made_lock n h.0 e) (λ r. refl))
   lock_free_goes shape args h private = refl
 
   all_lock_free_goes : (shape : ℕ) (args : List Value) → AreKnown args → CallGoes c.AllLockFree shape args
   all_lock_free_goes shape (value.Scalar (scalar.Lock n) ∷ []) h private =
-      asks_goes (act.Meet 4 (scalar.Lock n ∷ [])) h.0 (λ r f. f)
+      asks_goes (act.Meet 4 (scalar.Lock n ∷ [])) h.0 (λ r. refl)
   all_lock_free_goes shape args h private = refl
 
   -- ---- memory (UPC 7.2.5)

@@ -160,13 +160,13 @@ module _ (o : Opening) (es : List Entry) (v : IsOpening o) (legal : IsLegal o es
   -- ---- actions
 
   does_goes : (a : Action) → IsWellFormed o es a
-      → ((r : Reply) → fits_after o es a r ≡ true → fits o.threads o.shapes None a r ≡ true) → Goes Nothing (does a)
+      → ((r : Reply) → fits_after o es a r ≡ fits o.threads o.shapes None a r) → Goes Nothing (does a)
   does_goes a formed fit = (formed, fit, λ r e. m.unrefused o es v legal me budget r)
 
   barrier_goes : Goes Nothing barrier
   barrier_goes =
       m.bind_goes o es v legal me budget Nothing Nothing (does (act.Notify Absent)) (λ u. does (act.Wait Absent))
-      (does_goes (act.Notify Absent) refl (λ r f. f)) (λ u h. does_goes (act.Wait Absent) refl (λ r f. f))
+      (does_goes (act.Notify Absent) refl (λ r. refl)) (λ u h. does_goes (act.Wait Absent) refl (λ r. refl))
 
   after : (e : Expansion (Unit {0})) (f : Unit {0} → Expansion (Unit {0})) → Goes Nothing e
       → ((u : Unit {0}) → Goes Nothing (f u)) → Goes Nothing (bind e f)
@@ -272,7 +272,7 @@ module _ (o : Opening) (es : List Entry) (v : IsOpening o) (legal : IsLegal o es
       does_goes (act.Write (location q) (scalar.Int n) false)
       (and_from (fits_cell (scalar.Int n) (cell_of o (objects o es) (location q))) true
       (subst (λ c. fits_cell (scalar.Int n) c ≡ true) (sym h) (and_from (is_integer k) (in_kind k n) i e)) refl)
-      (λ r f. f)
+      (λ r. refl)
 
   back_goes : (k : Kind) (r : Result ℤ ℕ) → Goes (IsOf k) (x.outcome o.threads o.shapes me (back_to k r))
   back_goes k (Ok n) = converted_in k n
@@ -504,7 +504,7 @@ module _ (o : Opening) (es : List Entry) (v : IsOpening o) (legal : IsLegal o es
       let f = x.flags_of o.threads o.shapes me call in
       let may = may_form o es c args e k h in
       m.refused_goes o es v legal me budget Nothing (x.tests o.threads o.shapes me call) _ (λ t.
-      after (does (act.Meet c args)) _ (does_goes (act.Meet c args) may (λ r g. g)) (λ u.
+      after (does (act.Meet c args)) _ (does_goes (act.Meet c args) may (λ r. refl)) (λ u.
       after (x.entry f) _ (unless (unsigned_abs f % 8 == 1) barrier barrier_goes) (λ w.
       after (x.work o.threads o.shapes me call) _ (work_goes call may t) (λ z.
       unless (unsigned_abs f / 8 == 1) barrier barrier_goes))))

@@ -61,6 +61,12 @@ Reaches actions (Val v υ) = Begins actions υ.actions
 Reaches actions (Over e υ) = Begins actions υ.actions
 Reaches actions Unfinished = ⊥
 
+-- The thread ends behind these actions, since a reply does not fit.
+abbrev pub Misses : {A : Type 0} → List Action → Res A → Type 0
+Misses actions (Val v υ) = ⊥
+Misses actions (Over e υ) = (e ≡ Misfit (length actions)) × (υ.actions ≡ actions)
+Misses actions Unfinished = ⊥
+
 pub grown_to : (σ υ ω : State) → GrownTo σ υ → GrownTo υ ω → GrownTo σ ω
 grown_to σ υ ω g h = (begins_on σ.actions υ.actions ω.actions g.0 h.0, h.1 ∙ g.1)
 
@@ -93,11 +99,13 @@ module _ (o : Opening) (es : List Entry) where
     pub store : IsFilled o es σ.store
     pub replies : AreKnown o es σ.replies
 
-  -- An action that may be asked for is wanted; with a reply that fits it, it is done.
+  -- An action that may be asked for is wanted; with a reply that fits it, it is done, and with another one the thread
+  -- ends.
   pub record IsAsked (A : Type 0) (a : Action) (υ : State) (R : Later A) : Type 0 where
     pub none : υ.replies ≡ []
     pub formed : IsWellFormed o es a
     pub fit : (x : Reply) (xs : List Reply) → fits_after o es a x ≡ true → Reaches (υ.actions ++ a ∷ []) (R x xs)
+    pub misfit : (x : Reply) (xs : List Reply) → fits_after o es a x ≡ false → Misses υ.actions (R x xs)
 
   abbrev pub EndsWell : {A : Type 0} → ToldEnd → State → Later A → Type 0
   EndsWell {A} (Wants a) υ R = IsAsked A a υ R
@@ -139,11 +147,17 @@ module _ (o : Opening) (es : List Entry) where
     reaches_then actions (Over e υ) h = h
     reaches_then actions Unfinished h = h
 
+    misses_then : (actions : List Action) (r : Res A) → Misses actions r → Misses actions (bind r f)
+    misses_then actions (Val v υ) h = absurd h
+    misses_then actions (Over e υ) h = h
+    misses_then actions Unfinished h = absurd h
+
     end_then : (e : ToldEnd) (υ : State) (R : Later A) → EndsWell e υ R → EndsWell e υ (λ x xs. bind (R x xs) f)
     end_then (Wants a) υ R h = record {
       none = h.none;
       formed = h.formed;
       fit = λ x xs e. reaches_then (υ.actions ++ a ∷ []) (R x xs) (h.fit x xs e);
+      misfit = λ x xs e. misses_then υ.actions (R x xs) (h.misfit x xs e);
     }
     end_then (Misfit k) υ R h = tt
     end_then (Ended v) υ R h = tt
@@ -264,6 +278,11 @@ module _ (o : Opening) (es : List Entry) where
     taken true x xs σ e = begins_itself (σ.actions ++ a ∷ [])
     taken false x xs σ e = absurd (false≢true e)
 
+    missed : (b : Bool) (x : Reply) (xs : List Reply) (σ : State) → b ≡ false
+        → Misses σ.actions (answered b a x xs (plus σ x xs))
+    missed true x xs σ e = absurd (false≢true (sym e))
+    missed false x xs σ e = (refl, refl)
+
     -- What answers the action: a reply that gives what is known, and fits it.
     pub record IsAnswer (r : Reply) : Type 0 where
       pub given : gives_known o es r ≡ true
@@ -278,13 +297,14 @@ module _ (o : Opening) (es : List Entry) where
     comes_by_fit false r rest σ g e f = tt
 
     module _ (P : Type 0) (formed : P → IsWellFormed o es a)
-        (fit : P → (x : Reply) → fits_after o es a x ≡ true → fits τ.threads τ.shapes kind a x ≡ true) where
+        (same : P → (x : Reply) → fits_after o es a x ≡ fits τ.threads τ.shapes kind a x) where
       comes_by_replies : P → (rs : List Reply) (σ : State) → IsGood σ → σ.replies ≡ rs
           → Comes IsAnswer (answered_from τ kind a rs σ) (λ x xs. answered_from τ kind a (rs ++ x ∷ xs) (plus σ x xs))
       comes_by_replies p [] σ g e = record {
         none = e;
         formed = formed p;
-        fit = λ x xs h. taken (fits τ.threads τ.shapes kind a x) x xs σ (fit p x h);
+        fit = λ x xs h. taken (fits τ.threads τ.shapes kind a x) x xs σ (sym (same p x) ∙ h);
+        misfit = λ x xs h. missed (fits τ.threads τ.shapes kind a x) x xs σ (sym (same p x) ∙ h);
       }
       comes_by_replies p (r ∷ rest) σ g e = comes_by_fit (fits τ.threads τ.shapes kind a r) r rest σ g e refl
 

@@ -9,3 +9,4 @@ pub mod Collectives
 pub mod Calls
 pub mod Instructions
 pub mod Asking
+pub mod Turns

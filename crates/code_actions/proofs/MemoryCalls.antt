@@ -119,7 +119,7 @@ integers_all (c ∷ cs) h =
     let p = neither (not (is_integer c.1)) (list_any (λ c. not (is_integer c.1)) cs) h in
     (not_false (is_integer c.1) p.0, integers_all cs p.1)
 
-each_both : {X : Type 0} (P Q R : X → Type 0) → ((x : X) → P x → Q x → R x) → (xs : List X) → Each P xs → Each Q xs
+pub each_both : {X : Type 0} (P Q R : X → Type 0) → ((x : X) → P x → Q x → R x) → (xs : List X) → Each P xs → Each Q xs
     → Each R xs
 each_both P Q R f [] h g = tt
 each_both P Q R f (x ∷ xs) h g = (f x h.0 g.0, each_both P Q R f xs h.1 g.1)
@@ -220,7 +220,7 @@ module _ (o : Opening) (es : List Entry) (v : IsOpening o) (legal : IsLegal o es
     written_goes (In_shared q) c w t k f = (
       and_from (fits_cell w (cell_of o (objects o es) (location_behind q c.0))) (is_known o es w)
           (subst (λ x. fits_cell w x ≡ true) (sym t) (f (shared_kind o es v legal (location_behind q c.0) c.1 t))) k,
-      λ r e. e,
+      λ r. refl,
       λ r e. unrefused r,
     )
     written_goes (In_private object offset) c w t k f = (k, tt)

@@ -83,7 +83,7 @@ module _ (op : Opening) (es : List Entry) (v : IsOpening op) (legal : IsLegal op
 
   module _ (P : Type 0) where
     only_asks : (action : Action) → IsWellFormed op es action
-        → ((r : Reply) → fits_after op es action r ≡ true → fits op.threads op.shapes None action r ≡ true)
+        → ((r : Reply) → fits_after op es action r ≡ fits op.threads op.shapes None action r)
         → Asks op es (Unit {0}) P Nothing (a.ask τ None action >> skip)
     only_asks action formed fit =
         then_asks op es Reply (Unit {0}) P (IsAnswer None action) Nothing (a.ask τ None action) (λ r. skip)
@@ -96,7 +96,7 @@ module _ (op : Opening) (es : List Entry) (v : IsOpening op) (legal : IsLegal op
     unless_asks at (reply.Refused code) = fault_asks op es (Unit {0}) P Nothing code at
 
   does_asks : (P : Type 0) (at : Place) (action : Action) → IsWellFormed op es action
-      → ((r : Reply) → fits_after op es action r ≡ true → fits op.threads op.shapes None action r ≡ true)
+      → ((r : Reply) → fits_after op es action r ≡ fits op.threads op.shapes None action r)
       → Asks op es (Unit {0}) P Nothing (a.does τ at action)
   does_asks P at action formed fit =
       then_asks op es Reply (Unit {0}) P (IsAnswer None action) Nothing (a.ask τ None action)
@@ -118,7 +118,7 @@ module _ (op : Opening) (es : List Entry) (v : IsOpening op) (legal : IsLegal op
       (know_asks op es ℕ Q (λ n. Unit {0}) a.ticks_of (λ q σ g. tt) (λ σ r rs. refl)) (λ n.
       on (Unit {0}) (Q × Unit {0}) Nothing (choose (n % 1024 == 0) (do a.ask τ None act.Beat; skip) skip) _
       (choose_asks op es (Unit {0}) (Q × Unit {0}) Nothing (n % 1024 == 0) _ _
-      (only_asks (Q × Unit {0}) act.Beat refl (λ r e. e)) (skip_asks op es (Q × Unit {0}))) (λ R g.
+      (only_asks (Q × Unit {0}) act.Beat refl (λ r. refl)) (skip_asks op es (Q × Unit {0}))) (λ R g.
       choose_asks op es (Unit {0}) R Nothing (n == budget) _ _
       (exit_asks op es (Unit {0}) R Nothing told.OutOfTicks (λ υ later. tt)) (skip_asks op es R))))
 
@@ -130,7 +130,7 @@ module _ (op : Opening) (es : List Entry) (v : IsOpening op) (legal : IsLegal op
       on (Unit {0}) Q Nothing (fault_if a.is_notified PHASE_ORDER at) _
       (fault_if_asks op es Q a.is_notified PHASE_ORDER at (λ σ r rs. refl)) (λ R g.
       on (Unit {0}) R Nothing (a.does τ at (act.Notify mark)) _
-      (does_asks R at (act.Notify mark) refl (λ r e. e)) (λ S h.
+      (does_asks R at (act.Notify mark) refl (λ r. refl)) (λ S h.
       change_asks op es S (a.with_notified true) (λ σ h. h) (λ σ. refl) (λ σ. refl) (λ σ r rs. refl))))
 
   pub wait_asks : (P : Type 0) (at : Place) (mark : Mark) → Asks op es (Unit {0}) P Nothing (a.wait τ at mark)
@@ -141,7 +141,7 @@ module _ (op : Opening) (es : List Entry) (v : IsOpening op) (legal : IsLegal op
       on (Unit {0}) Q Nothing (fault_if a.is_not_notified PHASE_ORDER at) _
       (fault_if_asks op es Q a.is_not_notified PHASE_ORDER at (λ σ r rs. refl)) (λ R g.
       on (Unit {0}) R Nothing (a.does τ at (act.Wait mark)) _
-      (does_asks R at (act.Wait mark) refl (λ r e. e)) (λ S h.
+      (does_asks R at (act.Wait mark) refl (λ r. refl)) (λ S h.
       change_asks op es S (a.with_notified false) (λ σ h. h) (λ σ. refl) (λ σ. refl) (λ σ r rs. refl))))
 
   meet_asks : (P : Type 0) (at : Place) → Asks op es (Unit {0}) P Nothing (a.meet τ at)
@@ -153,13 +153,13 @@ module _ (op : Opening) (es : List Entry) (v : IsOpening op) (legal : IsLegal op
 
   pub fence_asks : (P : Type 0) → Asks op es (Unit {0}) P Nothing (a.fence τ)
   unfolding a.fence
-  fence_asks P = only_asks P act.Fence refl (λ r e. e)
+  fence_asks P = only_asks P act.Fence refl (λ r. refl)
 
   leave_asks : (A P : Type 0) (V : A → Type 0) (n : ℤ) → Asks op es A P V (a.exit τ n)
   unfolding a.exit
   leave_asks A P V n =
       then_asks op es Reply A P (IsAnswer None (act.Exit n)) V (a.ask τ None (act.Exit n)) (λ r. over (told.Exit n))
-      (ask_asks op es τ None (act.Exit n) P (λ q. refl) (λ q r e. e)) (λ r.
+      (ask_asks op es τ None (act.Exit n) P (λ q. refl) (λ q r. refl)) (λ r.
       exit_asks op es A (P × IsAnswer None (act.Exit n) r) V (told.Exit n) (λ υ later. tt))
 
   -- ---- accesses
@@ -188,7 +188,7 @@ module _ (op : Opening) (es : List Entry) (v : IsOpening op) (legal : IsLegal op
         then_asks op es Reply Scalar P (IsAnswer (Some k) (act.Read at strict)) (IsCellScalar k)
         (a.ask τ (Some k) (act.Read at strict)) (λ r. give (value_in r))
         (ask_asks op es τ (Some k) (act.Read at strict) P (λ q. ap is_some (h q))
-        (λ q r e. subst (λ c. fits op.threads op.shapes c (act.Read at strict) r ≡ true) (h q) e)) (λ r.
+        (λ q r. ap (λ c. fits op.threads op.shapes c (act.Read at strict) r) (h q))) (λ r.
         give_asks op es Scalar (P × IsAnswer (Some k) (act.Read at strict) r) (IsCellScalar k) (value_in r)
         (λ q. answer_is k at strict r q.1))
 
@@ -199,7 +199,7 @@ module _ (op : Opening) (es : List Entry) (v : IsOpening op) (legal : IsLegal op
         (a.ask τ None (act.Write at w strict)) (λ r. skip)
         (ask_asks op es τ None (act.Write at w strict) P
         (λ q. and_from (fits_cell w (cell_of op (objects op es) at)) (is_known op es w)
-        (subst (λ c. fits_cell w c ≡ true) (sym (h q)) (f q)) (g q)) (λ q r e. e))
+        (subst (λ c. fits_cell w c ≡ true) (sym (h q)) (f q)) (g q)) (λ q r. refl))
         (λ r. skip_asks op es (P × IsAnswer None (act.Write at w strict) r))
 
     -- The location that an access reaches is a cell of that kind.
@@ -411,7 +411,7 @@ module _ (op : Opening) (es : List Entry) (v : IsOpening op) (legal : IsLegal op
       (cell_of op (objects op es) at ≡ Some k) × ((w : Scalar) → IsCellScalar k w → GoesWell V (after w))
   GoesWell V (Acts action after) =
       IsWellFormed op es action
-      × ((r : Reply) → fits_after op es action r ≡ true → fits op.threads op.shapes None action r ≡ true)
+      × ((r : Reply) → fits_after op es action r ≡ fits op.threads op.shapes None action r)
       × ((r : Reply) → IsGiven r → GoesWell V (after r))
   GoesWell V (Loads ptr k after) = (w : Value) → s.IsCellValue op es k w → GoesWell V (after (scalar_of w))
   GoesWell V (Stores ptr k w after) = IsKnownScalar w × GoesWell V after
@@ -483,6 +483,6 @@ module _ (op : Opening) (es : List Entry) (v : IsOpening op) (legal : IsLegal op
   print_asks P format args =
       let text = printed format (map number_of args) in
       then_asks op es Reply Value P (IsAnswer None (act.Print text)) IsKnown (a.ask τ None (act.Print text)) _
-      (ask_asks op es τ None (act.Print text) P (λ q. refl) (λ q r e. e)) (λ r.
+      (ask_asks op es τ None (act.Print text) P (λ q. refl) (λ q r. refl)) (λ r.
       give_asks op es Value (P × IsAnswer None (act.Print text) r) IsKnown
       (number (converted kind.Int (pos (length text)))) (λ q. refl))

@@ -1,5 +1,5 @@
 -- What code may name, and what it is to ask well.
-use Rattle.std.specs.Prelude.{ℕ, ℤ, ◌≡◌, ◌<◌, ◌≤◌, nat_lt, Bool, true, ◌&&◌, List, [], ◌∷◌, ◌++◌}
+use Rattle.std.specs.Prelude.{ℕ, ℤ, ◌≡◌, ◌<◌, ◌≤◌, nat_lt, Bool, true, false, ◌&&◌, List, [], ◌∷◌, ◌++◌, length}
 use Rattle.std.specs.List.{list_any}
 use Rattle.block_layout.specs.declared.place.ObjectRef.{ObjectRef}
 use Rattle.block_layout.specs.declared.place.LocalPtr.TheVariants as local
@@ -9,7 +9,7 @@ use Rattle.upc_values.specs.declared.scalar.Value.{Value}
 use Rattle.upc_values.specs.declared.scalar.Value.TheVariants as value
 use Rattle.upc_values.specs.declared.action.Action.{Action}
 use Rattle.upc_values.specs.declared.action.Reply.{Reply}
-use Rattle.upc_values.specs.declared.record.ToldEnd.TheVariants.{Wants}
+use Rattle.upc_values.specs.declared.record.ToldEnd.TheVariants.{Wants, Misfit}
 use Rattle.upc_values.specs.declared.journal.Entry.{Entry}
 use Rattle.upc_values.specs.Lists.{Each}
 use Rattle.upc_values.specs.Openings.{Opening, IsOpening}
@@ -75,13 +75,18 @@ pub record IsThreadOf (o : Opening) (codes : Codes) (thread budget : ℕ) (f : L
 
 -- ---- asking
 
--- After each history that may have given the replies so far, the wanted action may be asked for, and a reply that fits
--- it adds it to the actions.
+-- After each history that may have given the replies so far, the wanted action may be asked for; a reply that fits it
+-- adds it to the actions, and any other one ends the thread there. A reply to a read fits by the kind of the cell that
+-- it names: that is the kind at which the thread reads it.
 pub record AsksWell (o : Opening) (f : List Reply → Outcome) : Type 0 where
   pub goes :
       (rs : List Reply) (before : List Entry) (a : Action) (r : Reply) → (f rs).«end» ≡ Wants a
       → HasGiven o before rs → fits_after o before a r ≡ true
       → (f (rs ++ r ∷ [])).actions ≡ (f rs).actions ++ a ∷ []
+  pub misfits :
+      (rs : List Reply) (before : List Entry) (a : Action) (r : Reply) → (f rs).«end» ≡ Wants a
+      → HasGiven o before rs → fits_after o before a r ≡ false
+      → ((f (rs ++ r ∷ [])).«end» ≡ Misfit (length rs)) × ((f (rs ++ r ∷ [])).actions ≡ (f rs).actions)
   pub formed :
       (rs : List Reply) (before : List Entry) (a : Action) → (f rs).«end» ≡ Wants a
       → HasGiven o before rs → IsWellFormed o before a

@@ -3,4 +3,4 @@
 
 mod laws;
 
-pub use laws::code_asks_well;
+pub use laws::{code_asks_well, code_takes_turns};

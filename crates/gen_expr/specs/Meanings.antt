@@ -12,7 +12,8 @@ use Rattle.stack_code.specs.declared.instruction.Instr.{Instr}
 use Rattle.stack_code.specs.Codes.{function_at}
 use Rattle.stack_code.specs.Steps.{Spot, further}
 use Rattle.stack_code.specs.Meets.{HasFrom, Meets, piled, there, value_at}
-use Rattle.gen_expr.specs.Sources.{source_of}
+use Rattle.stack_code.specs.Making.{Making, with_instructions}
+use Rattle.gen_expr.specs.Sources.{Source, source_of}
 use Rattle.gen_expr.specs.Codes.{value_code}
 
 -- In these functions an instruction that calls function n + 1 does what a call of function n does.
@@ -24,13 +25,17 @@ CallsMeet ρ functions call =
     → Meets ρ.thread functions Value (there here (piled vs operands) calls σ)
     (value_at (further 1 here) operands calls) (call n vs at σ)
 
--- Wherever functions have the code of an expression, it does what the expression does, and leaves its value.
-abbrev pub MeansValue : Running → List (List Instr) → Calls → Bool → Expr → Type 0
-MeansValue ρ functions call strict e =
+-- Wherever functions have this code, it does what the expression does, and leaves its value.
+abbrev pub GivesValue : Running → List (List Instr) → Calls → Bool → Expr → List Instr → Type 0
+GivesValue ρ functions call strict e code =
     (here : Spot) (operands : List Value) (calls : List Spot) (σ : State)
-    → HasFrom functions here (value_code (source_of ρ) strict e)
+    → HasFrom functions here code
     → Meets ρ.thread functions Value (there here operands calls σ)
-    (value_at (further (length (value_code (source_of ρ) strict e)) here) operands calls) (value ρ call strict e σ)
+    (value_at (further (length code) here) operands calls) (value ρ call strict e σ)
+
+-- So it is with the code of the expression.
+abbrev pub MeansValue : Running → List (List Instr) → Calls → Bool → Expr → Type 0
+MeansValue ρ functions call strict e = GivesValue ρ functions call strict e (value_code (source_of ρ) strict e)
 
 -- The code of every expression does what the expression does, in every program, whatever the calls do that its own
 -- calls meet.
@@ -38,3 +43,16 @@ abbrev pub ExpressionsAreMeant : Type 0
 ExpressionsAreMeant =
     (ρ : Running) (functions : List (List Instr)) (call : Calls) (strict : Bool) (e : Expr)
     → CallsMeet ρ functions call → MeansValue ρ functions call strict e
+
+-- Code means an expression of a program: in each thread that runs the program it does what the expression does,
+-- whatever the calls do that its own calls meet.
+abbrev pub MeansExpression : Source → Bool → Expr → List Instr → Type 0
+MeansExpression ς strict e code =
+    (ρ : Running) (functions : List (List Instr)) (call : Calls)
+    → source_of ρ ≡ ς → CallsMeet ρ functions call → GivesValue ρ functions call strict e code
+
+-- To the function that is being made was appended code that means an expression, and nothing else was changed.
+pub record AppendsMeaning (ς : Source) (strict : Bool) (e : Expr) (old new : Making) : Type 0 where
+  pub code : List Instr
+  pub appended : new ≡ with_instructions code old
+  pub means : MeansExpression ς strict e code

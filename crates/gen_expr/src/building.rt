@@ -4,6 +4,7 @@ ghost use Rattle.std.specs.Prelude.{◌≡◌, true, OnOk, OnErr, IsErr};
 ghost use Rattle.typed_tree.specs.ViewTree.{view_expr};
 ghost use Rattle.stack_code.specs.Making.{with_instructions};
 ghost use Rattle.gen_expr.specs.Codes as pure;
+ghost use Rattle.gen_expr.specs.Meanings.{AppendsMeaning};
 ghost use Rattle.gen_expr.specs.ViewSource.{view_source};
 
 use crate::expressions::put_value_code;
@@ -21,6 +22,8 @@ pub fn expr_code(
 ) -> Result<(), OutOfMemory>
     ensures done { OnOk result (into.new
         ≡ with_instructions (pure.value_code (view_source source.entry) strict (view_expr e.now)) into.old) }
+    ensures means { OnOk result
+        (AppendsMeaning (view_source source.entry) strict (view_expr e.now) into.old into.new) }
     ensures failed { OnErr result (into.new.failed ≡ true) }
     ensures fails { into.old.failed ≡ true → IsErr result }
 {

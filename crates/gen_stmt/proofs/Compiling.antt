@@ -139,7 +139,7 @@ initials_end xs i m old h told =
 
 -- ---- what a program keeps
 
-each_prop : {X : Type 0} (P : X → Type 0) → ((x : X) → IsProp (P x)) → (xs : List X) → IsProp (Each P xs)
+pub each_prop : {X : Type 0} (P : X → Type 0) → ((x : X) → IsProp (P x)) → (xs : List X) → IsProp (Each P xs)
 each_prop P h [] = Unit-prop
 each_prop P h (x ∷ xs) = ×_prop (h x) (each_prop P h xs)
 

@@ -9,4 +9,5 @@ pub mod Runs
 pub mod Courses
 pub mod Deeps
 pub mod Gathered
+pub mod Names
 mod Samples

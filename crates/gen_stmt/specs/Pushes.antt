@@ -26,8 +26,8 @@ abbrev pub Pushes : (Value → Type 0) → Operation → Type 0
 Pushes P (work.Stack w) = PushedBy P w
 Pushes P w = Unit {0}
 
--- What the code of a program may push: an integer, where a private object of the file or a declared shared object begins,
--- and 0 or null.
+-- What the code of a program may push: an integer, where a private object of the file or a declared shared object
+-- begins, and 0 or null.
 pub data IsPushed (ς : Source) (v : Value) : Type 0 where
   integer : (i : ℤ) → v ≡ number i → IsPushed ς v
   private : (n : ℕ) → v ≡ value.Local (local.Private n (pos 0)) → IsPushed ς v

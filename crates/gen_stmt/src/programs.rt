@@ -6,6 +6,8 @@ ghost use Rattle.typed_tree.specs.ViewStatements.{view_function};
 ghost use Rattle.gen_expr.specs.ViewSource.{view_source};
 ghost use Rattle.gen_stmt.specs.Programs as pure;
 ghost use Rattle.gen_stmt.specs.Meanings.{MeansProgram};
+ghost use Rattle.gen_stmt.specs.Names.{NamesOnly};
+ghost use Rattle.source_meaning.specs.Laws.{opening_of};
 ghost use Rattle.typed_tree.specs.Beginnings.{view_beginning};
 ghost use Rattle.gen_stmt.specs.code.Compiled.{made, source_with, with_functions, with_initials, with_objects};
 
@@ -106,10 +108,14 @@ fn builder_of(alloc: Global, program: &Program) -> Result<Builder, OutOfMemory>
 }
 
 /// The code of a program, which means what the program means: each of its threads comes to the same outcome, whatever
-/// it is answered.
+/// it is answered. It has the program's threads and its shapes of shared elements, and names no shared object but the
+/// declared ones.
 pub fn compile(alloc: Global, program: &Program) -> Result<Code, OutOfMemory>
     ensures code { IfOk result (λ code. code ≡ pure.program_code (view_program program.now)) }
     ensures means { IfOk result (λ code. MeansProgram code (view_program program.now)) }
+    ensures threads { IfOk result (λ code. code.threads ≡ program.now.threads) }
+    ensures shapes { IfOk result (λ code. code.shapes ≡ (opening_of (view_program program.now)).shapes) }
+    ensures names { IfOk result (NamesOnly (opening_of (view_program program.now)).declared) }
 {
     let builder = builder_of(alloc, program)?;
     builder.finish()

@@ -7,12 +7,15 @@ use Rattle.stack_code.specs.Codes.{Codes}
 use Rattle.stack_code.specs.Depths.{IsDeep, BeginsOnce}
 use Rattle.stack_code.specs.Making.{Making}
 use Rattle.gen_expr.proofs.Simulation.{expressions_are_meant}
+use Rattle.source_meaning.specs.Laws.{opening_of}
 use Rattle.gen_stmt.specs.Meanings.{MeansProgram}
+use Rattle.gen_stmt.specs.Names.{NamesOnly}
 use Rattle.gen_stmt.specs.Programs.{program_code}
 use Rattle.gen_stmt.proofs.Gathered.{program_begins}
 use Rattle.gen_stmt.proofs.Compiling.{codes_are, if_ok, privates_begin}
 use Rattle.gen_stmt.proofs.Courses.{program_means}
 use Rattle.gen_stmt.proofs.Deeps.{program_deep}
+use Rattle.gen_stmt.proofs.Names.{names_only}
 use Rattle.gen_stmt.proofs.programs.compile.Goals as goal
 
 pub finish-requires-clause-ended : goal.finish-requires-clause-ended
@@ -54,3 +57,29 @@ returns-clause-means c =
     if_ok c.finish.result (λ code. code ≡ c.in_ok-builder.builder.codes) (λ code. MeansProgram code x)
     (λ code h. subst (λ (y : Codes). MeansProgram y x) (sym (h ∙ e)) (program_means expressions_are_meant x))
     c.finish.ensures.done
+
+pub returns-clause-threads : goal.returns-clause-threads
+returns-clause-threads c =
+    let p = c.args.program.now in
+    let x = view_program p in
+    let e = codes_are x (view_beginning p.beginning) c.in_ok-builder.builder p.begins c.in_ok-builder.ensures in
+    if_ok c.finish.result (λ code. code ≡ c.in_ok-builder.builder.codes) (λ code. code.threads ≡ p.threads)
+    (λ code h. ap (λ (y : Codes). y.threads) (h ∙ e)) c.finish.ensures.done
+
+pub returns-clause-shapes : goal.returns-clause-shapes
+returns-clause-shapes c =
+    let p = c.args.program.now in
+    let x = view_program p in
+    let e = codes_are x (view_beginning p.beginning) c.in_ok-builder.builder p.begins c.in_ok-builder.ensures in
+    if_ok c.finish.result (λ code. code ≡ c.in_ok-builder.builder.codes)
+    (λ code. code.shapes ≡ (opening_of x).shapes)
+    (λ code h. ap (λ (y : Codes). y.shapes) (h ∙ e)) c.finish.ensures.done
+
+pub returns-clause-names : goal.returns-clause-names
+returns-clause-names c =
+    let p = c.args.program.now in
+    let x = view_program p in
+    let e = codes_are x (view_beginning p.beginning) c.in_ok-builder.builder p.begins c.in_ok-builder.ensures in
+    if_ok c.finish.result (λ code. code ≡ c.in_ok-builder.builder.codes) (NamesOnly (opening_of x).declared)
+    (λ code h. subst (NamesOnly (opening_of x).declared) (sym (h ∙ e))
+    (names_only x (view_beginning p.beginning) p.begins p.private)) c.finish.ensures.done

@@ -1,4 +1,4 @@
-use Rattle.std.proofs.Common.{ℕ, List, refl, subst}
+use Rattle.std.proofs.Common.{ℕ, List, subst}
 use Rattle.upc_values.specs.declared.action.Reply.{Reply}
 use Rattle.upc_values.specs.Outcomes.{Outcome}
 use Rattle.upc_values.specs.Sound.{IsSound}
@@ -8,26 +8,40 @@ use Rattle.source_meaning.specs.Laws.{opening_of}
 use Rattle.source_meaning.specs.Threads.{thread_outcome}
 use Rattle.stack_code.specs.Kept.{IsCode}
 use Rattle.order_builder.proofs.Satisfying.{sound-consistent}
-use Rattle.program_runs.proofs.ThreadSources.{openings_agree, code_outcomes}
+use Rattle.program_runs.proofs.ThreadSources.{IsCompiled, openings_agree, code_outcomes}
 use Rattle.program_runs.proofs.run.run_program.Goals as goal
 
 pub run_by-requires-clause-outcomes : goal.run_by-requires-clause-outcomes
 run_by-requires-clause-outcomes g c =
     let program = c.args.program.now in
-    let code = subst IsCode c.code.view_is c.code.invariant in (
+    let kept = c.in_ok-code.ensures in
+    let compiled : IsCompiled (view_program program) c.in_ok-code.code = record {
+      code = subst IsCode c.code.view_is c.code.invariant;
+      means = kept.means;
+      threads = kept.threads;
+      shapes = kept.shapes;
+      names = kept.names;
+    } in (
       λ t. thread_outcome (view_program program) t c.args.limits.budget,
-      code_outcomes program c.in_ok-code.code c.args.limits c.in_ok-code.ensures.code code c.requires.threads
+      code_outcomes program c.in_ok-code.code c.args.limits compiled c.requires.threads
           c.requires.budget.0,
     )
 
 pub returns-clause-follows : goal.returns-clause-follows
 returns-clause-follows g c =
     let program = c.args.program.now in
-    let code = subst IsCode c.code.view_is c.code.invariant in
+    let kept = c.in_ok-code.ensures in
+    let compiled : IsCompiled (view_program program) c.in_ok-code.code = record {
+      code = subst IsCode c.code.view_is c.code.invariant;
+      means = kept.means;
+      threads = kept.threads;
+      shapes = kept.shapes;
+      names = kept.names;
+    } in
     let meaning : ℕ → ℕ → List Reply → Outcome = λ budget t. thread_outcome (view_program program) t budget in
     sound-follows _ meaning c.in_ok-journal.journal
     (c.in_ok-journal.ensures.sound meaning
-    (code_outcomes program c.in_ok-code.code c.args.limits c.in_ok-code.ensures.code code c.requires.threads
+    (code_outcomes program c.in_ok-code.code c.args.limits compiled c.requires.threads
     c.requires.budget.0))
 
 pub returns-clause-ran : goal.returns-clause-ran
@@ -35,22 +49,29 @@ returns-clause-ran g c =
     let program = c.args.program.now in
     let limits = c.args.limits in
     let journal = c.in_ok-journal.journal in
-    let kept = c.in_ok-journal.ensures in
-    let code = subst IsCode c.code.view_is c.code.invariant in
+    let kept = c.in_ok-code.ensures in
+    let compiled : IsCompiled (view_program program) c.in_ok-code.code = record {
+      code = subst IsCode c.code.view_is c.code.invariant;
+      means = kept.means;
+      threads = kept.threads;
+      shapes = kept.shapes;
+      names = kept.names;
+    } in
     let meaning : ℕ → ℕ → List Reply → Outcome = λ budget t. thread_outcome (view_program program) t budget in
+    let ran = c.in_ok-journal.ensures in
     let sound : IsSound (opening_of (view_program program)) meaning journal =
     subst (λ o. IsSound o meaning journal) (openings_agree program)
-    (kept.sound meaning
-    (code_outcomes program c.in_ok-code.code limits c.in_ok-code.ensures.code code c.requires.threads
+    (ran.sound meaning
+    (code_outcomes program c.in_ok-code.code limits compiled c.requires.threads
     c.requires.budget.0)) in
     record {
-      threads = kept.limits.0;
-      budget = kept.limits.1;
-      actions = kept.limits.2;
+      threads = ran.limits.0;
+      budget = ran.limits.1;
+      actions = ran.limits.2;
       sound = sound;
       orders = sound-consistent (opening_of (view_program program)) meaning journal sound;
-      waits = kept.waits;
-      locks = kept.locks;
-      spent = kept.spent;
-      course = kept.course;
+      waits = ran.waits;
+      locks = ran.locks;
+      spent = ran.spent;
+      course = ran.course;
     }
