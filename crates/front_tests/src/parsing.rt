@@ -58,7 +58,8 @@ fn parts_of_a_source(rt: HostRuntime) -> Result<(), Fail> {
         ("#pragma upc strict", 1),
         ("#pragma upc relaxed\nint;\n#pragma upc strict\nint;", 2),
         (
-            "static const strict relaxed void char short int long signed unsigned size_t ptrdiff_t upc_lock_t upc_op_t upc_flag_t a;",
+            "static const strict relaxed void char short int long signed unsigned size_t \
+ptrdiff_t upc_lock_t upc_op_t upc_flag_t a;",
             2,
         ),
         (
@@ -571,9 +572,12 @@ fn long_lists(rt: HostRuntime) -> Result<(), Fail> {
 fn tokens_come_back(rt: HostRuntime) -> Result<(), Fail> {
     let rows = [
         "#pragma upc strict\nshared [2] int a[3] = {1, 'b'}, *p; struct s { char c, d[2]; };",
-        "int f(struct s *x, int [4]) {\n#pragma upc relaxed\nint i; for (i = 0; i < 9; i++) if (i) a[i] += x->c; else if (p) f(x, 2); else break; }",
-        "void g(void) { upc_forall (;;; continue) do { } while (0); switch (i) { case 1: default: return sizeof (int [2]); } }",
-        "shared [*] struct s *shared [] *h() { upc_barrier (int) i ? \"a\" \"b\" : THREADS; while (!f()) continue; upc_fence; }",
+        "int f(struct s *x, int [4]) {\n#pragma upc relaxed\nint i; for (i = 0; i < 9; i++) if (i) a[i] += x->c; \
+else if (p) f(x, 2); else break; }",
+        "void g(void) { upc_forall (;;; continue) do { } while (0); \
+switch (i) { case 1: default: return sizeof (int [2]); } }",
+        "shared [*] struct s *shared [] *h() { upc_barrier (int) i ? \"a\" \"b\" : THREADS; \
+while (!f()) continue; upc_fence; }",
     ];
     for source in rows {
         let before = expanded(rt.alloc(), source)?;

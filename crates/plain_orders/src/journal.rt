@@ -8,7 +8,7 @@ ghost use Rattle.plain_orders.specs.Own.{AreOwnOrders, Arises};
 use crate::accesses::operations_of;
 use crate::consistent::are_consistent;
 use crate::named::{find_all, find_each};
-use block_layout::Loc;
+use block_layout::{Kind, Loc};
 use std::alloc::{AllocError, Global};
 use upc_values::{Journal, Orders, Scalar};
 
@@ -17,9 +17,11 @@ fn decide(
     alloc: Global,
     journal: &Journal,
     initials: &[(Loc, Scalar)],
+    cells: &[(Loc, Kind)],
     orders: &Orders,
 ) -> Result<bool, AllocError>
-    ensures { IfOk result (λ b. IsTrue b ↔ AreConsistentOrders (initial_by initials.now) journal.now orders.now) }
+    ensures { IfOk result (λ b. IsTrue b
+        ↔ AreConsistentOrders (initial_by initials.now cells.now) journal.now orders.now) }
 {
     if orders.threads.len() != journal.threads as usize {
         return Ok(false);
@@ -34,24 +36,31 @@ fn decide(
         Some(threads) => threads,
         None => return Ok(false),
     };
-    Ok(are_consistent(initials, operations, strict.as_slice(), threads.as_slice()))
+    Ok(are_consistent(
+        initials,
+        cells,
+        operations,
+        strict.as_slice(),
+        threads.as_slice(),
+    ))
 }
 
 /// Whether the orders make the journal's operations UPC consistent (UPC Appendix B): the strict operations in their
 /// order, and each thread's own operations, all writes and all strict reads in the order of that thread. A location
-/// begins with the first value that `initials` gives it, else with 0. Where the history follows the write buffers and
-/// is legal, the journal's own orders do.
+/// begins with the first value that `initials` gives it, else with 0, or null where `cells` says that its cell is of
+/// pointers or locks. Where the history follows the write buffers and is legal, the journal's own orders do.
 pub fn is_consistent(
     alloc: Global,
     journal: &Journal,
     initials: &[(Loc, Scalar)],
+    cells: &[(Loc, Kind)],
     orders: &Orders,
 ) -> Result<bool, AllocError>
     ensures decided { IfOk result (λ b. IsTrue b
-        ↔ AreConsistentOrders (initial_by initials.now) journal.now orders.now) }
+        ↔ AreConsistentOrders (initial_by initials.now cells.now) journal.now orders.now) }
     ensures own { IfOk result (λ b. 0 < journal.now.threads → AreOwnOrders journal.now orders.now
-        → Arises (initial_by initials.now) journal.now → IsTrue b) }
+        → Arises (initial_by initials.now cells.now) journal.now → IsTrue b) }
 {
-    let answer = decide(alloc, journal, initials, orders)?;
+    let answer = decide(alloc, journal, initials, cells, orders)?;
     Ok(answer)
 }

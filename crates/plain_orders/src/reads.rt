@@ -1,34 +1,67 @@
 //! Whether each read of an order has the value of the last write before it.
 
 ghost use Rattle.std.specs.Prelude.{◌≡◌, ◌↔◌, ◌&&◌, IsTrue, cond, false, Some, None};
-ghost use Rattle.upc_values.specs.Scalars.{value_or};
+ghost use Rattle.upc_values.specs.Scalars.{value_or, zero};
+ghost use Rattle.upc_values.specs.Openings.{given, blank_in};
 ghost use Rattle.upc_values.specs.Consistent as consistent;
 ghost use Rattle.upc_values.specs.Consistent.{initial_at, ReadsLast};
-ghost use Rattle.plain_orders.specs.Parts.{place_of, initial_by};
+ghost use Rattle.plain_orders.specs.Parts.{place_of, kind_given, initial_by};
 
 use crate::operation::Operation;
 use crate::place::{Place, same_place};
-use block_layout::Loc;
-use upc_values::Scalar;
+use block_layout::{Kind, Loc};
+use upc_values::{Scalar, blank};
 
-// What the location begins with: the first value that the list gives it, else 0.
-fn initial_of(initials: &[(Loc, Scalar)], loc: Loc) -> Scalar
-    ensures { result ≡ initial_by initials.now loc }
+// The first value that the list gives the location.
+fn value_given(initials: &[(Loc, Scalar)], loc: Loc) -> Option<Scalar>
+    ensures { result ≡ given loc initials.now }
 {
     for initial in initials {
         if initial.0 == loc {
-            return initial.1;
+            return Some(initial.1);
         }
     }
-    Scalar::Int(0)
+    None
+}
+
+// The first kind that the list gives the cell at the location.
+fn kind_of(cells: &[(Loc, Kind)], loc: Loc) -> Option<Kind>
+    ensures { result ≡ kind_given loc cells.now }
+{
+    for cell in cells {
+        if cell.0 == loc {
+            return Some(cell.1);
+        }
+    }
+    None
+}
+
+// What a cell without an initial value begins with: 0 or null by its kind, 0 where that is not given.
+fn blank_of(cells: &[(Loc, Kind)], loc: Loc) -> Scalar
+    ensures { result ≡ value_or (blank_in (kind_given loc cells.now)) zero }
+{
+    match kind_of(cells, loc) {
+        Some(kind) => blank(kind),
+        None => Scalar::Int(0),
+    }
+}
+
+// What the location begins with: its initial value, else 0 or null.
+fn initial_of(initials: &[(Loc, Scalar)], cells: &[(Loc, Kind)], loc: Loc) -> Scalar
+    ensures { result ≡ initial_by initials.now cells.now loc }
+{
+    match value_given(initials, loc) {
+        Some(value) => value,
+        None => blank_of(cells, loc),
+    }
 }
 
 // What the place begins with; that of the implied accesses begins with 0.
-fn initial_value(initials: &[(Loc, Scalar)], place: Place) -> Scalar
-    ensures { result ≡ initial_at (initial_by initials.now) (place_of place) }
+fn initial_value(initials: &[(Loc, Scalar)], cells: &[(Loc, Kind)], place: Place) -> Scalar
+    ensures { result ≡ initial_at (initial_by initials.now cells.now) (place_of place) }
 {
     match place {
-        Place::Cell(loc) => initial_of(initials, loc),
+        Place::Cell(loc) => initial_of(initials, cells, loc),
         Place::Sync => Scalar::Int(0),
     }
 }
@@ -60,32 +93,44 @@ fn last_write(place: Place, operations: &[Operation]) -> Option<Scalar>
 }
 
 // The value of the last write of the place, or the initial value if there is none.
-fn value_after(initials: &[(Loc, Scalar)], before: &[Operation], place: Place) -> Scalar
+fn value_after(
+    initials: &[(Loc, Scalar)],
+    cells: &[(Loc, Kind)],
+    before: &[Operation],
+    place: Place,
+) -> Scalar
     ensures { result ≡ value_or (consistent.last_write (place_of place) before.now)
-        (initial_at (initial_by initials.now) (place_of place)) }
+        (initial_at (initial_by initials.now cells.now) (place_of place)) }
 {
     match last_write(place, before) {
         Some(value) => value,
-        None => initial_value(initials, place),
+        None => initial_value(initials, cells, place),
     }
 }
 
 // Whether the operation, if it is a read, has that value.
-fn has_value(initials: &[(Loc, Scalar)], before: &[Operation], operation: &Operation) -> bool
+fn has_value(
+    initials: &[(Loc, Scalar)],
+    cells: &[(Loc, Kind)],
+    before: &[Operation],
+    operation: &Operation,
+) -> bool
     ensures { IsTrue result ↔ (operation.now.write ≡ false
         → operation.now.value ≡ value_or (consistent.last_write operation.now.place before.now)
-        (initial_at (initial_by initials.now) operation.now.place)) }
+        (initial_at (initial_by initials.now cells.now) operation.now.place)) }
 {
-    operation.is_write() || operation.value() == value_after(initials, before, operation.place())
+    operation.is_write()
+        || operation.value() == value_after(initials, cells, before, operation.place())
 }
 
 /// Whether each read has the value of the last write of its place before it, or the initial value if there is none. A
-/// location begins with the first value that `initials` gives it, else with 0.
-pub fn reads_last(initials: &[(Loc, Scalar)], order: &[Operation]) -> bool
-    ensures { IsTrue result ↔ ReadsLast (initial_by initials.now) order.now }
+/// location begins with the first value that `initials` gives it, else with 0, or null where `cells` says that its cell
+/// is of pointers or locks.
+pub fn reads_last(initials: &[(Loc, Scalar)], cells: &[(Loc, Kind)], order: &[Operation]) -> bool
+    ensures { IsTrue result ↔ ReadsLast (initial_by initials.now cells.now) order.now }
 {
     for (at, operation) in order.iter().enumerate() {
-        if !has_value(initials, &order[..at], operation) {
+        if !has_value(initials, cells, &order[..at], operation) {
             return false;
         }
     }

@@ -10,19 +10,22 @@ use upc_values::{
     Action, Cells, Item, Kind, Loc, Mark, ObjectRef, Reply, Scalar, Shape, copy_action,
 };
 
-const X: Loc = Loc {
+/// An int on thread 0.
+pub const X: Loc = Loc {
     object: 1,
     thread: 0,
     offset: 0,
 };
 
-const Y: Loc = Loc {
+/// Another.
+pub const Y: Loc = Loc {
     object: 2,
     thread: 0,
     offset: 0,
 };
 
-fn write(loc: Loc, value: i128, strict: bool) -> Action {
+/// Writes a number.
+pub fn write(loc: Loc, value: i128, strict: bool) -> Action {
     Action::Write {
         loc,
         value: Scalar::Int(value),
@@ -30,7 +33,8 @@ fn write(loc: Loc, value: i128, strict: bool) -> Action {
     }
 }
 
-fn read(loc: Loc, strict: bool) -> Action {
+/// Reads.
+pub fn read(loc: Loc, strict: bool) -> Action {
     Action::Read { loc, strict }
 }
 
@@ -104,6 +108,14 @@ fn two(alloc: Global) -> Result<World, AllocError>
         shapes.as_slice(),
         2,
     )
+}
+
+/// Two threads, X and Y, which begin with 0.
+pub fn zeros(alloc: Global) -> Result<World, AllocError>
+    ensures { IfOk result (λ w. w.0.threads ≡ 2) }
+{
+    let shapes = ints(alloc)?;
+    World::make(alloc, &[INT_X, INT_Y], &[], shapes.as_slice(), 2)
 }
 
 // A wait is legal once both have notified, and a read gives the last write, else the initial value.

@@ -4,6 +4,8 @@
 #[cfg(test)]
 mod buffers;
 #[cfg(test)]
+mod by_hand;
+#[cfg(test)]
 mod front;
 #[cfg(test)]
 mod histories;

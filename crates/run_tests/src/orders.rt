@@ -1,7 +1,7 @@
 //! Orders of small runs, as Appendix B of UPC 1.3 gives them.
 
 use crate::front::program_of;
-use crate::runs::may_be;
+use crate::runs::{has_history, may_be};
 use order_builder::orders;
 use plain_orders::is_consistent;
 use program_runs::run_program;
@@ -22,13 +22,14 @@ fn has_names(order: &Order, names: &[Name]) -> bool {
             && operation.write == *write)
 }
 
-// A run of a source by picks, its strict order, and the order of thread 0.
+// A run of a source by picks, its history, its strict order, and the order of each thread.
 struct Run {
     source: &'static [u8],
     limits: Limits,
     picks: &'static [u32],
+    history: &'static [(u32, u32)],
     strict: &'static [Name],
-    first: &'static [Name],
+    threads: &'static [&'static [Name]],
 }
 
 const R: bool = false;
@@ -45,8 +46,9 @@ const RUNS: [Run; 4] = [
             actions: 100,
         },
         picks: &[],
+        history: &[(0, 0), (0, 1), (0, 2), (0, 3)],
         strict: &[(0, 0, W), (0, 1, R), (0, 2, W), (0, 3, R)],
-        first: &[(0, 0, W), (0, 1, R), (0, 2, W), (0, 3, R)],
+        threads: &[&[(0, 0, W), (0, 1, R), (0, 2, W), (0, 3, R)]],
     },
     // A forwarded read stands with the write that it reads, behind a read that was issued before that write was done.
     Run {
@@ -57,8 +59,9 @@ const RUNS: [Run; 4] = [
             actions: 100,
         },
         picks: &[],
+        history: &[(0, 0), (0, 1), (0, 3), (0, 2), (0, 5), (0, 6), (0, 7)],
         strict: &[(0, 0, W), (0, 1, R), (0, 6, W), (0, 7, R)],
-        first: &[
+        threads: &[&[
             (0, 0, W),
             (0, 1, R),
             (0, 3, R),
@@ -67,9 +70,9 @@ const RUNS: [Run; 4] = [
             (0, 5, W),
             (0, 6, W),
             (0, 7, R),
-        ],
+        ]],
     },
-    // Both threads read 0 before either write is done; a relaxed read of the other thread is not in the order.
+    // Both threads read 0 before either write is done; a relaxed read of the other thread is not in a thread's order.
     Run {
         source: b"shared int x; shared int y; int main(void){int r; \
 if (MYTHREAD == 0) {x = 1; r = y;} else {y = 1; r = x;} return 0;}",
@@ -79,6 +82,20 @@ if (MYTHREAD == 0) {x = 1; r = y;} else {y = 1; r = x;} return 0;}",
             actions: 100,
         },
         picks: &[0, 1, 0, 1, 0, 1, 0, 1, 0, 1, 0, 1],
+        history: &[
+            (0, 0),
+            (1, 0),
+            (0, 1),
+            (1, 1),
+            (0, 3),
+            (1, 3),
+            (0, 2),
+            (0, 4),
+            (1, 2),
+            (1, 4),
+            (0, 5),
+            (1, 5),
+        ],
         strict: &[
             (0, 0, W),
             (1, 0, W),
@@ -89,18 +106,33 @@ if (MYTHREAD == 0) {x = 1; r = y;} else {y = 1; r = x;} return 0;}",
             (0, 5, R),
             (1, 5, R),
         ],
-        first: &[
-            (0, 0, W),
-            (1, 0, W),
-            (0, 1, R),
-            (1, 1, R),
-            (0, 3, R),
-            (0, 2, W),
-            (0, 4, W),
-            (1, 2, W),
-            (1, 4, W),
-            (0, 5, R),
-            (1, 5, R),
+        threads: &[
+            &[
+                (0, 0, W),
+                (1, 0, W),
+                (0, 1, R),
+                (1, 1, R),
+                (0, 3, R),
+                (0, 2, W),
+                (0, 4, W),
+                (1, 2, W),
+                (1, 4, W),
+                (0, 5, R),
+                (1, 5, R),
+            ],
+            &[
+                (0, 0, W),
+                (1, 0, W),
+                (0, 1, R),
+                (1, 1, R),
+                (1, 3, R),
+                (0, 2, W),
+                (0, 4, W),
+                (1, 2, W),
+                (1, 4, W),
+                (0, 5, R),
+                (1, 5, R),
+            ],
         ],
     },
     // A thread reads its own pending write, and another's write is done before it.
@@ -113,6 +145,18 @@ if (MYTHREAD == 0) {x = 1; r = x;} else x = 2; return 0;}",
             actions: 100,
         },
         picks: &[0, 1, 0, 1, 1, 1, 0, 0, 0, 0, 1],
+        history: &[
+            (0, 0),
+            (1, 0),
+            (0, 1),
+            (1, 1),
+            (1, 2),
+            (1, 3),
+            (0, 2),
+            (0, 4),
+            (0, 5),
+            (1, 4),
+        ],
         strict: &[
             (0, 0, W),
             (1, 0, W),
@@ -123,18 +167,32 @@ if (MYTHREAD == 0) {x = 1; r = x;} else x = 2; return 0;}",
             (0, 5, R),
             (1, 4, R),
         ],
-        first: &[
-            (0, 0, W),
-            (1, 0, W),
-            (0, 1, R),
-            (1, 1, R),
-            (1, 2, W),
-            (1, 3, W),
-            (0, 2, W),
-            (0, 3, R),
-            (0, 4, W),
-            (0, 5, R),
-            (1, 4, R),
+        threads: &[
+            &[
+                (0, 0, W),
+                (1, 0, W),
+                (0, 1, R),
+                (1, 1, R),
+                (1, 2, W),
+                (1, 3, W),
+                (0, 2, W),
+                (0, 3, R),
+                (0, 4, W),
+                (0, 5, R),
+                (1, 4, R),
+            ],
+            &[
+                (0, 0, W),
+                (1, 0, W),
+                (0, 1, R),
+                (1, 1, R),
+                (1, 2, W),
+                (1, 3, W),
+                (0, 2, W),
+                (0, 4, W),
+                (0, 5, R),
+                (1, 4, R),
+            ],
         ],
     },
 ];
@@ -148,14 +206,16 @@ fn orders_of_runs(rt: HostRuntime) -> Result<(), Fail> {
         assert!(rt; program.threads() == run.limits.threads);
         let journal = run_program(&rt, alloc, &program, run.limits, run.picks)?;
         let found = orders(alloc, &journal)?;
+        assert!(rt; has_history(&journal, run.history), "{number}");
         assert!(rt; has_names(&found.strict, run.strict), "{number}");
-        let first = found
-            .threads
-            .as_slice()
-            .first()
-            .expect(&rt, "an order of thread 0");
-        assert!(rt; has_names(first, run.first), "{number}");
-        assert!(rt; is_consistent(alloc, &journal, &[], &found)?, "{number}");
+        assert_eq!(rt; found.threads.len(), run.threads.len(), "{number}");
+        for (order, names) in found.threads.as_slice().iter().zip(run.threads) {
+            assert!(rt; has_names(order, names), "{number}");
+        }
+        assert!(rt;
+            is_consistent(alloc, &journal, &[], &[], &found)?,
+            "{number}"
+        );
     }
     Ok(())
 }
@@ -248,7 +308,7 @@ fn orders_of_cases(rt: HostRuntime) -> Result<(), Fail> {
         let journal = run_program(&rt, alloc, &program, TWO, case.picks)?;
         let found = orders(alloc, &journal)?;
         assert!(rt;
-            is_consistent(alloc, &journal, program.initials(), &found)?,
+            is_consistent(alloc, &journal, program.initials(), &[], &found)?,
             "{number}"
         );
     }

@@ -1,14 +1,19 @@
 //! The text of a run, written and read back.
 
+use crate::by_hand::{follows_buffers, same_entry, same_orders};
 use crate::front::program_of;
+use crate::histories::{read, write};
 use crate::runs::may_be;
 use order_builder::orders;
 use program_runs::run_program;
 use run_recorder::{ReadRecord, is_short, read_record, render};
 use serial_core::Limits;
-use std::alloc::Global;
+use std::alloc::{AllocError, Global};
 use std::test::Fail;
-use upc_values::{Journal, Orders, agrees};
+use upc_values::{
+    Action, End, Entry, Item, Journal, Listing, Loc, Orders, Reply, Scalar, Strand, agrees,
+    same_action, same_reply,
+};
 
 // The text of `int main(){return 0;}`, run by one thread.
 const RECORD: &str = "upc-record 1\n\
@@ -118,5 +123,128 @@ fn other_texts_are_bad(rt: HostRuntime) -> Result<(), Fail> {
             6
         )
     );
+    Ok(())
+}
+
+// The greatest run that has a text: so many threads, each with so many items, of which each fourth is an entry.
+const THREADS: u32 = 4;
+
+const ITEMS: u32 = 32_768;
+
+// An item of a thread, by its number: a relaxed write of this number, or a read of what was last written, which is
+// pending.
+fn nth(thread: u32, number: u32) -> (Action, Reply) {
+    let last = number - number % 4;
+    let loc = Loc {
+        object: 1,
+        thread,
+        offset: 4 * (last / 4 % 100),
+    };
+    let value = i128::from(last);
+    if number == last {
+        (write(loc, value, false), Reply::Done)
+    } else {
+        (read(loc, false), Reply::Value(Scalar::Int(value)))
+    }
+}
+
+fn long_strand(alloc: Global, thread: u32) -> Result<Strand, AllocError> {
+    let mut items = Vec::new(alloc);
+    for number in 0..ITEMS {
+        let (action, reply) = nth(thread, number);
+        items.push(Item::Did(action, reply))?;
+    }
+    Ok(Strand {
+        items: Listing::from_vec(items),
+        ticks: 0,
+        end: End::Ended(0),
+    })
+}
+
+fn long_history(alloc: Global) -> Result<Vec<Entry>, AllocError> {
+    let mut history = Vec::new(alloc);
+    for at in 0..THREADS * (ITEMS / 4) {
+        let thread = at % THREADS;
+        let index = at / THREADS * 4;
+        let (action, reply) = nth(thread, index);
+        history.push(Entry {
+            thread,
+            index,
+            action,
+            reply,
+        })?;
+    }
+    Ok(history)
+}
+
+fn long_journal(alloc: Global) -> Result<Journal, AllocError> {
+    let mut strands = Vec::new(alloc);
+    for thread in 0..THREADS {
+        strands.push(long_strand(alloc, thread)?)?;
+    }
+    Ok(Journal {
+        threads: THREADS,
+        budget: 1,
+        actions: u64::from(ITEMS),
+        strands: Listing::from_vec(strands),
+        history: Listing::from_vec(long_history(alloc)?),
+    })
+}
+
+fn same_item(a: &Item, b: &Item) -> bool {
+    match (a, b) {
+        (Item::Did(action, reply), Item::Did(other, answer)) => {
+            same_action(action, other) && same_reply(reply, answer)
+        }
+        (Item::Stall, Item::Stall) => true,
+        _ => false,
+    }
+}
+
+fn same_items(a: &[Item], b: &[Item]) -> bool {
+    a.len() == b.len() && a.iter().zip(b).all(|(one, other)| same_item(one, other))
+}
+
+fn same_history(a: &[Entry], b: &[Entry]) -> bool {
+    a.len() == b.len() && a.iter().zip(b).all(|(one, other)| same_entry(one, other))
+}
+
+fn orders_of(alloc: Global, journal: &Journal) -> Result<Option<Orders>, AllocError> {
+    if follows_buffers(alloc, journal)? {
+        Ok(Some(orders(alloc, journal)?))
+    } else {
+        Ok(None)
+    }
+}
+
+// Of 131,072 items and 32,768 entries, with the orders. The number of its bytes was counted from outside.
+#[test]
+fn a_long_text_is_written(rt: HostRuntime) -> Result<(), Fail> {
+    let alloc = rt.alloc();
+    let journal = long_journal(alloc)?;
+    let orders = orders_of(alloc, &journal)?.expect(&rt, "its orders");
+    let text = text_of(alloc, &journal, &orders)?.expect(&rt, "a text");
+    assert_eq!(rt; text.len(), 7_235_773);
+    Ok(())
+}
+
+#[test]
+fn a_long_text_is_read_back(rt: HostRuntime) -> Result<(), Fail> {
+    let alloc = rt.alloc();
+    let journal = long_journal(alloc)?;
+    let orders = orders_of(alloc, &journal)?.expect(&rt, "its orders");
+    let text = text_of(alloc, &journal, &orders)?.expect(&rt, "a text");
+    let (again, given) = read_record(alloc, text.as_slice())?;
+    assert!(rt; same_history(again.history.as_slice(), journal.history.as_slice()));
+    assert!(rt; same_orders(given.threads.as_slice(), orders.threads.as_slice()));
+    assert_eq!(rt; again.strands.len(), journal.strands.len());
+    for (strand, first) in again
+        .strands
+        .as_slice()
+        .iter()
+        .zip(journal.strands.as_slice())
+    {
+        assert!(rt; same_items(strand.items.as_slice(), first.items.as_slice()));
+    }
     Ok(())
 }

@@ -8,8 +8,8 @@ use serial_core::Limits;
 use std::test::Fail;
 use upc_values::{Action, End, Journal};
 
-// Whether these are the entries, each by its thread and its number there.
-fn has_history(journal: &Journal, entries: &[(u32, u32)]) -> bool {
+/// Whether these are the entries, each by its thread and its number there.
+pub fn has_history(journal: &Journal, entries: &[(u32, u32)]) -> bool {
     let history = journal.history.as_slice();
     history.len() == entries.len()
         && history.iter().zip(entries).all(|(entry, (thread, index))| entry.thread == *thread
@@ -83,8 +83,8 @@ const RUNS: [Run; 9] = [
         strands: &[("ended", 8, 0)],
         printed: &[],
     },
-    // The 65th pending write makes the oldest leave; a read of another location passes the others, and a fence empties the
-    // buffer.
+    // The 65th pending write makes the oldest leave; a read of another location passes the others, and a fence empties
+    // the buffer.
     Run {
         source: b"shared int x[65]; shared int y; int main(void){int i; int r; \
 for (i = 0; i < 65; i++) x[i] = i; r = y; upc_fence; return 0;}",

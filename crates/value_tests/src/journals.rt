@@ -24,21 +24,27 @@ pub fn write(object: u32, value: i128, strict: bool) -> Item {
 }
 
 pub fn read(object: u32, value: i128, strict: bool) -> Item {
+    read_of(object, Scalar::Int(value), strict)
+}
+
+pub fn read_of(object: u32, value: Scalar, strict: bool) -> Item {
     let action = Action::Read {
         loc: variable(object),
         strict,
     };
-    Item::Did(action, Reply::Value(Scalar::Int(value)))
+    Item::Did(action, Reply::Value(value))
 }
 
-fn begin(alloc: Global) -> Result<Vec<Item>, AllocError> {
+/// What each thread does before `main`.
+pub fn begin(alloc: Global) -> Result<Vec<Item>, AllocError> {
     let mut items = Vec::new(alloc);
     items.push(Item::Did(Action::Notify(Mark::Start), Reply::Done))?;
     items.push(Item::Did(Action::Wait(Mark::Start), Reply::Done))?;
     Ok(items)
 }
 
-fn finish(items: &mut Vec<Item>) -> Result<(), AllocError> {
+/// What each thread does behind `main`.
+pub fn finish(items: &mut Vec<Item>) -> Result<(), AllocError> {
     items.push(Item::Did(Action::Notify(Mark::Finish), Reply::Done))?;
     items.push(Item::Did(Action::Wait(Mark::Finish), Reply::Done))?;
     Ok(())

@@ -1,6 +1,9 @@
 //! Small journals with their orders, and orders that are not consistent.
 
-use crate::journals::{buffering, forwarding, legal_histories, read, variable, write};
+use crate::journals::{
+    begin, buffering, finish, forwarding, legal_histories, read, read_of, variable, write,
+};
+use block_layout::{Kind, SharedPtr};
 use plain_orders::{is_consistent, operations_of};
 use std::alloc::{AllocError, Global};
 use std::test::Fail;
@@ -169,7 +172,7 @@ fn buffered_writes(rt: HostRuntime) -> Result<(), Fail> {
         let journal = journal_of(alloc, buffering(alloc, false, *reads)?)?;
         let orders = orders(alloc, strict, &FIRST, second)?;
         let initials = [(variable(1), Scalar::Int(*begins))];
-        let answer = is_consistent(alloc, &journal, &initials, &orders)?;
+        let answer = is_consistent(alloc, &journal, &initials, &[], &orders)?;
         assert_eq!(rt; answer, *consistent);
     }
     Ok(())
@@ -218,7 +221,67 @@ fn forwarded_read(rt: HostRuntime) -> Result<(), Fail> {
     for (value, consistent) in [(1, true), (2, false), (0, false)] {
         let journal = journal_of(alloc, forwarding(alloc, value)?)?;
         let orders = orders(alloc, &strict, &first, &second)?;
-        assert_eq!(rt; is_consistent(alloc, &journal, &[], &orders)?, consistent);
+        assert_eq!(rt;
+            is_consistent(alloc, &journal, &[], &[], &orders)?,
+            consistent
+        );
+    }
+    Ok(())
+}
+
+// Thread 0 reads variable 1, which nobody writes; all that is strict are the barriers around main.
+const BARRIERS: [(u32, u32, char); 8] = [
+    (0, 0, 'w'),
+    (1, 0, 'w'),
+    (0, 1, 'r'),
+    (1, 1, 'r'),
+    (0, 3, 'w'),
+    (1, 2, 'w'),
+    (0, 4, 'r'),
+    (1, 3, 'r'),
+];
+
+const READING: [(u32, u32, char); 9] = [
+    (0, 0, 'w'),
+    (1, 0, 'w'),
+    (0, 1, 'r'),
+    (1, 1, 'r'),
+    (0, 2, 'r'),
+    (0, 3, 'w'),
+    (1, 2, 'w'),
+    (0, 4, 'r'),
+    (1, 3, 'r'),
+];
+
+// A cell that no initial value is given begins with 0, one of pointers or locks with null.
+#[test]
+fn cells_begin_blank(rt: HostRuntime) -> Result<(), Fail> {
+    let alloc = rt.alloc();
+    let null = Scalar::Shared(SharedPtr::NULL);
+    for (kind, value, consistent) in [
+        (Kind::Int, Scalar::Int(0), true),
+        (Kind::Int, null, false),
+        (Kind::Shared(0, 1), null, true),
+        (Kind::Shared(0, 1), Scalar::Int(0), false),
+        (Kind::Lock, Scalar::Lock(0), true),
+        (Kind::Lock, Scalar::Lock(1), false),
+        (Kind::Lock, Scalar::Int(0), false),
+    ] {
+        let mut first = begin(alloc)?;
+        first.push(read_of(1, value, false))?;
+        finish(&mut first)?;
+        let mut second = begin(alloc)?;
+        finish(&mut second)?;
+        let mut records = Vec::new(alloc);
+        records.push(first)?;
+        records.push(second)?;
+        let journal = journal_of(alloc, records)?;
+        let orders = orders(alloc, &BARRIERS, &READING, &BARRIERS)?;
+        let cells = [(variable(1), kind)];
+        assert_eq!(rt;
+            is_consistent(alloc, &journal, &[], &cells, &orders)?,
+            consistent
+        );
     }
     Ok(())
 }
@@ -252,7 +315,7 @@ fn consistent_orders(alloc: Global, journal: &Journal) -> Result<u32, AllocError
         let list = merged(alloc, mask)?;
         let names = list.as_slice();
         let orders = orders(alloc, names, names, names)?;
-        if names.len() == 12 && is_consistent(alloc, journal, &[], &orders)? {
+        if names.len() == 12 && is_consistent(alloc, journal, &[], &[], &orders)? {
             found = found.saturating_add(1);
         }
     }

@@ -16,7 +16,7 @@ returns-in-None c =
     let all : (o : Operation) → Has ops o ↔ IsOf j o = λ o. subst (λ (l : List Operation). Has l o ↔ IsOf j o) (sym c.as_slice-operations.ensures.value) (c.in_ok-list.ensures.all o) in
     let none : (list : List Operation) → IsNamed ops c.args.orders.now.strict list → ⊥ = search rules in (
       λ q. absurd (false≢true q),
-      λ h. absurd (none h.strict (strict-named (initial_by c.args.initials.now) j c.args.orders.now ops all h)),
+      λ h. absurd (none h.strict (strict-named (initial_by c.args.initials.now c.args.cells.now) j c.args.orders.now ops all h)),
     )
 
 pub returns-in-None-2 : goal.returns-in-None-2
@@ -26,13 +26,13 @@ returns-in-None-2 c =
     let all : (o : Operation) → Has ops o ↔ IsOf j o = λ o. subst (λ (l : List Operation). Has l o ↔ IsOf j o) (sym c.as_slice-operations.ensures.value) (c.in_ok-list.ensures.all o) in
     let none : (lists : List (List Operation)) → AreNamed ops c.args.orders.now.threads lists → ⊥ = search rules in (
       λ q. absurd (false≢true q),
-      λ h. absurd (none h.threads (threads-named (initial_by c.args.initials.now) j c.args.orders.now ops all h)),
+      λ h. absurd (none h.threads (threads-named (initial_by c.args.initials.now c.args.cells.now) j c.args.orders.now ops all h)),
     )
 
 pub returns : goal.returns
 returns c =
     let j = c.args.journal.now in
-    let initial = initial_by c.args.initials.now in
+    let initial = initial_by c.args.initials.now c.args.cells.now in
     let ops = c.as_slice-operations.result.now in
     let all : (o : Operation) → Has ops o ↔ IsOf j o = λ o. subst (λ (l : List Operation). Has l o ↔ IsOf j o) (sym c.as_slice-operations.ensures.value) (c.in_ok-list.ensures.all o) in
     let strict = c.in-Some.strict.items in

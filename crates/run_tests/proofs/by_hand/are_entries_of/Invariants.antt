@@ -1,0 +1,10 @@
+use Rattle.std.proofs.Common.{◌≡◌, ◌≤◌, take, length}
+use Rattle.upc_values.specs.Drain as drains
+use Rattle.run_tests.proofs.by_hand.are_entries_of.Given as goal
+
+-- the first of the list are the thread's so far
+abbrev pub invariant-loop-entry : goal.invariant-loop-entry
+invariant-loop-entry l = record {
+  most : l.next ≤ length l.entries;
+  so_far : drains.entries_of l.thread (take l.entry-index l.history) ≡ take l.next l.entries;
+}

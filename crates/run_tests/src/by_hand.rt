@@ -1,0 +1,304 @@
+//! Runs written by hand: the orders that Appendix B of UPC 1.3 gives them, and which histories are legal.
+
+ghost use Rattle.std.specs.Prelude.{◌≡◌, ◌<◌, true, All, IfOk, IsTrue};
+ghost use Rattle.upc_values.specs.Drain as drains;
+ghost use Rattle.upc_values.specs.Consistent.{FollowsBuffers};
+
+use crate::histories::{X, Y, read, write, zeros};
+use memory_history::{Step, World, drain};
+use order_builder::{global_order, orders, strict_order, thread_order};
+use plain_orders::is_consistent;
+use run_recorder::read_record;
+use std::alloc::{AllocError, Global};
+use std::test::Fail;
+use upc_values::{
+    Action, Entry, Item, Journal, Order, Orders, Reply, Scalar, same_action, same_reply,
+};
+
+// A run and its orders, and other orders that Appendix B does not allow, all as in the text of a run.
+struct ByHand {
+    run: &'static str,
+    orders: &'static str,
+    wrong: &'static str,
+}
+
+const RUNS: [ByHand; 4] = [
+    // `int main(void){return 0;}` on one thread. Wrong: a wait before its notify.
+    ByHand {
+        run: "upc-record 1\nthreads 1 budget 1000 actions 100\n\
+thread 0 items 4 ticks 0 ended 0\n\
+notify start -> done\nwait start -> done\nnotify finish -> done\nwait finish -> done\n\
+history 4\n0.0\n0.1\n0.2\n0.3\n",
+        orders: "strict 4\n0.0.w\n0.1.r\n0.2.w\n0.3.r\n\
+order 0 4\n0.0.w\n0.1.r\n0.2.w\n0.3.r\nend\n",
+        wrong: "strict 4\n0.0.w\n0.1.r\n0.2.w\n0.3.r\n\
+order 0 4\n0.1.r\n0.0.w\n0.2.w\n0.3.r\nend\n",
+    },
+    // `x = 1; x = y + x;` on one thread, relaxed. Wrong: the read of x where it was issued, before its write.
+    ByHand {
+        run: "upc-record 1\nthreads 1 budget 1000 actions 100\n\
+thread 0 items 8 ticks 0 ended 0\n\
+notify start -> done\nwait start -> done\n\
+write relaxed @1.0.0 1 -> done\nread relaxed @2.0.0 -> value 0\nread relaxed @1.0.0 -> value 1\n\
+write relaxed @1.0.0 1 -> done\nnotify finish -> done\nwait finish -> done\n\
+history 7\n0.0\n0.1\n0.3\n0.2\n0.5\n0.6\n0.7\n",
+        orders: "strict 4\n0.0.w\n0.1.r\n0.6.w\n0.7.r\n\
+order 0 8\n0.0.w\n0.1.r\n0.3.r\n0.2.w\n0.4.r\n0.5.w\n0.6.w\n0.7.r\nend\n",
+        wrong: "strict 4\n0.0.w\n0.1.r\n0.6.w\n0.7.r\n\
+order 0 8\n0.0.w\n0.1.r\n0.3.r\n0.4.r\n0.2.w\n0.5.w\n0.6.w\n0.7.r\nend\n",
+    },
+    // Store buffering: thread 0 does `x = 1; r = y;`, thread 1 `y = 1; r = x;`, all relaxed, and both read 0. The order
+    // of a thread has not the other's read. Wrong: thread 0 reads y behind thread 1's write.
+    ByHand {
+        run: "upc-record 1\nthreads 2 budget 1000 actions 100\n\
+thread 0 items 6 ticks 0 ended 0\n\
+notify start -> done\nwait start -> done\n\
+write relaxed @1.0.0 1 -> done\nread relaxed @2.0.0 -> value 0\n\
+notify finish -> done\nwait finish -> done\n\
+thread 1 items 6 ticks 0 ended 0\n\
+notify start -> done\nwait start -> done\n\
+write relaxed @2.0.0 1 -> done\nread relaxed @1.0.0 -> value 0\n\
+notify finish -> done\nwait finish -> done\n\
+history 12\n0.0\n1.0\n0.1\n1.1\n0.3\n1.3\n0.2\n0.4\n1.2\n1.4\n0.5\n1.5\n",
+        orders: "strict 8\n0.0.w\n1.0.w\n0.1.r\n1.1.r\n0.4.w\n1.4.w\n0.5.r\n1.5.r\n\
+order 0 11\n0.0.w\n1.0.w\n0.1.r\n1.1.r\n0.3.r\n0.2.w\n0.4.w\n1.2.w\n1.4.w\n0.5.r\n1.5.r\n\
+order 1 11\n0.0.w\n1.0.w\n0.1.r\n1.1.r\n1.3.r\n0.2.w\n0.4.w\n1.2.w\n1.4.w\n0.5.r\n1.5.r\nend\n",
+        wrong: "strict 8\n0.0.w\n1.0.w\n0.1.r\n1.1.r\n0.4.w\n1.4.w\n0.5.r\n1.5.r\n\
+order 0 11\n0.0.w\n1.0.w\n0.1.r\n1.1.r\n1.2.w\n0.3.r\n0.2.w\n0.4.w\n1.4.w\n0.5.r\n1.5.r\n\
+order 1 11\n0.0.w\n1.0.w\n0.1.r\n1.1.r\n1.3.r\n0.2.w\n0.4.w\n1.2.w\n1.4.w\n0.5.r\n1.5.r\nend\n",
+    },
+    // Thread 0 does `x = 1; r = x;`, thread 1 `x = 2;`, all relaxed. The read gives 1 and is no entry; in the order of
+    // thread 0 it stands behind its write. Wrong: where it was issued, while the write was pending.
+    ByHand {
+        run: "upc-record 1\nthreads 2 budget 1000 actions 100\n\
+thread 0 items 6 ticks 0 ended 0\n\
+notify start -> done\nwait start -> done\n\
+write relaxed @1.0.0 1 -> done\nread relaxed @1.0.0 -> value 1\n\
+notify finish -> done\nwait finish -> done\n\
+thread 1 items 5 ticks 0 ended 0\n\
+notify start -> done\nwait start -> done\nwrite relaxed @1.0.0 2 -> done\n\
+notify finish -> done\nwait finish -> done\n\
+history 10\n0.0\n1.0\n0.1\n1.1\n1.2\n1.3\n0.2\n0.4\n0.5\n1.4\n",
+        orders: "strict 8\n0.0.w\n1.0.w\n0.1.r\n1.1.r\n1.3.w\n0.4.w\n0.5.r\n1.4.r\n\
+order 0 11\n0.0.w\n1.0.w\n0.1.r\n1.1.r\n1.2.w\n1.3.w\n0.2.w\n0.3.r\n0.4.w\n0.5.r\n1.4.r\n\
+order 1 10\n0.0.w\n1.0.w\n0.1.r\n1.1.r\n1.2.w\n1.3.w\n0.2.w\n0.4.w\n0.5.r\n1.4.r\nend\n",
+        wrong: "strict 8\n0.0.w\n1.0.w\n0.1.r\n1.1.r\n1.3.w\n0.4.w\n0.5.r\n1.4.r\n\
+order 0 11\n0.0.w\n1.0.w\n0.1.r\n1.1.r\n0.3.r\n1.2.w\n1.3.w\n0.2.w\n0.4.w\n0.5.r\n1.4.r\n\
+order 1 10\n0.0.w\n1.0.w\n0.1.r\n1.1.r\n1.2.w\n1.3.w\n0.2.w\n0.4.w\n0.5.r\n1.4.r\nend\n",
+    },
+];
+
+fn joined(alloc: Global, first: &str, second: &str) -> Result<Vec<u8>, AllocError> {
+    let mut text = Vec::new(alloc);
+    text.extend_from_slice(first.as_bytes())?;
+    text.extend_from_slice(second.as_bytes())?;
+    Ok(text)
+}
+
+/// Whether both are one entry.
+pub fn same_entry(a: &Entry, b: &Entry) -> bool
+    ensures { IsTrue result → a.now ≡ b.now }
+{
+    a.thread == b.thread
+        && a.index == b.index
+        && same_action(&a.action, &b.action)
+        && same_reply(&a.reply, &b.reply)
+}
+
+// Whether these are the thread's entries in the history, in order.
+fn are_entries_of(thread: u32, history: &[Entry], entries: &[Entry]) -> bool
+    ensures { IsTrue result → drains.entries_of thread history.now ≡ entries.now }
+{
+    let mut next = 0usize;
+    for entry in history {
+        if entry.thread == thread {
+            if next >= entries.len() || !same_entry(entry, &entries[next]) {
+                return false;
+            }
+            next += 1;
+        }
+    }
+    next == entries.len()
+}
+
+// Whether the history takes the thread's items as its write buffer drains.
+fn is_drained(
+    alloc: Global,
+    thread: u32,
+    items: &[Item],
+    history: &[Entry],
+) -> Result<bool, AllocError>
+    ensures agrees { IfOk result (λ is. IsTrue is → (drains.walked thread items.now).agrees ≡ true) }
+    ensures drains { IfOk result (λ is. IsTrue is
+        → drains.entries_of thread history.now ≡ drains.drain thread items.now) }
+{
+    if items.len() >= u32::MAX as usize {
+        return Ok(false);
+    }
+    match drain(alloc, thread, items)? {
+        Some(entries) => Ok(are_entries_of(thread, history, entries.as_slice())),
+        None => Ok(false),
+    }
+}
+
+fn are_below(threads: u32, history: &[Entry]) -> bool
+    ensures { IsTrue result → All (λ e. e.thread < threads) history.now }
+{
+    history.iter().all(|entry| entry.thread < threads)
+}
+
+/// Whether the history takes each thread's items so.
+pub fn follows_buffers(alloc: Global, journal: &Journal) -> Result<bool, AllocError>
+    ensures { IfOk result (λ follows. IsTrue follows → FollowsBuffers journal.now) }
+{
+    let strands = journal.strands.as_slice();
+    let history = journal.history.as_slice();
+    if strands.len() != journal.threads as usize || !are_below(journal.threads, history) {
+        return Ok(false);
+    }
+    for thread in 0..journal.threads {
+        let items = strands[thread as usize].items.as_slice();
+        if !is_drained(alloc, thread, items, history)? {
+            return Ok(false);
+        }
+    }
+    Ok(true)
+}
+
+fn same_order(a: &Order, b: &Order) -> bool {
+    a.as_slice() == b.as_slice()
+}
+
+/// Whether both are the same orders, thread by thread.
+pub fn same_orders(a: &[Order], b: &[Order]) -> bool {
+    a.len() == b.len() && a.iter().zip(b).all(|(one, other)| same_order(one, other))
+}
+
+// Whether the orders are those of the journal, as each call answers.
+fn are_orders_of(alloc: Global, journal: &Journal, given: &Orders) -> Result<bool, AllocError>
+    requires { FollowsBuffers journal.now }
+{
+    let found = orders(alloc, journal)?;
+    let mut threads = Vec::new(alloc);
+    for thread in 0..journal.threads {
+        threads.push(thread_order(alloc, journal, thread)?)?;
+    }
+    Ok(
+        same_order(&found.strict, &given.strict)
+            && same_orders(found.threads.as_slice(), given.threads.as_slice())
+            && same_order(&strict_order(alloc, journal)?, &given.strict)
+            && same_orders(threads.as_slice(), given.threads.as_slice()),
+    )
+}
+
+#[test]
+fn orders_by_hand(rt: HostRuntime) -> Result<(), Fail> {
+    let alloc = rt.alloc();
+    for (number, case) in RUNS.iter().enumerate() {
+        let text = joined(alloc, case.run, case.orders)?;
+        let (journal, given) = read_record(alloc, text.as_slice())?;
+        let follows = follows_buffers(alloc, &journal)?;
+        assert!(rt; follows, "{number}");
+        assert!(rt; are_orders_of(alloc, &journal, &given)?, "{number}");
+        assert!(rt;
+            is_consistent(alloc, &journal, &[], &[], &given)?,
+            "{number}"
+        );
+        let other = joined(alloc, case.run, case.wrong)?;
+        let (same, wrong) = read_record(alloc, other.as_slice())?;
+        assert!(rt; !is_consistent(alloc, &same, &[], &[], &wrong)?, "{number}");
+    }
+    Ok(())
+}
+
+// All operations in the order of the history: here each entry is one operation, and no read is forwarded.
+#[test]
+fn all_operations_by_hand(rt: HostRuntime) -> Result<(), Fail> {
+    let alloc = rt.alloc();
+    for case in [&RUNS[0], &RUNS[2]] {
+        let text = joined(alloc, case.run, case.orders)?;
+        let (journal, _) = read_record(alloc, text.as_slice())?;
+        let follows = follows_buffers(alloc, &journal)?;
+        assert!(rt; follows);
+        let order = global_order(alloc, &journal)?;
+        assert_eq!(rt; order.len(), journal.history.len());
+        for (operation, entry) in order.as_slice().iter().zip(journal.history.as_slice()) {
+            assert_eq!(rt;
+                (operation.thread, operation.index),
+                (entry.thread, entry.index)
+            );
+        }
+    }
+    Ok(())
+}
+
+// What the world answers, where that may be asked for.
+fn answer(
+    world: &mut World,
+    thread: u32,
+    index: u32,
+    action: &Action,
+) -> Result<Option<Reply>, AllocError> {
+    if thread >= world.threads() || !world.is_well_formed(action) {
+        return Ok(None);
+    }
+    match world.perform(thread, index, action)? {
+        Step::Done(reply) => Ok(Some(reply)),
+        Step::Disabled => Ok(None),
+    }
+}
+
+// Whether each entry has the reply that is lawful there, from two variables that begin with 0.
+fn is_legal(alloc: Global, history: &[Entry]) -> Result<bool, AllocError> {
+    let mut world = zeros(alloc)?;
+    for entry in history {
+        if answer(&mut world, entry.thread, entry.index, &entry.action)? != Some(entry.reply) {
+            return Ok(false);
+        }
+    }
+    Ok(true)
+}
+
+#[test]
+fn histories_by_hand_are_legal(rt: HostRuntime) -> Result<(), Fail> {
+    let alloc = rt.alloc();
+    for case in [&RUNS[2], &RUNS[3]] {
+        let text = joined(alloc, case.run, case.orders)?;
+        let (journal, _) = read_record(alloc, text.as_slice())?;
+        assert!(rt; is_legal(alloc, journal.history.as_slice())?);
+    }
+    Ok(())
+}
+
+// Whether both threads read 0, where each first writes its own variable and then reads the other's, all strict.
+fn both_read_0(alloc: Global, turns: &[u32]) -> Result<bool, AllocError> {
+    let mut world = zeros(alloc)?;
+    let mut both = true;
+    for (at, thread) in turns.iter().enumerate() {
+        let (own, other) = if *thread == 0 { (X, Y) } else { (Y, X) };
+        if turns[..at].contains(thread) {
+            let reply = answer(&mut world, *thread, 1, &read(other, true))?;
+            both = both && reply == Some(Reply::Value(Scalar::Int(0)));
+        } else {
+            answer(&mut world, *thread, 0, &write(own, 1, true))?;
+        }
+    }
+    Ok(both)
+}
+
+// In whatever order strict accesses stand, one of the reads gives 1.
+#[test]
+fn strict_accesses_have_one_order(rt: HostRuntime) -> Result<(), Fail> {
+    let orders: [[u32; 4]; 6] = [
+        [0, 0, 1, 1],
+        [0, 1, 0, 1],
+        [0, 1, 1, 0],
+        [1, 0, 0, 1],
+        [1, 0, 1, 0],
+        [1, 1, 0, 0],
+    ];
+    for turns in &orders {
+        assert!(rt; !both_read_0(rt.alloc(), turns)?);
+    }
+    Ok(())
+}
