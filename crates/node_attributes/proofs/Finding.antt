@@ -1,90 +1,74 @@
--- Members that are looked for, one behind the other.
-use Rattle.std.proofs.Common.{◌≡◌, ℕ, ◌+◌, ◌≤◌, nat_eq, nat_le, Bool, true, false, ◌&&◌, if◌then◌else◌, List, ◌∷◌}
-use Rattle.std.proofs.Common.{Option, Some, is_some, sym, ap, ◌∙◌, subst, arith, leb-true}
+-- Members that are looked for by their names.
+use Rattle.std.proofs.Common.{◌≡◌, ℕ, zero, suc, ◌+◌, nat_eq, Bool, true, false, ◌||◌, if◌then◌else◌, List, [], ◌∷◌}
+use Rattle.std.proofs.Common.{get_or, Option, Some, None, is_some, refl, sym, ap, ◌∙◌, arith}
 use Rattle.std.specs.Cmp.Lexicographic.{pointwise}
-use Rattle.std.proofs.lemmas.Bool.{and_parts, and_from, le-leb}
-use Rattle.upc_types.specs.declared.layout.Layout.{Layout}
-use Rattle.upc_types.specs.Types.{base_of, Member, Completed, Structs}
-use Rattle.upc_types.specs.Layout.{aligned, end_behind, widest, base_layout, base_complete, base_within, complete_in}
-use Rattle.upc_types.specs.Layout.{layout_in, most_bytes, members_within, all_complete, member_layouts}
-use Rattle.upc_types.specs.Layout.{struct_layout}
-use Rattle.upc_types.proofs.Members.{aligned_low, grow, widest_low}
+use Rattle.upc_types.specs.declared.layout.Known.{Known}
+use Rattle.upc_types.specs.Types.{CType, base_of, Member, Completed, Structs, members_in}
+use Rattle.upc_types.specs.Layout.{aligned, base_layout, layout_in, known_in, complete_in, member_layouts, offset_behind}
+use Rattle.upc_types.specs.Named.{one_more, first_named}
+use Rattle.upc_types.proofs.Places.{absent}
 use Rattle.typing_rules.specs.Attributes.{Found, find_member}
-use Rattle.node_attributes.proofs.Sized.{within_is, layout_is, some_is_true}
+use Rattle.typing_rules.specs.Rules.{has_name}
 
--- Members behind some bytes, which have sizes and end within an object.
-pub record MembersFrom (cs : List Completed) (end : ℕ) (ms : List Member) : Type 0 where
-  pub complete : all_complete (complete_in cs) ms ≡ true
-  pub near : end_behind end (member_layouts (layout_in cs) ms) ≤ most_bytes
+abbrev pub found_with : ℕ → ℕ → CType → Option Found
+found_with index offset ctype = Some record { index = index; offset = offset; ctype = ctype }
 
-pub from_start : (cs : List Completed) (ms : List Member) → is_some (members_within cs ms) ≡ true → MembersFrom cs 0 ms
-from_start cs ms h =
-    let ls = member_layouts (layout_in cs) ms in
-    let p = and_parts (all_complete (complete_in cs) ms) (nat_le (struct_layout ls).size most_bytes)
-    (sym (some_is_true (all_complete (complete_in cs) ms && nat_le (struct_layout ls).size most_bytes)
-    (struct_layout ls)) ∙ h) in
-    let w = widest_low ls 1 in
-    let a = aligned_low (end_behind 0 ls) (widest 1 ls) (omega arith) in
-    let b = leb-true (struct_layout ls).size most_bytes p.1 in
-    record { complete = p.0; near = omega (arith, a, b) }
+-- The member with this number, where the first of these stands behind some bytes and has that number.
+abbrev pub found_at : Structs → ℕ → ℕ → List Member → Member → Option ℕ → Option Found
+found_at structs index end ms d None = None
+found_at structs index end ms d (Some i) =
+    found_with (index + i) (offset_behind end (member_layouts (layout_in structs.completed) ms) i) (get_or ms i d).ctype
 
--- They begin within an object.
-pub from_near : (cs : List Completed) (end : ℕ) (ms : List Member) → MembersFrom cs end ms → end ≤ most_bytes
-from_near cs end ms h = let g = grow cs end ms in omega (arith, g, h.near)
+find_one : (structs : Structs) (index end : ℕ) (m : Member) (ms : List Member) (d : Member) (b : Bool) (o : Option ℕ)
+    (r : Option Found) →
+    let l = base_layout (layout_in structs.completed) (base_of m.ctype) in
+    r ≡ found_at structs (index + 1) (aligned end l.align + l.size) ms d o →
+    (if b then found_with index (aligned end l.align) m.ctype else r)
+    ≡ found_at structs index end (m ∷ ms) d (if b then Some zero else one_more o)
+find_one structs index end m ms d true o r h =
+    let l = base_layout (layout_in structs.completed) (base_of m.ctype) in
+    let e : index ≡ index + zero = omega arith in
+    ap (λ n. found_with n (aligned end l.align) m.ctype) e
+find_one structs index end m ms d false None r h = h
+find_one structs index end m ms d false (Some i) r h =
+    let l = base_layout (layout_in structs.completed) (base_of m.ctype) in
+    let ls = member_layouts (layout_in structs.completed) ms in
+    let e : index + 1 + i ≡ index + suc i = omega arith in
+    h ∙ ap (λ n. found_with n (offset_behind (aligned end l.align + l.size) ls i) (get_or ms i d).ctype) e
 
-abbrev layout_at : List Completed → Member → Layout
-layout_at cs m = base_layout (layout_in cs) (base_of m.ctype)
+-- The first member of a name, with the bytes before it.
+pub find_is : (structs : Structs) (index end : ℕ) (ms : List Member) (d : Member) (name : List ℕ) →
+    find_member structs index end ms name ≡ found_at structs index end ms d (first_named ms name)
+find_is structs index end [] d name = refl
+find_is structs index end (m ∷ ms) d name =
+    let l = base_layout (layout_in structs.completed) (base_of m.ctype) in
+    find_one structs index end m ms d (pointwise nat_eq m.name name) (first_named ms name)
+    (find_member structs (index + 1) (aligned end l.align + l.size) ms name)
+    (find_is structs (index + 1) (aligned end l.align + l.size) ms d name)
 
--- The first of them has a size.
-pub from_head : (cs : List Completed) (end : ℕ) (m : Member) (ms : List Member) → MembersFrom cs end (m ∷ ms) →
-    is_some (base_within cs (base_of m.ctype)) ≡ true
-from_head cs end m ms h =
-    let l = layout_at cs m in
-    let p = and_parts (base_complete (complete_in cs) (base_of m.ctype))
-    (all_complete (complete_in cs) ms) h.complete in
-    let g = grow cs (aligned end l.align + l.size) ms in
-    let n : l.size ≤ most_bytes = omega (arith, g, h.near) in
-    within_is cs (base_of m.ctype) ∙ and_from (base_complete (complete_in cs) (base_of m.ctype))
-    (nat_le l.size most_bytes) p.0 (le-leb l.size most_bytes n)
+more_some : (o : Option ℕ) → is_some (one_more o) ≡ is_some o
+more_some None = refl
+more_some (Some i) = refl
 
--- The others stand behind it.
-pub from_tail : (cs : List Completed) (end : ℕ) (m : Member) (ms : List Member) (p : Layout) →
-    base_within cs (base_of m.ctype) ≡ Some p → MembersFrom cs end (m ∷ ms) →
-    MembersFrom cs (aligned end p.align + p.size) ms
-from_tail cs end m ms p e h =
-    let q = and_parts (base_complete (complete_in cs) (base_of m.ctype))
-    (all_complete (complete_in cs) ms) h.complete in
-    record {
-      complete = q.1;
-      near = subst
-          (λ (l : Layout). end_behind (aligned end l.align + l.size)
-          (member_layouts (layout_in cs) ms) ≤ most_bytes) (layout_is cs (base_of m.ctype) p e) h.near;
-    }
+has_one : (b : Bool) (o : Option ℕ) (r : Bool) → is_some o ≡ r → is_some (if b then Some zero else one_more o) ≡ (b || r)
+has_one true o r h = refl
+has_one false o r h = more_some o ∙ h
 
-abbrev found_if : Bool → Option Found → Option Found → Option Found
-found_if b here later = if b then here else later
+-- Whether one has a name.
+pub has_is : (ms : List Member) (name : List ℕ) → is_some (first_named ms name) ≡ has_name ms name
+has_is [] name = refl
+has_is (m ∷ ms) name = has_one (pointwise nat_eq m.name name) (first_named ms name) (has_name ms name) (has_is ms name)
 
-abbrev found_at : ℕ → ℕ → Layout → Member → Option Found
-found_at index end l m = Some record { index = index; offset = aligned end l.align; ctype = m.ctype }
+none_named : (ms : List Member) (name : List ℕ) (i : ℕ) → ms ≡ [] → first_named ms name ≡ Some i → ⊥
+none_named [] name i e h = absurd cc
+none_named (m ∷ ms) name i e h = absurd cc
 
--- The first of them is the one.
-pub found_here : (structs : Structs) (index end : ℕ) (m : Member) (ms : List Member) (name : List ℕ)
-    (p : Layout) → base_within structs.completed (base_of m.ctype) ≡ Some p → pointwise nat_eq m.name name ≡ true →
-    find_member structs index end (m ∷ ms) name
-    ≡ Some record { index = index; offset = aligned end p.align; ctype = m.ctype }
-found_here structs index end m ms name p e h =
-    let l = layout_at structs.completed m in
-    ap (λ b. found_if b (found_at index end l m)
-    (find_member structs (index + 1) (aligned end l.align + l.size) ms name)) h
-    ∙ ap (λ l. found_at index end l m) (layout_is structs.completed (base_of m.ctype) p e)
+complete_one : (cs : List Completed) (n : ℕ) (name : List ℕ) (i : ℕ) (o : Option Known) → known_in cs n ≡ o →
+    first_named (members_in cs n) name ≡ Some i → is_some o ≡ true
+complete_one cs n name i None e h = absurd (none_named (members_in cs n) name i (absent cs n e) h)
+complete_one cs n name i (Some k) e h = refl
 
--- It is another one.
-pub found_later : (structs : Structs) (index end : ℕ) (m : Member) (ms : List Member) (name : List ℕ)
-    (p : Layout) → base_within structs.completed (base_of m.ctype) ≡ Some p → pointwise nat_eq m.name name ≡ false →
-    find_member structs index end (m ∷ ms) name ≡ find_member structs (index + 1) (aligned end p.align + p.size) ms name
-found_later structs index end m ms name p e h =
-    let l = layout_at structs.completed m in
-    ap (λ b. found_if b (found_at index end l m)
-    (find_member structs (index + 1) (aligned end l.align + l.size) ms name)) h
-    ∙ ap (λ (l : Layout). find_member structs (index + 1) (aligned end l.align + l.size) ms name)
-    (layout_is structs.completed (base_of m.ctype) p e)
+-- A struct with a member is complete.
+pub complete_with : (cs : List Completed) (n : ℕ) (name : List ℕ) (i : ℕ) →
+    first_named (members_in cs n) name ≡ Some i → complete_in cs n ≡ true
+complete_with cs n name i h = complete_one cs n name i (known_in cs n) refl h

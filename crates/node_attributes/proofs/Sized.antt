@@ -1,19 +1,13 @@
--- Types that have a size, and structs whose members have one.
+-- Types that have a size.
 use Rattle.std.proofs.Common.{◌≡◌, ℕ, ◌*◌, ◌/◌, ◌<◌, ◌≤◌, nat_lt, nat_le, Bool, true, false, ◌&&◌, if◌then◌else◌}
-use Rattle.std.proofs.Common.{List, [], Option, Some, None, is_some, refl, sym, ap, ◌∙◌, subst, arith, ltb-true}
+use Rattle.std.proofs.Common.{List, Option, Some, None, is_some, refl, sym, ap, ◌∙◌, subst, arith, ltb-true}
 use Rattle.std.proofs.Common.{leb-true}
 use Rattle.std.proofs.lemmas.Bool.{and_parts, and_from, le-leb}
 use Rattle.std.proofs.Math.Nat.{mul-div_cancel}
-use Rattle.std.specs.Option.{ForSome}
 use Rattle.upc_types.specs.declared.layout.Layout.{Layout}
-use Rattle.upc_types.specs.declared.layout.Known.{Known}
 use Rattle.upc_types.specs.Types.{CType, Qualified, Base, Void, Integer, Struct, Array, Pointer, LockObject}
-use Rattle.upc_types.specs.Types.{Completed, Member, members_in}
+use Rattle.upc_types.specs.Types.{Completed}
 use Rattle.upc_types.specs.Layout.{base_layout, base_complete, base_within, complete_in, layout_in, most_bytes}
-use Rattle.upc_types.specs.Layout.{known_in, members_within, all_complete, member_layouts, struct_layout}
-use Rattle.upc_types.specs.Kept.{IsFine, is_ordered}
-use Rattle.upc_types.proofs.Order.{struct_is, complete_before, complete_since, all_kept}
-use Rattle.upc_types.proofs.Places.{absent}
 use Rattle.upc_types.specs.Cells.{leaf_base, leaves}
 use Rattle.upc_types.proofs.Within.{leaf_sizes}
 
@@ -74,27 +68,3 @@ leaves_are cs b whole part h k some =
 pub none_some : {A : Type 0} (o : Option A) → is_some o ≡ true → o ≡ None → ⊥
 none_some None h e = absurd cc
 none_some (Some x) h e = absurd cc
-
--- ---- the members of a struct
-
-abbrev members_fit_in : List Completed → List Member → Bool
-members_fit_in cs ms =
-    all_complete (complete_in cs) ms && nat_le (struct_layout (member_layouts (layout_in cs) ms)).size most_bytes
-
-members_fit_one : (targets : List CType) (cs : List Completed) (n : ℕ) (o : Option Known) → known_in cs n ≡ o →
-    is_ordered cs ≡ true → ForSome o (λ k. IsFine k.layout) → members_fit_in cs (members_in cs n) ≡ true
-members_fit_one targets cs n None e o f = rw (absent cs n e) refl
-members_fit_one targets cs n (Some k) e o f =
-    let s = struct_is targets cs n k o e in
-    and_from (all_complete (complete_in cs) (members_in cs n))
-    (nat_le (struct_layout (member_layouts (layout_in cs) (members_in cs n))).size most_bytes)
-    (all_kept (complete_before cs k.place) (complete_in cs) (complete_since cs k.place) (members_in cs n) s.before)
-    (le-leb _ most_bytes (subst (λ (l : Layout). l.size ≤ most_bytes) s.layout (f k refl).few))
-
--- The members of a struct have sizes, and so has the struct.
-pub members_fit : (cs : List Completed) (n : ℕ) → is_ordered cs ≡ true →
-    ForSome (known_in cs n) (λ k. IsFine k.layout) → is_some (members_within cs (members_in cs n)) ≡ true
-members_fit cs n o f =
-    some_is_true (members_fit_in cs (members_in cs n))
-    (struct_layout (member_layouts (layout_in cs) (members_in cs n)))
-    ∙ members_fit_one [] cs n (known_in cs n) refl o f

@@ -1,7 +1,7 @@
 //! Members by their names.
 
-ghost use Rattle.std.specs.Prelude.{◌≡◌, ℕ, map};
-ghost use Rattle.upc_types.specs.View.{view, view_member};
+ghost use Rattle.std.specs.Prelude.{◌≡◌, ℕ};
+ghost use Rattle.upc_types.specs.View.{view};
 ghost use Rattle.upc_types.specs.ViewStructs.{view_structs};
 ghost use Rattle.typing_rules.specs.Views.{view_target};
 ghost use Rattle.typing_rules.specs.Nodes as n;
@@ -11,24 +11,13 @@ ghost use Rattle.typing_rules.specs.Rules.{lowest};
 
 use typing_rules::Attr;
 use typing_rules::types::{gives_void, target_of};
-use upc_types::{Base, CType, Member, Structs};
-
-fn has_name(members: &[Member], name: &[u8]) -> bool
-    ensures { result ≡ r.has_name (map view_member members.now) name.now }
-{
-    for x in members {
-        if x.name.as_slice() == name {
-            return true;
-        }
-    }
-    false
-}
+use upc_types::{Base, CType, Structs};
 
 fn names_member(structs: &Structs, t: &CType, name: &[u8]) -> bool
     ensures { result ≡ r.names_member (view_structs structs.now) (view t.now) name.now }
 {
     match &t.base {
-        Base::Struct(number) => has_name(structs.members(*number), name),
+        Base::Struct(number) => structs.member_named(*number, name).is_some(),
         _ => false,
     }
 }

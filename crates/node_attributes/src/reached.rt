@@ -1,9 +1,8 @@
 //! What the members of structs are (C99 6.5.2.3, UPC 6.4.4).
 
-ghost use Rattle.std.specs.Prelude.{◌≡◌, ℕ, ◌+◌, ◌<◌, ◌≤◌, ◌||◌, true, is_some, IfOk, map};
-ghost use Rattle.upc_types.specs.Layout as layouts;
+ghost use Rattle.std.specs.Prelude.{◌≡◌, ℕ, ◌||◌, IfOk};
 ghost use Rattle.upc_types.specs.Types as types;
-ghost use Rattle.upc_types.specs.View.{view, view_base, view_member};
+ghost use Rattle.upc_types.specs.View.{view, view_base};
 ghost use Rattle.upc_types.specs.ViewStructs.{view_structs};
 ghost use Rattle.typing_rules.specs.Views.{view_target};
 ghost use Rattle.node_attributes.specs.ViewFound.{view_found};
@@ -20,7 +19,7 @@ use std::alloc::Global;
 use typing_rules::types::target_of;
 use typing_rules::{Attr, Constant, Form};
 use upc_text::OutOfMemory;
-use upc_types::{Access, Base, CType, Member, Structs, copy_base};
+use upc_types::{Base, CType, Structs, copy_base};
 
 /// A member with its number and the bytes before it.
 #[derive(Clone, Copy)]
@@ -37,50 +36,23 @@ pub struct MemberNode {
     pub index: u32,
 }
 
-// The least multiple of the alignment that is at least n.
-fn aligned(n: u32, align: u32) -> u32
-    requires some { 0 < align }
-    requires few { align ≤ 16 }
-    requires near { n ≤ 16777216 }
-    ensures value { result ≡ layouts.aligned n align }
-    ensures low { n ≤ result }
-    ensures high { result < n + align }
-{
-    (n + (align - 1)) / align * align
-}
-
-fn find_among<'s>(structs: &Structs, members: &'s [Member], name: &[u8]) -> Option<Found<'s>>
-    requires { is_some (layouts.members_within (view_structs structs.now).completed
-        (map view_member members.now)) ≡ true }
-    ensures { view_found result
-        ≡ pure.find_member (view_structs structs.now) 0 0 (map view_member members.now) name.now }
-{
-    let mut end: u32 = 0;
-    let mut index: u32 = 0;
-    for x in members {
-        let Some(layout) = structs.layout_of(&x.ctype.base) else {
-            unreachable!()
-        };
-        let offset = aligned(end, layout.align);
-        if x.name.as_slice() == name {
-            return Some(Found {
-                index,
-                offset,
-                ctype: &x.ctype,
-            });
-        }
-        end = offset + layout.size;
-        index += 1;
-    }
-    None
-}
-
 fn find_in<'s>(structs: &'s Structs, number: u32, name: &[u8]) -> Option<Found<'s>>
     ensures { view_found result
         ≡ pure.find_member (view_structs structs.now) 0 0
         (types.members_of (view_structs structs.now) number) name.now }
 {
-    find_among(structs, structs.members(number), name)
+    match structs.member_named(number, name) {
+        Some(index) => {
+            let offset = structs.member_offset(number, index);
+            let members = structs.members(number);
+            Some(Found {
+                index,
+                offset,
+                ctype: &members[index as usize].ctype,
+            })
+        }
+        None => None,
+    }
 }
 
 // A member of a struct of this type, by its name.

@@ -19,6 +19,7 @@ ghost use Rattle.walk_state.specs.Walk.{andthen, give, judge};
 
 use crate::parts::{Headed, Labelled};
 use rule_checks::statements as rules;
+use rule_checks::switch::switch;
 use std::alloc::Global;
 use tree_builders::build_statements as build;
 use tree_builders::lists::tests;
@@ -56,10 +57,8 @@ pub fn finish_switch(
         result }
 {
     let labels = labelled.labels.as_slice();
-    judged(
-        rule_checks::switch::switch(&a.attr, labels, labelled.defaults),
-        at,
-    )?;
+    let rule = switch(alloc, &a.attr, labels, labelled.defaults)?;
+    judged(rule, at)?;
     let x = build::switch(alloc, at, a, labelled.items)?;
     Ok(x)
 }

@@ -45,7 +45,7 @@ kind_is Lock Lock h = refl
 kind_is (Private n) (Private m) h = ap Private (eqb-true n m h)
 kind_is k l h = absurd cc
 
-inner_is : (a b : Base) (c d : Bool) (s t : Option ℕ) (x y : Access) → (same_qualifiers c s x d t y && same_base a b) ≡ true → (same_base a b ≡ true → a ≡ b) → Qualified a c s x ≡ Qualified b d t y
+pub inner_is : (a b : Base) (c d : Bool) (s t : Option ℕ) (x y : Access) → (same_qualifiers c s x d t y && same_base a b) ≡ true → (same_base a b ≡ true → a ≡ b) → Qualified a c s x ≡ Qualified b d t y
 inner_is a b c d s t x y h f =
     let q = and_parts (same_qualifiers c s x d t y) (same_base a b) h in
     let r = and_parts (same_bool c d) (same_block s t && same_access x y) q.0 in
@@ -56,7 +56,7 @@ inner_is a b c d s t x y h f =
     let j = access_is x y v.1 in
     cc
 
-base_is : (a b : Base) → same_base a b ≡ true → a ≡ b
+pub base_is : (a b : Base) → same_base a b ≡ true → a ≡ b
 base_is Void Void h = refl
 base_is (Integer k) (Integer l) h = ap Integer (kind_is k l h)
 base_is (Struct m) (Struct n) h = ap Struct (eqb-true m n h)
@@ -70,7 +70,7 @@ base_is LockObject LockObject h = refl
 base_is a b h = absurd cc
 
 -- Targets that are alike have one base and one block.
-parts : (t u : CType) → alike t u ≡ true → (base_of t ≡ base_of u) × (block_of t ≡ block_of u)
+pub parts : (t u : CType) → alike t u ≡ true → (base_of t ≡ base_of u) × (block_of t ≡ block_of u)
 parts (Qualified a c s x) (Qualified b d t y) h = let p = and_parts (same_block s t) (same_base a b) h in (base_is a b p.1, block_is s t p.0)
 
 alike_from : (t u : CType) → base_of t ≡ base_of u → block_of t ≡ block_of u → alike t u ≡ true
@@ -82,7 +82,8 @@ alike_same (Qualified e g r z) (Qualified a c s x) (Qualified b d t y) h =
     let p = parts (Qualified a c s x) (Qualified b d t y) h in
     ap (λ n. same_block r n && same_base e a) p.1 ∙ ap (λ m. same_block r t && same_base e m) p.0
 
-number_same : (targets : List CType) (t u : CType) → alike t u ≡ true → number_of targets t ≡ number_of targets u
+-- Targets that are alike have one number.
+pub number_same : (targets : List CType) (t u : CType) → alike t u ≡ true → number_of targets t ≡ number_of targets u
 number_same [] t u h = refl
 number_same (v ∷ targets) t u h = rw (alike_same v t u h, number_same targets t u h) refl
 

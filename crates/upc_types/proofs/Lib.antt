@@ -8,4 +8,8 @@ pub mod Order
 pub mod Within
 pub mod Ranks
 pub mod Steps
-pub mod Offsets
+pub mod PlacesOfNumbers
+pub mod Coded
+pub mod Naming
+pub mod Fitting
+pub mod Making

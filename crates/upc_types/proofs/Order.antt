@@ -101,7 +101,7 @@ members_same targets cs older a (m ∷ ms) h end =
     let p = and_parts (base_complete (complete_in older) (base_of m.ctype)) (all_complete (complete_in older) ms) h in
     rw (layout_same targets cs older a (base_of m.ctype) p.0, object_same targets cs older a (base_of m.ctype) p.0, members_same targets cs older a ms p.1) refl
 
-layouts_same : (targets : List CType) (cs older : List Completed) → Agrees targets cs older → (ms : List Member) → all_complete (complete_in older) ms ≡ true →
+pub layouts_same : (targets : List CType) (cs older : List Completed) → Agrees targets cs older → (ms : List Member) → all_complete (complete_in older) ms ≡ true →
     member_layouts (layout_in cs) ms ≡ member_layouts (layout_in older) ms
 layouts_same targets cs older a [] h = refl
 layouts_same targets cs older a (m ∷ ms) h =
@@ -134,7 +134,7 @@ struct_one : (targets : List CType) (older : List Completed) (b : Bool) (ms ns :
 struct_one targets older true ms ns xs ys j k o e h f = let q : j ≡ k = cc in subst (λ (i : Known). IsStruct targets older ms xs i) q h
 struct_one targets older false ms ns xs ys j k o e h f = f k e
 
-none_one : (o : Option Known) → is_some o ≡ false → o ≡ None
+pub none_one : (o : Option Known) → is_some o ≡ false → o ≡ None
 none_one None h = refl
 none_one (Some k) h = absurd cc
 

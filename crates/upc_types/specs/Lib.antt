@@ -9,3 +9,9 @@ pub mod Conversions
 pub mod View
 pub mod ViewStructs
 pub mod KeptCells
+pub mod TypeCodes
+pub mod Places
+pub mod Targets
+pub mod Named
+pub mod Starts
+pub mod Made

@@ -8,5 +8,5 @@ abbrev pub view_structs : s.Structs → t.Structs
 view_structs x = record {
   declared = x.declared;
   completed = reverse (map view_completed x.completed.items);
-  targets = map view x.targets.items;
+  targets = map view x.targets.list.items;
 }

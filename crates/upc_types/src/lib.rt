@@ -2,10 +2,13 @@
 #![tactic(auto)]
 
 mod arithmetic;
+mod codes;
 mod conversion;
 mod copy;
 mod ctype;
 mod layout;
+mod member_names;
+mod number_places;
 mod same;
 mod shape;
 mod size;

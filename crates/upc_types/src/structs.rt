@@ -3,16 +3,18 @@
 ghost use Rattle.std.specs.Prelude.{◌≡◌, ℕ, ◌<◌, ◌≤◌, None, OnOk, get_or, map, reverse, vec_len};
 ghost use Rattle.upc_types.specs.View.{view_completed};
 ghost use Rattle.upc_types.specs.Kept.{IsKept};
+ghost use Rattle.upc_types.specs.Made.{AreMade};
 
-use crate::copy::copy_type;
 use crate::ctype::{Base, CType};
 use crate::layout::{
     Known, Layout, MOST_BYTES, aligned, finished, many, pointer_size, scalar, wider,
 };
+use crate::member_names::first_members;
 use crate::shape::leaf_of;
-use crate::targets::number_among;
+use crate::targets::Targets;
 use block_layout::Kind;
 use std::alloc::Global;
+use std::collections::BTreeMap;
 use upc_text::{OutOfMemory, Text};
 
 /// A member of a struct.
@@ -29,6 +31,19 @@ pub struct Completed {
     pub members: Vec<Member>,
     /// How many structs lie in one another in it: 0 where it holds none, 4,294,967,295 where there are more.
     pub depth: u32,
+    // Where each member begins.
+    starts: Vec<u32>,
+    // Where the members end.
+    end: u32,
+    // The first member of each name.
+    names: BTreeMap<Vec<u8>, u32>,
+}
+
+// Where the members of a struct begin, and where they end.
+#[derive(Drop)]
+struct Spots {
+    starts: Vec<u32>,
+    end: u32,
 }
 
 /// What the numbers in types and in kinds stand for: structs, and targets of pointers.
@@ -37,9 +52,9 @@ pub struct Structs {
     declared: u32,
     known: Vec<Option<Known>>,
     completed: Vec<Completed>,
-    targets: Vec<CType>,
+    targets: Targets,
     ghost kept: { IsKept (reverse (map view_completed completed.items)) known.items },
-    ghost numbered: { vec_len targets ≤ 4294967295 },
+    ghost made: { AreMade (reverse completed.items) },
 }
 
 // Makes room for what is known of the struct with this number.
@@ -53,14 +68,28 @@ fn make_room(known: &mut Vec<Option<Known>>, number: u32) -> Result<(), OutOfMem
     Ok(())
 }
 
+// Where a member begins, and where the members end if there is no such one.
+fn start_or(starts: &[u32], end: u32, member: u32) -> u32
+    ensures { result ≡ get_or starts.now member end }
+{
+    match starts.get(member as usize) {
+        Some(start) => *start,
+        None => end,
+    }
+}
+
 impl Structs {
     ghost use Rattle.std.specs.Prelude.{◌≡◌, ◌<◌, ◌∷◌, ◌+◌, [], true, IfOk, OnOk, OnErr, IfSome, Some, None, length};
-    ghost use Rattle.std.specs.Prelude.{map};
+    ghost use Rattle.std.specs.Prelude.{map, is_some};
     ghost use Rattle.upc_types.specs.Cells.{IsItsOwn, number_of, pointer_kind, with_target};
     ghost use Rattle.upc_types.specs.Layout.{base_within, members_within, known_in, base_complete, base_layout};
     ghost use Rattle.upc_types.specs.Layout.{complete_in, layout_in, most_bytes, is_private_target};
     ghost use Rattle.upc_types.specs.Layout.{base_holds_private, members_hold_private, private_in, member_offset};
     ghost use Rattle.upc_types.specs.Kept.{IsFine};
+    ghost use Rattle.upc_types.specs.Layout.{end_behind, member_layouts};
+    ghost use Rattle.upc_types.specs.Made.{IsMade};
+    ghost use Rattle.upc_types.specs.Named.{first_named};
+    ghost use Rattle.upc_types.specs.Starts.{starts_behind};
     ghost use Rattle.upc_types.specs.Types as pure;
     ghost use Rattle.upc_types.specs.Types.{with_members, members_of};
     ghost use Rattle.upc_types.specs.View.{view, view_base, view_member};
@@ -74,7 +103,7 @@ impl Structs {
             declared: 0,
             known: Vec::new(alloc),
             completed: Vec::new(alloc),
-            targets: Vec::new(alloc),
+            targets: Targets::new(alloc),
         }
     }
 
@@ -254,9 +283,13 @@ impl Structs {
     }
 
     // A struct that is complete.
-    fn completed_by(&self, number: u32) -> Option<&Completed> {
+    fn completed_by(&self, number: u32) -> Option<&Completed>
+        ensures known { is_some result ≡ complete_in (view_structs self.now).completed number }
+        ensures made { IfSome result (λ x. IsMade (view_structs self.now).completed x.now
+            (members_of (view_structs self.now) number)) }
+    {
         match self.known_of(number) {
-            Some(known) => self.completed.get(known.place),
+            Some(known) => Some(&self.completed[known.place]),
             None => None,
         }
     }
@@ -272,6 +305,51 @@ impl Structs {
             }
         }
         false
+    }
+
+    // Where members begin and end in their struct.
+    fn spots_of(&self, alloc: Global, members: &[Member]) -> Result<Spots, OutOfMemory>
+        requires fit { is_some (members_within (view_structs self.now).completed
+            (map view_member members.now)) ≡ true }
+        ensures starts { IfOk result (λ x. x.starts.items
+            ≡ starts_behind 0 (member_layouts (layout_in (view_structs self.now).completed)
+            (map view_member members.now))) }
+        ensures end { IfOk result (λ x. x.end
+            ≡ end_behind 0 (member_layouts (layout_in (view_structs self.now).completed)
+            (map view_member members.now))) }
+    {
+        let mut starts = Vec::new(alloc);
+        let mut end = 0;
+        for member in members {
+            let layout = self.whole_layout(&member.ctype.base);
+            let start = aligned(end, layout.align);
+            starts.push(start)?;
+            end = start + layout.size;
+        }
+        Ok(Spots { starts, end })
+    }
+
+    // A struct with what is kept of it.
+    fn made(&self, number: u32, members: Vec<Member>) -> Result<Completed, OutOfMemory>
+        requires fit { is_some (members_within (view_structs self.now).completed
+            (map view_member members.items)) ≡ true }
+        ensures number { IfOk result (λ x. x.number ≡ number) }
+        ensures members { IfOk result (λ x. map view_member x.members.items ≡ map view_member members.items) }
+        ensures made { IfOk result (λ x. IsMade (view_structs self.now).completed x
+            (map view_member members.items)) }
+    {
+        let alloc = *members.allocator();
+        let depth = self.depth_among(members.as_slice());
+        let spots = self.spots_of(alloc, members.as_slice())?;
+        let names = first_members(alloc, members.as_slice())?;
+        Ok(Completed {
+            number,
+            members,
+            depth,
+            starts: spots.starts,
+            end: spots.end,
+            names,
+        })
     }
 
     /// Completes a struct. After want of memory nothing is changed.
@@ -290,15 +368,11 @@ impl Structs {
         ensures err { OnErr result (view_structs self.new ≡ view_structs self.old) }
     {
         let holds_private = self.members_hold_private(members.as_slice());
-        let depth = self.depth_among(members.as_slice());
+        let completed = self.made(number, members)?;
         self.completed.reserve(1)?;
         make_room(&mut self.known, number)?;
         let place = self.completed.len();
-        self.completed.push(Completed {
-            number,
-            members,
-            depth,
-        })?;
+        self.completed.push(completed)?;
         self.known[number as usize] = Some(Known {
             place,
             layout,
@@ -324,19 +398,20 @@ impl Structs {
         ensures value { result ≡ member_offset (view_structs self.now) number member }
         ensures few { result ≤ most_bytes }
     {
-        let members = self.members(number);
-        let mut end = 0;
-        let mut left = member;
-        for part in members {
-            let layout = self.whole_layout(&part.ctype.base);
-            let start = aligned(end, layout.align);
-            if left == 0 {
-                return start;
-            }
-            end = start + layout.size;
-            left -= 1;
+        match self.completed_by(number) {
+            Some(completed) => start_or(completed.starts.as_slice(), completed.end, member),
+            None => unreachable!(),
         }
-        end
+    }
+
+    /// The number of the first member of a struct with this name, from 0, None where it has none. Takes no memory.
+    pub fn member_named(&self, number: u32, name: &[u8]) -> Option<u32>
+        ensures { result ≡ first_named (members_of (view_structs self.now) number) name.now }
+    {
+        match self.completed_by(number) {
+            Some(completed) => completed.names.get(name).copied(),
+            None => None,
+        }
     }
 
     /// Whether a type is complete (C99 6.2.5). Takes no memory.
@@ -358,7 +433,7 @@ impl Structs {
         ensures most { result ≤ length (view_structs self.now).targets }
         ensures own { IsItsOwn (view_structs self.now).targets (view target.now) result }
     {
-        number_among(self.targets.as_slice(), target)
+        self.targets.number_of(target)
     }
 
     /// Gives the type of a pointer to this target a number where it has none; answers the number. After want of memory
@@ -369,16 +444,7 @@ impl Structs {
         ensures ok { OnOk result (view_structs self.new ≡ with_target (view_structs self.old) (view target.now)) }
         ensures err { OnErr result (view_structs self.new ≡ view_structs self.old) }
     {
-        let number = self.number_of(target);
-        let count = self.targets.len();
-        if number as usize == count {
-            if count == u32::MAX as usize {
-                return Err(OutOfMemory);
-            }
-            let copy = copy_type(*self.targets.allocator(), target)?;
-            self.targets.push(copy)?;
-        }
-        Ok(number)
+        self.targets.note(target)
     }
 
     /// No target of pointers has a number any longer.

@@ -3,5 +3,5 @@ pub mod Steps
 pub mod Turns
 pub mod Closing
 pub mod OwnTags
-pub mod PlacesOfNames
 pub mod Numbers
+pub mod SameTypes

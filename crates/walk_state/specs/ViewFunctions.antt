@@ -1,6 +1,6 @@
 -- What contracts see of functions that were declared.
-use Rattle.std.specs.Prelude.{ℕ, List, map}
-use Rattle.typed_tree.specs.Scopes.{KnownFunction}
+use Rattle.std.specs.Prelude.{◌≡◌, ℕ, ◌<◌, not, List, length, map, reverse, take, get_or}
+use Rattle.typed_tree.specs.Scopes.{KnownFunction, differs, was_defined}
 use Rattle.typing_rules.specs.Views.{view_signature}
 use Rattle.walk_state.specs.declared.functions.KnownFunction as f
 
@@ -9,3 +9,13 @@ view_function x = record { name = x.name; signature = view_signature x.signature
 
 abbrev pub names_of : List f.KnownFunction → List ℕ
 names_of xs = map (λ (x : KnownFunction). x.name) (map view_function xs)
+
+-- What is kept with a function of those declared before it.
+abbrev pub IsNoted : List KnownFunction → f.KnownFunction → Type 0
+IsNoted older x =
+    (x.agrees ≡ not (differs x.name (view_signature x.signature) older)) × (x.defined_before ≡ was_defined x.name older)
+
+abbrev pub AreNoted : List f.KnownFunction → Type 0
+AreNoted xs =
+    (place : ℕ) (d : f.KnownFunction) → place < length xs →
+    IsNoted (reverse (take place (map view_function xs))) (get_or xs place d)

@@ -1,7 +1,7 @@
 //! The functions that were declared, found by their names.
 
 ghost use Rattle.std.specs.Prelude.{◌≡◌};
-ghost use Rattle.walk_state.specs.ViewFunctions.{names_of};
+ghost use Rattle.walk_state.specs.ViewFunctions.{names_of, AreNoted};
 
 use crate::places_of_names::{Places, last_place, no_places, note_place, place_before};
 use crate::signatures::same_signature;
@@ -15,6 +15,10 @@ pub struct KnownFunction {
     pub name: u32,
     pub signature: Signature,
     pub is_defined: bool,
+    // Whether all declared before it under its name have the same types.
+    agrees: bool,
+    // Whether one of them was defined.
+    defined_before: bool,
 }
 
 /// The functions in the order of their declarations, with the places of their names.
@@ -23,6 +27,7 @@ pub struct Functions {
     list: Vec<KnownFunction>,
     places: Places,
     ghost named: { places.names.items ≡ names_of list.items },
+    ghost noted: { AreNoted list.items },
 }
 
 impl Functions {
@@ -56,12 +61,16 @@ impl Functions {
         } ∷ view_functions self.old) }
         ensures err { OnErr result (view_functions self.new ≡ view_functions self.old) }
     {
+        let agrees = !self.differs(name, &signature);
+        let defined_before = self.was_defined(name);
         self.list.reserve(1)?;
         note_place(&mut self.places, name)?;
         let function = KnownFunction {
             name,
             signature,
             is_defined,
+            agrees,
+            defined_before,
         };
         self.list.push(function).unwrap();
         Ok(())
@@ -74,8 +83,12 @@ impl Functions {
     {
         let mut at = last_place(&self.places, name);
         while let Some(place) = at {
-            if !same_signature(&self.list[place].signature, signature) {
+            let known = &self.list[place];
+            if !same_signature(&known.signature, signature) {
                 return true;
+            }
+            if known.agrees {
+                return false;
             }
             at = place_before(&self.places, place);
         }
@@ -86,13 +99,12 @@ impl Functions {
     pub fn was_defined(&self, name: u32) -> bool
         ensures { result ≡ pure.was_defined name (view_functions self.now) }
     {
-        let mut at = last_place(&self.places, name);
-        while let Some(place) = at {
-            if self.list[place].is_defined {
-                return true;
+        match last_place(&self.places, name) {
+            None => false,
+            Some(place) => {
+                let known = &self.list[place];
+                known.is_defined || known.defined_before
             }
-            at = place_before(&self.places, place);
         }
-        false
     }
 }

@@ -3,7 +3,8 @@
 ghost use Rattle.std.specs.Prelude.{◌≡◌, ℕ, nat_eq, ◌<◌, if◌then◌else◌, ◌∷◌, ◌++◌, [], length, get_or, Some, OnOk};
 ghost use Rattle.std.specs.Prelude.{OnErr};
 ghost use Rattle.std.specs.HashMap.{get};
-ghost use Rattle.walk_state.specs.ViewPlaces.{place_below, IsLinked, IsPlaced};
+ghost use Rattle.upc_types.specs.Places.{place_below, IsLinked};
+ghost use Rattle.walk_state.specs.ViewPlaces.{IsPlaced};
 
 use std::alloc::Global;
 use std::collections::HashMap;

@@ -1,7 +1,11 @@
-use Rattle.std.proofs.Common.{◌≡◌, drop}
+use Rattle.std.proofs.Common.{◌≡◌, false, drop}
 use Rattle.typing_rules.specs.Rules as r
+use Rattle.rule_checks.specs.Labels.{AreValues}
 use Rattle.rule_checks.proofs.switch.has_wrong_label.Given as goal
 
--- what is left decides
-abbrev pub invariant-loop-i : goal.invariant-loop-i
-invariant-loop-i l = r.has_wrong_label l.kind l.labels ≡ r.has_wrong_label l.kind (drop l.i l.labels)
+-- the labels from here on are right, and the set has their values
+abbrev pub invariant-loop-at : goal.invariant-loop-at
+invariant-loop-at l = record {
+  values : AreValues l.kind (drop l.at l.labels) l.values;
+  right : r.has_wrong_label l.kind (drop l.at l.labels) ≡ false;
+}

@@ -14,14 +14,14 @@ use Rattle.statement_nodes.proofs.nodes.finish_switch.Goals as goal
 pub returns-in_err-judged : goal.returns-in_err-judged
 returns-in_err-judged c = λ ξ s.
     let x = n.Switch (view_attr c.args.a.value.attr) c.args.labelled.labels.items c.args.labelled.defaults in
-    let why = (rw c.deref.ensures at (c.switch.ensures (facts_in ξ s))) ∙ ap (λ xs. lowest (facts_in ξ s) (n.Switch (view_attr c.args.a.value.attr) xs c.args.labelled.defaults)) c.as_slice-labels.ensures.value in
+    let why = (rw c.deref.ensures at (c.in_ok-rule.ensures (facts_in ξ s))) ∙ ap (λ xs. lowest (facts_in ξ s) (n.Switch (view_attr c.args.a.value.attr) xs c.args.labelled.defaults)) c.as_slice-labels.ensures.value in
     let y = k.Stands c.args.at (k.Switch (view_expr c.args.a.value) (view_switch_items c.args.labelled.items.items)) in
-    let p = err_from_is_err_and c.from_residual.result c.from_residual.ensures.1 in
-    rw (p.1, p.2) (refuses (λ (x : k.Statement). x) ξ c.args.at x y s c.switch.result c.in_err-judged.field-0.0 why c.in_err-judged.ensures.err)
+    let p = err_from_is_err_and c.from_residual-in_err-judged.result c.from_residual-in_err-judged.ensures.1 in
+    rw (p.1, p.2) (refuses (λ (x : k.Statement). x) ξ c.args.at x y s c.in_ok-rule.rule c.in_err-judged.field-0.0 why c.in_err-judged.ensures.err)
 
 pub returns : goal.returns
 returns c = λ ξ s.
     let x = n.Switch (view_attr c.args.a.value.attr) c.args.labelled.labels.items c.args.labelled.defaults in
-    let why = (rw c.deref.ensures at (c.switch.ensures (facts_in ξ s))) ∙ ap (λ xs. lowest (facts_in ξ s) (n.Switch (view_attr c.args.a.value.attr) xs c.args.labelled.defaults)) c.as_slice-labels.ensures.value in
+    let why = (rw c.deref.ensures at (c.in_ok-rule.ensures (facts_in ξ s))) ∙ ap (λ xs. lowest (facts_in ξ s) (n.Switch (view_attr c.args.a.value.attr) xs c.args.labelled.defaults)) c.as_slice-labels.ensures.value in
     let y = k.Stands c.args.at (k.Switch (view_expr c.args.a.value) (view_switch_items c.args.labelled.items.items)) in
-    judges (boxed view_statement) ξ c.args.at x y s c.switch.result c.in_ok-x.x why c.in_ok-judged.ensures.ok refl c.in_ok-x.ensures
+    judges (boxed view_statement) ξ c.args.at x y s c.in_ok-rule.rule c.in_ok-x.x why c.in_ok-judged.ensures.ok refl c.in_ok-x.ensures

@@ -18,7 +18,7 @@ leaf_cells-requires c =
 pub returns-clause-value : goal.returns-clause-value
 returns-clause-value c =
     let cs = reverse (map view_completed c.args.structs.now.completed.items) in
-    let targets = map view c.args.structs.now.targets.items in
+    let targets = map view c.args.structs.now.targets.list.items in
     let whole = object_cells targets (layout_in cs) (struct_cells targets cs) (view_base c.args.t.now.base) in
     let size : c.whole_layout-size.result.size ≡ (base_layout (layout_in cs) (view_base c.args.t.now.base)).size = ap (λ (l : Layout). l.size) c.whole_layout-size.ensures.value in
     let cells : c.from_vec.result ≡ whole = c.from_vec.ensures ∙ c.in_ok-push_leaves.ensures ∙ ap (λ xs. xs ++ moved 0 whole) c.new-cells.ensures.items ∙ moved_nowhere whole in
@@ -28,7 +28,7 @@ returns-clause-value c =
 pub returns-clause-shape : goal.returns-clause-shape
 returns-clause-shape c =
     let cs = reverse (map view_completed c.args.structs.now.completed.items) in
-    let targets = map view c.args.structs.now.targets.items in
+    let targets = map view c.args.structs.now.targets.list.items in
     let whole = object_cells targets (layout_in cs) (struct_cells targets cs) (view_base c.args.t.now.base) in
     let size : c.whole_layout-size.result.size ≡ (base_layout (layout_in cs) (view_base c.args.t.now.base)).size = ap (λ (l : Layout). l.size) c.whole_layout-size.ensures.value in
     let cells : c.from_vec.result ≡ whole = c.from_vec.ensures ∙ c.in_ok-push_leaves.ensures ∙ ap (λ xs. xs ++ moved 0 whole) c.new-cells.ensures.items ∙ moved_nowhere whole in

@@ -29,7 +29,7 @@ leaf_cells-requires c =
 pub returns-clause-shape : goal.returns-clause-shape
 returns-clause-shape c =
     let cs = reverse (map view_completed c.args.structs.now.completed.items) in
-    let targets = map view c.args.structs.now.targets.items in
+    let targets = map view c.args.structs.now.targets.list.items in
     let leaf = view_base c.leaf_of-leaf.result.now in
     let size : c.whole_layout-size.result.size ≡ (base_layout (layout_in cs) leaf).size = ap (λ (l : Layout). l.size) c.whole_layout-size.ensures.value in
     let cells : c.from_vec-cells.result ≡ leaf_cells targets (struct_cells targets cs) leaf = c.from_vec-cells.ensures ∙ c.in_ok-leaf_cells.ensures in

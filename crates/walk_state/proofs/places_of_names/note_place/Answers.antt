@@ -1,7 +1,7 @@
 use Rattle.std.proofs.Common.{◌≡◌, [], ◌∷◌, ◌++◌, nat_eq, if◌then◌else◌, length, Some, ap, sym, ◌∙◌, arith}
 use Rattle.std.proofs.lemmas.Grind.{common_steps}
-use Rattle.walk_state.specs.ViewPlaces.{place_below}
-use Rattle.walk_state.proofs.PlacesOfNames.{linked_more, latest_more}
+use Rattle.upc_types.specs.Places.{place_below}
+use Rattle.upc_types.proofs.PlacesOfNumbers.{linked_more, latest_more}
 use Rattle.walk_state.proofs.places_of_names.note_place.Goals as goal
 
 pub invariant_of-places-2 : goal.invariant_of-places-2

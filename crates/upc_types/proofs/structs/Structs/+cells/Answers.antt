@@ -8,7 +8,7 @@ use Rattle.upc_types.proofs.structs.Structs.+cells.Goals as goal
 pub struct_cells-loop-member-init : goal.struct_cells-loop-member-init
 struct_cells-loop-member-init t c =
     let cs = reverse (map view_completed c.args.self.now.completed.items) in
-    let targets = map view c.args.self.now.targets.items in
+    let targets = map view c.args.self.now.targets.list.items in
     let kept = c.args.self.now.kept in
     let b = begun targets cs c.args.number kept.ordered (kept.fine c.args.number) c.requires.complete in
     let ms = c.members-members.ensures in

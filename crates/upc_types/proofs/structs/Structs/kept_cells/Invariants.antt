@@ -6,5 +6,5 @@ use Rattle.upc_types.proofs.structs.Structs.kept_cells.Given as goal
 
 abbrev pub invariant-loop-place : goal.invariant-loop-place
 invariant-loop-place l = record {
-  kept : AreKept (struct_cells (map view l.self.targets.items) (reverse (map view_completed l.self.completed.items))) l.kept.items;
+  kept : AreKept (struct_cells (map view l.self.targets.list.items) (reverse (map view_completed l.self.completed.items))) l.kept.items;
 }

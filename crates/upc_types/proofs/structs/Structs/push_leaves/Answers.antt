@@ -23,17 +23,17 @@ whole_layout-size-requires-clause-few c =
 pub push_copies-requires-clause-within : goal.push_copies-requires-clause-within
 push_copies-requires-clause-within c =
     let cs = reverse (map view_completed c.args.self.now.completed.items) in
-    let within = leaf_within (map view c.args.self.now.targets.items) cs (leaf_base (view_base c.args.base.now)) in
+    let within = leaf_within (map view c.args.self.now.targets.list.items) cs (leaf_base (view_base c.args.base.now)) in
     let size : (base_layout (layout_in cs) (leaf_base (view_base c.args.base.now))).size ≡ c.whole_layout-size.result.size =
     ap (λ b. (base_layout (layout_in cs) b).size) (sym c.leaf_of.ensures) ∙ sym (ap (λ l. l.size) c.whole_layout-size.ensures.value) in
-    let sized = subst (λ n. CellsWithin (leaf_cells (map view c.args.self.now.targets.items) (struct_cells (map view c.args.self.now.targets.items) cs) (leaf_base (view_base c.args.base.now))) 0 n) size within in
+    let sized = subst (λ n. CellsWithin (leaf_cells (map view c.args.self.now.targets.list.items) (struct_cells (map view c.args.self.now.targets.list.items) cs) (leaf_base (view_base c.args.base.now))) 0 n) size within in
     subst (λ xs. CellsWithin xs 0 c.whole_layout-size.result.size) (sym c.requires.leaf) sized
 
 pub returns : goal.returns
 returns c =
     let cs = reverse (map view_completed c.args.self.now.completed.items) in
     let b = view_base c.args.base.now in
-    let leaf = leaf_cells (map view c.args.self.now.targets.items) (struct_cells (map view c.args.self.now.targets.items) cs) (leaf_base b) in
+    let leaf = leaf_cells (map view c.args.self.now.targets.list.items) (struct_cells (map view c.args.self.now.targets.list.items) cs) (leaf_base b) in
     let size : c.whole_layout-size.result.size ≡ (base_layout (layout_in cs) (leaf_base b)).size =
     ap (λ l. l.size) c.whole_layout-size.ensures.value ∙ ap (λ b. (base_layout (layout_in cs) b).size) c.leaf_of.ensures in
     let some : 0 < (base_layout (layout_in cs) (leaf_base b)).size = omega (arith, c.whole_layout-size.ensures.fine.some) in

@@ -3,7 +3,7 @@ use Rattle.typed_tree.specs.Scopes as pure
 use Rattle.typing_rules.specs.Views.{view_signature}
 use Rattle.walk_state.specs.ViewFunctions.{view_function}
 use Rattle.walk_state.specs.Views.{view_functions}
-use Rattle.walk_state.proofs.PlacesOfNames.{IsAt, up_to}
+use Rattle.upc_types.proofs.PlacesOfNumbers.{IsAt, up_to}
 use Rattle.walk_state.proofs.functions.Functions.differs.Given as goal
 
 -- what stands up to the place decides

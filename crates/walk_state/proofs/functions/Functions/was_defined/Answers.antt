@@ -1,67 +1,78 @@
-use Rattle.std.proofs.Common.{◌≡◌, ◌<◌, ◌≤◌, Bool, true, false, ◌&&◌, ◌||◌, nat_eq, ◌∷◌, map, reverse, take, length, get_or, refl, sym, ap, ◌∙◌, subst, arith}
+use Rattle.std.proofs.Common.{◌≡◌, ℕ, ◌<◌, ◌≤◌, ◌&&◌, ◌||◌, List, ◌∷◌, map, reverse, take, length, get_or, Option, Some, None, sym, ap, ◌∙◌, subst, arith}
 use Rattle.std.proofs.lemmas.Bool.{eq-eqb}
 use Rattle.std.proofs.lemmas.List.{length-map}
 use Rattle.std.proofs.Math.ListN.{get_or-map}
 use Rattle.typed_tree.specs.Scopes.{KnownFunction, was_defined}
-use Rattle.walk_state.specs.ViewFunctions.{view_function}
-use Rattle.walk_state.specs.ViewPlaces.{place_below}
-use Rattle.walk_state.proofs.PlacesOfNames.{IsAt, is_at, up_to, begins, goes_back, latest_of, falls, get_or-named}
+use Rattle.walk_state.specs.declared.functions.KnownFunction as f
+use Rattle.walk_state.specs.ViewFunctions.{view_function, names_of, IsNoted, AreNoted}
+use Rattle.upc_types.specs.Places.{place_below}
+use Rattle.upc_types.proofs.PlacesOfNumbers.{IsAt, is_at, up_to, begins, latest_of, get_or-named}
 use Rattle.walk_state.proofs.functions.Functions.was_defined.Goals as goal
 
-both_true : (a b r : Bool) → a ≡ true → b ≡ true → ((a && b) || r) ≡ true
-both_true true true r h k = refl
-both_true false b r h k = absurd cc
-both_true true false r h k = absurd cc
+last_at : (items : List f.KnownFunction) (name : ℕ) (o : Option ℕ) → o ≡ place_below (names_of items) name (length (names_of items)) →
+    IsAt (names_of items) name o
+last_at items name o e =
+    let n : length (names_of items) ≤ length (names_of items) = omega arith in
+    is_at (names_of items) name (length (names_of items)) o n e
 
-passes : (a b r : Bool) → b ≡ false → ((a && b) || r) ≡ r
-passes true false r h = refl
-passes false false r h = refl
-passes a true r h = absurd cc
+under : (items : List f.KnownFunction) (place : ℕ) → place < length (names_of items) → place < length items
+under items place h =
+    let xs = map view_function items in
+    omega (arith, h, length-map xs (λ (x : KnownFunction). x.name), length-map items view_function)
 
-pub loop-at-init : goal.loop-at-init
-loop-at-init c =
-    let names = c.args.self.now.places.names.items in
-    let xs = map view_function c.args.self.now.list.items in
-    let o = c.last_place-at.result in
-    let same : length names ≤ length names = omega arith in
-    let e = c.last_place-at.ensures ∙ ap (λ ns. place_below ns c.args.name (length ns)) c.args.self.now.named ∙ ap (place_below (map (λ (x : KnownFunction). x.name) xs) c.args.name) (length-map xs (λ (x : KnownFunction). x.name)) in
-    (is_at names c.args.name (length names) o same c.last_place-at.ensures, begins (λ (x : KnownFunction). x.name) (was_defined c.args.name) c.args.name (λ x ys h. ap (λ b. (b && x.is_defined) || was_defined c.args.name ys) h) xs o e)
+-- What was defined is seen from the latest place on.
+from_last : (items : List f.KnownFunction) (name : ℕ) (o : Option ℕ) → o ≡ place_below (names_of items) name (length (names_of items)) →
+    was_defined name (reverse (map view_function items)) ≡ was_defined name (reverse (take (up_to o) (map view_function items)))
+from_last items name o e =
+    let xs = map view_function items in
+    begins (λ (x : KnownFunction). x.name) (was_defined name) name
+    (λ x ys h. ap (λ b. (b && x.is_defined) || was_defined name ys) h) xs o
+    (e ∙ ap (place_below (names_of items) name) (length-map xs (λ (x : KnownFunction). x.name)))
 
-pub returns-then-index : goal.returns-then-index
-returns-then-index c =
-    let xs = map view_function c.args.self.now.list.items in
-    let place = c.in-Some.place in
-    let x = view_function c.index.result.now in
-    let at = subst (IsAt c.args.self.now.places.names.items c.args.name) c.in-Some.is c.loop-at.invariant.0 in
-    let named = c.args.self.now.named in
-    let below : place < length xs = omega (arith, at.0, ap length named, length-map xs (λ (y : KnownFunction). y.name)) in
-    let is : get_or xs place x ≡ x = get_or-map view_function c.args.self.now.list.items place c.index.result.now ∙ ap view_function (sym c.index.ensures) in
-    let name : x.name ≡ c.args.name = ap (λ (y : KnownFunction). y.name) (sym is) ∙ sym (get_or-named (λ (y : KnownFunction). y.name) xs place x below) ∙ ap (λ ns. get_or ns place 0) (sym named) ∙ at.1 in
-    let from : was_defined c.args.name (reverse xs) ≡ was_defined c.args.name (x ∷ reverse (take place xs)) =
-    c.loop-at.invariant.1 ∙ ap (λ o. was_defined c.args.name (reverse (take (up_to o) xs))) c.in-Some.is ∙ ap (was_defined c.args.name) (latest_of xs x place below) ∙ ap (λ y. was_defined c.args.name (y ∷ reverse (take place xs))) is in
-    sym (from ∙ both_true (nat_eq x.name c.args.name) x.is_defined (was_defined c.args.name (reverse (take place xs))) (eq-eqb x.name c.args.name name) c.if-index.true)
+-- The latest function of a name says whether one of them was defined.
+latest_says : (items : List f.KnownFunction) (name place : ℕ) (r : f.KnownFunction) →
+    Some place ≡ place_below (names_of items) name (length (names_of items)) → r ≡ get_or items place r → AreNoted items →
+    was_defined name (reverse (map view_function items)) ≡ (r.is_defined || r.defined_before)
+latest_says items name place r e is noted =
+    let xs = map view_function items in
+    let older = reverse (take place xs) in
+    let x = view_function r in
+    let at = last_at items name (Some place) e in
+    let u = under items place at.0 in
+    let below : place < length xs = omega (arith, u, length-map items view_function) in
+    let same : get_or xs place x ≡ x = get_or-map view_function items place r ∙ ap view_function (sym is) in
+    let named : x.name ≡ name = ap (λ (y : KnownFunction). y.name) (sym same)
+    ∙ sym (get_or-named (λ (y : KnownFunction). y.name) xs place x below) ∙ at.1 in
+    let kept = subst (λ z. IsNoted older z) (sym is) (noted place r u) in
+    from_last items name (Some place) e ∙ ap (was_defined name) (latest_of xs x place below)
+    ∙ ap (λ (y : KnownFunction). was_defined name (y ∷ older)) same
+    ∙ ap (λ b. (b && r.is_defined) || was_defined name older) (eq-eqb x.name name named)
+    ∙ ap (λ b. r.is_defined || b) (ap (λ n. was_defined n older) (sym named) ∙ sym kept.1)
 
-pub loop-at-smaller : goal.loop-at-smaller
-loop-at-smaller c =
-    let place = c.in-Some.place in
-    let at = subst (IsAt c.args.self.now.places.names.items c.args.name) c.in-Some.is c.loop-at.invariant.0 in
-    falls c.args.self.now.places.names.items (get_or c.args.self.now.places.names.items place 0) place c.loop-at.at c.place_before-at.result c.in-Some.is c.place_before-at.ensures
+pub index-known-requires : goal.index-known-requires
+index-known-requires c =
+    let items = c.args.self.now.list.items in
+    let e = sym c.in-Some.is ∙ c.last_place.ensures ∙ ap (λ ns. place_below ns c.args.name (length ns)) c.args.self.now.named in
+    omega (arith, under items c.in-Some.place (last_at items c.args.name (Some c.in-Some.place) e).0, c.args.self.now.list.ok)
 
-pub loop-at-preserved : goal.loop-at-preserved
-loop-at-preserved c =
-    let names = c.args.self.now.places.names.items in
-    let xs = map view_function c.args.self.now.list.items in
-    let place = c.in-Some.place in
-    let o = c.place_before-at.result in
-    let x = view_function c.index.result.now in
-    let at = subst (IsAt names c.args.name) c.in-Some.is c.loop-at.invariant.0 in
-    let named = c.args.self.now.named in
-    let below : place < length xs = omega (arith, at.0, ap length named, length-map xs (λ (y : KnownFunction). y.name)) in
-    let is : get_or xs place x ≡ x = get_or-map view_function c.args.self.now.list.items place c.index.result.now ∙ ap view_function (sym c.index.ensures) in
-    let e : o ≡ place_below names c.args.name place = c.place_before-at.ensures ∙ ap (λ n. place_below names n place) at.1 in
-    let f : o ≡ place_below (map (λ (y : KnownFunction). y.name) xs) c.args.name place = e ∙ ap (λ ns. place_below ns c.args.name place) named in
-    let pass : was_defined c.args.name (get_or xs place x ∷ reverse (take place xs)) ≡ was_defined c.args.name (reverse (take place xs)) = (ap (λ (y : KnownFunction). was_defined c.args.name (y ∷ reverse (take place xs))) is ∙ passes (nat_eq x.name c.args.name) x.is_defined (was_defined c.args.name (reverse (take place xs))) c.if-index.false) in
-    let low : place ≤ length names = omega (arith, at.0) in (
-      is_at names c.args.name place o low e,
-      c.loop-at.invariant.1 ∙ ap (λ q. was_defined c.args.name (reverse (take (up_to q) xs))) c.in-Some.is ∙ goes_back (λ (y : KnownFunction). y.name) (was_defined c.args.name) c.args.name (λ y ys h. ap (λ b. (b && y.is_defined) || was_defined c.args.name ys) h) xs x place o below pass f,
-    )
+pub returns-in-None : goal.returns-in-None
+returns-in-None c =
+    let items = c.args.self.now.list.items in
+    let e = sym c.in-None.is ∙ c.last_place.ensures ∙ ap (λ ns. place_below ns c.args.name (length ns)) c.args.self.now.named in
+    sym (from_last items c.args.name None e)
+
+pub returns-then-known : goal.returns-then-known
+returns-then-known c =
+    let items = c.args.self.now.list.items in
+    let r = c.index-known.result.now in
+    let e = sym c.in-Some.is ∙ c.last_place.ensures ∙ ap (λ ns. place_below ns c.args.name (length ns)) c.args.self.now.named in
+    let all = latest_says items c.args.name c.in-Some.place r e c.index-known.ensures c.args.self.now.noted in
+    c.if-known.true ∙ sym (all ∙ ap (λ b. b || r.defined_before) c.if-known.true)
+
+pub returns-else-known : goal.returns-else-known
+returns-else-known c =
+    let items = c.args.self.now.list.items in
+    let r = c.index-known.result.now in
+    let e = sym c.in-Some.is ∙ c.last_place.ensures ∙ ap (λ ns. place_below ns c.args.name (length ns)) c.args.self.now.named in
+    let all = latest_says items c.args.name c.in-Some.place r e c.index-known.ensures c.args.self.now.noted in
+    sym (all ∙ ap (λ b. b || r.defined_before) c.if-known.false)

@@ -4,8 +4,8 @@ use Rattle.std.proofs.lemmas.List.{length-map}
 use Rattle.std.proofs.Math.ListN.{get_or-map}
 use Rattle.typed_tree.specs.Scopes.{Tag, find_tag}
 use Rattle.walk_state.specs.ViewOwnTags.{view_tag}
-use Rattle.walk_state.specs.ViewPlaces.{place_below}
-use Rattle.walk_state.proofs.PlacesOfNames.{IsAt, is_at, up_to, begins, latest_of, get_or-named}
+use Rattle.upc_types.specs.Places.{place_below}
+use Rattle.upc_types.proofs.PlacesOfNumbers.{IsAt, is_at, up_to, begins, latest_of, get_or-named}
 use Rattle.walk_state.proofs.own_tags.OwnTags.find.Goals as goal
 
 named-one : (b : Bool) (o r : Option ℕ) → b ≡ true → (if b then o else r) ≡ o

@@ -4,8 +4,8 @@ use Rattle.std.proofs.lemmas.List.{length-map}
 use Rattle.std.proofs.Math.ListN.{get_or-map}
 use Rattle.typed_tree.specs.Scopes.{Tag, tag_here}
 use Rattle.walk_state.specs.ViewOwnTags.{view_tag}
-use Rattle.walk_state.specs.ViewPlaces.{place_below}
-use Rattle.walk_state.proofs.PlacesOfNames.{IsAt, is_at, up_to, begins, goes_back, latest_of, falls, get_or-named}
+use Rattle.upc_types.specs.Places.{place_below}
+use Rattle.upc_types.proofs.PlacesOfNumbers.{IsAt, is_at, up_to, begins, goes_back, latest_of, falls, get_or-named}
 use Rattle.walk_state.proofs.own_tags.OwnTags.here.Goals as goal
 
 both_true : (a b : Bool) (o r : Option ℕ) → a ≡ true → b ≡ true → (if a && b then o else r) ≡ o

@@ -2,7 +2,7 @@ use Rattle.std.proofs.Common.{◌≡◌, map, reverse, take}
 use Rattle.typed_tree.specs.Scopes as pure
 use Rattle.walk_state.specs.ViewOwnTags.{view_tag}
 use Rattle.walk_state.specs.ViewTags.{view_own_tags}
-use Rattle.walk_state.proofs.PlacesOfNames.{IsAt, up_to}
+use Rattle.upc_types.proofs.PlacesOfNumbers.{IsAt, up_to}
 use Rattle.walk_state.proofs.own_tags.OwnTags.here.Given as goal
 
 -- what stands up to the place decides
