@@ -13,8 +13,8 @@ use Rattle.typed_tree.specs.Tree as k
 use Rattle.typed_tree.specs.Tree.{ExprKind}
 use Rattle.walk_state.specs.Counts.{counted}
 use Rattle.walk_state.specs.Walk.{Walk, give, andthen, judge, finish, update, look, enclosed}
-use Rattle.type_specifiers.specs.Specifiers.{Shaped}
-use Rattle.expression_checker.specs.Expressions.{constantly, walk, walk_arguments, walk_more, walk_type, walk_specs, walk_spec, walk_quals, walk_qual, walk_layout, walk_pointers, walk_sizes, walk_members, walk_next_members, walk_member, walk_parameters, walk_next_parameters, walk_parameter, walk_array}
+use Rattle.type_specifiers.specs.Specifiers.{Specified, Shaped}
+use Rattle.expression_checker.specs.Expressions.{constantly, end_specifiers, to_their_end, walk, walk_arguments, walk_more, walk_type, walk_specs, walk_spec, walk_quals, walk_qual, walk_layout, walk_pointers, walk_sizes, walk_members, walk_next_members, walk_member, walk_parameters, walk_next_parameters, walk_parameter, walk_array}
 use Rattle.walk_state.specs.Known.{tag_seen, unless_found, refer, open_struct, close_struct}
 use Rattle.walk_state.specs.Places.{at}
 use Rattle.type_specifiers.specs.Members.{Declared}
@@ -71,6 +71,13 @@ keeps_close ξ at number members =
 pub keeps_constantly : (ξ : Setting) (a : k.Expr) → Keeps (constantly ξ a)
 keeps_constantly ξ a = keeps_then (keeps_judge ξ _ _ (λ s. refl)) (λ u. keeps_give _)
 
+keeps_specifiers : (ξ : Setting) (at : Place) (p : Specified) → Keeps (end_specifiers ξ at p)
+unfolding end_specifiers
+keeps_specifiers ξ at p = record { same = λ s. refl }
+
+pub keeps_to_their_end : (ξ : Setting) (at : Place) {w : Walk Specified} → Keeps w → Keeps (to_their_end ξ at w)
+keeps_to_their_end ξ at h = keeps_then h (λ p. keeps_then (keeps_specifiers ξ at p) (λ u. keeps_give p))
+
 -- ---- expressions and types
 
 mutual
@@ -88,8 +95,8 @@ mutual
   keeps ξ Γ how (Postfix a mark span) = keeps_then (keeps ξ Γ _ a) (λ x. keeps_finish _ _ _ _)
   keeps ξ Γ how (Unary mark span a) = keeps_then (keeps ξ Γ _ a) (λ x. keeps_finish _ _ _ _)
   keeps ξ Γ how (SizeOfExpr word span a) = keeps_then (keeps ξ Γ _ a) (λ x. keeps_finish _ _ _ _)
-  keeps ξ Γ how (SizeOfType word span left type right) = keeps_then (type_keeps ξ Γ type) (λ t. keeps_finish _ _ _ _)
-  keeps ξ Γ how (Cast left type right a) = keeps_then (type_keeps ξ Γ type) (λ t. keeps_then (keeps ξ Γ _ a) (λ x. keeps_finish _ _ _ _))
+  keeps ξ Γ how (SizeOfType word span left type right) = keeps_then (type_keeps ξ Γ _ type) (λ t. keeps_finish _ _ _ _)
+  keeps ξ Γ how (Cast left type right a) = keeps_then (type_keeps ξ Γ _ type) (λ t. keeps_then (keeps ξ Γ _ a) (λ x. keeps_finish _ _ _ _))
   keeps ξ Γ how (Binary a mark span b) = keeps_then (keeps ξ Γ _ a) (λ x. keeps_then (keeps ξ Γ _ b) (λ y. keeps_finish _ _ _ _))
   keeps ξ Γ how (Assign a mark span b) = keeps_then (keeps ξ Γ _ a) (λ x. keeps_then (keeps ξ Γ _ b) (λ y. keeps_finish _ _ _ _))
   keeps ξ Γ how (Conditional test question a colon b) =
@@ -105,9 +112,9 @@ mutual
   more_keep ξ Γ uses NoNextExprs = keeps_give _
   more_keep ξ Γ uses (AndExpr comma value more) = keeps_then (keeps ξ Γ _ value) (λ x. keeps_then (more_keep ξ Γ _ more) (λ xs. keeps_give _))
 
-  pub type_keeps : (ξ : Setting) (Γ : Env) (t : TypeName) → Keeps (walk_type ξ Γ t)
-  type_keeps ξ Γ (Typed specs pointers sizes) =
-      keeps_then (specs_keep ξ Γ _ specs) (λ p. keeps_then (pointers_keep ξ Γ _ _ pointers) (λ t. keeps_then (sizes_keep ξ Γ sizes) (λ ns. keeps_give _)))
+  type_keeps : (ξ : Setting) (Γ : Env) (place : Place) (t : TypeName) → Keeps (walk_type ξ Γ place t)
+  type_keeps ξ Γ place (Typed specs pointers sizes) =
+      keeps_then (keeps_to_their_end ξ _ (specs_keep ξ Γ _ specs)) (λ p. keeps_then (pointers_keep ξ Γ _ _ pointers) (λ t. keeps_then (sizes_keep ξ Γ sizes) (λ ns. keeps_give _)))
 
   pub specs_keep : (ξ : Setting) (Γ : Env) (how : Specifying) (x : Specs) → Keeps (walk_specs ξ Γ how x)
   specs_keep ξ Γ how NoSpecs = keeps_give _
@@ -149,7 +156,7 @@ mutual
   members_keep : (ξ : Setting) (Γ : Env) (before : List Member) (x : Members) → Keeps (walk_members ξ Γ before x)
   members_keep ξ Γ before NoMembers = keeps_give _
   members_keep ξ Γ before (AndMember specs first next semicolon more) =
-      keeps_then (specs_keep ξ Γ _ specs) (λ p. keeps_then (member_keeps ξ Γ _ before first) (λ ms. keeps_then (next_members_keep ξ Γ _ ms next) (λ all.
+      keeps_then (keeps_to_their_end ξ _ (specs_keep ξ Γ _ specs)) (λ p. keeps_then (member_keeps ξ Γ _ before first) (λ ms. keeps_then (next_members_keep ξ Γ _ ms next) (λ all.
       keeps_then (keeps_judge ξ _ _ (λ s. refl)) (λ u. members_keep ξ Γ all more))))
 
   next_members_keep : (ξ : Setting) (Γ : Env) (t : Shaped) (before : List Member) (x : NextDeclarators) → Keeps (walk_next_members ξ Γ t before x)
@@ -175,7 +182,7 @@ mutual
 
   parameter_keeps : (ξ : Setting) (before : Declared) (x : Parameter) → Keeps (walk_parameter ξ before x)
   parameter_keeps ξ before (Parametric specs pointers name array) =
-      keeps_then (specs_keep ξ before.scope _ specs) (λ p. keeps_then (pointers_keep ξ before.scope _ _ pointers) (λ t.
+      keeps_then (keeps_to_their_end ξ _ (specs_keep ξ before.scope _ specs)) (λ p. keeps_then (pointers_keep ξ before.scope _ _ pointers) (λ t.
       keeps_then (array_keeps ξ before.scope _ array) (λ f. keeps_then (keeps_judge ξ _ _ (λ s. refl)) (λ u. keeps_give _))))
 
   array_keeps : (ξ : Setting) (Γ : Env) (t : Shaped) (x : ParameterArray) → Keeps (walk_array ξ Γ t x)
@@ -263,4 +270,4 @@ declared_list_brings ξ place t before (SomeDeclared first more) = goes_on (decl
 -- With a declaration come in as many as it declares objects.
 pub declaration_brings : (ξ : Setting) (Γ : Env) (x : Declaration) → Brings 0 (walk_declaration ξ Γ x) objects_behind
 declaration_brings ξ Γ (Declares specs list semicolon) =
-    kept (specs_keep ξ Γ _ specs) (λ p. goes_on (declared_list_brings ξ _ _ _ list) (λ b. kept (keeps_judge ξ _ _ (λ s. refl)) (λ u. brings_give _ refl)))
+    kept (keeps_to_their_end ξ _ (specs_keep ξ Γ _ specs)) (λ p. goes_on (declared_list_brings ξ _ _ _ list) (λ b. kept (keeps_judge ξ _ _ (λ s. refl)) (λ u. brings_give _ refl)))

@@ -22,7 +22,7 @@ use Rattle.type_specifiers.specs.Specifiers.{specifiers_form, specified_type, Sh
 use Rattle.walk_state.specs.Places.{specs_place, pointers_place}
 use Rattle.type_specifiers.specs.Shapes.{has_sizes, is_none, Specifying}
 use Rattle.type_specifiers.specs.Members.{Declared}
-use Rattle.expression_checker.specs.Expressions.{walk, walk_specs, walk_pointers, walk_sizes, walk_parameters}
+use Rattle.expression_checker.specs.Expressions.{walk, walk_specifiers, walk_pointers, walk_sizes, walk_parameters}
 use Rattle.expression_checker.specs.Expressions.{constantly}
 use Rattle.walk_state.specs.Known.{prototype_again, object_again}
 pub use Rattle.typed_tree.specs.Words.{element_use}
@@ -136,13 +136,14 @@ walk_declared_list ξ place t before NoneDeclared = give before
 walk_declared_list ξ place t before (SomeDeclared first more) =
     andthen (walk_declared ξ place t before first) (λ b. walk_next_declareds ξ place t b more)
 
-abbrev pub specifying : Env → DeclaredList → Specifying
-specifying Γ list = record { star = declares_arrays list; static = is_file Γ; alone = is_alone list }
+abbrev pub specifying : Place → Env → DeclaredList → Specifying
+specifying at Γ list = record { at = at; star = declares_arrays list; static = is_file Γ; alone = is_alone list }
 
--- A declaration: its specifiers are judged behind its initialisers.
+-- A declaration: its specifiers form a type before its declarators, and what else they break is judged behind its
+-- initialisers.
 abbrev pub walk_declaration : Setting → Env → Declaration → Walk Behind
 walk_declaration ξ Γ (Declares specs list semicolon) =
-    andthen (walk_specs ξ Γ (specifying Γ list) specs) (λ p.
+    andthen (walk_specifiers ξ Γ (specifying (specs_place specs) Γ list) specs) (λ p.
     andthen (walk_declared_list ξ (specs_place specs) (specified_type p) (record {
       scope =
           Γ;

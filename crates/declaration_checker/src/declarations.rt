@@ -35,7 +35,7 @@ ghost use Rattle.walk_state.specs.Walk.{andthen, enclosed, give, judge};
 
 use block_layout::Kind;
 use expression_checker::expressions::{constantly, walk};
-use expression_checker::types::{walk_parameters, walk_pointers, walk_sizes, walk_specs};
+use expression_checker::types::{walk_parameters, walk_pointers, walk_sizes, walk_specifiers};
 use expression_nodes::nodes::joined;
 use rule_checks::declarations::{declares_object, initial_value, specifies};
 use tree_builders::lists::initial_list;
@@ -504,11 +504,12 @@ fn declares_arrays(list: &Option<Box<DeclaredList>>) -> bool
     }
 }
 
-fn specifying(env: &Env<'_>, list: &Option<Box<DeclaredList>>) -> Specifying
-    ensures { view_specifying result ≡ pure.specifying (view_env env.now) (trees.view_declared_list
+fn specifying(at: Place, env: &Env<'_>, list: &Option<Box<DeclaredList>>) -> Specifying
+    ensures { view_specifying result ≡ pure.specifying at (view_env env.now) (trees.view_declared_list
         list.now) }
 {
     Specifying {
+        at,
         star: declares_arrays(list),
         may_be_static: is_file(env),
         alone: list.is_none(),
@@ -532,7 +533,8 @@ fn judge_specifiers(
     Ok(())
 }
 
-/// A declaration: the objects that it declares, in order. Its specifiers are judged behind its initialisers.
+/// A declaration: the objects that it declares, in order. Its specifiers form a type before its declarators, and what
+/// else they break is judged behind its initialisers.
 pub fn walk_declaration(
     declaration: &Declaration,
     setting: Setting<'_>,
@@ -548,9 +550,9 @@ pub fn walk_declaration(
     let file = is_file(env);
     let list = &declaration.declared;
     let specs = declaration.specs.as_slice();
-    let how = specifying(env, list);
-    let found = walk_specs(specs, how, setting, env, tags, known)?;
     let place = specs_place(specs);
+    let how = specifying(place, env, list);
+    let found = walk_specifiers(specs, how, setting, env, tags, known)?;
     let t = specified_type(&found);
     let objects = walk_declared_list(list, place, &t, setting, env, tags, known)?;
     judge_specifiers(file, &found, place, setting, known)?;

@@ -28,7 +28,7 @@ use Rattle.typed_tree.specs.ViewTree.{view_expr}
 use Rattle.walk_state.specs.Walk.{Walked, Walk, andthen, give}
 use Rattle.walk_state.specs.Ends.{Stops, Comes}
 use Rattle.type_specifiers.specs.Specifiers.{Quals, no_quals, both_quals, Specified, nothing_specified, both_specified, Shaped, pointer_to}
-use Rattle.expression_checker.specs.Expressions.{walk, constantly, walk_more, walk_sizes, walk_specs, walk_spec, walk_quals, walk_qual, walk_pointers, walk_next_members, walk_member, walk_next_parameters, walk_parameter, walk_members}
+use Rattle.expression_checker.specs.Expressions.{walk, constantly, walk_more, walk_sizes, walk_specifiers, walk_specs, walk_spec, walk_quals, walk_qual, walk_pointers, walk_next_members, walk_member, walk_next_parameters, walk_parameter, walk_members}
 use Rattle.expression_nodes.specs.Called.{first_use, later_uses}
 use Rattle.type_specifiers.specs.Shapes.{Specifying, is_none}
 use Rattle.type_specifiers.specs.Members.{Declared}
@@ -122,6 +122,9 @@ sizes_end ξ Γ parts i done s v h inv =
 
 abbrev pub rest_of_specs : Setting → Env → Specifying → List Spec → Walk Specified
 rest_of_specs ξ Γ how parts = walk_specs ξ Γ how (specs_of (map view_spec parts))
+
+abbrev pub all_specifiers : Setting → Env → Specifying → List Spec → Walk Specified
+all_specifiers ξ Γ how parts = walk_specifiers ξ Γ how (specs_of (map view_spec parts))
 
 pub specs_begin : (ξ : Setting) (Γ : Env) (how : Specifying) (parts : List Spec) (none : Specified) (s : State) → none ≡ nothing_specified →
     Same (rest_of_specs ξ Γ how parts s) (andthen (rest_of_specs ξ Γ how parts) (λ q. give (both_specified none q)) s)

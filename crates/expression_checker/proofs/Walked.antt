@@ -19,12 +19,12 @@ use Rattle.typed_tree.specs.Tree as k
 use Rattle.typed_tree.specs.Tree.{Expr, Exprs, attrs_of}
 use Rattle.typed_tree.specs.ViewTree.{view_expr}
 use Rattle.walk_state.specs.Counts.{ended}
-use Rattle.walk_state.specs.Walk.{enclosed, facts_in}
+use Rattle.walk_state.specs.Walk.{judge, enclosed, facts_in}
 use Rattle.walk_state.specs.Finishes.{Finishes, Refuses}
 use Rattle.walk_state.specs.Ends.{Stops, Comes, Meets, boxed}
 use Rattle.expression_nodes.specs.Marks.{right_use, assign_node, assign_kind}
-use Rattle.type_specifiers.specs.Specifiers.{Specified, Shaped, specified_type, specifiers_form, formed}
-use Rattle.expression_checker.specs.Expressions.{walk, walk_arguments, walk_more, walk_type, walk_specs, walk_pointers, walk_sizes, walk_members, walk_next_members, walk_member, walk_parameters, walk_parameter, walk_array}
+use Rattle.type_specifiers.specs.Specifiers.{Specified, Shaped, specified_type, forms_type, specifiers_form, formed}
+use Rattle.expression_checker.specs.Expressions.{walk, walk_arguments, walk_more, end_specifiers, walk_type, walk_specifiers, walk_pointers, walk_sizes, walk_members, walk_next_members, walk_member, walk_parameters, walk_parameter, walk_array}
 use Rattle.expression_nodes.specs.Called.{called, called_name, target_by, runs, uses_by, first_use, later_uses}
 use Rattle.expression_nodes.specs.Parts.{format_in}
 use Rattle.type_specifiers.specs.Shapes.{Specifying, in_type, named_type}
@@ -84,39 +84,52 @@ pub assign_stops : (ξ : Setting) (Γ : Env) (how u : Use) (a b : t.Expr) (mark 
 assign_stops ξ Γ how u a b mark span s s1 after x e r f h i j =
     next _ _ h (stopped _ _ s1 e j (subst (λ u. Stops (first_fault (walk ξ Γ u b s1).seen) e) f i))
 
+-- ---- specifiers
+
+-- They form a type where they end, or the walk stops there.
+pub specifiers_end : (ξ : Setting) (at : Place) (p : Specified) (s : State) (rule : Option ℕ) → rule ≡ lowest (facts_in ξ s) (n.Specifies (forms_type p)) → rule ≡ None →
+    Comes (end_specifiers ξ at p s) s (tt {0})
+unfolding end_specifiers judge
+specifiers_end ξ at p s rule h o = record { fine = (judge_goes ξ at (n.Specifies (forms_type p)) s rule h o).fine; state = refl; value = refl }
+
+pub specifiers_stop : (ξ : Setting) (at : Place) (p : Specified) (s : State) (rule : Option ℕ) (e : Stop) → rule ≡ lowest (facts_in ξ s) (n.Specifies (forms_type p)) → Refuses rule at e →
+    Stops (first_fault (end_specifiers ξ at p s).seen) e
+unfolding end_specifiers judge
+specifiers_stop ξ at p s rule e h r = judge_stops ξ at (n.Specifies (forms_type p)) s rule e h r
+
 -- ---- type names
 
-typed_so : (ξ : Setting) (Γ : Env) (how : Specifying) (specs : t.Specs) (stars : t.Pointers) (s s1 s2 : State) (p : Specified) (t0 t1 : Shaped) → how ≡ in_type → t0 ≡ specified_type p →
-    Comes (walk_specs ξ Γ how specs s) s1 p → Comes (walk_pointers ξ Γ false t0 stars s1) s2 t1 →
-    Comes (walk_specs ξ Γ in_type specs s) s1 p × Comes (walk_pointers ξ Γ false (specified_type p) stars s1) s2 t1
-typed_so ξ Γ how specs stars s s1 s2 p t0 t1 a b h i =
-    (subst (λ how. Comes (walk_specs ξ Γ how specs s) s1 p) a h, subst (λ t. Comes (walk_pointers ξ Γ false t stars s1) s2 t1) b i)
+typed_so : (ξ : Setting) (Γ : Env) (how : Specifying) (place : Place) (specs : t.Specs) (stars : t.Pointers) (s s1 s2 : State) (p : Specified) (t0 t1 : Shaped) → how ≡ in_type place → t0 ≡ specified_type p →
+    Comes (walk_specifiers ξ Γ how specs s) s1 p → Comes (walk_pointers ξ Γ false t0 stars s1) s2 t1 →
+    Comes (walk_specifiers ξ Γ (in_type place) specs s) s1 p × Comes (walk_pointers ξ Γ false (specified_type p) stars s1) s2 t1
+typed_so ξ Γ how place specs stars s s1 s2 p t0 t1 a b h i =
+    (subst (λ how. Comes (walk_specifiers ξ Γ how specs s) s1 p) a h, subst (λ t. Comes (walk_pointers ξ Γ false t stars s1) s2 t1) b i)
 
-pub type_ends : (ξ : Setting) (Γ : Env) (how : Specifying) (specs : t.Specs) (stars : t.Pointers) (sizes : t.Dimensions) (s s1 s2 s3 : State) (p : Specified) (t0 t1 t2 : Shaped) (forms : Bool) (cs : List Constant) →
-    how ≡ in_type → t0 ≡ specified_type p → forms ≡ specifiers_form false p → t2 ≡ named_type forms t1 →
-    Comes (walk_specs ξ Γ how specs s) s1 p → Comes (walk_pointers ξ Γ false t0 stars s1) s2 t1 → Comes (walk_sizes ξ Γ sizes s2) s3 cs →
-    Comes (walk_type ξ Γ (t.Typed specs stars sizes) s) s3 (formed ξ.threads t2 cs)
-type_ends ξ Γ how specs stars sizes s s1 s2 s3 p t0 t1 t2 forms cs a b f g h i j =
-    let q = typed_so ξ Γ how specs stars s s1 s2 p t0 t1 a b h i in
+pub type_ends : (ξ : Setting) (Γ : Env) (how : Specifying) (place : Place) (specs : t.Specs) (stars : t.Pointers) (sizes : t.Dimensions) (s s1 s2 s3 : State) (p : Specified) (t0 t1 t2 : Shaped) (forms : Bool) (cs : List Constant) →
+    how ≡ in_type place → t0 ≡ specified_type p → forms ≡ specifiers_form false p → t2 ≡ named_type forms t1 →
+    Comes (walk_specifiers ξ Γ how specs s) s1 p → Comes (walk_pointers ξ Γ false t0 stars s1) s2 t1 → Comes (walk_sizes ξ Γ sizes s2) s3 cs →
+    Comes (walk_type ξ Γ place (t.Typed specs stars sizes) s) s3 (formed ξ.threads t2 cs)
+type_ends ξ Γ how place specs stars sizes s s1 s2 s3 p t0 t1 t2 forms cs a b f g h i j =
+    let q = typed_so ξ Γ how place specs stars s s1 s2 p t0 t1 a b h i in
     let e : formed ξ.threads (named_type (specifiers_form false p) t1) cs ≡ formed ξ.threads t2 cs = ap (λ z. formed ξ.threads (named_type z t1) cs) (sym f) ∙ ap (λ z. formed ξ.threads z cs) (sym g) in
     comes (next _ _ q.0 (next _ _ q.1 (next _ _ j (given e))))
 
-pub type_stops : {C : Type 0} (view : C → Formed) (ξ : Setting) (Γ : Env) (how : Specifying) (specs : t.Specs) (stars : t.Pointers) (sizes : t.Dimensions) (s after : State) (e : Stop) (r : Result C Stop) →
-    how ≡ in_type → Stops (first_fault (walk_specs ξ Γ how specs s).seen) e → IsErrAnd r (λ y. y ≡ e) → Reaches view (walk_type ξ Γ (t.Typed specs stars sizes) s) after r
-type_stops view ξ Γ how specs stars sizes s after e r a h j =
-    stopped _ _ s e j (subst (λ how. Stops (first_fault (walk_specs ξ Γ how specs s).seen) e) a h)
+pub type_stops : {C : Type 0} (view : C → Formed) (ξ : Setting) (Γ : Env) (how : Specifying) (place : Place) (specs : t.Specs) (stars : t.Pointers) (sizes : t.Dimensions) (s after : State) (e : Stop) (r : Result C Stop) →
+    how ≡ in_type place → Stops (first_fault (walk_specifiers ξ Γ how specs s).seen) e → IsErrAnd r (λ y. y ≡ e) → Reaches view (walk_type ξ Γ place (t.Typed specs stars sizes) s) after r
+type_stops view ξ Γ how place specs stars sizes s after e r a h j =
+    stopped _ _ s e j (subst (λ how. Stops (first_fault (walk_specifiers ξ Γ how specs s).seen) e) a h)
 
-pub type_stops_at_stars : {C : Type 0} (view : C → Formed) (ξ : Setting) (Γ : Env) (how : Specifying) (specs : t.Specs) (stars : t.Pointers) (sizes : t.Dimensions) (s s1 after : State) (p : Specified) (t0 : Shaped) (e : Stop) (r : Result C Stop) →
-    how ≡ in_type → t0 ≡ specified_type p → Comes (walk_specs ξ Γ how specs s) s1 p → Stops (first_fault (walk_pointers ξ Γ false t0 stars s1).seen) e → IsErrAnd r (λ y. y ≡ e) →
-    Reaches view (walk_type ξ Γ (t.Typed specs stars sizes) s) after r
-type_stops_at_stars view ξ Γ how specs stars sizes s s1 after p t0 e r a b h i j =
-    next _ _ (subst (λ how. Comes (walk_specs ξ Γ how specs s) s1 p) a h) (stopped _ _ s1 e j (subst (λ t. Stops (first_fault (walk_pointers ξ Γ false t stars s1).seen) e) b i))
+pub type_stops_at_stars : {C : Type 0} (view : C → Formed) (ξ : Setting) (Γ : Env) (how : Specifying) (place : Place) (specs : t.Specs) (stars : t.Pointers) (sizes : t.Dimensions) (s s1 after : State) (p : Specified) (t0 : Shaped) (e : Stop) (r : Result C Stop) →
+    how ≡ in_type place → t0 ≡ specified_type p → Comes (walk_specifiers ξ Γ how specs s) s1 p → Stops (first_fault (walk_pointers ξ Γ false t0 stars s1).seen) e → IsErrAnd r (λ y. y ≡ e) →
+    Reaches view (walk_type ξ Γ place (t.Typed specs stars sizes) s) after r
+type_stops_at_stars view ξ Γ how place specs stars sizes s s1 after p t0 e r a b h i j =
+    next _ _ (subst (λ how. Comes (walk_specifiers ξ Γ how specs s) s1 p) a h) (stopped _ _ s1 e j (subst (λ t. Stops (first_fault (walk_pointers ξ Γ false t stars s1).seen) e) b i))
 
-pub type_stops_at_sizes : {C : Type 0} (view : C → Formed) (ξ : Setting) (Γ : Env) (how : Specifying) (specs : t.Specs) (stars : t.Pointers) (sizes : t.Dimensions) (s s1 s2 after : State) (p : Specified) (t0 t1 : Shaped) (e : Stop) (r : Result C Stop) →
-    how ≡ in_type → t0 ≡ specified_type p → Comes (walk_specs ξ Γ how specs s) s1 p → Comes (walk_pointers ξ Γ false t0 stars s1) s2 t1 → Stops (first_fault (walk_sizes ξ Γ sizes s2).seen) e → IsErrAnd r (λ y. y ≡ e) →
-    Reaches view (walk_type ξ Γ (t.Typed specs stars sizes) s) after r
-type_stops_at_sizes view ξ Γ how specs stars sizes s s1 s2 after p t0 t1 e r a b h i k j =
-    let q = typed_so ξ Γ how specs stars s s1 s2 p t0 t1 a b h i in
+pub type_stops_at_sizes : {C : Type 0} (view : C → Formed) (ξ : Setting) (Γ : Env) (how : Specifying) (place : Place) (specs : t.Specs) (stars : t.Pointers) (sizes : t.Dimensions) (s s1 s2 after : State) (p : Specified) (t0 t1 : Shaped) (e : Stop) (r : Result C Stop) →
+    how ≡ in_type place → t0 ≡ specified_type p → Comes (walk_specifiers ξ Γ how specs s) s1 p → Comes (walk_pointers ξ Γ false t0 stars s1) s2 t1 → Stops (first_fault (walk_sizes ξ Γ sizes s2).seen) e → IsErrAnd r (λ y. y ≡ e) →
+    Reaches view (walk_type ξ Γ place (t.Typed specs stars sizes) s) after r
+type_stops_at_sizes view ξ Γ how place specs stars sizes s s1 s2 after p t0 t1 e r a b h i k j =
+    let q = typed_so ξ Γ how place specs stars s s1 s2 p t0 t1 a b h i in
     next _ _ q.0 (next _ _ q.1 (stopped _ _ s2 e j k))
 
 -- ---- members and parameters
@@ -184,58 +197,58 @@ function_stops view ξ Γ inner t0 t1 before stars name ps s s1 first after e r 
     next _ _ h (stopped _ _ s1 e j (enclosed_stops ξ Γ inner ps s1 first e a f i))
 
 pub parameter_ends : {C : Type 0} (view : C → Declared) (x : C) (ξ : Setting) (before : Declared) (how : Specifying) (specs : t.Specs) (stars : t.Pointers) (name : Option Name) (array : t.ParameterArray) (s s1 s2 s3 : State) (p : Specified) (t0 t1 t2 : Shaped) (forms again : Bool) (f : Formed) (at : Place) (rule : Option ℕ) →
-    how ≡ in_type → t0 ≡ specified_type p → forms ≡ specifiers_form false p → t2 ≡ named_type forms t1 → again ≡ is_again ξ before.scope name → at ≡ specs_place specs →
-    Comes (walk_specs ξ before.scope how specs s) s1 p → Comes (walk_pointers ξ before.scope false t0 stars s1) s2 t1 → Comes (walk_array ξ before.scope t2 array s2) s3 f →
+    how ≡ in_type (specs_place specs) → t0 ≡ specified_type p → forms ≡ specifiers_form false p → t2 ≡ named_type forms t1 → again ≡ is_again ξ before.scope name → at ≡ specs_place specs →
+    Comes (walk_specifiers ξ before.scope how specs s) s1 p → Comes (walk_pointers ξ before.scope false t0 stars s1) s2 t1 → Comes (walk_array ξ before.scope t2 array s2) s3 f →
     rule ≡ lowest (facts_in ξ s3) (n.Parameter again f) → rule ≡ None → view x ≡ with_parameter before name f.ctype →
     Reaches view (walk_parameter ξ before (t.Parametric specs stars name array) s) s3 (Ok x)
 parameter_ends view x ξ before how specs stars name array s s1 s2 s3 p t0 t1 t2 forms again f at rule a b c d e g h i j l o m =
-    let q = typed_so ξ before.scope how specs stars s s1 s2 p t0 t1 a b h i in
+    let q = typed_so ξ before.scope how (specs_place specs) specs stars s s1 s2 p t0 t1 a b h i in
     let brackets = subst (λ t. Comes (walk_array ξ before.scope t array s2) s3 f) (d ∙ ap (λ z. named_type z t1) c) j in
     let same = l ∙ ap (λ z. lowest (facts_in ξ s3) (n.Parameter z f)) e in
     next _ _ q.0 (next _ _ q.1 (next _ _ brackets (next _ _ (judge_goes ξ (specs_place specs) (n.Parameter (is_again ξ before.scope name) f) s3 rule same o) (given (sym m)))))
 
 pub parameter_stops : {C : Type 0} (view : C → Declared) (ξ : Setting) (before : Declared) (how : Specifying) (specs : t.Specs) (stars : t.Pointers) (name : Option Name) (array : t.ParameterArray) (s after : State) (e : Stop) (r : Result C Stop) →
-    how ≡ in_type → Stops (first_fault (walk_specs ξ before.scope how specs s).seen) e → IsErrAnd r (λ y. y ≡ e) →
+    how ≡ in_type (specs_place specs) → Stops (first_fault (walk_specifiers ξ before.scope how specs s).seen) e → IsErrAnd r (λ y. y ≡ e) →
     Reaches view (walk_parameter ξ before (t.Parametric specs stars name array) s) after r
 parameter_stops view ξ before how specs stars name array s after e r a h j =
-    stopped _ _ s e j (subst (λ how. Stops (first_fault (walk_specs ξ before.scope how specs s).seen) e) a h)
+    stopped _ _ s e j (subst (λ how. Stops (first_fault (walk_specifiers ξ before.scope how specs s).seen) e) a h)
 
 pub parameter_stops_at_stars : {C : Type 0} (view : C → Declared) (ξ : Setting) (before : Declared) (how : Specifying) (specs : t.Specs) (stars : t.Pointers) (name : Option Name) (array : t.ParameterArray) (s s1 after : State) (p : Specified) (t0 : Shaped) (e : Stop) (r : Result C Stop) →
-    how ≡ in_type → t0 ≡ specified_type p → Comes (walk_specs ξ before.scope how specs s) s1 p → Stops (first_fault (walk_pointers ξ before.scope false t0 stars s1).seen) e → IsErrAnd r (λ y. y ≡ e) →
+    how ≡ in_type (specs_place specs) → t0 ≡ specified_type p → Comes (walk_specifiers ξ before.scope how specs s) s1 p → Stops (first_fault (walk_pointers ξ before.scope false t0 stars s1).seen) e → IsErrAnd r (λ y. y ≡ e) →
     Reaches view (walk_parameter ξ before (t.Parametric specs stars name array) s) after r
 parameter_stops_at_stars view ξ before how specs stars name array s s1 after p t0 e r a b h i j =
-    next _ _ (subst (λ how. Comes (walk_specs ξ before.scope how specs s) s1 p) a h) (stopped _ _ s1 e j (subst (λ t. Stops (first_fault (walk_pointers ξ before.scope false t stars s1).seen) e) b i))
+    next _ _ (subst (λ how. Comes (walk_specifiers ξ before.scope how specs s) s1 p) a h) (stopped _ _ s1 e j (subst (λ t. Stops (first_fault (walk_pointers ξ before.scope false t stars s1).seen) e) b i))
 
 pub parameter_stops_at_array : {C : Type 0} (view : C → Declared) (ξ : Setting) (before : Declared) (how : Specifying) (specs : t.Specs) (stars : t.Pointers) (name : Option Name) (array : t.ParameterArray) (s s1 s2 after : State) (p : Specified) (t0 t1 t2 : Shaped) (forms : Bool) (e : Stop) (r : Result C Stop) →
-    how ≡ in_type → t0 ≡ specified_type p → forms ≡ specifiers_form false p → t2 ≡ named_type forms t1 →
-    Comes (walk_specs ξ before.scope how specs s) s1 p → Comes (walk_pointers ξ before.scope false t0 stars s1) s2 t1 → Stops (first_fault (walk_array ξ before.scope t2 array s2).seen) e → IsErrAnd r (λ y. y ≡ e) →
+    how ≡ in_type (specs_place specs) → t0 ≡ specified_type p → forms ≡ specifiers_form false p → t2 ≡ named_type forms t1 →
+    Comes (walk_specifiers ξ before.scope how specs s) s1 p → Comes (walk_pointers ξ before.scope false t0 stars s1) s2 t1 → Stops (first_fault (walk_array ξ before.scope t2 array s2).seen) e → IsErrAnd r (λ y. y ≡ e) →
     Reaches view (walk_parameter ξ before (t.Parametric specs stars name array) s) after r
 parameter_stops_at_array view ξ before how specs stars name array s s1 s2 after p t0 t1 t2 forms e r a b c d h i k j =
-    let q = typed_so ξ before.scope how specs stars s s1 s2 p t0 t1 a b h i in
+    let q = typed_so ξ before.scope how (specs_place specs) specs stars s s1 s2 p t0 t1 a b h i in
     next _ _ q.0 (next _ _ q.1 (stopped _ _ s2 e j (subst (λ t. Stops (first_fault (walk_array ξ before.scope t array s2).seen) e) (d ∙ ap (λ z. named_type z t1) c) k)))
 
 pub parameter_stops_itself : {C : Type 0} (view : C → Declared) (ξ : Setting) (before : Declared) (how : Specifying) (specs : t.Specs) (stars : t.Pointers) (name : Option Name) (array : t.ParameterArray) (s s1 s2 s3 after : State) (p : Specified) (t0 t1 t2 : Shaped) (forms again : Bool) (f : Formed) (at : Place) (rule : Option ℕ) (e : Stop) (r : Result C Stop) →
-    how ≡ in_type → t0 ≡ specified_type p → forms ≡ specifiers_form false p → t2 ≡ named_type forms t1 → again ≡ is_again ξ before.scope name → at ≡ specs_place specs →
-    Comes (walk_specs ξ before.scope how specs s) s1 p → Comes (walk_pointers ξ before.scope false t0 stars s1) s2 t1 → Comes (walk_array ξ before.scope t2 array s2) s3 f →
+    how ≡ in_type (specs_place specs) → t0 ≡ specified_type p → forms ≡ specifiers_form false p → t2 ≡ named_type forms t1 → again ≡ is_again ξ before.scope name → at ≡ specs_place specs →
+    Comes (walk_specifiers ξ before.scope how specs s) s1 p → Comes (walk_pointers ξ before.scope false t0 stars s1) s2 t1 → Comes (walk_array ξ before.scope t2 array s2) s3 f →
     rule ≡ lowest (facts_in ξ s3) (n.Parameter again f) → Refuses rule at e → IsErrAnd r (λ y. y ≡ e) →
     Reaches view (walk_parameter ξ before (t.Parametric specs stars name array) s) after r
 parameter_stops_itself view ξ before how specs stars name array s s1 s2 s3 after p t0 t1 t2 forms again f at rule e r a b c d g m h i k l o j =
-    let q = typed_so ξ before.scope how specs stars s s1 s2 p t0 t1 a b h i in
+    let q = typed_so ξ before.scope how (specs_place specs) specs stars s s1 s2 p t0 t1 a b h i in
     let brackets = subst (λ t. Comes (walk_array ξ before.scope t array s2) s3 f) (d ∙ ap (λ z. named_type z t1) c) k in
     let same = l ∙ ap (λ z. lowest (facts_in ξ s3) (n.Parameter z f)) g in
     next _ _ q.0 (next _ _ q.1 (next _ _ brackets (stopped _ _ s3 e j (judge_stops ξ (specs_place specs) (n.Parameter (is_again ξ before.scope name) f) s3 rule e same (subst (λ at. Refuses rule at e) m o)))))
 
 -- ---- lines of members
 
-line_so : (ξ : Setting) (Γ : Env) (how : Specifying) (before ms : List Member) (specs : t.Specs) (first : t.Declarator) (s s1 s2 : State) (p : Specified) (t0 : Shaped) → how ≡ in_type → t0 ≡ specified_type p →
-    Comes (walk_specs ξ Γ how specs s) s1 p → Comes (walk_member ξ Γ t0 before first s1) s2 ms →
-    Comes (walk_specs ξ Γ in_type specs s) s1 p × Comes (walk_member ξ Γ (specified_type p) before first s1) s2 ms
+line_so : (ξ : Setting) (Γ : Env) (how : Specifying) (before ms : List Member) (specs : t.Specs) (first : t.Declarator) (s s1 s2 : State) (p : Specified) (t0 : Shaped) → how ≡ in_type (specs_place specs) → t0 ≡ specified_type p →
+    Comes (walk_specifiers ξ Γ how specs s) s1 p → Comes (walk_member ξ Γ t0 before first s1) s2 ms →
+    Comes (walk_specifiers ξ Γ (in_type (specs_place specs)) specs s) s1 p × Comes (walk_member ξ Γ (specified_type p) before first s1) s2 ms
 line_so ξ Γ how before ms specs first s s1 s2 p t0 a b h i =
-    (subst (λ how. Comes (walk_specs ξ Γ how specs s) s1 p) a h, subst (λ t. Comes (walk_member ξ Γ t before first s1) s2 ms) b i)
+    (subst (λ how. Comes (walk_specifiers ξ Γ how specs s) s1 p) a h, subst (λ t. Comes (walk_member ξ Γ t before first s1) s2 ms) b i)
 
 pub line_goes : (ξ : Setting) (Γ : Env) (how : Specifying) (before ms all : List Member) (specs : t.Specs) (first : t.Declarator) (nexts : t.NextDeclarators) (semicolon : Span) (more : t.Members) (s s1 s2 s3 s4 : State) (p : Specified) (t0 : Shaped) (forms : Bool) (at : Place) (rule : Option ℕ) →
-    how ≡ in_type → t0 ≡ specified_type p → forms ≡ specifiers_form false p → at ≡ specs_place specs →
-    Comes (walk_specs ξ Γ how specs s) s1 p → Comes (walk_member ξ Γ t0 before first s1) s2 ms → Comes (walk_next_members ξ Γ t0 ms nexts s2) s3 all →
+    how ≡ in_type (specs_place specs) → t0 ≡ specified_type p → forms ≡ specifiers_form false p → at ≡ specs_place specs →
+    Comes (walk_specifiers ξ Γ how specs s) s1 p → Comes (walk_member ξ Γ t0 before first s1) s2 ms → Comes (walk_next_members ξ Γ t0 ms nexts s2) s3 all →
     rule ≡ lowest (facts_in ξ s3) (n.Specifies forms) → rule ≡ None → s4 ≡ ended ξ.most at s3 →
     Same (walk_members ξ Γ before (t.AndMember specs first nexts semicolon more) s) (walk_members ξ Γ all more s4)
 line_goes ξ Γ how before ms all specs first nexts semicolon more s s1 s2 s3 s4 p t0 forms at rule a b c d h i j l o m =
@@ -248,27 +261,27 @@ line_goes ξ Γ how before ms all specs first nexts semicolon more s s1 s2 s3 s4
     (same_trans _ _ _ (goes_on _ _ s s1 p q.0) (same_trans _ _ _ (goes_on _ _ s1 s2 ms q.1) (same_trans _ _ _ (goes_on _ _ s2 s3 all others) (goes_on _ _ s3 _ _ judged))))
 
 pub line_stops : {C : Type 0} (view : C → List Member) (ξ : Setting) (Γ : Env) (how : Specifying) (before : List Member) (specs : t.Specs) (first : t.Declarator) (nexts : t.NextDeclarators) (semicolon : Span) (more : t.Members) (s after : State) (e : Stop) (r : Result C Stop) →
-    how ≡ in_type → Stops (first_fault (walk_specs ξ Γ how specs s).seen) e → IsErrAnd r (λ y. y ≡ e) →
+    how ≡ in_type (specs_place specs) → Stops (first_fault (walk_specifiers ξ Γ how specs s).seen) e → IsErrAnd r (λ y. y ≡ e) →
     Reaches view (walk_members ξ Γ before (t.AndMember specs first nexts semicolon more) s) after r
 line_stops view ξ Γ how before specs first nexts semicolon more s after e r a h j =
-    stopped _ _ s e j (subst (λ how. Stops (first_fault (walk_specs ξ Γ how specs s).seen) e) a h)
+    stopped _ _ s e j (subst (λ how. Stops (first_fault (walk_specifiers ξ Γ how specs s).seen) e) a h)
 
 pub line_stops_at_first : {C : Type 0} (view : C → List Member) (ξ : Setting) (Γ : Env) (how : Specifying) (before : List Member) (specs : t.Specs) (first : t.Declarator) (nexts : t.NextDeclarators) (semicolon : Span) (more : t.Members) (s s1 after : State) (p : Specified) (t0 : Shaped) (e : Stop) (r : Result C Stop) →
-    how ≡ in_type → t0 ≡ specified_type p → Comes (walk_specs ξ Γ how specs s) s1 p → Stops (first_fault (walk_member ξ Γ t0 before first s1).seen) e → IsErrAnd r (λ y. y ≡ e) →
+    how ≡ in_type (specs_place specs) → t0 ≡ specified_type p → Comes (walk_specifiers ξ Γ how specs s) s1 p → Stops (first_fault (walk_member ξ Γ t0 before first s1).seen) e → IsErrAnd r (λ y. y ≡ e) →
     Reaches view (walk_members ξ Γ before (t.AndMember specs first nexts semicolon more) s) after r
 line_stops_at_first view ξ Γ how before specs first nexts semicolon more s s1 after p t0 e r a b h i j =
-    next _ _ (subst (λ how. Comes (walk_specs ξ Γ how specs s) s1 p) a h) (stopped _ _ s1 e j (subst (λ t. Stops (first_fault (walk_member ξ Γ t before first s1).seen) e) b i))
+    next _ _ (subst (λ how. Comes (walk_specifiers ξ Γ how specs s) s1 p) a h) (stopped _ _ s1 e j (subst (λ t. Stops (first_fault (walk_member ξ Γ t before first s1).seen) e) b i))
 
 pub line_stops_at_others : {C : Type 0} (view : C → List Member) (ξ : Setting) (Γ : Env) (how : Specifying) (before ms : List Member) (specs : t.Specs) (first : t.Declarator) (nexts : t.NextDeclarators) (semicolon : Span) (more : t.Members) (s s1 s2 after : State) (p : Specified) (t0 : Shaped) (e : Stop) (r : Result C Stop) →
-    how ≡ in_type → t0 ≡ specified_type p → Comes (walk_specs ξ Γ how specs s) s1 p → Comes (walk_member ξ Γ t0 before first s1) s2 ms → Stops (first_fault (walk_next_members ξ Γ t0 ms nexts s2).seen) e → IsErrAnd r (λ y. y ≡ e) →
+    how ≡ in_type (specs_place specs) → t0 ≡ specified_type p → Comes (walk_specifiers ξ Γ how specs s) s1 p → Comes (walk_member ξ Γ t0 before first s1) s2 ms → Stops (first_fault (walk_next_members ξ Γ t0 ms nexts s2).seen) e → IsErrAnd r (λ y. y ≡ e) →
     Reaches view (walk_members ξ Γ before (t.AndMember specs first nexts semicolon more) s) after r
 line_stops_at_others view ξ Γ how before ms specs first nexts semicolon more s s1 s2 after p t0 e r a b h i k j =
     let q = line_so ξ Γ how before ms specs first s s1 s2 p t0 a b h i in
     next _ _ q.0 (next _ _ q.1 (stopped _ _ s2 e j (subst (λ t. Stops (first_fault (walk_next_members ξ Γ t ms nexts s2).seen) e) b k)))
 
 pub line_stops_itself : {C : Type 0} (view : C → List Member) (ξ : Setting) (Γ : Env) (how : Specifying) (before ms all : List Member) (specs : t.Specs) (first : t.Declarator) (nexts : t.NextDeclarators) (semicolon : Span) (more : t.Members) (s s1 s2 s3 after : State) (p : Specified) (t0 : Shaped) (forms : Bool) (at : Place) (rule : Option ℕ) (e : Stop) (r : Result C Stop) →
-    how ≡ in_type → t0 ≡ specified_type p → forms ≡ specifiers_form false p → at ≡ specs_place specs →
-    Comes (walk_specs ξ Γ how specs s) s1 p → Comes (walk_member ξ Γ t0 before first s1) s2 ms → Comes (walk_next_members ξ Γ t0 ms nexts s2) s3 all →
+    how ≡ in_type (specs_place specs) → t0 ≡ specified_type p → forms ≡ specifiers_form false p → at ≡ specs_place specs →
+    Comes (walk_specifiers ξ Γ how specs s) s1 p → Comes (walk_member ξ Γ t0 before first s1) s2 ms → Comes (walk_next_members ξ Γ t0 ms nexts s2) s3 all →
     rule ≡ lowest (facts_in ξ s3) (n.Specifies forms) → Refuses rule at e → IsErrAnd r (λ y. y ≡ e) →
     Reaches view (walk_members ξ Γ before (t.AndMember specs first nexts semicolon more) s) after r
 line_stops_itself view ξ Γ how before ms all specs first nexts semicolon more s s1 s2 s3 after p t0 forms at rule e r a b c d h i k l o j =

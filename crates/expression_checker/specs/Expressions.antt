@@ -13,6 +13,7 @@ use Rattle.upc_tree.specs.Expression.{AndDeclarator, Declarator, ObjectDeclarato
 use Rattle.upc_tree.specs.Expression.{NoParameters, VoidParameters, SomeParameters, Parameter, Parametric}
 use Rattle.upc_tree.specs.Expression.{NextParameters, NoNextParameters, AndParameter, ParameterArray, NoArray}
 use Rattle.upc_tree.specs.Expression.{UnsizedArray, SizedArray}
+use Rattle.upc_text.specs.declared.place.Place.{Place}
 use Rattle.upc_types.specs.Types.{Member}
 use Rattle.typing_rules.specs.declared.attribute.Constant.{Constant as Value}
 use Rattle.typed_tree.specs.Scopes.{Setting, spelling, Env, meaning, inside}
@@ -20,9 +21,9 @@ use Rattle.typing_rules.specs.Nodes as n
 use Rattle.typing_rules.specs.Nodes.{Use, Formed}
 use Rattle.typed_tree.specs.Tree as k
 use Rattle.typed_tree.specs.Tree.{Exprs, attr_of, attrs_of, place_of}
-use Rattle.walk_state.specs.Walk.{Walk, give, andthen, judge, finish, enclosed}
+use Rattle.walk_state.specs.Walk.{Walk, give, andthen, judge, finish, enclosed, facts_in}
 use Rattle.type_specifiers.specs.Specifiers as s
-use Rattle.type_specifiers.specs.Specifiers.{Specified, nothing_specified, both_specified, specifiers_form}
+use Rattle.type_specifiers.specs.Specifiers.{Specified, nothing_specified, both_specified, forms_type, specifiers_form}
 use Rattle.type_specifiers.specs.Specifiers.{specified_type, Shaped, pointer_to, no_quals, both_quals, formed}
 use Rattle.expression_nodes.specs.Marks.{number_kind, size_operator, unary_node, unary_kind, postfix_operator}
 use Rattle.expression_nodes.specs.Marks.{binary_node, binary_kind, right_use, assign_node, assign_kind}
@@ -39,6 +40,19 @@ use Rattle.walk_state.specs.Known.{refer, close_struct, open_struct, is_again}
 -- A constant expression is done: it stands where one is asked for.
 abbrev pub constantly : Setting → k.Expr → Walk Value
 constantly ξ a = andthen (judge ξ (place_of a) (n.Constantly (attr_of a))) (λ u. give (attr_of a).constant)
+
+-- Specifiers end: those that form no type break rule 4 there, before any rule that asks for their type. The
+-- declaration that they stand in goes on, so nothing is counted yet.
+unfoldable pub end_specifiers : Setting → Place → Specified → Walk (Unit {0})
+end_specifiers ξ at p s = record {
+  seen = record { at = at; facts = facts_in ξ s; node = n.Specifies (forms_type p) } ∷ [];
+  state = s;
+  value = tt {0};
+}
+
+-- Specifiers with their end, which comes before what stands behind them.
+abbrev pub to_their_end : Setting → Place → Walk Specified → Walk Specified
+to_their_end ξ at specifiers = andthen specifiers (λ p. andthen (end_specifiers ξ at p) (λ u. give p))
 
 -- ---- the walk
 
@@ -75,10 +89,10 @@ abbrev mutual
       andthen (walk ξ Γ n.Measured a) (λ x.
       finish ξ (at span) (n.SizeOf (size_operator word) (attr_of x)) (λ φ. k.SizeOf (size_operator word) x))
   walk ξ Γ how (SizeOfType word span left type right) =
-      andthen (walk_type ξ Γ type) (λ t.
+      andthen (walk_type ξ Γ (at span) type) (λ t.
       finish ξ (at span) (n.SizeOfType (size_operator word) t) (λ φ. k.SizeOfType (size_operator word) t.ctype))
   walk ξ Γ how (Cast left type right a) =
-      andthen (walk_type ξ Γ type) (λ t. andthen (walk ξ Γ (n.Into t.ctype) a) (λ x.
+      andthen (walk_type ξ Γ (at left) type) (λ t. andthen (walk ξ Γ (n.Into t.ctype) a) (λ x.
       finish ξ (at left) (n.Cast t (attr_of x)) (λ φ. k.Cast x)))
   walk ξ Γ how (Binary a mark span b) =
       andthen (walk ξ Γ n.Plain a) (λ x. andthen (walk ξ Γ n.Plain b) (λ y.
@@ -106,10 +120,11 @@ abbrev mutual
       andthen (walk ξ Γ (first_use uses) value) (λ x. andthen (walk_more ξ Γ (later_uses uses) more) (λ xs.
       give (k.AndExpr x xs)))
 
-  -- A type name.
-  pub walk_type : Setting → Env → TypeName → Walk Formed
-  walk_type ξ Γ (Typed specs pointers sizes) =
-      andthen (walk_specs ξ Γ in_type specs) (λ p. andthen (walk_pointers ξ Γ false (specified_type p) pointers) (λ t.
+  -- A type name, which is refused there.
+  pub walk_type : Setting → Env → Place → TypeName → Walk Formed
+  walk_type ξ Γ at (Typed specs pointers sizes) =
+      andthen (to_their_end ξ at (walk_specs ξ Γ (in_type at) specs)) (λ p.
+      andthen (walk_pointers ξ Γ false (specified_type p) pointers) (λ t.
       andthen (walk_sizes ξ Γ sizes) (λ ns. give (formed ξ.threads (named_type (specifiers_form false p) t) ns))))
 
   -- Specifiers and qualifiers.
@@ -168,7 +183,8 @@ abbrev mutual
   pub walk_members : Setting → Env → List Member → Members → Walk (List Member)
   walk_members ξ Γ before NoMembers = give before
   walk_members ξ Γ before (AndMember specs first next semicolon more) =
-      andthen (walk_specs ξ Γ in_type specs) (λ p. andthen (walk_member ξ Γ (specified_type p) before first) (λ ms.
+      andthen (to_their_end ξ (specs_place specs) (walk_specs ξ Γ (in_type (specs_place specs)) specs)) (λ p.
+      andthen (walk_member ξ Γ (specified_type p) before first) (λ ms.
       andthen (walk_next_members ξ Γ (specified_type p) ms next) (λ all.
       andthen (judge ξ (specs_place specs) (n.Specifies (specifiers_form false p))) (λ u. walk_members ξ Γ all more))))
 
@@ -203,7 +219,7 @@ abbrev mutual
 
   pub walk_parameter : Setting → Declared → Parameter → Walk Declared
   walk_parameter ξ before (Parametric specs pointers name array) =
-      andthen (walk_specs ξ before.scope in_type specs) (λ p.
+      andthen (to_their_end ξ (specs_place specs) (walk_specs ξ before.scope (in_type (specs_place specs)) specs)) (λ p.
       andthen (walk_pointers ξ before.scope false (specified_type p) pointers) (λ t.
       andthen (walk_array ξ before.scope (named_type (specifiers_form false p) t) array) (λ f.
       andthen (judge ξ (specs_place specs) (n.Parameter (is_again ξ before.scope name) f)) (λ u.
@@ -215,3 +231,7 @@ abbrev mutual
   walk_array ξ Γ t (UnsizedArray left right) = give (parameter_array ξ.threads t None)
   walk_array ξ Γ t (SizedArray left size right) =
       andthen (walk ξ Γ n.Plain size) (λ a. andthen (constantly ξ a) (λ c. give (parameter_array ξ.threads t (Some c))))
+
+-- Specifiers and qualifiers with their end.
+abbrev pub walk_specifiers : Setting → Env → Specifying → Specs → Walk Specified
+walk_specifiers ξ Γ how specs = to_their_end ξ how.at (walk_specs ξ Γ how specs)

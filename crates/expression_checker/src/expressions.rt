@@ -235,7 +235,7 @@ fn walk_typed(
             operand,
             ..
         } => {
-            let t = walk_type(operand, setting, env, tags, known)?;
+            let t = walk_type(operand, at.place, setting, env, tags, known)?;
             finish_size_of_type(setting, known, *word, at.place, t)
         }
         upc_tree::Expr::Cast {
@@ -244,7 +244,7 @@ fn walk_typed(
             operand,
             ..
         } => {
-            let t = walk_type(target, setting, env, tags, known)?;
+            let t = walk_type(target, open.place, setting, env, tags, known)?;
             let a = walk(operand, Use::Into(&t.ctype), setting, env, tags, known)?;
             finish_cast(setting.alloc, open.place, &t, a)
         }

@@ -24,11 +24,11 @@ use type_specifiers::shaped::{
 };
 use type_specifiers::specified::{
     Blocks, Qualifier, Quals, Specified, Specifier, Specifying, add_qual, add_specifier,
-    block_size, in_type, no_quals, nothing_specified, specifiers_form,
+    block_size, forms_type, in_type, no_quals, nothing_specified, specifiers_form,
 };
 use typed_tree::env::{Env, inside};
 use typing_rules::{Constant, Formed, Use};
-use upc_text::Stop;
+use upc_text::{Place, Stop};
 use upc_tree::{
     Declarator, Dimension, Layout, NextDeclarator, NextParameter, Parameter, ParameterArray,
     Parameters, Pointer, Qual, Spec, TypeName,
@@ -40,19 +40,20 @@ use walk_state::places::{declarator_place, specs_place};
 use walk_state::setting::{Setting, spelling};
 use walk_state::tags::{Tags, enclosed};
 
-/// A type name.
+/// A type name, which is refused there.
 #[cycle(walk)]
 pub fn walk_type(
     t: &TypeName,
+    at: Place,
     setting: Setting<'_>,
     env: &Env<'_>,
     tags: &mut Tags<'_>,
     known: &mut Known,
 ) -> Result<Formed, Stop>
     ensures { Meets view_formed (pure.walk_type (view_setting setting.entry) (view_env env.now)
-        (view_type t.now) (state_of tags.old known.old)) (state_of tags.new known.new) result }
+        at (view_type t.now) (state_of tags.old known.old)) (state_of tags.new known.new) result }
 {
-    let found = walk_specs(t.specs.as_slice(), in_type(), setting, env, tags, known)?;
+    let found = walk_specifiers(t.specs.as_slice(), in_type(at), setting, env, tags, known)?;
     let shaped = specified_type(&found);
     let shaped = walk_pointers(
         t.pointers.as_slice(),
@@ -68,9 +69,27 @@ pub fn walk_type(
     Ok(formed(setting.alloc, setting.threads, shaped, sizes)?)
 }
 
-/// Specifiers and qualifiers, where this stands around them.
+/// Specifiers and qualifiers, where this stands around them. They form a type.
 #[cycle(walk)]
-pub fn walk_specs(
+pub fn walk_specifiers(
+    specs: &[Spec],
+    how: Specifying,
+    setting: Setting<'_>,
+    env: &Env<'_>,
+    tags: &mut Tags<'_>,
+    known: &mut Known,
+) -> Result<Specified, Stop>
+    ensures { Meets view_specified (pure.walk_specifiers (view_setting setting.entry) (view_env env.now)
+        (view_specifying how) (specs_of (map view_spec specs.now)) (state_of tags.old known.old))
+        (state_of tags.new known.new) result }
+{
+    let found = walk_specs(specs, how, setting, env, tags, known)?;
+    judged(specifies(forms_type(&found)), how.at)?;
+    Ok(found)
+}
+
+#[cycle(walk)]
+fn walk_specs(
     specs: &[Spec],
     how: Specifying,
     setting: Setting<'_>,
@@ -271,19 +290,13 @@ fn walk_members(
 {
     let mut members = Vec::new(setting.alloc);
     for line in lines {
-        let found = walk_specs(line.specs.as_slice(), in_type(), setting, env, tags, known)?;
+        let specs = line.specs.as_slice();
+        let at = specs_place(specs);
+        let found = walk_specifiers(specs, in_type(at), setting, env, tags, known)?;
         let t = specified_type(&found);
         walk_member(&line.first, &t, &mut members, setting, env, tags, known)?;
-        walk_next_members(
-            line.more.as_slice(),
-            &t,
-            &mut members,
-            setting,
-            env,
-            tags,
-            known,
-        )?;
-        let at = specs_place(line.specs.as_slice());
+        let more = line.more.as_slice();
+        walk_next_members(more, &t, &mut members, setting, env, tags, known)?;
         judged(specifies(specifiers_form(false, &found)), at)?;
         note_end(known, at);
     }
@@ -428,13 +441,15 @@ fn walk_parameter(
     }) (view_parameter x.now) (state_of tags.old
         known.old)) (state_of tags.new known.new) result }
 {
-    let found = walk_specs(x.specs.as_slice(), in_type(), setting, scope, tags, known)?;
+    let specs = x.specs.as_slice();
+    let at = specs_place(specs);
+    let found = walk_specifiers(specs, in_type(at), setting, scope, tags, known)?;
     let t = specified_type(&found);
-    let t = walk_pointers(x.pointers.as_slice(), false, t, setting, scope, tags, known)?;
+    let stars = x.pointers.as_slice();
+    let t = walk_pointers(stars, false, t, setting, scope, tags, known)?;
     let t = named_type(specifiers_form(false, &found), t);
     let t = walk_array(&x.array, t, setting, scope, tags, known)?;
     let again = is_again(setting, scope, x.name);
-    let at = specs_place(x.specs.as_slice());
     judged(parameter(&known.structs, again, &t), at)?;
     Ok(add_parameter(setting.alloc, all, scope, x.name, &t.ctype)?)
 }

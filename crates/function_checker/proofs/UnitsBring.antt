@@ -19,9 +19,9 @@ use Rattle.walk_state.specs.Counts.{or_place, ended, with_more}
 use Rattle.walk_state.specs.Places.{specs_place}
 use Rattle.walk_state.specs.Walk.{Walk, give, andthen, judge, update, enclosed}
 use Rattle.type_specifiers.specs.Specifiers.{specified_type, specifiers_form}
-use Rattle.expression_checker.specs.Expressions.{walk_parameters, walk_pointers, walk_specs}
+use Rattle.expression_checker.specs.Expressions.{walk_parameters, walk_pointers, walk_specifiers}
 use Rattle.declaration_checker.specs.Declarations.{Behind, walk_declaration}
-use Rattle.declaration_checker.proofs.Coming.{Keeps, keeps_judge, keeps_look, keeps_update, Brings, kept, brings, goes_on, brings_give, brings_judge, brings_enclosed, specs_keep, pointers_keep, parameters_keep, declaration_brings}
+use Rattle.declaration_checker.proofs.Coming.{Keeps, keeps_judge, keeps_look, keeps_update, Brings, kept, brings, goes_on, brings_give, brings_judge, brings_enclosed, keeps_to_their_end, specs_keep, pointers_keep, parameters_keep, declaration_brings}
 use Rattle.statement_checker.specs.Statements.{walk_block}
 use Rattle.statement_checker.proofs.StatementsBring.{block_brings}
 use Rattle.typed_tree.specs.LocalObjects.{objects_in}
@@ -52,7 +52,7 @@ definition_brings ξ strict before place forms result name ps body =
 function_brings : (ξ : Setting) (strict : Bool) (before : Made) (place : Place) (specs : Specs) (pointers : Pointers) (name : Name) (ps : Parameters) (body : Compound) →
     Brings (made_count before) (walk_function ξ strict before place specs pointers name ps body) made_count
 function_brings ξ strict before place specs pointers name ps body =
-    kept (specs_keep ξ _ _ specs) (λ p. kept (pointers_keep ξ _ _ _ pointers) (λ t. brings_enclosed (definition_brings ξ strict before place _ _ name ps body)))
+    kept (keeps_to_their_end ξ _ (specs_keep ξ _ _ specs)) (λ p. kept (pointers_keep ξ _ _ _ pointers) (λ t. brings_enclosed (definition_brings ξ strict before place _ _ name ps body)))
 
 external_brings : (ξ : Setting) (strict : Bool) (before : Made) (x : External) → Brings (made_count before) (walk_external ξ strict before x) made_count
 external_brings ξ strict before (PragmaPart pragma) = brings_give _ refl
@@ -126,7 +126,7 @@ definition_ends ξ strict before place forms result name ps body =
 function_ends : (ξ : Setting) (strict : Bool) (before : Made) (place : Place) (specs : Specs) (pointers : Pointers) (name : Name) (ps : Parameters) (body : Compound) →
     Ends ξ.most (walk_function ξ strict before place specs pointers name ps body)
 function_ends ξ strict before place specs pointers name ps body =
-    ends_last (walk_specs ξ before.scope in_definition specs) (λ p.
+    ends_last (walk_specifiers ξ before.scope (in_definition place) specs) (λ p.
     ends_last (walk_pointers ξ before.scope false (specified_type p) pointers) (λ t.
     ends_enclosed (definition_ends ξ strict before place (specifiers_form true p && t.forms) t.ctype name ps body)))
 

@@ -24,7 +24,7 @@ use Rattle.walk_state.specs.Walk.{Walk, give, andthen, judge, update, look, encl
 use Rattle.type_specifiers.specs.Specifiers.{specifiers_form, specified_type}
 use Rattle.walk_state.specs.Places.{no_place, specs_place}
 use Rattle.type_specifiers.specs.Shapes.{Specifying}
-use Rattle.expression_checker.specs.Expressions.{walk_specs, walk_pointers, walk_parameters}
+use Rattle.expression_checker.specs.Expressions.{walk_specifiers, walk_pointers, walk_parameters}
 use Rattle.declaration_checker.specs.Declarations.{walk_declaration}
 use Rattle.walk_state.specs.Known.{definition_again}
 use Rattle.statement_checker.specs.Statements.{walk_block}
@@ -68,8 +68,8 @@ abbrev pub earlier : Setting → Env → ℕ → Signature → Walk Earlier
 earlier ξ Γ name signature =
     look (λ s. record { again = definition_again ξ Γ s name; differs = differs name signature s.functions })
 
-abbrev pub in_definition : Specifying
-in_definition = record { star = false; static = true; alone = false }
+abbrev pub in_definition : Place → Specifying
+in_definition at = record { at = at; star = false; static = true; alone = false }
 
 -- The function is in scope in its body, and its parameters and its body are one scope.
 abbrev pub with_definition : Setting → Made → Place → ℕ → Signature → Statement → Made
@@ -106,7 +106,7 @@ walk_definition ξ strict before place forms result name parameters body =
 
 abbrev pub walk_function : Setting → Bool → Made → Place → Specs → Pointers → Name → Parameters → Compound → Walk Made
 walk_function ξ strict before place specs pointers name parameters body =
-    andthen (walk_specs ξ before.scope in_definition specs) (λ p.
+    andthen (walk_specifiers ξ before.scope (in_definition place) specs) (λ p.
     andthen (walk_pointers ξ before.scope false (specified_type p) pointers) (λ t.
     enclosed (walk_definition ξ strict before place (specifiers_form true p && t.forms) t.ctype name parameters body)))
 

@@ -23,7 +23,7 @@ ghost use Rattle.function_checker.specs.Parts as parts;
 ghost use Rattle.function_checker.specs.Units as pure;
 ghost use Rattle.function_checker.specs.ViewEarlier.{view_earlier};
 
-use expression_checker::types::{walk_parameters, walk_pointers, walk_specs};
+use expression_checker::types::{walk_parameters, walk_pointers, walk_specifiers};
 use node_attributes::attributes::value_type;
 use rule_checks::declarations;
 use statement_checker::statements::walk_block;
@@ -43,10 +43,11 @@ use walk_state::setting::{Setting, spelling};
 use walk_state::signatures::copy_signature;
 use walk_state::tags::{Tags, enclosed};
 
-fn in_definition() -> Specifying
-    ensures { view_specifying result ≡ pure.in_definition }
+fn in_definition(at: Place) -> Specifying
+    ensures { view_specifying result ≡ pure.in_definition at }
 {
     Specifying {
+        at,
         star: false,
         may_be_static: true,
         alone: false,
@@ -294,7 +295,7 @@ pub fn walk_function(
 {
     let specs = function.specs.as_slice();
     let place = specs_place(specs);
-    let found = walk_specs(specs, in_definition(), setting, env, tags, known)?;
+    let found = walk_specifiers(specs, in_definition(place), setting, env, tags, known)?;
     let shaped = specified_type(&found);
     let pointers = function.pointers.as_slice();
     let t = walk_pointers(pointers, false, shaped, setting, env, tags, known)?;

@@ -139,7 +139,7 @@ arms_behind (x ∷ xs) = ap (and_arm x) (arms_behind xs)
 
 -- The arms so far in front of others.
 abbrev pub armed_behind : List Arm → Armed → Armed
-armed_behind xs y = record { arms = behind and_arm xs y.arms; tests = map attr_tested xs ++ y.tests }
+armed_behind xs y = record { arms = behind and_arm xs y.arms; tests = map attr_tested xs ++ y.tests; scope = y.scope }
 
 pub arm_pushed : (xs zs : List Arm) (x : Arm) (y : Armed) → zs ≡ xs ++ (x ∷ []) → armed_behind xs (with_arm (view_expr x.test.value) (view_statement x.body) y) ≡ armed_behind zs y
 arm_pushed xs zs x y e =

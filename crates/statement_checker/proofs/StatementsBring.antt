@@ -86,7 +86,7 @@ mutual
   statement_brings ξ Γ c strict (s.Block compound) = block_brings ξ _ c strict compound
   statement_brings ξ Γ c strict (s.Value value semicolon) = kept (value_keeps ξ Γ value) (λ a. brings_give _ refl)
   statement_brings ξ Γ c strict (s.If word test body more last) =
-      brings_enclosed (kept (test_keeps ξ _ test) (λ a. brings (brings_enclosed (statement_brings ξ _ c strict body)) (λ b. brings (else_ifs_bring ξ _ c strict more) (λ x.
+      brings_enclosed (kept (test_keeps ξ _ test) (λ a. brings (brings_enclosed (statement_brings ξ _ c strict body)) (λ b. brings (else_ifs_bring ξ _ _ c strict more) (λ x.
       brings (otherwise_brings ξ _ c strict last) (λ o. kept (keeps_judge ξ _ _ (λ s. refl)) (λ u. brings_give _ (omega (arith, length-append {A = k.DeclaredObject}))))))))
   statement_brings ξ Γ c strict (s.Switch word test left items right) =
       brings_enclosed (kept (test_keeps ξ _ test) (λ a. brings (brings_enclosed (switch_brings ξ _ _ strict _ items)) (λ x.
@@ -127,11 +127,11 @@ mutual
   switch_brings ξ Γ c strict kind (AndSwitchItem (SwitchStatement statement) more) =
       brings (statement_brings ξ Γ c strict statement) (λ y. brings (switch_brings ξ Γ c strict kind more) (λ x. brings_give _ (omega (arith, length-append {A = k.DeclaredObject}))))
 
-  else_ifs_bring : (ξ : Setting) (Γ : Env) (c : Around) (strict : Bool) (x : ElseIfs) → Brings 0 (walk_else_ifs ξ Γ c strict x) by_armed
-  else_ifs_bring ξ Γ c strict NoElseIfs = brings_give _ refl
-  else_ifs_bring ξ Γ c strict (AndElseIf other word test body more) =
-      kept (test_keeps ξ Γ test) (λ a. brings (brings_enclosed (statement_brings ξ _ c strict body)) (λ b.
-      brings (else_ifs_bring ξ Γ c strict more) (λ x. brings_give _ (omega (arith, length-append {A = k.DeclaredObject})))))
+  else_ifs_bring : (ξ : Setting) (Γ Δ : Env) (c : Around) (strict : Bool) (x : ElseIfs) → Brings 0 (walk_else_ifs ξ Γ Δ c strict x) by_armed
+  else_ifs_bring ξ Γ Δ c strict NoElseIfs = brings_give _ refl
+  else_ifs_bring ξ Γ Δ c strict (AndElseIf other word test body more) =
+      kept (test_keeps ξ Δ test) (λ a. brings (brings_enclosed (statement_brings ξ _ c strict body)) (λ b.
+      brings (else_ifs_bring ξ Γ _ c strict more) (λ x. brings_give _ (omega (arith, length-append {A = k.DeclaredObject})))))
 
   otherwise_brings : (ξ : Setting) (Γ : Env) (c : Around) (strict : Bool) (x : Otherwise) → Brings 0 (walk_otherwise ξ Γ c strict x) declared_by_last
   otherwise_brings ξ Γ c strict NoOtherwise = brings_give _ refl

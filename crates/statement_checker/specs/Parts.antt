@@ -21,7 +21,7 @@ use Rattle.statement_nodes.specs.Judged.{tests_of}
 abbrev pub if_part : Setting → Bool → Span → Test → s.Statement → ElseIfs → Otherwise → Around → Env → Walk k.Statement
 if_part ξ strict word test body more last c Γ =
     andthen (walk_test ξ Γ test) (λ a. andthen (enclosed (walk_statement ξ (inside Γ) c strict body)) (λ b.
-    andthen (walk_else_ifs ξ Γ c strict more) (λ x. andthen (walk_otherwise ξ Γ c strict last) (λ o.
+    andthen (walk_else_ifs ξ Γ (inside Γ) c strict more) (λ x. andthen (walk_otherwise ξ x.scope c strict last) (λ o.
     andthen (judge ξ (at word) (n.Tests (attr_of a ∷ x.tests))) (λ u.
     give (k.Stands (at word) (k.If (k.AndArm a b x.arms) o)))))))
 

@@ -20,7 +20,7 @@ use Rattle.typed_tree.specs.declared.tree.Synchronises.TheVariants as y
 use Rattle.typing_rules.specs.declared.attribute.Constant.{Constant}
 use Rattle.typing_rules.specs.declared.attribute.Constant.TheVariants.{Known}
 use Rattle.typing_rules.specs.Values.{base_kind}
-use Rattle.typed_tree.specs.Scopes.{Setting, Env, inside}
+use Rattle.typed_tree.specs.Scopes.{Setting, Env, Scope, Within, inside, level_of, counts_of}
 use Rattle.typing_rules.specs.Attributes.{base}
 use Rattle.typing_rules.specs.Rules.{label_kind}
 use Rattle.typing_rules.specs.Nodes as n
@@ -120,13 +120,19 @@ with_statement s x = record { items = k.AndSwitchStatement s x.items; labels = x
 
 -- ---- statements
 
--- What a part of a statement makes, with the conditions that are judged at the statement.
+-- The further arms of an `if`, with the conditions that are judged at the statement, and the scope of the part behind
+-- the last `else`.
 pub record Armed : Type 0 where
   pub arms : k.Arms
   pub tests : List Attr
+  pub scope : Env
 
 abbrev pub with_arm : k.Expr → k.Statement → Armed → Armed
-with_arm test body x = record { arms = k.AndArm test body x.arms; tests = attr_of test ∷ x.tests }
+with_arm test body x = record { arms = k.AndArm test body x.arms; tests = attr_of test ∷ x.tests; scope = x.scope }
+
+-- The scope inside Δ, which is that of a condition inside Γ: a condition may declare a tag, but no name.
+abbrev pub deeper : Env → Env → Env
+deeper Γ Δ = Scope (level_of Δ + 1) [] (counts_of Δ) (Within Γ)
 
 abbrev pub walk_returned : Setting → Env → Around → Option Expr → Walk (Option k.Expr)
 walk_returned ξ Γ c None = give None
@@ -145,7 +151,8 @@ abbrev mutual
   walk_statement ξ Γ c strict (s.If word test body more last) =
       enclosed (andthen (walk_test ξ (inside Γ) test) (λ a.
       andthen (enclosed (walk_statement ξ (inside (inside Γ)) c strict body)) (λ b.
-      andthen (walk_else_ifs ξ (inside Γ) c strict more) (λ x. andthen (walk_otherwise ξ (inside Γ) c strict last) (λ o.
+      andthen (walk_else_ifs ξ (inside Γ) (inside (inside Γ)) c strict more) (λ x.
+      andthen (walk_otherwise ξ x.scope c strict last) (λ o.
       andthen (judge ξ (at word) (n.Tests (attr_of a ∷ x.tests))) (λ u.
       give (k.Stands (at word) (k.If (k.AndArm a b x.arms) o))))))))
   walk_statement ξ Γ c strict (s.Switch word test left items right) =
@@ -208,13 +215,15 @@ abbrev mutual
       andthen (walk_statement ξ Γ c strict statement) (λ y. andthen (walk_switch ξ Γ c strict kind more) (λ x.
       give (with_statement y x)))
 
-  pub walk_else_ifs : Setting → Env → Around → Bool → ElseIfs → Walk Armed
-  walk_else_ifs ξ Γ c strict NoElseIfs = give (record { arms = k.NoArms; tests = [] })
-  walk_else_ifs ξ Γ c strict (AndElseIf other word test body more) =
-      andthen (walk_test ξ Γ test) (λ a. andthen (enclosed (walk_statement ξ (inside Γ) c strict body)) (λ b.
-      andthen (walk_else_ifs ξ Γ c strict more) (λ x. give (with_arm a b x))))
+  -- The part behind an `else` is a block, here Δ, inside the `if` whose scope is Γ: the condition of a further arm
+  -- stands in it, and so do all arms behind that one.
+  pub walk_else_ifs : Setting → Env → Env → Around → Bool → ElseIfs → Walk Armed
+  walk_else_ifs ξ Γ Δ c strict NoElseIfs = give (record { arms = k.NoArms; tests = []; scope = Δ })
+  walk_else_ifs ξ Γ Δ c strict (AndElseIf other word test body more) =
+      andthen (walk_test ξ Δ test) (λ a. andthen (enclosed (walk_statement ξ (inside Δ) c strict body)) (λ b.
+      andthen (walk_else_ifs ξ Γ (deeper Γ Δ) c strict more) (λ x. give (with_arm a b x))))
 
   pub walk_otherwise : Setting → Env → Around → Bool → Otherwise → Walk k.StatementOption
-  walk_otherwise ξ Γ c strict NoOtherwise = give k.NoStatement
-  walk_otherwise ξ Γ c strict (Else word body) =
-      andthen (enclosed (walk_statement ξ (inside Γ) c strict body)) (λ b. give (k.TheStatement b))
+  walk_otherwise ξ Δ c strict NoOtherwise = give k.NoStatement
+  walk_otherwise ξ Δ c strict (Else word body) =
+      andthen (enclosed (walk_statement ξ Δ c strict body)) (λ b. give (k.TheStatement b))

@@ -35,7 +35,7 @@ use statement_nodes::nodes::{
 };
 use statement_nodes::parts::Labelled;
 use tree_builders::build_statements as build;
-use typed_tree::env::{Env, inside};
+use typed_tree::env::{Env, alone, inside, within};
 use typed_tree::{Arm, Item, Statement, SwitchItem};
 use typing_rules::{Around, Attr};
 use upc_text::Stop;
@@ -316,8 +316,9 @@ fn walk_if(
                 test,
                 body: Box::into_inner(body),
             };
-            let arms = walk_else_ifs(more.as_slice(), first, here, env, tags, known)?;
-            let last = walk_otherwise(otherwise, here, env, tags, known)?;
+            let mut scope = inside(here.setting.alloc, &*env)?;
+            let arms = walk_else_ifs(more.as_slice(), first, here, &*env, &mut scope, tags, known)?;
+            let last = walk_otherwise(otherwise, here, &scope, tags, known)?;
             finish_if(here.setting.alloc, word.place, arms, last)
         }
         _ => unreachable!(),
@@ -581,13 +582,15 @@ fn walk_forall(
     finish_forall(here.setting.alloc, word.place, headed, body)
 }
 
-// The further arms of an `if`, behind the first one.
+// The further arms of an `if`, behind the first one, each condition in the part behind the `else` before it. Behind
+// them `scope` is that of the part behind the last `else`.
 #[cycle(statement)]
-fn walk_else_ifs(
+fn walk_else_ifs<'e>(
     more: &[ElseIf],
     first: Arm,
     here: Position<'_, '_>,
-    env: &Env<'_>,
+    env: &'e Env<'e>,
+    scope: &mut Env<'e>,
     tags: &mut Tags<'_>,
     known: &mut Known,
 ) -> Result<Vec<Arm>, Stop>
@@ -595,8 +598,9 @@ fn walk_else_ifs(
       arms = view_arms arms.items;
       tests = map attr_tested
           arms.items;
+      scope = view_env scope.new;
     }) (andthen (pure.walk_else_ifs (view_setting here.entry.setting) (view_env
-        env.now) (view_around here.entry.around) here.entry.strict (else_ifs_of (map
+        env.now) (view_env scope.old) (view_around here.entry.around) here.entry.strict (else_ifs_of (map
         trees.view_else_if more.now))) (λ x. give (pure.with_arm (view_expr first.test.value)
         (view_statement first.body) x)) (state_of tags.old known.old)) (state_of tags.new
         known.new) result }
@@ -604,16 +608,19 @@ fn walk_else_ifs(
     let mut arms = Vec::new(here.setting.alloc);
     arms.push(first)?;
     for part in more {
-        let test = walk_test(&part.test, here.setting, env, tags, known)?;
-        let body = walk_part(&part.body, here, env, tags, known)?;
+        let test = walk_test(&part.test, here.setting, &*scope, tags, known)?;
+        let body = walk_part(&part.body, here, &*scope, tags, known)?;
         arms.push(Arm {
             test,
             body: Box::into_inner(body),
         })?;
+        let inner = inside(here.setting.alloc, &*scope)?;
+        *scope = within(alone(inner), env);
     }
     Ok(arms)
 }
 
+// The part behind the last `else`, in a scope that is there.
 #[cycle(statement)]
 fn walk_otherwise(
     otherwise: &Otherwise,
@@ -629,7 +636,8 @@ fn walk_otherwise(
     match otherwise {
         Otherwise::Absent => Ok(None),
         Otherwise::Else { body, .. } => {
-            let x = walk_part(body, here, env, tags, known)?;
+            let mut inner = enclosed(here.setting.alloc, &*tags);
+            let x = walk_statement(body, here, env, &mut inner, known)?;
             Ok(Some(x))
         }
     }

@@ -1,6 +1,7 @@
 -- What stands around specifiers, and what stars and sizes make of their type (C99 6.7, UPC 6.5).
 use Rattle.std.specs.Prelude.{ℕ, Bool, true, false, ◌&&◌, if◌then◌else◌, [], ◌∷◌, Option, Some, None, pos, int_le}
 use Rattle.std.specs.Prelude.{unsigned_abs}
+use Rattle.upc_text.specs.declared.place.Place.{Place}
 use Rattle.upc_tree.specs.Expression.{Pointers, NoPointers, AndPointer, Dimensions, NoDimensions, AndDimension}
 use Rattle.upc_types.specs.Types.{CType}
 use Rattle.typing_rules.specs.declared.attribute.Constant.{Constant as Value}
@@ -18,14 +19,16 @@ block_size other = 1
 abbrev pub adjusted : CType → CType
 adjusted t = if is_array t then value_type t else t
 
--- What stands around specifiers: `[*]` may stand there, `static` may, and they declare nothing but a tag.
+-- What stands around specifiers: where they are refused, whether `[*]` may stand there and whether `static` may, and
+-- whether they declare nothing but a tag.
 pub record Specifying : Type 0 where
+  pub at : Place
   pub star : Bool
   pub static : Bool
   pub alone : Bool
 
-abbrev pub in_type : Specifying
-in_type = record { star = false; static = false; alone = false }
+abbrev pub in_type : Place → Specifying
+in_type at = record { at = at; star = false; static = false; alone = false }
 
 abbrev pub is_none : Pointers → Bool
 is_none NoPointers = true

@@ -179,10 +179,14 @@ abbrev pub is_formed : Option Base → Bool
 is_formed None = false
 is_formed (Some b) = true
 
--- The specifiers form a type; `static` stands once at most, and only where it may.
+-- The specifiers form a type, whatever qualifiers are among them.
+abbrev pub forms_type : Specified → Bool
+forms_type s = is_formed (specified_base s)
+
+-- The specifiers form a type, and the rest fits: `static` stands once at most, and only where it may.
 abbrev pub specifiers_form : Bool → Specified → Bool
 specifiers_form static s =
-    is_formed (specified_base s) && quals_fit s.quals && nat_le (count Static s.words) (if static then 1 else 0)
+    forms_type s && quals_fit s.quals && nat_le (count Static s.words) (if static then 1 else 0)
 
 -- ---- what specifiers, pointers and sizes make
 
@@ -192,7 +196,8 @@ pub record Shaped : Type 0 where
   pub ctype : CType
   pub star : Bool
 
--- The type of the specifiers, int where they form none. Whether they do is judged at their declaration.
+-- The type of the specifiers. Specifiers that form none are refused where they end, so that what is said of them here
+-- is never gone on with.
 abbrev pub specified_type : Specified → Shaped
 specified_type s = record {
   forms = true;

@@ -40,7 +40,7 @@ abbrev pub view_specified : ps.Specified → s.Specified
 view_specified x = record { words = x.words.items; structs = x.structs.items; quals = view_quals x.quals }
 
 abbrev pub view_specifying : w.Specifying → Specifying
-view_specifying x = record { star = x.star; static = x.may_be_static; alone = x.alone }
+view_specifying x = record { at = x.at; star = x.star; static = x.may_be_static; alone = x.alone }
 
 abbrev pub view_shaped : h.Shaped → s.Shaped
 view_shaped x = record { forms = x.forms; ctype = view x.ctype; star = x.star }

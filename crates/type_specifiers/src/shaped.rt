@@ -71,7 +71,7 @@ fn qualify(base: Base, quals: &Quals) -> CType
     }
 }
 
-/// The type of specifiers, int where they form none.
+/// The type of specifiers. Those that form none are refused before.
 pub fn specified_type(found: &Specified) -> Shaped
     ensures { view_shaped result ≡ pure.specified_type (view_specified found.now) }
 {

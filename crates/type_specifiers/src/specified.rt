@@ -10,7 +10,7 @@ ghost use Rattle.type_specifiers.specs.ViewWords.{view_found};
 use crate::words::{base_of_words, count, no_types};
 use std::alloc::Global;
 use typing_rules::Constant;
-use upc_text::OutOfMemory;
+use upc_text::{OutOfMemory, Place};
 use upc_tree::TypeWord;
 use upc_types::Base;
 
@@ -55,21 +55,22 @@ pub struct Specified {
     pub quals: Quals,
 }
 
-/// What stands around specifiers: whether `[*]` may stand there, whether `static` may, and whether they declare
-/// nothing but a
-/// tag.
+/// What stands around specifiers: where they are refused, whether `[*]` may stand there and whether `static` may, and
+/// whether they declare nothing but a tag.
 #[derive(Clone, Copy)]
 pub struct Specifying {
+    pub at: Place,
     pub star: bool,
     pub may_be_static: bool,
     pub alone: bool,
 }
 
-/// Around the specifiers of a type name, a parameter or a member.
-pub fn in_type() -> Specifying
-    ensures { view_specifying result ≡ walks.in_type }
+/// Around the specifiers of a type name, a parameter or a member, which are refused there.
+pub fn in_type(at: Place) -> Specifying
+    ensures { view_specifying result ≡ walks.in_type at }
 {
     Specifying {
+        at,
         star: false,
         may_be_static: false,
         alone: false,
@@ -153,12 +154,19 @@ pub fn specified_base(found: &Specified) -> Option<Base>
     base_of_parts(found.words.as_slice(), found.structs.as_slice())
 }
 
-/// Whether specifiers form a type, and `static` stands where it may.
+/// Whether specifiers form a type, whatever qualifiers are among them.
+pub fn forms_type(found: &Specified) -> bool
+    ensures { result ≡ pure.forms_type (view_specified found.now) }
+{
+    specified_base(found).is_some()
+}
+
+/// Whether specifiers form a type, and the rest fits: `static` stands where it may.
 pub fn specifiers_form(may_be_static: bool, found: &Specified) -> bool
     ensures { result ≡ pure.specifiers_form may_be_static (view_specified found.now) }
 {
     let most = if may_be_static { 1 } else { 0 };
-    specified_base(found).is_some()
+    forms_type(found)
         && quals_fit(&found.quals)
         && count(TypeWord::Static, found.words.as_slice()) <= most
 }

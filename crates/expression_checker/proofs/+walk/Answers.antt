@@ -43,11 +43,12 @@ use Rattle.typing_rules.specs.Rules.{lowest}
 use Rattle.expression_nodes.specs.Marks.{right_use}
 use Rattle.type_specifiers.specs.Specifiers as layout
 use Rattle.type_specifiers.specs.Specifiers.{Shaped, both_quals, both_specified}
+use Rattle.type_specifiers.specs.Shapes.{in_type}
 use Rattle.type_specifiers.specs.Members.{Declared, has_member, with_member}
 use Rattle.expression_nodes.specs.Called.{called, called_name, first_use, runs, target_by}
 use Rattle.walk_state.specs.Places.{declarator_place, specs_place}
 use Rattle.expression_nodes.specs.Parts.{format_in}
-use Rattle.expression_checker.specs.Expressions.{constantly, walk, walk_arguments, walk_array, walk_layout, walk_member, walk_parameter, walk_parameters, walk_qual, walk_spec, walk_type}
+use Rattle.expression_checker.specs.Expressions.{constantly, walk, walk_arguments, walk_array, walk_layout, walk_member, walk_parameter, walk_parameters, walk_qual, walk_spec, walk_specifiers, walk_type}
 use Rattle.walk_state.specs.Views.{state_of, state_with, view_setting}
 use Rattle.type_specifiers.specs.ViewShapes.{view_blocks, view_qualifier, view_quals, view_shaped, view_specified, view_specifier, view_specifying}
 use Rattle.walk_state.specs.ViewTags.{view_tags}
@@ -56,8 +57,8 @@ use Rattle.walk_state.proofs.Walks.{judge_goes, judge_stops}
 use Rattle.expression_checker.proofs.Lists.{front}
 use Rattle.walk_state.proofs.Steps.{arrives, ends, given, moved, moved_stop, next, of_form, stopped}
 use Rattle.expression_checker.proofs.Sizes.{others_of_line, sizes_of_type, stars_of_parameter, stars_of_type}
-use Rattle.expression_checker.proofs.Walked.{assign_ends, assign_stops, call_ends, call_stops, filled_ends, filled_stops, function_is_none, function_stops, line_goes, line_stops, line_stops_at_first, line_stops_at_others, line_stops_itself, member_ends, member_stops, parameter_ends, parameter_stops, parameter_stops_at_array, parameter_stops_at_stars, parameter_stops_itself, type_ends, type_stops, type_stops_at_sizes, type_stops_at_stars}
-use Rattle.expression_checker.proofs.Rest.{declarators_step, declarators_stop, lines_step, lines_stop, more_begins, more_ends, more_step, more_stops, parameters_step, parameters_stop, quals_begin, quals_end, quals_step, quals_stop, rest_of_declarators, rest_of_exprs, rest_of_lines, rest_of_parameters, rest_of_quals, rest_of_sizes, rest_of_specs, rest_of_stars, sizes_begin, sizes_end, sizes_step, sizes_stop, sizes_stop_behind, specs_begin, specs_end, specs_step, specs_stop, stars_step, stars_stop}
+use Rattle.expression_checker.proofs.Walked.{assign_ends, assign_stops, call_ends, call_stops, filled_ends, filled_stops, function_is_none, function_stops, line_goes, line_stops, line_stops_at_first, line_stops_at_others, line_stops_itself, member_ends, member_stops, parameter_ends, parameter_stops, parameter_stops_at_array, parameter_stops_at_stars, parameter_stops_itself, specifiers_end, specifiers_stop, type_ends, type_stops, type_stops_at_sizes, type_stops_at_stars}
+use Rattle.expression_checker.proofs.Rest.{all_specifiers, declarators_step, declarators_stop, lines_step, lines_stop, more_begins, more_ends, more_step, more_stops, parameters_step, parameters_stop, quals_begin, quals_end, quals_step, quals_stop, rest_of_declarators, rest_of_exprs, rest_of_lines, rest_of_parameters, rest_of_quals, rest_of_sizes, rest_of_stars, sizes_begin, sizes_end, sizes_step, sizes_stop, sizes_stop_behind, specs_begin, specs_end, specs_step, specs_stop, stars_step, stars_stop}
 use Rattle.expression_checker.proofs.+walk.Goals as goal
 
 pub expressions::walk-returns-in-Name : goal.expressions::walk-returns-in-Name
@@ -217,7 +218,7 @@ expressions::walk_typed-returns-in_err-t-in-SizeOfType t c = λ how.
     let Γ = view_env c.args.env.now in
     let s = state_of c.args.tags.now c.args.known.now in
     of_form (walk ξ Γ how) (boxed view_expr) (view c.args.e.now) (tree.SizeOfType c.in-SizeOfType.word c.in-SizeOfType.at c.in-SizeOfType.open (view_type c.in-SizeOfType.operand.value) c.in-SizeOfType.close) s (state_of c.walk_type.new.tags c.walk_type.new.known) c.from_residual.result (ap view c.in-SizeOfType.is)
-    (stopped _ _ s _ c.from_residual.ensures.1 (moved_stop (λ (z : TypeTree). walk_type ξ Γ (view_type z)) c.deref.result.now c.in-SizeOfType.operand.value s _ c.deref.ensures c.in_err-t-in-SizeOfType.ensures))
+    (stopped _ _ s _ c.from_residual.ensures.1 (moved_stop (λ (z : TypeTree). walk_type ξ Γ c.in-SizeOfType.at.place (view_type z)) c.deref.result.now c.in-SizeOfType.operand.value s _ c.deref.ensures c.in_err-t-in-SizeOfType.ensures))
 
 pub expressions::walk_typed-returns-in_ok-t-in-SizeOfType : goal.expressions::walk_typed-returns-in_ok-t-in-SizeOfType
 expressions::walk_typed-returns-in_ok-t-in-SizeOfType t c = λ how.
@@ -225,7 +226,7 @@ expressions::walk_typed-returns-in_ok-t-in-SizeOfType t c = λ how.
     let Γ = view_env c.args.env.now in
     let s = state_of c.args.tags.now c.args.known.now in
     of_form (walk ξ Γ how) (boxed view_expr) (view c.args.e.now) (tree.SizeOfType c.in-SizeOfType.word c.in-SizeOfType.at c.in-SizeOfType.open (view_type c.in-SizeOfType.operand.value) c.in-SizeOfType.close) s (state_of c.walk_type.new.tags c.walk_type.new.known) c.finish_size_of_type.result (ap view c.in-SizeOfType.is)
-    (next _ _ (moved (λ (z : TypeTree). walk_type ξ Γ (view_type z)) c.deref.result.now c.in-SizeOfType.operand.value _ _ _ c.deref.ensures c.in_ok-t-in-SizeOfType.ensures) (ends ξ _ _ _ (state_of c.walk_type.new.tags c.walk_type.new.known) c.finish_size_of_type.ensures))
+    (next _ _ (moved (λ (z : TypeTree). walk_type ξ Γ c.in-SizeOfType.at.place (view_type z)) c.deref.result.now c.in-SizeOfType.operand.value _ _ _ c.deref.ensures c.in_ok-t-in-SizeOfType.ensures) (ends ξ _ _ _ (state_of c.walk_type.new.tags c.walk_type.new.known) c.finish_size_of_type.ensures))
 
 pub expressions::walk_typed-returns-in_err-t-in-Cast : goal.expressions::walk_typed-returns-in_err-t-in-Cast
 expressions::walk_typed-returns-in_err-t-in-Cast t c = λ how.
@@ -233,7 +234,7 @@ expressions::walk_typed-returns-in_err-t-in-Cast t c = λ how.
     let Γ = view_env c.args.env.now in
     let s = state_of c.args.tags.now c.args.known.now in
     of_form (walk ξ Γ how) (boxed view_expr) (view c.args.e.now) (tree.Cast c.in-Cast.open (view_type c.in-Cast.target.value) c.in-Cast.close (view c.in-Cast.operand.value)) s (state_of c.walk_type-in-Cast.new.tags c.walk_type-in-Cast.new.known) c.from_residual-in_err-t-in-Cast.result (ap view c.in-Cast.is)
-    (stopped _ _ s _ c.from_residual-in_err-t-in-Cast.ensures.1 (moved_stop (λ (z : TypeTree). walk_type ξ Γ (view_type z)) c.deref-in-Cast.result.now c.in-Cast.target.value s _ c.deref-in-Cast.ensures c.in_err-t-in-Cast.ensures))
+    (stopped _ _ s _ c.from_residual-in_err-t-in-Cast.ensures.1 (moved_stop (λ (z : TypeTree). walk_type ξ Γ c.in-Cast.open.place (view_type z)) c.deref-in-Cast.result.now c.in-Cast.target.value s _ c.deref-in-Cast.ensures c.in_err-t-in-Cast.ensures))
 
 pub expressions::walk_typed-returns-in_err-a-in-Cast : goal.expressions::walk_typed-returns-in_err-a-in-Cast
 expressions::walk_typed-returns-in_err-a-in-Cast t c = λ how.
@@ -241,7 +242,7 @@ expressions::walk_typed-returns-in_err-a-in-Cast t c = λ how.
     let Γ = view_env c.args.env.now in
     let s = state_of c.args.tags.now c.args.known.now in
     of_form (walk ξ Γ how) (boxed view_expr) (view c.args.e.now) (tree.Cast c.in-Cast.open (view_type c.in-Cast.target.value) c.in-Cast.close (view c.in-Cast.operand.value)) s (state_of c.walk.new.tags c.walk.new.known) c.from_residual-in_err-a-in-Cast.result (ap view c.in-Cast.is)
-    (next _ _ (moved (λ (z : TypeTree). walk_type ξ Γ (view_type z)) c.deref-in-Cast.result.now c.in-Cast.target.value _ _ _ c.deref-in-Cast.ensures c.in_ok-t-in-Cast.ensures) (stopped _ _ (state_of c.walk_type-in-Cast.new.tags c.walk_type-in-Cast.new.known) _ c.from_residual-in_err-a-in-Cast.ensures.1 (moved_stop (λ (z : Tree). walk ξ Γ (n.Into (types.view c.in_ok-t-in-Cast.t.ctype)) (view z)) c.deref-in-Cast-2.result.now c.in-Cast.operand.value (state_of c.walk_type-in-Cast.new.tags c.walk_type-in-Cast.new.known) _ c.deref-in-Cast-2.ensures c.in_err-a-in-Cast.ensures)))
+    (next _ _ (moved (λ (z : TypeTree). walk_type ξ Γ c.in-Cast.open.place (view_type z)) c.deref-in-Cast.result.now c.in-Cast.target.value _ _ _ c.deref-in-Cast.ensures c.in_ok-t-in-Cast.ensures) (stopped _ _ (state_of c.walk_type-in-Cast.new.tags c.walk_type-in-Cast.new.known) _ c.from_residual-in_err-a-in-Cast.ensures.1 (moved_stop (λ (z : Tree). walk ξ Γ (n.Into (types.view c.in_ok-t-in-Cast.t.ctype)) (view z)) c.deref-in-Cast-2.result.now c.in-Cast.operand.value (state_of c.walk_type-in-Cast.new.tags c.walk_type-in-Cast.new.known) _ c.deref-in-Cast-2.ensures c.in_err-a-in-Cast.ensures)))
 
 pub expressions::walk_typed-returns-in_ok-a-in-Cast : goal.expressions::walk_typed-returns-in_ok-a-in-Cast
 expressions::walk_typed-returns-in_ok-a-in-Cast t c = λ how.
@@ -249,7 +250,7 @@ expressions::walk_typed-returns-in_ok-a-in-Cast t c = λ how.
     let Γ = view_env c.args.env.now in
     let s = state_of c.args.tags.now c.args.known.now in
     of_form (walk ξ Γ how) (boxed view_expr) (view c.args.e.now) (tree.Cast c.in-Cast.open (view_type c.in-Cast.target.value) c.in-Cast.close (view c.in-Cast.operand.value)) s (state_of c.walk.new.tags c.walk.new.known) c.finish_cast.result (ap view c.in-Cast.is)
-    (next _ _ (moved (λ (z : TypeTree). walk_type ξ Γ (view_type z)) c.deref-in-Cast.result.now c.in-Cast.target.value _ _ _ c.deref-in-Cast.ensures c.in_ok-t-in-Cast.ensures) (next _ _ (moved (λ (z : Tree). walk ξ Γ (n.Into (types.view c.in_ok-t-in-Cast.t.ctype)) (view z)) c.deref-in-Cast-2.result.now c.in-Cast.operand.value _ _ _ c.deref-in-Cast-2.ensures c.in_ok-a-in-Cast.ensures) (ends ξ _ _ _ (state_of c.walk.new.tags c.walk.new.known) (c.finish_cast.ensures (facts_in ξ (state_of c.walk.new.tags c.walk.new.known))))))
+    (next _ _ (moved (λ (z : TypeTree). walk_type ξ Γ c.in-Cast.open.place (view_type z)) c.deref-in-Cast.result.now c.in-Cast.target.value _ _ _ c.deref-in-Cast.ensures c.in_ok-t-in-Cast.ensures) (next _ _ (moved (λ (z : Tree). walk ξ Γ (n.Into (types.view c.in_ok-t-in-Cast.t.ctype)) (view z)) c.deref-in-Cast-2.result.now c.in-Cast.operand.value _ _ _ c.deref-in-Cast-2.ensures c.in_ok-a-in-Cast.ensures) (ends ξ _ _ _ (state_of c.walk.new.tags c.walk.new.known) (c.finish_cast.ensures (facts_in ξ (state_of c.walk.new.tags c.walk.new.known))))))
 
 pub expressions::walk_infix-returns-in_err-a-in-Binary : goal.expressions::walk_infix-returns-in_err-a-in-Binary
 expressions::walk_infix-returns-in_err-a-in-Binary t c = λ how.
@@ -409,32 +410,65 @@ types::walk_type-returns-in_err-found t c =
     let ξ = view_setting c.args.setting in
     let Γ = view_env c.args.env.now in
     let s = state_of c.args.tags.now c.args.known.now in
-    of_form (walk_type ξ Γ) view_formed (view_type c.args.t.now) (tree.Typed (view_specs (out-TypeName c.args.t.now).specs) (view_pointers (out-TypeName c.args.t.now).pointers) (view_dimensions (out-TypeName c.args.t.now).sizes)) s (state_of c.walk_specs.new.tags c.walk_specs.new.known) c.from_residual.result (type_is c.args.t.now)
-    (type_stops view_formed ξ Γ (view_specifying c.in_type.result) (view_specs (out-TypeName c.args.t.now).specs) (view_pointers (out-TypeName c.args.t.now).pointers) (view_dimensions (out-TypeName c.args.t.now).sizes) s _ _ c.from_residual.result c.in_type.ensures (moved_stop (rest_of_specs ξ Γ (view_specifying c.in_type.result)) c.as_slice.result.now (out-TypeName c.args.t.now).specs.items s _ c.as_slice.ensures.value c.in_err-found.ensures) c.from_residual.ensures.1)
+    of_form (walk_type ξ Γ c.args.at) view_formed (view_type c.args.t.now) (tree.Typed (view_specs (out-TypeName c.args.t.now).specs) (view_pointers (out-TypeName c.args.t.now).pointers) (view_dimensions (out-TypeName c.args.t.now).sizes)) s (state_of c.walk_specifiers.new.tags c.walk_specifiers.new.known) c.from_residual.result (type_is c.args.t.now)
+    (type_stops view_formed ξ Γ (view_specifying c.in_type.result) c.args.at (view_specs (out-TypeName c.args.t.now).specs) (view_pointers (out-TypeName c.args.t.now).pointers) (view_dimensions (out-TypeName c.args.t.now).sizes) s _ _ c.from_residual.result c.in_type.ensures (moved_stop (all_specifiers ξ Γ (view_specifying c.in_type.result)) c.as_slice.result.now (out-TypeName c.args.t.now).specs.items s _ c.as_slice.ensures.value c.in_err-found.ensures) c.from_residual.ensures.1)
 
 pub types::walk_type-returns-in_err-shaped : goal.types::walk_type-returns-in_err-shaped
 types::walk_type-returns-in_err-shaped t c =
     let ξ = view_setting c.args.setting in
     let Γ = view_env c.args.env.now in
     let s = state_of c.args.tags.now c.args.known.now in
-    of_form (walk_type ξ Γ) view_formed (view_type c.args.t.now) (tree.Typed (view_specs (out-TypeName c.args.t.now).specs) (view_pointers (out-TypeName c.args.t.now).pointers) (view_dimensions (out-TypeName c.args.t.now).sizes)) s (state_of c.walk_pointers.new.tags c.walk_pointers.new.known) c.from_residual-in_err-shaped.result (type_is c.args.t.now)
-    (type_stops_at_stars view_formed ξ Γ (view_specifying c.in_type.result) (view_specs (out-TypeName c.args.t.now).specs) (view_pointers (out-TypeName c.args.t.now).pointers) (view_dimensions (out-TypeName c.args.t.now).sizes) s (state_of c.walk_specs.new.tags c.walk_specs.new.known) _ (view_specified c.in_ok-found.found) (view_shaped c.specified_type-shaped.result) _ c.from_residual-in_err-shaped.result c.in_type.ensures c.specified_type-shaped.ensures (moved (rest_of_specs ξ Γ (view_specifying c.in_type.result)) c.as_slice.result.now (out-TypeName c.args.t.now).specs.items _ _ _ c.as_slice.ensures.value c.in_ok-found.ensures) (moved_stop (rest_of_stars ξ Γ false (view_shaped c.specified_type-shaped.result)) c.as_slice-2.result.now (out-TypeName c.args.t.now).pointers.items (state_of c.walk_specs.new.tags c.walk_specs.new.known) _ c.as_slice-2.ensures.value c.in_err-shaped.ensures) c.from_residual-in_err-shaped.ensures.1)
+    of_form (walk_type ξ Γ c.args.at) view_formed (view_type c.args.t.now) (tree.Typed (view_specs (out-TypeName c.args.t.now).specs) (view_pointers (out-TypeName c.args.t.now).pointers) (view_dimensions (out-TypeName c.args.t.now).sizes)) s (state_of c.walk_pointers.new.tags c.walk_pointers.new.known) c.from_residual-in_err-shaped.result (type_is c.args.t.now)
+    (type_stops_at_stars view_formed ξ Γ (view_specifying c.in_type.result) c.args.at (view_specs (out-TypeName c.args.t.now).specs) (view_pointers (out-TypeName c.args.t.now).pointers) (view_dimensions (out-TypeName c.args.t.now).sizes) s (state_of c.walk_specifiers.new.tags c.walk_specifiers.new.known) _ (view_specified c.in_ok-found.found) (view_shaped c.specified_type-shaped.result) _ c.from_residual-in_err-shaped.result c.in_type.ensures c.specified_type-shaped.ensures (moved (all_specifiers ξ Γ (view_specifying c.in_type.result)) c.as_slice.result.now (out-TypeName c.args.t.now).specs.items _ _ _ c.as_slice.ensures.value c.in_ok-found.ensures) (moved_stop (rest_of_stars ξ Γ false (view_shaped c.specified_type-shaped.result)) c.as_slice-2.result.now (out-TypeName c.args.t.now).pointers.items (state_of c.walk_specifiers.new.tags c.walk_specifiers.new.known) _ c.as_slice-2.ensures.value c.in_err-shaped.ensures) c.from_residual-in_err-shaped.ensures.1)
 
 pub types::walk_type-returns-in_err-sizes : goal.types::walk_type-returns-in_err-sizes
 types::walk_type-returns-in_err-sizes t c =
     let ξ = view_setting c.args.setting in
     let Γ = view_env c.args.env.now in
     let s = state_of c.args.tags.now c.args.known.now in
-    of_form (walk_type ξ Γ) view_formed (view_type c.args.t.now) (tree.Typed (view_specs (out-TypeName c.args.t.now).specs) (view_pointers (out-TypeName c.args.t.now).pointers) (view_dimensions (out-TypeName c.args.t.now).sizes)) s (state_of c.walk_sizes.new.tags c.walk_sizes.new.known) c.from_residual-in_err-sizes.result (type_is c.args.t.now)
-    (type_stops_at_sizes view_formed ξ Γ (view_specifying c.in_type.result) (view_specs (out-TypeName c.args.t.now).specs) (view_pointers (out-TypeName c.args.t.now).pointers) (view_dimensions (out-TypeName c.args.t.now).sizes) s (state_of c.walk_specs.new.tags c.walk_specs.new.known) (state_of c.walk_pointers.new.tags c.walk_pointers.new.known) _ (view_specified c.in_ok-found.found) (view_shaped c.specified_type-shaped.result) (view_shaped c.in_ok-shaped.shaped) _ c.from_residual-in_err-sizes.result c.in_type.ensures c.specified_type-shaped.ensures (moved (rest_of_specs ξ Γ (view_specifying c.in_type.result)) c.as_slice.result.now (out-TypeName c.args.t.now).specs.items _ _ _ c.as_slice.ensures.value c.in_ok-found.ensures) (moved (rest_of_stars ξ Γ false (view_shaped c.specified_type-shaped.result)) c.as_slice-2.result.now (out-TypeName c.args.t.now).pointers.items _ _ _ c.as_slice-2.ensures.value c.in_ok-shaped.ensures) (moved_stop (rest_of_sizes ξ Γ) c.as_slice-3.result.now (out-TypeName c.args.t.now).sizes.items (state_of c.walk_pointers.new.tags c.walk_pointers.new.known) _ c.as_slice-3.ensures.value c.in_err-sizes.ensures) c.from_residual-in_err-sizes.ensures.1)
+    of_form (walk_type ξ Γ c.args.at) view_formed (view_type c.args.t.now) (tree.Typed (view_specs (out-TypeName c.args.t.now).specs) (view_pointers (out-TypeName c.args.t.now).pointers) (view_dimensions (out-TypeName c.args.t.now).sizes)) s (state_of c.walk_sizes.new.tags c.walk_sizes.new.known) c.from_residual-in_err-sizes.result (type_is c.args.t.now)
+    (type_stops_at_sizes view_formed ξ Γ (view_specifying c.in_type.result) c.args.at (view_specs (out-TypeName c.args.t.now).specs) (view_pointers (out-TypeName c.args.t.now).pointers) (view_dimensions (out-TypeName c.args.t.now).sizes) s (state_of c.walk_specifiers.new.tags c.walk_specifiers.new.known) (state_of c.walk_pointers.new.tags c.walk_pointers.new.known) _ (view_specified c.in_ok-found.found) (view_shaped c.specified_type-shaped.result) (view_shaped c.in_ok-shaped.shaped) _ c.from_residual-in_err-sizes.result c.in_type.ensures c.specified_type-shaped.ensures (moved (all_specifiers ξ Γ (view_specifying c.in_type.result)) c.as_slice.result.now (out-TypeName c.args.t.now).specs.items _ _ _ c.as_slice.ensures.value c.in_ok-found.ensures) (moved (rest_of_stars ξ Γ false (view_shaped c.specified_type-shaped.result)) c.as_slice-2.result.now (out-TypeName c.args.t.now).pointers.items _ _ _ c.as_slice-2.ensures.value c.in_ok-shaped.ensures) (moved_stop (rest_of_sizes ξ Γ) c.as_slice-3.result.now (out-TypeName c.args.t.now).sizes.items (state_of c.walk_pointers.new.tags c.walk_pointers.new.known) _ c.as_slice-3.ensures.value c.in_err-sizes.ensures) c.from_residual-in_err-sizes.ensures.1)
 
 pub types::walk_type-returns : goal.types::walk_type-returns
 types::walk_type-returns t c =
     let ξ = view_setting c.args.setting in
     let Γ = view_env c.args.env.now in
     let s = state_of c.args.tags.now c.args.known.now in
-    of_form (walk_type ξ Γ) view_formed (view_type c.args.t.now) (tree.Typed (view_specs (out-TypeName c.args.t.now).specs) (view_pointers (out-TypeName c.args.t.now).pointers) (view_dimensions (out-TypeName c.args.t.now).sizes)) s (state_of c.walk_sizes.new.tags c.walk_sizes.new.known) (Ok c.in_ok-formed.field-0) (type_is c.args.t.now)
-    (arrives (type_ends ξ Γ (view_specifying c.in_type.result) (view_specs (out-TypeName c.args.t.now).specs) (view_pointers (out-TypeName c.args.t.now).pointers) (view_dimensions (out-TypeName c.args.t.now).sizes) s (state_of c.walk_specs.new.tags c.walk_specs.new.known) (state_of c.walk_pointers.new.tags c.walk_pointers.new.known) (state_of c.walk_sizes.new.tags c.walk_sizes.new.known) (view_specified c.in_ok-found.found) (view_shaped c.specified_type-shaped.result) (view_shaped c.in_ok-shaped.shaped) (view_shaped c.named_type-shaped.result) c.specifiers_form.result c.in_ok-sizes.sizes.items c.in_type.ensures c.specified_type-shaped.ensures c.specifiers_form.ensures c.named_type-shaped.ensures (moved (rest_of_specs ξ Γ (view_specifying c.in_type.result)) c.as_slice.result.now (out-TypeName c.args.t.now).specs.items _ _ _ c.as_slice.ensures.value c.in_ok-found.ensures) (moved (rest_of_stars ξ Γ false (view_shaped c.specified_type-shaped.result)) c.as_slice-2.result.now (out-TypeName c.args.t.now).pointers.items _ _ _ c.as_slice-2.ensures.value c.in_ok-shaped.ensures) (moved (rest_of_sizes ξ Γ) c.as_slice-3.result.now (out-TypeName c.args.t.now).sizes.items _ _ _ c.as_slice-3.ensures.value c.in_ok-sizes.ensures)) (sym c.in_ok-formed.ensures))
+    of_form (walk_type ξ Γ c.args.at) view_formed (view_type c.args.t.now) (tree.Typed (view_specs (out-TypeName c.args.t.now).specs) (view_pointers (out-TypeName c.args.t.now).pointers) (view_dimensions (out-TypeName c.args.t.now).sizes)) s (state_of c.walk_sizes.new.tags c.walk_sizes.new.known) (Ok c.in_ok-formed.field-0) (type_is c.args.t.now)
+    (arrives (type_ends ξ Γ (view_specifying c.in_type.result) c.args.at (view_specs (out-TypeName c.args.t.now).specs) (view_pointers (out-TypeName c.args.t.now).pointers) (view_dimensions (out-TypeName c.args.t.now).sizes) s (state_of c.walk_specifiers.new.tags c.walk_specifiers.new.known) (state_of c.walk_pointers.new.tags c.walk_pointers.new.known) (state_of c.walk_sizes.new.tags c.walk_sizes.new.known) (view_specified c.in_ok-found.found) (view_shaped c.specified_type-shaped.result) (view_shaped c.in_ok-shaped.shaped) (view_shaped c.named_type-shaped.result) c.specifiers_form.result c.in_ok-sizes.sizes.items c.in_type.ensures c.specified_type-shaped.ensures c.specifiers_form.ensures c.named_type-shaped.ensures (moved (all_specifiers ξ Γ (view_specifying c.in_type.result)) c.as_slice.result.now (out-TypeName c.args.t.now).specs.items _ _ _ c.as_slice.ensures.value c.in_ok-found.ensures) (moved (rest_of_stars ξ Γ false (view_shaped c.specified_type-shaped.result)) c.as_slice-2.result.now (out-TypeName c.args.t.now).pointers.items _ _ _ c.as_slice-2.ensures.value c.in_ok-shaped.ensures) (moved (rest_of_sizes ξ Γ) c.as_slice-3.result.now (out-TypeName c.args.t.now).sizes.items _ _ _ c.as_slice-3.ensures.value c.in_ok-sizes.ensures)) (sym c.in_ok-formed.ensures))
+
+pub types::walk_specifiers-returns-in_err-found : goal.types::walk_specifiers-returns-in_err-found
+types::walk_specifiers-returns-in_err-found t c =
+    let ξ = view_setting c.args.setting in
+    let Γ = view_env c.args.env.now in
+    let s = state_of c.args.tags.now c.args.known.now in
+    let specs = specs_of (map view_spec c.args.specs.now) in
+    of_form (walk_specifiers ξ Γ (view_specifying c.args.how)) view_specified specs specs s (state_of c.walk_specs.new.tags c.walk_specs.new.known) c.from_residual.result refl
+    (stopped _ _ s _ c.from_residual.ensures.1 c.in_err-found.ensures)
+
+pub types::walk_specifiers-returns-in_err-judged : goal.types::walk_specifiers-returns-in_err-judged
+types::walk_specifiers-returns-in_err-judged t c =
+    let ξ = view_setting c.args.setting in
+    let Γ = view_env c.args.env.now in
+    let s = state_of c.args.tags.now c.args.known.now in
+    let s1 = state_of c.walk_specs.new.tags c.walk_specs.new.known in
+    let specs = specs_of (map view_spec c.args.specs.now) in
+    let found = view_specified c.in_ok-found.found in
+    let rule = c.specifies.ensures (facts_in ξ s1) ∙ ap (λ b. lowest (facts_in ξ s1) (n.Specifies b)) c.forms_type.ensures in
+    of_form (walk_specifiers ξ Γ (view_specifying c.args.how)) view_specified specs specs s s1 c.from_residual-in_err-judged.result refl
+    (next _ _ c.in_ok-found.ensures (stopped _ _ s1 _ c.from_residual-in_err-judged.ensures.1 (specifiers_stop ξ c.args.how.at found s1 c.specifies.result _ rule c.in_err-judged.ensures.err)))
+
+pub types::walk_specifiers-returns : goal.types::walk_specifiers-returns
+types::walk_specifiers-returns t c =
+    let ξ = view_setting c.args.setting in
+    let Γ = view_env c.args.env.now in
+    let s = state_of c.args.tags.now c.args.known.now in
+    let s1 = state_of c.walk_specs.new.tags c.walk_specs.new.known in
+    let specs = specs_of (map view_spec c.args.specs.now) in
+    let found = view_specified c.in_ok-found.found in
+    let rule = c.specifies.ensures (facts_in ξ s1) ∙ ap (λ b. lowest (facts_in ξ s1) (n.Specifies b)) c.forms_type.ensures in
+    of_form (walk_specifiers ξ Γ (view_specifying c.args.how)) view_specified specs specs s s1 (Ok c.in_ok-found.found) refl
+    (next _ _ c.in_ok-found.ensures (next _ _ (specifiers_end ξ c.args.how.at found s1 c.specifies.result rule c.in_ok-judged.ensures.ok) (given refl)))
 
 pub types::walk_specs-loop-spec-init : goal.types::walk_specs-loop-spec-init
 types::walk_specs-loop-spec-init t c = specs_begin (view_setting c.args.setting) (view_env c.args.env.now) (view_specifying c.args.how) c.args.specs.now (view_specified c.nothing_specified-found.result) (state_of c.args.tags.now c.args.known.now) c.nothing_specified-found.ensures
@@ -650,41 +684,46 @@ pub types::walk_members-returns-in_err-found : goal.types::walk_members-returns-
 types::walk_members-returns-in_err-found t c =
     let ξ = view_setting c.args.setting in
     let Γ = view_env c.args.env.now in
+    let place = c.specs_place-at.ensures ∙ ap (λ (l : List Spec). specs_place (specs_of (map view_spec l))) c.as_slice-specs.ensures.value in
     let within : c.loop-line.line-index < length c.args.lines.now = omega arith in
     let p = err_from_is_err_and c.from_residual.result c.from_residual.ensures.1 in
-    rw (p.1, p.2) (lines_stop ξ Γ (map types.view_member c.loop-line.members.items) c.args.lines.now c.loop-line.line-index c.line-item.result (state_of c.loop-line.tags c.loop-line.known) _ _ within c.line-item.is (line_stops (λ (ms : List Member). ms) ξ Γ (view_specifying c.in_type.result) (map types.view_member c.loop-line.members.items) (view_specs (out-Member c.line-item.result).specs) (view_declarator (out-Member c.line-item.result).first.value) (view_next_declarators (out-Member c.line-item.result).more) (out-Member c.line-item.result).semicolon (members_of (map view_member (drop (c.loop-line.line-index + 1) c.args.lines.now))) (state_of c.loop-line.tags c.loop-line.known) (state_of c.loop-line.tags c.loop-line.known) _ (Err _) c.in_type.ensures (moved_stop (rest_of_specs ξ Γ (view_specifying c.in_type.result)) c.as_slice.result.now (out-Member c.line-item.result).specs.items (state_of c.loop-line.tags c.loop-line.known) _ c.as_slice.ensures.value c.in_err-found.ensures) refl).met c.loop-line.invariant)
+    rw (p.1, p.2) (lines_stop ξ Γ (map types.view_member c.loop-line.members.items) c.args.lines.now c.loop-line.line-index c.line-item.result (state_of c.loop-line.tags c.loop-line.known) _ _ within c.line-item.is (line_stops (λ (ms : List Member). ms) ξ Γ (view_specifying c.in_type.result) (map types.view_member c.loop-line.members.items) (view_specs (out-Member c.line-item.result).specs) (view_declarator (out-Member c.line-item.result).first.value) (view_next_declarators (out-Member c.line-item.result).more) (out-Member c.line-item.result).semicolon (members_of (map view_member (drop (c.loop-line.line-index + 1) c.args.lines.now))) (state_of c.loop-line.tags c.loop-line.known) (state_of c.loop-line.tags c.loop-line.known) _ (Err _) (c.in_type.ensures ∙ ap in_type place) (moved_stop (all_specifiers ξ Γ (view_specifying c.in_type.result)) c.as_slice-specs.result.now (out-Member c.line-item.result).specs.items (state_of c.loop-line.tags c.loop-line.known) _ c.as_slice-specs.ensures.value c.in_err-found.ensures) refl).met c.loop-line.invariant)
 
 pub types::walk_members-returns-in_err-walk_member : goal.types::walk_members-returns-in_err-walk_member
 types::walk_members-returns-in_err-walk_member t c =
     let ξ = view_setting c.args.setting in
     let Γ = view_env c.args.env.now in
+    let place = c.specs_place-at.ensures ∙ ap (λ (l : List Spec). specs_place (specs_of (map view_spec l))) c.as_slice-specs.ensures.value in
     let within : c.loop-line.line-index < length c.args.lines.now = omega arith in
     let p = err_from_is_err_and c.from_residual-in_err-walk_member.result c.from_residual-in_err-walk_member.ensures.1 in
-    rw (p.1, p.2) (lines_stop ξ Γ (map types.view_member c.loop-line.members.items) c.args.lines.now c.loop-line.line-index c.line-item.result (state_of c.loop-line.tags c.loop-line.known) _ _ within c.line-item.is (line_stops_at_first (λ (ms : List Member). ms) ξ Γ (view_specifying c.in_type.result) (map types.view_member c.loop-line.members.items) (view_specs (out-Member c.line-item.result).specs) (view_declarator (out-Member c.line-item.result).first.value) (view_next_declarators (out-Member c.line-item.result).more) (out-Member c.line-item.result).semicolon (members_of (map view_member (drop (c.loop-line.line-index + 1) c.args.lines.now))) (state_of c.loop-line.tags c.loop-line.known) (state_of c.walk_specs.new.tags c.walk_specs.new.known) (state_of c.loop-line.tags c.loop-line.known) (view_specified c.in_ok-found.found) (view_shaped c.specified_type-t.result) _ (Err _) c.in_type.ensures c.specified_type-t.ensures (moved (rest_of_specs ξ Γ (view_specifying c.in_type.result)) c.as_slice.result.now (out-Member c.line-item.result).specs.items _ _ _ c.as_slice.ensures.value c.in_ok-found.ensures) (moved_stop (λ (z : DeclaratorTree). walk_member ξ Γ (view_shaped c.specified_type-t.result) (map types.view_member c.loop-line.members.items) (view_declarator z)) c.deref.result.now (out-Member c.line-item.result).first.value (state_of c.walk_specs.new.tags c.walk_specs.new.known) _ c.deref.ensures c.in_err-walk_member.ensures) refl).met c.loop-line.invariant)
+    rw (p.1, p.2) (lines_stop ξ Γ (map types.view_member c.loop-line.members.items) c.args.lines.now c.loop-line.line-index c.line-item.result (state_of c.loop-line.tags c.loop-line.known) _ _ within c.line-item.is (line_stops_at_first (λ (ms : List Member). ms) ξ Γ (view_specifying c.in_type.result) (map types.view_member c.loop-line.members.items) (view_specs (out-Member c.line-item.result).specs) (view_declarator (out-Member c.line-item.result).first.value) (view_next_declarators (out-Member c.line-item.result).more) (out-Member c.line-item.result).semicolon (members_of (map view_member (drop (c.loop-line.line-index + 1) c.args.lines.now))) (state_of c.loop-line.tags c.loop-line.known) (state_of c.walk_specifiers.new.tags c.walk_specifiers.new.known) (state_of c.loop-line.tags c.loop-line.known) (view_specified c.in_ok-found.found) (view_shaped c.specified_type-t.result) _ (Err _) (c.in_type.ensures ∙ ap in_type place) c.specified_type-t.ensures (moved (all_specifiers ξ Γ (view_specifying c.in_type.result)) c.as_slice-specs.result.now (out-Member c.line-item.result).specs.items _ _ _ c.as_slice-specs.ensures.value c.in_ok-found.ensures) (moved_stop (λ (z : DeclaratorTree). walk_member ξ Γ (view_shaped c.specified_type-t.result) (map types.view_member c.loop-line.members.items) (view_declarator z)) c.deref.result.now (out-Member c.line-item.result).first.value (state_of c.walk_specifiers.new.tags c.walk_specifiers.new.known) _ c.deref.ensures c.in_err-walk_member.ensures) refl).met c.loop-line.invariant)
 
 pub types::walk_members-returns-in_err-walk_next_members : goal.types::walk_members-returns-in_err-walk_next_members
 types::walk_members-returns-in_err-walk_next_members t c =
     let ξ = view_setting c.args.setting in
     let Γ = view_env c.args.env.now in
+    let place = c.specs_place-at.ensures ∙ ap (λ (l : List Spec). specs_place (specs_of (map view_spec l))) c.as_slice-specs.ensures.value in
     let within : c.loop-line.line-index < length c.args.lines.now = omega arith in
     let p = err_from_is_err_and c.from_residual-in_err-walk_next_members.result c.from_residual-in_err-walk_next_members.ensures.1 in
-    rw (p.1, p.2) (lines_stop ξ Γ (map types.view_member c.loop-line.members.items) c.args.lines.now c.loop-line.line-index c.line-item.result (state_of c.loop-line.tags c.loop-line.known) _ _ within c.line-item.is (line_stops_at_others (λ (ms : List Member). ms) ξ Γ (view_specifying c.in_type.result) (map types.view_member c.loop-line.members.items) (map types.view_member c.walk_member.new.members.items) (view_specs (out-Member c.line-item.result).specs) (view_declarator (out-Member c.line-item.result).first.value) (view_next_declarators (out-Member c.line-item.result).more) (out-Member c.line-item.result).semicolon (members_of (map view_member (drop (c.loop-line.line-index + 1) c.args.lines.now))) (state_of c.loop-line.tags c.loop-line.known) (state_of c.walk_specs.new.tags c.walk_specs.new.known) (state_of c.walk_member.new.tags c.walk_member.new.known) (state_of c.loop-line.tags c.loop-line.known) (view_specified c.in_ok-found.found) (view_shaped c.specified_type-t.result) _ (Err _) c.in_type.ensures c.specified_type-t.ensures (moved (rest_of_specs ξ Γ (view_specifying c.in_type.result)) c.as_slice.result.now (out-Member c.line-item.result).specs.items _ _ _ c.as_slice.ensures.value c.in_ok-found.ensures) (moved (λ (z : DeclaratorTree). walk_member ξ Γ (view_shaped c.specified_type-t.result) (map types.view_member c.loop-line.members.items) (view_declarator z)) c.deref.result.now (out-Member c.line-item.result).first.value _ _ _ c.deref.ensures c.in_ok-walk_member.ensures) (moved_stop (rest_of_declarators ξ Γ (view_shaped c.specified_type-t.result) (map types.view_member c.walk_member.new.members.items)) c.as_slice-in-loop-line.result.now (out-Member c.line-item.result).more.items (state_of c.walk_member.new.tags c.walk_member.new.known) _ c.as_slice-in-loop-line.ensures.value c.in_err-walk_next_members.ensures) refl).met c.loop-line.invariant)
+    rw (p.1, p.2) (lines_stop ξ Γ (map types.view_member c.loop-line.members.items) c.args.lines.now c.loop-line.line-index c.line-item.result (state_of c.loop-line.tags c.loop-line.known) _ _ within c.line-item.is (line_stops_at_others (λ (ms : List Member). ms) ξ Γ (view_specifying c.in_type.result) (map types.view_member c.loop-line.members.items) (map types.view_member c.walk_member.new.members.items) (view_specs (out-Member c.line-item.result).specs) (view_declarator (out-Member c.line-item.result).first.value) (view_next_declarators (out-Member c.line-item.result).more) (out-Member c.line-item.result).semicolon (members_of (map view_member (drop (c.loop-line.line-index + 1) c.args.lines.now))) (state_of c.loop-line.tags c.loop-line.known) (state_of c.walk_specifiers.new.tags c.walk_specifiers.new.known) (state_of c.walk_member.new.tags c.walk_member.new.known) (state_of c.loop-line.tags c.loop-line.known) (view_specified c.in_ok-found.found) (view_shaped c.specified_type-t.result) _ (Err _) (c.in_type.ensures ∙ ap in_type place) c.specified_type-t.ensures (moved (all_specifiers ξ Γ (view_specifying c.in_type.result)) c.as_slice-specs.result.now (out-Member c.line-item.result).specs.items _ _ _ c.as_slice-specs.ensures.value c.in_ok-found.ensures) (moved (λ (z : DeclaratorTree). walk_member ξ Γ (view_shaped c.specified_type-t.result) (map types.view_member c.loop-line.members.items) (view_declarator z)) c.deref.result.now (out-Member c.line-item.result).first.value _ _ _ c.deref.ensures c.in_ok-walk_member.ensures) (moved_stop (rest_of_declarators ξ Γ (view_shaped c.specified_type-t.result) (map types.view_member c.walk_member.new.members.items)) c.as_slice-more.result.now (out-Member c.line-item.result).more.items (state_of c.walk_member.new.tags c.walk_member.new.known) _ c.as_slice-more.ensures.value c.in_err-walk_next_members.ensures) refl).met c.loop-line.invariant)
 
 pub types::walk_members-returns-in_err-judged : goal.types::walk_members-returns-in_err-judged
 types::walk_members-returns-in_err-judged t c =
     let ξ = view_setting c.args.setting in
     let Γ = view_env c.args.env.now in
+    let place = c.specs_place-at.ensures ∙ ap (λ (l : List Spec). specs_place (specs_of (map view_spec l))) c.as_slice-specs.ensures.value in
     let within : c.loop-line.line-index < length c.args.lines.now = omega arith in
     let p = err_from_is_err_and c.from_residual-in_err-judged.result c.from_residual-in_err-judged.ensures.1 in
-    rw (p.1, p.2) (lines_stop ξ Γ (map types.view_member c.loop-line.members.items) c.args.lines.now c.loop-line.line-index c.line-item.result (state_of c.loop-line.tags c.loop-line.known) _ _ within c.line-item.is (line_stops_itself (λ (ms : List Member). ms) ξ Γ (view_specifying c.in_type.result) (map types.view_member c.loop-line.members.items) (map types.view_member c.walk_member.new.members.items) (map types.view_member c.walk_next_members.new.members.items) (view_specs (out-Member c.line-item.result).specs) (view_declarator (out-Member c.line-item.result).first.value) (view_next_declarators (out-Member c.line-item.result).more) (out-Member c.line-item.result).semicolon (members_of (map view_member (drop (c.loop-line.line-index + 1) c.args.lines.now))) (state_of c.loop-line.tags c.loop-line.known) (state_of c.walk_specs.new.tags c.walk_specs.new.known) (state_of c.walk_member.new.tags c.walk_member.new.known) (state_of c.walk_next_members.new.tags c.walk_next_members.new.known) (state_of c.loop-line.tags c.loop-line.known) (view_specified c.in_ok-found.found) (view_shaped c.specified_type-t.result) c.specifiers_form.result c.specs_place-at.result c.specifies.result _ (Err _) c.in_type.ensures c.specified_type-t.ensures c.specifiers_form.ensures (c.specs_place-at.ensures ∙ ap (λ (l : List Spec). specs_place (specs_of (map view_spec l))) c.as_slice-in-loop-line-2.ensures.value) (moved (rest_of_specs ξ Γ (view_specifying c.in_type.result)) c.as_slice.result.now (out-Member c.line-item.result).specs.items _ _ _ c.as_slice.ensures.value c.in_ok-found.ensures) (moved (λ (z : DeclaratorTree). walk_member ξ Γ (view_shaped c.specified_type-t.result) (map types.view_member c.loop-line.members.items) (view_declarator z)) c.deref.result.now (out-Member c.line-item.result).first.value _ _ _ c.deref.ensures c.in_ok-walk_member.ensures) (moved (rest_of_declarators ξ Γ (view_shaped c.specified_type-t.result) (map types.view_member c.walk_member.new.members.items)) c.as_slice-in-loop-line.result.now (out-Member c.line-item.result).more.items _ _ _ c.as_slice-in-loop-line.ensures.value c.in_ok-walk_next_members.ensures) (c.specifies.ensures (facts_in ξ (state_of c.walk_next_members.new.tags c.walk_next_members.new.known))) c.in_err-judged.ensures.err refl).met c.loop-line.invariant)
+    rw (p.1, p.2) (lines_stop ξ Γ (map types.view_member c.loop-line.members.items) c.args.lines.now c.loop-line.line-index c.line-item.result (state_of c.loop-line.tags c.loop-line.known) _ _ within c.line-item.is (line_stops_itself (λ (ms : List Member). ms) ξ Γ (view_specifying c.in_type.result) (map types.view_member c.loop-line.members.items) (map types.view_member c.walk_member.new.members.items) (map types.view_member c.walk_next_members.new.members.items) (view_specs (out-Member c.line-item.result).specs) (view_declarator (out-Member c.line-item.result).first.value) (view_next_declarators (out-Member c.line-item.result).more) (out-Member c.line-item.result).semicolon (members_of (map view_member (drop (c.loop-line.line-index + 1) c.args.lines.now))) (state_of c.loop-line.tags c.loop-line.known) (state_of c.walk_specifiers.new.tags c.walk_specifiers.new.known) (state_of c.walk_member.new.tags c.walk_member.new.known) (state_of c.walk_next_members.new.tags c.walk_next_members.new.known) (state_of c.loop-line.tags c.loop-line.known) (view_specified c.in_ok-found.found) (view_shaped c.specified_type-t.result) c.specifiers_form.result c.specs_place-at.result c.specifies.result _ (Err _) (c.in_type.ensures ∙ ap in_type place) c.specified_type-t.ensures c.specifiers_form.ensures place (moved (all_specifiers ξ Γ (view_specifying c.in_type.result)) c.as_slice-specs.result.now (out-Member c.line-item.result).specs.items _ _ _ c.as_slice-specs.ensures.value c.in_ok-found.ensures) (moved (λ (z : DeclaratorTree). walk_member ξ Γ (view_shaped c.specified_type-t.result) (map types.view_member c.loop-line.members.items) (view_declarator z)) c.deref.result.now (out-Member c.line-item.result).first.value _ _ _ c.deref.ensures c.in_ok-walk_member.ensures) (moved (rest_of_declarators ξ Γ (view_shaped c.specified_type-t.result) (map types.view_member c.walk_member.new.members.items)) c.as_slice-more.result.now (out-Member c.line-item.result).more.items _ _ _ c.as_slice-more.ensures.value c.in_ok-walk_next_members.ensures) (c.specifies.ensures (facts_in ξ (state_of c.walk_next_members.new.tags c.walk_next_members.new.known))) c.in_err-judged.ensures.err refl).met c.loop-line.invariant)
 
 pub types::walk_members-loop-line-preserved : goal.types::walk_members-loop-line-preserved
 types::walk_members-loop-line-preserved t c =
     let ξ = view_setting c.args.setting in
     let Γ = view_env c.args.env.now in
+    let place = c.specs_place-at.ensures ∙ ap (λ (l : List Spec). specs_place (specs_of (map view_spec l))) c.as_slice-specs.ensures.value in
     let within : c.loop-line.line-index < length c.args.lines.now = omega arith in
     lines_step ξ Γ (map types.view_member c.loop-line.members.items) (map types.view_member c.walk_next_members.new.members.items) c.args.lines.now c.loop-line.line-index c.line-item.result (state_of c.loop-line.tags c.loop-line.known) (state_of c.walk_next_members.new.tags c.note_end.new.known) _ within c.line-item.is
-    (line_goes ξ Γ (view_specifying c.in_type.result) (map types.view_member c.loop-line.members.items) (map types.view_member c.walk_member.new.members.items) (map types.view_member c.walk_next_members.new.members.items) (view_specs (out-Member c.line-item.result).specs) (view_declarator (out-Member c.line-item.result).first.value) (view_next_declarators (out-Member c.line-item.result).more) (out-Member c.line-item.result).semicolon (members_of (map view_member (drop (c.loop-line.line-index + 1) c.args.lines.now))) (state_of c.loop-line.tags c.loop-line.known) (state_of c.walk_specs.new.tags c.walk_specs.new.known) (state_of c.walk_member.new.tags c.walk_member.new.known) (state_of c.walk_next_members.new.tags c.walk_next_members.new.known) (state_of c.walk_next_members.new.tags c.note_end.new.known) (view_specified c.in_ok-found.found) (view_shaped c.specified_type-t.result) c.specifiers_form.result c.specs_place-at.result c.specifies.result c.in_type.ensures c.specified_type-t.ensures c.specifiers_form.ensures (c.specs_place-at.ensures ∙ ap (λ (l : List Spec). specs_place (specs_of (map view_spec l))) c.as_slice-in-loop-line-2.ensures.value) (moved (rest_of_specs ξ Γ (view_specifying c.in_type.result)) c.as_slice.result.now (out-Member c.line-item.result).specs.items _ _ _ c.as_slice.ensures.value c.in_ok-found.ensures) (moved (λ (z : DeclaratorTree). walk_member ξ Γ (view_shaped c.specified_type-t.result) (map types.view_member c.loop-line.members.items) (view_declarator z)) c.deref.result.now (out-Member c.line-item.result).first.value _ _ _ c.deref.ensures c.in_ok-walk_member.ensures) (moved (rest_of_declarators ξ Γ (view_shaped c.specified_type-t.result) (map types.view_member c.walk_member.new.members.items)) c.as_slice-in-loop-line.result.now (out-Member c.line-item.result).more.items _ _ _ c.as_slice-in-loop-line.ensures.value c.in_ok-walk_next_members.ensures) (c.specifies.ensures (facts_in ξ (state_of c.walk_next_members.new.tags c.walk_next_members.new.known))) c.in_ok-judged.ensures.ok (c.note_end.ensures (view_tags c.walk_next_members.new.tags)))
+    (line_goes ξ Γ (view_specifying c.in_type.result) (map types.view_member c.loop-line.members.items) (map types.view_member c.walk_member.new.members.items) (map types.view_member c.walk_next_members.new.members.items) (view_specs (out-Member c.line-item.result).specs) (view_declarator (out-Member c.line-item.result).first.value) (view_next_declarators (out-Member c.line-item.result).more) (out-Member c.line-item.result).semicolon (members_of (map view_member (drop (c.loop-line.line-index + 1) c.args.lines.now))) (state_of c.loop-line.tags c.loop-line.known) (state_of c.walk_specifiers.new.tags c.walk_specifiers.new.known) (state_of c.walk_member.new.tags c.walk_member.new.known) (state_of c.walk_next_members.new.tags c.walk_next_members.new.known) (state_of c.walk_next_members.new.tags c.note_end.new.known) (view_specified c.in_ok-found.found) (view_shaped c.specified_type-t.result) c.specifiers_form.result c.specs_place-at.result c.specifies.result (c.in_type.ensures ∙ ap in_type place) c.specified_type-t.ensures c.specifiers_form.ensures place (moved (all_specifiers ξ Γ (view_specifying c.in_type.result)) c.as_slice-specs.result.now (out-Member c.line-item.result).specs.items _ _ _ c.as_slice-specs.ensures.value c.in_ok-found.ensures) (moved (λ (z : DeclaratorTree). walk_member ξ Γ (view_shaped c.specified_type-t.result) (map types.view_member c.loop-line.members.items) (view_declarator z)) c.deref.result.now (out-Member c.line-item.result).first.value _ _ _ c.deref.ensures c.in_ok-walk_member.ensures) (moved (rest_of_declarators ξ Γ (view_shaped c.specified_type-t.result) (map types.view_member c.walk_member.new.members.items)) c.as_slice-more.result.now (out-Member c.line-item.result).more.items _ _ _ c.as_slice-more.ensures.value c.in_ok-walk_next_members.ensures) (c.specifies.ensures (facts_in ξ (state_of c.walk_next_members.new.tags c.walk_next_members.new.known))) c.in_ok-judged.ensures.ok (c.note_end.ensures (view_tags c.walk_next_members.new.tags)))
     c.loop-line.invariant
 
 pub types::walk_next_members-returns-in_err-walk_member : goal.types::walk_next_members-returns-in_err-walk_member
@@ -809,46 +848,51 @@ pub types::walk_parameter-returns-in_err-found : goal.types::walk_parameter-retu
 types::walk_parameter-returns-in_err-found t c =
     let ξ = view_setting c.args.setting in
     let before : Declared = record { types = map types.view c.args.all.now.items; scope = view_env c.args.scope.now } in
+    let place = c.specs_place-at.ensures ∙ ap (λ (l : List Spec). specs_place (specs_of (map view_spec l))) c.as_slice-specs.ensures.value in
     let s = state_of c.args.tags.now c.args.known.now in
     let p = err_from_is_err_and c.from_residual.result c.from_residual.ensures.1 in
     rw (p.1, p.2) (of_form (walk_parameter ξ before) (λ (d : Declared). d) (view_parameter c.args.x.now) (tree.Parametric (view_specs (out-Parameter c.args.x.now).specs) (view_pointers (out-Parameter c.args.x.now).pointers) (out-Parameter c.args.x.now).name (view_array (out-Parameter c.args.x.now).array)) s s (Err _) (parameter_is c.args.x.now)
-    (parameter_stops (λ (d : Declared). d) ξ before (view_specifying c.in_type.result) (view_specs (out-Parameter c.args.x.now).specs) (view_pointers (out-Parameter c.args.x.now).pointers) (out-Parameter c.args.x.now).name (view_array (out-Parameter c.args.x.now).array) s s _ (Err _) c.in_type.ensures (moved_stop (rest_of_specs ξ before.scope (view_specifying c.in_type.result)) c.as_slice.result.now (out-Parameter c.args.x.now).specs.items s _ c.as_slice.ensures.value c.in_err-found.ensures) refl))
+    (parameter_stops (λ (d : Declared). d) ξ before (view_specifying c.in_type.result) (view_specs (out-Parameter c.args.x.now).specs) (view_pointers (out-Parameter c.args.x.now).pointers) (out-Parameter c.args.x.now).name (view_array (out-Parameter c.args.x.now).array) s s _ (Err _) (c.in_type.ensures ∙ ap in_type place) (moved_stop (all_specifiers ξ before.scope (view_specifying c.in_type.result)) c.as_slice-specs.result.now (out-Parameter c.args.x.now).specs.items s _ c.as_slice-specs.ensures.value c.in_err-found.ensures) refl))
 
 pub types::walk_parameter-returns-in_err-t : goal.types::walk_parameter-returns-in_err-t
 types::walk_parameter-returns-in_err-t t c =
     let ξ = view_setting c.args.setting in
     let before : Declared = record { types = map types.view c.args.all.now.items; scope = view_env c.args.scope.now } in
+    let place = c.specs_place-at.ensures ∙ ap (λ (l : List Spec). specs_place (specs_of (map view_spec l))) c.as_slice-specs.ensures.value in
     let s = state_of c.args.tags.now c.args.known.now in
     let p = err_from_is_err_and c.from_residual-in_err-t.result c.from_residual-in_err-t.ensures.1 in
     rw (p.1, p.2) (of_form (walk_parameter ξ before) (λ (d : Declared). d) (view_parameter c.args.x.now) (tree.Parametric (view_specs (out-Parameter c.args.x.now).specs) (view_pointers (out-Parameter c.args.x.now).pointers) (out-Parameter c.args.x.now).name (view_array (out-Parameter c.args.x.now).array)) s s (Err _) (parameter_is c.args.x.now)
-    (parameter_stops_at_stars (λ (d : Declared). d) ξ before (view_specifying c.in_type.result) (view_specs (out-Parameter c.args.x.now).specs) (view_pointers (out-Parameter c.args.x.now).pointers) (out-Parameter c.args.x.now).name (view_array (out-Parameter c.args.x.now).array) s (state_of c.walk_specs.new.tags c.walk_specs.new.known) s (view_specified c.in_ok-found.found) (view_shaped c.specified_type-t.result) _ (Err _) c.in_type.ensures c.specified_type-t.ensures (moved (rest_of_specs ξ before.scope (view_specifying c.in_type.result)) c.as_slice.result.now (out-Parameter c.args.x.now).specs.items _ _ _ c.as_slice.ensures.value c.in_ok-found.ensures) (moved_stop (rest_of_stars ξ before.scope false (view_shaped c.specified_type-t.result)) c.as_slice-2.result.now (out-Parameter c.args.x.now).pointers.items (state_of c.walk_specs.new.tags c.walk_specs.new.known) _ c.as_slice-2.ensures.value c.in_err-t.ensures) refl))
+    (parameter_stops_at_stars (λ (d : Declared). d) ξ before (view_specifying c.in_type.result) (view_specs (out-Parameter c.args.x.now).specs) (view_pointers (out-Parameter c.args.x.now).pointers) (out-Parameter c.args.x.now).name (view_array (out-Parameter c.args.x.now).array) s (state_of c.walk_specifiers.new.tags c.walk_specifiers.new.known) s (view_specified c.in_ok-found.found) (view_shaped c.specified_type-t.result) _ (Err _) (c.in_type.ensures ∙ ap in_type place) c.specified_type-t.ensures (moved (all_specifiers ξ before.scope (view_specifying c.in_type.result)) c.as_slice-specs.result.now (out-Parameter c.args.x.now).specs.items _ _ _ c.as_slice-specs.ensures.value c.in_ok-found.ensures) (moved_stop (rest_of_stars ξ before.scope false (view_shaped c.specified_type-t.result)) c.as_slice-stars.result.now (out-Parameter c.args.x.now).pointers.items (state_of c.walk_specifiers.new.tags c.walk_specifiers.new.known) _ c.as_slice-stars.ensures.value c.in_err-t.ensures) refl))
 
 pub types::walk_parameter-returns-in_err-t-2 : goal.types::walk_parameter-returns-in_err-t-2
 types::walk_parameter-returns-in_err-t-2 t c =
     let ξ = view_setting c.args.setting in
     let before : Declared = record { types = map types.view c.args.all.now.items; scope = view_env c.args.scope.now } in
+    let place = c.specs_place-at.ensures ∙ ap (λ (l : List Spec). specs_place (specs_of (map view_spec l))) c.as_slice-specs.ensures.value in
     let s = state_of c.args.tags.now c.args.known.now in
     let p = err_from_is_err_and c.from_residual-in_err-t-2.result c.from_residual-in_err-t-2.ensures.1 in
     rw (p.1, p.2) (of_form (walk_parameter ξ before) (λ (d : Declared). d) (view_parameter c.args.x.now) (tree.Parametric (view_specs (out-Parameter c.args.x.now).specs) (view_pointers (out-Parameter c.args.x.now).pointers) (out-Parameter c.args.x.now).name (view_array (out-Parameter c.args.x.now).array)) s s (Err _) (parameter_is c.args.x.now)
-    (parameter_stops_at_array (λ (d : Declared). d) ξ before (view_specifying c.in_type.result) (view_specs (out-Parameter c.args.x.now).specs) (view_pointers (out-Parameter c.args.x.now).pointers) (out-Parameter c.args.x.now).name (view_array (out-Parameter c.args.x.now).array) s (state_of c.walk_specs.new.tags c.walk_specs.new.known) (state_of c.walk_pointers.new.tags c.walk_pointers.new.known) s (view_specified c.in_ok-found.found) (view_shaped c.specified_type-t.result) (view_shaped c.in_ok-t.t) (view_shaped c.named_type-t.result) c.specifiers_form.result _ (Err _) c.in_type.ensures c.specified_type-t.ensures c.specifiers_form.ensures c.named_type-t.ensures (moved (rest_of_specs ξ before.scope (view_specifying c.in_type.result)) c.as_slice.result.now (out-Parameter c.args.x.now).specs.items _ _ _ c.as_slice.ensures.value c.in_ok-found.ensures) (moved (rest_of_stars ξ before.scope false (view_shaped c.specified_type-t.result)) c.as_slice-2.result.now (out-Parameter c.args.x.now).pointers.items _ _ _ c.as_slice-2.ensures.value c.in_ok-t.ensures) c.in_err-t-2.ensures refl))
+    (parameter_stops_at_array (λ (d : Declared). d) ξ before (view_specifying c.in_type.result) (view_specs (out-Parameter c.args.x.now).specs) (view_pointers (out-Parameter c.args.x.now).pointers) (out-Parameter c.args.x.now).name (view_array (out-Parameter c.args.x.now).array) s (state_of c.walk_specifiers.new.tags c.walk_specifiers.new.known) (state_of c.walk_pointers.new.tags c.walk_pointers.new.known) s (view_specified c.in_ok-found.found) (view_shaped c.specified_type-t.result) (view_shaped c.in_ok-t.t) (view_shaped c.named_type-t.result) c.specifiers_form.result _ (Err _) (c.in_type.ensures ∙ ap in_type place) c.specified_type-t.ensures c.specifiers_form.ensures c.named_type-t.ensures (moved (all_specifiers ξ before.scope (view_specifying c.in_type.result)) c.as_slice-specs.result.now (out-Parameter c.args.x.now).specs.items _ _ _ c.as_slice-specs.ensures.value c.in_ok-found.ensures) (moved (rest_of_stars ξ before.scope false (view_shaped c.specified_type-t.result)) c.as_slice-stars.result.now (out-Parameter c.args.x.now).pointers.items _ _ _ c.as_slice-stars.ensures.value c.in_ok-t.ensures) c.in_err-t-2.ensures refl))
 
 pub types::walk_parameter-returns-in_err-judged : goal.types::walk_parameter-returns-in_err-judged
 types::walk_parameter-returns-in_err-judged t c =
     let ξ = view_setting c.args.setting in
     let before : Declared = record { types = map types.view c.args.all.now.items; scope = view_env c.args.scope.now } in
+    let place = c.specs_place-at.ensures ∙ ap (λ (l : List Spec). specs_place (specs_of (map view_spec l))) c.as_slice-specs.ensures.value in
     let s = state_of c.args.tags.now c.args.known.now in
     let p = err_from_is_err_and c.from_residual-in_err-judged.result c.from_residual-in_err-judged.ensures.1 in
     rw (p.1, p.2) (of_form (walk_parameter ξ before) (λ (d : Declared). d) (view_parameter c.args.x.now) (tree.Parametric (view_specs (out-Parameter c.args.x.now).specs) (view_pointers (out-Parameter c.args.x.now).pointers) (out-Parameter c.args.x.now).name (view_array (out-Parameter c.args.x.now).array)) s s (Err _) (parameter_is c.args.x.now)
-    (parameter_stops_itself (λ (d : Declared). d) ξ before (view_specifying c.in_type.result) (view_specs (out-Parameter c.args.x.now).specs) (view_pointers (out-Parameter c.args.x.now).pointers) (out-Parameter c.args.x.now).name (view_array (out-Parameter c.args.x.now).array) s (state_of c.walk_specs.new.tags c.walk_specs.new.known) (state_of c.walk_pointers.new.tags c.walk_pointers.new.known) (state_of c.walk_array.new.tags c.walk_array.new.known) s (view_specified c.in_ok-found.found) (view_shaped c.specified_type-t.result) (view_shaped c.in_ok-t.t) (view_shaped c.named_type-t.result) c.specifiers_form.result c.is_again-again.result (view_formed c.in_ok-t-2.t) c.specs_place-at.result c.parameter.result _ (Err _) c.in_type.ensures c.specified_type-t.ensures c.specifiers_form.ensures c.named_type-t.ensures c.is_again-again.ensures (c.specs_place-at.ensures ∙ ap (λ (l : List Spec). specs_place (specs_of (map view_spec l))) c.as_slice-3.ensures.value) (moved (rest_of_specs ξ before.scope (view_specifying c.in_type.result)) c.as_slice.result.now (out-Parameter c.args.x.now).specs.items _ _ _ c.as_slice.ensures.value c.in_ok-found.ensures) (moved (rest_of_stars ξ before.scope false (view_shaped c.specified_type-t.result)) c.as_slice-2.result.now (out-Parameter c.args.x.now).pointers.items _ _ _ c.as_slice-2.ensures.value c.in_ok-t.ensures) c.in_ok-t-2.ensures (c.parameter.ensures ξ.threads) c.in_err-judged.ensures.err refl))
+    (parameter_stops_itself (λ (d : Declared). d) ξ before (view_specifying c.in_type.result) (view_specs (out-Parameter c.args.x.now).specs) (view_pointers (out-Parameter c.args.x.now).pointers) (out-Parameter c.args.x.now).name (view_array (out-Parameter c.args.x.now).array) s (state_of c.walk_specifiers.new.tags c.walk_specifiers.new.known) (state_of c.walk_pointers.new.tags c.walk_pointers.new.known) (state_of c.walk_array.new.tags c.walk_array.new.known) s (view_specified c.in_ok-found.found) (view_shaped c.specified_type-t.result) (view_shaped c.in_ok-t.t) (view_shaped c.named_type-t.result) c.specifiers_form.result c.is_again-again.result (view_formed c.in_ok-t-2.t) c.specs_place-at.result c.parameter.result _ (Err _) (c.in_type.ensures ∙ ap in_type place) c.specified_type-t.ensures c.specifiers_form.ensures c.named_type-t.ensures c.is_again-again.ensures place (moved (all_specifiers ξ before.scope (view_specifying c.in_type.result)) c.as_slice-specs.result.now (out-Parameter c.args.x.now).specs.items _ _ _ c.as_slice-specs.ensures.value c.in_ok-found.ensures) (moved (rest_of_stars ξ before.scope false (view_shaped c.specified_type-t.result)) c.as_slice-stars.result.now (out-Parameter c.args.x.now).pointers.items _ _ _ c.as_slice-stars.ensures.value c.in_ok-t.ensures) c.in_ok-t-2.ensures (c.parameter.ensures ξ.threads) c.in_err-judged.ensures.err refl))
 
 pub types::walk_parameter-returns : goal.types::walk_parameter-returns
 types::walk_parameter-returns t c =
     let ξ = view_setting c.args.setting in
     let before : Declared = record { types = map types.view c.args.all.now.items; scope = view_env c.args.scope.now } in
+    let place = c.specs_place-at.ensures ∙ ap (λ (l : List Spec). specs_place (specs_of (map view_spec l))) c.as_slice-specs.ensures.value in
     let s = state_of c.args.tags.now c.args.known.now in
     let behind : Declared = record { types = map types.view c.add_parameter.new.types.items; scope = view_env c.add_parameter.new.scope } in
     of_form (walk_parameter ξ before) (λ (d : Declared). d) (view_parameter c.args.x.now) (tree.Parametric (view_specs (out-Parameter c.args.x.now).specs) (view_pointers (out-Parameter c.args.x.now).pointers) (out-Parameter c.args.x.now).name (view_array (out-Parameter c.args.x.now).array)) s (state_of c.walk_array.new.tags c.walk_array.new.known) (Ok behind) (parameter_is c.args.x.now)
-    (parameter_ends (λ (d : Declared). d) behind ξ before (view_specifying c.in_type.result) (view_specs (out-Parameter c.args.x.now).specs) (view_pointers (out-Parameter c.args.x.now).pointers) (out-Parameter c.args.x.now).name (view_array (out-Parameter c.args.x.now).array) s (state_of c.walk_specs.new.tags c.walk_specs.new.known) (state_of c.walk_pointers.new.tags c.walk_pointers.new.known) (state_of c.walk_array.new.tags c.walk_array.new.known) (view_specified c.in_ok-found.found) (view_shaped c.specified_type-t.result) (view_shaped c.in_ok-t.t) (view_shaped c.named_type-t.result) c.specifiers_form.result c.is_again-again.result (view_formed c.in_ok-t-2.t) c.specs_place-at.result c.parameter.result c.in_type.ensures c.specified_type-t.ensures c.specifiers_form.ensures c.named_type-t.ensures c.is_again-again.ensures (c.specs_place-at.ensures ∙ ap (λ (l : List Spec). specs_place (specs_of (map view_spec l))) c.as_slice-3.ensures.value) (moved (rest_of_specs ξ before.scope (view_specifying c.in_type.result)) c.as_slice.result.now (out-Parameter c.args.x.now).specs.items _ _ _ c.as_slice.ensures.value c.in_ok-found.ensures) (moved (rest_of_stars ξ before.scope false (view_shaped c.specified_type-t.result)) c.as_slice-2.result.now (out-Parameter c.args.x.now).pointers.items _ _ _ c.as_slice-2.ensures.value c.in_ok-t.ensures) c.in_ok-t-2.ensures (c.parameter.ensures ξ.threads) c.in_ok-judged.ensures.ok c.in_ok-add_parameter.ensures)
+    (parameter_ends (λ (d : Declared). d) behind ξ before (view_specifying c.in_type.result) (view_specs (out-Parameter c.args.x.now).specs) (view_pointers (out-Parameter c.args.x.now).pointers) (out-Parameter c.args.x.now).name (view_array (out-Parameter c.args.x.now).array) s (state_of c.walk_specifiers.new.tags c.walk_specifiers.new.known) (state_of c.walk_pointers.new.tags c.walk_pointers.new.known) (state_of c.walk_array.new.tags c.walk_array.new.known) (view_specified c.in_ok-found.found) (view_shaped c.specified_type-t.result) (view_shaped c.in_ok-t.t) (view_shaped c.named_type-t.result) c.specifiers_form.result c.is_again-again.result (view_formed c.in_ok-t-2.t) c.specs_place-at.result c.parameter.result (c.in_type.ensures ∙ ap in_type place) c.specified_type-t.ensures c.specifiers_form.ensures c.named_type-t.ensures c.is_again-again.ensures place (moved (all_specifiers ξ before.scope (view_specifying c.in_type.result)) c.as_slice-specs.result.now (out-Parameter c.args.x.now).specs.items _ _ _ c.as_slice-specs.ensures.value c.in_ok-found.ensures) (moved (rest_of_stars ξ before.scope false (view_shaped c.specified_type-t.result)) c.as_slice-stars.result.now (out-Parameter c.args.x.now).pointers.items _ _ _ c.as_slice-stars.ensures.value c.in_ok-t.ensures) c.in_ok-t-2.ensures (c.parameter.ensures ξ.threads) c.in_ok-judged.ensures.ok c.in_ok-add_parameter.ensures)
 
 pub types::walk_array-returns-in_err-a-in-Sized : goal.types::walk_array-returns-in_err-a-in-Sized
 types::walk_array-returns-in_err-a-in-Sized t c =
@@ -888,14 +932,14 @@ types::walk_type-walk_sizes-requires t c =
 
 pub types::walk_parameter-walk_pointers-requires : goal.types::walk_parameter-walk_pointers-requires
 types::walk_parameter-walk_pointers-requires t c =
-    let e = ap (most pointer.the_size) c.as_slice-2.ensures.value in
+    let e = ap (most pointer.the_size) c.as_slice-stars.ensures.value in
     let h = stars_of_parameter c.args.x.now in
     grind (arith, e, h)
 
 pub types::walk_members-walk_next_members-requires : goal.types::walk_members-walk_next_members-requires
 types::walk_members-walk_next_members-requires t c =
     let within : c.loop-line.line-index < length c.args.lines.now = omega arith in
-    let e = ap (most declarator.the_size) c.as_slice-in-loop-line.ensures.value in
+    let e = ap (most declarator.the_size) c.as_slice-more.ensures.value in
     let h = others_of_line c.line-item.result in
     let i = ap line.the_size c.line-item.is in
     let k = at_most line.the_size c.args.lines.now c.loop-line.line-index c.line-item.result within in

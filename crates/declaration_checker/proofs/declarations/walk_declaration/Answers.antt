@@ -16,7 +16,7 @@ use Rattle.declaration_checker.specs.Declarations.{Behind}
 use Rattle.walk_state.specs.Ends.{Stops, Comes}
 use Rattle.type_specifiers.specs.Shapes.{Specifying}
 use Rattle.walk_state.specs.Places.{specs_place}
-use Rattle.expression_checker.specs.Expressions.{walk_specs}
+use Rattle.expression_checker.specs.Expressions.{walk_specifiers}
 use Rattle.type_specifiers.specs.Specifiers.{Shaped, specified_type, specifiers_form}
 use Rattle.walk_state.specs.Views.{view_setting, state_of, state_with}
 use Rattle.type_specifiers.specs.ViewShapes.{view_shaped, view_specified}
@@ -31,15 +31,17 @@ returns-in_err-found c =
     let Γ = view_env c.args.env.now in
     let s = state_of c.args.tags.now c.args.known.now in
     let list = trees.view_declared_list c.args.declaration.now.declared in
-    let how = pure.specifying Γ list in
     let specs = λ (xs : List Spec). specs_of (map view_spec xs) in
     let items = c.args.declaration.now.specs.items in
     let value = c.as_slice-specs.ensures.value in
-    let wf = λ (h : Specifying) (xs : List Spec). walk_specs ξ Γ h (specs xs) in
+    let place = c.specs_place-place.ensures ∙ ap (λ xs. specs_place (specs xs)) value in
+    let how = pure.specifying (specs_place (specs items)) Γ list in
+    let stands = c.specifying-how.ensures ∙ ap (λ (at : Place). pure.specifying at Γ list) place in
+    let wf = λ (h : Specifying) (xs : List Spec). walk_specifiers ξ Γ h (specs xs) in
     let id = λ (b : Behind). b in
     let e = c.in_err-found.field-0.0 in
     let hf = subst (λ (xs : List Spec). Stops (first_fault (wf how xs s).seen) e) value
-    (subst (λ (h : Specifying). Stops (first_fault (wf h c.as_slice-specs.result.now s).seen) e) c.specifying-how.ensures c.in_err-found.ensures) in
+    (subst (λ (h : Specifying). Stops (first_fault (wf h c.as_slice-specs.result.now s).seen) e) stands c.in_err-found.ensures) in
     let p = err_from_is_err_and c.from_residual.result c.from_residual.ensures.1 in
     rw (p.1, p.2) (stops id (wf how items) _ s s e hf)
 
@@ -49,16 +51,17 @@ returns-in_err-objects c =
     let Γ = view_env c.args.env.now in
     let s = state_of c.args.tags.now c.args.known.now in
     let list = trees.view_declared_list c.args.declaration.now.declared in
-    let how = pure.specifying Γ list in
     let specs = λ (xs : List Spec). specs_of (map view_spec xs) in
     let items = c.args.declaration.now.specs.items in
     let value = c.as_slice-specs.ensures.value in
-    let wf = λ (h : Specifying) (xs : List Spec). walk_specs ξ Γ h (specs xs) in
-    let id = λ (b : Behind). b in
-    let s1 = state_of c.walk_specs.new.tags c.walk_specs.new.known in
-    let found = view_specified c.in_ok-found.found in
-    let hf = subst (λ (xs : List Spec). Comes (wf how xs s) s1 found) value (subst (λ (h : Specifying). Comes (wf h c.as_slice-specs.result.now s) s1 found) c.specifying-how.ensures c.in_ok-found.ensures) in
     let place = c.specs_place-place.ensures ∙ ap (λ xs. specs_place (specs xs)) value in
+    let how = pure.specifying (specs_place (specs items)) Γ list in
+    let stands = c.specifying-how.ensures ∙ ap (λ (at : Place). pure.specifying at Γ list) place in
+    let wf = λ (h : Specifying) (xs : List Spec). walk_specifiers ξ Γ h (specs xs) in
+    let id = λ (b : Behind). b in
+    let s1 = state_of c.walk_specifiers.new.tags c.walk_specifiers.new.known in
+    let found = view_specified c.in_ok-found.found in
+    let hf = subst (λ (xs : List Spec). Comes (wf how xs s) s1 found) value (subst (λ (h : Specifying). Comes (wf h c.as_slice-specs.result.now s) s1 found) stands c.in_ok-found.ensures) in
     let at = specs_place (specs items) in
     let first : Behind = record { scope = Γ; objects = [] } in
     let wo = λ (at : Place) (t : Shaped). pure.walk_declared_list ξ at t first list in
@@ -75,16 +78,17 @@ returns-in_err-judge_specifiers c =
     let Γ = view_env c.args.env.now in
     let s = state_of c.args.tags.now c.args.known.now in
     let list = trees.view_declared_list c.args.declaration.now.declared in
-    let how = pure.specifying Γ list in
     let specs = λ (xs : List Spec). specs_of (map view_spec xs) in
     let items = c.args.declaration.now.specs.items in
     let value = c.as_slice-specs.ensures.value in
-    let wf = λ (h : Specifying) (xs : List Spec). walk_specs ξ Γ h (specs xs) in
-    let id = λ (b : Behind). b in
-    let s1 = state_of c.walk_specs.new.tags c.walk_specs.new.known in
-    let found = view_specified c.in_ok-found.found in
-    let hf = subst (λ (xs : List Spec). Comes (wf how xs s) s1 found) value (subst (λ (h : Specifying). Comes (wf h c.as_slice-specs.result.now s) s1 found) c.specifying-how.ensures c.in_ok-found.ensures) in
     let place = c.specs_place-place.ensures ∙ ap (λ xs. specs_place (specs xs)) value in
+    let how = pure.specifying (specs_place (specs items)) Γ list in
+    let stands = c.specifying-how.ensures ∙ ap (λ (at : Place). pure.specifying at Γ list) place in
+    let wf = λ (h : Specifying) (xs : List Spec). walk_specifiers ξ Γ h (specs xs) in
+    let id = λ (b : Behind). b in
+    let s1 = state_of c.walk_specifiers.new.tags c.walk_specifiers.new.known in
+    let found = view_specified c.in_ok-found.found in
+    let hf = subst (λ (xs : List Spec). Comes (wf how xs s) s1 found) value (subst (λ (h : Specifying). Comes (wf h c.as_slice-specs.result.now s) s1 found) stands c.in_ok-found.ensures) in
     let at = specs_place (specs items) in
     let first : Behind = record { scope = Γ; objects = [] } in
     let wo = λ (at : Place) (t : Shaped). pure.walk_declared_list ξ at t first list in
@@ -107,16 +111,17 @@ returns c =
     let Γ = view_env c.args.env.now in
     let s = state_of c.args.tags.now c.args.known.now in
     let list = trees.view_declared_list c.args.declaration.now.declared in
-    let how = pure.specifying Γ list in
     let specs = λ (xs : List Spec). specs_of (map view_spec xs) in
     let items = c.args.declaration.now.specs.items in
     let value = c.as_slice-specs.ensures.value in
-    let wf = λ (h : Specifying) (xs : List Spec). walk_specs ξ Γ h (specs xs) in
-    let id = λ (b : Behind). b in
-    let s1 = state_of c.walk_specs.new.tags c.walk_specs.new.known in
-    let found = view_specified c.in_ok-found.found in
-    let hf = subst (λ (xs : List Spec). Comes (wf how xs s) s1 found) value (subst (λ (h : Specifying). Comes (wf h c.as_slice-specs.result.now s) s1 found) c.specifying-how.ensures c.in_ok-found.ensures) in
     let place = c.specs_place-place.ensures ∙ ap (λ xs. specs_place (specs xs)) value in
+    let how = pure.specifying (specs_place (specs items)) Γ list in
+    let stands = c.specifying-how.ensures ∙ ap (λ (at : Place). pure.specifying at Γ list) place in
+    let wf = λ (h : Specifying) (xs : List Spec). walk_specifiers ξ Γ h (specs xs) in
+    let id = λ (b : Behind). b in
+    let s1 = state_of c.walk_specifiers.new.tags c.walk_specifiers.new.known in
+    let found = view_specified c.in_ok-found.found in
+    let hf = subst (λ (xs : List Spec). Comes (wf how xs s) s1 found) value (subst (λ (h : Specifying). Comes (wf h c.as_slice-specs.result.now s) s1 found) stands c.in_ok-found.ensures) in
     let at = specs_place (specs items) in
     let first : Behind = record { scope = Γ; objects = [] } in
     let wo = λ (at : Place) (t : Shaped). pure.walk_declared_list ξ at t first list in

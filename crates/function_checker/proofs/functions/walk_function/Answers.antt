@@ -13,7 +13,7 @@ use Rattle.typed_tree.specs.ViewStatements.{view_function}
 use Rattle.walk_state.specs.Ends.{Stops, Comes, Meets}
 use Rattle.type_specifiers.specs.Shapes.{Specifying}
 use Rattle.walk_state.specs.Places.{specs_place}
-use Rattle.expression_checker.specs.Expressions.{walk_specs, walk_pointers}
+use Rattle.expression_checker.specs.Expressions.{walk_specifiers, walk_pointers}
 use Rattle.type_specifiers.specs.Specifiers.{Shaped, specified_type}
 use Rattle.function_checker.specs.Units as pure
 use Rattle.function_checker.specs.Units.{Made}
@@ -32,14 +32,17 @@ returns-in_err-found c = λ objects.
     let before : Made = record { scope = Γ; objects = objects; functions = map view_function c.args.functions.now.items } in
     let specs = λ (xs : List Spec). specs_of (map view_spec xs) in
     let stars = λ (xs : List Pointer). pointers_of (map view_pointer xs) in
-    let wf = λ (h : Specifying) (xs : List Spec). walk_specs ξ Γ h (specs xs) in
+    let place = c.specs_place-place.ensures ∙ ap (λ xs. specs_place (specs xs)) c.as_slice-specs.ensures.value in
+    let how = pure.in_definition (specs_place (specs fun.specs.items)) in
+    let stands = c.in_definition.ensures ∙ ap pure.in_definition place in
+    let wf = λ (h : Specifying) (xs : List Spec). walk_specifiers ξ Γ h (specs xs) in
     let wp = λ (t : Shaped) (xs : List Pointer). walk_pointers ξ Γ false t (stars xs) in
     let id = λ (m : Made). m in
     let e = c.in_err-found.field-0.0 in
-    let hf = subst (λ (xs : List Spec). Stops (first_fault (wf pure.in_definition xs s).seen) e) c.as_slice-specs.ensures.value
-    (subst (λ (h : Specifying). Stops (first_fault (wf h c.as_slice-specs.result.now s).seen) e) c.in_definition.ensures c.in_err-found.ensures) in
+    let hf = subst (λ (xs : List Spec). Stops (first_fault (wf how xs s).seen) e) c.as_slice-specs.ensures.value
+    (subst (λ (h : Specifying). Stops (first_fault (wf h c.as_slice-specs.result.now s).seen) e) stands c.in_err-found.ensures) in
     let p = err_from_is_err_and c.from_residual.result c.from_residual.ensures.1 in
-    rw (p.1, p.2) (stops id (wf pure.in_definition fun.specs.items) _ s s e hf)
+    rw (p.1, p.2) (stops id (wf how fun.specs.items) _ s s e hf)
 
 pub returns-in_err-t : goal.returns-in_err-t
 returns-in_err-t c = λ objects.
@@ -50,19 +53,22 @@ returns-in_err-t c = λ objects.
     let before : Made = record { scope = Γ; objects = objects; functions = map view_function c.args.functions.now.items } in
     let specs = λ (xs : List Spec). specs_of (map view_spec xs) in
     let stars = λ (xs : List Pointer). pointers_of (map view_pointer xs) in
-    let wf = λ (h : Specifying) (xs : List Spec). walk_specs ξ Γ h (specs xs) in
+    let place = c.specs_place-place.ensures ∙ ap (λ xs. specs_place (specs xs)) c.as_slice-specs.ensures.value in
+    let how = pure.in_definition (specs_place (specs fun.specs.items)) in
+    let stands = c.in_definition.ensures ∙ ap pure.in_definition place in
+    let wf = λ (h : Specifying) (xs : List Spec). walk_specifiers ξ Γ h (specs xs) in
     let wp = λ (t : Shaped) (xs : List Pointer). walk_pointers ξ Γ false t (stars xs) in
     let id = λ (m : Made). m in
-    let s1 = state_of c.walk_specs.new.tags c.walk_specs.new.known in
+    let s1 = state_of c.walk_specifiers.new.tags c.walk_specifiers.new.known in
     let found = view_specified c.in_ok-found.found in
-    let hf = subst (λ (xs : List Spec). Comes (wf pure.in_definition xs s) s1 found) c.as_slice-specs.ensures.value
-    (subst (λ (h : Specifying). Comes (wf h c.as_slice-specs.result.now s) s1 found) c.in_definition.ensures c.in_ok-found.ensures) in
+    let hf = subst (λ (xs : List Spec). Comes (wf how xs s) s1 found) c.as_slice-specs.ensures.value
+    (subst (λ (h : Specifying). Comes (wf h c.as_slice-specs.result.now s) s1 found) stands c.in_ok-found.ensures) in
     let shape = specified_type found in
     let e = c.in_err-t.field-0.0 in
     let ht = subst (λ (xs : List Pointer). Stops (first_fault (wp shape xs s1).seen) e) c.as_slice-pointers.ensures.value
     (subst (λ (t : Shaped). Stops (first_fault (wp t c.as_slice-pointers.result.now s1).seen) e) c.specified_type-shaped.ensures c.in_err-t.ensures) in
     let p = err_from_is_err_and c.from_residual-in_err-t.result c.from_residual-in_err-t.ensures.1 in
-    rw (p.1, p.2) (goes id (wf pure.in_definition fun.specs.items) _ s s1 s1 found (Err e) hf (stops id (wp shape fun.pointers.items) _ s1 s1 e ht))
+    rw (p.1, p.2) (goes id (wf how fun.specs.items) _ s s1 s1 found (Err e) hf (stops id (wp shape fun.pointers.items) _ s1 s1 e ht))
 
 pub returns : goal.returns
 returns c = λ objects.
@@ -73,13 +79,16 @@ returns c = λ objects.
     let before : Made = record { scope = Γ; objects = objects; functions = map view_function c.args.functions.now.items } in
     let specs = λ (xs : List Spec). specs_of (map view_spec xs) in
     let stars = λ (xs : List Pointer). pointers_of (map view_pointer xs) in
-    let wf = λ (h : Specifying) (xs : List Spec). walk_specs ξ Γ h (specs xs) in
+    let place = c.specs_place-place.ensures ∙ ap (λ xs. specs_place (specs xs)) c.as_slice-specs.ensures.value in
+    let how = pure.in_definition (specs_place (specs fun.specs.items)) in
+    let stands = c.in_definition.ensures ∙ ap pure.in_definition place in
+    let wf = λ (h : Specifying) (xs : List Spec). walk_specifiers ξ Γ h (specs xs) in
     let wp = λ (t : Shaped) (xs : List Pointer). walk_pointers ξ Γ false t (stars xs) in
     let id = λ (m : Made). m in
-    let s1 = state_of c.walk_specs.new.tags c.walk_specs.new.known in
+    let s1 = state_of c.walk_specifiers.new.tags c.walk_specifiers.new.known in
     let found = view_specified c.in_ok-found.found in
-    let hf = subst (λ (xs : List Spec). Comes (wf pure.in_definition xs s) s1 found) c.as_slice-specs.ensures.value
-    (subst (λ (h : Specifying). Comes (wf h c.as_slice-specs.result.now s) s1 found) c.in_definition.ensures c.in_ok-found.ensures) in
+    let hf = subst (λ (xs : List Spec). Comes (wf how xs s) s1 found) c.as_slice-specs.ensures.value
+    (subst (λ (h : Specifying). Comes (wf h c.as_slice-specs.result.now s) s1 found) stands c.in_ok-found.ensures) in
     let shape = specified_type found in
     let s2 = state_of c.walk_pointers.new.tags c.walk_pointers.new.known in
     let t = view_shaped c.in_ok-t.t in
@@ -89,8 +98,7 @@ returns c = λ objects.
     let seen = λ (u : Unit {0}). let m : Made = record { scope = view_env c.walk_definition.new.env; objects = objects; functions = map view_function c.walk_definition.new.functions.items } in m in
     let r = c.walk_definition.result in
     let wd = λ (at : Place) (forms : Bool). enclosed (pure.walk_definition ξ c.args.strict before at forms t.ctype fun.name (views.view_parameters fun.parameters.value) (trees.view_compound fun.body.value)) in
-    let place = c.specs_place-place.ensures ∙ ap (λ xs. specs_place (specs xs)) c.as_slice-specs.ensures.value in
     let at = specs_place (specs fun.specs.items) in
     let hd = subst (λ (b : Bool). Meets seen (wd at b s2) end r) c.definition_forms-forms.ensures
     (subst (λ (at : Place). Meets seen (wd at c.definition_forms-forms.result s2) end r) place (c.walk_definition.ensures objects)) in
-    goes seen (wf pure.in_definition fun.specs.items) _ s s1 end found r hf (goes seen (wp shape fun.pointers.items) _ s1 s2 end t r ht hd)
+    goes seen (wf how fun.specs.items) _ s s1 end found r hf (goes seen (wp shape fun.pointers.items) _ s1 s2 end t r ht hd)

@@ -24,10 +24,10 @@ use Rattle.typed_tree.specs.declared.tree.Item.{Item}
 use Rattle.typing_rules.specs.Attributes.{base}
 use Rattle.typing_rules.specs.Nodes as n
 use Rattle.typing_rules.specs.Nodes.{view_attr}
-use Rattle.typed_tree.specs.Scopes.{Env, inside}
+use Rattle.typed_tree.specs.Scopes.{Env, Within, inside}
 use Rattle.typed_tree.specs.Tree as k
 use Rattle.typing_rules.specs.Values.{base_kind}
-use Rattle.typed_tree.specs.ViewEnv.{view_env}
+use Rattle.typed_tree.specs.ViewEnv.{view_env, with_outer}
 use Rattle.typed_tree.specs.ViewStatements.{view_affinity, view_arms, view_head, view_item, view_items, view_last, view_object, view_statement, view_switch_items}
 use Rattle.typed_tree.specs.ViewTree.{view_expr}
 use Rattle.typing_rules.specs.Views.{view_around}
@@ -435,17 +435,18 @@ walk_if-returns-in_err-arms-in-If t c =
     let s2 = state_of c.walk_test.new.tags c.walk_part.new.known in
     let a = view_expr c.in_ok-test-in-If.test.value in
     let h1 = rw c.deref.ensures at c.in_ok-test-in-If.ensures in
-    let three = pure.walk_else_ifs ξ Γ A strict more in
+    let Δ = inside Γ in
+    let three = pure.walk_else_ifs ξ Γ Δ A strict more in
     let b = view_statement c.in_ok-body-in-If.body.value in
     let h2 = rw c.deref-in-If.ensures at c.in_ok-body-in-If.ensures in
     let joined = λ (x : Armed). pure.with_arm a b x in
     let s3 = state_of c.walk_else_ifs.new.tags c.walk_else_ifs.new.known in
-    let walks = λ (xs : List ElseIf). andthen (pure.walk_else_ifs ξ Γ A strict (else_ifs_of (map trees.view_else_if xs))) (λ x. give (joined x)) s2 in
+    let walks = λ (xs : List ElseIf). andthen (pure.walk_else_ifs ξ Γ Δ A strict (else_ifs_of (map trees.view_else_if xs))) (λ x. give (joined x)) s2 in
     let id = λ (x : k.Statement). x in
     let e = c.in_err-arms-in-If.field-0.0 in
     let p = err_from_is_err_and c.from_residual-in_err-arms-in-If.result c.from_residual-in_err-arms-in-If.ensures.1 in
     let failed : Result k.Statement Stop = Err e in
-    let stopped = subst (λ (xs : List ElseIf). Stops (first_fault (walks xs).seen) e) c.as_slice.ensures.value (rw c.into_inner.ensures at c.in_err-arms-in-If.ensures) in
+    let stopped = subst (λ (xs : List ElseIf). Stops (first_fault (walks xs).seen) e) c.as_slice.ensures.value (rw (c.into_inner.ensures, c.in_ok-scope-in-If.ensures) at c.in_err-arms-in-If.ensures) in
     rw (v, p.1, p.2) (goes id one _ s s1 s3 a failed h1 (goes id two _ s1 s2 s3 b failed h2 (stops id three _ s2 s3 e (stops_by three joined s2 e stopped))))
 
 pub walk_if-returns-in_err-last-in-If : goal.walk_if-returns-in_err-last-in-If
@@ -467,23 +468,24 @@ walk_if-returns-in_err-last-in-If t c =
     let s2 = state_of c.walk_test.new.tags c.walk_part.new.known in
     let a = view_expr c.in_ok-test-in-If.test.value in
     let h1 = rw c.deref.ensures at c.in_ok-test-in-If.ensures in
-    let three = pure.walk_else_ifs ξ Γ A strict more in
+    let Δ = inside Γ in
+    let three = pure.walk_else_ifs ξ Γ Δ A strict more in
     let b = view_statement c.in_ok-body-in-If.body.value in
     let h2 = rw c.deref-in-If.ensures at c.in_ok-body-in-If.ensures in
     let joined = λ (x : Armed). pure.with_arm a b x in
     let s3 = state_of c.walk_else_ifs.new.tags c.walk_else_ifs.new.known in
-    let walks = λ (xs : List ElseIf). andthen (pure.walk_else_ifs ξ Γ A strict (else_ifs_of (map trees.view_else_if xs))) (λ x. give (joined x)) s2 in
-    let d : Armed = record { arms = view_arms c.in_ok-arms-in-If.arms.items; tests = map attr_tested c.in_ok-arms-in-If.arms.items } in
-    let came = subst (λ (xs : List ElseIf). Comes (walks xs) s3 d) c.as_slice.ensures.value (rw c.into_inner.ensures at c.in_ok-arms-in-If.ensures) in
+    let walks = λ (xs : List ElseIf). andthen (pure.walk_else_ifs ξ Γ Δ A strict (else_ifs_of (map trees.view_else_if xs))) (λ x. give (joined x)) s2 in
+    let d : Armed = record { arms = view_arms c.in_ok-arms-in-If.arms.items; tests = map attr_tested c.in_ok-arms-in-If.arms.items; scope = view_env c.walk_else_ifs.new.scope } in
+    let came = subst (λ (xs : List ElseIf). Comes (walks xs) s3 d) c.as_slice.ensures.value (rw (c.into_inner.ensures, c.in_ok-scope-in-If.ensures) at c.in_ok-arms-in-If.ensures) in
     let s4 = state_of c.walk_else_ifs.new.tags c.walk_otherwise.new.known in
-    let four = pure.walk_otherwise ξ Γ A strict last in
-    let go = λ (y : Armed). andthen four (λ o. andthen (judge ξ word.place (n.Tests y.tests)) (λ u. give (k.Stands word.place (k.If y.arms o)))) in
+    let four = λ (y : Armed). pure.walk_otherwise ξ y.scope A strict last in
+    let go = λ (y : Armed). andthen (four y) (λ o. andthen (judge ξ word.place (n.Tests y.tests)) (λ u. give (k.Stands word.place (k.If y.arms o)))) in
     let id = λ (x : k.Statement). x in
     let e = c.in_err-last-in-If.field-0.0 in
     let p = err_from_is_err_and c.from_residual-in_err-last-in-If.result c.from_residual-in_err-last-in-If.ensures.1 in
     let failed : Result k.Statement Stop = Err e in
     rw (v, p.1, p.2) (goes id one _ s s1 s4 a failed h1 (goes id two _ s1 s2 s4 b failed h2 (goes_by id three joined go s2 s3 s4 d failed came
-    (stops id four _ s3 s4 e c.in_err-last-in-If.ensures))))
+    (stops id (four d) _ s3 s4 e c.in_err-last-in-If.ensures))))
 
 pub walk_if-returns : goal.walk_if-returns
 walk_if-returns t c =
@@ -504,20 +506,21 @@ walk_if-returns t c =
     let s2 = state_of c.walk_test.new.tags c.walk_part.new.known in
     let a = view_expr c.in_ok-test-in-If.test.value in
     let h1 = rw c.deref.ensures at c.in_ok-test-in-If.ensures in
-    let three = pure.walk_else_ifs ξ Γ A strict more in
+    let Δ = inside Γ in
+    let three = pure.walk_else_ifs ξ Γ Δ A strict more in
     let b = view_statement c.in_ok-body-in-If.body.value in
     let h2 = rw c.deref-in-If.ensures at c.in_ok-body-in-If.ensures in
     let joined = λ (x : Armed). pure.with_arm a b x in
     let s3 = state_of c.walk_else_ifs.new.tags c.walk_else_ifs.new.known in
-    let walks = λ (xs : List ElseIf). andthen (pure.walk_else_ifs ξ Γ A strict (else_ifs_of (map trees.view_else_if xs))) (λ x. give (joined x)) s2 in
-    let d : Armed = record { arms = view_arms c.in_ok-arms-in-If.arms.items; tests = map attr_tested c.in_ok-arms-in-If.arms.items } in
-    let came = subst (λ (xs : List ElseIf). Comes (walks xs) s3 d) c.as_slice.ensures.value (rw c.into_inner.ensures at c.in_ok-arms-in-If.ensures) in
+    let walks = λ (xs : List ElseIf). andthen (pure.walk_else_ifs ξ Γ Δ A strict (else_ifs_of (map trees.view_else_if xs))) (λ x. give (joined x)) s2 in
+    let d : Armed = record { arms = view_arms c.in_ok-arms-in-If.arms.items; tests = map attr_tested c.in_ok-arms-in-If.arms.items; scope = view_env c.walk_else_ifs.new.scope } in
+    let came = subst (λ (xs : List ElseIf). Comes (walks xs) s3 d) c.as_slice.ensures.value (rw (c.into_inner.ensures, c.in_ok-scope-in-If.ensures) at c.in_ok-arms-in-If.ensures) in
     let s4 = state_of c.walk_else_ifs.new.tags c.walk_otherwise.new.known in
-    let four = pure.walk_otherwise ξ Γ A strict last in
-    let go = λ (y : Armed). andthen four (λ o. andthen (judge ξ word.place (n.Tests y.tests)) (λ u. give (k.Stands word.place (k.If y.arms o)))) in
+    let four = λ (y : Armed). pure.walk_otherwise ξ y.scope A strict last in
+    let go = λ (y : Armed). andthen (four y) (λ o. andthen (judge ξ word.place (n.Tests y.tests)) (λ u. give (k.Stands word.place (k.If y.arms o)))) in
     let r = c.finish_if.result in
     rw v (goes (boxed view_statement) one _ s s1 s4 a r h1 (goes (boxed view_statement) two _ s1 s2 s4 b r h2 (goes_by (boxed view_statement) three joined go s2 s3 s4 d r came
-    (goes (boxed view_statement) four _ s3 s4 s4 (view_last c.in_ok-last-in-If.last) r c.in_ok-last-in-If.ensures (c.finish_if.ensures ξ s4)))))
+    (goes (boxed view_statement) (four d) _ s3 s4 s4 (view_last c.in_ok-last-in-If.last) r c.in_ok-last-in-If.ensures (c.finish_if.ensures ξ s4)))))
 
 pub walk_items-loop-part-init : goal.walk_items-loop-part-init
 walk_items-loop-part-init t c =
@@ -585,16 +588,17 @@ walk_else_ifs-returns-in_err-test t c =
     let A = view_around c.args.here.around in
     let strict = c.args.here.strict in
     let Γ = view_env c.args.env.now in
-    let w = λ (xs : List ElseIf). pure.walk_else_ifs ξ Γ A strict (else_ifs_of (map trees.view_else_if xs)) in
+    let w = λ (Δ : Env) (xs : List ElseIf). pure.walk_else_ifs ξ Γ Δ A strict (else_ifs_of (map trees.view_else_if xs)) in
+    let Δ = view_env c.loop-part.scope in
     let first = λ (x : Armed). pure.with_arm (view_expr c.args.first.test.value) (view_statement c.args.first.body) x in
-    let whole = andthen (w c.args.more.now) (λ x. give (first x)) (state_of c.args.tags.now c.args.known.now) in
+    let whole = andthen (w (view_env c.args.scope.now) c.args.more.now) (λ x. give (first x)) (state_of c.args.tags.now c.args.known.now) in
     let s = state_of c.loop-part.tags c.loop-part.known in
     let all = c.loop-part.arms.items in
     let f = armed_behind all in
     let next = left_from c.args.more.now c.loop-part.part-index c.part-item.result c.loop-part-test.true c.part-item.is in
-    let h0 = subst (λ (xs : List ElseIf). IsLeft whole f (w xs) s) next c.loop-part.invariant in
+    let h0 = subst (λ (xs : List ElseIf). IsLeft whole f (w Δ xs) s) next c.loop-part.invariant in
     let part = c.part-item.result in
-    let one = pure.walk_test ξ Γ (trees.view_test part.test.value) in
+    let one = pure.walk_test ξ Δ (trees.view_test part.test.value) in
     let e = c.in_err-test.field-0.0 in
     let p = err_from_is_err_and c.from_residual-in_err-test.result c.from_residual-in_err-test.ensures.1 in
     rw (p.1, p.2) (list_stops (λ (x : Armed). x) whole f one _ s s e h0 (rw c.deref.ensures at c.in_err-test.ensures))
@@ -605,17 +609,18 @@ walk_else_ifs-returns-in_err-body t c =
     let A = view_around c.args.here.around in
     let strict = c.args.here.strict in
     let Γ = view_env c.args.env.now in
-    let w = λ (xs : List ElseIf). pure.walk_else_ifs ξ Γ A strict (else_ifs_of (map trees.view_else_if xs)) in
+    let w = λ (Δ : Env) (xs : List ElseIf). pure.walk_else_ifs ξ Γ Δ A strict (else_ifs_of (map trees.view_else_if xs)) in
+    let Δ = view_env c.loop-part.scope in
     let first = λ (x : Armed). pure.with_arm (view_expr c.args.first.test.value) (view_statement c.args.first.body) x in
-    let whole = andthen (w c.args.more.now) (λ x. give (first x)) (state_of c.args.tags.now c.args.known.now) in
+    let whole = andthen (w (view_env c.args.scope.now) c.args.more.now) (λ x. give (first x)) (state_of c.args.tags.now c.args.known.now) in
     let s = state_of c.loop-part.tags c.loop-part.known in
     let all = c.loop-part.arms.items in
     let f = armed_behind all in
     let next = left_from c.args.more.now c.loop-part.part-index c.part-item.result c.loop-part-test.true c.part-item.is in
-    let h0 = subst (λ (xs : List ElseIf). IsLeft whole f (w xs) s) next c.loop-part.invariant in
+    let h0 = subst (λ (xs : List ElseIf). IsLeft whole f (w Δ xs) s) next c.loop-part.invariant in
     let part = c.part-item.result in
-    let one = pure.walk_test ξ Γ (trees.view_test part.test.value) in
-    let two = enclosed (pure.walk_statement ξ (inside Γ) A strict (trees.view_statement part.body.value)) in
+    let one = pure.walk_test ξ Δ (trees.view_test part.test.value) in
+    let two = enclosed (pure.walk_statement ξ (inside Δ) A strict (trees.view_statement part.body.value)) in
     let t = state_of c.walk_test.new.tags c.walk_test.new.known in
     let h = left_goes whole f one _ s t (view_expr c.in_ok-test.test.value) h0 (rw c.deref.ensures at c.in_ok-test.ensures) in
     let e = c.in_err-body.field-0.0 in
@@ -628,26 +633,30 @@ walk_else_ifs-loop-part-preserved t c =
     let A = view_around c.args.here.around in
     let strict = c.args.here.strict in
     let Γ = view_env c.args.env.now in
-    let w = λ (xs : List ElseIf). pure.walk_else_ifs ξ Γ A strict (else_ifs_of (map trees.view_else_if xs)) in
+    let w = λ (Δ : Env) (xs : List ElseIf). pure.walk_else_ifs ξ Γ Δ A strict (else_ifs_of (map trees.view_else_if xs)) in
+    let Δ = view_env c.loop-part.scope in
     let first = λ (x : Armed). pure.with_arm (view_expr c.args.first.test.value) (view_statement c.args.first.body) x in
-    let whole = andthen (w c.args.more.now) (λ x. give (first x)) (state_of c.args.tags.now c.args.known.now) in
+    let whole = andthen (w (view_env c.args.scope.now) c.args.more.now) (λ x. give (first x)) (state_of c.args.tags.now c.args.known.now) in
     let s = state_of c.loop-part.tags c.loop-part.known in
     let all = c.loop-part.arms.items in
     let f = armed_behind all in
     let rest = drop (c.loop-part.part-index + 1) c.args.more.now in
     let next = left_from c.args.more.now c.loop-part.part-index c.part-item.result c.loop-part-test.true c.part-item.is in
-    let h0 = subst (λ (xs : List ElseIf). IsLeft whole f (w xs) s) next c.loop-part.invariant in
+    let h0 = subst (λ (xs : List ElseIf). IsLeft whole f (w Δ xs) s) next c.loop-part.invariant in
     let part = c.part-item.result in
-    let one = pure.walk_test ξ Γ (trees.view_test part.test.value) in
-    let two = enclosed (pure.walk_statement ξ (inside Γ) A strict (trees.view_statement part.body.value)) in
+    let one = pure.walk_test ξ Δ (trees.view_test part.test.value) in
+    let two = enclosed (pure.walk_statement ξ (inside Δ) A strict (trees.view_statement part.body.value)) in
     let t = state_of c.walk_test.new.tags c.walk_test.new.known in
     let u = state_of c.walk_test.new.tags c.walk_part.new.known in
     let x : Arm = record { test = c.in_ok-test.test; body = c.in_ok-body.body.value } in
     let put = c.in_ok-push-2.ensures.items ∙ ap (λ (y : Statement). let z : Arm = record { test = c.in_ok-test.test; body = y } in all ++ (z ∷ [])) c.into_inner.ensures in
     let h = left_goes whole f one _ s t (view_expr x.test.value) h0 (rw c.deref.ensures at c.in_ok-test.ensures) in
     let both = left_goes whole f two _ t u (view_statement x.body) h (rw c.deref-in-loop-part.ensures at c.in_ok-body.ensures) in
-    left_rest whole f (armed_behind c.push-in-loop-part.new.self.items) (pure.with_arm (view_expr x.test.value) (view_statement x.body)) (w rest) u both
-    (λ ys. arm_pushed all c.push-in-loop-part.new.self.items x ys put)
+    let g = armed_behind c.push-in-loop-part.new.self.items in
+    let next = left_rest whole f g (pure.with_arm (view_expr x.test.value) (view_statement x.body)) (w (pure.deeper Γ Δ) rest) u both
+    (λ ys. arm_pushed all c.push-in-loop-part.new.self.items x ys put) in
+    let deep = c.within.ensures ∙ c.alone.ensures (Within Γ) ∙ ap (with_outer (Within Γ)) c.in_ok-inner.ensures in
+    subst (λ (Θ : Env). IsLeft whole g (w Θ rest) u) (sym deep) next
 
 pub walk_else_ifs-returns : goal.walk_else_ifs-returns
 walk_else_ifs-returns t c =
@@ -655,16 +664,17 @@ walk_else_ifs-returns t c =
     let A = view_around c.args.here.around in
     let strict = c.args.here.strict in
     let Γ = view_env c.args.env.now in
-    let w = λ (xs : List ElseIf). pure.walk_else_ifs ξ Γ A strict (else_ifs_of (map trees.view_else_if xs)) in
+    let w = λ (Δ : Env) (xs : List ElseIf). pure.walk_else_ifs ξ Γ Δ A strict (else_ifs_of (map trees.view_else_if xs)) in
+    let Δ = view_env c.loop-part.scope in
     let first = λ (x : Armed). pure.with_arm (view_expr c.args.first.test.value) (view_statement c.args.first.body) x in
-    let whole = andthen (w c.args.more.now) (λ x. give (first x)) (state_of c.args.tags.now c.args.known.now) in
+    let whole = andthen (w (view_env c.args.scope.now) c.args.more.now) (λ x. give (first x)) (state_of c.args.tags.now c.args.known.now) in
     let s = state_of c.loop-part.tags c.loop-part.known in
     let all = c.loop-part.arms.items in
     let f = armed_behind all in
     let none = drop_all c.loop-part.part-index c.args.more.now (omega (arith, c.loop-part-test.false)) in
-    let h = subst (λ (xs : List ElseIf). IsLeft whole f (w xs) s) none c.loop-part.invariant in
-    let end : Armed = record { arms = k.NoArms; tests = [] } in
-    list_done (λ (xs : Vec Arm Global). record { arms = view_arms xs.items; tests = map attr_tested xs.items }) whole f end s c.loop-part.arms h (rw (arms_behind all, append-nil) refl)
+    let h = subst (λ (xs : List ElseIf). IsLeft whole f (w Δ xs) s) none c.loop-part.invariant in
+    let end : Armed = record { arms = k.NoArms; tests = []; scope = Δ } in
+    list_done (λ (xs : Vec Arm Global). record { arms = view_arms xs.items; tests = map attr_tested xs.items; scope = Δ }) whole f end s c.loop-part.arms h (rw (arms_behind all, append-nil) refl)
 
 pub walk_otherwise-returns-in_err-x-in-Else : goal.walk_otherwise-returns-in_err-x-in-Else
 walk_otherwise-returns-in_err-x-in-Else t c =
@@ -676,10 +686,12 @@ walk_otherwise-returns-in_err-x-in-Else t c =
     let e = c.in_err-x-in-Else.field-0.0 in
     let p = err_from_is_err_and c.from_residual.result c.from_residual.ensures.1 in
     let id = λ (x : k.StatementOption). x in
-    let w = enclosed (pure.walk_statement ξ (inside Γ) A strict (trees.view_statement c.deref.result.now)) in
-    let t1 = state_of c.args.tags.now c.walk_part.new.known in
+    let W = λ (Δ : Env). pure.walk_statement ξ Δ A strict (trees.view_statement c.deref.result.now) in
+    let failed : Result k.Statement Stop = Err e in
+    let h = encloses_part (λ (x : k.Statement). x) W Γ Γ (view_tags c.args.tags.now) (view_tags c.enclosed-inner.result) (view_tags c.walk_statement.new.tags) c.args.known.now c.walk_statement.new.known failed refl c.enclosed-inner.ensures c.in_err-x-in-Else.ensures in
+    let t1 = state_of c.args.tags.now c.walk_statement.new.known in
     let v = ap trees.view_otherwise c.in-Else.is ∙ ap (λ (b : Tree). tree.Else c.in-Else.word (trees.view_statement b)) (sym c.deref.ensures) in
-    rw (v, p.1, p.2) (stops id w _ s t1 e c.in_err-x-in-Else.ensures)
+    rw (v, p.1, p.2) (stops id (enclosed (W Γ)) _ s t1 e h)
 
 pub walk_otherwise-returns-in_ok-x-in-Else : goal.walk_otherwise-returns-in_ok-x-in-Else
 walk_otherwise-returns-in_ok-x-in-Else t c =
@@ -688,11 +700,13 @@ walk_otherwise-returns-in_ok-x-in-Else t c =
     let strict = c.args.here.strict in
     let Γ = view_env c.args.env.now in
     let s = state_of c.args.tags.now c.args.known.now in
-    let w = enclosed (pure.walk_statement ξ (inside Γ) A strict (trees.view_statement c.deref.result.now)) in
-    let t1 = state_of c.args.tags.now c.walk_part.new.known in
+    let W = λ (Δ : Env). pure.walk_statement ξ Δ A strict (trees.view_statement c.deref.result.now) in
+    let t1 = state_of c.args.tags.now c.walk_statement.new.known in
     let x = c.in_ok-x-in-Else.x in
+    let made : Result (Box Statement Global) Stop = Ok x in
+    let h = encloses_part (boxed view_statement) W Γ Γ (view_tags c.args.tags.now) (view_tags c.enclosed-inner.result) (view_tags c.walk_statement.new.tags) c.args.known.now c.walk_statement.new.known made refl c.enclosed-inner.ensures c.in_ok-x-in-Else.ensures in
     let v = ap trees.view_otherwise c.in-Else.is ∙ ap (λ (b : Tree). tree.Else c.in-Else.word (trees.view_statement b)) (sym c.deref.ensures) in
-    rw v (goes view_last w _ s t1 t1 (view_statement x.value) (Ok (Some x)) c.in_ok-x-in-Else.ensures (gives t1 (k.TheStatement (view_statement x.value))))
+    rw v (goes view_last (enclosed (W Γ)) _ s t1 t1 (view_statement x.value) (Ok (Some x)) h (gives t1 (k.TheStatement (view_statement x.value))))
 
 pub walk_block-returns-in_err-parts : goal.walk_block-returns-in_err-parts
 walk_block-returns-in_err-parts t c =

@@ -32,7 +32,7 @@ invariant-walk_labelled-loop-part l =
 
 abbrev pub invariant-walk_else_ifs-loop-part : goal.invariant-walk_else_ifs-loop-part
 invariant-walk_else_ifs-loop-part l =
-    let w = pure.walk_else_ifs (view_setting l.here.setting) (view_env l.env) (view_around l.here.around) l.here.strict in
+    let w = λ (Δ : Env). pure.walk_else_ifs (view_setting l.here.setting) (view_env l.env) Δ (view_around l.here.around) l.here.strict in
     let first = λ (x : Armed). pure.with_arm (view_expr l.fn.first.test.value) (view_statement l.fn.first.body) x in
-    IsLeft (andthen (w (else_ifs_of (map view_else_if l.more))) (λ x. give (first x)) (state_of l.fn.tags l.fn.known)) (armed_behind l.arms.items)
-    (w (else_ifs_of (map view_else_if (drop l.part-index l.more)))) (state_of l.tags l.known)
+    IsLeft (andthen (w (view_env l.fn.scope) (else_ifs_of (map view_else_if l.more))) (λ x. give (first x)) (state_of l.fn.tags l.fn.known)) (armed_behind l.arms.items)
+    (w (view_env l.scope) (else_ifs_of (map view_else_if (drop l.part-index l.more)))) (state_of l.tags l.known)
