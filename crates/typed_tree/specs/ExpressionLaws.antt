@@ -1,20 +1,23 @@
 -- What the nodes of a program give of an expression, to who has the tree alone.
-use Rattle.std.specs.Prelude.{◌≡◌, ℕ, ◌<◌, true, List, length, Some, slice_get, IsTrue}
+use Rattle.std.specs.Prelude.{◌≡◌, ℕ, ◌<◌, ◌≤◌, pos, true, List, length, Some, slice_get, IsTrue, ◌⊎◌}
 use Rattle.upc_text.specs.declared.place.Place.{Place}
+use Rattle.block_layout.specs.declared.kind.Kind.{Kind}
+use Rattle.integers.specs.Integers.{InKind}
 use Rattle.integers.specs.declared.operator.BinOp.{BinOp}
 use Rattle.upc_types.specs.Types.{CType, Completed, base_of, members_of, members_in}
 use Rattle.upc_types.specs.Layout.{known_in, complete_in}
 use Rattle.typing_rules.specs.declared.setting.Home.{Home}
 use Rattle.typing_rules.specs.declared.attribute.Form.TheVariants.{Lvalue}
 use Rattle.typing_rules.specs.Values.{base_struct}
-use Rattle.typing_rules.specs.Attributes.{home_address}
+use Rattle.typing_rules.specs.Attributes.{home_address, known}
+use Rattle.typing_rules.specs.Nodes as n
 use Rattle.typing_rules.specs.Nodes.{Attr, Use}
 use Rattle.typing_rules.specs.Rules.{fits, target, is_modifiable}
 use Rattle.typed_tree.specs.declared.tree.Target.TheVariants as called
 use Rattle.typed_tree.specs.Tree as k
 use Rattle.typed_tree.specs.Tree.{Expr, Exprs, attr_of, attrs_of, Function}
 use Rattle.typed_tree.specs.Programs.{Checked}
-use Rattle.typed_tree.specs.Judged.{Earlier, Stands}
+use Rattle.typed_tree.specs.Judged.{Earlier, Judged, Stands}
 use Rattle.typed_tree.specs.TypedNodes.{MeetsExpr}
 
 -- The operands of an operator are of kinds that it takes (C99 6.5.5 to 6.5.12).
@@ -54,6 +57,13 @@ MemberBehindInRange = (p : Checked) (locals : List CType) (how : Use) (at : Plac
     (index : ℕ) → MeetsExpr p locals how (k.Is at attr (k.MemberBehind a index)) →
     (t : CType) × (target (attr_of a) ≡ Some t) × (number : ℕ) × (base_struct (base_of t) ≡ Some number)
     × (index < length (members_of p.structs number))
+
+-- A literal has a known value, which is in the range of its kind where it is no character; THREADS is, as there are at
+-- most 32 threads (C99 6.4.4, UPC 6.3).
+abbrev pub LiteralInRange : Type 0
+LiteralInRange = (p : Checked) (locals : List CType) (how : Use) (at : Place) (attr : Attr) → p.threads ≤ 32 →
+    MeetsExpr p locals how (k.Is at attr k.Literal) →
+    (kind : Kind) × (v : ℕ) × (attr ≡ known kind (pos v)) × (InKind (pos v) kind ⊎ Judged p (n.Character v) attr)
 
 -- A struct that is complete where a node stands has the same members and the same layout at the end, so that the size
 -- of what has one there does not change (C99 6.7.2.3).

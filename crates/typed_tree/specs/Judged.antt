@@ -1,7 +1,8 @@
 -- The nodes of a typed tree, each with the rules that it meets and what it is (C99 6.5 to 6.9; UPC 6.4 to 6.6).
-use Rattle.std.specs.Prelude.{◌≡◌, ◌-◌, ◌≤◌, false, List, ◌∷◌, map, Some, None, slice_get}
+use Rattle.std.specs.Prelude.{◌≡◌, ◌-◌, ◌≤◌, pos, false, List, ◌∷◌, map, Some, None, slice_get}
 use Rattle.block_layout.specs.declared.kind.Kind.{Kind}
 use Rattle.block_layout.specs.declared.kind.Kind.TheVariants as kind
+use Rattle.integers.specs.Integers.{InKind}
 use Rattle.upc_types.specs.Types.{CType, Completed, Structs}
 use Rattle.upc_types.specs.Layout.{complete_in}
 use Rattle.typing_rules.specs.declared.setting.Home.{Home}
@@ -49,10 +50,11 @@ IsNumberKind kind.Long = Unit {0}
 IsNumberKind kind.ULong = Unit {0}
 IsNumberKind other = ⊥
 
--- The nodes of numbers, characters and named constants (C99 6.4.4, UPC 6.3), which the tree does not tell apart.
+-- The nodes of numbers, characters and named constants (C99 6.4.4, UPC 6.3), which the tree does not tell apart. A
+-- number is in the range of its kind.
 abbrev pub IsConstant : Checked → Node → Type 0
 IsConstant p (n.Name how (m.Named c)) = Unit {0}
-IsConstant p (n.Number number value) = IsNumberKind number
+IsConstant p (n.Number number value) = IsNumberKind number × InKind (pos value) number
 IsConstant p (n.Character value) = Unit {0}
 IsConstant p (n.Threads threads) = threads ≡ p.threads
 IsConstant p n.MaxBlockSize = Unit {0}

@@ -1,8 +1,9 @@
 -- What an outcome says of a source.
-use Rattle.std.proofs.Common.{◌≡◌, ℕ, List, Option, Some, None, refl, sym, ap}
+use Rattle.std.proofs.Common.{◌≡◌, ℕ, List, Option, Some, None, refl, sym, ap, subst}
 use Rattle.upc_text.specs.declared.place.Refusal.{Refusal}
 use Rattle.upc_text.specs.declared.place.Code.TheVariants.{Typing, Limit}
-use Rattle.upc_tree.specs.Unit.{External}
+use Rattle.upc_lexer.specs.Numbers.{NumbersFit}
+use Rattle.upc_tree.specs.Unit.{External, tokens_of}
 use Rattle.typed_tree.specs.Scopes.{begin}
 use Rattle.typing_rules.specs.Faults.{Fault, first_fault}
 use Rattle.typing_rules.proofs.FirstFault.{all_meet, is_first}
@@ -10,6 +11,7 @@ use Rattle.function_checker.specs.Units.{setting, walk_unit, unit_nodes}
 use Rattle.upc_checker.specs.Limits.{Passed, unit_passed}
 use Rattle.upc_checker.specs.Outcomes.{Accepted, Refused, outcome_by, outcome}
 use Rattle.typed_tree.specs.Programs.{Checked, without_targets}
+use Rattle.upc_checker.specs.Accepted.{IsAccepted}
 use Rattle.upc_checker.specs.Causes.{IsWellTyped, HasCause, breaks_a_rule, passes_a_limit}
 
 pub accepted_by : (o : Option Fault) (l : Option Passed) (c x : Checked) → outcome_by o l c ≡ Accepted x → (o ≡ None) × (l ≡ None) × (c ≡ x)
@@ -30,6 +32,15 @@ accepted names threads unit x h =
       objects = ap (λ (y : Checked). y.objects) (sym p.2);
       functions = ap (λ (y : Checked). y.functions) (sym p.2);
     }
+
+-- What is accepted of a source whose numbers are in range.
+pub is_accepted : (names : List (List ℕ)) (threads : ℕ) (unit : List External) (x : Checked) → NumbersFit (tokens_of unit) → outcome names threads unit ≡ Accepted x → IsAccepted x
+is_accepted names threads unit x numbers h = record {
+  names = names;
+  unit = unit;
+  numbers = numbers;
+  accepted = subst (λ (asked : ℕ). outcome names asked unit ≡ Accepted x) (sym (accepted names threads unit x h).threads) h;
+}
 
 module _ (names : List (List ℕ)) (threads : ℕ) (unit : List External) (r : Refusal) where
   refused_by : (o : Option Fault) (l : Option Passed) (c : Checked) → first_fault (unit_nodes names threads unit) ≡ o → unit_passed names threads unit ≡ l → outcome_by o l c ≡ Refused r → HasCause names threads unit r

@@ -4,10 +4,11 @@ pub mod Begun
 pub mod Saying
 pub mod TreeSaid
 pub mod UnitSaid
-pub mod SameTypes
 pub mod Passing
+pub mod NumberNodes
 pub mod TypedExpressions
 pub mod TypedDeclarations
 pub mod TypedStatements
 pub mod TypedSources
+pub mod Mains
 pub mod TypedLaws

@@ -1,20 +1,24 @@
 -- Walks of which every node meets its rules, and what they make.
-use Rattle.std.proofs.Common.{◌≡◌, ℕ, Bool, true, false, ◌||◌, List, [], ◌∷◌, length, Option, Some, None, refl, sym, ◌∙◌, ◌⊎◌, inl, inr}
+use Rattle.std.proofs.Common.{◌≡◌, ℕ, Bool, true, false, ◌||◌, List, [], ◌∷◌, ◌++◌, length, Option, Some, None, refl, sym, ◌∙◌, ◌⊎◌, inl, inr}
+use Rattle.std.proofs.Math.IntN.{pos}
 use Rattle.std.proofs.lemmas.Bool.{or_parts}
 use Rattle.upc_text.specs.declared.place.Place.{Place}
+use Rattle.integers.specs.Integers.{InKind}
 use Rattle.upc_types.specs.Types.{Completed, Member}
 use Rattle.typing_rules.specs.Attributes.{Facts, attr}
 use Rattle.typing_rules.specs.Meanings.{Signature}
 use Rattle.typing_rules.specs.Nodes as n
 use Rattle.typing_rules.specs.Nodes.{Node}
 use Rattle.typing_rules.specs.Rules.{lowest}
-use Rattle.typing_rules.specs.Faults.{Fault, fault_by, first_fault, or_later}
+use Rattle.typing_rules.specs.Faults.{Seen, Fault, fault_by, first_fault, or_later}
 use Rattle.typed_tree.specs.Scopes.{Setting, Env, State, KnownFunction, differs, level_of, with_tag, here, is_object, is_taken}
 use Rattle.typed_tree.specs.Tree.{Expr, Is, ExprKind}
 use Rattle.walk_state.specs.Counts.{counted}
 use Rattle.walk_state.specs.Walk.{Walk, give, andthen, judge, finish, update, look, enclosed, facts_in}
 use Rattle.walk_state.specs.Known.{tag_seen, unless_found, refer, open_struct, close_struct, is_complete_struct, members_size}
 use Rattle.walk_state.proofs.Walks.{first_of_two}
+use Rattle.type_specifiers.specs.Specifiers.{Specified}
+use Rattle.expression_checker.specs.Expressions.{end_specifiers, to_their_end}
 use Rattle.declaration_checker.specs.Declarations.{declares_function}
 use Rattle.typed_tree.specs.Judged.{Earlier, Before}
 
@@ -51,15 +55,38 @@ pub record Ends (cs : List Completed) (fs : List KnownFunction) (s : State) : Ty
   pub structs : Earlier cs s.structs.completed
   pub functions : Since fs s.functions
 
--- Where every node of a walk meets its rules, what it makes is so.
+-- A number is in the range of its kind.
+abbrev pub NodeFits : Node → Type 0
+NodeFits (n.Number kind value) = InKind (pos value) kind
+NodeFits x = Unit {0}
+
+abbrev pub SeenFit : List Seen → Type 0
+SeenFit [] = Unit {0}
+SeenFit (x ∷ xs) = NodeFits x.node × SeenFit xs
+
+-- Every node meets its rules, and every number is in the range of its kind.
+abbrev pub Fine : List Seen → Type 0
+Fine xs = (first_fault xs ≡ None) × SeenFit xs
+
+-- Where the nodes of a walk are so, what it makes is so.
 pub record Good {A : Type 0} (cs : List Completed) (fs : List KnownFunction) (w : Walk A) (P : A → Type 0) : Type 0 where
-  pub made : (s : State) → first_fault (w s).seen ≡ None → Ends cs fs (w s).state → Ends cs fs s × P (w s).value
+  pub made : (s : State) → Fine (w s).seen → Ends cs fs (w s).state → Ends cs fs s × P (w s).value
 
 none_of : (x y : Option Fault) → or_later x y ≡ None → (x ≡ None) × (y ≡ None)
 none_of None y h = (refl, h)
 none_of (Some f) y h = absurd cc
 
-none_at : (o : Option ℕ) (at : Place) → or_later (fault_by o at) None ≡ None → o ≡ None
+seen_both : (xs ys : List Seen) → SeenFit (xs ++ ys) → SeenFit xs × SeenFit ys
+seen_both [] ys h = (tt {0}, h)
+seen_both (x ∷ xs) ys h = let r = seen_both xs ys h.1 in ((h.0, r.0), r.1)
+
+pub fine_both : (xs ys : List Seen) → Fine (xs ++ ys) → Fine xs × Fine ys
+fine_both xs ys h =
+    let f = none_of (first_fault xs) (first_fault ys) (sym (first_of_two xs ys) ∙ h.0) in
+    let g = seen_both xs ys h.1 in
+    ((f.0, g.0), (f.1, g.1))
+
+pub none_at : (o : Option ℕ) (at : Place) → or_later (fault_by o at) None ≡ None → o ≡ None
 none_at None at h = refl
 none_at (Some r) at h = absurd cc
 
@@ -77,7 +104,7 @@ module _ {cs : List Completed} {fs : List KnownFunction} where
   unfolding andthen
   good_then {w = w} {go = go} h k = record {
     made = λ s fine ends.
-        let f = none_of (first_fault (w s).seen) (first_fault (go (w s).value (w s).state).seen) (sym (first_of_two (w s).seen (go (w s).value (w s).state).seen) ∙ fine) in
+        let f = fine_both (w s).seen (go (w s).value (w s).state).seen fine in
         let q = (k (w s).value).made (w s).state f.1 ends in
         let p = h.made s f.0 q.0 in
         (p.0, q.1 p.1);
@@ -89,7 +116,7 @@ module _ {cs : List Completed} {fs : List KnownFunction} where
   unfolding andthen
   any_then {w = w} {go = go} h k = record {
     made = λ s fine ends.
-        let f = none_of (first_fault (w s).seen) (first_fault (go (w s).value (w s).state).seen) (sym (first_of_two (w s).seen (go (w s).value (w s).state).seen) ∙ fine) in
+        let f = fine_both (w s).seen (go (w s).value (w s).state).seen fine in
         let q = (k (w s).value).made (w s).state f.1 ends in
         let p = h.made s f.0 q.0 in
         (p.0, tt {0});
@@ -105,16 +132,28 @@ module _ {cs : List Completed} {fs : List KnownFunction} where
       ((s : State) → Ends cs fs s → lowest (facts_in ξ s) x ≡ None → P (tt {0})) → Good cs fs (judge ξ at x) P
   unfolding judge
   good_judge ξ at x k h = record {
-    made = λ s fine ends. let e = k s ends in (e, h s e (none_at (lowest (facts_in ξ s) x) at fine));
+    made = λ s fine ends. let e = k s ends in (e, h s e (none_at (lowest (facts_in ξ s) x) at fine.0));
   }
 
   pub any_judge : (ξ : Setting) (at : Place) (x : Node) → ((s : State) → Ends cs fs (counted ξ at x s) → Ends cs fs s) → Good cs fs (judge ξ at x) (λ u. Unit {0})
   any_judge ξ at x k = good_judge ξ at x k (λ s e h. tt {0})
 
+  any_specifiers : (ξ : Setting) (at : Place) (p : Specified) → Good cs fs (end_specifiers ξ at p) (λ u. Unit {0})
+  unfolding end_specifiers
+  any_specifiers ξ at p = record { made = λ s fine ends. (ends, tt {0}) }
+
+  pub any_to_their_end : (ξ : Setting) (at : Place) {w : Walk Specified} → Good cs fs w (λ p. Unit {0}) → Good cs fs (to_their_end ξ at w) (λ p. Unit {0})
+  any_to_their_end ξ at h = any_then h (λ p. any_then (any_specifiers ξ at p) (λ u. any_give p))
+
+  -- A node that meets its rules and whose number is in range.
+  pub good_number : {P : Expr → Type 0} (ξ : Setting) (at : Place) (x : Node) (kind : Facts → ExprKind) →
+      ((s : State) → Ends cs fs s → lowest (facts_in ξ s) x ≡ None → NodeFits x → P (Is at (attr (facts_in ξ s) x) (kind (facts_in ξ s)))) → Good cs fs (finish ξ at x kind) P
+  unfolding finish
+  good_number ξ at x kind h = record { made = λ s fine ends. (ends, h s ends (none_at (lowest (facts_in ξ s) x) at fine.0) fine.1.0) }
+
   pub good_finish : {P : Expr → Type 0} (ξ : Setting) (at : Place) (x : Node) (kind : Facts → ExprKind) →
       ((s : State) → Ends cs fs s → lowest (facts_in ξ s) x ≡ None → P (Is at (attr (facts_in ξ s) x) (kind (facts_in ξ s)))) → Good cs fs (finish ξ at x kind) P
-  unfolding finish
-  good_finish ξ at x kind h = record { made = λ s fine ends. (ends, h s ends (none_at (lowest (facts_in ξ s) x) at fine)) }
+  good_finish ξ at x kind h = good_number ξ at x kind (λ s e i f. h s e i)
 
   pub good_enclosed : {A : Type 0} {w : Walk A} {P : A → Type 0} → Good cs fs w P → Good cs fs (enclosed w) P
   unfolding enclosed
@@ -145,7 +184,7 @@ module _ {cs : List Completed} {fs : List KnownFunction} where
   unfolding andthen judge look update
   good_close ξ at number members = record {
     made = λ s fine ends.
-        let h = none_at (lowest (facts_in ξ s) (n.Struct (is_complete_struct s number) (length members) (members_size s members))) at fine in
+        let h = none_at (lowest (facts_in ξ s) (n.Struct (is_complete_struct s number) (length members) (members_size s members))) at fine.0 in
         let fresh = first_time (facts_in ξ s) (is_complete_struct s number) (length members) (members_size s members) h in
         let x : Completed = record { number = number; members = members } in
         let e : Ends cs fs s = record { structs = Before x s.structs.completed fresh ends.structs; functions = ends.functions } in
@@ -160,7 +199,7 @@ module _ {cs : List Completed} {fs : List KnownFunction} where
   good_declares ξ Γ at name forms signature = record {
     made = λ s fine ends.
         let again = is_taken ξ name || (is_object (here name Γ) || differs name signature s.functions) in
-        let h = none_at (lowest (facts_in ξ s) (n.DeclaresFunction again forms signature)) at fine in
+        let h = none_at (lowest (facts_in ξ s) (n.DeclaresFunction again forms signature)) at fine.0 in
         let b = not_again (facts_in ξ s) again forms signature h in
         let c = or_parts (is_taken ξ name) (is_object (here name Γ) || differs name signature s.functions) b in
         let d = or_parts (is_object (here name Γ)) (differs name signature s.functions) c.1 in

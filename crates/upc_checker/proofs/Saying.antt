@@ -12,10 +12,12 @@ use Rattle.typed_tree.specs.Scopes.{Setting, State}
 use Rattle.typed_tree.specs.Tree as k
 use Rattle.typed_tree.specs.Tree.{ExprKind, place_of, attr_of}
 use Rattle.walk_state.specs.Walk.{Walk, give, andthen, judge, finish, update, look, enclosed, facts_in}
-use Rattle.expression_checker.specs.Expressions.{constantly}
+use Rattle.type_specifiers.specs.Specifiers.{Specified}
+use Rattle.expression_checker.specs.Expressions.{constantly, end_specifiers, to_their_end}
 use Rattle.affinity_checker.specs.Rules.{refused, where_true}
 use Rattle.upc_checker.specs.Lines.{Line, line_of}
 use Rattle.upc_checker.specs.Lines as l
+use Rattle.upc_checker.specs.TreeNodes as tree
 use Rattle.upc_checker.specs.TreeNodes.{TreeNode, node, node_of}
 use Rattle.upc_checker.specs.Jumps.{is_jump, breaches_at, jump_breaches}
 
@@ -145,6 +147,14 @@ judge_gives ξ at x e g h k = judge_then ξ at x e g h k
 -- The same of a constant expression.
 pub says_constantly : (ξ : Setting) (a : k.Expr) {place : Place} → place_of a ≡ place → Says Any (constantly ξ a) (node place l.Constantly) []
 says_constantly ξ a e = judge_gives ξ (place_of a) (n.Constantly (attr_of a)) e refl refl (λ u. says_give tt)
+
+-- Specifiers that end.
+says_specifiers : (ξ : Setting) (at : Place) (p : Specified) → Says Any (end_specifiers ξ at p) (node at l.Specifies) []
+unfolding end_specifiers
+says_specifiers ξ at p = record { nodes = λ s. refl; jumps = λ s. refl; holds = λ s. tt }
+
+pub says_to_their_end : (ξ : Setting) (at : Place) {w : Walk Specified} {xs : List TreeNode} → Says Any w xs [] → Says Any (to_their_end ξ at w) (tree.to_their_end at xs) []
+says_to_their_end ξ at h = says_quiet h (λ p i. says_end (says_specifiers ξ at p) (λ u j. says_give tt))
 
 breaches_alone : (x : Seen) (js : List Refusal) → is_jump (line_of x.node) ≡ true → breaches_at x ≡ js → jump_breaches (x ∷ []) ≡ js
 breaches_alone x js e f = ap (λ b. (if b then breaches_at x else []) ++ []) e ∙ append-nil (breaches_at x) ∙ f

@@ -16,7 +16,7 @@ use Rattle.upc_tree.specs.Expression.{Expr, Named, Number, Character, Strings, C
 use Rattle.upc_types.specs.Types.{CType, Member}
 use Rattle.typing_rules.specs.Nodes.{Attr, Use}
 use Rattle.typed_tree.specs.Scopes.{Setting, Env, Scope, is_file, declare}
-use Rattle.walk_state.specs.Places.{at}
+use Rattle.walk_state.specs.Places.{at, specs_place}
 use Rattle.walk_state.specs.Known.{refer, close_struct}
 use Rattle.type_specifiers.specs.Specifiers.{Shaped}
 use Rattle.type_specifiers.specs.Shapes.{Specifying, adjusted}
@@ -27,7 +27,7 @@ use Rattle.expression_checker.specs.Expressions.{walk, walk_arguments, walk_more
 use Rattle.upc_checker.specs.Lines.{line_of}
 use Rattle.upc_checker.specs.Lines as l
 use Rattle.upc_checker.specs.TreeNodes.{node, first_place, nodes, argument_nodes, next_nodes, type_nodes, specs_nodes, spec_nodes, quals_nodes, qual_nodes, layout_nodes, pointer_nodes, size_nodes, member_nodes, next_declarator_nodes, declarator_nodes, parameters_nodes, next_parameter_nodes, parameter_nodes, array_nodes}
-use Rattle.upc_checker.proofs.Saying.{Says, Any, Starts, says_quiet, says_end, says_behind, says_give, says_enclosed, says_update, says_look, says_finish, judge_then, judge_gives, says_constantly}
+use Rattle.upc_checker.proofs.Saying.{Says, Any, Starts, says_quiet, says_end, says_behind, says_give, says_enclosed, says_update, says_look, says_finish, judge_then, judge_gives, says_constantly, says_to_their_end}
 
 -- ---- the lines of operators
 
@@ -120,9 +120,9 @@ mutual
   expr_says ξ Γ how (Postfix a mark span) = says_quiet (expr_says ξ Γ _ a) (λ x p. says_finish ξ _ _ _ p refl refl)
   expr_says ξ Γ how (Unary mark span a) = says_quiet (expr_says ξ Γ _ a) (λ x p. says_finish ξ _ _ _ refl (unary_line mark _) refl)
   expr_says ξ Γ how (SizeOfExpr word span a) = says_quiet (expr_says ξ Γ _ a) (λ x p. says_finish ξ _ _ _ refl refl refl)
-  expr_says ξ Γ how (SizeOfType word span left type right) = says_quiet (type_says ξ Γ type) (λ t p. says_finish ξ _ _ _ refl refl refl)
+  expr_says ξ Γ how (SizeOfType word span left type right) = says_quiet (type_says ξ Γ (at span) type) (λ t p. says_finish ξ _ _ _ refl refl refl)
   expr_says ξ Γ how (Cast left type right a) =
-      says_quiet (type_says ξ Γ type) (λ t p. says_quiet (expr_says ξ Γ _ a) (λ x q. says_finish ξ _ _ _ refl refl refl))
+      says_quiet (type_says ξ Γ (at left) type) (λ t p. says_quiet (expr_says ξ Γ _ a) (λ x q. says_finish ξ _ _ _ refl refl refl))
   expr_says ξ Γ how (Binary a mark span b) =
       says_quiet (expr_says ξ Γ _ a) (λ x p. says_quiet (expr_says ξ Γ _ b) (λ y q. says_finish ξ _ _ _ p (binary_line mark _ _) refl))
   expr_says ξ Γ how (Assign a mark span b) =
@@ -142,9 +142,9 @@ mutual
   more_say ξ Γ uses (AndExpr comma value more) =
       says_quiet (expr_says ξ Γ _ value) (λ x p. says_end (more_say ξ Γ _ more) (λ xs q. says_give tt))
 
-  type_says : (ξ : Setting) (Γ : Env) (t : TypeName) → Says Any (walk_type ξ Γ t) (type_nodes t) []
-  type_says ξ Γ (Typed specs pointers sizes) =
-      says_quiet (specs_say ξ Γ _ specs) (λ p h. says_quiet (pointers_say ξ Γ _ _ pointers) (λ t i. says_end (sizes_say ξ Γ sizes) (λ ns j. says_give tt)))
+  type_says : (ξ : Setting) (Γ : Env) (place : Place) (t : TypeName) → Says Any (walk_type ξ Γ place t) (type_nodes place t) []
+  type_says ξ Γ place (Typed specs pointers sizes) =
+      says_quiet (says_to_their_end ξ place (specs_say ξ Γ _ specs)) (λ p h. says_quiet (pointers_say ξ Γ _ _ pointers) (λ t i. says_end (sizes_say ξ Γ sizes) (λ ns j. says_give tt)))
 
   pub specs_say : (ξ : Setting) (Γ : Env) (how : Specifying) (x : Specs) → Says Any (walk_specs ξ Γ how x) (specs_nodes x) []
   specs_say ξ Γ how NoSpecs = says_give tt
@@ -189,7 +189,7 @@ mutual
   members_say : (ξ : Setting) (Γ : Env) (before : List Member) (x : Members) → Says Any (walk_members ξ Γ before x) (member_nodes x) []
   members_say ξ Γ before NoMembers = says_give tt
   members_say ξ Γ before (AndMember specs first next semicolon more) =
-      says_quiet (specs_say ξ Γ _ specs) (λ p h. says_quiet (member_says ξ Γ _ before first) (λ ms i. says_quiet (next_members_say ξ Γ _ ms next) (λ all j.
+      says_quiet (says_to_their_end ξ (specs_place specs) (specs_say ξ Γ _ specs)) (λ p h. says_quiet (member_says ξ Γ _ before first) (λ ms i. says_quiet (next_members_say ξ Γ _ ms next) (λ all j.
       judge_then ξ _ _ refl refl refl (λ u. members_say ξ Γ all more))))
 
   next_members_say : (ξ : Setting) (Γ : Env) (t : Shaped) (before : List Member) (x : NextDeclarators) → Says Any (walk_next_members ξ Γ t before x) (next_declarator_nodes x) []
@@ -217,7 +217,7 @@ mutual
 
   parameter_says : (ξ : Setting) (before : Declared) (file : Bool) → Files file before → (x : Parameter) → Says (Files file) (walk_parameter ξ before x) (parameter_nodes x) []
   parameter_says ξ before file e (Parametric specs pointers name array) =
-      says_quiet (specs_say ξ before.scope _ specs) (λ p h. says_quiet (pointers_say ξ before.scope _ _ pointers) (λ t i.
+      says_quiet (says_to_their_end ξ (specs_place specs) (specs_say ξ before.scope _ specs)) (λ p h. says_quiet (pointers_say ξ before.scope _ _ pointers) (λ t i.
       says_quiet (array_says ξ before.scope _ array) (λ f j. judge_gives ξ _ _ refl refl refl (λ u. says_give (file_parameter name (adjusted f.ctype) before.scope ∙ e)))))
 
   array_says : (ξ : Setting) (Γ : Env) (t : Shaped) (x : ParameterArray) → Says Any (walk_array ξ Γ t x) (array_nodes x) []

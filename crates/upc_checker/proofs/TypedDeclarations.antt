@@ -24,7 +24,7 @@ use Rattle.type_specifiers.specs.Specifiers.{Shaped, formed}
 use Rattle.declaration_checker.specs.Declarations.{initial_constant, walk_initial_value, walk_initial_values, element_use, walk_initial, Behind, walk_declared, walk_next_declareds, walk_declared_list, walk_declaration, signature_of}
 use Rattle.typed_tree.specs.Judged.{Meets, Stands}
 use Rattle.typed_tree.specs.TypedNodes.{MeetsExpr, MeetsConstant, MeetsValues, MeetsInitial, MeetsObject, MeetsObjects, in_scope, behind, behind_all}
-use Rattle.upc_checker.proofs.Passing.{Among, Good, good_then, good_give, good_judge, any_judge, good_enclosed, good_weaken, good_declares}
+use Rattle.upc_checker.proofs.Passing.{Among, Good, good_then, good_give, good_judge, any_judge, any_to_their_end, good_enclosed, good_weaken, good_declares}
 use Rattle.upc_checker.proofs.TypedExpressions.{Whole, program, Fits, good, specs_good, pointers_good, sizes_good, parameters_good, constantly_good, met, with_name, declare_fits, declare_level, next_local, get_last}
 
 element_plain : (o : Option CType) → is_called (element_use o) ≡ false
@@ -158,7 +158,7 @@ module _ (z : Whole) where
 
     pub declaration_good : (Γ : Env) (x : Declaration) → Good z.structs.completed z.known (walk_declaration z.setting Γ x) (Produced (record { scope = Γ; objects = [] }))
     declaration_good Γ (Declares specs list semicolon) =
-        good_then (specs_good z Γ _ specs) (λ p. good_then (declared_list_good _ _ (record { scope = Γ; objects = [] }) list) (λ b.
+        good_then (any_to_their_end z.setting _ (specs_good z Γ _ specs)) (λ p. good_then (declared_list_good _ _ (record { scope = Γ; objects = [] }) list) (λ b.
         good_then (any_judge z.setting _ _ (λ s e. record { structs = e.structs; functions = e.functions })) (λ u. good_give _ (λ a q c. q))))
 
   -- ---- in a function

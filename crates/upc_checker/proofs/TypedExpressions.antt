@@ -3,6 +3,7 @@ use Rattle.std.proofs.Common.{◌≡◌, ℕ, zero, suc, ◌+◌, ◌==◌, nat_
 use Rattle.std.specs.List.{list_any}
 use Rattle.std.proofs.lemmas.Bool.{eqb-true, eq-eqb, or_parts, and_parts}
 use Rattle.std.proofs.lemmas.List.{length-append}
+use Rattle.upc_text.specs.declared.place.Place.{Place}
 use Rattle.upc_lexer.specs.declared.token.NumberKind.{NumberKind}
 use Rattle.upc_lexer.specs.declared.token.NumberKind.TheVariants as number
 use Rattle.upc_tree.specs.declared.mark.MemberMark.{MemberMark}
@@ -49,8 +50,8 @@ use Rattle.expression_nodes.specs.Parts.{member_of, member_kind, constant_node, 
 use Rattle.expression_checker.specs.Expressions.{constantly, walk, walk_arguments, walk_more, walk_type, walk_specs, walk_spec, walk_quals, walk_qual, walk_layout, walk_pointers, walk_sizes, walk_members, walk_next_members, walk_member, walk_parameters, walk_next_parameters, walk_parameter, walk_array}
 use Rattle.typed_tree.specs.Judged.{IsNumberKind, Meets, Judged, Stands}
 use Rattle.typed_tree.specs.TypedNodes.{MeetsExpr, MeetsKind, MeetsExprs}
-use Rattle.upc_checker.proofs.SameTypes.{Alike, alike_from}
-use Rattle.upc_checker.proofs.Passing.{Among, Agree, Ends, Good, good_then, any_then, good_give, any_give, good_judge, any_judge, good_finish, good_enclosed, good_refer, good_open, good_close, good_weaken}
+use Rattle.walk_state.proofs.SameTypes.{Alike, alike_from}
+use Rattle.upc_checker.proofs.Passing.{Among, Agree, Ends, Good, good_then, any_then, good_give, any_give, good_judge, any_judge, any_to_their_end, good_number, good_finish, good_enclosed, good_refer, good_open, good_close, good_weaken}
 
 -- ---- lists
 
@@ -445,7 +446,7 @@ module _ (z : Whole) where
   mutual
     pub good : (Γ : Env) (how : Use) (x : t.Expr) → Good z.structs.completed z.known (walk z.setting Γ how x) (TypedIn Γ how)
     good Γ how (Named name) = good_finish z.setting _ _ _ (λ s e h l f c. name_meets l how s name.number (meaning z.setting Γ name.number) c e (stands Γ l f name.number) h)
-    good Γ how (Number value kind span) = good_finish z.setting _ _ _ (λ s e h l f c. (n.Number (number_kind kind) value, number_kind_is kind, judged s _ e h))
+    good Γ how (Number value kind span) = good_number z.setting _ _ _ (λ s e h i l f c. (n.Number (number_kind kind) value, (number_kind_is kind, i), judged s _ e h))
     good Γ how (Character value span) = good_finish z.setting _ _ _ (λ s e h l f c. (n.Character value, tt {0}, judged s _ e h))
     good Γ how (Strings first more) = good_finish z.setting _ _ _ (λ s e h l f c. judged s _ e h)
     good Γ how (Constant word span) = good_finish z.setting _ _ _ (λ s e h l f c. constant_meets l how s word e h)
@@ -462,9 +463,9 @@ module _ (z : Whole) where
     good Γ how (Unary mark span x) = good_then (good Γ n.Plain x) (λ x. good_finish z.setting _ _ _ (λ s e h i l f c. unary_meets l how s mark x e h (i l f refl)))
     good Γ how (SizeOfExpr word span x) = good_then (good Γ n.Measured x) (λ x. good_finish z.setting _ _ _ (λ s e h i l f c. (judged s _ e h, i l f refl)))
     good Γ how (SizeOfType word span left type right) =
-        good_then (type_good Γ type) (λ t. good_finish z.setting _ _ _ (λ s e h i l f c. (t, refl, judged s _ e h)))
+        good_then (type_good Γ _ type) (λ t. good_finish z.setting _ _ _ (λ s e h i l f c. (t, refl, judged s _ e h)))
     good Γ how (Cast left type right x) =
-        good_then (type_good Γ type) (λ t. good_then (good Γ (n.Into t.ctype) x) (λ x. good_finish z.setting _ _ _ (λ s e h j i l f c. (t, judged s _ e h, j l f refl))))
+        good_then (type_good Γ _ type) (λ t. good_then (good Γ (n.Into t.ctype) x) (λ x. good_finish z.setting _ _ _ (λ s e h j i l f c. (t, judged s _ e h, j l f refl))))
     good Γ how (Binary x mark span y) =
         good_then (good Γ n.Plain x) (λ x. good_then (good Γ n.Plain y) (λ y. good_finish z.setting _ _ _ (λ s e h j i l f c. binary_meets l how s mark x y e h (i l f refl) (j l f refl))))
     good Γ how (Assign x mark span y) =
@@ -486,9 +487,9 @@ module _ (z : Whole) where
     more_good Γ us (AndExpr comma value more) =
         good_then (good Γ (first_use us) value) (λ x. good_then (more_good Γ (later_uses us) more) (λ xs. good_give _ (λ j i l f c. (i l f (first_plain us c), j l f (later_plain us c)))))
 
-    pub type_good : (Γ : Env) (x : TypeName) → Any (walk_type z.setting Γ x)
-    type_good Γ (Typed specs pointers sizes) =
-        any_then (specs_good Γ _ specs) (λ p. any_then (pointers_good Γ _ _ pointers) (λ t. any_then (sizes_good Γ sizes) (λ ns. any_give _)))
+    type_good : (Γ : Env) (place : Place) (x : TypeName) → Any (walk_type z.setting Γ place x)
+    type_good Γ place (Typed specs pointers sizes) =
+        any_then (any_to_their_end z.setting _ (specs_good Γ _ specs)) (λ p. any_then (pointers_good Γ _ _ pointers) (λ t. any_then (sizes_good Γ sizes) (λ ns. any_give _)))
 
     pub specs_good : (Γ : Env) (how : Specifying) (x : Specs) → Any (walk_specs z.setting Γ how x)
     specs_good Γ how NoSpecs = any_give _
@@ -530,7 +531,7 @@ module _ (z : Whole) where
     members_good : (Γ : Env) (before : List Member) (x : Members) → Any (walk_members z.setting Γ before x)
     members_good Γ before NoMembers = any_give _
     members_good Γ before (AndMember specs first next semicolon more) =
-        any_then (specs_good Γ _ specs) (λ p. any_then (member_good Γ _ before first) (λ ms. any_then (next_members_good Γ _ ms next) (λ all.
+        any_then (any_to_their_end z.setting _ (specs_good Γ _ specs)) (λ p. any_then (member_good Γ _ before first) (λ ms. any_then (next_members_good Γ _ ms next) (λ all.
         any_then (any_judge z.setting _ _ (λ s e. record { structs = e.structs; functions = e.functions })) (λ u. members_good Γ all more))))
 
     next_members_good : (Γ : Env) (t : Shaped) (before : List Member) (x : NextDeclarators) → Any (walk_next_members z.setting Γ t before x)
@@ -556,7 +557,7 @@ module _ (z : Whole) where
 
     parameter_good : (before : Declared) (x : Parameter) → Good z.structs.completed z.known (walk_parameter z.setting before x) (λ d. Scoped before → Scoped d)
     parameter_good before (Parametric specs pointers name array) =
-        good_then (specs_good before.scope _ specs) (λ p. good_then (pointers_good before.scope _ _ pointers) (λ t. good_then (array_good before.scope _ array) (λ g.
+        good_then (any_to_their_end z.setting _ (specs_good before.scope _ specs)) (λ p. good_then (pointers_good before.scope _ _ pointers) (λ t. good_then (array_good before.scope _ array) (λ g.
         good_then (any_judge z.setting _ _ (λ s e. e)) (λ u. good_give _ (λ a b c d h. scoped_with before name g.ctype h)))))
 
     array_good : (Γ : Env) (t : Shaped) (x : ParameterArray) → Any (walk_array z.setting Γ t x)

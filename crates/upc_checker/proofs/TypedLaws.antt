@@ -1,20 +1,28 @@
 -- What the nodes of a program give of an expression.
-use Rattle.std.proofs.Common.{◌≡◌, ℕ, zero, suc, ◌+◌, ◌<◌, ◌==◌, nat_eq, Bool, true, false, ◌||◌, ◌&&◌, not, if◌then◌else◌, List, [], ◌∷◌, length, map, Option, Some, None, is_some, slice_get, refl, sym, ap, ◌∙◌, subst, arith}
+use Rattle.std.proofs.Common.{◌≡◌, ℕ, zero, suc, ◌+◌, ◌<◌, ◌≤◌, ◌==◌, nat_eq, Bool, true, false, ◌||◌, ◌&&◌, not, if◌then◌else◌, List, [], ◌∷◌, length, map, Option, Some, None, is_some, slice_get, refl, sym, ap, ◌∙◌, ◌⊎◌, inl, inr, subst, arith}
+use Rattle.std.proofs.Math.IntN.{pos}
+use Rattle.std.proofs.lemmas.Int.{ints}
 use Rattle.std.specs.Cmp.Lexicographic.{pointwise}
 use Rattle.std.proofs.lemmas.Bool.{eqb-true}
+use Rattle.block_layout.specs.declared.kind.Kind.{Kind}
+use Rattle.block_layout.specs.declared.kind.Kind.TheVariants as kind
+use Rattle.integers.specs.Integers.{InKind}
 use Rattle.upc_types.specs.Types as types
 use Rattle.upc_types.specs.Types.{CType, Base, Completed, Member, Structs, base_of, members_in, members_of}
 use Rattle.upc_types.specs.Layout.{known_in, complete_in}
 use Rattle.typing_rules.specs.Values.{base_struct, value_type}
-use Rattle.typing_rules.specs.Attributes.{Found, find_member, member_of, found_index, target_index}
+use Rattle.typing_rules.specs.declared.library.LibraryConstant.{LibraryConstant}
+use Rattle.typing_rules.specs.declared.library.LibraryConstant.TheVariants as c
+use Rattle.typing_rules.specs.Library.{constant_value}
+use Rattle.typing_rules.specs.Attributes.{known, Found, find_member, member_of, found_index, target_index}
 use Rattle.typing_rules.specs.Nodes as n
 use Rattle.typing_rules.specs.Nodes.{Attr, Node}
 use Rattle.typing_rules.specs.Meanings as m
 use Rattle.typing_rules.specs.Rules.{Verdict, judge, table, lowest_in, or_above, fits, is_modifiable, target, has_name, base_names, names_member, target_names, rule_10, rule_13, rule_14, rule_19}
 use Rattle.typed_tree.specs.Tree.{attr_of, attrs_of}
 use Rattle.typed_tree.specs.Programs.{Checked}
-use Rattle.typed_tree.specs.Judged.{Earlier, AtEnd, Before, facts_at, Stands}
-use Rattle.typed_tree.specs.ExpressionLaws.{OperandsFit, AssignedIsModifiable, ObjectIsLvalue, CallFits, MemberInRange, MemberBehindInRange, LayoutsStay}
+use Rattle.typed_tree.specs.Judged.{Earlier, AtEnd, Before, Judged, IsConstant, facts_at, Stands}
+use Rattle.typed_tree.specs.ExpressionLaws.{OperandsFit, AssignedIsModifiable, ObjectIsLvalue, CallFits, MemberInRange, MemberBehindInRange, LayoutsStay, LiteralInRange}
 
 first_of : (r : ℕ) (broken : Bool) (rest : Option ℕ) → or_above r broken rest ≡ None → (broken ≡ false) × (rest ≡ None)
 first_of r true rest h = absurd cc
@@ -147,3 +155,40 @@ known_stay {all = all} number (Before x older fresh rest) h = by (x.number == nu
 
 pub layouts_stay : LayoutsStay
 layouts_stay all older number e h = known_stay number e h
+
+-- ---- literals
+
+constant_in_range : (c : LibraryConstant) → InKind (pos (constant_value c)) kind.Int
+constant_in_range c.Add = record { low = omega (arith, ints); high = omega (arith, ints) }
+constant_in_range c.Multiply = record { low = omega (arith, ints); high = omega (arith, ints) }
+constant_in_range c.BitAnd = record { low = omega (arith, ints); high = omega (arith, ints) }
+constant_in_range c.BitOr = record { low = omega (arith, ints); high = omega (arith, ints) }
+constant_in_range c.BitXor = record { low = omega (arith, ints); high = omega (arith, ints) }
+constant_in_range c.LogicalAnd = record { low = omega (arith, ints); high = omega (arith, ints) }
+constant_in_range c.LogicalOr = record { low = omega (arith, ints); high = omega (arith, ints) }
+constant_in_range c.Least = record { low = omega (arith, ints); high = omega (arith, ints) }
+constant_in_range c.Greatest = record { low = omega (arith, ints); high = omega (arith, ints) }
+constant_in_range c.InNoSync = record { low = omega (arith, ints); high = omega (arith, ints) }
+constant_in_range c.InMySync = record { low = omega (arith, ints); high = omega (arith, ints) }
+constant_in_range c.InAllSync = record { low = omega (arith, ints); high = omega (arith, ints) }
+constant_in_range c.OutNoSync = record { low = omega (arith, ints); high = omega (arith, ints) }
+constant_in_range c.OutMySync = record { low = omega (arith, ints); high = omega (arith, ints) }
+constant_in_range c.OutAllSync = record { low = omega (arith, ints); high = omega (arith, ints) }
+
+-- A literal is what its node says.
+abbrev InRange : Checked → Attr → Type 0
+InRange p a = (k : Kind) × (v : ℕ) × (a ≡ known k (pos v)) × (InKind (pos v) k ⊎ Judged p (n.Character v) a)
+
+threads_in_range : (threads most : ℕ) → threads ≡ most → most ≤ 32 → InKind (pos threads) kind.Int
+threads_in_range threads most e h = record { low = omega (arith, ints); high = omega (arith, ints, e, h) }
+
+constant_is : (p : Checked) (a : Attr) (x : Node) → p.threads ≤ 32 → IsConstant p x → Judged p x a → InRange p a
+constant_is p a (n.Name how (m.Named c)) t i j = (kind.Int, constant_value c, j.1.is, inl (constant_in_range c))
+constant_is p a (n.Number k v) t i j = (k, v, j.1.is, inl i.1)
+constant_is p a (n.Character v) t i j = (kind.Int, v, j.1.is, inr j)
+constant_is p a (n.Threads threads) t i j = (kind.Int, threads, j.1.is, inl (threads_in_range threads p.threads i t))
+constant_is p a n.MaxBlockSize t i j = (kind.Int, 16777216, j.1.is, inl (record { low = omega (arith, ints); high = omega (arith, ints) }))
+constant_is p a x t i j = absurd i
+
+pub literal_in_range : LiteralInRange
+literal_in_range p l how at attr t h = constant_is p attr h.0 t h.1 h.2

@@ -4,11 +4,12 @@ use Rattle.std.specs.List.{list_any}
 use Rattle.std.proofs.lemmas.List.{length-append}
 use Rattle.std.proofs.lemmas.List.Elements.{filter-append}
 use Rattle.upc_text.specs.declared.place.Place.{Place}
+use Rattle.upc_lexer.specs.Numbers.{NumbersFit}
 use Rattle.upc_tree.specs.declared.span.Name.{Name}
 use Rattle.upc_tree.specs.Expression.{Specs, Pointers, Parameters}
 use Rattle.upc_tree.specs.Declaration.{Declaration}
 use Rattle.upc_tree.specs.Statement.{Compound}
-use Rattle.upc_tree.specs.Unit.{External, PragmaPart, DeclarationPart, FunctionPart}
+use Rattle.upc_tree.specs.Unit.{External, PragmaPart, DeclarationPart, FunctionPart, tokens_of}
 use Rattle.upc_types.specs.Types.{CType, Completed}
 use Rattle.upc_values.specs.Lists.{Each}
 use Rattle.typing_rules.specs.declared.setting.Home.{Home}
@@ -36,7 +37,8 @@ use Rattle.upc_checker.specs.Outcomes.{Accepted, outcome}
 use Rattle.upc_checker.proofs.Causes.{accepted_by}
 use Rattle.typed_tree.specs.Judged.{Meets, Stands, AtEnd}
 use Rattle.typed_tree.specs.TypedNodes.{MeetsObjects, MeetsStatement, MeetsFunction, MeetsRules, in_scope, behind, behind_all}
-use Rattle.upc_checker.proofs.Passing.{Among, Agree, Now, Sooner, among_since, agree_since, Ends, Good, good_then, good_give, good_judge, good_enclosed, good_weaken}
+use Rattle.upc_checker.proofs.NumberNodes.{nodes_fit}
+use Rattle.upc_checker.proofs.Passing.{Among, Agree, Now, Sooner, among_since, agree_since, Ends, Fine, Good, good_then, good_give, good_judge, any_to_their_end, good_enclosed, good_weaken, any_of}
 use Rattle.upc_checker.proofs.TypedExpressions.{Defined, Whole, program, Fits, Outside, StandsFor, Scoped, specs_good, pointers_good, parameters_good, met, with_name, entry_stands, get_kept, within}
 use Rattle.upc_checker.proofs.TypedDeclarations.{declaration_good, objects_both, behind_both}
 use Rattle.upc_checker.proofs.TypedStatements.{block_good, inside_level}
@@ -303,6 +305,10 @@ module _ (z : Whole) where
             (subst (λ (l : List CType). FileScope (before.objects ++ b.objects) b.scope l) r.1.none r.1, r.0, r.1.none, tt {0});
       })
 
+  -- Whatever it makes.
+  pub declaration_passes : (before : Made) (x : Declaration) → Good z.structs.completed z.known (walk_declaration z.setting before.scope x) (λ b. Unit {0})
+  declaration_passes before x = any_of (file_declaration_good before x)
+
   -- ---- definitions
 
   in_top : (l : List CType) (q : ℕ) (top : List Entry) (r s : Meaning) → StandsFor z l q (find_in q top r) → StandsFor z l q s → StandsFor z l q (find_in q top s)
@@ -384,7 +390,7 @@ module _ (z : Whole) where
   function_good : (strict : Bool) (before : Made) (place : Place) (specs : Specs) (pointers : Pointers) (name : Name) (ps : Parameters) (body : Compound) →
       Good z.structs.completed z.known (walk_function z.setting strict before place specs pointers name ps body) (Built (name.number ∷ []) before)
   function_good strict before place specs pointers name ps body =
-      good_then (specs_good z before.scope _ specs) (λ p. good_then (pointers_good z before.scope false _ pointers) (λ t.
+      good_then (any_to_their_end z.setting _ (specs_good z before.scope _ specs)) (λ p. good_then (pointers_good z before.scope false _ pointers) (λ t.
       good_weaken (good_enclosed (definition_good strict before place _ _ name ps body)) (λ b r a c. r)))
 
   externals_good : (strict : Bool) (before : Made) (xs : List External) → Good z.structs.completed z.known (walk_externals z.setting strict before xs) (Built (defined_in xs) before)
@@ -409,8 +415,8 @@ module _ (z : Whole) where
       good_then (good_judge {P = λ u. Meets (program z) (n.File (list_any is_main_function made.functions))} z.setting _ _ (λ s e. e) (λ s e h. met z s _ e h)) (λ u.
       good_give made (λ h b. (b, h))))
 
--- Where every node of a source meets its rules, what it declares and defines says so.
-pub unit_meets : (ξ : Setting) (unit : List External) → ξ.defined ≡ defined_in unit → first_fault (walk_unit ξ unit begin).seen ≡ None →
+-- Where every node of a source meets its rules, and its numbers are in range, what it declares and defines says so.
+pub unit_meets : (ξ : Setting) (unit : List External) → ξ.defined ≡ defined_in unit → Fine (walk_unit ξ unit begin).seen →
     MeetsRules (record {
       threads = ξ.threads;
       structs = without_targets (walk_unit ξ unit begin).state.structs;
@@ -435,10 +441,10 @@ unit_meets ξ unit same fine =
     }
 
 -- What an accepted source declares and defines meets the rules.
-pub accepted_meets : (names : List (List ℕ)) (threads : ℕ) (unit : List External) (x : Checked) → outcome names threads unit ≡ Accepted x → MeetsRules x
-accepted_meets names threads unit x h =
+pub accepted_meets : (names : List (List ℕ)) (threads : ℕ) (unit : List External) (x : Checked) → NumbersFit (tokens_of unit) → outcome names threads unit ≡ Accepted x → MeetsRules x
+accepted_meets names threads unit x numbers h =
     let ξ = setting names threads unit in
     let w = walk_unit ξ unit begin in
     let c : Checked = record { threads = threads; structs = without_targets w.state.structs; objects = w.value.objects; functions = w.value.functions } in
     let p = accepted_by (first_fault w.seen) (limit_in w) c x h in
-    subst MeetsRules p.2 (unit_meets ξ unit refl p.0)
+    subst MeetsRules p.2 (unit_meets ξ unit refl (p.0, nodes_fit names threads unit numbers))

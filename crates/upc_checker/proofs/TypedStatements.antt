@@ -18,7 +18,7 @@ use Rattle.typed_tree.specs.Tree.{Expr, DeclaredObject, attr_of, place_of}
 use Rattle.walk_state.specs.Counts.{counted}
 use Rattle.walk_state.specs.Places.{at}
 use Rattle.walk_state.specs.Walk.{judge}
-use Rattle.statement_checker.specs.Statements.{in_loop, in_switch, in_forall, strict_behind, synchronises, walk_value, walk_test, Begun, walk_first, walk_affinity, Headed, walk_for_head, walk_forall_head, Labelled, label_value, Armed, walk_returned, walk_statement, walk_block, walk_items, walk_switch, walk_else_ifs, walk_otherwise}
+use Rattle.statement_checker.specs.Statements.{in_loop, in_switch, in_forall, strict_behind, synchronises, walk_value, walk_test, Begun, walk_first, walk_affinity, Headed, walk_for_head, walk_forall_head, Labelled, label_value, Armed, deeper, walk_returned, walk_statement, walk_block, walk_items, walk_switch, walk_else_ifs, walk_otherwise}
 use Rattle.statement_nodes.specs.Judged.{tests_of, returns, synchronise}
 use Rattle.typed_tree.specs.Judged.{Meets}
 use Rattle.typed_tree.specs.TypedNodes.{MeetsExpr, MeetsValue, MeetsObjects, MeetsHead, MeetsAffinity, MeetsLabels, MeetsStatement, MeetsLast, MeetsArms, MeetsItems, MeetsSwitch, behind_all, tests_in, cases_in, defaults_in}
@@ -111,8 +111,11 @@ module _ (z : Whole) where
   SwitchIn Γ c kind x = (l : List CType) → Fits z Γ l → is_file Γ ≡ false → MeetsSwitch (program z) c l x.items
       × (cases_in x.items ≡ map (label_value kind) x.labels) × (defaults_in x.items ≡ x.defaults)
 
-  abbrev ArmsIn : Env → Around → Armed → Type 0
-  ArmsIn Γ c x = (l : List CType) → Fits z Γ l → MeetsArms (program z) c l x.arms × (tests_in x.arms ≡ x.tests)
+  abbrev ArmsIn : Env → Env → Around → Armed → Type 0
+  ArmsIn Γ Δ c x = (l : List CType) → Fits z Γ l → Fits z Δ l → MeetsArms (program z) c l x.arms × (tests_in x.arms ≡ x.tests) × Fits z x.scope l
+
+  deeper_fits : (Γ Δ : Env) (l : List CType) → Fits z Γ l → Fits z Δ l → Fits z (deeper Γ Δ) l
+  deeper_fits Γ Δ l f g = record { names = λ q. f.names q; locals = g.locals; agree = f.agree; defined = f.defined }
 
   switch_labels : (a : Attr) (x : Labelled) → Meets (program z) (n.Switch a x.labels x.defaults) → cases_in x.items ≡ map (label_value (base_kind (base a))) x.labels →
       defaults_in x.items ≡ x.defaults → MeetsLabels (program z) a x.items
@@ -124,11 +127,12 @@ module _ (z : Whole) where
     statement_good Γ c strict (s.Value value semicolon) = good_then (value_good Γ value) (λ a. good_give _ (λ h l f. h l f))
     statement_good Γ c strict (s.If word test body more last) =
         good_enclosed (good_then (test_good (inside Γ) test) (λ a. good_then (good_enclosed (statement_good (inside (inside Γ)) c strict body)) (λ b.
-        good_then (else_ifs_good (inside Γ) c strict more) (λ x. good_then (otherwise_good (inside Γ) c strict last) (λ o.
+        good_then (else_ifs_good (inside Γ) (inside (inside Γ)) c strict more) (λ x. good_then (otherwise_good x.scope c strict last) (λ o.
         good_then (judge_good (at word) (n.Tests (attr_of a ∷ x.tests)) (λ q. refl)) (λ u. good_give _ (λ m ho hx hb ha l f.
         let g = within z Γ l f in
-        let arms = hx l g in
-        (subst (λ (ts : List Attr). Meets (program z) (n.Tests (attr_of a ∷ ts))) (sym arms.1) m, (ha l g, hb l (within z (inside Γ) l g), arms.0), ho l g))))))))
+        let d = within z (inside Γ) l g in
+        let arms = hx l g d in
+        (subst (λ (ts : List Attr). Meets (program z) (n.Tests (attr_of a ∷ ts))) (sym arms.1) m, (ha l g, hb l d, arms.0), ho l arms.2))))))))
     statement_good Γ c strict (s.Switch word test left items right) =
         good_enclosed (good_then (test_good (inside Γ) test) (λ a.
         good_then (good_enclosed (switch_good (inside (inside Γ)) (in_switch c) strict (base_kind (base (attr_of a))) items)) (λ x.
@@ -193,14 +197,15 @@ module _ (z : Whole) where
         let r = h l f e in
         ((i l f, r.0), r.1, r.2))))
 
-    else_ifs_good : (Γ : Env) (c : Around) (strict : Bool) (x : ElseIfs) → Good z.structs.completed z.known (walk_else_ifs z.setting Γ c strict x) (ArmsIn Γ c)
-    else_ifs_good Γ c strict NoElseIfs = good_give _ (λ l f. (tt {0}, refl))
-    else_ifs_good Γ c strict (AndElseIf other word test body more) =
-        good_then (test_good Γ test) (λ a. good_then (good_enclosed (statement_good (inside Γ) c strict body)) (λ b. good_then (else_ifs_good Γ c strict more) (λ x. good_give _ (λ hx hb ha l f.
-        let r = hx l f in
-        ((ha l f, hb l (within z Γ l f), r.0), ap (λ (ts : List Attr). attr_of a ∷ ts) r.1)))))
+    else_ifs_good : (Γ Δ : Env) (c : Around) (strict : Bool) (x : ElseIfs) → Good z.structs.completed z.known (walk_else_ifs z.setting Γ Δ c strict x) (ArmsIn Γ Δ c)
+    else_ifs_good Γ Δ c strict NoElseIfs = good_give _ (λ l f g. (tt {0}, refl, g))
+    else_ifs_good Γ Δ c strict (AndElseIf other word test body more) =
+        good_then (test_good Δ test) (λ a. good_then (good_enclosed (statement_good (inside Δ) c strict body)) (λ b. good_then (else_ifs_good Γ (deeper Γ Δ) c strict more) (λ x.
+        good_give _ (λ hx hb ha l f g.
+        let r = hx l f (deeper_fits Γ Δ l f g) in
+        ((ha l g, hb l (within z Δ l g), r.0), ap (λ (ts : List Attr). attr_of a ∷ ts) r.1, r.2)))))
 
     otherwise_good : (Γ : Env) (c : Around) (strict : Bool) (x : Otherwise) → Good z.structs.completed z.known (walk_otherwise z.setting Γ c strict x)
         (λ o. (l : List CType) → Fits z Γ l → MeetsLast (program z) c l o)
     otherwise_good Γ c strict NoOtherwise = good_give _ (λ l f. tt {0})
-    otherwise_good Γ c strict (Else word body) = good_then (good_enclosed (statement_good (inside Γ) c strict body)) (λ b. good_give _ (λ h l f. h l (within z Γ l f)))
+    otherwise_good Γ c strict (Else word body) = good_then (good_enclosed (statement_good Γ c strict body)) (λ b. good_give _ (λ h l f. h l f))

@@ -20,7 +20,7 @@ use Rattle.typing_rules.specs.Rules.{jumps_nowhere, leaves_forall}
 use Rattle.typed_tree.specs.Scopes.{Setting, Env, Scope, Outer, NoScope, Within, begin, is_file, level_of, inside, with_entry}
 use Rattle.typed_tree.specs.Scopes as scopes
 use Rattle.typed_tree.specs.Tree as k
-use Rattle.walk_state.specs.Places.{at}
+use Rattle.walk_state.specs.Places.{at, specs_place}
 use Rattle.type_specifiers.specs.Specifiers.{Shaped}
 use Rattle.declaration_checker.specs.Declarations.{initial_constant, walk_initial_value, walk_initial_values, walk_initial, Behind, walk_declared, walk_next_declareds, walk_declared_list, walk_declaration}
 use Rattle.statement_checker.specs.Statements.{in_loop, in_switch, in_forall, walk_value, walk_test, walk_first, walk_affinity, walk_for_head, walk_forall_head, walk_statement, walk_block, walk_items, walk_switch, walk_else_ifs, walk_otherwise}
@@ -32,7 +32,7 @@ use Rattle.affinity_checker.specs.Breaches.{breaches, in_compound, in_block_item
 use Rattle.upc_checker.specs.Lines as l
 use Rattle.upc_checker.specs.TreeNodes.{node, node_of, parameters_nodes, value_nodes, values_nodes, initial_nodes, declared_nodes, next_declared_nodes, declared_list_nodes, declaration_nodes, option_nodes, test_nodes, first_nodes, affinity_nodes, for_nodes, forall_nodes, return_nodes, barrier_nodes, statement_nodes, compound_nodes, item_nodes, switch_nodes, else_if_nodes, otherwise_nodes, external_nodes, externals_nodes, tree_nodes}
 use Rattle.upc_checker.specs.Jumps.{jump_breaches}
-use Rattle.upc_checker.proofs.Saying.{Says, Any, Starts, says_then, says_quiet, says_last, says_end, says_behind, says_give, says_given, says_made, says_enclosed, says_update, says_look, judge_then, judge_gives, says_constantly, says_jump}
+use Rattle.upc_checker.proofs.Saying.{Says, Any, Starts, says_then, says_quiet, says_last, says_end, says_behind, says_give, says_given, says_made, says_enclosed, says_update, says_look, judge_then, judge_gives, says_constantly, says_to_their_end, says_jump}
 use Rattle.upc_checker.proofs.TreeSaid.{expr_says, specs_say, pointers_say, sizes_say, parameters_say, file_declare}
 
 -- ---- scopes
@@ -96,7 +96,7 @@ declared_list_says ξ place t before file e (SomeDeclared first more) = says_qui
 
 declaration_says : (ξ : Setting) (Γ : Env) (file : Bool) → is_file Γ ≡ file → (x : Declaration) → Says (Behinds file) (walk_declaration ξ Γ x) (declaration_nodes file x) []
 declaration_says ξ Γ file e (Declares specs list semicolon) =
-    says_quiet (specs_say ξ Γ _ specs) (λ p h. says_quiet (declared_list_says ξ _ _ _ file e list) (λ b i. judge_gives ξ _ _ refl refl refl (λ u. says_give i)))
+    says_quiet (says_to_their_end ξ (specs_place specs) (specs_say ξ Γ _ specs)) (λ p h. says_quiet (declared_list_says ξ _ _ _ file e list) (λ b i. judge_gives ξ _ _ refl refl refl (λ u. says_give i)))
 
 -- ---- parts of statements
 
@@ -172,7 +172,7 @@ mutual
   statement_says ξ Γ c a strict h (s.Value value semicolon) = says_end (option_says ξ Γ value) (λ x p. says_give tt)
   statement_says ξ Γ c a strict h (s.If word test body more last) =
       says_enclosed (says_quiet (test_says ξ _ test) (λ t p. says_then (says_enclosed (statement_says ξ _ c a strict h body)) (λ b q.
-      says_then (else_ifs_say ξ _ c a strict h more) (λ x r. says_last (otherwise_says ξ _ c a strict h last) (λ o i. judge_gives ξ _ _ refl refl refl (λ u. says_give tt))))))
+      says_then (else_ifs_say ξ _ _ c a strict h more) (λ x r. says_last (otherwise_says ξ _ c a strict h last) (λ o i. judge_gives ξ _ _ refl refl refl (λ u. says_give tt))))))
   statement_says ξ Γ c a strict h (s.Switch word test left items right) =
       says_enclosed (says_quiet (test_says ξ _ test) (λ t p. says_last (says_enclosed (switch_says ξ (inside (inside Γ)) (in_switch c) (pure.in_switch a) strict (agree_switch c a h) (inner (inside Γ)) _ items)) (λ x q. judge_gives ξ _ _ refl refl refl (λ u. says_give tt))))
   statement_says ξ Γ c a strict h (s.While word test body) =
@@ -210,10 +210,10 @@ mutual
   switch_says ξ Γ c a strict h e kind (AndSwitchItem (SwitchStatement statement) more) =
       says_then (statement_says ξ Γ c a strict h statement) (λ y p. says_end (switch_says ξ Γ c a strict h e kind more) (λ x q. says_give tt))
 
-  else_ifs_say : (ξ : Setting) (Γ : Env) (c : Around) (a : around.Around) (strict : Bool) → Agree c a → (x : ElseIfs) → Says Any (walk_else_ifs ξ Γ c strict x) (else_if_nodes x) (in_else_ifs x a)
-  else_ifs_say ξ Γ c a strict h NoElseIfs = says_give tt
-  else_ifs_say ξ Γ c a strict h (AndElseIf other word test body more) =
-      says_quiet (test_says ξ Γ test) (λ t p. says_then (says_enclosed (statement_says ξ _ c a strict h body)) (λ b q. says_end (else_ifs_say ξ Γ c a strict h more) (λ x r. says_give tt)))
+  else_ifs_say : (ξ : Setting) (Γ Δ : Env) (c : Around) (a : around.Around) (strict : Bool) → Agree c a → (x : ElseIfs) → Says Any (walk_else_ifs ξ Γ Δ c strict x) (else_if_nodes x) (in_else_ifs x a)
+  else_ifs_say ξ Γ Δ c a strict h NoElseIfs = says_give tt
+  else_ifs_say ξ Γ Δ c a strict h (AndElseIf other word test body more) =
+      says_quiet (test_says ξ Δ test) (λ t p. says_then (says_enclosed (statement_says ξ _ c a strict h body)) (λ b q. says_end (else_ifs_say ξ Γ _ c a strict h more) (λ x r. says_give tt)))
 
   otherwise_says : (ξ : Setting) (Γ : Env) (c : Around) (a : around.Around) (strict : Bool) → Agree c a → (x : Otherwise) → Says Any (walk_otherwise ξ Γ c strict x) (otherwise_nodes x) (in_otherwise x a)
   otherwise_says ξ Γ c a strict h NoOtherwise = says_give tt
@@ -235,7 +235,7 @@ external_says : (ξ : Setting) (strict : Bool) (before : Made) → AtFile before
 external_says ξ strict before e (PragmaPart pragma) = says_give e
 external_says ξ strict before e (DeclarationPart declaration) = says_end (declaration_says ξ _ true e declaration) (λ b p. says_give p)
 external_says ξ strict before e (FunctionPart specs pointers name ps body) =
-    says_quiet (specs_say ξ _ _ specs) (λ p h. says_quiet (pointers_say ξ _ _ _ pointers) (λ t i.
+    says_quiet (says_to_their_end ξ (specs_place specs) (specs_say ξ _ _ specs)) (λ p h. says_quiet (pointers_say ξ _ _ _ pointers) (λ t i.
     says_enclosed (definition_says ξ strict before _ _ _ name ps body e)))
 
 externals_say : (ξ : Setting) (strict : Bool) (before : Made) → AtFile before → (xs : List External) → Says AtFile (walk_externals ξ strict before xs) (externals_nodes xs) (unit_breaches xs)

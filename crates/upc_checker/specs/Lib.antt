@@ -6,3 +6,4 @@ pub mod ViewUnits
 pub mod Lines
 pub mod TreeNodes
 pub mod Jumps
+pub mod Mains

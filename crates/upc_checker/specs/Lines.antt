@@ -1,11 +1,13 @@
--- The lines of the grammar that rules speak of.
+-- The lines of the grammar that rules speak of; a number with its kind and its value.
+use Rattle.std.specs.Prelude.{ℕ}
+use Rattle.block_layout.specs.declared.kind.Kind.{Kind}
 use Rattle.typing_rules.specs.Nodes as n
 use Rattle.typing_rules.specs.Nodes.{Node}
 
 pub data Line : Type 0 where
   -- expressions (C99 6.5, 6.6); operators by how many operands they have
   Name : Line
-  Number : Line
+  Number : (kind : Kind) (value : ℕ) → Line
   Character : Line
   Strings : Line
   Constant : Line
@@ -48,7 +50,7 @@ pub data Line : Type 0 where
 -- The line that a node is an instance of.
 abbrev pub line_of : Node → Line
 line_of (n.Name how means) = Name
-line_of (n.Number kind value) = Number
+line_of (n.Number kind value) = Number kind value
 line_of (n.Character value) = Character
 line_of (n.Strings how) = Strings
 line_of n.Mythread = Constant

@@ -27,6 +27,7 @@ use Rattle.upc_tree.specs.Statement.{NoAffinity, ContinueAffinity, ValueAffinity
 use Rattle.upc_tree.specs.Statement.{ForallParts}
 use Rattle.upc_tree.specs.Unit.{External, PragmaPart, DeclarationPart, FunctionPart}
 use Rattle.typing_rules.specs.Faults.{Seen}
+use Rattle.expression_nodes.specs.Marks.{number_kind}
 use Rattle.walk_state.specs.Places.{at, name_at, pointers_place, specs_place}
 use Rattle.function_checker.specs.Units.{source_place}
 use Rattle.upc_checker.specs.Lines as l
@@ -40,6 +41,10 @@ pub record TreeNode : Type 0 where
 -- It alone.
 abbrev pub node : Place → Line → List TreeNode
 node place line = record { at = place; line = line } ∷ []
+
+-- Specifiers end: they are a node behind what stands in them, and before what stands behind them.
+abbrev pub to_their_end : Place → List TreeNode → List TreeNode
+to_their_end place specifiers = specifiers ++ node place l.Specifies
 
 -- ---- expressions and types (C99 6.5, 6.7; UPC 6.4, 6.5)
 
@@ -68,7 +73,7 @@ abbrev mutual
   -- Parentheses are no node of their own.
   pub nodes : Expr → List TreeNode
   nodes (Named name) = node (name_at name) l.Name
-  nodes (Number value kind span) = node (at span) l.Number
+  nodes (Number value kind span) = node (at span) (l.Number (number_kind kind) value)
   nodes (Character value span) = node (at span) l.Character
   nodes (Strings first more) = node (at first.span) l.Strings
   nodes (Constant word span) = node (at span) l.Constant
@@ -80,8 +85,8 @@ abbrev mutual
   nodes (Postfix a mark span) = nodes a ++ node (first_place a) l.Unary
   nodes (Unary mark span a) = nodes a ++ node (at span) l.Unary
   nodes (SizeOfExpr word span a) = nodes a ++ node (at span) l.SizeOf
-  nodes (SizeOfType word span left type right) = type_nodes type ++ node (at span) l.SizeOfType
-  nodes (Cast left type right a) = type_nodes type ++ (nodes a ++ node (at left) l.Cast)
+  nodes (SizeOfType word span left type right) = type_nodes (at span) type ++ node (at span) l.SizeOfType
+  nodes (Cast left type right a) = type_nodes (at left) type ++ (nodes a ++ node (at left) l.Cast)
   nodes (Binary a mark span b) = nodes a ++ (nodes b ++ node (first_place a) l.Binary)
   nodes (Assign a mark span b) = nodes a ++ (nodes b ++ node (first_place a) l.Assign)
   nodes (Conditional test question a colon b) =
@@ -96,8 +101,10 @@ abbrev mutual
   next_nodes NoNextExprs = []
   next_nodes (AndExpr comma value more) = nodes value ++ next_nodes more
 
-  pub type_nodes : TypeName → List TreeNode
-  type_nodes (Typed specs pointers sizes) = specs_nodes specs ++ (pointer_nodes pointers ++ size_nodes sizes)
+  -- A type name, which is refused there.
+  pub type_nodes : Place → TypeName → List TreeNode
+  type_nodes place (Typed specs pointers sizes) =
+      to_their_end place (specs_nodes specs) ++ (pointer_nodes pointers ++ size_nodes sizes)
 
   pub specs_nodes : Specs → List TreeNode
   specs_nodes NoSpecs = []
@@ -136,10 +143,11 @@ abbrev mutual
   size_nodes (AndDimension left size right more) =
       nodes size ++ (node (first_place size) l.Constantly ++ size_nodes more)
 
+  -- The declaration of members is a node behind them, of the line of its specifiers.
   pub member_nodes : Members → List TreeNode
   member_nodes NoMembers = []
   member_nodes (AndMember specs first next semicolon more) =
-      specs_nodes specs ++ (declarator_nodes first ++ (next_declarator_nodes next ++
+      to_their_end (specs_place specs) (specs_nodes specs) ++ (declarator_nodes first ++ (next_declarator_nodes next ++
       (node (specs_place specs) l.Specifies ++ member_nodes more)))
 
   pub next_declarator_nodes : NextDeclarators → List TreeNode
@@ -165,7 +173,8 @@ abbrev mutual
 
   pub parameter_nodes : Parameter → List TreeNode
   parameter_nodes (Parametric specs pointers name array) =
-      specs_nodes specs ++ (pointer_nodes pointers ++ (array_nodes array ++ node (specs_place specs) l.Parameter))
+      to_their_end (specs_place specs) (specs_nodes specs) ++ (pointer_nodes pointers ++ (array_nodes array ++
+      node (specs_place specs) l.Parameter))
 
   pub array_nodes : ParameterArray → List TreeNode
   array_nodes NoArray = []
@@ -207,9 +216,11 @@ abbrev pub declared_list_nodes : Bool → DeclaredList → List TreeNode
 declared_list_nodes file NoneDeclared = []
 declared_list_nodes file (SomeDeclared first more) = declared_nodes file first ++ next_declared_nodes file more
 
+-- A declaration is a node behind what it declares, of the line of its specifiers.
 abbrev pub declaration_nodes : Bool → Declaration → List TreeNode
 declaration_nodes file (Declares specs list semicolon) =
-    specs_nodes specs ++ (declared_list_nodes file list ++ node (specs_place specs) l.Specifies)
+    to_their_end (specs_place specs) (specs_nodes specs) ++ (declared_list_nodes file list ++
+    node (specs_place specs) l.Specifies)
 
 -- ---- statements (C99 6.8, UPC 6.6)
 
@@ -299,8 +310,8 @@ abbrev pub external_nodes : External → List TreeNode
 external_nodes (PragmaPart pragma) = []
 external_nodes (DeclarationPart declaration) = declaration_nodes true declaration
 external_nodes (FunctionPart specs pointers name parameters body) =
-    specs_nodes specs ++ (pointer_nodes pointers ++ (parameters_nodes parameters ++ (compound_nodes body ++
-    node (specs_place specs) l.Defines)))
+    to_their_end (specs_place specs) (specs_nodes specs) ++ (pointer_nodes pointers ++ (parameters_nodes parameters ++
+    (compound_nodes body ++ node (specs_place specs) l.Defines)))
 
 abbrev pub externals_nodes : List External → List TreeNode
 externals_nodes [] = []

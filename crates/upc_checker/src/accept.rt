@@ -1,6 +1,8 @@
 //! From a syntax tree to its program.
 
 ghost use Rattle.std.specs.Prelude.{◌≡◌, ◌<◌, ◌≤◌, IfOk};
+ghost use Rattle.upc_lexer.specs.Numbers.{NumbersFit};
+ghost use Rattle.upc_tree.specs.Unit.{tokens_of};
 ghost use Rattle.upc_tree.specs.ViewStatement.{view_unit};
 ghost use Rattle.typed_tree.specs.ViewProgram.{view_program};
 ghost use Rattle.upc_checker.specs.Accepted.{IsAccepted};
@@ -36,10 +38,11 @@ fn program_of(alloc: Global, source: Checked) -> Result<Program, OutOfMemory>
 /// and no limit is passed. Refusals: `Typing(n)`, the first node in the order in which nodes are finished (children
 /// before their parent, from left to right) that breaks a rule, with the lowest such number; where there is none,
 /// `Limit(4)`, `Limit(5)` or `Limit(7)`, the first in this order, at the first declaration that passes it. The names
-/// are those of the source by number.
+/// are those of the source by number, and each of its numbers is in the range of its kind.
 pub fn check(alloc: Global, unit: &Unit, names: &Names, threads: u32) -> Result<Program, Stop>
     requires least { 1 ≤ threads }
     requires most { threads ≤ 32 }
+    requires numbers { NumbersFit (tokens_of (view_unit unit.now)) }
     ensures { Answers view_program (outcome names.now threads (view_unit unit.now)) result }
 {
     let source = check_source(alloc, unit, names, threads)?;

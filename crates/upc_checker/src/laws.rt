@@ -2,18 +2,21 @@
 
 ghost use Rattle.std.specs.Prelude.{◌≡◌, ℕ, List, map};
 ghost use Rattle.upc_text.specs.declared.place.Refusal.{Refusal};
-ghost use Rattle.upc_tree.specs.Unit.{External};
+ghost use Rattle.upc_lexer.specs.Names.{firsts};
+ghost use Rattle.upc_lexer.specs.Numbers.{NumbersFit};
+ghost use Rattle.upc_tree.specs.Unit.{External, tokens_of};
 ghost use Rattle.upc_checker.specs.Causes.{IsWellTyped, HasCause};
 ghost use Rattle.upc_checker.specs.Outcomes.{Accepted, Refused, outcome};
 ghost use Rattle.typed_tree.specs.ExpressionLaws.{OperandsFit, AssignedIsModifiable, ObjectIsLvalue};
 ghost use Rattle.typed_tree.specs.ExpressionLaws.{CallFits, MemberInRange, MemberBehindInRange};
-ghost use Rattle.typed_tree.specs.ExpressionLaws.{LayoutsStay};
+ghost use Rattle.typed_tree.specs.ExpressionLaws.{LayoutsStay, LiteralInRange};
 ghost use Rattle.typed_tree.specs.TypedNodes.{MeetsRules};
 ghost use Rattle.typed_tree.specs.Programs.{Checked};
 ghost use Rattle.function_checker.specs.Units.{unit_nodes};
 ghost use Rattle.affinity_checker.specs.Breaches.{unit_breaches};
 ghost use Rattle.upc_checker.specs.TreeNodes.{tree_nodes, node_of};
 ghost use Rattle.upc_checker.specs.Jumps.{jump_breaches};
+ghost use Rattle.upc_checker.specs.Mains.{HasOneMain};
 
 /// A source that is accepted is well typed.
 pub fn accepted_is_typed()
@@ -39,16 +42,23 @@ pub fn jumps_break_the_same_rules()
         names threads unit) ≡ unit_breaches unit }
 {}
 
-/// What a source declares and defines that is accepted meets the typing rules: every node of its typed tree breaks
-/// none, and every expression has the attribute of its node.
+/// What a source declares and defines that is accepted, and whose numbers are in range, meets the typing rules: every
+/// node of its typed tree breaks none, and every expression has the attribute of its node.
 pub fn accepted_meets_rules()
-    ensures { (names : List (List ℕ)) (threads : ℕ) (unit : List External) (x : Checked) → outcome
-        names threads unit ≡ Accepted x → MeetsRules x }
+    ensures { (names : List (List ℕ)) (threads : ℕ) (unit : List External) (x : Checked)
+        → NumbersFit (tokens_of unit) → outcome names threads unit ≡ Accepted x → MeetsRules x }
+{}
+
+/// A source that is accepted, whose numbers are in range and whose names are those of a text, each once, has exactly
+/// one function named main.
+pub fn accepted_has_one_main()
+    ensures { (all : List (List ℕ)) (threads : ℕ) (unit : List External) (x : Checked) → NumbersFit (tokens_of unit)
+        → outcome (firsts all) threads unit ≡ Accepted x → HasOneMain x.functions }
 {}
 
 /// What the typing of a node gives to who has the typed tree alone: the kinds of operands, the form of what is
-/// assigned and of objects, the function that is called, and the number of a member; and that the structs that are
-/// complete where it stands have the same layouts at the end.
+/// assigned and of objects, the function that is called, the number of a member, and the range of a literal; and that
+/// the structs that are complete where it stands have the same layouts at the end.
 pub fn nodes_give()
     ensures operands { OperandsFit }
     ensures assigned { AssignedIsModifiable }
@@ -56,5 +66,6 @@ pub fn nodes_give()
     ensures calls { CallFits }
     ensures members { MemberInRange }
     ensures members_behind { MemberBehindInRange }
+    ensures literals { LiteralInRange }
     ensures layouts { LayoutsStay }
 {}

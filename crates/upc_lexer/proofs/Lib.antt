@@ -13,3 +13,4 @@ pub mod CutLemmas
 pub mod Sorts
 pub mod OneCut
 pub mod OneList
+pub mod Fitting

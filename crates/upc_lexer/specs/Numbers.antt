@@ -1,5 +1,6 @@
 -- Integer constants (C99 6.4.4.1), where long long is long.
-use Rattle.std.specs.Prelude.{◌≡◌, ℕ, ◌+◌, ◌-◌, ◌*◌, ◌^◌, Bool, true, false, ◌||◌, ◌&&◌, nat_le, ◌==◌, if◌then◌else◌}
+use Rattle.std.specs.Prelude.{◌≡◌, ℕ, ◌+◌, ◌-◌, ◌*◌, ◌^◌, ◌≤◌, Bool, true, false, ◌||◌, ◌&&◌, nat_le, ◌==◌}
+use Rattle.std.specs.Prelude.{if◌then◌else◌}
 use Rattle.std.specs.Prelude.{List, [], ◌∷◌, ◌++◌, Option, Some, None, codes, fold, find, ◌⊎◌}
 use Rattle.std.specs.List.{list_all}
 use Rattle.upc_text.specs.declared.place.Code.{Code}
@@ -8,6 +9,9 @@ use Rattle.upc_lexer.specs.Bytes.{is_digit}
 use Rattle.upc_lexer.specs.declared.numbers.Base.{Base}
 use Rattle.upc_lexer.specs.declared.numbers.Base.TheVariants.{Decimal, Octal, Hexadecimal}
 use Rattle.upc_lexer.specs.declared.numbers.Suffix.{Suffix}
+use Rattle.upc_lexer.specs.declared.token.Token.{Token}
+use Rattle.upc_lexer.specs.declared.token.TokenKind.{TokenKind}
+use Rattle.upc_lexer.specs.declared.token.TokenKind.TheVariants.{Number}
 use Rattle.upc_lexer.specs.declared.token.NumberKind.{NumberKind}
 use Rattle.upc_lexer.specs.declared.token.NumberKind.TheVariants.{Int, UInt, Long, ULong}
 
@@ -79,6 +83,16 @@ greatest Int = 2 ^ 31 - 1
 greatest UInt = 2 ^ 32 - 1
 greatest Long = 2 ^ 63 - 1
 greatest ULong = 2 ^ 64 - 1
+
+-- Where a token is a number, its value is in the range of its type (C99 6.4.4.1).
+abbrev pub NumberFits : TokenKind → Type 0
+NumberFits (Number value kind) = value ≤ greatest kind
+NumberFits other = Unit {0}
+
+-- So is each number among the tokens.
+abbrev pub NumbersFit : List Token → Type 0
+NumbersFit [] = Unit {0}
+NumbersFit (t ∷ ts) = NumberFits t.kind × NumbersFit ts
 
 -- the types that a constant may have, in the order in which they are tried
 abbrev pub kinds_by : Base → Bool → Bool → List NumberKind

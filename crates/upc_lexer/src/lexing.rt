@@ -1,5 +1,6 @@
 //! A source, cut into tokens.
 ghost use Rattle.std.specs.Prelude.{◌≡◌, ◌+◌, ◌<◌, ◌≤◌, ◌∷◌, [], ◌++◌, List, ℕ, length, IfOk, IfErr, OnOk};
+ghost use Rattle.upc_lexer.specs.Numbers.{NumbersFit};
 ghost use Rattle.upc_lexer.specs.Tokens.{AreTokensOf, RefusedAt};
 ghost use Rattle.upc_lexer.specs.declared.token.Token.{Token as Item};
 ghost use Rattle.upc_text.specs.declared.place.Refusal.{Refusal as Reason};
@@ -104,10 +105,11 @@ fn step(
 ///
 /// A source is refused with `Code::Lex` where no token, blank or comment begins or a number is no constant, with
 /// `Code::Limit(2)` at a constant for which there is no type, and with `Code::Limit(6)` at a name of more than 255
-/// bytes or a string of more than 4,095. The first such place counts.
+/// bytes or a string of more than 4,095. The first such place counts. The numbers are in the range of their type.
 pub fn lex(alloc: Global, source: &[u8]) -> Result<Lexed, Stop>
     requires { length source.now ≤ 1048576 }
     ensures tokens { IfOk result (λ lexed. AreTokensOf source.now lexed.tokens.items lexed.names) }
+    ensures numbers { IfOk result (λ lexed. NumbersFit lexed.tokens.items) }
     ensures refused { IfErr result (StopsSource source.now) }
 {
     let mut lexed = Lexed {

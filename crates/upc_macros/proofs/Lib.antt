@@ -7,3 +7,4 @@ pub mod LineLemmas
 pub mod Order
 pub mod DepthLemmas
 pub mod SilenceLemmas
+pub mod Fitting

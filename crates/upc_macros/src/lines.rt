@@ -2,6 +2,7 @@
 ghost use Rattle.std.specs.Prelude.{◌≡◌, ◌+◌, ◌-◌, ◌<◌, ◌≤◌, ◌∷◌, ◌==◌, ℕ, List, length, take, drop, IfOk, IfErr, OnOk};
 ghost use Rattle.std.specs.List.{prefix_len};
 ghost use Rattle.upc_macros.specs.Expansion.{is_hash, text_items, lines_of, macros_after, IsExpansion, StopsExpansion};
+ghost use Rattle.upc_lexer.specs.Numbers.{NumbersFit};
 ghost use Rattle.upc_lexer.specs.Tokens.{AreTokensOf};
 ghost use Rattle.upc_lexer.specs.declared.token.Token.{Token as Item};
 ghost use Rattle.upc_macros.specs.Replacing.{Macros, replaced};
@@ -184,6 +185,7 @@ pub fn expand(alloc: Global, source: &[u8], lexed: &Lexed) -> Result<Vec<Token>,
     requires { AreTokensOf source.now lexed.now.tokens.items lexed.now.names }
     ensures expansion { IfOk result (λ tokens.
         IsExpansion source.now lexed.now.tokens.items (length lexed.now.names) tokens.items) }
+    ensures numbers { IfOk result (λ tokens. NumbersFit tokens.items) }
     ensures refused { IfErr result (StopsExpansion source.now lexed.now.tokens.items (length lexed.now.names)) }
 {
     let tokens = lexed.tokens.as_slice();

@@ -72,7 +72,7 @@ make-requires-clause-nodes c =
     let a = c.requires.accepted in
     let b = c.in_ok-beginning.beginning in
     let same = parts_same x.threads (view_structs b.structs) (view_structs x.structs) (map view_object x.objects.items) (map view_function x.functions.items) c.in_ok-beginning.ensures.same in
-    subst MeetsRules (sym same) (accepted_meets a.names x.threads a.unit (view_checked x) a.accepted)
+    subst MeetsRules (sym same) (accepted_meets a.names x.threads a.unit (view_checked x) a.numbers a.accepted)
 
 pub returns : goal.returns
 returns c =

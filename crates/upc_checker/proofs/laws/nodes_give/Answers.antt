@@ -9,5 +9,6 @@ returns c = record {
   calls = laws.call_fits;
   members = laws.member_in_range;
   members_behind = laws.member_behind_in_range;
+  literals = laws.literal_in_range;
   layouts = laws.layouts_stay;
 }

@@ -1,14 +1,17 @@
 use Rattle.std.specs.Prelude.{replicate}
 use Rattle.upc_macros.specs.declared.table.Body.{Body}
-use Rattle.std.proofs.Common.{Option, None, rules, ◌≡◌, ◌+◌, ◌-◌, ◌≤◌, ℕ, List, ◌∷◌, ◌∙◌, ap, subst, length, take, drop, arith}
+use Rattle.std.proofs.Common.{Option, None, rules, ◌≡◌, ◌+◌, ◌-◌, ◌≤◌, ℕ, List, ◌∷◌, ◌∙◌, sym, ap, subst, length, take, drop, arith}
 use Rattle.std.proofs.lemmas.Result.{err_from_is_err_and}
 use Rattle.upc_lexer.specs.declared.token.Token.{Token}
+use Rattle.upc_lexer.specs.Numbers.{NumbersFit}
+use Rattle.upc_lexer.proofs.Fitting.{numbers_fit}
 use Rattle.upc_macros.specs.Expansion.{lines_of, StopsExpansion}
 use Rattle.upc_macros.specs.Lines.{LineDone, LineStops}
 use Rattle.upc_macros.proofs.Order.{tokens_in_order}
 use Rattle.upc_macros.proofs.DirectiveLemmas.{rest_is}
 use Rattle.upc_macros.proofs.SilenceLemmas.{none_known}
 use Rattle.upc_macros.proofs.LineLemmas.{start, line_more, line_refused}
+use Rattle.upc_macros.proofs.Fitting.{expanded_fits}
 use Rattle.upc_macros.proofs.lines.expand.Goals as goal
 
 pub loop-at-init : goal.loop-at-init
@@ -51,3 +54,8 @@ loop-at-preserved c =
       since = c.in_ok-expand_line.ensures.since;
       silent = c.in_ok-expand_line.ensures.silent;
     }
+
+pub returns-clause-numbers : goal.returns-clause-numbers
+returns-clause-numbers c =
+    let fit = subst NumbersFit (sym c.as_slice-tokens.ensures.value) (numbers_fit c.args.source.now c.args.lexed.now.tokens.items c.args.lexed.now.names c.requires) in
+    expanded_fits c.args.source.now c.as_slice-tokens.result.now (length c.args.lexed.now.names) c.loop-at.at c.loop-at.macros.items c.loop-at.expanded.items fit c.loop-at.invariant.lines

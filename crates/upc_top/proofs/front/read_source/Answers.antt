@@ -1,5 +1,6 @@
-use Rattle.std.proofs.Common.{length, sym, subst}
+use Rattle.std.proofs.Common.{length, sym, ◌∙◌, subst}
 use Rattle.std.proofs.lemmas.Result.{err_from_is_err_and}
+use Rattle.upc_lexer.specs.Numbers.{NumbersFit}
 use Rattle.upc_macros.specs.Expansion.{IsExpansion}
 use Rattle.upc_tree.specs.ViewStatement.{view_unit}
 use Rattle.typed_tree.specs.ViewProgram.{view_program}
@@ -26,6 +27,10 @@ returns-in_err-program-clause-refused c =
     let tree = view_unit c.in_ok-unit.unit in
     let expansion = subst (IsExpansion c.args.source.now lexed.tokens.items (length lexed.names)) (sym c.as_slice.ensures.value) c.in_ok-tokens.ensures.expansion in
     rw (p.1, p.2) (stops_checking c.args.threads c.args.source.now _ _ c.in_ok-lexed.ensures.tokens c.as_slice.result.now expansion view_program tree c.in_err-program.field-0.0 c.in_ok-unit.ensures.found c.in_err-program.ensures)
+
+pub check-requires-clause-numbers : goal.check-requires-clause-numbers
+check-requires-clause-numbers c =
+    subst NumbersFit (sym (c.in_ok-unit.ensures.found.spelled ∙ c.as_slice.ensures.value)) c.in_ok-tokens.ensures.numbers
 
 pub returns-clause-accepted : goal.returns-clause-accepted
 returns-clause-accepted c =
