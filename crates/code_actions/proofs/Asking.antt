@@ -11,8 +11,7 @@ use Rattle.upc_values.specs.declared.journal.Entry.{Entry}
 use Rattle.upc_values.specs.Lists.{Each}
 use Rattle.upc_values.specs.Outcomes.{Outcome}
 use Rattle.upc_values.specs.Openings.{Opening, IsOpening}
-use Rattle.upc_values.specs.History.{IsLegal}
-use Rattle.upc_values.specs.Formed.{IsWellFormed, fits_after}
+use Rattle.upc_values.specs.Formed as history
 use Rattle.upc_values.specs.Known.{HasGiven}
 use Rattle.thread_steps.specs.States.{Thread, State, Res, Val, Over, Unfinished}
 use Rattle.thread_steps.specs.Fronts.{Begins}
@@ -22,6 +21,9 @@ use Rattle.stack_code.specs.Steps.{Spot, Conf, At, Halt, nowhere, step, steps}
 use Rattle.stack_code.specs.Outcomes.{told_by, HasEnded, initial_state, beginning}
 use Rattle.stack_code.proofs.Ends.{steps_add, steps_ended}
 use Rattle.code_actions.specs.Asking.{IsDeclaredIn, IsThreadOf, AsksWell}
+use Rattle.code_actions.specs.Names.{NamesGiven}
+use Rattle.code_actions.proofs.Given.{FindsNamed, IsWellFormed, fits_after}
+use Rattle.code_actions.proofs.Histories.{names_given, all_known, finds_named, formed_there, fits_there}
 use Rattle.code_actions.proofs.KnownValues.{runner}
 use Rattle.code_actions.proofs.Stores.{begun_filled}
 use Rattle.code_actions.proofs.Doings.{begins_itself, begins_on, total, plus, Later, GrownTo, Grown, Reaches, Misses}
@@ -99,7 +101,7 @@ module _ (τ : Thread) (functions : List (List Instr)) where
       let g : told_by t υ ≡ q = subst (λ d. HasEnded d q) (steps_ended τ functions n t υ) e in
       (sym (ap (λ x. x.«end») g) ∙ h.0, sym (ap (λ x. x.actions) g) ∙ h.1)
 
-module _ (o : Opening) (es : List Entry) (v : IsOpening o) (legal : IsLegal o es) (me budget : ℕ)
+module _ (o : Opening) (past : List Reply) (v : IsOpening o) (finds : FindsNamed o past) (me budget : ℕ)
     (one : me < o.threads) (functions : List (List Instr)) (declared : Each (Each (IsDeclaredIn o)) functions) where
   abbrev τ : Thread
   τ = runner o me budget
@@ -111,19 +113,19 @@ module _ (o : Opening) (es : List Entry) (v : IsOpening o) (legal : IsLegal o es
       let c = step τ functions (At here given operands calls σ) in
       grown_to σ (state_of c) (state_of (steps τ functions n c))
       (grown_state σ c
-      ((step_asks o es v legal me budget one functions declared here given operands calls).grows σ))
+      ((step_asks o past v finds me budget one functions declared here given operands calls).grows σ))
       (steps_grow n c)
   steps_grow (suc n) (Halt e σ) = steps_grow n (Halt e σ)
 
   -- An action is wanted at the end of what begins at a point: it may be asked for, each reply was heard, and with a
   -- further reply that fits it, it is done; with one that does not, the thread ends.
   record IsWanted (p : Outcome) (a : Action) (σ : State) (begins : List Reply → Conf) : Type 0 where
-    formed : IsWellFormed o es a
+    formed : IsWellFormed o past a
     heard : length p.actions ≡ total σ
-    fit : (r : Reply) → fits_after o es a r ≡ true
+    fit : (r : Reply) → fits_after o past a r ≡ true
         → (count : ℕ)
         × Begins (p.actions ++ a ∷ []) (state_of (steps τ functions count (begins (r ∷ [])))).actions
-    misfit : (r : Reply) → fits_after o es a r ≡ false
+    misfit : (r : Reply) → fits_after o past a r ≡ false
         → (count : ℕ) × HasMissed p (steps τ functions count (begins (r ∷ [])))
 
   module _ (here : Spot) (given operands : List Value) (calls : List Spot) (σ : State) (p : Outcome) (a : Action)
@@ -135,7 +137,7 @@ module _ (o : Opening) (es : List Entry) (v : IsOpening o) (legal : IsLegal o es
     abbrev next_with : Later Point
     next_with x xs = res_of (step τ functions (with_more (x ∷ xs)))
 
-    halted : (e : ToldEnd) (υ : State) → EndsWell o es e υ next_with → GrownTo σ υ → told_by e υ ≡ p
+    halted : (e : ToldEnd) (υ : State) → EndsWell o past e υ next_with → GrownTo σ υ → told_by e υ ≡ p
         → IsWanted p a σ with_more
     halted (Wants b) υ h g t =
         let same = same_action b a (ap (λ q. q.«end») t ∙ w) in
@@ -144,19 +146,19 @@ module _ (o : Opening) (es : List Entry) (v : IsOpening o) (legal : IsLegal o es
         let none = ap length h.none in
         let all = g.1 in
         record {
-          formed = subst (IsWellFormed o es) same h.formed;
+          formed = subst (IsWellFormed o past) same h.formed;
           heard = omega arith;
           fit = λ r f. (
             1,
             subst (λ l. Begins l (state_of (step τ functions (with_more (r ∷ [])))).actions)
                 (ap (λ l. l ++ b ∷ []) acts ∙ ap (λ c. p.actions ++ c ∷ []) same)
                 (reached_state (υ.actions ++ b ∷ []) (step τ functions (with_more (r ∷ [])))
-                (h.fit r [] (subst (λ c. fits_after o es c r ≡ true) (sym same) f))),
+                (h.fit r [] (subst (λ c. fits_after o past c r ≡ true) (sym same) f))),
           );
           misfit = λ r f. (
             1,
             missed_at p υ.actions (step τ functions (with_more (r ∷ []))) acts
-                (h.misfit r [] (subst (λ c. fits_after o es c r ≡ false) (sym same) f)),
+                (h.misfit r [] (subst (λ c. fits_after o past c r ≡ false) (sym same) f)),
           );
         }
     halted (Misfit k) υ h g t = let q = ap (λ q. q.«end») t ∙ w in absurd cc
@@ -166,22 +168,22 @@ module _ (o : Opening) (es : List Entry) (v : IsOpening o) (legal : IsLegal o es
     halted OutOfTicks υ h g t = let q = ap (λ q. q.«end») t ∙ w in absurd cc
 
   wanted_from : (n : ℕ) (here : Spot) (given operands : List Value) (calls : List Spot) (σ : State)
-      → AllKnown o es given × AllKnown o es operands → IsGood o es σ → (p : Outcome) (a : Action)
+      → AllKnown o past given × AllKnown o past operands → IsGood o past σ → (p : Outcome) (a : Action)
       → (w : p.«end» ≡ Wants a) → HasEnded (steps τ functions n (At here given operands calls σ)) p
       → IsWanted p a σ (with_more here given operands calls σ p a w)
   wanted_from zero here given operands calls σ k good p a w h = absurd h
   wanted_from (suc n) here given operands calls σ k good p a w h =
-      let s = step_asks o es v legal me budget one functions declared here given operands calls in
+      let s = step_asks o past v finds me budget one functions declared here given operands calls in
       by_next (step τ functions (At here given operands calls σ)) (s.by k σ good) (s.grows σ) h (wanted_from n)
     where
       from : List Reply → Conf
       from = with_more here given operands calls σ p a w
 
       by_next : (c : Conf)
-          → Comes o es (Stands o es) (res_of c) (next_with here given operands calls σ p a w) → Grown σ (res_of c)
+          → Comes o past (Stands o past) (res_of c) (next_with here given operands calls σ p a w) → Grown σ (res_of c)
           → HasEnded (steps τ functions n c) p
           → ((at : Spot) (vs ws : List Value) (back : List Spot) (υ : State)
-          → AllKnown o es vs × AllKnown o es ws → IsGood o es υ → (q : Outcome) (b : Action)
+          → AllKnown o past vs × AllKnown o past ws → IsGood o past υ → (q : Outcome) (b : Action)
           → (z : q.«end» ≡ Wants b) → HasEnded (steps τ functions n (At at vs ws back υ)) q
           → IsWanted q b υ (with_more at vs ws back υ q b z))
           → IsWanted p a σ (with_more here given operands calls σ p a w)
@@ -239,28 +241,40 @@ module _ (o : Opening) (codes : Codes) (thread budget : ℕ) (f : List Reply →
     abbrev origin : Spot
     origin = record { function = 0; place = 0 }
 
-    is_wanted : IsWanted o es h.opening has.legal thread budget one codes.functions h.declared.pushed
+    finds : FindsNamed o rs
+    finds = finds_named o es h.opening has.legal rs has.known
+
+    is_wanted : IsWanted o rs h.opening finds thread budget one codes.functions h.declared.pushed
         (f rs) a
         (initial_state codes rs) (λ more. beginning codes (rs ++ more))
     is_wanted =
-        wanted_from o es h.opening has.legal thread budget one codes.functions h.declared.pushed
+        wanted_from o rs h.opening finds thread budget one codes.functions h.declared.pushed
         (count_of rs) origin [] [] [] (initial_state codes rs) (tt, tt)
         (record {
-          store = begun_filled o es codes.private_shapes codes.private_initials h.declared.initials
+          store = begun_filled o rs codes.private_shapes codes.private_initials h.declared.initials
               h.code.private.fit;
-          replies = has.known;
+          replies = all_known o es rs has.known;
         })
         (f rs) a w (ended rs)
 
-    taken : (r : Reply) → fits_after o es a r ≡ true → (f (rs ++ r ∷ [])).actions ≡ (f rs).actions ++ a ∷ []
+    fits_so : (r : Reply) → history.fits_after o es a r ≡ fits_after o rs a r
+    fits_so r = fits_there o es h.opening has.legal rs has.known a is_wanted.formed r
+
+    formed_so : history.IsWellFormed o es a
+    formed_so = formed_there o es h.opening has.legal rs has.known a is_wanted.formed
+
+    named_so : NamesGiven o rs a
+    named_so = names_given o rs a is_wanted.formed
+
+    taken : (r : Reply) → history.fits_after o es a r ≡ true → (f (rs ++ r ∷ [])).actions ≡ (f rs).actions ++ a ∷ []
     taken r fit =
         let τ = runner o thread budget in
-        let k = is_wanted.fit r fit in
+        let k = is_wanted.fit r (sym (fits_so r) ∙ fit) in
         let first = beginning codes (rs ++ r ∷ []) in
         let n = count_of (rs ++ r ∷ []) in
         let end = steps τ codes.functions n first in
         let grow =
-        steps_grow o es h.opening has.legal thread budget one codes.functions h.declared.pushed in
+        steps_grow o rs h.opening finds thread budget one codes.functions h.declared.pushed in
         let acts = ended_actions end (f (rs ++ r ∷ [])) (ended (rs ++ r ∷ [])) in
         let further = steps τ codes.functions n (steps τ codes.functions k.0 first) in
         let swap : k.0 + n ≡ n + k.0 = omega arith in
@@ -279,11 +293,11 @@ module _ (o : Opening) (codes : Codes) (thread budget : ℕ) (f : List Reply →
         let more = length_push (f rs).actions a in
         all_of ((f rs).actions ++ a ∷ []) (f (rs ++ r ∷ [])).actions begins (omega arith)
 
-    missed : (r : Reply) → fits_after o es a r ≡ false
+    missed : (r : Reply) → history.fits_after o es a r ≡ false
         → ((f (rs ++ r ∷ [])).«end» ≡ Misfit (length rs)) × ((f (rs ++ r ∷ [])).actions ≡ (f rs).actions)
     missed r misfit =
         let τ = runner o thread budget in
-        let k = is_wanted.misfit r misfit in
+        let k = is_wanted.misfit r (sym (fits_so r) ∙ misfit) in
         let first = beginning codes (rs ++ r ∷ []) in
         let n = count_of (rs ++ r ∷ []) in
         let q = f (rs ++ r ∷ []) in
@@ -304,5 +318,6 @@ pub asks_well : (o : Opening) (codes : Codes) (thread budget : ℕ) (f : List Re
 asks_well o codes thread budget f h = record {
   goes = λ rs before a r w has fit. taken o codes thread budget f h rs before a w has r fit;
   misfits = λ rs before a r w has misfit. missed o codes thread budget f h rs before a w has r misfit;
-  formed = λ rs before a w has. (is_wanted o codes thread budget f h rs before a w has).formed;
+  formed = λ rs before a w has. formed_so o codes thread budget f h rs before a w has;
+  names = λ rs before a w has. named_so o codes thread budget f h rs before a w has;
 }

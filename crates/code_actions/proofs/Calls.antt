@@ -1,8 +1,8 @@
 -- The calls of the library ask well where what they are given is known, and of their parameters' types.
-use Rattle.std.proofs.Common.{◌≡◌, ℕ, ◌*◌, ◌<◌, ◌==◌, nat_lt, ℤ, pos, Bool, true, false, not, ◌&&◌, ◌||◌, cond}
-use Rattle.std.proofs.Common.{List, [], ◌∷◌, Option, Some, None, is_some, refl, sym, subst, arith, lt-ltb}
+use Rattle.std.proofs.Common.{◌≡◌, ℕ, ◌*◌, ◌<◌, ◌==◌, ℤ, pos, Bool, true, false, not, ◌&&◌, ◌||◌, cond}
+use Rattle.std.proofs.Common.{List, [], ◌∷◌, Option, Some, None, is_some, refl, sym, subst, lt-ltb}
 use Rattle.std.proofs.Common.{if◌then◌else◌}
-use Rattle.std.proofs.lemmas.Bool.{and_parts, and_from, false≢true, eqb-false}
+use Rattle.std.proofs.lemmas.Bool.{and_parts, and_from, false≢true}
 use Rattle.std.specs.Prelude.{nat_le, unsigned_abs, negsuc, slice_get}
 use Rattle.block_layout.specs.declared.kind.Shape.{Shape}
 use Rattle.block_layout.specs.declared.run_error.TheConstants.{LIBRARY_ARGS, NULL_ACCESS, CELL_TYPE}
@@ -17,29 +17,26 @@ use Rattle.upc_values.specs.declared.action.Action.{Action}
 use Rattle.upc_values.specs.declared.action.Action.TheVariants as act
 use Rattle.upc_values.specs.declared.action.Reply.{Reply}
 use Rattle.upc_values.specs.declared.action.Reply.TheVariants as reply
-use Rattle.upc_values.specs.declared.journal.Entry.{Entry}
 use Rattle.upc_values.specs.declared.library.ElementKind.{ElementKind}
 use Rattle.upc_values.specs.declared.library.LibraryCall.{LibraryCall}
 use Rattle.upc_values.specs.declared.library.LibraryCall.TheVariants as c
 use Rattle.upc_values.specs.Lists.{Each}
 use Rattle.upc_values.specs.Scalars.{zero}
 use Rattle.upc_values.specs.Openings.{Opening, IsOpening}
-use Rattle.upc_values.specs.History.{locks, IsLegal}
-use Rattle.upc_values.specs.Formed.{is_known, is_whole, is_home, may_alloc, may_call, IsWellFormed, fits, fits_after}
+use Rattle.upc_values.specs.Formed.{is_whole, is_home, may_alloc, fits}
 use Rattle.upc_values.specs.Calls.{Allocates, Other, is_size, call_of}
 use Rattle.upc_values.specs.Expansion.{Expansion, Gives, Fails}
 use Rattle.upc_values.specs.Copying.{copy, set}
 use Rattle.upc_values.specs.Expansions.{is_large, collective}
 use Rattle.upc_values.specs.LibraryCalls as l
 use Rattle.thread_steps.specs.Library.{is_call, is_formed}
+use Rattle.code_actions.specs.Names.{is_lock_given}
+use Rattle.code_actions.proofs.Given.{is_known, FindsNamed, may_call, IsWellFormed, fits_after}
 use Rattle.code_actions.proofs.KnownValues.{Known}
 use Rattle.code_actions.proofs.Doings.{Nothing}
 use Rattle.code_actions.proofs.Primitives as p
 use Rattle.code_actions.proofs.MemoryCalls as m
 use Rattle.code_actions.proofs.Collectives.{AreKnownScalars, tested, collective_goes}
-
-not_zero : (n : ℕ) → (n == 0) ≡ false → nat_lt 0 n ≡ true
-not_zero n e = let ne = eqb-false n 0 e in lt-ltb 0 n (omega arith)
 
 -- What is not refused for its size is whole.
 whole_by : (a b : Bool) → a ≡ false → (not a && not b) ≡ false → (not a && b) ≡ true
@@ -57,16 +54,16 @@ size_of : (n : ℤ) → is_size n ≡ true → is_size (pos (unsigned_abs n)) �
 size_of (pos n) h = h
 size_of (negsuc n) h = absurd (false≢true h)
 
-module _ (o : Opening) (es : List Entry) (v : IsOpening o) (legal : IsLegal o es) (me budget : ℕ)
+module _ (o : Opening) (past : List Reply) (v : IsOpening o) (finds : FindsNamed o past) (me budget : ℕ)
     (one : me < o.threads) where
   abbrev Goes : Expansion Scalar → Type 0
-  Goes e = p.GoesWell o es v legal me budget {A = Scalar} (λ w. is_known o es w ≡ true) e
+  Goes e = p.GoesWell o past v finds me budget {A = Scalar} (λ w. is_known o past w ≡ true) e
 
   abbrev CallGoes : LibraryCall → ℕ → List Value → Type 0
-  CallGoes call shape args = p.CallGoesWell o es v legal me budget call shape args
+  CallGoes call shape args = p.CallGoesWell o past v finds me budget call shape args
 
   abbrev AreKnown : List Value → Type 0
-  AreKnown args = Each (Known o es) args
+  AreKnown args = Each (Known o past) args
 
   -- ---- tests
 
@@ -75,23 +72,23 @@ module _ (o : Opening) (es : List Entry) (v : IsOpening o) (legal : IsLegal o es
   either_goes false x y h g = g refl
 
   unless_goes : (b : Bool) (code : ℕ) (y : Expansion Scalar) → (b ≡ false → Goes y) → Goes (cond b (Fails code) y)
-  unless_goes b code y g = m.unless_goes o es v legal me budget (λ w. is_known o es w ≡ true) b code y g
+  unless_goes b code y g = m.unless_goes o past v finds me budget (λ w. is_known o past w ≡ true) b code y g
 
   -- A call that gives no value gives 0.
-  valued_goes : (e : Expansion (Unit {0})) → p.GoesWell o es v legal me budget Nothing e → Goes (l.valued e)
+  valued_goes : (e : Expansion (Unit {0})) → p.GoesWell o past v finds me budget Nothing e → Goes (l.valued e)
   valued_goes e h =
-      m.bind_goes o es v legal me budget Nothing (λ w. is_known o es w ≡ true) e (λ u. Gives zero) h (λ u k. refl)
+      m.bind_goes o past v finds me budget Nothing (λ w. is_known o past w ≡ true) e (λ u. Gives zero) h (λ u k. refl)
 
   -- ---- actions
 
-  given_goes : (r : Reply) → p.IsGiven o es v legal me budget r → Goes (l.given_by r)
+  given_goes : (r : Reply) → p.IsGiven o past v finds me budget r → Goes (l.given_by r)
   given_goes reply.Done h = refl
   given_goes (reply.Value w) h = h
   given_goes (reply.Flag b) h = refl
   given_goes (reply.Refused code) h = tt
 
-  asks_goes : (a : Action) → IsWellFormed o es a
-      → ((r : Reply) → fits_after o es a r ≡ fits o.threads o.shapes None a r) → Goes (l.asks a)
+  asks_goes : (a : Action) → IsWellFormed o past a
+      → ((r : Reply) → fits_after o past a r ≡ fits o.threads o.shapes None a r) → Goes (l.asks a)
   asks_goes a formed fit = (formed, fit, given_goes)
 
   -- ---- calls that ask for nothing (UPC 7.2.3)
@@ -141,9 +138,9 @@ module _ (o : Opening) (es : List Entry) (v : IsOpening o) (legal : IsLegal o es
   -- All threads may meet for these sizes, which are a size_t each.
   may_meet : (n b s : ℕ) → (is_size (pos n) && (is_size (pos b) && is_size (pos s))) ≡ true
       → is_some (slice_get o.shapes s) ≡ true → (not (n * b == 0) && not (is_whole (slice_get o.shapes s) b)) ≡ false
-      → may_call o es (call_of 1 (scalar.Int (pos n) ∷ scalar.Int (pos b) ∷ scalar.Int (pos s) ∷ [])) ≡ true
+      → may_call o past (call_of 1 (scalar.Int (pos n) ∷ scalar.Int (pos b) ∷ scalar.Int (pos s) ∷ [])) ≡ true
   may_meet n b s sizes there e =
-      subst (λ t. may_call o es (cond t (Allocates n b s) Other) ≡ true) (sym sizes)
+      subst (λ t. may_call o past (cond t (Allocates n b s) Other) ≡ true) (sym sizes)
       (and_from (is_some (slice_get o.shapes s)) ((n * b == 0) || may_alloc o n b s) there
       (none_or_whole (n * b == 0) (is_whole (slice_get o.shapes s) b) e))
 
@@ -160,10 +157,12 @@ module _ (o : Opening) (es : List Entry) (v : IsOpening o) (legal : IsLegal o es
       let rest = and_parts (is_size b) (is_size (pos shape)) all.1 in
       let whole = is_whole (slice_get o.shapes shape) block in
       unless_goes (not (size * block == 0) && not whole) CELL_TYPE _ (λ e.
-      asks_goes (act.Meet 1 (scalar.Int (pos size) ∷ scalar.Int (pos block) ∷ scalar.Int (pos shape) ∷ []))
-      (may_meet size block shape
-      (and_from (is_size (pos size)) (is_size (pos block) && is_size (pos shape)) (size_of n all.0)
-      (and_from (is_size (pos block)) (is_size (pos shape)) (size_of b rest.0) rest.1)) formed.1 e)
+      asks_goes (act.Meet 1 (scalar.Int (pos size) ∷ scalar.Int (pos block) ∷ scalar.Int (pos shape) ∷ [])) (
+        may_meet size block shape
+            (and_from (is_size (pos size)) (is_size (pos block) && is_size (pos shape)) (size_of n all.0)
+            (and_from (is_size (pos block)) (is_size (pos shape)) (size_of b rest.0) rest.1)) formed.1 e,
+        (refl, (refl, (refl, tt))),
+      )
       (λ r. refl))
   all_alloc_goes shape args h private = refl
 
@@ -174,60 +173,59 @@ module _ (o : Opening) (es : List Entry) (v : IsOpening o) (legal : IsLegal o es
 
   all_free_goes : (shape : ℕ) (args : List Value) → AreKnown args → CallGoes c.AllFree shape args
   all_free_goes shape (value.Scalar (scalar.Shared q) ∷ []) h private =
-      asks_goes (act.Meet 3 (scalar.Shared q ∷ [])) h.0 (λ r. refl)
+      asks_goes (act.Meet 3 (scalar.Shared q ∷ [])) (h.0, (h.0, tt)) (λ r. refl)
   all_free_goes shape args h private = refl
 
   -- ---- locks (UPC 7.2.4)
 
   lock_alloc_goes : (shape : ℕ) (args : List Value) → CallGoes c.GlobalLockAlloc shape args
-  lock_alloc_goes shape [] private = asks_goes act.LockMake refl (λ r. refl)
+  lock_alloc_goes shape [] private = asks_goes act.LockMake tt (λ r. refl)
   lock_alloc_goes shape args private = refl
 
   all_lock_alloc_goes : (shape : ℕ) (args : List Value) → CallGoes c.AllLockAlloc shape args
-  all_lock_alloc_goes shape [] private = asks_goes (act.Meet 2 []) refl (λ r. refl)
+  all_lock_alloc_goes shape [] private = asks_goes (act.Meet 2 []) (refl, tt) (λ r. refl)
   all_lock_alloc_goes shape args private = refl
 
-  -- A lock that is made, of those that are null or made.
-  made_lock : (n : ℕ) → nat_le n (locks es) ≡ true → (n == 0) ≡ false
-      → (nat_lt 0 n && nat_le n (locks es)) ≡ true
-  made_lock n h e = and_from (nat_lt 0 n) (nat_le n (locks es)) (not_zero n e) h
+  -- A lock that was given, of those that are null or were given.
+  given_lock : (n : ℕ) → is_known o past (scalar.Lock n) ≡ true → (n == 0) ≡ false → is_lock_given past n ≡ true
+  given_lock n h e = subst (λ b. (b || is_lock_given past n) ≡ true) e h
 
   lock_goes : (shape : ℕ) (args : List Value) → AreKnown args → CallGoes c.Lock shape args
   lock_goes shape (value.Scalar (scalar.Lock n) ∷ []) h private =
-      unless_goes (n == 0) NULL_ACCESS _ (λ e. asks_goes (act.Lock n) (made_lock n h.0 e) (λ r. refl))
+      unless_goes (n == 0) NULL_ACCESS _ (λ e. asks_goes (act.Lock n) (given_lock n h.0 e) (λ r. refl))
   lock_goes shape args h private = refl
 
   attempt_goes : (shape : ℕ) (args : List Value) → AreKnown args → CallGoes c.LockAttempt shape args
   attempt_goes shape (value.Scalar (scalar.Lock n) ∷ []) h private =
-      unless_goes (n == 0) NULL_ACCESS _ (λ e. asks_goes (act.Attempt n) (made_lock n h.0 e) (λ r. refl))
+      unless_goes (n == 0) NULL_ACCESS _ (λ e. asks_goes (act.Attempt n) (given_lock n h.0 e) (λ r. refl))
   attempt_goes shape args h private = refl
 
   unlock_goes : (shape : ℕ) (args : List Value) → AreKnown args → CallGoes c.Unlock shape args
   unlock_goes shape (value.Scalar (scalar.Lock n) ∷ []) h private =
-      unless_goes (n == 0) NULL_ACCESS _ (λ e. asks_goes (act.Unlock n) (made_lock n h.0 e) (λ r. refl))
+      unless_goes (n == 0) NULL_ACCESS _ (λ e. asks_goes (act.Unlock n) (given_lock n h.0 e) (λ r. refl))
   unlock_goes shape args h private = refl
 
   lock_free_goes : (shape : ℕ) (args : List Value) → AreKnown args → CallGoes c.LockFree shape args
   lock_free_goes shape (value.Scalar (scalar.Lock n) ∷ []) h private =
-      either_goes (n == 0) (Gives zero) _ refl (λ e. asks_goes (act.LockFree n) (made_lock n h.0 e) (λ r. refl))
+      either_goes (n == 0) (Gives zero) _ refl (λ e. asks_goes (act.LockFree n) (given_lock n h.0 e) (λ r. refl))
   lock_free_goes shape args h private = refl
 
   all_lock_free_goes : (shape : ℕ) (args : List Value) → AreKnown args → CallGoes c.AllLockFree shape args
   all_lock_free_goes shape (value.Scalar (scalar.Lock n) ∷ []) h private =
-      asks_goes (act.Meet 4 (scalar.Lock n ∷ [])) h.0 (λ r. refl)
+      asks_goes (act.Meet 4 (scalar.Lock n ∷ [])) (h.0, (h.0, tt)) (λ r. refl)
   all_lock_free_goes shape args h private = refl
 
   -- ---- memory (UPC 7.2.5)
 
   -- Areas are known where the values are.
-  area_known : (w : Value) → Known o es w → m.IsKnownArea o es v legal me budget (l.area_of w)
-  area_known w h = m.area_known o es v legal me budget w h
+  area_known : (w : Value) → Known o past w → m.IsKnownArea o past v finds me budget (l.area_of w)
+  area_known w h = m.area_known o past v finds me budget w h
 
-  copy_goes : (part : Option Shape) (dst src : Value) (n : ℕ) → Known o es dst → Known o es src
+  copy_goes : (part : Option Shape) (dst src : Value) (n : ℕ) → Known o past dst → Known o past src
       → Goes (l.valued (copy o.threads o.shapes part (l.area_of dst) (l.area_of src) n))
   copy_goes part dst src n h g =
       valued_goes (copy o.threads o.shapes part (l.area_of dst) (l.area_of src) n)
-      (m.copy_goes o es v legal me budget part (l.area_of dst) (l.area_of src) n (area_known dst h) (area_known src g))
+      (m.copy_goes o past v finds me budget part (l.area_of dst) (l.area_of src) n (area_known dst h) (area_known src g))
 
   memcpy_goes : (shape : ℕ) (args : List Value) → AreKnown args → CallGoes c.Memcpy shape args
   memcpy_goes shape (dst ∷ src ∷ value.Scalar (scalar.Int n) ∷ []) h private =
@@ -248,12 +246,12 @@ module _ (o : Opening) (es : List Entry) (v : IsOpening o) (legal : IsLegal o es
   memset_goes shape (dst ∷ value.Scalar (scalar.Int k) ∷ value.Scalar (scalar.Int n) ∷ []) h private =
       let byte = unsigned_abs (converted kind.UChar k) in
       valued_goes (set o.threads o.shapes None (l.area_of dst) byte (unsigned_abs n))
-      (m.set_goes o es v legal me budget None (l.area_of dst) byte (unsigned_abs n) (area_known dst h.0))
+      (m.set_goes o past v finds me budget None (l.area_of dst) byte (unsigned_abs n) (area_known dst h.0))
   memset_goes shape args h private = refl
 
   -- ---- collective calls (UPC 7.3)
 
-  scalars_known : (args : List Value) → AreKnown args → AreKnownScalars o es (l.scalars args)
+  scalars_known : (args : List Value) → AreKnown args → AreKnownScalars o past (l.scalars args)
   scalars_known [] h = tt
   scalars_known (value.Scalar w ∷ args) h = (h.0, scalars_known args h.1)
   scalars_known (value.Local q ∷ args) h = scalars_known args h.1
@@ -268,7 +266,7 @@ module _ (o : Opening) (es : List Entry) (v : IsOpening o) (legal : IsLegal o es
       → Goes (l.together o.threads o.shapes me private n args)
   together_goes n args e k h private =
       valued_goes (collective o.threads o.shapes me n (l.scalars args))
-      (collective_goes o es v legal me budget n (l.scalars args) e (scalars_known args k)
+      (collective_goes o past v finds me budget n (l.scalars args) e (scalars_known args k)
       (and_parts (is_call (call_of n (l.scalars args))) true h).0)
 
   -- ---- all of these

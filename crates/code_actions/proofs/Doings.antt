@@ -11,16 +11,15 @@ use Rattle.upc_values.specs.declared.action.Action.{Action}
 use Rattle.upc_values.specs.declared.action.Reply.{Reply}
 use Rattle.upc_values.specs.declared.record.ToldEnd.{ToldEnd}
 use Rattle.upc_values.specs.declared.record.ToldEnd.TheVariants.{Wants, Misfit, Ended, Exit, Fault, OutOfTicks}
-use Rattle.upc_values.specs.declared.journal.Entry.{Entry}
 use Rattle.upc_values.specs.Openings.{Opening}
-use Rattle.upc_values.specs.Formed.{fits, IsWellFormed, fits_after}
-use Rattle.upc_values.specs.Known.{gives_known, AreKnown}
+use Rattle.upc_values.specs.Formed.{fits}
 use Rattle.private_store.specs.Live.{Live}
 use Rattle.thread_steps.specs.States.{Thread, State, Res, Val, Over, Unfinished, bind, Doing, ◌>>=◌}
 use Rattle.thread_steps.specs.States.{give, skip, know, change, choose, over, fault, fault_if, valued}
 use Rattle.thread_steps.specs.Actions.{ask, answered, answered_from}
 use Rattle.thread_steps.specs.Accesses.{with_store}
 use Rattle.thread_steps.specs.Fronts.{Begins}
+use Rattle.code_actions.proofs.Given.{gives_known, AreKnown, IsWellFormed, fits_after}
 use Rattle.code_actions.proofs.Stores.{IsFilled, FilledIn}
 
 -- ---- what was done stays, whatever is heard
@@ -93,19 +92,19 @@ abbrev pub Holds : {A : Type 0} → (A → Type 0) → Result A ℕ → Type 0
 Holds V (Ok v) = V v
 Holds V (Err code) = Unit {0}
 
-module _ (o : Opening) (es : List Entry) where
+module _ (o : Opening) (past : List Reply) where
   -- The values of the store are known, and what the replies to come give.
   pub record IsGood (σ : State) : Type 0 where
-    pub store : IsFilled o es σ.store
-    pub replies : AreKnown o es σ.replies
+    pub store : IsFilled o past σ.store
+    pub replies : AreKnown o past σ.replies
 
   -- An action that may be asked for is wanted; with a reply that fits it, it is done, and with another one the thread
   -- ends.
   pub record IsAsked (A : Type 0) (a : Action) (υ : State) (R : Later A) : Type 0 where
     pub none : υ.replies ≡ []
-    pub formed : IsWellFormed o es a
-    pub fit : (x : Reply) (xs : List Reply) → fits_after o es a x ≡ true → Reaches (υ.actions ++ a ∷ []) (R x xs)
-    pub misfit : (x : Reply) (xs : List Reply) → fits_after o es a x ≡ false → Misses υ.actions (R x xs)
+    pub formed : IsWellFormed o past a
+    pub fit : (x : Reply) (xs : List Reply) → fits_after o past a x ≡ true → Reaches (υ.actions ++ a ∷ []) (R x xs)
+    pub misfit : (x : Reply) (xs : List Reply) → fits_after o past a x ≡ false → Misses υ.actions (R x xs)
 
   abbrev pub EndsWell : {A : Type 0} → ToldEnd → State → Later A → Type 0
   EndsWell {A} (Wants a) υ R = IsAsked A a υ R
@@ -210,7 +209,7 @@ module _ (o : Opening) (es : List Entry) where
   }
 
   -- A change of the state that leaves actions and replies as they are.
-  pub change_asks : (P : Type 0) (f : State → State) → ((σ : State) → IsFilled o es σ.store → IsFilled o es (f σ).store)
+  pub change_asks : (P : Type 0) (f : State → State) → ((σ : State) → IsFilled o past σ.store → IsFilled o past (f σ).store)
       → ((σ : State) → (f σ).actions ≡ σ.actions) → ((σ : State) → (f σ).replies ≡ σ.replies)
       → ((σ : State) (x : Reply) (xs : List Reply) → f (plus σ x xs) ≡ plus (f σ) x xs)
       → Asks (Unit {0}) P Nothing (change f)
@@ -223,14 +222,14 @@ module _ (o : Opening) (es : List Entry) where
       tt,
       record {
         store = kept σ g.store;
-        replies = subst (λ l. AreKnown o es l) (sym (reps σ)) g.replies;
+        replies = subst (λ l. AreKnown o past l) (sym (reps σ)) g.replies;
       },
       λ x xs. ap (λ s. Val tt s) (comm σ x xs),
     );
   }
 
   pub store_asks : (P : Type 0) (at : Place) (f : Live → Result Live ℕ)
-      → (P → (s : Live) → IsFilled o es s → FilledIn o es (f s))
+      → (P → (s : Live) → IsFilled o past s → FilledIn o past (f s))
       → Asks (Unit {0}) P Nothing (λ σ. with_store at σ (f σ.store))
   store_asks P at f kept = record {
     grows = λ σ. grown_by σ (f σ.store);
@@ -241,7 +240,7 @@ module _ (o : Opening) (es : List Entry) where
       grown_by σ (Ok s) = (begins_itself σ.actions, refl)
       grown_by σ (Err code) = (begins_itself σ.actions, refl)
 
-      comes_by : (σ : State) → IsGood σ → (r : Result Live ℕ) → FilledIn o es r
+      comes_by : (σ : State) → IsGood σ → (r : Result Live ℕ) → FilledIn o past r
           → Comes Nothing (with_store at σ r) (λ x xs. with_store at (plus σ x xs) r)
       comes_by σ g (Ok s) h = (tt, record { store = h; replies = g.replies }, λ x xs. refl)
       comes_by σ g (Err code) h = tt
@@ -285,19 +284,19 @@ module _ (o : Opening) (es : List Entry) where
 
     -- What answers the action: a reply that gives what is known, and fits it.
     pub record IsAnswer (r : Reply) : Type 0 where
-      pub given : gives_known o es r ≡ true
+      pub given : gives_known o past r ≡ true
       pub fit : fits τ.threads τ.shapes kind a r ≡ true
 
     comes_by_fit : (b : Bool) (r : Reply) (rest : List Reply) (σ : State) → IsGood σ → σ.replies ≡ r ∷ rest
         → fits τ.threads τ.shapes kind a r ≡ b
         → Comes IsAnswer (answered b a r rest σ) (λ x xs. answered b a r (rest ++ x ∷ xs) (plus σ x xs))
     comes_by_fit true r rest σ g e f =
-        let k = subst (λ l. AreKnown o es l) e g.replies in
+        let k = subst (λ l. AreKnown o past l) e g.replies in
         (record { given = k.0; fit = f }, record { store = g.store; replies = k.1 }, λ x xs. refl)
     comes_by_fit false r rest σ g e f = tt
 
-    module _ (P : Type 0) (formed : P → IsWellFormed o es a)
-        (same : P → (x : Reply) → fits_after o es a x ≡ fits τ.threads τ.shapes kind a x) where
+    module _ (P : Type 0) (formed : P → IsWellFormed o past a)
+        (same : P → (x : Reply) → fits_after o past a x ≡ fits τ.threads τ.shapes kind a x) where
       comes_by_replies : P → (rs : List Reply) (σ : State) → IsGood σ → σ.replies ≡ rs
           → Comes IsAnswer (answered_from τ kind a rs σ) (λ x xs. answered_from τ kind a (rs ++ x ∷ xs) (plus σ x xs))
       comes_by_replies p [] σ g e = record {

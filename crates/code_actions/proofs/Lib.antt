@@ -1,6 +1,8 @@
+pub mod Given
 pub mod KnownValues
 pub mod ObjectNumbers
 pub mod SharedCells
+pub mod Histories
 pub mod Stores
 pub mod Doings
 pub mod Primitives

@@ -22,12 +22,9 @@ use Rattle.upc_values.specs.declared.scalar.Value.{Value}
 use Rattle.upc_values.specs.declared.scalar.Value.TheVariants as value
 use Rattle.upc_values.specs.declared.action.Reply.{Reply}
 use Rattle.upc_values.specs.declared.action.Reply.TheVariants as reply
-use Rattle.upc_values.specs.declared.journal.Entry.{Entry}
 use Rattle.upc_values.specs.Lists.{Each}
 use Rattle.upc_values.specs.Shapes.{kind_at, is_integer, fits_kind, fits_cell, value_fits}
 use Rattle.upc_values.specs.Openings.{Opening, IsOpening, cell_of, is_private}
-use Rattle.upc_values.specs.History.{objects, IsLegal}
-use Rattle.upc_values.specs.Formed.{is_known}
 use Rattle.upc_values.specs.Expansion.{Expansion, Gives, Fails, Reads, Asks as Acts, Loads, Stores, bind, nothing}
 use Rattle.upc_values.specs.Expansion.{unless_refused, each_in_turn, refused_by}
 use Rattle.upc_values.specs.Views.{placed_kind, cells_within, same_cells, location_behind}
@@ -36,7 +33,8 @@ use Rattle.upc_values.specs.Copying.{Area, Nowhere, In_shared, In_private, fille
 use Rattle.upc_values.specs.LibraryCalls.{area_of}
 use Rattle.upc_values.proofs.Membership.{each-weaker}
 use Rattle.thread_steps.specs.Values.{scalar_of}
-use Rattle.code_actions.specs.Asking.{names}
+use Rattle.code_actions.specs.Names.{objects_given}
+use Rattle.code_actions.proofs.Given.{names, is_known, FindsNamed}
 use Rattle.code_actions.proofs.KnownValues.{Known, pointer_names, scalar_known}
 use Rattle.code_actions.proofs.SharedCells.{kind_is, not_false, cell_behind, shared_kind}
 use Rattle.code_actions.proofs.Doings.{Nothing}
@@ -130,9 +128,9 @@ loaded_fits (value.Scalar x) k h e = h
 loaded_fits (value.Local q) (kind.Private n) h e = absurd (false≢true (sym e))
 loaded_fits (value.Local q) k h e = absurd (false≢true h)
 
-module _ (o : Opening) (es : List Entry) (v : IsOpening o) (legal : IsLegal o es) (me budget : ℕ) where
+module _ (o : Opening) (past : List Reply) (v : IsOpening o) (finds : FindsNamed o past) (me budget : ℕ) where
   abbrev Goes : {A : Type 0} → (A → Type 0) → Expansion A → Type 0
-  Goes V e = p.GoesWell o es v legal me budget V e
+  Goes V e = p.GoesWell o past v finds me budget V e
 
   -- ---- steps put together
 
@@ -176,24 +174,24 @@ module _ (o : Opening) (es : List Entry) (v : IsOpening o) (legal : IsLegal o es
 
   -- An area in a shared object begins in an object that is known.
   abbrev pub IsKnownArea : Area → Type 0
-  IsKnownArea (In_shared q) = names o es q.object q.thread q.offset ≡ true
+  IsKnownArea (In_shared q) = names o past q.object q.thread q.offset ≡ true
   IsKnownArea a = Unit {0}
 
-  pub area_known : (w : Value) → Known o es w → IsKnownArea (area_of w)
+  pub area_known : (w : Value) → Known o past w → IsKnownArea (area_of w)
   area_known (value.Scalar (scalar.Shared q)) h = by_null (is_null q) refl
     where
       by_null : (b : Bool) → is_null q ≡ b → IsKnownArea (cond b Nowhere (In_shared q))
       by_null true e = tt
-      by_null false e = pointer_names o es q h e
+      by_null false e = pointer_names o past q h e
   area_known (value.Scalar (scalar.Int n)) h = tt
   area_known (value.Scalar (scalar.Lock n)) h = tt
   area_known (value.Local local.Null) h = tt
   area_known (value.Local (local.Private object offset)) h = tt
   area_known (value.Local (local.Shared object thread offset)) h = h
 
-  -- A cell of an area is a cell of its shared object in the history.
+  -- A cell of an area is a cell of its shared object among those given.
   abbrev IsThere : Area → ℕ × Kind → Type 0
-  IsThere (In_shared q) c = cell_of o (objects o es) (location_behind q c.0) ≡ Some c.1
+  IsThere (In_shared q) c = cell_of o (objects_given o past) (location_behind q c.0) ≡ Some c.1
   IsThere a c = Unit {0}
 
   module _ (private : Option Shape) where
@@ -205,7 +203,7 @@ module _ (o : Opening) (es : List Entry) (v : IsOpening o) (legal : IsLegal o es
     cells_there n (In_shared q) h room =
         let s = m.shape_in o.threads o.shapes private (In_shared q) in
         each-weaker (IsCellIn s (unsigned_abs q.offset) n) (IsThere (In_shared q))
-        (λ c t. cell_behind o es v legal q n c.0 c.1 h room t.0 t.1) (cells n (In_shared q))
+        (λ c t. cell_behind o past v finds q n c.0 c.1 h room t.0 t.1) (cells n (In_shared q))
         (cells_are s (unsigned_abs q.offset) n)
     cells_there n Nowhere h room =
         each-weaker (IsCellIn None 0 n) (IsThere Nowhere) (λ c t. tt) (cells n Nowhere) (cells_are None 0 n)
@@ -213,13 +211,13 @@ module _ (o : Opening) (es : List Entry) (v : IsOpening o) (legal : IsLegal o es
         each-weaker (IsCellIn private (unsigned_abs offset) n) (IsThere (In_private object offset)) (λ c t. tt)
         (cells n (In_private object offset)) (cells_are private (unsigned_abs offset) n)
 
-    written_goes : (a : Area) (c : ℕ × Kind) (w : Scalar) → IsThere a c → is_known o es w ≡ true
+    written_goes : (a : Area) (c : ℕ × Kind) (w : Scalar) → IsThere a c → is_known o past w ≡ true
         → (is_private c.1 ≡ false → fits_kind w c.1 ≡ true)
         → Goes Nothing (m.written o.threads o.shapes private a c w)
     written_goes Nowhere c w t k f = tt
     written_goes (In_shared q) c w t k f = (
-      and_from (fits_cell w (cell_of o (objects o es) (location_behind q c.0))) (is_known o es w)
-          (subst (λ x. fits_cell w x ≡ true) (sym t) (f (shared_kind o es v legal (location_behind q c.0) c.1 t))) k,
+      and_from (fits_cell w (cell_of o (objects_given o past) (location_behind q c.0))) (is_known o past w)
+          (subst (λ x. fits_cell w x ≡ true) (sym t) (f (shared_kind o past v finds (location_behind q c.0) c.1 t))) k,
       λ r. refl,
       λ r e. unrefused r,
     )
@@ -230,7 +228,7 @@ module _ (o : Opening) (es : List Entry) (v : IsOpening o) (legal : IsLegal o es
     copied_goes dst Nowhere c t u = tt
     copied_goes dst (In_shared q) c t u = (u, λ w h. written_goes dst c w t h.known (λ e. h.fits))
     copied_goes dst (In_private object offset) c t u =
-        λ w h. written_goes dst c (scalar_of w) t (scalar_known o es w h.known) (λ e. loaded_fits w c.1 h.fits e)
+        λ w h. written_goes dst c (scalar_of w) t (scalar_known o past w h.known) (λ e. loaded_fits w c.1 h.fits e)
 
     -- So does the copy of the cells of two known areas that are the same.
     pub copy_cells_goes : (n : ℕ) (dst src : Area) → IsKnownArea dst → IsKnownArea src

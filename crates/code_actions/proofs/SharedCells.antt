@@ -1,4 +1,4 @@
--- The cell that a known pointer reaches is a cell of its object in the history.
+-- The cell that a known pointer reaches is a cell of its object among those given.
 use Rattle.std.proofs.Common.{◌≡◌, ℕ, zero, suc, ◌+◌, ◌%◌, ◌<◌, ◌≤◌, ◌==◌, nat_lt, Bool, true, false, not, ◌&&◌, ◌||◌}
 use Rattle.std.proofs.Common.{cond}
 use Rattle.std.proofs.Common.{List, [], ◌∷◌, Option, Some, None, slice_get, refl, sym, ap, subst, ◌∙◌, arith, int_le}
@@ -21,19 +21,17 @@ use Rattle.block_layout.specs.Places.{in_range}
 use Rattle.block_layout.specs.Pointers.{is_null, same_object, location}
 use Rattle.block_layout.specs.Shapes.{kind_size, same_kind, has_cell, CellsWithin, IsShape}
 use Rattle.upc_values.specs.declared.scalar.Scalar.{Scalar}
-use Rattle.upc_values.specs.declared.journal.Entry.{Entry}
+use Rattle.upc_values.specs.declared.action.Reply.{Reply}
 use Rattle.upc_values.specs.Lists.{Each, under}
 use Rattle.upc_values.specs.Shapes.{kind_at, cell_in, fits_kind, blank}
 use Rattle.upc_values.specs.Openings.{Opening, IsOpening, IsSharable, cell_of, is_private}
-use Rattle.upc_values.specs.History.{objects, IsLegal}
-use Rattle.upc_values.specs.Formed.{knows}
 use Rattle.upc_values.specs.Views.{leaves_piece, shape_at, location_behind}
 use Rattle.shared_pointers.specs.Access.{cell_at, in_piece, byte_of_element}
 use Rattle.thread_steps.specs.Accesses.{shape_or_byte, cell}
 use Rattle.thread_steps.specs.Values.{kept_scalar}
-use Rattle.code_actions.specs.Asking.{names}
+use Rattle.code_actions.specs.Names.{objects_given}
+use Rattle.code_actions.proofs.Given.{names, knows, FindsNamed}
 use Rattle.code_actions.proofs.KnownValues.{runner, pointer_names}
-use Rattle.code_actions.proofs.ObjectNumbers.{objects_numbered, object_found}
 
 -- ---- kinds
 
@@ -161,7 +159,7 @@ passed p s k threads l e =
     by_tests false x true y false z e = absurd cc
     by_tests false x true y true z e = record { some = x; piece = y; cell_there = z; is = cc }
 
-module _ (o : Opening) (es : List Entry) (v : IsOpening o) (legal : IsLegal o es) where
+module _ (o : Opening) (past : List Reply) (v : IsOpening o) (finds : FindsNamed o past) where
   reached_kind : (p : SharedPtr) (k : Kind) (l : Loc) (s : Option Shape) → slice_get o.shapes p.object.shape ≡ s
       → Passes p (shape_or_byte s) k o.threads l → cell_in o.threads o.shapes (Some p.object) (location p) ≡ Some k
   reached_kind p k l None q t = absurd (false≢true t.cell_there)
@@ -176,30 +174,30 @@ module _ (o : Opening) (es : List Entry) (v : IsOpening o) (legal : IsLegal o es
       ∙ cell_found s.cells 0 s.size (unsigned_abs p.offset % s.size) k shape.1
       (subst (λ n. has_cell s.cells n k ≡ true) byte t.cell_there)
 
-  -- The cell of a kind that a known pointer reaches is a cell of that kind in the history.
-  pub reached_cell : (number budget : ℕ) (p : SharedPtr) (k : Kind) (l : Loc) → knows o es p ≡ true
-      → cell (runner o number budget) k p ≡ Ok l → cell_of o (objects o es) l ≡ Some k
+  -- The cell of a kind that a known pointer reaches is a cell of that kind among the given objects.
+  pub reached_cell : (number budget : ℕ) (p : SharedPtr) (k : Kind) (l : Loc) → knows o past p ≡ true
+      → cell (runner o number budget) k p ≡ Ok l → cell_of o (objects_given o past) l ≡ Some k
   reached_cell number budget p k l h e =
       let s = slice_get o.shapes p.object.shape in
       let t = passed p (shape_or_byte s) k o.threads l e in
-      let named = pointer_names o es p h t.some in
+      let named = pointer_names o past p h t.some in
       let has =
-      (and_parts (list_any (same_object p.object) (objects o es))
+      (and_parts (list_any (same_object p.object) (objects_given o past))
       (nat_lt p.thread o.threads && in_range p.offset) named).0 in
-      let found = object_found 0 (objects o es) p.object (objects_numbered o es v legal) has in
-      subst (λ x. cell_of o (objects o es) x ≡ Some k) t.is
+      let found = finds p.object has in
+      subst (λ x. cell_of o (objects_given o past) x ≡ Some k) t.is
       (ap (λ x. cell_in o.threads o.shapes x (location p)) found ∙ reached_kind p k l s refl t)
 
   -- So is the cell of a kind that begins among the bytes behind a pointer.
-  pub cell_behind : (p : SharedPtr) (n i : ℕ) (k : Kind) → names o es p.object p.thread p.offset ≡ true
+  pub cell_behind : (p : SharedPtr) (n i : ℕ) (k : Kind) → names o past p.object p.thread p.offset ≡ true
       → leaves_piece o.threads n p ≡ false → i < n → kind_at (shape_at o.shapes p) (unsigned_abs p.offset + i) ≡ Some k
-      → cell_of o (objects o es) (location_behind p i) ≡ Some k
+      → cell_of o (objects_given o past) (location_behind p i) ≡ Some k
   cell_behind p n i k named room lt e =
       let piece = piece_of p.object p.thread o.threads in
       let has =
-      (and_parts (list_any (same_object p.object) (objects o es))
+      (and_parts (list_any (same_object p.object) (objects_given o past))
       (nat_lt p.thread o.threads && in_range p.offset) named).0 in
-      let found = object_found 0 (objects o es) p.object (objects_numbered o es v legal) has in
+      let found = finds p.object has in
       ap (λ x. cell_in o.threads o.shapes x (location_behind p i)) found
       ∙ cond-true (nat_lt (unsigned_abs p.offset + i) piece)
       (kind_at (slice_get o.shapes p.object.shape) (unsigned_abs p.offset + i)) None
@@ -249,11 +247,11 @@ module _ (o : Opening) (es : List Entry) (v : IsOpening o) (legal : IsLegal o es
   blank_fits (kind.Private n) h = absurd cc
 
   -- No cell of a shared object holds a pointer to a private one.
-  pub shared_kind : (l : Loc) (k : Kind) → cell_of o (objects o es) l ≡ Some k → is_private k ≡ false
-  shared_kind l k e = cell_sharable (find (λ x. x.number == l.object) (objects o es)) l k e
+  pub shared_kind : (l : Loc) (k : Kind) → cell_of o (objects_given o past) l ≡ Some k → is_private k ≡ false
+  shared_kind l k e = cell_sharable (find (λ x. x.number == l.object) (objects_given o past)) l k e
 
   -- What a cell of a shared object keeps of a value fits it.
-  pub kept_fits : (l : Loc) (k : Kind) (w : Scalar) → cell_of o (objects o es) l ≡ Some k
+  pub kept_fits : (l : Loc) (k : Kind) (w : Scalar) → cell_of o (objects_given o past) l ≡ Some k
       → fits_kind (kept_scalar k w) k ≡ true
   kept_fits l k w e = by_fit (fits_kind w k) refl
     where

@@ -11,7 +11,7 @@ use Rattle.block_layout.specs.declared.place.LocalPtr.{LocalPtr}
 use Rattle.block_layout.specs.declared.place.LocalPtr.TheVariants as local
 use Rattle.block_layout.specs.Shapes.{kind_size, same_kind}
 use Rattle.upc_values.specs.declared.scalar.Value.{Value}
-use Rattle.upc_values.specs.declared.journal.Entry.{Entry}
+use Rattle.upc_values.specs.declared.action.Reply.{Reply}
 use Rattle.upc_values.specs.Lists.{Each}
 use Rattle.upc_values.specs.Shapes.{value_fits, blank_value}
 use Rattle.upc_values.specs.Openings.{Opening}
@@ -27,7 +27,7 @@ use Rattle.private_store.specs.Cells.{changed}
 use Rattle.private_store.specs.Cells.{put_in, stored}
 use Rattle.private_store.specs.Beginnings.{fits_cell, private_cell, if_stored, begun_cell, blank, begun}
 use Rattle.code_actions.specs.Asking.{IsKnownValue}
-use Rattle.code_actions.proofs.KnownValues.{Known, blank_value_known, kept_known, value_stays}
+use Rattle.code_actions.proofs.KnownValues.{Known, blank_value_known, kept_known, first_value}
 use Rattle.code_actions.proofs.SharedCells.{kind_is}
 
 -- ---- what fits
@@ -74,10 +74,10 @@ place_kind cells byte k i e =
           (and_parts ((get_or cells i d).0 == byte) (same_kind (get_or cells i d).1 k) q).1;
     }
 
-module _ (o : Opening) (es : List Entry) where
+module _ (o : Opening) (past : List Reply) where
   -- What a cell of a kind holds is known, and fits it.
   pub record IsCellValue (k : Kind) (v : Value) : Type 0 where
-    pub known : Known o es v
+    pub known : Known o past v
     pub fits : value_fits v k ≡ true
 
   abbrev AreCellValues : List (ℕ × Kind) → List Value → Type 0
@@ -97,10 +97,10 @@ module _ (o : Opening) (es : List Entry) where
   FilledIn (Err code) = Unit {0}
 
   pub blank_is : (k : Kind) → IsCellValue k (blank_value k)
-  blank_is k = record { known = blank_value_known o es k; fits = blank_fits k }
+  blank_is k = record { known = blank_value_known o past k; fits = blank_fits k }
 
-  pub kept_is : (k : Kind) (v : Value) → Known o es v → IsCellValue k (kept k v)
-  kept_is k v h = record { known = kept_known o es k v h; fits = kept_fits k v }
+  pub kept_is : (k : Kind) (v : Value) → Known o past v → IsCellValue k (kept k v)
+  kept_is k v h = record { known = kept_known o past k v h; fits = kept_fits k v }
 
   -- ---- values in lists
 
@@ -236,7 +236,7 @@ module _ (o : Opening) (es : List Entry) where
   kept_or (Ok t) s f h = f
   kept_or (Err code) s f h = h
 
-  begun_by : (k : Option Kind) (x : LocalPtr × Value) (s : Live) → Known o es x.1 → fits_cell x.1 k ≡ true → IsFilled s
+  begun_by : (k : Option Kind) (x : LocalPtr × Value) (s : Live) → Known o past x.1 → fits_cell x.1 k ≡ true → IsFilled s
       → IsFilled (begun_cell k x s)
   begun_by (Some k) x s g f h =
       kept_or (stored x.0 k x.1 s) s (stored_filled x.0 k x.1 s (record { known = g; fits = f }) h) h
@@ -249,7 +249,7 @@ module _ (o : Opening) (es : List Entry) where
   all_begun shapes [] s g f h = h
   all_begun shapes (x ∷ initials) s g f h =
       all_begun shapes initials (begun_cell (private_cell shapes x.0) x s) g.1 f.1
-      (begun_by (private_cell shapes x.0) x s (value_stays o [] es x.1 g.0) f.0 h)
+      (begun_by (private_cell shapes x.0) x s (first_value o past x.1 g.0) f.0 h)
 
   -- What a thread begins with is known, and fits.
   pub begun_filled : (shapes : List Shape) (initials : List (LocalPtr × Value))

@@ -25,6 +25,7 @@ use Rattle.stack_code.specs.declared.instruction.Instr.{Instr}
 use Rattle.stack_code.specs.Codes.{Codes}
 use Rattle.stack_code.specs.Kept.{IsCode}
 use Rattle.stack_code.specs.Outcomes.{CodeMeans}
+use Rattle.code_actions.specs.Names.{NamesGiven}
 
 -- ---- values
 
@@ -90,3 +91,7 @@ pub record AsksWell (o : Opening) (f : List Reply → Outcome) : Type 0 where
   pub formed :
       (rs : List Reply) (before : List Entry) (a : Action) → (f rs).«end» ≡ Wants a
       → HasGiven o before rs → IsWellFormed o before a
+  -- It names nothing but what the opening declares or one of these replies gave.
+  pub names :
+      (rs : List Reply) (before : List Entry) (a : Action) → (f rs).«end» ≡ Wants a
+      → HasGiven o before rs → NamesGiven o rs a

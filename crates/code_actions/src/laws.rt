@@ -10,7 +10,8 @@ ghost use Rattle.code_actions.specs.Asking.{IsThreadOf, AsksWell};
 ghost use Rattle.code_actions.specs.Turns.{TakesTurns};
 
 /// Whatever a thread of code wants may be asked for after each history that may have given its replies, and with a
-/// reply that fits it is one more of the actions that the thread did.
+/// reply that fits it is one more of the actions that the thread did. It names nothing but what the opening declares or
+/// one of these replies gave.
 pub fn code_asks_well()
     ensures { (o : Opening) (codes : Codes) (thread budget : ℕ) (f : List Reply → Outcome)
         → IsThreadOf o codes thread budget f → AsksWell o f }

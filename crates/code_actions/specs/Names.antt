@@ -1,0 +1,56 @@
+-- Which objects and locks a thread was given the names of, and what its actions name.
+use Rattle.std.specs.Prelude.{ℕ, ◌≡◌, ◌==◌, Bool, true, ◌||◌, cond, List, ◌++◌, Option, Some, None}
+use Rattle.std.specs.List.{list_any, filter_map}
+use Rattle.block_layout.specs.declared.place.ObjectRef.{ObjectRef}
+use Rattle.block_layout.specs.Pointers.{is_null, same_object}
+use Rattle.upc_values.specs.declared.scalar.Scalar.{Scalar}
+use Rattle.upc_values.specs.declared.scalar.Scalar.TheVariants as scalar
+use Rattle.upc_values.specs.declared.action.Action.{Action}
+use Rattle.upc_values.specs.declared.action.Action.TheVariants.{Read, Write, Lock, Attempt, Unlock, LockFree, Free}
+use Rattle.upc_values.specs.declared.action.Action.TheVariants.{Meet}
+use Rattle.upc_values.specs.declared.action.Reply.{Reply}
+use Rattle.upc_values.specs.declared.action.Reply.TheVariants.{Value}
+use Rattle.upc_values.specs.Lists.{Each}
+use Rattle.upc_values.specs.Openings.{Opening}
+use Rattle.upc_values.specs.History.{pointer_of}
+
+-- The object that a reply names, by a pointer that is not null.
+abbrev pub object_in : Reply → Option ObjectRef
+object_in r = elim (pointer_of r) [ Some p ↦ Some p.object | None ↦ None ]
+
+-- The lock that a reply gives, if it is not null.
+abbrev pub lock_in : Reply → Option ℕ
+lock_in (Value (scalar.Lock l)) = cond (l == 0) None (Some l)
+lock_in r = None
+
+-- The objects that a thread may name: those that the opening declares, and those that replies named.
+abbrev pub objects_given : Opening → List Reply → List ObjectRef
+objects_given o replies = o.declared ++ filter_map object_in replies
+
+-- One of them has this number.
+abbrev pub is_object_given : Opening → List Reply → ℕ → Bool
+is_object_given o replies n = list_any (λ x. x.number == n) (objects_given o replies)
+
+-- A reply gave this lock.
+abbrev pub is_lock_given : List Reply → ℕ → Bool
+is_lock_given replies l = list_any (λ k. k == l) (filter_map lock_in replies)
+
+-- A number; a pointer that is null or leads into an object that was given, which it names in every field; a lock that
+-- is null or was given.
+abbrev pub is_given : Opening → List Reply → Scalar → Bool
+is_given o replies (scalar.Int v) = true
+is_given o replies (scalar.Shared p) = is_null p || list_any (same_object p.object) (objects_given o replies)
+is_given o replies (scalar.Lock l) = (l == 0) || is_lock_given replies l
+
+-- What an action names was given: the object of its location, each pointer and each lock in its value or arguments, and
+-- the lock that it works on, which is not null.
+abbrev pub NamesGiven : Opening → List Reply → Action → Type 0
+NamesGiven o replies (Read l s) = is_object_given o replies l.object ≡ true
+NamesGiven o replies (Write l v s) = (is_object_given o replies l.object ≡ true) × (is_given o replies v ≡ true)
+NamesGiven o replies (Lock l) = is_lock_given replies l ≡ true
+NamesGiven o replies (Attempt l) = is_lock_given replies l ≡ true
+NamesGiven o replies (Unlock l) = is_lock_given replies l ≡ true
+NamesGiven o replies (LockFree l) = is_lock_given replies l ≡ true
+NamesGiven o replies (Free p) = is_given o replies (scalar.Shared p) ≡ true
+NamesGiven o replies (Meet c args) = Each (λ v. is_given o replies v ≡ true) args
+NamesGiven o replies a = Unit {0}
