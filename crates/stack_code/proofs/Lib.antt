@@ -1,6 +1,7 @@
 pub mod Ends
 pub mod Meetings
 pub mod Deepenings
-mod Places
+pub mod Places
 mod Parts
+mod Preparing
 mod Samples

@@ -1,4 +1,5 @@
 pub mod Codes
+pub mod Shorts
 pub mod Steps
 pub mod Outcomes
 pub mod Meets

@@ -17,3 +17,5 @@ pub mod Parameters
 pub mod Machines
 pub mod Putting
 pub mod SmallWork
+pub mod Going
+pub mod Forming

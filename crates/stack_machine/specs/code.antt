@@ -11,3 +11,4 @@ pub mod Runs
 pub mod Machines
 pub mod Receiving
 pub mod Quick
+pub mod Shorts

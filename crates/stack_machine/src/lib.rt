@@ -16,6 +16,7 @@ mod quick;
 mod quick_objects;
 mod receiving;
 mod runner;
+mod shorts;
 mod stack_work;
 mod stacks;
 mod steps;

@@ -1,11 +1,11 @@
 //! The machine that runs code reply by reply.
 
-ghost use Rattle.std.specs.Prelude.{◌≡◌, ◌<◌, ◌≤◌, ◌++◌, [], ℕ, List, IfOk};
+ghost use Rattle.std.specs.Prelude.{◌≡◌, ◌<◌, ◌≤◌, ◌++◌, [], ℕ, List, IfOk, OnErr, IsErr};
 ghost use Rattle.stack_code.specs.Codes.{Codes};
 ghost use Rattle.upc_values.specs.declared.action.Reply.{Reply};
 ghost use Rattle.upc_values.specs.Outcomes.{Outcome};
 ghost use Rattle.stack_code.specs.Outcomes.{CodeMeans};
-ghost use Rattle.stack_machine.specs.Machine.{listed, told_by, told_of, Answered, HasHeard, HasAsked};
+ghost use Rattle.stack_machine.specs.Machine.{listed, told_by, told_of, Answered, HasHeard, HasAsked, HasFailed};
 
 use crate::calls::Task;
 use crate::progress::Progress;
@@ -101,7 +101,7 @@ impl Machine {
     }
 
     /// Goes on to the next action, or to the end. A reply answers the action that was asked for last; without one, the
-    /// same is asked for again. After want of memory the machine is of no more use, and answers it again.
+    /// same is asked for again. After want of memory the machine has failed, and answers it again, whatever it is given.
     pub fn resume(&mut self, code: &Code, reply: Option<Reply>) -> Result<Wish, OutOfMemory>
         ensures told { IfOk result (λ w. (thread budget : ℕ) (f : List Reply → Outcome) (given : List Reply)
             → ((replies : List Reply) → CodeMeans code.now thread budget replies (f replies))
@@ -111,11 +111,15 @@ impl Machine {
             → ((replies : List Reply) → CodeMeans code.now thread budget replies (f replies))
             → HasHeard code.now thread budget given self.old → Answered f given reply
             → HasHeard code.now thread budget (given ++ listed reply) self.new × HasAsked self.new) }
+        ensures asked { IfOk result (λ _. HasAsked self.new) }
+        ensures failed { OnErr result (HasFailed self.new) }
+        ensures fails { HasFailed self.old → IsErr result }
     {
         match self.phase {
             Phase::Failed => Err(OutOfMemory),
             Phase::Over(stop) => {
                 if reply.is_some() {
+                    self.phase = Phase::Failed;
                     return Err(OutOfMemory);
                 }
                 Ok(wish_of(stop))

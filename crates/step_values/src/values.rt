@@ -36,6 +36,7 @@ pub fn truth_value(holds: bool) -> Value
 }
 
 /// Whether a value compares equal to 0: the integer 0, or a null pointer (C99 6.5.3.3, 6.8.4.1).
+#[inline(always)]
 pub fn is_zero(v: &Value) -> bool
     ensures { result ≡ pure.is_zero v.now }
 {
