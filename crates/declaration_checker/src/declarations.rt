@@ -256,7 +256,7 @@ fn walk_prototype(
         (view_parameters parameters.now)) (trees.view_initial initial.now)) (state_of tags.old
         known.old)) (state_of tags.new known.new) result }
 {
-    let t = copy_shaped(setting.alloc, t)?;
+    let t = copy_shaped(t)?;
     let p = walk_pointers(pointers, false, t, setting, env, tags, known)?;
     let parameters = prototype_types(parameters, setting, env, tags, known)?;
     let signature = Signature {
@@ -335,14 +335,14 @@ fn walk_object(
         name (dimensions_of (map view_dimension sizes.now))) (trees.view_initial initial.now))
         (state_of tags.old known.old)) (state_of tags.new known.new) result }
 {
-    let t = copy_shaped(setting.alloc, t)?;
+    let t = copy_shaped(t)?;
     let p = walk_pointers(pointers, has_sizes(sizes), t, setting, env, tags, known)?;
     let sizes = walk_sizes(sizes, setting, env, tags, known)?;
     let f = formed(setting.alloc, setting.threads, p, sizes)?;
     let at = pointers_place(pointers, name);
     judge_object(name, &f, at, setting, env, known)?;
     let home = next_home(&f.ctype, env)?;
-    let copy = copy_type(setting.alloc, &f.ctype)?;
+    let copy = copy_type(&f.ctype)?;
     declare(env, name.number, copy)?;
     let initial = walk_initial(initial, at, true, &f.ctype, setting, env, tags, known)?;
     let text = Text::from_slice(setting.alloc, spelling(setting, name.number))?;

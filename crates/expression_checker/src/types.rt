@@ -18,7 +18,9 @@ ghost use Rattle.type_specifiers.specs.ViewShapes.{view_specified, view_specifie
 
 use crate::expressions::{constantly, walk};
 use rule_checks::declarations::{block, member, member_function, parameter, specifies, star_block};
-use type_specifiers::members::{add_member, add_parameter, has_member};
+use type_specifiers::members::{
+    Members, add_member, add_parameter, all_members, has_member, no_members,
+};
 use type_specifiers::shaped::{
     Shaped, copy_shaped, formed, named_type, parameter_array, pointer_to, specified_type,
 };
@@ -288,7 +290,7 @@ fn walk_members(
         setting.entry) (view_env env.now) [] (members_of (map view_member lines.now)) (state_of
         tags.old known.old)) (state_of tags.new known.new) result }
 {
-    let mut members = Vec::new(setting.alloc);
+    let mut members = no_members(setting.alloc);
     for line in lines {
         let specs = line.specs.as_slice();
         let at = specs_place(specs);
@@ -300,7 +302,7 @@ fn walk_members(
         judged(specifies(specifiers_form(false, &found)), at)?;
         note_end(known, at);
     }
-    Ok(members)
+    Ok(all_members(members))
 }
 
 // Further members of a line.
@@ -308,15 +310,15 @@ fn walk_members(
 fn walk_next_members(
     more: &[NextDeclarator],
     t: &Shaped,
-    members: &mut Vec<Member>,
+    members: &mut Members,
     setting: Setting<'_>,
     env: &Env<'_>,
     tags: &mut Tags<'_>,
     known: &mut Known,
 ) -> Result<(), Stop>
-    ensures { Meets (λ u. map types.view_member members.new.items) (pure.walk_next_members
+    ensures { Meets (λ u. map types.view_member members.new.all.items) (pure.walk_next_members
         (view_setting setting.entry) (view_env env.now) (view_shaped t.now) (map types.view_member
-        members.old.items) (next_declarators_of (map view_next_declarator more.now)) (state_of
+        members.old.all.items) (next_declarators_of (map view_next_declarator more.now)) (state_of
         tags.old known.old)) (state_of tags.new known.new) result }
 {
     for part in more {
@@ -330,18 +332,18 @@ fn walk_next_members(
 fn walk_member(
     declarator: &Declarator,
     t: &Shaped,
-    members: &mut Vec<Member>,
+    members: &mut Members,
     setting: Setting<'_>,
     env: &Env<'_>,
     tags: &mut Tags<'_>,
     known: &mut Known,
 ) -> Result<(), Stop>
-    ensures { Meets (λ u. map types.view_member members.new.items) (pure.walk_member (view_setting
+    ensures { Meets (λ u. map types.view_member members.new.all.items) (pure.walk_member (view_setting
         setting.entry) (view_env env.now) (view_shaped t.now) (map types.view_member
-        members.old.items) (view_declarator declarator.now) (state_of tags.old known.old)) (state_of
+        members.old.all.items) (view_declarator declarator.now) (state_of tags.old known.old)) (state_of
         tags.new known.new) result }
 {
-    let t = copy_shaped(setting.alloc, t)?;
+    let t = copy_shaped(t)?;
     let at = declarator_place(declarator);
     match declarator {
         Declarator::Object {
@@ -353,7 +355,7 @@ fn walk_member(
             let sizes = walk_sizes(sizes.as_slice(), setting, env, tags, known)?;
             let t = formed(setting.alloc, setting.threads, t, sizes)?;
             let text = spelling(setting, name.number);
-            let again = has_member(members.as_slice(), text);
+            let again = has_member(members, text);
             judged(member(&known.structs, again, &t), at)?;
             Ok(add_member(setting.alloc, members, text, t.ctype)?)
         }
@@ -451,7 +453,7 @@ fn walk_parameter(
     let t = walk_array(&x.array, t, setting, scope, tags, known)?;
     let again = is_again(setting, scope, x.name);
     judged(parameter(&known.structs, again, &t), at)?;
-    Ok(add_parameter(setting.alloc, all, scope, x.name, &t.ctype)?)
+    Ok(add_parameter(all, scope, x.name, &t.ctype)?)
 }
 
 // The brackets of a parameter.

@@ -32,17 +32,12 @@ use walk_state::known::Known;
 use walk_state::setting::Setting;
 
 /// A name that stands for this and is used so.
-pub(crate) fn judge_name(
-    alloc: Global,
-    how: Use<'_>,
-    means: Meaning<'_>,
-    at: Place,
-) -> Result<Attr, Stop>
+pub(crate) fn judge_name(how: Use<'_>, means: Meaning<'_>, at: Place) -> Result<Attr, Stop>
     ensures { (φ : Facts) → Judges φ at (n.Name (view_use how.entry) (view_meaning means.entry))
         result }
 {
     judged(rules::name(how, means), at)?;
-    let attr = attributes::name(alloc, means)?;
+    let attr = attributes::name(means)?;
     Ok(attr)
 }
 
@@ -136,13 +131,13 @@ pub(crate) fn judge_size_of_type(
 }
 
 /// A comma expression, which is what its last part is.
-pub(crate) fn judge_comma(alloc: Global, first: &Expr, more: &[Expr]) -> Result<Attr, Stop>
+pub(crate) fn judge_comma(first: &Expr, more: &[Expr]) -> Result<Attr, Stop>
     ensures { (φ : Facts) → Judges φ first.now.place (n.Comma (walks.last_of (view_expr first.now)
         (exprs_of (map view_expr more.now)))) result }
 {
     let last = last_of(first, more);
     judged(rules::comma(last), first.place)?;
-    let attr = attributes::value_of(alloc, last)?;
+    let attr = attributes::value_of(last)?;
     Ok(attr)
 }
 
@@ -161,13 +156,7 @@ pub(crate) fn judge_subscript(
         rules::subscript(&known.structs, how, &a.attr, &i.attr),
         a.place,
     )?;
-    let attr = elements::subscript(
-        setting.alloc,
-        &known.structs,
-        setting.threads,
-        &a.attr,
-        &i.attr,
-    )?;
+    let attr = elements::subscript(&known.structs, setting.threads, &a.attr, &i.attr)?;
     Ok(attr)
 }
 
@@ -181,7 +170,7 @@ pub(crate) fn judge_step(
     ensures { Judges (facts_of setting.entry known.now) at (n.Step (view_attr a.now.attr)) result }
 {
     judged(rules::step(&known.structs, &a.attr), at)?;
-    let attr = attributes::value_of(setting.alloc, &a.attr)?;
+    let attr = attributes::value_of(&a.attr)?;
     Ok(attr)
 }
 
@@ -195,11 +184,11 @@ pub(crate) fn judge_address(alloc: Global, at: Place, a: &Expr) -> Result<Attr, 
 }
 
 /// `*a`.
-pub(crate) fn judge_dereference(alloc: Global, at: Place, a: &Expr) -> Result<Attr, Stop>
+pub(crate) fn judge_dereference(at: Place, a: &Expr) -> Result<Attr, Stop>
     ensures { (φ : Facts) → Judges φ at (n.Dereference (view_attr a.now.attr)) result }
 {
     judged(rules::dereference(&a.attr), at)?;
-    let attr = attributes::dereference(alloc, &a.attr)?;
+    let attr = attributes::dereference(&a.attr)?;
     Ok(attr)
 }
 
@@ -213,11 +202,11 @@ pub(crate) fn judge_operator(op: UnOp, at: Place, a: &Expr) -> Result<Attr, Stop
 }
 
 /// A cast to this type.
-pub(crate) fn judge_cast(alloc: Global, at: Place, t: &Formed, a: &Expr) -> Result<Attr, Stop>
+pub(crate) fn judge_cast(at: Place, t: &Formed, a: &Expr) -> Result<Attr, Stop>
     ensures { (φ : Facts) → Judges φ at (n.Cast (view_formed t.now) (view_attr a.now.attr)) result }
 {
     judged(rules::cast(t, &a.attr), at)?;
-    let attr = attributes::cast(alloc, &t.ctype, &a.attr)?;
+    let attr = attributes::cast(&t.ctype, &a.attr)?;
     Ok(attr)
 }
 
@@ -265,12 +254,12 @@ pub(crate) fn judge_or(a: &Expr, b: &Expr) -> Result<Attr, Stop>
 }
 
 /// `a = b`.
-pub(crate) fn judge_plain_assign(alloc: Global, a: &Expr, b: &Expr) -> Result<Attr, Stop>
+pub(crate) fn judge_plain_assign(a: &Expr, b: &Expr) -> Result<Attr, Stop>
     ensures { (φ : Facts) → Judges φ a.now.place (n.Assign (view_attr a.now.attr) (view_attr
         b.now.attr)) result }
 {
     judged(rules::assign(&a.attr, &b.attr), a.place)?;
-    let attr = attributes::value_of(alloc, &a.attr)?;
+    let attr = attributes::value_of(&a.attr)?;
     Ok(attr)
 }
 
@@ -289,21 +278,16 @@ pub(crate) fn judge_compound(
         rules::compound(&known.structs, op, &a.attr, &b.attr),
         a.place,
     )?;
-    let attr = attributes::value_of(setting.alloc, &a.attr)?;
+    let attr = attributes::value_of(&a.attr)?;
     Ok(attr)
 }
 
 /// A choice.
-pub(crate) fn judge_conditional(
-    alloc: Global,
-    test: &Expr,
-    a: &Expr,
-    b: &Expr,
-) -> Result<Attr, Stop>
+pub(crate) fn judge_conditional(test: &Expr, a: &Expr, b: &Expr) -> Result<Attr, Stop>
     ensures { (φ : Facts) → Judges φ test.now.place (n.Conditional (view_attr test.now.attr)
         (view_attr a.now.attr) (view_attr b.now.attr)) result }
 {
     judged(rules::conditional(&test.attr, &a.attr, &b.attr), test.place)?;
-    let attr = attributes::conditional(alloc, &test.attr, &a.attr, &b.attr)?;
+    let attr = attributes::conditional(&test.attr, &a.attr, &b.attr)?;
     Ok(attr)
 }

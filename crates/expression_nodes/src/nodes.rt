@@ -61,7 +61,7 @@ pub fn paren(alloc: Global, at: Place, inner: Box<Expr>) -> Result<Box<Expr>, Ou
     ensures { IfOk result (λ e. view_expr e.value ≡ k.Is at (view_attr inner.value.attr) (k.Paren
         (view_expr inner.value))) }
 {
-    let attr = attributes::copy(alloc, &inner.attr)?;
+    let attr = attributes::copy(&inner.attr)?;
     Ok(build::paren(alloc, at, attr, inner)?)
 }
 
@@ -104,7 +104,7 @@ pub fn finish_name(
 {
     let at = name.span.place;
     let means = meaning(setting, env, name.number);
-    let attr = judge_name(setting.alloc, how, means, at)?;
+    let attr = judge_name(how, means, at)?;
     Ok(named(setting, means, name.number, at, attr)?)
 }
 
@@ -317,7 +317,7 @@ fn finish_dereference(alloc: Global, at: Place, a: Box<Expr>) -> Result<Box<Expr
     ensures { (φ : Facts) → Finishes φ at (n.Dereference (view_attr a.value.attr)) (k.Dereference
         (view_expr a.value)) result }
 {
-    let attr = judge_dereference(alloc, at, &a)?;
+    let attr = judge_dereference(at, &a)?;
     Ok(build::dereference(alloc, at, attr, a)?)
 }
 
@@ -399,7 +399,7 @@ pub fn finish_cast(alloc: Global, at: Place, t: &Formed, a: Box<Expr>) -> Result
     ensures { (φ : Facts) → Finishes φ at (n.Cast (view_formed t.now) (view_attr a.value.attr))
         (k.Cast (view_expr a.value)) result }
 {
-    let attr = judge_cast(alloc, at, t, &a)?;
+    let attr = judge_cast(at, t, &a)?;
     Ok(build::cast(alloc, at, attr, a)?)
 }
 
@@ -482,7 +482,7 @@ fn finish_plain_assign(alloc: Global, a: Box<Expr>, b: Box<Expr>) -> Result<Box<
         b.value.attr)) (k.Assign (view_expr a.value) (view_expr b.value)) result }
 {
     let at = a.place;
-    let attr = judge_plain_assign(alloc, &a, &b)?;
+    let attr = judge_plain_assign(&a, &b)?;
     Ok(build::assign(alloc, at, attr, a, b)?)
 }
 
@@ -542,7 +542,7 @@ pub fn finish_conditional(
         (view_expr a.value) (view_expr b.value)) result }
 {
     let at = test.place;
-    let attr = judge_conditional(alloc, &test, &a, &b)?;
+    let attr = judge_conditional(&test, &a, &b)?;
     Ok(build::conditional(alloc, at, attr, test, a, b)?)
 }
 
@@ -553,7 +553,7 @@ pub fn finish_comma(alloc: Global, first: Box<Expr>, more: Vec<Expr>) -> Result<
         first.value) (exprs_of (map view_expr more.items)))) result }
 {
     let at = first.place;
-    let attr = judge_comma(alloc, &first, more.as_slice())?;
+    let attr = judge_comma(&first, more.as_slice())?;
     let parts = joined(first, more)?;
     Ok(build::comma(alloc, at, attr, parts)?)
 }

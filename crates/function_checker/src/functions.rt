@@ -210,7 +210,7 @@ fn walk_defined(
         function.now.name (view_signature signature) (view_earlier was) (trees.view_compound function.now.body.value)
         (view_env scope.old) (state_of tags.now known.old)) (state_of tags.now known.new) result }
 {
-    let gives = value_type(setting.alloc, &signature.result)?;
+    let gives = value_type(&signature.result)?;
     let around = Around {
         result: &gives,
         breaks: Enclosing::Nothing,

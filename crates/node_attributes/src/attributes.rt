@@ -26,6 +26,7 @@ use rule_checks::constants::{
 };
 use rule_checks::declarations::{address_in, constant_of};
 use std::alloc::Global;
+use std::rc::Rc;
 use typing_rules::names::constant_value;
 use typing_rules::types::{base_kind, kind_of, target_of};
 use typing_rules::{Attr, Constant, Element, Form, Home, Meaning, Static, Use};
@@ -65,43 +66,40 @@ pub(crate) fn constant(kind: Kind, c: Constant) -> Attr
     }
 }
 
-fn value_base(alloc: Global, base: &Base) -> Result<Base, OutOfMemory>
+fn value_base(base: &Base) -> Result<Base, OutOfMemory>
     ensures { IfOk result (λ b. view_base b ≡ values.value_base (view_base base.now)) }
 {
     match base {
-        Base::Array(element, _) => {
-            let element = copy_type(alloc, element)?;
-            Ok(Base::Pointer(Box::new(alloc, element)?))
-        }
-        other => copy_base(alloc, other),
+        Base::Array(element, _) => Ok(Base::Pointer(element.clone()?)),
+        other => copy_base(other),
     }
 }
 
 /// The type of a value of this type: an array is a pointer to its first element; no qualifiers.
-pub fn value_type(alloc: Global, t: &CType) -> Result<CType, OutOfMemory>
+pub fn value_type(t: &CType) -> Result<CType, OutOfMemory>
     ensures { IfOk result (λ v. view v ≡ values.value_type (view t.now)) }
 {
-    Ok(plainly(value_base(alloc, &t.base)?))
+    Ok(plainly(value_base(&t.base)?))
 }
 
 /// The same once more.
-pub fn copy(alloc: Global, a: &Attr) -> Result<Attr, OutOfMemory>
+pub fn copy(a: &Attr) -> Result<Attr, OutOfMemory>
     ensures { IfOk result (λ x. view_attr x ≡ view_attr a.now) }
 {
     Ok(Attr {
-        ctype: copy_type(alloc, &a.ctype)?,
+        ctype: copy_type(&a.ctype)?,
         form: a.form,
         constant: a.constant,
     })
 }
 
 /// `++`, `--`, an assignment or a comma expression, from the operand whose type it has.
-pub fn value_of(alloc: Global, a: &Attr) -> Result<Attr, OutOfMemory>
+pub fn value_of(a: &Attr) -> Result<Attr, OutOfMemory>
     ensures step { IfOk result (λ x. (φ : Facts) → view_attr x ≡ attr φ (n.Step (view_attr a.now))) }
     ensures assign { IfOk result (λ x. (φ : Facts) (b : n.Attr) → view_attr x ≡ attr φ (n.Assign (view_attr a.now) b)) }
     ensures comma { IfOk result (λ x. (φ : Facts) → view_attr x ≡ attr φ (n.Comma (view_attr a.now))) }
 {
-    Ok(value(value_type(alloc, &a.ctype)?))
+    Ok(value(value_type(&a.ctype)?))
 }
 
 /// A number of this kind.
@@ -196,25 +194,21 @@ pub fn or(a: &Attr, b: &Attr) -> Attr
 pub fn address(alloc: Global, a: &Attr) -> Result<Attr, OutOfMemory>
     ensures { IfOk result (λ x. (φ : Facts) → view_attr x ≡ attr φ (n.Address (view_attr a.now))) }
 {
-    let target = copy_type(alloc, &a.ctype)?;
+    let target = copy_type(&a.ctype)?;
     Ok(Attr {
-        ctype: plainly(Base::Pointer(Box::new(alloc, target)?)),
+        ctype: plainly(Base::Pointer(Rc::new(alloc, target)?)),
         form: Form::Value,
         constant: address_in(a.form),
     })
 }
 
-pub(crate) fn object_at(
-    alloc: Global,
-    target: Option<&CType>,
-    address: Constant,
-) -> Result<Attr, OutOfMemory>
+pub(crate) fn object_at(target: Option<&CType>, address: Constant) -> Result<Attr, OutOfMemory>
     requires { IsWithin address }
     ensures { IfOk result (λ x. view_attr x ≡ pure.object_at (view_target target.entry) address) }
 {
     match target {
         Some(t) => Ok(Attr {
-            ctype: copy_type(alloc, t)?,
+            ctype: copy_type(t)?,
             form: Form::Lvalue(address),
             constant: Constant::Variable,
         }),
@@ -223,10 +217,10 @@ pub(crate) fn object_at(
 }
 
 /// `*a`.
-pub fn dereference(alloc: Global, a: &Attr) -> Result<Attr, OutOfMemory>
+pub fn dereference(a: &Attr) -> Result<Attr, OutOfMemory>
     ensures { IfOk result (λ x. (φ : Facts) → view_attr x ≡ attr φ (n.Dereference (view_attr a.now))) }
 {
-    object_at(alloc, target_of(a), constant_of(a))
+    object_at(target_of(a), constant_of(a))
 }
 
 fn home_address(home: Home) -> Constant
@@ -259,14 +253,14 @@ fn callable() -> Attr
 }
 
 /// A name.
-pub fn name(alloc: Global, meaning: Meaning<'_>) -> Result<Attr, OutOfMemory>
+pub fn name(meaning: Meaning<'_>) -> Result<Attr, OutOfMemory>
     ensures { IfOk result (λ x. (φ : Facts) (how : n.Use) → view_attr x
         ≡ attr φ (n.Name how (view_meaning meaning.entry))) }
 {
     match meaning {
         Meaning::Unknown => Ok(int_value()),
         Meaning::Object(t, home) => Ok(Attr {
-            ctype: copy_type(alloc, t)?,
+            ctype: copy_type(t)?,
             form: Form::Lvalue(home_address(home)),
             constant: Constant::Variable,
         }),
@@ -288,7 +282,7 @@ fn pointer_to(alloc: Global, base: Base, shared: Option<u32>) -> Result<CType, O
         shared,
         access: Access::Unsaid,
     };
-    Ok(plainly(Base::Pointer(Box::new(alloc, target)?)))
+    Ok(plainly(Base::Pointer(Rc::new(alloc, target)?)))
 }
 
 fn call_result(alloc: Global, call: LibraryCall) -> Result<CType, OutOfMemory>
@@ -310,11 +304,11 @@ fn call_result(alloc: Global, call: LibraryCall) -> Result<CType, OutOfMemory>
     }
 }
 
-fn allocated(alloc: Global, how: Use<'_>) -> Result<CType, OutOfMemory>
+fn allocated(how: Use<'_>) -> Result<CType, OutOfMemory>
     ensures { IfOk result (λ t. view t ≡ pure.allocated (view_use how.entry)) }
 {
     match how {
-        Use::Into(t) => value_type(alloc, t),
+        Use::Into(t) => value_type(t),
         _ => Ok(plainly(Base::Integer(Kind::Int))),
     }
 }
@@ -323,7 +317,7 @@ fn library_given(alloc: Global, how: Use<'_>, call: LibraryCall) -> Result<CType
     ensures { IfOk result (λ t. view t ≡ pure.library_given (view_use how.entry) call) }
 {
     if is_allocation(call) {
-        allocated(alloc, how)
+        allocated(how)
     } else {
         call_result(alloc, call)
     }
@@ -333,7 +327,7 @@ fn given(alloc: Global, how: Use<'_>, meaning: Meaning<'_>) -> Result<CType, Out
     ensures { IfOk result (λ t. view t ≡ pure.given (view_use how.entry) (view_meaning meaning.entry)) }
 {
     match meaning {
-        Meaning::Function(s) => value_type(alloc, &s.result),
+        Meaning::Function(s) => value_type(&s.result),
         Meaning::Library(call) => library_given(alloc, how, call),
         _ => Ok(plainly(Base::Integer(Kind::Int))),
     }
@@ -437,12 +431,12 @@ fn target_in(base: &Base) -> Option<&CType>
 }
 
 /// A cast to this type.
-pub fn cast(alloc: Global, t: &CType, a: &Attr) -> Result<Attr, OutOfMemory>
+pub fn cast(t: &CType, a: &Attr) -> Result<Attr, OutOfMemory>
     ensures { IfOk result (λ x. view_attr x ≡ pure.cast_attr (values.value_type (view t.now)) (view_attr a.now)) }
 {
     let constant = cast_by(t, a);
     Ok(Attr {
-        ctype: value_type(alloc, t)?,
+        ctype: value_type(t)?,
         form: Form::Value,
         constant,
     })
@@ -486,29 +480,29 @@ fn integer_choice(j: Kind, k: Kind, test: Constant, a: Constant, b: Constant) ->
     constant(kind, choice_constant(kind, test, a, b))
 }
 
-fn plain_value(alloc: Global, t: &CType) -> Result<Attr, OutOfMemory>
+fn plain_value(t: &CType) -> Result<Attr, OutOfMemory>
     ensures { IfOk result (λ x. view_attr x ≡ pure.value (values.value_type (view t.now))) }
 {
-    Ok(value(value_type(alloc, t)?))
+    Ok(value(value_type(t)?))
 }
 
-fn other_choice(alloc: Global, a: &Attr, b: &Attr) -> Result<Attr, OutOfMemory>
+fn other_choice(a: &Attr, b: &Attr) -> Result<Attr, OutOfMemory>
     ensures { IfOk result (λ x. view_attr x
         ≡ pure.other_choice (view_attr a.now) (view_attr b.now) (values.base_target (pure.base (view_attr a.now)))) }
 {
     match target_of(a) {
-        Some(_) => plain_value(alloc, &a.ctype),
-        None => plain_value(alloc, &b.ctype),
+        Some(_) => plain_value(&a.ctype),
+        None => plain_value(&b.ctype),
     }
 }
 
 /// `test ? a : b`.
-pub fn conditional(alloc: Global, test: &Attr, a: &Attr, b: &Attr) -> Result<Attr, OutOfMemory>
+pub fn conditional(test: &Attr, a: &Attr, b: &Attr) -> Result<Attr, OutOfMemory>
     ensures { IfOk result (λ x. (φ : Facts) → view_attr x
         ≡ attr φ (n.Conditional (view_attr test.now) (view_attr a.now) (view_attr b.now))) }
 {
     match (kind_of(a), kind_of(b)) {
         (Some(j), Some(k)) => Ok(integer_choice(j, k, test.constant, a.constant, b.constant)),
-        _ => other_choice(alloc, a, b),
+        _ => other_choice(a, b),
     }
 }

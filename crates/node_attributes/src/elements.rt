@@ -19,6 +19,7 @@ use block_layout::Kind;
 use integers::BinOp;
 use rule_checks::declarations::constant_of;
 use std::alloc::Global;
+use std::rc::Rc;
 use typing_rules::types::target_of;
 use typing_rules::{Attr, Constant, Form};
 use upc_text::OutOfMemory;
@@ -62,13 +63,7 @@ fn indexed(structs: &Structs, threads: u32, t: &CType, address: Constant, i: Con
 }
 
 /// `a[i]`, where the elements of a have a size.
-pub fn subscript(
-    alloc: Global,
-    structs: &Structs,
-    threads: u32,
-    a: &Attr,
-    i: &Attr,
-) -> Result<Attr, OutOfMemory>
+pub fn subscript(structs: &Structs, threads: u32, a: &Attr, i: &Attr) -> Result<Attr, OutOfMemory>
     requires some_thread { 0 < threads }
     requires sized { rules.is_loose (view_structs structs.now) (view_attr a.now) ≡ false }
     ensures { IfOk result (λ x. (how : n.Use) → view_attr x
@@ -78,7 +73,7 @@ pub fn subscript(
     match target_of(a) {
         Some(t) => {
             let address = indexed(structs, threads, t, constant_of(a), i.constant);
-            object_at(alloc, Some(t), address)
+            object_at(Some(t), address)
         }
         None => Ok(int_value()),
     }
@@ -101,9 +96,9 @@ fn pointer(
         (view t.now) address steps) }
 {
     let constant = indexed(structs, threads, t, address, steps);
-    let target = copy_type(alloc, t)?;
+    let target = copy_type(t)?;
     Ok(Attr {
-        ctype: plainly(Base::Pointer(Box::new(alloc, target)?)),
+        ctype: plainly(Base::Pointer(Rc::new(alloc, target)?)),
         form: Form::Value,
         constant,
     })

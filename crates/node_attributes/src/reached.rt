@@ -16,6 +16,7 @@ use crate::addresses::member_address;
 use crate::attributes::int_value;
 use rule_checks::declarations::{address_in, constant_of};
 use std::alloc::Global;
+use std::rc::Rc;
 use typing_rules::types::target_of;
 use typing_rules::{Attr, Constant, Form};
 use upc_text::OutOfMemory;
@@ -87,9 +88,9 @@ fn spread(alloc: Global, struct_type: &CType, base: &Base) -> Result<Base, OutOf
                 shared: member_block(struct_type.shared),
                 access: struct_type.access,
             };
-            Ok(Base::Array(Box::new(alloc, inner)?, *count))
+            Ok(Base::Array(Rc::new(alloc, inner)?, *count))
         }
-        other => copy_base(alloc, other),
+        other => copy_base(other),
     }
 }
 

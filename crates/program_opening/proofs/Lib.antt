@@ -13,3 +13,4 @@ pub mod Opened
 pub mod Within
 pub mod Bytes
 pub mod LaidTypes
+pub mod Numbering

@@ -1,10 +1,10 @@
 -- The walk over structs that are still to come.
-use Rattle.std.proofs.Common.{◌≡◌, ℕ, ◌+◌, ◌<◌, true, List, [], ◌∷◌, ◌++◌, length, map, drop, refl, sym, ap, ◌∙◌}
+use Rattle.std.proofs.Common.{◌≡◌, ℕ, ◌+◌, ◌<◌, true, List, [], ◌∷◌, ◌++◌, length, map, drop, sym, ap, ◌∙◌}
 use Rattle.std.proofs.Common.{append_assoc, append-nil, get_or}
 use Rattle.std.proofs.lemmas.List.{drop-map}
 use Rattle.upc_types.specs.declared.structs.Member as c
 use Rattle.upc_types.specs.View.{view_base, view_member}
-use Rattle.upc_types.specs.Types.{CType, Base, Struct, Pointer, Completed, Member, base_of, members_in}
+use Rattle.upc_types.specs.Types.{CType, Base, Struct, Pointer, Completed, members_in}
 use Rattle.upc_types.specs.Kept.{is_ordered}
 use Rattle.upc_types.specs.Cells.{leaf_base}
 use Rattle.upc_types.proofs.Members.{next}

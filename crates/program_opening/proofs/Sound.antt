@@ -120,7 +120,7 @@ shape_is a b h =
     let one : shape_of a.size a.cells ≡ shape_of b.size b.cells = cc in
     one
 
-shape_itself : (a : Shape) → same_shape a a ≡ true
+pub shape_itself : (a : Shape) → same_shape a a ≡ true
 shape_itself a = rw (eq-eqb a.size a.size refl, cells_themselves a.cells) refl
 
 -- ---- numbers of shapes

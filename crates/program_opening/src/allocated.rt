@@ -25,7 +25,6 @@ use upc_types::{Base, CType, Structs, copy_type};
 /// Adds a copy of this type, where it has a layout.
 pub(crate) fn push_laid(
     t: &CType,
-    alloc: Global,
     structs: &Structs,
     out: &mut Vec<CType>,
 ) -> Result<(), OutOfMemory>
@@ -33,23 +32,18 @@ pub(crate) fn push_laid(
         ++ pure.laid (view_structs structs.now) (view t.now)) }
 {
     if structs.layout_of(&t.base).is_some() {
-        out.push(copy_type(alloc, t)?)?;
+        out.push(copy_type(t)?)?;
     }
     Ok(())
 }
 
-fn push_target(
-    base: &Base,
-    alloc: Global,
-    structs: &Structs,
-    out: &mut Vec<CType>,
-) -> Result<(), OutOfMemory>
+fn push_target(base: &Base, structs: &Structs, out: &mut Vec<CType>) -> Result<(), OutOfMemory>
     ensures { OnOk result (map view out.new.items ≡ map view out.old.items
         ++ pure.laid_target (view_structs structs.now) (base_target (view_base base.now))) }
 {
     match base {
-        Base::Pointer(target) => push_laid(target, alloc, structs, out),
-        Base::Array(element, _) => push_laid(element, alloc, structs, out),
+        Base::Pointer(target) => push_laid(target, structs, out),
+        Base::Array(element, _) => push_laid(element, structs, out),
         Base::Void | Base::Integer(_) | Base::Struct(_) | Base::LockObject => Ok(()),
     }
 }
@@ -58,7 +52,6 @@ fn push_target(
 fn push_call(
     t: &CType,
     target: Target,
-    alloc: Global,
     structs: &Structs,
     out: &mut Vec<CType>,
 ) -> Result<(), OutOfMemory>
@@ -69,7 +62,7 @@ fn push_call(
         Target::Function(_) => Ok(()),
         Target::Library(call) => {
             if is_allocation(call) {
-                push_target(&t.base, alloc, structs, out)
+                push_target(&t.base, structs, out)
             } else {
                 Ok(())
             }
@@ -78,12 +71,7 @@ fn push_call(
 }
 
 #[cycle(typed_calls)]
-fn push_expr(
-    e: &Expr,
-    alloc: Global,
-    structs: &Structs,
-    out: &mut Vec<CType>,
-) -> Result<(), OutOfMemory>
+fn push_expr(e: &Expr, structs: &Structs, out: &mut Vec<CType>) -> Result<(), OutOfMemory>
     ensures { OnOk result (map view out.new.items ≡ map view out.old.items
         ++ pure.allocated_expr (view_structs structs.now) (view_expr e.now)) }
 {
@@ -98,48 +86,42 @@ fn push_expr(
         | ExprKind::Dereference(a)
         | ExprKind::Unary(_, a)
         | ExprKind::SizeOf(_, a)
-        | ExprKind::Cast(a) => push_expr(a, alloc, structs, out),
+        | ExprKind::Cast(a) => push_expr(a, structs, out),
         ExprKind::Subscript(a, b)
         | ExprKind::And(a, b)
         | ExprKind::Or(a, b)
         | ExprKind::Assign(a, b)
         | ExprKind::Binary(_, a, b)
         | ExprKind::Compound(_, a, b) => {
-            push_expr(a, alloc, structs, out)?;
-            push_expr(b, alloc, structs, out)
+            push_expr(a, structs, out)?;
+            push_expr(b, structs, out)
         }
         ExprKind::Conditional(test, a, b) => {
-            push_expr(test, alloc, structs, out)?;
-            push_expr(a, alloc, structs, out)?;
-            push_expr(b, alloc, structs, out)
+            push_expr(test, structs, out)?;
+            push_expr(a, structs, out)?;
+            push_expr(b, structs, out)
         }
         ExprKind::Call(target, args) => {
-            push_exprs(args.as_slice(), alloc, structs, out)?;
-            push_call(&e.attr.ctype, *target, alloc, structs, out)
+            push_exprs(args.as_slice(), structs, out)?;
+            push_call(&e.attr.ctype, *target, structs, out)
         }
-        ExprKind::Comma(parts) => push_exprs(parts.as_slice(), alloc, structs, out),
+        ExprKind::Comma(parts) => push_exprs(parts.as_slice(), structs, out),
     }
 }
 
 #[cycle(typed_calls)]
-fn push_exprs(
-    parts: &[Expr],
-    alloc: Global,
-    structs: &Structs,
-    out: &mut Vec<CType>,
-) -> Result<(), OutOfMemory>
+fn push_exprs(parts: &[Expr], structs: &Structs, out: &mut Vec<CType>) -> Result<(), OutOfMemory>
     ensures { OnOk result (map view out.new.items ≡ map view out.old.items
         ++ pure.allocated_exprs (view_structs structs.now) (exprs_of (map view_expr parts.now))) }
 {
     for part in parts {
-        push_expr(part, alloc, structs, out)?;
+        push_expr(part, structs, out)?;
     }
     Ok(())
 }
 
 fn push_value(
     value: &Option<Box<Expr>>,
-    alloc: Global,
     structs: &Structs,
     out: &mut Vec<CType>,
 ) -> Result<(), OutOfMemory>
@@ -148,13 +130,12 @@ fn push_value(
 {
     match value {
         None => Ok(()),
-        Some(value) => push_expr(value, alloc, structs, out),
+        Some(value) => push_expr(value, structs, out),
     }
 }
 
 fn push_initial(
     initial: &Initial,
-    alloc: Global,
     structs: &Structs,
     out: &mut Vec<CType>,
 ) -> Result<(), OutOfMemory>
@@ -163,14 +144,13 @@ fn push_initial(
 {
     match initial {
         Initial::Absent => Ok(()),
-        Initial::Value(value) => push_expr(value, alloc, structs, out),
-        Initial::List(values) => push_exprs(values.as_slice(), alloc, structs, out),
+        Initial::Value(value) => push_expr(value, structs, out),
+        Initial::List(values) => push_exprs(values.as_slice(), structs, out),
     }
 }
 
 fn push_objects(
     objects: &[Object],
-    alloc: Global,
     structs: &Structs,
     out: &mut Vec<CType>,
 ) -> Result<(), OutOfMemory>
@@ -178,29 +158,23 @@ fn push_objects(
         ++ pure.allocated_objects (view_structs structs.now) (map view_object objects.now)) }
 {
     for object in objects {
-        push_initial(&object.initial, alloc, structs, out)?;
+        push_initial(&object.initial, structs, out)?;
     }
     Ok(())
 }
 
-fn push_head(
-    head: &Head,
-    alloc: Global,
-    structs: &Structs,
-    out: &mut Vec<CType>,
-) -> Result<(), OutOfMemory>
+fn push_head(head: &Head, structs: &Structs, out: &mut Vec<CType>) -> Result<(), OutOfMemory>
     ensures { OnOk result (map view out.new.items ≡ map view out.old.items
         ++ pure.allocated_head (view_structs structs.now) (view_head head.now)) }
 {
-    push_objects(head.objects.as_slice(), alloc, structs, out)?;
-    push_value(&head.first, alloc, structs, out)?;
-    push_value(&head.test, alloc, structs, out)?;
-    push_value(&head.step, alloc, structs, out)
+    push_objects(head.objects.as_slice(), structs, out)?;
+    push_value(&head.first, structs, out)?;
+    push_value(&head.test, structs, out)?;
+    push_value(&head.step, structs, out)
 }
 
 fn push_affinity(
     affinity: &Affinity,
-    alloc: Global,
     structs: &Structs,
     out: &mut Vec<CType>,
 ) -> Result<(), OutOfMemory>
@@ -209,14 +183,13 @@ fn push_affinity(
 {
     match affinity {
         Affinity::All => Ok(()),
-        Affinity::Value(value) => push_expr(value, alloc, structs, out),
+        Affinity::Value(value) => push_expr(value, structs, out),
     }
 }
 
 #[cycle(typed_calls_in_statements)]
 fn push_statement(
     statement: &Statement,
-    alloc: Global,
     structs: &Structs,
     out: &mut Vec<CType>,
 ) -> Result<(), OutOfMemory>
@@ -224,34 +197,34 @@ fn push_statement(
         ++ pure.allocated_statement (view_structs structs.now) (view_statement statement.now)) }
 {
     match &statement.kind {
-        StatementKind::Block(_, items) => push_items(items.as_slice(), alloc, structs, out),
+        StatementKind::Block(_, items) => push_items(items.as_slice(), structs, out),
         StatementKind::Value(value)
         | StatementKind::Return(value)
-        | StatementKind::Synchronise(_, value) => push_value(value, alloc, structs, out),
+        | StatementKind::Synchronise(_, value) => push_value(value, structs, out),
         StatementKind::If(arms, last) => {
-            push_arms(arms.as_slice(), alloc, structs, out)?;
-            push_last(last, alloc, structs, out)
+            push_arms(arms.as_slice(), structs, out)?;
+            push_last(last, structs, out)
         }
         StatementKind::Switch(value, items) => {
-            push_expr(value, alloc, structs, out)?;
-            push_switch(items.as_slice(), alloc, structs, out)
+            push_expr(value, structs, out)?;
+            push_switch(items.as_slice(), structs, out)
         }
         StatementKind::While(test, body) => {
-            push_expr(test, alloc, structs, out)?;
-            push_statement(body, alloc, structs, out)
+            push_expr(test, structs, out)?;
+            push_statement(body, structs, out)
         }
         StatementKind::DoWhile(body, test) => {
-            push_statement(body, alloc, structs, out)?;
-            push_expr(test, alloc, structs, out)
+            push_statement(body, structs, out)?;
+            push_expr(test, structs, out)
         }
         StatementKind::For(head, body) => {
-            push_head(head, alloc, structs, out)?;
-            push_statement(body, alloc, structs, out)
+            push_head(head, structs, out)?;
+            push_statement(body, structs, out)
         }
         StatementKind::Forall(head, affinity, body) => {
-            push_head(head, alloc, structs, out)?;
-            push_affinity(affinity, alloc, structs, out)?;
-            push_statement(body, alloc, structs, out)
+            push_head(head, structs, out)?;
+            push_affinity(affinity, structs, out)?;
+            push_statement(body, structs, out)
         }
         StatementKind::Break | StatementKind::Continue | StatementKind::Fence => Ok(()),
     }
@@ -260,7 +233,6 @@ fn push_statement(
 #[cycle(typed_calls_in_statements)]
 fn push_last(
     last: &Option<Box<Statement>>,
-    alloc: Global,
     structs: &Structs,
     out: &mut Vec<CType>,
 ) -> Result<(), OutOfMemory>
@@ -269,63 +241,47 @@ fn push_last(
 {
     match last {
         None => Ok(()),
-        Some(last) => push_statement(last, alloc, structs, out),
+        Some(last) => push_statement(last, structs, out),
     }
 }
 
 #[cycle(typed_calls_in_statements)]
-fn push_arms(
-    arms: &[Arm],
-    alloc: Global,
-    structs: &Structs,
-    out: &mut Vec<CType>,
-) -> Result<(), OutOfMemory>
+fn push_arms(arms: &[Arm], structs: &Structs, out: &mut Vec<CType>) -> Result<(), OutOfMemory>
     ensures { OnOk result (map view out.new.items ≡ map view out.old.items
         ++ pure.allocated_arms (view_structs structs.now) (view_arms arms.now)) }
 {
     for arm in arms {
-        push_expr(&arm.test, alloc, structs, out)?;
-        push_statement(&arm.body, alloc, structs, out)?;
+        push_expr(&arm.test, structs, out)?;
+        push_statement(&arm.body, structs, out)?;
     }
     Ok(())
 }
 
 #[cycle(typed_calls_in_statements)]
-fn push_items(
-    items: &[Item],
-    alloc: Global,
-    structs: &Structs,
-    out: &mut Vec<CType>,
-) -> Result<(), OutOfMemory>
+fn push_items(items: &[Item], structs: &Structs, out: &mut Vec<CType>) -> Result<(), OutOfMemory>
     ensures { OnOk result (map view out.new.items ≡ map view out.old.items
         ++ pure.allocated_items (view_structs structs.now) (view_items items.now)) }
 {
     for item in items {
-        push_item(item, alloc, structs, out)?;
+        push_item(item, structs, out)?;
     }
     Ok(())
 }
 
 #[cycle(typed_calls_in_statements)]
-fn push_item(
-    item: &Item,
-    alloc: Global,
-    structs: &Structs,
-    out: &mut Vec<CType>,
-) -> Result<(), OutOfMemory>
+fn push_item(item: &Item, structs: &Structs, out: &mut Vec<CType>) -> Result<(), OutOfMemory>
     ensures { OnOk result (map view out.new.items ≡ map view out.old.items
         ++ pure.allocated_items (view_structs structs.now) (view_item item.now NoItems)) }
 {
     match item {
-        Item::Declare(objects) => push_objects(objects.as_slice(), alloc, structs, out),
-        Item::Do(statement) => push_statement(statement, alloc, structs, out),
+        Item::Declare(objects) => push_objects(objects.as_slice(), structs, out),
+        Item::Do(statement) => push_statement(statement, structs, out),
     }
 }
 
 #[cycle(typed_calls_in_statements)]
 fn push_switch(
     items: &[SwitchItem],
-    alloc: Global,
     structs: &Structs,
     out: &mut Vec<CType>,
 ) -> Result<(), OutOfMemory>
@@ -333,7 +289,7 @@ fn push_switch(
         ++ pure.allocated_switch (view_structs structs.now) (view_switch_items items.now)) }
 {
     for item in items {
-        push_switch_item(item, alloc, structs, out)?;
+        push_switch_item(item, structs, out)?;
     }
     Ok(())
 }
@@ -341,7 +297,6 @@ fn push_switch(
 #[cycle(typed_calls_in_statements)]
 fn push_switch_item(
     item: &SwitchItem,
-    alloc: Global,
     structs: &Structs,
     out: &mut Vec<CType>,
 ) -> Result<(), OutOfMemory>
@@ -350,7 +305,7 @@ fn push_switch_item(
 {
     match item {
         SwitchItem::Case(_) | SwitchItem::Default => Ok(()),
-        SwitchItem::Do(statement) => push_statement(statement, alloc, structs, out),
+        SwitchItem::Do(statement) => push_statement(statement, structs, out),
     }
 }
 
@@ -366,7 +321,7 @@ pub fn allocated_types(
 {
     let mut out = Vec::new(alloc);
     for function in functions {
-        push_statement(&function.body, alloc, structs, &mut out)?;
+        push_statement(&function.body, structs, &mut out)?;
     }
     Ok(out)
 }

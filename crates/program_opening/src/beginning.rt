@@ -14,10 +14,9 @@ ghost use Rattle.typed_tree.specs.Programs.{checked_of, start_of, without_target
 ghost use Rattle.typed_tree.specs.ViewStatements.{view_function, view_object};
 
 use crate::allocated::allocated_types;
-use crate::elements::element_shapes;
 use crate::initials::shared_initials;
 use crate::inside::types_inside;
-use crate::objects::{count_private, placed_objects};
+use crate::objects::{SharedPart, count_private, shared_part};
 use crate::privates::{private_initials, private_shapes};
 use crate::setting::Setting;
 use crate::targets::note_all_types;
@@ -40,8 +39,10 @@ fn begun(
     ensures { IfOk result (λ b. view_beginning b
         ≡ pure.begun threads (view_structs structs) (map view_object objects.now) (map view allocated.now)) }
 {
-    let shapes = element_shapes(alloc, &structs, objects, allocated)?;
-    let shared_objects = placed_objects(alloc, &structs, shapes.as_slice(), objects)?;
+    let SharedPart {
+        shapes,
+        objects: shared_objects,
+    } = shared_part(alloc, &structs, objects, allocated)?;
     let setting = Setting {
         threads,
         privates: count_private(objects),

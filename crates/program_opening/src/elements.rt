@@ -1,6 +1,6 @@
 //! The elements of shared objects, and their shapes by number.
 
-ghost use Rattle.std.specs.Prelude.{◌≡◌, ◌≤◌, ◌++◌, true, length, map, IfOk, OnOk, vec_len};
+ghost use Rattle.std.specs.Prelude.{◌≡◌, ◌≤◌, true, length, map, IfOk, OnOk, vec_len};
 ghost use Rattle.block_layout.specs.Shapes.{IsShape};
 ghost use Rattle.upc_values.specs.Lists.{Each};
 ghost use Rattle.upc_values.specs.Openings.{IsSharable, is_private};
@@ -9,13 +9,9 @@ ghost use Rattle.upc_types.specs.View.{view};
 ghost use Rattle.upc_types.specs.ViewStructs.{view_structs};
 ghost use Rattle.typed_tree.specs.Elements as pure;
 ghost use Rattle.typing_rules.specs.Rules.{has_size};
-ghost use Rattle.typed_tree.specs.Objects.{shared_in, type_of};
-ghost use Rattle.typed_tree.specs.ViewStatements.{view_object};
 
-use crate::objects::is_shared;
 use block_layout::{Cells, Kind, Shape};
 use std::alloc::Global;
-use typed_tree::Object;
 use upc_text::OutOfMemory;
 use upc_types::{CType, Structs, shape_of};
 
@@ -94,66 +90,40 @@ pub fn number_among(shapes: &[Shape], shape: &Shape) -> u32
     number
 }
 
-/// Gives a shape a number where it has none.
-pub(crate) fn number_shape(shapes: &mut Vec<Shape>, shape: Shape) -> Result<(), OutOfMemory>
+/// The number of a shape, which it gets where it has none.
+pub(crate) fn number_shape(shapes: &mut Vec<Shape>, shape: Shape) -> Result<u32, OutOfMemory>
     requires { vec_len shapes.old ≤ 4294967295 }
     ensures value { OnOk result (shapes.new.items ≡ pure.with_shape shapes.old.items shape) }
     ensures few { OnOk result (vec_len shapes.new ≤ 4294967295) }
+    ensures number { IfOk result (λ n. n ≡ pure.number_among shapes.old.items shape) }
 {
     let count = shapes.len();
-    if (number_among(shapes.as_slice(), &shape) as usize) < count {
-        return Ok(());
+    let number = number_among(shapes.as_slice(), &shape);
+    if (number as usize) < count {
+        return Ok(number);
     }
     if count == u32::MAX as usize {
         return Err(OutOfMemory);
     }
     shapes.push(shape)?;
-    Ok(())
+    Ok(number)
 }
 
-// Gives the shapes of the elements of the shared objects among these numbers.
-#[tactic(auto, using(crate::proofs::Chosen::shared_walk, crate::proofs::Chosen::object_layouts))]
-fn number_objects(
+/// Gives the shapes of the elements of objects of these types numbers.
+#[tactic(auto, using(crate::proofs::Chosen::type_layouts))]
+pub(crate) fn number_types(
     alloc: Global,
     structs: &Structs,
     shapes: &mut Vec<Shape>,
-    objects: &[Object],
+    types: &[CType],
 ) -> Result<(), OutOfMemory>
-    requires layouts { Each (λ x. has_size (view_structs structs.now) x.ctype ≡ true) (map view_object objects.now) }
+    requires types { Each (λ t. has_size (view_structs structs.now) t ≡ true) (map view types.now) }
     requires few { vec_len shapes.old ≤ 4294967295 }
-    ensures value { OnOk result (shapes.new.items
-        ≡ pure.with_shapes shapes.old.items
-        (map (pure.element_shape (view_structs structs.now))
-        (map type_of (shared_in (map view_object objects.now))))) }
-    ensures few { OnOk result (vec_len shapes.new ≤ 4294967295) }
+    ensures { OnOk result (shapes.new.items ≡ pure.with_shapes shapes.old.items
+        (map (pure.element_shape (view_structs structs.now)) (map view types.now))) }
 {
-    for object in objects {
-        if is_shared(object.home) {
-            number_shape(shapes, element_shape(alloc, &object.ctype, structs)?)?;
-        }
+    for t in types {
+        number_shape(shapes, element_shape(alloc, t, structs)?)?;
     }
     Ok(())
-}
-
-/// The shapes of the elements of the shared objects among these, and of objects of these types.
-#[tactic(auto, using(crate::proofs::Chosen::type_layouts))]
-pub(crate) fn element_shapes(
-    alloc: Global,
-    structs: &Structs,
-    objects: &[Object],
-    types: &[CType],
-) -> Result<Vec<Shape>, OutOfMemory>
-    requires layouts { Each (λ x. has_size (view_structs structs.now) x.ctype ≡ true) (map view_object objects.now) }
-    requires types { Each (λ t. has_size (view_structs structs.now) t ≡ true) (map view types.now) }
-    ensures value { IfOk result (λ xs. xs.items
-        ≡ pure.element_shapes (view_structs structs.now)
-        (map type_of (shared_in (map view_object objects.now)) ++ map view types.now)) }
-    ensures few { IfOk result (λ xs. vec_len xs ≤ 4294967295) }
-{
-    let mut shapes = Vec::new(alloc);
-    number_objects(alloc, structs, &mut shapes, objects)?;
-    for t in types {
-        number_shape(&mut shapes, element_shape(alloc, t, structs)?)?;
-    }
-    Ok(shapes)
 }

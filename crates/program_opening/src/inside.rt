@@ -20,17 +20,12 @@ use upc_text::OutOfMemory;
 use upc_types::{CType, Structs};
 
 // Adds copies of these types, where they have a layout.
-fn push_types(
-    types: &[CType],
-    alloc: Global,
-    structs: &Structs,
-    out: &mut Vec<CType>,
-) -> Result<(), OutOfMemory>
+fn push_types(types: &[CType], structs: &Structs, out: &mut Vec<CType>) -> Result<(), OutOfMemory>
     ensures { OnOk result (map view out.new.items
         ≡ map view out.old.items ++ with_layout (view_structs structs.now) (map view types.now)) }
 {
     for t in types {
-        push_laid(t, alloc, structs, out)?;
+        push_laid(t, structs, out)?;
     }
     Ok(())
 }
@@ -38,7 +33,6 @@ fn push_types(
 // So the types of these objects.
 fn push_objects(
     objects: &[Object],
-    alloc: Global,
     structs: &Structs,
     out: &mut Vec<CType>,
 ) -> Result<(), OutOfMemory>
@@ -46,7 +40,7 @@ fn push_objects(
         ≡ map view out.old.items ++ laid_objects (view_structs structs.now) (map view_object objects.now)) }
 {
     for object in objects {
-        push_laid(&object.ctype, alloc, structs, out)?;
+        push_laid(&object.ctype, structs, out)?;
     }
     Ok(())
 }
@@ -55,7 +49,6 @@ fn push_objects(
 #[cycle(types_inside_statements)]
 fn push_statement(
     statement: &Statement,
-    alloc: Global,
     structs: &Structs,
     out: &mut Vec<CType>,
 ) -> Result<(), OutOfMemory>
@@ -63,18 +56,18 @@ fn push_statement(
         ++ laid_objects (view_structs structs.now) (pure.objects_in (view_statement statement.now))) }
 {
     match &statement.kind {
-        StatementKind::Block(_, items) => push_items(items.as_slice(), alloc, structs, out),
+        StatementKind::Block(_, items) => push_items(items.as_slice(), structs, out),
         StatementKind::If(arms, last) => {
-            push_arms(arms.as_slice(), alloc, structs, out)?;
-            push_last(last, alloc, structs, out)
+            push_arms(arms.as_slice(), structs, out)?;
+            push_last(last, structs, out)
         }
-        StatementKind::Switch(_, items) => push_switch(items.as_slice(), alloc, structs, out),
+        StatementKind::Switch(_, items) => push_switch(items.as_slice(), structs, out),
         StatementKind::While(_, body) | StatementKind::DoWhile(body, _) => {
-            push_statement(body, alloc, structs, out)
+            push_statement(body, structs, out)
         }
         StatementKind::For(head, body) | StatementKind::Forall(head, _, body) => {
-            push_objects(head.objects.as_slice(), alloc, structs, out)?;
-            push_statement(body, alloc, structs, out)
+            push_objects(head.objects.as_slice(), structs, out)?;
+            push_statement(body, structs, out)
         }
         StatementKind::Value(_)
         | StatementKind::Break
@@ -88,7 +81,6 @@ fn push_statement(
 #[cycle(types_inside_statements)]
 fn push_last(
     last: &Option<Box<Statement>>,
-    alloc: Global,
     structs: &Structs,
     out: &mut Vec<CType>,
 ) -> Result<(), OutOfMemory>
@@ -97,62 +89,46 @@ fn push_last(
 {
     match last {
         None => Ok(()),
-        Some(last) => push_statement(last, alloc, structs, out),
+        Some(last) => push_statement(last, structs, out),
     }
 }
 
 #[cycle(types_inside_statements)]
-fn push_arms(
-    arms: &[Arm],
-    alloc: Global,
-    structs: &Structs,
-    out: &mut Vec<CType>,
-) -> Result<(), OutOfMemory>
+fn push_arms(arms: &[Arm], structs: &Structs, out: &mut Vec<CType>) -> Result<(), OutOfMemory>
     ensures { OnOk result (map view out.new.items ≡ map view out.old.items
         ++ laid_objects (view_structs structs.now) (pure.arms_objects (view_arms arms.now))) }
 {
     for arm in arms {
-        push_statement(&arm.body, alloc, structs, out)?;
+        push_statement(&arm.body, structs, out)?;
     }
     Ok(())
 }
 
 #[cycle(types_inside_statements)]
-fn push_items(
-    items: &[Item],
-    alloc: Global,
-    structs: &Structs,
-    out: &mut Vec<CType>,
-) -> Result<(), OutOfMemory>
+fn push_items(items: &[Item], structs: &Structs, out: &mut Vec<CType>) -> Result<(), OutOfMemory>
     ensures { OnOk result (map view out.new.items ≡ map view out.old.items
         ++ laid_objects (view_structs structs.now) (pure.items_objects (view_items items.now))) }
 {
     for item in items {
-        push_item(item, alloc, structs, out)?;
+        push_item(item, structs, out)?;
     }
     Ok(())
 }
 
 #[cycle(types_inside_statements)]
-fn push_item(
-    item: &Item,
-    alloc: Global,
-    structs: &Structs,
-    out: &mut Vec<CType>,
-) -> Result<(), OutOfMemory>
+fn push_item(item: &Item, structs: &Structs, out: &mut Vec<CType>) -> Result<(), OutOfMemory>
     ensures { OnOk result (map view out.new.items ≡ map view out.old.items
         ++ laid_objects (view_structs structs.now) (pure.items_objects (view_item item.now NoItems))) }
 {
     match item {
-        Item::Declare(objects) => push_objects(objects.as_slice(), alloc, structs, out),
-        Item::Do(statement) => push_statement(statement, alloc, structs, out),
+        Item::Declare(objects) => push_objects(objects.as_slice(), structs, out),
+        Item::Do(statement) => push_statement(statement, structs, out),
     }
 }
 
 #[cycle(types_inside_statements)]
 fn push_switch(
     items: &[SwitchItem],
-    alloc: Global,
     structs: &Structs,
     out: &mut Vec<CType>,
 ) -> Result<(), OutOfMemory>
@@ -160,7 +136,7 @@ fn push_switch(
         ++ laid_objects (view_structs structs.now) (pure.switch_objects (view_switch_items items.now))) }
 {
     for item in items {
-        push_switch_item(item, alloc, structs, out)?;
+        push_switch_item(item, structs, out)?;
     }
     Ok(())
 }
@@ -168,7 +144,6 @@ fn push_switch(
 #[cycle(types_inside_statements)]
 fn push_switch_item(
     item: &SwitchItem,
-    alloc: Global,
     structs: &Structs,
     out: &mut Vec<CType>,
 ) -> Result<(), OutOfMemory>
@@ -177,7 +152,7 @@ fn push_switch_item(
 {
     match item {
         SwitchItem::Case(_) | SwitchItem::Default => Ok(()),
-        SwitchItem::Do(statement) => push_statement(statement, alloc, structs, out),
+        SwitchItem::Do(statement) => push_statement(statement, structs, out),
     }
 }
 
@@ -193,8 +168,8 @@ pub fn types_inside(
 {
     let mut out = Vec::new(alloc);
     for function in functions {
-        push_types(function.parameters.as_slice(), alloc, structs, &mut out)?;
-        push_statement(&function.body, alloc, structs, &mut out)?;
+        push_types(function.parameters.as_slice(), structs, &mut out)?;
+        push_statement(&function.body, structs, &mut out)?;
     }
     Ok(out)
 }

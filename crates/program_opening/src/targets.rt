@@ -47,7 +47,7 @@ fn push_leaf(
         ++ pure.leaf_targets (pure.struct_targets (view_structs structs.now).completed) (view_base leaf.now)) }
 {
     match leaf {
-        Base::Pointer(target) => push_copy(alloc, found, target),
+        Base::Pointer(target) => push_copy(found, target),
         Base::Struct(number) => push_members(alloc, structs, found, *number),
         Base::Void | Base::Integer(_) | Base::Array(_, _) | Base::LockObject => Ok(()),
     }
@@ -68,7 +68,7 @@ fn push_members(
     for _ in 0..u64::MAX {
         match pending.pop() {
             None => return Ok(()),
-            Some(next) => push_next(alloc, structs, found, &mut pending, next)?,
+            Some(next) => push_next(structs, found, &mut pending, next)?,
         }
     }
     Err(OutOfMemory)
@@ -76,7 +76,6 @@ fn push_members(
 
 // Adds the target of a leaf element where it is a pointer; where it is a struct, that struct is to come first.
 fn push_found(
-    alloc: Global,
     structs: &Structs,
     found: &mut Vec<CType>,
     pending: &mut Vec<Pending>,
@@ -89,7 +88,7 @@ fn push_found(
         ++ all_pending (view_structs structs.now).completed pending.old.items)) }
 {
     match leaf {
-        Base::Pointer(target) => push_copy(alloc, found, target)?,
+        Base::Pointer(target) => push_copy(found, target)?,
         Base::Struct(number) => pending.push(Pending {
             number: *number,
             member: 0,
@@ -101,7 +100,6 @@ fn push_found(
 
 // Goes on with the next member, and leaves those behind it.
 fn push_next(
-    alloc: Global,
     structs: &Structs,
     found: &mut Vec<CType>,
     pending: &mut Vec<Pending>,
@@ -121,14 +119,14 @@ fn push_next(
         number: next.number,
         member: next.member + 1,
     })?;
-    push_found(alloc, structs, found, pending, leaf)?;
+    push_found(structs, found, pending, leaf)?;
     Ok(())
 }
 
-fn push_copy(alloc: Global, found: &mut Vec<CType>, t: &CType) -> Result<(), OutOfMemory>
+fn push_copy(found: &mut Vec<CType>, t: &CType) -> Result<(), OutOfMemory>
     ensures { OnOk result (map view found.new.items ≡ map view found.old.items ++ view t.now ∷ []) }
 {
-    found.push(copy_type(alloc, t)?)?;
+    found.push(copy_type(t)?)?;
     Ok(())
 }
 

@@ -1,14 +1,20 @@
 -- Members of structs and parameters of functions, one by one (C99 6.7.2.1, 6.7.5.3).
-use Rattle.std.specs.Prelude.{ℕ, ◌+◌, nat_eq, Bool, List, [], ◌∷◌, ◌++◌, Option, Some, None}
+use Rattle.std.specs.Prelude.{◌≡◌, ℕ, nat_eq, Bool, List, [], ◌∷◌, ◌++◌, Option, Some, None, is_some}
+use Rattle.std.specs.BTreeMap.{BTreeMap}
 use Rattle.std.specs.List.{list_any}
 use Rattle.std.specs.Cmp.Lexicographic.{pointwise}
 use Rattle.upc_tree.specs.declared.span.Name.{Name}
+use Rattle.upc_types.specs.Named.{at_name}
 use Rattle.upc_types.specs.Types.{CType, Member}
 use Rattle.typed_tree.specs.Scopes.{Env, declare, declare_unnamed}
 use Rattle.type_specifiers.specs.Shapes.{adjusted}
 
 abbrev pub has_member : List Member → List ℕ → Bool
 has_member members name = list_any (λ x. pointwise nat_eq x.name name) members
+
+-- The map has a number at exactly the names of these members.
+abbrev pub AreNamed : {K : Type 0} → BTreeMap K ℕ → (K → List ℕ) → List Member → Type 0
+AreNamed numbers bytes members = (name : List ℕ) → is_some (at_name numbers bytes name) ≡ has_member members name
 
 abbrev pub with_member : List Member → List ℕ → CType → List Member
 with_member members name t = members ++ (record { name = name; ctype = t } ∷ [])

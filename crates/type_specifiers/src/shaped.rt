@@ -11,6 +11,7 @@ use crate::specified::{Blocks, Quals, Specified, quals_fit, specified_base};
 use block_layout::Kind;
 use node_attributes::attributes::value_type;
 use std::alloc::Global;
+use std::rc::Rc;
 use typing_rules::{Constant, Formed};
 use upc_text::OutOfMemory;
 use upc_types::{Access, Base, CType, copy_type};
@@ -88,7 +89,7 @@ pub fn pointer_to(alloc: Global, t: Shaped, quals: &Quals) -> Result<Shaped, Out
     ensures { IfOk result (λ p. view_shaped p ≡ pure.pointer_to (view_shaped t) (view_quals
         quals.now)) }
 {
-    let base = Base::Pointer(Box::new(alloc, t.ctype)?);
+    let base = Base::Pointer(Rc::new(alloc, t.ctype)?);
     Ok(Shaped {
         forms: t.forms && quals_fit(quals),
         ctype: qualify(base, quals),
@@ -97,12 +98,12 @@ pub fn pointer_to(alloc: Global, t: Shaped, quals: &Quals) -> Result<Shaped, Out
 }
 
 /// A copy of a type so far.
-pub fn copy_shaped(alloc: Global, t: &Shaped) -> Result<Shaped, OutOfMemory>
+pub fn copy_shaped(t: &Shaped) -> Result<Shaped, OutOfMemory>
     ensures { IfOk result (λ copy. view_shaped copy ≡ view_shaped t.now) }
 {
     Ok(Shaped {
         forms: t.forms,
-        ctype: copy_type(alloc, &t.ctype)?,
+        ctype: copy_type(&t.ctype)?,
         star: t.star,
     })
 }
@@ -187,7 +188,7 @@ fn array_of(alloc: Global, t: CType, count: u32) -> Result<CType, OutOfMemory>
 {
     let (constant, shared, access) = (t.constant, t.shared, t.access);
     Ok(CType {
-        base: Base::Array(Box::new(alloc, t)?, count),
+        base: Base::Array(Rc::new(alloc, t)?, count),
         constant,
         shared,
         access,
@@ -247,12 +248,12 @@ pub fn parameter_array(
 }
 
 /// An array as a parameter is a pointer to its first element (C99 6.7.5.3).
-pub fn adjusted(alloc: Global, t: &CType) -> Result<CType, OutOfMemory>
+pub fn adjusted(t: &CType) -> Result<CType, OutOfMemory>
     ensures { IfOk result (λ a. view a ≡ walks.adjusted (view t.now)) }
 {
     if matches!(t.base, Base::Array(_, _)) {
-        value_type(alloc, t)
+        value_type(t)
     } else {
-        copy_type(alloc, t)
+        copy_type(t)
     }
 }

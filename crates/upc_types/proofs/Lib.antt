@@ -2,7 +2,6 @@ pub mod Sizes
 pub mod Members
 pub mod Places
 pub mod Numbers
-pub mod Chains
 pub mod Equal
 pub mod Order
 pub mod Within

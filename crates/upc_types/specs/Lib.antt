@@ -2,7 +2,6 @@ pub mod Types
 pub mod Same
 pub mod Layout
 pub mod Cells
-pub mod Levels
 pub mod Kept
 pub mod Arithmetic
 pub mod Conversions

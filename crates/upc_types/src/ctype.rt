@@ -1,6 +1,7 @@
 //! Types (C99 6.2.5, UPC 6.5.1).
 
 use block_layout::Kind;
+use std::rc::Rc;
 
 /// Whether a type says strict or relaxed (UPC 6.5.1.1).
 #[derive(Clone, Copy, PartialEq, Eq, Debug)]
@@ -22,7 +23,8 @@ pub struct CType {
     pub access: Access,
 }
 
-/// A type without its qualifiers.
+/// A type without its qualifiers. What is pointed to and the element of an array are shared by all types that are made of
+/// them, so a copy of a type costs the same whatever its depth.
 #[cycle(types)]
 pub enum Base {
     Void,
@@ -31,19 +33,22 @@ pub enum Base {
     /// A struct, by its number.
     Struct(u32),
     /// An array with its number of elements. It has the qualifiers of its element.
-    Array(Box<CType>, u32),
+    Array(Rc<CType>, u32),
     /// A pointer: to shared where its target is shared, a lock pointer where its target is a lock, else private.
-    Pointer(Box<CType>),
+    Pointer(Rc<CType>),
     /// What a lock pointer points to (UPC 7.2.4).
     LockObject,
 }
 
-// A loop, since a chain of pointers may be as long as a source.
+// A loop, since a chain of pointers may be as long as a source. It ends at the first that has another owner.
 impl Drop for Base {
     fn drop(mut self) {
         loop {
             match self {
-                Base::Array(inner, _) | Base::Pointer(inner) => self = Box::into_inner(inner).base,
+                Base::Array(inner, _) | Base::Pointer(inner) => match Rc::into_inner(inner) {
+                    Some(inner) => self = inner.base,
+                    None => return,
+                },
                 Base::Void | Base::Integer(_) | Base::Struct(_) | Base::LockObject => return,
             }
         }

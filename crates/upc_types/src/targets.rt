@@ -74,7 +74,7 @@ impl Targets {
         if count >= u32::MAX as usize {
             return Err(OutOfMemory);
         }
-        let copy = copy_type(*self.list.allocator(), target)?;
+        let copy = copy_type(target)?;
         self.list.reserve(1)?;
         self.places.note(code_of(target))?;
         self.list.push(copy).unwrap();

@@ -18,10 +18,10 @@ pub fn copy_signature(alloc: Global, s: &Signature) -> Result<Signature, OutOfMe
 {
     let mut parameters = Vec::new(alloc);
     for t in &s.parameters {
-        parameters.push(copy_type(alloc, t)?)?;
+        parameters.push(copy_type(t)?)?;
     }
     Ok(Signature {
-        result: copy_type(alloc, &s.result)?,
+        result: copy_type(&s.result)?,
         parameters,
     })
 }

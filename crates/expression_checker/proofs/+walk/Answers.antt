@@ -20,7 +20,6 @@ use Rattle.upc_tree.proofs.expression.NextDeclarator.TheLaws as declarator
 use Rattle.upc_tree.proofs.expression.Pointer.TheLaws as pointer
 use Rattle.upc_tree.proofs.Rows.{comma_is, filled_is, function_is, object_is, parameter_is, parameters_is, struct_is, type_is}
 use Rattle.upc_types.specs.declared.ctype.CType.{CType}
-use Rattle.upc_types.specs.declared.structs.Member.{Member as RustMember}
 use Rattle.upc_types.specs.Types.{Member}
 use Rattle.upc_types.specs.View as types
 use Rattle.typing_rules.specs.declared.attribute.Constant.{Constant}
@@ -687,7 +686,7 @@ types::walk_members-returns-in_err-found t c =
     let place = c.specs_place-at.ensures ∙ ap (λ (l : List Spec). specs_place (specs_of (map view_spec l))) c.as_slice-specs.ensures.value in
     let within : c.loop-line.line-index < length c.args.lines.now = omega arith in
     let p = err_from_is_err_and c.from_residual.result c.from_residual.ensures.1 in
-    rw (p.1, p.2) (lines_stop ξ Γ (map types.view_member c.loop-line.members.items) c.args.lines.now c.loop-line.line-index c.line-item.result (state_of c.loop-line.tags c.loop-line.known) _ _ within c.line-item.is (line_stops (λ (ms : List Member). ms) ξ Γ (view_specifying c.in_type.result) (map types.view_member c.loop-line.members.items) (view_specs (out-Member c.line-item.result).specs) (view_declarator (out-Member c.line-item.result).first.value) (view_next_declarators (out-Member c.line-item.result).more) (out-Member c.line-item.result).semicolon (members_of (map view_member (drop (c.loop-line.line-index + 1) c.args.lines.now))) (state_of c.loop-line.tags c.loop-line.known) (state_of c.loop-line.tags c.loop-line.known) _ (Err _) (c.in_type.ensures ∙ ap in_type place) (moved_stop (all_specifiers ξ Γ (view_specifying c.in_type.result)) c.as_slice-specs.result.now (out-Member c.line-item.result).specs.items (state_of c.loop-line.tags c.loop-line.known) _ c.as_slice-specs.ensures.value c.in_err-found.ensures) refl).met c.loop-line.invariant)
+    rw (p.1, p.2) (lines_stop ξ Γ (map types.view_member c.loop-line.members.all.items) c.args.lines.now c.loop-line.line-index c.line-item.result (state_of c.loop-line.tags c.loop-line.known) _ _ within c.line-item.is (line_stops (λ (ms : List Member). ms) ξ Γ (view_specifying c.in_type.result) (map types.view_member c.loop-line.members.all.items) (view_specs (out-Member c.line-item.result).specs) (view_declarator (out-Member c.line-item.result).first.value) (view_next_declarators (out-Member c.line-item.result).more) (out-Member c.line-item.result).semicolon (members_of (map view_member (drop (c.loop-line.line-index + 1) c.args.lines.now))) (state_of c.loop-line.tags c.loop-line.known) (state_of c.loop-line.tags c.loop-line.known) _ (Err _) (c.in_type.ensures ∙ ap in_type place) (moved_stop (all_specifiers ξ Γ (view_specifying c.in_type.result)) c.as_slice-specs.result.now (out-Member c.line-item.result).specs.items (state_of c.loop-line.tags c.loop-line.known) _ c.as_slice-specs.ensures.value c.in_err-found.ensures) refl).met c.loop-line.invariant)
 
 pub types::walk_members-returns-in_err-walk_member : goal.types::walk_members-returns-in_err-walk_member
 types::walk_members-returns-in_err-walk_member t c =
@@ -696,7 +695,7 @@ types::walk_members-returns-in_err-walk_member t c =
     let place = c.specs_place-at.ensures ∙ ap (λ (l : List Spec). specs_place (specs_of (map view_spec l))) c.as_slice-specs.ensures.value in
     let within : c.loop-line.line-index < length c.args.lines.now = omega arith in
     let p = err_from_is_err_and c.from_residual-in_err-walk_member.result c.from_residual-in_err-walk_member.ensures.1 in
-    rw (p.1, p.2) (lines_stop ξ Γ (map types.view_member c.loop-line.members.items) c.args.lines.now c.loop-line.line-index c.line-item.result (state_of c.loop-line.tags c.loop-line.known) _ _ within c.line-item.is (line_stops_at_first (λ (ms : List Member). ms) ξ Γ (view_specifying c.in_type.result) (map types.view_member c.loop-line.members.items) (view_specs (out-Member c.line-item.result).specs) (view_declarator (out-Member c.line-item.result).first.value) (view_next_declarators (out-Member c.line-item.result).more) (out-Member c.line-item.result).semicolon (members_of (map view_member (drop (c.loop-line.line-index + 1) c.args.lines.now))) (state_of c.loop-line.tags c.loop-line.known) (state_of c.walk_specifiers.new.tags c.walk_specifiers.new.known) (state_of c.loop-line.tags c.loop-line.known) (view_specified c.in_ok-found.found) (view_shaped c.specified_type-t.result) _ (Err _) (c.in_type.ensures ∙ ap in_type place) c.specified_type-t.ensures (moved (all_specifiers ξ Γ (view_specifying c.in_type.result)) c.as_slice-specs.result.now (out-Member c.line-item.result).specs.items _ _ _ c.as_slice-specs.ensures.value c.in_ok-found.ensures) (moved_stop (λ (z : DeclaratorTree). walk_member ξ Γ (view_shaped c.specified_type-t.result) (map types.view_member c.loop-line.members.items) (view_declarator z)) c.deref.result.now (out-Member c.line-item.result).first.value (state_of c.walk_specifiers.new.tags c.walk_specifiers.new.known) _ c.deref.ensures c.in_err-walk_member.ensures) refl).met c.loop-line.invariant)
+    rw (p.1, p.2) (lines_stop ξ Γ (map types.view_member c.loop-line.members.all.items) c.args.lines.now c.loop-line.line-index c.line-item.result (state_of c.loop-line.tags c.loop-line.known) _ _ within c.line-item.is (line_stops_at_first (λ (ms : List Member). ms) ξ Γ (view_specifying c.in_type.result) (map types.view_member c.loop-line.members.all.items) (view_specs (out-Member c.line-item.result).specs) (view_declarator (out-Member c.line-item.result).first.value) (view_next_declarators (out-Member c.line-item.result).more) (out-Member c.line-item.result).semicolon (members_of (map view_member (drop (c.loop-line.line-index + 1) c.args.lines.now))) (state_of c.loop-line.tags c.loop-line.known) (state_of c.walk_specifiers.new.tags c.walk_specifiers.new.known) (state_of c.loop-line.tags c.loop-line.known) (view_specified c.in_ok-found.found) (view_shaped c.specified_type-t.result) _ (Err _) (c.in_type.ensures ∙ ap in_type place) c.specified_type-t.ensures (moved (all_specifiers ξ Γ (view_specifying c.in_type.result)) c.as_slice-specs.result.now (out-Member c.line-item.result).specs.items _ _ _ c.as_slice-specs.ensures.value c.in_ok-found.ensures) (moved_stop (λ (z : DeclaratorTree). walk_member ξ Γ (view_shaped c.specified_type-t.result) (map types.view_member c.loop-line.members.all.items) (view_declarator z)) c.deref.result.now (out-Member c.line-item.result).first.value (state_of c.walk_specifiers.new.tags c.walk_specifiers.new.known) _ c.deref.ensures c.in_err-walk_member.ensures) refl).met c.loop-line.invariant)
 
 pub types::walk_members-returns-in_err-walk_next_members : goal.types::walk_members-returns-in_err-walk_next_members
 types::walk_members-returns-in_err-walk_next_members t c =
@@ -705,7 +704,7 @@ types::walk_members-returns-in_err-walk_next_members t c =
     let place = c.specs_place-at.ensures ∙ ap (λ (l : List Spec). specs_place (specs_of (map view_spec l))) c.as_slice-specs.ensures.value in
     let within : c.loop-line.line-index < length c.args.lines.now = omega arith in
     let p = err_from_is_err_and c.from_residual-in_err-walk_next_members.result c.from_residual-in_err-walk_next_members.ensures.1 in
-    rw (p.1, p.2) (lines_stop ξ Γ (map types.view_member c.loop-line.members.items) c.args.lines.now c.loop-line.line-index c.line-item.result (state_of c.loop-line.tags c.loop-line.known) _ _ within c.line-item.is (line_stops_at_others (λ (ms : List Member). ms) ξ Γ (view_specifying c.in_type.result) (map types.view_member c.loop-line.members.items) (map types.view_member c.walk_member.new.members.items) (view_specs (out-Member c.line-item.result).specs) (view_declarator (out-Member c.line-item.result).first.value) (view_next_declarators (out-Member c.line-item.result).more) (out-Member c.line-item.result).semicolon (members_of (map view_member (drop (c.loop-line.line-index + 1) c.args.lines.now))) (state_of c.loop-line.tags c.loop-line.known) (state_of c.walk_specifiers.new.tags c.walk_specifiers.new.known) (state_of c.walk_member.new.tags c.walk_member.new.known) (state_of c.loop-line.tags c.loop-line.known) (view_specified c.in_ok-found.found) (view_shaped c.specified_type-t.result) _ (Err _) (c.in_type.ensures ∙ ap in_type place) c.specified_type-t.ensures (moved (all_specifiers ξ Γ (view_specifying c.in_type.result)) c.as_slice-specs.result.now (out-Member c.line-item.result).specs.items _ _ _ c.as_slice-specs.ensures.value c.in_ok-found.ensures) (moved (λ (z : DeclaratorTree). walk_member ξ Γ (view_shaped c.specified_type-t.result) (map types.view_member c.loop-line.members.items) (view_declarator z)) c.deref.result.now (out-Member c.line-item.result).first.value _ _ _ c.deref.ensures c.in_ok-walk_member.ensures) (moved_stop (rest_of_declarators ξ Γ (view_shaped c.specified_type-t.result) (map types.view_member c.walk_member.new.members.items)) c.as_slice-more.result.now (out-Member c.line-item.result).more.items (state_of c.walk_member.new.tags c.walk_member.new.known) _ c.as_slice-more.ensures.value c.in_err-walk_next_members.ensures) refl).met c.loop-line.invariant)
+    rw (p.1, p.2) (lines_stop ξ Γ (map types.view_member c.loop-line.members.all.items) c.args.lines.now c.loop-line.line-index c.line-item.result (state_of c.loop-line.tags c.loop-line.known) _ _ within c.line-item.is (line_stops_at_others (λ (ms : List Member). ms) ξ Γ (view_specifying c.in_type.result) (map types.view_member c.loop-line.members.all.items) (map types.view_member c.walk_member.new.members.all.items) (view_specs (out-Member c.line-item.result).specs) (view_declarator (out-Member c.line-item.result).first.value) (view_next_declarators (out-Member c.line-item.result).more) (out-Member c.line-item.result).semicolon (members_of (map view_member (drop (c.loop-line.line-index + 1) c.args.lines.now))) (state_of c.loop-line.tags c.loop-line.known) (state_of c.walk_specifiers.new.tags c.walk_specifiers.new.known) (state_of c.walk_member.new.tags c.walk_member.new.known) (state_of c.loop-line.tags c.loop-line.known) (view_specified c.in_ok-found.found) (view_shaped c.specified_type-t.result) _ (Err _) (c.in_type.ensures ∙ ap in_type place) c.specified_type-t.ensures (moved (all_specifiers ξ Γ (view_specifying c.in_type.result)) c.as_slice-specs.result.now (out-Member c.line-item.result).specs.items _ _ _ c.as_slice-specs.ensures.value c.in_ok-found.ensures) (moved (λ (z : DeclaratorTree). walk_member ξ Γ (view_shaped c.specified_type-t.result) (map types.view_member c.loop-line.members.all.items) (view_declarator z)) c.deref.result.now (out-Member c.line-item.result).first.value _ _ _ c.deref.ensures c.in_ok-walk_member.ensures) (moved_stop (rest_of_declarators ξ Γ (view_shaped c.specified_type-t.result) (map types.view_member c.walk_member.new.members.all.items)) c.as_slice-more.result.now (out-Member c.line-item.result).more.items (state_of c.walk_member.new.tags c.walk_member.new.known) _ c.as_slice-more.ensures.value c.in_err-walk_next_members.ensures) refl).met c.loop-line.invariant)
 
 pub types::walk_members-returns-in_err-judged : goal.types::walk_members-returns-in_err-judged
 types::walk_members-returns-in_err-judged t c =
@@ -714,7 +713,7 @@ types::walk_members-returns-in_err-judged t c =
     let place = c.specs_place-at.ensures ∙ ap (λ (l : List Spec). specs_place (specs_of (map view_spec l))) c.as_slice-specs.ensures.value in
     let within : c.loop-line.line-index < length c.args.lines.now = omega arith in
     let p = err_from_is_err_and c.from_residual-in_err-judged.result c.from_residual-in_err-judged.ensures.1 in
-    rw (p.1, p.2) (lines_stop ξ Γ (map types.view_member c.loop-line.members.items) c.args.lines.now c.loop-line.line-index c.line-item.result (state_of c.loop-line.tags c.loop-line.known) _ _ within c.line-item.is (line_stops_itself (λ (ms : List Member). ms) ξ Γ (view_specifying c.in_type.result) (map types.view_member c.loop-line.members.items) (map types.view_member c.walk_member.new.members.items) (map types.view_member c.walk_next_members.new.members.items) (view_specs (out-Member c.line-item.result).specs) (view_declarator (out-Member c.line-item.result).first.value) (view_next_declarators (out-Member c.line-item.result).more) (out-Member c.line-item.result).semicolon (members_of (map view_member (drop (c.loop-line.line-index + 1) c.args.lines.now))) (state_of c.loop-line.tags c.loop-line.known) (state_of c.walk_specifiers.new.tags c.walk_specifiers.new.known) (state_of c.walk_member.new.tags c.walk_member.new.known) (state_of c.walk_next_members.new.tags c.walk_next_members.new.known) (state_of c.loop-line.tags c.loop-line.known) (view_specified c.in_ok-found.found) (view_shaped c.specified_type-t.result) c.specifiers_form.result c.specs_place-at.result c.specifies.result _ (Err _) (c.in_type.ensures ∙ ap in_type place) c.specified_type-t.ensures c.specifiers_form.ensures place (moved (all_specifiers ξ Γ (view_specifying c.in_type.result)) c.as_slice-specs.result.now (out-Member c.line-item.result).specs.items _ _ _ c.as_slice-specs.ensures.value c.in_ok-found.ensures) (moved (λ (z : DeclaratorTree). walk_member ξ Γ (view_shaped c.specified_type-t.result) (map types.view_member c.loop-line.members.items) (view_declarator z)) c.deref.result.now (out-Member c.line-item.result).first.value _ _ _ c.deref.ensures c.in_ok-walk_member.ensures) (moved (rest_of_declarators ξ Γ (view_shaped c.specified_type-t.result) (map types.view_member c.walk_member.new.members.items)) c.as_slice-more.result.now (out-Member c.line-item.result).more.items _ _ _ c.as_slice-more.ensures.value c.in_ok-walk_next_members.ensures) (c.specifies.ensures (facts_in ξ (state_of c.walk_next_members.new.tags c.walk_next_members.new.known))) c.in_err-judged.ensures.err refl).met c.loop-line.invariant)
+    rw (p.1, p.2) (lines_stop ξ Γ (map types.view_member c.loop-line.members.all.items) c.args.lines.now c.loop-line.line-index c.line-item.result (state_of c.loop-line.tags c.loop-line.known) _ _ within c.line-item.is (line_stops_itself (λ (ms : List Member). ms) ξ Γ (view_specifying c.in_type.result) (map types.view_member c.loop-line.members.all.items) (map types.view_member c.walk_member.new.members.all.items) (map types.view_member c.walk_next_members.new.members.all.items) (view_specs (out-Member c.line-item.result).specs) (view_declarator (out-Member c.line-item.result).first.value) (view_next_declarators (out-Member c.line-item.result).more) (out-Member c.line-item.result).semicolon (members_of (map view_member (drop (c.loop-line.line-index + 1) c.args.lines.now))) (state_of c.loop-line.tags c.loop-line.known) (state_of c.walk_specifiers.new.tags c.walk_specifiers.new.known) (state_of c.walk_member.new.tags c.walk_member.new.known) (state_of c.walk_next_members.new.tags c.walk_next_members.new.known) (state_of c.loop-line.tags c.loop-line.known) (view_specified c.in_ok-found.found) (view_shaped c.specified_type-t.result) c.specifiers_form.result c.specs_place-at.result c.specifies.result _ (Err _) (c.in_type.ensures ∙ ap in_type place) c.specified_type-t.ensures c.specifiers_form.ensures place (moved (all_specifiers ξ Γ (view_specifying c.in_type.result)) c.as_slice-specs.result.now (out-Member c.line-item.result).specs.items _ _ _ c.as_slice-specs.ensures.value c.in_ok-found.ensures) (moved (λ (z : DeclaratorTree). walk_member ξ Γ (view_shaped c.specified_type-t.result) (map types.view_member c.loop-line.members.all.items) (view_declarator z)) c.deref.result.now (out-Member c.line-item.result).first.value _ _ _ c.deref.ensures c.in_ok-walk_member.ensures) (moved (rest_of_declarators ξ Γ (view_shaped c.specified_type-t.result) (map types.view_member c.walk_member.new.members.all.items)) c.as_slice-more.result.now (out-Member c.line-item.result).more.items _ _ _ c.as_slice-more.ensures.value c.in_ok-walk_next_members.ensures) (c.specifies.ensures (facts_in ξ (state_of c.walk_next_members.new.tags c.walk_next_members.new.known))) c.in_err-judged.ensures.err refl).met c.loop-line.invariant)
 
 pub types::walk_members-loop-line-preserved : goal.types::walk_members-loop-line-preserved
 types::walk_members-loop-line-preserved t c =
@@ -722,8 +721,8 @@ types::walk_members-loop-line-preserved t c =
     let Γ = view_env c.args.env.now in
     let place = c.specs_place-at.ensures ∙ ap (λ (l : List Spec). specs_place (specs_of (map view_spec l))) c.as_slice-specs.ensures.value in
     let within : c.loop-line.line-index < length c.args.lines.now = omega arith in
-    lines_step ξ Γ (map types.view_member c.loop-line.members.items) (map types.view_member c.walk_next_members.new.members.items) c.args.lines.now c.loop-line.line-index c.line-item.result (state_of c.loop-line.tags c.loop-line.known) (state_of c.walk_next_members.new.tags c.note_end.new.known) _ within c.line-item.is
-    (line_goes ξ Γ (view_specifying c.in_type.result) (map types.view_member c.loop-line.members.items) (map types.view_member c.walk_member.new.members.items) (map types.view_member c.walk_next_members.new.members.items) (view_specs (out-Member c.line-item.result).specs) (view_declarator (out-Member c.line-item.result).first.value) (view_next_declarators (out-Member c.line-item.result).more) (out-Member c.line-item.result).semicolon (members_of (map view_member (drop (c.loop-line.line-index + 1) c.args.lines.now))) (state_of c.loop-line.tags c.loop-line.known) (state_of c.walk_specifiers.new.tags c.walk_specifiers.new.known) (state_of c.walk_member.new.tags c.walk_member.new.known) (state_of c.walk_next_members.new.tags c.walk_next_members.new.known) (state_of c.walk_next_members.new.tags c.note_end.new.known) (view_specified c.in_ok-found.found) (view_shaped c.specified_type-t.result) c.specifiers_form.result c.specs_place-at.result c.specifies.result (c.in_type.ensures ∙ ap in_type place) c.specified_type-t.ensures c.specifiers_form.ensures place (moved (all_specifiers ξ Γ (view_specifying c.in_type.result)) c.as_slice-specs.result.now (out-Member c.line-item.result).specs.items _ _ _ c.as_slice-specs.ensures.value c.in_ok-found.ensures) (moved (λ (z : DeclaratorTree). walk_member ξ Γ (view_shaped c.specified_type-t.result) (map types.view_member c.loop-line.members.items) (view_declarator z)) c.deref.result.now (out-Member c.line-item.result).first.value _ _ _ c.deref.ensures c.in_ok-walk_member.ensures) (moved (rest_of_declarators ξ Γ (view_shaped c.specified_type-t.result) (map types.view_member c.walk_member.new.members.items)) c.as_slice-more.result.now (out-Member c.line-item.result).more.items _ _ _ c.as_slice-more.ensures.value c.in_ok-walk_next_members.ensures) (c.specifies.ensures (facts_in ξ (state_of c.walk_next_members.new.tags c.walk_next_members.new.known))) c.in_ok-judged.ensures.ok (c.note_end.ensures (view_tags c.walk_next_members.new.tags)))
+    lines_step ξ Γ (map types.view_member c.loop-line.members.all.items) (map types.view_member c.walk_next_members.new.members.all.items) c.args.lines.now c.loop-line.line-index c.line-item.result (state_of c.loop-line.tags c.loop-line.known) (state_of c.walk_next_members.new.tags c.note_end.new.known) _ within c.line-item.is
+    (line_goes ξ Γ (view_specifying c.in_type.result) (map types.view_member c.loop-line.members.all.items) (map types.view_member c.walk_member.new.members.all.items) (map types.view_member c.walk_next_members.new.members.all.items) (view_specs (out-Member c.line-item.result).specs) (view_declarator (out-Member c.line-item.result).first.value) (view_next_declarators (out-Member c.line-item.result).more) (out-Member c.line-item.result).semicolon (members_of (map view_member (drop (c.loop-line.line-index + 1) c.args.lines.now))) (state_of c.loop-line.tags c.loop-line.known) (state_of c.walk_specifiers.new.tags c.walk_specifiers.new.known) (state_of c.walk_member.new.tags c.walk_member.new.known) (state_of c.walk_next_members.new.tags c.walk_next_members.new.known) (state_of c.walk_next_members.new.tags c.note_end.new.known) (view_specified c.in_ok-found.found) (view_shaped c.specified_type-t.result) c.specifiers_form.result c.specs_place-at.result c.specifies.result (c.in_type.ensures ∙ ap in_type place) c.specified_type-t.ensures c.specifiers_form.ensures place (moved (all_specifiers ξ Γ (view_specifying c.in_type.result)) c.as_slice-specs.result.now (out-Member c.line-item.result).specs.items _ _ _ c.as_slice-specs.ensures.value c.in_ok-found.ensures) (moved (λ (z : DeclaratorTree). walk_member ξ Γ (view_shaped c.specified_type-t.result) (map types.view_member c.loop-line.members.all.items) (view_declarator z)) c.deref.result.now (out-Member c.line-item.result).first.value _ _ _ c.deref.ensures c.in_ok-walk_member.ensures) (moved (rest_of_declarators ξ Γ (view_shaped c.specified_type-t.result) (map types.view_member c.walk_member.new.members.all.items)) c.as_slice-more.result.now (out-Member c.line-item.result).more.items _ _ _ c.as_slice-more.ensures.value c.in_ok-walk_next_members.ensures) (c.specifies.ensures (facts_in ξ (state_of c.walk_next_members.new.tags c.walk_next_members.new.known))) c.in_ok-judged.ensures.ok (c.note_end.ensures (view_tags c.walk_next_members.new.tags)))
     c.loop-line.invariant
 
 pub types::walk_next_members-returns-in_err-walk_member : goal.types::walk_next_members-returns-in_err-walk_member
@@ -732,14 +731,14 @@ types::walk_next_members-returns-in_err-walk_member t c =
     let Γ = view_env c.args.env.now in
     let within : c.loop-part.part-index < length c.args.more.now = omega arith in
     let p = err_from_is_err_and c.from_residual.result c.from_residual.ensures.1 in
-    rw (p.1, p.2) (declarators_stop ξ Γ (view_shaped c.args.t.now) (map types.view_member c.loop-part.members.items) c.args.more.now c.loop-part.part-index c.part-item.result (state_of c.loop-part.tags c.loop-part.known) _ _ within c.part-item.is (moved_stop (λ (z : DeclaratorTree). walk_member ξ Γ (view_shaped c.args.t.now) (map types.view_member c.loop-part.members.items) (view_declarator z)) c.deref.result.now c.part-item.result.declarator.value (state_of c.loop-part.tags c.loop-part.known) _ c.deref.ensures c.in_err-walk_member.ensures) c.loop-part.invariant)
+    rw (p.1, p.2) (declarators_stop ξ Γ (view_shaped c.args.t.now) (map types.view_member c.loop-part.members.all.items) c.args.more.now c.loop-part.part-index c.part-item.result (state_of c.loop-part.tags c.loop-part.known) _ _ within c.part-item.is (moved_stop (λ (z : DeclaratorTree). walk_member ξ Γ (view_shaped c.args.t.now) (map types.view_member c.loop-part.members.all.items) (view_declarator z)) c.deref.result.now c.part-item.result.declarator.value (state_of c.loop-part.tags c.loop-part.known) _ c.deref.ensures c.in_err-walk_member.ensures) c.loop-part.invariant)
 
 pub types::walk_next_members-loop-part-preserved : goal.types::walk_next_members-loop-part-preserved
 types::walk_next_members-loop-part-preserved t c =
     let ξ = view_setting c.args.setting in
     let Γ = view_env c.args.env.now in
     let within : c.loop-part.part-index < length c.args.more.now = omega arith in
-    declarators_step ξ Γ (view_shaped c.args.t.now) (map types.view_member c.loop-part.members.items) (map types.view_member c.walk_member.new.members.items) c.args.more.now c.loop-part.part-index c.part-item.result (state_of c.loop-part.tags c.loop-part.known) (state_of c.walk_member.new.tags c.walk_member.new.known) _ within c.part-item.is (moved (λ (z : DeclaratorTree). walk_member ξ Γ (view_shaped c.args.t.now) (map types.view_member c.loop-part.members.items) (view_declarator z)) c.deref.result.now c.part-item.result.declarator.value _ _ _ c.deref.ensures c.in_ok-walk_member.ensures) c.loop-part.invariant
+    declarators_step ξ Γ (view_shaped c.args.t.now) (map types.view_member c.loop-part.members.all.items) (map types.view_member c.walk_member.new.members.all.items) c.args.more.now c.loop-part.part-index c.part-item.result (state_of c.loop-part.tags c.loop-part.known) (state_of c.walk_member.new.tags c.walk_member.new.known) _ within c.part-item.is (moved (λ (z : DeclaratorTree). walk_member ξ Γ (view_shaped c.args.t.now) (map types.view_member c.loop-part.members.all.items) (view_declarator z)) c.deref.result.now c.part-item.result.declarator.value _ _ _ c.deref.ensures c.in_ok-walk_member.ensures) c.loop-part.invariant
 
 pub types::walk_member-returns-in_err-t-in-Object : goal.types::walk_member-returns-in_err-t-in-Object
 types::walk_member-returns-in_err-t-in-Object t c =
@@ -747,7 +746,7 @@ types::walk_member-returns-in_err-t-in-Object t c =
     let Γ = view_env c.args.env.now in
     let s = state_of c.args.tags.now c.args.known.now in
     let p = err_from_is_err_and c.from_residual-in_err-t-in-Object.result c.from_residual-in_err-t-in-Object.ensures.1 in
-    rw (p.1, p.2) (of_form (walk_member ξ Γ (view_shaped c.args.t.now) (map types.view_member c.args.members.now.items)) (λ (ms : List Member). ms) (view_declarator c.args.declarator.now) (tree.ObjectDeclarator (view_pointers c.in-Object.pointers) c.in-Object.name (view_dimensions c.in-Object.sizes)) s s (Err _) (ap view_declarator c.in-Object.is ∙ object_is c.in-Object.pointers c.in-Object.name c.in-Object.sizes)
+    rw (p.1, p.2) (of_form (walk_member ξ Γ (view_shaped c.args.t.now) (map types.view_member c.args.members.now.all.items)) (λ (ms : List Member). ms) (view_declarator c.args.declarator.now) (tree.ObjectDeclarator (view_pointers c.in-Object.pointers) c.in-Object.name (view_dimensions c.in-Object.sizes)) s s (Err _) (ap view_declarator c.in-Object.is ∙ object_is c.in-Object.pointers c.in-Object.name c.in-Object.sizes)
     (stopped _ _ s _ refl (moved_stop (λ (t : Shaped). rest_of_stars ξ Γ false t c.in-Object.pointers.items) (view_shaped c.in_ok-t.t) (view_shaped c.args.t.now) s _ c.in_ok-t.ensures (moved_stop (rest_of_stars ξ Γ false (view_shaped c.in_ok-t.t)) c.as_slice.result.now c.in-Object.pointers.items s _ c.as_slice.ensures.value c.in_err-t-in-Object.ensures))))
 
 pub types::walk_member-returns-in_err-sizes-in-Object : goal.types::walk_member-returns-in_err-sizes-in-Object
@@ -756,7 +755,7 @@ types::walk_member-returns-in_err-sizes-in-Object t c =
     let Γ = view_env c.args.env.now in
     let s = state_of c.args.tags.now c.args.known.now in
     let p = err_from_is_err_and c.from_residual-in_err-sizes-in-Object.result c.from_residual-in_err-sizes-in-Object.ensures.1 in
-    rw (p.1, p.2) (of_form (walk_member ξ Γ (view_shaped c.args.t.now) (map types.view_member c.args.members.now.items)) (λ (ms : List Member). ms) (view_declarator c.args.declarator.now) (tree.ObjectDeclarator (view_pointers c.in-Object.pointers) c.in-Object.name (view_dimensions c.in-Object.sizes)) s s (Err _) (ap view_declarator c.in-Object.is ∙ object_is c.in-Object.pointers c.in-Object.name c.in-Object.sizes)
+    rw (p.1, p.2) (of_form (walk_member ξ Γ (view_shaped c.args.t.now) (map types.view_member c.args.members.now.all.items)) (λ (ms : List Member). ms) (view_declarator c.args.declarator.now) (tree.ObjectDeclarator (view_pointers c.in-Object.pointers) c.in-Object.name (view_dimensions c.in-Object.sizes)) s s (Err _) (ap view_declarator c.in-Object.is ∙ object_is c.in-Object.pointers c.in-Object.name c.in-Object.sizes)
     (next _ _ (moved (λ (t : Shaped). rest_of_stars ξ Γ false t c.in-Object.pointers.items) (view_shaped c.in_ok-t.t) (view_shaped c.args.t.now) _ _ _ c.in_ok-t.ensures (moved (rest_of_stars ξ Γ false (view_shaped c.in_ok-t.t)) c.as_slice.result.now c.in-Object.pointers.items _ _ _ c.as_slice.ensures.value c.in_ok-t-in-Object.ensures)) (stopped _ _ (state_of c.walk_pointers.new.tags c.walk_pointers.new.known) _ refl (moved_stop (rest_of_sizes ξ Γ) c.as_slice-in-Object.result.now c.in-Object.sizes.items (state_of c.walk_pointers.new.tags c.walk_pointers.new.known) _ c.as_slice-in-Object.ensures.value c.in_err-sizes-in-Object.ensures))))
 
 pub types::walk_member-returns-in_err-judged-in-Object : goal.types::walk_member-returns-in_err-judged-in-Object
@@ -765,16 +764,16 @@ types::walk_member-returns-in_err-judged-in-Object t c =
     let Γ = view_env c.args.env.now in
     let s = state_of c.args.tags.now c.args.known.now in
     let p = err_from_is_err_and c.from_residual-in_err-judged-in-Object.result c.from_residual-in_err-judged-in-Object.ensures.1 in
-    rw (p.1, p.2) (of_form (walk_member ξ Γ (view_shaped c.args.t.now) (map types.view_member c.args.members.now.items)) (λ (ms : List Member). ms) (view_declarator c.args.declarator.now) (tree.ObjectDeclarator (view_pointers c.in-Object.pointers) c.in-Object.name (view_dimensions c.in-Object.sizes)) s s (Err _) (ap view_declarator c.in-Object.is ∙ object_is c.in-Object.pointers c.in-Object.name c.in-Object.sizes)
-    (member_stops (λ (ms : List Member). ms) ξ Γ (view_shaped c.args.t.now) (view_shaped c.in_ok-t-in-Object.t) (map types.view_member c.args.members.now.items) (view_pointers c.in-Object.pointers) c.in-Object.name (view_dimensions c.in-Object.sizes) s (state_of c.walk_pointers.new.tags c.walk_pointers.new.known) (state_of c.walk_sizes.new.tags c.walk_sizes.new.known) s c.in_ok-sizes-in-Object.sizes.items (view_formed c.in_ok-t-in-Object-2.t) c.has_member-again.result c.declarator_place-at.result c.member.result _ (Err _) (moved (λ (t : Shaped). rest_of_stars ξ Γ false t c.in-Object.pointers.items) (view_shaped c.in_ok-t.t) (view_shaped c.args.t.now) _ _ _ c.in_ok-t.ensures (moved (rest_of_stars ξ Γ false (view_shaped c.in_ok-t.t)) c.as_slice.result.now c.in-Object.pointers.items _ _ _ c.as_slice.ensures.value c.in_ok-t-in-Object.ensures)) (moved (rest_of_sizes ξ Γ) c.as_slice-in-Object.result.now c.in-Object.sizes.items _ _ _ c.as_slice-in-Object.ensures.value c.in_ok-sizes-in-Object.ensures) c.in_ok-t-in-Object-2.ensures (c.has_member-again.ensures ∙ ap (λ (l : List RustMember). has_member (map types.view_member l) c.spelling-text.result.now) c.as_slice-in-Object-2.ensures.value ∙ ap (has_member (map types.view_member c.args.members.now.items)) c.spelling-text.ensures) (c.declarator_place-at.ensures ∙ ap declarator_place (ap view_declarator c.in-Object.is ∙ object_is c.in-Object.pointers c.in-Object.name c.in-Object.sizes)) (c.member.ensures ξ.threads) c.in_err-judged-in-Object.ensures.err refl))
+    rw (p.1, p.2) (of_form (walk_member ξ Γ (view_shaped c.args.t.now) (map types.view_member c.args.members.now.all.items)) (λ (ms : List Member). ms) (view_declarator c.args.declarator.now) (tree.ObjectDeclarator (view_pointers c.in-Object.pointers) c.in-Object.name (view_dimensions c.in-Object.sizes)) s s (Err _) (ap view_declarator c.in-Object.is ∙ object_is c.in-Object.pointers c.in-Object.name c.in-Object.sizes)
+    (member_stops (λ (ms : List Member). ms) ξ Γ (view_shaped c.args.t.now) (view_shaped c.in_ok-t-in-Object.t) (map types.view_member c.args.members.now.all.items) (view_pointers c.in-Object.pointers) c.in-Object.name (view_dimensions c.in-Object.sizes) s (state_of c.walk_pointers.new.tags c.walk_pointers.new.known) (state_of c.walk_sizes.new.tags c.walk_sizes.new.known) s c.in_ok-sizes-in-Object.sizes.items (view_formed c.in_ok-t-in-Object-2.t) c.has_member-again.result c.declarator_place-at.result c.member.result _ (Err _) (moved (λ (t : Shaped). rest_of_stars ξ Γ false t c.in-Object.pointers.items) (view_shaped c.in_ok-t.t) (view_shaped c.args.t.now) _ _ _ c.in_ok-t.ensures (moved (rest_of_stars ξ Γ false (view_shaped c.in_ok-t.t)) c.as_slice.result.now c.in-Object.pointers.items _ _ _ c.as_slice.ensures.value c.in_ok-t-in-Object.ensures)) (moved (rest_of_sizes ξ Γ) c.as_slice-in-Object.result.now c.in-Object.sizes.items _ _ _ c.as_slice-in-Object.ensures.value c.in_ok-sizes-in-Object.ensures) c.in_ok-t-in-Object-2.ensures (c.has_member-again.ensures ∙ ap (has_member (map types.view_member c.args.members.now.all.items)) c.spelling-text.ensures) (c.declarator_place-at.ensures ∙ ap declarator_place (ap view_declarator c.in-Object.is ∙ object_is c.in-Object.pointers c.in-Object.name c.in-Object.sizes)) (c.member.ensures ξ.threads) c.in_err-judged-in-Object.ensures.err refl))
 
 pub types::walk_member-returns-in_ok-add_member-in-Object : goal.types::walk_member-returns-in_ok-add_member-in-Object
 types::walk_member-returns-in_ok-add_member-in-Object t c =
     let ξ = view_setting c.args.setting in
     let Γ = view_env c.args.env.now in
     let s = state_of c.args.tags.now c.args.known.now in
-    of_form (walk_member ξ Γ (view_shaped c.args.t.now) (map types.view_member c.args.members.now.items)) (λ (ms : List Member). ms) (view_declarator c.args.declarator.now) (tree.ObjectDeclarator (view_pointers c.in-Object.pointers) c.in-Object.name (view_dimensions c.in-Object.sizes)) s (state_of c.walk_sizes.new.tags c.walk_sizes.new.known) (Ok (map types.view_member c.add_member.new.members.items)) (ap view_declarator c.in-Object.is ∙ object_is c.in-Object.pointers c.in-Object.name c.in-Object.sizes)
-    (member_ends (λ (ms : List Member). ms) (map types.view_member c.add_member.new.members.items) ξ Γ (view_shaped c.args.t.now) (view_shaped c.in_ok-t-in-Object.t) (map types.view_member c.args.members.now.items) (view_pointers c.in-Object.pointers) c.in-Object.name (view_dimensions c.in-Object.sizes) s (state_of c.walk_pointers.new.tags c.walk_pointers.new.known) (state_of c.walk_sizes.new.tags c.walk_sizes.new.known) c.in_ok-sizes-in-Object.sizes.items (view_formed c.in_ok-t-in-Object-2.t) c.has_member-again.result c.declarator_place-at.result c.member.result (moved (λ (t : Shaped). rest_of_stars ξ Γ false t c.in-Object.pointers.items) (view_shaped c.in_ok-t.t) (view_shaped c.args.t.now) _ _ _ c.in_ok-t.ensures (moved (rest_of_stars ξ Γ false (view_shaped c.in_ok-t.t)) c.as_slice.result.now c.in-Object.pointers.items _ _ _ c.as_slice.ensures.value c.in_ok-t-in-Object.ensures)) (moved (rest_of_sizes ξ Γ) c.as_slice-in-Object.result.now c.in-Object.sizes.items _ _ _ c.as_slice-in-Object.ensures.value c.in_ok-sizes-in-Object.ensures) c.in_ok-t-in-Object-2.ensures (c.has_member-again.ensures ∙ ap (λ (l : List RustMember). has_member (map types.view_member l) c.spelling-text.result.now) c.as_slice-in-Object-2.ensures.value ∙ ap (has_member (map types.view_member c.args.members.now.items)) c.spelling-text.ensures) (c.declarator_place-at.ensures ∙ ap declarator_place (ap view_declarator c.in-Object.is ∙ object_is c.in-Object.pointers c.in-Object.name c.in-Object.sizes)) (c.member.ensures ξ.threads) c.in_ok-judged-in-Object.ensures.ok (c.in_ok-add_member-in-Object.ensures ∙ ap (λ (name : List ℕ). with_member (map types.view_member c.args.members.now.items) name (view_formed c.in_ok-t-in-Object-2.t).ctype) c.spelling-text.ensures))
+    of_form (walk_member ξ Γ (view_shaped c.args.t.now) (map types.view_member c.args.members.now.all.items)) (λ (ms : List Member). ms) (view_declarator c.args.declarator.now) (tree.ObjectDeclarator (view_pointers c.in-Object.pointers) c.in-Object.name (view_dimensions c.in-Object.sizes)) s (state_of c.walk_sizes.new.tags c.walk_sizes.new.known) (Ok (map types.view_member c.add_member.new.members.all.items)) (ap view_declarator c.in-Object.is ∙ object_is c.in-Object.pointers c.in-Object.name c.in-Object.sizes)
+    (member_ends (λ (ms : List Member). ms) (map types.view_member c.add_member.new.members.all.items) ξ Γ (view_shaped c.args.t.now) (view_shaped c.in_ok-t-in-Object.t) (map types.view_member c.args.members.now.all.items) (view_pointers c.in-Object.pointers) c.in-Object.name (view_dimensions c.in-Object.sizes) s (state_of c.walk_pointers.new.tags c.walk_pointers.new.known) (state_of c.walk_sizes.new.tags c.walk_sizes.new.known) c.in_ok-sizes-in-Object.sizes.items (view_formed c.in_ok-t-in-Object-2.t) c.has_member-again.result c.declarator_place-at.result c.member.result (moved (λ (t : Shaped). rest_of_stars ξ Γ false t c.in-Object.pointers.items) (view_shaped c.in_ok-t.t) (view_shaped c.args.t.now) _ _ _ c.in_ok-t.ensures (moved (rest_of_stars ξ Γ false (view_shaped c.in_ok-t.t)) c.as_slice.result.now c.in-Object.pointers.items _ _ _ c.as_slice.ensures.value c.in_ok-t-in-Object.ensures)) (moved (rest_of_sizes ξ Γ) c.as_slice-in-Object.result.now c.in-Object.sizes.items _ _ _ c.as_slice-in-Object.ensures.value c.in_ok-sizes-in-Object.ensures) c.in_ok-t-in-Object-2.ensures (c.has_member-again.ensures ∙ ap (has_member (map types.view_member c.args.members.now.all.items)) c.spelling-text.ensures) (c.declarator_place-at.ensures ∙ ap declarator_place (ap view_declarator c.in-Object.is ∙ object_is c.in-Object.pointers c.in-Object.name c.in-Object.sizes)) (c.member.ensures ξ.threads) c.in_ok-judged-in-Object.ensures.ok (c.in_ok-add_member-in-Object.ensures ∙ ap (λ (name : List ℕ). with_member (map types.view_member c.args.members.now.all.items) name (view_formed c.in_ok-t-in-Object-2.t).ctype) c.spelling-text.ensures))
 
 pub types::walk_member-returns-in_err-t-in-Function : goal.types::walk_member-returns-in_err-t-in-Function
 types::walk_member-returns-in_err-t-in-Function t c =
@@ -782,7 +781,7 @@ types::walk_member-returns-in_err-t-in-Function t c =
     let Γ = view_env c.args.env.now in
     let s = state_of c.args.tags.now c.args.known.now in
     let p = err_from_is_err_and c.from_residual-in_err-t-in-Function.result c.from_residual-in_err-t-in-Function.ensures.1 in
-    rw (p.1, p.2) (of_form (walk_member ξ Γ (view_shaped c.args.t.now) (map types.view_member c.args.members.now.items)) (λ (ms : List Member). ms) (view_declarator c.args.declarator.now) (tree.FunctionDeclarator (view_pointers c.in-Function.pointers) c.in-Function.name (view_parameters c.in-Function.parameters.value)) s s (Err _) (ap view_declarator c.in-Function.is ∙ function_is c.in-Function.pointers c.in-Function.name c.in-Function.parameters)
+    rw (p.1, p.2) (of_form (walk_member ξ Γ (view_shaped c.args.t.now) (map types.view_member c.args.members.now.all.items)) (λ (ms : List Member). ms) (view_declarator c.args.declarator.now) (tree.FunctionDeclarator (view_pointers c.in-Function.pointers) c.in-Function.name (view_parameters c.in-Function.parameters.value)) s s (Err _) (ap view_declarator c.in-Function.is ∙ function_is c.in-Function.pointers c.in-Function.name c.in-Function.parameters)
     (stopped _ _ s _ refl (moved_stop (λ (t : Shaped). rest_of_stars ξ Γ false t c.in-Function.pointers.items) (view_shaped c.in_ok-t.t) (view_shaped c.args.t.now) s _ c.in_ok-t.ensures (moved_stop (rest_of_stars ξ Γ false (view_shaped c.in_ok-t.t)) c.as_slice-in-Function.result.now c.in-Function.pointers.items s _ c.as_slice-in-Function.ensures.value c.in_err-t-in-Function.ensures))))
 
 pub types::walk_member-returns-in_err-walk_parameters-in-Function : goal.types::walk_member-returns-in_err-walk_parameters-in-Function
@@ -791,15 +790,15 @@ types::walk_member-returns-in_err-walk_parameters-in-Function t c =
     let Γ = view_env c.args.env.now in
     let s = state_of c.args.tags.now c.args.known.now in
     let p = err_from_is_err_and c.from_residual-in_err-walk_parameters-in-Function.result c.from_residual-in_err-walk_parameters-in-Function.ensures.1 in
-    rw (p.1, p.2) (of_form (walk_member ξ Γ (view_shaped c.args.t.now) (map types.view_member c.args.members.now.items)) (λ (ms : List Member). ms) (view_declarator c.args.declarator.now) (tree.FunctionDeclarator (view_pointers c.in-Function.pointers) c.in-Function.name (view_parameters c.in-Function.parameters.value)) s s (Err _) (ap view_declarator c.in-Function.is ∙ function_is c.in-Function.pointers c.in-Function.name c.in-Function.parameters)
-    (function_stops (λ (ms : List Member). ms) ξ Γ (view_env c.in_ok-scope-in-Function.scope) (view_shaped c.args.t.now) (view_shaped c.in_ok-t-in-Function.t) (map types.view_member c.args.members.now.items) (view_pointers c.in-Function.pointers) c.in-Function.name (view_parameters c.in-Function.parameters.value) s (state_of c.walk_pointers-in-Function.new.tags c.walk_pointers-in-Function.new.known) (state_of c.enclosed-inner.result c.walk_pointers-in-Function.new.known) s _ (Err _) (moved (λ (t : Shaped). rest_of_stars ξ Γ false t c.in-Function.pointers.items) (view_shaped c.in_ok-t.t) (view_shaped c.args.t.now) _ _ _ c.in_ok-t.ensures (moved (rest_of_stars ξ Γ false (view_shaped c.in_ok-t.t)) c.as_slice-in-Function.result.now c.in-Function.pointers.items _ _ _ c.as_slice-in-Function.ensures.value c.in_ok-t-in-Function.ensures)) c.in_ok-scope-in-Function.ensures (ap (λ (ts : List Tag). state_with ts c.walk_pointers-in-Function.new.known) c.enclosed-inner.ensures) (moved_stop (λ (z : ParametersTree). walk_parameters ξ (view_env c.in_ok-scope-in-Function.scope) (view_parameters z)) c.deref.result.now c.in-Function.parameters.value (state_of c.enclosed-inner.result c.walk_pointers-in-Function.new.known) _ c.deref.ensures c.in_err-walk_parameters-in-Function.ensures) refl))
+    rw (p.1, p.2) (of_form (walk_member ξ Γ (view_shaped c.args.t.now) (map types.view_member c.args.members.now.all.items)) (λ (ms : List Member). ms) (view_declarator c.args.declarator.now) (tree.FunctionDeclarator (view_pointers c.in-Function.pointers) c.in-Function.name (view_parameters c.in-Function.parameters.value)) s s (Err _) (ap view_declarator c.in-Function.is ∙ function_is c.in-Function.pointers c.in-Function.name c.in-Function.parameters)
+    (function_stops (λ (ms : List Member). ms) ξ Γ (view_env c.in_ok-scope-in-Function.scope) (view_shaped c.args.t.now) (view_shaped c.in_ok-t-in-Function.t) (map types.view_member c.args.members.now.all.items) (view_pointers c.in-Function.pointers) c.in-Function.name (view_parameters c.in-Function.parameters.value) s (state_of c.walk_pointers-in-Function.new.tags c.walk_pointers-in-Function.new.known) (state_of c.enclosed-inner.result c.walk_pointers-in-Function.new.known) s _ (Err _) (moved (λ (t : Shaped). rest_of_stars ξ Γ false t c.in-Function.pointers.items) (view_shaped c.in_ok-t.t) (view_shaped c.args.t.now) _ _ _ c.in_ok-t.ensures (moved (rest_of_stars ξ Γ false (view_shaped c.in_ok-t.t)) c.as_slice-in-Function.result.now c.in-Function.pointers.items _ _ _ c.as_slice-in-Function.ensures.value c.in_ok-t-in-Function.ensures)) c.in_ok-scope-in-Function.ensures (ap (λ (ts : List Tag). state_with ts c.walk_pointers-in-Function.new.known) c.enclosed-inner.ensures) (moved_stop (λ (z : ParametersTree). walk_parameters ξ (view_env c.in_ok-scope-in-Function.scope) (view_parameters z)) c.deref.result.now c.in-Function.parameters.value (state_of c.enclosed-inner.result c.walk_pointers-in-Function.new.known) _ c.deref.ensures c.in_err-walk_parameters-in-Function.ensures) refl))
 
 pub types::walk_member-returns-in_ok-walk_parameters-in-Function : goal.types::walk_member-returns-in_ok-walk_parameters-in-Function
 types::walk_member-returns-in_ok-walk_parameters-in-Function t c =
     let ξ = view_setting c.args.setting in
     let Γ = view_env c.args.env.now in
     let s = state_of c.args.tags.now c.args.known.now in
-    function_is_none _ ξ Γ (view_env c.in_ok-scope-in-Function.scope) (view_shaped c.args.t.now) (view_shaped c.in_ok-t-in-Function.t) (map types.view_member c.args.members.now.items) (view_declarator c.args.declarator.now) (view_pointers c.in-Function.pointers) c.in-Function.name (view_parameters c.in-Function.parameters.value) s (state_of c.walk_pointers-in-Function.new.tags c.walk_pointers-in-Function.new.known) (state_of c.enclosed-inner.result c.walk_pointers-in-Function.new.known) (state_of c.walk_parameters.new.tags c.walk_parameters.new.known) _ _ c.declarator_place-at.result c.member_function.result c.judged-in-Function.result (ap view_declarator c.in-Function.is ∙ function_is c.in-Function.pointers c.in-Function.name c.in-Function.parameters) (moved (λ (t : Shaped). rest_of_stars ξ Γ false t c.in-Function.pointers.items) (view_shaped c.in_ok-t.t) (view_shaped c.args.t.now) _ _ _ c.in_ok-t.ensures (moved (rest_of_stars ξ Γ false (view_shaped c.in_ok-t.t)) c.as_slice-in-Function.result.now c.in-Function.pointers.items _ _ _ c.as_slice-in-Function.ensures.value c.in_ok-t-in-Function.ensures)) c.in_ok-scope-in-Function.ensures (ap (λ (ts : List Tag). state_with ts c.walk_pointers-in-Function.new.known) c.enclosed-inner.ensures) (moved (λ (z : ParametersTree). walk_parameters ξ (view_env c.in_ok-scope-in-Function.scope) (view_parameters z)) c.deref.result.now c.in-Function.parameters.value _ _ _ c.deref.ensures c.in_ok-walk_parameters-in-Function.ensures) (c.declarator_place-at.ensures ∙ ap declarator_place (ap view_declarator c.in-Function.is ∙ function_is c.in-Function.pointers c.in-Function.name c.in-Function.parameters)) (c.member_function.ensures (facts_in ξ (state_of c.walk_parameters.new.tags c.walk_parameters.new.known))) c.judged-in-Function.ensures.ok c.judged-in-Function.ensures.err
+    function_is_none _ ξ Γ (view_env c.in_ok-scope-in-Function.scope) (view_shaped c.args.t.now) (view_shaped c.in_ok-t-in-Function.t) (map types.view_member c.args.members.now.all.items) (view_declarator c.args.declarator.now) (view_pointers c.in-Function.pointers) c.in-Function.name (view_parameters c.in-Function.parameters.value) s (state_of c.walk_pointers-in-Function.new.tags c.walk_pointers-in-Function.new.known) (state_of c.enclosed-inner.result c.walk_pointers-in-Function.new.known) (state_of c.walk_parameters.new.tags c.walk_parameters.new.known) _ _ c.declarator_place-at.result c.member_function.result c.judged-in-Function.result (ap view_declarator c.in-Function.is ∙ function_is c.in-Function.pointers c.in-Function.name c.in-Function.parameters) (moved (λ (t : Shaped). rest_of_stars ξ Γ false t c.in-Function.pointers.items) (view_shaped c.in_ok-t.t) (view_shaped c.args.t.now) _ _ _ c.in_ok-t.ensures (moved (rest_of_stars ξ Γ false (view_shaped c.in_ok-t.t)) c.as_slice-in-Function.result.now c.in-Function.pointers.items _ _ _ c.as_slice-in-Function.ensures.value c.in_ok-t-in-Function.ensures)) c.in_ok-scope-in-Function.ensures (ap (λ (ts : List Tag). state_with ts c.walk_pointers-in-Function.new.known) c.enclosed-inner.ensures) (moved (λ (z : ParametersTree). walk_parameters ξ (view_env c.in_ok-scope-in-Function.scope) (view_parameters z)) c.deref.result.now c.in-Function.parameters.value _ _ _ c.deref.ensures c.in_ok-walk_parameters-in-Function.ensures) (c.declarator_place-at.ensures ∙ ap declarator_place (ap view_declarator c.in-Function.is ∙ function_is c.in-Function.pointers c.in-Function.name c.in-Function.parameters)) (c.member_function.ensures (facts_in ξ (state_of c.walk_parameters.new.tags c.walk_parameters.new.known))) c.judged-in-Function.ensures.ok c.judged-in-Function.ensures.err
 
 pub types::walk_parameters-returns-in_err-walk_parameter-in-Filled : goal.types::walk_parameters-returns-in_err-walk_parameter-in-Filled
 types::walk_parameters-returns-in_err-walk_parameter-in-Filled t c =

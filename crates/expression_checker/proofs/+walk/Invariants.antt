@@ -24,12 +24,12 @@ invariant-expressions::walk_more-loop-part l =
 abbrev pub invariant-types::walk_members-loop-line : goal.invariant-types::walk_members-loop-line
 invariant-types::walk_members-loop-line l =
     Same (pure.walk_members (view_setting l.setting) (view_env l.env) [] (members_of (map view_member l.lines)) (state_of l.initial.tags l.initial.known))
-    (pure.walk_members (view_setting l.setting) (view_env l.env) (map types.view_member l.members.items) (members_of (map view_member (drop l.line-index l.lines))) (state_of l.tags l.known))
+    (pure.walk_members (view_setting l.setting) (view_env l.env) (map types.view_member l.members.all.items) (members_of (map view_member (drop l.line-index l.lines))) (state_of l.tags l.known))
 
 abbrev pub invariant-types::walk_next_members-loop-part : goal.invariant-types::walk_next_members-loop-part
 invariant-types::walk_next_members-loop-part l =
-    Same (pure.walk_next_members (view_setting l.setting) (view_env l.env) (view_shaped l.t) (map types.view_member l.initial.members.items) (next_declarators_of (map view_next_declarator l.more)) (state_of l.initial.tags l.initial.known))
-    (pure.walk_next_members (view_setting l.setting) (view_env l.env) (view_shaped l.t) (map types.view_member l.members.items) (next_declarators_of (map view_next_declarator (drop l.part-index l.more))) (state_of l.tags l.known))
+    Same (pure.walk_next_members (view_setting l.setting) (view_env l.env) (view_shaped l.t) (map types.view_member l.initial.members.all.items) (next_declarators_of (map view_next_declarator l.more)) (state_of l.initial.tags l.initial.known))
+    (pure.walk_next_members (view_setting l.setting) (view_env l.env) (view_shaped l.t) (map types.view_member l.members.all.items) (next_declarators_of (map view_next_declarator (drop l.part-index l.more))) (state_of l.tags l.known))
 
 abbrev pub invariant-types::walk_next_parameters-loop-part : goal.invariant-types::walk_next_parameters-loop-part
 invariant-types::walk_next_parameters-loop-part l =

@@ -4,7 +4,7 @@ use Rattle.upc_types.specs.View.{view}
 use Rattle.upc_types.specs.ViewStructs.{view_structs}
 use Rattle.typed_tree.specs.Elements.{element_shape, with_shapes}
 use Rattle.typing_rules.specs.Rules.{has_size}
-use Rattle.program_opening.proofs.elements.element_shapes.Given as goal
+use Rattle.program_opening.proofs.elements.number_types.Given as goal
 
 abbrev pub invariant-loop-t : goal.invariant-loop-t
 invariant-loop-t l = record {
