@@ -1,5 +1,5 @@
 -- The numbers of an expansion are in the range of their types where those of the source are.
-use Rattle.std.proofs.Common.{◌≡◌, ℕ, ◌≤◌, zero, suc, Bool, true, false, if◌then◌else◌, List, [], ◌∷◌, ◌++◌, length, map, set, Option, Some, None, option_map, refl, sym, subst, arith}
+use Rattle.std.proofs.Common.{◌≡◌, ℕ, zero, suc, Bool, true, false, if◌then◌else◌, List, [], ◌∷◌, ◌++◌, length, map, set, Option, Some, None, option_map, refl, sym, subst, arith}
 use Rattle.std.specs.Prelude.{flat_map, replicate, codes, ◌||◌, nat_eq}
 use Rattle.std.specs.List.{slice_index_or}
 use Rattle.std.specs.Cmp.Lexicographic.{pointwise}
@@ -8,7 +8,7 @@ use Rattle.upc_lexer.specs.declared.token.Token.{Token}
 use Rattle.upc_lexer.specs.declared.token.TokenKind.{TokenKind}
 use Rattle.upc_lexer.specs.declared.token.TokenKind.TheVariants.{Name, Word, Number, Character, Str, Punct, Pragma}
 use Rattle.upc_lexer.specs.declared.token.NumberKind.TheVariants.{Int}
-use Rattle.upc_lexer.specs.Numbers.{greatest, NumberFits, NumbersFit}
+use Rattle.upc_lexer.specs.Numbers.{NumberFits, NumbersFit}
 use Rattle.upc_macros.specs.Spelling.{between, is_spelled, are_alike, last_end}
 use Rattle.upc_macros.specs.Replacing.{Macros, body_of, without, plain, or_replaced, replaced, placed}
 use Rattle.upc_macros.specs.Directives.{Effect, nothing, pragma, define, undefine, header_effect, include_effect, macro_name, has_parameters, define_name, define_number, define_effect, undefine_effect, access_effect, pragma_effect, effect_of}

@@ -6,5 +6,8 @@ pub mod DirectiveLemmas
 pub mod LineLemmas
 pub mod Order
 pub mod DepthLemmas
-pub mod SilenceLemmas
+pub mod FreeLemmas
+pub mod ListeningLemmas
+pub mod KnownLemmas
+pub mod RepeatLemmas
 pub mod Fitting

@@ -13,10 +13,10 @@ use Rattle.upc_lexer.specs.declared.token.TokenKind.TheVariants.{Name}
 use Rattle.upc_macros.specs.declared.table.Body.{Body}
 use Rattle.upc_macros.specs.declared.walk.Frame.{Frame}
 use Rattle.upc_macros.specs.Replacing.{Macros, body_of, without, plain, replaced, placed}
-use Rattle.upc_macros.specs.Expansion.{given, first_refusal}
-use Rattle.upc_macros.specs.Table.{seen, IsNumbered, AreBodies, body_tokens, macro_count, NamesNoMacro, Takes, StopsIn}
+use Rattle.upc_macros.specs.Expansion.{Item, given, first_refusal}
+use Rattle.upc_macros.specs.Table.{seen, IsNumbered, AreBodies, body_tokens, macro_count, Takes, StopsIn}
 use Rattle.upc_macros.specs.Walk.{placed_items, rest_of, put_back, pending, all_back, IsFrame, AreFrames, IsWalk}
-use Rattle.upc_macros.proofs.Tables.{set-back, names_none, names_some, seen-taken, taken_count, back_count, back_bodies, taken_bodies}
+use Rattle.upc_macros.proofs.Tables.{set-back, names_some, seen-taken, taken_count, back_count, back_bodies, taken_bodies}
 use Rattle.upc_macros.proofs.Refusals.{first_refusal-append, stops_later, stops_before}
 
 -- ---- how many steps there are
@@ -48,7 +48,7 @@ rest_step tokens f t lt le e =
     let here : drop f.next tokens ≡ get_or tokens f.next t ∷ drop (suc f.next) tokens = drop-cons tokens f.next t (omega arith) in
     rw (k, here, add-one) (ap (λ x. x ∷ take (f.body.end - suc f.next) (drop (suc f.next) tokens)) (sym e))
 
-rest_end : (tokens : List Token) (f : Frame) → f.body.end ≤ f.next → rest_of tokens f ≡ []
+pub rest_end : (tokens : List Token) (f : Frame) → f.body.end ≤ f.next → rest_of tokens f ≡ []
 rest_end tokens f le = let k : f.body.end - f.next ≡ 0 = omega arith in rw k refl
 
 -- ---- a token that is no macro
@@ -57,13 +57,11 @@ pub replaced_plain : (depth : ℕ) (source : List ℕ) (macros : Macros) (t : To
 replaced_plain zero source macros t e = refl
 replaced_plain (suc depth) source macros t e = rw e refl
 
-steps_plain : (depth : ℕ) (macros : Macros) (t : Token) → body_of macros t ≡ None → steps depth macros t ≡ 1
-steps_plain zero macros t e = refl
-steps_plain (suc depth) macros t e = rw e refl
+-- ---- a token that is put out, with all that it gives
 
-pending_plain : (source : List ℕ) (tokens : List Token) (depth : ℕ) (table : List (Option Body)) (f : Frame) (fs : List Frame) (t : Token) → rest_of tokens f ≡ t ∷ rest_of tokens (next_frame f) → NamesNoMacro table t.kind → pending source tokens depth table (f ∷ fs) ≡ plain source t ∷ pending source tokens depth table (next_frame f ∷ fs)
-pending_plain source tokens depth table f fs t r none =
-    rw (r, replaced_plain depth source (seen tokens table) t (names_none tokens table t t.kind refl none)) refl
+pending_next : (source : List ℕ) (tokens : List Token) (depth : ℕ) (table : List (Option Body)) (f : Frame) (fs : List Frame) (t : Token) (ts : List Token) → rest_of tokens f ≡ t ∷ rest_of tokens (next_frame f) → replaced depth source (seen tokens table) t ≡ ts → pending source tokens depth table (f ∷ fs) ≡ ts ++ pending source tokens depth table (next_frame f ∷ fs)
+pending_next source tokens depth table f fs t ts r e =
+    rw (r, e) (append_assoc ts (flat_map (replaced depth source (seen tokens table)) (rest_of tokens (next_frame f))) (pending source tokens (suc depth) (put_back table f) fs))
 
 given_is : {x y : Token} → given x ≡ given y → x ≡ y
 given_is e = cc
@@ -76,38 +74,28 @@ one_token out new x (y ∷ z ∷ ts) e f = absurd cc
 pub one_more : (out new : List Token) (x : Token) → Takes out new (given x ∷ []) → length out < length new
 one_more out new x k = omega (arith, ap length (one_token out new x k.tokens k.new_is k.items_are), length-append out (x ∷ []))
 
-pub step_plain : (source : List ℕ) (tokens : List Token) (place : Place) (first whole : List Token) (old table : List (Option Body)) (f : Frame) (fs : List Frame) (out new : List Token) (t : Token) → IsWalk source tokens place first whole old table (f ∷ fs) out → f.next < f.body.end → t ≡ get_or tokens f.next t → NamesNoMacro table t.kind → Takes out new (given (placed place (plain source t)) ∷ []) → IsWalk source tokens place first whole old table (next_frame f ∷ fs) new
-step_plain source tokens place first whole old table f fs out new t w lt e none k =
-    let x = placed place (plain source t) in
+pub no_fewer : (out new : List Token) (its : List Item) → Takes out new its → length out ≤ length new
+no_fewer out new its k = omega (arith, ap length k.new_is, length-append out k.tokens)
+
+given_tokens : (place : Place) (ts us : List Token) → placed_items place ts ≡ map given us → us ≡ map (placed place) ts
+given_tokens place [] [] e = refl
+given_tokens place [] (u ∷ us) e = absurd cc
+given_tokens place (t ∷ ts) [] e = absurd cc
+given_tokens place (t ∷ ts) (u ∷ us) e =
+    let head : placed place t ≡ u = given_is cc in
+    let tail : placed_items place ts ≡ map given us = cc in
+    ap (λ x. x ∷ us) (sym head) ∙ ap (λ l. placed place t ∷ l) (given_tokens place ts us tail)
+
+pub step_next : (source : List ℕ) (tokens : List Token) (place : Place) (first whole : List Token) (old table : List (Option Body)) (f : Frame) (fs : List Frame) (out new : List Token) (t : Token) (ts : List Token) → IsWalk source tokens place first whole old table (f ∷ fs) out → f.next < f.body.end → t ≡ get_or tokens f.next t → replaced (length table - suc (length fs)) source (seen tokens table) t ≡ ts → Takes out new (placed_items place ts) → IsWalk source tokens place first whole old table (next_frame f ∷ fs) new
+step_next source tokens place first whole old table f fs out new t ts w lt e same k =
     let r = rest_step tokens f t lt w.frames_are.0.body.within e in
-    let more : new ≡ out ++ x ∷ [] = one_token out new x k.tokens k.new_is k.items_are in
+    let more : new ≡ out ++ map (placed place) ts = k.new_is ∙ ap (λ l. out ++ l) (given_tokens place ts k.tokens k.items_are) in
     let n : length out ≡ length first + length (placed_items place w.done) = ap length w.out_is ∙ length-append first (map (placed place) w.done) ∙ ap (λ k. length first + k) (length-map w.done (placed place) ∙ sym (length-map w.done (λ t. given (placed place t)))) in
     record {
-      done = w.done ++ plain source t ∷ [];
-      whole_is = w.whole_is ∙ ap (λ l. w.done ++ l) (pending_plain source tokens (length table - suc (length fs)) table f fs t r none) ∙ sym (append_assoc w.done (plain source t ∷ []) _);
-      out_is = more ∙ ap (λ l. l ++ x ∷ []) w.out_is ∙ append_assoc first (map (placed place) w.done) (x ∷ []) ∙ ap (λ l. first ++ l) (sym (map-append (placed place) w.done (plain source t ∷ [])));
-      passes = ap (first_refusal (length first)) (map-append (λ t. given (placed place t)) w.done (plain source t ∷ [])) ∙ first_refusal-append (length first) (placed_items place w.done) (given x ∷ []) ∙ rw w.passes (ap (λ k. first_refusal k (given x ∷ [])) (sym n) ∙ k.passes);
-      old_is = w.old_is;
-      frames_are = (record { numbered = w.frames_are.0.numbered; forward = omega arith; body = w.frames_are.0.body }, w.frames_are.1);
-      bodies_are = w.bodies_are;
-      few = w.few;
-    }
-
-pub work_plain : (tokens : List Token) (depth : ℕ) (table : List (Option Body)) (f : Frame) (fs : List Frame) (t : Token) → f.next < f.body.end → f.body.end ≤ length tokens → t ≡ get_or tokens f.next t → NamesNoMacro table t.kind → work tokens depth table (next_frame f ∷ fs) < work tokens depth table (f ∷ fs)
-work_plain tokens depth table f fs t lt le e none =
-    rw (rest_step tokens f t lt le e, steps_plain depth (seen tokens table) t (names_none tokens table t t.kind refl none)) (omega arith)
-
--- ---- a token that becomes nothing
-
-pub step_skip : (source : List ℕ) (tokens : List Token) (place : Place) (first whole : List Token) (old table : List (Option Body)) (f : Frame) (fs : List Frame) (out : List Token) (t : Token) → IsWalk source tokens place first whole old table (f ∷ fs) out → f.next < f.body.end → t ≡ get_or tokens f.next t → replaced (length table - suc (length fs)) source (seen tokens table) t ≡ [] → IsWalk source tokens place first whole old table (next_frame f ∷ fs) out
-step_skip source tokens place first whole old table f fs out t w lt e none =
-    let r = rest_step tokens f t lt w.frames_are.0.body.within e in
-    let d = length table - suc (length fs) in
-    record {
-      done = w.done;
-      whole_is = w.whole_is ∙ ap (λ l. w.done ++ l) (rw (r, none) refl);
-      out_is = w.out_is;
-      passes = w.passes;
+      done = w.done ++ ts;
+      whole_is = w.whole_is ∙ ap (λ l. w.done ++ l) (pending_next source tokens (length table - suc (length fs)) table f fs t ts r same) ∙ sym (append_assoc w.done ts _);
+      out_is = more ∙ ap (λ l. l ++ map (placed place) ts) w.out_is ∙ append_assoc first (map (placed place) w.done) (map (placed place) ts) ∙ ap (λ l. first ++ l) (sym (map-append (placed place) w.done ts));
+      passes = ap (first_refusal (length first)) (map-append (λ t. given (placed place t)) w.done ts) ∙ first_refusal-append (length first) (placed_items place w.done) (placed_items place ts) ∙ rw w.passes (ap (λ k. first_refusal k (placed_items place ts)) (sym n) ∙ k.passes);
       old_is = w.old_is;
       frames_are = (record { numbered = w.frames_are.0.numbered; forward = omega arith; body = w.frames_are.0.body }, w.frames_are.1);
       bodies_are = w.bodies_are;
@@ -122,8 +110,8 @@ steps_some (suc depth) macros t = by_body (body_of macros t) (total (steps depth
     by_body None f = omega arith
     by_body (Some body) f = omega arith
 
-pub work_skip : (tokens : List Token) (depth : ℕ) (table : List (Option Body)) (f : Frame) (fs : List Frame) (t : Token) → f.next < f.body.end → f.body.end ≤ length tokens → t ≡ get_or tokens f.next t → work tokens depth table (next_frame f ∷ fs) < work tokens depth table (f ∷ fs)
-work_skip tokens depth table f fs t lt le e =
+pub work_next : (tokens : List Token) (depth : ℕ) (table : List (Option Body)) (f : Frame) (fs : List Frame) (t : Token) → f.next < f.body.end → f.body.end ≤ length tokens → t ≡ get_or tokens f.next t → work tokens depth table (next_frame f ∷ fs) < work tokens depth table (f ∷ fs)
+work_next tokens depth table f fs t lt le e =
     rw (rest_step tokens f t lt le e) (omega (arith, steps_some depth (seen tokens table) t))
 
 -- ---- a token that is one
@@ -152,7 +140,7 @@ work_macro tokens depth before table f fs t n b r k e =
     rw (set-back table n (Some b) None e, r, inner) (omega arith)
 
 -- there is a macro less, so one may lie deeper
-deeper : (table : List (Option Body)) (count n : ℕ) (b : Body) → slice_get table n ≡ Some (Some b) → macro_count table + suc count ≤ length table → length table - suc count ≡ suc (length (set table n None) - suc (suc count))
+pub deeper : (table : List (Option Body)) (count n : ℕ) (b : Body) → slice_get table n ≡ Some (Some b) → macro_count table + suc count ≤ length table → length table - suc count ≡ suc (length (set table n None) - suc (suc count))
 deeper table count n b e few = omega (arith, taken_count table n b e, length-set table n None)
 
 back_frames : (tokens : List Token) (names m : ℕ) (fs : List Frame) → names ≡ m → AreFrames tokens names fs → AreFrames tokens m fs
@@ -184,7 +172,7 @@ work_enter tokens before table f fs t n b lt le e k m few =
 
 -- ---- the end of a macro
 
-shallower : (table : List (Option Body)) (count : ℕ) (f : Frame) → macro_count table + suc count ≤ length table → length (put_back table f) - count ≡ suc (length table - suc count)
+pub shallower : (table : List (Option Body)) (count : ℕ) (f : Frame) → macro_count table + suc count ≤ length table → length (put_back table f) - count ≡ suc (length table - suc count)
 shallower table count f few = omega (arith, length-set table f.name (Some f.body))
 
 pub step_leave : (source : List ℕ) (tokens : List Token) (place : Place) (first whole : List Token) (old table : List (Option Body)) (f : Frame) (fs : List Frame) (out : List Token) → IsWalk source tokens place first whole old table (f ∷ fs) out → f.body.end ≤ f.next → IsWalk source tokens place first whole old (put_back table f) fs out
@@ -232,16 +220,15 @@ finish source tokens place first whole old table out w =
     map_twice [] = refl
     map_twice (t ∷ ts) = ap (λ l. given (placed place t) ∷ l) (map_twice ts)
 
--- a token that may not stand stops the walk
-pub stop_plain : (source : List ℕ) (tokens : List Token) (place : Place) (first whole : List Token) (old table : List (Option Body)) (f : Frame) (fs : List Frame) (out : List Token) (t : Token) (stop : Stop) → IsWalk source tokens place first whole old table (f ∷ fs) out → f.next < f.body.end → t ≡ get_or tokens f.next t → NamesNoMacro table t.kind → StopsIn (length out) (given (placed place (plain source t)) ∷ []) stop → StopsIn (length first) (placed_items place whole) stop
-stop_plain source tokens place first whole old table f fs out t stop w lt e none s =
-    let x = placed place (plain source t) in
+-- what may not stand stops the walk
+pub stop_next : (source : List ℕ) (tokens : List Token) (place : Place) (first whole : List Token) (old table : List (Option Body)) (f : Frame) (fs : List Frame) (out : List Token) (t : Token) (ts : List Token) (stop : Stop) → IsWalk source tokens place first whole old table (f ∷ fs) out → f.next < f.body.end → t ≡ get_or tokens f.next t → replaced (length table - suc (length fs)) source (seen tokens table) t ≡ ts → StopsIn (length out) (placed_items place ts) stop → StopsIn (length first) (placed_items place whole) stop
+stop_next source tokens place first whole old table f fs out t ts stop w lt e same s =
     let r = rest_step tokens f t lt w.frames_are.0.body.within e in
     let rest = pending source tokens (length table - suc (length fs)) table (next_frame f ∷ fs) in
-    let all : whole ≡ w.done ++ plain source t ∷ rest = w.whole_is ∙ ap (λ l. w.done ++ l) (pending_plain source tokens (length table - suc (length fs)) table f fs t r none) in
-    let items : placed_items place whole ≡ placed_items place w.done ++ (given x ∷ placed_items place rest) = ap (placed_items place) all ∙ map-append (λ t. given (placed place t)) w.done (plain source t ∷ rest) in
+    let all : whole ≡ w.done ++ (ts ++ rest) = w.whole_is ∙ ap (λ l. w.done ++ l) (pending_next source tokens (length table - suc (length fs)) table f fs t ts r same) in
+    let items : placed_items place whole ≡ placed_items place w.done ++ (placed_items place ts ++ placed_items place rest) = ap (placed_items place) all ∙ map-append (λ t. given (placed place t)) w.done (ts ++ rest) ∙ ap (λ l. placed_items place w.done ++ l) (map-append (λ t. given (placed place t)) ts rest) in
     let so_far : Takes first out (placed_items place w.done) = finish source tokens place first w.done table table out (record { done = w.done; whole_is = sym (append-nil w.done); out_is = w.out_is; passes = w.passes; old_is = refl; frames_are = tt; bodies_are = w.bodies_are; few = omega (arith, w.few) }) in
-    subst (λ l. StopsIn (length first) l stop) (sym items) (stops_later first out (placed_items place w.done) (given x ∷ placed_items place rest) stop so_far (stops_before (length out) (given x ∷ []) (placed_items place rest) stop s))
+    subst (λ l. StopsIn (length first) l stop) (sym items) (stops_later first out (placed_items place w.done) (placed_items place ts ++ placed_items place rest) stop so_far (stops_before (length out) (placed_items place ts) (placed_items place rest) stop s))
 
 -- ---- the stack, whose last is the innermost
 

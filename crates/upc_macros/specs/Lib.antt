@@ -6,4 +6,4 @@ pub mod Table
 pub mod Walk
 pub mod Effects
 pub mod Lines
-pub mod Silence
+pub mod Known

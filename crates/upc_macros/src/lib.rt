@@ -2,9 +2,9 @@
 #![tactic(auto)]
 
 mod directives;
+mod known;
 mod lines;
 mod output;
-mod silent;
 mod spelling;
 mod table;
 mod walk;

@@ -8,11 +8,11 @@ ghost use Rattle.upc_lexer.specs.declared.token.Token.{Token as Item};
 ghost use Rattle.upc_macros.specs.Replacing.{Macros, replaced};
 ghost use Rattle.upc_macros.specs.Lines.{line_effect, line_items, LineDone, LineStops};
 ghost use Rattle.upc_macros.specs.Table.{seen, AreInOrder, AreBodies, Takes, StopsIn};
-ghost use Rattle.upc_macros.specs.Silence.{AreSilent};
+ghost use Rattle.upc_macros.specs.Known.{AreKnown};
 
 use crate::directives::{Effect, effect_of};
+use crate::known::Known;
 use crate::output::emit;
-use crate::silent::Silent;
 use crate::table::Body;
 use crate::walk::replace;
 use std::alloc::Global;
@@ -31,16 +31,16 @@ fn text_line(
     source: &[u8],
     tokens: &[Token],
     macros: &mut Vec<Option<Body>>,
-    silent: &mut Silent,
+    known: &mut Known,
     line: &[Token],
     expanded: &mut Vec<Token>,
 ) -> Result<(), Stop>
     requires tokens { AreInOrder (length source.now) (length macros.old.items) tokens.now }
     requires line { AreInOrder (length source.now) (length macros.old.items) line.now }
     requires bodies { AreBodies tokens.now macros.old.items }
-    requires silent { AreSilent tokens.now macros.old.items silent.old }
-    ensures since { OnOk result (silent.new.since ≡ silent.old.since) }
-    ensures silent { OnOk result (AreSilent tokens.now macros.old.items silent.new) }
+    requires known { AreKnown source.now tokens.now macros.old.items expanded.old.items known.old }
+    ensures since { OnOk result (known.new.since ≡ known.old.since) }
+    ensures known { OnOk result (AreKnown source.now tokens.now macros.old.items expanded.new.items known.new) }
     ensures macros { OnOk result (macros.new.items ≡ macros.old.items) }
     ensures ok { OnOk result (Takes expanded.old.items expanded.new.items
         (text_items source.now (seen tokens.now macros.old.items) line.now)) }
@@ -54,7 +54,7 @@ fn text_line(
                 code: Code::Directive,
             }));
         }
-        replace(alloc, source, tokens, macros, silent, token, expanded)?;
+        replace(alloc, source, tokens, macros, known, token, expanded)?;
     }
     Ok(())
 }
@@ -64,7 +64,7 @@ fn directive_line(
     source: &[u8],
     tokens: &[Token],
     macros: &mut Vec<Option<Body>>,
-    silent: &mut Silent,
+    known: &mut Known,
     begin: usize,
     end: usize,
     expanded: &mut Vec<Token>,
@@ -73,10 +73,10 @@ fn directive_line(
     requires bodies { AreBodies tokens.now macros.old.items }
     requires forward { begin < end }
     requires within { end ≤ length tokens.now }
-    requires silent { AreSilent tokens.now macros.old.items silent.old }
-    requires since { silent.old.since ≤ begin }
-    ensures since { OnOk result (silent.new.since ≤ end) }
-    ensures silent { OnOk result (AreSilent tokens.now macros.new.items silent.new) }
+    requires known { AreKnown source.now tokens.now macros.old.items expanded.old.items known.old }
+    requires since { known.old.since ≤ begin }
+    ensures since { OnOk result (known.new.since ≤ end) }
+    ensures known { OnOk result (AreKnown source.now tokens.now macros.new.items expanded.new.items known.new) }
     ensures length { OnOk result (length macros.new.items ≡ length macros.old.items) }
     ensures bodies { OnOk result (AreBodies tokens.now macros.new.items) }
     ensures macros { OnOk result (seen tokens.now macros.new.items
@@ -106,12 +106,12 @@ fn directive_line(
         }
         Some(Effect::Define(number, body)) => {
             macros[number] = Some(body);
-            silent.forget(end);
+            known.change(number, true, end);
             Ok(())
         }
         Some(Effect::Undefine(number)) => {
             macros[number] = None;
-            silent.forget(end);
+            known.change(number, false, end);
             Ok(())
         }
     }
@@ -142,7 +142,7 @@ fn expand_line(
     source: &[u8],
     tokens: &[Token],
     macros: &mut Vec<Option<Body>>,
-    silent: &mut Silent,
+    known: &mut Known,
     begin: usize,
     end: usize,
     expanded: &mut Vec<Token>,
@@ -151,10 +151,10 @@ fn expand_line(
     requires bodies { AreBodies tokens.now macros.old.items }
     requires forward { begin < end }
     requires within { end ≤ length tokens.now }
-    requires silent { AreSilent tokens.now macros.old.items silent.old }
-    requires since { silent.old.since ≤ begin }
-    ensures since { OnOk result (silent.new.since ≤ end) }
-    ensures silent { OnOk result (AreSilent tokens.now macros.new.items silent.new) }
+    requires known { AreKnown source.now tokens.now macros.old.items expanded.old.items known.old }
+    requires since { known.old.since ≤ begin }
+    ensures since { OnOk result (known.new.since ≤ end) }
+    ensures known { OnOk result (AreKnown source.now tokens.now macros.new.items expanded.new.items known.new) }
     ensures ok { OnOk result (LineDone source.now tokens.now
         (take (end - begin) (drop begin tokens.now)) macros.old.items macros.new.items
         expanded.old.items expanded.new.items) }
@@ -162,14 +162,14 @@ fn expand_line(
         (take (end - begin) (drop begin tokens.now)) macros.old.items expanded.old.items) }
 {
     if is_hash(&tokens[begin].kind) {
-        directive_line(source, tokens, macros, silent, begin, end, expanded)
+        directive_line(source, tokens, macros, known, begin, end, expanded)
     } else {
         text_line(
             alloc,
             source,
             tokens,
             macros,
-            silent,
+            known,
             &tokens[begin..end],
             expanded,
         )
@@ -190,7 +190,7 @@ pub fn expand(alloc: Global, source: &[u8], lexed: &Lexed) -> Result<Vec<Token>,
 {
     let tokens = lexed.tokens.as_slice();
     let mut macros: Vec<Option<Body>> = vec![in alloc; None; lexed.names.len()]?;
-    let mut silent = Silent::new(alloc, lexed.names.len())?;
+    let mut known = Known::new(alloc, lexed.names.len())?;
     let mut expanded = Vec::new(alloc);
     let mut at = 0;
     while at < tokens.len() {
@@ -200,7 +200,7 @@ pub fn expand(alloc: Global, source: &[u8], lexed: &Lexed) -> Result<Vec<Token>,
             source,
             tokens,
             &mut macros,
-            &mut silent,
+            &mut known,
             at,
             end,
             &mut expanded,

@@ -1,8 +1,9 @@
 //! The tokens of the expansion.
-ghost use Rattle.std.specs.Prelude.{◌≡◌, ◌≤◌, [], ◌∷◌, length, IfOk, IfErr, OnOk};
+ghost use Rattle.std.specs.Prelude.{◌≡◌, ◌+◌, ◌≤◌, [], ◌∷◌, length, take, drop, IfOk, IfErr, OnOk};
 ghost use Rattle.upc_macros.specs.Replacing.{plain, placed};
 ghost use Rattle.upc_macros.specs.Expansion.{given, profile_of};
 ghost use Rattle.upc_macros.specs.Table.{Takes, StopsIn};
+ghost use Rattle.upc_macros.specs.Walk.{placed_items};
 
 use crate::spelling::spelling;
 use std::alloc::Global;
@@ -101,5 +102,32 @@ pub(crate) fn emit(expanded: &mut Vec<Token>, token: Token) -> Result<(), Stop>
         }));
     }
     expanded.push(token)?;
+    Ok(())
+}
+
+/// Puts out once more, at this place, so many tokens of the expansion from an index on.
+pub(crate) fn repeat(
+    alloc: Global,
+    expanded: &mut Vec<Token>,
+    from: usize,
+    count: usize,
+    place: Place,
+) -> Result<(), Stop>
+    requires { from + count ≤ length expanded.old.items }
+    ensures ok { OnOk result (Takes expanded.old.items expanded.new.items
+        (placed_items place (take count (drop from expanded.old.items)))) }
+    ensures err { IfErr result (StopsIn (length expanded.old.items)
+        (placed_items place (take count (drop from expanded.old.items)))) }
+{
+    for index in 0..count {
+        let token = &expanded[from + index];
+        let copy = Token {
+            kind: copy_kind(alloc, &token.kind)?,
+            start: token.start,
+            end: token.end,
+            place,
+        };
+        emit(expanded, copy)?;
+    }
     Ok(())
 }

@@ -1,13 +1,14 @@
 //! The walk through macros that lie in one another.
-ghost use Rattle.std.specs.Prelude.{◌≡◌, ◌+◌, ◌-◌, ◌<◌, ◌≤◌, ◌==◌, if◌then◌else◌, Some, None, [], ◌∷◌, length};
-ghost use Rattle.std.specs.Prelude.{slice_get, slice_set, IfErr, OnOk};
-ghost use Rattle.upc_macros.specs.Replacing.{replaced};
-ghost use Rattle.upc_macros.specs.Table.{seen, AreInOrder, AreBodies, IsWithin, Takes, StopsIn, macro_count};
+ghost use Rattle.std.specs.Prelude.{◌≡◌, ◌+◌, ◌-◌, ◌<◌, ◌≤◌, if◌then◌else◌, Some, None, [], ◌∷◌, length};
+ghost use Rattle.std.specs.Prelude.{slice_get, slice_set, nat_le, IfOk, IfErr, OnOk};
+ghost use Rattle.upc_macros.specs.Replacing.{plain, replaced};
+ghost use Rattle.upc_macros.specs.Table.{seen, AreInOrder, AreBodies, IsNumbered, IsWithin, Takes, StopsIn};
+ghost use Rattle.upc_macros.specs.Table.{macro_count};
 ghost use Rattle.upc_macros.specs.Walk.{IsFrame, placed_items, pending, put_back};
-ghost use Rattle.upc_macros.specs.Silence.{AreSilent};
+ghost use Rattle.upc_macros.specs.Known.{is_defined, AreKnown};
 
-use crate::output::{emit, plain_token};
-use crate::silent::Silent;
+use crate::known::Known;
+use crate::output::{emit, plain_token, repeat};
 use crate::table::{Body, take_macro};
 use std::alloc::Global;
 use upc_lexer::Token;
@@ -23,17 +24,53 @@ pub(crate) struct Frame {
     pub(crate) body: Body,
 }
 
-/// Learns that a macro stands for nothing, if no token was put out since it was entered.
-fn note_silence(silent: &mut Silent, frame: &Frame, count: usize)
-    requires { frame.now.name < length silent.old.found.items }
-    ensures since { silent.new.since ≡ silent.old.since }
-    ensures found { silent.new.found.items ≡ (if count == frame.now.before
-        then slice_set silent.old.found.items frame.now.name (Some silent.old.since)
-        else silent.old.found.items) }
+/// Learns what a macro gave, if no macro that was being replaced is among the tokens since it was entered: the last
+/// such one is among the first `bound` of all `count`.
+fn note(known: &mut Known, frame: &Frame, bound: usize, count: usize)
+    requires name { frame.now.name < length known.old.gifts.items }
+    requires before { frame.now.before ≤ count }
+    ensures since { known.new.since ≡ known.old.since }
+    ensures defined { known.new.defined.items ≡ known.old.defined.items }
+    ensures gifts { known.new.gifts.items ≡ (if nat_le bound frame.now.before
+        then slice_set known.old.gifts.items frame.now.name (Some (record {
+          since = known.old.since;
+          from = frame.now.before;
+          count = count - frame.now.before;
+        }))
+        else known.old.gifts.items) }
 {
-    if count == frame.before {
-        silent.learn(frame.name);
+    if bound <= frame.before {
+        known.learn(frame.name, frame.before, count - frame.before);
     }
+}
+
+/// Puts out a token that is no macro here, at this place. If it is one that is being replaced, the number of tokens
+/// follows, else `bound`.
+fn put(
+    alloc: Global,
+    source: &[u8],
+    known: &Known,
+    token: &Token,
+    place: Place,
+    bound: usize,
+    expanded: &mut Vec<Token>,
+) -> Result<usize, Stop>
+    requires forward { token.now.start ≤ token.now.end }
+    requires within { token.now.end ≤ length source.now }
+    requires numbered { IsNumbered (length known.now.defined.items) token.now.kind }
+    ensures bound { IfOk result (λ new. new ≡ (if is_defined known.now token.now.kind
+        then length expanded.new.items else bound)) }
+    ensures ok { OnOk result (Takes expanded.old.items expanded.new.items
+        (placed_items place (plain source.now token.now ∷ []))) }
+    ensures err { IfErr result (StopsIn (length expanded.old.items)
+        (placed_items place (plain source.now token.now ∷ []))) }
+{
+    emit(expanded, plain_token(alloc, source, token, place)?)?;
+    Ok(if known.is_defined(token) {
+        expanded.len()
+    } else {
+        bound
+    })
 }
 
 /// Puts out the tokens of a macro that was taken out of the table, and puts it back.
@@ -42,7 +79,7 @@ fn walk(
     source: &[u8],
     tokens: &[Token],
     macros: &mut Vec<Option<Body>>,
-    silent: &mut Silent,
+    known: &mut Known,
     first: Frame,
     place: Place,
     expanded: &mut Vec<Token>,
@@ -54,9 +91,10 @@ fn walk(
     requires taken { slice_get macros.old.items first.name ≡ Some None }
     requires begin { first.next ≡ first.body.begin }
     requires before { first.before ≡ length expanded.old.items }
-    requires silent { AreSilent tokens.now (put_back macros.old.items first) silent.old }
-    ensures since { OnOk result (silent.new.since ≡ silent.old.since) }
-    ensures silent { OnOk result (AreSilent tokens.now (put_back macros.old.items first) silent.new) }
+    requires known { AreKnown source.now tokens.now (put_back macros.old.items first) expanded.old.items known.old }
+    ensures since { OnOk result (known.new.since ≡ known.old.since) }
+    ensures known { OnOk result (AreKnown source.now tokens.now (put_back macros.old.items first)
+        expanded.new.items known.new) }
     ensures macros { OnOk result (macros.new.items ≡ slice_set macros.old.items first.name (Some first.body)) }
     ensures ok { OnOk result (Takes expanded.old.items expanded.new.items
         (placed_items place (pending source.now tokens.now
@@ -67,11 +105,13 @@ fn walk(
 {
     let mut stack: Vec<Frame> = Vec::new(alloc);
     let mut frame = first;
+    let mut bound = 0;
     loop {
         if frame.next < frame.body.end {
             let token = &tokens[frame.next];
             frame.next += 1;
-            if silent.knows(token) {
+            if let Some(gift) = known.gift(token) {
+                repeat(alloc, expanded, gift.from, gift.count, place)?;
                 continue;
             }
             match take_macro(macros, token) {
@@ -84,11 +124,11 @@ fn walk(
                         body,
                     };
                 }
-                None => emit(expanded, plain_token(alloc, source, token, place)?)?,
+                None => bound = put(alloc, source, known, token, place, bound, expanded)?,
             }
         } else {
             macros[frame.name] = Some(frame.body);
-            note_silence(silent, &frame, expanded.len());
+            note(known, &frame, bound, expanded.len());
             match stack.pop() {
                 Some(outer) => frame = outer,
                 None => return Ok(()),
@@ -103,16 +143,16 @@ pub(crate) fn replace(
     source: &[u8],
     tokens: &[Token],
     macros: &mut Vec<Option<Body>>,
-    silent: &mut Silent,
+    known: &mut Known,
     token: &Token,
     expanded: &mut Vec<Token>,
 ) -> Result<(), Stop>
     requires tokens { AreInOrder (length source.now) (length macros.old.items) tokens.now }
     requires bodies { AreBodies tokens.now macros.old.items }
     requires token { IsWithin (length source.now) (length macros.old.items) token.now }
-    requires silent { AreSilent tokens.now macros.old.items silent.old }
-    ensures since { OnOk result (silent.new.since ≡ silent.old.since) }
-    ensures silent { OnOk result (AreSilent tokens.now macros.old.items silent.new) }
+    requires known { AreKnown source.now tokens.now macros.old.items expanded.old.items known.old }
+    ensures since { OnOk result (known.new.since ≡ known.old.since) }
+    ensures known { OnOk result (AreKnown source.now tokens.now macros.old.items expanded.new.items known.new) }
     ensures macros { OnOk result (macros.new.items ≡ macros.old.items) }
     ensures ok { OnOk result (Takes expanded.old.items expanded.new.items
         (placed_items token.now.place (replaced (length macros.old.items) source.now
@@ -121,8 +161,8 @@ pub(crate) fn replace(
         (placed_items token.now.place (replaced (length macros.old.items) source.now
         (seen tokens.now macros.old.items) token.now))) }
 {
-    if silent.knows(token) {
-        return Ok(());
+    if let Some(gift) = known.gift(token) {
+        return repeat(alloc, expanded, gift.from, gift.count, token.place);
     }
     match take_macro(macros, token) {
         Some((name, body)) => {
@@ -137,7 +177,7 @@ pub(crate) fn replace(
                 source,
                 tokens,
                 macros,
-                silent,
+                known,
                 first,
                 token.place,
                 expanded,

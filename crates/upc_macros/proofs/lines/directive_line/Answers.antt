@@ -1,12 +1,12 @@
-use Rattle.std.proofs.Common.{OnOk, List, Some, None, subst}
-use Rattle.std.proofs.Math.ListN.{length-set}
+use Rattle.std.proofs.Common.{OnOk, List, Some, None, true, false, length, refl, ap, subst, arith}
+use Rattle.std.proofs.lemmas.Bool.{true≢false}
 use Rattle.upc_macros.specs.declared.directives.Effect.TheVariants.{Pragma, Define, Undefine}
 use Rattle.upc_macros.specs.Effects.{IsChange}
 use Rattle.upc_macros.specs.Expansion.{Item}
 use Rattle.upc_macros.specs.Table.{Takes}
 use Rattle.upc_macros.proofs.LineLemmas.{effect_is, pragma_items, define_macros, undefine_macros}
 use Rattle.upc_macros.proofs.Tables.{back_bodies, taken_bodies}
-use Rattle.upc_macros.proofs.SilenceLemmas.{forgotten}
+use Rattle.upc_macros.proofs.KnownLemmas.{forgotten, known_taken}
 use Rattle.upc_macros.proofs.lines.directive_line.Goals as goal
 
 pub returns-in-Some-Pragma-clause-ok : goal.returns-in-Some-Pragma-clause-ok
@@ -33,10 +33,21 @@ returns-in-Some-Undefine-clause-macros c =
     let effect = effect_is c.args.source.now c.args.tokens.now c.args.macros.now.items c.as_slice.result.now c.args.begin c.args.end c.in-Some-Undefine.field-0 (Undefine c.in-Some-Undefine.number) c.as_slice.ensures.value c.in-Some-Undefine.field-0-is c.in-Some-Undefine.ensures.effect in
     undefine_macros c.args.source.now c.args.tokens.now c.args.macros.now.items c.args.begin c.args.end c.in-Some-Undefine.number effect
 
-pub returns-in-Some-Define-clause-silent : goal.returns-in-Some-Define-clause-silent
-returns-in-Some-Define-clause-silent c =
-    forgotten c.args.tokens.now c.args.macros.now.items _ c.args.silent.now _ c.args.begin c.args.end c.requires.silent (length-set c.args.macros.now.items c.in-Some-Define.number (Some c.in-Some-Define.body)) c.requires.since c.requires.forward c.forget.ensures.since c.forget.ensures.found
+pub returns-in-Some-Pragma-clause-known : goal.returns-in-Some-Pragma-clause-known
+returns-in-Some-Pragma-clause-known c =
+    known_taken c.emit.result c.args.source.now c.args.tokens.now c.args.macros.now.items c.args.expanded.now.items c.emit.new.expanded.items _ c.args.known.now c.emit.ensures.ok c.requires.known
 
-pub returns-in-Some-Undefine-clause-silent : goal.returns-in-Some-Undefine-clause-silent
-returns-in-Some-Undefine-clause-silent c =
-    forgotten c.args.tokens.now c.args.macros.now.items _ c.args.silent.now _ c.args.begin c.args.end c.requires.silent (length-set c.args.macros.now.items c.in-Some-Undefine.number None) c.requires.since c.requires.forward c.forget-in-Some-Undefine.ensures.since c.forget-in-Some-Undefine.ensures.found
+pub change-requires : goal.change-requires
+change-requires c =
+    let change = subst (IsChange c.args.tokens.now _) c.in-Some-Define.field-0-is c.in-Some-Define.ensures.within in
+    omega (arith, change.0, ap length c.as_slice.ensures.value, c.requires.known.defined_size)
+
+pub returns-in-Some-Define-clause-known : goal.returns-in-Some-Define-clause-known
+returns-in-Some-Define-clause-known c =
+    let change = subst (IsChange c.args.tokens.now _) c.in-Some-Define.field-0-is c.in-Some-Define.ensures.within in
+    forgotten c.args.source.now c.args.tokens.now c.args.macros.now.items c.args.expanded.now.items c.args.known.now _ c.in-Some-Define.number true (Some c.in-Some-Define.body) c.args.begin c.args.end c.requires.known (omega (arith, change.0, ap length c.as_slice.ensures.value)) (λ e. absurd (true≢false e)) c.requires.since c.requires.forward c.change.ensures.since c.change.ensures.defined c.change.ensures.gifts
+
+pub returns-in-Some-Undefine-clause-known : goal.returns-in-Some-Undefine-clause-known
+returns-in-Some-Undefine-clause-known c =
+    let change = subst (IsChange c.args.tokens.now _) c.in-Some-Undefine.field-0-is c.in-Some-Undefine.ensures.within in
+    forgotten c.args.source.now c.args.tokens.now c.args.macros.now.items c.args.expanded.now.items c.args.known.now _ c.in-Some-Undefine.number false None c.args.begin c.args.end c.requires.known (omega (arith, change, ap length c.as_slice.ensures.value)) (λ e. refl) c.requires.since c.requires.forward c.change-in-Some-Undefine.ensures.since c.change-in-Some-Undefine.ensures.defined c.change-in-Some-Undefine.ensures.gifts

@@ -1,6 +1,7 @@
 use Rattle.std.specs.Prelude.{replicate}
 use Rattle.upc_macros.specs.declared.table.Body.{Body}
-use Rattle.std.proofs.Common.{Option, None, rules, ◌≡◌, ◌+◌, ◌-◌, ◌≤◌, ℕ, List, ◌∷◌, ◌∙◌, sym, ap, subst, length, take, drop, arith}
+use Rattle.upc_macros.specs.declared.known.Gift.{Gift}
+use Rattle.std.proofs.Common.{Bool, false, Option, None, rules, ◌≡◌, ◌+◌, ◌-◌, ◌≤◌, ℕ, List, ◌∷◌, ◌∙◌, sym, ap, subst, length, take, drop, arith}
 use Rattle.std.proofs.lemmas.Result.{err_from_is_err_and}
 use Rattle.upc_lexer.specs.declared.token.Token.{Token}
 use Rattle.upc_lexer.specs.Numbers.{NumbersFit}
@@ -9,7 +10,7 @@ use Rattle.upc_macros.specs.Expansion.{lines_of, StopsExpansion}
 use Rattle.upc_macros.specs.Lines.{LineDone, LineStops}
 use Rattle.upc_macros.proofs.Order.{tokens_in_order}
 use Rattle.upc_macros.proofs.DirectiveLemmas.{rest_is}
-use Rattle.upc_macros.proofs.SilenceLemmas.{none_known}
+use Rattle.upc_macros.proofs.KnownLemmas.{none_known}
 use Rattle.upc_macros.proofs.LineLemmas.{start, line_more, line_refused}
 use Rattle.upc_macros.proofs.Fitting.{expanded_fits}
 use Rattle.upc_macros.proofs.lines.expand.Goals as goal
@@ -21,8 +22,8 @@ loop-at-init c =
     let lines = start c.args.source.now c.as_slice-tokens.result.now (length c.args.lexed.now.names) c.in_ok-macros.macros.items none in
     record {
       lines = rw c.new-expanded.ensures.items lines;
-      since = omega (arith, c.in_ok-silent.ensures.since);
-      silent = none_known c.as_slice-tokens.result.now c.in_ok-macros.macros.items c.in_ok-silent.silent (length c.args.lexed.now.names) lines.same_length (c.in_ok-silent.ensures.found ∙ ap (λ (n : ℕ). replicate {A = Option ℕ} n None) c.len-2.ensures);
+      since = omega (arith, c.in_ok-known.ensures.since);
+      known = none_known c.args.source.now c.as_slice-tokens.result.now c.in_ok-macros.macros.items c.new-expanded.result.items c.in_ok-known.known (length c.args.lexed.now.names) none (c.in_ok-known.ensures.defined ∙ ap (λ (n : ℕ). replicate {A = Bool} n false) c.len-2.ensures) (c.in_ok-known.ensures.gifts ∙ ap (λ (n : ℕ). replicate {A = Option Gift} n None) c.len-2.ensures);
     }
 
 pub expand_line-requires-clause-tokens : goal.expand_line-requires-clause-tokens
@@ -52,7 +53,7 @@ loop-at-preserved c =
     record {
       lines = line_more c.args.source.now tokens (length c.args.lexed.now.names) c.loop-at.at n c.loop-at.macros.items c.expand_line.new.macros.items c.loop-at.expanded.items c.expand_line.new.expanded.items c.loop-at.invariant.lines within lines done;
       since = c.in_ok-expand_line.ensures.since;
-      silent = c.in_ok-expand_line.ensures.silent;
+      known = c.in_ok-expand_line.ensures.known;
     }
 
 pub returns-clause-numbers : goal.returns-clause-numbers

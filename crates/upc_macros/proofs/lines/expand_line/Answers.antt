@@ -3,7 +3,7 @@ use Rattle.std.proofs.Common.{◌<◌, ◌∙◌, sym, ap, length, arith}
 use Rattle.upc_lexer.specs.declared.token.Token.{Token}
 use Rattle.upc_macros.specs.Expansion.{is_hash}
 use Rattle.upc_macros.proofs.DirectiveLemmas.{part_first}
-use Rattle.upc_macros.proofs.SilenceLemmas.{text_silent}
+use Rattle.upc_macros.proofs.KnownLemmas.{known_along}
 use Rattle.upc_macros.proofs.LineLemmas.{text_done_if, hash_done_if, text_stopped_if, hash_stopped_if}
 use Rattle.upc_macros.proofs.lines.expand_line.Goals as goal
 
@@ -32,6 +32,6 @@ returns-else-is_hash-clause-err c =
 pub returns-else-is_hash-clause-since : goal.returns-else-is_hash-clause-since
 returns-else-is_hash-clause-since c = on_ok_weaker c.text_line.result (λ e. omega (arith, c.requires.since, c.requires.forward)) c.text_line.ensures.since
 
-pub returns-else-is_hash-clause-silent : goal.returns-else-is_hash-clause-silent
-returns-else-is_hash-clause-silent c =
-    text_silent c.text_line.result c.args.tokens.now c.args.macros.now.items c.text_line.new.macros.items c.text_line.new.silent c.text_line.ensures.macros c.text_line.ensures.silent
+pub returns-else-is_hash-clause-known : goal.returns-else-is_hash-clause-known
+returns-else-is_hash-clause-known c =
+    known_along c.text_line.result c.args.source.now c.args.tokens.now c.args.macros.now.items c.text_line.new.macros.items c.text_line.new.expanded.items c.text_line.new.known c.text_line.ensures.macros c.text_line.ensures.known

@@ -3,7 +3,7 @@ use Rattle.std.proofs.lemmas.Result.{err_from_is_err_and}
 use Rattle.upc_macros.specs.Replacing.{replaced}
 use Rattle.upc_macros.specs.Table.{seen, Takes, StopsIn}
 use Rattle.upc_macros.specs.Walk.{placed_items}
-use Rattle.upc_macros.specs.Silence.{AreSilent}
+use Rattle.upc_macros.specs.Known.{AreKnown}
 use Rattle.upc_macros.proofs.TextLemmas.{text_more, text_stops, text_hash}
 use Rattle.upc_macros.proofs.lines.text_line.Goals as goal
 
@@ -23,6 +23,6 @@ loop-token-preserved c =
     record {
       macros = c.in_ok-replace.ensures.macros ∙ c.loop-token.invariant.macros;
       since = c.in_ok-replace.ensures.since ∙ c.loop-token.invariant.since;
-      silent = subst (λ m. AreSilent c.args.tokens.now m c.replace.new.silent) c.loop-token.invariant.macros c.in_ok-replace.ensures.silent;
+      known = subst (λ m. AreKnown c.args.source.now c.args.tokens.now m c.replace.new.expanded.items c.replace.new.known) c.loop-token.invariant.macros c.in_ok-replace.ensures.known;
       taken = text_more c.args.source.now c.args.tokens.now c.args.macros.now.items c.args.line.now c.loop-token.token-index c.token-item.result c.args.expanded.now.items c.loop-token.expanded.items c.replace.new.expanded.items c.loop-token-test.true c.token-item.is (sym c.is_hash.ensures ∙ c.if-is_hash.false) c.loop-token.invariant.taken took;
     }
