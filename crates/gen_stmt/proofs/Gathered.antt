@@ -1,33 +1,22 @@
 -- What code pushes: integers, places of objects of the file, and 0 or null; and no code but the entry begins a function
 -- without a tick.
-use Rattle.std.proofs.Common.{ℕ, ◌+◌, Bool, true, false, List, [], ◌∷◌, ◌++◌, length, map, Option, Some, None, refl, arith}
+use Rattle.std.proofs.Common.{ℕ, ◌+◌, Bool, false, List, [], ◌∷◌, ◌++◌, length, map, Option, Some, None, refl, arith}
 use Rattle.std.specs.Prelude.{ℤ, pos}
-use Rattle.std.specs.Prelude.{if◌then◌else◌}
 use Rattle.upc_text.specs.declared.place.Place.{Place}
 use Rattle.block_layout.specs.declared.kind.Kind.{Kind}
 use Rattle.block_layout.specs.declared.place.LocalPtr.TheVariants as local
-use Rattle.integers.specs.declared.operator.BinOp.{BinOp}
-use Rattle.integers.specs.declared.operator.BinOp.TheVariants as op
-use Rattle.integers.specs.declared.operator.UnOp.{UnOp}
-use Rattle.integers.specs.declared.operator.UnOp.TheVariants as un
 use Rattle.upc_values.specs.declared.scalar.Value.{Value}
 use Rattle.upc_values.specs.declared.scalar.Value.TheVariants as value
 use Rattle.upc_values.specs.Shapes.{blank_value}
 use Rattle.upc_values.specs.Lists.{Each}
+use Rattle.upc_values.proofs.Membership.{each-append}
 use Rattle.upc_types.specs.Types.{CType, base_of}
 use Rattle.typing_rules.specs.declared.setting.Home.{Home}
 use Rattle.typing_rules.specs.declared.setting.Home.TheVariants as home
-use Rattle.typing_rules.specs.Library.{int, call_parameters}
-use Rattle.typing_rules.specs.Nodes.{Attr}
-use Rattle.typed_tree.specs.declared.tree.StepOperator.{StepOperator}
-use Rattle.typed_tree.specs.declared.tree.StepOperator.TheVariants as step
-use Rattle.typed_tree.specs.declared.tree.Target.TheVariants as target
 use Rattle.typed_tree.specs.declared.tree.Synchronises.{Synchronises}
 use Rattle.typed_tree.specs.declared.tree.Synchronises.TheVariants as how
-use Rattle.typed_tree.specs.Tree.{Expr, Is, ExprKind, Literal, Mythread, Object, Callee, Format, Paren, Subscript}
-use Rattle.typed_tree.specs.Tree.{Call, Member, MemberBehind, Step, Address, Dereference, Unary, SizeOf, SizeOfType}
-use Rattle.typed_tree.specs.Tree.{Cast, Binary, And, Or, Assign, Compound, Conditional, Comma, Exprs, NoExprs}
-use Rattle.typed_tree.specs.Tree.{AndExpr, Initial, NoInitial, InitialValue, InitialList, DeclaredObject}
+use Rattle.typed_tree.specs.Tree.{Expr, Exprs, NoExprs, AndExpr}
+use Rattle.typed_tree.specs.Tree.{Initial, NoInitial, InitialValue, InitialList, DeclaredObject}
 use Rattle.typed_tree.specs.Tree.{Affinity, Everyone, AtValue, Head, Statement, Stands, StatementKind, Block, If}
 use Rattle.typed_tree.specs.Tree.{Switch, While, DoWhile, For, Forall, Break, Continue, Return, Synchronise, Fence}
 use Rattle.typed_tree.specs.Tree.{StatementOption, NoStatement, TheStatement, Arms, NoArms, AndArm, Items, NoItems}
@@ -35,13 +24,13 @@ use Rattle.typed_tree.specs.Tree.{AndObjects, AndStatement, SwitchItems, NoSwitc
 use Rattle.typed_tree.specs.Tree.{AndSwitchStatement, Function}
 use Rattle.typed_tree.specs.Tree as tree
 use Rattle.typed_tree.specs.Programs.{Checked}
-use Rattle.thread_steps.specs.declared.cast.CastTo.{CastTo}
-use Rattle.thread_steps.specs.Values.{number, truth_value}
-use Rattle.source_meaning.specs.Types.{target_of, integer_of, conversions, parameter_conversion, promotion, cell_kind}
-use Rattle.source_meaning.specs.Running.{parameters_of, shared_object}
-use Rattle.source_meaning.specs.Expressions.{type_of, types_of, inner_place_in, dimension, is_printf, is_lvalue}
+use Rattle.thread_steps.specs.Values.{number}
+use Rattle.source_meaning.specs.Types.{integer_of, cell_kind}
+use Rattle.source_meaning.specs.Running.{shared_object}
+use Rattle.source_meaning.specs.Expressions.{type_of}
 use Rattle.source_meaning.specs.Statements.{Standing, with_strict, with_objects, element_type}
 use Rattle.source_meaning.specs.Threads.{in_body, blank_of}
+use Rattle.stack_code.specs.declared.instruction.StackWork.{StackWork}
 use Rattle.stack_code.specs.declared.instruction.StackWork.TheVariants as stack
 use Rattle.stack_code.specs.declared.instruction.Operation.{Operation}
 use Rattle.stack_code.specs.declared.instruction.Operation.TheVariants as work
@@ -49,6 +38,8 @@ use Rattle.stack_code.specs.declared.instruction.Instr.{Instr}
 use Rattle.stack_code.specs.Depths.{OnCall, BeginsNone, BeginsOnce}
 use Rattle.gen_expr.specs.Sources.{Source, running_of}
 use Rattle.gen_expr.specs.Codes as expr
+use Rattle.gen_expr.specs.Gathered.{HoldsOfForms, PushesNone}
+use Rattle.gen_expr.proofs.Gathered.{value_gathers}
 use Rattle.gen_stmt.specs.Ways.{Ways, all_past, all_inner, in_loop, in_switch, in_forall, in_function}
 use Rattle.gen_stmt.specs.Codes as stmt
 use Rattle.gen_stmt.specs.Programs.{body_code, function_code, source, program_code}
@@ -74,26 +65,51 @@ module _ (ς : Source) (P : Value → Type 0) (p : HoldsOf ς P) where
 
   -- One part behind another.
   both : (a b : List Instr) → Holds a → Holds b → Holds (a ++ b)
-  both [] b x y = y
-  both (i ∷ a) b x y = (x.0, both a b x.1 y)
+  both a b x y = each-append (λ i. Fine P i.does) a b x y
 
   -- One instruction behind a part.
   behind : (a : List Instr) (i : Instr) → Holds a → Fine P i.does → Holds (a ++ i ∷ [])
   behind a i x y = both a (i ∷ []) x (y, tt)
 
-  either : (b : Bool) (x y : List Instr) → Holds x → Holds y → Holds (if b then x else y)
-  either true x y p q = p
-  either false x y p q = q
+  -- ---- expressions
 
-  unary_hold : (at : Place) (o : UnOp) (k : Option Kind) → Holds (expr.unary_code at o k)
-  unary_hold at un.Not k = (tt, tt)
-  unary_hold at o (Some k) = (tt, tt)
-  unary_hold at o None = (tt, (p.integer _, tt))
+  no_push : (at : Place) (w : StackWork) → PushesNone w → Fine P (expr.stacks at w).does
+  no_push at (stack.Push v) h = absurd h
+  no_push at w h = tt
 
-  integers_hold : (at : Place) (o : BinOp) (j k : Option Kind) → Holds (expr.integers_code at o j k)
-  integers_hold at o (Some j) (Some k) = (tt, tt)
-  integers_hold at o (Some j) None = (tt, (tt, (p.integer _, tt)))
-  integers_hold at o None k = (tt, (tt, (p.integer _, tt)))
+  forms : HoldsOfForms ς (λ i. Fine P i.does)
+  forms = record {
+    numbers = λ at v. p.integer v;
+    private_objects = λ at n. p.private n;
+    shared_objects = λ at n. p.shared n;
+    stack_work = no_push;
+    value_work = λ at w. tt;
+    local_objects = λ at n. tt;
+    reads = λ at kind strict. tt;
+    writes = λ at kind strict. tt;
+    ways = λ at w. tt;
+    calls = λ at f n. tt;
+    library_calls = λ at c shape n. tt;
+    prints = λ at format n. tt;
+  }
+
+  value_hold : (strict : Bool) (e : Expr) → Holds (expr.value_code ς strict e)
+  value_hold strict e = value_gathers ς (λ i. Fine P i.does) forms strict e
+
+  object_hold : (at : Place) (h : Home) → Holds (expr.object_code ς at h)
+  object_hold at (home.Private n) = (p.private n, tt)
+  object_hold at (home.Shared n) = (p.shared n, tt)
+  object_hold at (home.Local n) = (tt, tt)
+
+  saved_hold : (strict : Bool) (at : Place) (t : CType) (k : Option Kind)
+      → Holds (expr.saved_code ς strict at t k)
+  saved_hold strict at t (Some k) = (tt, tt)
+  saved_hold strict at t None = (tt, (tt, tt))
+
+  put_hold : (strict : Bool) (at : Place) (t : CType) → Holds (expr.put_code ς strict at t)
+  put_hold strict at t = saved_hold strict at t (cell_kind ς.structs t)
+
+  -- ---- parts of statements
 
   label_hold : (at : Place) (k : Option Kind) → Holds (stmt.label_code at k)
   label_hold at None = tt
@@ -108,184 +124,6 @@ module _ (ς : Source) (P : Value → Type 0) (p : HoldsOf ς P) where
   synchronise_value_hold at how.Notify = (tt, tt)
   synchronise_value_hold at how.Wait = (tt, tt)
   synchronise_value_hold at how.Barrier = (tt, (tt, (tt, tt)))
-
-  -- ---- expressions
-
-  on_pointers_hold : (at : Place) (o : BinOp) (t : CType) → Holds (expr.on_pointers_code ς at o t)
-  on_pointers_hold at op.Subtract t = (tt, tt)
-  on_pointers_hold at op.Equal t = (tt, tt)
-  on_pointers_hold at op.NotEqual t = (tt, (tt, tt))
-  on_pointers_hold at o t = (tt, tt)
-
-  on_pointer_hold : (at : Place) (o : BinOp) (t : CType) → Holds (expr.on_pointer_code ς at o t)
-  on_pointer_hold at op.Add t = (tt, tt)
-  on_pointer_hold at op.Subtract t = (tt, tt)
-  on_pointer_hold at o t = on_pointers_hold at o t
-
-  before_pointer_hold : (at : Place) (o : BinOp) (t : CType) → Holds (expr.before_pointer_code ς at o t)
-  before_pointer_hold at op.Add t = (tt, (tt, tt))
-  before_pointer_hold at o t = on_pointers_hold at o t
-
-  operated_hold : (at : Place) (o : BinOp) (x y : Option CType) (j k : Option Kind)
-      → Holds (expr.operated_code ς at o x y j k)
-  operated_hold at o (Some t) (Some u) j k = on_pointers_hold at o t
-  operated_hold at o (Some t) None j k = on_pointer_hold at o t
-  operated_hold at o None (Some u) j k = before_pointer_hold at o u
-  operated_hold at o None None j k = integers_hold at o j k
-
-  binary_hold : (at : Place) (o : BinOp) (t u : CType) → Holds (expr.binary_code ς at o t u)
-  binary_hold at o t u = operated_hold at o (target_of t) (target_of u) (integer_of t) (integer_of u)
-
-  loaded_hold : (strict : Bool) (at : Place) (t : CType) (k : Option Kind)
-      → Holds (expr.loaded_code ς strict at t k)
-  loaded_hold strict at t (Some k) = (tt, tt)
-  loaded_hold strict at t None = tt
-
-  held_hold : (strict : Bool) (at : Place) (t : CType) → Holds (expr.held_code ς strict at t)
-  held_hold strict at t = loaded_hold strict at t (cell_kind ς.structs t)
-
-  saved_hold : (strict : Bool) (at : Place) (t : CType) (k : Option Kind)
-      → Holds (expr.saved_code ς strict at t k)
-  saved_hold strict at t (Some k) = (tt, tt)
-  saved_hold strict at t None = (tt, (tt, tt))
-
-  put_hold : (strict : Bool) (at : Place) (t : CType) → Holds (expr.put_code ς strict at t)
-  put_hold strict at t = saved_hold strict at t (cell_kind ς.structs t)
-
-  object_hold : (at : Place) (h : Home) → Holds (expr.object_code ς at h)
-  object_hold at (home.Private n) = (p.private n, tt)
-  object_hold at (home.Shared n) = (p.shared n, tt)
-  object_hold at (home.Local n) = (tt, tt)
-
-  subscript_hold : (at : Place) (t : CType) (count : Option ℕ) → Holds (expr.subscript_code ς at t count)
-  subscript_hold at t None = (tt, tt)
-  subscript_hold at t (Some count) = (tt, (tt, (tt, (tt, tt))))
-
-  first_step_hold : (strict : Bool) (at : Place) (o : BinOp) (t : CType)
-      → Holds (expr.first_step_code ς strict at o t)
-  first_step_hold strict at o t = (
-    tt,
-    both (expr.held_code ς strict at t) _ (held_hold strict at t)
-        (p.integer _, both (expr.binary_code ς at o t int) _ (binary_hold at o t int) (tt, put_hold strict at t)),
-  )
-
-  after_step_hold : (strict : Bool) (at : Place) (o : BinOp) (t : CType)
-      → Holds (expr.after_step_code ς strict at o t)
-  after_step_hold strict at o t = (
-    tt,
-    both (expr.held_code ς strict at t) _ (held_hold strict at t) (
-      tt,
-      (
-        tt,
-        (
-          p.integer _,
-          both (expr.binary_code ς at o t int) _ (binary_hold at o t int)
-              (tt, both (expr.put_code ς strict at t) _ (put_hold strict at t) (tt, tt)),
-        ),
-      ),
-    ),
-  )
-
-  step_hold : (strict : Bool) (at : Place) (o : StepOperator) (t : CType) → Holds (expr.step_code ς strict at o t)
-  step_hold strict at step.IncrementFirst t = first_step_hold strict at op.Add t
-  step_hold strict at step.DecrementFirst t = first_step_hold strict at op.Subtract t
-  step_hold strict at step.IncrementAfter t = after_step_hold strict at op.Add t
-  step_hold strict at step.DecrementAfter t = after_step_hold strict at op.Subtract t
-
-  compound_hold : (strict : Bool) (at : Place) (o : BinOp) (t u : CType)
-      → Holds (expr.compound_code ς strict at o t u)
-  compound_hold strict at o t u = (
-    tt,
-    both (expr.held_code ς strict at t) _ (held_hold strict at t)
-        (tt, both (expr.binary_code ς at o t u) _ (binary_hold at o t u) (tt, put_hold strict at t)),
-  )
-
-  either_hold : (at : Place) (test first second : List Instr) → Holds test → Holds first → Holds second
-      → Holds (expr.either_code at test first second)
-  either_hold at test first second x y z = both test _ x (tt, both first _ y (tt, z))
-
-  module _ (strict : Bool) where
-    mutual
-      value_hold : (e : Expr) → Holds (expr.value_code ς strict e)
-      value_hold (Is at attr kind) =
-          both (expr.given_code ς strict at attr kind) _ (given_hold at attr kind)
-          (either (is_lvalue attr.form) _ _ (held_hold strict (inner_place_in at kind) attr.ctype) tt)
-
-      address_hold : (e : Expr) → Holds (expr.address_code ς strict e)
-      address_hold (Is at attr kind) = given_hold at attr kind
-
-      given_hold : (at : Place) (attr : Attr) (kind : ExprKind) → Holds (expr.given_code ς strict at attr kind)
-      given_hold at attr Literal = (p.integer _, tt)
-      given_hold at attr Mythread = (tt, tt)
-      given_hold at attr (SizeOf o a) = (p.integer _, tt)
-      given_hold at attr (SizeOfType o t) = (p.integer _, tt)
-      given_hold at attr (Object h) = object_hold at h
-      given_hold at attr (Callee callee) = (p.integer _, tt)
-      given_hold at attr (Format bytes) = (p.integer _, tt)
-      given_hold at attr (Paren a) = address_hold a
-      given_hold at attr (Subscript a i) =
-          both (expr.value_code ς strict a) _ (value_hold a)
-          (both (expr.value_code ς strict i) _ (value_hold i) (subscript_hold at attr.ctype (dimension a)))
-      given_hold at attr (Call (target.Function n) args) =
-          behind (expr.arguments_code ς strict (conversions (types_of args) (parameters_of (running_of ς) n)) args) _
-          (arguments_hold (conversions (types_of args) (parameters_of (running_of ς) n)) args) tt
-      given_hold at attr (Call (target.Library c) args) =
-          either (is_printf c) _ _ (printed_hold at args)
-          (behind (expr.arguments_code ς strict (map parameter_conversion (call_parameters c)) args) _
-          (arguments_hold (map parameter_conversion (call_parameters c)) args) tt)
-      given_hold at attr (Member a index) = behind (expr.address_code ς strict a) _ (address_hold a) tt
-      given_hold at attr (MemberBehind a index) = behind (expr.value_code ς strict a) _ (value_hold a) tt
-      given_hold at attr (Step o a) =
-          both (expr.address_code ς strict a) _ (address_hold a) (step_hold strict at o (type_of a))
-      given_hold at attr (Address a) = address_hold a
-      given_hold at attr (Dereference a) = value_hold a
-      given_hold at attr (Unary o a) =
-          both (expr.value_code ς strict a) _ (value_hold a) (unary_hold at o (integer_of (type_of a)))
-      given_hold at attr (Cast a) = behind (expr.value_code ς strict a) _ (value_hold a) tt
-      given_hold at attr (Binary o a b) =
-          both (expr.value_code ς strict a) _ (value_hold a)
-          (both (expr.value_code ς strict b) _ (value_hold b) (binary_hold at o (type_of a) (type_of b)))
-      given_hold at attr (And a b) =
-          either_hold at (expr.value_code ς strict a) _ (expr.pushes at (truth_value false) ∷ []) (value_hold a)
-          (behind (expr.value_code ς strict b) _ (value_hold b) tt) (p.integer _, tt)
-      given_hold at attr (Or a b) =
-          either_hold at (expr.value_code ς strict a) (expr.pushes at (truth_value true) ∷ []) _ (value_hold a)
-          (p.integer _, tt)
-          (behind (expr.value_code ς strict b) _ (value_hold b) tt)
-      given_hold at attr (Conditional test a b) =
-          either_hold at (expr.value_code ς strict test) _ _ (value_hold test)
-          (behind (expr.value_code ς strict a) _ (value_hold a) tt)
-          (behind (expr.value_code ς strict b) _ (value_hold b) tt)
-      given_hold at attr (Assign a b) =
-          both (expr.address_code ς strict a) _ (address_hold a)
-          (both (expr.value_code ς strict b) _ (value_hold b) (tt, put_hold strict at (type_of a)))
-      given_hold at attr (Compound o a b) =
-          both (expr.address_code ς strict a) _ (address_hold a)
-          (both (expr.value_code ς strict b) _ (value_hold b) (compound_hold strict at o (type_of a) (type_of b)))
-      given_hold at attr (Comma parts) = last_hold at parts
-
-      printed_hold : (at : Place) (args : Exprs) → Holds (expr.printed_code ς strict at args)
-      printed_hold at NoExprs = (p.integer _, tt)
-      printed_hold at (AndExpr format more) =
-          behind (expr.arguments_code ς strict (map promotion (types_of more)) more) _
-          (arguments_hold (map promotion (types_of more)) more) tt
-
-      arguments_hold : (cs : List CastTo) (args : Exprs) → Holds (expr.arguments_code ς strict cs args)
-      arguments_hold (c ∷ cs) (AndExpr a more) =
-          both (expr.value_code ς strict a) _ (value_hold a) (tt, arguments_hold cs more)
-      arguments_hold (c ∷ cs) NoExprs = tt
-      arguments_hold [] args = tt
-
-      last_hold : (at : Place) (parts : Exprs) → Holds (expr.last_code ς strict at parts)
-      last_hold at NoExprs = (p.integer _, tt)
-      last_hold at (AndExpr a more) = both (expr.value_code ς strict a) _ (value_hold a) (further_hold more)
-
-      further_hold : (parts : Exprs) → Holds (expr.further_code ς strict parts)
-      further_hold NoExprs = tt
-      further_hold (AndExpr a more) =
-          (tt, both (expr.value_code ς strict a) _ (value_hold a) (further_hold more))
-
-  -- ---- parts of statements
 
   converted_hold : (strict : Bool) (t : CType) (e : Expr) → Holds (stmt.converted_code ς strict t e)
   converted_hold strict t e = behind (expr.value_code ς strict e) _ (value_hold strict e) tt

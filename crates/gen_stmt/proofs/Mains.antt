@@ -4,7 +4,6 @@ use Rattle.std.proofs.Common.{get_or, Some, None, ap, ◌∙◌, arith}
 use Rattle.std.proofs.lemmas.List.{drop_all}
 use Rattle.upc_types.proofs.Members.{next}
 use Rattle.typed_tree.specs.declared.tree.Function as f
-use Rattle.typed_tree.specs.Tree.{Function}
 use Rattle.typed_tree.specs.ViewStatements.{view_function}
 use Rattle.source_meaning.specs.Threads.{is_main, main_of}
 use Rattle.gen_stmt.specs.Programs.{counted, main_number}

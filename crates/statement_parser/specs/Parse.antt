@@ -21,13 +21,14 @@ use Rattle.upc_tree.specs.Statement.{BlockItems, SwitchItem, SwitchItems, ElseIf
 use Rattle.upc_tree.specs.Unit as q
 use Rattle.upc_tree.specs.Unit.{External}
 use Rattle.upc_tree.specs.Lists.{next_declareds_of, block_items_of, switch_items_of, else_ifs_of}
-use Rattle.upc_expressions.specs.declared.cursor.Fault.TheVariants.{NoTree, TooHigh}
-use Rattle.upc_expressions.specs.Outcome.{Parser, ◌>>=◌, span_of, is_punct, is_word, starts, starts_two, expect_punct}
-use Rattle.upc_expressions.specs.Outcome.{expect_word, all, listed}
-use Rattle.upc_expressions.specs.Tables.{is_spec}
-use Rattle.upc_expressions.specs.Ahead.{is_pragma, is_any}
-use Rattle.upc_expressions.specs.Expression.{at_height, name, next_exprs, specs, pointers, dimensions, declarator}
-use Rattle.upc_expressions.specs.Expression.{parameters}
+use Rattle.token_reader.specs.declared.cursor.Fault.TheVariants.{NoTree, TooHigh}
+use Rattle.token_reader.specs.Outcome.{Parser, ◌>>=◌, span_of, is_punct, is_word, starts, starts_two, expect_punct}
+use Rattle.token_reader.specs.Outcome.{expect_word, all, listed}
+use Rattle.token_reader.specs.Tables.{is_spec}
+use Rattle.token_reader.specs.Ahead.{is_pragma, is_any}
+use Rattle.token_reader.specs.Outcome.{name}
+use Rattle.type_parser.specs.Expression.{at_height, next_exprs, specs, pointers, dimensions, declarator}
+use Rattle.type_parser.specs.Expression.{parameters}
 use Rattle.statement_parser.specs.declared.start.StatementStart.{StatementStart}
 use Rattle.statement_parser.specs.declared.start.StatementStart.TheVariants as start
 use Rattle.statement_parser.specs.Tables.{statement_start}

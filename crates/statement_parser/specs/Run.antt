@@ -4,9 +4,9 @@ use Rattle.std.specs.declared.alloc.Global.{Global}
 use denote.Ref.{MutBor}
 use Rattle.upc_tree.specs.declared.statement.Statement.{Statement}
 use Rattle.upc_tree.specs.ViewStatement.{view_statement}
-use Rattle.upc_expressions.specs.declared.cursor.Tokens.{Tokens}
-use Rattle.upc_expressions.specs.declared.cursor.Fail.{Fail}
-use Rattle.upc_expressions.specs.Run.{Reads, boxed}
+use Rattle.token_reader.specs.declared.cursor.Tokens.{Tokens}
+use Rattle.token_reader.specs.declared.cursor.Fail.{Fail}
+use Rattle.token_reader.specs.Run.{Reads, boxed}
 use Rattle.statement_parser.specs.Parse.{statements_at}
 
 -- a function value that parses statements of at most this height

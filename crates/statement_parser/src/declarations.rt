@@ -3,15 +3,14 @@
 ghost use Rattle.std.specs.Prelude.{◌<◌};
 ghost use Rattle.upc_tree.specs.ViewStatement.{view_initial, view_declared, view_next_declared, view_next_declareds};
 ghost use Rattle.upc_tree.specs.ViewStatement.{view_declared_list, view_declaration};
-ghost use Rattle.upc_expressions.specs.Run.{Reads, boxed};
+ghost use Rattle.token_reader.specs.Run.{Reads, boxed};
 ghost use Rattle.statement_parser.specs.Parse as spec;
 
-use crate::make::{declared_as, declares, some_list};
 use std::alloc::Global;
-use upc_expressions::{
-    Ahead, Fail, Fault, Sign, Tokens, boxed, declarator, expect_punct, expr, many, next_exprs,
-    specs, starts, starts_two,
-};
+use syntax_makers::boxed;
+use syntax_makers::statements::{declared_as, declares, some_list};
+use token_reader::{Ahead, Fail, Fault, Sign, Tokens, expect_punct, many, starts, starts_two};
+use upc_expressions::{declarator, expr, next_exprs, specs};
 use upc_lexer::Punct;
 use upc_tree::{Declaration, Declared, DeclaredList, Initial, NextDeclared};
 

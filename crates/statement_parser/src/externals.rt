@@ -3,18 +3,18 @@
 ghost use Rattle.std.specs.Prelude.{◌<◌, map};
 ghost use Rattle.upc_tree.specs.View.{view_specs, view_pointers, view_declarator, view_parameters};
 ghost use Rattle.upc_tree.specs.ViewStatement.{view_external, view_unit};
-ghost use Rattle.upc_expressions.specs.Run.{Reads, boxed};
+ghost use Rattle.token_reader.specs.Run.{Reads, boxed};
 ghost use Rattle.statement_parser.specs.Parse as spec;
 
 use crate::declarations::{initial, next_declareds};
 use crate::heads::pragma;
 use crate::knot::compound;
-use crate::make::{declared_as, declares, some_list};
 use std::alloc::Global;
-use upc_expressions::{
-    Ahead, Fail, Fault, Sign, Tokens, boxed, dimensions, expect_punct, function, many, name,
-    object, parameters, pointers, specs, starts,
-};
+use syntax_makers::boxed;
+use syntax_makers::expressions::{function, object};
+use syntax_makers::statements::{declared_as, declares, some_list};
+use token_reader::{Ahead, Fail, Fault, Sign, Tokens, expect_punct, many, name, starts};
+use upc_expressions::{dimensions, parameters, pointers, specs};
 use upc_lexer::Punct;
 use upc_tree::{Declarator, External, Function, Name, Parameters, Pointer, Spec, Unit};
 

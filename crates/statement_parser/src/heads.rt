@@ -1,14 +1,16 @@
 //! Parts of statements that are no statements (C99 6.8.4, 6.8.5; UPC 6.6.2, 6.7).
 
 ghost use Rattle.upc_tree.specs.ViewStatement.{view_value, view_test, view_first, view_affinity, view_for, view_forall};
-ghost use Rattle.upc_expressions.specs.Run.{Reads, boxed, same};
+ghost use Rattle.token_reader.specs.Run.{Reads, boxed, same};
 ghost use Rattle.statement_parser.specs.Parse as spec;
 
 use crate::declarations::declaration;
 use std::alloc::Global;
-use upc_expressions::{
-    Ahead, Fail, Fault, Sign, Tokens, boxed, expect_punct, expect_word, expr, many, span_of, starts,
+use syntax_makers::boxed;
+use token_reader::{
+    Ahead, Fail, Fault, Sign, Tokens, expect_punct, expect_word, many, span_of, starts,
 };
+use upc_expressions::expr;
 use upc_lexer::{Punct, TokenKind, Word};
 use upc_tree::{Affinity, Expr, First, ForHead, ForallHead, Pragma, Test};
 

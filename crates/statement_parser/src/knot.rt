@@ -1,12 +1,12 @@
 //! The function that calls itself through the rules.
 
 ghost use Rattle.upc_tree.specs.ViewStatement.{view_statement, view_compound};
-ghost use Rattle.upc_expressions.specs.Run.{Reads, boxed};
+ghost use Rattle.token_reader.specs.Run.{Reads, boxed};
 ghost use Rattle.statement_parser.specs.Parse.{statements_at};
 
 use crate::statements::Rules;
 use std::alloc::Global;
-use upc_expressions::{Fail, Fault, Tokens};
+use token_reader::{Fail, Fault, Tokens};
 use upc_tree::{Compound, Statement};
 
 /// A statement of at most this height.

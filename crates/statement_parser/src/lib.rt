@@ -6,7 +6,6 @@ mod declarations;
 mod externals;
 mod heads;
 mod knot;
-mod make;
 mod start;
 mod statements;
 

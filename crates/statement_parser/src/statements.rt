@@ -4,22 +4,24 @@ ghost use Rattle.std.specs.Prelude.{◌≤◌};
 ghost use Rattle.upc_tree.specs.ViewStatement.{view_statement, view_compound, view_block_item, view_block_items};
 ghost use Rattle.upc_tree.specs.ViewStatement.{view_switch_item, view_switch_items, view_else_if, view_else_ifs};
 ghost use Rattle.upc_tree.specs.ViewStatement.{view_otherwise};
-ghost use Rattle.upc_expressions.specs.Outcome.{span_of};
-ghost use Rattle.upc_expressions.specs.Run.{Reads, boxed};
+ghost use Rattle.token_reader.specs.Outcome.{span_of};
+ghost use Rattle.token_reader.specs.Run.{Reads, boxed};
 ghost use Rattle.statement_parser.specs.Parse as spec;
 ghost use Rattle.statement_parser.specs.Parse.{statements_at};
 ghost use Rattle.statement_parser.specs.Run.{Nests};
 
 use crate::declarations::declaration;
 use crate::heads::{for_head, forall_head, pragmas, test, value};
-use crate::make::{
-    block, do_statement, for_statement, forall_statement, if_statement, switch, while_statement,
-};
 use crate::start::{StatementStart, statement_start};
 use std::alloc::Global;
-use upc_expressions::{
-    Ahead, Fail, Fault, Sign, Tokens, boxed, expect_punct, expect_word, expr, many, span_of, starts,
+use syntax_makers::boxed;
+use syntax_makers::statements::{
+    block, do_statement, for_statement, forall_statement, if_statement, switch, while_statement,
 };
+use token_reader::{
+    Ahead, Fail, Fault, Sign, Tokens, expect_punct, expect_word, many, span_of, starts,
+};
+use upc_expressions::expr;
 use upc_lexer::{Punct, Token, Word};
 use upc_tree::{BarrierWord, BlockItem, Compound, ElseIf, Otherwise, Span, Statement, SwitchItem};
 

@@ -1,8 +1,6 @@
 //! Walks over syntax trees: the tokens of a tree, and its height.
 #![tactic(auto)]
 
-mod backwards;
-mod expression_tokens;
 mod unit_height;
 mod unit_tokens;
 

@@ -19,9 +19,8 @@ ghost use Rattle.upc_tree.specs.ViewStatement.{view_for, view_forall, view_state
 ghost use Rattle.upc_tree.specs.ViewStatement.{view_switch_item, view_else_if, view_otherwise, view_function};
 ghost use Rattle.upc_tree.specs.ViewStatement.{view_external, view_unit};
 
-use crate::backwards::Backwards;
-use crate::expression_tokens::{
-    put_declarator, put_expr, put_next_exprs, put_parameters, put_pointers, put_specs,
+use expression_tokens::{
+    Backwards, put_declarator, put_expr, put_next_exprs, put_parameters, put_pointers, put_specs,
 };
 use std::alloc::Global;
 use upc_lexer::{Punct, Token, TokenKind, Word};

@@ -4,24 +4,23 @@ ghost use Rattle.std.specs.Prelude.{◌≡◌, ◌≤◌, ◌<◌, nat_le, lengt
 ghost use Rattle.upc_tree.specs.Expression.{height};
 ghost use Rattle.upc_tree.specs.Proper.{level};
 ghost use Rattle.upc_tree.specs.View.{view, view_arguments, view_next_expr, view_next_exprs};
-ghost use Rattle.upc_expressions.specs.Expression as spec;
-ghost use Rattle.upc_expressions.specs.Expression.{at_height};
-ghost use Rattle.upc_expressions.specs.Outcome.{span_of};
-ghost use Rattle.upc_expressions.specs.Run.{Reads, Nests, boxed, same};
+ghost use Rattle.type_parser.specs.Expression as spec;
+ghost use Rattle.type_parser.specs.Expression.{at_height};
+ghost use Rattle.token_reader.specs.Outcome.{span_of, string};
+ghost use Rattle.token_reader.specs.Run.{Reads, boxed, same};
+ghost use Rattle.type_parser.specs.Run.{Nests};
 
-use crate::ahead::{Ahead, Sign, starts, starts_two};
-use crate::cursor::{Fail, Fault, Tokens, expect_punct, name, span_of};
-use crate::grammar::Grammar;
-use crate::items::many;
-use crate::make::{
-    arguments, assign, binary, boxed, call, cast, character, comma, conditional, constant,
-    member_of, named, number, paren, size_of_expr, size_of_type, step, string_literals, subscript,
-    unary,
-};
-use crate::start::{
-    Joint, Prefix, Suffix, joint_level, joint_of, left_least, operand_level, prefix_of, suffix_of,
-};
 use std::alloc::Global;
+use syntax_makers::boxed;
+use syntax_makers::expressions::{
+    arguments, assign, binary, call, cast, character, comma, conditional, constant, member_of,
+    named, number, paren, size_of_expr, size_of_type, step, string_literals, subscript, unary,
+};
+use token_reader::{
+    Ahead, Fail, Fault, Joint, Prefix, Sign, Suffix, Tokens, expect_punct, joint_level, joint_of,
+    left_least, many, name, operand_level, prefix_of, span_of, starts, starts_two, suffix_of,
+};
+use type_parser::Grammar;
 use upc_lexer::{Punct, Token, TokenKind, Word};
 use upc_text::Text;
 use upc_tree::{
@@ -38,7 +37,7 @@ fn fits(e: &Expr, n: u32) -> bool
 }
 
 fn string(alloc: Global, tokens: &mut Tokens<'_>) -> Result<StringLiteral, Fail>
-    ensures { Reads same (spec.string tokens.old.rest.now) result tokens.new.rest.now }
+    ensures { Reads same (string tokens.old.rest.now) result tokens.new.rest.now }
 {
     match tokens.rest {
         [] => Err(Fail::Fault(Fault::NoTree)),
@@ -92,69 +91,75 @@ fn goes_on(least: u8, left: &Expr, joint: Joint) -> bool
     least <= joint_level(joint) && left_least(joint) <= level(left)
 }
 
+/// The rules of expressions, as methods beside those of types.
+#[derive(Drop)]
+pub struct Expressions<F, G> {
+    pub types: Grammar<F, G>,
+}
+
 impl<
     F: Fn(Global, &mut Tokens<'_>, u32, u8) -> Result<Box<Expr>, Fail>,
     G: Fn(Global, &mut Tokens<'_>, u32) -> Result<Spec, Fail>,
-> Grammar<F, G> {
-    #[tactic(auto, unfolding(crate::specs::Expression::next_expr))]
+> Expressions<F, G> {
+    #[tactic(auto, unfolding(type_parser::specs::Expression::next_expr))]
     fn next_expr(&self, tokens: &mut Tokens<'_>, n: u32) -> Result<NextExpr, Fail>
-        requires within { n ≤ self.now.below }
-        requires nests { Nests self.now.below (F.pre self.now.expr) (F.post self.now.expr)
-            (G.pre self.now.structure) (G.post self.now.structure) }
+        requires within { n ≤ self.now.types.below }
+        requires nests { Nests self.now.types.below (F.pre self.now.types.expr) (F.post self.now.types.expr)
+            (G.pre self.now.types.structure) (G.post self.now.types.structure) }
         ensures { Reads view_next_expr (spec.next_expr (at_height n) tokens.old.rest.now) result tokens.new.rest.now }
     {
         let comma = expect_punct(tokens, Punct::Comma)?;
-        let value = self.expr(tokens, n, 1)?;
+        let value = self.types.expr(tokens, n, 1)?;
         Ok(NextExpr { comma, value })
     }
 
     pub fn next_exprs(&self, tokens: &mut Tokens<'_>, n: u32) -> Result<Vec<NextExpr>, Fail>
-        requires within { n ≤ self.now.below }
-        requires nests { Nests self.now.below (F.pre self.now.expr) (F.post self.now.expr)
-            (G.pre self.now.structure) (G.post self.now.structure) }
+        requires within { n ≤ self.now.types.below }
+        requires nests { Nests self.now.types.below (F.pre self.now.types.expr) (F.post self.now.types.expr)
+            (G.pre self.now.types.structure) (G.post self.now.types.structure) }
         ensures { Reads view_next_exprs (spec.next_exprs (at_height n) tokens.old.rest.now) result tokens.new.rest.now }
     {
         many(
-            self.alloc,
+            self.types.alloc,
             tokens,
             Ahead::One(Sign::Punct(Punct::Comma)),
             |t| self.next_expr(t, n),
         )
     }
 
-    #[tactic(auto, unfolding(crate::specs::Expression::some_arguments))]
+    #[tactic(auto, unfolding(type_parser::specs::Expression::some_arguments))]
     fn some_arguments(&self, tokens: &mut Tokens<'_>, n: u32) -> Result<Box<Arguments>, Fail>
-        requires within { n ≤ self.now.below }
-        requires nests { Nests self.now.below (F.pre self.now.expr) (F.post self.now.expr)
-            (G.pre self.now.structure) (G.post self.now.structure) }
+        requires within { n ≤ self.now.types.below }
+        requires nests { Nests self.now.types.below (F.pre self.now.types.expr) (F.post self.now.types.expr)
+            (G.pre self.now.types.structure) (G.post self.now.types.structure) }
         ensures { Reads (boxed view_arguments) (spec.some_arguments (at_height n)
             tokens.old.rest.now) result tokens.new.rest.now }
     {
-        let first = self.expr(tokens, n, 1)?;
+        let first = self.types.expr(tokens, n, 1)?;
         let more = self.next_exprs(tokens, n)?;
         let right = expect_punct(tokens, Punct::RParen)?;
-        Ok(arguments(self.alloc, first, more, right)?)
+        Ok(arguments(self.types.alloc, first, more, right)?)
     }
 
-    #[tactic(auto, unfolding(crate::specs::Expression::arguments))]
+    #[tactic(auto, unfolding(type_parser::specs::Expression::arguments))]
     fn whole_arguments(&self, tokens: &mut Tokens<'_>, n: u32) -> Result<Box<Arguments>, Fail>
-        requires within { n ≤ self.now.below }
-        requires nests { Nests self.now.below (F.pre self.now.expr) (F.post self.now.expr)
-            (G.pre self.now.structure) (G.post self.now.structure) }
+        requires within { n ≤ self.now.types.below }
+        requires nests { Nests self.now.types.below (F.pre self.now.types.expr) (F.post self.now.types.expr)
+            (G.pre self.now.types.structure) (G.post self.now.types.structure) }
         ensures { Reads (boxed view_arguments) (spec.arguments (at_height n) tokens.old.rest.now)
             result tokens.new.rest.now }
     {
         if starts(Sign::Punct(Punct::RParen), tokens.rest) {
             let close = expect_punct(tokens, Punct::RParen)?;
-            return Ok(boxed(self.alloc, Arguments::Empty { close })?);
+            return Ok(boxed(self.types.alloc, Arguments::Empty { close })?);
         }
         self.some_arguments(tokens, n)
     }
 
     fn arguments(&self, tokens: &mut Tokens<'_>, n: u32) -> Result<Box<Arguments>, Fail>
-        requires within { n ≤ self.now.below }
-        requires nests { Nests self.now.below (F.pre self.now.expr) (F.post self.now.expr)
-            (G.pre self.now.structure) (G.post self.now.structure) }
+        requires within { n ≤ self.now.types.below }
+        requires nests { Nests self.now.types.below (F.pre self.now.types.expr) (F.post self.now.types.expr)
+            (G.pre self.now.types.structure) (G.post self.now.types.structure) }
         ensures { Reads (boxed view_arguments) ((at_height n).arguments tokens.old.rest.now) result
             tokens.new.rest.now }
     {
@@ -164,7 +169,7 @@ impl<
         self.whole_arguments(tokens, n - 1)
     }
 
-    #[tactic(auto, unfolding(crate::specs::Expression::unary))]
+    #[tactic(auto, unfolding(type_parser::specs::Expression::unary))]
     fn unary(
         &self,
         tokens: &mut Tokens<'_>,
@@ -172,16 +177,16 @@ impl<
         mark: UnaryMark,
         at: Span,
     ) -> Result<Box<Expr>, Fail>
-        requires within { n ≤ self.now.below }
-        requires nests { Nests self.now.below (F.pre self.now.expr) (F.post self.now.expr)
-            (G.pre self.now.structure) (G.post self.now.structure) }
+        requires within { n ≤ self.now.types.below }
+        requires nests { Nests self.now.types.below (F.pre self.now.types.expr) (F.post self.now.types.expr)
+            (G.pre self.now.types.structure) (G.post self.now.types.structure) }
         ensures { Reads (boxed view) (spec.unary (at_height n) mark at tokens.old.rest.now) result tokens.new.rest.now }
     {
-        let operand = self.expr(tokens, n, operand_level(mark))?;
-        Ok(unary(self.alloc, mark, at, operand)?)
+        let operand = self.types.expr(tokens, n, operand_level(mark))?;
+        Ok(unary(self.types.alloc, mark, at, operand)?)
     }
 
-    #[tactic(auto, unfolding(crate::specs::Expression::size_type))]
+    #[tactic(auto, unfolding(type_parser::specs::Expression::size_type))]
     fn size_type(
         &self,
         tokens: &mut Tokens<'_>,
@@ -189,19 +194,19 @@ impl<
         word: SizeWord,
         at: Span,
     ) -> Result<Box<Expr>, Fail>
-        requires within { n ≤ self.now.below }
-        requires nests { Nests self.now.below (F.pre self.now.expr) (F.post self.now.expr)
-            (G.pre self.now.structure) (G.post self.now.structure) }
+        requires within { n ≤ self.now.types.below }
+        requires nests { Nests self.now.types.below (F.pre self.now.types.expr) (F.post self.now.types.expr)
+            (G.pre self.now.types.structure) (G.post self.now.types.structure) }
         ensures { Reads (boxed view) (spec.size_type (at_height n) word at tokens.old.rest.now)
             result tokens.new.rest.now }
     {
         let left = expect_punct(tokens, Punct::LParen)?;
-        let operand = self.type_name(tokens, n)?;
+        let operand = self.types.type_name(tokens, n)?;
         let right = expect_punct(tokens, Punct::RParen)?;
-        Ok(size_of_type(self.alloc, word, at, left, operand, right)?)
+        Ok(size_of_type(self.types.alloc, word, at, left, operand, right)?)
     }
 
-    #[tactic(auto, unfolding(crate::specs::Expression::size_expr))]
+    #[tactic(auto, unfolding(type_parser::specs::Expression::size_expr))]
     fn size_expr(
         &self,
         tokens: &mut Tokens<'_>,
@@ -209,14 +214,14 @@ impl<
         word: SizeWord,
         at: Span,
     ) -> Result<Box<Expr>, Fail>
-        requires within { n ≤ self.now.below }
-        requires nests { Nests self.now.below (F.pre self.now.expr) (F.post self.now.expr)
-            (G.pre self.now.structure) (G.post self.now.structure) }
+        requires within { n ≤ self.now.types.below }
+        requires nests { Nests self.now.types.below (F.pre self.now.types.expr) (F.post self.now.types.expr)
+            (G.pre self.now.types.structure) (G.post self.now.types.structure) }
         ensures { Reads (boxed view) (spec.size_expr (at_height n) word at tokens.old.rest.now)
             result tokens.new.rest.now }
     {
-        let operand = self.expr(tokens, n, 14)?;
-        Ok(size_of_expr(self.alloc, word, at, operand)?)
+        let operand = self.types.expr(tokens, n, 14)?;
+        Ok(size_of_expr(self.types.alloc, word, at, operand)?)
     }
 
     fn size(
@@ -226,9 +231,9 @@ impl<
         word: SizeWord,
         at: Span,
     ) -> Result<Box<Expr>, Fail>
-        requires within { n ≤ self.now.below }
-        requires nests { Nests self.now.below (F.pre self.now.expr) (F.post self.now.expr)
-            (G.pre self.now.structure) (G.post self.now.structure) }
+        requires within { n ≤ self.now.types.below }
+        requires nests { Nests self.now.types.below (F.pre self.now.types.expr) (F.post self.now.types.expr)
+            (G.pre self.now.types.structure) (G.post self.now.types.structure) }
         ensures { Reads (boxed view) (spec.size (at_height n) word at tokens.old.rest.now) result tokens.new.rest.now }
     {
         if opens_type(tokens.rest) {
@@ -237,30 +242,30 @@ impl<
         self.size_expr(tokens, n, word, at)
     }
 
-    #[tactic(auto, unfolding(crate::specs::Expression::cast))]
+    #[tactic(auto, unfolding(type_parser::specs::Expression::cast))]
     fn cast(&self, tokens: &mut Tokens<'_>, n: u32) -> Result<Box<Expr>, Fail>
-        requires within { n ≤ self.now.below }
-        requires nests { Nests self.now.below (F.pre self.now.expr) (F.post self.now.expr)
-            (G.pre self.now.structure) (G.post self.now.structure) }
+        requires within { n ≤ self.now.types.below }
+        requires nests { Nests self.now.types.below (F.pre self.now.types.expr) (F.post self.now.types.expr)
+            (G.pre self.now.types.structure) (G.post self.now.types.structure) }
         ensures { Reads (boxed view) (spec.cast (at_height n) tokens.old.rest.now) result tokens.new.rest.now }
     {
         let left = expect_punct(tokens, Punct::LParen)?;
-        let target = self.plain_type(tokens, n)?;
+        let target = self.types.plain_type(tokens, n)?;
         let right = expect_punct(tokens, Punct::RParen)?;
-        let operand = self.expr(tokens, n, 13)?;
-        Ok(cast(self.alloc, left, target, right, operand)?)
+        let operand = self.types.expr(tokens, n, 13)?;
+        Ok(cast(self.types.alloc, left, target, right, operand)?)
     }
 
-    #[tactic(auto, unfolding(crate::specs::Expression::paren))]
+    #[tactic(auto, unfolding(type_parser::specs::Expression::paren))]
     fn paren(&self, tokens: &mut Tokens<'_>, n: u32, left: Span) -> Result<Box<Expr>, Fail>
-        requires within { n ≤ self.now.below }
-        requires nests { Nests self.now.below (F.pre self.now.expr) (F.post self.now.expr)
-            (G.pre self.now.structure) (G.post self.now.structure) }
+        requires within { n ≤ self.now.types.below }
+        requires nests { Nests self.now.types.below (F.pre self.now.types.expr) (F.post self.now.types.expr)
+            (G.pre self.now.types.structure) (G.post self.now.types.structure) }
         ensures { Reads (boxed view) (spec.paren (at_height n) left tokens.old.rest.now) result tokens.new.rest.now }
     {
-        let inner = self.expr(tokens, n, 0)?;
+        let inner = self.types.expr(tokens, n, 0)?;
         let right = expect_punct(tokens, Punct::RParen)?;
-        Ok(paren(self.alloc, left, inner, right)?)
+        Ok(paren(self.types.alloc, left, inner, right)?)
     }
 
     fn string_run(
@@ -270,15 +275,15 @@ impl<
         bytes: &Text,
         span: Span,
     ) -> Result<Box<Expr>, Fail>
-        requires within { n ≤ self.now.below }
-        requires nests { Nests self.now.below (F.pre self.now.expr) (F.post self.now.expr)
-            (G.pre self.now.structure) (G.post self.now.structure) }
+        requires within { n ≤ self.now.types.below }
+        requires nests { Nests self.now.types.below (F.pre self.now.types.expr) (F.post self.now.types.expr)
+            (G.pre self.now.types.structure) (G.post self.now.types.structure) }
         ensures { Reads (boxed view) (spec.primary_by (at_height n) (TokenKind.Str bytes.now) span
             tokens.old.rest.now) result tokens.new.rest.now }
     {
-        let bytes = bytes.copy(self.alloc)?;
-        let more = strings(self.alloc, tokens)?;
-        Ok(string_literals(self.alloc, StringLiteral { bytes, span }, more)?)
+        let bytes = bytes.copy(self.types.alloc)?;
+        let more = strings(self.types.alloc, tokens)?;
+        Ok(string_literals(self.types.alloc, StringLiteral { bytes, span }, more)?)
     }
 
     fn primary_by<'a>(
@@ -288,9 +293,9 @@ impl<
         first: &Token,
         rest: &'a [Token],
     ) -> Result<Box<Expr>, Fail>
-        requires within { n ≤ self.now.below }
-        requires nests { Nests self.now.below (F.pre self.now.expr) (F.post self.now.expr)
-            (G.pre self.now.structure) (G.post self.now.structure) }
+        requires within { n ≤ self.now.types.below }
+        requires nests { Nests self.now.types.below (F.pre self.now.types.expr) (F.post self.now.types.expr)
+            (G.pre self.now.types.structure) (G.post self.now.types.structure) }
         ensures { Reads (boxed view) (spec.primary_by (at_height n) first.now.kind
             (span_of first.now) rest.now) result tokens.new.rest.now }
     {
@@ -299,15 +304,15 @@ impl<
             TokenKind::Name(number) => {
                 tokens.rest = rest;
                 let number = *number;
-                Ok(named(self.alloc, Name { number, span })?)
+                Ok(named(self.types.alloc, Name { number, span })?)
             }
             TokenKind::Number { value, kind } => {
                 tokens.rest = rest;
-                Ok(number(self.alloc, *value, *kind, span)?)
+                Ok(number(self.types.alloc, *value, *kind, span)?)
             }
             TokenKind::Character(value) => {
                 tokens.rest = rest;
-                Ok(character(self.alloc, *value, span)?)
+                Ok(character(self.types.alloc, *value, span)?)
             }
             TokenKind::Str(bytes) => {
                 tokens.rest = rest;
@@ -315,15 +320,15 @@ impl<
             }
             TokenKind::Word(Word::Mythread) => {
                 tokens.rest = rest;
-                Ok(constant(self.alloc, ConstantWord::Mythread, span)?)
+                Ok(constant(self.types.alloc, ConstantWord::Mythread, span)?)
             }
             TokenKind::Word(Word::Threads) => {
                 tokens.rest = rest;
-                Ok(constant(self.alloc, ConstantWord::Threads, span)?)
+                Ok(constant(self.types.alloc, ConstantWord::Threads, span)?)
             }
             TokenKind::Word(Word::UpcMaxBlockSize) => {
                 tokens.rest = rest;
-                Ok(constant(self.alloc, ConstantWord::MaxBlockSize, span)?)
+                Ok(constant(self.types.alloc, ConstantWord::MaxBlockSize, span)?)
             }
             TokenKind::Punct(Punct::LParen) => {
                 tokens.rest = rest;
@@ -340,18 +345,18 @@ impl<
         base: Box<Expr>,
         at: Span,
     ) -> Result<Box<Expr>, Fail>
-        requires within { n ≤ self.now.below }
-        requires nests { Nests self.now.below (F.pre self.now.expr) (F.post self.now.expr)
-            (G.pre self.now.structure) (G.post self.now.structure) }
+        requires within { n ≤ self.now.types.below }
+        requires nests { Nests self.now.types.below (F.pre self.now.types.expr) (F.post self.now.types.expr)
+            (G.pre self.now.types.structure) (G.post self.now.types.structure) }
         ensures { Reads (boxed view) (spec.suffixed n (at_height n) Suffix.Subscript
             (view base.value) at tokens.old.rest.now) result tokens.new.rest.now }
     {
-        let index = self.expr(tokens, n, 0)?;
+        let index = self.types.expr(tokens, n, 0)?;
         let right = expect_punct(tokens, Punct::RBracket)?;
         if !fits(&base, n) {
             return Err(Fail::Fault(Fault::TooHigh));
         }
-        Ok(subscript(self.alloc, base, at, index, right)?)
+        Ok(subscript(self.types.alloc, base, at, index, right)?)
     }
 
     fn called(
@@ -361,9 +366,9 @@ impl<
         base: Box<Expr>,
         at: Span,
     ) -> Result<Box<Expr>, Fail>
-        requires within { n ≤ self.now.below }
-        requires nests { Nests self.now.below (F.pre self.now.expr) (F.post self.now.expr)
-            (G.pre self.now.structure) (G.post self.now.structure) }
+        requires within { n ≤ self.now.types.below }
+        requires nests { Nests self.now.types.below (F.pre self.now.types.expr) (F.post self.now.types.expr)
+            (G.pre self.now.types.structure) (G.post self.now.types.structure) }
         ensures { Reads (boxed view) (spec.suffixed n (at_height n) Suffix.Call (view base.value) at
             tokens.old.rest.now) result tokens.new.rest.now }
     {
@@ -371,7 +376,7 @@ impl<
         if !fits(&base, n) {
             return Err(Fail::Fault(Fault::TooHigh));
         }
-        Ok(call(self.alloc, base, at, arguments)?)
+        Ok(call(self.types.alloc, base, at, arguments)?)
     }
 
     fn member_named(
@@ -382,9 +387,9 @@ impl<
         base: Box<Expr>,
         at: Span,
     ) -> Result<Box<Expr>, Fail>
-        requires within { n ≤ self.now.below }
-        requires nests { Nests self.now.below (F.pre self.now.expr) (F.post self.now.expr)
-            (G.pre self.now.structure) (G.post self.now.structure) }
+        requires within { n ≤ self.now.types.below }
+        requires nests { Nests self.now.types.below (F.pre self.now.types.expr) (F.post self.now.types.expr)
+            (G.pre self.now.types.structure) (G.post self.now.types.structure) }
         ensures { Reads (boxed view) (spec.suffixed n (at_height n) (Suffix.Member mark)
             (view base.value) at tokens.old.rest.now) result tokens.new.rest.now }
     {
@@ -392,7 +397,7 @@ impl<
         if !fits(&base, n) {
             return Err(Fail::Fault(Fault::TooHigh));
         }
-        Ok(member_of(self.alloc, base, mark, at, member)?)
+        Ok(member_of(self.types.alloc, base, mark, at, member)?)
     }
 
     fn stepped(
@@ -403,16 +408,16 @@ impl<
         base: Box<Expr>,
         at: Span,
     ) -> Result<Box<Expr>, Fail>
-        requires within { n ≤ self.now.below }
-        requires nests { Nests self.now.below (F.pre self.now.expr) (F.post self.now.expr)
-            (G.pre self.now.structure) (G.post self.now.structure) }
+        requires within { n ≤ self.now.types.below }
+        requires nests { Nests self.now.types.below (F.pre self.now.types.expr) (F.post self.now.types.expr)
+            (G.pre self.now.types.structure) (G.post self.now.types.structure) }
         ensures { Reads (boxed view) (spec.suffixed n (at_height n) (Suffix.Step mark)
             (view base.value) at tokens.old.rest.now) result tokens.new.rest.now }
     {
         if !fits(&base, n) {
             return Err(Fail::Fault(Fault::TooHigh));
         }
-        Ok(step(self.alloc, base, mark, at)?)
+        Ok(step(self.types.alloc, base, mark, at)?)
     }
 
     fn suffixed(
@@ -423,9 +428,9 @@ impl<
         base: Box<Expr>,
         at: Span,
     ) -> Result<Box<Expr>, Fail>
-        requires within { n ≤ self.now.below }
-        requires nests { Nests self.now.below (F.pre self.now.expr) (F.post self.now.expr)
-            (G.pre self.now.structure) (G.post self.now.structure) }
+        requires within { n ≤ self.now.types.below }
+        requires nests { Nests self.now.types.below (F.pre self.now.types.expr) (F.post self.now.types.expr)
+            (G.pre self.now.types.structure) (G.post self.now.types.structure) }
         ensures { Reads (boxed view) (spec.suffixed n (at_height n) suffix (view base.value) at
             tokens.old.rest.now) result tokens.new.rest.now }
     {
@@ -443,9 +448,9 @@ impl<
         n: u32,
         mut base: Box<Expr>,
     ) -> Result<Box<Expr>, Fail>
-        requires within { n ≤ self.now.below }
-        requires nests { Nests self.now.below (F.pre self.now.expr) (F.post self.now.expr)
-            (G.pre self.now.structure) (G.post self.now.structure) }
+        requires within { n ≤ self.now.types.below }
+        requires nests { Nests self.now.types.below (F.pre self.now.types.expr) (F.post self.now.types.expr)
+            (G.pre self.now.types.structure) (G.post self.now.types.structure) }
         ensures { Reads (boxed view) (spec.postfix n (at_height n) (length tokens.old.rest.now)
             (view base.value) tokens.old.rest.now) result tokens.new.rest.now }
     {
@@ -462,7 +467,7 @@ impl<
         Ok(base)
     }
 
-    #[tactic(auto, unfolding(crate::specs::Expression::primary))]
+    #[tactic(auto, unfolding(type_parser::specs::Expression::primary))]
     fn primary<'a>(
         &self,
         tokens: &mut Tokens<'a>,
@@ -470,20 +475,20 @@ impl<
         first: &Token,
         rest: &'a [Token],
     ) -> Result<Box<Expr>, Fail>
-        requires within { n ≤ self.now.below }
-        requires nests { Nests self.now.below (F.pre self.now.expr) (F.post self.now.expr)
-            (G.pre self.now.structure) (G.post self.now.structure) }
+        requires within { n ≤ self.now.types.below }
+        requires nests { Nests self.now.types.below (F.pre self.now.types.expr) (F.post self.now.types.expr)
+            (G.pre self.now.types.structure) (G.post self.now.types.structure) }
         ensures { Reads (boxed view) (spec.primary n (at_height n) first.now rest.now) result tokens.new.rest.now }
     {
         let base = self.primary_by(tokens, n, first, rest)?;
         self.postfix(tokens, n, base)
     }
 
-    #[tactic(auto, unfolding(crate::specs::Expression::first))]
+    #[tactic(auto, unfolding(type_parser::specs::Expression::first))]
     fn first(&self, tokens: &mut Tokens<'_>, n: u32, least: u8) -> Result<Box<Expr>, Fail>
-        requires within { n ≤ self.now.below }
-        requires nests { Nests self.now.below (F.pre self.now.expr) (F.post self.now.expr)
-            (G.pre self.now.structure) (G.post self.now.structure) }
+        requires within { n ≤ self.now.types.below }
+        requires nests { Nests self.now.types.below (F.pre self.now.types.expr) (F.post self.now.types.expr)
+            (G.pre self.now.types.structure) (G.post self.now.types.structure) }
         ensures { Reads (boxed view) (spec.first n (at_height n) least tokens.old.rest.now) result tokens.new.rest.now }
     {
         match tokens.rest {
@@ -511,16 +516,16 @@ impl<
         }
     }
 
-    #[tactic(auto, unfolding(crate::specs::Expression::joined_comma))]
+    #[tactic(auto, unfolding(type_parser::specs::Expression::joined_comma))]
     fn joined_comma(
         &self,
         tokens: &mut Tokens<'_>,
         n: u32,
         left: Box<Expr>,
     ) -> Result<Box<Expr>, Fail>
-        requires within { n ≤ self.now.below }
-        requires nests { Nests self.now.below (F.pre self.now.expr) (F.post self.now.expr)
-            (G.pre self.now.structure) (G.post self.now.structure) }
+        requires within { n ≤ self.now.types.below }
+        requires nests { Nests self.now.types.below (F.pre self.now.types.expr) (F.post self.now.types.expr)
+            (G.pre self.now.types.structure) (G.post self.now.types.structure) }
         ensures { Reads (boxed view) (spec.joined_comma n (at_height n) (view left.value)
             tokens.old.rest.now) result tokens.new.rest.now }
     {
@@ -528,10 +533,10 @@ impl<
         if !fits(&left, n) {
             return Err(Fail::Fault(Fault::TooHigh));
         }
-        Ok(comma(self.alloc, left, more)?)
+        Ok(comma(self.types.alloc, left, more)?)
     }
 
-    #[tactic(auto, unfolding(crate::specs::Expression::conditional))]
+    #[tactic(auto, unfolding(type_parser::specs::Expression::conditional))]
     fn conditional(
         &self,
         tokens: &mut Tokens<'_>,
@@ -539,19 +544,19 @@ impl<
         left: Box<Expr>,
         at: Span,
     ) -> Result<Box<Expr>, Fail>
-        requires within { n ≤ self.now.below }
-        requires nests { Nests self.now.below (F.pre self.now.expr) (F.post self.now.expr)
-            (G.pre self.now.structure) (G.post self.now.structure) }
+        requires within { n ≤ self.now.types.below }
+        requires nests { Nests self.now.types.below (F.pre self.now.types.expr) (F.post self.now.types.expr)
+            (G.pre self.now.types.structure) (G.post self.now.types.structure) }
         ensures { Reads (boxed view) (spec.conditional n (at_height n) (view left.value) at
             tokens.old.rest.now) result tokens.new.rest.now }
     {
-        let chosen = self.expr(tokens, n, 0)?;
+        let chosen = self.types.expr(tokens, n, 0)?;
         let colon = expect_punct(tokens, Punct::Colon)?;
-        let other = self.expr(tokens, n, 2)?;
+        let other = self.types.expr(tokens, n, 2)?;
         if !fits(&left, n) {
             return Err(Fail::Fault(Fault::TooHigh));
         }
-        Ok(conditional(self.alloc, left, at, chosen, colon, other)?)
+        Ok(conditional(self.types.alloc, left, at, chosen, colon, other)?)
     }
 
     fn assigned(
@@ -562,17 +567,17 @@ impl<
         left: Box<Expr>,
         first: &Token,
     ) -> Result<Box<Expr>, Fail>
-        requires within { n ≤ self.now.below }
-        requires nests { Nests self.now.below (F.pre self.now.expr) (F.post self.now.expr)
-            (G.pre self.now.structure) (G.post self.now.structure) }
+        requires within { n ≤ self.now.types.below }
+        requires nests { Nests self.now.types.below (F.pre self.now.types.expr) (F.post self.now.types.expr)
+            (G.pre self.now.types.structure) (G.post self.now.types.structure) }
         ensures { Reads (boxed view) (spec.joined n (at_height n) (Joint.Assign mark)
             (view left.value) first.now tokens.old.rest.now) result tokens.new.rest.now }
     {
-        let right = self.expr(tokens, n, 1)?;
+        let right = self.types.expr(tokens, n, 1)?;
         if !fits(&left, n) {
             return Err(Fail::Fault(Fault::TooHigh));
         }
-        Ok(assign(self.alloc, left, mark, span_of(first), right)?)
+        Ok(assign(self.types.alloc, left, mark, span_of(first), right)?)
     }
 
     fn combined(
@@ -583,17 +588,19 @@ impl<
         left: Box<Expr>,
         first: &Token,
     ) -> Result<Box<Expr>, Fail>
-        requires within { n ≤ self.now.below }
-        requires nests { Nests self.now.below (F.pre self.now.expr) (F.post self.now.expr)
-            (G.pre self.now.structure) (G.post self.now.structure) }
+        requires within { n ≤ self.now.types.below }
+        requires nests { Nests self.now.types.below (F.pre self.now.types.expr) (F.post self.now.types.expr)
+            (G.pre self.now.types.structure) (G.post self.now.types.structure) }
         ensures { Reads (boxed view) (spec.joined n (at_height n) (Joint.Binary mark)
             (view left.value) first.now tokens.old.rest.now) result tokens.new.rest.now }
     {
-        let right = self.expr(tokens, n, joint_level(Joint::Binary(mark)) + 1)?;
+        let right = self
+            .types
+            .expr(tokens, n, joint_level(Joint::Binary(mark)) + 1)?;
         if !fits(&left, n) {
             return Err(Fail::Fault(Fault::TooHigh));
         }
-        Ok(binary(self.alloc, left, mark, span_of(first), right)?)
+        Ok(binary(self.types.alloc, left, mark, span_of(first), right)?)
     }
 
     fn joined(
@@ -603,9 +610,9 @@ impl<
         joint: Joint,
         left: Box<Expr>,
     ) -> Result<Box<Expr>, Fail>
-        requires within { n ≤ self.now.below }
-        requires nests { Nests self.now.below (F.pre self.now.expr) (F.post self.now.expr)
-            (G.pre self.now.structure) (G.post self.now.structure) }
+        requires within { n ≤ self.now.types.below }
+        requires nests { Nests self.now.types.below (F.pre self.now.types.expr) (F.post self.now.types.expr)
+            (G.pre self.now.types.structure) (G.post self.now.types.structure) }
         ensures { Reads (boxed view) (spec.joined_at n (at_height n) joint (view left.value)
             tokens.old.rest.now) result tokens.new.rest.now }
     {
@@ -636,9 +643,9 @@ impl<
         least: u8,
         mut left: Box<Expr>,
     ) -> Result<Box<Expr>, Fail>
-        requires within { n ≤ self.now.below }
-        requires nests { Nests self.now.below (F.pre self.now.expr) (F.post self.now.expr)
-            (G.pre self.now.structure) (G.post self.now.structure) }
+        requires within { n ≤ self.now.types.below }
+        requires nests { Nests self.now.types.below (F.pre self.now.types.expr) (F.post self.now.types.expr)
+            (G.pre self.now.types.structure) (G.post self.now.types.structure) }
         ensures { Reads (boxed view) (spec.climb n (at_height n) (length tokens.old.rest.now) least
             (view left.value) tokens.old.rest.now) result tokens.new.rest.now }
     {
@@ -657,11 +664,11 @@ impl<
         Ok(left)
     }
 
-    #[tactic(auto, unfolding(crate::specs::Expression::expr))]
+    #[tactic(auto, unfolding(type_parser::specs::Expression::expr))]
     pub fn whole(&self, tokens: &mut Tokens<'_>, n: u32, least: u8) -> Result<Box<Expr>, Fail>
-        requires within { n ≤ self.now.below }
-        requires nests { Nests self.now.below (F.pre self.now.expr) (F.post self.now.expr)
-            (G.pre self.now.structure) (G.post self.now.structure) }
+        requires within { n ≤ self.now.types.below }
+        requires nests { Nests self.now.types.below (F.pre self.now.types.expr) (F.post self.now.types.expr)
+            (G.pre self.now.types.structure) (G.post self.now.types.structure) }
         ensures { Reads (boxed view) (spec.expr n (at_height n) least tokens.old.rest.now) result tokens.new.rest.now }
     {
         let left = self.first(tokens, n, least)?;

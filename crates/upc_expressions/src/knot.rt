@@ -1,12 +1,13 @@
 //! The two functions that call each other through the rules.
 
 ghost use Rattle.upc_tree.specs.View.{view, view_spec};
-ghost use Rattle.upc_expressions.specs.Expression.{at_height};
-ghost use Rattle.upc_expressions.specs.Run.{Reads, boxed};
+ghost use Rattle.type_parser.specs.Expression.{at_height};
+ghost use Rattle.token_reader.specs.Run.{Reads, boxed};
 
-use crate::cursor::{Fail, Fault, Tokens};
-use crate::grammar::Grammar;
+use crate::expression::Expressions;
 use std::alloc::Global;
+use token_reader::{Fail, Fault, Tokens};
+use type_parser::Grammar;
 use upc_tree::{Expr, Spec};
 
 /// An expression of at most this height, joined at least so tightly.
@@ -23,13 +24,13 @@ pub fn expr(
         return Err(Fail::Fault(Fault::TooHigh));
     }
     let below = height - 1;
-    Grammar {
+    let types = Grammar {
         alloc,
         below,
         expr,
         structure,
-    }
-    .whole(tokens, below, least)
+    };
+    Expressions { types }.whole(tokens, below, least)
 }
 
 /// A struct of at most this height.

@@ -3,14 +3,15 @@
 ghost use Rattle.std.specs.Prelude.{◌<◌};
 ghost use Rattle.upc_tree.specs.View.{view_next_exprs, view_specs, view_pointers, view_dimensions, view_declarator};
 ghost use Rattle.upc_tree.specs.View.{view_parameters};
-ghost use Rattle.upc_expressions.specs.Expression as spec;
-ghost use Rattle.upc_expressions.specs.Expression.{at_height};
-ghost use Rattle.upc_expressions.specs.Run.{Reads, boxed};
+ghost use Rattle.type_parser.specs.Expression as spec;
+ghost use Rattle.type_parser.specs.Expression.{at_height};
+ghost use Rattle.token_reader.specs.Run.{Reads, boxed};
 
-use crate::cursor::{Fail, Tokens};
-use crate::grammar::Grammar;
+use crate::expression::Expressions;
 use crate::knot::{expr, structure};
 use std::alloc::Global;
+use token_reader::{Fail, Tokens};
+use type_parser::Grammar;
 use upc_tree::{Declarator, Dimension, NextExpr, Parameters, Pointer, Spec};
 
 /// Further expressions of a list, each behind its comma.
@@ -18,13 +19,13 @@ pub fn next_exprs(alloc: Global, tokens: &mut Tokens<'_>, n: u32) -> Result<Vec<
     requires { n < 4294967295 }
     ensures { Reads view_next_exprs (spec.next_exprs (at_height n) tokens.old.rest.now) result tokens.new.rest.now }
 {
-    Grammar {
+    let types = Grammar {
         alloc,
         below: n,
         expr,
         structure,
-    }
-    .next_exprs(tokens, n)
+    };
+    Expressions { types }.next_exprs(tokens, n)
 }
 
 /// Specifiers and qualifiers, at least one; at block scope without `static`.

@@ -10,9 +10,9 @@ use Rattle.upc_text.specs.declared.faults.Stop.TheVariants as s
 use Rattle.upc_tree.specs.declared.unit.Unit as u
 use Rattle.upc_tree.specs.Unit.{External, height_limit}
 use Rattle.upc_tree.specs.ViewStatement.{view_unit}
-use Rattle.upc_expressions.specs.declared.cursor.Fault.{Fault}
-use Rattle.upc_expressions.specs.declared.cursor.Fault.TheVariants.{NoTree, TooHigh}
-use Rattle.upc_expressions.specs.Outcome.{Outcome}
+use Rattle.token_reader.specs.declared.cursor.Fault.{Fault}
+use Rattle.token_reader.specs.declared.cursor.Fault.TheVariants.{NoTree, TooHigh}
+use Rattle.token_reader.specs.Outcome.{Outcome}
 use Rattle.statement_parser.specs.Parse.{unit_at}
 
 -- fewer tokens than the limit are never too high

@@ -10,7 +10,7 @@ ghost use Rattle.upc_parser.specs.Answer.{settled_fault};
 
 use statement_parser::unit;
 use std::alloc::Global;
-use upc_expressions::{Fail, Fault, Tokens};
+use token_reader::{Fail, Fault, Tokens};
 use upc_lexer::Token;
 use upc_text::{Code, Place, Refusal, Stop};
 use upc_tree::Unit;

@@ -7,14 +7,14 @@ use Rattle.upc_values.specs.declared.action.Reply.{Reply}
 use Rattle.upc_values.specs.declared.record.Item.{Item}
 use Rattle.upc_values.specs.declared.record.Item.TheVariants.{Did, Stall}
 use Rattle.upc_values.specs.declared.journal.Entry.{Entry}
-use Rattle.upc_values.specs.declared.journal.Strand.{Strand}
 use Rattle.upc_values.specs.declared.journal.Journal.{Journal}
 use Rattle.upc_values.specs.Lists.{Each}
 use Rattle.upc_values.specs.Records.{actions_of, replies_of}
 use Rattle.upc_values.specs.Drain.{Walk, start, emptied, oldest_out, with_room, stored, passed, looked_up, gone, stepped, walked_from, walked, drain, entries_of, entry_of, last_written}
 use Rattle.upc_values.specs.Consistent.{FollowsBuffers}
-use Rattle.upc_values.specs.Agrees.{IsIn, IsOf, Agrees}
+use Rattle.upc_values.specs.Agrees.{IsIn, Agrees}
 use Rattle.upc_values.proofs.Lists.{each-push, each-grow, each-at}
+use Rattle.upc_values.proofs.Membership.{each-append}
 use Rattle.upc_values.proofs.Agreeing.{agrees-each}
 
 get-more : {X : Type 0} (xs ys : List X) (i : ℕ) (x : X) → slice_get xs i ≡ Some x → slice_get (xs ++ ys) i ≡ Some x
@@ -62,12 +62,8 @@ record IsWalkOf (t : ℕ) (xs : List Item) (w : Walk) : Type 0 where
   out : Each (IsIn xs) w.emitted
   inside : Each (IsIn xs) w.pending
 
-each-join : {X : Type 0} (P : X → Type 0) (xs ys : List X) → Each P xs → Each P ys → Each P (xs ++ ys)
-each-join P [] ys h k = k
-each-join P (x ∷ xs) ys h k = (h.0, each-join P xs ys h.1 k)
-
 emptied-of : (t : ℕ) (xs : List Item) (w : Walk) → IsWalkOf t xs w → IsWalkOf t xs (emptied w)
-emptied-of t xs w h = record { next = h.next; out = each-join (IsIn xs) w.emitted w.pending h.out h.inside; inside = tt }
+emptied-of t xs w h = record { next = h.next; out = each-append (IsIn xs) w.emitted w.pending h.out h.inside; inside = tt }
 
 oldest-of : (t : ℕ) (xs : List Item) (ps : List Entry) (w : Walk) → ps ≡ w.pending → IsWalkOf t xs w → IsWalkOf t xs (oldest_out ps w)
 oldest-of t xs [] w e h = h

@@ -2,8 +2,8 @@ use Rattle.std.proofs.Common.{rules}
 use Rattle.upc_lexer.specs.declared.token.Punct.TheVariants as p
 use Rattle.upc_tree.specs.Lists.{next_declareds_of}
 use Rattle.upc_tree.specs.ViewStatement.{view_next_declared}
-use Rattle.upc_expressions.specs.Outcome.{starts, is_punct}
-use Rattle.upc_expressions.proofs.Ran.{ran_listed}
+use Rattle.token_reader.specs.Outcome.{starts, is_punct}
+use Rattle.token_reader.proofs.Ran.{ran_listed}
 use Rattle.statement_parser.specs.Parse.{next_declareds, next_declared}
 use Rattle.statement_parser.proofs.declarations.next_declareds.Goals as goal
 

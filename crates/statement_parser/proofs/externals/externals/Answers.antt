@@ -1,8 +1,8 @@
 use Rattle.std.proofs.Common.{rules}
 use Rattle.upc_tree.specs.ViewStatement.{view_external}
-use Rattle.upc_expressions.specs.Outcome.{starts}
-use Rattle.upc_expressions.specs.Ahead.{is_any}
-use Rattle.upc_expressions.proofs.Ran.{ran_reads}
+use Rattle.token_reader.specs.Outcome.{starts}
+use Rattle.token_reader.specs.Ahead.{is_any}
+use Rattle.token_reader.proofs.Ran.{ran_reads}
 use Rattle.statement_parser.specs.Parse.{all_externals, external_at}
 use Rattle.statement_parser.proofs.externals.externals.Goals as goal
 

@@ -1,5 +1,5 @@
 use Rattle.std.proofs.Common.{◌≡◌, ap, arith}
-use Rattle.upc_expressions.proofs.Turns.{deeper}
+use Rattle.token_reader.proofs.Turns.{deeper}
 use Rattle.statement_parser.specs.Parse.{node_at}
 use Rattle.statement_parser.proofs.externals.node.Goals as goal
 

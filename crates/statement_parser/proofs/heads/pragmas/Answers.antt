@@ -1,7 +1,7 @@
 use Rattle.std.proofs.Common.{rules}
-use Rattle.upc_expressions.specs.Outcome.{starts}
-use Rattle.upc_expressions.specs.Ahead.{is_pragma}
-use Rattle.upc_expressions.proofs.Ran.{ran_same}
+use Rattle.token_reader.specs.Outcome.{starts}
+use Rattle.token_reader.specs.Ahead.{is_pragma}
+use Rattle.token_reader.proofs.Ran.{ran_same}
 use Rattle.statement_parser.specs.Parse.{pragma, pragmas}
 use Rattle.statement_parser.proofs.heads.pragmas.Goals as goal
 

@@ -1,8 +1,9 @@
 use Rattle.std.proofs.Common.{rules}
-use Rattle.upc_expressions.specs.Outcome.{starts}
-use Rattle.upc_expressions.specs.Tables.{is_string}
-use Rattle.upc_expressions.specs.Expression.{string, strings}
-use Rattle.upc_expressions.proofs.Ran.{ran_same}
+use Rattle.token_reader.specs.Outcome.{starts}
+use Rattle.token_reader.specs.Tables.{is_string}
+use Rattle.token_reader.specs.Outcome.{string}
+use Rattle.type_parser.specs.Expression.{strings}
+use Rattle.token_reader.proofs.Ran.{ran_same}
 use Rattle.upc_expressions.proofs.expression.strings.Goals as goal
 
 pub returns : goal.returns

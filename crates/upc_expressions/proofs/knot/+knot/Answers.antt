@@ -1,6 +1,6 @@
 use Rattle.std.proofs.Common.{◌≡◌, ap, arith}
-use Rattle.upc_expressions.specs.Expression.{at_height}
-use Rattle.upc_expressions.proofs.Turns.{deeper}
+use Rattle.type_parser.specs.Expression.{at_height}
+use Rattle.token_reader.proofs.Turns.{deeper}
 use Rattle.upc_expressions.proofs.knot.+knot.Goals as goal
 
 pub expr-returns-then-height-eq0 : goal.expr-returns-then-height-eq0

@@ -2,8 +2,8 @@ use Rattle.std.proofs.Common.{rules}
 use Rattle.upc_lexer.specs.declared.token.Word.TheVariants as w
 use Rattle.upc_tree.specs.Lists.{else_ifs_of}
 use Rattle.upc_tree.specs.ViewStatement.{view_else_if}
-use Rattle.upc_expressions.specs.Outcome.{starts_two, is_word}
-use Rattle.upc_expressions.proofs.Ran.{ran_listed}
+use Rattle.token_reader.specs.Outcome.{starts_two, is_word}
+use Rattle.token_reader.proofs.Ran.{ran_listed}
 use Rattle.statement_parser.specs.Parse.{statements_at, else_ifs, else_if}
 use Rattle.statement_parser.proofs.statements.Rules.else_ifs.Goals as goal
 

@@ -1,8 +1,8 @@
 use Rattle.std.proofs.Common.{rules}
 use Rattle.upc_tree.specs.Lists.{switch_items_of}
 use Rattle.upc_tree.specs.ViewStatement.{view_switch_item}
-use Rattle.upc_expressions.specs.Outcome.{starts}
-use Rattle.upc_expressions.proofs.Ran.{ran_listed}
+use Rattle.token_reader.specs.Outcome.{starts}
+use Rattle.token_reader.proofs.Ran.{ran_listed}
 use Rattle.statement_parser.specs.Parse.{statements_at, switch_items, switch_item, no_brace}
 use Rattle.statement_parser.proofs.statements.Rules.switch_items.Goals as goal
 

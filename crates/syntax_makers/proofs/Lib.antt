@@ -1,0 +1,2 @@
+mod Rolled
+mod Seen

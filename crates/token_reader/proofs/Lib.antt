@@ -1,0 +1,5 @@
+pub mod Lists
+pub mod Ran
+pub mod Sequence
+pub mod TableFacts
+pub mod Turns

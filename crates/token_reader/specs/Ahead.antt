@@ -1,0 +1,32 @@
+-- Tests of the tokens that come next.
+use Rattle.std.specs.Prelude.{Bool, true, false, not, List}
+use Rattle.upc_lexer.specs.declared.token.Token.{Token}
+use Rattle.upc_lexer.specs.declared.token.TokenKind.{TokenKind}
+use Rattle.upc_lexer.specs.declared.token.TokenKind.TheVariants as k
+use Rattle.token_reader.specs.declared.ahead.Sign.{Sign}
+use Rattle.token_reader.specs.declared.ahead.Sign.TheVariants as s
+use Rattle.token_reader.specs.declared.ahead.Ahead.{Ahead}
+use Rattle.token_reader.specs.declared.ahead.Ahead.TheVariants as a
+use Rattle.token_reader.specs.Outcome.{is_punct, is_word, starts, starts_two}
+use Rattle.token_reader.specs.Tables.{is_qual, is_spec, is_string}
+
+abbrev pub is_pragma : TokenKind → Bool
+is_pragma (k.Pragma strict) = true
+is_pragma _ = false
+
+abbrev pub is_any : TokenKind → Bool
+is_any kind = true
+
+abbrev pub passes : Sign → TokenKind → Bool
+passes (s.Punct mark) = is_punct mark
+passes (s.Word word) = is_word word
+passes (s.Spec local) = is_spec local
+passes s.Qual = is_qual
+passes s.String = is_string
+passes s.Pragma = is_pragma
+passes (s.Unlike mark) = λ kind. not (is_punct mark kind)
+passes s.Any = is_any
+
+abbrev pub shows : Ahead → List Token → Bool
+shows (a.One sign) = starts (passes sign)
+shows (a.Two sign next) = starts_two (passes sign) (passes next)

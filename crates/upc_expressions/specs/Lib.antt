@@ -1,5 +1,0 @@
-pub mod Outcome
-pub mod Tables
-pub mod Ahead
-pub mod Expression
-pub mod Run
