@@ -1,0 +1,11 @@
+use Rattle.typed_tree.specs.ViewStatements.{view_items}
+use Rattle.upc_meaning.specs.code.Evaluations.{seen}
+use Rattle.upc_meaning.specs.code.Settings.{running_seen}
+use Rattle.upc_meaning.specs.code.ViewItems.{view_standing}
+use Rattle.upc_meaning.proofs.Stating.{block_enters}
+use Rattle.upc_meaning.proofs.evaluation.Evaluation.block.Goals as goal
+
+pub returns : goal.returns
+returns c =
+    block_enters (running_seen c.args.setting) (view_standing c.args.standing) (seen c.args.self.now) c.args.place
+    c.args.strict (view_items c.args.items.now) c.enter_block.new.self c.enter_block.result c.enter_block.ensures

@@ -1,0 +1,14 @@
+use Rattle.std.proofs.Common.{◌≡◌, true, arith}
+use Rattle.upc_meaning.specs.code.Evaluations.{seen, is_next}
+use Rattle.upc_meaning.specs.code.Settings.{running_seen}
+use Rattle.upc_meaning.specs.code.ViewItems.{flow_seen, view_standing}
+use Rattle.upc_meaning.proofs.Turning.{cases_end}
+use Rattle.upc_meaning.proofs.evaluation.Evaluation.cases.Goals as goal
+
+pub returns-in-None : goal.returns-in-None
+returns-in-None c =
+    let s = seen c.args.self.now in
+    let h : is_next (flow_seen c.args.self.now.flow) ≡ true =
+    grind (arith, c.is_next.ensures, c.if-not-is_next.false) in
+    cases_end (running_seen c.args.setting) (view_standing c.args.standing) s s c.args.items.now
+    c.in-None.ensures.cases h

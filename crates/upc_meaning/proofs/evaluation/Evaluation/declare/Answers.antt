@@ -1,0 +1,11 @@
+use Rattle.upc_meaning.specs.code.Evaluations.{seen}
+use Rattle.upc_meaning.specs.code.Settings.{running_seen}
+use Rattle.upc_meaning.specs.code.ViewItems.{view_standing}
+use Rattle.upc_meaning.proofs.Declaring.{declare_end}
+use Rattle.upc_meaning.proofs.evaluation.Evaluation.declare.Goals as goal
+
+pub returns-in-None : goal.returns-in-None
+returns-in-None c =
+    let s = seen c.args.self.now in
+    declare_end (running_seen c.args.setting) (view_standing c.args.standing) s s c.args.objects.now
+    c.in-None.ensures.cases

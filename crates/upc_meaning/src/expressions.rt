@@ -1,0 +1,495 @@
+//! Expressions, item by item (C99 6.5, UPC 6.4).
+
+ghost use Rattle.std.specs.Prelude.{◌≡◌, ◌∷◌, [], IsTrue, IfOk, OnOk, map, pos};
+ghost use Rattle.upc_types.specs.View.{view};
+ghost use Rattle.typing_rules.specs.Nodes.{view_attr};
+ghost use Rattle.typed_tree.specs.Initials as initials;
+ghost use Rattle.typed_tree.specs.Tree as tree;
+ghost use Rattle.typed_tree.specs.Tree.{exprs_of};
+ghost use Rattle.typed_tree.specs.ViewTree.{view_expr, view_kind};
+ghost use Rattle.thread_steps.specs.Values.{number};
+ghost use Rattle.source_meaning.specs.Expressions as mean;
+ghost use Rattle.source_meaning.specs.Types as types;
+ghost use Rattle.source_meaning.specs.Running as running;
+ghost use Rattle.upc_meaning.specs.code.Came.{Came, state_seen};
+ghost use Rattle.upc_meaning.specs.code.Evaluations.{Went, meant, more_values, more_works, popped, seen, with_item};
+ghost use Rattle.upc_meaning.specs.code.Stacks.{top};
+ghost use Rattle.upc_meaning.specs.code.Items as item;
+ghost use Rattle.upc_meaning.specs.code.Left.{decides, is_unary, takes_two};
+ghost use Rattle.upc_meaning.specs.code.Runners.{Fits};
+ghost use Rattle.upc_meaning.specs.code.Settings.{running_seen};
+ghost use Rattle.upc_meaning.specs.code.ViewItems.{view_work};
+
+use crate::evaluation::Evaluation;
+use crate::progress::{Progress, Step};
+use crate::setting::Setting;
+use crate::works::Work;
+use block_layout::{LocalPtr, ObjectRef, SharedPtr};
+use code_types::conversion;
+use step_values::{is_zero, pointer_to, truth_value};
+use thread_steps::CastTo;
+use typed_tree::{Expr, ExprKind, SharedDecl};
+use typing_rules::{Attr, Constant, Form, Home};
+use upc_text::{OutOfMemory, Place};
+use upc_types::CType;
+use upc_values::{Scalar, Value};
+
+// Where an expression begins inside its parentheses.
+fn inner_place(e: &Expr) -> Place
+    ensures { result ≡ mean.inner_place (view_expr e.now) }
+{
+    match &e.kind {
+        ExprKind::Paren(a) => inner_place(a),
+        _ => e.place,
+    }
+}
+
+// The integer that is known of a constant, else 0.
+fn known_or_zero(constant: Constant) -> i128
+    ensures { result ≡ initials.known_or_zero constant }
+{
+    match constant {
+        Constant::Known(v) => v,
+        _ => 0,
+    }
+}
+
+// The shared object with this number, from 1 on.
+fn numbered(shared: &[SharedDecl], number: u32) -> Option<ObjectRef>
+    ensures { result ≡ initials.numbered shared.now number }
+{
+    if number == 0 {
+        return None;
+    }
+    let declared = shared.get(number as usize - 1)?;
+    Some(declared.object)
+}
+
+// Where a declared shared object begins, by its number (UPC 6.5.1.1).
+fn shared_object(setting: Setting<'_>, number: u32) -> Value
+    ensures { result ≡ running.shared_object (running_seen setting.entry) number }
+{
+    match numbered(setting.shared, number) {
+        Some(object) => Value::Scalar(Scalar::Shared(SharedPtr {
+            object,
+            thread: 0,
+            phase: 0,
+            offset: 0,
+        })),
+        None => Value::Scalar(Scalar::Shared(SharedPtr::NULL)),
+    }
+}
+
+impl<'r> Progress<'r> {
+    /// Where a named object lies (C99 6.2.4, UPC 6.5.1).
+    #[tactic(auto, unfolding(thread_steps::specs::Blocks::local_object))]
+    pub(crate) fn object(&self, setting: Setting<'_>, home: Home) -> Value
+        ensures { Came (mean.object (running_seen setting.entry) home (state_seen self.now)) (Step.Gives result)
+            self.now }
+    {
+        match home {
+            Home::Private(number) => Value::Local(LocalPtr::Private {
+                object: number as u64,
+                offset: 0,
+            }),
+            Home::Shared(number) => shared_object(setting, number),
+            Home::Local(number) => pointer_to(self.store.local(number)),
+        }
+    }
+}
+
+impl<'p> Evaluation<'p> {
+    // One item more.
+    pub(crate) fn push_one(&mut self, first: Work<'p>) -> Result<(), OutOfMemory>
+        ensures { OnOk result (seen self.new ≡ more_works (view_work first.entry ∷ []) (seen self.old)) }
+    {
+        self.works.push(first)
+    }
+
+    // One value more.
+    pub(crate) fn push_value(&mut self, v: Value) -> Result<(), OutOfMemory>
+        ensures { OnOk result (seen self.new ≡ more_values (v ∷ []) (seen self.old)) }
+    {
+        self.values.push(v)
+    }
+
+    // Takes the youngest value off; where there is none it is 0.
+    pub(crate) fn pop_value(&mut self) -> Value
+        ensures value { result ≡ top (seen self.old).values }
+        ensures rest { seen self.new ≡ popped (seen self.old) }
+    {
+        self.values.pop()
+    }
+
+    // Two items more.
+    pub(crate) fn push_two(&mut self, second: Work<'p>, first: Work<'p>) -> Result<(), OutOfMemory>
+        ensures { OnOk result (seen self.new
+            ≡ more_works (view_work first.entry ∷ view_work second.entry ∷ []) (seen self.old)) }
+    {
+        self.works.push(second)?;
+        self.works.push(first)
+    }
+
+    // Three items more.
+    pub(crate) fn push_three(
+        &mut self,
+        third: Work<'p>,
+        second: Work<'p>,
+        first: Work<'p>,
+    ) -> Result<(), OutOfMemory>
+        ensures { OnOk result (seen self.new
+            ≡ more_works (view_work first.entry ∷ view_work second.entry ∷ view_work third.entry ∷ [])
+            (seen self.old)) }
+    {
+        self.push_two(third, second)?;
+        self.works.push(first)
+    }
+
+    /// The value of an expression.
+    #[tactic(auto, using(crate::proofs::Arms::arms))]
+    pub(crate) fn value(
+        &mut self,
+        setting: Setting<'p>,
+        strict: bool,
+        e: &'p Expr,
+    ) -> Result<(), OutOfMemory>
+        ensures { OnOk result (with_item (running_seen setting.entry) (item.Value strict (view_expr e.now))
+            (seen self.old) ≡ meant (running_seen setting.entry) (seen self.new)) }
+    {
+        self.push_two(
+            Work::Hold(strict, inner_place(e), &e.attr),
+            Work::Address(strict, e),
+        )
+    }
+
+    /// The value behind a place, where there is one.
+    #[tactic(auto, unfolding(crate::specs::code::Evaluations::with_item, crate::specs::code::Evaluations::meant))]
+    pub(crate) fn hold(
+        &mut self,
+        setting: Setting<'p>,
+        strict: bool,
+        place: Place,
+        attr: &Attr,
+    ) -> Result<Step<()>, OutOfMemory>
+        requires { Fits setting.runner }
+        ensures { IfOk result (λ s. Went (running_seen setting.entry)
+            (with_item (running_seen setting.entry) (item.Hold strict place (view_attr attr.now)) (seen self.old)) s
+            self.new) }
+    {
+        let p = self.values.pop();
+        match self.progress.value_in(setting, strict, place, attr, p)? {
+            Step::Ends(end) => Ok(Step::Ends(end)),
+            Step::Gives(v) => {
+                self.values.push(v)?;
+                Ok(Step::Gives(()))
+            }
+        }
+    }
+}
+
+impl<'r> Progress<'r> {
+    // What an expression gives that names an object or not.
+    fn value_in(
+        &mut self,
+        setting: Setting<'_>,
+        strict: bool,
+        place: Place,
+        attr: &Attr,
+        v: Value,
+    ) -> Result<Step<Value>, OutOfMemory>
+        requires { Fits setting.runner }
+        ensures { IfOk result (λ s. Came (mean.value_in (running_seen setting.entry) strict place (view_attr attr.now) v
+            (state_seen self.old)) s self.new) }
+    {
+        match attr.form {
+            Form::Lvalue(_) => self.held(setting, strict, place, &attr.ctype, v),
+            _ => Ok(Step::Gives(v)),
+        }
+    }
+}
+
+impl<'p> Evaluation<'p> {
+    // A number is the value of an expression.
+    pub(crate) fn push_number(&mut self, v: i128) -> Result<(), OutOfMemory>
+        ensures { OnOk result (seen self.new ≡ more_values (number v ∷ []) (seen self.old)) }
+    {
+        self.values.push(Value::Scalar(Scalar::Int(v)))
+    }
+
+    /// The place of what an expression names, or its value.
+    #[tactic(auto, using(crate::proofs::Arms::arms))]
+    pub(crate) fn address(
+        &mut self,
+        setting: Setting<'p>,
+        strict: bool,
+        e: &'p Expr,
+    ) -> Result<(), OutOfMemory>
+        ensures { OnOk result (with_item (running_seen setting.entry) (item.Address strict (view_expr e.now))
+            (seen self.old) ≡ meant (running_seen setting.entry) (seen self.new)) }
+    {
+        match &e.kind {
+            ExprKind::Literal => self.push_number(known_or_zero(e.attr.constant)),
+            ExprKind::SizeOf(_, _) => self.push_number(known_or_zero(e.attr.constant)),
+            ExprKind::SizeOfType(_, _) => self.push_number(known_or_zero(e.attr.constant)),
+            ExprKind::Mythread => self.push_number(i128::from(setting.runner.number)),
+            ExprKind::Object(home) => {
+                let place = self.progress.object(setting, *home);
+                self.push_value(place)
+            }
+            ExprKind::Callee(_) => self.push_number(0),
+            ExprKind::Format(_) => self.push_number(0),
+            ExprKind::Paren(a) => self.push_one(Work::Address(strict, a)),
+            ExprKind::Address(a) => self.push_one(Work::Address(strict, a)),
+            ExprKind::Dereference(a) => self.push_one(Work::Value(strict, a)),
+            ExprKind::Call(target, args) => {
+                self.call(setting, strict, e, *target, args.as_slice())
+            }
+            ExprKind::Comma(parts) => self.comma(setting, strict, e, parts.as_slice()),
+            ExprKind::And(_, _) | ExprKind::Or(_, _) | ExprKind::Conditional(_, _, _) => {
+                self.deciding(setting, strict, e)
+            }
+            ExprKind::Subscript(_, _)
+            | ExprKind::Binary(_, _, _)
+            | ExprKind::Assign(_, _)
+            | ExprKind::Compound(_, _, _) => self.two_operands(setting, strict, e),
+            ExprKind::Member(_, _)
+            | ExprKind::MemberBehind(_, _)
+            | ExprKind::Step(_, _)
+            | ExprKind::Unary(_, _)
+            | ExprKind::Cast(_) => self.one_operand(setting, strict, e),
+        }
+    }
+
+    // The operand of an operator on one, and then the operator.
+    #[tactic(auto, using(crate::proofs::Arms::arms))]
+    fn one_operand(
+        &mut self,
+        setting: Setting<'p>,
+        strict: bool,
+        e: &'p Expr,
+    ) -> Result<(), OutOfMemory>
+        requires { IsTrue (is_unary (view_expr e.now)) }
+        ensures { OnOk result (with_item (running_seen setting.entry) (item.Address strict (view_expr e.now))
+            (seen self.old) ≡ meant (running_seen setting.entry) (seen self.new)) }
+    {
+        let after = Work::Operate(strict, e);
+        match &e.kind {
+            ExprKind::Member(a, _) => self.push_two(after, Work::Address(strict, a)),
+            ExprKind::Step(_, a) => self.push_two(after, Work::Address(strict, a)),
+            ExprKind::MemberBehind(a, _) => self.push_two(after, Work::Value(strict, a)),
+            ExprKind::Unary(_, a) => self.push_two(after, Work::Value(strict, a)),
+            ExprKind::Cast(a) => self.push_two(after, Work::Value(strict, a)),
+            _ => unreachable!(),
+        }
+    }
+
+    // The operands of an operator on two, and then the operator.
+    #[tactic(auto, using(crate::proofs::Arms::arms))]
+    fn two_operands(
+        &mut self,
+        setting: Setting<'p>,
+        strict: bool,
+        e: &'p Expr,
+    ) -> Result<(), OutOfMemory>
+        requires { IsTrue (takes_two (view_expr e.now)) }
+        ensures { OnOk result (with_item (running_seen setting.entry) (item.Address strict (view_expr e.now))
+            (seen self.old) ≡ meant (running_seen setting.entry) (seen self.new)) }
+    {
+        let after = Work::Operate(strict, e);
+        match &e.kind {
+            ExprKind::Subscript(a, b) => {
+                self.push_three(after, Work::Value(strict, b), Work::Value(strict, a))
+            }
+            ExprKind::Binary(_, a, b) => {
+                self.push_three(after, Work::Value(strict, b), Work::Value(strict, a))
+            }
+            ExprKind::Assign(a, b) => {
+                self.push_three(after, Work::Value(strict, b), Work::Address(strict, a))
+            }
+            ExprKind::Compound(_, a, b) => {
+                self.push_three(after, Work::Value(strict, b), Work::Address(strict, a))
+            }
+            _ => unreachable!(),
+        }
+    }
+
+    // The operand that decides what is done, and then what follows it.
+    #[tactic(auto, using(crate::proofs::Arms::arms))]
+    fn deciding(
+        &mut self,
+        setting: Setting<'p>,
+        strict: bool,
+        e: &'p Expr,
+    ) -> Result<(), OutOfMemory>
+        requires { IsTrue (decides (view_expr e.now)) }
+        ensures { OnOk result (with_item (running_seen setting.entry) (item.Address strict (view_expr e.now))
+            (seen self.old) ≡ meant (running_seen setting.entry) (seen self.new)) }
+    {
+        let after = Work::Branch(strict, e);
+        match &e.kind {
+            ExprKind::And(a, _) => self.push_two(after, Work::Value(strict, a)),
+            ExprKind::Or(a, _) => self.push_two(after, Work::Value(strict, a)),
+            ExprKind::Conditional(a, _, _) => self.push_two(after, Work::Value(strict, a)),
+            _ => unreachable!(),
+        }
+    }
+
+    // Some expressions, whose last gives the value.
+    #[tactic(auto, using(crate::proofs::Branches::comma_is))]
+    fn comma(
+        &mut self,
+        setting: Setting<'p>,
+        strict: bool,
+        e: &'p Expr,
+        parts: &'p [Expr],
+    ) -> Result<(), OutOfMemory>
+        requires { view_kind e.now.kind ≡ tree.Comma (exprs_of (map view_expr parts.now)) }
+        ensures { OnOk result (with_item (running_seen setting.entry) (item.Address strict (view_expr e.now))
+            (seen self.old) ≡ meant (running_seen setting.entry) (seen self.new)) }
+    {
+        self.push_number(0)?;
+        self.push_one(Work::Last(strict, parts))
+    }
+
+    /// The operator of an expression whose operands have their values.
+    #[tactic(auto, unfolding(crate::specs::code::Evaluations::with_item, crate::specs::code::Evaluations::meant))]
+    pub(crate) fn operate(
+        &mut self,
+        setting: Setting<'p>,
+        strict: bool,
+        e: &Expr,
+    ) -> Result<Step<()>, OutOfMemory>
+        requires { Fits setting.runner }
+        ensures { IfOk result (λ s. Went (running_seen setting.entry)
+            (with_item (running_seen setting.entry) (item.Operate strict (view_expr e.now)) (seen self.old)) s
+            self.new) }
+    {
+        let (x, y) = self.values.take_operands(takes_two(e));
+        match self.progress.operated(setting, strict, e, x, y)? {
+            Step::Ends(end) => Ok(Step::Ends(end)),
+            Step::Gives(v) => {
+                self.values.push(v)?;
+                Ok(Step::Gives(()))
+            }
+        }
+    }
+
+    // The value of an expression, converted into a type.
+    fn push_converted(&mut self, strict: bool, t: &CType, a: &'p Expr) -> Result<(), OutOfMemory>
+        ensures { OnOk result (seen self.new ≡ more_works (item.Value strict (view_expr a.now)
+            ∷ item.Convert (types.conversion (view a.now.attr.ctype) (view t.now)) a.now.place ∷ []) (seen self.old)) }
+    {
+        self.push_two(
+            Work::Convert(conversion(&a.attr.ctype, t), a.place),
+            Work::Value(strict, a),
+        )
+    }
+
+    /// What follows a first operand that decides what is done.
+    #[tactic(auto, using(crate::proofs::Branches::branches))]
+    pub(crate) fn branch(
+        &mut self,
+        setting: Setting<'p>,
+        strict: bool,
+        e: &'p Expr,
+    ) -> Result<(), OutOfMemory>
+        ensures { OnOk result (with_item (running_seen setting.entry) (item.Branch strict (view_expr e.now))
+            (seen self.old) ≡ meant (running_seen setting.entry) (seen self.new)) }
+    {
+        let x = self.pop_value();
+        let is_zero = is_zero(&x);
+        match &e.kind {
+            ExprKind::And(_, b) => {
+                if is_zero {
+                    self.push_number(0)
+                } else {
+                    self.push_two(Work::Truth, Work::Value(strict, b))
+                }
+            }
+            ExprKind::Or(_, b) => {
+                if is_zero {
+                    self.push_two(Work::Truth, Work::Value(strict, b))
+                } else {
+                    self.push_number(1)
+                }
+            }
+            ExprKind::Conditional(_, a, b) => {
+                if is_zero {
+                    self.push_converted(strict, &e.attr.ctype, b)
+                } else {
+                    self.push_converted(strict, &e.attr.ctype, a)
+                }
+            }
+            _ => Err(OutOfMemory),
+        }
+    }
+
+    /// 1 for a value that is not 0, else 0.
+    #[tactic(auto, unfolding(crate::specs::code::Evaluations::with_item, crate::specs::code::Evaluations::meant))]
+    pub(crate) fn truth(&mut self, setting: Setting<'p>) -> Result<(), OutOfMemory>
+        ensures { OnOk result (with_item (running_seen setting.entry) item.Truth (seen self.old)
+            ≡ meant (running_seen setting.entry) (seen self.new)) }
+    {
+        let x = self.values.pop();
+        self.values.push(truth_value(!is_zero(&x)))
+    }
+
+    /// A value, converted.
+    #[tactic(auto, unfolding(crate::specs::code::Evaluations::with_item, crate::specs::code::Evaluations::meant))]
+    pub(crate) fn convert(
+        &mut self,
+        setting: Setting<'p>,
+        into: CastTo,
+        place: Place,
+    ) -> Result<Step<()>, OutOfMemory>
+        ensures { IfOk result (λ s. Went (running_seen setting.entry)
+            (with_item (running_seen setting.entry) (item.Convert into place) (seen self.old)) s self.new) }
+    {
+        let v = self.values.pop();
+        match self.progress.cast(setting.runner, into, place, v)? {
+            Step::Ends(end) => Ok(Step::Ends(end)),
+            Step::Gives(w) => {
+                self.values.push(w)?;
+                Ok(Step::Gives(()))
+            }
+        }
+    }
+
+    /// The value of the last of some expressions, of which a first has its value.
+    #[tactic(auto, using(crate::proofs::Arms::arms))]
+    pub(crate) fn last(
+        &mut self,
+        setting: Setting<'p>,
+        strict: bool,
+        parts: &'p [Expr],
+    ) -> Result<(), OutOfMemory>
+        ensures { OnOk result (with_item (running_seen setting.entry)
+            (item.Last strict (exprs_of (map view_expr parts.now))) (seen self.old)
+            ≡ meant (running_seen setting.entry) (seen self.new)) }
+    {
+        let v = self.pop_value();
+        match parts.split_first() {
+            None => {
+                self.push_value(v)?;
+                Ok(())
+            }
+            Some((first, more)) => {
+                self.push_two(Work::Last(strict, more), Work::Value(strict, first))?;
+                Ok(())
+            }
+        }
+    }
+}
+
+// Whether an operator takes two operands.
+fn takes_two(e: &Expr) -> bool
+    ensures { result ≡ takes_two (view_expr e.now) }
+{
+    matches!(
+        &e.kind,
+        ExprKind::Subscript(_, _)
+            | ExprKind::Binary(_, _, _)
+            | ExprKind::Assign(_, _)
+            | ExprKind::Compound(_, _, _)
+    )
+}

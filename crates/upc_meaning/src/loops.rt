@@ -1,0 +1,387 @@
+//! Loops, lists of statements and the bodies of upc_foralls, item by item (C99 6.8.2, 6.8.5; UPC 6.6.2).
+
+ghost use Rattle.std.specs.Prelude.{◌≡◌, ◌∷◌, [], IfOk, OnOk};
+ghost use Rattle.typed_tree.specs.Tree as tree;
+ghost use Rattle.typed_tree.specs.Tree.{Stands};
+ghost use Rattle.typed_tree.specs.ViewTree.{view_expr};
+ghost use Rattle.typed_tree.specs.ViewStatements as views;
+ghost use Rattle.thread_steps.specs.Blocks as blocks;
+ghost use Rattle.thread_steps.specs.States.{Val};
+ghost use Rattle.source_meaning.specs.Statements as mean;
+ghost use Rattle.upc_meaning.specs.code.Came.{state_seen};
+ghost use Rattle.upc_meaning.specs.code.Evaluations.{Went, aside_items, bodied, controlled, is_next, meant};
+ghost use Rattle.upc_meaning.specs.code.Evaluations.{more_works, seen, with_flow, with_item, with_test};
+ghost use Rattle.upc_meaning.specs.code.Items as item;
+ghost use Rattle.upc_meaning.specs.code.Left.{step_in, test_in};
+ghost use Rattle.upc_meaning.specs.code.Runners.{Fits};
+ghost use Rattle.upc_meaning.specs.code.Settings.{running_seen};
+ghost use Rattle.upc_meaning.specs.code.ViewItems.{flow_seen, view_standing};
+
+use crate::evaluation::Evaluation;
+use crate::flow::Flow;
+use crate::progress::{Progress, Step};
+use crate::setting::Setting;
+use crate::standing::{Standing, with_objects};
+use crate::works::Work;
+use step_values::is_zero;
+use typed_tree::{Affinity, Expr, Head, Item, Statement, StatementKind, SwitchItem};
+use upc_text::{OutOfMemory, Place};
+
+// Whether a statement was left at its end.
+fn is_next(flow: Flow) -> bool
+    ensures { result ≡ is_next (flow_seen flow) }
+{
+    matches!(flow, Flow::Next)
+}
+
+// Behind the body of a upc_forall.
+fn finished(flow: Flow) -> Flow
+    ensures { flow_seen result ≡ mean.finished (flow_seen flow) }
+{
+    match flow {
+        Flow::Gave(v) => Flow::Gave(v),
+        _ => Flow::Next,
+    }
+}
+
+impl<'r> Progress<'r> {
+    // The thread comes into the body of a upc_forall whose affinity counts.
+    #[tactic(auto, unfolding(thread_steps::specs::Blocks::control))]
+    fn control(&mut self) -> Result<(), OutOfMemory>
+        ensures { OnOk result (blocks.control (state_seen self.old) ≡ Val tt (state_seen self.new)) }
+    {
+        self.store.control()?;
+        Ok(())
+    }
+
+    // It leaves it.
+    #[tactic(auto, unfolding(thread_steps::specs::Blocks::release))]
+    fn release(&mut self)
+        ensures { blocks.release (state_seen self.old) ≡ Val tt (state_seen self.new) }
+    {
+        self.store.release();
+    }
+}
+
+impl<'p> Evaluation<'p> {
+    /// The further parts of a block.
+    #[tactic(auto, using(crate::proofs::Turning::lists))]
+    pub(crate) fn parts(
+        &mut self,
+        setting: Setting<'p>,
+        standing: Standing<'p>,
+        items: &'p [Item],
+    ) -> Result<(), OutOfMemory>
+        ensures { OnOk result (with_item (running_seen setting.entry) (item.Parts (view_standing standing.entry)
+            (views.view_items items.now)) (seen self.old) ≡ meant (running_seen setting.entry) (seen self.new)) }
+    {
+        if !is_next(self.flow) {
+            return Ok(());
+        }
+        match items.split_first() {
+            None => Ok(()),
+            Some((Item::Declare(objects), more)) => {
+                let behind = with_objects(objects.as_slice(), standing)?;
+                self.push_two(
+                    Work::Parts(behind, more),
+                    Work::Declare(standing, objects.as_slice()),
+                )
+            }
+            Some((Item::Do(s), more)) => {
+                self.push_two(Work::Parts(standing, more), Work::Run(standing, s))
+            }
+        }
+    }
+
+    /// The further parts of a switch.
+    #[tactic(auto, using(crate::proofs::Turning::switches))]
+    pub(crate) fn cases(
+        &mut self,
+        setting: Setting<'p>,
+        standing: Standing<'p>,
+        items: &'p [SwitchItem],
+    ) -> Result<(), OutOfMemory>
+        ensures { OnOk result (with_item (running_seen setting.entry) (item.Cases (view_standing standing.entry)
+            (views.view_switch_items items.now)) (seen self.old)
+            ≡ meant (running_seen setting.entry) (seen self.new)) }
+    {
+        if !is_next(self.flow) {
+            return Ok(());
+        }
+        match items.split_first() {
+            None => Ok(()),
+            Some((SwitchItem::Case(_), more)) => self.push_one(Work::Cases(standing, more)),
+            Some((SwitchItem::Default, more)) => self.push_one(Work::Cases(standing, more)),
+            Some((SwitchItem::Do(s), more)) => {
+                self.push_two(Work::Cases(standing, more), Work::Run(standing, s))
+            }
+        }
+    }
+
+    // The test of a loop is next; an absent one is as 1.
+    fn push_test(
+        &mut self,
+        standing: Standing<'p>,
+        kind: &'p StatementKind,
+    ) -> Result<(), OutOfMemory>
+        ensures { OnOk result (seen self.new ≡ with_test (view_standing standing.entry)
+            (test_in (views.view_statement_kind kind.now)) (seen self.old)) }
+    {
+        match kind {
+            StatementKind::While(test, _) => self.push_one(Work::Value(standing.strict, test)),
+            StatementKind::DoWhile(_, test) => self.push_one(Work::Value(standing.strict, test)),
+            StatementKind::For(head, _) => match &head.test {
+                None => self.push_number(1),
+                Some(test) => self.push_one(Work::Value(standing.strict, test)),
+            },
+            StatementKind::Forall(head, _, _) => match &head.test {
+                None => self.push_number(1),
+                Some(test) => self.push_one(Work::Value(standing.strict, test)),
+            },
+            _ => Err(OutOfMemory),
+        }
+    }
+
+    /// A turn of a loop that has so many left. No thread takes more turns than it has ticks.
+    #[tactic(auto, using(crate::proofs::Turning::loops))]
+    pub(crate) fn turn(
+        &mut self,
+        setting: Setting<'p>,
+        standing: Standing<'p>,
+        kind: &'p StatementKind,
+        turns: u64,
+    ) -> Result<Step<()>, OutOfMemory>
+        ensures { IfOk result (λ s. Went (running_seen setting.entry) (with_item (running_seen setting.entry)
+            (item.Turn (view_standing standing.entry) (views.view_statement_kind kind.now) turns) (seen self.old)) s
+            self.new) }
+    {
+        if turns == 0 {
+            return Err(OutOfMemory);
+        }
+        match self.progress.tick(setting.runner)? {
+            Step::Ends(end) => Ok(Step::Ends(end)),
+            Step::Gives(()) => {
+                self.push_one(Work::Test(standing, kind, turns - 1))?;
+                self.push_test(standing, kind)?;
+                Ok(Step::Gives(()))
+            }
+        }
+    }
+
+    /// A turn from behind its test on.
+    #[tactic(auto, using(crate::proofs::Turning::loops))]
+    pub(crate) fn tested(
+        &mut self,
+        setting: Setting<'p>,
+        standing: Standing<'p>,
+        kind: &'p StatementKind,
+        turns: u64,
+    ) -> Result<(), OutOfMemory>
+        ensures { OnOk result (with_item (running_seen setting.entry) (item.Test (view_standing standing.entry)
+            (views.view_statement_kind kind.now) turns) (seen self.old)
+            ≡ meant (running_seen setting.entry) (seen self.new)) }
+    {
+        let v = self.pop_value();
+        if is_zero(&v) {
+            self.leave_so(Flow::Next);
+            return Ok(());
+        }
+        self.push_one(Work::Around(standing, kind, turns))?;
+        self.body(setting, standing, kind)
+    }
+
+    // The body of a loop.
+    #[tactic(auto, using(crate::proofs::Turning::bodies))]
+    fn body(
+        &mut self,
+        setting: Setting<'p>,
+        standing: Standing<'p>,
+        kind: &'p StatementKind,
+    ) -> Result<(), OutOfMemory>
+        ensures { OnOk result (bodied (running_seen setting.entry) (view_standing standing.entry)
+            (views.view_statement_kind kind.now) (seen self.old)
+            ≡ meant (running_seen setting.entry) (seen self.new)) }
+    {
+        match kind {
+            StatementKind::While(_, body) => self.push_one(Work::Run(standing, body)),
+            StatementKind::DoWhile(body, _) => self.push_one(Work::Run(standing, body)),
+            StatementKind::For(_, body) => self.push_one(Work::Run(standing, body)),
+            StatementKind::Forall(head, whose, body) => {
+                self.forall_body(setting, standing, head, whose, body)
+            }
+            _ => Err(OutOfMemory),
+        }
+    }
+
+    // The body of a upc_forall.
+    #[tactic(auto, using(crate::proofs::Turning::bodies))]
+    fn forall_body(
+        &mut self,
+        setting: Setting<'p>,
+        standing: Standing<'p>,
+        head: &'p Head,
+        whose: &'p Affinity,
+        body: &'p Statement,
+    ) -> Result<(), OutOfMemory>
+        ensures { OnOk result (bodied (running_seen setting.entry) (view_standing standing.entry) (tree.Forall
+            (views.view_head head.now) (views.view_affinity whose.now) (views.view_statement body.now)) (seen self.old)
+            ≡ meant (running_seen setting.entry) (seen self.new)) }
+    {
+        match whose {
+            Affinity::All => self.push_two(Work::Finished, Work::Run(standing, body)),
+            Affinity::Value(e) => self.owned_body(setting, standing, head, e, body),
+        }
+    }
+
+    // The body of one with an affinity.
+    #[tactic(auto, using(crate::proofs::Turning::bodies))]
+    fn owned_body(
+        &mut self,
+        setting: Setting<'p>,
+        standing: Standing<'p>,
+        head: &'p Head,
+        e: &'p Expr,
+        body: &'p Statement,
+    ) -> Result<(), OutOfMemory>
+        ensures { OnOk result (bodied (running_seen setting.entry) (view_standing standing.entry) (tree.Forall
+            (views.view_head head.now) (tree.AtValue (view_expr e.now)) (views.view_statement body.now)) (seen self.old)
+            ≡ meant (running_seen setting.entry) (seen self.new)) }
+    {
+        if self.progress.store.is_controlled() {
+            self.controlling(setting, standing, body)
+        } else {
+            self.push_three(
+                Work::Guard(standing, body),
+                Work::Mine(e.place),
+                Work::Value(standing.strict, e),
+            )
+        }
+    }
+
+    // A body in which no further affinity is evaluated.
+    #[tactic(auto, using(crate::proofs::Turning::guards))]
+    fn controlling(
+        &mut self,
+        setting: Setting<'p>,
+        standing: Standing<'p>,
+        body: &'p Statement,
+    ) -> Result<(), OutOfMemory>
+        ensures { OnOk result (controlled (running_seen setting.entry) (view_standing standing.entry)
+            (views.view_statement body.now) (seen self.old) ≡ meant (running_seen setting.entry) (seen self.new)) }
+    {
+        self.progress.control()?;
+        self.push_two(Work::Release, Work::Run(standing, body))
+    }
+
+    /// A turn from behind its body on.
+    #[tactic(auto, using(crate::proofs::Turning::rounds))]
+    pub(crate) fn around(
+        &mut self,
+        setting: Setting<'p>,
+        standing: Standing<'p>,
+        kind: &'p StatementKind,
+        turns: u64,
+    ) -> Result<(), OutOfMemory>
+        ensures { OnOk result (with_item (running_seen setting.entry) (item.Around (view_standing standing.entry)
+            (views.view_statement_kind kind.now) turns) (seen self.old)
+            ≡ meant (running_seen setting.entry) (seen self.new)) }
+    {
+        match self.flow {
+            Flow::Gave(_) => Ok(()),
+            Flow::Broke => {
+                self.leave_so(Flow::Next);
+                Ok(())
+            }
+            Flow::Next => self.round(standing, kind, turns),
+            Flow::Again => self.round(standing, kind, turns),
+        }
+    }
+
+    // What a loop does last in a turn, and then the next turn.
+    fn round(
+        &mut self,
+        standing: Standing<'p>,
+        kind: &'p StatementKind,
+        turns: u64,
+    ) -> Result<(), OutOfMemory>
+        ensures { OnOk result (seen self.new ≡ more_works
+            (aside_items (view_standing standing.entry) (step_in (views.view_statement_kind kind.now)))
+            (with_flow mean.Next (more_works (item.Turn (view_standing standing.entry)
+            (views.view_statement_kind kind.now) turns ∷ []) (seen self.old)))) }
+    {
+        self.push_one(Work::Turn(standing, kind, turns))?;
+        match kind {
+            StatementKind::For(head, _) => self.push_aside(standing, &head.step),
+            StatementKind::Forall(head, _, _) => self.push_aside(standing, &head.step),
+            StatementKind::While(_, _) | StatementKind::DoWhile(_, _) => {
+                self.leave_so(Flow::Next);
+                Ok(())
+            }
+            _ => Err(OutOfMemory),
+        }
+    }
+
+    /// Whether the turn of an affinity is the thread's.
+    #[tactic(auto, using(crate::proofs::Turning::guards))]
+    pub(crate) fn mine(
+        &mut self,
+        setting: Setting<'p>,
+        place: Place,
+    ) -> Result<Step<()>, OutOfMemory>
+        requires { Fits setting.runner }
+        ensures { IfOk result (λ s. Went (running_seen setting.entry) (with_item (running_seen setting.entry)
+            (item.Mine place) (seen self.old)) s self.new) }
+    {
+        if setting.runner.threads == 0 {
+            return Err(OutOfMemory);
+        }
+        let v = self.pop_value();
+        match self.progress.mine(setting.runner, place, &v) {
+            Step::Ends(end) => Ok(Step::Ends(end)),
+            Step::Gives(w) => {
+                self.push_value(w)?;
+                Ok(Step::Gives(()))
+            }
+        }
+    }
+
+    /// The body of a upc_forall behind its affinity.
+    #[tactic(auto, using(crate::proofs::Turning::guards))]
+    pub(crate) fn guard(
+        &mut self,
+        setting: Setting<'p>,
+        standing: Standing<'p>,
+        body: &'p Statement,
+    ) -> Result<(), OutOfMemory>
+        ensures { OnOk result (with_item (running_seen setting.entry) (item.Guard (view_standing standing.entry)
+            (views.view_statement body.now)) (seen self.old) ≡ meant (running_seen setting.entry) (seen self.new)) }
+    {
+        let w = self.pop_value();
+        if is_zero(&w) {
+            self.leave_so(Flow::Next);
+            return Ok(());
+        }
+        self.controlling(setting, standing, body)
+    }
+
+    /// The end of the body of a upc_forall that does not control.
+    #[tactic(auto, using(crate::proofs::Turning::guards))]
+    pub(crate) fn finish_body(&mut self, setting: Setting<'p>)
+        ensures { with_item (running_seen setting.entry) item.Finished (seen self.old)
+            ≡ meant (running_seen setting.entry) (seen self.new) }
+    {
+        let flow = finished(self.flow);
+        self.leave_so(flow);
+    }
+
+    /// The end of one that controls.
+    #[tactic(auto, using(crate::proofs::Turning::guards))]
+    pub(crate) fn release(&mut self, setting: Setting<'p>)
+        ensures { with_item (running_seen setting.entry) item.Release (seen self.old)
+            ≡ meant (running_seen setting.entry) (seen self.new) }
+    {
+        self.progress.release();
+        let flow = finished(self.flow);
+        self.leave_so(flow);
+    }
+}
