@@ -110,6 +110,7 @@ pub(crate) fn add_block(
 }
 
 /// How many blocks were open when the youngest call began.
+#[inline(always)]
 pub(crate) fn blocks_before(calls: &[Call]) -> usize
     ensures { result ≡ live.blocks_before (youngest calls.now) }
 {
@@ -140,9 +141,9 @@ pub(crate) fn open_from(blocks: &[Block], first: usize) -> &[Block]
     }
 }
 
-/// The youngest of these blocks that was entered with at most `n` names in scope.
+// The youngest of these blocks that was entered with at most `n` names in scope.
 #[tactic(auto, using(crate::proofs::Frames::looking_back))]
-pub(crate) fn innermost(blocks: &[Block], n: u32) -> Option<Block>
+fn innermost(blocks: &[Block], n: u32) -> Option<Block>
     requires { All (λ b. b.first ≤ 2 ^ 63) blocks.now }
     ensures value { result ≡ find (λ b. nat_le b.from n) (reverse blocks.now) }
     ensures from { IfSome result (λ b. b.from ≤ n) }
@@ -155,4 +156,23 @@ pub(crate) fn innermost(blocks: &[Block], n: u32) -> Option<Block>
         }
     }
     None
+}
+
+/// The youngest of all blocks but the first so many that was entered with at most `n` names in scope. Mostly it is the
+/// last one.
+#[tactic(auto, using(crate::proofs::Frames::firsts_open))]
+#[inline(always)]
+pub(crate) fn innermost_from(blocks: &[Block], first: usize, n: u32) -> Option<Block>
+    requires { All (λ b. b.first ≤ 2 ^ 63) blocks.now }
+    ensures value { result ≡ find (λ b. nat_le b.from n) (reverse (drop first blocks.now)) }
+    ensures from { IfSome result (λ b. b.from ≤ n) }
+    ensures few { IfSome result (λ b. b.first ≤ 2 ^ 63) }
+{
+    if first < blocks.len() {
+        let last = blocks[blocks.len() - 1];
+        if last.from <= n {
+            return Some(last);
+        }
+    }
+    innermost(open_from(blocks, first), n)
 }

@@ -12,7 +12,7 @@ ghost use Rattle.private_store.specs.Cells.{loaded, stored, IsPrivate};
 
 use crate::beginning::cell_kind;
 use crate::blocks::{
-    add_block, add_objects, blocks_before, controls_of, end_objects, fit, innermost, open_from,
+    add_block, add_objects, blocks_before, controls_of, end_objects, fit, innermost_from,
 };
 use crate::finding::{object_place, reach};
 use crate::frame::{Block, Call};
@@ -228,13 +228,11 @@ impl Store {
 
     /// The number of the object that the `n`th local name in scope stands for, None where no open block of the youngest
     /// call was entered with at most `n` names in scope.
-    #[tactic(auto, using(crate::proofs::Frames::firsts_open))]
     #[inline(always)]
     pub fn local(&self, n: u32) -> Option<u64>
         ensures { result ≡ local_number n self.now }
     {
-        let open = open_from(&self.blocks, blocks_before(&self.calls));
-        match innermost(open, n) {
+        match innermost_from(&self.blocks, blocks_before(&self.calls), n) {
             None => None,
             Some(block) => Some(block.first + u64::from(n - block.from)),
         }

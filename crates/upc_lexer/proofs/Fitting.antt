@@ -1,5 +1,5 @@
 -- The numbers of a source are in the range of their types.
-use Rattle.std.proofs.Common.{◌≡◌, ℕ, ◌≤◌, Bool, true, false, cond, leb, List, [], ◌∷◌, ◌++◌, drop, Some, None, refl, sym, subst}
+use Rattle.std.proofs.Common.{◌≡◌, ℕ, ◌≤◌, Bool, true, false, cond, leb, List, [], ◌∷◌, ◌++◌, drop, Some, refl, sym, subst}
 use Rattle.std.specs.Prelude.{find}
 use Rattle.std.proofs.lemmas.Bool.{leb-true}
 use Rattle.upc_text.specs.declared.place.Place.{Place}
@@ -7,8 +7,8 @@ use Rattle.upc_lexer.specs.declared.token.Token.{Token}
 use Rattle.upc_lexer.specs.declared.token.TokenKind.{TokenKind}
 use Rattle.upc_lexer.specs.declared.token.TokenKind.TheVariants.{Name, Word, Number, Character, Str, Punct, Pragma}
 use Rattle.upc_lexer.specs.declared.token.NumberKind.{NumberKind}
-use Rattle.upc_lexer.specs.Numbers.{IsNumber, greatest, kinds, kind_of, NumberFits, NumbersFit}
-use Rattle.upc_lexer.specs.Tokens.{Piece, gap, lexeme, Spells, Cuts, joined, tokens_in, AreTokensOf}
+use Rattle.upc_lexer.specs.Numbers.{IsNumber, greatest, kinds, NumberFits, NumbersFit}
+use Rattle.upc_lexer.specs.Tokens.{Piece, gap, lexeme, Spells, Cuts, tokens_in, AreTokensOf}
 use Rattle.upc_lexer.specs.Steps.{IsCutTo}
 
 -- What is found among the types has the value.

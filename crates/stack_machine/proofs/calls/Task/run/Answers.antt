@@ -1,4 +1,4 @@
-use Rattle.std.proofs.Common.{◌<◌, [], List, rules, arith}
+use Rattle.std.proofs.Common.{[], rules, arith}
 use Rattle.stack_machine.specs.code.Shorts.{Goes}
 use Rattle.stack_machine.proofs.Halting.{stands_on, halts_so, halts_behind}
 use Rattle.stack_machine.proofs.calls.Task.run.Goals as goal
