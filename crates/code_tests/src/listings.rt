@@ -5,7 +5,9 @@
 use crate::front::program_of;
 use crate::words::text_of;
 use gen_stmt::compile;
+use std::alloc::Global;
 use std::test::Fail;
+use upc_text::Stop;
 
 // A function of the code of a source for 2 threads.
 struct Listed {
@@ -300,13 +302,17 @@ const LISTED: [Listed; 7] = [
     },
 ];
 
+// The text of a function of a source.
+fn listed_text(alloc: Global, listed: &Listed) -> Result<String, Stop> {
+    let program = program_of(alloc, 2, listed.source)?;
+    let code = compile(alloc, &program)?;
+    Ok(text_of(alloc, &code, listed.function)?)
+}
+
 #[test]
 fn code_of_five_programs(rt: HostRuntime) -> Result<(), Fail> {
-    let alloc = rt.alloc();
     for (number, listed) in LISTED.iter().enumerate() {
-        let program = program_of(alloc, 2, listed.source)?.expect(&rt, "a program");
-        let code = compile(alloc, &program)?;
-        let text = text_of(alloc, &code, listed.function)?;
+        let text = listed_text(rt.alloc(), listed)?;
         assert_eq!(rt; text.as_str(), listed.text, "{number}");
     }
     Ok(())

@@ -4,8 +4,11 @@ use crate::alone::code_alone;
 use crate::front::program_of;
 use crate::words::text_of;
 use gen_stmt::compile;
+use stack_code::Code;
+use std::alloc::Global;
 use std::test::Fail;
-use typed_tree::{Expr, Item, Statement, StatementKind};
+use typed_tree::{Expr, Item, Program, Statement, StatementKind};
+use upc_text::OutOfMemory;
 
 const SOURCE: &[u8] = b"#include <upc_relaxed.h>
 #include <stdio.h>
@@ -101,33 +104,68 @@ fn part_of(statement: &Statement) -> Option<&Expr> {
     }
 }
 
-// The code of a part, which gives its value back, stands as it is in the code of the whole.
+// The code of a part, as text.
+fn text_alone(
+    alloc: Global,
+    whole: &Code,
+    program: &Program,
+    e: &Expr,
+) -> Result<String, OutOfMemory> {
+    let code = code_alone(alloc, whole, program, e)?;
+    Ok(text_of(alloc, &code, 0)?)
+}
+
+// Whether a part has this code, which gives its value back and stands as it is in the code of the whole.
+fn is_part(part: &str, wanted: &str, text: &str) -> bool {
+    match part.strip_prefix(wanted) {
+        Some(rest) => rest.ends_with(" GiveBack 0\n") && text.contains(wanted),
+        None => false,
+    }
+}
+
+// How many of the parts of a statement list are the wanted ones in turn, up to the first that is not.
+fn parts_in(
+    alloc: Global,
+    whole: &Code,
+    program: &Program,
+    items: &[Item],
+) -> Result<usize, OutOfMemory> {
+    let text = text_of(alloc, whole, 1)?;
+    let mut found = 0usize;
+    for item in items {
+        let Item::Do(statement) = item else {
+            continue;
+        };
+        let Some(e) = part_of(statement) else {
+            continue;
+        };
+        let part = text_alone(alloc, whole, program, e)?;
+        let wanted = PARTS.get(found).copied().unwrap_or("none");
+        if !is_part(part.as_str(), wanted, text.as_str()) {
+            return Ok(0);
+        }
+        found = found.saturating_add(1);
+    }
+    Ok(found)
+}
+
+// What the body of main holds.
+fn items_of(program: &Program) -> Option<&[Item]> {
+    let main = program.functions().first()?;
+    match &main.body.kind {
+        StatementKind::Block(_, items) => Some(items.as_slice()),
+        _ => None,
+    }
+}
+
 #[test]
 fn code_of_parts(rt: HostRuntime) -> Result<(), Fail> {
     let alloc = rt.alloc();
-    let program = program_of(alloc, 4, SOURCE)?.expect(&rt, "a program");
+    let program = program_of(alloc, 4, SOURCE)?;
     let whole = compile(alloc, &program)?;
     assert_eq!(rt; whole.functions(), 2);
     assert_eq!(rt; whole.size(0), 6);
-    let text = text_of(alloc, &whole, 1)?;
-    let main = program.functions().first().expect(&rt, "main");
-    let mut parts = PARTS.iter();
-    if let StatementKind::Block(_, items) = &main.body.kind {
-        for item in items.as_slice() {
-            let Item::Do(statement) = item else {
-                continue;
-            };
-            let Some(e) = part_of(statement) else {
-                continue;
-            };
-            let code = code_alone(alloc, &whole, &program, e)?;
-            let part = text_of(alloc, &code, 0)?;
-            let wanted = parts.next().copied().unwrap_or("none");
-            let rest = part.as_str().strip_prefix(wanted).expect(&rt, "the part");
-            assert!(rt; rest.ends_with(" GiveBack 0\n"));
-            assert!(rt; text.as_str().contains(wanted), "{wanted}");
-        }
-    }
-    assert!(rt; parts.next().is_none());
+    let items = items_of(&program).unwrap_or(&[]);
+    assert_eq!(rt; parts_in(alloc, &whole, &program, items)?, PARTS.len());
     Ok(())
 }

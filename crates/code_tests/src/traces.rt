@@ -1,7 +1,5 @@
 //! What machines ask for and how they end.
 
-ghost use Rattle.std.specs.Prelude.{◌<◌, ◌≤◌};
-
 use crate::alone::code_alone;
 use crate::front::program_of;
 use crate::hand::code_by_hand;
@@ -12,6 +10,7 @@ use stack_machine::{Machine, Wish};
 use std::alloc::{AllocError, Global};
 use std::test::Fail;
 use typed_tree::{Expr, Item, Program, StatementKind};
+use upc_text::{OutOfMemory, Stop};
 use upc_values::{Action, Loc, Reply, Scalar};
 
 fn put_access(
@@ -73,32 +72,62 @@ fn put_end(text: &mut String, wish: &Wish) -> Result<(), AllocError> {
     }
 }
 
+// What a thread tells next, added in words: whether it waits for a reply, and whether that of a read.
+#[derive(Clone, Copy)]
+enum Told {
+    Reads,
+    Acts,
+    Ends,
+}
+
+fn put_wish(text: &mut String, wish: &Wish) -> Result<Told, AllocError> {
+    match wish {
+        Wish::Act(action) => {
+            put_action(text, action)?;
+            text.push_str("\n")?;
+            let reads = matches!(action, Action::Read { .. });
+            Ok(if reads { Told::Reads } else { Told::Acts })
+        }
+        _ => {
+            put_end(text, wish)?;
+            Ok(Told::Ends)
+        }
+    }
+}
+
+// Goes on with a thread by one wish.
+fn tell(
+    machine: &mut Machine,
+    code: &Code,
+    reply: Option<Reply>,
+    text: &mut String,
+) -> Result<Told, OutOfMemory> {
+    let wish = machine.resume(code, reply)?;
+    Ok(put_wish(text, &wish)?)
+}
+
 // What the thread of a row tells in turn, a line each, to the end with its ticks. Its reads are answered by the values
 // of the row in turn, and by 0 behind them.
-fn told_by(alloc: Global, code: &Code, row: &Row) -> Result<String, AllocError>
-    requires thread { row.now.thread < code.now.threads }
-    requires budget { 1 ≤ row.now.budget }
-{
-    let mut machine = Machine::make(alloc, code, row.thread, row.budget)?;
+fn told_by(alloc: Global, code: &Code, row: &Row) -> Result<String, OutOfMemory> {
     let mut text = String::new(alloc);
+    if row.thread >= code.threads() || row.budget < 1 {
+        return Ok(text);
+    }
+    let mut machine = Machine::make(alloc, code, row.thread, row.budget)?;
     let mut values = row.reads.iter();
     let mut reply = None;
     for _turn in 0..1000 {
-        let wish = machine.resume(code, reply)?;
-        let Wish::Act(action) = &wish else {
-            put_end(&mut text, &wish)?;
-            writeln!(text, ", ticks {}", machine.ticks())?;
-            return Ok(text);
-        };
-        put_action(&mut text, action)?;
-        text.push_str("\n")?;
-        reply = Some(match action {
-            Action::Read { .. } => {
+        match tell(&mut machine, code, reply, &mut text)? {
+            Told::Reads => {
                 let value = values.next().copied().unwrap_or(0);
-                Reply::Value(Scalar::Int(value))
+                reply = Some(Reply::Value(Scalar::Int(value)));
             }
-            _ => Reply::Done,
-        });
+            Told::Acts => reply = Some(Reply::Done),
+            Told::Ends => {
+                writeln!(text, ", ticks {}", machine.ticks())?;
+                return Ok(text);
+            }
+        }
     }
     Ok(text)
 }
@@ -307,28 +336,47 @@ fn add_words(
     Ok(())
 }
 
+// The code of the expression alone that main returns.
+fn alone(alloc: Global, program: &Program) -> Result<Option<Code>, OutOfMemory> {
+    let whole = compile(alloc, program)?;
+    match returned(program) {
+        Some(e) => Ok(Some(code_alone(alloc, &whole, program, e)?)),
+        None => Ok(None),
+    }
+}
+
+// The code of a row.
+fn code_of(alloc: Global, row: &Row) -> Result<Option<Code>, Stop> {
+    let program = program_of(alloc, row.threads, row.source)?;
+    match row.made {
+        Made::Whole => Ok(Some(compile(alloc, &program)?)),
+        Made::Alone => Ok(alone(alloc, &program)?),
+        Made::ByHand => Ok(Some(code_by_hand(alloc)?)),
+    }
+}
+
+// Adds the names of the instructions of code, and answers what the thread of the row tells.
+fn told_of(
+    alloc: Global,
+    row: &Row,
+    words: &mut Vec<&'static str>,
+) -> Result<Option<String>, Stop> {
+    let Some(code) = code_of(alloc, row)? else {
+        return Ok(None);
+    };
+    for function in 0..code.functions() {
+        add_words(words, &code, function)?;
+    }
+    Ok(Some(told_by(alloc, &code, row)?))
+}
+
 // Each of the 45 instructions is in the code of some row.
 #[test]
 fn machines_tell(rt: HostRuntime) -> Result<(), Fail> {
     let alloc = rt.alloc();
     let mut words = Vec::new(alloc);
     for (number, row) in ROWS.iter().enumerate() {
-        let program = program_of(alloc, row.threads, row.source)?.expect(&rt, "a program");
-        let code = match row.made {
-            Made::Whole => compile(alloc, &program)?,
-            Made::Alone => {
-                let whole = compile(alloc, &program)?;
-                let e = returned(&program).expect(&rt, "a value");
-                code_alone(alloc, &whole, &program, e)?
-            }
-            Made::ByHand => code_by_hand(alloc)?,
-        };
-        for function in 0..code.functions() {
-            add_words(&mut words, &code, function)?;
-        }
-        assert!(rt; row.thread < code.threads());
-        assert!(rt; 1 <= row.budget);
-        let told = told_by(alloc, &code, row)?;
+        let told = told_of(alloc, row, &mut words)?.expect(&rt, "code");
         assert_eq!(rt; told.as_str(), row.told, "{number}");
     }
     assert_eq!(rt; words.len(), 45);

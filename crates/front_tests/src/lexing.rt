@@ -1,32 +1,41 @@
 //! Constants, escapes, marks, places, names and refusals, from C99 6.4 and the tables of docs/LANGUAGE.md.
-use std::alloc::Global;
-use std::test::Fail;
-use upc_lexer::{TokenKind, lex};
-use upc_text::{Refusal, Stop};
 
-// The kinds of the tokens, a number as its value and type, or why there are none.
-fn shown(alloc: Global, source: &str) -> Result<String, Fail> {
-    let mut text = String::new(alloc);
-    if source.len() > 1_048_576 {
-        return Ok(text);
+use crate::macros::{are_placed, stopped};
+use std::alloc::{AllocError, Global};
+use std::test::Fail;
+use upc_lexer::{Token, TokenKind, lex};
+
+// Adds the kind of a token, a number as its value and type.
+fn put_kind(text: &mut String, kind: &TokenKind) -> Result<(), AllocError> {
+    match kind {
+        TokenKind::Number { value, kind } => write!(text, "{value} {kind:?} "),
+        kind => write!(text, "{kind:?} "),
     }
-    match lex(alloc, source.as_bytes()) {
-        Ok(lexed) => {
-            for token in &lexed.tokens {
-                let part = match &token.kind {
-                    TokenKind::Number { value, kind } => { format!(in alloc; "{value} {kind:?} ")? }
-                    kind => format!(in alloc; "{kind:?} ")?,
-                };
-                text.push_str(part.as_str())?;
-            }
-        }
-        Err(Stop::Refused(Refusal { place, code })) => {
-            let refusal = format!(in alloc; "{}:{} {code:?}", place.line, place.column)?;
-            text.push_str(refusal.as_str())?;
-        }
-        Err(Stop::Memory) => text.push_str("no memory")?,
+}
+
+fn kinds(alloc: Global, tokens: &[Token]) -> Result<String, AllocError> {
+    let mut text = String::new(alloc);
+    for token in tokens {
+        put_kind(&mut text, &token.kind)?;
     }
     Ok(text)
+}
+
+// The kinds of the tokens, or why there are none.
+fn shown(alloc: Global, source: &str) -> Result<String, Fail> {
+    if source.len() > 1_048_576 {
+        return Ok(String::new(alloc));
+    }
+    match lex(alloc, source.as_bytes()) {
+        Ok(lexed) => Ok(kinds(alloc, lexed.tokens.as_slice())?),
+        Err(stop) => stopped(alloc, stop),
+    }
+}
+
+// Whether a source comes to this.
+fn comes_to(alloc: Global, source: &str, want: &str) -> Result<bool, Fail> {
+    let got = shown(alloc, source)?;
+    Ok(got.as_str() == want)
 }
 
 // A source, and its tokens or its refusal. A constant has the smallest type in the list for its base and suffix
@@ -117,45 +126,52 @@ const SOURCES: [(&str, &str); 57] = [
 
 #[test]
 fn sources(rt: HostRuntime) -> Result<(), Fail> {
-    for (source, want) in SOURCES {
-        let got = shown(rt.alloc(), source)?;
-        assert_eq!(rt; got.as_str(), want, "{source}");
+    for (source, want) in &SOURCES {
+        assert!(rt; comes_to(rt.alloc(), source, want)?, "{source}");
     }
     Ok(())
+}
+
+// What stands before so many bytes and behind them, and whether they pass.
+const LIMITS: [(&str, u32, bool); 4] = [
+    ("", 255, true),
+    ("", 256, false),
+    ("\"", 4095, true),
+    ("\"", 4096, false),
+];
+
+fn passes(alloc: Global, mark: &str, count: u32) -> Result<bool, Fail> {
+    let mut source = String::from_str(alloc, mark)?;
+    for _ in 0..count {
+        source.push_str("x")?;
+    }
+    source.push_str(mark)?;
+    Ok(!comes_to(alloc, source.as_str(), "1:1 Limit(6)")?)
 }
 
 // A name of 255 bytes and a string of 4,095 pass; one byte more does not.
 #[test]
 fn limits(rt: HostRuntime) -> Result<(), Fail> {
-    let rows = [
-        ("", 255, "", true),
-        ("", 256, "", false),
-        ("\"", 4095, "\"", true),
-        ("\"", 4096, "\"", false),
-    ];
-    for (before, count, after, passes) in rows {
-        let mut source = String::from_str(rt.alloc(), before)?;
-        for _ in 0..count {
-            source.push_str("x")?;
-        }
-        source.push_str(after)?;
-        let got = shown(rt.alloc(), source.as_str())?;
-        assert_eq!(rt; got.as_str() != "1:1 Limit(6)", passes, "{count}");
+    for (mark, count, want) in &LIMITS {
+        assert!(rt; passes(rt.alloc(), mark, *count)? == *want, "{count}");
     }
     Ok(())
 }
 
+// Where the tokens of a small source stand.
+const PLACES: [(u32, u32, u32, u32); 4] = [
+    (0, 2, 1, 1),
+    (4, 5, 2, 2),
+    (6, 8, 2, 4),
+    (13, 14, 3, 3),
+];
+
 #[test]
 fn places_and_names(rt: HostRuntime) -> Result<(), Fail> {
     let lexed = lex(rt.alloc(), b"ab\n\tc ab/*\n*/c")?;
-    let rows = [(0, 2, 1, 1), (4, 5, 2, 2), (6, 8, 2, 4), (13, 14, 3, 3)];
-    assert_eq!(rt; lexed.tokens.len(), rows.len());
-    for (token, (start, end, line, column)) in lexed.tokens.iter().zip(rows) {
-        assert_eq!(rt; (token.start, token.end), (start, end));
-        assert_eq!(rt; (token.place.line, token.place.column), (line, column));
-    }
+    assert!(rt; are_placed(lexed.tokens.as_slice(), &PLACES));
     assert_eq!(rt; lexed.names.len(), 2);
-    assert_eq!(rt; lexed.names.get(1), Some(b"c".as_slice()));
+    assert!(rt; lexed.names.get(1) == Some(b"c".as_slice()));
     assert!(rt; !lexed.names.is_empty());
     Ok(())
 }

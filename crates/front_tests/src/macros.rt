@@ -1,12 +1,12 @@
 //! Macros, directives, refused words and the limit, from C99 6.10 and the tables of docs/LANGUAGE.md.
-use std::alloc::Global;
+use std::alloc::{AllocError, Global};
 use std::test::Fail;
 use upc_lexer::{Token, TokenKind, lex};
 use upc_macros::expand;
 use upc_text::{Refusal, Stop};
 
-// The expanded tokens, or what stopped the expansion.
-fn expanded(alloc: Global, source: &str) -> Result<Vec<Token>, Stop> {
+/// The expanded tokens, or what stopped the expansion.
+pub fn expanded(alloc: Global, source: &str) -> Result<Vec<Token>, Stop> {
     let bytes = source.as_bytes();
     if bytes.len() > 1_048_576 {
         return Err(Stop::Memory);
@@ -15,35 +15,58 @@ fn expanded(alloc: Global, source: &str) -> Result<Vec<Token>, Stop> {
     expand(alloc, bytes, &lexed)
 }
 
+/// Three texts, one behind the other.
+pub fn joined(alloc: Global, first: &str, second: &str, third: &str) -> Result<String, AllocError> {
+    let mut text = String::from_str(alloc, first)?;
+    text.push_str(second)?;
+    text.push_str(third)?;
+    Ok(text)
+}
+
+// Adds a token as it is spelled.
+fn put_token(text: &mut String, source: &str, token: &Token) -> Result<(), AllocError> {
+    match &token.kind {
+        TokenKind::Pragma(strict) => text.push_str(if *strict { "STRICT" } else { "RELAXED" }),
+        TokenKind::Number { value, .. } => write!(text, "{value}"),
+        _ => {
+            let part = source.get(token.start as usize..token.end as usize);
+            text.push_str(part.unwrap_or("?"))
+        }
+    }
+}
+
 // The tokens as they are spelled, with a blank behind each.
-fn shown(alloc: Global, source: &str) -> Result<String, Fail> {
+fn spelled(alloc: Global, source: &str, tokens: &[Token]) -> Result<String, AllocError> {
     let mut text = String::new(alloc);
-    match expanded(alloc, source) {
-        Ok(tokens) => {
-            for token in &tokens {
-                match &token.kind {
-                    TokenKind::Pragma(strict) => {
-                        text.push_str(if *strict { "STRICT " } else { "RELAXED " })?;
-                    }
-                    TokenKind::Number { value, .. } => {
-                        let number = format!(in alloc; "{value} ")?;
-                        text.push_str(number.as_str())?;
-                    }
-                    _ => {
-                        let part = source.get(token.start as usize..token.end as usize);
-                        text.push_str(part.unwrap_or("?"))?;
-                        text.push_str(" ")?;
-                    }
-                }
-            }
-        }
-        Err(Stop::Refused(Refusal { place, code })) => {
-            let refusal = format!(in alloc; "{}:{} {code:?}", place.line, place.column)?;
-            text.push_str(refusal.as_str())?;
-        }
-        Err(Stop::Memory) => text.push_str("no memory")?,
+    for token in tokens {
+        put_token(&mut text, source, token)?;
+        text.push_str(" ")?;
     }
     Ok(text)
+}
+
+/// What stopped a source, in words.
+pub fn stopped(alloc: Global, stop: Stop) -> Result<String, Fail> {
+    Ok(match stop {
+        Stop::Refused(Refusal { place, code }) => {
+            format!(in alloc; "{}:{} {code:?}", place.line, place.column)?
+        }
+        Stop::Memory => format!(in alloc; "no memory")?,
+    })
+}
+
+// The tokens as they are spelled, or what stopped the expansion.
+fn shown(alloc: Global, source: &str) -> Result<String, Fail> {
+    match expanded(alloc, source) {
+        Ok(tokens) => Ok(spelled(alloc, source, tokens.as_slice())?),
+        Err(stop) => stopped(alloc, stop),
+    }
+}
+
+// Whether a source comes to this.
+fn comes_to(alloc: Global, source: &str, want: &str) -> Result<bool, Fail> {
+    let got = shown(alloc, source)?;
+    Ok(got.as_str() == want)
 }
 
 // A source, and its tokens after expansion or its refusal.
@@ -116,73 +139,98 @@ const SOURCES: [(&str, &str); 48] = [
 
 #[test]
 fn sources(rt: HostRuntime) -> Result<(), Fail> {
-    for (source, want) in SOURCES {
-        let got = shown(rt.alloc(), source)?;
-        assert_eq!(rt; got.as_str(), want, "{source}");
+    for (source, want) in &SOURCES {
+        assert!(rt; comes_to(rt.alloc(), source, want)?, "{source}");
     }
     Ok(())
 }
 
+const PLACED: &str = "#define N x NULL\n N NULL\n #pragma upc strict /**/\n";
+
 // A token that comes from a macro has the place of the use, and the slice of its spelling in the definition.
+const PLACES: [(u32, u32, u32, u32); 4] = [
+    (10, 11, 2, 2),
+    (12, 16, 2, 2),
+    (20, 24, 2, 4),
+    (26, 44, 3, 2),
+];
+
+/// Whether these are the starts, the ends, the lines and the columns of tokens.
+pub fn are_placed(tokens: &[Token], rows: &[(u32, u32, u32, u32)]) -> bool {
+    if tokens.len() != rows.len() {
+        return false;
+    }
+    for (token, (start, end, line, column)) in tokens.iter().zip(rows) {
+        let is_sliced = token.start == *start && token.end == *end;
+        if !is_sliced || token.place.line != *line || token.place.column != *column {
+            return false;
+        }
+    }
+    true
+}
+
 #[test]
 fn places(rt: HostRuntime) -> Result<(), Fail> {
-    let tokens = expanded(
-        rt.alloc(),
-        "#define N x NULL\n N NULL\n #pragma upc strict /**/\n",
-    )?;
-    let rows = [
-        (10, 11, 2, 2),
-        (12, 16, 2, 2),
-        (20, 24, 2, 4),
-        (26, 44, 3, 2),
-    ];
-    assert_eq!(rt; tokens.len(), rows.len());
-    for (token, (start, end, line, column)) in tokens.iter().zip(rows) {
-        assert_eq!(rt; (token.start, token.end), (start, end));
-        assert_eq!(rt; (token.place.line, token.place.column), (line, column));
-    }
+    let tokens = expanded(rt.alloc(), PLACED)?;
+    assert!(rt; are_placed(tokens.as_slice(), &PLACES));
     Ok(())
+}
+
+// Macros by number up to a last one, each for twice the one before, behind the definition of the first.
+fn doubling(alloc: Global, first: &str, levels: u32) -> Result<String, AllocError> {
+    let mut source = String::from_str(alloc, first)?;
+    let mut below = 0u32;
+    for level in 1..levels {
+        writeln!(source, "#define A{level} A{below} A{below}")?;
+        below = level;
+    }
+    Ok(source)
+}
+
+// Whether a text behind 64 of them, of which the first is one token, comes to this.
+fn limited(alloc: Global, text: &str, want: &str) -> Result<bool, Fail> {
+    let source = doubling(alloc, "#define A0 x\n", 65)?;
+    let whole = joined(alloc, source.as_str(), text, "")?;
+    comes_to(alloc, whole.as_str(), want)
+}
+
+// How many tokens a text behind them has.
+fn count(alloc: Global, text: &str) -> Result<Option<usize>, Fail> {
+    let source = doubling(alloc, "#define A0 x\n", 65)?;
+    let whole = joined(alloc, source.as_str(), text, "")?;
+    match expanded(alloc, whole.as_str()) {
+        Ok(tokens) => Ok(Some(tokens.len())),
+        Err(_) => Ok(None),
+    }
 }
 
 // 2^20 tokens pass; one more does not, and macros that ask for 2^64 are cut at the limit.
 #[test]
 fn limit(rt: HostRuntime) -> Result<(), Fail> {
-    let mut source = format!(in rt.alloc(); "#define A0 x\n")?;
-    for level in 1..65u32 {
-        let line = format!(in rt.alloc(); "#define A{level} A{} A{}\n", level - 1, level - 1)?;
-        source.push_str(line.as_str())?;
-    }
-    let full = format!(in rt.alloc(); "{}A20", source.as_str())?;
-    let tokens = expanded(rt.alloc(), full.as_str())?;
-    assert_eq!(rt; tokens.len(), 1_048_576);
+    assert_eq!(rt; count(rt.alloc(), "A20")?, Some(1_048_576));
     for (text, want) in [("A20 y", "66:5 Limit(1)"), ("\n A64", "67:2 Limit(1)")] {
-        let more = format!(in rt.alloc(); "{}{text}", source.as_str())?;
-        let got = shown(rt.alloc(), more.as_str())?;
-        assert_eq!(rt; got.as_str(), want);
+        assert!(rt; limited(rt.alloc(), text, want)?, "{text}");
     }
     Ok(())
 }
 
+// A text behind 60 macros that stand for nothing, and what it comes to.
+const NOTHING: [(&str, &str); 3] = [
+    ("A60 x A60", "x "),
+    ("A60\n#define B A60 x A60\nB A60 B", "x x "),
+    (
+        "A60\n#undef A0\n#define A0 union\n\nA60",
+        "66:1 Profile(11)",
+    ),
+];
+
 // Macros that stand for nothing, each for twice the one before, take no time: 60 of them, which would be 2^60 turns.
 #[test]
 fn nothing_doubled(rt: HostRuntime) -> Result<(), Fail> {
-    let mut source = format!(in rt.alloc(); "#define A0\n")?;
-    for level in 1..61u32 {
-        let line = format!(in rt.alloc(); "#define A{level} A{} A{}\n", level - 1, level - 1)?;
-        source.push_str(line.as_str())?;
-    }
-    let rows = [
-        ("A60 x A60", "x "),
-        ("A60\n#define B A60 x A60\nB A60 B", "x x "),
-        (
-            "A60\n#undef A0\n#define A0 union\n\nA60",
-            "66:1 Profile(11)",
-        ),
-    ];
-    for (text, want) in rows {
-        let whole = format!(in rt.alloc(); "{}{text}", source.as_str())?;
-        let got = shown(rt.alloc(), whole.as_str())?;
-        assert_eq!(rt; got.as_str(), want, "{text}");
+    let source = doubling(rt.alloc(), "#define A0\n", 61)?;
+    for (text, want) in &NOTHING {
+        let whole = joined(rt.alloc(), source.as_str(), text, "")?;
+        assert!(rt; comes_to(rt.alloc(), whole.as_str(), want)?, "{text}");
     }
     Ok(())
 }

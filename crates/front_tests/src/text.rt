@@ -7,28 +7,38 @@ use upc_text::{
 
 const LONG: [u8; 600] = [b'x'; 600];
 
+/// How many bytes were read.
+fn length(got: Result<Vec<u8>, ReadEnd>) -> Result<usize, ReadEnd> {
+    match got {
+        Ok(bytes) => Ok(bytes.len()),
+        Err(end) => Err(end),
+    }
+}
+
+// Which reads fail, how many bytes a read gives at most, and what comes of 600 bytes.
+const READS: [(&[u64], usize, Result<usize, ReadEnd>); 6] = [
+    (&[], 512, Ok(600)),
+    (&[], 1, Ok(600)),
+    (&[1], 512, Err(ReadEnd::ReadFault)),
+    (&[2], 512, Err(ReadEnd::ReadFault)),
+    (&[3], 512, Err(ReadEnd::ReadFault)),
+    (&[4], 512, Ok(600)),
+];
+
 // Short reads are joined, and a read that fails is no end of the source: with 512 bytes a call, a file of 600 bytes
 // takes three reads, the third of which meets the end.
 #[test]
 fn reads_all(rt: HostRuntime) -> Result<(), Fail> {
-    let rows: [(&[u64], usize, Result<usize, ReadEnd>); 6] = [
-        (&[], 512, Ok(600)),
-        (&[], 1, Ok(600)),
-        (&[1], 512, Err(ReadEnd::ReadFault)),
-        (&[2], 512, Err(ReadEnd::ReadFault)),
-        (&[3], 512, Err(ReadEnd::ReadFault)),
-        (&[4], 512, Ok(600)),
-    ];
-    for (fails, most, want) in rows {
-        assert!(rt; most > 0);
-        let mut files = MemFiles::make(rt.alloc(), fails, most)?;
+    for (fails, most, want) in &READS {
+        assert!(rt; *most > 0);
+        let mut files = MemFiles::make(rt.alloc(), fails, *most)?;
         files.add("a.upc", &LONG)?;
-        let got = read_all(rt.alloc(), &mut files, "a.upc");
-        assert_eq!(rt; got.map(|bytes| bytes.len()), want, "{fails:?} {most}");
+        let got = length(read_all(rt.alloc(), &mut files, "a.upc"));
+        assert!(rt; got == *want, "{most}");
     }
     let mut files = MemFiles::make(rt.alloc(), &[], 512)?;
-    let missing = read_all(rt.alloc(), &mut files, "a.upc");
-    assert_eq!(rt; missing.map(|bytes| bytes.len()), Err(ReadEnd::ReadFault));
+    let missing = length(read_all(rt.alloc(), &mut files, "a.upc"));
+    assert!(rt; missing == Err(ReadEnd::ReadFault));
     Ok(())
 }
 
@@ -43,27 +53,29 @@ fn reads_up_to_the_limit(rt: HostRuntime) -> Result<(), Fail> {
         let bytes = vec![in rt.alloc(); b'\n'; count]?;
         let mut files = SureFiles::make(rt.alloc())?;
         files.add("a.upc", &bytes)?;
-        let got = read_all(rt.alloc(), &mut files, "a.upc");
-        assert_eq!(rt; got.map(|bytes| bytes.len()), want, "{count}");
-        let missing = read_all(rt.alloc(), &mut files, "b.upc");
-        assert_eq!(rt; missing.map(|bytes| bytes.len()), Ok(0));
+        let got = length(read_all(rt.alloc(), &mut files, "a.upc"));
+        assert!(rt; got == want, "{count}");
+        let missing = length(read_all(rt.alloc(), &mut files, "b.upc"));
+        assert!(rt; missing == Ok(0));
     }
     Ok(())
 }
 
+// Which puts fail, whether all is put, and what the sink takes.
+const PUTS: [(&[u64], Result<(), Failed>, &[u8]); 4] = [
+    (&[], Ok(()), b"79800\n"),
+    (&[1], Err(Failed), b""),
+    (&[2], Err(Failed), b"7980"),
+    (&[3], Ok(()), b"79800\n"),
+];
+
 // Short puts are continued, and after a put that fails the sink holds what was put before.
 #[test]
 fn puts_all(rt: HostRuntime) -> Result<(), Fail> {
-    let rows: [(&[u64], Result<(), Failed>, &[u8]); 4] = [
-        (&[], Ok(()), b"79800\n"),
-        (&[1], Err(Failed), b""),
-        (&[2], Err(Failed), b"7980"),
-        (&[3], Ok(()), b"79800\n"),
-    ];
-    for (fails, want, taken) in rows {
+    for (fails, want, taken) in &PUTS {
         let mut sink = MemSink::make(rt.alloc(), fails, 4)?;
-        assert_eq!(rt; put_all(&mut sink, b"79800\n"), want, "{fails:?}");
-        assert_eq!(rt; sink.taken(), taken, "{fails:?}");
+        assert!(rt; put_all(&mut sink, b"79800\n") == *want);
+        assert!(rt; sink.taken() == *taken);
     }
     let mut sink = SureSink::make();
     assert_eq!(rt; put_all(&mut sink, b"79800\n"), Ok(()));

@@ -1,9 +1,13 @@
 //! Private objects: what enters and leaves, what cells hold, and what is refused.
 
+ghost use Rattle.std.specs.Prelude.{◌<◌, ◌≤◌};
+
 use crate::shapes::{row, two_ints};
 use block_layout::run_error::{CELL_TYPE, DEPTH, NULL_ACCESS, PRIVATE_RANGE, PRIVATE_SPACE};
 use private_store::{Kind, LocalPtr, MOST_CALLS, Refused, Store, Value};
+use std::alloc::Global;
 use std::test::Fail;
+use upc_text::OutOfMemory;
 use upc_values::Scalar;
 
 // What an int at an offset of an object holds, or the code of the run error.
@@ -31,12 +35,38 @@ fn store_seven(store: &mut Store, object: u64, offset: i64) -> Result<(), u8> {
     store.store(&p, Kind::Int, Value::Scalar(Scalar::Int(7)))
 }
 
+// Enters a block with one object, of so many cells of a kind.
+fn enter_row(
+    store: &mut Store,
+    alloc: Global,
+    from: u32,
+    kind: Kind,
+    count: u32,
+) -> Result<Result<u64, Refused>, OutOfMemory>
+    requires some { 0 < count }
+    requires few { count ≤ 1048576 }
+{
+    let shapes = [row(alloc, kind, count)?];
+    Ok(store.enter(from, &shapes))
+}
+
+// Enters a block with two objects, each an int.
+fn enter_two(
+    store: &mut Store,
+    alloc: Global,
+    from: u32,
+) -> Result<Result<u64, Refused>, OutOfMemory> {
+    let first = row(alloc, Kind::Int, 1)?;
+    let second = row(alloc, Kind::Int, 1)?;
+    let shapes = [first, second];
+    Ok(store.enter(from, &shapes))
+}
+
 #[test]
 fn cells_hold_what_is_stored(rt: HostRuntime) -> Result<(), Fail> {
     let alloc = rt.alloc();
-    let file = [row(alloc, Kind::Int, 4)?];
     let mut store = Store::make(alloc, &[], &[])?;
-    assert_eq!(rt; store.enter(0, &file), Ok(0));
+    assert_eq!(rt; enter_row(&mut store, alloc, 0, Kind::Int, 4)?, Ok(0));
     assert_eq!(rt; int_at(&store, 0, 4), Ok(0));
     assert_eq!(rt; store_seven(&mut store, 0, 4), Ok(()));
     assert_eq!(rt; int_at(&store, 0, 4), Ok(7));
@@ -47,14 +77,13 @@ fn cells_hold_what_is_stored(rt: HostRuntime) -> Result<(), Fail> {
 #[test]
 fn objects_end_with_block_and_call(rt: HostRuntime) -> Result<(), Fail> {
     let alloc = rt.alloc();
-    let block = [row(alloc, Kind::Int, 1)?];
     let mut store = Store::make(alloc, &[], &[])?;
     store.push_call()?;
-    assert_eq!(rt; store.enter(0, &block), Ok(0));
+    assert_eq!(rt; enter_row(&mut store, alloc, 0, Kind::Int, 1)?, Ok(0));
     assert_eq!(rt; store.shape(0).is_some(), true);
     store.leave();
     assert_eq!(rt; int_at(&store, 0, 0), Err(PRIVATE_RANGE));
-    assert_eq!(rt; store.enter(0, &block), Ok(1));
+    assert_eq!(rt; enter_row(&mut store, alloc, 0, Kind::Int, 1)?, Ok(1));
     store.pop_call();
     assert_eq!(rt; store.shape(1).is_some(), false);
     Ok(())
@@ -64,9 +93,11 @@ fn objects_end_with_block_and_call(rt: HostRuntime) -> Result<(), Fail> {
 #[test]
 fn pointers_are_kept(rt: HostRuntime) -> Result<(), Fail> {
     let alloc = rt.alloc();
-    let file = [row(alloc, Kind::Private(1), 2)?];
     let mut store = Store::make(alloc, &[], &[])?;
-    assert_eq!(rt; store.enter(0, &file), Ok(0));
+    assert_eq!(rt;
+        enter_row(&mut store, alloc, 0, Kind::Private(1), 2)?,
+        Ok(0)
+    );
     let p = LocalPtr::Private {
         object: 0,
         offset: 8,
@@ -80,27 +111,28 @@ fn pointers_are_kept(rt: HostRuntime) -> Result<(), Fail> {
     Ok(())
 }
 
+// An object, an offset, a kind, and the code of the refusal.
+const REFUSED: [(u64, i64, Kind, u8); 8] = [
+    (1, 0, Kind::Int, PRIVATE_RANGE),
+    (0, 16, Kind::Int, PRIVATE_RANGE),
+    (0, -4, Kind::Int, PRIVATE_RANGE),
+    (0, 14, Kind::Int, PRIVATE_RANGE),
+    (0, 12, Kind::Long, PRIVATE_RANGE),
+    (0, 2, Kind::Int, CELL_TYPE),
+    (0, 0, Kind::UInt, CELL_TYPE),
+    (0, 15, Kind::Char, CELL_TYPE),
+];
+
 #[test]
 fn accesses_are_refused_in_order(rt: HostRuntime) -> Result<(), Fail> {
     let alloc = rt.alloc();
-    let file = [row(alloc, Kind::Int, 4)?];
     let mut store = Store::make(alloc, &[], &[])?;
-    assert_eq!(rt; store.enter(0, &file), Ok(0));
+    assert_eq!(rt; enter_row(&mut store, alloc, 0, Kind::Int, 4)?, Ok(0));
     let null = store.load(&LocalPtr::Null, Kind::Int);
     assert_eq!(rt; null.err(), Some(NULL_ACCESS));
-    let cases: [(u64, i64, Kind, u8); 8] = [
-        (1, 0, Kind::Int, PRIVATE_RANGE),
-        (0, 16, Kind::Int, PRIVATE_RANGE),
-        (0, -4, Kind::Int, PRIVATE_RANGE),
-        (0, 14, Kind::Int, PRIVATE_RANGE),
-        (0, 12, Kind::Long, PRIVATE_RANGE),
-        (0, 2, Kind::Int, CELL_TYPE),
-        (0, 0, Kind::UInt, CELL_TYPE),
-        (0, 15, Kind::Char, CELL_TYPE),
-    ];
-    for (object, offset, kind, code) in cases {
+    for (object, offset, kind, code) in &REFUSED {
         assert!(rt;
-            is_refused(&store, object, offset, kind, code),
+            is_refused(&store, *object, *offset, *kind, *code),
             "at {offset}"
         );
     }
@@ -138,14 +170,21 @@ fn a_thousand_calls_are_active(rt: HostRuntime) -> Result<(), Fail> {
 #[test]
 fn a_million_cells_are_entered(rt: HostRuntime) -> Result<(), Fail> {
     let alloc = rt.alloc();
-    let all = [row(alloc, Kind::Char, 1_048_576)?];
-    let one = [row(alloc, Kind::Char, 1)?];
     let mut store = Store::make(alloc, &[], &[])?;
-    assert_eq!(rt; store.enter(0, &all), Ok(0));
-    assert_eq!(rt; store.enter(0, &one), Err(Refused::Error(PRIVATE_SPACE)));
+    assert_eq!(rt;
+        enter_row(&mut store, alloc, 0, Kind::Char, 1_048_576)?,
+        Ok(0)
+    );
+    assert_eq!(rt;
+        enter_row(&mut store, alloc, 0, Kind::Char, 1)?,
+        Err(Refused::Error(PRIVATE_SPACE))
+    );
     store.leave();
-    assert_eq!(rt; store.enter(0, &one), Ok(1));
-    assert_eq!(rt; store.enter(0, &all), Err(Refused::Error(PRIVATE_SPACE)));
+    assert_eq!(rt; enter_row(&mut store, alloc, 0, Kind::Char, 1)?, Ok(1));
+    assert_eq!(rt;
+        enter_row(&mut store, alloc, 0, Kind::Char, 1_048_576)?,
+        Err(Refused::Error(PRIVATE_SPACE))
+    );
     Ok(())
 }
 
@@ -153,12 +192,10 @@ fn a_million_cells_are_entered(rt: HostRuntime) -> Result<(), Fail> {
 #[test]
 fn local_names_count_objects_in_scope(rt: HostRuntime) -> Result<(), Fail> {
     let alloc = rt.alloc();
-    let one = [row(alloc, Kind::Int, 1)?];
-    let two = [row(alloc, Kind::Int, 1)?, row(alloc, Kind::Int, 1)?];
     let mut store = Store::make(alloc, &[], &[])?;
     store.push_call()?;
-    assert_eq!(rt; store.enter(0, &one), Ok(0));
-    assert_eq!(rt; store.enter(1, &two), Ok(1));
+    assert_eq!(rt; enter_row(&mut store, alloc, 0, Kind::Int, 1)?, Ok(0));
+    assert_eq!(rt; enter_two(&mut store, alloc, 1)?, Ok(1));
     for (name, number) in [(0, 0), (1, 1), (2, 2)] {
         assert_eq!(rt; store.local(name), Some(number));
     }

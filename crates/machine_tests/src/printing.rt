@@ -197,33 +197,19 @@ fn prints(alloc: Global, format: &str, args: &[i128], want: &str) -> Result<bool
     Ok(text.as_slice() == want.as_bytes())
 }
 
-#[test]
-fn prints_ints(rt: HostRuntime) -> Result<(), AllocError> {
-    for (format, want) in INTS {
-        assert!(rt;
-            prints(rt.alloc(), format, &[42, -42, -2147483648], want)?,
-            "{format}"
-        );
-    }
-    Ok(())
-}
+// The values that formats are given, and the formats.
+const TABLES: [([i128; 3], &[(&str, &str)]); 3] = [
+    ([42, -42, -2147483648], &INTS),
+    ([65, -159, 48], &BYTES),
+    ([42, -42, -9223372036854775808], &LONGS),
+];
 
 #[test]
-fn prints_bytes(rt: HostRuntime) -> Result<(), AllocError> {
-    for (format, want) in BYTES {
-        assert!(rt;
-            prints(rt.alloc(), format, &[65, -159, 48], want)?,
-            "{format}"
-        );
-    }
-    Ok(())
-}
-
-#[test]
-fn prints_longs(rt: HostRuntime) -> Result<(), AllocError> {
-    for (format, want) in LONGS {
-        let values = [42, -42, -9223372036854775808];
-        assert!(rt; prints(rt.alloc(), format, &values, want)?, "{format}");
+fn prints_numbers_and_bytes(rt: HostRuntime) -> Result<(), AllocError> {
+    for (values, rows) in &TABLES {
+        for (format, want) in *rows {
+            assert!(rt; prints(rt.alloc(), format, values, want)?, "{format}");
+        }
     }
     Ok(())
 }

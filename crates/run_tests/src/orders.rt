@@ -1,11 +1,12 @@
 //! Orders of small runs, as Appendix B of UPC 1.3 gives them.
 
 use crate::front::program_of;
-use crate::runs::{has_history, may_be};
+use crate::runs::{has_history, run_of};
 use order_builder::orders;
 use plain_orders::is_consistent;
-use program_runs::run_program;
 use serial_core::Limits;
+use std::alloc::Global;
+use std::sync::Wait;
 use std::test::Fail;
 use upc_values::Order;
 
@@ -15,11 +16,29 @@ type Name = (u32, u32, bool);
 // Whether the order has just these operations.
 fn has_names(order: &Order, names: &[Name]) -> bool {
     let operations = order.as_slice();
-    operations.len() == names.len()
-        && operations.iter().zip(names).all(|(operation, (thread, index, write))| operation.thread
-            == *thread
-            && operation.index == *index
-            && operation.write == *write)
+    if operations.len() != names.len() {
+        return false;
+    }
+    for (operation, (thread, index, write)) in operations.iter().zip(names) {
+        let is_of = operation.thread == *thread && operation.index == *index;
+        if !is_of || operation.write != *write {
+            return false;
+        }
+    }
+    true
+}
+
+// Whether each thread's order has just these.
+fn have_names(orders: &[Order], threads: &[&[Name]]) -> bool {
+    if orders.len() != threads.len() {
+        return false;
+    }
+    for (order, names) in orders.iter().zip(threads) {
+        if !has_names(order, names) {
+            return false;
+        }
+    }
+    true
 }
 
 // A run of a source by picks, its history, its strict order, and the order of each thread.
@@ -197,25 +216,20 @@ if (MYTHREAD == 0) {x = 1; r = x;} else x = 2; return 0;}",
     },
 ];
 
+// Whether a run has the history and the orders of its row, and these are consistent.
+fn is_ordered<R: Wait>(rt: &R, alloc: Global, run: &Run) -> Result<bool, Fail> {
+    let journal = run_of(rt, alloc, run.source, run.limits, run.picks)?;
+    let found = orders(alloc, &journal)?;
+    let is_so = has_history(&journal, run.history)
+        && has_names(&found.strict, run.strict)
+        && have_names(found.threads.as_slice(), run.threads);
+    Ok(is_so && is_consistent(alloc, &journal, &[], &[], &found)?)
+}
+
 #[test]
 fn orders_of_runs(rt: HostRuntime) -> Result<(), Fail> {
-    let alloc = rt.alloc();
     for (number, run) in RUNS.iter().enumerate() {
-        let program = program_of(alloc, run.limits.threads, run.source)?.expect(&rt, "a program");
-        assert!(rt; may_be(run.limits));
-        assert!(rt; program.threads() == run.limits.threads);
-        let journal = run_program(&rt, alloc, &program, run.limits, run.picks)?;
-        let found = orders(alloc, &journal)?;
-        assert!(rt; has_history(&journal, run.history), "{number}");
-        assert!(rt; has_names(&found.strict, run.strict), "{number}");
-        assert_eq!(rt; found.threads.len(), run.threads.len(), "{number}");
-        for (order, names) in found.threads.as_slice().iter().zip(run.threads) {
-            assert!(rt; has_names(order, names), "{number}");
-        }
-        assert!(rt;
-            is_consistent(alloc, &journal, &[], &[], &found)?,
-            "{number}"
-        );
+        assert!(rt; is_ordered(&rt, rt.alloc(), run)?, "{number}");
     }
     Ok(())
 }
@@ -299,18 +313,18 @@ if (MYTHREAD == 1) r = 1 / y; y = r; return x;}",
     },
 ];
 
+// Whether the orders of a case are consistent, from what its program begins with.
+fn is_kept<R: Wait>(rt: &R, alloc: Global, case: &Case) -> Result<bool, Fail> {
+    let program = program_of(alloc, 2, case.source)?;
+    let journal = run_of(rt, alloc, case.source, TWO, case.picks)?;
+    let found = orders(alloc, &journal)?;
+    Ok(is_consistent(alloc, &journal, program.initials(), &[], &found)?)
+}
+
 #[test]
 fn orders_of_cases(rt: HostRuntime) -> Result<(), Fail> {
-    let alloc = rt.alloc();
     for (number, case) in CASES.iter().enumerate() {
-        let program = program_of(alloc, 2, case.source)?.expect(&rt, "a program");
-        assert!(rt; program.threads() == 2);
-        let journal = run_program(&rt, alloc, &program, TWO, case.picks)?;
-        let found = orders(alloc, &journal)?;
-        assert!(rt;
-            is_consistent(alloc, &journal, program.initials(), &[], &found)?,
-            "{number}"
-        );
+        assert!(rt; is_kept(&rt, rt.alloc(), case)?, "{number}");
     }
     Ok(())
 }
@@ -322,12 +336,9 @@ for (i = 0; i < 340; i++) {x[i % 4] = i; s = x[(i + 1) % 4];} return 0;}";
 // Around main each thread notifies and waits twice.
 #[test]
 fn orders_of_many_entries(rt: HostRuntime) -> Result<(), Fail> {
-    let alloc = rt.alloc();
-    let program = program_of(alloc, 2, MANY)?.expect(&rt, "a program");
-    assert!(rt; program.threads() == 2);
-    let journal = run_program(&rt, alloc, &program, TWO, &[])?;
+    let journal = run_of(&rt, rt.alloc(), MANY, TWO, &[])?;
     assert_eq!(rt; journal.history.len(), 2 * (3 * 340 + 4));
-    let found = orders(alloc, &journal)?;
+    let found = orders(rt.alloc(), &journal)?;
     assert_eq!(rt; found.strict.len(), 2 * (340 + 4));
     for order in found.threads.as_slice() {
         assert_eq!(rt; order.len(), 3 * 340 + 4 + 2 * 340 + 4);

@@ -1,19 +1,29 @@
 //! Small runs, with the histories, ends and outputs that the rules of the language give.
 
-ghost use Rattle.std.specs.Prelude.{◌≤◌, ◌*◌, IsTrue};
+ghost use Rattle.std.specs.Prelude.{◌≤◌, ◌*◌, IfOk, IsTrue};
+ghost use Rattle.upc_values.specs.Consistent.{FollowsBuffers};
 
 use crate::front::program_of;
 use program_runs::run_program;
 use serial_core::Limits;
+use std::alloc::Global;
+use std::sync::Wait;
 use std::test::Fail;
+use upc_text::Stop;
 use upc_values::{Action, End, Journal};
 
 /// Whether these are the entries, each by its thread and its number there.
 pub fn has_history(journal: &Journal, entries: &[(u32, u32)]) -> bool {
     let history = journal.history.as_slice();
-    history.len() == entries.len()
-        && history.iter().zip(entries).all(|(entry, (thread, index))| entry.thread == *thread
-            && entry.index == *index)
+    if history.len() != entries.len() {
+        return false;
+    }
+    for (entry, (thread, index)) in history.iter().zip(entries) {
+        if entry.thread != *thread || entry.index != *index {
+            return false;
+        }
+    }
+    true
 }
 
 fn name_of(end: &End) -> &'static str {
@@ -31,10 +41,16 @@ fn name_of(end: &End) -> &'static str {
 // Whether the threads end so, with so many items and ticks.
 fn has_strands(journal: &Journal, strands: &[(&str, usize, u64)]) -> bool {
     let all = journal.strands.as_slice();
-    all.len() == strands.len()
-        && all.iter().zip(strands).all(|(strand, (name, items, ticks))| {
-            name_of(&strand.end) == *name && strand.items.len() == *items && strand.ticks == *ticks
-        })
+    if all.len() != strands.len() {
+        return false;
+    }
+    for (strand, (name, items, ticks)) in all.iter().zip(strands) {
+        let is_so = strand.items.len() == *items && strand.ticks == *ticks;
+        if name_of(&strand.end) != *name || !is_so {
+            return false;
+        }
+    }
+    true
 }
 
 // Whether the print entries write these lines, in order.
@@ -284,28 +300,40 @@ pub fn may_be(limits: Limits) -> bool
         && total <= 8_388_608
 }
 
+/// The run of a source by picks. Limits that no run may have count as want of memory.
+pub fn run_of<R: Wait>(
+    rt: &R,
+    alloc: Global,
+    source: &[u8],
+    limits: Limits,
+    picks: &[u32],
+) -> Result<Journal, Stop>
+    ensures { IfOk result FollowsBuffers }
+{
+    if !may_be(limits) {
+        return Err(Stop::Memory);
+    }
+    let program = program_of(alloc, limits.threads, source)?;
+    if program.threads() != limits.threads {
+        return Err(Stop::Memory);
+    }
+    run_program(rt, alloc, &program, limits, picks)
+}
+
+// Whether a run is seen as its row says.
+fn is_seen<R: Wait>(rt: &R, alloc: Global, run: &Run) -> Result<bool, Stop> {
+    let journal = run_of(rt, alloc, run.source, run.limits, run.picks)?;
+    Ok(
+        (run.history.is_empty() || has_history(&journal, run.history))
+            && (run.strands.is_empty() || has_strands(&journal, run.strands))
+            && (run.printed.is_empty() || has_printed(&journal, run.printed)),
+    )
+}
+
 #[test]
 fn runs(rt: HostRuntime) -> Result<(), Fail> {
     for (number, run) in RUNS.iter().enumerate() {
-        let program = program_of(rt.alloc(), run.limits.threads, run.source)?.expect(
-            &rt,
-            "a program",
-        );
-        assert!(rt; may_be(run.limits));
-        assert!(rt; program.threads() == run.limits.threads);
-        let journal = run_program(&rt, rt.alloc(), &program, run.limits, run.picks)?;
-        assert!(rt;
-            run.history.is_empty() || has_history(&journal, run.history),
-            "{number}"
-        );
-        assert!(rt;
-            run.strands.is_empty() || has_strands(&journal, run.strands),
-            "{number}"
-        );
-        assert!(rt;
-            run.printed.is_empty() || has_printed(&journal, run.printed),
-            "{number}"
-        );
+        assert!(rt; is_seen(&rt, rt.alloc(), run)?, "{number}");
     }
     Ok(())
 }

@@ -1,4 +1,6 @@
 //! The top call over memory.
+use std::alloc::Global;
+use std::sync::Wait;
 use std::test::Fail;
 use upc_text::{MemFiles, MemSink, OpenGate};
 use upc_top::upc_main;
@@ -392,37 +394,77 @@ fn called((words, source, status, out, err): &Call) -> Row {
     }
 }
 
+// What a call answers: its status, what was taken, and whether there is a run and a refusal.
+#[derive(Clone, Copy)]
+struct Answer {
+    status: u8,
+    out: bool,
+    err: bool,
+    ran: bool,
+    refused: bool,
+}
+
+// What the call of a row answers, over memory.
+fn answer_to<R: Wait>(rt: &R, alloc: Global, row: &Row) -> Result<Answer, Fail> {
+    let mut words = Vec::new(alloc);
+    for word in row.words {
+        words.push(String::from_str(alloc, word)?)?;
+    }
+    let mut files = MemFiles::make(alloc, row.failing_reads, 32)?;
+    files.add("f.upc", row.source)?;
+    let mut out = MemSink::make(alloc, row.failing_puts, 2)?;
+    let mut err = MemSink::make(alloc, &[], 64)?;
+    let done = upc_main(
+        rt,
+        alloc,
+        words.as_slice(),
+        &mut files,
+        &mut out,
+        &mut err,
+        &OpenGate,
+    );
+    Ok(Answer {
+        status: done.status,
+        out: out.taken() == row.out,
+        err: err.taken() == row.err,
+        ran: done.journal.is_some(),
+        refused: done.refusal.is_some(),
+    })
+}
+
+fn is_answered<R: Wait>(rt: &R, alloc: Global, row: &Row) -> Result<bool, Fail> {
+    let found = answer_to(rt, alloc, row)?;
+    Ok(
+        found.status == row.status
+            && found.out
+            && found.err
+            && found.ran == row.ran
+            && found.refused == (row.status == 101),
+    )
+}
+
 #[test]
 fn answers(rt: HostRuntime) -> Result<(), Fail> {
-    let calls = USAGES.iter().map(usage_of).chain(CALLS.iter().map(called));
-    for row in ROWS
-        .iter()
-        .copied()
-        .chain(PROGRAMS.iter().map(row_of))
-        .chain(calls)
-    {
-        let mut words = Vec::new(rt.alloc());
-        for word in row.words {
-            words.push(String::from_str(rt.alloc(), word)?)?;
-        }
-        let mut files = MemFiles::make(rt.alloc(), row.failing_reads, 32)?;
-        files.add("f.upc", row.source)?;
-        let mut out = MemSink::make(rt.alloc(), row.failing_puts, 2)?;
-        let mut err = MemSink::make(rt.alloc(), &[], 64)?;
-        let done = upc_main(
-            &rt,
-            rt.alloc(),
-            words.as_slice(),
-            &mut files,
-            &mut out,
-            &mut err,
-            &OpenGate,
+    for row in &ROWS {
+        assert!(rt; is_answered(&rt, rt.alloc(), row)?);
+    }
+    for (number, program) in PROGRAMS.iter().enumerate() {
+        assert!(rt;
+            is_answered(&rt, rt.alloc(), &row_of(program))?,
+            "program {number}"
         );
-        assert_eq!(rt; done.status, row.status);
-        assert_eq!(rt; out.taken(), row.out);
-        assert_eq!(rt; err.taken(), row.err);
-        assert_eq!(rt; done.journal.is_some(), row.ran);
-        assert_eq!(rt; done.refusal.is_some(), row.status == 101);
+    }
+    for (number, words) in USAGES.iter().enumerate() {
+        assert!(rt;
+            is_answered(&rt, rt.alloc(), &usage_of(words))?,
+            "usage {number}"
+        );
+    }
+    for (number, call) in CALLS.iter().enumerate() {
+        assert!(rt;
+            is_answered(&rt, rt.alloc(), &called(call))?,
+            "call {number}"
+        );
     }
     Ok(())
 }

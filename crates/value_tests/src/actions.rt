@@ -28,40 +28,61 @@ const POINTER: SharedPtr = SharedPtr {
     offset: -4,
 };
 
-// One of each kind, with fields that differ.
-fn kinds(alloc: Global) -> Result<Vec<Action>, AllocError> {
-    let args: Args = Listing::from_vec(vec![in alloc; Scalar::Shared(POINTER), Scalar::Int(8)]?);
-    let actions = vec![in alloc;
-        Action::Read {
+// The action of each of 16 kinds, by number, with fields that differ.
+fn kind(alloc: Global, number: u32) -> Result<Action, AllocError> {
+    Ok(match number {
+        0 => Action::Read {
             loc: X,
-            strict: true
+            strict: true,
         },
-        Action::Write {
+        1 => Action::Write {
             loc: X,
             value: Scalar::Int(-7),
-            strict: false
+            strict: false,
         },
-        Action::Fence,
-        Action::Beat,
-        Action::Notify(Mark::Start),
-        Action::Wait(Mark::Given(5)),
-        Action::Lock(1),
-        Action::Attempt(2),
-        Action::Unlock(3),
-        Action::LockMake,
-        Action::LockFree(4),
-        Action::Alloc {
+        2 => Action::Fence,
+        3 => Action::Beat,
+        4 => Action::Notify(Mark::Start),
+        5 => Action::Wait(Mark::Given(5)),
+        6 => Action::Lock(1),
+        7 => Action::Attempt(2),
+        8 => Action::Unlock(3),
+        9 => Action::LockMake,
+        10 => Action::LockFree(4),
+        11 => Action::Alloc {
             nblocks: 2,
             nbytes: 8,
             home: Some(1),
-            shape: 3
+            shape: 3,
         },
-        Action::Free(POINTER),
-        Action::Meet { call: 5, args },
-        Action::Print(Text::from_slice(alloc, b"42\n")?),
-        Action::Exit(9),
-    ]?;
+        12 => Action::Free(POINTER),
+        13 => Action::Meet {
+            call: 5,
+            args: two_arguments(alloc)?,
+        },
+        14 => Action::Print(Text::from_slice(alloc, b"42\n")?),
+        _ => Action::Exit(9),
+    })
+}
+
+fn two_arguments(alloc: Global) -> Result<Args, AllocError> {
+    let list = Vec::from_array(alloc, [Scalar::Shared(POINTER), Scalar::Int(8)])?;
+    Ok(Listing::from_vec(list))
+}
+
+// One of each kind.
+fn kinds(alloc: Global) -> Result<Vec<Action>, AllocError> {
+    let mut actions = Vec::new(alloc);
+    for number in 0..16 {
+        actions.push(kind(alloc, number)?)?;
+    }
     Ok(actions)
+}
+
+// Whether a copy of an action is another one.
+fn copy_is(alloc: Global, action: &Action, other: &Action) -> Result<bool, AllocError> {
+    let copy = copy_action(alloc, action)?;
+    Ok(same_action(&copy, other))
 }
 
 // A copy of each kind is the same action, and no two kinds are the same.
@@ -70,9 +91,8 @@ fn copies_of_each_kind(rt: HostRuntime) -> Result<(), AllocError> {
     let actions = kinds(rt.alloc())?;
     assert_eq!(rt; actions.len(), 16);
     for (i, a) in actions.iter().enumerate() {
-        let copy = copy_action(rt.alloc(), a)?;
         for (k, b) in actions.iter().enumerate() {
-            assert_eq!(rt; same_action(&copy, b), i == k, "{i} {k}");
+            assert!(rt; copy_is(rt.alloc(), a, b)? == (i == k), "{i} {k}");
         }
     }
     assert!(rt;
@@ -86,52 +106,70 @@ fn copies_of_each_kind(rt: HostRuntime) -> Result<(), AllocError> {
     Ok(())
 }
 
-fn entry(thread: u32, index: u32, action: Action) -> Entry {
-    Entry {
-        thread,
-        index,
-        action,
-        reply: Reply::Done,
-    }
+// What a thread does by number: a Fence or a Beat.
+fn step(is_beat: bool) -> Action {
+    if is_beat { Action::Beat } else { Action::Fence }
 }
 
+// A history of steps, each by its thread, its number there, and whether it is a Beat.
+fn history_of(alloc: Global, steps: &[(u32, u32, bool)]) -> Result<Vec<Entry>, AllocError> {
+    let mut history = Vec::new(alloc);
+    for (thread, index, is_beat) in steps {
+        history.push(Entry {
+            thread: *thread,
+            index: *index,
+            action: step(*is_beat),
+            reply: Reply::Done,
+        })?;
+    }
+    Ok(history)
+}
+
+// A record of Fence, Stall and Beat.
+fn record(alloc: Global) -> Result<Vec<Item>, AllocError> {
+    let mut items = Vec::new(alloc);
+    items.push(Item::Did(Action::Fence, Reply::Done))?;
+    items.push(Item::Stall)?;
+    items.push(Item::Did(Action::Beat, Reply::Done))?;
+    Ok(items)
+}
+
+// The journal of one thread with that record, and a history.
 fn journal(alloc: Global, history: Vec<Entry>) -> Result<Journal, AllocError> {
-    let items = vec![in alloc;
-        Item::Did(Action::Fence, Reply::Done),
-        Item::Stall,
-        Item::Did(Action::Beat, Reply::Done),
-    ]?;
-    let strand = Strand {
-        items: Listing::from_vec(items),
+    let mut strands = Vec::new(alloc);
+    strands.push(Strand {
+        items: Listing::from_vec(record(alloc)?),
         ticks: 0,
         end: End::Budget,
-    };
+    })?;
     Ok(Journal {
         threads: 1,
         budget: 1,
         actions: 3,
-        strands: Listing::from_vec(vec![in alloc; strand]?),
+        strands: Listing::from_vec(strands),
         history: Listing::from_vec(history),
     })
 }
 
-// A record of Fence, Stall and Beat: the Beat is action 1.
+// Whether the journal of one thread with this history agrees.
+fn agrees_with(alloc: Global, steps: &[(u32, u32, bool)]) -> Result<bool, AllocError> {
+    let run = journal(alloc, history_of(alloc, steps)?)?;
+    Ok(agrees(&run))
+}
+
+// A history of steps, and whether it agrees with the record, in which the Beat is action 1.
+const HISTORIES: [(&[(u32, u32, bool)], bool); 5] = [
+    (&[(0, 1, true), (0, 0, false)], true),
+    (&[(0, 0, true)], false),
+    (&[(0, 2, true)], false),
+    (&[(1, 0, false)], false),
+    (&[], true),
+];
+
 #[test]
 fn agreement(rt: HostRuntime) -> Result<(), AllocError> {
-    let alloc = rt.alloc();
-    let rows = [
-        (
-            vec![in alloc; entry(0, 1, Action::Beat), entry(0, 0, Action::Fence)]?,
-            true,
-        ),
-        (vec![in alloc; entry(0, 0, Action::Beat)]?, false),
-        (vec![in alloc; entry(0, 2, Action::Beat)]?, false),
-        (vec![in alloc; entry(1, 0, Action::Fence)]?, false),
-        (Vec::new(alloc), true),
-    ];
-    for (history, wanted) in rows {
-        let run = journal(rt.alloc(), history)?;
-        assert_eq!(rt; agrees(&run), wanted);
+    for (steps, wanted) in &HISTORIES {
+        assert!(rt; agrees_with(rt.alloc(), steps)? == *wanted);
     }
     Ok(())
 }

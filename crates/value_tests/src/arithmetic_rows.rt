@@ -503,19 +503,19 @@ const UNSIGNED_LONG: [Row; 71] = [
     (BinOp::ShiftRight, 1, ULONG_MAX, BAD_COUNT),
 ];
 
+const TABLES: [(Kind, &[Row]); 4] = [
+    (Kind::Int, &INT),
+    (Kind::UInt, &UNSIGNED_INT),
+    (Kind::Long, &LONG),
+    (Kind::ULong, &UNSIGNED_LONG),
+];
+
 #[test]
 fn arithmetic(rt: HostRuntime) {
-    let tables: [(Kind, &[Row]); 4] = [
-        (Kind::Int, &INT),
-        (Kind::UInt, &UNSIGNED_INT),
-        (Kind::Long, &LONG),
-        (Kind::ULong, &UNSIGNED_LONG),
-    ];
-    for (kind, rows) in tables {
-        for (op, a, b, want) in rows {
-            assert_eq!(rt;
-                binary_at(*op, kind, *a, *b),
-                Some(*want),
+    for (kind, rows) in &TABLES {
+        for (op, a, b, want) in *rows {
+            assert!(rt;
+                binary_at(*op, *kind, *a, *b) == Some(*want),
                 "{op:?} of {a} and {b}, {kind:?}"
             );
         }

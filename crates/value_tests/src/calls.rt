@@ -8,7 +8,7 @@ use std::test::Fail;
 use upc_values::{Action, Cells, Kind, LocalPtr, Mark, ObjectRef, Reply, Scalar, Shape, SharedPtr};
 
 // A step of a test: reads and writes by object, thread and offset, writes with their number.
-#[derive(Clone, Copy, PartialEq, Eq, Debug)]
+#[derive(Clone, Copy, PartialEq, Eq)]
 enum Row {
     Meet(u8),
     Notify,
@@ -20,7 +20,7 @@ enum Row {
     Other,
 }
 
-#[derive(Clone, Copy, PartialEq, Eq, Debug)]
+#[derive(Clone, Copy, PartialEq, Eq)]
 enum Last {
     Asks(Row),
     Done,
@@ -71,35 +71,101 @@ fn last_of(end: &End) -> Last {
 // Whether these are the steps and the end.
 fn is_told(told: &Told, rows: &[Row], last: Last) -> bool {
     let steps = told.steps.as_slice();
-    steps.len() == rows.len()
-        && last_of(&told.end) == last
-        && steps
-            .iter()
-            .zip(rows.iter())
-            .all(|(step, row)| row_of(step) == *row)
+    if steps.len() != rows.len() || last_of(&told.end) != last {
+        return false;
+    }
+    for (step, row) in steps.iter().zip(rows) {
+        if row_of(step) != *row {
+            return false;
+        }
+    }
+    true
 }
 
-// So of a collective call.
-fn is_told_of(told: &Option<Told>, steps: &[Row], last: Last) -> bool {
-    match told {
-        Some(told) => is_told(told, steps, last),
-        None => false,
+// Whether a collective call tells these steps and this end.
+fn tells(
+    alloc: Global,
+    thread: &Thread<'_>,
+    call: u8,
+    args: &[Scalar],
+    replies: &[Reply],
+    rows: &[Row],
+    last: Last,
+) -> Result<bool, AllocError> {
+    match collective(alloc, thread, call, args, replies)? {
+        Some(told) => Ok(is_told(&told, rows, last)),
+        None => Ok(false),
     }
 }
 
-// Elements of type int, and of type pointer-to-shared.
-fn shapes(alloc: Global) -> Result<Vec<Shape>, AllocError> {
+// Whether it tells the first of these steps, so many, and this end.
+fn begins(
+    alloc: Global,
+    thread: &Thread<'_>,
+    call: u8,
+    args: &[Scalar],
+    replies: &[Reply],
+    (rows, count): (&[Row], usize),
+    last: Last,
+) -> Result<bool, AllocError> {
+    if count > rows.len() {
+        return Ok(false);
+    }
+    tells(alloc, thread, call, args, replies, &rows[..count], last)
+}
+
+// Whether no collective call has this number.
+fn tells_nothing(
+    alloc: Global,
+    thread: &Thread<'_>,
+    call: u8,
+    args: &[Scalar],
+    replies: &[Reply],
+) -> Result<bool, AllocError> {
+    Ok(collective(alloc, thread, call, args, replies)?.is_none())
+}
+
+// Whether a copy by a caller tells these steps and this end.
+fn copies_so(
+    alloc: Global,
+    caller: &Caller<'_>,
+    (dst, src, bytes): (&Area, &Area, u64),
+    replies: &[Reply],
+    rows: &[Row],
+    last: Last,
+) -> Result<bool, AllocError> {
+    let told = copy(alloc, caller, dst, src, bytes, replies)?;
+    Ok(is_told(&told, rows, last))
+}
+
+// Whether a fill by a caller tells these steps and this end.
+fn fills_so(
+    alloc: Global,
+    caller: &Caller<'_>,
+    (dst, byte, bytes): (&Area, u8, u64),
+    replies: &[Reply],
+    rows: &[Row],
+    last: Last,
+) -> Result<bool, AllocError> {
+    let told = set(alloc, caller, dst, byte, bytes, replies)?;
+    Ok(is_told(&told, rows, last))
+}
+
+// The shapes of elements of these sizes, each of one cell.
+fn shapes_of(alloc: Global, elements: &[(u32, Kind)]) -> Result<Vec<Shape>, AllocError> {
     let mut list = Vec::new(alloc);
-    for (size, kind) in [(4, Kind::Int), (16, Kind::Shared(0, 1))] {
-        let mut cells = Vec::new(alloc);
-        cells.push((0, kind))?;
+    for (size, kind) in elements {
+        let cells = Vec::from_array(alloc, [(0, *kind)])?;
         list.push(Shape {
-            size,
+            size: *size,
             cells: Cells::from_vec(cells),
         })?;
     }
     Ok(list)
 }
+
+// Elements of type int, and of type pointer-to-shared.
+const ELEMENTS: [(u32, Kind); 2] = [(4, Kind::Int), (16, Kind::Shared(0, 1))];
 
 fn start_of(number: u32, total: u32, block: u32) -> SharedPtr {
     SharedPtr {
@@ -131,18 +197,38 @@ fn four(dst: SharedPtr, src: SharedPtr, bytes: i128, flags: i128) -> [Scalar; 4]
 }
 
 // shared [] int s[8]; shared [2] int d[8]; on four threads
-fn s() -> SharedPtr {
-    start_of(1, 32, 0)
-}
+const S: SharedPtr = SharedPtr {
+    object: ObjectRef {
+        number: 1,
+        total: 32,
+        block: 0,
+        home: 0,
+        shape: 0,
+        base: 0,
+    },
+    thread: 0,
+    phase: 0,
+    offset: 0,
+};
 
-fn d() -> SharedPtr {
-    start_of(2, 32, 8)
-}
+const D: SharedPtr = SharedPtr {
+    object: ObjectRef {
+        number: 2,
+        total: 32,
+        block: 8,
+        home: 0,
+        shape: 0,
+        base: 0,
+    },
+    thread: 0,
+    phase: 0,
+    offset: 0,
+};
 
 #[test]
 fn scatter(rt: HostRuntime) -> Result<(), Fail> {
     let alloc = rt.alloc();
-    let shapes = shapes(alloc)?;
+    let shapes = shapes_of(alloc, &ELEMENTS)?;
     let thread = Thread {
         number: 2,
         threads: 4,
@@ -170,113 +256,186 @@ fn scatter(rt: HostRuntime) -> Result<(), Fail> {
         Row::Notify,
         Row::Wait,
     ];
-    let args = four(d(), s(), 8, 0);
-    let told = collective(alloc, &thread, 6, &args, &replies)?;
-    assert!(rt; is_told_of(&told, &rows, Last::Done));
+    let args = four(D, S, 8, 0);
+    assert!(rt; tells(alloc, &thread, 6, &args, &replies, &rows, Last::Done)?);
     for k in 0..9 {
-        let told = collective(alloc, &thread, 6, &args, &replies[..k])?;
-        assert!(rt; is_told_of(&told, &rows[..k], Last::Asks(rows[k])));
+        let last = Last::Asks(rows[k]);
+        assert!(rt; tells(alloc, &thread, 6, &args, &replies[..k], &rows[..k], last)?);
     }
     Ok(())
 }
 
+// The first element of d on another thread, an offset outside its range, and d with elements of pointers.
+const ELSEWHERE: SharedPtr = SharedPtr {
+    object: ObjectRef {
+        number: 2,
+        total: 32,
+        block: 8,
+        home: 0,
+        shape: 0,
+        base: 0,
+    },
+    thread: 1,
+    phase: 0,
+    offset: 0,
+};
+
+const FAR: SharedPtr = SharedPtr {
+    object: ObjectRef {
+        number: 2,
+        total: 32,
+        block: 8,
+        home: 0,
+        shape: 0,
+        base: 0,
+    },
+    thread: 0,
+    phase: 0,
+    offset: 1_099_511_627_776,
+};
+
+const POINTERS: SharedPtr = SharedPtr {
+    object: ObjectRef {
+        number: 2,
+        total: 32,
+        block: 8,
+        home: 0,
+        shape: 1,
+        base: 0,
+    },
+    thread: 0,
+    phase: 0,
+    offset: 0,
+};
+
 // Arguments are refused before the call; then 3 bytes cut an int, 12 bytes leave the pieces of d, an offset leaves its
-// range, and a pointer is no int.
+// range, and a pointer is no int. Each row has what is copied where, the flags, whether the call is met, and its code.
+const REFUSED: [(SharedPtr, SharedPtr, i128, i128, bool, u8); 11] = [
+    (ELSEWHERE, S, 8, 0, false, 22),
+    (SharedPtr::NULL, S, 8, 3, false, 4),
+    (D, SharedPtr::NULL, 8, 0, false, 4),
+    (D, S, 8, 3, false, 22),
+    (D, S, 8, 64, false, 22),
+    (D, S, 8, -1, false, 22),
+    (D, S, 16_777_217, 0, false, 22),
+    (D, S, 3, 9, true, 18),
+    (D, S, 12, 9, true, 5),
+    (FAR, S, 8, 9, true, 8),
+    (POINTERS, S, 8, 9, true, 18),
+];
+
 #[test]
 fn refusals(rt: HostRuntime) -> Result<(), Fail> {
     let alloc = rt.alloc();
-    let shapes = shapes(alloc)?;
+    let shapes = shapes_of(alloc, &ELEMENTS)?;
     let thread = Thread {
         number: 2,
         threads: 4,
         shapes: shapes.as_slice(),
     };
-    let elsewhere = SharedPtr { thread: 1, ..d() };
-    let far = SharedPtr {
-        offset: 1_099_511_627_776,
-        ..d()
-    };
-    let pointers = SharedPtr {
-        object: ObjectRef {
-            shape: 1,
-            ..d().object
-        },
-        ..d()
-    };
-    let null = SharedPtr::NULL;
     let met = [Row::Meet(6)];
     let replies = [Reply::Done];
-    for (dst, src, bytes, flags, is_met, code) in [
-        (elsewhere, s(), 8, 0, false, 22),
-        (null, s(), 8, 3, false, 4),
-        (d(), null, 8, 0, false, 4),
-        (d(), s(), 8, 3, false, 22),
-        (d(), s(), 8, 64, false, 22),
-        (d(), s(), 8, -1, false, 22),
-        (d(), s(), 16_777_217, 0, false, 22),
-        (d(), s(), 3, 9, true, 18),
-        (d(), s(), 12, 9, true, 5),
-        (far, s(), 8, 9, true, 8),
-        (pointers, s(), 8, 9, true, 18),
-    ] {
-        let args = four(dst, src, bytes, flags);
-        let (given, steps): (&[Reply], &[Row]) = if is_met { (&replies, &met) } else { (&[], &[]) };
-        let told = collective(alloc, &thread, 6, &args, given)?;
-        assert!(rt; is_told_of(&told, steps, Last::Fails(code)));
+    for (dst, src, bytes, flags, is_met, code) in &REFUSED {
+        let args = four(*dst, *src, *bytes, *flags);
+        let (given, steps): (&[Reply], &[Row]) = if *is_met {
+            (&replies, &met)
+        } else {
+            (&[], &[])
+        };
+        let last = Last::Fails(*code);
+        assert!(rt; tells(alloc, &thread, 6, &args, given, steps, last)?);
     }
-    let args = four(d(), s(), 0, 9);
-    let told = collective(alloc, &thread, 6, &args, &replies)?;
-    assert!(rt; is_told_of(&told, &met, Last::Done));
-    let told = collective(alloc, &thread, 6, &args, &[Reply::Refused(17)])?;
-    assert!(rt; is_told_of(&told, &met, Last::Fails(17)));
+    let args = four(D, S, 0, 9);
+    assert!(rt; tells(alloc, &thread, 6, &args, &replies, &met, Last::Done)?);
+    assert!(rt;
+        tells(
+            alloc,
+            &thread,
+            6,
+            &args,
+            &[Reply::Refused(17)],
+            &met,
+            Last::Fails(17)
+        )?
+    );
     for call in [0, 4, 13, 255] {
-        let told = collective(alloc, &thread, call, &args, &replies)?;
-        assert!(rt; told.is_none());
+        assert!(rt; tells_nothing(alloc, &thread, call, &args, &replies)?);
     }
     Ok(())
 }
 
-// shared [1] int b[2], c[2]; on two threads, each call without barriers, by both threads: where a thread reads, and
-// writes
+// shared [1] int b[2], c[2]; on two threads, each call without barriers, by both threads: the call, the thread, the
+// blocks of what is written and of what is read, and where the thread reads and writes.
+const ONE_INT: [(u8, u32, u32, u32, &[Row]); 6] = [
+    (
+        5,
+        1,
+        8,
+        0,
+        &[Row::Meet(5), Row::Read(1, 0, 0), Row::Write(2, 1, 0, 7)],
+    ),
+    (
+        6,
+        1,
+        8,
+        0,
+        &[Row::Meet(6), Row::Read(1, 0, 4), Row::Write(2, 1, 0, 7)],
+    ),
+    (
+        7,
+        0,
+        0,
+        8,
+        &[
+            Row::Meet(7),
+            Row::Read(1, 0, 0),
+            Row::Write(2, 0, 0, 7),
+            Row::Read(1, 1, 0),
+            Row::Write(2, 0, 4, 8),
+        ],
+    ),
+    (7, 1, 0, 8, &[Row::Meet(7)]),
+    (
+        8,
+        1,
+        8,
+        8,
+        &[
+            Row::Meet(8),
+            Row::Read(1, 0, 0),
+            Row::Write(2, 1, 0, 7),
+            Row::Read(1, 1, 0),
+            Row::Write(2, 1, 4, 8),
+        ],
+    ),
+    (
+        9,
+        1,
+        8,
+        8,
+        &[
+            Row::Meet(9),
+            Row::Read(1, 0, 4),
+            Row::Write(2, 1, 0, 7),
+            Row::Read(1, 1, 4),
+            Row::Write(2, 1, 4, 8),
+        ],
+    ),
+];
+
 #[test]
 fn one_int_of_each_thread(rt: HostRuntime) -> Result<(), Fail> {
     let alloc = rt.alloc();
-    let shapes = shapes(alloc)?;
-    let all = start_of(1, 16, 0);
-    let b = start_of(1, 16, 8);
-    let c = start_of(2, 16, 8);
-    let here = start_of(2, 16, 0);
+    let shapes = shapes_of(alloc, &ELEMENTS)?;
     let replies = [Reply::Done, value(7), Reply::Done, value(8), Reply::Done];
-    for (call, number, dst, src, first, second) in [
-        (5, 1, c, all, Some(((0, 0), (1, 0))), None),
-        (6, 1, c, all, Some(((0, 4), (1, 0))), None),
-        (
-            7,
-            0,
-            here,
-            b,
-            Some(((0, 0), (0, 0))),
-            Some(((1, 0), (0, 4))),
-        ),
-        (7, 1, here, b, None, None),
-        (8, 1, c, b, Some(((0, 0), (1, 0))), Some(((1, 0), (1, 4)))),
-        (9, 1, c, b, Some(((0, 4), (1, 0))), Some(((1, 4), (1, 4)))),
-    ] {
+    for (call, number, into, from, rows) in &ONE_INT {
         let thread = Thread {
-            number,
+            number: *number,
             threads: 2,
             shapes: shapes.as_slice(),
         };
-        let mut rows = Vec::new(alloc);
-        rows.push(Row::Meet(call))?;
-        for (copied, v) in [(first, 7), (second, 8)] {
-            if let Some(((t, x), (u, y))) = copied {
-                rows.push(Row::Read(1, t, x))?;
-                rows.push(Row::Write(2, u, y, v))?;
-            }
-        }
-        let told = collective(alloc, &thread, call, &four(dst, src, 4, 9), &replies)?;
-        assert!(rt; is_told_of(&told, rows.as_slice(), Last::Done));
+        let args = four(start_of(2, 16, *into), start_of(1, 16, *from), 4, 9);
+        assert!(rt; tells(alloc, &thread, *call, &args, &replies, rows, Last::Done)?);
     }
     Ok(())
 }
@@ -294,7 +453,7 @@ fn five(bytes: i128) -> [Scalar; 5] {
 #[test]
 fn permute(rt: HostRuntime) -> Result<(), Fail> {
     let alloc = rt.alloc();
-    let shapes = shapes(alloc)?;
+    let shapes = shapes_of(alloc, &ELEMENTS)?;
     let thread = Thread {
         number: 0,
         threads: 2,
@@ -308,24 +467,41 @@ fn permute(rt: HostRuntime) -> Result<(), Fail> {
         Row::Write(2, 0, 0, 7),
     ];
     let swapped = [Reply::Done, value(1), value(0), value(7), Reply::Done];
-    let told = collective(alloc, &thread, 10, &five(4), &swapped)?;
-    assert!(rt; is_told_of(&told, &rows, Last::Done));
-    let told = collective(alloc, &thread, 10, &five(0), &swapped)?;
-    assert!(rt; is_told_of(&told, &rows[..3], Last::Done));
+    assert!(rt; tells(alloc, &thread, 10, &five(4), &swapped, &rows, Last::Done)?);
+    assert!(rt;
+        tells(
+            alloc,
+            &thread,
+            10,
+            &five(0),
+            &swapped,
+            &rows[..3],
+            Last::Done
+        )?
+    );
     let twice = [Reply::Done, value(1), value(1)];
-    let told = collective(alloc, &thread, 10, &five(4), &twice)?;
-    assert!(rt; is_told_of(&told, &rows[..3], Last::Fails(22)));
-    for (bytes, code) in [(12, 5), (3, 18)] {
-        let told = collective(alloc, &thread, 10, &five(bytes), &twice)?;
-        assert!(rt; is_told_of(&told, &rows[..1], Last::Fails(code)));
-    }
+    assert!(rt;
+        tells(
+            alloc,
+            &thread,
+            10,
+            &five(4),
+            &twice,
+            &rows[..3],
+            Last::Fails(22)
+        )?
+    );
+    let (wide, cut) = (five(12), five(3));
+    let (range, kind) = (Last::Fails(5), Last::Fails(18));
+    assert!(rt; tells(alloc, &thread, 10, &wide, &twice, &rows[..1], range)?);
+    assert!(rt; tells(alloc, &thread, 10, &cut, &twice, &rows[..1], kind)?);
     Ok(())
 }
 
 fn seven(dst: SharedPtr, op: i128, count: i128, block: i128, kind: i128) -> [Scalar; 7] {
     [
         Scalar::Shared(dst),
-        Scalar::Shared(d()),
+        Scalar::Shared(D),
         Scalar::Int(op),
         Scalar::Int(count),
         Scalar::Int(block),
@@ -334,11 +510,22 @@ fn seven(dst: SharedPtr, op: i128, count: i128, block: i128, kind: i128) -> [Sca
     ]
 }
 
+// A thread, and how many steps it takes.
+const REDUCERS: [(u32, usize); 2] = [(0, 6), (1, 1)];
+
+// An operator, how many elements, the number of their type, how many steps are taken, and the code.
+const UNREDUCED: [(i128, i128, i128, usize, u8); 4] = [
+    (3, 4, 4, 0, 22),
+    (1, 0, 4, 0, 22),
+    (1, 4, 5, 1, 18),
+    (1, 40, 4, 1, 5),
+];
+
 // The sum of d into r, by the thread of r alone.
 #[test]
 fn reduce(rt: HostRuntime) -> Result<(), Fail> {
     let alloc = rt.alloc();
-    let shapes = shapes(alloc)?;
+    let shapes = shapes_of(alloc, &ELEMENTS)?;
     let r = start_of(3, 4, 4);
     let rows = [
         Row::Meet(11),
@@ -356,14 +543,15 @@ fn reduce(rt: HostRuntime) -> Result<(), Fail> {
         value(4),
         Reply::Done,
     ];
-    for (number, steps) in [(0, 6), (1, 1)] {
+    let args = seven(r, 1, 4, 2, 4);
+    for (number, steps) in &REDUCERS {
         let thread = Thread {
-            number,
+            number: *number,
             threads: 4,
             shapes: shapes.as_slice(),
         };
-        let told = collective(alloc, &thread, 11, &seven(r, 1, 4, 2, 4), &replies)?;
-        assert!(rt; is_told_of(&told, &rows[..steps], Last::Done));
+        let part = (rows.as_slice(), *steps);
+        assert!(rt; begins(alloc, &thread, 11, &args, &replies, part, Last::Done)?);
     }
     let thread = Thread {
         number: 0,
@@ -371,152 +559,165 @@ fn reduce(rt: HostRuntime) -> Result<(), Fail> {
         shapes: shapes.as_slice(),
     };
     let large = [Reply::Done, value(2_147_483_647), value(1)];
-    let told = collective(alloc, &thread, 11, &seven(r, 1, 4, 2, 4), &large)?;
-    assert!(rt; is_told_of(&told, &rows[..3], Last::Fails(1)));
-    for (op, count, kind, met, code) in [
-        (3, 4, 4, 0, 22),
-        (1, 0, 4, 0, 22),
-        (1, 4, 5, 1, 18),
-        (1, 40, 4, 1, 5),
-    ] {
-        let told = collective(alloc, &thread, 11, &seven(r, op, count, 2, kind), &replies)?;
-        assert!(rt; is_told_of(&told, &rows[..met], Last::Fails(code)));
+    assert!(rt;
+        tells(
+            alloc,
+            &thread,
+            11,
+            &seven(r, 1, 4, 2, 4),
+            &large,
+            &rows[..3],
+            Last::Fails(1)
+        )?
+    );
+    for (op, count, kind, met, code) in &UNREDUCED {
+        let args = seven(r, *op, *count, 2, *kind);
+        let part = (rows.as_slice(), *met);
+        assert!(rt;
+            begins(
+                alloc,
+                &thread,
+                11,
+                &args,
+                &replies,
+                part,
+                Last::Fails(*code)
+            )?
+        );
     }
     Ok(())
 }
 
-// What an operator makes of two numbers of a type: each is read as it is told.
+// The size of a type's elements and its kind, its number, an operator, two numbers, and what the operator makes of
+// them.
+const OPERATIONS: [(u32, Kind, i128, i128, i128, i128, Last); 13] = [
+    (
+        4,
+        Kind::Int,
+        4,
+        2,
+        6,
+        7,
+        Last::Asks(Row::Write(3, 0, 0, 42)),
+    ),
+    (
+        4,
+        Kind::Int,
+        4,
+        4,
+        12,
+        10,
+        Last::Asks(Row::Write(3, 0, 0, 8)),
+    ),
+    (
+        4,
+        Kind::Int,
+        4,
+        8,
+        12,
+        10,
+        Last::Asks(Row::Write(3, 0, 0, 14)),
+    ),
+    (
+        4,
+        Kind::Int,
+        4,
+        16,
+        12,
+        -1,
+        Last::Asks(Row::Write(3, 0, 0, -13)),
+    ),
+    (
+        4,
+        Kind::Int,
+        4,
+        32,
+        2,
+        0,
+        Last::Asks(Row::Write(3, 0, 0, 0)),
+    ),
+    (
+        4,
+        Kind::Int,
+        4,
+        64,
+        0,
+        5,
+        Last::Asks(Row::Write(3, 0, 0, 1)),
+    ),
+    (
+        4,
+        Kind::Int,
+        4,
+        128,
+        -3,
+        5,
+        Last::Asks(Row::Write(3, 0, 0, -3)),
+    ),
+    (
+        4,
+        Kind::Int,
+        4,
+        256,
+        -3,
+        5,
+        Last::Asks(Row::Write(3, 0, 0, 5)),
+    ),
+    (4, Kind::Int, 4, 2, 65_536, 65_536, Last::Fails(1)),
+    (
+        1,
+        Kind::UChar,
+        1,
+        1,
+        200,
+        100,
+        Last::Asks(Row::Write(3, 0, 0, 44)),
+    ),
+    (
+        1,
+        Kind::Char,
+        0,
+        1,
+        100,
+        100,
+        Last::Asks(Row::Write(3, 0, 0, -56)),
+    ),
+    (
+        4,
+        Kind::UInt,
+        5,
+        2,
+        65_536,
+        65_537,
+        Last::Asks(Row::Write(3, 0, 0, 65_536)),
+    ),
+    (
+        8,
+        Kind::ULong,
+        7,
+        2,
+        18_446_744_073_709_551_615,
+        18_446_744_073_709_551_615,
+        Last::Asks(Row::Write(3, 0, 0, 1)),
+    ),
+];
+
+// Each operand is read as it is told.
 #[test]
 fn operators(rt: HostRuntime) -> Result<(), Fail> {
     let alloc = rt.alloc();
     let r = start_of(3, 8, 8);
-    for (size, element, kind, op, a, b, want) in [
-        (
-            4,
-            Kind::Int,
-            4,
-            2,
-            6,
-            7,
-            Last::Asks(Row::Write(3, 0, 0, 42)),
-        ),
-        (
-            4,
-            Kind::Int,
-            4,
-            4,
-            12,
-            10,
-            Last::Asks(Row::Write(3, 0, 0, 8)),
-        ),
-        (
-            4,
-            Kind::Int,
-            4,
-            8,
-            12,
-            10,
-            Last::Asks(Row::Write(3, 0, 0, 14)),
-        ),
-        (
-            4,
-            Kind::Int,
-            4,
-            16,
-            12,
-            -1,
-            Last::Asks(Row::Write(3, 0, 0, -13)),
-        ),
-        (
-            4,
-            Kind::Int,
-            4,
-            32,
-            2,
-            0,
-            Last::Asks(Row::Write(3, 0, 0, 0)),
-        ),
-        (
-            4,
-            Kind::Int,
-            4,
-            64,
-            0,
-            5,
-            Last::Asks(Row::Write(3, 0, 0, 1)),
-        ),
-        (
-            4,
-            Kind::Int,
-            4,
-            128,
-            -3,
-            5,
-            Last::Asks(Row::Write(3, 0, 0, -3)),
-        ),
-        (
-            4,
-            Kind::Int,
-            4,
-            256,
-            -3,
-            5,
-            Last::Asks(Row::Write(3, 0, 0, 5)),
-        ),
-        (4, Kind::Int, 4, 2, 65_536, 65_536, Last::Fails(1)),
-        (
-            1,
-            Kind::UChar,
-            1,
-            1,
-            200,
-            100,
-            Last::Asks(Row::Write(3, 0, 0, 44)),
-        ),
-        (
-            1,
-            Kind::Char,
-            0,
-            1,
-            100,
-            100,
-            Last::Asks(Row::Write(3, 0, 0, -56)),
-        ),
-        (
-            4,
-            Kind::UInt,
-            5,
-            2,
-            65_536,
-            65_537,
-            Last::Asks(Row::Write(3, 0, 0, 65_536)),
-        ),
-        (
-            8,
-            Kind::ULong,
-            7,
-            2,
-            18_446_744_073_709_551_615,
-            18_446_744_073_709_551_615,
-            Last::Asks(Row::Write(3, 0, 0, 1)),
-        ),
-    ] {
-        let mut cells = Vec::new(alloc);
-        cells.push((0, element))?;
-        let shape = Shape {
-            size,
-            cells: Cells::from_vec(cells),
-        };
-        let shapes = [shape];
+    let rows = [Row::Meet(11), Row::Read(2, 0, 0), Row::Read(2, 1, 0)];
+    for (size, element, kind, op, a, b, want) in &OPERATIONS {
+        let shapes = shapes_of(alloc, &[(*size, *element)])?;
         let thread = Thread {
             number: 0,
             threads: 2,
-            shapes: &shapes,
+            shapes: shapes.as_slice(),
         };
-        let replies = [Reply::Done, value(a), value(b)];
-        let rows = [Row::Meet(11), Row::Read(2, 0, 0), Row::Read(2, 1, 0)];
-        let told = collective(alloc, &thread, 11, &seven(r, op, 2, 1, kind), &replies)?;
-        assert!(rt; is_told_of(&told, &rows, want));
+        let replies = [Reply::Done, value(*a), value(*b)];
+        let args = seven(r, *op, 2, 1, *kind);
+        assert!(rt; tells(alloc, &thread, 11, &args, &replies, &rows, *want)?);
     }
     Ok(())
 }
@@ -524,7 +725,7 @@ fn operators(rt: HostRuntime) -> Result<(), Fail> {
 #[test]
 fn prefixes(rt: HostRuntime) -> Result<(), Fail> {
     let alloc = rt.alloc();
-    let shapes = shapes(alloc)?;
+    let shapes = shapes_of(alloc, &ELEMENTS)?;
     let thread = Thread {
         number: 0,
         threads: 2,
@@ -549,19 +750,87 @@ fn prefixes(rt: HostRuntime) -> Result<(), Fail> {
         Row::Read(2, 1, 0),
         Row::Write(3, 1, 0, 24),
     ];
-    let told = collective(alloc, &thread, 12, &seven(c, 2, 3, 2, 4), &replies)?;
-    assert!(rt; is_told_of(&told, &rows, Last::Done));
+    assert!(rt;
+        tells(
+            alloc,
+            &thread,
+            12,
+            &seven(c, 2, 3, 2, 4),
+            &replies,
+            &rows,
+            Last::Done
+        )?
+    );
     let askew = SharedPtr { phase: 1, ..c };
-    let told = collective(alloc, &thread, 12, &seven(askew, 2, 3, 2, 4), &replies)?;
-    assert!(rt; is_told_of(&told, &[], Last::Fails(22)));
+    assert!(rt;
+        tells(
+            alloc,
+            &thread,
+            12,
+            &seven(askew, 2, 3, 2, 4),
+            &replies,
+            &[],
+            Last::Fails(22)
+        )?
+    );
     Ok(())
+}
+
+// Whether a copy of 4 bytes takes these steps, one of none no step, and one that is not answered asks for the first.
+fn copies_an_int(
+    alloc: Global,
+    caller: &Caller<'_>,
+    dst: &Area,
+    src: &Area,
+    (first, second): (Row, Row),
+) -> Result<bool, AllocError> {
+    let replies = [value(7), Reply::Done];
+    let whole = copies_so(
+        alloc,
+        caller,
+        (dst, src, 4),
+        &replies,
+        &[first, second],
+        Last::Done,
+    )?;
+    let none = copies_so(alloc, caller, (dst, src, 0), &replies, &[], Last::Done)?;
+    let begun = copies_so(alloc, caller, (dst, src, 4), &[], &[], Last::Asks(first))?;
+    Ok(whole && none && begun)
+}
+
+// Whether a copy ends with a run error before its first step.
+fn copies_not(
+    alloc: Global,
+    caller: &Caller<'_>,
+    (dst, src, bytes): (&Area, &Area, u64),
+    code: u8,
+) -> Result<bool, AllocError> {
+    let replies = [value(7), Reply::Done];
+    copies_so(
+        alloc,
+        caller,
+        (dst, src, bytes),
+        &replies,
+        &[],
+        Last::Fails(code),
+    )
+}
+
+// Whether a fill ends so.
+fn fills_not(
+    alloc: Global,
+    caller: &Caller<'_>,
+    (dst, bytes): (&Area, u64),
+    code: u8,
+) -> Result<bool, AllocError> {
+    fills_so(alloc, caller, (dst, 0, bytes), &[], &[], Last::Fails(code))
 }
 
 // A private object of two ints, number 9.
 #[test]
 fn copies(rt: HostRuntime) -> Result<(), Fail> {
     let alloc = rt.alloc();
-    let shapes = shapes(alloc)?;
+    let shapes = shapes_of(alloc, &ELEMENTS)?;
     let all = shapes.as_slice();
     let caller = Caller {
         threads: 4,
@@ -576,72 +845,70 @@ fn copies(rt: HostRuntime) -> Result<(), Fail> {
     let third = SharedPtr {
         thread: 1,
         offset: 4,
-        ..d()
+        ..D
     };
     let own = local_area(&LocalPtr::Private {
         object: 9,
         offset: 0,
     });
-    let from = shared_area(&s());
+    let from = shared_area(&S);
     let into = shared_area(&third);
-    let replies = [value(7), Reply::Done];
-    for (dst, src, first, second) in [
-        (into, from, Row::Read(1, 0, 0), Row::Write(2, 1, 4, 7)),
-        (own, from, Row::Read(1, 0, 0), Row::Store(9, 0, 7)),
-        (into, own, Row::Load(9, 0), Row::Write(2, 1, 4, 7)),
-    ] {
-        let told = copy(alloc, &caller, &dst, &src, 4, &replies)?;
-        assert!(rt; is_told(&told, &[first, second], Last::Done));
-        let told = copy(alloc, &caller, &dst, &src, 0, &replies)?;
-        assert!(rt; is_told(&told, &[], Last::Done));
-        let told = copy(alloc, &caller, &dst, &src, 4, &[])?;
-        assert!(rt; is_told(&told, &[], Last::Asks(first)));
-    }
-    for (dst, src, bytes, code) in [
-        (into, Area::Nowhere, 4, 4),
-        (into, from, 8, 5),
-        (own, from, 8, 6),
-        (into, from, 2, 18),
-    ] {
-        let told = copy(alloc, &caller, &dst, &src, bytes, &replies)?;
-        assert!(rt; is_told(&told, &[], Last::Fails(code)));
-    }
-    let told = copy(alloc, &ended, &into, &own, 4, &replies)?;
-    assert!(rt; is_told(&told, &[], Last::Fails(6)));
+    let read = (Row::Read(1, 0, 0), Row::Write(2, 1, 4, 7));
+    let stored = (Row::Read(1, 0, 0), Row::Store(9, 0, 7));
+    let loaded = (Row::Load(9, 0), Row::Write(2, 1, 4, 7));
+    assert!(rt; copies_an_int(alloc, &caller, &into, &from, read)?);
+    assert!(rt; copies_an_int(alloc, &caller, &own, &from, stored)?);
+    assert!(rt; copies_an_int(alloc, &caller, &into, &own, loaded)?);
+    assert!(rt; copies_not(alloc, &caller, (&into, &Area::Nowhere, 4), 4)?);
+    assert!(rt; copies_not(alloc, &caller, (&into, &from, 8), 5)?);
+    assert!(rt; copies_not(alloc, &caller, (&own, &from, 8), 6)?);
+    assert!(rt; copies_not(alloc, &caller, (&into, &from, 2), 18)?);
+    assert!(rt; copies_not(alloc, &ended, (&into, &own, 4), 6)?);
     Ok(())
 }
 
 #[test]
 fn fills(rt: HostRuntime) -> Result<(), Fail> {
     let alloc = rt.alloc();
-    let shapes = shapes(alloc)?;
+    let shapes = shapes_of(alloc, &ELEMENTS)?;
     let caller = Caller {
         threads: 4,
         shapes: shapes.as_slice(),
         private: None,
     };
-    let into = shared_area(&d());
+    let into = shared_area(&D);
     let rows = [Row::Write(2, 0, 0, -1), Row::Write(2, 0, 4, -1)];
-    let told = set(alloc, &caller, &into, 255, 8, &[Reply::Done, Reply::Done])?;
-    assert!(rt; is_told(&told, &rows, Last::Done));
-    let told = set(alloc, &caller, &into, 255, 8, &[Reply::Done])?;
-    assert!(rt; is_told(&told, &rows[..1], Last::Asks(rows[1])));
+    assert!(rt;
+        fills_so(
+            alloc,
+            &caller,
+            (&into, 255, 8),
+            &[Reply::Done, Reply::Done],
+            &rows,
+            Last::Done
+        )?
+    );
+    assert!(rt;
+        fills_so(
+            alloc,
+            &caller,
+            (&into, 255, 8),
+            &[Reply::Done],
+            &rows[..1],
+            Last::Asks(rows[1])
+        )?
+    );
     let pointers = shared_area(&SharedPtr {
         object: ObjectRef {
             shape: 1,
             block: 16,
-            ..d().object
+            ..D.object
         },
-        ..d()
+        ..D
     });
-    for (dst, bytes, code) in [
-        (Area::Nowhere, 4, 4),
-        (into, 12, 5),
-        (into, 2, 18),
-        (pointers, 16, 18),
-    ] {
-        let told = set(alloc, &caller, &dst, 0, bytes, &[])?;
-        assert!(rt; is_told(&told, &[], Last::Fails(code)));
-    }
+    assert!(rt; fills_not(alloc, &caller, (&Area::Nowhere, 4), 4)?);
+    assert!(rt; fills_not(alloc, &caller, (&into, 12), 5)?);
+    assert!(rt; fills_not(alloc, &caller, (&into, 2), 18)?);
+    assert!(rt; fills_not(alloc, &caller, (&pointers, 16), 18)?);
     Ok(())
 }

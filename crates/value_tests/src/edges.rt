@@ -53,21 +53,21 @@ const CONVERSIONS: [(i128, Kind, i128); 5] = [
 
 #[test]
 fn edges(rt: HostRuntime) {
-    for (op, kind, a, b, want) in BINARY {
+    for (op, kind, a, b, want) in &BINARY {
         assert_eq!(rt;
-            binary_at(op, kind, a, b),
-            Some(want),
+            binary_at(*op, *kind, *a, *b),
+            Some(*want),
             "{op:?} of {a} and {b}, {kind:?}"
         );
     }
-    for (op, kind, a, want) in UNARY {
+    for (op, kind, a, want) in &UNARY {
         assert_eq!(rt;
-            unary_at(op, kind, a),
-            Some(want),
+            unary_at(*op, *kind, *a),
+            Some(*want),
             "{op:?} of {a}, {kind:?}"
         );
     }
-    for (v, kind, want) in CONVERSIONS {
-        assert_eq!(rt; converted(v, kind), Some(want), "{v} to {kind:?}");
+    for (v, kind, want) in &CONVERSIONS {
+        assert_eq!(rt; converted(*v, *kind), Some(*want), "{v} to {kind:?}");
     }
 }

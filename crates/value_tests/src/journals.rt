@@ -1,6 +1,6 @@
 //! Small journals, by plain search: what the definitions call legal and consistent.
 
-use crate::plain::{Name, global_order, is_consistent, is_legal, thread_order};
+use crate::plain::{Name, Operation, global_order, is_consistent, is_legal, thread_order};
 use block_layout::Loc;
 use std::alloc::{AllocError, Global};
 use std::test::Fail;
@@ -93,18 +93,26 @@ fn names(alloc: Global, list: &[(usize, usize)]) -> Result<Vec<Name>, AllocError
     Ok(names)
 }
 
-/// The names of thread 0's order.
-fn order_of_first(
-    alloc: Global,
-    records: &[Vec<Item>],
-    history: &[Name],
-) -> Result<Vec<Name>, AllocError> {
-    let order = global_order(alloc, records, history)?;
+/// The names of operations.
+fn names_of(alloc: Global, order: &[Operation]) -> Result<Vec<Name>, AllocError> {
     let mut names = Vec::new(alloc);
-    for o in thread_order(alloc, order.as_slice(), 0)?.iter() {
+    for o in order {
         names.push(o.name)?;
     }
     Ok(names)
+}
+
+/// The names of thread 0's order.
+fn first_order(
+    alloc: Global,
+    small: Small,
+    list: &[(usize, usize)],
+) -> Result<Vec<Name>, AllocError> {
+    let history = names(alloc, list)?;
+    let records = records_of(alloc, small)?;
+    let order = global_order(alloc, records.as_slice(), history.as_slice())?;
+    let shown = thread_order(alloc, order.as_slice(), 0)?;
+    names_of(alloc, shown.as_slice())
 }
 
 /// Twelve entries, six of each thread: bit k of the mask is the thread of entry k.
@@ -183,86 +191,78 @@ const FORWARDED: [(usize, usize); 10] = [
     (1, 4),
 ];
 
+// The records of a small run.
+#[derive(Clone, Copy)]
+enum Small {
+    // The reads of `buffering`, where all is relaxed and where all is strict.
+    Relaxed([i128; 2]),
+    Strict([i128; 2]),
+    // The read of `forwarding`.
+    Forwarding(i128),
+}
+
+fn records_of(alloc: Global, small: Small) -> Result<Vec<Vec<Item>>, AllocError> {
+    match small {
+        Small::Relaxed(reads) => buffering(alloc, false, reads),
+        Small::Strict(reads) => buffering(alloc, true, reads),
+        Small::Forwarding(value) => forwarding(alloc, value),
+    }
+}
+
+// Whether a history of these records is legal, and whether it makes them consistent.
+fn judged(
+    alloc: Global,
+    small: Small,
+    list: &[(usize, usize)],
+) -> Result<(bool, bool), AllocError> {
+    let history = names(alloc, list)?;
+    let records = records_of(alloc, small)?;
+    let legal = is_legal(alloc, records.as_slice(), history.as_slice())?;
+    let consistent = is_consistent(alloc, records.as_slice(), history.as_slice())?;
+    Ok((legal, consistent))
+}
+
+// Records, a history, and whether it is legal and consistent.
+const JUDGED: [(Small, &[(usize, usize)], bool, bool); 8] = [
+    (Small::Relaxed([0, 0]), &BUFFERED, true, true),
+    (Small::Relaxed([1, 0]), &BUFFERED, false, false),
+    (Small::Relaxed([0, 0]), &AT_ONCE, false, false),
+    (Small::Relaxed([0, 1]), &AT_ONCE, true, true),
+    (Small::Strict([0, 1]), &AT_ONCE, true, true),
+    (Small::Strict([0, 0]), &BUFFERED, true, false),
+    (Small::Forwarding(1), &FORWARDED, true, true),
+    (Small::Forwarding(2), &FORWARDED, true, false),
+];
+
 #[test]
 fn small_journals(rt: HostRuntime) -> Result<(), Fail> {
-    let alloc = rt.alloc();
-    // records, history, legal, consistent
-    let rows = [
-        (
-            buffering(alloc, false, [0, 0])?,
-            BUFFERED.as_slice(),
-            true,
-            true,
-        ),
-        (
-            buffering(alloc, false, [1, 0])?,
-            BUFFERED.as_slice(),
-            false,
-            false,
-        ),
-        (
-            buffering(alloc, false, [0, 0])?,
-            AT_ONCE.as_slice(),
-            false,
-            false,
-        ),
-        (
-            buffering(alloc, false, [0, 1])?,
-            AT_ONCE.as_slice(),
-            true,
-            true,
-        ),
-        (
-            buffering(alloc, true, [0, 1])?,
-            AT_ONCE.as_slice(),
-            true,
-            true,
-        ),
-        (
-            buffering(alloc, true, [0, 0])?,
-            BUFFERED.as_slice(),
-            true,
-            false,
-        ),
-        (forwarding(alloc, 1)?, FORWARDED.as_slice(), true, true),
-        (forwarding(alloc, 2)?, FORWARDED.as_slice(), true, false),
-    ];
-    for (records, list, legal, consistent) in rows.iter() {
-        let history = names(alloc, list)?;
-        assert_eq!(rt;
-            is_legal(alloc, records.as_slice(), history.as_slice())?,
-            *legal
-        );
-        assert_eq!(rt;
-            is_consistent(alloc, records.as_slice(), history.as_slice())?,
-            *consistent
-        );
+    for (small, list, legal, consistent) in &JUDGED {
+        assert!(rt; judged(rt.alloc(), *small, list)? == (*legal, *consistent));
     }
     Ok(())
 }
 
+// The order of thread 0 where it reads its own pending write.
+const OWN: [(usize, usize); 11] = [
+    (0, 0),
+    (1, 0),
+    (0, 1),
+    (1, 1),
+    (1, 2),
+    (1, 3),
+    (0, 2),
+    (0, 3),
+    (0, 4),
+    (0, 5),
+    (1, 4),
+];
+
 #[test]
 fn orders_of_thread_0(rt: HostRuntime) -> Result<(), Fail> {
     let alloc = rt.alloc();
-    let history = names(alloc, &FORWARDED)?;
-    let order = order_of_first(alloc, forwarding(alloc, 1)?.as_slice(), history.as_slice())?;
-    let want = [
-        (0, 0),
-        (1, 0),
-        (0, 1),
-        (1, 1),
-        (1, 2),
-        (1, 3),
-        (0, 2),
-        (0, 3),
-        (0, 4),
-        (0, 5),
-        (1, 4),
-    ];
-    assert!(rt; order == names(alloc, &want)?);
-    let history = names(alloc, &BUFFERED)?;
-    let records = buffering(alloc, false, [0, 0])?;
-    let order = order_of_first(alloc, records.as_slice(), history.as_slice())?;
+    let order = first_order(alloc, Small::Forwarding(1), &FORWARDED)?;
+    assert!(rt; order == names(alloc, &OWN)?);
+    let order = first_order(alloc, Small::Relaxed([0, 0]), &BUFFERED)?;
     assert_eq!(rt; order.len(), 11);
     Ok(())
 }

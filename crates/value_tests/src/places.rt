@@ -36,14 +36,14 @@ const PIECES: [(u32, [u32; 4]); 3] = [
 
 #[test]
 fn places(rt: HostRuntime) {
-    for (e, thread, phase, offset) in ELEMENTS {
-        let e = i64::from(e);
-        assert_eq!(rt; thread_of(e, 3, 4), thread);
-        assert_eq!(rt; phase_of(e, 3), phase);
-        assert_eq!(rt; offset_of(e, 3, 4, 4), offset);
+    for (e, thread, phase, offset) in &ELEMENTS {
+        let e = i64::from(*e);
+        assert_eq!(rt; thread_of(e, 3, 4), *thread);
+        assert_eq!(rt; phase_of(e, 3), *phase);
+        assert_eq!(rt; offset_of(e, 3, 4, 4), *offset);
     }
-    for (block, bytes) in PIECES {
-        let array = object(80, block.min(80));
+    for (block, bytes) in &PIECES {
+        let array = object(80, (*block).min(80));
         for (thread, expected) in bytes.iter().enumerate() {
             assert_eq!(rt; piece_bytes(&array, (thread % 4) as u32, 4), *expected);
         }

@@ -6,14 +6,14 @@ use std::alloc::{AllocError, Global};
 use upc_values::{Action, Item, Reply, Scalar};
 
 /// An action: its thread, and its number there.
-#[derive(Clone, Copy, PartialEq, Eq, Debug)]
+#[derive(Clone, Copy, PartialEq, Eq)]
 pub struct Name {
     pub thread: usize,
     pub index: usize,
 }
 
 /// A read or a write; the implied strict ones have no location.
-#[derive(Clone, Copy, PartialEq, Eq, Debug)]
+#[derive(Clone, Copy)]
 pub struct Operation {
     pub name: Name,
     pub write: bool,

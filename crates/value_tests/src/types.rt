@@ -1,8 +1,10 @@
 //! Sizes, shapes, kinds and conversions from the tables of docs/LANGUAGE.md.
+ghost use Rattle.std.specs.Prelude.{IsTrue};
 ghost use Rattle.integers.specs.Integers.{IsInteger};
 
 use block_layout::{Kind, Shape};
 use std::alloc::{AllocError, Global};
+use std::rc::Rc;
 use std::test::Fail;
 use upc_text::Text;
 use upc_types::{
@@ -29,11 +31,11 @@ fn shared(base: Base, block: u32) -> CType {
 }
 
 fn pointer(alloc: Global, target: CType) -> Result<CType, AllocError> {
-    Ok(plain(Base::Pointer(Box::new(alloc, target)?)))
+    Ok(plain(Base::Pointer(Rc::new(alloc, target)?)))
 }
 
 fn array(alloc: Global, element: CType, count: u32) -> Result<CType, AllocError> {
-    Ok(plain(Base::Array(Box::new(alloc, element)?, count)))
+    Ok(plain(Base::Array(Rc::new(alloc, element)?, count)))
 }
 
 // Types of the tables below.
@@ -83,51 +85,60 @@ fn int_pointer(
     shared: Option<u32>,
     access: Access,
 ) -> Result<CType, AllocError> {
-    pointer(
-        alloc,
-        CType {
-            base: Base::Integer(Kind::Int),
-            constant,
-            shared,
-            access,
-        },
-    )
+    pointer(alloc, int_with(constant, shared, access))
 }
 
-// The kinds that the usual conversions give with each integer kind.
-fn usual_row(a: Kind) -> [Kind; 8]
-    requires { IsInteger a }
+const I: Kind = Kind::Int;
+
+const U: Kind = Kind::UInt;
+
+const L: Kind = Kind::Long;
+
+const M: Kind = Kind::ULong;
+
+const INTEGERS: [Kind; 8] = [
+    Kind::Char,
+    Kind::UChar,
+    Kind::Short,
+    Kind::UShort,
+    I,
+    U,
+    L,
+    M,
+];
+
+// For each integer kind the kinds that the usual conversions give with each.
+const USUAL: [[Kind; 8]; 8] = [
+    [I, I, I, I, I, U, L, M],
+    [I, I, I, I, I, U, L, M],
+    [I, I, I, I, I, U, L, M],
+    [I, I, I, I, I, U, L, M],
+    [I, I, I, I, I, U, L, M],
+    [U, U, U, U, U, U, L, M],
+    [L, L, L, L, L, L, L, M],
+    [M, M, M, M, M, M, M, M],
+];
+
+fn is_integer(kind: Kind) -> bool
+    ensures { IsTrue result → IsInteger kind }
 {
-    [
-        usual(a, Kind::Char),
-        usual(a, Kind::UChar),
-        usual(a, Kind::Short),
-        usual(a, Kind::UShort),
-        usual(a, Kind::Int),
-        usual(a, Kind::UInt),
-        usual(a, Kind::Long),
-        usual(a, Kind::ULong),
-    ]
+    !matches!(kind, Kind::Shared(_, _) | Kind::Lock | Kind::Private(_))
+}
+
+fn usual_of(a: Kind, b: Kind) -> Option<Kind> {
+    if is_integer(a) && is_integer(b) {
+        Some(usual(a, b))
+    } else {
+        None
+    }
 }
 
 #[test]
 fn usual_conversions(rt: HostRuntime) {
-    let i = Kind::Int;
-    let u = Kind::UInt;
-    let l = Kind::Long;
-    let m = Kind::ULong;
-    let rows = [
-        (usual_row(Kind::Char), [i, i, i, i, i, u, l, m]),
-        (usual_row(Kind::UChar), [i, i, i, i, i, u, l, m]),
-        (usual_row(Kind::Short), [i, i, i, i, i, u, l, m]),
-        (usual_row(Kind::UShort), [i, i, i, i, i, u, l, m]),
-        (usual_row(Kind::Int), [i, i, i, i, i, u, l, m]),
-        (usual_row(Kind::UInt), [u, u, u, u, u, u, l, m]),
-        (usual_row(Kind::Long), [l, l, l, l, l, l, l, m]),
-        (usual_row(Kind::ULong), [m, m, m, m, m, m, m, m]),
-    ];
-    for (given, wanted) in rows {
-        assert_eq!(rt; given, wanted);
+    for (a, wants) in INTEGERS.iter().zip(&USUAL) {
+        for (b, want) in INTEGERS.iter().zip(wants) {
+            assert_eq!(rt; usual_of(*a, *b), Some(*want), "{a:?} and {b:?}");
+        }
     }
 }
 
@@ -136,82 +147,121 @@ fn converts(from: &CType, into: &CType, zero: bool) -> (bool, bool) {
     (assignable(from, into, zero), castable(from, into, zero))
 }
 
+// The types of pointers to int with other targets.
+const INT: Sample = Sample::Of(Kind::Int);
+
+const OPEN: Sample = Sample::Pointer(false, None, Access::Unsaid);
+
+const FIXED: Sample = Sample::Pointer(true, None, Access::Unsaid);
+
+const THREES: Sample = Sample::Pointer(false, Some(3), Access::Unsaid);
+
+const FOURS: Sample = Sample::Pointer(false, Some(4), Access::Unsaid);
+
+const FIXED_THREES: Sample = Sample::Pointer(true, Some(3), Access::Unsaid);
+
+const STRICT: Sample = Sample::Pointer(false, Some(3), Access::Strict);
+
+const RELAXED: Sample = Sample::Pointer(false, Some(3), Access::Relaxed);
+
+const INDEFINITE: Sample = Sample::Pointer(false, Some(0), Access::Unsaid);
+
+const ONES: Sample = Sample::Pointer(false, Some(1), Access::Unsaid);
+
+// A type, another, whether the value is 0, and whether it converts without a cast and with one.
+const CONVERSIONS: [(Sample, Sample, bool, (bool, bool)); 22] = [
+    (OPEN, FIXED, false, (true, true)),
+    (FIXED, OPEN, false, (false, false)),
+    (THREES, THREES, false, (true, true)),
+    (STRICT, RELAXED, false, (true, true)),
+    (THREES, FOURS, false, (false, true)),
+    (INDEFINITE, ONES, false, (false, true)),
+    (FIXED_THREES, FOURS, false, (false, false)),
+    (THREES, OPEN, false, (false, true)),
+    (FIXED_THREES, OPEN, false, (false, false)),
+    (OPEN, THREES, false, (false, false)),
+    (INT, Sample::Of(Kind::ULong), false, (true, true)),
+    (INT, Sample::ToInt, false, (false, false)),
+    (INT, Sample::ToInt, true, (true, true)),
+    (INT, Sample::ToShared, true, (true, true)),
+    (INT, Sample::Lock, true, (true, true)),
+    (Sample::ToInt, INT, false, (false, false)),
+    (Sample::ToInt, Sample::ToChar, false, (false, false)),
+    (Sample::Lock, Sample::Lock, false, (true, true)),
+    (Sample::Lock, Sample::ToInt, false, (false, false)),
+    (Sample::ToInt, Sample::Lock, false, (false, false)),
+    (Sample::ToInt, Sample::Void, false, (false, true)),
+    (Sample::Void, INT, false, (false, false)),
+];
+
+// Whether a value of a type converts to another without a cast, and with one.
+fn converts_so(
+    alloc: Global,
+    from: Sample,
+    into: Sample,
+    zero: bool,
+) -> Result<(bool, bool), AllocError> {
+    let from = type_of(alloc, from)?;
+    let into = type_of(alloc, into)?;
+    Ok(converts(&from, &into, zero))
+}
+
 #[test]
 fn conversions(rt: HostRuntime) -> Result<(), Fail> {
-    let int = Sample::Of(Kind::Int);
-    let n = Access::Unsaid;
-    let open = Sample::Pointer(false, None, n);
-    let fixed = Sample::Pointer(true, None, n);
-    let threes = Sample::Pointer(false, Some(3), n);
-    let fours = Sample::Pointer(false, Some(4), n);
-    let fixed_threes = Sample::Pointer(true, Some(3), n);
-    let strict = Sample::Pointer(false, Some(3), Access::Strict);
-    let relaxed = Sample::Pointer(false, Some(3), Access::Relaxed);
-    let indefinite = Sample::Pointer(false, Some(0), n);
-    let ones = Sample::Pointer(false, Some(1), n);
-    let rows = [
-        (open, fixed, false, (true, true)),
-        (fixed, open, false, (false, false)),
-        (threes, threes, false, (true, true)),
-        (strict, relaxed, false, (true, true)),
-        (threes, fours, false, (false, true)),
-        (indefinite, ones, false, (false, true)),
-        (fixed_threes, fours, false, (false, false)),
-        (threes, open, false, (false, true)),
-        (fixed_threes, open, false, (false, false)),
-        (open, threes, false, (false, false)),
-        (int, Sample::Of(Kind::ULong), false, (true, true)),
-        (int, Sample::ToInt, false, (false, false)),
-        (int, Sample::ToInt, true, (true, true)),
-        (int, Sample::ToShared, true, (true, true)),
-        (int, Sample::Lock, true, (true, true)),
-        (Sample::ToInt, int, false, (false, false)),
-        (Sample::ToInt, Sample::ToChar, false, (false, false)),
-        (Sample::Lock, Sample::Lock, false, (true, true)),
-        (Sample::Lock, Sample::ToInt, false, (false, false)),
-        (Sample::ToInt, Sample::Lock, false, (false, false)),
-        (Sample::ToInt, Sample::Void, false, (false, true)),
-        (Sample::Void, int, false, (false, false)),
-    ];
-    for (from, into, zero, wanted) in rows {
-        let from = type_of(rt.alloc(), from)?;
-        let into = type_of(rt.alloc(), into)?;
-        assert_eq!(rt; converts(&from, &into, zero), wanted);
+    for (from, into, zero, wanted) in &CONVERSIONS {
+        assert!(rt; converts_so(rt.alloc(), *from, *into, *zero)? == *wanted);
     }
     Ok(())
 }
 
-// Whether a type may be given for a `shared void *`, for a `void *`, and may take what a call allocates.
+// A type, whether the value is 0, whether it may be given for a `shared void *` and for a `void *`, and whether the
+// type may take what a call allocates.
+const LIBRARY: [(Sample, bool, (bool, bool, bool)); 7] = [
+    (Sample::ToShared, false, (true, false, true)),
+    (Sample::ToInt, false, (false, true, false)),
+    (Sample::ToSharedVoid, false, (true, false, false)),
+    (Sample::ToOpen, false, (true, false, false)),
+    (Sample::Lock, false, (false, false, false)),
+    (Sample::Of(Kind::Int), false, (false, false, false)),
+    (Sample::Of(Kind::Int), true, (true, true, false)),
+];
+
+fn taken_so(alloc: Global, which: Sample, zero: bool) -> Result<(bool, bool, bool), Fail> {
+    let structs = Structs::new(alloc);
+    let ctype = type_of(alloc, which)?;
+    Ok((
+        to_shared_void(&ctype, zero),
+        to_void_pointer(&ctype, zero),
+        takes_allocation(&ctype, &structs),
+    ))
+}
+
 #[test]
 fn arguments_and_results_of_the_library(rt: HostRuntime) -> Result<(), Fail> {
-    let structs = Structs::new(rt.alloc());
-    let rows = [
-        (Sample::ToShared, false, true, false, true),
-        (Sample::ToInt, false, false, true, false),
-        (Sample::ToSharedVoid, false, true, false, false),
-        (Sample::ToOpen, false, true, false, false),
-        (Sample::Lock, false, false, false, false),
-        (Sample::Of(Kind::Int), false, false, false, false),
-        (Sample::Of(Kind::Int), true, true, true, false),
-    ];
-    for (sample, zero, to_shared, to_private, allocated) in rows {
-        let ctype = type_of(rt.alloc(), sample)?;
-        assert_eq!(rt; to_shared_void(&ctype, zero), to_shared);
-        assert_eq!(rt; to_void_pointer(&ctype, zero), to_private);
-        assert_eq!(rt; takes_allocation(&ctype, &structs), allocated);
+    for (sample, zero, wanted) in &LIBRARY {
+        assert!(rt; taken_so(rt.alloc(), *sample, *zero)? == *wanted);
     }
     Ok(())
+}
+
+fn member(alloc: Global, base: Base) -> Member {
+    Member {
+        name: Text::new(alloc),
+        ctype: plain(base),
+    }
 }
 
 // A struct of a char, this type and a char: its layout once it is complete.
 fn between_chars(structs: &mut Structs, alloc: Global, base: Base) -> Result<Option<Layout>, Fail> {
-    let mut members = Vec::new(alloc);
-    for base in [Base::Integer(Kind::Char), base, Base::Integer(Kind::Char)] {
-        members.push(Member {
-            name: Text::new(alloc),
-            ctype: plain(base),
-        })?;
-    }
+    let byte = Kind::Char;
+    let members = Vec::from_array(
+        alloc,
+        [
+            member(alloc, Base::Integer(byte)),
+            member(alloc, base),
+            member(alloc, Base::Integer(byte)),
+        ],
+    )?;
     let number = structs.declare()?;
     if members.is_empty() || structs.is_complete(&Base::Struct(number)) {
         return Ok(None);
@@ -222,37 +272,40 @@ fn between_chars(structs: &mut Structs, alloc: Global, base: Base) -> Result<Opt
     Ok(structs.layout_of(&Base::Struct(number)))
 }
 
+const SIZES: [(Kind, u32); 8] = [
+    (Kind::Char, 1),
+    (Kind::UChar, 1),
+    (Kind::Short, 2),
+    (Kind::UShort, 2),
+    (Kind::Int, 4),
+    (Kind::UInt, 4),
+    (Kind::Long, 8),
+    (Kind::ULong, 8),
+];
+
+fn has_layout(found: Option<Layout>, size: u32, align: u32) -> bool {
+    found == Some(Layout { size, align })
+}
+
 #[test]
 fn layouts(rt: HostRuntime) -> Result<(), Fail> {
     let mut known = Structs::new(rt.alloc());
-    let scalars = [
-        (Kind::Char, 1),
-        (Kind::UChar, 1),
-        (Kind::Short, 2),
-        (Kind::UShort, 2),
-        (Kind::Int, 4),
-        (Kind::UInt, 4),
-        (Kind::Long, 8),
-        (Kind::ULong, 8),
-    ];
-    for (kind, size) in scalars {
-        let layout = known.layout_of(&Base::Integer(kind));
-        assert_eq!(rt; layout, Some(Layout { size, align: size }));
+    for (kind, size) in &SIZES {
+        let layout = known.layout_of(&Base::Integer(*kind));
+        assert!(rt; has_layout(layout, *size, *size));
     }
-    for base in [Base::Void, Base::LockObject, Base::Struct(0)] {
-        assert_eq!(rt; known.layout_of(&base), None);
+    assert!(rt; known.layout_of(&Base::Void).is_none());
+    assert!(rt; known.layout_of(&Base::LockObject).is_none());
+    assert!(rt; known.layout_of(&Base::Struct(0)).is_none());
+    for (kind, size, align) in [(Kind::Short, 6, 2), (Kind::Long, 24, 8)] {
+        let layout = between_chars(&mut known, rt.alloc(), Base::Integer(kind))?;
+        assert!(rt; has_layout(layout, size, align));
     }
-    let rows = [
-        (Base::Integer(Kind::Short), 6, 2),
-        (Base::Integer(Kind::Long), 24, 8),
-        (Base::Struct(0), 10, 2),
-        (Base::Struct(1), 40, 8),
-    ];
-    for (base, size, align) in rows {
-        let layout = between_chars(&mut known, rt.alloc(), base)?;
-        assert_eq!(rt; layout, Some(Layout { size, align }));
+    for (number, size, align) in [(0, 10, 2), (1, 40, 8)] {
+        let layout = between_chars(&mut known, rt.alloc(), Base::Struct(number))?;
+        assert!(rt; has_layout(layout, size, align));
     }
-    assert_eq!(rt; known.layout_of(&Base::Struct(9)), None);
+    assert!(rt; known.layout_of(&Base::Struct(9)).is_none());
     Ok(())
 }
 
@@ -266,25 +319,41 @@ fn shapes(alloc: Global, t: &CType, structs: &Structs) -> Result<Option<(Shape, 
     Ok(Some((leaf, whole.cells.len())))
 }
 
+// Whether a type has a leaf shape of this size with these cells, and so many cells as a whole.
+fn has_shape(
+    alloc: Global,
+    t: &CType,
+    structs: &Structs,
+    size: u32,
+    cells: &[(u32, Kind)],
+    count: usize,
+) -> Result<bool, Fail> {
+    match shapes(alloc, t, structs)? {
+        Some((leaf, all)) => Ok(
+            leaf.size == size && leaf.cells.as_slice() == cells && all == count,
+        ),
+        None => Ok(false),
+    }
+}
+
+// A type, the kind of its leaf elements, their size, and how many cells a whole object has.
+const SHAPES: [(Sample, Kind, u32, usize); 6] = [
+    (Sample::Of(Kind::Int), Kind::Int, 4, 1),
+    (Sample::Shorts, Kind::Short, 2, 400),
+    (Sample::Grid, Kind::Char, 1, 15),
+    (Sample::Lock, Kind::Lock, 16, 1),
+    (Sample::ToShared, Kind::Shared(0, 3), 16, 1),
+    (Sample::ToInt, Kind::Private(1), 8, 1),
+];
+
 #[test]
 fn shapes_of_scalars_and_arrays(rt: HostRuntime) -> Result<(), Fail> {
     let mut known = Structs::new(rt.alloc());
     known.note(&shared(Base::Integer(Kind::Int), 3))?;
     known.note(&plain(Base::Integer(Kind::Int)))?;
-    let rows = [
-        (Sample::Of(Kind::Int), Kind::Int, 4, 1),
-        (Sample::Shorts, Kind::Short, 2, 400),
-        (Sample::Grid, Kind::Char, 1, 15),
-        (Sample::Lock, Kind::Lock, 16, 1),
-        (Sample::ToShared, Kind::Shared(0, 3), 16, 1),
-        (Sample::ToInt, Kind::Private(1), 8, 1),
-    ];
-    for (t, kind, size, count) in rows {
-        let t = type_of(rt.alloc(), t)?;
-        let (leaf, cells) = shapes(rt.alloc(), &t, &known)?.expect(&rt, "a complete type");
-        assert_eq!(rt; leaf.size, size);
-        assert_eq!(rt; leaf.cells.as_slice(), [(0, kind)].as_slice());
-        assert_eq!(rt; cells, count);
+    for (which, kind, size, count) in &SHAPES {
+        let t = type_of(rt.alloc(), *which)?;
+        assert!(rt; has_shape(rt.alloc(), &t, &known, *size, &[(0, *kind)], *count)?);
     }
     Ok(())
 }
@@ -298,46 +367,57 @@ fn nested(alloc: Global) -> Result<Structs, Fail> {
     Ok(known)
 }
 
+// The cells of the second.
+const NESTED: [(u32, Kind); 6] = [
+    (0, Kind::Char),
+    (2, Kind::Char),
+    (4, Kind::Short),
+    (6, Kind::Short),
+    (8, Kind::Char),
+    (10, Kind::Char),
+];
+
 #[test]
 fn shapes_of_structs(rt: HostRuntime) -> Result<(), Fail> {
     let known = nested(rt.alloc())?;
     let all = array(rt.alloc(), plain(Base::Struct(1)), 7)?;
-    let (leaf, cells) = shapes(rt.alloc(), &all, &known)?.expect(&rt, "a complete type");
-    let wanted = [
-        (0, Kind::Char),
-        (2, Kind::Char),
-        (4, Kind::Short),
-        (6, Kind::Short),
-        (8, Kind::Char),
-        (10, Kind::Char),
-    ];
-    assert_eq!(rt; leaf.size, 12);
-    assert_eq!(rt; leaf.cells.as_slice(), wanted.as_slice());
-    assert_eq!(rt; cells, 42);
+    assert!(rt; has_shape(rt.alloc(), &all, &known, 12, &NESTED, 42)?);
     Ok(())
+}
+
+// Qualifiers of an int, and the number of a pointer to it.
+const NUMBERS: [(bool, Option<u32>, Access, u32); 6] = [
+    (false, Some(3), Access::Unsaid, 0),
+    (true, Some(3), Access::Strict, 0),
+    (false, Some(4), Access::Unsaid, 1),
+    (false, None, Access::Unsaid, 2),
+    (true, None, Access::Relaxed, 2),
+    (false, Some(4), Access::Relaxed, 1),
+];
+
+fn int_with(constant: bool, shared: Option<u32>, access: Access) -> CType {
+    CType {
+        base: Base::Integer(Kind::Int),
+        constant,
+        shared,
+        access,
+    }
 }
 
 #[test]
 fn numbers_of_pointers(rt: HostRuntime) -> Result<(), Fail> {
     let mut known = Structs::new(rt.alloc());
-    let rows = [
-        (false, Some(3), Access::Unsaid, 0),
-        (true, Some(3), Access::Strict, 0),
-        (false, Some(4), Access::Unsaid, 1),
-        (false, None, Access::Unsaid, 2),
-        (true, None, Access::Relaxed, 2),
-        (false, Some(4), Access::Relaxed, 1),
-    ];
-    for (constant, shared, access, number) in rows {
-        let target = CType {
-            base: Base::Integer(Kind::Int),
-            constant,
-            shared,
-            access,
-        };
-        assert_eq!(rt; known.note(&target)?, number);
+    for (constant, shared, access, number) in &NUMBERS {
+        let target = int_with(*constant, *shared, *access);
+        assert_eq!(rt; known.note(&target)?, *number);
     }
     Ok(())
+}
+
+// Whether a copy of a type is the same type.
+fn is_copied(t: &CType) -> Result<bool, AllocError> {
+    let copy = copy_type(t)?;
+    Ok(same_type(&copy, t))
 }
 
 #[test]
@@ -346,26 +426,32 @@ fn a_long_chain_of_pointers(rt: HostRuntime) -> Result<(), Fail> {
     for _i in 0..300_000 {
         t = pointer(rt.alloc(), t)?;
     }
-    let copy = copy_type(rt.alloc(), &t)?;
-    assert_eq!(rt; same_type(&t, &copy), true);
+    assert!(rt; is_copied(&t)?);
     Ok(())
 }
+
+// A pointer to void, to shared void and to a lock, and the first two structs.
+fn pointing(alloc: Global, number: u32) -> Result<CType, AllocError> {
+    match number {
+        0 => pointer(alloc, plain(Base::Void)),
+        1 => pointer(alloc, shared(Base::Void, 1)),
+        2 => pointer(alloc, plain(Base::LockObject)),
+        3 => Ok(plain(Base::Struct(0))),
+        _ => Ok(plain(Base::Struct(1))),
+    }
+}
+
+// Whether each holds a private pointer. The structs hold the first two.
+const PRIVATE: [(u32, bool); 5] = [(0, true), (1, false), (2, false), (3, true), (4, false)];
 
 #[test]
 fn private_pointers(rt: HostRuntime) -> Result<(), Fail> {
     let a = rt.alloc();
     let mut known = Structs::new(a);
-    let rows = [
-        (pointer(a, plain(Base::Void))?, true),
-        (pointer(a, shared(Base::Void, 1))?, false),
-        (pointer(a, plain(Base::LockObject))?, false),
-        (plain(Base::Struct(0)), true),
-        (plain(Base::Struct(1)), false),
-    ];
-    for (t, private) in rows {
-        let copy = copy_type(a, &t)?;
-        assert!(rt; same_type(&copy, &t));
-        assert_eq!(rt; known.holds_private(&t.base), private);
+    for (number, private) in &PRIVATE {
+        let t = pointing(a, *number)?;
+        assert!(rt; is_copied(&t)?);
+        assert_eq!(rt; known.holds_private(&t.base), *private);
         between_chars(&mut known, a, t.base)?;
     }
     Ok(())

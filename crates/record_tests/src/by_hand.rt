@@ -12,7 +12,7 @@ use run_recorder::read_record;
 use std::alloc::{AllocError, Global};
 use std::test::Fail;
 use upc_values::{
-    Action, Entry, Item, Journal, Order, Orders, Reply, Scalar, same_action, same_reply,
+    Action, Entry, Item, Journal, Op, Order, Orders, Reply, Scalar, same_action, same_reply,
 };
 
 // A run and its orders, and other orders that Appendix B does not allow, all as in the text of a run.
@@ -191,44 +191,61 @@ fn are_orders_of(alloc: Global, journal: &Journal, given: &Orders) -> Result<boo
     )
 }
 
+// Whether the orders of a run are those that its text has, and are consistent.
+fn has_orders(alloc: Global, case: &ByHand) -> Result<bool, Fail> {
+    let text = joined(alloc, case.run, case.orders)?;
+    let (journal, given) = read_record(alloc, text.as_slice())?;
+    if !follows_buffers(alloc, &journal)? {
+        return Ok(false);
+    }
+    Ok(are_orders_of(alloc, &journal, &given)? && is_consistent(alloc, &journal, &[], &[], &given)?)
+}
+
+// Whether the other orders are consistent.
+fn passes_wrong(alloc: Global, case: &ByHand) -> Result<bool, Fail> {
+    let text = joined(alloc, case.run, case.wrong)?;
+    let (journal, wrong) = read_record(alloc, text.as_slice())?;
+    Ok(is_consistent(alloc, &journal, &[], &[], &wrong)?)
+}
+
 #[test]
 fn orders_by_hand(rt: HostRuntime) -> Result<(), Fail> {
-    let alloc = rt.alloc();
     for (number, case) in RUNS.iter().enumerate() {
-        let text = joined(alloc, case.run, case.orders)?;
-        let (journal, given) = read_record(alloc, text.as_slice())?;
-        let follows = follows_buffers(alloc, &journal)?;
-        assert!(rt; follows, "{number}");
-        assert!(rt; are_orders_of(alloc, &journal, &given)?, "{number}");
-        assert!(rt;
-            is_consistent(alloc, &journal, &[], &[], &given)?,
-            "{number}"
-        );
-        let other = joined(alloc, case.run, case.wrong)?;
-        let (same, wrong) = read_record(alloc, other.as_slice())?;
-        assert!(rt; !is_consistent(alloc, &same, &[], &[], &wrong)?, "{number}");
+        assert!(rt; has_orders(rt.alloc(), case)?, "{number}");
+        assert!(rt; !passes_wrong(rt.alloc(), case)?, "{number}");
     }
     Ok(())
+}
+
+// Whether these operations are by the actions of these entries in turn.
+fn are_by(operations: &[Op], history: &[Entry]) -> bool {
+    if operations.len() != history.len() {
+        return false;
+    }
+    for (operation, entry) in operations.iter().zip(history) {
+        if operation.thread != entry.thread || operation.index != entry.index {
+            return false;
+        }
+    }
+    true
+}
+
+// Whether each entry of a run is one operation, in the order of the history.
+fn is_one_by_one(alloc: Global, case: &ByHand) -> Result<bool, Fail> {
+    let text = joined(alloc, case.run, case.orders)?;
+    let (journal, _) = read_record(alloc, text.as_slice())?;
+    if !follows_buffers(alloc, &journal)? {
+        return Ok(false);
+    }
+    let order = global_order(alloc, &journal)?;
+    Ok(are_by(order.as_slice(), journal.history.as_slice()))
 }
 
 // All operations in the order of the history: here each entry is one operation, and no read is forwarded.
 #[test]
 fn all_operations_by_hand(rt: HostRuntime) -> Result<(), Fail> {
-    let alloc = rt.alloc();
-    for case in [&RUNS[0], &RUNS[2]] {
-        let text = joined(alloc, case.run, case.orders)?;
-        let (journal, _) = read_record(alloc, text.as_slice())?;
-        let follows = follows_buffers(alloc, &journal)?;
-        assert!(rt; follows);
-        let order = global_order(alloc, &journal)?;
-        assert_eq!(rt; order.len(), journal.history.len());
-        for (operation, entry) in order.as_slice().iter().zip(journal.history.as_slice()) {
-            assert_eq!(rt;
-                (operation.thread, operation.index),
-                (entry.thread, entry.index)
-            );
-        }
-    }
+    assert!(rt; is_one_by_one(rt.alloc(), &RUNS[0])?);
+    assert!(rt; is_one_by_one(rt.alloc(), &RUNS[2])?);
     Ok(())
 }
 
@@ -259,15 +276,28 @@ fn is_legal(alloc: Global, history: &[Entry]) -> Result<bool, AllocError> {
     Ok(true)
 }
 
+// Whether the history of a run is legal.
+fn has_legal(alloc: Global, case: &ByHand) -> Result<bool, Fail> {
+    let text = joined(alloc, case.run, case.orders)?;
+    let (journal, _) = read_record(alloc, text.as_slice())?;
+    Ok(is_legal(alloc, journal.history.as_slice())?)
+}
+
 #[test]
 fn histories_by_hand_are_legal(rt: HostRuntime) -> Result<(), Fail> {
-    let alloc = rt.alloc();
-    for case in [&RUNS[2], &RUNS[3]] {
-        let text = joined(alloc, case.run, case.orders)?;
-        let (journal, _) = read_record(alloc, text.as_slice())?;
-        assert!(rt; is_legal(alloc, journal.history.as_slice())?);
-    }
+    assert!(rt; has_legal(rt.alloc(), &RUNS[2])?);
+    assert!(rt; has_legal(rt.alloc(), &RUNS[3])?);
     Ok(())
+}
+
+// What a thread does at its first turn, its own write, or at its second, a read of the other variable: all strict.
+fn access(thread: u32, second: bool) -> Action {
+    let (own, other) = if thread == 0 { (X, Y) } else { (Y, X) };
+    if second {
+        read(other, true)
+    } else {
+        write(own, 1, true)
+    }
 }
 
 // Whether both threads read 0, where each first writes its own variable and then reads the other's, all strict.
@@ -275,29 +305,27 @@ fn both_read_0(alloc: Global, turns: &[u32]) -> Result<bool, AllocError> {
     let mut world = zeros(alloc)?;
     let mut both = true;
     for (at, thread) in turns.iter().enumerate() {
-        let (own, other) = if *thread == 0 { (X, Y) } else { (Y, X) };
-        if turns[..at].contains(thread) {
-            let reply = answer(&mut world, *thread, 1, &read(other, true))?;
-            both = both && reply == Some(Reply::Value(Scalar::Int(0)));
-        } else {
-            answer(&mut world, *thread, 0, &write(own, 1, true))?;
-        }
+        let second = turns[..at].contains(thread);
+        let action = access(*thread, second);
+        let reply = answer(&mut world, *thread, if second { 1 } else { 0 }, &action)?;
+        both = both && (!second || reply == Some(Reply::Value(Scalar::Int(0))));
     }
     Ok(both)
 }
 
+const TURNS: [[u32; 4]; 6] = [
+    [0, 0, 1, 1],
+    [0, 1, 0, 1],
+    [0, 1, 1, 0],
+    [1, 0, 0, 1],
+    [1, 0, 1, 0],
+    [1, 1, 0, 0],
+];
+
 // In whatever order strict accesses stand, one of the reads gives 1.
 #[test]
 fn strict_accesses_have_one_order(rt: HostRuntime) -> Result<(), Fail> {
-    let orders: [[u32; 4]; 6] = [
-        [0, 0, 1, 1],
-        [0, 1, 0, 1],
-        [0, 1, 1, 0],
-        [1, 0, 0, 1],
-        [1, 0, 1, 0],
-        [1, 1, 0, 0],
-    ];
-    for turns in &orders {
+    for turns in &TURNS {
         assert!(rt; !both_read_0(rt.alloc(), turns)?);
     }
     Ok(())

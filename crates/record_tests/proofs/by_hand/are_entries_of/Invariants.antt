@@ -1,6 +1,6 @@
 use Rattle.std.proofs.Common.{◌≡◌, ◌≤◌, take, length}
 use Rattle.upc_values.specs.Drain as drains
-use Rattle.run_tests.proofs.by_hand.are_entries_of.Given as goal
+use Rattle.record_tests.proofs.by_hand.are_entries_of.Given as goal
 
 -- the first of the list are the thread's so far
 abbrev pub invariant-loop-entry : goal.invariant-loop-entry

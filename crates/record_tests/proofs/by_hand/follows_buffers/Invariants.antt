@@ -1,7 +1,7 @@
 use Rattle.std.proofs.Common.{◌≡◌, ℕ, ◌<◌, true, get_or}
 use Rattle.upc_values.specs.declared.journal.Strand.{Strand}
 use Rattle.upc_values.specs.Drain as drains
-use Rattle.run_tests.proofs.by_hand.follows_buffers.Given as goal
+use Rattle.record_tests.proofs.by_hand.follows_buffers.Given as goal
 
 -- so it is of the threads so far
 abbrev pub invariant-loop-thread : goal.invariant-loop-thread

@@ -1,13 +1,9 @@
 //! The text of a run, written and read back.
 
 use crate::by_hand::{follows_buffers, same_entry, same_orders};
-use crate::front::program_of;
 use crate::histories::{read, write};
-use crate::runs::may_be;
 use order_builder::orders;
-use program_runs::run_program;
 use run_recorder::{ReadRecord, is_short, read_record, render};
-use serial_core::Limits;
 use std::alloc::{AllocError, Global};
 use std::test::Fail;
 use upc_values::{
@@ -15,7 +11,7 @@ use upc_values::{
     same_action, same_reply,
 };
 
-// The text of `int main(){return 0;}`, run by one thread.
+// The text of a run of one thread that does nothing.
 const RECORD: &str = "upc-record 1\n\
 threads 1 budget 100000000 actions 4194304\n\
 thread 0 items 4 ticks 0 ended 0\n\
@@ -67,62 +63,46 @@ fn is_bad(alloc: Global, text: &[u8], line: u32) -> bool {
     }
 }
 
-#[test]
-fn a_run_is_written(rt: HostRuntime) -> Result<(), Fail> {
-    let alloc = rt.alloc();
-    let limits = Limits {
-        threads: 1,
-        budget: 100_000_000,
-        actions: 4_194_304,
-    };
-    let program = program_of(alloc, 1, b"int main(){return 0;}")?.expect(&rt, "a program");
-    assert!(rt; may_be(limits));
-    assert!(rt; program.threads() == limits.threads);
-    let journal = run_program(&rt, alloc, &program, limits, &[])?;
-    let orders = orders(alloc, &journal)?;
-    let text = text_of(alloc, &journal, &orders)?.expect(&rt, "a text");
-    assert!(rt; text.as_slice() == RECORD.as_bytes());
-    Ok(())
+// Whether a text is read, and written as it was.
+fn comes_back(alloc: Global, text: &str) -> Result<bool, Fail> {
+    let (journal, orders) = read_record(alloc, text.as_bytes())?;
+    match text_of(alloc, &journal, &orders)? {
+        Some(again) => Ok(again.as_slice() == text.as_bytes()),
+        None => Ok(false),
+    }
 }
 
 #[test]
 fn texts_are_read_back(rt: HostRuntime) -> Result<(), Fail> {
-    let alloc = rt.alloc();
-    for text in [RECORD, EACH] {
-        let (journal, orders) = read_record(alloc, text.as_bytes())?;
-        let again = text_of(alloc, &journal, &orders)?.expect(&rt, "a text");
-        assert!(rt; again.as_slice() == text.as_bytes());
-    }
+    assert!(rt; comes_back(rt.alloc(), RECORD)?);
+    assert!(rt; comes_back(rt.alloc(), EACH)?);
     Ok(())
 }
 
+// Texts of no run, with the line that shows it.
+const BAD: [(&[u8], u32); 4] = [
+    (b"", 1),
+    (
+        b"upc-record 1\nthreads 00 budget 1 actions 1\nhistory 0\nstrict 0\nend\n",
+        2,
+    ),
+    (
+        b"upc-record 1\nthreads 0 budget 1  actions 1\nhistory 0\nstrict 0\nend\n",
+        2,
+    ),
+    (
+        b"upc-record 1\nthreads 0 budget 1 actions 1\nhistory 0\nstrict 0\nend\n\n",
+        6,
+    ),
+];
+
 #[test]
 fn other_texts_are_bad(rt: HostRuntime) -> Result<(), Fail> {
-    let alloc = rt.alloc();
     let cut = RECORD.as_bytes().split_last().expect(&rt, "a byte").1;
-    assert!(rt; is_bad(alloc, cut, 23));
-    assert!(rt; is_bad(alloc, b"", 1));
-    assert!(rt;
-        is_bad(
-            alloc,
-            b"upc-record 1\nthreads 00 budget 1 actions 1\nhistory 0\nstrict 0\nend\n",
-            2
-        )
-    );
-    assert!(rt;
-        is_bad(
-            alloc,
-            b"upc-record 1\nthreads 0 budget 1  actions 1\nhistory 0\nstrict 0\nend\n",
-            2
-        )
-    );
-    assert!(rt;
-        is_bad(
-            alloc,
-            b"upc-record 1\nthreads 0 budget 1 actions 1\nhistory 0\nstrict 0\nend\n\n",
-            6
-        )
-    );
+    assert!(rt; is_bad(rt.alloc(), cut, 23));
+    for (text, line) in &BAD {
+        assert!(rt; is_bad(rt.alloc(), text, *line));
+    }
     Ok(())
 }
 
@@ -202,11 +182,27 @@ fn same_item(a: &Item, b: &Item) -> bool {
 }
 
 fn same_items(a: &[Item], b: &[Item]) -> bool {
-    a.len() == b.len() && a.iter().zip(b).all(|(one, other)| same_item(one, other))
+    if a.len() != b.len() {
+        return false;
+    }
+    for (one, other) in a.iter().zip(b) {
+        if !same_item(one, other) {
+            return false;
+        }
+    }
+    true
 }
 
 fn same_history(a: &[Entry], b: &[Entry]) -> bool {
-    a.len() == b.len() && a.iter().zip(b).all(|(one, other)| same_entry(one, other))
+    if a.len() != b.len() {
+        return false;
+    }
+    for (one, other) in a.iter().zip(b) {
+        if !same_entry(one, other) {
+            return false;
+        }
+    }
+    true
 }
 
 fn orders_of(alloc: Global, journal: &Journal) -> Result<Option<Orders>, AllocError> {
@@ -217,34 +213,42 @@ fn orders_of(alloc: Global, journal: &Journal) -> Result<Option<Orders>, AllocEr
     }
 }
 
+// Whether both have the same items, thread by thread.
+fn same_strands(a: &[Strand], b: &[Strand]) -> bool {
+    if a.len() != b.len() {
+        return false;
+    }
+    for (one, other) in a.iter().zip(b) {
+        if !same_items(one.items.as_slice(), other.items.as_slice()) {
+            return false;
+        }
+    }
+    true
+}
+
+// Whether a text is read as this run with these orders.
+fn is_read_as(
+    alloc: Global,
+    text: &[u8],
+    journal: &Journal,
+    orders: &Orders,
+) -> Result<bool, Fail> {
+    let (again, given) = read_record(alloc, text)?;
+    Ok(
+        same_history(again.history.as_slice(), journal.history.as_slice())
+            && same_orders(given.threads.as_slice(), orders.threads.as_slice())
+            && same_strands(again.strands.as_slice(), journal.strands.as_slice()),
+    )
+}
+
 // Of 131,072 items and 32,768 entries, with the orders. The number of its bytes was counted from outside.
 #[test]
-fn a_long_text_is_written(rt: HostRuntime) -> Result<(), Fail> {
+fn a_long_text_is_written_and_read_back(rt: HostRuntime) -> Result<(), Fail> {
     let alloc = rt.alloc();
     let journal = long_journal(alloc)?;
     let orders = orders_of(alloc, &journal)?.expect(&rt, "its orders");
     let text = text_of(alloc, &journal, &orders)?.expect(&rt, "a text");
     assert_eq!(rt; text.len(), 7_235_773);
-    Ok(())
-}
-
-#[test]
-fn a_long_text_is_read_back(rt: HostRuntime) -> Result<(), Fail> {
-    let alloc = rt.alloc();
-    let journal = long_journal(alloc)?;
-    let orders = orders_of(alloc, &journal)?.expect(&rt, "its orders");
-    let text = text_of(alloc, &journal, &orders)?.expect(&rt, "a text");
-    let (again, given) = read_record(alloc, text.as_slice())?;
-    assert!(rt; same_history(again.history.as_slice(), journal.history.as_slice()));
-    assert!(rt; same_orders(given.threads.as_slice(), orders.threads.as_slice()));
-    assert_eq!(rt; again.strands.len(), journal.strands.len());
-    for (strand, first) in again
-        .strands
-        .as_slice()
-        .iter()
-        .zip(journal.strands.as_slice())
-    {
-        assert!(rt; same_items(strand.items.as_slice(), first.items.as_slice()));
-    }
+    assert!(rt; is_read_as(alloc, text.as_slice(), &journal, &orders)?);
     Ok(())
 }

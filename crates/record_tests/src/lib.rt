@@ -1,0 +1,11 @@
+//! Tests of write buffers, of histories and runs by hand, and of the text of a run.
+#![tactic(auto)]
+
+#[cfg(test)]
+mod buffers;
+#[cfg(test)]
+mod by_hand;
+#[cfg(test)]
+mod histories;
+#[cfg(test)]
+mod records;
