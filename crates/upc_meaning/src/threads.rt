@@ -29,7 +29,8 @@ impl<'r> Progress<'r> {
         place: Place,
         mark: Mark,
     ) -> Result<Step<()>, OutOfMemory>
-        ensures { IfOk result (λ s. Came (passed (thread_seen runner.entry) place mark (state_seen self.old)) s self.new) }
+        ensures { IfOk result (λ s. Came (passed (thread_seen runner.entry) place mark (state_seen
+            self.old)) s self.new) }
     {
         match self.notify(runner, place, mark)? {
             Step::Ends(end) => Ok(Step::Ends(end)),
