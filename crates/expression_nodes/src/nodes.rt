@@ -129,7 +129,7 @@ pub fn finish_character(alloc: Global, value: u8, at: Place) -> Result<Box<Expr>
     Ok(build::literal(alloc, at, attributes::character(value))?)
 }
 
-// The text of string literals.
+// The text of string literals. All copies of it share its bytes.
 fn text_of(
     alloc: Global,
     first: &StringLiteral,
@@ -141,7 +141,7 @@ fn text_of(
     for literal in more {
         text.push_slice(literal.bytes.as_slice())?;
     }
-    Ok(text)
+    text.share()
 }
 
 /// String literals that stand behind one another.

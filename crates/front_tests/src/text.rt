@@ -94,6 +94,24 @@ fn texts(rt: HostRuntime) -> Result<(), Fail> {
     longer.push(b'd')?;
     assert!(rt; longer != text && longer.len() == 4);
     assert_eq!(rt; text.as_slice(), b"abc".as_slice());
-    assert!(rt; Text::from_vec(longer.into_vec()) == Text::from_slice(rt.alloc(), b"abcd")?);
+    assert!(rt; longer == Text::from_slice(rt.alloc(), b"abcd")?);
+    Ok(())
+}
+
+// Copies of a shared text are the text, and what is added to one of them stands in no other.
+#[test]
+fn shared_texts(rt: HostRuntime) -> Result<(), Fail> {
+    let text = Text::from_slice(rt.alloc(), b"abc")?.share()?.share()?;
+    let mut longer = text.copy(rt.alloc())?;
+    let mut last = text.clone()?;
+    longer.push(b'd')?;
+    last.push_slice(b"de")?;
+    last.push(b'f')?;
+    assert_eq!(rt; text.as_slice(), b"abc".as_slice());
+    assert_eq!(rt; longer.as_slice(), b"abcd".as_slice());
+    assert_eq!(rt; last.as_slice(), b"abcdef".as_slice());
+    assert!(rt; !text.is_empty() && text.len() == 3 && text != longer);
+    drop(text);
+    assert!(rt; longer.share()? == Text::from_slice(rt.alloc(), b"abcd")?);
     Ok(())
 }

@@ -58,7 +58,7 @@ fn spelled(bytes: &[u8]) -> Option<(u8, usize)>
     }
 }
 
-/// The value of as many bytes as may stand between two `"`, and how many they are.
+/// The value of as many bytes as may stand between two `"`, and how many they are. All copies of it share its bytes.
 fn string_body(alloc: Global, inside: &[u8]) -> Result<(Text, usize), OutOfMemory>
     ensures { IfOk result (λ r. IsStringBody inside.now r.0 r.1) }
 {
@@ -68,7 +68,7 @@ fn string_body(alloc: Global, inside: &[u8]) -> Result<(Text, usize), OutOfMemor
         value.push(byte)?;
         at += length;
     }
-    Ok((value, at))
+    Ok((value.share()?, at))
 }
 
 /// The value of the string literal at the front of the bytes, and how many bytes it takes.
