@@ -3,3 +3,13 @@ pub mod Counting
 pub mod Star
 pub mod Pointers
 pub mod Ranges
+pub mod Within
+pub mod Same
+pub mod Near
+pub mod RunLists
+pub mod Readings
+pub mod Hits
+pub mod Found
+pub mod FoundRuns
+pub mod SharableCells
+pub mod Told

@@ -3,4 +3,9 @@ pub mod Places
 pub mod Pieces
 pub mod Pointers
 pub mod Shapes
+pub mod Lists
+pub mod Cells
 pub mod RunErrors
+pub mod Runs
+pub mod Moved
+pub mod SameRuns

@@ -1,9 +1,11 @@
 //! What a cell holds, and the cells of an element.
 
-ghost use Rattle.std.specs.Prelude.{◌≡◌, ◌≤◌, ◌↔◌, IsTrue, Contains, length};
-ghost use Rattle.block_layout.specs.Shapes.{kind_size, same_kind, has_cell};
+ghost use Rattle.std.specs.Prelude.{◌≡◌, ◌≤◌, ◌↔◌, IsTrue};
+ghost use Rattle.block_layout.specs.Cells.{is_private};
+ghost use Rattle.block_layout.specs.Lists.{under};
+ghost use Rattle.block_layout.specs.Shapes.{IsShape, kind_size, same_kind};
 
-use std::marker::Model;
+use crate::cells::Cells;
 
 /// What a cell holds.
 #[derive(Clone, Copy, PartialEq, Eq, Debug)]
@@ -39,6 +41,13 @@ impl Kind {
         }
     }
 
+    /// Whether a cell of this kind holds a pointer to a private object.
+    pub fn is_private(self) -> bool
+        ensures { result ≡ is_private self }
+    {
+        matches!(self, Kind::Private(_))
+    }
+
     /// Whether the kind is another.
     pub fn is(self, other: Kind) -> bool
         ensures value { result ≡ same_kind self other }
@@ -48,64 +57,19 @@ impl Kind {
     }
 }
 
-/// Cells of an element: the byte offset and the kind of each. Contracts see the list.
-#[derive(Drop)]
-pub struct Cells {
-    list: Vec<(u32, Kind)>,
-}
-
-impl Model for Cells {
-    ghost use Rattle.std.specs.Prelude.{ℕ, List};
-    ghost use Rattle.block_layout.specs.declared.kind.Kind.{Kind};
-
-    ghost Value = { List (ℕ × Kind) };
-
-    ghost view = { λ c. c.list.items };
-}
-
-impl Cells {
-    /// The cells of a list. Takes no memory.
-    pub fn from_vec(list: Vec<(u32, Kind)>) -> Cells
-        ensures { result ≡ list.items }
-    {
-        Cells { list }
-    }
-
-    /// The list back. Takes no memory.
-    pub fn into_vec(self) -> Vec<(u32, Kind)>
-        ensures { result.items ≡ self }
-    {
-        self.list
-    }
-
-    /// The cells in order.
-    pub fn as_slice(&self) -> &[(u32, Kind)]
-        ensures { result.now ≡ self.now }
-    {
-        self.list.as_slice()
-    }
-
-    /// Whether a cell of this kind begins at this byte of the element.
-    pub fn has(&self, place: u32, kind: Kind) -> bool
-        ensures value { result ≡ has_cell self.now place kind }
-        ensures exact { IsTrue result ↔ Contains self.now (place, kind) }
-    {
-        self.list
-            .iter()
-            .any(|cell| cell.0 == place && cell.1.is(kind))
-    }
-
-    /// How many cells there are.
-    pub fn len(&self) -> usize
-        ensures { result ≡ length self.now }
-    {
-        self.list.len()
-    }
-}
-
 /// An element: its size in bytes, at least 1, and its cells, which lie inside it, ascending and without overlap.
 #[derive(Drop)]
 pub struct Shape {
     pub size: u32,
     pub cells: Cells,
+}
+
+impl Shape {
+    /// The kind of the cell that begins at this byte.
+    pub fn kind_at(&self, place: u32) -> Option<Kind>
+        requires { IsShape self.now }
+        ensures { result ≡ under place self.now.cells }
+    {
+        self.cells.kind_at(place)
+    }
 }

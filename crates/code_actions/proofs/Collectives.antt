@@ -33,7 +33,8 @@ use Rattle.upc_values.specs.Expansion.{Expansion, Gives, nothing, bind, does, ba
 use Rattle.upc_values.specs.Expansion.{refused_by}
 use Rattle.upc_values.specs.Reductions.{Reduction, reduction, step, reduced, back_to, promoted, element_kind}
 use Rattle.upc_values.specs.Views.{from_phase_0, with_block, element, byte_at, leaves_range, leaves_piece, is_kind}
-use Rattle.upc_values.specs.Views.{same_cells, shape_at, is_cell, destination, source}
+use Rattle.block_layout.specs.Cells.{same_cells}
+use Rattle.upc_values.specs.Views.{shape_at, is_cell, destination, source}
 use Rattle.upc_values.specs.Copying.{In_shared}
 use Rattle.upc_values.specs.Expansions as x
 use Rattle.upc_values.specs.Expansions.{Part}

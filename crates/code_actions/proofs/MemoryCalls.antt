@@ -24,10 +24,12 @@ use Rattle.upc_values.specs.declared.action.Reply.{Reply}
 use Rattle.upc_values.specs.declared.action.Reply.TheVariants as reply
 use Rattle.upc_values.specs.Lists.{Each}
 use Rattle.upc_values.specs.Shapes.{kind_at, is_integer, fits_kind, fits_cell, value_fits}
-use Rattle.upc_values.specs.Openings.{Opening, IsOpening, cell_of, is_private}
+use Rattle.block_layout.specs.Cells.{is_private}
+use Rattle.upc_values.specs.Openings.{Opening, IsOpening, cell_of}
 use Rattle.upc_values.specs.Expansion.{Expansion, Gives, Fails, Reads, Asks as Acts, Loads, Stores, bind, nothing}
 use Rattle.upc_values.specs.Expansion.{unless_refused, each_in_turn, refused_by}
-use Rattle.upc_values.specs.Views.{placed_kind, cells_within, same_cells, location_behind}
+use Rattle.block_layout.specs.Cells.{same_cells}
+use Rattle.upc_values.specs.Views.{placed_kind, cells_within, location_behind}
 use Rattle.upc_values.specs.Copying as m
 use Rattle.upc_values.specs.Copying.{Area, Nowhere, In_shared, In_private, filled}
 use Rattle.upc_values.specs.LibraryCalls.{area_of}

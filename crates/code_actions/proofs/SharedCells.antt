@@ -22,9 +22,11 @@ use Rattle.block_layout.specs.Pointers.{is_null, same_object, location}
 use Rattle.block_layout.specs.Shapes.{kind_size, same_kind, has_cell, CellsWithin, IsShape}
 use Rattle.upc_values.specs.declared.scalar.Scalar.{Scalar}
 use Rattle.upc_values.specs.declared.action.Reply.{Reply}
-use Rattle.upc_values.specs.Lists.{Each, under}
+use Rattle.block_layout.specs.Lists.{under}
+use Rattle.upc_values.specs.Lists.{Each}
 use Rattle.upc_values.specs.Shapes.{kind_at, cell_in, fits_kind, blank}
-use Rattle.upc_values.specs.Openings.{Opening, IsOpening, IsSharable, cell_of, is_private}
+use Rattle.block_layout.specs.Cells.{is_private}
+use Rattle.upc_values.specs.Openings.{Opening, IsOpening, IsSharable, cell_of}
 use Rattle.upc_values.specs.Views.{leaves_piece, shape_at, location_behind}
 use Rattle.shared_pointers.specs.Access.{cell_at, in_piece, byte_of_element}
 use Rattle.thread_steps.specs.Accesses.{shape_or_byte, cell}

@@ -11,7 +11,8 @@ use Rattle.block_layout.specs.Pieces.{count_below}
 use Rattle.block_layout.specs.declared.kind.Kind.{Kind}
 use Rattle.block_layout.specs.declared.kind.Shape.{Shape}
 use Rattle.upc_values.specs.Shapes.{kind_at}
-use Rattle.upc_values.specs.Views.{same_cells, cells_within, placed_kind}
+use Rattle.block_layout.specs.Cells.{same_cells}
+use Rattle.upc_values.specs.Views.{cells_within, placed_kind}
 
 -- a thread that there is not has no bytes
 pub none-beyond : (n b t T : ℕ) → 0 < T → T ≤ t → count_below (λ x. x / b % T == t) n ≡ 0

@@ -9,6 +9,7 @@ ghost use Rattle.block_layout.specs.Shapes.{kind_size};
 ghost use Rattle.upc_values.specs.Copying as said;
 ghost use Rattle.upc_values.specs.Expansion.{each_in_turn, refused_by};
 ghost use Rattle.upc_values.specs.Shapes as shapes;
+ghost use Rattle.block_layout.specs.Cells.{same_cells};
 ghost use Rattle.upc_values.specs.Views as views;
 ghost use Rattle.plain_calls.specs.Told.{told};
 ghost use Rattle.plain_calls.specs.Areas.{area_in, HasSharedRoom, HasPrivateRoom, HasRooms};
@@ -338,7 +339,7 @@ fn differ(
         in let cells = said.cells caller.now.threads caller.now.shapes.now
         (option_copied caller.now.private) bytes
         in is_cut (area_in dst.now) || (is_cut (area_in src.now)
-        || not (views.same_cells (cells (area_in dst.now)) (cells (area_in src.now)))))) }
+        || not (same_cells (cells (area_in dst.now)) (cells (area_in src.now)))))) }
 {
     if is_cut(caller, bytes, dst) || is_cut(caller, bytes, src) {
         return Ok(true);

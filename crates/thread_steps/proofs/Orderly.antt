@@ -25,7 +25,8 @@ use Rattle.upc_values.specs.Expansion.{Expansion, Gives, Fails, Reads, Asks, Loa
 use Rattle.upc_values.specs.Expansion.{unless_refused, does, barrier, each_in_turn, gathered, refused_by}
 use Rattle.upc_values.specs.Copying as m
 use Rattle.upc_values.specs.Copying.{Area, Nowhere, In_shared, In_private}
-use Rattle.upc_values.specs.Views.{location_behind, leaves_range, is_cell, same_cells, byte_at}
+use Rattle.block_layout.specs.Cells.{same_cells}
+use Rattle.upc_values.specs.Views.{location_behind, leaves_range, is_cell, byte_at}
 use Rattle.upc_values.specs.History.{each_thread}
 use Rattle.upc_values.specs.Shapes.{is_integer}
 use Rattle.upc_values.specs.Scalars.{zero}

@@ -4,14 +4,9 @@ use Rattle.std.specs.Prelude.{filter}
 use Rattle.block_layout.specs.declared.kind.Kind.{Kind}
 use Rattle.block_layout.specs.declared.kind.Shape.{Shape}
 use Rattle.block_layout.specs.Shapes.{same_kind}
-use Rattle.upc_values.specs.Openings.{is_private}
-use Rattle.upc_values.specs.Views.{same_cells}
+use Rattle.block_layout.specs.Cells.{same_cells, sharable}
 use Rattle.upc_types.specs.Types.{CType, base_of, Structs}
 use Rattle.upc_types.specs.Cells.{leaf_shape}
-
--- The cells that a shared object can have: pointers to private objects are none (UPC 6.5.1.1).
-abbrev pub sharable : List (ℕ × Kind) → List (ℕ × Kind)
-sharable cells = filter (λ c. not (is_private c.1)) cells
 
 -- One leaf element of a shared object of this type.
 abbrev pub element_shape : Structs → CType → Shape
@@ -19,9 +14,6 @@ element_shape structs t = record {
   size = (leaf_shape structs (base_of t)).size;
   cells = sharable (leaf_shape structs (base_of t)).cells;
 }
-
-abbrev pub same_cell : ℕ × Kind → ℕ × Kind → Bool
-same_cell c d = c.0 == d.0 && same_kind c.1 d.1
 
 abbrev pub same_shape : Shape → Shape → Bool
 same_shape a b = a.size == b.size && same_cells a.cells b.cells

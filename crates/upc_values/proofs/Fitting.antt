@@ -23,12 +23,14 @@ use Rattle.upc_values.specs.declared.action.Action.TheVariants as act
 use Rattle.upc_values.specs.declared.action.Reply.{Reply}
 use Rattle.upc_values.specs.declared.action.Reply.TheVariants.{Done, Value, Refused}
 use Rattle.upc_values.specs.declared.journal.Entry.{Entry}
-use Rattle.upc_values.specs.Lists.{Each, under}
+use Rattle.block_layout.specs.Lists.{under}
+use Rattle.upc_values.specs.Lists.{Each}
 use Rattle.upc_values.specs.Scalars.{same_loc}
 use Rattle.upc_values.specs.Shapes.{kind_at, cell_in, fits_cell, blank}
 use Rattle.upc_values.specs.Basic.{is_basic, AreBasic}
 use Rattle.upc_values.specs.Drain.{written, or_else, last_written}
-use Rattle.upc_values.specs.Openings.{Opening, IsOpening, IsDeclared, IsSharable, is_private, bytes_of, cell_of, is_named, given, blank_in, initial_of, is_initial}
+use Rattle.block_layout.specs.Cells.{is_private}
+use Rattle.upc_values.specs.Openings.{Opening, IsOpening, IsDeclared, IsSharable, bytes_of, cell_of, is_named, given, blank_in, initial_of, is_initial}
 use Rattle.upc_values.specs.History.{each_thread, objects, valued, reply, waits, marks, agrees_with, all_notified}
 use Rattle.upc_values.specs.Formed.{is_known, is_pointer, is_read, fits, fits_after, IsWellFormed, AreWellFormedFrom, AreWellFormed}
 use Rattle.upc_values.proofs.Sameness.{same_loc-true}

@@ -4,7 +4,7 @@ use Rattle.block_layout.specs.declared.place.SharedPtr.{SharedPtr}
 use Rattle.block_layout.specs.declared.kind.Kind.TheVariants as kind
 use Rattle.upc_values.specs.declared.scalar.Scalar.{Scalar}
 use Rattle.upc_values.specs.declared.scalar.Scalar.TheVariants.{Int, Shared, Lock}
-use Rattle.upc_values.specs.Lists.{under}
+use Rattle.block_layout.specs.Lists.{under}
 use Rattle.integers.specs.Integers.{in_kind}
 
 -- how blocks are copied (UPC 7.3)

@@ -16,7 +16,8 @@ use Rattle.upc_values.specs.declared.action.Action.TheVariants as act
 use Rattle.integers.specs.Integers.{converted}
 use Rattle.upc_values.specs.Shapes.{is_integer}
 use Rattle.upc_values.specs.Expansion.{Expansion, Reads, Loads, Stores, nothing, does, each_in_turn, refused_by}
-use Rattle.upc_values.specs.Views.{is_within, leaves_piece, cuts_cell, cells_within, same_cells, shape_at}
+use Rattle.block_layout.specs.Cells.{same_cells}
+use Rattle.upc_values.specs.Views.{is_within, leaves_piece, cuts_cell, cells_within, shape_at}
 use Rattle.upc_values.specs.Views.{location_behind}
 
 -- where a range of bytes begins: nowhere, in a shared object, or in a private one

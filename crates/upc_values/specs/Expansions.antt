@@ -22,7 +22,8 @@ use Rattle.upc_values.specs.Reductions.{Reduction, reduction, step, element_kind
 use Rattle.upc_values.specs.Expansion.{Expansion, Gives, Fails, Reads, nothing, bind, does, barrier, each_in_turn}
 use Rattle.upc_values.specs.Expansion.{gathered, refused_by}
 use Rattle.upc_values.specs.Views.{destination, source, byte_at, from_phase_0, with_block, element, location_behind}
-use Rattle.upc_values.specs.Views.{leaves_range, leaves_piece, cuts_cell, cells_within, same_cells, shape_at, is_cell}
+use Rattle.block_layout.specs.Cells.{same_cells}
+use Rattle.upc_values.specs.Views.{leaves_range, leaves_piece, cuts_cell, cells_within, shape_at, is_cell}
 
 -- a group of flags: none, or NOSYNC 1, MYSYNC 2 or ALLSYNC 4; those of the exit are 8 times as much
 abbrev pub is_sync : ℕ → Bool

@@ -24,8 +24,3 @@ Precedes (x ∷ xs) a b = ((x ≡ a) × Has xs b) ⊎ Precedes xs a b
 abbrev pub Pairwise : {X : Type 0} → (X → X → Type 0) → List X → Type 0
 Pairwise R [] = Unit {0}
 Pairwise R (x ∷ xs) = Each (R x) xs × Pairwise R xs
-
--- what the first pair with this number has beside it
-abbrev pub under : {X : Type 0} → ℕ → List (ℕ × X) → Option X
-under n [] = None
-under n (x ∷ xs) = cond (x.0 == n) (Some x.1) (under n xs)

@@ -11,6 +11,7 @@ use Rattle.block_layout.specs.declared.kind.Shape.{Shape}
 use Rattle.block_layout.specs.Places.{in_range}
 use Rattle.block_layout.specs.Pointers.{is_null, same_object}
 use Rattle.block_layout.specs.Shapes.{IsShape}
+use Rattle.block_layout.specs.Cells.{is_private}
 use Rattle.upc_values.specs.declared.scalar.Scalar.{Scalar}
 use Rattle.upc_values.specs.declared.scalar.Scalar.TheVariants.{Int, Shared, Lock}
 use Rattle.upc_values.specs.Lists.{Each, Numbered, Pairwise}
@@ -33,11 +34,6 @@ bytes_of objects = sum_by (λ o. o.total) objects
 -- the kind of the cell of these objects at a location
 abbrev pub cell_of : Opening → List ObjectRef → Loc → Option Kind
 cell_of o objects l = cell_in o.threads o.shapes (find (λ x. x.number == l.object) objects) l
-
--- a pointer to a private object
-abbrev pub is_private : Kind → Bool
-is_private (kind.Private n) = true
-is_private k = false
 
 -- a pointer is null, or names one of the objects: that object in every field, a thread of the run, an offset in range
 abbrev pub is_named : ℕ → List ObjectRef → SharedPtr → Bool

@@ -12,7 +12,7 @@ use Rattle.upc_values.specs.declared.format.Conversion.{Conversion}
 use Rattle.upc_values.specs.declared.format.Piece.{Piece}
 use Rattle.upc_values.specs.declared.format.Piece.TheVariants.{Plain, Converted, Stray}
 use Rattle.upc_values.specs.declared.format.Found.{Found}
-use Rattle.upc_values.specs.Lists.{under}
+use Rattle.block_layout.specs.Lists.{under}
 
 -- The decimal digits.
 abbrev pub is_digit : ℕ → Bool

@@ -6,7 +6,7 @@ use Rattle.std.specs.Ordering.{int_eq}
 use Rattle.block_layout.specs.declared.kind.Kind.{Kind}
 use Rattle.block_layout.specs.declared.kind.Kind.TheVariants.{Char, UChar, Short, UShort, Int, UInt, Long, ULong}
 use Rattle.integers.specs.declared.operator.BinOp.TheVariants.{Add, Multiply, BitAnd, BitOr, BitXor}
-use Rattle.upc_values.specs.Lists.{under}
+use Rattle.block_layout.specs.Lists.{under}
 use Rattle.integers.specs.Integers.{converted}
 use Rattle.integers.specs.Operators.{truth, binary_of}
 

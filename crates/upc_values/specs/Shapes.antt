@@ -13,7 +13,7 @@ use Rattle.upc_values.specs.declared.scalar.Scalar.{Scalar}
 use Rattle.upc_values.specs.declared.scalar.Scalar.TheVariants.{Int, Shared, Lock}
 use Rattle.upc_values.specs.declared.scalar.Value.{Value}
 use Rattle.upc_values.specs.declared.scalar.Value.TheVariants as value
-use Rattle.upc_values.specs.Lists.{under}
+use Rattle.block_layout.specs.Lists.{under}
 use Rattle.integers.specs.Integers.{in_kind}
 
 -- the kind of the cell that begins at this byte, where elements of this shape follow one another (C99 6.2.5)

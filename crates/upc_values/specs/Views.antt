@@ -69,12 +69,6 @@ placed_kind i None = None
 abbrev pub cells_within : Option Shape → ℕ → ℕ → List (ℕ × Kind)
 cells_within s x n = filter_map (λ i. placed_kind i (kind_at s (x + i))) (range_with_len 0 n)
 
--- the same cells, in place and kind
-abbrev pub same_cells : List (ℕ × Kind) → List (ℕ × Kind) → Bool
-same_cells [] [] = true
-same_cells (c ∷ cs) (d ∷ ds) = (c.0 == d.0) && (same_kind c.1 d.1 && same_cells cs ds)
-same_cells cs ds = false
-
 -- the kind is of this kind
 abbrev pub is_kind : Kind → Option Kind → Bool
 is_kind k (Some j) = same_kind k j

@@ -5,7 +5,7 @@ ghost use Rattle.std.specs.Prelude.{◌≡◌, IfOk};
 use crate::action::Action;
 use crate::listing::Listing;
 use crate::scalar::Scalar;
-use block_layout::{Cells, Shape};
+use block_layout::Shape;
 use std::alloc::{AllocError, Global};
 use upc_text::Text;
 
@@ -72,6 +72,6 @@ pub fn copy_shape(alloc: Global, shape: &Shape) -> Result<Shape, AllocError>
 {
     Ok(Shape {
         size: shape.size,
-        cells: Cells::from_vec(shape.cells.as_slice().to_vec(alloc)?),
+        cells: shape.cells.copy(alloc)?,
     })
 }

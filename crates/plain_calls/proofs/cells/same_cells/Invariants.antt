@@ -1,5 +1,5 @@
 use Rattle.std.proofs.Common.{◌≡◌, drop}
-use Rattle.upc_values.specs.Views.{same_cells}
+use Rattle.block_layout.specs.Cells.{same_cells}
 use Rattle.plain_calls.proofs.cells.same_cells.Given as goal
 
 abbrev pub invariant-loop-at : goal.invariant-loop-at

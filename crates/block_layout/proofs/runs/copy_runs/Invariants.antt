@@ -1,0 +1,6 @@
+use Rattle.std.proofs.Common.{◌≡◌, take}
+use Rattle.block_layout.specs.Runs.{runs_cells}
+use Rattle.block_layout.proofs.runs.copy_runs.Given as goal
+
+abbrev pub invariant-loop-run : goal.invariant-loop-run
+invariant-loop-run l = runs_cells l.copy.items ≡ runs_cells (take l.run-index l.runs)

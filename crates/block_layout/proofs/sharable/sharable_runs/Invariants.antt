@@ -1,0 +1,7 @@
+use Rattle.std.proofs.Common.{◌≡◌, take}
+use Rattle.block_layout.specs.Cells.{sharable}
+use Rattle.block_layout.specs.Runs.{runs_cells}
+use Rattle.block_layout.proofs.sharable.sharable_runs.Given as goal
+
+abbrev pub invariant-loop-run : goal.invariant-loop-run
+invariant-loop-run l = runs_cells l.list.items ≡ sharable (runs_cells (take l.run-index l.runs))

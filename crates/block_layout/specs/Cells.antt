@@ -1,0 +1,24 @@
+-- Lists of cells: moved, copied one behind the other (both in Moved), without pointers to private objects, compared.
+use Rattle.std.specs.Prelude.{Bool, true, false, not, ℕ, List, [], ◌∷◌, ◌==◌, ◌&&◌, filter}
+pub use Rattle.block_layout.specs.Moved.{moved, copies}
+use Rattle.block_layout.specs.Shapes.{same_kind}
+use Rattle.block_layout.specs.declared.kind.Kind.{Kind}
+use Rattle.block_layout.specs.declared.kind.Kind.TheVariants.{Private}
+
+-- A pointer to a private object.
+abbrev pub is_private : Kind → Bool
+is_private (Private n) = true
+is_private k = false
+
+-- The cells that a shared object can have: pointers to private objects are none (UPC 6.5.1.1).
+abbrev pub sharable : List (ℕ × Kind) → List (ℕ × Kind)
+sharable cells = filter (λ c. not (is_private c.1)) cells
+
+-- The same cells, in place and kind.
+abbrev pub same_cells : List (ℕ × Kind) → List (ℕ × Kind) → Bool
+same_cells [] [] = true
+same_cells (c ∷ cs) (d ∷ ds) = (c.0 == d.0) && (same_kind c.1 d.1 && same_cells cs ds)
+same_cells cs ds = false
+
+abbrev pub same_cell : ℕ × Kind → ℕ × Kind → Bool
+same_cell c d = c.0 == d.0 && same_kind c.1 d.1

@@ -1,0 +1,46 @@
+-- Cells that are held as copies of a pattern.
+use Rattle.std.specs.Prelude.{◌≡◌, ◌⊎◌, Bool, false, ◌==◌, ◌||◌}
+use Rattle.std.specs.Prelude.{ℕ, zero, suc, ◌+◌, ◌*◌, ◌<◌, ◌≤◌, List, [], ◌∷◌, ◌++◌, length}
+use Rattle.block_layout.specs.declared.kind.Kind.{Kind}
+use Rattle.block_layout.specs.Moved.{moved, copies}
+
+-- So many copies of a pattern: the first begins at `start`, each next one `stride` bytes further.
+pub record Repeated : Type 0 where
+  pub start : ℕ
+  pub stride : ℕ
+  pub count : ℕ
+  pub cells : List (ℕ × Kind)
+
+abbrev pub repeated : ℕ → ℕ → ℕ → List (ℕ × Kind) → Repeated
+repeated start stride count cells = record { start = start; stride = stride; count = count; cells = cells }
+
+abbrev pub run_cells : Repeated → List (ℕ × Kind)
+run_cells r = moved r.start (copies r.count r.stride r.cells)
+
+abbrev pub runs_cells : List Repeated → List (ℕ × Kind)
+runs_cells [] = []
+runs_cells (r ∷ rs) = run_cells r ++ runs_cells rs
+
+-- Each cell begins at a byte that 32 bits can name.
+abbrev pub AreNear : List (ℕ × Kind) → Type 0
+AreNear [] = Unit {0}
+AreNear (c ∷ cells) = (c.0 ≤ 4294967295) × AreNear cells
+
+-- A run has a copy, and its pattern a cell. It is a list as it is, or its places are near.
+pub record IsRun (r : Repeated) : Type 0 where
+  pub some : 0 < r.count
+  pub cell : 0 < length r.cells
+  pub near : ((r.start ≡ 0) × (r.count ≡ 1)) ⊎ AreNear (run_cells r)
+
+-- Whether one of these copies of a cell begins at a byte.
+abbrev pub hits : ℕ → ℕ → ℕ → ℕ → ℕ → Bool
+hits start stride zero offset place = false
+hits start stride (suc n) offset place = hits start stride n offset place || (start + (n * stride + offset)) == place
+
+-- What is left of a copy that begins at `start`, and so many copies behind it.
+abbrev pub copies_left : List (ℕ × Kind) → ℕ → ℕ → ℕ → List (ℕ × Kind) → List (ℕ × Kind)
+copies_left left start stride more pattern = moved start left ++ moved (start + stride) (copies more stride pattern)
+
+pub record IsLeft (left : List (ℕ × Kind)) (start stride more : ℕ) (pattern : List (ℕ × Kind)) : Type 0 where
+  pub near : ((start ≡ 0) × (more ≡ 0)) ⊎ AreNear (copies_left left start stride more pattern)
+  pub cell : 0 < more → 0 < length pattern

@@ -1,0 +1,97 @@
+//! Lists of cells.
+
+ghost use Rattle.std.specs.Prelude.{◌≡◌, ◌+◌, ◌*◌, ◌≤◌, ◌++◌, IfOk, OnOk};
+ghost use Rattle.block_layout.specs.Cells as pure;
+ghost use Rattle.block_layout.specs.Lists.{under};
+ghost use Rattle.block_layout.specs.Shapes.{CellsWithin, has_cell};
+
+use crate::kind::Kind;
+use std::alloc::{AllocError, Global};
+
+// Adds these cells, moved on by so many bytes.
+fn push_moved(
+    cells: &mut Vec<(u32, Kind)>,
+    start: u32,
+    size: u32,
+    part: &[(u32, Kind)],
+) -> Result<(), AllocError>
+    requires within { CellsWithin part.now 0 size }
+    requires near { start + size ≤ 4294967295 }
+    ensures { OnOk result (cells.new.items ≡ cells.old.items ++ pure.moved start part.now) }
+{
+    for (offset, kind) in part {
+        cells.push((start + *offset, *kind))?;
+    }
+    Ok(())
+}
+
+// Adds the cells of so many elements, one behind the other from there.
+pub(crate) fn push_lists(
+    cells: &mut Vec<(u32, Kind)>,
+    start: u32,
+    count: u32,
+    size: u32,
+    part: &[(u32, Kind)],
+) -> Result<(), AllocError>
+    requires within { CellsWithin part.now 0 size }
+    requires near { start + count * size ≤ 4294967295 }
+    ensures { OnOk result (cells.new.items ≡ cells.old.items ++ pure.moved start (pure.copies count size part.now)) }
+{
+    for i in 0..count {
+        push_moved(cells, start + i * size, size, part)?;
+    }
+    Ok(())
+}
+
+pub(crate) fn same_cell(a: (u32, Kind), b: (u32, Kind)) -> bool
+    ensures { result ≡ pure.same_cell a b }
+{
+    a.0 == b.0 && a.1.is(b.1)
+}
+
+pub(crate) fn same_lists(a: &[(u32, Kind)], b: &[(u32, Kind)]) -> bool
+    ensures { result ≡ pure.same_cells a.now b.now }
+{
+    if a.len() != b.len() {
+        return false;
+    }
+    for i in 0..a.len() {
+        if !same_cell(a[i], b[i]) {
+            return false;
+        }
+    }
+    true
+}
+
+// Whether a cell of this kind begins at this byte.
+pub(crate) fn list_has(cells: &[(u32, Kind)], place: u32, kind: Kind) -> bool
+    ensures { result ≡ has_cell cells.now place kind }
+{
+    cells.iter().any(|cell| cell.0 == place && cell.1.is(kind))
+}
+
+// The kind of the first cell that begins at this byte.
+pub(crate) fn kind_among(cells: &[(u32, Kind)], place: u32) -> Option<Kind>
+    ensures { result ≡ under place cells.now }
+{
+    for cell in cells {
+        if cell.0 == place {
+            return Some(cell.1);
+        }
+    }
+    None
+}
+
+// The cells without pointers to private objects.
+pub(crate) fn sharable_list(
+    alloc: Global,
+    cells: &[(u32, Kind)],
+) -> Result<Vec<(u32, Kind)>, AllocError>
+    ensures { IfOk result (λ list. list.items ≡ pure.sharable cells.now) }
+{
+    cells
+        .iter()
+        .filter(|c| !c.1.is_private())
+        .copied()
+        .collect(alloc)
+}

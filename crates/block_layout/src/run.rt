@@ -1,0 +1,168 @@
+//! Copies of a pattern of cells.
+
+ghost use Rattle.std.specs.Arc.{arc_value};
+ghost use Rattle.std.specs.List.{list_any};
+ghost use Rattle.std.specs.Prelude.{◌≡◌, ◌+◌, ◌*◌, ◌<◌, ◌≤◌, IfOk, MatchOption, None, true, length};
+ghost use Rattle.block_layout.specs.Cells as pure;
+ghost use Rattle.block_layout.specs.Lists.{under};
+ghost use Rattle.block_layout.specs.Runs.{AreNear, IsRun, hits, repeated, run_cells};
+ghost use Rattle.block_layout.specs.Shapes.{CellsWithin, has_cell};
+
+use crate::kind::Kind;
+use std::alloc::{AllocError, Global};
+use std::marker::Model;
+use std::sync::Arc;
+
+/// So many copies of a pattern: the first begins at `start`, each next one `stride` bytes further. Contracts see these
+/// four. There is a copy, and the pattern has a cell.
+#[derive(Drop)]
+pub(crate) struct Run {
+    pub(crate) start: u32,
+    pub(crate) stride: u32,
+    pub(crate) count: u32,
+    pub(crate) cells: Arc<Vec<(u32, Kind)>>,
+}
+
+impl Model for Run {
+    ghost use Rattle.std.specs.Arc.{arc_value};
+    ghost use Rattle.block_layout.specs.Runs.{Repeated, IsRun, repeated};
+
+    ghost Value = { Repeated };
+
+    ghost view = { λ r. repeated r.start r.stride r.count (arc_value r.cells).items };
+
+    ghost invariant = { λ r. IsRun (repeated r.start r.stride r.count (arc_value r.cells).items) };
+}
+
+impl Run {
+    /// Copies of this pattern.
+    pub(crate) fn of(start: u32, stride: u32, count: u32, cells: Arc<Vec<(u32, Kind)>>) -> Run
+        requires { IsRun (repeated start stride count (arc_value cells).items) }
+        ensures { result ≡ repeated start stride count (arc_value cells).items }
+    {
+        Run {
+            start,
+            stride,
+            count,
+            cells,
+        }
+    }
+
+    /// Elements of one size, one behind the other.
+    #[tactic(auto, using(crate::proofs::Near::elements_are_run))]
+    pub(crate) fn elements(
+        alloc: Global,
+        start: u32,
+        count: u32,
+        size: u32,
+        cells: &[(u32, Kind)],
+    ) -> Result<Run, AllocError>
+        requires some { 0 < count }
+        requires cell { 0 < length cells.now }
+        requires within { CellsWithin cells.now 0 size }
+        requires near { start + count * size ≤ 4294967295 }
+        ensures { IfOk result (λ run. run ≡ repeated start size count cells.now) }
+    {
+        let pattern = Arc::new(alloc, cells.to_vec(alloc)?)?;
+        Ok(Run::of(start, size, count, pattern))
+    }
+
+    /// These cells once.
+    #[tactic(auto, using(crate::proofs::Near::once_is_run, crate::proofs::Near::once_cells))]
+    pub(crate) fn once(alloc: Global, cells: Vec<(u32, Kind)>) -> Result<Run, AllocError>
+        requires { 0 < length cells.items }
+        ensures { IfOk result (λ run. run_cells run ≡ cells.items) }
+    {
+        Ok(Run::of(0, 0, 1, Arc::new(alloc, cells)?))
+    }
+
+    /// The same copies once more.
+    pub(crate) fn copy(&self) -> Result<Run, AllocError>
+        ensures { IfOk result (λ run. run ≡ self.now) }
+    {
+        Ok(Run {
+            start: self.start,
+            stride: self.stride,
+            count: self.count,
+            cells: Arc::try_clone(&self.cells)?,
+        })
+    }
+
+    /// The same copies, so many bytes further.
+    #[tactic(auto, using(crate::proofs::Near::moved_start, crate::proofs::Near::moved_is_run, crate::proofs::Near::moved_run_cells))]
+    pub(crate) fn moved(&self, by: u32) -> Result<Run, AllocError>
+        requires { AreNear (pure.moved by (run_cells self.now)) }
+        ensures { IfOk result (λ run. run_cells run ≡ pure.moved by (run_cells self.now)) }
+    {
+        Ok(Run {
+            start: by + self.start,
+            stride: self.stride,
+            count: self.count,
+            cells: Arc::try_clone(&self.cells)?,
+        })
+    }
+
+    /// Whether the pattern has a pointer to a private object.
+    pub(crate) fn has_private(&self) -> bool
+        ensures { result ≡ list_any (λ c. pure.is_private c.1) self.now.cells }
+    {
+        self.cells.as_slice().iter().any(|cell| cell.1.is_private())
+    }
+
+    /// Copies of those cells of the pattern that a shared object can have.
+    #[tactic(auto, using(crate::proofs::SharableCells::sharable_is_run, crate::proofs::SharableCells::sharable_run))]
+    pub(crate) fn with_cells(&self, cells: Arc<Vec<(u32, Kind)>>) -> Run
+        requires sharable { (arc_value cells).items ≡ pure.sharable self.now.cells }
+        requires cell { 0 < length (arc_value cells).items }
+        ensures { run_cells result ≡ pure.sharable (run_cells self.now) }
+    {
+        Run {
+            start: self.start,
+            stride: self.stride,
+            count: self.count,
+            cells,
+        }
+    }
+
+    // Whether one of the copies of a cell of the pattern begins at a byte.
+    fn reaches(&self, offset: u32, place: u32) -> bool
+        ensures { result ≡ hits self.now.start self.now.stride self.now.count offset place }
+    {
+        let first = u64::from(self.start) + u64::from(offset);
+        let place = u64::from(place);
+        if place < first {
+            return false;
+        }
+        let gap = place - first;
+        if self.stride == 0 {
+            return gap == 0;
+        }
+        let stride = u64::from(self.stride);
+        gap % stride == 0 && gap / stride < u64::from(self.count)
+    }
+
+    /// Whether a cell of this kind begins at this byte.
+    pub(crate) fn has(&self, place: u32, kind: Kind) -> bool
+        ensures { result ≡ has_cell (run_cells self.now) place kind }
+    {
+        for (offset, here) in self.cells.as_slice() {
+            if here.is(kind) && self.reaches(*offset, place) {
+                return true;
+            }
+        }
+        false
+    }
+
+    /// The kind of a cell that begins at this byte.
+    pub(crate) fn kind_at(&self, place: u32) -> Option<Kind>
+        ensures { MatchOption result (under place (run_cells self.now) ≡ None)
+            (λ kind. has_cell (run_cells self.now) place kind ≡ true) }
+    {
+        for (offset, kind) in self.cells.as_slice() {
+            if self.reaches(*offset, place) {
+                return Some(*kind);
+            }
+        }
+        None
+    }
+}

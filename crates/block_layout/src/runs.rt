@@ -1,0 +1,94 @@
+//! Lists of runs.
+
+ghost use Rattle.std.specs.Prelude.{◌≡◌, ◌++◌, ◌+◌, ◌*◌, ◌≤◌, [], IfOk, OnOk, MatchOption, None, true};
+ghost use Rattle.block_layout.specs.Moved.{moved, copies};
+ghost use Rattle.block_layout.specs.Lists.{under};
+ghost use Rattle.block_layout.specs.Runs.{AreNear, runs_cells};
+ghost use Rattle.block_layout.specs.Shapes.{CellsWithin, has_cell};
+
+use crate::kind::Kind;
+use crate::run::Run;
+use std::alloc::{AllocError, Global};
+use std::mem;
+
+// The same runs once more. They share their patterns.
+#[tactic(auto, using(crate::proofs::RunLists::runs_push, crate::proofs::RunLists::runs_take))]
+pub(crate) fn copy_runs(alloc: Global, runs: &[Run]) -> Result<Vec<Run>, AllocError>
+    ensures { IfOk result (λ copy. runs_cells copy.items ≡ runs_cells runs.now) }
+{
+    let mut copy = Vec::with_capacity(alloc, runs.len())?;
+    for run in runs {
+        copy.push(run.copy()?)?;
+    }
+    Ok(copy)
+}
+
+// Adds these runs, so many bytes further.
+#[tactic(auto, using(crate::proofs::RunLists::run_near))]
+pub(crate) fn push_moved_runs(to: &mut Vec<Run>, start: u32, runs: &[Run]) -> Result<(), AllocError>
+    requires { AreNear (moved start (runs_cells runs.now)) }
+    ensures { OnOk result (runs_cells to.new.items ≡ runs_cells to.old.items ++ moved start (runs_cells runs.now)) }
+{
+    for run in runs {
+        to.push(run.moved(start)?)?;
+    }
+    Ok(())
+}
+
+// Adds copies of the cells of these runs.
+pub(crate) fn push_run_copies(
+    to: &mut Vec<Run>,
+    start: u32,
+    count: u32,
+    size: u32,
+    runs: &[Run],
+) -> Result<(), AllocError>
+    requires within { CellsWithin (runs_cells runs.now) 0 size }
+    requires near { start + count * size ≤ 4294967295 }
+    ensures { OnOk result (runs_cells to.new.items
+        ≡ runs_cells to.old.items ++ moved start (copies count size (runs_cells runs.now))) }
+{
+    for i in 0..count {
+        push_moved_runs(to, start + i * size, runs)?;
+    }
+    Ok(())
+}
+
+// Makes the tail a run, where it has a cell.
+#[tactic(auto, using(crate::proofs::RunLists::runs_push))]
+pub(crate) fn seal(runs: &mut Vec<Run>, tail: &mut Vec<(u32, Kind)>) -> Result<(), AllocError>
+    ensures cells { OnOk result (runs_cells runs.new.items ≡ runs_cells runs.old.items ++ tail.old.items) }
+    ensures empty { OnOk result (tail.new.items ≡ []) }
+{
+    if tail.is_empty() {
+        return Ok(());
+    }
+    let alloc = *tail.allocator();
+    let cells = mem::replace(tail, Vec::new(alloc));
+    runs.push(Run::once(alloc, cells)?)?;
+    Ok(())
+}
+
+pub(crate) fn runs_have(runs: &[Run], place: u32, kind: Kind) -> bool
+    ensures { result ≡ has_cell (runs_cells runs.now) place kind }
+{
+    for run in runs {
+        if run.has(place, kind) {
+            return true;
+        }
+    }
+    false
+}
+
+// The kind of a cell of these runs that begins at this byte.
+pub(crate) fn kind_in_runs(runs: &[Run], place: u32) -> Option<Kind>
+    ensures { MatchOption result (under place (runs_cells runs.now) ≡ None)
+        (λ kind. has_cell (runs_cells runs.now) place kind ≡ true) }
+{
+    for run in runs {
+        if let Some(kind) = run.kind_at(place) {
+            return Some(kind);
+        }
+    }
+    None
+}

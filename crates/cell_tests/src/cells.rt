@@ -1,0 +1,292 @@
+//! Cells of elements that are held as copies of patterns, against lists that are made one by one.
+
+ghost use Rattle.std.specs.Prelude.{◌+◌, ◌*◌, ◌≤◌, IsTrue};
+
+use block_layout::{Cells, Kind, Shape};
+use std::alloc::{AllocError, Global};
+use std::test::Fail;
+
+// Whether so many elements of a size end below 2^32.
+fn is_near(start: u32, count: u32, size: u32) -> bool
+    ensures { IsTrue result → start + count * size ≤ 4294967295 }
+{
+    match count.checked_mul(size) {
+        Some(bytes) => bytes <= u32::MAX - start,
+        None => false,
+    }
+}
+
+// Copies of a part that lies in its size; nothing of any other.
+fn add(
+    cells: &mut Cells,
+    start: u32,
+    count: u32,
+    size: u32,
+    part: &Cells,
+) -> Result<(), AllocError> {
+    if part.lie_within(size) && is_near(start, count, size) {
+        cells.push_copies(start, count, size, part)?;
+    }
+    Ok(())
+}
+
+// The kind of the cell at a byte of a shape; None where it is no shape.
+fn kind_in(shape: &Shape, place: u32) -> Option<Kind> {
+    if shape.size > 0 && shape.cells.lie_within(shape.size) {
+        shape.kind_at(place)
+    } else {
+        None
+    }
+}
+
+// A list with these cells.
+fn of(alloc: Global, list: &[(u32, Kind)]) -> Result<Cells, AllocError> {
+    let mut cells = Cells::new(alloc);
+    for (place, kind) in list {
+        cells.push(*place, *kind)?;
+    }
+    Ok(cells)
+}
+
+// Copies of a list, cell by cell.
+fn plain(
+    list: &mut Vec<(u32, Kind)>,
+    start: u32,
+    count: u32,
+    size: u32,
+    part: &[(u32, Kind)],
+) -> Result<(), AllocError> {
+    let mut first = start;
+    for _ in 0..count {
+        for (place, kind) in part {
+            list.push((first.wrapping_add(*place), *kind))?;
+        }
+        first = first.wrapping_add(size);
+    }
+    Ok(())
+}
+
+fn equal(a: &[(u32, Kind)], b: &[(u32, Kind)]) -> bool {
+    a.len() == b.len()
+        && a.iter()
+            .zip(b.iter())
+            .all(|(x, y)| x.0 == y.0 && x.1.is(y.1))
+}
+
+// How many chars, ints behind them, elements in a row, and rows.
+const GRIDS: [(u32, u32, u32, u32); 12] = [
+    (0, 0, 3, 3),
+    (1, 0, 1, 1),
+    (3, 2, 2, 2),
+    (256, 0, 1, 2),
+    (257, 0, 1, 2),
+    (260, 1, 1, 2),
+    (260, 1, 3, 1),
+    (260, 0, 3, 4),
+    (40, 70, 2, 4),
+    (300, 300, 2, 2),
+    (12, 1, 40, 3),
+    (1000, 1, 2, 0),
+];
+
+// An element of chars and ints, as cells and as a list.
+fn element(alloc: Global, chars: u32, ints: u32) -> Result<(Cells, Vec<(u32, Kind)>), AllocError> {
+    let one = of(alloc, &[(0, Kind::Char)])?;
+    let word = of(alloc, &[(0, Kind::Int)])?;
+    let mut cells = Cells::new(alloc);
+    add(&mut cells, 0, chars, 1, &one)?;
+    add(&mut cells, chars, ints, 4, &word)?;
+    let mut list = Vec::new(alloc);
+    plain(&mut list, 0, chars, 1, &[(0, Kind::Char)])?;
+    plain(&mut list, chars, ints, 4, &[(0, Kind::Int)])?;
+    Ok((cells, list))
+}
+
+// A long, and behind it rows of elements of chars and ints, as cells and as a list.
+fn grid(
+    alloc: Global,
+    chars: u32,
+    ints: u32,
+    columns: u32,
+    rows: u32,
+) -> Result<(Cells, Vec<(u32, Kind)>), AllocError> {
+    let (part, list) = element(alloc, chars, ints)?;
+    let size = chars.wrapping_add(ints.wrapping_mul(4));
+    let mut row = Cells::new(alloc);
+    add(&mut row, 0, columns, size, &part)?;
+    let mut plain_row = Vec::new(alloc);
+    plain(&mut plain_row, 0, columns, size, list.as_slice())?;
+    let row_size = columns.wrapping_mul(size);
+    let mut cells = of(alloc, &[(0, Kind::Long)])?;
+    add(&mut cells, 8, rows, row_size, &row)?;
+    let mut plain_grid = Vec::new(alloc);
+    plain_grid.push((0, Kind::Long))?;
+    plain(&mut plain_grid, 8, rows, row_size, plain_row.as_slice())?;
+    Ok((cells, plain_grid))
+}
+
+// Whether these are the cells of the list, however it is held.
+fn agree(alloc: Global, cells: &Cells, list: &[(u32, Kind)]) -> Result<bool, AllocError> {
+    let found = cells.to_vec(alloc)?;
+    let copy = cells.copy(alloc)?;
+    let pushed = of(alloc, list)?;
+    let held = Cells::from_vec(list.to_vec(alloc)?);
+    Ok(
+        equal(found.as_slice(), list)
+            && copy.same(cells)
+            && cells.same(&pushed)
+            && cells.same(&held),
+    )
+}
+
+#[test]
+fn copies_of_copies(rt: HostRuntime) -> Result<(), Fail> {
+    for (chars, ints, columns, rows) in &GRIDS {
+        let (cells, list) = grid(rt.alloc(), *chars, *ints, *columns, *rows)?;
+        assert!(rt; agree(rt.alloc(), &cells, list.as_slice())?);
+    }
+    Ok(())
+}
+
+// A byte of `struct { long l; struct { int a, b; char c; } s[100]; char t; }`, where s begins at 8 and an element has
+// 12 bytes, and the kind of the cell there.
+const EDGES: [(u32, Option<Kind>); 14] = [
+    (0, Some(Kind::Long)),
+    (1, None),
+    (7, None),
+    (8, Some(Kind::Int)),
+    (12, Some(Kind::Int)),
+    (16, Some(Kind::Char)),
+    (17, None),
+    (20, Some(Kind::Int)),
+    (1196, Some(Kind::Int)),
+    (1200, Some(Kind::Int)),
+    (1204, Some(Kind::Char)),
+    (1205, None),
+    (1208, Some(Kind::UChar)),
+    (1212, None),
+];
+
+// Whether a shape has this cell at a byte and no other there.
+fn is_found(shape: &Shape, place: u32, kind: Option<Kind>) -> bool {
+    kind_in(shape, place) == kind
+        && shape.cells.has(place, Kind::Int) == (kind == Some(Kind::Int))
+        && shape.cells.has(place, Kind::Char) == (kind == Some(Kind::Char))
+        && shape.cells.has(place, Kind::UChar) == (kind == Some(Kind::UChar))
+        && !shape.cells.has(place, Kind::UInt)
+}
+
+#[test]
+fn found_at_the_edges(rt: HostRuntime) -> Result<(), Fail> {
+    let part = of(
+        rt.alloc(),
+        &[(0, Kind::Int), (4, Kind::Int), (8, Kind::Char)],
+    )?;
+    let mut cells = of(rt.alloc(), &[(0, Kind::Long)])?;
+    add(&mut cells, 8, 100, 12, &part)?;
+    cells.push(1208, Kind::UChar)?;
+    let shape = Shape { size: 1216, cells };
+    for (place, kind) in &EDGES {
+        assert!(rt; is_found(&shape, *place, *kind));
+    }
+    Ok(())
+}
+
+// The greatest object, and its cells at both ends.
+#[test]
+fn of_an_array_that_is_large(rt: HostRuntime) -> Result<(), Fail> {
+    let one = of(rt.alloc(), &[(0, Kind::Char)])?;
+    let mut cells = Cells::new(rt.alloc());
+    if is_near(0, 16_777_216, 1) && one.lie_within(1) {
+        cells.push_copies(0, 16_777_216, 1, &one)?;
+    }
+    assert!(rt; cells.has(0, Kind::Char));
+    assert!(rt; cells.has(16_777_215, Kind::Char));
+    assert!(rt; !cells.has(16_777_216, Kind::Char));
+    assert!(rt; !cells.has(16_777_215, Kind::UChar));
+    let copy = cells.copy(rt.alloc())?;
+    assert!(rt; cells.same(&copy));
+    let sharable = cells.sharable(rt.alloc())?;
+    assert!(rt; sharable.same(&cells));
+    Ok(())
+}
+
+// How many elements `{ int a; T *p; char c; }` of 24 bytes there are.
+const COUNTS: [u32; 5] = [0, 1, 80, 100, 300];
+
+// So many elements with pointers to private objects, as many such pointers, and a long.
+fn with_pointers(alloc: Global, count: u32) -> Result<Cells, AllocError> {
+    let part = of(
+        alloc,
+        &[(0, Kind::Int), (8, Kind::Private(3)), (16, Kind::Char)],
+    )?;
+    let pointer = of(alloc, &[(0, Kind::Private(5))])?;
+    let mut cells = Cells::new(alloc);
+    add(&mut cells, 0, count, 24, &part)?;
+    add(&mut cells, count.wrapping_mul(24), count, 8, &pointer)?;
+    cells.push(count.wrapping_mul(32), Kind::Long)?;
+    Ok(cells)
+}
+
+// Those of them that can be shared.
+fn without_pointers(alloc: Global, count: u32) -> Result<Vec<(u32, Kind)>, AllocError> {
+    let mut list = Vec::new(alloc);
+    plain(&mut list, 0, count, 24, &[(0, Kind::Int), (16, Kind::Char)])?;
+    list.push((count.wrapping_mul(32), Kind::Long))?;
+    Ok(list)
+}
+
+#[test]
+fn those_that_can_be_shared(rt: HostRuntime) -> Result<(), Fail> {
+    for count in &COUNTS {
+        let cells = with_pointers(rt.alloc(), *count)?;
+        let list = without_pointers(rt.alloc(), *count)?;
+        let sharable = cells.sharable(rt.alloc())?;
+        assert!(rt; agree(rt.alloc(), &sharable, list.as_slice())?);
+        assert_eq!(rt; sharable.same(&cells), *count == 0);
+    }
+    Ok(())
+}
+
+// A list that begins with so many copies of a cell, and goes on with these.
+fn begun(alloc: Global, count: u32, kind: Kind, rest: &[(u32, Kind)]) -> Result<Cells, AllocError> {
+    let one = of(alloc, &[(0, kind)])?;
+    let mut cells = Cells::new(alloc);
+    add(&mut cells, 0, count, 8, &one)?;
+    for (place, kind) in rest {
+        cells.push(*place, *kind)?;
+    }
+    Ok(cells)
+}
+
+// Lists that are not the same as 300 longs with an int behind them.
+const OTHERS: [(u32, Kind, (u32, Kind)); 6] = [
+    (299, Kind::Long, (2400, Kind::Int)),
+    (301, Kind::Long, (2400, Kind::Int)),
+    (300, Kind::ULong, (2400, Kind::Int)),
+    (300, Kind::Long, (2401, Kind::Int)),
+    (300, Kind::Long, (2400, Kind::UInt)),
+    (0, Kind::Long, (2400, Kind::Int)),
+];
+
+#[test]
+fn told_apart(rt: HostRuntime) -> Result<(), Fail> {
+    let cells = begun(rt.alloc(), 300, Kind::Long, &[(2400, Kind::Int)])?;
+    for (count, kind, last) in &OTHERS {
+        let other = begun(rt.alloc(), *count, *kind, &[*last])?;
+        assert!(rt; !cells.same(&other));
+        assert!(rt; !other.same(&cells));
+    }
+    Ok(())
+}
+
+#[test]
+fn a_list_that_is_shorter(rt: HostRuntime) -> Result<(), Fail> {
+    let cells = begun(rt.alloc(), 300, Kind::Long, &[(2400, Kind::Int)])?;
+    let mut list = cells.to_vec(rt.alloc())?;
+    list.pop();
+    let shorter = Cells::from_vec(list);
+    assert!(rt; !cells.same(&shorter));
+    assert!(rt; !shorter.same(&cells));
+    Ok(())
+}

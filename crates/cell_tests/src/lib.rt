@@ -1,0 +1,5 @@
+//! Tests of the cells of elements.
+#![tactic(auto)]
+
+#[cfg(test)]
+mod cells;
