@@ -50,7 +50,7 @@ fn begin_with(shapes: &[Shape], rows: &[(u32, Kind)]) -> bool {
         return false;
     }
     for (shape, (size, kind)) in shapes.iter().zip(rows) {
-        if shape.size != *size || shape.cells.as_slice().first().copied() != Some((0, *kind)) {
+        if shape.size != *size || shape.cells.iter().next() != Some((0, *kind)) {
             return false;
         }
     }
@@ -144,7 +144,8 @@ const SUM_PLACES: [ObjectRef; 2] = [
 // Whether each shape is that of an int.
 fn are_ints(shapes: &[Shape]) -> bool {
     for shape in shapes {
-        if shape.size != 4 || shape.cells.as_slice() != [(0, Kind::Int)].as_slice() {
+        let mut cells = shape.cells.iter();
+        if shape.size != 4 || cells.next() != Some((0, Kind::Int)) || cells.next().is_some() {
             return false;
         }
     }

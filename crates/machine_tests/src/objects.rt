@@ -80,12 +80,12 @@ fn objects_end_with_block_and_call(rt: HostRuntime) -> Result<(), Fail> {
     let mut store = Store::make(alloc, &[], &[])?;
     store.push_call()?;
     assert_eq!(rt; enter_row(&mut store, alloc, 0, Kind::Int, 1)?, Ok(0));
-    assert_eq!(rt; store.shape(0).is_some(), true);
+    assert_eq!(rt; store.size(0), Some(4));
     store.leave();
     assert_eq!(rt; int_at(&store, 0, 0), Err(PRIVATE_RANGE));
     assert_eq!(rt; enter_row(&mut store, alloc, 0, Kind::Int, 1)?, Ok(1));
     store.pop_call();
-    assert_eq!(rt; store.shape(1).is_some(), false);
+    assert_eq!(rt; store.size(1), None);
     Ok(())
 }
 

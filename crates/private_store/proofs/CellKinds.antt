@@ -9,7 +9,8 @@ use Rattle.block_layout.specs.declared.kind.Kind.{Kind}
 use Rattle.block_layout.specs.declared.kind.Shape.{Shape}
 use Rattle.block_layout.specs.declared.place.LocalPtr.TheVariants as local
 use Rattle.block_layout.specs.Shapes.{IsShape, CellsWithin, kind_size}
-use Rattle.upc_values.specs.Lists.{Each, under}
+use Rattle.block_layout.specs.Lists.{under}
+use Rattle.upc_values.specs.Lists.{Each}
 use Rattle.upc_values.proofs.Lists.{each-at}
 use Rattle.private_store.specs.Live.{bytes_in}
 use Rattle.private_store.specs.Cells.{lies_within}

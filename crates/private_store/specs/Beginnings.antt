@@ -6,7 +6,8 @@ use Rattle.block_layout.specs.declared.kind.Shape.{Shape}
 use Rattle.block_layout.specs.declared.place.LocalPtr.{LocalPtr}
 use Rattle.block_layout.specs.declared.place.LocalPtr.TheVariants as local
 use Rattle.block_layout.specs.Shapes.{IsShape}
-use Rattle.upc_values.specs.Lists.{Each, Pairwise, under}
+use Rattle.block_layout.specs.Lists.{under}
+use Rattle.upc_values.specs.Lists.{Each, Pairwise}
 use Rattle.upc_values.specs.Shapes.{value_fits}
 use Rattle.upc_values.specs.declared.scalar.Value.{Value}
 use Rattle.private_store.specs.Live.{Live, bytes_in, blank_things}

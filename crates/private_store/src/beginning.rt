@@ -6,7 +6,7 @@ ghost use Rattle.upc_values.specs.Lists.{Each};
 ghost use Rattle.private_store.specs.Beginnings.{private_cell};
 ghost use Rattle.private_store.specs.code.Kept.{kind_there};
 
-use crate::finding::{byte_at, byte_place};
+use crate::finding::byte_at;
 use block_layout::{Kind, LocalPtr, Shape};
 
 // The kind of the cell of a shape that begins at an offset.
@@ -15,13 +15,9 @@ fn kind_at(shape: &Shape, offset: i64) -> Option<Kind>
     requires { IsShape shape.now }
     ensures { result ≡ kind_there offset shape.now.cells }
 {
-    let cells = shape.cells.as_slice();
     match byte_at(offset, 1, shape.size) {
         None => None,
-        Some(byte) => match byte_place(cells, byte, 0) {
-            None => None,
-            Some(place) => Some(cells[place].1),
-        },
+        Some(byte) => shape.kind_at(byte),
     }
 }
 

@@ -17,13 +17,14 @@ use block_layout::{Kind, Shape};
 use std::alloc::Global;
 use std::marker::Model;
 use upc_text::OutOfMemory;
-use upc_values::{Value, blank_value, copy_shape};
+use upc_values::{Value, blank_value};
 
 /// A live object. Contracts see its number, its shape and the value of each cell.
 #[derive(Drop)]
 pub(crate) struct Object {
     number: u64,
-    shape: Shape,
+    size: u32,
+    cells: Vec<(u32, Kind)>,
     held: Vec<Held>,
 }
 
@@ -34,9 +35,13 @@ impl Model for Object {
 
     ghost Value = { Thing };
 
-    ghost view = { λ o. record { number = o.number; shape = o.shape; values = held_values o.held.items } };
+    ghost view = { λ o. record {
+      number = o.number;
+      shape = record { size = o.size; cells = o.cells.items };
+      values = held_values o.held.items;
+    } };
 
-    ghost invariant = { λ o. IsFilled o.shape (held_values o.held.items) };
+    ghost invariant = { λ o. IsFilled (record { size = o.size; cells = o.cells.items }) (held_values o.held.items) };
 }
 
 // What these cells begin with.
@@ -56,10 +61,13 @@ impl Object {
         requires { IsShape shape.now }
         ensures { IfOk result (λ o. o ≡ blank_thing number shape.now) }
     {
+        let cells = shape.cells.to_vec(alloc)?;
+        let held = blanks(alloc, cells.as_slice())?;
         Ok(Object {
             number,
-            shape: copy_shape(alloc, shape)?,
-            held: blanks(alloc, shape.cells.as_slice())?,
+            size: shape.size,
+            cells,
+            held,
         })
     }
 
@@ -75,15 +83,7 @@ impl Object {
     pub(crate) fn size(&self) -> u32
         ensures { result ≡ self.now.shape.size }
     {
-        self.shape.size
-    }
-
-    /// Its shape.
-    pub(crate) fn shape(&self) -> &Shape
-        ensures shape { result.now ≡ self.now.shape }
-        ensures is_shape { IsShape self.now.shape }
-    {
-        &self.shape
+        self.size
     }
 
     /// The place of the cell that an access reaches, or the code of the run error.
@@ -92,10 +92,9 @@ impl Object {
     pub(crate) fn place(&self, offset: i64, kind: Kind) -> Result<usize, u8>
         ensures { IsPlace self.now offset kind result }
     {
-        let cells = self.shape.cells.as_slice();
-        match byte_at(offset, kind.size(), self.shape.size) {
+        match byte_at(offset, kind.size(), self.size) {
             None => Err(PRIVATE_RANGE),
-            Some(byte) => match cell_place(cells, byte, kind) {
+            Some(byte) => match cell_place(self.cells.as_slice(), byte, kind) {
                 None => Err(CELL_TYPE),
                 Some(place) => Ok(place),
             },

@@ -2,7 +2,8 @@
 
 ghost use Rattle.std.specs.Prelude.{◌≡◌, ◌<◌, ◌^◌, MatchOption, None, Some, length};
 ghost use Rattle.upc_values.specs.Ends;
-ghost use Rattle.run_output.specs.Output.{clipped, first_stop, status_of, stop_status, all_ended, is_ended, first_value};
+ghost use Rattle.run_output.specs.Output.{clipped, first_stop, status_of, stop_status, all_ended, is_ended};
+ghost use Rattle.run_output.specs.Output.{first_value};
 
 use upc_values::{End, Journal, Strand};
 

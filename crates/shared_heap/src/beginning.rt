@@ -2,7 +2,6 @@
 
 ghost use Rattle.std.specs.Prelude.{◌≡◌, ◌<◌, ◌≤◌, ◌^◌, Some, IfOk, slice_get, length};
 ghost use Rattle.block_layout.specs.declared.place.Loc.{Loc};
-ghost use Rattle.upc_values.specs.Lists.{under};
 ghost use Rattle.upc_values.specs.Shapes as shapes;
 ghost use Rattle.upc_values.specs.Openings as openings;
 ghost use Rattle.upc_values.specs.Openings.{IsOpening, bytes_of};
@@ -69,18 +68,6 @@ fn find_by_loc(alloc: Global, initials: &[(Loc, Scalar)]) -> Result<SavedCells, 
         cells.save(initial.0, initial.1)?;
     }
     Ok(cells)
-}
-
-// The kind of the cell that begins at this byte of an element.
-fn kind_under(byte: u32, cells: &[(u32, Kind)]) -> Option<Kind>
-    ensures { result ≡ under byte cells.now }
-{
-    for cell in cells {
-        if cell.0 == byte {
-            return Some(cell.1);
-        }
-    }
-    None
 }
 
 impl Beginning {
@@ -178,7 +165,7 @@ impl Beginning {
         ensures { result ≡ shapes.kind_at (slice_get self.now.shapes shape) byte }
     {
         match self.shapes.get(shape as usize) {
-            Some(element) => kind_under(byte % element.size, element.cells.as_slice()),
+            Some(element) => element.kind_at(byte % element.size),
             None => None,
         }
     }

@@ -142,17 +142,7 @@ pub fn work_fits(work: &ValueWork) -> bool
 fn is_shape(shape: &Shape) -> bool
     ensures { IsTrue result ↔ IsShape shape.now }
 {
-    let mut end: u64 = 0;
-    for cell in shape.cells.as_slice() {
-        if u64::from(cell.0) < end {
-            return false;
-        }
-        end = u64::from(cell.0) + u64::from(cell.1.size());
-        if end > u64::from(shape.size) {
-            return false;
-        }
-    }
-    shape.size > 0
+    shape.size > 0 && shape.cells.lie_within(shape.size)
 }
 
 fn are_shapes(shapes: &[Shape]) -> bool

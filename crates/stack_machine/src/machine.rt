@@ -101,7 +101,8 @@ impl Machine {
     }
 
     /// Goes on to the next action, or to the end. A reply answers the action that was asked for last; without one, the
-    /// same is asked for again. After want of memory the machine has failed, and answers it again, whatever it is given.
+    /// same is asked for again. After want of memory the machine has failed, and answers that again, whatever it is
+    /// given.
     pub fn resume(&mut self, code: &Code, reply: Option<Reply>) -> Result<Wish, OutOfMemory>
         ensures told { IfOk result (λ w. (thread budget : ℕ) (f : List Reply → Outcome) (given : List Reply)
             → ((replies : List Reply) → CodeMeans code.now thread budget replies (f replies))

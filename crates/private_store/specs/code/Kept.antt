@@ -7,7 +7,7 @@ use Rattle.block_layout.specs.declared.kind.Shape.{Shape}
 use Rattle.block_layout.specs.declared.place.LocalPtr.{LocalPtr}
 use Rattle.block_layout.specs.Shapes.{IsShape}
 use Rattle.upc_values.specs.declared.scalar.Value.{Value}
-use Rattle.upc_values.specs.Lists.{under}
+use Rattle.block_layout.specs.Lists.{under}
 use Rattle.upc_values.specs.Shapes.{value_fits}
 use Rattle.private_store.specs.declared.frame.Block.{Block}
 use Rattle.private_store.specs.Live.{Thing, bytes_of}

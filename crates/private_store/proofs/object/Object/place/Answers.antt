@@ -1,6 +1,7 @@
-use Rattle.private_store.proofs.Places.{rise_within}
+use Rattle.std.proofs.Common.{sym, subst}
+use Rattle.private_store.proofs.Places.{Rise, rise_within}
 use Rattle.private_store.proofs.object.Object.place.Goals as goal
 
 pub cell_place-requires : goal.cell_place-requires
 cell_place-requires c =
-    rw c.as_slice-cells.ensures (rise_within c.self.inside.shape.cells 0 c.self.inside.shape.size c.self.invariant.is_shape.1)
+    subst Rise (sym c.as_slice.ensures.value) (rise_within c.self.inside.cells.items 0 c.self.inside.size c.self.invariant.is_shape.1)

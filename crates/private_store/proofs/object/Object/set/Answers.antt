@@ -1,4 +1,5 @@
 use Rattle.std.proofs.Common.{List, set, ap, ◌∙◌, arith}
+use Rattle.block_layout.specs.declared.kind.Shape.{Shape}
 use Rattle.std.proofs.lemmas.List.{map-set}
 use Rattle.upc_values.specs.declared.scalar.Value.{Value}
 use Rattle.private_store.specs.Live.{Thing}
@@ -9,16 +10,19 @@ use Rattle.private_store.proofs.object.Object.set.Goals as goal
 pub index_mut-requires : goal.index_mut-requires
 index_mut-requires c =
     let o = c.self.inside in
-    let in_place = stands o.shape o.held.items c.args.place c.args.kind c.self.invariant (rw (← c.self.view_is) at c.requires.there) in
+    let s : Shape = record { size = o.size; cells = o.cells.items } in
+    let in_place = stands s o.held.items c.args.place c.args.kind c.self.invariant (rw (← c.self.view_is) at c.requires.there) in
     omega arith
 
 pub invariant_of-self : goal.invariant_of-self
 invariant_of-self c =
     let o = c.self.inside in
-    filled_set o.shape o.held.items c.args.place c.args.kind c.put.new.self c.args.v c.self.invariant (rw (← c.self.view_is) at c.requires.there) c.put.ensures c.requires.fits
+    let s : Shape = record { size = o.size; cells = o.cells.items } in
+    filled_set s o.held.items c.args.place c.args.kind c.put.new.self c.args.v c.self.invariant (rw (← c.self.view_is) at c.requires.there) c.put.ensures c.requires.fits
 
 pub returns : goal.returns
 returns c =
     let o = c.self.inside in
-    let seen : List Value → Thing = λ vs. record { number = o.number; shape = o.shape; values = vs } in
+    let s : Shape = record { size = o.size; cells = o.cells.items } in
+    let seen : List Value → Thing = λ vs. record { number = o.number; shape = s; values = vs } in
     rw (← c.self.view_is) (ap seen (map-set held_value o.held.items c.args.place c.put.new.self ∙ ap (λ v. set (held_values o.held.items) c.args.place v) c.put.ensures))
