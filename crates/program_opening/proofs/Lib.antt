@@ -1,3 +1,4 @@
+pub mod Noted
 pub mod Pendings
 pub mod Pointed
 pub mod Allocations
@@ -14,3 +15,4 @@ pub mod Within
 pub mod Bytes
 pub mod LaidTypes
 pub mod Numbering
+pub mod Coded

@@ -11,7 +11,7 @@ before_one true n m count f h = refl
 before_one false n m count f h = ap (λ k. k + 1) (f (omega arith))
 
 -- So it does where more stand behind.
-number_before : (xs ys : List Shape) (s : Shape) → number_among xs s < length xs → number_among (xs ++ ys) s ≡ number_among xs s
+pub number_before : (xs ys : List Shape) (s : Shape) → number_among xs s < length xs → number_among (xs ++ ys) s ≡ number_among xs s
 number_before [] ys s h = absurd (omega arith)
 number_before (x ∷ xs) ys s h = before_one (same_shape x s) (number_among xs s) (number_among (xs ++ ys) s) (length xs) (number_before xs ys s) h
 
@@ -20,7 +20,7 @@ behind_one true n m count f h = refl
 behind_one false n m count f h = ap (λ k. k + 1) (f (omega arith))
 
 -- A new one gets the number that it was to have.
-number_behind : (xs : List Shape) (s : Shape) → length xs ≤ number_among xs s → number_among (xs ++ (s ∷ [])) s ≡ number_among xs s
+pub number_behind : (xs : List Shape) (s : Shape) → length xs ≤ number_among xs s → number_among (xs ++ (s ∷ [])) s ≡ number_among xs s
 number_behind [] s h = rw (shape_itself s) refl
 number_behind (x ∷ xs) s h = behind_one (same_shape x s) (number_among xs s) (number_among (xs ++ (s ∷ [])) s) (length xs) (number_behind xs s) h
 

@@ -134,7 +134,7 @@ at_index cs place xs i x l e h =
 
 -- ---- targets of many types
 
-noted_append : (targets a b : List CType) → noted_all targets (a ++ b) ≡ noted_all (noted_all targets a) b
+pub noted_append : (targets a b : List CType) → noted_all targets (a ++ b) ≡ noted_all (noted_all targets a) b
 noted_append targets [] b = refl
 noted_append targets (t ∷ a) b = noted_append (noted targets t) a b
 

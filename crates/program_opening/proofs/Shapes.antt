@@ -1,20 +1,18 @@
--- Shapes of elements: when they are equal, and their numbers.
-use Rattle.std.proofs.Common.{◌≡◌, ℕ, ◌+◌, ◌<◌, ◌≤◌, Bool, true, false, ◌==◌, ◌&&◌, not, nat_le, if◌then◌else◌, List}
-use Rattle.std.proofs.Common.{[], ◌∷◌, ◌++◌, length, drop, get_or, is_some, refl, sym, ◌∙◌, arith}
-use Rattle.std.proofs.lemmas.Bool.{and_parts, leb-true, and_right}
-use Rattle.std.proofs.lemmas.List.{drop_more, drop_all}
+-- Shapes of elements: their cells, and their numbers.
+use Rattle.std.proofs.Common.{◌≡◌, ℕ, ◌+◌, ◌≤◌, Bool, true, false, ◌&&◌, not, nat_le, if◌then◌else◌, List}
+use Rattle.std.proofs.Common.{[], ◌∷◌, ◌++◌, is_some, refl, arith}
+use Rattle.std.proofs.lemmas.Bool.{and_parts, leb-true}
 use Rattle.block_layout.specs.declared.kind.Kind.{Kind}
 use Rattle.block_layout.specs.declared.kind.Shape.{Shape}
-use Rattle.block_layout.specs.Shapes.{same_kind, kind_size, CellsWithin}
-use Rattle.upc_values.specs.Openings.{is_private}
+use Rattle.block_layout.specs.Shapes.{kind_size, CellsWithin}
+use Rattle.block_layout.specs.Cells.{is_private, sharable}
 use Rattle.upc_values.specs.Lists.{Each}
-use Rattle.upc_values.specs.Views.{same_cells}
 use Rattle.upc_types.specs.declared.layout.Layout.{Layout}
 use Rattle.upc_types.specs.Types.{CType, base_of, Structs}
 use Rattle.upc_types.specs.Layout.{base_layout, layout_in, is_complete, size, most_bytes}
-use Rattle.typed_tree.specs.Elements.{sharable, same_cell, with_shape, with_shapes}
+use Rattle.typed_tree.specs.Elements.{with_shape, with_shapes}
 use Rattle.typing_rules.specs.Rules.{has_size}
-use Rattle.upc_types.proofs.Within.{lower}
+use Rattle.block_layout.proofs.Within.{lower}
 use Rattle.upc_types.proofs.Sizes.{if_small}
 
 -- ---- types with a layout
@@ -58,47 +56,6 @@ each_one false c ys e h = (e, h)
 pub sharable_each : (cells : List (ℕ × Kind)) → Each (λ c. is_private c.1 ≡ false) (sharable cells)
 sharable_each [] = tt
 sharable_each (c ∷ cells) = each_one (is_private c.1) c (sharable cells) refl (sharable_each cells)
-
--- ---- equal cells
-
--- Cells compared as wholes.
-pub cells_cons : (c d : ℕ × Kind) (cs ds : List (ℕ × Kind)) → same_cells (c ∷ cs) (d ∷ ds)
-    ≡ (same_cell c d && same_cells cs ds)
-cells_cons c d cs ds = go (c.0 == d.0)
-  where
-    go : (b : Bool) → (b && (same_kind c.1 d.1 && same_cells cs ds)) ≡ ((b && same_kind c.1 d.1) && same_cells cs ds)
-    go true = refl
-    go false = refl
-
-pub lengths_differ : (a b : List (ℕ × Kind)) → (length a ≡ length b → ⊥) → same_cells a b ≡ false
-lengths_differ [] [] h = absurd (h refl)
-lengths_differ [] (d ∷ ds) h = refl
-lengths_differ (c ∷ cs) [] h = refl
-lengths_differ (c ∷ cs) (d ∷ ds) h =
-    cells_cons c d cs ds ∙ and_right (same_cell c d) (same_cells cs ds)
-    (lengths_differ cs ds (λ e. h (omega (arith, e))))
-
--- Two lists from a cell on.
-pub cells_from : (a b : List (ℕ × Kind)) (i : ℕ) (x y : ℕ × Kind) → i < length a → i < length b →
-    same_cells (drop i a) (drop i b)
-    ≡ (same_cell (get_or a i x) (get_or b i y) && same_cells (drop (i + 1) a) (drop (i + 1) b))
-cells_from a b i x y h k =
-    rw (drop_more a i x h, drop_more b i y k)
-    (cells_cons (get_or a i x) (get_or b i y) (drop (i + 1) a) (drop (i + 1) b))
-
-and_yes : (a b : Bool) → a ≡ true → b ≡ (a && b)
-and_yes true b h = refl
-and_yes false b h = absurd cc
-
-pub cells_more : (a b : List (ℕ × Kind)) (i : ℕ) (x y : ℕ × Kind) → i < length a → i < length b →
-    same_cell (get_or a i x) (get_or b i y) ≡ true →
-    same_cells (drop (i + 1) a) (drop (i + 1) b) ≡ same_cells (drop i a) (drop i b)
-cells_more a b i x y h k e =
-    and_yes (same_cell (get_or a i x) (get_or b i y)) (same_cells (drop (i + 1) a) (drop (i + 1) b)) e
-    ∙ sym (cells_from a b i x y h k)
-
-pub cells_end : (a b : List (ℕ × Kind)) (i : ℕ) → length a ≤ i → length b ≤ i → same_cells (drop i a) (drop i b) ≡ true
-cells_end a b i h k = rw (drop_all i a h, drop_all i b k) refl
 
 -- ---- numbers of shapes
 

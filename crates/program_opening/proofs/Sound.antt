@@ -7,7 +7,8 @@ use Rattle.std.proofs.lemmas.Bool.{and_parts, eqb-true, eq-eqb, ltb-true}
 use Rattle.block_layout.specs.declared.kind.Kind.{Kind}
 use Rattle.block_layout.specs.declared.kind.Shape.{Shape}
 use Rattle.block_layout.specs.Shapes.{same_kind, IsShape}
-use Rattle.upc_values.specs.Views.{same_cells}
+use Rattle.block_layout.specs.Cells.{same_cells, same_cell}
+use Rattle.block_layout.proofs.Same.{cells_cons}
 use Rattle.upc_values.specs.Lists.{Each, Has}
 use Rattle.upc_values.specs.Openings.{IsSharable}
 use Rattle.upc_types.specs.declared.layout.Known.{Known}
@@ -18,9 +19,9 @@ use Rattle.upc_types.specs.Cells.{leaf_base, leaf_cells, struct_cells, object_sh
 use Rattle.upc_types.specs.Kept.{IsFine}
 use Rattle.upc_types.proofs.Order.{leaf_complete}
 use Rattle.upc_types.proofs.Within.{leaf_within, object_within}
-use Rattle.typed_tree.specs.Elements.{element_shape, same_cell, same_shape, number_among, with_shape, with_shapes}
+use Rattle.typed_tree.specs.Elements.{element_shape, same_shape, number_among, with_shape, with_shapes}
 use Rattle.typing_rules.specs.Rules.{has_size}
-use Rattle.program_opening.proofs.Shapes.{layout_is, cells_cons, sharable_within, sharable_each}
+use Rattle.program_opening.proofs.Shapes.{layout_is, sharable_within, sharable_each}
 use Rattle.upc_types.proofs.Members.{kind_some, pointer_some}
 use Rattle.upc_types.proofs.Steps.{positive}
 use Rattle.upc_types.proofs.Equal.{kind_is}
@@ -112,7 +113,7 @@ cells_themselves (c ∷ cs) = rw (eq-eqb c.0 c.0 refl, kind_itself c.1, cells_th
 abbrev shape_of : ℕ → List (ℕ × Kind) → Shape
 shape_of n cs = record { size = n; cells = cs }
 
-shape_is : (a b : Shape) → same_shape a b ≡ true → a ≡ b
+pub shape_is : (a b : Shape) → same_shape a b ≡ true → a ≡ b
 shape_is a b h =
     let p = and_parts (a.size == b.size) (same_cells a.cells b.cells) h in
     let e = eqb-true a.size b.size p.0 in

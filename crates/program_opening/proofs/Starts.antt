@@ -12,9 +12,11 @@ use Rattle.block_layout.specs.declared.place.ObjectRef.{ObjectRef}
 use Rattle.block_layout.specs.Pieces.{count_below, piece_of}
 use Rattle.upc_values.specs.declared.scalar.Scalar.{Scalar}
 use Rattle.upc_values.specs.declared.scalar.Scalar.TheVariants as scalar
-use Rattle.upc_values.specs.Lists.{Each, Pairwise, under}
+use Rattle.block_layout.specs.Lists.{under}
+use Rattle.upc_values.specs.Lists.{Each, Pairwise}
 use Rattle.upc_values.specs.Shapes.{kind_at, cell_in, fits_cell, fits_kind}
-use Rattle.upc_values.specs.Openings.{Opening, cell_of, is_private, is_initial}
+use Rattle.block_layout.specs.Cells.{is_private}
+use Rattle.upc_values.specs.Openings.{Opening, cell_of, is_initial}
 use Rattle.upc_types.specs.Types.{CType, Base, Void, Integer, Struct, Array, Pointer, LockObject, base_of, Structs}
 use Rattle.upc_types.specs.Layout.{size}
 use Rattle.upc_types.specs.Cells.{pointer_kind, leaf_base, leaf_cells, struct_cells}
@@ -23,7 +25,8 @@ use Rattle.typed_tree.specs.Tree.{DeclaredObject, Initial, NoInitial, InitialVal
 use Rattle.typing_rules.specs.Attributes.{constant_of}
 use Rattle.upc_values.specs.declared.scalar.Value.{Value}
 use Rattle.upc_values.specs.declared.scalar.Value.TheVariants as value
-use Rattle.typed_tree.specs.Elements.{sharable, element_shape}
+use Rattle.block_layout.specs.Cells.{sharable}
+use Rattle.typed_tree.specs.Elements.{element_shape}
 use Rattle.typed_tree.specs.Objects.{object_of, bytes_in, lies, placed_from}
 use Rattle.typed_tree.specs.Initials.{Setting, scalar_kind, single, at_start, shared_from, value_in}
 use Rattle.program_opening.proofs.Sound.{IsListed}

@@ -11,12 +11,14 @@ use Rattle.block_layout.specs.declared.place.LocalPtr.{LocalPtr}
 use Rattle.block_layout.specs.declared.place.LocalPtr.TheVariants as local
 use Rattle.block_layout.specs.Shapes.{kind_size}
 use Rattle.upc_values.specs.Openings.{Opening, is_initial}
-use Rattle.upc_values.specs.Lists.{Each, Pairwise, under}
+use Rattle.block_layout.specs.Lists.{under}
+use Rattle.upc_values.specs.Lists.{Each, Pairwise}
 use Rattle.upc_values.specs.declared.scalar.Scalar.{Scalar}
 use Rattle.upc_types.specs.declared.layout.Layout.{Layout}
 use Rattle.upc_types.specs.Types.{CType, Qualified, Base, Integer, Array, Pointer, base_of, Structs}
 use Rattle.upc_types.specs.Layout.{base_layout, layout_in}
-use Rattle.upc_types.specs.Cells.{number_of, pointer_kind, moved, copies, leaf_base, leaves, leaf_cells}
+use Rattle.block_layout.specs.Cells.{moved, copies}
+use Rattle.upc_types.specs.Cells.{number_of, pointer_kind, leaf_base, leaves, leaf_cells}
 use Rattle.upc_types.specs.Cells.{object_cells, struct_cells, object_shape}
 use Rattle.typing_rules.specs.declared.attribute.Constant.{Constant}
 use Rattle.typing_rules.specs.Attributes.{constant_of}

@@ -22,7 +22,8 @@ use Rattle.block_layout.proofs.Pointers.{same_object-refl}
 use Rattle.integers.specs.Integers.{width, least, values, in_kind, converted}
 use Rattle.upc_values.specs.declared.scalar.Scalar.{Scalar}
 use Rattle.upc_values.specs.declared.scalar.Scalar.TheVariants as scalar
-use Rattle.upc_values.specs.Openings.{is_private, is_named}
+use Rattle.block_layout.specs.Cells.{is_private}
+use Rattle.upc_values.specs.Openings.{is_named}
 use Rattle.upc_values.specs.Shapes.{fits_kind, value_fits}
 use Rattle.typing_rules.specs.declared.attribute.Static.TheVariants as static
 use Rattle.typing_rules.specs.declared.attribute.Constant.{Constant}

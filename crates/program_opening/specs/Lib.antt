@@ -1,3 +1,4 @@
 pub mod ViewSettings
 pub mod LaidObjects
 pub mod Pending
+pub mod Apart

@@ -1,6 +1,6 @@
 //! What a checked program begins with.
 
-ghost use Rattle.std.specs.Prelude.{◌≡◌, ◌<◌, ◌≤◌, true, map, IfOk};
+ghost use Rattle.std.specs.Prelude.{◌≡◌, ◌<◌, ◌≤◌, ◌++◌, true, map, IfOk, OnOk};
 ghost use Rattle.upc_values.specs.Lists.{Each};
 ghost use Rattle.upc_values.specs.Openings.{IsOpening};
 ghost use Rattle.upc_types.specs.View.{view};
@@ -8,9 +8,10 @@ ghost use Rattle.upc_types.specs.ViewStructs.{view_structs};
 ghost use Rattle.typed_tree.specs.Beginnings as pure;
 ghost use Rattle.typed_tree.specs.Beginnings.{view_beginning};
 ghost use Rattle.typing_rules.specs.Rules.{has_size};
-ghost use Rattle.typed_tree.specs.Objects.{bytes_in, shared_in, private_in};
+ghost use Rattle.typed_tree.specs.Objects.{bytes_in, shared_in, private_in, type_of};
 ghost use Rattle.typed_tree.specs.PrivateOpenings.{HavePrivateValues, shape_bytes};
 ghost use Rattle.typed_tree.specs.Programs.{checked_of, start_of, without_targets};
+ghost use Rattle.typed_tree.specs.Targets.{with_targets};
 ghost use Rattle.typed_tree.specs.ViewStatements.{view_function, view_object};
 
 use crate::allocated::allocated_types;
@@ -62,6 +63,24 @@ fn begun(
     })
 }
 
+// Gives the types of the pointers in all objects numbers, and puts the cells of structs together.
+fn prepare(
+    alloc: Global,
+    structs: &mut Structs,
+    objects: &[Object],
+    allocated: &[CType],
+    inside: &[CType],
+) -> Result<(), OutOfMemory>
+    requires layouts { Each (λ x. has_size (view_structs structs.old) x.ctype ≡ true) (map view_object objects.now) }
+    requires allocated { Each (λ t. has_size (view_structs structs.old) t ≡ true) (map view allocated.now) }
+    requires inside { Each (λ t. has_size (view_structs structs.old) t ≡ true) (map view inside.now) }
+    ensures { OnOk result (view_structs structs.new ≡ with_targets (view_structs structs.old)
+        (map type_of (map view_object objects.now) ++ map view allocated.now ++ map view inside.now)) }
+{
+    note_all_types(alloc, structs, objects, allocated, inside)?;
+    structs.hold_cells(alloc)
+}
+
 /// What a program begins with that runs on so many threads and has these structs, objects of the file in order of
 /// declaration, types of elements of allocated objects, and types of parameters and objects of functions.
 pub fn open(
@@ -85,7 +104,7 @@ pub fn open(
     ensures private { IfOk result (λ b. HavePrivateValues threads (view_beginning b)) }
 {
     let mut structs = structs;
-    note_all_types(alloc, &mut structs, objects, allocated, inside)?;
+    prepare(alloc, &mut structs, objects, allocated, inside)?;
     begun(alloc, threads, structs, objects, allocated)
 }
 

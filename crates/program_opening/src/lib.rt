@@ -7,9 +7,11 @@ mod beginning;
 mod elements;
 mod initials;
 mod inside;
+mod known_shapes;
 mod objects;
 mod privates;
 mod setting;
+mod shape_codes;
 mod targets;
 mod values;
 

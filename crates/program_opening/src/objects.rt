@@ -1,6 +1,6 @@
 //! The objects of a file, and where the shared ones lie.
 
-ghost use Rattle.std.specs.Prelude.{◌≡◌, ◌+◌, ◌++◌, ◌<◌, ◌≤◌, true, length, List, map, IfOk, OnOk, vec_len};
+ghost use Rattle.std.specs.Prelude.{◌≡◌, ◌+◌, ◌++◌, ◌<◌, ◌≤◌, true, length, List, map, IfOk, OnOk};
 ghost use Rattle.block_layout.specs.declared.kind.Shape.{Shape};
 ghost use Rattle.upc_values.specs.Lists.{Each};
 ghost use Rattle.upc_types.specs.View.{view};
@@ -11,7 +11,8 @@ ghost use Rattle.typed_tree.specs.Elements as elements;
 ghost use Rattle.typed_tree.specs.Objects as pure;
 ghost use Rattle.typed_tree.specs.ViewStatements.{view_object};
 
-use crate::elements::{element_shape, number_shape, number_types};
+use crate::elements::{element_shape, number_types};
+use crate::known_shapes::KnownShapes;
 use block_layout::{ObjectRef, Shape};
 use std::alloc::Global;
 use typed_tree::{Object, SharedDecl};
@@ -102,23 +103,21 @@ fn placed(
 fn placed_next(
     alloc: Global,
     structs: &Structs,
-    shapes: &mut Vec<Shape>,
+    shapes: &mut KnownShapes,
     number: u32,
     base: u32,
     declared: &Object,
 ) -> Result<SharedDecl, OutOfMemory>
     requires layout { has_size (view_structs structs.now) (view declared.now.ctype) ≡ true }
-    requires few { vec_len shapes.old ≤ 4294967295 }
-    ensures shapes { OnOk result (shapes.new.items ≡ elements.with_shape shapes.old.items
+    ensures shapes { OnOk result (shapes.new.list.items ≡ elements.with_shape shapes.old.list.items
         (elements.element_shape (view_structs structs.now) (view declared.now.ctype))) }
-    ensures few { OnOk result (vec_len shapes.new ≤ 4294967295) }
     ensures object { IfOk result (λ x. (more : List Shape)
-        → x ≡ pure.placed (view_structs structs.now) (elements.with_shapes shapes.new.items more) number base
+        → x ≡ pure.placed (view_structs structs.now) (elements.with_shapes shapes.new.list.items more) number base
         (view_object declared.now)) }
 {
     let element = element_shape(alloc, &declared.ctype, structs)?;
     let size = element.size;
-    let shape = number_shape(shapes, element)?;
+    let shape = shapes.number(element)?;
     let one = placed(alloc, structs, shape, size, number, base, declared)?;
     Ok(one)
 }
@@ -128,19 +127,17 @@ fn placed_next(
 fn placed_objects(
     alloc: Global,
     structs: &Structs,
-    shapes: &mut Vec<Shape>,
+    shapes: &mut KnownShapes,
     objects: &[Object],
 ) -> Result<Vec<SharedDecl>, OutOfMemory>
     requires layouts { Each (λ x. has_size (view_structs structs.now) x.ctype ≡ true) (map view_object objects.now) }
-    requires few { vec_len shapes.old ≤ 4294967295 }
     requires bytes { pure.bytes_in (view_structs structs.now)
         (pure.shared_in (map view_object objects.now)) ≤ 16777216 }
-    ensures shapes { OnOk result (shapes.new.items ≡ elements.with_shapes shapes.old.items
+    ensures shapes { OnOk result (shapes.new.list.items ≡ elements.with_shapes shapes.old.list.items
         (map (elements.element_shape (view_structs structs.now))
         (map pure.type_of (pure.shared_in (map view_object objects.now))))) }
-    ensures few { OnOk result (vec_len shapes.new ≤ 4294967295) }
     ensures objects { IfOk result (λ xs. (more : List Shape) → xs.items
-        ≡ pure.placed_from (view_structs structs.now) (elements.with_shapes shapes.new.items more) 1 0
+        ≡ pure.placed_from (view_structs structs.now) (elements.with_shapes shapes.new.list.items more) 1 0
         (pure.shared_in (map view_object objects.now))) }
 {
     let mut shared = Vec::new(alloc);
@@ -181,8 +178,12 @@ pub(crate) fn shared_part(
         ≡ pure.placed_from (view_structs structs.now) x.shapes.items 1 0
         (pure.shared_in (map view_object objects.now))) }
 {
-    let mut shapes = Vec::new(alloc);
+    let mut shapes = KnownShapes::new(alloc);
     let objects = placed_objects(alloc, structs, &mut shapes, objects)?;
     number_types(alloc, structs, &mut shapes, types)?;
-    Ok(SharedPart { shapes, objects })
+    let KnownShapes { list, .. } = shapes;
+    Ok(SharedPart {
+        shapes: list,
+        objects,
+    })
 }

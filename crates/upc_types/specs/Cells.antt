@@ -1,9 +1,10 @@
 -- The cells of objects: the offset in bytes and the kind of each (C99 6.2.5, 6.5.2.1, 6.7.2.1; UPC 6.5.1).
-use Rattle.std.specs.Prelude.{◌≡◌, ◌<◌, ◌↔◌, true, ℕ, zero, suc, ◌+◌, ◌*◌, nat_lt, ◌==◌, Bool, ◌&&◌, if◌then◌else◌}
-use Rattle.std.specs.Prelude.{List, [], ◌∷◌, ◌++◌, length, map, Option, Some, None}
+use Rattle.std.specs.Prelude.{◌≡◌, ◌<◌, ◌↔◌, true, ℕ, ◌+◌, ◌*◌, nat_lt, ◌==◌, Bool, ◌&&◌, if◌then◌else◌}
+use Rattle.std.specs.Prelude.{List, [], ◌∷◌, ◌++◌, length, Option, Some, None}
 use Rattle.block_layout.specs.declared.kind.Kind.{Kind}
 use Rattle.block_layout.specs.declared.kind.Kind.TheVariants as k
 use Rattle.block_layout.specs.declared.kind.Shape.{Shape}
+use Rattle.block_layout.specs.Cells.{moved, copies}
 use Rattle.upc_types.specs.declared.layout.Layout.{Layout}
 use Rattle.upc_types.specs.Types.{CType, Qualified, Base, Integer, Struct, Array, Pointer, LockObject, base_of}
 use Rattle.upc_types.specs.Types.{Member, Completed, Structs}
@@ -41,15 +42,6 @@ kind_to b None number = k.Private number
 
 abbrev pub pointer_kind : List CType → CType → Kind
 pointer_kind targets (Qualified b c s x) = kind_to b s (number_of targets (Qualified b c s x))
-
--- Cells moved on by so many bytes.
-abbrev pub moved : ℕ → List (ℕ × Kind) → List (ℕ × Kind)
-moved start cells = map (λ c. (start + c.0, c.1)) cells
-
--- The cells of so many elements of one size, one behind the other.
-abbrev pub copies : ℕ → ℕ → List (ℕ × Kind) → List (ℕ × Kind)
-copies zero size cells = []
-copies (suc count) size cells = copies count size cells ++ moved (count * size) cells
 
 -- The leaf elements of an array are those of its elements; another object is its own leaf element.
 abbrev pub leaf_base : Base → Base

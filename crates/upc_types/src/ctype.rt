@@ -23,8 +23,8 @@ pub struct CType {
     pub access: Access,
 }
 
-/// A type without its qualifiers. What is pointed to and the element of an array are shared by all types that are made of
-/// them, so a copy of a type costs the same whatever its depth.
+/// A type without its qualifiers. What is pointed to and the element of an array are shared by all types that are made
+/// of them, so a copy of a type costs the same whatever its depth.
 #[cycle(types)]
 pub enum Base {
     Void,

@@ -1,8 +1,9 @@
 //! The cells of objects (C99 6.2.5, 6.5.2.1, 6.7.2.1; UPC 6.5.1).
 
-ghost use Rattle.std.specs.Prelude.{◌≡◌, ◌+◌, ◌*◌, ◌<◌, ◌≤◌, ◌++◌, ◌∷◌, [], true, ℕ, List, IfOk, IfSome, OnOk};
+ghost use Rattle.std.specs.Prelude.{◌≡◌, ◌+◌, ◌≤◌, ◌++◌, ◌∷◌, [], true, ℕ, List, IfOk, IfSome, OnOk};
 ghost use Rattle.block_layout.specs.declared.kind.Kind.{Kind};
-ghost use Rattle.block_layout.specs.Shapes.{CellsWithin, IsShape};
+ghost use Rattle.block_layout.specs.Cells.{moved};
+ghost use Rattle.block_layout.specs.Shapes.{IsShape};
 ghost use Rattle.upc_types.specs.Cells as pure;
 ghost use Rattle.upc_types.specs.KeptCells.{AreKept};
 ghost use Rattle.upc_types.specs.Layout.{base_layout, base_complete, layout_in, complete_in, is_complete, size};
@@ -27,7 +28,7 @@ pub fn shape_of(alloc: Global, t: &CType, structs: &Structs) -> Result<Shape, Ou
 {
     let leaf = leaf_of(&t.base);
     let size = structs.whole_layout(leaf).size;
-    let cells = Cells::from_vec(structs.leaf_cells(alloc, leaf)?);
+    let cells = structs.leaf_cells(alloc, leaf)?;
     Ok(Shape { size, cells })
 }
 
@@ -40,19 +41,16 @@ pub fn object_shape(alloc: Global, t: &CType, structs: &Structs) -> Result<Shape
 {
     let size = structs.whole_layout(&t.base).size;
     let part = structs.leaf_cells(alloc, leaf_of(&t.base))?;
-    let mut cells = Vec::new(alloc);
-    structs.push_leaves(&mut cells, 0, &t.base, part.as_slice())?;
-    Ok(Shape {
-        size,
-        cells: Cells::from_vec(cells),
-    })
+    let mut cells = Cells::new(alloc);
+    structs.push_leaves(&mut cells, 0, &t.base, &part)?;
+    Ok(Shape { size, cells })
 }
 
 /// The cells of a struct, kept for those that hold it.
 #[derive(Drop)]
 pub struct KeptCells {
     pub number: u32,
-    pub cells: Vec<(u32, Kind)>,
+    pub cells: Cells,
 }
 
 // So many structs may lie in one another until the cells of one are kept: so no call goes deeper, while a source may
@@ -60,10 +58,44 @@ pub struct KeptCells {
 const LEVELS: u32 = 4_096;
 
 impl Structs {
+    /// Puts the cells of every complete struct together once, in the order of completion, so that shapes are found
+    /// quickly until another struct is completed or another target is noted.
+    pub fn hold_cells(&mut self, alloc: Global) -> Result<(), OutOfMemory>
+        ensures { view_structs self.new ≡ view_structs self.old }
+    {
+        for place in 0..self.completed().len() {
+            self.hold_at(alloc, place)?;
+        }
+        Ok(())
+    }
+
+    // Holds the cells of a struct by its place in the order of completion.
+    fn hold_at(&mut self, alloc: Global, place: usize) -> Result<(), OutOfMemory>
+        ensures { view_structs self.new ≡ view_structs self.old }
+    {
+        let Some(completed) = self.completed().get(place) else {
+            return Ok(());
+        };
+        let number = completed.number;
+        if self.is_complete(&Base::Struct(number)) && self.held(number).is_none() {
+            let cells = self.struct_cells(alloc, &[], number)?;
+            self.hold(number, cells)?;
+        }
+        Ok(())
+    }
+
+    // Whether the cells of this object are those of a struct and held.
+    fn holds(&self, leaf: &Base) -> bool {
+        match leaf {
+            Base::Struct(number) => self.held(*number).is_some(),
+            _ => false,
+        }
+    }
+
     // The cells of an object that is no array.
-    pub fn leaf_cells(&self, alloc: Global, leaf: &Base) -> Result<Vec<(u32, Kind)>, OutOfMemory>
+    pub fn leaf_cells(&self, alloc: Global, leaf: &Base) -> Result<Cells, OutOfMemory>
         requires complete { base_complete (complete_in (view_structs self.now).completed) (view_base leaf.now) ≡ true }
-        ensures { IfOk result (λ cells. cells.items
+        ensures { IfOk result (λ cells. cells
             ≡ pure.leaf_cells (view_structs self.now).targets
             (pure.struct_cells (view_structs self.now).targets (view_structs self.now).completed)
             (view_base leaf.now)) }
@@ -72,13 +104,13 @@ impl Structs {
         self.leaf_cells_by(alloc, kept.as_slice(), leaf)
     }
 
-    // The cells of structs inside an object, of one in so many levels.
+    // The cells of structs inside an object, of one in so many levels, where its own are not held.
     fn kept_cells(&self, alloc: Global, leaf: &Base) -> Result<Vec<KeptCells>, OutOfMemory>
         ensures { IfOk result (λ kept. AreKept (pure.struct_cells (view_structs self.now).targets
             (view_structs self.now).completed) kept.items) }
     {
         let mut kept = Vec::new(alloc);
-        if self.depth_of(leaf) <= LEVELS {
+        if self.depth_of(leaf) <= LEVELS || self.holds(leaf) {
             return Ok(kept);
         }
         let inside = self.structs_inside(alloc, leaf)?;
@@ -113,6 +145,19 @@ impl Structs {
         Ok(())
     }
 
+    // The cells of a struct, where they are held or kept.
+    fn found<'a>(&'a self, kept: &'a [KeptCells], number: u32) -> Option<&'a Cells>
+        requires kept { AreKept (pure.struct_cells (view_structs self.now).targets
+            (view_structs self.now).completed) kept.now }
+        ensures { IfSome result (λ cells. cells.now ≡ pure.struct_cells (view_structs self.now).targets
+            (view_structs self.now).completed number) }
+    {
+        match self.held(number) {
+            Some(cells) => Some(cells),
+            None => kept_among(kept, number),
+        }
+    }
+
     // The cells of an object that is no array, where these are kept.
     #[cycle(cells)]
     fn leaf_cells_by(
@@ -120,11 +165,11 @@ impl Structs {
         alloc: Global,
         kept: &[KeptCells],
         leaf: &Base,
-    ) -> Result<Vec<(u32, Kind)>, OutOfMemory>
+    ) -> Result<Cells, OutOfMemory>
         requires complete { base_complete (complete_in (view_structs self.now).completed) (view_base leaf.now) ≡ true }
         requires kept { AreKept (pure.struct_cells (view_structs self.now).targets
             (view_structs self.now).completed) kept.now }
-        ensures { IfOk result (λ cells. cells.items
+        ensures { IfOk result (λ cells. cells
             ≡ pure.leaf_cells (view_structs self.now).targets
             (pure.struct_cells (view_structs self.now).targets (view_structs self.now).completed)
             (view_base leaf.now)) }
@@ -132,11 +177,11 @@ impl Structs {
         match leaf {
             Base::Integer(kind) => one_cell(alloc, *kind),
             Base::Pointer(target) => one_cell(alloc, self.pointer_kind(target)),
-            Base::Struct(number) => match kept_among(kept, *number) {
-                Some(cells) => copy_cells(alloc, cells),
+            Base::Struct(number) => match self.found(kept, *number) {
+                Some(cells) => Ok(cells.copy(alloc)?),
                 None => self.struct_cells(alloc, kept, *number),
             },
-            Base::Void | Base::Array(_, _) | Base::LockObject => Ok(Vec::new(alloc)),
+            Base::Void | Base::Array(_, _) | Base::LockObject => Ok(Cells::new(alloc)),
         }
     }
 
@@ -147,23 +192,23 @@ impl Structs {
         alloc: Global,
         kept: &[KeptCells],
         number: u32,
-    ) -> Result<Vec<(u32, Kind)>, OutOfMemory>
+    ) -> Result<Cells, OutOfMemory>
         requires complete { complete_in (view_structs self.now).completed number ≡ true }
         requires kept { AreKept (pure.struct_cells (view_structs self.now).targets
             (view_structs self.now).completed) kept.now }
-        ensures { IfOk result (λ cells. cells.items
+        ensures { IfOk result (λ cells. cells
             ≡ pure.struct_cells (view_structs self.now).targets
             (view_structs self.now).completed number) }
     {
         let members = self.members(number);
-        let mut cells = Vec::new(alloc);
+        let mut cells = Cells::new(alloc);
         let mut end = 0;
         for member in members {
             let base = &member.ctype.base;
             let layout = self.whole_layout(base);
             let part = self.leaf_cells_by(alloc, kept, leaf_of(base))?;
             let start = aligned(end, layout.align);
-            self.push_leaves(&mut cells, start, base, part.as_slice())?;
+            self.push_leaves(&mut cells, start, base, &part)?;
             end = start + layout.size;
         }
         Ok(cells)
@@ -172,10 +217,10 @@ impl Structs {
     // Adds the cells of an object that begins there, where these are the cells of a leaf element.
     fn push_leaves(
         &self,
-        cells: &mut Vec<(u32, Kind)>,
+        cells: &mut Cells,
         start: u32,
         base: &Base,
-        part: &[(u32, Kind)],
+        part: &Cells,
     ) -> Result<(), OutOfMemory>
         requires complete { base_complete (complete_in (view_structs self.now).completed) (view_base base.now) ≡ true }
         requires near { start + (base_layout (layout_in (view_structs self.now).completed)
@@ -184,43 +229,37 @@ impl Structs {
             ≡ pure.leaf_cells (view_structs self.now).targets
             (pure.struct_cells (view_structs self.now).targets (view_structs self.now).completed)
             (pure.leaf_base (view_base base.now)) }
-        ensures { OnOk result (cells.new.items ≡ cells.old.items
-            ++ pure.moved start (pure.object_cells (view_structs self.now).targets
+        ensures { OnOk result (cells.new ≡ cells.old
+            ++ moved start (pure.object_cells (view_structs self.now).targets
             (layout_in (view_structs self.now).completed)
             (pure.struct_cells (view_structs self.now).targets
             (view_structs self.now).completed) (view_base base.now))) }
     {
         let size = self.whole_layout(leaf_of(base)).size;
         let count = self.whole_layout(base).size / size;
-        push_copies(cells, start, count, size, part)
+        cells.push_copies(start, count, size, part)?;
+        Ok(())
     }
 }
 
 // The cells of a struct, where they are kept.
-fn kept_among(kept: &[KeptCells], number: u32) -> Option<&[(u32, Kind)]>
+fn kept_among(kept: &[KeptCells], number: u32) -> Option<&Cells>
     ensures { (f : ℕ → List (ℕ × Kind)) → AreKept f kept.now → IfSome result (λ cells. cells.now ≡ f number) }
 {
     for x in kept {
         if x.number == number {
-            return Some(x.cells.as_slice());
+            return Some(&x.cells);
         }
     }
     None
 }
 
-// The same cells once more.
-fn copy_cells(alloc: Global, cells: &[(u32, Kind)]) -> Result<Vec<(u32, Kind)>, OutOfMemory>
-    ensures { IfOk result (λ copy. copy.items ≡ cells.now) }
+// One cell, at the beginning.
+fn one_cell(alloc: Global, kind: Kind) -> Result<Cells, OutOfMemory>
+    ensures { IfOk result (λ cells. cells ≡ (0, kind) ∷ []) }
 {
-    cells.iter().copied().collect(alloc)
-}
-
-// A list of one cell, at the beginning.
-fn one_cell(alloc: Global, kind: Kind) -> Result<Vec<(u32, Kind)>, OutOfMemory>
-    ensures { IfOk result (λ cells. cells.items ≡ (0, kind) ∷ []) }
-{
-    let mut cells = Vec::new(alloc);
-    cells.push((0, kind))?;
+    let mut cells = Cells::new(alloc);
+    cells.push(0, kind)?;
     Ok(cells)
 }
 
@@ -233,38 +272,4 @@ pub(crate) fn leaf_of(base: &Base) -> &Base
         leaf = &element.base;
     }
     leaf
-}
-
-// Adds these cells, moved on by so many bytes.
-fn push_moved(
-    cells: &mut Vec<(u32, Kind)>,
-    start: u32,
-    part: &[(u32, Kind)],
-) -> Result<(), OutOfMemory>
-    requires within { CellsWithin part.now 0 most_bytes }
-    requires near { start ≤ most_bytes }
-    ensures { OnOk result (cells.new.items ≡ cells.old.items ++ pure.moved start part.now) }
-{
-    for (offset, kind) in part {
-        cells.push((start + *offset, *kind))?;
-    }
-    Ok(())
-}
-
-// Adds the cells of so many elements, one behind the other from there.
-fn push_copies(
-    cells: &mut Vec<(u32, Kind)>,
-    start: u32,
-    count: u32,
-    size: u32,
-    part: &[(u32, Kind)],
-) -> Result<(), OutOfMemory>
-    requires within { CellsWithin part.now 0 size }
-    requires near { start + count * size ≤ most_bytes }
-    ensures { OnOk result (cells.new.items ≡ cells.old.items ++ pure.moved start (pure.copies count size part.now)) }
-{
-    for i in 0..count {
-        push_moved(cells, start + i * size, part)?;
-    }
-    Ok(())
 }

@@ -1,8 +1,10 @@
 //! The structs of a program (C99 6.7.2.1).
 
 ghost use Rattle.std.specs.Prelude.{◌≡◌, ℕ, ◌<◌, ◌≤◌, None, OnOk, get_or, map, reverse, vec_len};
-ghost use Rattle.upc_types.specs.View.{view_completed};
+ghost use Rattle.upc_types.specs.Cells.{struct_cells};
+ghost use Rattle.upc_types.specs.View.{view, view_completed};
 ghost use Rattle.upc_types.specs.Kept.{IsKept};
+ghost use Rattle.upc_types.specs.KeptCells.{AreHeld};
 ghost use Rattle.upc_types.specs.Made.{AreMade};
 
 use crate::ctype::{Base, CType};
@@ -12,7 +14,7 @@ use crate::layout::{
 use crate::member_names::first_members;
 use crate::shape::leaf_of;
 use crate::targets::Targets;
-use block_layout::Kind;
+use block_layout::{Cells, Kind};
 use std::alloc::Global;
 use std::collections::BTreeMap;
 use upc_text::{OutOfMemory, Text};
@@ -53,17 +55,21 @@ pub struct Structs {
     known: Vec<Option<Known>>,
     completed: Vec<Completed>,
     targets: Targets,
+    // The cells of structs by their numbers, where they are held.
+    cells: Vec<Option<Cells>>,
     ghost kept: { IsKept (reverse (map view_completed completed.items)) known.items },
     ghost made: { AreMade (reverse completed.items) },
+    ghost held: { AreHeld (struct_cells (map view targets.list.items) (reverse (map view_completed completed.items)))
+        cells.items },
 }
 
-// Makes room for what is known of the struct with this number.
-fn make_room(known: &mut Vec<Option<Known>>, number: u32) -> Result<(), OutOfMemory>
-    ensures room { OnOk result (number < vec_len known.new) }
-    ensures same { (n : ℕ) → get_or known.new.items n None ≡ get_or known.old.items n None }
+// Makes room for what the list has of the struct with this number.
+fn make_room<X: Drop>(list: &mut Vec<Option<X>>, number: u32) -> Result<(), OutOfMemory>
+    ensures room { OnOk result (number < vec_len list.new) }
+    ensures same { (n : ℕ) → get_or list.new.items n None ≡ get_or list.old.items n None }
 {
-    while known.len() <= number as usize {
-        known.push(None)?;
+    while list.len() <= number as usize {
+        list.push(None)?;
     }
     Ok(())
 }
@@ -81,7 +87,7 @@ fn start_or(starts: &[u32], end: u32, member: u32) -> u32
 impl Structs {
     ghost use Rattle.std.specs.Prelude.{◌≡◌, ◌<◌, ◌∷◌, ◌+◌, [], true, IfOk, OnOk, OnErr, IfSome, Some, None, length};
     ghost use Rattle.std.specs.Prelude.{map, is_some};
-    ghost use Rattle.upc_types.specs.Cells.{IsItsOwn, number_of, pointer_kind, with_target};
+    ghost use Rattle.upc_types.specs.Cells.{IsItsOwn, number_of, pointer_kind, struct_cells, with_target};
     ghost use Rattle.upc_types.specs.Layout.{base_within, members_within, known_in, base_complete, base_layout};
     ghost use Rattle.upc_types.specs.Layout.{complete_in, layout_in, most_bytes, is_private_target};
     ghost use Rattle.upc_types.specs.Layout.{base_holds_private, members_hold_private, private_in, member_offset};
@@ -104,6 +110,7 @@ impl Structs {
             known: Vec::new(alloc),
             completed: Vec::new(alloc),
             targets: Targets::new(alloc),
+            cells: Vec::new(alloc),
         }
     }
 
@@ -294,6 +301,28 @@ impl Structs {
         }
     }
 
+    // The cells of a struct, where they are held.
+    pub(crate) fn held(&self, number: u32) -> Option<&Cells>
+        ensures { IfSome result (λ cells. cells.now ≡ struct_cells (view_structs self.now).targets
+            (view_structs self.now).completed number) }
+    {
+        match self.cells.get(number as usize) {
+            Some(Some(cells)) => Some(cells),
+            _ => None,
+        }
+    }
+
+    // Holds the cells of a struct.
+    pub(crate) fn hold(&mut self, number: u32, cells: Cells) -> Result<(), OutOfMemory>
+        requires cells { cells ≡ struct_cells (view_structs self.old).targets
+            (view_structs self.old).completed number }
+        ensures { view_structs self.new ≡ view_structs self.old }
+    {
+        make_room(&mut self.cells, number)?;
+        self.cells[number as usize] = Some(cells);
+        Ok(())
+    }
+
     // Whether one of these members holds a pointer to a private object.
     fn members_hold_private(&self, members: &[Member]) -> bool
         ensures { result ≡ members_hold_private (private_in (view_structs self.now).completed)
@@ -372,6 +401,7 @@ impl Structs {
         self.completed.reserve(1)?;
         make_room(&mut self.known, number)?;
         let place = self.completed.len();
+        self.cells.clear();
         self.completed.push(completed)?;
         self.known[number as usize] = Some(Known {
             place,
@@ -444,6 +474,11 @@ impl Structs {
         ensures ok { OnOk result (view_structs self.new ≡ with_target (view_structs self.old) (view target.now)) }
         ensures err { OnErr result (view_structs self.new ≡ view_structs self.old) }
     {
+        let number = self.targets.number_of(target);
+        if (number as usize) < self.targets.len() {
+            return Ok(number);
+        }
+        self.cells.clear();
         self.targets.note(target)
     }
 
@@ -451,6 +486,7 @@ impl Structs {
     pub fn forget_targets(&mut self)
         ensures { view_structs self.new ≡ record (view_structs self.old) { targets = [] } }
     {
+        self.cells.clear();
         self.targets.clear();
     }
 

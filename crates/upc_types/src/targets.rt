@@ -62,6 +62,13 @@ impl Targets {
         }
     }
 
+    /// How many targets have a number.
+    pub fn len(&self) -> usize
+        ensures { result ≡ length (map view self.now.list.items) }
+    {
+        self.list.len()
+    }
+
     // One more target, where none is alike. After want of memory nothing is changed.
     fn add(&mut self, target: &CType) -> Result<(), OutOfMemory>
         requires new { pure.number_of (map view self.old.list.items) (view target.now)

@@ -316,7 +316,8 @@ fn shapes(alloc: Global, t: &CType, structs: &Structs) -> Result<Option<(Shape, 
     }
     let leaf = shape_of(alloc, t, structs)?;
     let whole = object_shape(alloc, t, structs)?;
-    Ok(Some((leaf, whole.cells.len())))
+    let all = whole.cells.to_vec(alloc)?;
+    Ok(Some((leaf, all.len())))
 }
 
 // Whether a type has a leaf shape of this size with these cells, and so many cells as a whole.
@@ -329,9 +330,10 @@ fn has_shape(
     count: usize,
 ) -> Result<bool, Fail> {
     match shapes(alloc, t, structs)? {
-        Some((leaf, all)) => Ok(
-            leaf.size == size && leaf.cells.as_slice() == cells && all == count,
-        ),
+        Some((leaf, all)) => {
+            let found = leaf.cells.to_vec(alloc)?;
+            Ok(leaf.size == size && found.as_slice() == cells && all == count)
+        }
         None => Ok(false),
     }
 }
@@ -382,6 +384,71 @@ fn shapes_of_structs(rt: HostRuntime) -> Result<(), Fail> {
     let known = nested(rt.alloc())?;
     let all = array(rt.alloc(), plain(Base::Struct(1)), 7)?;
     assert!(rt; has_shape(rt.alloc(), &all, &known, 12, &NESTED, 42)?);
+    Ok(())
+}
+
+// A struct of a char, two pointers to int and a char; one of a char, three of those and a char; and one of a char, two
+// rows of two of these and a char.
+fn deep(alloc: Global) -> Result<Structs, Fail> {
+    let mut known = Structs::new(alloc);
+    let pointers = array(alloc, type_of(alloc, Sample::ToInt)?, 2)?;
+    between_chars(&mut known, alloc, pointers.base)?;
+    let three = array(alloc, plain(Base::Struct(0)), 3)?;
+    between_chars(&mut known, alloc, three.base)?;
+    let row = array(alloc, plain(Base::Struct(1)), 2)?;
+    let rows = array(alloc, row, 2)?;
+    between_chars(&mut known, alloc, rows.base)?;
+    Ok(known)
+}
+
+// Whether two shapes are the same.
+fn same_shape(a: &Shape, b: &Shape) -> bool {
+    a.size == b.size && a.cells.same(&b.cells)
+}
+
+// Whether objects of a type have the same shapes in both.
+fn shaped_alike(alloc: Global, t: &CType, a: &Structs, b: &Structs) -> Result<bool, Fail> {
+    if a.layout_of(&t.base).is_none() || b.layout_of(&t.base).is_none() {
+        return Ok(false);
+    }
+    let leaf = shape_of(alloc, t, a)?;
+    let whole = object_shape(alloc, t, a)?;
+    let other_leaf = shape_of(alloc, t, b)?;
+    let other_whole = object_shape(alloc, t, b)?;
+    Ok(same_shape(&leaf, &other_leaf) && same_shape(&whole, &other_whole))
+}
+
+// Whether objects of each struct, and five of it in a row, have the same shapes in both.
+fn all_alike(alloc: Global, a: &Structs, b: &Structs) -> Result<bool, Fail> {
+    for number in 0..a.declared() {
+        let row = array(alloc, plain(Base::Struct(number)), 5)?;
+        if !shaped_alike(alloc, &plain(Base::Struct(number)), a, b)?
+            || !shaped_alike(alloc, &row, a, b)?
+        {
+            return Ok(false);
+        }
+    }
+    Ok(true)
+}
+
+// One more target of pointers, and one more struct.
+fn grow(known: &mut Structs, alloc: Global, block: u32) -> Result<(), Fail> {
+    known.note(&shared(Base::Integer(Kind::Int), block))?;
+    between_chars(known, alloc, Base::Struct(block))?;
+    Ok(())
+}
+
+#[test]
+fn shapes_of_held_cells(rt: HostRuntime) -> Result<(), Fail> {
+    let mut known = deep(rt.alloc())?;
+    let mut fresh = deep(rt.alloc())?;
+    for block in [2, 3] {
+        known.hold_cells(rt.alloc())?;
+        assert!(rt; all_alike(rt.alloc(), &known, &fresh)?);
+        grow(&mut known, rt.alloc(), block)?;
+        grow(&mut fresh, rt.alloc(), block)?;
+        assert!(rt; all_alike(rt.alloc(), &known, &fresh)?);
+    }
     Ok(())
 }
 

@@ -3,10 +3,10 @@ use Rattle.block_layout.specs.declared.kind.Kind.{Kind}
 use Rattle.block_layout.specs.declared.kind.Shape.{Shape}
 use Rattle.block_layout.specs.Shapes.{CellsWithin}
 use Rattle.upc_values.specs.Lists.{Each}
-use Rattle.upc_values.specs.Openings.{is_private}
+use Rattle.block_layout.specs.Cells.{is_private}
 use Rattle.upc_types.specs.View.{view}
 use Rattle.upc_types.specs.ViewStructs.{view_structs}
-use Rattle.typed_tree.specs.Elements.{sharable}
+use Rattle.block_layout.specs.Cells.{sharable}
 use Rattle.program_opening.proofs.Shapes.{layout_is, sharable_within, sharable_each}
 use Rattle.program_opening.proofs.elements.element_shape.Goals as goal
 
@@ -19,24 +19,18 @@ shape_of-requires-clause-few c = (layout_is (view_structs c.args.structs.now) (v
 
 pub returns-clause-shape : goal.returns-clause-shape
 returns-clause-shape c =
-    let cells : c.from_vec.result ≡ sharable c.in_ok-leaf.leaf.cells = c.from_vec.ensures
-    ∙ c.in_ok-cells.ensures ∙ ap sharable c.as_slice.ensures in
     let shape = c.in_ok-leaf.ensures.shape in (
       shape.0,
-      subst (λ xs. CellsWithin xs 0 c.in_ok-leaf.leaf.size) (sym cells)
+      subst (λ xs. CellsWithin xs 0 c.in_ok-leaf.leaf.size) (sym c.in_ok-cells.ensures)
           (sharable_within c.in_ok-leaf.leaf.cells 0 c.in_ok-leaf.leaf.size shape.1),
     )
 
 pub returns-clause-sharable : goal.returns-clause-sharable
 returns-clause-sharable c =
-    let cells : c.from_vec.result ≡ sharable c.in_ok-leaf.leaf.cells = c.from_vec.ensures
-    ∙ c.in_ok-cells.ensures ∙ ap sharable c.as_slice.ensures in
-    subst (λ xs. Each (λ d. is_private d.1 ≡ false) xs) (sym cells) (sharable_each c.in_ok-leaf.leaf.cells)
+    subst (λ xs. Each (λ d. is_private d.1 ≡ false) xs) (sym c.in_ok-cells.ensures) (sharable_each c.in_ok-leaf.leaf.cells)
 
 pub returns-clause-value : goal.returns-clause-value
 returns-clause-value c =
-    let cells : c.from_vec.result ≡ sharable c.in_ok-leaf.leaf.cells = c.from_vec.ensures
-    ∙ c.in_ok-cells.ensures ∙ ap sharable c.as_slice.ensures in
-    ap (λ (xs : List (ℕ × Kind)). let s : Shape = record { size = c.in_ok-leaf.leaf.size; cells = xs } in s) cells
+    ap (λ (xs : List (ℕ × Kind)). let s : Shape = record { size = c.in_ok-leaf.leaf.size; cells = xs } in s) c.in_ok-cells.ensures
     ∙ ap (λ (y : Shape). let s : Shape = record { size = y.size; cells = sharable y.cells } in s)
     c.in_ok-leaf.ensures.value

@@ -8,6 +8,6 @@ use Rattle.program_opening.proofs.elements.number_types.Goals as goal
 pub returns : goal.returns
 returns c =
     let one = element_shape (view_structs c.args.structs.now) in
-    sym (ap (λ ys. with_shapes c.loop-t.shapes.items (map one (map view ys)))
+    sym (ap (λ ys. with_shapes c.loop-t.shapes.list.items (map one (map view ys)))
     (drop_all c.loop-t.t-index c.args.types.now c.loop-t-test.false))
     ∙ c.loop-t.invariant.rest

@@ -1,4 +1,4 @@
-use Rattle.std.proofs.Common.{◌≡◌, ◌≤◌, true, map, drop, vec_len}
+use Rattle.std.proofs.Common.{◌≡◌, true, map, drop}
 use Rattle.upc_values.specs.Lists.{Each}
 use Rattle.upc_types.specs.View.{view}
 use Rattle.upc_types.specs.ViewStructs.{view_structs}
@@ -8,8 +8,7 @@ use Rattle.program_opening.proofs.elements.number_types.Given as goal
 
 abbrev pub invariant-loop-t : goal.invariant-loop-t
 invariant-loop-t l = record {
-  rest : with_shapes l.shapes.items (map (element_shape (view_structs l.structs)) (map view (drop l.t-index l.types)))
-      ≡ with_shapes l.initial.shapes.items (map (element_shape (view_structs l.structs)) (map view l.types));
+  rest : with_shapes l.shapes.list.items (map (element_shape (view_structs l.structs)) (map view (drop l.t-index l.types)))
+      ≡ with_shapes l.initial.shapes.list.items (map (element_shape (view_structs l.structs)) (map view l.types));
   layouts : Each (λ t. has_size (view_structs l.structs) t ≡ true) (map view (drop l.t-index l.types));
-  few : vec_len l.shapes ≤ 4294967295;
 }

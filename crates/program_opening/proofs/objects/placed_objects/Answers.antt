@@ -25,29 +25,28 @@ loop-object-preserved c =
     let base = c.loop-object.base in
     let rest = shared_in (map view_object (drop (i + 1) xs)) in
     let all = shared_in (map view_object (drop i xs)) in
-    let last = with_shapes c.args.shapes.now.items (map one (map type_of (shared_in (map view_object xs)))) in
+    let last = with_shapes c.args.shapes.now.list.items (map one (map type_of (shared_in (map view_object xs)))) in
     let layouts = object_rest s xs i x c.loop-object-test.true c.object-item.is c.loop-object.invariant.layouts in
     elim c.if-is_shared.branch [
       | then-is_shared+in_ok-placed_next+in_ok-push+in_ok-number w ↦
           let h = shared_next xs i x c.loop-object-test.true c.object-item.is
           (sym c.is_shared.ensures ∙ w.if-is_shared.true) in
-          let new : w.placed_next.new.shapes.items ≡ with_shape c.loop-object.shapes.items (one (view x.ctype)) =
+          let new : w.placed_next.new.shapes.list.items ≡ with_shape c.loop-object.shapes.list.items (one (view x.ctype)) =
           w.in_ok-placed_next.ensures.shapes in
-          let ending : with_shapes w.placed_next.new.shapes.items (map one (map type_of rest)) ≡ last =
+          let ending : with_shapes w.placed_next.new.shapes.list.items (map one (map type_of rest)) ≡ last =
           ap (λ l. with_shapes l (map one (map type_of rest))) new
-          ∙ ap (λ os. with_shapes c.loop-object.shapes.items (map one (map type_of os))) (sym h)
+          ∙ ap (λ os. with_shapes c.loop-object.shapes.list.items (map one (map type_of os))) (sym h)
           ∙ c.loop-object.invariant.shapes in
           let f : c.if-is_shared.number ≡ number + 1 = w.number-is ∙ w.in_ok-number.ensures in
           let g : c.if-is_shared.base ≡ base + size s (view x.ctype) = w.base-is
           ∙ ap (λ n. base + n) w.size_of.ensures.value in
           record {
-            shapes = rw (ap (λ v. v.items) w.shapes-is) ending;
-            few = rw w.shapes-is w.in_ok-placed_next.ensures.few;
+            shapes = rw (ap (λ v. v.list.items) w.shapes-is) ending;
             rest = λ more.
                 let shapes = with_shapes last more in
                 let object = w.in_ok-placed_next.ensures.object (map one (map type_of rest) ++ more)
                 ∙ ap (λ l. placed s l number base (view_object x))
-                (shapes_append w.placed_next.new.shapes.items (map one (map type_of rest)) more
+                (shapes_append w.placed_next.new.shapes.list.items (map one (map type_of rest)) more
                 ∙ ap (λ l. with_shapes l more) ending) in
                 let e : c.if-is_shared.shared.items ≡ ys ++ (placed s shapes number base (view_object x) ∷ []) =
                 ap (λ v. v.items) w.shared-is ∙ w.in_ok-push.ensures.items
@@ -64,9 +63,8 @@ loop-object-preserved c =
           (sym c.is_shared.ensures ∙ w.if-is_shared.false) in
           record {
             shapes = rw w.shapes-is
-                (ap (λ os. with_shapes c.loop-object.shapes.items (map one (map type_of os))) (sym h)
+                (ap (λ os. with_shapes c.loop-object.shapes.list.items (map one (map type_of os))) (sym h)
                 ∙ c.loop-object.invariant.shapes);
-            few = rw w.shapes-is c.loop-object.invariant.few;
             rest = λ more.
                 rw (ap (λ v. v.items) w.shared-is, w.number-is, w.base-is)
                 (ap (λ os. ys ++ placed_from s (with_shapes last more) number base os) (sym h)

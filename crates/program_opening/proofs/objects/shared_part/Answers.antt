@@ -15,7 +15,7 @@ returns-clause-shapes c =
     let types = map view c.args.types.now in
     c.in_ok-number_types.ensures
     ∙ ap (λ ys. with_shapes ys (map one types))
-    (c.in_ok-objects.ensures.shapes ∙ ap (λ ys. with_shapes ys (map one objects)) c.new-shapes.ensures.items)
+    (c.in_ok-objects.ensures.shapes ∙ ap (λ ys. with_shapes ys (map one objects)) c.new-shapes.ensures)
     ∙ sym (shapes_append [] (map one objects) (map one types))
     ∙ ap (with_shapes []) (sym (map-append one objects types))
 

@@ -5,25 +5,8 @@ use Rattle.upc_types.specs.ViewStructs.{view_structs}
 use Rattle.typed_tree.specs.Objects.{type_of}
 use Rattle.typed_tree.specs.Targets.{with_targets}
 use Rattle.typed_tree.specs.ViewStatements.{view_object}
-use Rattle.program_opening.proofs.Chosen.{types_kept}
 use Rattle.program_opening.proofs.Pointed.{with_append}
 use Rattle.program_opening.proofs.targets.note_all_types.Goals as goal
-
-pub note_types-requires : goal.note_types-requires
-note_types-requires c =
-    types_kept (view_structs c.args.structs.now) (view_structs c.note_objects.new.structs)
-    (map type_of (map view_object c.args.objects.now)) (map view c.args.allocated.now) c.in_ok-note_objects.ensures
-    c.requires.allocated
-
-pub note_types-requires-2 : goal.note_types-requires-2
-note_types-requires-2 c =
-    let s = view_structs c.args.structs.now in
-    let n = view_structs c.note_objects.new.structs in
-    let inside = map view c.args.inside.now in
-    types_kept n (view_structs c.note_types.new.structs)
-    (map view c.args.allocated.now) inside c.in_ok-note_types.ensures
-    (types_kept s n (map type_of (map view_object c.args.objects.now)) inside c.in_ok-note_objects.ensures
-    c.requires.inside)
 
 pub returns : goal.returns
 returns c =
@@ -31,7 +14,8 @@ returns c =
     let objects = map type_of (map view_object c.args.objects.now) in
     let allocated = map view c.args.allocated.now in
     let inside = map view c.args.inside.now in
-    let both = c.in_ok-note_types.ensures ∙ ap (λ (z : Structs). with_targets z allocated) c.in_ok-note_objects.ensures
+    let both = c.in_ok-note_types.ensures.noted
+    ∙ ap (λ (z : Structs). with_targets z allocated) c.in_ok-note_objects.ensures.noted
     ∙ with_append s objects allocated in
-    c.in_ok-note_types-2.ensures ∙ ap (λ (z : Structs). with_targets z inside) both
+    c.in_ok-note_types-2.ensures.noted ∙ ap (λ (z : Structs). with_targets z inside) both
     ∙ with_append s (objects ++ allocated) inside

@@ -1,4 +1,4 @@
-use Rattle.std.proofs.Common.{◌≡◌, ◌≤◌, true, map, reverse, sym, ap, ◌∙◌, subst, arith}
+use Rattle.std.proofs.Common.{◌≡◌, ◌≤◌, true, map, reverse, sym, ap, subst, arith}
 use Rattle.block_layout.specs.Shapes.{CellsWithin}
 use Rattle.upc_types.specs.declared.layout.Layout.{Layout}
 use Rattle.upc_types.specs.View.{view, view_base, view_completed}
@@ -32,6 +32,6 @@ returns-clause-shape c =
     let targets = map view c.args.structs.now.targets.list.items in
     let leaf = view_base c.leaf_of-leaf.result.now in
     let size : c.whole_layout-size.result.size ≡ (base_layout (layout_in cs) leaf).size = ap (λ (l : Layout). l.size) c.whole_layout-size.ensures.value in
-    let cells : c.from_vec-cells.result ≡ leaf_cells targets (struct_cells targets cs) leaf = c.from_vec-cells.ensures ∙ c.in_ok-leaf_cells.ensures in
+    let cells : c.in_ok-cells.cells ≡ leaf_cells targets (struct_cells targets cs) leaf = c.in_ok-cells.ensures in
     let within = subst (λ n. CellsWithin (leaf_cells targets (struct_cells targets cs) leaf) 0 n) (sym size) (leaf_within targets cs leaf) in
     (c.whole_layout-size.ensures.fine.some, subst (λ xs. CellsWithin xs 0 c.whole_layout-size.result.size) (sym cells) within)

@@ -13,7 +13,7 @@ struct_cells-loop-member-init t c =
     let b = begun targets cs c.args.number kept.ordered (kept.fine c.args.number) c.requires.complete in
     let ms = c.members-members.ensures in
     record {
-      rest = rw (c.new-cells.ensures.items, ms) b.cells;
+      rest = rw (c.new-cells.ensures, ms) b.cells;
       ends = rw ms b.ends;
       before = rw ms b.before;
     }

@@ -14,7 +14,7 @@ decreases-struct_cells l = 2 * struct_rank (reverse (map view_completed l.self.n
 
 abbrev pub invariant-struct_cells-loop-member : goal.invariant-struct_cells-loop-member
 invariant-struct_cells-loop-member l = record {
-  rest : l.cells.items ++ member_cells (map view l.self.targets.list.items) (layout_in (reverse (map view_completed l.self.completed.items))) (struct_cells (map view l.self.targets.list.items) (reverse (map view_completed l.self.completed.items))) l.end (map view_member (drop l.member-index l.members)) ≡ struct_cells (map view l.self.targets.list.items) (reverse (map view_completed l.self.completed.items)) l.number;
+  rest : l.cells ++ member_cells (map view l.self.targets.list.items) (layout_in (reverse (map view_completed l.self.completed.items))) (struct_cells (map view l.self.targets.list.items) (reverse (map view_completed l.self.completed.items))) l.end (map view_member (drop l.member-index l.members)) ≡ struct_cells (map view l.self.targets.list.items) (reverse (map view_completed l.self.completed.items)) l.number;
   ends : end_behind l.end (member_layouts (layout_in (reverse (map view_completed l.self.completed.items))) (map view_member (drop l.member-index l.members))) ≤ most_bytes;
   before : all_complete (complete_before (reverse (map view_completed l.self.completed.items)) (place_or_none (known_in (reverse (map view_completed l.self.completed.items)) l.number))) (map view_member (drop l.member-index l.members)) ≡ true;
 }

@@ -37,9 +37,9 @@ invariant_of-self-2-clause-kept c =
     let s : c.push.new.self.items ≡ xs ++ (y ∷ []) = c.in_ok-push.ensures.items ∙ ap (λ zs. zs ++ (y ∷ [])) c.reserve.ensures.items in
     let e : reverse (map view_completed c.push.new.self.items) ≡ x ∷ cs =
     ap (λ ys. reverse (map view_completed ys)) s ∙ with_more xs y x (view_is y c.args.number ms c.in_ok-completed.ensures.number c.in_ok-completed.ensures.members) in
-    let k = kept_room cs c.args.self.now.known.items c.make_room.new.known.items c.args.self.now.kept c.make_room.ensures.same in
-    let r : c.args.number < length c.make_room.new.known.items = omega (arith, c.in_ok-make_room.ensures.room, c.make_room.new.known.ok) in
-    rw (e, n) (kept_more cs c.make_room.new.known.items c.args.number ms c.args.layout c.members_hold_private-holds_private.result k r c.requires.incomplete c.requires.layout c.requires.fine (c.members_hold_private-holds_private.ensures ∙ ap (λ xs. members_hold_private (private_in cs) (map view_member xs)) c.as_slice.ensures.value))
+    let k = kept_room cs c.args.self.now.known.items c.make_room.new.list.items c.args.self.now.kept c.make_room.ensures.same in
+    let r : c.args.number < length c.make_room.new.list.items = omega (arith, c.in_ok-make_room.ensures.room, c.make_room.new.list.ok) in
+    rw (e, n) (kept_more cs c.make_room.new.list.items c.args.number ms c.args.layout c.members_hold_private-holds_private.result k r c.requires.incomplete c.requires.layout c.requires.fine (c.members_hold_private-holds_private.ensures ∙ ap (λ xs. members_hold_private (private_in cs) (map view_member xs)) c.as_slice.ensures.value))
 
 pub invariant_of-self-2-clause-made : goal.invariant_of-self-2-clause-made
 invariant_of-self-2-clause-made c =

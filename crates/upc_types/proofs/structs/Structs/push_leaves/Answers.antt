@@ -1,8 +1,9 @@
-use Rattle.std.proofs.Common.{◌≡◌, ◌/◌, ◌<◌, ◌≤◌, ◌++◌, true, OnOk, map, reverse, sym, ap, ◌∙◌, subst, arith}
+use Rattle.std.proofs.Common.{◌≡◌, ◌/◌, ◌<◌, ◌≤◌, ◌++◌, true, map, reverse, sym, ap, ◌∙◌, subst, arith}
 use Rattle.block_layout.specs.Shapes.{CellsWithin}
 use Rattle.upc_types.specs.View.{view, view_base, view_completed}
 use Rattle.upc_types.specs.Layout.{base_layout, base_complete, complete_in, layout_in, most_bytes}
-use Rattle.upc_types.specs.Cells.{moved, copies, leaf_base, leaves, leaf_cells, struct_cells}
+use Rattle.block_layout.specs.Cells.{moved, copies}
+use Rattle.upc_types.specs.Cells.{leaf_base, leaves, leaf_cells, struct_cells}
 use Rattle.upc_types.proofs.Order.{leaf_complete}
 use Rattle.upc_types.proofs.Within.{leaf_within}
 use Rattle.upc_types.proofs.Steps.{leaf_few, leaf_count}
@@ -41,4 +42,4 @@ returns c =
     ap (λ n. n / c.whole_layout-size.result.size) (ap (λ l. l.size) c.whole_layout.ensures.value) ∙ ap (λ n. (base_layout (layout_in cs) b).size / n) size ∙ leaf_count (layout_in cs) b some in
     let cells : copies (c.whole_layout.result.size / c.whole_layout-size.result.size) c.whole_layout-size.result.size c.args.part.now ≡ copies (leaves b) (base_layout (layout_in cs) (leaf_base b)).size leaf =
     ap (λ n. copies n c.whole_layout-size.result.size c.args.part.now) count ∙ ap (λ n. copies (leaves b) n c.args.part.now) size ∙ ap (copies (leaves b) (base_layout (layout_in cs) (leaf_base b)).size) c.requires.leaf in
-    subst (λ xs. OnOk c.push_copies.result (c.push_copies.new.cells.items ≡ c.args.cells.now.items ++ moved c.args.start xs)) cells c.push_copies.ensures
+    subst (λ xs. c.push_copies.new.self ≡ c.args.cells.now ++ moved c.args.start xs) cells c.in_ok-push_copies.ensures

@@ -1,8 +1,0 @@
-use Rattle.std.proofs.Common.{◌≡◌, ◌++◌, take}
-use Rattle.upc_types.specs.Cells.{moved}
-use Rattle.upc_types.proofs.shape.push_moved.Given as goal
-
-abbrev pub invariant-loop-offset : goal.invariant-loop-offset
-invariant-loop-offset l = record {
-  done : l.cells.items ≡ l.initial.cells.items ++ moved l.start (take l.offset-index l.part);
-}
