@@ -1,14 +1,1 @@
-pub mod Bodies
-pub mod Came
-pub mod Courses
 pub mod Evaluations
-pub mod Fitting
-pub mod Items
-pub mod Left
-pub mod Libraries
-pub mod Operations
-pub mod Runners
-pub mod Settings
-pub mod Stacks
-pub mod Switches
-pub mod ViewItems

@@ -6,20 +6,19 @@ ghost use Rattle.typed_tree.specs.Tree as tree;
 ghost use Rattle.typed_tree.specs.Tree.{Exprs, exprs_of};
 ghost use Rattle.typed_tree.specs.ViewTree.{view_expr, view_kind};
 ghost use Rattle.typed_tree.specs.declared.tree.Target.TheVariants as target;
-ghost use Rattle.source_meaning.specs.Expressions as mean;
 ghost use Rattle.source_meaning.specs.Running as running;
-ghost use Rattle.upc_meaning.specs.code.Evaluations.{Went, meant, more_works, seen, with_item};
-ghost use Rattle.upc_meaning.specs.code.Items as item;
-ghost use Rattle.upc_meaning.specs.code.Runners.{Fits};
-ghost use Rattle.upc_meaning.specs.code.Settings.{running_seen};
-ghost use Rattle.upc_meaning.specs.code.ViewItems.{casts_of, view_work};
+ghost use Rattle.thread_progress.specs.code.Runners.{Fits};
+ghost use Rattle.thread_progress.specs.code.Settings.{running_seen};
+ghost use Rattle.thread_items.specs.code.Seen.{meant, more_works, with_item};
+ghost use Rattle.thread_items.specs.code.Items as item;
+ghost use Rattle.thread_items.specs.code.ViewItems.{casts_of, view_work};
+ghost use Rattle.upc_meaning.specs.code.Evaluations.{Went, seen};
 
 use crate::evaluation::Evaluation;
-use crate::progress::Step;
-use crate::setting::Setting;
-use crate::works::{Parameters, Work};
 use code_types::{conversion, parameter_conversion, promotion};
 use rule_checks::calls::call_parameters;
+use thread_items::{Parameters, Work};
+use thread_progress::{Setting, Step, is_printf};
 use thread_steps::CastTo;
 use typed_tree::{Expr, Target};
 use upc_text::OutOfMemory;
@@ -55,13 +54,6 @@ fn next_cast<'p>(parameters: Parameters<'p>, a: &Expr) -> Option<(CastTo, Parame
     }
 }
 
-/// Whether a call is printf.
-pub(crate) fn is_printf(call: LibraryCall) -> bool
-    ensures { result ≡ mean.is_printf call }
-{
-    matches!(call, LibraryCall::Printf)
-}
-
 impl<'p> Evaluation<'p> {
     // The arguments of a call, and then the call.
     fn push_arguments(
@@ -85,7 +77,7 @@ impl<'p> Evaluation<'p> {
     }
 
     /// A call.
-    #[tactic(auto, using(crate::proofs::Branches::calls_go))]
+    #[tactic(auto, using(thread_items::proofs::Branches::calls_go))]
     pub(crate) fn call(
         &mut self,
         setting: Setting<'p>,
@@ -109,7 +101,7 @@ impl<'p> Evaluation<'p> {
     }
 
     // A call of the library.
-    #[tactic(auto, using(crate::proofs::Branches::calls_go))]
+    #[tactic(auto, using(thread_items::proofs::Branches::calls_go))]
     fn library(
         &mut self,
         setting: Setting<'p>,
@@ -156,7 +148,7 @@ impl<'p> Evaluation<'p> {
     }
 
     /// The call of an expression, of whose arguments so many have their values.
-    #[tactic(auto, using(crate::proofs::Branches::arguments_go))]
+    #[tactic(auto, using(thread_items::proofs::Branches::arguments_go))]
     pub(crate) fn arguments(
         &mut self,
         setting: Setting<'p>,

@@ -7,26 +7,22 @@ ghost use Rattle.typed_tree.specs.ViewStatements.{view_function};
 ghost use Rattle.source_meaning.specs.Running.{Running};
 ghost use Rattle.source_meaning.specs.Threads as mean;
 ghost use Rattle.source_meaning.specs.Threads.{outcome_of, thread_outcome, told};
-ghost use Rattle.upc_meaning.specs.code.Came.{state_seen};
-ghost use Rattle.upc_meaning.specs.code.Courses.{comes_to, fresh, main_comes_to, main_entered};
-ghost use Rattle.upc_meaning.specs.code.Courses.{running_with, state_with, view_main};
-ghost use Rattle.upc_meaning.specs.code.Evaluations.{Went, meant, seen, with_item};
-ghost use Rattle.upc_meaning.specs.code.Runners.{Fits};
-ghost use Rattle.upc_meaning.specs.code.Settings.{running_seen};
-ghost use Rattle.upc_meaning.specs.code.ViewItems.{view_work};
+ghost use Rattle.thread_progress.specs.code.Came.{state_seen};
+ghost use Rattle.thread_progress.specs.code.Runners.{Fits};
+ghost use Rattle.thread_progress.specs.code.Settings.{running_seen};
+ghost use Rattle.thread_items.specs.code.Courses.{comes_to, fresh, main_comes_to, main_entered};
+ghost use Rattle.thread_items.specs.code.Courses.{running_with, state_with, view_main};
+ghost use Rattle.thread_items.specs.code.Seen.{meant, with_item};
+ghost use Rattle.thread_items.specs.code.ViewItems.{view_work};
+ghost use Rattle.upc_meaning.specs.code.Evaluations.{Went, seen};
 
 use crate::evaluation::Evaluation;
-use crate::flow::Flow;
 use crate::functions::blank_of;
-use crate::progress::{Progress, Step};
-use crate::ranges::is_numeric;
-use crate::runner::Runner;
-use crate::setting::Setting;
-use crate::values::Values;
-use crate::works::{Work, Works};
 use private_store::{MOST_CALLS, Store};
 use std::alloc::Global;
 use step_values::int_of;
+use thread_items::{Flow, Values, Work, Works};
+use thread_progress::{Progress, Runner, Setting, Step, is_numeric};
 use typed_tree::{Function, Program};
 use upc_text::{OutOfMemory, Place};
 use upc_values::{Actions, Listing, Mark, Reply, Scalar, ToldEnd, Value};
@@ -45,7 +41,7 @@ fn is_main(function: &Function) -> bool
 }
 
 // The function main, if there is one.
-#[tactic(auto, using(crate::proofs::Courses::first_main))]
+#[tactic(auto, using(thread_items::proofs::Courses::first_main))]
 fn main_of(functions: &[Function]) -> Option<&Function>
     ensures { view_main result ≡ mean.main_of (map view_function functions.now) }
 {
@@ -82,7 +78,7 @@ impl<'p> Evaluation<'p> {
     }
 
     // main has begun; its statements are next.
-    #[tactic(auto, using(crate::proofs::Courses::mains))]
+    #[tactic(auto, using(thread_items::proofs::Courses::mains))]
     fn enter_main(
         &mut self,
         setting: Setting<'p>,
@@ -108,7 +104,7 @@ impl<'p> Evaluation<'p> {
     }
 
     // main is called, and the barrier behind it is left to be done.
-    #[tactic(auto, using(crate::proofs::Courses::main_refused, crate::proofs::Courses::main_goes))]
+    #[tactic(auto, using(thread_items::proofs::Courses::main_refused, thread_items::proofs::Courses::main_goes))]
     fn call_main(
         &mut self,
         setting: Setting<'p>,
@@ -130,7 +126,7 @@ impl<'p> Evaluation<'p> {
     }
 
     // The barrier before main, and main.
-    #[tactic(auto, using(crate::proofs::Courses::starts))]
+    #[tactic(auto, using(thread_items::proofs::Courses::starts))]
     fn start(
         &mut self,
         setting: Setting<'p>,
@@ -151,7 +147,7 @@ impl<'p> Evaluation<'p> {
     }
 
     // Takes the first item off that is left, if one is left.
-    #[tactic(auto, using(crate::proofs::Courses::items))]
+    #[tactic(auto, using(thread_items::proofs::Courses::items))]
     fn next_item(&mut self, setting: Setting<'p>) -> Option<Work<'p>>
         ensures { MatchOption result
             (meant (running_seen setting.entry) (seen self.old) ≡ meant (running_seen setting.entry) (seen self.new)
@@ -163,7 +159,7 @@ impl<'p> Evaluation<'p> {
     }
 
     // The end, where nothing is left to do.
-    #[tactic(auto, using(crate::proofs::Courses::items))]
+    #[tactic(auto, using(thread_items::proofs::Courses::items))]
     fn end(&self, setting: Setting<'p>) -> Result<ToldEnd, OutOfMemory>
         requires { (seen self.now).works ≡ [] }
         ensures { IfOk result (λ e. outcome_of (meant (running_seen setting.entry) (seen self.now))
@@ -177,7 +173,7 @@ impl<'p> Evaluation<'p> {
     }
 
     // Does all that is left.
-    #[tactic(auto, using(crate::proofs::Courses::told_behind_by))]
+    #[tactic(auto, using(thread_items::proofs::Courses::told_behind_by))]
     fn finish(&mut self, setting: Setting<'p>) -> Result<ToldEnd, OutOfMemory>
         requires { Fits setting.runner }
         ensures { IfOk result (λ e. outcome_of (meant (running_seen setting.entry) (seen self.old))
@@ -199,7 +195,7 @@ impl<'p> Evaluation<'p> {
     }
 
     // A whole thread.
-    #[tactic(auto, using(crate::proofs::Courses::told_by))]
+    #[tactic(auto, using(thread_items::proofs::Courses::told_by))]
     fn run_thread(
         &mut self,
         setting: Setting<'p>,

@@ -9,21 +9,17 @@ ghost use Rattle.typed_tree.specs.ViewTree.{view_expr};
 ghost use Rattle.typed_tree.specs.ViewStatements as views;
 ghost use Rattle.source_meaning.specs.Statements as mean;
 ghost use Rattle.source_meaning.specs.Types as types;
-ghost use Rattle.upc_meaning.specs.code.Bodies.{BlockWent};
-ghost use Rattle.upc_meaning.specs.code.Evaluations.{HeadWent, Went, headed, meant, more_works, seen, with_item};
-ghost use Rattle.upc_meaning.specs.code.Items as item;
-ghost use Rattle.upc_meaning.specs.code.Runners.{Fits};
-ghost use Rattle.upc_meaning.specs.code.Settings.{running_seen};
-ghost use Rattle.upc_meaning.specs.code.ViewItems.{view_standing};
+ghost use Rattle.thread_progress.specs.code.Runners.{Fits};
+ghost use Rattle.thread_progress.specs.code.Settings.{running_seen};
+ghost use Rattle.thread_items.specs.code.Seen.{headed, meant, more_works, with_item};
+ghost use Rattle.thread_items.specs.code.Items as item;
+ghost use Rattle.thread_items.specs.code.ViewItems.{view_standing};
+ghost use Rattle.upc_meaning.specs.code.Evaluations.{BlockWent, HeadWent, Went, seen};
 
 use crate::evaluation::Evaluation;
-use crate::flow::Flow;
-use crate::progress::Step;
-use crate::setting::Setting;
-use crate::shapes::Shapes;
-use crate::standing::{Standing, with_objects, with_strict};
-use crate::works::Work;
 use code_types::conversion;
+use thread_items::{Flow, Standing, Work, with_objects, with_strict};
+use thread_progress::{Setting, Shapes, Step};
 use typed_tree::{Expr, Head, Initial, Item, Object, StatementKind};
 use upc_text::{OutOfMemory, Place};
 use upc_types::{Base, CType};
@@ -131,7 +127,7 @@ impl<'p> Evaluation<'p> {
     }
 
     /// A loop with a head.
-    #[tactic(auto, using(crate::proofs::Declaring::heads))]
+    #[tactic(auto, using(thread_items::proofs::Declaring::heads))]
     pub(crate) fn headed(
         &mut self,
         setting: Setting<'p>,
@@ -173,7 +169,7 @@ impl<'p> Evaluation<'p> {
     }
 
     // The initial value of an object, and then those of others.
-    #[tactic(auto, using(crate::proofs::Declaring::initials))]
+    #[tactic(auto, using(thread_items::proofs::Declaring::initials))]
     fn declare_one(
         &mut self,
         setting: Setting<'p>,
@@ -207,7 +203,7 @@ impl<'p> Evaluation<'p> {
     }
 
     /// Initial values of objects.
-    #[tactic(auto, using(crate::proofs::Declaring::initials))]
+    #[tactic(auto, using(thread_items::proofs::Declaring::initials))]
     pub(crate) fn declare(
         &mut self,
         setting: Setting<'p>,
@@ -225,7 +221,7 @@ impl<'p> Evaluation<'p> {
     }
 
     // The element of an array that comes next, and then the others.
-    #[tactic(auto, using(crate::proofs::Declaring::elements))]
+    #[tactic(auto, using(thread_items::proofs::Declaring::elements))]
     fn list_one(
         &mut self,
         setting: Setting<'p>,
@@ -265,7 +261,7 @@ impl<'p> Evaluation<'p> {
     }
 
     /// The elements of an array from one on.
-    #[tactic(auto, using(crate::proofs::Declaring::elements))]
+    #[tactic(auto, using(thread_items::proofs::Declaring::elements))]
     pub(crate) fn listed(
         &mut self,
         setting: Setting<'p>,
@@ -286,7 +282,7 @@ impl<'p> Evaluation<'p> {
     }
 
     /// A value for the object of a type at a place.
-    #[tactic(auto, using(crate::proofs::Declaring::keeps))]
+    #[tactic(auto, using(thread_items::proofs::Declaring::keeps))]
     pub(crate) fn keep(
         &mut self,
         setting: Setting<'p>,

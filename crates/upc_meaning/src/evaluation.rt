@@ -1,9 +1,7 @@
 //! How far the evaluation of a thread is.
 
-use crate::flow::Flow;
-use crate::progress::Progress;
-use crate::values::Values;
-use crate::works::Works;
+use thread_items::{Flow, Values, Works};
+use thread_progress::Progress;
 
 /// What is left to do, the values of the expressions that are under way, how the last statement was left, how many
 /// calls may still become active, and what the thread has come to.

@@ -10,26 +10,23 @@ ghost use Rattle.typed_tree.specs.ViewTree.{view_expr, view_kind};
 ghost use Rattle.thread_steps.specs.Values.{number};
 ghost use Rattle.source_meaning.specs.Expressions as mean;
 ghost use Rattle.source_meaning.specs.Types as types;
-ghost use Rattle.source_meaning.specs.Running as running;
-ghost use Rattle.upc_meaning.specs.code.Came.{Came, state_seen};
-ghost use Rattle.upc_meaning.specs.code.Evaluations.{Went, meant, more_values, more_works, popped, seen, with_item};
-ghost use Rattle.upc_meaning.specs.code.Stacks.{top};
-ghost use Rattle.upc_meaning.specs.code.Items as item;
-ghost use Rattle.upc_meaning.specs.code.Left.{decides, is_unary, takes_two};
-ghost use Rattle.upc_meaning.specs.code.Runners.{Fits};
-ghost use Rattle.upc_meaning.specs.code.Settings.{running_seen};
-ghost use Rattle.upc_meaning.specs.code.ViewItems.{view_work};
+ghost use Rattle.thread_progress.specs.code.Runners.{Fits};
+ghost use Rattle.thread_progress.specs.code.Settings.{running_seen};
+ghost use Rattle.thread_items.specs.code.Seen.{meant, more_values, more_works, popped, with_item};
+ghost use Rattle.thread_items.specs.code.Stacks.{top};
+ghost use Rattle.thread_items.specs.code.Items as item;
+ghost use Rattle.thread_items.specs.code.Left.{decides, is_unary, takes_two};
+ghost use Rattle.thread_items.specs.code.ViewItems.{view_work};
+ghost use Rattle.upc_meaning.specs.code.Evaluations.{Went, seen};
 
 use crate::evaluation::Evaluation;
-use crate::progress::{Progress, Step};
-use crate::setting::Setting;
-use crate::works::Work;
-use block_layout::{LocalPtr, ObjectRef, SharedPtr};
 use code_types::conversion;
-use step_values::{is_zero, pointer_to, truth_value};
+use step_values::{is_zero, truth_value};
+use thread_items::Work;
+use thread_progress::{Setting, Step};
 use thread_steps::CastTo;
-use typed_tree::{Expr, ExprKind, SharedDecl};
-use typing_rules::{Attr, Constant, Form, Home};
+use typed_tree::{Expr, ExprKind};
+use typing_rules::{Attr, Constant};
 use upc_text::{OutOfMemory, Place};
 use upc_types::CType;
 use upc_values::{Scalar, Value};
@@ -51,50 +48,6 @@ fn known_or_zero(constant: Constant) -> i128
     match constant {
         Constant::Known(v) => v,
         _ => 0,
-    }
-}
-
-// The shared object with this number, from 1 on.
-fn numbered(shared: &[SharedDecl], number: u32) -> Option<ObjectRef>
-    ensures { result ≡ initials.numbered shared.now number }
-{
-    if number == 0 {
-        return None;
-    }
-    let declared = shared.get(number as usize - 1)?;
-    Some(declared.object)
-}
-
-// Where a declared shared object begins, by its number (UPC 6.5.1.1).
-fn shared_object(setting: Setting<'_>, number: u32) -> Value
-    ensures { result ≡ running.shared_object (running_seen setting.entry) number }
-{
-    match numbered(setting.shared, number) {
-        Some(object) => Value::Scalar(Scalar::Shared(SharedPtr {
-            object,
-            thread: 0,
-            phase: 0,
-            offset: 0,
-        })),
-        None => Value::Scalar(Scalar::Shared(SharedPtr::NULL)),
-    }
-}
-
-impl<'r> Progress<'r> {
-    /// Where a named object lies (C99 6.2.4, UPC 6.5.1).
-    #[tactic(auto, unfolding(thread_steps::specs::Blocks::local_object))]
-    pub(crate) fn object(&self, setting: Setting<'_>, home: Home) -> Value
-        ensures { Came (mean.object (running_seen setting.entry) home (state_seen self.now)) (Step.Gives result)
-            self.now }
-    {
-        match home {
-            Home::Private(number) => Value::Local(LocalPtr::Private {
-                object: number as u64,
-                offset: 0,
-            }),
-            Home::Shared(number) => shared_object(setting, number),
-            Home::Local(number) => pointer_to(self.store.local(number)),
-        }
     }
 }
 
@@ -146,7 +99,7 @@ impl<'p> Evaluation<'p> {
     }
 
     /// The value of an expression.
-    #[tactic(auto, using(crate::proofs::Arms::arms))]
+    #[tactic(auto, using(thread_items::proofs::Arms::arms))]
     pub(crate) fn value(
         &mut self,
         setting: Setting<'p>,
@@ -163,7 +116,7 @@ impl<'p> Evaluation<'p> {
     }
 
     /// The value behind a place, where there is one.
-    #[tactic(auto, unfolding(crate::specs::code::Evaluations::with_item, crate::specs::code::Evaluations::meant))]
+    #[tactic(auto, unfolding(thread_items::specs::code::Seen::with_item, thread_items::specs::code::Seen::meant))]
     pub(crate) fn hold(
         &mut self,
         setting: Setting<'p>,
@@ -185,30 +138,7 @@ impl<'p> Evaluation<'p> {
             }
         }
     }
-}
 
-impl<'r> Progress<'r> {
-    // What an expression gives that names an object or not.
-    fn value_in(
-        &mut self,
-        setting: Setting<'_>,
-        strict: bool,
-        place: Place,
-        attr: &Attr,
-        v: Value,
-    ) -> Result<Step<Value>, OutOfMemory>
-        requires { Fits setting.runner }
-        ensures { IfOk result (λ s. Came (mean.value_in (running_seen setting.entry) strict place (view_attr attr.now) v
-            (state_seen self.old)) s self.new) }
-    {
-        match attr.form {
-            Form::Lvalue(_) => self.held(setting, strict, place, &attr.ctype, v),
-            _ => Ok(Step::Gives(v)),
-        }
-    }
-}
-
-impl<'p> Evaluation<'p> {
     // A number is the value of an expression.
     pub(crate) fn push_number(&mut self, v: i128) -> Result<(), OutOfMemory>
         ensures { OnOk result (seen self.new ≡ more_values (number v ∷ []) (seen self.old)) }
@@ -217,7 +147,7 @@ impl<'p> Evaluation<'p> {
     }
 
     /// The place of what an expression names, or its value.
-    #[tactic(auto, using(crate::proofs::Arms::arms))]
+    #[tactic(auto, using(thread_items::proofs::Arms::arms))]
     pub(crate) fn address(
         &mut self,
         setting: Setting<'p>,
@@ -261,7 +191,7 @@ impl<'p> Evaluation<'p> {
     }
 
     // The operand of an operator on one, and then the operator.
-    #[tactic(auto, using(crate::proofs::Arms::arms))]
+    #[tactic(auto, using(thread_items::proofs::Arms::arms))]
     fn one_operand(
         &mut self,
         setting: Setting<'p>,
@@ -284,7 +214,7 @@ impl<'p> Evaluation<'p> {
     }
 
     // The operands of an operator on two, and then the operator.
-    #[tactic(auto, using(crate::proofs::Arms::arms))]
+    #[tactic(auto, using(thread_items::proofs::Arms::arms))]
     fn two_operands(
         &mut self,
         setting: Setting<'p>,
@@ -314,7 +244,7 @@ impl<'p> Evaluation<'p> {
     }
 
     // The operand that decides what is done, and then what follows it.
-    #[tactic(auto, using(crate::proofs::Arms::arms))]
+    #[tactic(auto, using(thread_items::proofs::Arms::arms))]
     fn deciding(
         &mut self,
         setting: Setting<'p>,
@@ -335,7 +265,7 @@ impl<'p> Evaluation<'p> {
     }
 
     // Some expressions, whose last gives the value.
-    #[tactic(auto, using(crate::proofs::Branches::comma_is))]
+    #[tactic(auto, using(thread_items::proofs::Branches::comma_is))]
     fn comma(
         &mut self,
         setting: Setting<'p>,
@@ -352,7 +282,7 @@ impl<'p> Evaluation<'p> {
     }
 
     /// The operator of an expression whose operands have their values.
-    #[tactic(auto, unfolding(crate::specs::code::Evaluations::with_item, crate::specs::code::Evaluations::meant))]
+    #[tactic(auto, unfolding(thread_items::specs::code::Seen::with_item, thread_items::specs::code::Seen::meant))]
     pub(crate) fn operate(
         &mut self,
         setting: Setting<'p>,
@@ -386,7 +316,7 @@ impl<'p> Evaluation<'p> {
     }
 
     /// What follows a first operand that decides what is done.
-    #[tactic(auto, using(crate::proofs::Branches::branches))]
+    #[tactic(auto, using(thread_items::proofs::Branches::branches))]
     pub(crate) fn branch(
         &mut self,
         setting: Setting<'p>,
@@ -425,7 +355,7 @@ impl<'p> Evaluation<'p> {
     }
 
     /// 1 for a value that is not 0, else 0.
-    #[tactic(auto, unfolding(crate::specs::code::Evaluations::with_item, crate::specs::code::Evaluations::meant))]
+    #[tactic(auto, unfolding(thread_items::specs::code::Seen::with_item, thread_items::specs::code::Seen::meant))]
     pub(crate) fn truth(&mut self, setting: Setting<'p>) -> Result<(), OutOfMemory>
         ensures { OnOk result (with_item (running_seen setting.entry) item.Truth (seen self.old)
             ≡ meant (running_seen setting.entry) (seen self.new)) }
@@ -435,7 +365,7 @@ impl<'p> Evaluation<'p> {
     }
 
     /// A value, converted.
-    #[tactic(auto, unfolding(crate::specs::code::Evaluations::with_item, crate::specs::code::Evaluations::meant))]
+    #[tactic(auto, unfolding(thread_items::specs::code::Seen::with_item, thread_items::specs::code::Seen::meant))]
     pub(crate) fn convert(
         &mut self,
         setting: Setting<'p>,
@@ -456,7 +386,7 @@ impl<'p> Evaluation<'p> {
     }
 
     /// The value of the last of some expressions, of which a first has its value.
-    #[tactic(auto, using(crate::proofs::Arms::arms))]
+    #[tactic(auto, using(thread_items::proofs::Arms::arms))]
     pub(crate) fn last(
         &mut self,
         setting: Setting<'p>,

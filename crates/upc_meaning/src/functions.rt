@@ -4,23 +4,19 @@ ghost use Rattle.std.specs.Prelude.{◌≡◌, ◌-◌, ◌<◌, IfOk, OnOk};
 ghost use Rattle.upc_types.specs.View.{view};
 ghost use Rattle.upc_types.specs.ViewStructs.{view_structs};
 ghost use Rattle.typed_tree.specs.ViewStatements.{view_function};
-ghost use Rattle.thread_steps.specs.Blocks as blocks;
-ghost use Rattle.thread_steps.specs.States.{Val};
 ghost use Rattle.source_meaning.specs.Threads as mean;
 ghost use Rattle.source_meaning.specs.Types as types;
-ghost use Rattle.upc_meaning.specs.code.Came.{state_seen};
-ghost use Rattle.upc_meaning.specs.code.Evaluations.{Went, entered, entering, inside, meant, seen, with_item};
-ghost use Rattle.upc_meaning.specs.code.Items as item;
-ghost use Rattle.upc_meaning.specs.code.Runners.{Fits};
-ghost use Rattle.upc_meaning.specs.code.Settings.{running_seen};
-ghost use Rattle.upc_meaning.specs.code.ViewItems.{flow_seen};
+ghost use Rattle.thread_progress.specs.code.Runners.{Fits};
+ghost use Rattle.thread_progress.specs.code.Settings.{running_seen};
+ghost use Rattle.thread_items.specs.code.Seen.{entered, entering, inside, meant, with_item};
+ghost use Rattle.thread_items.specs.code.Items as item;
+ghost use Rattle.thread_items.specs.code.ViewItems.{flow_seen};
+ghost use Rattle.upc_meaning.specs.code.Evaluations.{Went, seen};
 
 use crate::evaluation::Evaluation;
-use crate::flow::Flow;
-use crate::progress::{Progress, Step};
-use crate::setting::Setting;
-use crate::works::Work;
 use code_types::cell_kind;
+use thread_items::{Flow, Work};
+use thread_progress::{Setting, Step};
 use typed_tree::Function;
 use upc_text::{OutOfMemory, Place};
 use upc_types::CType;
@@ -46,16 +42,6 @@ fn given_by(blank: Value, flow: Flow) -> Value
     }
 }
 
-impl<'r> Progress<'r> {
-    // The youngest call ends.
-    #[tactic(auto, unfolding(thread_steps::specs::Blocks::end_call))]
-    fn end_call(&mut self)
-        ensures { blocks.end_call (state_seen self.old) ≡ Val tt (state_seen self.new) }
-    {
-        self.store.pop_call();
-    }
-}
-
 impl<'p> Evaluation<'p> {
     // The evaluation goes on inside a call, which gives this where it ends without `return`.
     pub(crate) fn push_return(&mut self, blank: Value) -> Result<(), OutOfMemory>
@@ -69,7 +55,7 @@ impl<'p> Evaluation<'p> {
     }
 
     /// The end of a call, behind a statement that was left so.
-    #[tactic(auto, using(crate::proofs::Enters::returns_of))]
+    #[tactic(auto, using(thread_items::proofs::Enters::returns_of))]
     pub(crate) fn come_back(
         &mut self,
         setting: Setting<'p>,
@@ -104,7 +90,7 @@ impl<'p> Evaluation<'p> {
     }
 
     /// A call of a function, by its number, with these arguments.
-    #[tactic(auto, using(crate::proofs::Enters::enterings))]
+    #[tactic(auto, using(thread_items::proofs::Enters::enterings))]
     pub(crate) fn enter(
         &mut self,
         setting: Setting<'p>,

@@ -5,25 +5,20 @@ ghost use Rattle.typed_tree.specs.Tree as tree;
 ghost use Rattle.typed_tree.specs.Tree.{Stands};
 ghost use Rattle.typed_tree.specs.ViewTree.{view_expr};
 ghost use Rattle.typed_tree.specs.ViewStatements as views;
-ghost use Rattle.thread_steps.specs.Blocks as blocks;
-ghost use Rattle.thread_steps.specs.States.{Val};
 ghost use Rattle.source_meaning.specs.Statements as mean;
-ghost use Rattle.upc_meaning.specs.code.Came.{state_seen};
-ghost use Rattle.upc_meaning.specs.code.Evaluations.{Went, aside_items, bodied, controlled, is_next, meant};
-ghost use Rattle.upc_meaning.specs.code.Evaluations.{more_works, seen, with_flow, with_item, with_test};
-ghost use Rattle.upc_meaning.specs.code.Items as item;
-ghost use Rattle.upc_meaning.specs.code.Left.{step_in, test_in};
-ghost use Rattle.upc_meaning.specs.code.Runners.{Fits};
-ghost use Rattle.upc_meaning.specs.code.Settings.{running_seen};
-ghost use Rattle.upc_meaning.specs.code.ViewItems.{flow_seen, view_standing};
+ghost use Rattle.thread_progress.specs.code.Runners.{Fits};
+ghost use Rattle.thread_progress.specs.code.Settings.{running_seen};
+ghost use Rattle.thread_items.specs.code.Seen.{aside_items, bodied, controlled, is_next, meant};
+ghost use Rattle.thread_items.specs.code.Seen.{more_works, with_flow, with_item, with_test};
+ghost use Rattle.thread_items.specs.code.Items as item;
+ghost use Rattle.thread_items.specs.code.Left.{step_in, test_in};
+ghost use Rattle.thread_items.specs.code.ViewItems.{flow_seen, view_standing};
+ghost use Rattle.upc_meaning.specs.code.Evaluations.{Went, seen};
 
 use crate::evaluation::Evaluation;
-use crate::flow::Flow;
-use crate::progress::{Progress, Step};
-use crate::setting::Setting;
-use crate::standing::{Standing, with_objects};
-use crate::works::Work;
 use step_values::is_zero;
+use thread_items::{Flow, Standing, Work, with_objects};
+use thread_progress::{Setting, Step};
 use typed_tree::{Affinity, Expr, Head, Item, Statement, StatementKind, SwitchItem};
 use upc_text::{OutOfMemory, Place};
 
@@ -44,28 +39,9 @@ fn finished(flow: Flow) -> Flow
     }
 }
 
-impl<'r> Progress<'r> {
-    // The thread comes into the body of a upc_forall whose affinity counts.
-    #[tactic(auto, unfolding(thread_steps::specs::Blocks::control))]
-    fn control(&mut self) -> Result<(), OutOfMemory>
-        ensures { OnOk result (blocks.control (state_seen self.old) ≡ Val tt (state_seen self.new)) }
-    {
-        self.store.control()?;
-        Ok(())
-    }
-
-    // It leaves it.
-    #[tactic(auto, unfolding(thread_steps::specs::Blocks::release))]
-    fn release(&mut self)
-        ensures { blocks.release (state_seen self.old) ≡ Val tt (state_seen self.new) }
-    {
-        self.store.release();
-    }
-}
-
 impl<'p> Evaluation<'p> {
     /// The further parts of a block.
-    #[tactic(auto, using(crate::proofs::Turning::lists))]
+    #[tactic(auto, using(thread_items::proofs::Turning::lists))]
     pub(crate) fn parts(
         &mut self,
         setting: Setting<'p>,
@@ -94,7 +70,7 @@ impl<'p> Evaluation<'p> {
     }
 
     /// The further parts of a switch.
-    #[tactic(auto, using(crate::proofs::Turning::switches))]
+    #[tactic(auto, using(thread_items::proofs::Turning::switches))]
     pub(crate) fn cases(
         &mut self,
         setting: Setting<'p>,
@@ -143,7 +119,7 @@ impl<'p> Evaluation<'p> {
     }
 
     /// A turn of a loop that has so many left. No thread takes more turns than it has ticks.
-    #[tactic(auto, using(crate::proofs::Turning::loops))]
+    #[tactic(auto, using(thread_items::proofs::Turning::loops))]
     pub(crate) fn turn(
         &mut self,
         setting: Setting<'p>,
@@ -169,7 +145,7 @@ impl<'p> Evaluation<'p> {
     }
 
     /// A turn from behind its test on.
-    #[tactic(auto, using(crate::proofs::Turning::loops))]
+    #[tactic(auto, using(thread_items::proofs::Turning::loops))]
     pub(crate) fn tested(
         &mut self,
         setting: Setting<'p>,
@@ -191,7 +167,7 @@ impl<'p> Evaluation<'p> {
     }
 
     // The body of a loop.
-    #[tactic(auto, using(crate::proofs::Turning::bodies))]
+    #[tactic(auto, using(thread_items::proofs::Turning::bodies))]
     fn body(
         &mut self,
         setting: Setting<'p>,
@@ -214,7 +190,7 @@ impl<'p> Evaluation<'p> {
     }
 
     // The body of a upc_forall.
-    #[tactic(auto, using(crate::proofs::Turning::bodies))]
+    #[tactic(auto, using(thread_items::proofs::Turning::bodies))]
     fn forall_body(
         &mut self,
         setting: Setting<'p>,
@@ -234,7 +210,7 @@ impl<'p> Evaluation<'p> {
     }
 
     // The body of one with an affinity.
-    #[tactic(auto, using(crate::proofs::Turning::bodies))]
+    #[tactic(auto, using(thread_items::proofs::Turning::bodies))]
     fn owned_body(
         &mut self,
         setting: Setting<'p>,
@@ -259,7 +235,7 @@ impl<'p> Evaluation<'p> {
     }
 
     // A body in which no further affinity is evaluated.
-    #[tactic(auto, using(crate::proofs::Turning::guards))]
+    #[tactic(auto, using(thread_items::proofs::Turning::guards))]
     fn controlling(
         &mut self,
         setting: Setting<'p>,
@@ -274,7 +250,7 @@ impl<'p> Evaluation<'p> {
     }
 
     /// A turn from behind its body on.
-    #[tactic(auto, using(crate::proofs::Turning::rounds))]
+    #[tactic(auto, using(thread_items::proofs::Turning::rounds))]
     pub(crate) fn around(
         &mut self,
         setting: Setting<'p>,
@@ -322,7 +298,7 @@ impl<'p> Evaluation<'p> {
     }
 
     /// Whether the turn of an affinity is the thread's.
-    #[tactic(auto, using(crate::proofs::Turning::guards))]
+    #[tactic(auto, using(thread_items::proofs::Turning::guards))]
     pub(crate) fn mine(
         &mut self,
         setting: Setting<'p>,
@@ -346,7 +322,7 @@ impl<'p> Evaluation<'p> {
     }
 
     /// The body of a upc_forall behind its affinity.
-    #[tactic(auto, using(crate::proofs::Turning::guards))]
+    #[tactic(auto, using(thread_items::proofs::Turning::guards))]
     pub(crate) fn guard(
         &mut self,
         setting: Setting<'p>,
@@ -365,7 +341,7 @@ impl<'p> Evaluation<'p> {
     }
 
     /// The end of the body of a upc_forall that does not control.
-    #[tactic(auto, using(crate::proofs::Turning::guards))]
+    #[tactic(auto, using(thread_items::proofs::Turning::guards))]
     pub(crate) fn finish_body(&mut self, setting: Setting<'p>)
         ensures { with_item (running_seen setting.entry) item.Finished (seen self.old)
             ≡ meant (running_seen setting.entry) (seen self.new) }
@@ -375,7 +351,7 @@ impl<'p> Evaluation<'p> {
     }
 
     /// The end of one that controls.
-    #[tactic(auto, using(crate::proofs::Turning::guards))]
+    #[tactic(auto, using(thread_items::proofs::Turning::guards))]
     pub(crate) fn release(&mut self, setting: Setting<'p>)
         ensures { with_item (running_seen setting.entry) item.Release (seen self.old)
             ≡ meant (running_seen setting.entry) (seen self.new) }

@@ -2,23 +2,22 @@
 
 ghost use Rattle.std.specs.Prelude.{◌≡◌, IfOk, OnOk};
 ghost use Rattle.typed_tree.specs.ViewStatements as views;
-ghost use Rattle.upc_meaning.specs.code.Evaluations.{Went, meant, seen, with_item};
-ghost use Rattle.upc_meaning.specs.code.Items as item;
-ghost use Rattle.upc_meaning.specs.code.Runners.{Fits};
-ghost use Rattle.upc_meaning.specs.code.Settings.{running_seen};
-ghost use Rattle.upc_meaning.specs.code.ViewItems.{view_standing};
+ghost use Rattle.thread_progress.specs.code.Runners.{Fits};
+ghost use Rattle.thread_progress.specs.code.Settings.{running_seen};
+ghost use Rattle.thread_items.specs.code.Seen.{meant, with_item};
+ghost use Rattle.thread_items.specs.code.Items as item;
+ghost use Rattle.thread_items.specs.code.ViewItems.{view_standing};
+ghost use Rattle.upc_meaning.specs.code.Evaluations.{Went, seen};
 
 use crate::evaluation::Evaluation;
-use crate::progress::Step;
-use crate::setting::Setting;
-use crate::standing::Standing;
-use crate::works::Work;
+use thread_items::{Standing, Work};
+use thread_progress::{Setting, Step};
 use typed_tree::{Statement, StatementKind};
 use upc_text::OutOfMemory;
 
 impl<'p> Evaluation<'p> {
     // A loop without a head.
-    #[tactic(auto, using(crate::proofs::Turning::loops))]
+    #[tactic(auto, using(thread_items::proofs::Turning::loops))]
     fn plain_loop(
         &mut self,
         setting: Setting<'p>,

@@ -7,21 +7,20 @@ ghost use Rattle.typed_tree.specs.Tree as tree;
 ghost use Rattle.typed_tree.specs.Tree.{Stands};
 ghost use Rattle.typed_tree.specs.ViewTree.{view_expr};
 ghost use Rattle.typed_tree.specs.ViewStatements as views;
-ghost use Rattle.upc_meaning.specs.code.Evaluations.{meant, seen, with_item};
-ghost use Rattle.upc_meaning.specs.code.Items as item;
-ghost use Rattle.upc_meaning.specs.code.Settings.{running_seen};
-ghost use Rattle.upc_meaning.specs.code.Switches.{behind_label, is_label, selected};
-ghost use Rattle.upc_meaning.specs.code.ViewItems.{view_standing};
+ghost use Rattle.thread_progress.specs.code.Settings.{running_seen};
+ghost use Rattle.thread_items.specs.code.Seen.{meant, with_item};
+ghost use Rattle.thread_items.specs.code.Items as item;
+ghost use Rattle.thread_items.specs.code.Switches.{behind_label, is_label, selected};
+ghost use Rattle.thread_items.specs.code.ViewItems.{view_standing};
+ghost use Rattle.upc_meaning.specs.code.Evaluations.{seen};
 
 use crate::evaluation::Evaluation;
-use crate::flow::Flow;
-use crate::setting::Setting;
-use crate::standing::Standing;
-use crate::works::Work;
 use block_layout::Kind;
 use code_types::integer_of;
 use rule_checks::switch::label_kind;
 use step_values::number_of;
+use thread_items::{Flow, Standing, Work};
+use thread_progress::Setting;
 use typed_tree::{Expr, SwitchItem};
 use upc_text::{OutOfMemory, Place};
 
@@ -59,7 +58,7 @@ fn is_label(label: Option<i128>, item: &SwitchItem) -> bool
 }
 
 // What stands behind the first such label.
-#[tactic(auto, using(crate::proofs::Selecting::labels))]
+#[tactic(auto, using(thread_items::proofs::Selecting::labels))]
 fn behind_label(label: Option<i128>, items: &[SwitchItem]) -> Option<&[SwitchItem]>
     ensures { MatchOption result (behind_label label (views.view_switch_items items.now) ≡ None)
         (λ more. behind_label label (views.view_switch_items items.now) ≡ Some (views.view_switch_items more.now)) }
@@ -87,7 +86,7 @@ fn selected(v: i128, items: &[SwitchItem]) -> Option<&[SwitchItem]>
 
 impl<'p> Evaluation<'p> {
     /// A switch.
-    #[tactic(auto, using(crate::proofs::Selecting::switches_of))]
+    #[tactic(auto, using(thread_items::proofs::Selecting::switches_of))]
     pub(crate) fn switch(
         &mut self,
         setting: Setting<'p>,
@@ -108,7 +107,7 @@ impl<'p> Evaluation<'p> {
     }
 
     /// The part of a switch where its value leads.
-    #[tactic(auto, using(crate::proofs::Selecting::selects))]
+    #[tactic(auto, using(thread_items::proofs::Selecting::selects))]
     pub(crate) fn select(
         &mut self,
         setting: Setting<'p>,

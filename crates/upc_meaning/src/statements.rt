@@ -6,60 +6,22 @@ ghost use Rattle.typed_tree.specs.Tree.{Stands};
 ghost use Rattle.typed_tree.specs.ViewTree.{view_expr};
 ghost use Rattle.typed_tree.specs.ViewStatements as views;
 ghost use Rattle.thread_steps.specs.Blocks as blocks;
-ghost use Rattle.thread_steps.specs.States.{Val};
 ghost use Rattle.source_meaning.specs.Statements as mean;
-ghost use Rattle.upc_meaning.specs.code.Came.{Came, state_seen};
-ghost use Rattle.upc_meaning.specs.code.Evaluations.{Went, armed, aside_items, meant, more_works, seen};
-ghost use Rattle.upc_meaning.specs.code.Evaluations.{with_flow, with_item};
-ghost use Rattle.upc_meaning.specs.code.Items as item;
-ghost use Rattle.upc_meaning.specs.code.Runners.{Fits};
-ghost use Rattle.upc_meaning.specs.code.Settings.{running_seen};
-ghost use Rattle.upc_meaning.specs.code.ViewItems.{flow_seen, view_standing};
+ghost use Rattle.thread_progress.specs.code.Runners.{Fits};
+ghost use Rattle.thread_progress.specs.code.Settings.{running_seen};
+ghost use Rattle.thread_items.specs.code.Seen.{armed, aside_items, meant, more_works, with_flow, with_item};
+ghost use Rattle.thread_items.specs.code.Items as item;
+ghost use Rattle.thread_items.specs.code.ViewItems.{flow_seen, view_standing};
+ghost use Rattle.upc_meaning.specs.code.Evaluations.{Went, seen};
 
 use crate::evaluation::Evaluation;
-use crate::flow::Flow;
-use crate::progress::{Progress, Step};
-use crate::ranges::is_numeric;
-use crate::setting::Setting;
-use crate::standing::Standing;
-use crate::works::Work;
 use code_types::conversion;
 use step_values::{int_of, is_zero};
+use thread_items::{Flow, Standing, Work};
+use thread_progress::{Setting, Step, is_numeric};
 use typed_tree::{Arm, Expr, Statement, Synchronises};
 use upc_text::{OutOfMemory, Place};
 use upc_values::{Mark, Scalar, Value};
-
-impl<'r> Progress<'r> {
-    // A notify, a wait or a barrier.
-    fn synchronise(
-        &mut self,
-        setting: Setting<'_>,
-        how: Synchronises,
-        place: Place,
-        mark: Mark,
-    ) -> Result<Step<()>, OutOfMemory>
-        ensures { IfOk result (λ s. Came (mean.synchronised (running_seen setting.entry) how place mark
-            (state_seen self.old)) s self.new) }
-    {
-        let runner = setting.runner;
-        match how {
-            Synchronises::Notify => self.notify(runner, place, mark),
-            Synchronises::Wait => self.wait(runner, place, mark),
-            Synchronises::Barrier => match self.notify(runner, place, mark)? {
-                Step::Ends(end) => Ok(Step::Ends(end)),
-                Step::Gives(()) => self.wait(runner, place, mark),
-            },
-        }
-    }
-
-    // The youngest block ends.
-    #[tactic(auto, unfolding(thread_steps::specs::Blocks::close_block))]
-    fn close_block(&mut self)
-        ensures { blocks.close_block (state_seen self.old) ≡ Val tt (state_seen self.new) }
-    {
-        self.store.leave();
-    }
-}
 
 impl<'p> Evaluation<'p> {
     // The last statement was left so.
@@ -87,7 +49,7 @@ impl<'p> Evaluation<'p> {
     }
 
     /// An expression for what it does.
-    #[tactic(auto, using(crate::proofs::Stating::asides))]
+    #[tactic(auto, using(thread_items::proofs::Stating::asides))]
     pub(crate) fn aside(
         &mut self,
         setting: Setting<'p>,
@@ -103,7 +65,7 @@ impl<'p> Evaluation<'p> {
     }
 
     /// `return`.
-    #[tactic(auto, using(crate::proofs::Stating::jumps))]
+    #[tactic(auto, using(thread_items::proofs::Stating::jumps))]
     pub(crate) fn give_back(
         &mut self,
         setting: Setting<'p>,
@@ -129,7 +91,7 @@ impl<'p> Evaluation<'p> {
     }
 
     /// `break`.
-    #[tactic(auto, using(crate::proofs::Stating::jumps))]
+    #[tactic(auto, using(thread_items::proofs::Stating::jumps))]
     pub(crate) fn break_off(&mut self, setting: Setting<'p>, standing: Standing<'p>, place: Place)
         ensures { with_item (running_seen setting.entry) (item.Run (view_standing standing.entry)
             (Stands place tree.Break)) (seen self.old) ≡ meant (running_seen setting.entry) (seen self.new) }
@@ -138,7 +100,7 @@ impl<'p> Evaluation<'p> {
     }
 
     /// `continue`.
-    #[tactic(auto, using(crate::proofs::Stating::jumps))]
+    #[tactic(auto, using(thread_items::proofs::Stating::jumps))]
     pub(crate) fn go_again(&mut self, setting: Setting<'p>, standing: Standing<'p>, place: Place)
         ensures { with_item (running_seen setting.entry) (item.Run (view_standing standing.entry)
             (Stands place tree.Continue)) (seen self.old) ≡ meant (running_seen setting.entry) (seen self.new) }
@@ -147,7 +109,7 @@ impl<'p> Evaluation<'p> {
     }
 
     /// The value of a `return`.
-    #[tactic(auto, using(crate::proofs::Stating::jumps))]
+    #[tactic(auto, using(thread_items::proofs::Stating::jumps))]
     pub(crate) fn give(&mut self, setting: Setting<'p>)
         ensures { with_item (running_seen setting.entry) item.Give (seen self.old)
             ≡ meant (running_seen setting.entry) (seen self.new) }
@@ -157,7 +119,7 @@ impl<'p> Evaluation<'p> {
     }
 
     /// A notify, a wait or a barrier.
-    #[tactic(auto, using(crate::proofs::Stating::barriers))]
+    #[tactic(auto, using(thread_items::proofs::Stating::barriers))]
     pub(crate) fn barrier(
         &mut self,
         setting: Setting<'p>,
@@ -180,7 +142,7 @@ impl<'p> Evaluation<'p> {
     }
 
     // One without a value.
-    #[tactic(auto, using(crate::proofs::Stating::barriers))]
+    #[tactic(auto, using(thread_items::proofs::Stating::barriers))]
     fn plain_barrier(
         &mut self,
         setting: Setting<'p>,
@@ -205,7 +167,7 @@ impl<'p> Evaluation<'p> {
     }
 
     /// One whose value is known.
-    #[tactic(auto, using(crate::proofs::Stating::barriers))]
+    #[tactic(auto, using(thread_items::proofs::Stating::barriers))]
     pub(crate) fn mark(
         &mut self,
         setting: Setting<'p>,
@@ -232,7 +194,7 @@ impl<'p> Evaluation<'p> {
     }
 
     /// upc_fence.
-    #[tactic(auto, using(crate::proofs::Stating::barriers))]
+    #[tactic(auto, using(thread_items::proofs::Stating::barriers))]
     pub(crate) fn fence(
         &mut self,
         setting: Setting<'p>,
@@ -252,7 +214,7 @@ impl<'p> Evaluation<'p> {
     }
 
     /// The first arm of an `if` whose test is not 0, else what comes last.
-    #[tactic(auto, using(crate::proofs::Stating::ifs))]
+    #[tactic(auto, using(thread_items::proofs::Stating::ifs))]
     pub(crate) fn arms(
         &mut self,
         setting: Setting<'p>,
@@ -285,7 +247,7 @@ impl<'p> Evaluation<'p> {
     }
 
     /// What a condition guards, or what comes where it is 0.
-    #[tactic(auto, using(crate::proofs::Stating::ifs))]
+    #[tactic(auto, using(thread_items::proofs::Stating::ifs))]
     pub(crate) fn arm(
         &mut self,
         setting: Setting<'p>,
@@ -307,7 +269,7 @@ impl<'p> Evaluation<'p> {
     }
 
     /// The end of a block.
-    #[tactic(auto, using(crate::proofs::Stating::blocks))]
+    #[tactic(auto, using(thread_items::proofs::Stating::blocks))]
     pub(crate) fn leave(&mut self, setting: Setting<'p>)
         ensures { with_item (running_seen setting.entry) item.Leave (seen self.old)
             ≡ meant (running_seen setting.entry) (seen self.new) }
@@ -316,7 +278,7 @@ impl<'p> Evaluation<'p> {
     }
 
     /// The end of a switch: `break` has left it.
-    #[tactic(auto, using(crate::proofs::Stating::blocks))]
+    #[tactic(auto, using(thread_items::proofs::Stating::blocks))]
     pub(crate) fn catch(&mut self, setting: Setting<'p>)
         ensures { with_item (running_seen setting.entry) item.Caught (seen self.old)
             ≡ meant (running_seen setting.entry) (seen self.new) }

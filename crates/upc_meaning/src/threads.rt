@@ -2,46 +2,22 @@
 
 ghost use Rattle.std.specs.Prelude.{◌≡◌, IfOk};
 ghost use Rattle.upc_values.specs.declared.scalar.Mark.{Mark};
-ghost use Rattle.thread_steps.specs.Actions as pure;
-ghost use Rattle.thread_steps.specs.States.{◌>>◌};
-ghost use Rattle.upc_meaning.specs.code.Came.{Came, state_seen};
-ghost use Rattle.upc_meaning.specs.code.Courses.{passed};
-ghost use Rattle.upc_meaning.specs.code.Evaluations.{Went, meant, seen, with_item};
-ghost use Rattle.upc_meaning.specs.code.Items as item;
-ghost use Rattle.upc_meaning.specs.code.Runners.{Fits, thread_seen};
-ghost use Rattle.upc_meaning.specs.code.Settings.{running_seen};
-ghost use Rattle.upc_meaning.specs.code.ViewItems.{view_work};
+ghost use Rattle.thread_progress.specs.code.Runners.{Fits};
+ghost use Rattle.thread_progress.specs.code.Settings.{running_seen};
+ghost use Rattle.thread_items.specs.code.Seen.{meant, with_item};
+ghost use Rattle.thread_items.specs.code.Items as item;
+ghost use Rattle.thread_items.specs.code.ViewItems.{view_work};
+ghost use Rattle.upc_meaning.specs.code.Evaluations.{Went, seen};
 
 use crate::evaluation::Evaluation;
-use crate::progress::{Progress, Step};
-use crate::runner::Runner;
-use crate::setting::Setting;
-use crate::works::Work;
+use thread_items::Work;
+use thread_progress::{Setting, Step};
 use upc_text::{OutOfMemory, Place};
 use upc_values::Mark;
 
-impl<'r> Progress<'r> {
-    /// The barrier before main, or behind it.
-    #[tactic(auto, unfolding(crate::specs::code::Courses::passed))]
-    pub(crate) fn pass(
-        &mut self,
-        runner: Runner<'_>,
-        place: Place,
-        mark: Mark,
-    ) -> Result<Step<()>, OutOfMemory>
-        ensures { IfOk result (λ s. Came (passed (thread_seen runner.entry) place mark (state_seen
-            self.old)) s self.new) }
-    {
-        match self.notify(runner, place, mark)? {
-            Step::Ends(end) => Ok(Step::Ends(end)),
-            Step::Gives(()) => self.wait(runner, place, mark),
-        }
-    }
-}
-
 impl<'p> Evaluation<'p> {
     // A value that nothing uses.
-    #[tactic(auto, using(crate::proofs::Courses::ends_of))]
+    #[tactic(auto, using(thread_items::proofs::Courses::ends_of))]
     fn drop_value(&mut self, setting: Setting<'p>)
         ensures { with_item (running_seen setting.entry) item.Drop (seen self.old)
             ≡ meant (running_seen setting.entry) (seen self.new) }
@@ -50,7 +26,7 @@ impl<'p> Evaluation<'p> {
     }
 
     // The end of main.
-    #[tactic(auto, using(crate::proofs::Courses::ends_of))]
+    #[tactic(auto, using(thread_items::proofs::Courses::ends_of))]
     fn end_main(&mut self, setting: Setting<'p>, place: Place) -> Result<Step<()>, OutOfMemory>
         ensures { IfOk result (λ s. Went (running_seen setting.entry)
             (with_item (running_seen setting.entry) (item.End place) (seen self.old)) s self.new) }

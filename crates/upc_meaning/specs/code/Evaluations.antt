@@ -1,32 +1,19 @@
 -- What an evaluation comes to.
-use Rattle.std.specs.Prelude.{◌≡◌, ℕ, suc, ℤ, pos, Bool, true, false, List, [], ◌∷◌, ◌++◌, drop}
-use Rattle.std.specs.Prelude.{Option, Some, None}
+use Rattle.std.specs.Prelude.{◌≡◌, ℕ, ℤ, List}
 use Rattle.upc_text.specs.declared.place.Place.{Place}
-use Rattle.upc_values.specs.declared.scalar.Value.{Value as Given}
-use Rattle.typed_tree.specs.Tree.{Expr, Statement, StatementKind, StatementOption, Arms, Function, Head}
-use Rattle.thread_steps.specs.Values.{number}
-use Rattle.thread_steps.specs.States.{State, Res, Val, Over, ◌>>=◌}
+use Rattle.block_layout.specs.declared.kind.Shape.{Shape}
+use Rattle.typed_tree.specs.Tree.{StatementKind, Head}
+use Rattle.thread_steps.specs.States.{State, Res, Val, Over}
 use Rattle.thread_steps.specs.Blocks.{open_block}
 use Rattle.source_meaning.specs.Running.{Running}
 use Rattle.source_meaning.specs.Statements as pure
-use Rattle.source_meaning.specs.Threads.{called, body}
-use Rattle.upc_meaning.specs.declared.progress.Step.{Step}
-use Rattle.upc_meaning.specs.declared.progress.Step.TheVariants.{Gives, Ends}
+use Rattle.thread_progress.specs.declared.progress.Step.{Step}
+use Rattle.thread_progress.specs.declared.progress.Step.TheVariants.{Gives, Ends}
+use Rattle.thread_progress.specs.code.Came.{state_seen}
+use Rattle.thread_items.specs.code.Items.{Item}
+use Rattle.thread_items.specs.code.Seen.{Seen, meant, headed, more_works, with_flow, with_state}
+use Rattle.thread_items.specs.code.ViewItems.{flow_seen, listed}
 use Rattle.upc_meaning.specs.declared.evaluation.Evaluation.{Evaluation}
-use Rattle.upc_meaning.specs.code.Came.{state_seen}
-use Rattle.upc_meaning.specs.code.Items.{Item, Value, Drop, Leave, Turn, Declare, Return}
-use Rattle.upc_meaning.specs.code.Left.{body_of, called_so, does, left}
-use Rattle.upc_meaning.specs.code.Stacks.{rest, youngest}
-use Rattle.upc_meaning.specs.code.ViewItems.{flow_seen, listed}
-
--- What is left to do, the values, how the last statement was left, the calls that may still become active, and the
--- state of the thread.
-pub record Seen : Type 0 where
-  pub works : List Item
-  pub values : List Given
-  pub flow : pure.Flow
-  pub free : ℕ
-  pub state : State
 
 abbrev pub seen : Evaluation → Seen
 seen m = record {
@@ -36,102 +23,6 @@ seen m = record {
   free = m.free;
   state = state_seen m.progress;
 }
-
--- What all that is left comes to.
-unfoldable pub meant : Running → Seen → Res ℤ
-meant ρ s = left ρ s.works s.free s.flow s.values s.state
-
--- What an item and all that is left come to.
-unfoldable pub with_item : Running → Item → Seen → Res ℤ
-with_item ρ w s = does ρ w (left ρ s.works) s.free s.flow s.values s.state
-
--- What a call of an expression and all that is left come to, where the youngest values are its arguments.
-unfoldable pub calls : Running → Expr → (done : ℕ) → Seen → Res ℤ
-calls ρ e done s =
-    (called_so ρ (called ρ s.free) e (youngest done s.values)
-    >>= (λ v. left ρ s.works s.free s.flow (v ∷ drop done s.values))) s.state
-
--- So where these are its arguments.
-unfoldable pub called_with : Running → Expr → List Given → Seen → Res ℤ
-called_with ρ e vs s =
-    (called_so ρ (called ρ s.free) e vs >>= (λ v. left ρ s.works s.free s.flow (v ∷ s.values))) s.state
-
--- Some items more, and some values, youngest first.
-abbrev pub more_works : List Item → Seen → Seen
-more_works ws s = record s { works = ws ++ s.works }
-
-abbrev pub more_values : List Given → Seen → Seen
-more_values vs s = record s { values = vs ++ s.values }
-
--- Behind the youngest value.
-abbrev pub popped : Seen → Seen
-popped s = record s { values = rest s.values }
-
--- The last statement was left so.
-abbrev pub with_flow : pure.Flow → Seen → Seen
-with_flow f s = record s { flow = f }
-
--- Whether a statement was left at its end.
-abbrev pub is_next : pure.Flow → Bool
-is_next pure.Next = true
-is_next f = false
-
--- The thread has come to this state.
-abbrev pub with_state : State → Seen → Seen
-with_state σ s = record s { state = σ }
-
--- Behind so many of the youngest values.
-abbrev pub without : ℕ → Seen → Seen
-without n s = record s { values = drop n s.values }
-
--- What is left to do with an expression that is evaluated for what it does.
-abbrev pub aside_items : pure.Standing → Option Expr → List Item
-aside_items κ None = []
-aside_items κ (Some e) = Value κ.strict e ∷ Drop ∷ []
-
--- The test of a loop is next; an absent one is as 1.
-abbrev pub with_test : pure.Standing → Option Expr → Seen → Seen
-with_test κ None s = more_values (number (pos 1) ∷ []) s
-with_test κ (Some e) s = more_works (Value κ.strict e ∷ []) s
-
--- What the head of a loop leaves to be done inside its block.
-abbrev pub headed : pure.Standing → Head → StatementKind → (budget : ℕ) → Seen → Seen
-headed κ head kind budget s =
-    more_works (Declare κ head.objects ∷ []) (more_works (aside_items κ head.first) (with_flow pure.Next
-    (more_works (Turn (pure.with_objects head.objects κ) kind budget ∷ Leave ∷ []) s)))
-
--- Inside a call of a function, which gives this where it ends without `return`.
-abbrev pub inside : (free : ℕ) → (blank : Given) → Seen → Seen
-inside free blank s = record s { works = Return s.flow blank ∷ s.works; flow = pure.Next; free = free }
-
--- Behind one, with its value.
-abbrev pub outside : (saved : pure.Flow) → Given → Seen → Seen
-outside saved v s = record s { values = v ∷ s.values; flow = saved; free = suc s.free }
-
-module _ (ρ : Running) where
-  -- What the arms of an `if` from some on and all that is left come to.
-  unfoldable pub armed : pure.Standing → Arms → StatementOption → Seen → Res ℤ
-  armed κ arms last s =
-      (pure.run_arms ρ (called ρ s.free) κ arms (pure.run_last ρ (called ρ s.free) κ last)
-      >>= (λ g. left ρ s.works s.free g s.values)) s.state
-
-  -- So of the body of a loop, and of one in which no further affinity is evaluated.
-  unfoldable pub bodied : pure.Standing → StatementKind → Seen → Res ℤ
-  bodied κ kind s = (body_of ρ (called ρ s.free) κ kind >>= (λ g. left ρ s.works s.free g s.values)) s.state
-
-  unfoldable pub controlled : pure.Standing → Statement → Seen → Res ℤ
-  controlled κ body s =
-      (pure.controlling ρ (pure.run ρ (called ρ s.free) κ body)
-      >>= (λ g. left ρ s.works s.free g s.values)) s.state
-
-  -- So of a call of a function, and of the body of one.
-  unfoldable pub entering : ℕ → List Given → Place → Seen → Res ℤ
-  entering number vs at s =
-      (called ρ s.free number vs at >>= (λ v. left ρ s.works s.free s.flow (v ∷ s.values))) s.state
-
-  unfoldable pub entered : Function → List Given → Seen → Res ℤ
-  entered f vs s =
-      (body ρ (called ρ s.free) f vs f.body >>= (λ g. left ρ s.works s.free g s.values)) s.state
 
 -- This has been done: what is left comes to the same, or the thread has ended so.
 abbrev pub Went : Running → Res ℤ → Step (Unit {0}) → Evaluation → Type 0
@@ -146,3 +37,11 @@ HeadWent ρ κ head kind at s (Gives u) m =
     × (seen m ≡ headed κ head kind ρ.thread.budget (with_state σ s))
 HeadWent ρ κ head kind at s (Ends e) m =
     open_block κ.count (pure.shapes_of ρ head.objects) at s.state ≡ Over e (state_seen m.progress)
+
+-- A block was entered, and this is left to be done inside it, or the thread has ended so.
+abbrev pub BlockWent : (from : ℕ) → List Shape → Place → (inside : List Item) → Seen → Step (Unit {0})
+    → Evaluation → Type 0
+BlockWent from shapes at inside s (Gives u) m =
+    (σ : State) × (open_block from shapes at s.state ≡ Val tt σ)
+    × (seen m ≡ more_works inside (with_flow pure.Next (with_state σ s)))
+BlockWent from shapes at inside s (Ends e) m = open_block from shapes at s.state ≡ Over e (state_seen m.progress)

@@ -2,10 +2,10 @@ use Rattle.std.proofs.Common.{◌≡◌, ◌+◌, refl, ap, ◌∙◌, map}
 use Rattle.std.proofs.lemmas.List.{nil_from_length}
 use Rattle.typed_tree.specs.Tree.{NoExprs, AndExpr, exprs_of}
 use Rattle.typed_tree.specs.ViewTree.{view_expr}
+use Rattle.thread_progress.specs.code.Settings.{running_seen}
+use Rattle.thread_items.specs.code.ViewItems.{casts_of}
+use Rattle.thread_items.proofs.Branches.{no_more, argument_goes}
 use Rattle.upc_meaning.specs.code.Evaluations.{seen}
-use Rattle.upc_meaning.specs.code.Settings.{running_seen}
-use Rattle.upc_meaning.specs.code.ViewItems.{casts_of}
-use Rattle.upc_meaning.proofs.Branches.{no_more, argument_goes}
 use Rattle.upc_meaning.proofs.evaluation.Evaluation.arguments.Goals as goal
 
 pub returns-in_default : goal.returns-in_default

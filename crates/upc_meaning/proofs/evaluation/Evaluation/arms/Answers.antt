@@ -1,9 +1,9 @@
 use Rattle.std.proofs.Common.{ap}
 use Rattle.typed_tree.specs.ViewStatements.{view_last}
+use Rattle.thread_progress.specs.code.Settings.{running_seen}
+use Rattle.thread_items.specs.code.ViewItems.{view_standing}
+use Rattle.thread_items.proofs.Stating.{arms_end}
 use Rattle.upc_meaning.specs.code.Evaluations.{seen}
-use Rattle.upc_meaning.specs.code.Settings.{running_seen}
-use Rattle.upc_meaning.specs.code.ViewItems.{view_standing}
-use Rattle.upc_meaning.proofs.Stating.{arms_end}
 use Rattle.upc_meaning.proofs.evaluation.Evaluation.arms.Goals as goal
 
 pub returns-in-None-last : goal.returns-in-None-last

@@ -1,8 +1,8 @@
 use Rattle.typed_tree.specs.ViewStatements.{view_items}
+use Rattle.thread_progress.specs.code.Settings.{running_seen}
+use Rattle.thread_items.specs.code.ViewItems.{view_standing}
 use Rattle.upc_meaning.specs.code.Evaluations.{seen}
-use Rattle.upc_meaning.specs.code.Settings.{running_seen}
-use Rattle.upc_meaning.specs.code.ViewItems.{view_standing}
-use Rattle.upc_meaning.proofs.Stating.{block_enters}
+use Rattle.upc_meaning.proofs.Heads.{block_enters}
 use Rattle.upc_meaning.proofs.evaluation.Evaluation.block.Goals as goal
 
 pub returns : goal.returns

@@ -6,12 +6,13 @@ use Rattle.typed_tree.specs.Tree.{Stands, Block}
 use Rattle.typed_tree.specs.ViewStatements.{view_function, view_items}
 use Rattle.source_meaning.specs.Statements.{Next, Standing}
 use Rattle.source_meaning.specs.Threads.{received}
-use Rattle.upc_meaning.specs.code.Came.{state_seen}
-use Rattle.upc_meaning.specs.code.Evaluations.{seen, more_works, with_flow, with_state}
-use Rattle.upc_meaning.specs.code.Items.{Parts, Leave}
-use Rattle.upc_meaning.specs.code.Settings.{running_seen}
-use Rattle.upc_meaning.specs.code.ViewItems.{view_standing}
-use Rattle.upc_meaning.proofs.Enters.{body_goes, body_refused, body_stops}
+use Rattle.thread_progress.specs.code.Came.{state_seen}
+use Rattle.thread_progress.specs.code.Settings.{running_seen}
+use Rattle.thread_items.specs.code.Seen.{more_works, with_flow, with_state}
+use Rattle.thread_items.specs.code.Items.{Parts, Leave}
+use Rattle.thread_items.specs.code.ViewItems.{view_standing}
+use Rattle.thread_items.proofs.Enters.{body_goes, body_refused, body_stops}
+use Rattle.upc_meaning.specs.code.Evaluations.{seen}
 use Rattle.upc_meaning.proofs.evaluation.Evaluation.block_body.Goals as goal
 
 pub returns-in-Ends : goal.returns-in-Ends

@@ -1,8 +1,9 @@
 use Rattle.std.proofs.Common.{◌≡◌, true, arith}
-use Rattle.upc_meaning.specs.code.Evaluations.{seen, is_next}
-use Rattle.upc_meaning.specs.code.Settings.{running_seen}
-use Rattle.upc_meaning.specs.code.ViewItems.{flow_seen, view_standing}
-use Rattle.upc_meaning.proofs.Turning.{cases_end}
+use Rattle.thread_progress.specs.code.Settings.{running_seen}
+use Rattle.thread_items.specs.code.Seen.{is_next}
+use Rattle.thread_items.specs.code.ViewItems.{flow_seen, view_standing}
+use Rattle.thread_items.proofs.Turning.{cases_end}
+use Rattle.upc_meaning.specs.code.Evaluations.{seen}
 use Rattle.upc_meaning.proofs.evaluation.Evaluation.cases.Goals as goal
 
 pub returns-in-None : goal.returns-in-None

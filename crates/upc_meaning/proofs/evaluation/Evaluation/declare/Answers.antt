@@ -1,7 +1,7 @@
+use Rattle.thread_progress.specs.code.Settings.{running_seen}
+use Rattle.thread_items.specs.code.ViewItems.{view_standing}
+use Rattle.thread_items.proofs.Declaring.{declare_end}
 use Rattle.upc_meaning.specs.code.Evaluations.{seen}
-use Rattle.upc_meaning.specs.code.Settings.{running_seen}
-use Rattle.upc_meaning.specs.code.ViewItems.{view_standing}
-use Rattle.upc_meaning.proofs.Declaring.{declare_end}
 use Rattle.upc_meaning.proofs.evaluation.Evaluation.declare.Goals as goal
 
 pub returns-in-None : goal.returns-in-None

@@ -5,11 +5,12 @@ use Rattle.typed_tree.specs.ViewTree.{view_expr}
 use Rattle.typed_tree.specs.ViewStatements.{view_initial, view_object}
 use Rattle.source_meaning.specs.Types.{conversion}
 use Rattle.source_meaning.specs.Expressions.{type_of}
-use Rattle.upc_meaning.specs.code.Evaluations.{seen, more_works}
-use Rattle.upc_meaning.specs.code.Items.{Value, Convert, Keep, Declare}
-use Rattle.upc_meaning.specs.code.Settings.{running_seen}
-use Rattle.upc_meaning.specs.code.ViewItems.{view_standing}
-use Rattle.upc_meaning.proofs.Declaring.{declare_value}
+use Rattle.thread_progress.specs.code.Settings.{running_seen}
+use Rattle.thread_items.specs.code.Seen.{more_works}
+use Rattle.thread_items.specs.code.Items.{Value, Convert, Keep, Declare}
+use Rattle.thread_items.specs.code.ViewItems.{view_standing}
+use Rattle.thread_items.proofs.Declaring.{declare_value}
+use Rattle.upc_meaning.specs.code.Evaluations.{seen}
 use Rattle.upc_meaning.proofs.evaluation.Evaluation.declare_one.Goals as goal
 
 pub returns-in_ok-push_initial-in-Value : goal.returns-in_ok-push_initial-in-Value

@@ -1,8 +1,8 @@
-use Rattle.upc_meaning.specs.code.Came.{state_seen}
-use Rattle.upc_meaning.specs.code.Evaluations.{seen}
-use Rattle.upc_meaning.specs.code.Settings.{running_seen}
 use Rattle.std.proofs.Common.{refl}
-use Rattle.upc_meaning.proofs.Courses.{end_goes, end_stops}
+use Rattle.thread_progress.specs.code.Came.{state_seen}
+use Rattle.thread_progress.specs.code.Settings.{running_seen}
+use Rattle.thread_items.proofs.Courses.{end_goes, end_stops}
+use Rattle.upc_meaning.specs.code.Evaluations.{seen}
 use Rattle.upc_meaning.proofs.evaluation.Evaluation.end_main.Goals as goal
 
 pub returns-in-Ends : goal.returns-in-Ends

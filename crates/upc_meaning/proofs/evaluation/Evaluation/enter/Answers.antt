@@ -1,9 +1,9 @@
 use Rattle.std.proofs.Common.{◌≡◌, ◌≢◌, ◌-◌, refl, arith}
 use Rattle.typed_tree.specs.ViewStatements.{view_function}
-use Rattle.upc_meaning.specs.code.Came.{state_seen}
+use Rattle.thread_progress.specs.code.Came.{state_seen}
+use Rattle.thread_progress.specs.code.Settings.{running_seen}
+use Rattle.thread_items.proofs.Enters.{call_begins, call_of_none, function_at, no_function}
 use Rattle.upc_meaning.specs.code.Evaluations.{seen}
-use Rattle.upc_meaning.specs.code.Settings.{running_seen}
-use Rattle.upc_meaning.proofs.Enters.{call_begins, call_of_none, function_at, no_function}
 use Rattle.upc_meaning.proofs.evaluation.Evaluation.enter.Goals as goal
 
 pub returns-in_ok-push_return-in-None : goal.returns-in_ok-push_return-in-None

@@ -2,10 +2,10 @@ use Rattle.std.proofs.Common.{sym, ap, ◌∙◌}
 use Rattle.typed_tree.specs.declared.tree.Head.{Head}
 use Rattle.typed_tree.specs.Tree.{For, Forall}
 use Rattle.typed_tree.specs.ViewStatements.{view_affinity, view_head, view_statement, view_statement_kind}
+use Rattle.thread_progress.specs.code.Settings.{running_seen}
+use Rattle.thread_items.specs.code.ViewItems.{view_standing}
 use Rattle.upc_meaning.specs.code.Evaluations.{seen}
-use Rattle.upc_meaning.specs.code.Settings.{running_seen}
-use Rattle.upc_meaning.specs.code.ViewItems.{view_standing}
-use Rattle.upc_meaning.proofs.Declaring.{for_enters, forall_enters}
+use Rattle.upc_meaning.proofs.Heads.{for_enters, forall_enters}
 use Rattle.upc_meaning.proofs.evaluation.Evaluation.headed.Goals as goal
 
 pub returns-in-For : goal.returns-in-For

@@ -1,9 +1,9 @@
 use Rattle.std.proofs.Common.{refl}
 use Rattle.upc_types.specs.View.{view}
-use Rattle.upc_meaning.specs.code.Came.{state_seen}
+use Rattle.thread_progress.specs.code.Came.{state_seen}
+use Rattle.thread_progress.specs.code.Settings.{running_seen}
+use Rattle.thread_items.proofs.Declaring.{keep_goes, keep_ends}
 use Rattle.upc_meaning.specs.code.Evaluations.{seen}
-use Rattle.upc_meaning.specs.code.Settings.{running_seen}
-use Rattle.upc_meaning.proofs.Declaring.{keep_goes, keep_ends}
 use Rattle.upc_meaning.proofs.evaluation.Evaluation.keep.Goals as goal
 
 pub returns-in-Ends : goal.returns-in-Ends

@@ -1,8 +1,9 @@
 use Rattle.std.proofs.Common.{◌≡◌, ◌∷◌, [], ap, ◌∙◌}
 use Rattle.std.proofs.lemmas.List.{nil_from_length}
-use Rattle.upc_meaning.specs.code.Evaluations.{more_values, seen}
-use Rattle.upc_meaning.specs.code.Settings.{running_seen}
-use Rattle.upc_meaning.proofs.Arms.{last_gives}
+use Rattle.thread_progress.specs.code.Settings.{running_seen}
+use Rattle.thread_items.specs.code.Seen.{more_values}
+use Rattle.thread_items.proofs.Arms.{last_gives}
+use Rattle.upc_meaning.specs.code.Evaluations.{seen}
 use Rattle.upc_meaning.proofs.evaluation.Evaluation.last.Goals as goal
 
 pub returns-in_ok-push_value-in-None : goal.returns-in_ok-push_value-in-None

@@ -5,9 +5,9 @@ use Rattle.typed_tree.specs.declared.tree.Target.TheVariants.{Library}
 use Rattle.typed_tree.specs.Tree.{Call, exprs_of}
 use Rattle.typed_tree.specs.ViewTree.{view_expr, view_kind}
 use Rattle.source_meaning.specs.Expressions.{is_printf}
+use Rattle.thread_progress.specs.code.Settings.{running_seen}
+use Rattle.thread_items.proofs.Branches.{printf_none}
 use Rattle.upc_meaning.specs.code.Evaluations.{seen}
-use Rattle.upc_meaning.specs.code.Settings.{running_seen}
-use Rattle.upc_meaning.proofs.Branches.{printf_none}
 use Rattle.upc_meaning.proofs.evaluation.Evaluation.library.Goals as goal
 
 pub returns-in_ok-push_value-in-None : goal.returns-in_ok-push_value-in-None

@@ -8,12 +8,13 @@ use Rattle.typed_tree.specs.ViewTree.{view_expr}
 use Rattle.typed_tree.specs.ViewStatements.{view_object}
 use Rattle.source_meaning.specs.Types.{conversion}
 use Rattle.source_meaning.specs.Expressions.{behind, type_of}
-use Rattle.upc_meaning.specs.code.Came.{state_seen}
-use Rattle.upc_meaning.specs.code.Evaluations.{seen, more_works}
-use Rattle.upc_meaning.specs.code.Items.{Value, Convert, Keep, Listed}
-use Rattle.upc_meaning.specs.code.Settings.{running_seen}
-use Rattle.upc_meaning.specs.code.ViewItems.{view_standing}
-use Rattle.upc_meaning.proofs.Declaring.{listed_goes, listed_ends}
+use Rattle.thread_progress.specs.code.Came.{state_seen}
+use Rattle.thread_progress.specs.code.Settings.{running_seen}
+use Rattle.thread_items.specs.code.Seen.{more_works}
+use Rattle.thread_items.specs.code.Items.{Value, Convert, Keep, Listed}
+use Rattle.thread_items.specs.code.ViewItems.{view_standing}
+use Rattle.thread_items.proofs.Declaring.{listed_goes, listed_ends}
+use Rattle.upc_meaning.specs.code.Evaluations.{seen}
 use Rattle.upc_meaning.proofs.evaluation.Evaluation.list_one.Goals as goal
 
 pub returns-in-Ends : goal.returns-in-Ends

@@ -1,8 +1,8 @@
 use Rattle.typed_tree.specs.ViewStatements.{view_object}
+use Rattle.thread_progress.specs.code.Settings.{running_seen}
+use Rattle.thread_items.specs.code.ViewItems.{view_standing}
+use Rattle.thread_items.proofs.Declaring.{listed_end}
 use Rattle.upc_meaning.specs.code.Evaluations.{seen}
-use Rattle.upc_meaning.specs.code.Settings.{running_seen}
-use Rattle.upc_meaning.specs.code.ViewItems.{view_standing}
-use Rattle.upc_meaning.proofs.Declaring.{listed_end}
 use Rattle.upc_meaning.proofs.evaluation.Evaluation.listed.Goals as goal
 
 pub returns-in-None : goal.returns-in-None

@@ -1,7 +1,7 @@
-use Rattle.upc_meaning.specs.code.Came.{state_seen}
+use Rattle.thread_progress.specs.code.Came.{state_seen}
+use Rattle.thread_progress.specs.code.Settings.{running_seen}
+use Rattle.thread_items.proofs.Turning.{mine_goes, mine_ends}
 use Rattle.upc_meaning.specs.code.Evaluations.{seen}
-use Rattle.upc_meaning.specs.code.Settings.{running_seen}
-use Rattle.upc_meaning.proofs.Turning.{mine_goes, mine_ends}
 use Rattle.upc_meaning.proofs.evaluation.Evaluation.mine.Goals as goal
 
 pub returns-in-Ends : goal.returns-in-Ends

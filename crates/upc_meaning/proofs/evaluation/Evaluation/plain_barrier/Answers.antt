@@ -1,8 +1,8 @@
-use Rattle.upc_meaning.specs.code.Came.{state_seen}
+use Rattle.thread_progress.specs.code.Came.{state_seen}
+use Rattle.thread_progress.specs.code.Settings.{running_seen}
+use Rattle.thread_items.specs.code.ViewItems.{view_standing}
+use Rattle.thread_items.proofs.Stating.{synchronise_none}
 use Rattle.upc_meaning.specs.code.Evaluations.{seen}
-use Rattle.upc_meaning.specs.code.Settings.{running_seen}
-use Rattle.upc_meaning.specs.code.ViewItems.{view_standing}
-use Rattle.upc_meaning.proofs.Stating.{synchronise_none}
 use Rattle.upc_meaning.proofs.evaluation.Evaluation.plain_barrier.Goals as goal
 
 pub returns-in-Gives : goal.returns-in-Gives

@@ -4,11 +4,12 @@ use mir.Syntax.{w128}
 use mir.Val.{SFits, of_z, to_z}
 use Rattle.typing_rules.specs.Rules.{label_kind}
 use Rattle.typed_tree.specs.ViewStatements.{view_switch_items}
-use Rattle.upc_meaning.specs.code.Evaluations.{seen, more_works}
-use Rattle.upc_meaning.specs.code.Items.{Cases}
-use Rattle.upc_meaning.specs.code.Settings.{running_seen}
-use Rattle.upc_meaning.specs.code.ViewItems.{view_standing}
-use Rattle.upc_meaning.proofs.Selecting.{select_goes, select_none}
+use Rattle.thread_progress.specs.code.Settings.{running_seen}
+use Rattle.thread_items.specs.code.Seen.{more_works}
+use Rattle.thread_items.specs.code.Items.{Cases}
+use Rattle.thread_items.specs.code.ViewItems.{view_standing}
+use Rattle.thread_items.proofs.Selecting.{select_goes, select_none}
+use Rattle.upc_meaning.specs.code.Evaluations.{seen}
 use Rattle.upc_meaning.proofs.evaluation.Evaluation.select.Goals as goal
 
 pub returns-in-None : goal.returns-in-None

@@ -1,9 +1,9 @@
 use Rattle.std.proofs.Common.{ap}
-use Rattle.upc_meaning.specs.code.Came.{state_seen}
-use Rattle.upc_meaning.specs.code.Courses.{view_main}
-use Rattle.upc_meaning.specs.code.Evaluations.{with_state}
-use Rattle.upc_meaning.specs.code.Settings.{running_seen}
-use Rattle.upc_meaning.proofs.Courses.{starts_over, starts_so}
+use Rattle.thread_progress.specs.code.Came.{state_seen}
+use Rattle.thread_progress.specs.code.Settings.{running_seen}
+use Rattle.thread_items.specs.code.Courses.{view_main}
+use Rattle.thread_items.specs.code.Seen.{with_state}
+use Rattle.thread_items.proofs.Courses.{starts_over, starts_so}
 use Rattle.upc_meaning.proofs.evaluation.Evaluation.start.Goals as goal
 
 pub returns-in-Ends : goal.returns-in-Ends

@@ -1,11 +1,12 @@
 use Rattle.std.proofs.Common.{◌≡◌, ◌≢◌, ◌-◌, refl, ap, ◌∙◌, arith}
 use Rattle.typed_tree.specs.ViewStatements.{view_statement_kind}
-use Rattle.upc_meaning.specs.code.Came.{state_seen}
-use Rattle.upc_meaning.specs.code.Evaluations.{seen, with_test}
-use Rattle.upc_meaning.specs.code.Left.{test_in}
-use Rattle.upc_meaning.specs.code.Settings.{running_seen}
-use Rattle.upc_meaning.specs.code.ViewItems.{view_standing}
-use Rattle.upc_meaning.proofs.Turning.{turn_goes}
+use Rattle.thread_progress.specs.code.Came.{state_seen}
+use Rattle.thread_progress.specs.code.Settings.{running_seen}
+use Rattle.thread_items.specs.code.Seen.{with_test}
+use Rattle.thread_items.specs.code.Left.{test_in}
+use Rattle.thread_items.specs.code.ViewItems.{view_standing}
+use Rattle.thread_items.proofs.Turning.{turn_goes}
+use Rattle.upc_meaning.specs.code.Evaluations.{seen}
 use Rattle.upc_meaning.proofs.evaluation.Evaluation.turn.Goals as goal
 
 pub returns-in_ok-push_test-in-Gives : goal.returns-in_ok-push_test-in-Gives

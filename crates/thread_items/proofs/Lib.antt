@@ -1,0 +1,13 @@
+mod Arguing
+pub mod Arms
+pub mod Branches
+pub mod Callings
+pub mod Courses
+pub mod Declaring
+pub mod Enters
+mod Halves
+pub mod OtherBodies
+pub mod Programs
+pub mod Selecting
+pub mod Stating
+pub mod Turning

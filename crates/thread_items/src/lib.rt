@@ -1,0 +1,12 @@
+//! What a thread has left to do, item by item, the values that are under way, and what both come to.
+#![tactic(auto)]
+
+mod flow;
+mod standing;
+mod values;
+mod works;
+
+pub use flow::Flow;
+pub use standing::{Standing, with_objects, with_strict};
+pub use values::Values;
+pub use works::{Parameters, Work, Works};

@@ -1,0 +1,6 @@
+mod AtOnce
+mod Libraries
+mod Receiving
+mod Rows
+mod Starts
+pub mod Thens

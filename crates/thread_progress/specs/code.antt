@@ -1,0 +1,7 @@
+pub mod Barriers
+pub mod Came
+pub mod Fitting
+pub mod Libraries
+pub mod Operations
+pub mod Runners
+pub mod Settings

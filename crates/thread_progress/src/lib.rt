@@ -1,0 +1,24 @@
+//! How far a thread has come by the meaning of its source: its store, ticks, actions, replies, and each step on them.
+#![tactic(auto)]
+
+mod accesses;
+mod barriers;
+mod blocks;
+mod bodies;
+mod called;
+mod library;
+mod objects;
+mod operated;
+mod operations;
+mod progress;
+mod ranges;
+mod runner;
+mod setting;
+mod shapes;
+
+pub use called::is_printf;
+pub use progress::{Progress, Step};
+pub use ranges::is_numeric;
+pub use runner::Runner;
+pub use setting::Setting;
+pub use shapes::Shapes;
