@@ -7,6 +7,8 @@ pub mod Within
 pub mod Same
 pub mod Near
 pub mod RunLists
+pub mod Joined
+pub mod LieBehind
 pub mod Readings
 pub mod Hits
 pub mod Found

@@ -1,5 +1,5 @@
 -- The test of the range of elements and offsets.
-use Rattle.std.proofs.Common.{◌≡◌, ◌^◌, int_le, Bool, true, false, sym, arith}
+use Rattle.std.proofs.Common.{◌≡◌, ◌^◌, int_le, true, false, sym, arith}
 use Rattle.std.proofs.Math.IntN.{ℤ, pos, neg_ℤ}
 use Rattle.std.proofs.lemmas.Int.{ints}
 use Rattle.std.proofs.lemmas.Bool.{and_parts, and_from}

@@ -31,19 +31,18 @@ run_near (r ∷ rs) start (suc i) d l h =
     run_near rs start i d (omega arith) (near_right (moved start (run_cells r)) (moved start (runs_cells rs)) (subst AreNear (moved_append start (run_cells r) (runs_cells rs)) h))
 
 -- One run more is moved.
-pub moved_more : (to rs : List Repeated) (xs : List (ℕ × Kind)) (start i : ℕ) (r d : Repeated) → i < length rs → d ≡ get_or rs i d → run_cells r ≡ moved start (run_cells d)
-    → runs_cells to ≡ xs ++ moved start (runs_cells (take i rs)) → runs_cells (to ++ r ∷ []) ≡ xs ++ moved start (runs_cells (take (i + 1) rs))
-moved_more to rs xs start i r d l is cells done =
+pub moved_more : (rs : List Repeated) (before xs ys : List (ℕ × Kind)) (start i : ℕ) (r d : Repeated) → i < length rs → d ≡ get_or rs i d → run_cells r ≡ moved start (run_cells d)
+    → before ≡ xs ++ moved start (runs_cells (take i rs)) → ys ≡ before ++ run_cells r → ys ≡ xs ++ moved start (runs_cells (take (i + 1) rs))
+moved_more rs before xs ys start i r d l is cells done pushed =
     let e : runs_cells (take (i + 1) rs) ≡ runs_cells (take i rs) ++ run_cells d = runs_take rs i d l ∙ ap (λ (x : Repeated). runs_cells (take i rs) ++ run_cells x) (sym is) in
-    runs_push to r ∙ ap (λ ys. ys ++ run_cells r) done ∙ append_assoc xs (moved start (runs_cells (take i rs))) (run_cells r)
-    ∙ ap (λ ys. xs ++ (moved start (runs_cells (take i rs)) ++ ys)) cells
-    ∙ ap (λ ys. xs ++ ys) (sym (moved_append start (runs_cells (take i rs)) (run_cells d)))
-    ∙ ap (λ ys. xs ++ moved start ys) (sym e)
+    pushed ∙ ap (λ zs. zs ++ run_cells r) done ∙ append_assoc xs (moved start (runs_cells (take i rs))) (run_cells r)
+    ∙ ap (λ zs. xs ++ (moved start (runs_cells (take i rs)) ++ zs)) cells
+    ∙ ap (λ zs. xs ++ zs) (sym (moved_append start (runs_cells (take i rs)) (run_cells d)))
+    ∙ ap (λ zs. xs ++ moved start zs) (sym e)
 
--- A run behind a tail that is sealed.
-pub run_behind : (rs ts : List Repeated) (tail xs : List (ℕ × Kind)) (r : Repeated) → ts ≡ rs ++ r ∷ [] → tail ≡ [] → runs_cells rs ≡ xs → runs_cells ts ++ tail ≡ xs ++ run_cells r
-run_behind rs ts tail xs r more none sealed =
-    ap (λ ys. runs_cells ts ++ ys) none ∙ append-nil (runs_cells ts) ∙ ap runs_cells more ∙ runs_push rs r ∙ ap (λ ys. ys ++ run_cells r) sealed
+-- Cells of runs behind a tail that is sealed.
+pub runs_behind : (ts : List Repeated) (tail xs ys : List (ℕ × Kind)) → runs_cells ts ≡ xs ++ ys → tail ≡ [] → runs_cells ts ++ tail ≡ xs ++ ys
+runs_behind ts tail xs ys e none = ap (λ zs. runs_cells ts ++ zs) none ∙ append-nil (runs_cells ts) ∙ e
 
 copies_nothing : (n size : ℕ) → copies n size [] ≡ []
 copies_nothing zero size = refl

@@ -32,6 +32,13 @@ pub record IsRun (r : Repeated) : Type 0 where
   pub cell : 0 < length r.cells
   pub near : ((r.start ≡ 0) × (r.count ≡ 1)) ⊎ AreNear (run_cells r)
 
+-- The copies of the second run go on behind those of the first, so many bytes from one to the next.
+pub record GoesOn (stride : ℕ) (r s : Repeated) : Type 0 where
+  pub positive : 0 < stride
+  pub own : (r.count ≡ 1) ⊎ (r.stride ≡ stride)
+  pub other : (s.count ≡ 1) ⊎ (s.stride ≡ stride)
+  pub behind : s.start ≡ r.start + r.count * stride
+
 -- Whether one of these copies of a cell begins at a byte.
 abbrev pub hits : ℕ → ℕ → ℕ → ℕ → ℕ → Bool
 hits start stride zero offset place = false

@@ -45,6 +45,10 @@ CellsWithin [] from size = Unit {0}
 CellsWithin (c ∷ cells) from size =
     (from ≤ c.0) × (c.0 + kind_size c.1 ≤ size) × CellsWithin cells (c.0 + kind_size c.1) size
 
+-- Cells that lie from one byte up to another, ascending and without overlap.
+abbrev pub LieUpTo : List (ℕ × Kind) → ℕ → ℕ → Type 0
+LieUpTo cells from end = (from ≤ end) × CellsWithin cells from end
+
 -- A shape has at least one byte, and its cells lie inside it, ascending and without overlap.
 abbrev pub IsShape : Shape → Type 0
 IsShape s = (0 < s.size) × CellsWithin s.cells 0 s.size

@@ -9,9 +9,12 @@ ghost use Rattle.block_layout.specs.declared.kind.Kind.{Kind};
 
 use crate::cell_lists::{kind_among, list_has, push_lists, same_cell, same_lists, sharable_list};
 use crate::cells_iter::CellsIter;
+use crate::ends::{end_of_list, end_of_runs};
 use crate::kind::Kind;
 use crate::run::Run;
-use crate::runs::{copy_runs, kind_in_runs, push_moved_runs, push_run_copies, runs_have, seal};
+use crate::runs::{
+    copy_runs, kind_in_runs, push_moved_runs, push_run, push_run_copies, runs_have, seal,
+};
 use crate::same_runs::same_runs;
 use crate::sharable::sharable_runs;
 use std::alloc::{AllocError, Global};
@@ -179,8 +182,7 @@ impl Cells {
         }
         let run = Run::elements(*self.tail.allocator(), start, count, size, cells)?;
         seal(&mut self.runs, &mut self.tail)?;
-        self.runs.push(run)?;
-        Ok(())
+        push_run(&mut self.runs, run)
     }
 
     // The cells with the tail as a run.
@@ -233,6 +235,29 @@ impl Cells {
 
     /// Whether the cells lie in so many bytes, ascending and without overlap.
     pub fn lie_within(&self, size: u32) -> bool
+        ensures { IsTrue result ↔ CellsWithin self.now 0 size }
+    {
+        if self.end_within(size) {
+            return true;
+        }
+        self.lie_in_step(size)
+    }
+
+    // Whether one copy of each pattern tells that the cells lie in so many bytes.
+    fn end_within(&self, size: u32) -> bool
+        ensures { IsTrue result → CellsWithin self.now 0 size }
+    {
+        match end_of_runs(self.runs.as_slice()) {
+            Some(end) => match end_of_list(self.tail.as_slice(), end) {
+                Some(last) => last <= size,
+                None => false,
+            },
+            None => false,
+        }
+    }
+
+    // Whether the cells lie in so many bytes, cell by cell.
+    fn lie_in_step(&self, size: u32) -> bool
         ensures { IsTrue result ↔ CellsWithin self.now 0 size }
     {
         let mut end: u64 = 0;

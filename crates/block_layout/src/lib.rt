@@ -5,6 +5,7 @@ mod cell_lists;
 mod cells;
 mod cells_iter;
 mod element;
+mod ends;
 mod floor;
 mod kind;
 mod piece;

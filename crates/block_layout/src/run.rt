@@ -2,12 +2,13 @@
 
 ghost use Rattle.std.specs.Arc.{arc_value};
 ghost use Rattle.std.specs.List.{list_any};
-ghost use Rattle.std.specs.Prelude.{◌≡◌, ◌+◌, ◌*◌, ◌<◌, ◌≤◌, IfOk, MatchOption, None, true, length};
+ghost use Rattle.std.specs.Prelude.{◌≡◌, ◌+◌, ◌*◌, ◌<◌, ◌≤◌, ◌++◌, IfOk, IfSome, MatchOption, None, true, length};
 ghost use Rattle.block_layout.specs.Cells as pure;
 ghost use Rattle.block_layout.specs.Lists.{under};
-ghost use Rattle.block_layout.specs.Runs.{AreNear, IsRun, hits, repeated, run_cells};
+ghost use Rattle.block_layout.specs.Runs.{AreNear, GoesOn, IsRun, hits, repeated, run_cells};
 ghost use Rattle.block_layout.specs.Shapes.{CellsWithin, has_cell};
 
+use crate::cell_lists::same_lists;
 use crate::kind::Kind;
 use std::alloc::{AllocError, Global};
 use std::marker::Model;
@@ -100,6 +101,44 @@ impl Run {
             count: self.count,
             cells: Arc::try_clone(&self.cells)?,
         })
+    }
+
+    // The bytes from one copy to the next, where the copies of the other run go on behind these.
+    fn stride_to(&self, next: &Run) -> Option<u32>
+        ensures { IfSome result (λ stride. GoesOn stride self.now next.now) }
+    {
+        let stride = if self.count > 1 {
+            self.stride
+        } else if next.count > 1 {
+            next.stride
+        } else {
+            next.start.checked_sub(self.start)?
+        };
+        let end = stride.checked_mul(self.count)?.checked_add(self.start)?;
+        let goes_on = stride > 0 && next.start == end && (next.count == 1 || next.stride == stride);
+        goes_on.then_some(stride)
+    }
+
+    /// The copies of both as one run, where those of the other go on behind these.
+    pub(crate) fn joined(&self, next: &Run) -> Result<Option<Run>, AllocError>
+        ensures { IfOk result (λ joined. IfSome joined (λ run. run_cells run
+            ≡ run_cells self.now ++ run_cells next.now)) }
+    {
+        let Some(stride) = self.stride_to(next) else {
+            return Ok(None);
+        };
+        let Some(count) = self.count.checked_add(next.count) else {
+            return Ok(None);
+        };
+        if !same_lists(self.cells.as_slice(), next.cells.as_slice()) {
+            return Ok(None);
+        }
+        Ok(Some(Run {
+            start: self.start,
+            stride,
+            count,
+            cells: Arc::try_clone(&self.cells)?,
+        }))
     }
 
     /// Whether the pattern has a pointer to a private object.

@@ -3,7 +3,7 @@
 ghost use Rattle.std.specs.Prelude.{◌≡◌, ◌++◌, ◌+◌, ◌*◌, ◌≤◌, [], IfOk, OnOk, MatchOption, None, true};
 ghost use Rattle.block_layout.specs.Moved.{moved, copies};
 ghost use Rattle.block_layout.specs.Lists.{under};
-ghost use Rattle.block_layout.specs.Runs.{AreNear, runs_cells};
+ghost use Rattle.block_layout.specs.Runs.{AreNear, run_cells, runs_cells};
 ghost use Rattle.block_layout.specs.Shapes.{CellsWithin, has_cell};
 
 use crate::kind::Kind;
@@ -23,6 +23,25 @@ pub(crate) fn copy_runs(alloc: Global, runs: &[Run]) -> Result<Vec<Run>, AllocEr
     Ok(copy)
 }
 
+// Adds a run. Where its copies go on behind those of the last one, the last one has them too.
+#[tactic(auto, using(crate::proofs::RunLists::runs_push, crate::proofs::Joined::joined_behind))]
+pub(crate) fn push_run(to: &mut Vec<Run>, run: Run) -> Result<(), AllocError>
+    ensures { OnOk result (runs_cells to.new.items ≡ runs_cells to.old.items ++ run_cells run) }
+{
+    let Some(last) = to.pop() else {
+        to.push(run)?;
+        return Ok(());
+    };
+    match last.joined(&run)? {
+        Some(whole) => to.push(whole)?,
+        None => {
+            to.push(last)?;
+            to.push(run)?;
+        }
+    }
+    Ok(())
+}
+
 // Adds these runs, so many bytes further.
 #[tactic(auto, using(crate::proofs::RunLists::run_near))]
 pub(crate) fn push_moved_runs(to: &mut Vec<Run>, start: u32, runs: &[Run]) -> Result<(), AllocError>
@@ -30,7 +49,7 @@ pub(crate) fn push_moved_runs(to: &mut Vec<Run>, start: u32, runs: &[Run]) -> Re
     ensures { OnOk result (runs_cells to.new.items ≡ runs_cells to.old.items ++ moved start (runs_cells runs.now)) }
 {
     for run in runs {
-        to.push(run.moved(start)?)?;
+        push_run(to, run.moved(start)?)?;
     }
     Ok(())
 }
@@ -65,8 +84,7 @@ pub(crate) fn seal(runs: &mut Vec<Run>, tail: &mut Vec<(u32, Kind)>) -> Result<(
     }
     let alloc = *tail.allocator();
     let cells = mem::replace(tail, Vec::new(alloc));
-    runs.push(Run::once(alloc, cells)?)?;
-    Ok(())
+    push_run(runs, Run::once(alloc, cells)?)
 }
 
 pub(crate) fn runs_have(runs: &[Run], place: u32, kind: Kind) -> bool

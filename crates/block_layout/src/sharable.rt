@@ -8,6 +8,7 @@ ghost use Rattle.block_layout.specs.Runs.{run_cells, runs_cells};
 use crate::cell_lists::{same_lists, sharable_list};
 use crate::kind::Kind;
 use crate::run::Run;
+use crate::runs::push_run;
 use std::alloc::{AllocError, Global};
 use std::sync::Arc;
 
@@ -38,16 +39,14 @@ fn push_sharable(alloc: Global, to: &mut Vec<Run>, run: &Run) -> Result<(), Allo
     ensures { OnOk result (runs_cells to.new.items ≡ runs_cells to.old.items ++ pure.sharable (run_cells run.now)) }
 {
     if !run.has_private() {
-        to.push(run.copy()?)?;
-        return Ok(());
+        return push_run(to, run.copy()?);
     }
     let cells = sharable_list(alloc, run.cells.as_slice())?;
     if cells.is_empty() {
         return Ok(());
     }
     let pattern = shared_pattern(alloc, to.as_slice(), cells)?;
-    to.push(run.with_cells(pattern))?;
-    Ok(())
+    push_run(to, run.with_cells(pattern))
 }
 
 // The cells of runs that a shared object can have.

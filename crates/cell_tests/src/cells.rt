@@ -290,3 +290,65 @@ fn a_list_that_is_shorter(rt: HostRuntime) -> Result<(), Fail> {
     assert!(rt; !shorter.same(&cells));
     Ok(())
 }
+
+// How often an element is doubled, and how many chars stand between the two halves.
+const DOUBLED: [(u32, u32); 6] = [(0, 0), (6, 0), (7, 0), (10, 0), (8, 1), (9, 3)];
+
+// An element `{ char c; int i; short s; }` of 12 bytes, doubled so often with so many chars between, and its size.
+fn doubled(
+    alloc: Global,
+    times: u32,
+    between: u32,
+) -> Result<(Cells, Vec<(u32, Kind)>, u32), AllocError> {
+    let first = [(0, Kind::Char), (4, Kind::Int), (8, Kind::Short)];
+    let char_cell = of(alloc, &[(0, Kind::Char)])?;
+    let mut cells = of(alloc, &first)?;
+    let mut list = first.to_vec(alloc)?;
+    let mut size: u32 = 12;
+    for _ in 0..times {
+        let second = size.wrapping_add(between);
+        let mut both = cells.copy(alloc)?;
+        add(&mut both, size, between, 1, &char_cell)?;
+        add(&mut both, second, 1, size, &cells)?;
+        let half = list.to_vec(alloc)?;
+        plain(&mut list, size, between, 1, &[(0, Kind::Char)])?;
+        plain(&mut list, second, 1, size, half.as_slice())?;
+        cells = both;
+        size = second.wrapping_add(size);
+    }
+    Ok((cells, list, size))
+}
+
+// Whether the cells, whose last one ends 2 bytes before that, lie in exactly so many bytes or more.
+fn ends_at(cells: &Cells, size: u32) -> bool {
+    let end = size.wrapping_sub(2);
+    cells.lie_within(end) && cells.lie_within(size) && !cells.lie_within(end.wrapping_sub(1))
+}
+
+#[test]
+fn an_element_that_is_doubled(rt: HostRuntime) -> Result<(), Fail> {
+    for (times, between) in &DOUBLED {
+        let (cells, list, size) = doubled(rt.alloc(), *times, *between)?;
+        assert!(rt; agree(rt.alloc(), &cells, list.as_slice())?);
+        assert!(rt; ends_at(&cells, size));
+    }
+    Ok(())
+}
+
+// Lists that do not lie in 16 bytes, ascending and without overlap.
+const OVERLAPPING: [&[(u32, Kind)]; 4] = [
+    &[(0, Kind::Int), (3, Kind::Char)],
+    &[(4, Kind::Int), (0, Kind::Int)],
+    &[(0, Kind::Int), (13, Kind::Int)],
+    &[(4_294_967_295, Kind::Long)],
+];
+
+#[test]
+fn cells_that_overlap(rt: HostRuntime) -> Result<(), Fail> {
+    for list in &OVERLAPPING {
+        let cells = of(rt.alloc(), list)?;
+        assert!(rt; !cells.lie_within(16));
+    }
+    assert!(rt; of(rt.alloc(), &[])?.lie_within(0));
+    Ok(())
+}

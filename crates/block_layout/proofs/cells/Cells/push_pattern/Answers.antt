@@ -1,6 +1,7 @@
 use Rattle.std.proofs.Common.{rules, ◌≡◌, ◌++◌, length, ap, ◌∙◌}
+use Rattle.std.proofs.lemmas.Result.{on_ok_weaker}
 use Rattle.block_layout.specs.Runs.{run_cells}
-use Rattle.block_layout.proofs.RunLists.{run_behind, no_copy, no_cell}
+use Rattle.block_layout.proofs.RunLists.{runs_behind, no_copy, no_cell}
 use Rattle.block_layout.proofs.cells.Cells.push_pattern.Goals as goal
 use Rattle.block_layout.proofs.cells.Cells.push_pattern.Goals.{then-count-eq0-via-then-count-eq0, then-count-eq0-via-else-count-eq0+then-is_empty}
 
@@ -13,6 +14,8 @@ returns-then-count-eq0 c =
     ]
 
 pub returns : goal.returns
-returns c =
-    run_behind c.seal.new.runs.items c.push.new.self.items c.seal.new.tail.items c.args.self.now c.in_ok-run.run' c.in_ok-push.ensures.items c.in_ok-seal.ensures.empty (c.in_ok-seal.ensures.cells ∙ c.self.view_is)
-    ∙ ap (λ r. c.args.self.now ++ run_cells r) c.in_ok-run.ensures
+returns c = on_ok_weaker c.push_run.result
+    (λ e. runs_behind c.push_run.new.to.items c.seal.new.tail.items c.args.self.now (run_cells c.in_ok-run.run')
+    (e ∙ ap (λ xs. xs ++ run_cells c.in_ok-run.run') (c.in_ok-seal.ensures.cells ∙ c.self.view_is)) c.in_ok-seal.ensures.empty
+    ∙ ap (λ r. c.args.self.now ++ run_cells r) c.in_ok-run.ensures)
+    c.push_run.ensures
