@@ -63,7 +63,7 @@ fn begun(
     })
 }
 
-// Gives the types of the pointers in all objects numbers, and puts the cells of structs together.
+// Gives the types of the pointers in all objects numbers, and puts the cells of the structs in these objects together.
 fn prepare(
     alloc: Global,
     structs: &mut Structs,
@@ -77,8 +77,8 @@ fn prepare(
     ensures { OnOk result (view_structs structs.new ≡ with_targets (view_structs structs.old)
         (map type_of (map view_object objects.now) ++ map view allocated.now ++ map view inside.now)) }
 {
-    note_all_types(alloc, structs, objects, allocated, inside)?;
-    structs.hold_cells(alloc)
+    let wanted = note_all_types(alloc, structs, objects, allocated, inside)?;
+    structs.hold_cells(alloc, wanted.as_slice())
 }
 
 /// What a program begins with that runs on so many threads and has these structs, objects of the file in order of

@@ -191,14 +191,15 @@ fn note_types(
     Ok(())
 }
 
-/// Gives the types of the pointers in these objects, in allocated ones, and in those of functions numbers.
+/// Gives the types of the pointers in these objects, in allocated ones, and in those of functions numbers. Answers
+/// which structs, by their numbers, were gone through: those that are the leaf elements of such objects or lie in them.
 pub(crate) fn note_all_types(
     alloc: Global,
     structs: &mut Structs,
     objects: &[Object],
     allocated: &[CType],
     inside: &[CType],
-) -> Result<(), OutOfMemory>
+) -> Result<Vec<bool>, OutOfMemory>
     requires layouts { Each (λ x. has_size (view_structs structs.old) x.ctype ≡ true) (map view_object objects.now) }
     requires allocated { Each (λ t. has_size (view_structs structs.old) t ≡ true) (map view allocated.now) }
     requires inside { Each (λ t. has_size (view_structs structs.old) t ≡ true) (map view inside.now) }
@@ -209,5 +210,5 @@ pub(crate) fn note_all_types(
     note_objects(alloc, structs, &mut done, objects)?;
     note_types(alloc, structs, &mut done, allocated)?;
     note_types(alloc, structs, &mut done, inside)?;
-    Ok(())
+    Ok(done)
 }

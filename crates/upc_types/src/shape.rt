@@ -1,6 +1,7 @@
 //! The cells of objects (C99 6.2.5, 6.5.2.1, 6.7.2.1; UPC 6.5.1).
 
-ghost use Rattle.std.specs.Prelude.{◌≡◌, ◌+◌, ◌≤◌, ◌++◌, ◌∷◌, [], true, ℕ, List, IfOk, IfSome, OnOk};
+ghost use Rattle.std.specs.Prelude.{◌≡◌, ◌+◌, ◌≤◌, ◌++◌, ◌∷◌, [], true, false, ℕ, List, IfOk, IfSome, OnOk};
+ghost use Rattle.std.specs.Prelude.{get_or};
 ghost use Rattle.block_layout.specs.declared.kind.Kind.{Kind};
 ghost use Rattle.block_layout.specs.Cells.{moved};
 ghost use Rattle.block_layout.specs.Shapes.{IsShape};
@@ -58,26 +59,31 @@ pub struct KeptCells {
 const LEVELS: u32 = 4_096;
 
 impl Structs {
-    /// Puts the cells of every complete struct together once, in the order of completion, so that shapes are found
-    /// quickly until another struct is completed or another target is noted.
-    pub fn hold_cells(&mut self, alloc: Global) -> Result<(), OutOfMemory>
+    /// Puts the cells of every complete struct whose number is marked together once, in the order of completion, so
+    /// that shapes are found quickly until another struct is completed or another target is noted. A number past the
+    /// end of the list is not marked. Where one is marked, those that lie in it should be: cells that are not held are
+    /// put together anew wherever they are wanted, by calls as deep as these structs lie in one another.
+    pub fn hold_cells(&mut self, alloc: Global, wanted: &[bool]) -> Result<(), OutOfMemory>
         ensures { view_structs self.new ≡ view_structs self.old }
     {
         for place in 0..self.completed().len() {
-            self.hold_at(alloc, place)?;
+            self.hold_at(alloc, wanted, place)?;
         }
         Ok(())
     }
 
-    // Holds the cells of a struct by its place in the order of completion.
-    fn hold_at(&mut self, alloc: Global, place: usize) -> Result<(), OutOfMemory>
+    // Holds the cells of a struct by its place in the order of completion, where its number is marked.
+    fn hold_at(&mut self, alloc: Global, wanted: &[bool], place: usize) -> Result<(), OutOfMemory>
         ensures { view_structs self.new ≡ view_structs self.old }
     {
         let Some(completed) = self.completed().get(place) else {
             return Ok(());
         };
         let number = completed.number;
-        if self.is_complete(&Base::Struct(number)) && self.held(number).is_none() {
+        if is_marked(wanted, number)
+            && self.is_complete(&Base::Struct(number))
+            && self.held(number).is_none()
+        {
             let cells = self.struct_cells(alloc, &[], number)?;
             self.hold(number, cells)?;
         }
@@ -252,6 +258,16 @@ fn kept_among(kept: &[KeptCells], number: u32) -> Option<&Cells>
         }
     }
     None
+}
+
+// Whether a struct is marked by its number.
+fn is_marked(wanted: &[bool], number: u32) -> bool
+    ensures { result ≡ get_or wanted.now number false }
+{
+    match wanted.get(number as usize) {
+        Some(marked) => *marked,
+        None => false,
+    }
 }
 
 // One cell, at the beginning.

@@ -438,17 +438,39 @@ fn grow(known: &mut Structs, alloc: Global, block: u32) -> Result<(), Fail> {
     Ok(())
 }
 
+// Whether shapes are the same where the cells of marked structs are held, before and after there is one more.
+fn held_alike(alloc: Global, wanted: &[bool]) -> Result<bool, Fail> {
+    let mut known = deep(alloc)?;
+    let mut fresh = deep(alloc)?;
+    for block in [2, 3] {
+        known.hold_cells(alloc, wanted)?;
+        if !all_alike(alloc, &known, &fresh)? {
+            return Ok(false);
+        }
+        grow(&mut known, alloc, block)?;
+        grow(&mut fresh, alloc, block)?;
+        if !all_alike(alloc, &known, &fresh)? {
+            return Ok(false);
+        }
+    }
+    Ok(true)
+}
+
+// Marks of all structs, of some of them, and of none.
+const MARKS: [[bool; 4]; 5] = [
+    [true, true, true, true],
+    [true, false, true, false],
+    [false, true, false, false],
+    [false, false, false, true],
+    [false, false, false, false],
+];
+
 #[test]
 fn shapes_of_held_cells(rt: HostRuntime) -> Result<(), Fail> {
-    let mut known = deep(rt.alloc())?;
-    let mut fresh = deep(rt.alloc())?;
-    for block in [2, 3] {
-        known.hold_cells(rt.alloc())?;
-        assert!(rt; all_alike(rt.alloc(), &known, &fresh)?);
-        grow(&mut known, rt.alloc(), block)?;
-        grow(&mut fresh, rt.alloc(), block)?;
-        assert!(rt; all_alike(rt.alloc(), &known, &fresh)?);
+    for wanted in &MARKS {
+        assert!(rt; held_alike(rt.alloc(), wanted)?);
     }
+    assert!(rt; held_alike(rt.alloc(), &[true])?);
     Ok(())
 }
 
