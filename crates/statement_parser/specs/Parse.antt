@@ -1,220 +1,41 @@
--- The parser of declarations, statements and whole sources, as a function on lists of tokens.
-use Rattle.std.specs.Prelude.{ℕ, zero, suc, Bool, true, false, not, if◌then◌else◌, List, [], ◌∷◌, Option, Some, None}
-use Rattle.std.specs.Prelude.{Ok, Err}
+-- The parser of statements and whole sources, as a function on lists of tokens.
+use Rattle.std.specs.Prelude.{ℕ, zero, suc, Bool, true, false, not, if◌then◌else◌, List, [], ◌∷◌, Ok, Err}
 use Rattle.upc_lexer.specs.declared.token.Token.{Token}
 use Rattle.upc_lexer.specs.declared.token.TokenKind.{TokenKind}
-use Rattle.upc_lexer.specs.declared.token.TokenKind.TheVariants as k
-use Rattle.upc_lexer.specs.declared.token.Punct.{Punct}
 use Rattle.upc_lexer.specs.declared.token.Punct.TheVariants as p
 use Rattle.upc_lexer.specs.declared.token.Word.TheVariants as w
-use Rattle.upc_tree.specs.declared.mark.BarrierWord.{BarrierWord}
 use Rattle.upc_tree.specs.declared.span.Span.{Span}
 use Rattle.upc_tree.specs.declared.span.Name.{Name}
-use Rattle.upc_tree.specs.declared.span.Pragma.{Pragma}
 use Rattle.upc_tree.specs.Expression as t
-use Rattle.upc_tree.specs.Expression.{Expr, Specs, Pointers, Declarator, Parameters}
-use Rattle.upc_tree.specs.Declaration as d
-use Rattle.upc_tree.specs.Declaration.{Initial, Declared, NextDeclareds, DeclaredList, Declaration}
+use Rattle.upc_tree.specs.Expression.{Specs, Pointers, Parameters}
 use Rattle.upc_tree.specs.Statement as s
-use Rattle.upc_tree.specs.Statement.{Test, First, Affinity, ForHead, ForallHead, Statement, Compound, BlockItem}
-use Rattle.upc_tree.specs.Statement.{BlockItems, SwitchItem, SwitchItems, ElseIfs, Otherwise}
+use Rattle.upc_tree.specs.Statement.{Test, Statement, Compound, BlockItem, BlockItems, SwitchItem, SwitchItems}
+use Rattle.upc_tree.specs.Statement.{ElseIfs, Otherwise}
 use Rattle.upc_tree.specs.Unit as q
 use Rattle.upc_tree.specs.Unit.{External}
-use Rattle.upc_tree.specs.Lists.{next_declareds_of, block_items_of, switch_items_of, else_ifs_of}
+use Rattle.upc_tree.specs.Lists.{block_items_of, switch_items_of, else_ifs_of}
 use Rattle.token_reader.specs.declared.cursor.Fault.TheVariants.{NoTree, TooHigh}
 use Rattle.token_reader.specs.Outcome.{Parser, ◌>>=◌, span_of, is_punct, is_word, starts, starts_two, expect_punct}
-use Rattle.token_reader.specs.Outcome.{expect_word, all, listed}
+use Rattle.token_reader.specs.Outcome.{expect_word, name, all, listed}
 use Rattle.token_reader.specs.Tables.{is_spec}
 use Rattle.token_reader.specs.Ahead.{is_pragma, is_any}
-use Rattle.token_reader.specs.Outcome.{name}
-use Rattle.type_parser.specs.Expression.{at_height, next_exprs, specs, pointers, dimensions, declarator}
-use Rattle.type_parser.specs.Expression.{parameters}
+use Rattle.type_parser.specs.Expression.{at_height, specs, pointers, dimensions, parameters}
 use Rattle.statement_parser.specs.declared.start.StatementStart.{StatementStart}
 use Rattle.statement_parser.specs.declared.start.StatementStart.TheVariants as start
 use Rattle.statement_parser.specs.Tables.{statement_start}
-
--- ---- declarations, whose parts are at most n high
-
-module _ (n : ℕ) where
-  unfoldable pub value_initial : Parser Initial
-  value_initial ts = do
-    q ← expect_punct p.Equal ts
-    e ← (at_height n).expr 1 q.1
-    Ok (d.ValueInitial q.0 e.0, e.1)
-
-  unfoldable pub list_initial : Parser Initial
-  list_initial ts = do
-    q ← expect_punct p.Equal ts
-    o ← expect_punct p.LBrace q.1
-    f ← (at_height n).expr 1 o.1
-    m ← next_exprs (at_height n) f.1
-    c ← expect_punct p.RBrace m.1
-    Ok (d.ListInitial q.0 o.0 f.0 m.0 c.0, c.1)
-
-  unfoldable pub initial : Parser Initial
-  initial ts =
-      if starts (is_punct p.Equal) ts
-      then (if starts_two (is_punct p.Equal) (is_punct p.LBrace) ts then list_initial ts else value_initial ts)
-      else Ok (d.NoInitial, ts)
-
-  unfoldable pub declared : Parser Declared
-  declared ts = do
-    x ← declarator (at_height n) ts
-    i ← initial x.1
-    Ok (d.DeclaredAs x.0 i.0, i.1)
-
-  unfoldable pub next_declared : Parser (Span × Declared)
-  next_declared ts = do
-    c ← expect_punct p.Comma ts
-    x ← declared c.1
-    Ok ((c.0, x.0), x.1)
-
-  unfoldable pub next_declareds : Parser NextDeclareds
-  next_declareds ts = listed next_declareds_of (starts (is_punct p.Comma)) next_declared ts
-
-  unfoldable pub some_declared : Parser DeclaredList
-  some_declared ts = do
-    f ← declared ts
-    m ← next_declareds f.1
-    Ok (d.SomeDeclared f.0 m.0, m.1)
-
-  abbrev pub declared_list : Parser DeclaredList
-  declared_list ts = if starts (is_punct p.Semicolon) ts then Ok (d.NoneDeclared, ts) else some_declared ts
-
-  -- a declaration at block scope
-  unfoldable pub declaration : Parser Declaration
-  declaration ts = do
-    s ← specs (at_height n) true ts
-    x ← declared_list s.1
-    c ← expect_punct p.Semicolon x.1
-    Ok (d.Declares s.0 x.0 c.0, c.1)
-
--- a declaration at block scope that is at most so high
-unfoldable pub declaration_at : ℕ → Parser Declaration
-declaration_at zero ts = Err TooHigh
-declaration_at (suc n) ts = declaration n ts
-
-unfoldable pub continue_affinity : Parser Affinity
-continue_affinity ts = expect_word w.Continue ts >>= λ c. Ok (s.ContinueAffinity c.0, c.1)
-
--- ---- parts of statements that are no statements, at most n high
-
-module _ (n : ℕ) where
-  -- an expression, if what ends it does not come next
-  unfoldable pub value : Punct → Parser (Option Expr)
-  value end ts =
-      if starts (is_punct end) ts then Ok (None, ts) else ((at_height n).expr 0 ts >>= λ e. Ok (Some e.0, e.1))
-
-  unfoldable pub controlling : Parser Test
-  controlling ts = do
-    o ← expect_punct p.LParen ts
-    e ← (at_height n).expr 0 o.1
-    c ← expect_punct p.RParen e.1
-    Ok (s.Tests o.0 e.0 c.0, c.1)
-
-  unfoldable pub first_value : Parser First
-  first_value ts = do
-    v ← value p.Semicolon ts
-    c ← expect_punct p.Semicolon v.1
-    Ok (s.FirstValue v.0 c.0, c.1)
-
-  unfoldable pub first_declaration : Parser First
-  first_declaration ts = declaration_at n ts >>= λ x. Ok (s.FirstDeclaration x.0, x.1)
-
-  abbrev pub first : Parser First
-  first ts = if starts (is_spec true) ts then first_declaration ts else first_value ts
-
-  unfoldable pub value_affinity : Parser Affinity
-  value_affinity ts = (at_height n).expr 0 ts >>= λ e. Ok (s.ValueAffinity e.0, e.1)
-
-  abbrev pub affinity : Parser Affinity
-  affinity ts =
-      if starts (is_punct p.RParen) ts then Ok (s.NoAffinity, ts)
-      else if starts (is_word w.Continue) ts then continue_affinity ts
-      else value_affinity ts
-
-  unfoldable pub for_head : Parser ForHead
-  for_head ts = do
-    o ← expect_punct p.LParen ts
-    f ← first o.1
-    v ← value p.Semicolon f.1
-    e ← expect_punct p.Semicolon v.1
-    x ← value p.RParen e.1
-    c ← expect_punct p.RParen x.1
-    Ok (s.ForParts o.0 f.0 v.0 e.0 x.0 c.0, c.1)
-
-  unfoldable pub forall_head : Parser ForallHead
-  forall_head ts = do
-    o ← expect_punct p.LParen ts
-    f ← first o.1
-    v ← value p.Semicolon f.1
-    e ← expect_punct p.Semicolon v.1
-    x ← value p.Semicolon e.1
-    g ← expect_punct p.Semicolon x.1
-    a ← affinity g.1
-    c ← expect_punct p.RParen a.1
-    Ok (s.ForallParts o.0 f.0 v.0 e.0 x.0 g.0 a.0 c.0, c.1)
-
-abbrev pub pragma_by : TokenKind → Span → Parser Pragma
-pragma_by (k.Pragma strict) span ts = Ok (record { strict = strict; span = span }, ts)
-pragma_by _ span ts = Err NoTree
-
-abbrev pub pragma : Parser Pragma
-pragma [] = Err NoTree
-pragma (x ∷ ts) = pragma_by x.kind (span_of x) ts
-
-unfoldable pub pragmas : Parser (List Pragma)
-pragmas ts = all (starts is_pragma) pragma ts
+unfoldable pub use Rattle.declaration_parser.specs.Parse.{value_initial, list_initial, initial, declared, next_declared}
+unfoldable pub use Rattle.declaration_parser.specs.Parse.{next_declareds, some_declared, declaration, declaration_at}
+unfoldable pub use Rattle.declaration_parser.specs.Parse.{continue_affinity, value, controlling, first_value}
+unfoldable pub use Rattle.declaration_parser.specs.Parse.{first_declaration, value_affinity, for_head, forall_head}
+unfoldable pub use Rattle.declaration_parser.specs.Parse.{pragmas, declaration_item, case_item, value_statement}
+unfoldable pub use Rattle.declaration_parser.specs.Parse.{return_statement, barrier_statement, default_item}
+unfoldable pub use Rattle.declaration_parser.specs.Parse.{break_statement, continue_statement, fence_statement}
+unfoldable pub use Rattle.declaration_parser.specs.Parse.{none_declared, behind_declarator, pragma_part}
+pub use Rattle.declaration_parser.specs.Parse.{declared_list, first, affinity, pragma_by, pragma}
 
 -- any token but a closing brace
 abbrev pub no_brace : TokenKind → Bool
 no_brace kind = not (is_punct p.RBrace kind)
-
--- ---- parts and statements that hold no statements
-
-module _ (n : ℕ) where
-  unfoldable pub declaration_item : Parser BlockItem
-  declaration_item ts = declaration_at n ts >>= λ x. Ok (s.DeclarationItem x.0, x.1)
-
-  unfoldable pub case_item : Parser SwitchItem
-  case_item ts = do
-    a ← expect_word w.Case ts
-    e ← (at_height n).expr 2 a.1
-    c ← expect_punct p.Colon e.1
-    Ok (s.CaseItem a.0 e.0 c.0, c.1)
-
-  unfoldable pub value_statement : Parser Statement
-  value_statement ts = do
-    v ← value n p.Semicolon ts
-    c ← expect_punct p.Semicolon v.1
-    Ok (s.Value v.0 c.0, c.1)
-
-  unfoldable pub return_statement : Span → Parser Statement
-  return_statement at ts = do
-    v ← value n p.Semicolon ts
-    c ← expect_punct p.Semicolon v.1
-    Ok (s.Return at v.0 c.0, c.1)
-
-  unfoldable pub barrier_statement : BarrierWord → Span → Parser Statement
-  barrier_statement kind at ts = do
-    v ← value n p.Semicolon ts
-    c ← expect_punct p.Semicolon v.1
-    Ok (s.Barrier kind at v.0 c.0, c.1)
-
-unfoldable pub default_item : Parser SwitchItem
-default_item ts = do
-  a ← expect_word w.Default ts
-  c ← expect_punct p.Colon a.1
-  Ok (s.DefaultItem a.0 c.0, c.1)
-
-unfoldable pub break_statement : Span → Parser Statement
-break_statement at ts = expect_punct p.Semicolon ts >>= λ c. Ok (s.Break at c.0, c.1)
-
-unfoldable pub continue_statement : Span → Parser Statement
-continue_statement at ts = expect_punct p.Semicolon ts >>= λ c. Ok (s.Continue at c.0, c.1)
-
-unfoldable pub fence_statement : Span → Parser Statement
-fence_statement at ts = expect_punct p.Semicolon ts >>= λ c. Ok (s.Fence at c.0, c.1)
 
 -- ---- the parsers of statements one level down
 
@@ -367,29 +188,20 @@ statements_at (suc n) = level_above n (statements_at n)
 
 -- ---- whole sources
 
-unfoldable pub none_declared : Specs → Parser External
-none_declared s ts = expect_punct p.Semicolon ts >>= λ c. Ok (q.DeclarationPart (d.Declares s d.NoneDeclared c.0), c.1)
-
 module _ (n : ℕ) where
-  -- what stands behind the first declarator of a declaration
-  unfoldable pub behind_declarator : Specs → Declarator → Parser External
-  behind_declarator s x ts =
-      initial n ts >>= λ i. next_declareds n i.1 >>= λ m. expect_punct p.Semicolon m.1 >>= λ c. Ok
-      (q.DeclarationPart (d.Declares s (d.SomeDeclared (d.DeclaredAs x i.0) m.0) c.0), c.1)
-
   unfoldable pub function_body : Specs → Pointers → Name → Parameters → Parser External
   function_body s stars x r ts = (statements_at n).compound ts >>= λ b. Ok (q.FunctionPart s stars x r b.0, b.1)
 
   abbrev pub behind_parameters : Specs → Pointers → Name → Parameters → Parser External
   behind_parameters s stars x r ts =
       if starts (is_punct p.LBrace) ts then function_body s stars x r ts
-      else behind_declarator s (t.FunctionDeclarator stars x r) ts
+      else behind_declarator n s (t.FunctionDeclarator stars x r) ts
 
   unfoldable pub behind_name : Specs → Pointers → Name → Parser External
   behind_name s stars x ts =
       if starts (is_punct p.LParen) ts
       then (parameters (at_height n) ts >>= λ r. behind_parameters s stars x r.0 r.1)
-      else (dimensions (at_height n) ts >>= λ m. behind_declarator s (t.ObjectDeclarator stars x m.0) m.1)
+      else (dimensions (at_height n) ts >>= λ m. behind_declarator n s (t.ObjectDeclarator stars x m.0) m.1)
 
   unfoldable pub behind_specs : Specs → Parser External
   behind_specs s ts = do
@@ -406,9 +218,6 @@ module _ (n : ℕ) where
 unfoldable pub node_at : ℕ → Parser External
 node_at zero ts = Err TooHigh
 node_at (suc n) ts = declaration_or_function n ts
-
-unfoldable pub pragma_part : Parser External
-pragma_part ts = pragma ts >>= λ g. Ok (q.PragmaPart g.0, g.1)
 
 abbrev pub external_at : ℕ → Parser External
 external_at n ts = if starts is_pragma ts then pragma_part ts else node_at n ts

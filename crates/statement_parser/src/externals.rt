@@ -1,54 +1,20 @@
 //! The parts of a source (C99 6.9).
 
 ghost use Rattle.std.specs.Prelude.{◌<◌, map};
-ghost use Rattle.upc_tree.specs.View.{view_specs, view_pointers, view_declarator, view_parameters};
+ghost use Rattle.upc_tree.specs.View.{view_specs, view_pointers, view_parameters};
 ghost use Rattle.upc_tree.specs.ViewStatement.{view_external, view_unit};
 ghost use Rattle.token_reader.specs.Run.{Reads, boxed};
 ghost use Rattle.statement_parser.specs.Parse as spec;
 
-use crate::declarations::{initial, next_declareds};
-use crate::heads::pragma;
 use crate::knot::compound;
+use declaration_parser::{behind_declarator, none_declared, pragma_part};
 use std::alloc::Global;
 use syntax_makers::boxed;
 use syntax_makers::expressions::{function, object};
-use syntax_makers::statements::{declared_as, declares, some_list};
-use token_reader::{Ahead, Fail, Fault, Sign, Tokens, expect_punct, many, name, starts};
+use token_reader::{Ahead, Fail, Fault, Sign, Tokens, many, name, starts};
 use upc_expressions::{dimensions, parameters, pointers, specs};
 use upc_lexer::Punct;
-use upc_tree::{Declarator, External, Function, Name, Parameters, Pointer, Spec, Unit};
-
-#[tactic(auto, unfolding(crate::specs::Parse::none_declared))]
-fn none_declared(alloc: Global, tokens: &mut Tokens<'_>, specs: Vec<Spec>) -> Result<External, Fail>
-    ensures { Reads view_external (spec.none_declared (view_specs specs) tokens.old.rest.now) result
-        tokens.new.rest.now }
-{
-    let semicolon = expect_punct(tokens, Punct::Semicolon)?;
-    let declaration = declares(alloc, specs, None, semicolon)?;
-    Ok(External::Declaration(declaration))
-}
-
-/// What stands behind the first declarator of a declaration.
-#[tactic(auto, unfolding(crate::specs::Parse::behind_declarator))]
-fn behind_declarator(
-    alloc: Global,
-    tokens: &mut Tokens<'_>,
-    n: u32,
-    specs: Vec<Spec>,
-    declarator: Box<Declarator>,
-) -> Result<External, Fail>
-    requires { n < 4294967295 }
-    ensures { Reads view_external (spec.behind_declarator n (view_specs specs)
-        (view_declarator declarator.value) tokens.old.rest.now) result tokens.new.rest.now }
-{
-    let initial = initial(alloc, tokens, n)?;
-    let first = declared_as(alloc, declarator, initial)?;
-    let more = next_declareds(alloc, tokens, n)?;
-    let declared = some_list(alloc, first, more)?;
-    let semicolon = expect_punct(tokens, Punct::Semicolon)?;
-    let declaration = declares(alloc, specs, declared, semicolon)?;
-    Ok(External::Declaration(declaration))
-}
+use upc_tree::{External, Function, Name, Parameters, Pointer, Spec, Unit};
 
 #[tactic(auto, unfolding(crate::specs::Parse::function_body))]
 fn function_body(
@@ -152,14 +118,6 @@ fn node(alloc: Global, tokens: &mut Tokens<'_>, height: u32) -> Result<External,
         return Err(Fail::Fault(Fault::TooHigh));
     }
     declaration_or_function(alloc, tokens, height - 1)
-}
-
-#[tactic(auto, unfolding(crate::specs::Parse::pragma_part))]
-fn pragma_part(tokens: &mut Tokens<'_>) -> Result<External, Fail>
-    ensures { Reads view_external (spec.pragma_part tokens.old.rest.now) result tokens.new.rest.now }
-{
-    let pragma = pragma(tokens)?;
-    Ok(External::Pragma(pragma))
 }
 
 fn external(alloc: Global, tokens: &mut Tokens<'_>, height: u32) -> Result<External, Fail>

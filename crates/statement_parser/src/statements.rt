@@ -10,9 +10,12 @@ ghost use Rattle.statement_parser.specs.Parse as spec;
 ghost use Rattle.statement_parser.specs.Parse.{statements_at};
 ghost use Rattle.statement_parser.specs.Run.{Nests};
 
-use crate::declarations::declaration;
-use crate::heads::{for_head, forall_head, pragmas, test, value};
 use crate::start::{StatementStart, statement_start};
+use declaration_parser::{
+    barrier_statement, break_statement, case_item, continue_statement, declaration_item,
+    default_item, fence_statement, for_head, forall_head, pragmas, return_statement, test,
+    value_statement,
+};
 use std::alloc::Global;
 use syntax_makers::boxed;
 use syntax_makers::statements::{
@@ -21,46 +24,8 @@ use syntax_makers::statements::{
 use token_reader::{
     Ahead, Fail, Fault, Sign, Tokens, expect_punct, expect_word, many, span_of, starts,
 };
-use upc_expressions::expr;
 use upc_lexer::{Punct, Token, Word};
-use upc_tree::{BarrierWord, BlockItem, Compound, ElseIf, Otherwise, Span, Statement, SwitchItem};
-
-#[tactic(auto, unfolding(crate::specs::Parse::break_statement))]
-fn break_statement(
-    alloc: Global,
-    tokens: &mut Tokens<'_>,
-    word: Span,
-) -> Result<Box<Statement>, Fail>
-    ensures { Reads (boxed view_statement) (spec.break_statement word tokens.old.rest.now) result tokens.new.rest.now }
-{
-    let semicolon = expect_punct(tokens, Punct::Semicolon)?;
-    Ok(boxed(alloc, Statement::Break { word, semicolon })?)
-}
-
-#[tactic(auto, unfolding(crate::specs::Parse::continue_statement))]
-fn continue_statement(
-    alloc: Global,
-    tokens: &mut Tokens<'_>,
-    word: Span,
-) -> Result<Box<Statement>, Fail>
-    ensures { Reads (boxed view_statement) (spec.continue_statement word tokens.old.rest.now) result
-        tokens.new.rest.now }
-{
-    let semicolon = expect_punct(tokens, Punct::Semicolon)?;
-    Ok(boxed(alloc, Statement::Continue { word, semicolon })?)
-}
-
-#[tactic(auto, unfolding(crate::specs::Parse::fence_statement))]
-fn fence_statement(
-    alloc: Global,
-    tokens: &mut Tokens<'_>,
-    word: Span,
-) -> Result<Box<Statement>, Fail>
-    ensures { Reads (boxed view_statement) (spec.fence_statement word tokens.old.rest.now) result tokens.new.rest.now }
-{
-    let semicolon = expect_punct(tokens, Punct::Semicolon)?;
-    Ok(boxed(alloc, Statement::Fence { word, semicolon })?)
-}
+use upc_tree::{BlockItem, Compound, ElseIf, Otherwise, Span, Statement, SwitchItem};
 
 /// The rules, as methods: statements one level down are parsed by the function, which calls back through it.
 #[derive(Drop)]
@@ -82,16 +47,6 @@ impl<H: Fn(Global, &mut Tokens<'_>, u32) -> Result<Box<Statement>, Fail>> Rules<
         (self.statement)(self.alloc, tokens, n)
     }
 
-    #[tactic(auto, unfolding(crate::specs::Parse::declaration_item))]
-    fn declaration_item(&self, tokens: &mut Tokens<'_>, n: u32) -> Result<BlockItem, Fail>
-        requires within { n ≤ self.now.below }
-        requires nests { Nests self.now.below (H.pre self.now.statement) (H.post self.now.statement) }
-        ensures { Reads view_block_item (spec.declaration_item n tokens.old.rest.now) result tokens.new.rest.now }
-    {
-        let declaration = declaration(self.alloc, tokens, n)?;
-        Ok(BlockItem::Declaration(declaration))
-    }
-
     #[tactic(auto, unfolding(crate::specs::Parse::statement_item))]
     fn statement_item(&self, tokens: &mut Tokens<'_>, n: u32) -> Result<BlockItem, Fail>
         requires within { n ≤ self.now.below }
@@ -109,7 +64,7 @@ impl<H: Fn(Global, &mut Tokens<'_>, u32) -> Result<Box<Statement>, Fail>> Rules<
         ensures { Reads view_block_item (spec.item n (statements_at n) tokens.old.rest.now) result tokens.new.rest.now }
     {
         if starts(Sign::Spec(true), tokens.rest) {
-            return self.declaration_item(tokens, n);
+            return declaration_item(self.alloc, tokens, n);
         }
         self.statement_item(tokens, n)
     }
@@ -140,29 +95,6 @@ impl<H: Fn(Global, &mut Tokens<'_>, u32) -> Result<Box<Statement>, Fail>> Rules<
         self.items(tokens, n - 1)
     }
 
-    #[tactic(auto, unfolding(crate::specs::Parse::case_item))]
-    fn case_item(&self, tokens: &mut Tokens<'_>, n: u32) -> Result<SwitchItem, Fail>
-        requires within { n ≤ self.now.below }
-        requires nests { Nests self.now.below (H.pre self.now.statement) (H.post self.now.statement) }
-        ensures { Reads view_switch_item (spec.case_item n tokens.old.rest.now) result tokens.new.rest.now }
-    {
-        let word = expect_word(tokens, Word::Case)?;
-        let value = expr(self.alloc, tokens, n, 2)?;
-        let colon = expect_punct(tokens, Punct::Colon)?;
-        Ok(SwitchItem::Case { word, value, colon })
-    }
-
-    #[tactic(auto, unfolding(crate::specs::Parse::default_item))]
-    fn default_item(&self, tokens: &mut Tokens<'_>, n: u32) -> Result<SwitchItem, Fail>
-        requires within { n ≤ self.now.below }
-        requires nests { Nests self.now.below (H.pre self.now.statement) (H.post self.now.statement) }
-        ensures { Reads view_switch_item (spec.default_item tokens.old.rest.now) result tokens.new.rest.now }
-    {
-        let word = expect_word(tokens, Word::Default)?;
-        let colon = expect_punct(tokens, Punct::Colon)?;
-        Ok(SwitchItem::Default { word, colon })
-    }
-
     #[tactic(auto, unfolding(crate::specs::Parse::switch_statement))]
     fn switch_statement(&self, tokens: &mut Tokens<'_>, n: u32) -> Result<SwitchItem, Fail>
         requires within { n ≤ self.now.below }
@@ -181,10 +113,10 @@ impl<H: Fn(Global, &mut Tokens<'_>, u32) -> Result<Box<Statement>, Fail>> Rules<
             result tokens.new.rest.now }
     {
         if starts(Sign::Word(Word::Case), tokens.rest) {
-            return self.case_item(tokens, n);
+            return case_item(self.alloc, tokens, n);
         }
         if starts(Sign::Word(Word::Default), tokens.rest) {
-            return self.default_item(tokens, n);
+            return default_item(tokens);
         }
         self.switch_statement(tokens, n)
     }
@@ -397,67 +329,6 @@ impl<H: Fn(Global, &mut Tokens<'_>, u32) -> Result<Box<Statement>, Fail>> Rules<
         Ok(forall_statement(self.alloc, word, head, body)?)
     }
 
-    #[tactic(auto, unfolding(crate::specs::Parse::value_statement))]
-    fn value_statement(&self, tokens: &mut Tokens<'_>, n: u32) -> Result<Box<Statement>, Fail>
-        requires within { n ≤ self.now.below }
-        requires nests { Nests self.now.below (H.pre self.now.statement) (H.post self.now.statement) }
-        ensures { Reads (boxed view_statement) (spec.value_statement n tokens.old.rest.now) result tokens.new.rest.now }
-    {
-        let value = value(self.alloc, tokens, n, Punct::Semicolon)?;
-        let semicolon = expect_punct(tokens, Punct::Semicolon)?;
-        Ok(boxed(self.alloc, Statement::Expression { value, semicolon })?)
-    }
-
-    #[tactic(auto, unfolding(crate::specs::Parse::return_statement))]
-    fn return_statement(
-        &self,
-        tokens: &mut Tokens<'_>,
-        n: u32,
-        word: Span,
-    ) -> Result<Box<Statement>, Fail>
-        requires within { n ≤ self.now.below }
-        requires nests { Nests self.now.below (H.pre self.now.statement) (H.post self.now.statement) }
-        ensures { Reads (boxed view_statement) (spec.return_statement n word tokens.old.rest.now)
-            result tokens.new.rest.now }
-    {
-        let value = value(self.alloc, tokens, n, Punct::Semicolon)?;
-        let semicolon = expect_punct(tokens, Punct::Semicolon)?;
-        Ok(boxed(
-            self.alloc,
-            Statement::Return {
-                word,
-                value,
-                semicolon,
-            },
-        )?)
-    }
-
-    #[tactic(auto, unfolding(crate::specs::Parse::barrier_statement))]
-    fn barrier_statement(
-        &self,
-        tokens: &mut Tokens<'_>,
-        n: u32,
-        word: BarrierWord,
-        at: Span,
-    ) -> Result<Box<Statement>, Fail>
-        requires within { n ≤ self.now.below }
-        requires nests { Nests self.now.below (H.pre self.now.statement) (H.post self.now.statement) }
-        ensures { Reads (boxed view_statement) (spec.barrier_statement n word at
-            tokens.old.rest.now) result tokens.new.rest.now }
-    {
-        let value = value(self.alloc, tokens, n, Punct::Semicolon)?;
-        let semicolon = expect_punct(tokens, Punct::Semicolon)?;
-        Ok(boxed(
-            self.alloc,
-            Statement::Barrier {
-                word,
-                at,
-                value,
-                semicolon,
-            },
-        )?)
-    }
-
     #[tactic(auto, unfolding(crate::specs::Parse::block))]
     fn block_statement(&self, tokens: &mut Tokens<'_>, n: u32) -> Result<Box<Statement>, Fail>
         requires within { n ≤ self.now.below }
@@ -491,8 +362,8 @@ impl<H: Fn(Global, &mut Tokens<'_>, u32) -> Result<Box<Statement>, Fail>> Rules<
             StatementStart::Forall => self.forall_statement(tokens, n, word),
             StatementStart::Break => break_statement(self.alloc, tokens, word),
             StatementStart::Continue => continue_statement(self.alloc, tokens, word),
-            StatementStart::Return => self.return_statement(tokens, n, word),
-            StatementStart::Barrier(kind) => self.barrier_statement(tokens, n, kind, word),
+            StatementStart::Return => return_statement(self.alloc, tokens, n, word),
+            StatementStart::Barrier(kind) => barrier_statement(self.alloc, tokens, n, kind, word),
             StatementStart::Fence => fence_statement(self.alloc, tokens, word),
             StatementStart::Block | StatementStart::Value => Err(Fail::Fault(Fault::NoTree)),
         }
@@ -510,7 +381,7 @@ impl<H: Fn(Global, &mut Tokens<'_>, u32) -> Result<Box<Statement>, Fail>> Rules<
             [] => Err(Fail::Fault(Fault::NoTree)),
             [first, rest @ ..] => match statement_start(&first.kind) {
                 StatementStart::Block => self.block_statement(tokens, n),
-                StatementStart::Value => self.value_statement(tokens, n),
+                StatementStart::Value => value_statement(self.alloc, tokens, n),
                 start => {
                     tokens.rest = rest;
                     self.statement_from(tokens, n, start, span_of(first))

@@ -1,7 +1,7 @@
 use Rattle.std.proofs.Common.{◌≡◌, ap, arith}
 use Rattle.token_reader.proofs.Turns.{deeper}
-use Rattle.statement_parser.specs.Parse.{declaration_at}
-use Rattle.statement_parser.proofs.declarations.declaration.Goals as goal
+use Rattle.declaration_parser.specs.Parse.{declaration_at}
+use Rattle.declaration_parser.proofs.declarations.declaration.Goals as goal
 
 pub returns-then-height-eq0 : goal.returns-then-height-eq0
 unfolding declaration_at

@@ -4,7 +4,7 @@ ghost use Rattle.std.specs.Prelude.{◌<◌};
 ghost use Rattle.upc_tree.specs.ViewStatement.{view_initial, view_declared, view_next_declared, view_next_declareds};
 ghost use Rattle.upc_tree.specs.ViewStatement.{view_declared_list, view_declaration};
 ghost use Rattle.token_reader.specs.Run.{Reads, boxed};
-ghost use Rattle.statement_parser.specs.Parse as spec;
+ghost use Rattle.declaration_parser.specs.Parse as spec;
 
 use std::alloc::Global;
 use syntax_makers::boxed;

@@ -2,8 +2,8 @@ use Rattle.std.proofs.Common.{rules}
 use Rattle.token_reader.specs.Outcome.{starts}
 use Rattle.token_reader.specs.Ahead.{is_pragma}
 use Rattle.token_reader.proofs.Ran.{ran_same}
-use Rattle.statement_parser.specs.Parse.{pragma, pragmas}
-use Rattle.statement_parser.proofs.heads.pragmas.Goals as goal
+use Rattle.declaration_parser.specs.Parse.{pragma, pragmas}
+use Rattle.declaration_parser.proofs.heads.pragmas.Goals as goal
 
 pub returns : goal.returns
 unfolding pragmas

@@ -2,7 +2,7 @@
 
 ghost use Rattle.upc_tree.specs.ViewStatement.{view_value, view_test, view_first, view_affinity, view_for, view_forall};
 ghost use Rattle.token_reader.specs.Run.{Reads, boxed, same};
-ghost use Rattle.statement_parser.specs.Parse as spec;
+ghost use Rattle.declaration_parser.specs.Parse as spec;
 
 use crate::declarations::declaration;
 use std::alloc::Global;

@@ -4,8 +4,8 @@ use Rattle.upc_tree.specs.Lists.{next_declareds_of}
 use Rattle.upc_tree.specs.ViewStatement.{view_next_declared}
 use Rattle.token_reader.specs.Outcome.{starts, is_punct}
 use Rattle.token_reader.proofs.Ran.{ran_listed}
-use Rattle.statement_parser.specs.Parse.{next_declareds, next_declared}
-use Rattle.statement_parser.proofs.declarations.next_declareds.Goals as goal
+use Rattle.declaration_parser.specs.Parse.{next_declareds, next_declared}
+use Rattle.declaration_parser.proofs.declarations.next_declareds.Goals as goal
 
 pub returns : goal.returns
 unfolding next_declareds
