@@ -1,10 +1,4 @@
 pub mod Following
 pub mod Ranges
-pub mod Copying
-pub mod Reading
 pub mod Truths
-pub mod Classes
-pub mod Totals
-pub mod CellTests
-pub mod Limits
 pub mod LastSteps

@@ -1,28 +1,18 @@
-//! What each thread does in a library call, told over a list of replies (UPC 7.2.5, 7.3).
+//! What a thread does in a memory call, told over a list of replies (UPC 7.2.5); and what every library call's telling
+//! uses: the thread in a call, pointers to bytes and elements, and cells.
 #![tactic(auto)]
 
-mod arguments;
-mod call;
 mod cells;
-mod elements;
 mod law;
 mod memory;
-mod number;
-mod part;
-mod permute;
 mod piece;
-mod reduce;
-mod reduction;
 mod spot;
-mod step;
 mod telling;
-mod thread;
-mod together;
 mod told;
-mod ways;
 
+pub use cells::{Cell, cells_within, cuts_cell, kind_at, same_cells, shape_of};
 pub use law::ends_agree;
 pub use memory::{Area, Caller, copy, local_area, set, shared_area};
-pub use thread::Thread;
-pub use together::collective;
+pub use spot::{Spot, byte_at, element, from_phase_0, spot_at};
+pub use telling::{Stop, Telling};
 pub use told::{End, Step, Told};

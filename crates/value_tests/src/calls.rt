@@ -1,8 +1,7 @@
 //! Worked calls, each told over its replies.
 
-use plain_calls::{
-    Area, Caller, End, Step, Thread, Told, collective, copy, local_area, set, shared_area,
-};
+use plain_calls::{Area, Caller, End, Step, Told, copy, local_area, set, shared_area};
+use plain_collectives::{Thread, collective};
 use std::alloc::{AllocError, Global};
 use std::test::Fail;
 use upc_values::{Action, Cells, Kind, LocalPtr, Mark, ObjectRef, Reply, Scalar, Shape, SharedPtr};

@@ -1,0 +1,18 @@
+//! What each thread does in a collective call, told over a list of replies (UPC 7.3).
+#![tactic(auto)]
+
+mod arguments;
+mod call;
+mod elements;
+mod number;
+mod part;
+mod permute;
+mod reduce;
+mod reduction;
+mod step;
+mod thread;
+mod together;
+mod ways;
+
+pub use thread::Thread;
+pub use together::collective;
