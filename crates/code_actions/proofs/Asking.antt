@@ -1,7 +1,7 @@
 -- What threads of code ask for.
-use Rattle.std.proofs.Common.{◌≡◌, ℕ, zero, suc, ◌+◌, ◌<◌, ◌≤◌, List, [], ◌∷◌, ◌++◌, length, true, false}
-use Rattle.std.proofs.Common.{refl, sym, ◌∙◌, ap, subst, arith, append-nil}
-use Rattle.std.proofs.lemmas.List.{length-append, length_push}
+use Rattle.std.proofs.Common.{◌≡◌, ℕ, zero, suc, ◌+◌, ◌<◌, List, [], ◌∷◌, ◌++◌, length, true, false}
+use Rattle.std.proofs.Common.{refl, sym, ◌∙◌, ap, subst, arith}
+use Rattle.std.proofs.lemmas.List.{length_push}
 use Rattle.upc_values.specs.declared.scalar.Value.{Value}
 use Rattle.upc_values.specs.declared.action.Action.{Action}
 use Rattle.upc_values.specs.declared.action.Reply.{Reply}
@@ -15,6 +15,8 @@ use Rattle.upc_values.specs.Formed as history
 use Rattle.upc_values.specs.Known.{HasGiven}
 use Rattle.thread_steps.specs.States.{Thread, State, Res, Val, Over, Unfinished}
 use Rattle.thread_steps.specs.Fronts.{Begins}
+use Rattle.thread_steps.proofs.Fronts.{begins_itself, begins_on, all_of}
+use Rattle.thread_steps.proofs.Following.{total, plus, Later}
 use Rattle.stack_code.specs.declared.instruction.Instr.{Instr}
 use Rattle.stack_code.specs.Codes.{Codes, thread_of}
 use Rattle.stack_code.specs.Steps.{Spot, Conf, At, Halt, nowhere, step, steps}
@@ -26,23 +28,10 @@ use Rattle.code_actions.proofs.Given.{FindsNamed, IsWellFormed, fits_after}
 use Rattle.code_actions.proofs.Histories.{names_given, all_known, finds_named, formed_there, fits_there}
 use Rattle.code_actions.proofs.KnownValues.{runner}
 use Rattle.code_actions.proofs.Stores.{begun_filled}
-use Rattle.code_actions.proofs.Doings.{begins_itself, begins_on, total, plus, Later, GrownTo, Grown, Reaches, Misses}
+use Rattle.code_actions.proofs.Doings.{GrownTo, Grown, Reaches, Misses}
 use Rattle.code_actions.proofs.Doings.{grown_to}
 use Rattle.code_actions.proofs.Doings.{IsGood, EndsWell, Comes}
 use Rattle.code_actions.proofs.Instructions.{Point, res_of, AllKnown, Stands, step_asks}
-
--- ---- lists of actions
-
-none_left : (xs : List Action) → length xs ≡ 0 → xs ≡ []
-none_left [] e = refl
-none_left (x ∷ xs) e = absurd (omega arith)
-
--- What begins with a list and is no longer is that list.
-all_of : (front all : List Action) → Begins front all → length all ≤ length front → all ≡ front
-all_of front all b le =
-    let h = ap length b.1 in
-    let g = length-append front b.0 in
-    b.1 ∙ ap (λ l. front ++ l) (none_left b.0 (omega arith)) ∙ append-nil front
 
 -- ---- what code has come to
 

@@ -43,11 +43,14 @@ use Rattle.thread_steps.specs.Library.{is_call}
 use Rattle.code_actions.specs.Names.{objects_given}
 use Rattle.code_actions.proofs.Given.{names, knows, is_known, FindsNamed, may_call, IsWellFormed, fits_after}
 use Rattle.code_actions.proofs.KnownValues.{pointer_names}
-use Rattle.code_actions.proofs.SharedCells.{kind_is, some_bytes, cell_behind, not_false}
+use Rattle.block_layout.proofs.Found.{kind_is}
+use Rattle.private_store.proofs.Places.{some_bytes}
+use Rattle.code_actions.proofs.SharedCells.{cell_behind, not_false}
 use Rattle.code_actions.proofs.Doings.{Nothing}
 use Rattle.code_actions.proofs.Primitives as p
 use Rattle.code_actions.proofs.MemoryCalls as m
-use Rattle.code_actions.proofs.MemoryCalls.{neither, cells_same, converted_in}
+use Rattle.thread_steps.proofs.Conversions.{converted_in}
+use Rattle.code_actions.proofs.MemoryCalls.{neither, cells_same}
 
 -- ---- lists
 

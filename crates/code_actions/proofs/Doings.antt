@@ -1,7 +1,7 @@
 -- Steps of a thread that ask well: what is asked for may be asked for, where all values are known; a reply that fits
 -- it is taken; and what was done before goes by the replies that were heard alone.
 use Rattle.std.proofs.Common.{◌≡◌, ℕ, ◌+◌, List, [], ◌∷◌, ◌++◌, length, Option, Bool, true, false}
-use Rattle.std.proofs.Common.{refl, sym, ◌∙◌, ap, subst, arith, append_assoc, append-nil}
+use Rattle.std.proofs.Common.{refl, sym, ◌∙◌, ap, subst, arith}
 use Rattle.std.specs.Prelude.{Result, Ok, Err}
 use Rattle.std.proofs.lemmas.Bool.{false≢true}
 use Rattle.std.proofs.lemmas.List.{length_push}
@@ -19,31 +19,12 @@ use Rattle.thread_steps.specs.States.{give, skip, know, change, choose, over, fa
 use Rattle.thread_steps.specs.Actions.{ask, answered, answered_from}
 use Rattle.thread_steps.specs.Accesses.{with_store}
 use Rattle.thread_steps.specs.Fronts.{Begins}
+use Rattle.thread_steps.proofs.Fronts.{begins_itself, begins_pushed, begins_on}
+use Rattle.thread_steps.proofs.Following.{total, plus, Later}
 use Rattle.code_actions.proofs.Given.{gives_known, AreKnown, IsWellFormed, fits_after}
 use Rattle.code_actions.proofs.Stores.{IsFilled, FilledIn}
 
 -- ---- what was done stays, whatever is heard
-
-pub begins_itself : (xs : List Action) → Begins xs xs
-begins_itself xs = ([], sym (append-nil xs))
-
-begins_pushed : (xs : List Action) (a : Action) → Begins xs (xs ++ a ∷ [])
-begins_pushed xs a = (a ∷ [], refl)
-
-pub begins_on : (xs ys zs : List Action) → Begins xs ys → Begins ys zs → Begins xs zs
-begins_on xs ys zs b c = (b.0 ++ c.0, c.1 ∙ ap (λ l. l ++ c.0) b.1 ∙ append_assoc xs b.0 c.0)
-
--- How many actions are done and replies are left.
-abbrev pub total : State → ℕ
-total σ = length σ.actions + length σ.replies
-
--- With further replies behind those that are left.
-abbrev pub plus : State → Reply → List Reply → State
-plus σ x xs = record σ { replies = σ.replies ++ x ∷ xs }
-
--- What comes of further replies.
-abbrev pub Later : Type 0 → Type 0
-Later A = Reply → List Reply → Res A
 
 -- The actions grow, each by one reply.
 abbrev pub GrownTo : (before after : State) → Type 0

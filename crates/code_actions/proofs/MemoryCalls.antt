@@ -1,21 +1,18 @@
 -- The calls that copy and set bytes ask well where the areas that they are given are known.
-use Rattle.std.proofs.Common.{◌≡◌, ℕ, zero, suc, ◌+◌, ◌-◌, ◌*◌, ◌/◌, ◌^◌, ◌<◌, ◌≤◌, ◌==◌, ℤ, pos, Bool, true, false}
+use Rattle.std.proofs.Common.{◌≡◌, ℕ, zero, suc, ◌+◌, ◌-◌, ◌*◌, ◌/◌, ◌^◌, ◌<◌, ◌≤◌, ◌==◌, pos, Bool, true, false}
 use Rattle.std.proofs.Common.{not, ◌&&◌}
-use Rattle.std.proofs.Common.{◌||◌, cond, List, [], ◌∷◌, Option, Some, None, refl, sym, subst, arith, int_le, int_lt}
-use Rattle.std.specs.Prelude.{unsigned_abs, ◌+ℤ◌, ◌-ℤ◌}
+use Rattle.std.proofs.Common.{◌||◌, cond, List, [], ◌∷◌, Option, Some, None, refl, sym, subst, arith}
+use Rattle.std.specs.Prelude.{unsigned_abs}
 use Rattle.std.specs.List.{list_any, filter_map, cons_option, range_with_len}
-use Rattle.std.proofs.lemmas.Int.{ints}
 use Rattle.std.proofs.lemmas.Bool.{and_parts, and_from, false≢true, eqb-true}
 use Rattle.block_layout.specs.declared.kind.Kind.{Kind}
 use Rattle.block_layout.specs.declared.kind.Kind.TheVariants as kind
 use Rattle.block_layout.specs.declared.kind.Shape.{Shape}
 use Rattle.block_layout.specs.declared.place.LocalPtr.TheVariants as local
 use Rattle.block_layout.specs.declared.run_error.TheConstants.{NULL_ACCESS, OUT_OF_OBJECT, PRIVATE_RANGE, CELL_TYPE}
-use Rattle.block_layout.specs.Floor.{floor_mod}
 use Rattle.block_layout.specs.Pointers.{is_null}
 use Rattle.block_layout.specs.Shapes.{kind_size, same_kind}
-use Rattle.block_layout.proofs.Numbers.{floor_mod-below}
-use Rattle.integers.specs.Integers.{least, values, in_kind, converted}
+use Rattle.integers.specs.Integers.{in_kind, converted}
 use Rattle.upc_values.specs.declared.scalar.Scalar.{Scalar}
 use Rattle.upc_values.specs.declared.scalar.Scalar.TheVariants as scalar
 use Rattle.upc_values.specs.declared.scalar.Value.{Value}
@@ -38,36 +35,11 @@ use Rattle.thread_steps.specs.Values.{scalar_of}
 use Rattle.code_actions.specs.Names.{objects_given}
 use Rattle.code_actions.proofs.Given.{names, is_known, FindsNamed}
 use Rattle.code_actions.proofs.KnownValues.{Known, pointer_names, scalar_known}
-use Rattle.code_actions.proofs.SharedCells.{kind_is, not_false, cell_behind, shared_kind}
+use Rattle.block_layout.proofs.Found.{kind_is}
+use Rattle.thread_steps.proofs.Conversions.{converted_in}
+use Rattle.code_actions.proofs.SharedCells.{not_false, cell_behind, shared_kind}
 use Rattle.code_actions.proofs.Doings.{Nothing}
 use Rattle.code_actions.proofs.Primitives as p
-
--- ---- numbers
-
-in_span : (low : ℤ) (m n : ℕ) → m < n → (int_le low (low +ℤ pos m) && int_lt (low +ℤ pos m) (low +ℤ pos n)) ≡ true
-in_span low m n lt =
-    let a : true ≡ int_le low (low +ℤ pos m) = omega (arith, ints) in
-    let b : true ≡ int_lt (low +ℤ pos m) (low +ℤ pos n) = omega (arith, ints) in
-    and_from (int_le low (low +ℤ pos m)) (int_lt (low +ℤ pos m) (low +ℤ pos n)) (sym a) (sym b)
-
-some_values : (k : Kind) → 0 < values k
-some_values kind.Char = omega arith
-some_values kind.UChar = omega arith
-some_values kind.Short = omega arith
-some_values kind.UShort = omega arith
-some_values kind.Int = omega arith
-some_values kind.UInt = omega arith
-some_values kind.Long = omega arith
-some_values kind.ULong = omega arith
-some_values (kind.Shared n b) = omega arith
-some_values kind.Lock = omega arith
-some_values (kind.Private n) = omega arith
-
--- What is converted lies in the kind's range.
-pub converted_in : (k : Kind) (w : ℤ) → in_kind k (converted k w) ≡ true
-converted_in k w =
-    in_span (least k) (floor_mod (w -ℤ least k) (values k)) (values k)
-    (floor_mod-below (w -ℤ least k) (values k) (some_values k))
 
 -- ---- cells in a range of bytes
 

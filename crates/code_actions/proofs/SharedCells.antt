@@ -1,5 +1,5 @@
 -- The cell that a known pointer reaches is a cell of its object among those given.
-use Rattle.std.proofs.Common.{◌≡◌, ℕ, zero, suc, ◌+◌, ◌%◌, ◌<◌, ◌≤◌, ◌==◌, nat_lt, Bool, true, false, not, ◌&&◌, ◌||◌}
+use Rattle.std.proofs.Common.{◌≡◌, ℕ, zero, suc, ◌+◌, ◌%◌, ◌<◌, ◌≤◌, ◌==◌, nat_lt, Bool, true, false, not, ◌&&◌}
 use Rattle.std.proofs.Common.{cond}
 use Rattle.std.proofs.Common.{List, [], ◌∷◌, Option, Some, None, slice_get, refl, sym, ap, subst, ◌∙◌, arith, int_le}
 use Rattle.std.proofs.Common.{if◌then◌else◌, lt-ltb}
@@ -7,7 +7,7 @@ use Rattle.std.proofs.Math.IntN.{ℤ, pos, negsuc, ◌+ℤ◌}
 use Rattle.std.specs.Prelude.{Ok, Err, unsigned_abs}
 use Rattle.std.specs.List.{list_any, find}
 use Rattle.std.proofs.lemmas.Int.{ints}
-use Rattle.std.proofs.lemmas.Bool.{and_parts, cond-true, false≢true, eqb-true}
+use Rattle.std.proofs.lemmas.Bool.{and_parts, cond-true, false≢true}
 use Rattle.block_layout.specs.declared.kind.Kind.{Kind}
 use Rattle.block_layout.specs.declared.kind.Kind.TheVariants as kind
 use Rattle.block_layout.specs.declared.kind.Shape.{Shape}
@@ -19,7 +19,8 @@ use Rattle.block_layout.specs.Floor.{floor_mod}
 use Rattle.block_layout.specs.Pieces.{piece_of}
 use Rattle.block_layout.specs.Places.{in_range}
 use Rattle.block_layout.specs.Pointers.{is_null, same_object, location}
-use Rattle.block_layout.specs.Shapes.{kind_size, same_kind, has_cell, CellsWithin, IsShape}
+use Rattle.block_layout.specs.Shapes.{kind_size, has_cell, IsShape}
+use Rattle.block_layout.proofs.Found.{cell_found}
 use Rattle.upc_values.specs.declared.scalar.Scalar.{Scalar}
 use Rattle.upc_values.specs.declared.action.Reply.{Reply}
 use Rattle.block_layout.specs.Lists.{under}
@@ -29,78 +30,15 @@ use Rattle.block_layout.specs.Cells.{is_private}
 use Rattle.upc_values.specs.Openings.{Opening, IsOpening, IsSharable, cell_of}
 use Rattle.upc_values.specs.Views.{leaves_piece, shape_at, location_behind}
 use Rattle.shared_pointers.specs.Access.{cell_at, in_piece, byte_of_element}
+use Rattle.private_store.proofs.Places.{some_bytes}
 use Rattle.thread_steps.specs.Accesses.{shape_or_byte, cell}
 use Rattle.thread_steps.specs.Values.{kept_scalar}
 use Rattle.code_actions.specs.Names.{objects_given}
 use Rattle.code_actions.proofs.Given.{names, knows, FindsNamed}
 use Rattle.code_actions.proofs.KnownValues.{runner, pointer_names}
 
--- ---- kinds
-
-pub kind_is : (k l : Kind) → same_kind k l ≡ true → k ≡ l
-kind_is kind.Char kind.Char h = refl
-kind_is kind.UChar kind.UChar h = refl
-kind_is kind.Short kind.Short h = refl
-kind_is kind.UShort kind.UShort h = refl
-kind_is kind.Int kind.Int h = refl
-kind_is kind.UInt kind.UInt h = refl
-kind_is kind.Long kind.Long h = refl
-kind_is kind.ULong kind.ULong h = refl
-kind_is (kind.Shared n b) (kind.Shared m c) h =
-    let p = and_parts (n == m) (b == c) h in
-    let e = eqb-true n m p.0 in
-    let f = eqb-true b c p.1 in
-    cc
-kind_is kind.Lock kind.Lock h = refl
-kind_is (kind.Private n) (kind.Private m) h = ap kind.Private (eqb-true n m h)
-kind_is k l h = absurd cc
-
-pub some_bytes : (k : Kind) → 1 ≤ kind_size k
-some_bytes kind.Char = omega arith
-some_bytes kind.UChar = omega arith
-some_bytes kind.Short = omega arith
-some_bytes kind.UShort = omega arith
-some_bytes kind.Int = omega arith
-some_bytes kind.UInt = omega arith
-some_bytes kind.Long = omega arith
-some_bytes kind.ULong = omega arith
-some_bytes (kind.Shared n b) = omega arith
-some_bytes kind.Lock = omega arith
-some_bytes (kind.Private n) = omega arith
-
 abbrev Cells : Type 0
 Cells = List (ℕ × Kind)
-
--- A cell behind others begins behind them.
-begins_behind : (cells : Cells) (from size byte : ℕ) (k : Kind) → CellsWithin cells from size
-    → has_cell cells byte k ≡ true → from ≤ byte
-begins_behind [] from size byte k h e = absurd (false≢true e)
-begins_behind (c ∷ cells) from size byte k h e =
-    by_first (c.0 == byte && same_kind c.1 k) refl e (begins_behind cells (c.0 + kind_size c.1) size byte k h.2)
-  where
-    by_first : (b : Bool) → (c.0 == byte && same_kind c.1 k) ≡ b → (b || has_cell cells byte k) ≡ true
-        → (has_cell cells byte k ≡ true → c.0 + kind_size c.1 ≤ byte) → from ≤ byte
-    by_first true q g f =
-        let e = eqb-true c.0 byte (and_parts (c.0 == byte) (same_kind c.1 k) q).0 in let l = h.0 in omega arith
-    by_first false q g f = let l = h.0 in let m = f g in omega arith
-
--- The cell of a kind at a byte is the cell there.
-cell_found : (cells : Cells) (from size byte : ℕ) (k : Kind) → CellsWithin cells from size
-    → has_cell cells byte k ≡ true → under byte cells ≡ Some k
-cell_found [] from size byte k h e = absurd (false≢true e)
-cell_found (c ∷ cells) from size byte k h e =
-    by_place (c.0 == byte) refl (same_kind c.1 k) refl e (cell_found cells (c.0 + kind_size c.1) size byte k h.2)
-  where
-    by_place : (a : Bool) → (c.0 == byte) ≡ a → (b : Bool) → same_kind c.1 k ≡ b
-        → ((a && b) || has_cell cells byte k) ≡ true → (has_cell cells byte k ≡ true → under byte cells ≡ Some k)
-        → cond a (Some c.1) (under byte cells) ≡ Some k
-    by_place true p true q g f = ap Some (kind_is c.1 k q)
-    by_place true p false q g f =
-        let l = begins_behind cells (c.0 + kind_size c.1) size byte k h.2 g in
-        let s = some_bytes c.1 in
-        let e = eqb-true c.0 byte p in
-        absurd (omega arith)
-    by_place false p b q g f = f g
 
 listed : {X : Type 0} (P : X → Type 0) (xs : List X) (i : ℕ) (x : X) → Each P xs → slice_get xs i ≡ Some x → P x
 listed P [] i x h e = absurd cc

@@ -26,31 +26,12 @@ use Rattle.private_store.specs.Cells.{Cell, lies_within, cell_place, cell_there,
 use Rattle.private_store.specs.Cells.{changed}
 use Rattle.private_store.specs.Cells.{put_in, stored}
 use Rattle.private_store.specs.Beginnings.{fits_cell, private_cell, if_stored, begun_cell, blank, begun}
+use Rattle.block_layout.proofs.Found.{kind_is}
+use Rattle.thread_steps.proofs.Blanks.{blank_fits, kept_fits}
 use Rattle.code_actions.specs.Asking.{IsKnownValue}
 use Rattle.code_actions.proofs.KnownValues.{Known, blank_value_known, kept_known, first_value}
-use Rattle.code_actions.proofs.SharedCells.{kind_is}
 
 -- ---- what fits
-
-blank_fits : (k : Kind) → value_fits (blank_value k) k ≡ true
-blank_fits kind.Char = refl
-blank_fits kind.UChar = refl
-blank_fits kind.Short = refl
-blank_fits kind.UShort = refl
-blank_fits kind.Int = refl
-blank_fits kind.UInt = refl
-blank_fits kind.Long = refl
-blank_fits kind.ULong = refl
-blank_fits (kind.Shared n b) = refl
-blank_fits kind.Lock = refl
-blank_fits (kind.Private n) = refl
-
-kept_fits : (k : Kind) (v : Value) → value_fits (kept k v) k ≡ true
-kept_fits k v = by_fit (value_fits v k) refl
-  where
-    by_fit : (b : Bool) → value_fits v k ≡ b → value_fits (if b then v else blank_value k) k ≡ true
-    by_fit true e = e
-    by_fit false e = blank_fits k
 
 -- The cell at a place is of a kind.
 record HasKind (cells : List (ℕ × Kind)) (i : ℕ) (k : Kind) : Type 0 where

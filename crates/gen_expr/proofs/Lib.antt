@@ -4,6 +4,5 @@ pub mod Parts
 pub mod Simulation
 pub mod Deepening
 pub mod Depths
-pub mod Starts
 pub mod Gathered
 pub mod Appended

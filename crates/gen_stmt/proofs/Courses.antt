@@ -20,6 +20,7 @@ use Rattle.typed_tree.specs.Tree.{Return, Synchronise, Fence, Items, Function}
 use Rattle.typed_tree.specs.Tree as tree
 use Rattle.typed_tree.specs.Programs.{Checked}
 use Rattle.thread_steps.specs.States.{Thread, State, Res, Val, Over, Unfinished, bind, ◌>>=◌, ◌>>◌, give}
+use Rattle.thread_steps.proofs.Thens.{then_same}
 use Rattle.thread_steps.specs.Values.{number_of}
 use Rattle.thread_steps.specs.Actions.{tick, notify, wait}
 use Rattle.thread_steps.specs.Blocks.{open_block, close_block, local_object, begin_call, end_call}
@@ -84,12 +85,6 @@ dropped vs ops =
     ap (drop (length vs)) (piled_is vs ops) ∙ ap (λ n. drop n (reverse vs ++ ops)) (sym (length-reverse vs))
     ∙ drop-append_seam (reverse vs) ops
 
-bind_same : (A B : Type 0) (r : Res A) (f g : A → State → Res B) → ((a : A) (σ : State) → f a σ ≡ g a σ)
-    → bind r f ≡ bind r g
-bind_same A B (Val a σ) f g same = same a σ
-bind_same A B (Over told σ) f g same = refl
-bind_same A B Unfinished f g same = refl
-
 -- The parameters get the same values.
 module _ (ρ : Running) where
   kept_same : (t : CType) (k : Option Kind) (at : Place) (p v : Value) (σ : State)
@@ -103,10 +98,10 @@ module _ (ρ : Running) where
   received_same [] vs i at σ = refl
   received_same (t ∷ ts) [] i at σ = refl
   received_same (t ∷ ts) (v ∷ vs) i at σ =
-      bind_same Value (Unit {0}) (local_object i σ) _ _ (λ p τ.
+      then_same (local_object i σ) _ _ (λ p τ.
       ap (λ r. bind r (λ _. machine.received ρ.thread at (i + 1) (map (parameter_access (source_of ρ)) ts) vs))
       (kept_same t (cell_kind ρ.structs t) at p v τ)
-      ∙ bind_same (Unit {0}) (Unit {0}) (put ρ false at t p v τ) _ _ (λ _ υ. received_same ts vs (i + 1) at υ))
+      ∙ then_same (put ρ false at t p v τ) _ _ (λ _ υ. received_same ts vs (i + 1) at υ))
 
 -- A function, inside a call that leads back.
 module _ (ρ : Running) (fs : List (List Instr)) (calling : Calls)

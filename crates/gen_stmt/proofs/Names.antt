@@ -35,7 +35,7 @@ use Rattle.stack_code.specs.declared.instruction.Operation.TheVariants as work
 use Rattle.gen_stmt.specs.Programs.{source, program_code}
 use Rattle.gen_stmt.specs.Pushes.{PushedBy, Pushes, IsPushed, integer, private, shared, blank}
 use Rattle.gen_stmt.specs.Names.{NamesAmong, NamesOnly}
-use Rattle.gen_stmt.proofs.Compiling.{each_prop}
+use Rattle.source_meaning.proofs.Beginnings.{each_prop}
 use Rattle.gen_stmt.proofs.Gathered.{program_pushes}
 
 -- ---- what instructions push

@@ -21,7 +21,8 @@ use Rattle.upc_values.specs.Formed.{knows, is_known, is_home, may_alloc, may_cal
 use Rattle.shared_heap.specs.Heap.{HeapState, all_objects, cell_at, written, content, start_of, new_object, grow_answer, is_live_start, release_answer}
 use Rattle.memory_history.specs.HeapAfter.{HeapAfter}
 use Rattle.memory_history.proofs.Objects.{made_in}
-use Rattle.memory_history.proofs.Placed.{with_objects, objects-opening}
+use Rattle.shared_heap.proofs.Placed.{with_objects}
+use Rattle.memory_history.proofs.Placed.{objects-opening}
 use Rattle.memory_history.proofs.Starts.{allocated-live}
 
 -- ---- objects and cells

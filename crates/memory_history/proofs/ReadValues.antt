@@ -25,7 +25,8 @@ use Rattle.upc_values.proofs.Sameness.{same_loc-true}
 use Rattle.memory_history.proofs.Growing.{objects-push, last_written-push}
 use Rattle.memory_history.proofs.Entries.{Keeps, by_entries}
 use Rattle.memory_history.proofs.Objects.{made_by, idle, makes-none}
-use Rattle.memory_history.proofs.Placed.{with_objects, fits-stays, objects-opening}
+use Rattle.shared_heap.proofs.Placed.{with_objects, fits-stays}
+use Rattle.memory_history.proofs.Placed.{objects-opening}
 
 -- a value, if there is one, fits the cell
 abbrev pub FitsIn : Option Kind → Option Scalar → Type 0

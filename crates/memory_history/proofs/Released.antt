@@ -22,7 +22,8 @@ use Rattle.upc_values.specs.Formed.{may_call, IsWellFormed, AreWellFormed}
 use Rattle.memory_history.proofs.Growing.{objects-push, released-push}
 use Rattle.memory_history.proofs.Entries.{Keeps, by_entries, list_any-has}
 use Rattle.memory_history.proofs.Objects.{made_by}
-use Rattle.memory_history.proofs.Placed.{with_objects, objects-opening}
+use Rattle.shared_heap.proofs.Placed.{with_objects}
+use Rattle.memory_history.proofs.Placed.{objects-opening}
 
 -- the action may release an object
 abbrev pub is_freer : Action → Bool

@@ -27,12 +27,13 @@ use Rattle.shared_heap.specs.Heap.{HeapState, all_objects, start_of, new_object,
 use Rattle.shared_heap.specs.code.Kept.{IsNext, IsKept}
 
 -- an opening with other objects
-abbrev with_objects : Opening → List ObjectRef → Opening
+abbrev pub with_objects : Opening → List ObjectRef → Opening
 with_objects o xs = record { threads = o.threads; declared = xs; initials = o.initials; shapes = o.shapes }
 
 -- ---- what stays, as objects are added
 
-fits-stays : (o : Opening) (xs ys : List ObjectRef) (l : Loc) (v : Scalar) → fits_cell v (cell_of o xs l) ≡ true → fits_cell v (cell_of o (xs ++ ys) l) ≡ true
+pub fits-stays : (o : Opening) (xs ys : List ObjectRef) (l : Loc) (v : Scalar) → fits_cell v (cell_of o xs l) ≡ true
+    → fits_cell v (cell_of o (xs ++ ys) l) ≡ true
 fits-stays o xs ys l v h =
     let P : Option Kind → Type 0 = λ k. cell_of o xs l ≡ k → fits_cell v k ≡ true → fits_cell v (cell_of o (xs ++ ys) l) ≡ true in
     let go : (k : Option Kind) → P k =
@@ -73,7 +74,9 @@ declared-more o xs x y i le q = record {
 }
 
 -- an opening with one more object
-next-opening : (o : Opening) (xs : List ObjectRef) (x : ObjectRef) → IsOpening (with_objects o xs) → IsDeclared (with_objects o xs) (length xs) x → bytes_of xs + x.total ≤ 16777216 → IsOpening (with_objects o (xs ++ x ∷ []))
+pub next-opening : (o : Opening) (xs : List ObjectRef) (x : ObjectRef) → IsOpening (with_objects o xs)
+    → IsDeclared (with_objects o xs) (length xs) x → bytes_of xs + x.total ≤ 16777216
+    → IsOpening (with_objects o (xs ++ x ∷ []))
 next-opening o xs x v n r = record {
   least = v.least;
   most = v.most;

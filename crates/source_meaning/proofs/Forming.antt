@@ -1,7 +1,7 @@
 -- What comes of the arguments of a collective call, as many as its parameters, is of its parameters' types.
 use Rattle.std.proofs.Common.{◌≡◌, ℕ, ◌<◌, ◌^◌, nat_lt, Bool, true, false, ◌&&◌, cond, List, [], ◌∷◌}
 use Rattle.std.proofs.Common.{◌++◌, length, map, Option, Some, None, refl, sym, arith, int_le, int_lt}
-use Rattle.std.proofs.Math.IntN.{ℤ, pos, ◌+ℤ◌, ◌-ℤ◌}
+use Rattle.std.proofs.Math.IntN.{ℤ, pos}
 use Rattle.std.specs.Prelude.{unsigned_abs, is_some, slice_get}
 use Rattle.std.proofs.lemmas.Int.{ints}
 use Rattle.std.proofs.lemmas.Bool.{and_from, false≢true}
@@ -9,10 +9,8 @@ use Rattle.upc_text.specs.declared.place.Place.{Place}
 use Rattle.block_layout.specs.declared.kind.Kind.{Kind}
 use Rattle.block_layout.specs.declared.kind.Kind.TheVariants as kind
 use Rattle.block_layout.specs.declared.place.SharedPtr.{SharedPtr}
-use Rattle.block_layout.specs.Floor.{floor_mod}
 use Rattle.block_layout.specs.Pointers.{null}
-use Rattle.block_layout.proofs.Numbers.{floor_mod-below}
-use Rattle.integers.specs.Integers.{least, values, in_kind, converted}
+use Rattle.integers.specs.Integers.{values, in_kind, converted}
 use Rattle.upc_values.specs.declared.scalar.Scalar.TheVariants.{Int, Shared, Lock}
 use Rattle.upc_values.specs.declared.scalar.Value.{Value}
 use Rattle.upc_values.specs.declared.scalar.Value.TheVariants as value
@@ -33,6 +31,7 @@ use Rattle.thread_steps.specs.States.{Res, Val, Over, Unfinished, bind, Doing, �
 use Rattle.thread_steps.specs.Values.{number, number_of}
 use Rattle.thread_steps.specs.Operators.{cast}
 use Rattle.thread_steps.specs.Library.{is_call, has_shape, is_formed}
+use Rattle.thread_steps.proofs.Conversions.{converted_in}
 use Rattle.source_meaning.specs.Types.{parameter_conversion}
 use Rattle.source_meaning.specs.Running.{Running, running}
 use Rattle.source_meaning.specs.Expressions as e
@@ -40,17 +39,6 @@ use Rattle.source_meaning.specs.Expressions.{Calls}
 use Rattle.source_meaning.specs.Laws.{AreSoMany, GivesIn, Gives, AllFormCalls}
 
 -- ---- numbers
-
-in_span : (low : ℤ) (m n : ℕ) → m < n → (int_le low (low +ℤ pos m) && int_lt (low +ℤ pos m) (low +ℤ pos n)) ≡ true
-in_span low m n lt =
-    let a : true ≡ int_le low (low +ℤ pos m) = omega (arith, ints) in
-    let b : true ≡ int_lt (low +ℤ pos m) (low +ℤ pos n) = omega (arith, ints) in
-    and_from (int_le low (low +ℤ pos m)) (int_lt (low +ℤ pos m) (low +ℤ pos n)) (sym a) (sym b)
-
--- What is converted into a kind lies in its range.
-converted_within : (k : Kind) (w : ℤ) → 0 < values k → in_kind k (converted k w) ≡ true
-converted_within k w some =
-    in_span (least k) (floor_mod (w -ℤ least k) (values k)) (values k) (floor_mod-below (w -ℤ least k) (values k) some)
 
 shape_size : (n : ℕ) → n < 2 ^ 64 → is_size (pos n) ≡ true
 shape_size n lt =
@@ -119,7 +107,7 @@ module _ (A : Type 0) (V : A → Type 0) where
     unfolding cast
     behind_number k v some h =
         let n = converted k (number_of v) in
-        record { by = λ σ. (h n (converted_within k (number_of v) some)).by σ }
+        record { by = λ σ. (h n (converted_in k (number_of v))).by σ }
 
     behind_shared : (v : Value) → ((p : SharedPtr) → Gives A V (f (value.Scalar (Shared p))))
         → Gives A V (cast ρ.thread to.Shared at v >>= f)

@@ -1,6 +1,6 @@
 -- A reply that fits what a thread wants adds just this action to what it did.
-use Rattle.std.proofs.Common.{◌≡◌, ℕ, ◌+◌, ◌<◌, ◌≤◌, List, [], ◌∷◌, ◌++◌, length, Option, Bool, true, false}
-use Rattle.std.proofs.Common.{refl, sym, ◌∙◌, ap, arith, append-nil}
+use Rattle.std.proofs.Common.{◌≡◌, ℕ, List, [], ◌∷◌, ◌++◌, Option, true, false}
+use Rattle.std.proofs.Common.{refl, sym, ◌∙◌, arith}
 use Rattle.std.proofs.lemmas.List.{length-append}
 use Rattle.block_layout.specs.declared.kind.Kind.{Kind}
 use Rattle.block_layout.specs.declared.kind.Shape.{Shape}
@@ -14,23 +14,11 @@ use Rattle.upc_values.specs.Outcomes.{Outcome}
 use Rattle.upc_values.specs.Formed.{fits, kind_read}
 use Rattle.typed_tree.specs.Programs.{Checked}
 use Rattle.thread_steps.specs.States.{Thread}
-use Rattle.thread_steps.specs.Fronts.{Begins}
+use Rattle.thread_steps.proofs.Fronts.{none_left, all_of}
 use Rattle.source_meaning.specs.Running.{running}
 use Rattle.source_meaning.specs.Threads.{thread_outcome}
-use Rattle.source_meaning.specs.Laws.{TakesReplies, GoesOn, AllGoOn, opening_of, is_read}
+use Rattle.source_meaning.specs.Laws.{TakesReplies, AllGoOn, opening_of, is_read}
 use Rattle.source_meaning.proofs.Replies.{all_take_replies}
-
--- A list without members is empty.
-none_left : (xs : List Action) → length xs ≡ 0 → xs ≡ []
-none_left [] e = refl
-none_left (x ∷ xs) e = absurd (omega arith)
-
--- What begins with a list and is no longer is that list.
-all_of : (front all : List Action) → Begins front all → length all ≤ length front → all ≡ front
-all_of front all b le =
-    let h = ap length b.1 in
-    let g = length-append front b.0 in
-    b.1 ∙ ap (λ l. front ++ l) (none_left b.0 (omega arith)) ∙ append-nil front
 
 -- Which kind of cell is meant matters to a read alone.
 any_kind : (threads : ℕ) (shapes : List Shape) (kind other : Option Kind) (a : Action) (r : Reply) → is_read a ≡ false

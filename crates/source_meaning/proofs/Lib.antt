@@ -10,3 +10,6 @@ pub mod InTurn
 pub mod Beats
 pub mod Going
 pub mod Forming
+pub mod Beginnings
+pub mod Rows
+pub mod Mains

@@ -1,30 +1,27 @@
 -- Calls of the library that ask for one action at most.
-use Rattle.std.proofs.Common.{◌≡◌, ℕ, pos, List, [], ◌∷◌, ◌++◌, Option, Some, None, Bool, true, false}
+use Rattle.std.proofs.Common.{◌≡◌, ℕ, List, [], ◌∷◌, ◌++◌, Option, Some, None, Bool, true, false}
 use Rattle.std.proofs.Common.{refl, ap, sym, ◌∙◌, subst}
 use Rattle.std.specs.Prelude.{Result, Ok, Err, is_some, IfSome}
 use Rattle.upc_text.specs.declared.place.Place.{Place}
 use Rattle.block_layout.specs.declared.kind.Shape.{Shape}
 use Rattle.upc_values.specs.declared.action.Action.{Action}
 use Rattle.upc_values.specs.declared.action.Reply.{Reply}
-use Rattle.upc_values.specs.declared.action.Reply.TheVariants as reply
-use Rattle.integers.specs.Operators.{truth}
 use Rattle.upc_values.specs.declared.scalar.Scalar.{Scalar}
 use Rattle.upc_values.specs.declared.scalar.Value.{Value}
 use Rattle.upc_values.specs.declared.scalar.Value.TheVariants as value
 use Rattle.upc_values.specs.declared.library.LibraryCall.{LibraryCall}
-use Rattle.upc_values.specs.declared.library.LibraryCall.TheVariants as call
 use Rattle.upc_values.specs.Expansion.{Expansion}
 use Rattle.upc_values.specs.Formed.{fits}
-use Rattle.upc_values.specs.Scalars.{zero}
-use Rattle.upc_values.specs.LibraryCalls.{library_call, meet_number, asks, given_by, as_int}
-use Rattle.thread_steps.specs.States.{Thread, State, Res, Val, Over, Unfinished, bind, give, skip, choose, valued}
-use Rattle.thread_steps.specs.Actions.{meet, exit, ask, answered, answered_from}
+use Rattle.upc_values.specs.LibraryCalls.{meet_number, asks, given_by}
+use Rattle.thread_steps.specs.States.{Thread, State, Res, Val, bind, give, valued}
+use Rattle.thread_steps.specs.Actions.{meet, ask, answered, answered_from}
 use Rattle.thread_steps.specs.Accesses.{run, expanded}
 use Rattle.thread_steps.specs.Values.{number}
-use Rattle.thread_steps.specs.Library.{library, called, formed_call, is_formed, is_exit, first_number, private_shapes}
+use Rattle.thread_steps.specs.Library.{library, is_formed}
 use Rattle.step_values.specs.declared.library.LibraryStep.{LibraryStep}
 use Rattle.step_values.specs.Results.{given_at_once}
 use Rattle.step_values.specs.Asking.{asks_once, expansion_of, DoesSoThere}
+use Rattle.step_values.proofs.Asking.{formed, gives}
 use Rattle.stack_machine.specs.Machine.{listed}
 use Rattle.stack_machine.specs.declared.wish.Halt.{Halt}
 use Rattle.stack_machine.specs.declared.wish.Halt.TheVariants.{Stops}
@@ -33,41 +30,6 @@ use Rattle.stack_machine.specs.declared.progress.Progress.{Progress}
 use Rattle.stack_machine.specs.code.Libraries.{expanded_to, met_then}
 use Rattle.stack_machine.specs.code.Turns.{Came, Gave, Stopped, state_seen}
 use Rattle.stack_machine.proofs.Accessing.{bind_err}
-
-bind-same : {A B : Type 0} (r : Res A) (f g : A → State → Res B) → ((a : A) (σ : State) → f a σ ≡ g a σ)
-    → bind r f ≡ bind r g
-bind-same (Val a σ) f g h = h a σ
-bind-same (Over e σ) f g h = refl
-bind-same Unfinished f g h = refl
-
-no-exit : (c : LibraryCall) → asks_once c ≡ true → is_exit c ≡ false
-no-exit call.GlobalExit h = absurd (cc)
-no-exit c h = refl
-
-module _ (τ : Thread) (at : Place) (σ : State) (c : LibraryCall) (shape : ℕ) (args : List Value) where
-  -- A call whose arguments are not its parameters'.
-  pub unformed : asks_once c ≡ true → is_formed τ.shapes c shape args ≡ false
-      → library τ c shape at args σ ≡ Val (number (pos 0)) σ
-  unfolding library
-  unformed h e =
-      ap (λ b. choose b (exit τ (first_number args)) (formed_call τ c shape at args) σ) (no-exit c h)
-      ∙ ap (λ b. choose b (called τ c shape at args) (give (number (pos 0))) σ) e
-
-  -- Any other goes on as its step says.
-  pub formed : (step : LibraryStep) → asks_once c ≡ true → is_formed τ.shapes c shape args ≡ true
-      → ((private : ℕ → Option Shape)
-      → library_call τ.threads τ.shapes τ.number private c shape args ≡ expansion_of step)
-      → library τ c shape at args σ
-      ≡ met_then (is_some (meet_number c)) τ at (expansion_of step) σ
-  unfolding library
-  formed step h e go =
-      ap (λ b. choose b (exit τ (first_number args)) (formed_call τ c shape at args) σ) (no-exit c h)
-      ∙ ap (λ b. choose b (called τ c shape at args) (give (number (pos 0))) σ) e
-      ∙ bind-same (choose (is_some (meet_number c)) (meet τ at) skip σ)
-      (λ _ υ. bind (run τ at (library_call τ.threads τ.shapes τ.number (private_shapes υ) c shape args) υ)
-      (λ v. give (value.Scalar v)))
-      (λ _ υ. expanded_to τ at (expansion_of step) υ)
-      (λ _ υ. ap (λ x. expanded_to τ at x υ) (go (private_shapes υ)))
 
 module _ (τ : Thread) (c : LibraryCall) (shape : ℕ) (args : List Value) where
   -- A step by what is found of it.
@@ -103,17 +65,10 @@ module _ (τ : Thread) (at : Place) (before : List Action) (p : Progress) where
     fitted b r = bind (bind (answered b a r [] (state_seen before p)) (λ r. expanded τ at (given_by r)))
         (λ v. give (value.Scalar v))
 
-    gives : (r : Reply) (res : Result Value ℕ) → Some res ≡ given_at_once (given_by r) → fitted true r ≡ valued at res behind
-    unfolding fitted
-    gives reply.Done res e = let same : Ok (value.Scalar zero) ≡ res = cc in ap (λ (x : Result Value ℕ). valued at x behind) same
-    gives (reply.Value v) res e = let same : Ok (value.Scalar v) ≡ res = cc in ap (λ (x : Result Value ℕ). valued at x behind) same
-    gives (reply.Flag b) res e = let same : Ok (value.Scalar (as_int (truth b))) ≡ res = cc in ap (λ (x : Result Value ℕ). valued at x behind) same
-    gives (reply.Refused code) res e = let same : Err code ≡ res = cc in ap (λ (x : Result Value ℕ). valued at x behind) same
-
     took : (r : Reply) (res : Result Value ℕ) → p.reply ≡ Some r → fits τ.threads τ.shapes None a r ≡ true
         → Some res ≡ given_at_once (given_by r) → expanded_to τ at (asks a) (state_seen before p) ≡ valued at res behind
     unfolding run ask from fitted
-    took r res e f g = ap (λ o. from (listed o)) e ∙ ap (λ b. fitted b r) f ∙ gives r res g
+    took r res e f g = ap (λ o. from (listed o)) e ∙ ap (λ b. fitted b r) f ∙ gives τ at behind r res g
 
     pub took_ok : (r : Reply) (v : Value) (after : Option Reply) → p.reply ≡ Some r → fits τ.threads τ.shapes None a r ≡ true
         → Some (Ok v) ≡ given_at_once (given_by r) → after ≡ None

@@ -1,27 +1,24 @@
 -- What a thread does has nothing to do with the actions before, nor with the replies behind those that it takes.
-use Rattle.std.proofs.Common.{◌≡◌, ℕ, suc, ◌%◌, ◌<◌, List, [], ◌∷◌, ◌++◌, Option, None}
+use Rattle.std.proofs.Common.{◌≡◌, ℕ, suc, ◌<◌, List, [], ◌∷◌, ◌++◌, Option}
 use Rattle.std.proofs.Common.{Bool, true, false, refl, sym, ◌∙◌, ap, subst, arith, append_assoc}
-use Rattle.std.specs.Prelude.{Result, Ok, Err, ◌==◌, nat_le}
-use Rattle.std.proofs.lemmas.Bool.Decides.{nat_tests}
+use Rattle.std.specs.Prelude.{Result, Ok, Err}
 use Rattle.upc_text.specs.declared.place.Place.{Place}
 use Rattle.block_layout.specs.declared.kind.Kind.{Kind}
 use Rattle.block_layout.specs.declared.run_error.TheConstants.{DEPTH}
 use Rattle.upc_values.specs.declared.action.Action.{Action}
-use Rattle.upc_values.specs.declared.action.Action.TheVariants as act
 use Rattle.upc_values.specs.declared.action.Reply.{Reply}
 use Rattle.upc_values.specs.declared.record.ToldEnd.{ToldEnd}
 use Rattle.upc_values.specs.declared.record.ToldEnd.TheVariants.{Wants, Misfit, Ended, Exit, Fault, OutOfTicks}
 use Rattle.upc_values.specs.Formed.{fits}
-use Rattle.private_store.specs.declared.store.TheConstants.{MOST_CALLS}
 use Rattle.private_store.specs.Live.{Live, called, returned}
 use Rattle.thread_steps.specs.States.{Thread, State, Res, Val, Over, Unfinished, bind, Doing, ◌>>=◌, ◌>>◌}
 use Rattle.thread_steps.specs.States.{give, skip, know, change, choose, over, fault}
-use Rattle.thread_steps.specs.Actions.{ask, answered, answered_from, tick, ticks_of, with_tick, with_notified}
+use Rattle.thread_steps.specs.Actions.{ask, answered, answered_from, tick, with_tick, with_notified}
 use Rattle.thread_steps.specs.Accesses.{with_store}
 use Rattle.thread_steps.specs.Blocks.{begin_call, end_call, is_deep, with_live}
-use Rattle.thread_steps.proofs.Depths.{depth, SameDepth, called_depth, returned_depth}
+use Rattle.thread_steps.proofs.Depths.{depth, SameDepth, called_depth, returned_depth, not_deep}
 use Rattle.thread_steps.proofs.Kept.{Property, IsBasic, IsAsking, IsKept, Ignores, IsOwn}
-use Rattle.thread_steps.proofs.Kept.{asked_notify_kept, asked_wait_kept, asked_called_kept}
+use Rattle.thread_steps.proofs.Kept.{asked_notify_kept, asked_wait_kept, asked_called_kept, asked_tick_kept}
 use Rattle.thread_steps.proofs.Lasting.{Lasts, lasting}
 
 -- The state with actions before its own, and replies behind its own.
@@ -145,29 +142,6 @@ module _ (τ : Thread) where
   unfolding ask
   ask_framed n d kind a = record { by = λ σ e. by_replies d kind a σ.replies σ e refl }
 
-  -- ---- ticks
-
-  skip_framed : (n d : ℕ) → Framed n d (Unit {0}) skip
-  skip_framed n d = give_framed n d (Unit {0}) tt
-
-  beat_framed : (n d : ℕ) (b : Bool) → Framed n d (Unit {0}) (choose b (do ask τ None act.Beat; skip) skip)
-  beat_framed n d true = then_framed n d Reply (Unit {0}) (ask τ None act.Beat) _ (ask_framed n d None act.Beat)
-      (λ r. skip_framed n d)
-  beat_framed n d false = skip_framed n d
-
-  spent_framed : (n d : ℕ) (b : Bool) → Framed n d (Unit {0}) (choose b (over OutOfTicks) skip)
-  spent_framed n d true = record { by = λ σ e. record { deep = tt; same = λ before later. refl } }
-  spent_framed n d false = skip_framed n d
-
-  tick_framed : (n d : ℕ) → Framed n d (Unit {0}) (tick τ)
-  unfolding tick
-  tick_framed n d =
-      then_framed n d (Unit {0}) (Unit {0}) (change with_tick) _
-      (change_framed n d with_tick (λ σ. refl) (λ σ before later. refl)) (λ u.
-      then_framed n d ℕ (Unit {0}) (know ticks_of) _ (know_framed n d ℕ ticks_of (λ σ as_ rs. refl)) (λ count.
-      then_framed n d (Unit {0}) (Unit {0}) (choose (count % 1024 == 0) (do ask τ None act.Beat; skip) skip) _
-      (beat_framed n d (count % 1024 == 0)) (λ v. spent_framed n d (count == τ.budget))))
-
   -- ---- calls
 
   module _ (d : ℕ) (A : Type 0) where
@@ -191,9 +165,6 @@ module _ (τ : Thread) where
   unfolding begin_call end_call
   call_framed n d A at m lm = record { by = λ σ e. by_depth (is_deep σ) σ refl e }
     where
-      not_deep : (y : ℕ) → nat_le MOST_CALLS y ≡ false → y ≡ d → d < 1000
-      not_deep y e same = grind (arith, nat_tests)
-
       run : Bool → State → Res A
       run b σ = bind (bind (choose b (fault DEPTH at) skip σ) (λ _. change (with_live called))) (λ _. m >>= back d A)
 
@@ -203,7 +174,7 @@ module _ (τ : Thread) where
       by_depth false σ e same =
           let υ = with_live called σ in
           back_goes d A (m υ) (λ before later. m (shift υ before later))
-          ((lm (not_deep (depth σ.store) e same)).by υ (called_depth σ.store ∙ omega arith))
+          ((lm (not_deep d (depth σ.store) e same)).by υ (called_depth σ.store ∙ omega arith))
 
   basic_framing : IsBasic Framed
   basic_framing = record {
@@ -220,6 +191,13 @@ module _ (τ : Thread) where
     of_ask = ask_framed;
     of_notified = λ n d v. change_framed n d (with_notified v) (λ σ. refl) (λ σ before later. refl);
   }
+
+  spent_framed : (n d : ℕ) → Framed n d (Unit {0}) (over OutOfTicks)
+  spent_framed n d = record { by = λ σ e. record { deep = tt; same = λ before later. refl } }
+
+  tick_framed : (n d : ℕ) → Framed n d (Unit {0}) (tick τ)
+  tick_framed n d = asked_tick_kept τ Framed asking_framing n d
+      (change_framed n d with_tick (λ σ. refl) (λ σ before later. refl)) (spent_framed n d)
 
   -- The number of turns has no say.
   counted : (k n d : ℕ) (A : Type 0) (m : Doing A) → Framed n d A m → Framed k d A m

@@ -296,7 +296,7 @@ impl Progress {
     }
 
     /// A new value of the cell of a kind of a private object.
-    #[tactic(auto, using(crate::proofs::Holding::kept_fits))]
+    #[tactic(auto, using(thread_steps::proofs::Blanks::kept_fits))]
     pub(crate) fn save_private(
         &mut self,
         kind: Kind,

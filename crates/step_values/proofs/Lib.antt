@@ -2,3 +2,5 @@ pub mod Numbers
 pub mod Sizes
 pub mod Doings
 pub mod Sized
+pub mod AtOnce
+pub mod Asking

@@ -2,8 +2,7 @@
 use Rattle.std.proofs.Common.{◌≡◌, ℕ, suc, ◌+◌, ◌*◌, ◌/◌, ◌%◌, ◌<◌, List, [], ◌∷◌, ◌++◌, Option, Some, None, Bool, true}
 use Rattle.std.proofs.Common.{false, refl, sym, ◌∙◌, ap, arith, eqb-true, ◌≢◌}
 use Rattle.std.proofs.lemmas.Bool.{eqb-false}
-use Rattle.std.proofs.lemmas.Bool.Decides.{nat_tests}
-use Rattle.std.specs.Prelude.{Result, Ok, Err, ◌==◌, nat_le, is_some}
+use Rattle.std.specs.Prelude.{Result, Ok, Err, ◌==◌, is_some}
 use Rattle.upc_text.specs.declared.place.Place.{Place}
 use Rattle.block_layout.specs.declared.kind.Kind.{Kind}
 use Rattle.block_layout.specs.declared.kind.Shape.{Shape}
@@ -23,7 +22,6 @@ use Rattle.upc_values.specs.LibraryCalls.{library_call, meet_number}
 use Rattle.upc_values.specs.Expansion.{Expansion, Gives, Fails, Reads, Asks, Loads, Stores, value_in}
 use Rattle.upc_values.specs.Records.{beats, is_beat}
 use Rattle.upc_values.proofs.Records.{beats-push}
-use Rattle.private_store.specs.declared.store.TheConstants.{MOST_CALLS}
 use Rattle.private_store.specs.Live.{Live, called, returned}
 use Rattle.thread_steps.specs.States.{Thread, State, Res, Val, Over, Unfinished, bind, Doing, ◌>>=◌, ◌>>◌}
 use Rattle.thread_steps.specs.States.{give, skip, know, change, choose, over, fault, fault_if}
@@ -32,7 +30,7 @@ use Rattle.thread_steps.specs.Actions as a
 use Rattle.thread_steps.specs.Accesses as x
 use Rattle.thread_steps.specs.Blocks.{begin_call, end_call, is_deep, with_live}
 use Rattle.thread_steps.specs.Library as l
-use Rattle.thread_steps.proofs.Depths.{depth, SameDepth, called_depth, returned_depth}
+use Rattle.thread_steps.proofs.Depths.{depth, SameDepth, called_depth, returned_depth, not_deep}
 use Rattle.thread_steps.proofs.Kept.{IsBasic, IsKept, Ignores, IsOwn, IsPlain, basic_choose_kept, basic_fault_if_kept}
 use Rattle.thread_steps.proofs.Kept.{basic_unless_refused_kept, basic_load_private_kept, basic_save_private_kept}
 use Rattle.thread_steps.proofs.Orderly.{IsOrderly, Turns, library_orderly}
@@ -271,9 +269,6 @@ module _ (τ : Thread) where
   unfolding begin_call end_call
   call_beating n d A at m bm = record { by = λ σ h. by_depth (is_deep σ) σ refl h }
     where
-      not_deep : (y : ℕ) → nat_le MOST_CALLS y ≡ false → y ≡ d → d < 1000
-      not_deep y e same = grind (arith, nat_tests)
-
       back : (r : Res A) → Ends (suc d) r → Ends d (bind r (λ v. change (with_live returned) >> give v))
       back (Val v σ) h = record { beaten = h.beaten; deep = returned_depth d σ.store h.deep }
       back (Over e σ) h = h
@@ -285,7 +280,7 @@ module _ (τ : Thread) where
       by_depth true σ e h = tt
       by_depth false σ e h =
           let υ = with_live called σ in
-          back (m υ) ((bm (not_deep (depth σ.store) e h.deep)).by υ
+          back (m υ) ((bm (not_deep d (depth σ.store) e h.deep)).by υ
           (record { beaten = h.beaten; deep = called_depth σ.store ∙ ap suc h.deep }))
 
   counted : (k n d : ℕ) (A : Type 0) (m : Doing A) → Beating n d A m → Beating k d A m

@@ -1,7 +1,8 @@
 -- How many calls are active behind each change of the private objects.
-use Rattle.std.proofs.Common.{◌≡◌, ℕ, suc, ◌+◌, ◌-◌, List, [], ◌∷◌, length, Option, Some, None}
+use Rattle.std.proofs.Common.{◌≡◌, ℕ, suc, ◌+◌, ◌-◌, ◌<◌, false, List, [], ◌∷◌, length, Option, Some, None}
 use Rattle.std.proofs.Common.{refl, ◌∙◌, arith}
-use Rattle.std.specs.Prelude.{Result, Ok, Err}
+use Rattle.std.specs.Prelude.{Result, Ok, Err, nat_le}
+use Rattle.std.proofs.lemmas.Bool.Decides.{nat_tests}
 use Rattle.std.proofs.lemmas.List.{length-take-le, length_push, length-set}
 use Rattle.std.proofs.lemmas.Option.{slice_get_within, slice_get-get_or}
 use Rattle.block_layout.specs.declared.kind.Kind.{Kind}
@@ -9,6 +10,7 @@ use Rattle.block_layout.specs.declared.place.LocalPtr.{LocalPtr}
 use Rattle.upc_values.specs.declared.scalar.Value.{Value}
 use Rattle.private_store.specs.declared.frame.Block.{Block}
 use Rattle.private_store.specs.declared.frame.Call.{Call}
+use Rattle.private_store.specs.declared.store.TheConstants.{MOST_CALLS}
 use Rattle.private_store.specs.Live.{Live, youngest, older, open_blocks, left_from, left, called, returned_from}
 use Rattle.private_store.specs.Live.{returned, recounted_from, recounted}
 use Rattle.private_store.specs.Cells.{Cell, stored, reached, put_in}
@@ -16,6 +18,10 @@ use Rattle.private_store.specs.Cells.{Cell, stored, reached, put_in}
 -- How many calls are active.
 abbrev pub depth : Live → ℕ
 depth s = length s.calls
+
+-- Fewer than the most, where one more may begin.
+pub not_deep : (d y : ℕ) → nat_le MOST_CALLS y ≡ false → y ≡ d → d < 1000
+not_deep d y e same = grind (arith, nat_tests)
 
 abbrev pub SameDepth : Live → Result Live ℕ → Type 0
 SameDepth s (Ok t) = depth t ≡ depth s

@@ -1,38 +1,27 @@
 -- With more replies a thread does the same as before, and goes on where it had none.
-use Rattle.std.proofs.Common.{◌≡◌, ℕ, suc, ◌+◌, ◌%◌, ◌<◌, List, [], ◌∷◌, ◌++◌, length, Option, None}
-use Rattle.std.proofs.Common.{Bool, true, false, refl, sym, ◌∙◌, ap, subst, arith, append_assoc, append-nil}
-use Rattle.std.specs.Prelude.{Result, Ok, Err, ◌==◌, nat_le}
-use Rattle.std.proofs.lemmas.Bool.Decides.{nat_tests}
+use Rattle.std.proofs.Common.{◌≡◌, ℕ, suc, ◌+◌, ◌<◌, List, [], ◌∷◌, ◌++◌, length, Option}
+use Rattle.std.proofs.Common.{Bool, true, false, refl, sym, ◌∙◌, ap, subst, arith}
+use Rattle.std.specs.Prelude.{Result, Ok, Err}
 use Rattle.std.proofs.lemmas.List.{length_push}
 use Rattle.upc_text.specs.declared.place.Place.{Place}
 use Rattle.block_layout.specs.declared.kind.Kind.{Kind}
 use Rattle.block_layout.specs.declared.run_error.TheConstants.{DEPTH}
 use Rattle.upc_values.specs.declared.action.Action.{Action}
-use Rattle.upc_values.specs.declared.action.Action.TheVariants as act
 use Rattle.upc_values.specs.declared.action.Reply.{Reply}
 use Rattle.upc_values.specs.declared.record.ToldEnd.{ToldEnd}
 use Rattle.upc_values.specs.declared.record.ToldEnd.TheVariants.{Wants, Misfit, Ended, Exit, Fault, OutOfTicks}
 use Rattle.upc_values.specs.Formed.{fits}
-use Rattle.private_store.specs.declared.store.TheConstants.{MOST_CALLS}
 use Rattle.private_store.specs.Live.{Live, called, returned}
 use Rattle.thread_steps.specs.States.{Thread, State, Res, Val, Over, Unfinished, bind, Doing, ◌>>=◌, ◌>>◌}
 use Rattle.thread_steps.specs.States.{give, skip, know, change, choose, over, fault}
-use Rattle.thread_steps.specs.Actions.{ask, answered, answered_from, tick, ticks_of, with_tick, with_notified}
+use Rattle.thread_steps.specs.Actions.{ask, answered, answered_from, tick, with_tick, with_notified}
 use Rattle.thread_steps.specs.Accesses.{with_store}
 use Rattle.thread_steps.specs.Blocks.{begin_call, end_call, is_deep, with_live}
 use Rattle.thread_steps.specs.Fronts.{Begins}
-use Rattle.thread_steps.proofs.Depths.{depth, SameDepth, called_depth, returned_depth}
+use Rattle.thread_steps.proofs.Depths.{depth, SameDepth, called_depth, returned_depth, not_deep}
 use Rattle.thread_steps.proofs.Kept.{IsBasic, IsAsking, IsKept, Ignores, IsOwn}
-use Rattle.thread_steps.proofs.Kept.{asked_notify_kept, asked_wait_kept, asked_called_kept}
-
-begins_itself : (xs : List Action) → Begins xs xs
-begins_itself xs = ([], sym (append-nil xs))
-
-begins_pushed : (xs : List Action) (a : Action) → Begins xs (xs ++ a ∷ [])
-begins_pushed xs a = (a ∷ [], refl)
-
-begins_on : (xs ys zs : List Action) → Begins xs ys → Begins ys zs → Begins xs zs
-begins_on xs ys zs b c = (b.0 ++ c.0, c.1 ∙ ap (λ l. l ++ c.0) b.1 ∙ append_assoc xs b.0 c.0)
+use Rattle.thread_steps.proofs.Kept.{asked_notify_kept, asked_wait_kept, asked_called_kept, asked_tick_kept}
+use Rattle.thread_steps.proofs.Fronts.{begins_itself, begins_pushed, begins_on}
 
 -- How many actions are done and replies are left.
 abbrev pub total : State → ℕ
@@ -228,34 +217,6 @@ module _ (τ : Thread) where
   unfolding ask
   ask_follows n d kind a = record { by = λ σ same. by_replies d kind a σ.replies σ same refl }
 
-  -- ---- ticks
-
-  skip_follows : (n d : ℕ) → Follows n d (Unit {0}) skip
-  skip_follows n d = give_follows n d (Unit {0}) tt
-
-  beat_follows : (n d : ℕ) (b : Bool) → Follows n d (Unit {0}) (choose b (do ask τ None act.Beat; skip) skip)
-  beat_follows n d true = then_follows n d Reply (Unit {0}) (ask τ None act.Beat) _ (ask_follows n d None act.Beat)
-      (λ r. skip_follows n d)
-  beat_follows n d false = skip_follows n d
-
-  spent_follows : (n d : ℕ) (b : Bool) → Follows n d (Unit {0}) (choose b (over OutOfTicks) skip)
-  spent_follows n d true = record {
-    by = λ σ same. record {
-      grown = (begins_itself σ.actions, refl, tt);
-      extends = λ x xs. refl;
-    };
-  }
-  spent_follows n d false = skip_follows n d
-
-  tick_follows : (n d : ℕ) → Follows n d (Unit {0}) (tick τ)
-  unfolding tick
-  tick_follows n d =
-      then_follows n d (Unit {0}) (Unit {0}) (change with_tick) _
-      (change_follows n d with_tick (λ σ. refl) (λ σ. refl) (λ σ. refl) (λ σ x xs. refl)) (λ u.
-      then_follows n d ℕ (Unit {0}) (know ticks_of) _ (know_follows n d ℕ ticks_of (λ σ as_ rs. refl)) (λ count.
-      then_follows n d (Unit {0}) (Unit {0}) (choose (count % 1024 == 0) (do ask τ None act.Beat; skip) skip) _
-      (beat_follows n d (count % 1024 == 0)) (λ v. spent_follows n d (count == τ.budget))))
-
   -- ---- private objects and calls
 
   store_follows : (n d : ℕ) (at : Place) (f : Live → Result Live ℕ) → ((s : Live) → SameDepth s (f s))
@@ -314,9 +275,6 @@ module _ (τ : Thread) where
   unfolding begin_call end_call
   call_follows n d A at m lm = record { by = λ σ same. by_depth (is_deep σ) σ refl same }
     where
-      not_deep : (y : ℕ) → nat_le MOST_CALLS y ≡ false → y ≡ d → d < 1000
-      not_deep y e same = grind (arith, nat_tests)
-
       run : Bool → State → Res A
       run b σ = bind (bind (choose b (fault DEPTH at) skip σ) (λ _. change (with_live called))) (λ _. m >>= back d A)
 
@@ -326,7 +284,7 @@ module _ (τ : Thread) where
       by_depth false σ e same =
           let υ = with_live called σ in
           back_goes d A σ υ (m υ) (λ x xs. m (plus υ x xs)) refl refl
-          ((lm (not_deep (depth σ.store) e same)).by υ (called_depth σ.store ∙ omega arith))
+          ((lm (not_deep d (depth σ.store) e same)).by υ (called_depth σ.store ∙ omega arith))
 
   -- The number of turns has no say.
   counted : (k n d : ℕ) (A : Type 0) (m : Doing A) → Follows n d A m → Follows k d A m
@@ -347,6 +305,18 @@ module _ (τ : Thread) where
     of_ask = ask_follows;
     of_notified = λ n d v. change_follows n d (with_notified v) (λ σ. refl) (λ σ. refl) (λ σ. refl) (λ σ x xs. refl);
   }
+
+  spent_follows : (n d : ℕ) → Follows n d (Unit {0}) (over OutOfTicks)
+  spent_follows n d = record {
+    by = λ σ same. record {
+      grown = (begins_itself σ.actions, refl, tt);
+      extends = λ x xs. refl;
+    };
+  }
+
+  tick_follows : (n d : ℕ) → Follows n d (Unit {0}) (tick τ)
+  tick_follows n d = asked_tick_kept τ Follows asking_following n d
+      (change_follows n d with_tick (λ σ. refl) (λ σ. refl) (λ σ. refl) (λ σ x xs. refl)) (spent_follows n d)
 
   pub following : IsKept τ Follows
   following = record {

@@ -1,5 +1,5 @@
 -- What every operation of a thread keeps, if the few from which they are made do.
-use Rattle.std.proofs.Common.{◌≡◌, ℕ, suc, ◌<◌, ◌≤◌, ℤ, pos, List, Option, Some}
+use Rattle.std.proofs.Common.{◌≡◌, ℕ, suc, ◌%◌, ◌<◌, ◌≤◌, ◌==◌, ℤ, pos, List, Option, Some}
 use Rattle.std.proofs.Common.{None, Bool, true, false, refl}
 use Rattle.std.specs.Prelude.{Result, Ok, Err, pred, is_some}
 use Rattle.upc_text.specs.declared.place.Place.{Place}
@@ -30,8 +30,8 @@ use Rattle.private_store.specs.Live.{Live, entered, left, controls}
 use Rattle.private_store.specs.Cells.{loaded, stored}
 use Rattle.thread_steps.specs.declared.cast.CastTo.{CastTo}
 use Rattle.thread_steps.specs.declared.elements.Elements.{Elements}
-use Rattle.thread_steps.specs.States.{Thread, State, Res, Doing, ◌>>=◌, ◌>>◌, give, skip, know, choose, over, fault}
-use Rattle.thread_steps.specs.States.{fault_if, valued, Unfinished}
+use Rattle.thread_steps.specs.States.{Thread, State, Res, Doing, ◌>>=◌, ◌>>◌, give, skip, know, change, choose}
+use Rattle.thread_steps.specs.States.{over, fault, fault_if, valued, Unfinished}
 use Rattle.thread_steps.specs.Values.{number, kept, kept_scalar, scalar_of}
 use Rattle.thread_steps.specs.Actions as a
 use Rattle.thread_steps.specs.Accesses as x
@@ -209,6 +209,18 @@ module _ (τ : Thread) (P : Property) (K : IsAsking τ P) (n d : ℕ) where
       asked_first (x.run τ at (library_call τ.threads τ.shapes τ.number private call shape args)) _
       (asked_run_kept at (library_call τ.threads τ.shapes τ.number private call shape args))
       (λ v. K.basic.of_give n d Value (value.Scalar v))))
+
+  -- A tick, if the count of ticks and their end do.
+  pub asked_tick_kept : P n d (Unit {0}) (change a.with_tick) → P n d (Unit {0}) (over told.OutOfTicks)
+      → P n d (Unit {0}) (a.tick τ)
+  unfolding a.tick
+  asked_tick_kept counts ends =
+      asked_first (change a.with_tick) _ counts (λ u.
+      asked_first (know a.ticks_of) _ (K.basic.of_know n d ℕ a.ticks_of (λ σ as_ rs. refl)) (λ count.
+      asked_first (choose (count % 1024 == 0) (a.ask τ None act.Beat >> skip) skip) _
+      (asked_choose_kept (count % 1024 == 0) (a.ask τ None act.Beat >> skip) skip
+      (asked_first (a.ask τ None act.Beat) _ (K.of_ask n d None act.Beat) (λ r. asked_skip_kept)) asked_skip_kept) (λ v.
+      asked_choose_kept (count == τ.budget) (over told.OutOfTicks) skip ends asked_skip_kept)))
 
 -- The property is kept by every operation of a thread.
 pub record IsKept (τ : Thread) (P : Property) : Type 1 where

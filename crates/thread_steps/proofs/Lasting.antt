@@ -3,7 +3,7 @@
 -- value or to the end of the thread.
 use Rattle.std.proofs.Common.{◌≡◌, ℕ, suc, ◌+◌, ◌%◌, ◌<◌, ◌≤◌, List, [], ◌∷◌, Option, None}
 use Rattle.std.proofs.Common.{Bool, true, false, refl, ◌∙◌, arith}
-use Rattle.std.specs.Prelude.{Result, Ok, Err, ◌==◌, nat_le}
+use Rattle.std.specs.Prelude.{Result, Ok, Err, ◌==◌}
 use Rattle.std.proofs.lemmas.Bool.Decides.{nat_tests}
 use Rattle.upc_text.specs.declared.place.Place.{Place}
 use Rattle.block_layout.specs.declared.kind.Kind.{Kind}
@@ -14,14 +14,13 @@ use Rattle.upc_values.specs.declared.action.Reply.{Reply}
 use Rattle.upc_values.specs.declared.record.ToldEnd.{ToldEnd}
 use Rattle.upc_values.specs.declared.record.ToldEnd.TheVariants.{Wants, Misfit, Ended, Exit, Fault, OutOfTicks}
 use Rattle.upc_values.specs.Formed.{fits}
-use Rattle.private_store.specs.declared.store.TheConstants.{MOST_CALLS}
 use Rattle.private_store.specs.Live.{Live, called, returned}
 use Rattle.thread_steps.specs.States.{Thread, State, Res, Val, Over, Unfinished, bind, Doing, ◌>>=◌, ◌>>◌, give, skip}
 use Rattle.thread_steps.specs.States.{change, choose, over, fault}
 use Rattle.thread_steps.specs.Actions.{ask, answered, answered_from, tick, with_tick}
 use Rattle.thread_steps.specs.Accesses.{with_store}
 use Rattle.thread_steps.specs.Blocks.{begin_call, end_call, is_deep, with_live}
-use Rattle.thread_steps.proofs.Depths.{depth, SameDepth, called_depth, returned_depth}
+use Rattle.thread_steps.proofs.Depths.{depth, SameDepth, called_depth, returned_depth, not_deep}
 use Rattle.thread_steps.proofs.Kept.{IsBasic, IsAsking, IsKept, IsOwn, asked_notify_kept, asked_wait_kept}
 use Rattle.thread_steps.proofs.Kept.{asked_called_kept}
 
@@ -162,9 +161,6 @@ module _ (τ : Thread) where
       ended (Over x σ) s e = record { by = e.by }
       ended Unfinished s e = absurd e.by
 
-      not_deep : (x : ℕ) → nat_le MOST_CALLS x ≡ false → x ≡ d → d < 1000
-      not_deep x e same = grind (arith, nat_tests)
-
       by_depth : (b : Bool) (σ : State) → is_deep σ ≡ b → τ.budget ≤ n + σ.ticks → σ.ticks < τ.budget
           → depth σ.store ≡ d
           → Enough A d σ.ticks
@@ -173,7 +169,8 @@ module _ (τ : Thread) where
       by_depth true σ e fuel lt same = record { by = (omega arith, tt) }
       by_depth false σ e fuel lt same =
           let υ = with_live called σ in
-          ended (m υ) σ.ticks ((lm (not_deep (depth σ.store) e same)).by υ fuel lt (called_depth σ.store ∙ omega arith))
+          ended (m υ) σ.ticks
+          ((lm (not_deep d (depth σ.store) e same)).by υ fuel lt (called_depth σ.store ∙ omega arith))
 
   own_lasts : (n d : ℕ) (A : Type 0) (e : ToldEnd) → IsOwn e → Lasts n d A (over e)
   own_lasts n d A (Fault code at) own = record { by = λ σ fuel lt same. record { by = (omega arith, tt) } }

@@ -1,4 +1,9 @@
 pub mod Depths
+pub mod Fronts
+pub mod Thens
+pub mod Halves
+pub mod Conversions
+pub mod Blanks
 pub mod Kept
 pub mod Lasting
 pub mod Following

@@ -1,8 +1,7 @@
 -- Notifies and waits alternate in whatever a thread does.
-use Rattle.std.proofs.Common.{◌≡◌, ℕ, zero, suc, ◌+◌, ◌%◌, ◌<◌, ◌≤◌, List, [], ◌∷◌, ◌++◌, length, Option, Some, None}
+use Rattle.std.proofs.Common.{◌≡◌, ℕ, suc, ◌%◌, ◌<◌, List, [], ◌∷◌, ◌++◌, Option, Some, None}
 use Rattle.std.proofs.Common.{Bool, true, false, refl, sym, ◌∙◌, ap, subst, arith}
-use Rattle.std.specs.Prelude.{Result, Ok, Err, not, ◌==◌, nat_le, is_some}
-use Rattle.std.proofs.lemmas.Bool.Decides.{nat_tests}
+use Rattle.std.specs.Prelude.{Result, Ok, Err, not, ◌==◌, is_some}
 use Rattle.upc_text.specs.declared.place.Place.{Place}
 use Rattle.block_layout.specs.declared.kind.Kind.{Kind}
 use Rattle.block_layout.specs.declared.kind.Shape.{Shape}
@@ -22,7 +21,6 @@ use Rattle.upc_values.specs.declared.record.ToldEnd.TheVariants.{Wants, Misfit, 
 use Rattle.upc_values.specs.Formed.{fits}
 use Rattle.upc_values.specs.LibraryCalls.{library_call, meet_number}
 use Rattle.upc_values.specs.Expansion.{Expansion, Gives, Fails, Reads, Asks, Loads, Stores, value_in}
-use Rattle.private_store.specs.declared.store.TheConstants.{MOST_CALLS}
 use Rattle.private_store.specs.Live.{Live, called, returned}
 use Rattle.private_store.specs.Cells.{loaded, stored}
 use Rattle.thread_steps.specs.States.{Thread, State, Res, Val, Over, Unfinished, bind, Doing, ◌>>=◌, ◌>>◌}
@@ -33,8 +31,8 @@ use Rattle.thread_steps.specs.Accesses as x
 use Rattle.thread_steps.specs.Blocks.{begin_call, end_call, is_deep, with_live}
 use Rattle.thread_steps.specs.Library as l
 use Rattle.thread_steps.specs.Fronts.{turned, turned_by, IsInTurn}
-use Rattle.thread_steps.proofs.Depths.{depth, SameDepth, stored_depth, called_depth, returned_depth}
-use Rattle.thread_steps.proofs.Kept.{IsBasic, IsKept, Ignores, IsOwn, IsPlain}
+use Rattle.thread_steps.proofs.Depths.{depth, SameDepth, stored_depth, called_depth, returned_depth, not_deep}
+use Rattle.thread_steps.proofs.Kept.{IsBasic, IsKept, IsOwn, IsPlain}
 use Rattle.thread_steps.proofs.Orderly.{IsOrderly, Turns, library_orderly}
 
 turned_push : (s : Option Bool) (xs : List Action) (y : Action) → turned_by s (xs ++ y ∷ []) ≡ turned (turned_by s xs) y
@@ -386,9 +384,6 @@ module _ (τ : Thread) where
   unfolding begin_call end_call
   call_in_turn n d A at m lm = record { by = λ σ h. by_depth (is_deep σ) σ refl h }
     where
-      not_deep : (y : ℕ) → nat_le MOST_CALLS y ≡ false → y ≡ d → d < 1000
-      not_deep y e same = grind (arith, nat_tests)
-
       back : (r : Res A) → Ends (suc d) r → Ends d (bind r (λ v. change (with_live returned) >> give v))
       back (Val v υ) h = record { turn = h.turn; noted = refl; deep = returned_depth d υ.store h.deep }
       back (Over e υ) h = h
@@ -400,7 +395,7 @@ module _ (τ : Thread) where
       by_depth true σ e h = (σ.notified, h.turn)
       by_depth false σ e h =
           let υ = with_live called σ in
-          back (m υ) ((lm (not_deep (depth σ.store) e h.deep)).by υ
+          back (m υ) ((lm (not_deep d (depth σ.store) e h.deep)).by υ
           (record { turn = h.turn; noted = refl; deep = called_depth σ.store ∙ ap suc h.deep }))
 
   counted : (k n d : ℕ) (A : Type 0) (m : Doing A) → InTurn n d A m → InTurn k d A m

@@ -12,7 +12,8 @@ use Rattle.gen_stmt.specs.Meanings.{MeansProgram}
 use Rattle.gen_stmt.specs.Names.{NamesOnly}
 use Rattle.gen_stmt.specs.Programs.{program_code}
 use Rattle.gen_stmt.proofs.Gathered.{program_begins}
-use Rattle.gen_stmt.proofs.Compiling.{codes_are, if_ok, privates_begin}
+use Rattle.source_meaning.proofs.Beginnings.{privates_begin}
+use Rattle.gen_stmt.proofs.Compiling.{codes_are, if_ok}
 use Rattle.gen_stmt.proofs.Courses.{program_means}
 use Rattle.gen_stmt.proofs.Deeps.{program_deep}
 use Rattle.gen_stmt.proofs.Names.{names_only}

@@ -1,7 +1,7 @@
 use Rattle.std.proofs.Common.{◌∙◌}
 use Rattle.gen_expr.specs.Sources.{running_of}
 use Rattle.gen_expr.specs.ViewSource.{view_source}
-use Rattle.gen_stmt.proofs.Steps.{object_step}
+use Rattle.source_meaning.proofs.Rows.{object_step}
 use Rattle.gen_stmt.proofs.shapes.push_shapes.Goals as goal
 
 pub loop-object-preserved : goal.loop-object-preserved

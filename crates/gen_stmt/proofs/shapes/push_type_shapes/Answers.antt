@@ -1,6 +1,6 @@
 use Rattle.std.proofs.Common.{◌∙◌}
 use Rattle.upc_types.specs.ViewStructs.{view_structs}
-use Rattle.gen_stmt.proofs.Steps.{type_step}
+use Rattle.source_meaning.proofs.Rows.{type_step}
 use Rattle.gen_stmt.proofs.shapes.push_type_shapes.Goals as goal
 
 pub loop-t-preserved : goal.loop-t-preserved

@@ -4,9 +4,10 @@ use Rattle.thread_steps.specs.Library.{is_formed}
 use Rattle.thread_steps.specs.States.{Res}
 use Rattle.thread_steps.specs.Values.{number}
 use Rattle.step_values.specs.Asking.{asks_once}
+use Rattle.step_values.proofs.Asking.{unformed}
 use Rattle.stack_code.specs.Codes.{thread_of}
 use Rattle.stack_machine.specs.code.Turns.{Gave, state_seen}
-use Rattle.stack_machine.proofs.Asking.{unformed, goes, step_does}
+use Rattle.stack_machine.proofs.Asking.{goes, step_does}
 use Rattle.stack_machine.proofs.progress.Progress.library.Goals as goal
 
 pub returns-then-not-branch-clause-does : goal.returns-then-not-branch-clause-does
