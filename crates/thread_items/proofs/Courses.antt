@@ -1,8 +1,6 @@
 -- A whole thread, item by item.
-use Rattle.std.proofs.Common.{◌≡◌, ℕ, ◌+◌, ◌-◌, ◌<◌, ◌≤◌, ℤ, Bool, true, false, cond, List, [], ◌∷◌, length, map, drop}
-use Rattle.std.proofs.Common.{get_or, Option, Some, None, refl, sym, ap, ◌∙◌}
-use Rattle.std.proofs.lemmas.List.{drop_all}
-use Rattle.upc_types.proofs.Members.{next}
+use Rattle.std.proofs.Common.{◌≡◌, ℕ, ◌-◌, ℤ, [], ◌∷◌}
+use Rattle.std.proofs.Common.{Option, Some, None, refl, sym, ap, ◌∙◌}
 use Rattle.upc_text.specs.declared.place.Place.{Place}
 use Rattle.block_layout.specs.declared.kind.Kind.TheVariants as kind
 use Rattle.integers.specs.Integers.{converted}
@@ -12,7 +10,6 @@ use Rattle.upc_values.specs.declared.record.ToldEnd.{ToldEnd}
 use Rattle.upc_values.specs.declared.record.ToldEnd.TheVariants.{Ended}
 use Rattle.typed_tree.specs.declared.tree.Function as f
 use Rattle.typed_tree.specs.Tree.{Function}
-use Rattle.typed_tree.specs.ViewStatements.{view_function}
 use Rattle.private_store.specs.declared.store.TheConstants.{MOST_CALLS}
 use Rattle.thread_steps.specs.States.{State, Res, Val, Over, bind}
 use Rattle.thread_steps.specs.Actions.{notify, wait}
@@ -21,7 +18,8 @@ use Rattle.thread_steps.specs.Values.{number_of}
 use Rattle.source_meaning.specs.Running.{Running}
 use Rattle.source_meaning.specs.Types.{cell_kind}
 use Rattle.source_meaning.specs.Expressions.{no_value}
-use Rattle.source_meaning.specs.Threads.{blank_of, is_main, main_of, main_on, main_place, most_calls, outcome_of, told}
+use Rattle.source_meaning.specs.Threads.{blank_of, main_on, main_place, most_calls, outcome_of, told}
+use Rattle.source_meaning.proofs.Mains.{main_found, main_behind, main_nowhere}
 use Rattle.thread_progress.specs.code.Barriers.{passed}
 use Rattle.thread_progress.proofs.Thens.{then_one}
 use Rattle.thread_items.specs.code.Courses.{comes_to, fresh, main_comes_to, main_entered}
@@ -32,24 +30,6 @@ use Rattle.thread_items.specs.code.Stacks.{top}
 use Rattle.thread_items.proofs.Enters.{begun, begun_none, begun_some}
 
 -- ---- the first function of the name main
-
-pub main_found : (xs : List f.Function) (i : ℕ) (x : f.Function) → i < length xs → x ≡ get_or xs i x
-    → is_main (view_function x) ≡ true → main_of (map view_function (drop i xs)) ≡ Some (view_function x)
-main_found xs i x l e h =
-    let more = map view_function (drop (i + 1) xs) in
-    ap main_of (next view_function xs i x l e)
-    ∙ ap (λ (b : Bool). cond b (Some (view_function x)) (main_of more)) h
-
-pub main_behind : (xs : List f.Function) (i : ℕ) (x : f.Function) → i < length xs → x ≡ get_or xs i x
-    → is_main (view_function x) ≡ false
-    → main_of (map view_function (drop i xs)) ≡ main_of (map view_function (drop (i + 1) xs))
-main_behind xs i x l e h =
-    let more = map view_function (drop (i + 1) xs) in
-    ap main_of (next view_function xs i x l e)
-    ∙ ap (λ (b : Bool). cond b (Some (view_function x)) (main_of more)) h
-
-pub main_nowhere : (xs : List f.Function) (i : ℕ) → length xs ≤ i → main_of (map view_function (drop i xs)) ≡ None
-main_nowhere xs i h = ap (λ (ys : List f.Function). main_of (map view_function ys)) (drop_all i xs h)
 
 pub ruleset first_main = (main_found, main_behind, main_nowhere)
 

@@ -22,7 +22,8 @@ use Rattle.source_meaning.specs.Expressions.{Calls, value, object, behind, put, 
 use Rattle.source_meaning.specs.Statements.{Flow, Next, Standing, with_objects, aside, declared}
 use Rattle.source_meaning.specs.Statements.{initialised, listed, element_type, shapes_of}
 use Rattle.source_meaning.specs.Threads.{called}
-use Rattle.thread_progress.proofs.Thens.{then_one, then_same}
+use Rattle.thread_steps.proofs.Thens.{then_same}
+use Rattle.thread_progress.proofs.Thens.{then_one}
 use Rattle.thread_items.specs.code.Seen.{Seen, meant, with_item, aside_items, headed}
 use Rattle.thread_items.specs.code.Seen.{more_works, more_values, popped, with_state}
 use Rattle.thread_items.specs.code.Items.{Value, Convert, Run, Leave, Turn, Declare, Listed, Keep}

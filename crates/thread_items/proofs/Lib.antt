@@ -5,7 +5,6 @@ pub mod Callings
 pub mod Courses
 pub mod Declaring
 pub mod Enters
-mod Halves
 pub mod OtherBodies
 pub mod Programs
 pub mod Selecting

@@ -1,5 +1,6 @@
 pub mod Bodies
 pub mod Courses
+pub mod Evaluations
 pub mod Items
 pub mod Left
 pub mod Seen

@@ -2,5 +2,4 @@ mod AtOnce
 mod Libraries
 mod Receiving
 mod Rows
-mod Starts
 pub mod Thens

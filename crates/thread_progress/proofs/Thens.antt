@@ -1,6 +1,7 @@
 -- Steps one behind the other.
 use Rattle.std.proofs.Common.{◌≡◌, refl}
-use Rattle.thread_steps.specs.States.{State, Res, Val, Over, Unfinished, Doing, bind, give}
+use Rattle.thread_steps.specs.States.{Res, Val, Over, Unfinished, Doing, bind, give}
+pub use Rattle.thread_steps.proofs.Thens.{then_same}
 
 pub then_one : {A B C : Type 0} (r : Res A) (f : A → Doing B) (g : B → Doing C)
     → bind (bind r f) g ≡ bind r (λ a σ. bind (f a σ) g)
@@ -27,13 +28,6 @@ pub then_cast : {A B C D F : Type 0} (r : Res A) (m : Doing B) (c : B → Doing 
 then_cast (Val a σ) m c h g = cast_in (m σ) c (h a) g
 then_cast (Over e σ) m c h g = refl
 then_cast Unfinished m c h g = refl
-
--- What follows may be done otherwise.
-pub then_same : {A B : Type 0} (r : Res A) (f g : A → Doing B) → ((a : A) (σ : State) → f a σ ≡ g a σ)
-    → bind r f ≡ bind r g
-then_same (Val a σ) f g h = h a σ
-then_same (Over e σ) f g h = refl
-then_same Unfinished f g h = refl
 
 -- What is given at last may be made of what was given before.
 give_last : {A B : Type 0} (r : Res (Unit {0})) (u : A) (h : A → B)

@@ -158,7 +158,7 @@ impl<'r> Progress<'r> {
     }
 
     // A call that asks for one action at most; any other answers want of memory.
-    #[tactic(auto, using(crate::proofs::Libraries::unformed))]
+    #[tactic(auto, using(step_values::proofs::Asking::unformed))]
     fn asking_call(
         &mut self,
         runner: Runner<'_>,

@@ -7,8 +7,8 @@ use Rattle.source_meaning.specs.Statements.{Standing}
 use Rattle.thread_progress.specs.declared.progress.Step.{Step}
 use Rattle.thread_items.specs.code.Seen.{Seen, with_item}
 use Rattle.thread_items.specs.code.Items.{Run}
-use Rattle.upc_meaning.specs.declared.evaluation.Evaluation.{Evaluation}
-use Rattle.upc_meaning.specs.code.Evaluations.{Went}
+use Rattle.thread_items.specs.declared.evaluation.Evaluation.{Evaluation}
+use Rattle.thread_items.specs.code.Evaluations.{Went}
 
 pub went_as : {E : Type 0} (ρ : Running) (κ : Standing) (s : Seen) (at : Place) (k n : StatementKind) → k ≡ n
     → (m : Evaluation) (r : Result (Step (Unit {0})) E)

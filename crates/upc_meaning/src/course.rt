@@ -14,14 +14,14 @@ ghost use Rattle.thread_items.specs.code.Courses.{comes_to, fresh, main_comes_to
 ghost use Rattle.thread_items.specs.code.Courses.{running_with, state_with, view_main};
 ghost use Rattle.thread_items.specs.code.Seen.{meant, with_item};
 ghost use Rattle.thread_items.specs.code.ViewItems.{view_work};
-ghost use Rattle.upc_meaning.specs.code.Evaluations.{Went, seen};
+ghost use Rattle.thread_items.specs.code.Evaluations.{Went, seen};
 
-use crate::evaluation::Evaluation;
-use crate::functions::blank_of;
+use crate::threads;
+use call_items::functions;
 use private_store::{MOST_CALLS, Store};
 use std::alloc::Global;
 use step_values::int_of;
-use thread_items::{Flow, Values, Work, Works};
+use thread_items::{Evaluation, Flow, Values, Work, Works};
 use thread_progress::{Progress, Runner, Setting, Step, is_numeric};
 use typed_tree::{Function, Program};
 use upc_text::{OutOfMemory, Place};
@@ -62,167 +62,166 @@ fn main_place(main: Option<&Function>) -> Place
     }
 }
 
-impl<'p> Evaluation<'p> {
-    // A thread that has done nothing yet.
-    fn begin(alloc: Global, progress: Progress<'p>) -> Evaluation<'p>
-        ensures fresh { seen result ≡ fresh (state_seen result.progress) }
-        ensures progress { result.progress ≡ progress.entry }
-    {
-        Evaluation {
-            works: Works::new(alloc),
-            values: Values::new(alloc),
-            flow: Flow::Next,
-            free: MOST_CALLS + 1,
-            progress,
+// A thread that has done nothing yet.
+fn beginning<'p>(alloc: Global, progress: Progress<'p>) -> Evaluation<'p>
+    ensures fresh { seen result ≡ fresh (state_seen result.progress) }
+    ensures progress { result.progress ≡ progress.entry }
+{
+    Evaluation {
+        works: Works::new(alloc),
+        values: Values::new(alloc),
+        flow: Flow::Next,
+        free: MOST_CALLS + 1,
+        progress,
+    }
+}
+
+// main has begun; its statements are next.
+#[tactic(auto, using(thread_items::proofs::Courses::mains))]
+fn enter_main<'p>(
+    evaluation: &mut Evaluation<'p>,
+    setting: Setting<'p>,
+    main: Option<&'p Function>,
+) -> Result<Step<()>, OutOfMemory>
+    requires { Fits setting.runner }
+    ensures { IfOk result (λ s. Went (running_seen setting.entry) (main_entered (running_seen setting.entry)
+        (view_main main.entry) (evaluation.old.free - 1) (seen evaluation.old)) s evaluation.new) }
+{
+    if evaluation.free == 0 {
+        return Err(OutOfMemory);
+    }
+    match main {
+        None => {
+            functions::push_return(evaluation, Value::Scalar(Scalar::Int(0)))?;
+            Ok(Step::Gives(()))
+        }
+        Some(function) => {
+            functions::push_return(evaluation, functions::blank_of(setting, &function.result))?;
+            functions::function_body(evaluation, setting, function, &[])
         }
     }
+}
 
-    // main has begun; its statements are next.
-    #[tactic(auto, using(thread_items::proofs::Courses::mains))]
-    fn enter_main(
-        &mut self,
-        setting: Setting<'p>,
-        main: Option<&'p Function>,
-    ) -> Result<Step<()>, OutOfMemory>
-        requires { Fits setting.runner }
-        ensures { IfOk result (λ s. Went (running_seen setting.entry) (main_entered (running_seen setting.entry)
-            (view_main main.entry) (self.old.free - 1) (seen self.old)) s self.new) }
-    {
-        if self.free == 0 {
-            return Err(OutOfMemory);
+// main is called, and the barrier behind it is left to be done.
+#[tactic(auto, using(thread_items::proofs::Courses::main_refused, thread_items::proofs::Courses::main_goes))]
+fn call_main<'p>(
+    evaluation: &mut Evaluation<'p>,
+    setting: Setting<'p>,
+    main: Option<&'p Function>,
+) -> Result<Step<()>, OutOfMemory>
+    requires fits { Fits setting.runner }
+    requires fresh { seen evaluation.old ≡ fresh (state_seen evaluation.old.progress) }
+    ensures { IfOk result (λ s. Went (running_seen setting.entry) (main_comes_to (running_seen setting.entry)
+        (view_main main.entry) (state_seen evaluation.old.progress)) s evaluation.new) }
+{
+    let place = main_place(main);
+    match evaluation.progress.begin_call(place)? {
+        Step::Ends(end) => Ok(Step::Ends(end)),
+        Step::Gives(()) => {
+            evaluation.push_one(Work::End(place))?;
+            enter_main(evaluation, setting, main)
         }
-        match main {
+    }
+}
+
+// The barrier before main, and main.
+#[tactic(auto, using(thread_items::proofs::Courses::starts))]
+fn start<'p>(
+    evaluation: &mut Evaluation<'p>,
+    setting: Setting<'p>,
+    main: Option<&'p Function>,
+) -> Result<Step<()>, OutOfMemory>
+    requires fits { Fits setting.runner }
+    requires fresh { seen evaluation.old ≡ fresh (state_seen evaluation.old.progress) }
+    ensures { IfOk result (λ s. Went (running_seen setting.entry) (comes_to (running_seen setting.entry)
+        (view_main main.entry) (state_seen evaluation.old.progress)) s evaluation.new) }
+{
+    match evaluation
+        .progress
+        .pass(setting.runner, main_place(main), Mark::Start)?
+    {
+        Step::Ends(end) => Ok(Step::Ends(end)),
+        Step::Gives(()) => call_main(evaluation, setting, main),
+    }
+}
+
+// Takes the first item off that is left, if one is left.
+#[tactic(auto, using(thread_items::proofs::Courses::items))]
+fn next_item<'p>(evaluation: &mut Evaluation<'p>, setting: Setting<'p>) -> Option<Work<'p>>
+    ensures { MatchOption result
+        (meant (running_seen setting.entry) (seen evaluation.old)
+        ≡ meant (running_seen setting.entry) (seen evaluation.new)
+        × ((seen evaluation.new).works ≡ []))
+        (λ work. meant (running_seen setting.entry) (seen evaluation.old)
+        ≡ with_item (running_seen setting.entry) (view_work work) (seen evaluation.new)) }
+{
+    evaluation.works.pop()
+}
+
+// The end, where nothing is left to do.
+#[tactic(auto, using(thread_items::proofs::Courses::items))]
+fn end<'p>(evaluation: &Evaluation<'p>, setting: Setting<'p>) -> Result<ToldEnd, OutOfMemory>
+    requires { (seen evaluation.now).works ≡ [] }
+    ensures { IfOk result (λ e. outcome_of (meant (running_seen setting.entry) (seen evaluation.now))
+        ≡ told e (state_seen evaluation.now.progress)) }
+{
+    let v = evaluation.values.top();
+    if !is_numeric(&v) {
+        return Err(OutOfMemory);
+    }
+    Ok(ToldEnd::Ended(int_of(&v)))
+}
+
+// Does all that is left.
+#[tactic(auto, using(thread_items::proofs::Courses::told_behind_by))]
+fn finish<'p>(evaluation: &mut Evaluation<'p>, setting: Setting<'p>) -> Result<ToldEnd, OutOfMemory>
+    requires { Fits setting.runner }
+    ensures { IfOk result (λ e. outcome_of (meant (running_seen setting.entry) (seen evaluation.old))
+        ≡ told e (state_seen evaluation.new.progress)) }
+{
+    for _ in 0..u64::MAX {
+        match next_item(evaluation, setting) {
             None => {
-                self.push_return(Value::Scalar(Scalar::Int(0)))?;
-                Ok(Step::Gives(()))
+                let end = end(evaluation, setting)?;
+                return Ok(end);
             }
-            Some(function) => {
-                self.push_return(blank_of(setting, &function.result))?;
-                self.function_body(setting, function, &[])
-            }
+            Some(work) => match threads::take(evaluation, setting, work)? {
+                Step::Ends(end) => return Ok(end),
+                Step::Gives(()) => {}
+            },
         }
     }
+    Err(OutOfMemory)
+}
 
-    // main is called, and the barrier behind it is left to be done.
-    #[tactic(auto, using(thread_items::proofs::Courses::main_refused, thread_items::proofs::Courses::main_goes))]
-    fn call_main(
-        &mut self,
-        setting: Setting<'p>,
-        main: Option<&'p Function>,
-    ) -> Result<Step<()>, OutOfMemory>
-        requires fits { Fits setting.runner }
-        requires fresh { seen self.old ≡ fresh (state_seen self.old.progress) }
-        ensures { IfOk result (λ s. Went (running_seen setting.entry) (main_comes_to (running_seen setting.entry)
-            (view_main main.entry) (state_seen self.old.progress)) s self.new) }
-    {
-        let place = main_place(main);
-        match self.progress.begin_call(place)? {
-            Step::Ends(end) => Ok(Step::Ends(end)),
-            Step::Gives(()) => {
-                self.push_one(Work::End(place))?;
-                self.enter_main(setting, main)
-            }
+// A whole thread.
+#[tactic(auto, using(thread_items::proofs::Courses::told_by))]
+fn run_thread<'p>(
+    evaluation: &mut Evaluation<'p>,
+    setting: Setting<'p>,
+    main: Option<&'p Function>,
+) -> Result<ToldEnd, OutOfMemory>
+    requires fits { Fits setting.runner }
+    requires fresh { seen evaluation.old ≡ fresh (state_seen evaluation.old.progress) }
+    ensures { IfOk result (λ e. outcome_of (comes_to (running_seen setting.entry) (view_main main.entry)
+        (state_seen evaluation.old.progress)) ≡ told e (state_seen evaluation.new.progress)) }
+{
+    match start(evaluation, setting, main)? {
+        Step::Ends(end) => Ok(end),
+        Step::Gives(()) => {
+            let end = finish(evaluation, setting)?;
+            Ok(end)
         }
     }
+}
 
-    // The barrier before main, and main.
-    #[tactic(auto, using(thread_items::proofs::Courses::starts))]
-    fn start(
-        &mut self,
-        setting: Setting<'p>,
-        main: Option<&'p Function>,
-    ) -> Result<Step<()>, OutOfMemory>
-        requires fits { Fits setting.runner }
-        requires fresh { seen self.old ≡ fresh (state_seen self.old.progress) }
-        ensures { IfOk result (λ s. Went (running_seen setting.entry) (comes_to (running_seen setting.entry)
-            (view_main main.entry) (state_seen self.old.progress)) s self.new) }
-    {
-        match self
-            .progress
-            .pass(setting.runner, main_place(main), Mark::Start)?
-        {
-            Step::Ends(end) => Ok(Step::Ends(end)),
-            Step::Gives(()) => self.call_main(setting, main),
-        }
-    }
-
-    // Takes the first item off that is left, if one is left.
-    #[tactic(auto, using(thread_items::proofs::Courses::items))]
-    fn next_item(&mut self, setting: Setting<'p>) -> Option<Work<'p>>
-        ensures { MatchOption result
-            (meant (running_seen setting.entry) (seen self.old) ≡ meant (running_seen setting.entry) (seen self.new)
-            × ((seen self.new).works ≡ []))
-            (λ work. meant (running_seen setting.entry) (seen self.old)
-            ≡ with_item (running_seen setting.entry) (view_work work) (seen self.new)) }
-    {
-        self.works.pop()
-    }
-
-    // The end, where nothing is left to do.
-    #[tactic(auto, using(thread_items::proofs::Courses::items))]
-    fn end(&self, setting: Setting<'p>) -> Result<ToldEnd, OutOfMemory>
-        requires { (seen self.now).works ≡ [] }
-        ensures { IfOk result (λ e. outcome_of (meant (running_seen setting.entry) (seen self.now))
-            ≡ told e (state_seen self.now.progress)) }
-    {
-        let v = self.values.top();
-        if !is_numeric(&v) {
-            return Err(OutOfMemory);
-        }
-        Ok(ToldEnd::Ended(int_of(&v)))
-    }
-
-    // Does all that is left.
-    #[tactic(auto, using(thread_items::proofs::Courses::told_behind_by))]
-    fn finish(&mut self, setting: Setting<'p>) -> Result<ToldEnd, OutOfMemory>
-        requires { Fits setting.runner }
-        ensures { IfOk result (λ e. outcome_of (meant (running_seen setting.entry) (seen self.old))
-            ≡ told e (state_seen self.new.progress)) }
-    {
-        for _ in 0..u64::MAX {
-            match self.next_item(setting) {
-                None => {
-                    let end = self.end(setting)?;
-                    return Ok(end);
-                }
-                Some(work) => match self.take(setting, work)? {
-                    Step::Ends(end) => return Ok(end),
-                    Step::Gives(()) => {}
-                },
-            }
-        }
-        Err(OutOfMemory)
-    }
-
-    // A whole thread.
-    #[tactic(auto, using(thread_items::proofs::Courses::told_by))]
-    fn run_thread(
-        &mut self,
-        setting: Setting<'p>,
-        main: Option<&'p Function>,
-    ) -> Result<ToldEnd, OutOfMemory>
-        requires fits { Fits setting.runner }
-        requires fresh { seen self.old ≡ fresh (state_seen self.old.progress) }
-        ensures { IfOk result (λ e. outcome_of (comes_to (running_seen setting.entry) (view_main main.entry)
-            (state_seen self.old.progress)) ≡ told e (state_seen self.new.progress)) }
-    {
-        match self.start(setting, main)? {
-            Step::Ends(end) => Ok(end),
-            Step::Gives(()) => {
-                let end = self.finish(setting)?;
-                Ok(end)
-            }
-        }
-    }
-
-    // What the thread did.
-    fn into_actions(self) -> Actions
-        ensures { result ≡ (state_seen self.entry.progress).actions }
-    {
-        let Evaluation { progress, .. } = self;
-        let Progress { actions, .. } = progress;
-        Listing::from_vec(actions)
-    }
+// What the thread did.
+fn actions_of<'p>(evaluation: Evaluation<'p>) -> Actions
+    ensures { result ≡ (state_seen evaluation.entry.progress).actions }
+{
+    let Evaluation { progress, .. } = evaluation;
+    let Progress { actions, .. } = progress;
+    Listing::from_vec(actions)
 }
 
 // A program as a thread runs it.
@@ -282,10 +281,10 @@ pub fn replay<'p>(
 {
     let setting = setting_of(alloc, program, thread, ticks);
     let progress = progress_of(alloc, program, replies)?;
-    let mut evaluation = Evaluation::begin(alloc, progress);
-    let end = evaluation.run_thread(setting, main_of(setting.functions))?;
+    let mut evaluation = beginning(alloc, progress);
+    let end = run_thread(&mut evaluation, setting, main_of(setting.functions))?;
     Ok(Told {
-        actions: evaluation.into_actions(),
+        actions: actions_of(evaluation),
         end,
     })
 }

@@ -1,5 +1,5 @@
 use Rattle.std.proofs.Common.{◌<◌, sym, arith}
-use Rattle.thread_progress.proofs.Starts.{numbered_at}
+use Rattle.program_opening.proofs.Worth.{numbered_at}
 use Rattle.thread_progress.proofs.objects.numbered.Goals as goal
 
 pub returns : goal.returns

@@ -1,4 +1,4 @@
-use Rattle.std.proofs.Common.{◌≡◌, ◌∙◌, ap}
+use Rattle.std.proofs.Common.{◌∙◌, ap}
 use Rattle.typed_tree.specs.Beginnings.{view_beginning}
 use Rattle.typed_tree.specs.ViewProgram.{view_program}
 use Rattle.source_meaning.specs.Running.{Running}
@@ -15,13 +15,14 @@ returns-clause-actions c =
     let x = view_program p in
     let b = view_beginning p.beginning in
     let e = c.in_ok-end.end in
-    let τ = state_seen c.run_thread.new.self.progress in
+    let τ = state_seen c.run_thread.new.evaluation.progress in
     let seen = c.setting_of-setting.ensures.seen in
     let of = c.main_of.ensures ∙ ap main_of (ap (λ (ρ : Running). ρ.functions) seen) in
-    let begins = ap state_seen c.begin-evaluation.ensures.progress ∙ c.in_ok-progress.ensures in
+    let begins = ap state_seen c.beginning-evaluation.ensures.progress ∙ c.in_ok-progress.ensures in
     let h = has_told x b c.args.thread c.args.ticks c.args.replies.now e τ (running_seen c.setting_of-setting.result)
-    (view_main c.main_of.result) (state_seen c.begin-evaluation.result.progress) seen of begins c.in_ok-end.ensures in
-    c.into_actions.ensures ∙ told_actions x b c.args.thread c.args.ticks c.args.replies.now e τ p.begins h
+    (view_main c.main_of.result) (state_seen c.beginning-evaluation.result.progress) seen of begins
+    c.in_ok-end.ensures in
+    c.actions_of.ensures ∙ told_actions x b c.args.thread c.args.ticks c.args.replies.now e τ p.begins h
 
 pub returns-clause-end : goal.returns-clause-end
 returns-clause-end c =
@@ -29,10 +30,10 @@ returns-clause-end c =
     let x = view_program p in
     let b = view_beginning p.beginning in
     let e = c.in_ok-end.end in
-    let τ = state_seen c.run_thread.new.self.progress in
+    let τ = state_seen c.run_thread.new.evaluation.progress in
     let seen = c.setting_of-setting.ensures.seen in
     let of = c.main_of.ensures ∙ ap main_of (ap (λ (ρ : Running). ρ.functions) seen) in
-    let begins = ap state_seen c.begin-evaluation.ensures.progress ∙ c.in_ok-progress.ensures in
+    let begins = ap state_seen c.beginning-evaluation.ensures.progress ∙ c.in_ok-progress.ensures in
     let h = has_told x b c.args.thread c.args.ticks c.args.replies.now e τ (running_seen c.setting_of-setting.result)
-    (view_main c.main_of.result) (state_seen c.begin-evaluation.result.progress) seen of begins c.in_ok-end.ensures in
-    told_end x b c.args.thread c.args.ticks c.args.replies.now e τ p.begins h
+    (view_main c.main_of.result) (state_seen c.beginning-evaluation.result.progress) seen of begins
+    c.in_ok-end.ensures in told_end x b c.args.thread c.args.ticks c.args.replies.now e τ p.begins h

@@ -1,6 +1,6 @@
 use Rattle.std.proofs.Common.{◌≡◌, ◌-◌, length, take, drop, reverse, ap, ◌∙◌, arith}
 use Rattle.thread_items.specs.code.Stacks.{youngest}
-use Rattle.thread_items.proofs.Halves.{parted}
+use Rattle.thread_steps.proofs.Halves.{parted}
 use Rattle.thread_items.proofs.values.Values.split_youngest.Goals as goal
 
 pub returns-clause-taken : goal.returns-clause-taken

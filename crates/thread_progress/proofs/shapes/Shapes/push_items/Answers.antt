@@ -1,6 +1,6 @@
 use Rattle.std.proofs.Common.{◌∙◌}
 use Rattle.thread_progress.specs.code.Settings.{running_seen}
-use Rattle.thread_progress.proofs.Rows.{item_step}
+use Rattle.source_meaning.proofs.Rows.{item_step}
 use Rattle.thread_progress.proofs.shapes.Shapes.push_items.Goals as goal
 
 pub loop-item-preserved : goal.loop-item-preserved

@@ -1,6 +1,6 @@
 use Rattle.std.proofs.Common.{◌∙◌}
 use Rattle.thread_progress.specs.code.Settings.{running_seen}
-use Rattle.thread_progress.proofs.Rows.{object_step}
+use Rattle.source_meaning.proofs.Rows.{object_step}
 use Rattle.thread_progress.proofs.shapes.Shapes.push_objects.Goals as goal
 
 pub loop-object-preserved : goal.loop-object-preserved

@@ -1,6 +1,6 @@
 use Rattle.std.proofs.Common.{◌∙◌}
 use Rattle.upc_types.specs.ViewStructs.{view_structs}
-use Rattle.thread_progress.proofs.Rows.{type_step}
+use Rattle.source_meaning.proofs.Rows.{type_step}
 use Rattle.thread_progress.proofs.shapes.Shapes.push_types.Goals as goal
 
 pub loop-t-preserved : goal.loop-t-preserved
