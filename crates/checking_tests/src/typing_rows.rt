@@ -1,10 +1,9 @@
 //! For each typing rule a source that breaks it, with its place, and one beside it that breaks none: the programs that
 //! docs/LANGUAGE.md shows. Behind them sources for each limit on declared objects.
 
-use crate::sources::program_of;
+use crate::sources::{accepted, program_of};
 use std::alloc::Global;
 use std::test::Fail;
-use upc_checker::Program;
 use upc_text::{Code, Stop};
 
 // What a source comes to on two threads.
@@ -276,8 +275,8 @@ const ROWS: [Row; 68] = [
 ];
 
 // Whether a source comes to this.
-fn is_answered(checked: &Result<Program, Stop>, answer: &Answer) -> bool {
-    match (checked, answer) {
+fn is_answered<T>(answered: &Result<T, Stop>, answer: &Answer) -> bool {
+    match (answered, answer) {
         (Ok(_), WellTyped) => true,
         (Err(Stop::Refused(refusal)), Refused(code, line, column)) => {
             refusal.code == *code && refusal.place.line == *line && refusal.place.column == *column
@@ -286,13 +285,14 @@ fn is_answered(checked: &Result<Program, Stop>, answer: &Answer) -> bool {
     }
 }
 
-// Whether a source for two threads comes to this.
+// Whether a source for two threads comes to this, with its program and without it.
 fn comes_to(alloc: Global, source: &[u8], answer: &Answer) -> bool {
     if source.len() > 1_048_576 {
         return false;
     }
     let checked = program_of(alloc, 2, source);
-    is_answered(&checked, answer)
+    let passed = accepted(alloc, 2, source);
+    is_answered(&checked, answer) && is_answered(&passed, answer)
 }
 
 #[test]

@@ -41,3 +41,14 @@ abbrev pub Answers : {P : Type 0} → (P → Checked) → Outcome → Result P S
 Answers view o (Ok program) = o ≡ Accepted (view program)
 Answers view o (Err stop.Memory) = Unit {0}
 Answers view o (Err (stop.Refused refusal)) = o ≡ Refused refusal
+
+-- The source is accepted.
+pub record Accepts (o : Outcome) : Type 0 where
+  pub checked : Checked
+  pub is : o ≡ Accepted checked
+
+-- An answer whether a source is accepted that has this outcome: want of memory is always an answer.
+abbrev pub Decides : Outcome → Result (Unit {0}) Stop → Type 0
+Decides o (Ok u) = Accepts o
+Decides o (Err stop.Memory) = Unit {0}
+Decides o (Err (stop.Refused refusal)) = o ≡ Refused refusal

@@ -6,7 +6,7 @@ ghost use Rattle.upc_tree.specs.Unit.{tokens_of};
 ghost use Rattle.upc_tree.specs.ViewStatement.{view_unit};
 ghost use Rattle.typed_tree.specs.ViewProgram.{view_program};
 ghost use Rattle.upc_checker.specs.Accepted.{IsAccepted};
-ghost use Rattle.upc_checker.specs.Outcomes.{Answers, outcome};
+ghost use Rattle.upc_checker.specs.Outcomes.{Answers, Decides, outcome};
 ghost use Rattle.upc_checker.specs.ViewUnits.{view_checked};
 
 use crate::whole::{Checked, check_source};
@@ -47,4 +47,14 @@ pub fn check(alloc: Global, unit: &Unit, names: &Names, threads: u32) -> Result<
 {
     let source = check_source(alloc, unit, names, threads)?;
     Ok(program_of(alloc, source)?)
+}
+
+/// Whether a source is accepted for so many threads: the answer of `check`, without a program. What its objects begin
+/// with is not made.
+pub fn accepts(alloc: Global, unit: &Unit, names: &Names, threads: u32) -> Result<(), Stop>
+    requires least { 1 ≤ threads }
+    ensures { Decides (outcome names.now threads (view_unit unit.now)) result }
+{
+    check_source(alloc, unit, names, threads)?;
+    Ok(())
 }

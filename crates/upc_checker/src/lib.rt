@@ -6,6 +6,6 @@ pub mod laws;
 mod limits;
 mod whole;
 
-pub use accept::check;
+pub use accept::{accepts, check};
 pub use typed_tree::{Program, SharedDecl};
 pub use upc_values::Value;

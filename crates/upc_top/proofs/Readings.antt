@@ -1,10 +1,9 @@
 -- A source has one reading.
-use Rattle.std.proofs.Common.{◌≡◌, ℕ, ◌+◌, ◌≤◌, ◌<◌, nat_le, Bool, true, false, List, [], ◌∷◌, length, map, Option, Some, None, refl, sym, ◌∙◌, ap, subst, arith}
-use Rattle.std.proofs.lemmas.Bool.{leb-false}
+use Rattle.std.proofs.Common.{◌≡◌, ℕ, List, [], ◌∷◌, length, map, Option, Some, None, refl, sym, ◌∙◌, ap, subst}
 use Rattle.upc_text.specs.declared.place.Refusal.{Refusal}
 use Rattle.upc_lexer.specs.declared.token.Token.{Token}
 use Rattle.upc_lexer.proofs.OneList.{tokens_once, tokens_or_refusal}
-use Rattle.upc_macros.specs.Expansion.{given, expansion, first_refusal, token_refusal, refused_word, word_refusal, IsExpansion}
+use Rattle.upc_macros.specs.Expansion.{given, expansion, first_refusal}
 use Rattle.upc_tree.specs.Unit.{External, IsTree}
 use Rattle.upc_parser.proofs.Laws as laws
 use Rattle.typing_rules.specs.Faults.{Fault}
@@ -12,9 +11,8 @@ use Rattle.upc_checker.specs.Limits.{Passed}
 use Rattle.upc_checker.specs.Outcomes as o
 use Rattle.upc_checker.specs.Outcomes.{outcome}
 use Rattle.typed_tree.specs.Programs.{Checked}
-use Rattle.upc_top.specs.Sources.{IsExpanded, IsRead, IsTyped, IsAccepted, IsRunnable, IsOutside, no_syntax, too_high, IsRefused, no_tokens, no_expansion, no_tree, no_typing}
+use Rattle.upc_top.specs.Sources.{IsExpanded, IsRead, IsAccepted, IsRunnable, IsOutside, no_syntax, too_high, IsRefused, no_tokens, no_expansion, no_tree, no_typing}
 use Rattle.program_runs.specs.Served.{RunsToday}
-use Rattle.std.specs.Option.{option_or}
 
 -- given tokens are equal where they are given alike
 given_same : (ts us : List Token) → map given ts ≡ map given us → ts ≡ us

@@ -1,5 +1,5 @@
 -- What a run comes to whose record was asked for.
-use Rattle.std.specs.Prelude.{◌≡◌, false, Option, Some, None}
+use Rattle.std.specs.Prelude.{◌≡◌, false, Some}
 use Rattle.command_words.specs.declared.call.Mode.{Mode}
 use Rattle.command_words.specs.declared.call.Mode.TheVariants.{Record}
 use Rattle.upc_values.specs.declared.journal.Journal.{Journal}

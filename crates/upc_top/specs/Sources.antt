@@ -43,6 +43,11 @@ pub record IsAccepted (threads : ℕ) (bytes : List ℕ) (checked : Checked) : T
   pub tree : List External
   pub typed : IsTyped threads bytes names tree checked
 
+-- The source is accepted, as some program.
+pub record Passes (threads : ℕ) (bytes : List ℕ) : Type 0 where
+  pub checked : Checked
+  pub accepted : IsAccepted threads bytes checked
+
 -- The source is accepted as a program that runs today.
 pub record IsRunnable (threads : ℕ) (bytes : List ℕ) (checked : Checked) : Type 0 where
   pub accepted : IsAccepted threads bytes checked

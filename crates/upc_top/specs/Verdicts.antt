@@ -9,7 +9,7 @@ use Rattle.upc_values.specs.declared.order.Orders.{Orders}
 use Rattle.typed_tree.specs.Programs.{Checked}
 use Rattle.typed_tree.specs.ViewProgram.{view_program}
 use Rattle.command_words.specs.declared.call.Mode.{Mode}
-use Rattle.command_words.specs.declared.call.Mode.TheVariants.{Run, Record, Check, Layout, Sample}
+use Rattle.command_words.specs.declared.call.Mode.TheVariants.{Record, Check, Layout, Sample}
 use Rattle.command_words.specs.Values.{Asked, Asks, IsInRange}
 use Rattle.serial_core.specs.declared.limits.Limits.{Limits}
 use Rattle.program_runs.specs.Runs.{IsRunOf}

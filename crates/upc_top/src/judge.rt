@@ -1,16 +1,16 @@
 //! From the words to what the top call comes to.
 
-ghost use Rattle.std.specs.Prelude.{◌≡◌, ◌≤◌, true, length, map, string_bytes};
+ghost use Rattle.std.specs.Prelude.{◌≡◌, ◌≤◌, ℕ, List, true, length, map, string_bytes};
 ghost use Rattle.typed_tree.specs.ViewProgram.{view_program};
 ghost use Rattle.upc_values.specs.Consistent.{FollowsBuffers};
 ghost use Rattle.command_words.specs.Values.{IsInRange, view_call};
-ghost use Rattle.command_words.specs.Values.{IsAllowed};
+ghost use Rattle.command_words.specs.Values.{Asked, IsAllowed};
 ghost use Rattle.upc_top.specs.Words.{runs};
-ghost use Rattle.upc_top.specs.Sources.{IsAccepted};
+ghost use Rattle.upc_top.specs.Sources.{IsAccepted, StopsReading};
 ghost use Rattle.upc_top.specs.Verdicts.{reading, Caused, ComesFrom};
 ghost use Rattle.upc_top.specs.Records.{IsShown};
 
-use crate::front::read_source;
+use crate::front::{pass_source, read_source};
 use crate::record::recorded;
 use crate::source::source_of;
 use crate::verdict::Verdict;
@@ -61,22 +61,36 @@ fn run_accepted<R: Wait>(
     }
 }
 
-// What a source comes to.
+// What a source comes to that is refused, or for which memory was wanting.
+fn stopped(stop: Stop) -> Verdict
+    ensures { (a : Asked) (bytes : List ℕ) → StopsReading a.threads bytes stop → ComesFrom a bytes result }
+{
+    match stop {
+        Stop::Refused(refusal) => Verdict::Refused(refusal),
+        Stop::Memory => Verdict::NoMemory(None),
+    }
+}
+
+// What a source comes to. Where no more is asked than whether it is accepted, no program is made.
 fn come_to<R: Wait>(rt: &R, alloc: Global, call: &Call<'_>, bytes: &[u8]) -> Verdict
     requires range { IsInRange (view_call call.now) }
     requires allowed { IsAllowed (view_call call.now) }
     requires short { length bytes.now ≤ 1048576 }
     ensures { ComesFrom (view_call call.now) bytes.now result }
 {
-    let program = match read_source(alloc, call.threads, bytes) {
-        Ok(program) => program,
-        Err(Stop::Refused(refusal)) => return Verdict::Refused(refusal),
-        Err(Stop::Memory) => return Verdict::NoMemory(None),
-    };
     match call.mode {
-        Mode::Check => Verdict::Passed,
-        Mode::Layout => Verdict::Laid(program),
-        _ => run_accepted(rt, alloc, call, bytes, &program),
+        Mode::Check => match pass_source(alloc, call.threads, bytes) {
+            Ok(()) => Verdict::Passed,
+            Err(stop) => stopped(stop),
+        },
+        Mode::Layout => match read_source(alloc, call.threads, bytes) {
+            Ok(program) => Verdict::Laid(program),
+            Err(stop) => stopped(stop),
+        },
+        _ => match read_source(alloc, call.threads, bytes) {
+            Ok(program) => run_accepted(rt, alloc, call, bytes, &program),
+            Err(stop) => stopped(stop),
+        },
     }
 }
 

@@ -1,4 +1,4 @@
-use Rattle.std.proofs.Common.{rules, map, string_bytes, Global}
+use Rattle.std.proofs.Common.{map, string_bytes, Global}
 use Rattle.upc_top.specs.Verdicts.{reading}
 use Rattle.upc_top.specs.Delivery.{writing, Answered}
 use Rattle.upc_top.proofs.Endings.{answered, writable, complete, other-words, long-files}
