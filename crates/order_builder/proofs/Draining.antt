@@ -12,14 +12,15 @@ use Rattle.upc_values.specs.Lists.{Each}
 use Rattle.upc_values.specs.Scalars.{same_loc}
 use Rattle.upc_values.specs.Drain.{entry_of, or_else, written}
 use Rattle.upc_values.specs.Operations.{accesses, accesses_of}
-use Rattle.upc_values.specs.Orders.{Commit, Placing, begun, commit_of, all_out, first_out, roomy, put_in, put_out, pending_value, changed, with_read, read_in, moved, moved_from, placing}
+use Rattle.upc_values.specs.Orders.{Commit, Placing, begun, commit_of, all_out, first_out, roomy, put_in, put_out, pending_value, changed, with_read, combined, write_in, read_in, moved, moved_from, placing}
 use Rattle.upc_values.proofs.Drained.{moved_from-push}
+use Rattle.upc_values.proofs.Sameness.{same_loc-true}
 use Rattle.upc_values.proofs.Growth.{IsPending, pending-moved}
 use Rattle.order_builder.specs.declared.names.Named.{Named}
 use Rattle.order_builder.specs.declared.buffer.Pending.{Pending}
 use Rattle.order_builder.specs.code.Views.{named, names_in, loc_of, pending_in, Named_walk, by_names}
 use Rattle.order_builder.specs.code.Steps as names
-use Rattle.order_builder.specs.code.Steps.{after_first, last_place, joined, flushed, with_room, stored, passed, looked_up, acted, counted}
+use Rattle.order_builder.specs.code.Steps.{after_first, last_place, joined, flushed, with_room, stored, put, passed, looked_up, acted, counted}
 
 -- whether a pending commit writes the location
 some-cond : (b : Bool) (v : Scalar) → is_some (cond b (Some v) None) ≡ b
@@ -43,8 +44,8 @@ some-else None p = refl
 next-of : (m k : ℕ) → Some (m + 1) ≡ Some k → suc m ≡ k
 next-of m k h = let e : m + 1 ≡ k = cc in omega arith
 
-first-of : (b : Bool) (k : ℕ) → after_first None b ≡ Some k → 0 ≡ k
-first-of true k h = cc
+first-of : (b : Bool) (k : ℕ) → after_first None b ≡ Some k → (0 ≡ k) × (b ≡ true)
+first-of true k h = (cc, refl)
 first-of false k h = cc
 
 -- the last pending write of the location
@@ -56,28 +57,42 @@ found-is l (c ∷ cs) p =
     ∙ ap (λ b. is_some (pending_value l cs) || b) (sym (loc-written l c p.0))
     ∙ sym (some-else (pending_value l cs) (written l c.entry.action))
 
-joined-is : (l : Loc) (e : Entry) (cs : List Commit) (k : ℕ) → Each IsPending cs → last_place l (map pending_in cs) ≡ Some k → map pending_in (changed l (with_read e) cs) ≡ joined k (map named (accesses e)) (map pending_in cs)
-joined-is l e [] k p h = cc
-joined-is l e (c ∷ cs) k p h =
-    let ns = map named (accesses e) in
+-- a change that adds names to those of a pending write of the location
+abbrev Adds : Loc → List Named → (Commit → Commit) → Type 0
+Adds l ns f =
+    (c : Commit) → same_loc (loc_of c.entry.action) l ≡ true
+    → pending_in (f c) ≡ record { loc = loc_of c.entry.action; names = names_in c ++ ns }
+
+adds-read : (l : Loc) (e : Entry) → Adds l (map named (accesses e)) (with_read e)
+adds-read l e c h =
+    ap (λ z. let g : Pending = record { loc = loc_of c.entry.action; names = z } in g) (map-append named c.operations (accesses e))
+
+adds-write : (l : Loc) (e : Entry) → loc_of e.action ≡ l → Adds l (map named (accesses e)) (combined e)
+adds-write l e q c h =
+    ap (λ z. let g : Pending = record { loc = z; names = map named (c.operations ++ accesses e) } in g)
+    (q ∙ sym (same_loc-true (loc_of c.entry.action) l h))
+    ∙ ap (λ z. let g : Pending = record { loc = loc_of c.entry.action; names = z } in g) (map-append named c.operations (accesses e))
+
+joined-is : (l : Loc) (ns : List Named) (f : Commit → Commit) → Adds l ns f → (cs : List Commit) (k : ℕ) → Each IsPending cs → last_place l (map pending_in cs) ≡ Some k → map pending_in (changed l f cs) ≡ joined k ns (map pending_in cs)
+joined-is l ns f g [] k p h = cc
+joined-is l ns f g (c ∷ cs) k p h =
     let P : Option ℕ → Type 0 =
     λ o. last_place l (map pending_in cs) ≡ o → after_first o (same_loc (loc_of c.entry.action) l) ≡ Some k →
-    map pending_in (changed l (with_read e) (c ∷ cs)) ≡ joined k ns (pending_in c ∷ map pending_in cs) in
+    map pending_in (changed l f (c ∷ cs)) ≡ joined k ns (pending_in c ∷ map pending_in cs) in
     let go : (o : Option ℕ) → P o =
     λ o. elim o as P [
       | Some m ↦ λ q r.
           let t : is_some (pending_value l cs) ≡ true = sym (found-is l cs p.1) ∙ ap is_some q in
           let n : suc m ≡ k = next-of m k r in
-          ap (map pending_in) (cond-true (is_some (pending_value l cs)) (c ∷ changed l (with_read e) cs) (with_read e c ∷ cs) t)
-          ∙ ap (λ z. pending_in c ∷ z) (joined-is l e cs m p.1 q)
+          ap (map pending_in) (cond-true (is_some (pending_value l cs)) (c ∷ changed l f cs) (f c ∷ cs) t)
+          ∙ ap (λ z. pending_in c ∷ z) (joined-is l ns f g cs m p.1 q)
           ∙ ap (λ z. joined z ns (pending_in c ∷ map pending_in cs)) n
       | None ↦ λ q r.
           let t : is_some (pending_value l cs) ≡ false = sym (found-is l cs p.1) ∙ ap is_some q in
-          let n : 0 ≡ k = first-of (same_loc (loc_of c.entry.action) l) k r in
-          ap (map pending_in) (cond-false (is_some (pending_value l cs)) (c ∷ changed l (with_read e) cs) (with_read e c ∷ cs) t)
-          ∙ ap (λ z. let g : Pending = record { loc = loc_of c.entry.action; names = z } in g ∷ map pending_in cs)
-          (map-append named c.operations (accesses e))
-          ∙ ap (λ z. joined z ns (pending_in c ∷ map pending_in cs)) n
+          let n = first-of (same_loc (loc_of c.entry.action) l) k r in
+          ap (map pending_in) (cond-false (is_some (pending_value l cs)) (c ∷ changed l f cs) (f c ∷ cs) t)
+          ∙ ap (λ z. z ∷ map pending_in cs) (g c n.1)
+          ∙ ap (λ z. joined z ns (pending_in c ∷ map pending_in cs)) n.0
     ] in
     go (last_place l (map pending_in cs)) refl h
 
@@ -117,10 +132,22 @@ roomy-is w =
 read_in-is : (l : Loc) (e : Entry) (w : Placing) → Each IsPending w.pending → (o : Option Scalar) (p : Option ℕ) → pending_value l w.pending ≡ o → last_place l (map pending_in w.pending) ≡ p → by_names (read_in l e o w) ≡ counted (looked_up (names_in (commit_of e)) p (by_names w))
 read_in-is l e w h None None q r = put_out-is e w
 read_in-is l e w h (Some v) (Some k) q r =
-    ap (λ z. walk (w.next + 1) (map names_in w.emitted) z) (joined-is l e w.pending k h r)
+    ap (λ z. walk (w.next + 1) (map names_in w.emitted) z) (joined-is l (map named (accesses e)) (with_read e) (adds-read l e) w.pending k h r)
 read_in-is l e w h None (Some k) q r =
     absurd (true≢false (sym (ap is_some r) ∙ found-is l w.pending h ∙ ap is_some q))
 read_in-is l e w h (Some v) None q r =
+    absurd (true≢false (sym (ap is_some q) ∙ sym (found-is l w.pending h) ∙ ap is_some r))
+
+write_in-is : (l : Loc) (e : Entry) (w : Placing) → loc_of e.action ≡ l → Each IsPending w.pending → (o : Option Scalar) (p : Option ℕ) → pending_value l w.pending ≡ o → last_place l (map pending_in w.pending) ≡ p → by_names (write_in l e o w) ≡ counted (put l (names_in (commit_of e)) p (by_names w))
+write_in-is l e w a h None None q r =
+    put_in-is e (roomy w)
+    ∙ ap (λ s. counted (stored (loc_of e.action) (names_in (commit_of e)) s)) (roomy-is w)
+    ∙ ap (λ z. counted (stored z (names_in (commit_of e)) (with_room (by_names w)))) a
+write_in-is l e w a h (Some v) (Some k) q r =
+    ap (λ z. walk (w.next + 1) (map names_in w.emitted) z) (joined-is l (map named (accesses e)) (combined e) (adds-write l e a) w.pending k h r)
+write_in-is l e w a h None (Some k) q r =
+    absurd (true≢false (sym (ap is_some r) ∙ found-is l w.pending h ∙ ap is_some q))
+write_in-is l e w a h (Some v) None q r =
     absurd (true≢false (sym (ap is_some q) ∙ sym (found-is l w.pending h) ∙ ap is_some r))
 
 strict-is : (e : Entry) (w : Placing) → by_names (put_out e (all_out w)) ≡ counted (passed (names_in (commit_of e)) (flushed (by_names w)))
@@ -130,8 +157,7 @@ strict-is e w = put_out-is e (all_out w) ∙ ap (λ s. counted (passed (names_in
 moved-is : (t : ℕ) (w : Placing) (x : Item) → Each IsPending w.pending → by_names (moved t w x) ≡ names.moved t (by_names w) x
 moved-is t w Stall h = all_out-is w
 moved-is t w (Did (Write l v false) r) h =
-    put_in-is (entry_of t w.next (Write l v false) r) (roomy w)
-    ∙ ap (λ s. counted (stored l (map named (accesses_of t w.next (Write l v false) r)) s)) (roomy-is w)
+    write_in-is l (entry_of t w.next (Write l v false) r) w refl h (pending_value l w.pending) (last_place l (map pending_in w.pending)) refl refl
 moved-is t w (Did (Read l false) r) h =
     read_in-is l (entry_of t w.next (Read l false) r) w h (pending_value l w.pending) (last_place l (map pending_in w.pending)) refl refl
 moved-is t w (Did (Print x) r) h = put_out-is (entry_of t w.next (Print x) r) w

@@ -3,7 +3,7 @@
 ghost use Rattle.std.specs.Prelude.{◌≡◌, ◌<◌, length, OnOk, IfSome};
 ghost use Rattle.order_builder.specs.code.Views.{seen};
 ghost use Rattle.order_builder.specs.code.Steps.{begun, first_out};
-ghost use Rattle.order_builder.specs.code.Steps.{last_place, joined, flushed, with_room, stored, passed, looked_up};
+ghost use Rattle.order_builder.specs.code.Steps.{last_place, joined, flushed, with_room, stored, put, passed, looked_up};
 ghost use Rattle.order_builder.specs.code.Steps.{counted, acted, moved};
 
 use crate::accesses::names_of;
@@ -16,7 +16,8 @@ use upc_values::{Action, Item, Loc};
 // How many writes may be pending.
 const PLACES: usize = 64;
 
-/// A pending write: its location, and its operation with those of the reads that it has answered.
+/// A pending write: its location, and its operation with those of the writes combined into it and of the reads that
+/// one of them has answered, in program order.
 #[derive(Drop)]
 pub struct Pending {
     pub loc: Loc,
@@ -103,6 +104,20 @@ impl Buffer {
         Ok(())
     }
 
+    // A write stands with the pending write of its location; else it becomes pending, as the last.
+    fn write_in(&mut self, loc: Loc, names: Names) -> Result<(), OutOfMemory>
+        ensures { OnOk result (seen self.new
+            ≡ put loc names (last_place loc self.old.pending.items) (seen self.old)) }
+    {
+        match find(&self.pending, loc) {
+            Some(at) => join(&mut self.pending, at, names.as_slice()),
+            None => {
+                self.make_room()?;
+                self.put_in(loc, names)
+            }
+        }
+    }
+
     // An action is committed by itself.
     fn put_out(&mut self, names: Names) -> Result<(), OutOfMemory>
         ensures { OnOk result (seen self.new ≡ passed names (seen self.old)) }
@@ -131,10 +146,7 @@ impl Buffer {
                 loc,
                 strict: false,
                 ..
-            } => {
-                self.make_room()?;
-                self.put_in(*loc, names)
-            }
+            } => self.write_in(*loc, names),
             Action::Read { loc, strict: false } => self.read_in(*loc, names),
             Action::Print(_) => self.put_out(names),
             _ => {

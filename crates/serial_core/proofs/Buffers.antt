@@ -1,8 +1,8 @@
 -- What commits and stores make of a buffer that holds a walk.
-use Rattle.std.proofs.Common.{◌≡◌, ℕ, ◌+◌, ◌<◌, ◌≤◌, Bool, true, false, cond, List, [], ◌∷◌, ◌++◌, length, map, Option, Some, None, refl, sym, ap, subst, ◌∙◌, append-nil, append_assoc, arith}
+use Rattle.std.proofs.Common.{◌≡◌, ℕ, ◌+◌, ◌<◌, ◌≤◌, Bool, true, false, cond, List, [], ◌∷◌, ◌++◌, length, map, Option, Some, None, is_some, refl, sym, ap, subst, ◌∙◌, append-nil, append_assoc, arith}
 use Rattle.std.specs.Prelude.{option_map, IfSome}
 use Rattle.std.specs.Option.{option_or}
-use Rattle.std.proofs.lemmas.Bool.{and_from, false≢true}
+use Rattle.std.proofs.lemmas.Bool.{and_from, cond_both, false≢true}
 use Rattle.std.proofs.lemmas.List.{length-append, length-map, map-append}
 use Rattle.block_layout.specs.declared.place.Loc.{Loc}
 use Rattle.upc_values.specs.declared.scalar.Scalar.{Scalar}
@@ -12,7 +12,7 @@ use Rattle.upc_values.specs.declared.action.Reply.{Reply}
 use Rattle.upc_values.specs.declared.action.Reply.TheVariants.{Done, Value}
 use Rattle.upc_values.specs.declared.journal.Entry.{Entry}
 use Rattle.upc_values.specs.Scalars.{same_loc}
-use Rattle.upc_values.specs.Drain.{Walk, emptied, oldest_out, stored, passed, looked_up, gone, last_written, entry_of, entries_of}
+use Rattle.upc_values.specs.Drain.{Walk, emptied, oldest_out, stored, replaced, put, passed, looked_up, gone, last_written, is_done, entry_of, entries_of}
 use Rattle.upc_values.specs.Openings.{Opening, IsOpening}
 use Rattle.upc_values.specs.History.{reply, IsLegal}
 use Rattle.upc_values.specs.Formed.{IsWellFormed, AreWellFormed, fits_after}
@@ -26,6 +26,7 @@ use Rattle.upc_values.proofs.Scalars.{same_scalar-refl}
 use Rattle.upc_values.proofs.Sameness.{same_loc-true}
 use Rattle.memory_history.specs.World.{performed}
 use Rattle.write_buffer.specs.declared.pending.Pending.{Pending}
+use Rattle.write_buffer.specs.Buffer as buffers
 use Rattle.write_buffer.specs.Buffer.{youngest, committed}
 use Rattle.serial_core.specs.declared.emit.Way.TheVariants.{Stores, Looks, Passes, Empties}
 use Rattle.serial_core.specs.Kept.{way_of, AreFormed, Holds, AllOf, Grew, Emitted, IsAnswer}
@@ -100,6 +101,10 @@ pub ruleset grows = (grew-same, grew-performed)
 
 pub ruleset grown = (grew-same, grew-then, grew-performed)
 
+some-value : (f : Option Pending) → is_some (option_map (λ q. q.value) f) ≡ is_some f
+some-value (Some q) = refl
+some-value None = refl
+
 -- all pending are committed
 
 committed-own : (t : ℕ) (ps : List Pending) → AllOf t (map (committed t) ps)
@@ -135,32 +140,92 @@ holds-grow o t n seen more ps w h k = record {
   formed = pending-grow o seen more ps k.formed;
 }
 
+-- what no pending write of the buffer has, none of the walk has
+none-pending : (o : Opening) (t n : ℕ) (l : Loc) (seen : List Entry) (ps : List Pending) (w : Walk) → youngest l ps ≡ None
+    → Holds o t seen ps n w → last_written l w.pending ≡ None
+none-pending o t n l seen ps w h k =
+    ap (last_written l) (sym k.inside) ∙ youngest-written t l ps ∙ ap (option_map (λ q. q.value)) h
+
+-- a write that stands in the place of another
+replaced-written : (t : ℕ) (q : Pending) (ps : List Pending)
+    → map (committed t) (buffers.replaced q ps) ≡ replaced q.loc (committed t q) (map (committed t) ps)
+replaced-written t q [] = refl
+replaced-written t q (p ∷ ps) =
+    let P : Option Pending → Type 0 = λ o. youngest q.loc ps ≡ o →
+    map (committed t) (cond (is_some o) (p ∷ buffers.replaced q ps) (q ∷ ps))
+    ≡ cond (is_some (option_map (λ z. z.value) o)) (committed t p ∷ replaced q.loc (committed t q) (map (committed t) ps)) (committed t q ∷ map (committed t) ps) in
+    let go : (o : Option Pending) → P o = λ o. elim o as P [
+      | Some u ↦ λ e. ap (λ z. committed t p ∷ z) (replaced-written t q ps)
+      | None ↦ λ e. refl
+    ] in
+    go (youngest q.loc ps) refl
+    ∙ ap (λ o. cond (is_some o) (committed t p ∷ replaced q.loc (committed t q) (map (committed t) ps)) (committed t q ∷ map (committed t) ps))
+    (sym (youngest-written t q.loc ps))
+
+length-replaced : (q : Pending) (ps : List Pending) → length (buffers.replaced q ps) ≡ length ps
+length-replaced q [] = refl
+length-replaced q (p ∷ ps) =
+    let h = length-replaced q ps in
+    cond_both (is_some (youngest q.loc ps)) (p ∷ buffers.replaced q ps) (q ∷ ps) (λ z. length z ≡ length (p ∷ ps)) (λ e. omega arith) (λ e. omega arith)
+
+formed-replaced : (o : Opening) (seen : List Entry) (q : Pending) (ps : List Pending) → IsWellFormed o seen (Write q.loc q.value false)
+    → AreFormed o seen ps → AreFormed o seen (buffers.replaced q ps)
+formed-replaced o seen q [] asked h = tt
+formed-replaced o seen q (p ∷ ps) asked h =
+    cond_both (is_some (youngest q.loc ps)) (p ∷ buffers.replaced q ps) (q ∷ ps) (AreFormed o seen)
+    (λ e. (h.0, formed-replaced o seen q ps asked h.1)) (λ e. (asked, h.1))
+
+-- a relaxed write that takes the place of another
+pub holds-combined : (o : Opening) (t n : ℕ) (l : Loc) (v : Scalar) (seen : List Entry) (ps qs : List Pending) (w : Walk)
+    → is_some (youngest l ps) ≡ true → qs ≡ buffers.replaced (record { index = n; loc = l; value = v }) ps
+    → IsWellFormed o seen (Write l v false) → Holds o t seen ps n w
+    → Holds o t seen qs (n + 1) (gone (entry_of t n (Write l v false) Done) (Write l v false) w)
+holds-combined o t n l v seen ps qs w some is asked k =
+    let q : Pending = record { index = n; loc = l; value = v } in
+    let e : Entry = entry_of t n (Write l v false) Done in
+    let P : Option Scalar → Type 0 = λ f. last_written l w.pending ≡ f → is_some f ≡ true → Holds o t seen (buffers.replaced q ps) (n + 1) (put l e f w) in
+    let there : is_some (last_written l w.pending) ≡ true =
+    ap (λ z. is_some (last_written l z)) (sym k.inside) ∙ ap is_some (youngest-written t l ps) ∙ some-value (youngest l ps) ∙ some in
+    let go : (f : Option Scalar) → P f = λ f. elim f as P [
+      | Some u ↦ λ x y. record {
+        out = k.out;
+        inside = replaced-written t q ps ∙ ap (replaced l e) k.inside;
+        room = (let m = length-replaced q ps in let r = k.room in omega arith);
+        number = ap (λ m. m + 1) k.number;
+        agrees = and_from w.agrees true k.agrees refl;
+        formed = formed-replaced o seen q ps asked k.formed;
+      }
+      | None ↦ λ x y. absurd (false≢true y)
+    ] in
+    subst (λ z. Holds o t seen z (n + 1) (gone e (Write l v false) w)) (sym is) (go (last_written l w.pending) refl there)
+
 -- a relaxed write where there is room
 pub holds-stored : (o : Opening) (t n : ℕ) (l : Loc) (v : Scalar) (seen : List Entry) (ps qs : List Pending) (w : Walk)
-    → (length ps ≡ 64 → ⊥) → ps ++ record { index = n; loc = l; value = v } ∷ [] ≡ qs → IsWellFormed o seen (Write l v false)
+    → youngest l ps ≡ None → (length ps ≡ 64 → ⊥) → ps ++ record { index = n; loc = l; value = v } ∷ [] ≡ qs → IsWellFormed o seen (Write l v false)
     → Holds o t seen ps n w → Holds o t seen qs (n + 1) (gone (entry_of t n (Write l v false) Done) (Write l v false) w)
-holds-stored o t n l v seen ps qs w full is asked k =
+holds-stored o t n l v seen ps qs w none full is asked k =
     let p : Pending = record { index = n; loc = l; value = v } in
     let e : Entry = entry_of t n (Write l v false) Done in
     let many : length (map (committed t) ps) ≡ length ps = length-map ps (committed t) in
     let many2 : length (map (committed t) ps) ≡ length w.pending = ap length k.inside in
     let room : length ps ≤ 64 = k.room in
     let few : length w.pending < 64 = omega (arith, full) in
-    subst (λ z. Holds o t seen qs (n + 1) (stored e z)) (sym (room-left w few)) (record {
+    subst (λ f. Holds o t seen qs (n + 1) (put l e f w)) (sym (none-pending o t n l seen ps w none k))
+    (subst (λ z. Holds o t seen qs (n + 1) (stored e z)) (sym (room-left w few)) (record {
       out = k.out;
       inside = ap (map (committed t)) (sym is) ∙ map-append (committed t) ps (p ∷ []) ∙ ap (λ z. z ++ e ∷ []) k.inside;
       room = (let l1 = ap length (sym is) in let l2 = length-append ps (p ∷ []) in omega (arith, l1, l2));
       number = ap (λ m. m + 1) k.number;
-      agrees = k.agrees;
+      agrees = and_from w.agrees true k.agrees refl;
       formed = subst (AreFormed o seen) is (each-append (λ q. IsWellFormed o seen (Write q.loc q.value false)) ps (p ∷ []) k.formed (asked, tt));
-    })
+    }))
 
 -- a relaxed write where the oldest leaves
 pub holds-overflown : (o : Opening) (t n : ℕ) (l : Loc) (v : Scalar) (seen : List Entry) (ps qs : List Pending) (f : Pending) (w : Walk)
-    → length ps ≡ 64 → ps ++ record { index = n; loc = l; value = v } ∷ [] ≡ f ∷ qs → IsWellFormed o seen (Write l v false)
+    → youngest l ps ≡ None → length ps ≡ 64 → ps ++ record { index = n; loc = l; value = v } ∷ [] ≡ f ∷ qs → IsWellFormed o seen (Write l v false)
     → Holds o t seen ps n w
     → Holds o t (seen ++ committed t f ∷ []) qs (n + 1) (gone (entry_of t n (Write l v false) Done) (Write l v false) w)
-holds-overflown o t n l v seen ps qs f w full is asked k =
+holds-overflown o t n l v seen ps qs f w none full is asked k =
     let p : Pending = record { index = n; loc = l; value = v } in
     let e : Entry = entry_of t n (Write l v false) Done in
     let many : length (map (committed t) ps) ≡ length ps = length-map ps (committed t) in
@@ -182,11 +247,12 @@ holds-overflown o t n l v seen ps qs f w full is asked k =
             inside = sym parts.1;
             room = few;
             number = ap (λ m. m + 1) k.number;
-            agrees = k.agrees;
+            agrees = and_from w.agrees true k.agrees refl;
             formed = pending-grow o seen (committed t f ∷ []) qs formed.1;
           }
     ] in
-    subst (λ z. Holds o t (seen ++ committed t f ∷ []) qs (n + 1) (stored e z)) (sym (room-made w all)) (go w.pending refl)
+    subst (λ g. Holds o t (seen ++ committed t f ∷ []) qs (n + 1) (put l e g w)) (sym (none-pending o t n l seen ps w none k))
+    (subst (λ z. Holds o t (seen ++ committed t f ∷ []) qs (n + 1) (stored e z)) (sym (room-made w all)) (go w.pending refl))
 
 -- an entry that passes
 pub holds-pass : (o : Opening) (t n : ℕ) (seen : List Entry) (ps : List Pending) (a : Action) (r : Reply) (w : Walk) → Holds o t seen ps n w

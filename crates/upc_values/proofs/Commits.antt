@@ -1,21 +1,25 @@
 -- What a thread's walk emits stands for its entries.
-use Rattle.std.proofs.Common.{◌≡◌, ℕ, nat_lt, ◌&&◌, true, false, cond, List, [], ◌∷◌, ◌++◌, length, is_some, Option, Some, None, refl, sym, ap, ◌∙◌}
-use Rattle.std.proofs.lemmas.Bool.{cond_both, and_parts}
+use Rattle.std.proofs.Common.{◌≡◌, ℕ, nat_lt, ◌&&◌, Bool, true, false, cond, List, [], ◌∷◌, ◌++◌, length, is_some, Option, Some, None, refl, sym, ap, ◌∙◌, subst, true≢false, inl, inr}
+use Rattle.std.proofs.lemmas.Bool.{cond_both, and_parts, cases_Bool, false≢true}
 use Rattle.block_layout.specs.declared.place.Loc.{Loc}
 use Rattle.upc_values.specs.declared.scalar.Scalar.{Scalar}
 use Rattle.upc_values.specs.declared.action.Action.TheVariants.{Read, Write, Print}
+use Rattle.upc_values.specs.declared.action.Action.{Action}
 use Rattle.upc_values.specs.declared.action.Reply.{Reply}
 use Rattle.upc_values.specs.declared.action.Reply.TheVariants.{Done, Value, Flag, Refused}
 use Rattle.upc_values.specs.declared.record.Item.{Item}
 use Rattle.upc_values.specs.declared.record.Item.TheVariants.{Did, Stall}
 use Rattle.upc_values.specs.declared.journal.Entry.{Entry}
 use Rattle.upc_values.specs.Operations.{Place, Cell, Operation, accesses_of, accesses}
-use Rattle.upc_values.specs.Orders.{Commit, commit_of, Placing, begun, all_out, first_out, roomy, put_in, put_out, pending_value, changed, with_read, read_in, moved, moved_from, placing}
-use Rattle.upc_values.specs.Drain.{or_else, written, is_value, entry_of}
+use Rattle.upc_values.specs.Orders.{Commit, commit_of, Placing, begun, all_out, first_out, roomy, put_in, put_out, pending_value, changed, with_read, combined, write_in, read_in, moved, moved_from, placing}
+use Rattle.upc_values.specs.Drain.{or_else, written, is_value, is_done, entry_of}
+use Rattle.upc_values.specs.Lists.{Each}
 use Rattle.upc_values.specs.Scalars.{value_or}
 use Rattle.upc_values.specs.Consistent.{same_place, last_write, initial_at, ReadsLastFrom}
 use Rattle.upc_values.proofs.Sameness.{same_scalar-true}
-use Rattle.upc_values.proofs.Values.{last_write-append, last_write-read, last_write-after_read, reads-append, IsStored, StandsFor, cell-accesses}
+use Rattle.upc_values.proofs.Values.{or_else-none, last_write-append, last_write-read, last_write-after_read, reads-append, IsStored, StandsFor, cell-accesses}
+use Rattle.upc_values.proofs.Membership.{each-append, each-weaker}
+use Rattle.upc_values.proofs.Growth.{IsPending, IsHere, same-cell, each-changed, read-pending, write-pending, relaxed-reads, relaxed-write}
 
 abbrev pub Stands : Commit → Type 0
 Stands c = StandsFor c.entry c.operations
@@ -27,6 +31,10 @@ AllStand (c ∷ cs) = Stands c × AllStand cs
 all-append : (xs ys : List Commit) → AllStand xs → AllStand ys → AllStand (xs ++ ys)
 all-append [] ys h k = k
 all-append (x ∷ xs) ys h k = (h.0, all-append xs ys h.1 k)
+
+all-each : (xs : List Commit) → Each Stands xs → AllStand xs
+all-each [] h = tt
+all-each (x ∷ xs) h = (h.0, all-each xs h.1)
 
 pub stands-own : (e : Entry) → StandsFor e (accesses e)
 stands-own e = record { reads = λ initial before r. r.reads; writes = λ p st. refl }
@@ -74,39 +82,115 @@ forwarded-reads l v t n Done h = tt
 forwarded-reads l v t n (Flag b) h = tt
 forwarded-reads l v t n (Refused c) h = tt
 
--- a read that joins its source, whose value it has
-all-joined : (l : Loc) (v : Scalar) (e : Entry) (cs : List Commit) → AreReads l v (accesses e) → AllStand cs → pending_value l cs ≡ Some v → AllStand (changed l (with_read e) cs)
-all-joined l v e [] r h q = tt
-all-joined l v e (c ∷ cs) r h q =
+-- what stands for a write, all on its cell, may be followed by a further write of the cell, and then stands for that one
+and-none : (b : Bool) (v : Scalar) → cond (b && false) (Some v) None ≡ None
+and-none true v = refl
+and-none false v = refl
+
+none-elsewhere : (l : Loc) (p : Place) (os : List Operation) → same_place (Cell l) p ≡ false → Each (IsHere l) os → last_write p os ≡ None
+none-elsewhere l p [] e h = refl
+none-elsewhere l p (o ∷ os) e h =
+    let q : same_place o.place p ≡ false = ap (λ z. same_place z p) h.0.1 ∙ e in
+    ap (λ z. or_else z (cond (o.write && same_place o.place p) (Some o.value) None)) (none-elsewhere l p os e h.1)
+    ∙ ap (λ z. cond (o.write && z) (Some o.value) None) q ∙ and-none o.write o.value
+
+write-right : (initial : Loc → Scalar) (before : List Operation) (t n : ℕ) (l : Loc) (v : Scalar) (a : Action) (r : Reply) → a ≡ Write l v false → r ≡ Done → ReadsLastFrom initial before (accesses_of t n a r) × IsStored a r
+write-right initial before t n l v a r ea er =
+    let P : Action → Reply → Type 0 = λ a r. ReadsLastFrom initial before (accesses_of t n a r) × IsStored a r in
+    subst (λ z. P z r) (sym ea) (subst (λ z. P (Write l v false) z) (sym er) ((λ w. absurd (true≢false w), tt), refl))
+
+-- a pending commit of a walk that agrees: a relaxed write with reply Done, and what stands for it
+pub record IsSettled (c : Commit) : Type 0 where
+  pub stands : Stands c
+  pub done : c.entry.reply ≡ Done
+  pub pending : IsPending c
+
+stands-combined : (t n : ℕ) (l : Loc) (v : Scalar) (c : Commit) (u : Scalar) → written l c.entry.action ≡ Some u → IsSettled c → StandsFor (entry_of t n (Write l v false) Done) (c.operations ++ accesses (entry_of t n (Write l v false) Done))
+stands-combined t n l v c u w s =
+    let new = accesses (entry_of t n (Write l v false) Done) in
+    let here : Each (IsHere l) c.operations =
+    subst (λ z. Each (IsHere z) c.operations) (same-cell l u c s.pending w) s.pending.here in
+    record {
+      reads = λ initial before right.
+          let own = write-right initial before c.entry.thread c.entry.index s.pending.loc s.pending.value c.entry.action c.entry.reply s.pending.is s.done in
+          reads-append initial before c.operations new
+          (s.stands.reads initial before (record { reads = own.0; stored = own.1 }))
+          (λ k. absurd (true≢false k), tt);
+      writes = λ p st.
+          last_write-append p c.operations new
+          ∙ elim (cases_Bool (same_place (Cell l) p)) [
+            | inl t ↦
+                ap (λ b. or_else (cond b (Some v) None) (last_write p c.operations)) t ∙ sym (ap (λ b. cond b (Some v) None) t)
+            | inr f ↦
+                ap (λ z. or_else (cond (same_place (Cell l) p) (Some v) None) z) (none-elsewhere l p c.operations f here)
+                ∙ or_else-none (cond (same_place (Cell l) p) (Some v) None)
+          ];
+    }
+
+-- a read joins its source, whose value it has
+settled-read : (l : Loc) (v : Scalar) (t n : ℕ) (r : Reply) → is_value v r ≡ true → (c : Commit) → written l c.entry.action ≡ Some v → IsSettled c → IsSettled (with_read (entry_of t n (Read l false) r) c)
+settled-read l v t n r h c w s =
+    record {
+      stands = stands-with_reads l v c.entry c.operations (accesses_of t n (Read l false) r) s.stands w (forwarded-reads l v t n r h);
+      done = s.done;
+      pending = read-pending l (entry_of t n (Read l false) r) (relaxed-reads t n l r) c v w s.pending;
+    }
+
+settled-write : (l : Loc) (v : Scalar) (t n : ℕ) (r : Reply) → is_done r ≡ true → (c : Commit) (u : Scalar) → written l c.entry.action ≡ Some u → IsSettled c → IsSettled (combined (entry_of t n (Write l v false) r) c)
+settled-write l v t n Done h c u w s =
+    record {
+      stands = stands-combined t n l v c u w s;
+      done = refl;
+      pending = write-pending l v (entry_of t n (Write l v false) Done) refl (relaxed-write t n l v Done) c u w s.pending;
+    }
+settled-write l v t n (Value k) h c u w s = absurd (false≢true h)
+settled-write l v t n (Flag k) h c u w s = absurd (false≢true h)
+settled-write l v t n (Refused k) h c u w s = absurd (false≢true h)
+
+settled-own : (l : Loc) (v : Scalar) (t n : ℕ) (r : Reply) → is_done r ≡ true → IsSettled (commit_of (entry_of t n (Write l v false) r))
+settled-own l v t n Done h =
+    record {
+      stands = stands-own (entry_of t n (Write l v false) Done);
+      done = refl;
+      pending = record { loc = l; value = v; is = refl; here = relaxed-write t n l v Done };
+    }
+settled-own l v t n (Value k) h = absurd (false≢true h)
+settled-own l v t n (Flag k) h = absurd (false≢true h)
+settled-own l v t n (Refused k) h = absurd (false≢true h)
+
+joined-settled : (l : Loc) (v : Scalar) (t n : ℕ) (r : Reply) → is_value v r ≡ true → (cs : List Commit) → Each IsSettled cs → pending_value l cs ≡ Some v → Each IsSettled (changed l (with_read (entry_of t n (Read l false) r)) cs)
+joined-settled l v t n r b [] h e = tt
+joined-settled l v t n r b (c ∷ cs) h e =
+    let f = with_read (entry_of t n (Read l false) r) in
     let P : Option Scalar → Type 0 =
     λ o. pending_value l cs ≡ o → or_else o (written l c.entry.action) ≡ Some v →
-    AllStand (cond (is_some o) (c ∷ changed l (with_read e) cs) (with_read e c ∷ cs)) in
+    Each IsSettled (cond (is_some o) (c ∷ changed l f cs) (f c ∷ cs)) in
     let go : (o : Option Scalar) → P o =
     λ o. elim o as P [
-      | Some u ↦ λ p k. (h.0, all-joined l v e cs r h.1 (p ∙ k))
-      | None ↦ λ p k. (stands-with_reads l v c.entry c.operations (accesses e) h.0 k r, h.1)
+      | Some u ↦ λ q k. (h.0, joined-settled l v t n r b cs h.1 (q ∙ k))
+      | None ↦ λ q k. (settled-read l v t n r b c k h.0, h.1)
     ] in
-    go (pending_value l cs) refl q
+    go (pending_value l cs) refl e
 
 pub record Sound (w : Placing) : Type 0 where
   pub emitted : AllStand w.emitted
-  pub pending : AllStand w.pending
+  pub pending : Each IsSettled w.pending
+
+settled-stand : (cs : List Commit) → Each IsSettled cs → AllStand cs
+settled-stand cs h = all-each cs (each-weaker IsSettled Stands (λ c s. s.stands) cs h)
 
 sound-put_out : (e : Entry) (w : Placing) → Sound w → Sound (put_out e w)
 sound-put_out e w s =
     record { emitted = all-append w.emitted (commit_of e ∷ []) s.emitted (stands-own e, tt); pending = s.pending }
 
-sound-put_in : (e : Entry) (w : Placing) → Sound w → Sound (put_in e w)
-sound-put_in e w s =
-    record { emitted = s.emitted; pending = all-append w.pending (commit_of e ∷ []) s.pending (stands-own e, tt) }
-
 pub sound-all_out : (w : Placing) → Sound w → Sound (all_out w)
-sound-all_out w s = record { emitted = all-append w.emitted w.pending s.emitted s.pending; pending = tt }
+sound-all_out w s =
+    record { emitted = all-append w.emitted w.pending s.emitted (settled-stand w.pending s.pending); pending = tt }
 
-sound-first_out : (cs : List Commit) (w : Placing) → AllStand cs → Sound w → Sound (first_out cs w)
+sound-first_out : (cs : List Commit) (w : Placing) → Each IsSettled cs → Sound w → Sound (first_out cs w)
 sound-first_out [] w h s = s
 sound-first_out (c ∷ cs) w h s =
-    record { emitted = all-append w.emitted (c ∷ []) s.emitted (h.0, tt); pending = h.1 }
+    record { emitted = all-append w.emitted (c ∷ []) s.emitted (h.0.stands, tt); pending = h.1 }
 
 sound-roomy : (w : Placing) → Sound w → Sound (roomy w)
 sound-roomy w s =
@@ -117,15 +201,30 @@ sound-read_in l t n r None w e a s = sound-put_out (entry_of t n (Read l false) 
 sound-read_in l t n r (Some v) w e a s =
     record {
       emitted = s.emitted;
+      pending = joined-settled l v t n r (and_parts w.agrees (is_value v r) a).1 w.pending s.pending e;
+    }
+
+sound-write_in : (l : Loc) (v : Scalar) (t n : ℕ) (r : Reply) (o : Option Scalar) (w : Placing) → pending_value l w.pending ≡ o → (write_in l (entry_of t n (Write l v false) r) o w).agrees ≡ true → Sound w → Sound (write_in l (entry_of t n (Write l v false) r) o w)
+sound-write_in l v t n r None w e a s =
+    let b = (and_parts (roomy w).agrees (is_done r) a).1 in
+    let k = sound-roomy w s in
+    record {
+      emitted = k.emitted;
       pending =
-          all-joined l v (entry_of t n (Read l false) r) w.pending
-          (forwarded-reads l v t n r (and_parts w.agrees (is_value v r) a).1) s.pending e;
+          each-append IsSettled (roomy w).pending (commit_of (entry_of t n (Write l v false) r) ∷ []) k.pending
+          (settled-own l v t n r b, tt);
+    }
+sound-write_in l v t n r (Some u) w e a s =
+    let b = (and_parts w.agrees (is_done r) a).1 in
+    record {
+      emitted = s.emitted;
+      pending =
+          each-changed l (combined (entry_of t n (Write l v false) r)) IsSettled IsSettled (λ c q. q) (settled-write l v t n r b) w.pending u e s.pending;
     }
 
 pub sound-moved : (t : ℕ) (w : Placing) (x : Item) → (moved t w x).agrees ≡ true → Sound w → Sound (moved t w x)
 sound-moved t w Stall a s = sound-all_out w s
-sound-moved t w (Did (Write l v false) r) a s =
-    sound-put_in (entry_of t w.next (Write l v false) r) (roomy w) (sound-roomy w s)
+sound-moved t w (Did (Write l v false) r) a s = sound-write_in l v t w.next r (pending_value l w.pending) w refl a s
 sound-moved t w (Did (Read l false) r) a s = sound-read_in l t w.next r (pending_value l w.pending) w refl a s
 sound-moved t w (Did (Print x) r) a s = sound-put_out (entry_of t w.next (Print x) r) w s
 sound-moved t w (Did x r) a s = sound-put_out (entry_of t w.next x r) (all_out w) (sound-all_out w s)
@@ -141,9 +240,14 @@ agrees-read_in : (l : Loc) (e : Entry) (o : Option Scalar) (w : Placing) → (re
 agrees-read_in l e None w a = a
 agrees-read_in l e (Some v) w a = (and_parts w.agrees (is_value v e.reply) a).0
 
+agrees-write_in : (l : Loc) (e : Entry) (o : Option Scalar) (w : Placing) → (write_in l e o w).agrees ≡ true → w.agrees ≡ true
+agrees-write_in l e None w a = agrees-roomy w (and_parts (roomy w).agrees (is_done e.reply) a).0
+agrees-write_in l e (Some v) w a = (and_parts w.agrees (is_done e.reply) a).0
+
 agrees-moved : (t : ℕ) (w : Placing) (x : Item) → (moved t w x).agrees ≡ true → w.agrees ≡ true
 agrees-moved t w Stall a = a
-agrees-moved t w (Did (Write l v false) r) a = agrees-roomy w a
+agrees-moved t w (Did (Write l v false) r) a =
+    agrees-write_in l (entry_of t w.next (Write l v false) r) (pending_value l w.pending) w a
 agrees-moved t w (Did (Read l false) r) a =
     agrees-read_in l (entry_of t w.next (Read l false) r) (pending_value l w.pending) w a
 agrees-moved t w (Did (Print x) r) a = a

@@ -8,8 +8,8 @@ use Rattle.upc_values.specs.declared.action.Action.TheVariants.{Read, Write, Pri
 use Rattle.upc_values.specs.declared.record.Item.{Item}
 use Rattle.upc_values.specs.declared.record.Item.TheVariants.{Did, Stall}
 use Rattle.upc_values.specs.declared.journal.Entry.{Entry}
-use Rattle.upc_values.specs.Orders.{Commit, Placing, begun, commit_of, pending_value, changed, with_read, read_in, all_out, first_out, roomy, put_in, put_out, moved, moved_from, placing}
-use Rattle.upc_values.specs.Drain.{Walk, or_else, written, last_written, is_value, entry_of, entries_of, emptied, oldest_out, with_room, stored, passed, looked_up, stepped, walked_from, walked, drain}
+use Rattle.upc_values.specs.Orders.{Commit, Placing, begun, commit_of, pending_value, changed, with_read, combined, write_in, read_in, all_out, first_out, roomy, put_in, put_out, moved, moved_from, placing}
+use Rattle.upc_values.specs.Drain.{Walk, or_else, written, last_written, is_value, is_done, replaced, put, entry_of, entries_of, emptied, oldest_out, with_room, stored, passed, looked_up, stepped, walked_from, walked, drain}
 
 abbrev pub entries_in : List Commit → List Entry
 entries_in cs = map (λ c. c.entry) cs
@@ -36,6 +36,17 @@ changed-plain l e (c ∷ cs) =
     cond_both (is_some (pending_value l cs)) (c ∷ changed l (with_read e) cs) (with_read e c ∷ cs)
     (λ z. entries_in z ≡ entries_in (c ∷ cs)) (λ h. ap (λ z. c.entry ∷ z) (changed-plain l e cs)) (λ h. refl)
 
+replaced-plain : (l : Loc) (e : Entry) (cs : List Commit) → entries_in (changed l (combined e) cs) ≡ replaced l e (entries_in cs)
+replaced-plain l e [] = refl
+replaced-plain l e (c ∷ cs) =
+    let P : Option Scalar → Type 0 =
+    λ o. pending_value l cs ≡ o →
+    entries_in (cond (is_some o) (c ∷ changed l (combined e) cs) (combined e c ∷ cs))
+    ≡ cond (is_some o) (c.entry ∷ replaced l e (entries_in cs)) (e ∷ entries_in cs) in
+    let go : (o : Option Scalar) → P o = λ o. elim o as P [ Some u ↦ λ q. ap (λ z. c.entry ∷ z) (replaced-plain l e cs) | None ↦ λ q. refl ] in
+    go (pending_value l cs) refl
+    ∙ ap (λ o. cond (is_some o) (c.entry ∷ replaced l e (entries_in cs)) (e ∷ entries_in cs)) (sym (pending-plain l cs))
+
 all_out-plain : (w : Placing) → plain (all_out w) ≡ emptied (plain w)
 all_out-plain w =
     ap (λ z. let b : Walk = record { next = w.next; emitted = z; pending = []; agrees = w.agrees } in b) (map-push w.emitted w.pending)
@@ -47,7 +58,7 @@ put_out-plain e w =
 
 put_in-plain : (e : Entry) (w : Placing) → plain (put_in e w) ≡ stored e (plain w)
 put_in-plain e w =
-    ap (λ z. let b : Walk = record { next = w.next + 1; emitted = entries_in w.emitted; pending = z; agrees = w.agrees } in b)
+    ap (λ z. let b : Walk = record { next = w.next + 1; emitted = entries_in w.emitted; pending = z; agrees = w.agrees && is_done e.reply } in b)
     (map-push w.pending (commit_of e ∷ []))
 
 first_out-plain : (cs : List Commit) (w : Placing) → plain (first_out cs w) ≡ oldest_out (entries_in cs) (plain w)
@@ -66,6 +77,12 @@ roomy-plain w =
     ∙ sym (cond-false (nat_lt (length w.pending) 64) (plain w) (oldest_out (entries_in w.pending) (plain w)) h))
     ∙ ap (λ n. cond (nat_lt n 64) (plain w) (oldest_out (entries_in w.pending) (plain w))) (sym (length-plain w.pending))
 
+put-plain : (l : Loc) (e : Entry) (o : Option Scalar) (w : Placing) → plain (write_in l e o w) ≡ put l e o (plain w)
+put-plain l e None w = put_in-plain e (roomy w) ∙ ap (stored e) (roomy-plain w)
+put-plain l e (Some v) w =
+    ap (λ z. let b : Walk = record { next = w.next + 1; emitted = entries_in w.emitted; pending = z; agrees = w.agrees && is_done e.reply } in b)
+    (replaced-plain l e w.pending)
+
 looked-plain : (l : Loc) (e : Entry) (o : Option Scalar) (w : Placing) → plain (read_in l e o w) ≡ looked_up e o (plain w)
 looked-plain l e None w = put_out-plain e w
 looked-plain l e (Some v) w =
@@ -78,7 +95,8 @@ strict-plain e w = put_out-plain e (all_out w) ∙ ap (passed e) (all_out-plain 
 moved-plain : (t : ℕ) (w : Placing) (x : Item) → plain (moved t w x) ≡ stepped t (plain w) x
 moved-plain t w Stall = all_out-plain w
 moved-plain t w (Did (Write l v false) r) =
-    put_in-plain (entry_of t w.next (Write l v false) r) (roomy w) ∙ ap (stored (entry_of t w.next (Write l v false) r)) (roomy-plain w)
+    put-plain l (entry_of t w.next (Write l v false) r) (pending_value l w.pending) w
+    ∙ ap (λ o. put l (entry_of t w.next (Write l v false) r) o (plain w)) (sym (pending-plain l w.pending))
 moved-plain t w (Did (Read l false) r) =
     looked-plain l (entry_of t w.next (Read l false) r) (pending_value l w.pending) w
     ∙ ap (λ o. looked_up (entry_of t w.next (Read l false) r) o (plain w)) (sym (pending-plain l w.pending))

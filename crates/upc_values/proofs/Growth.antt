@@ -14,7 +14,7 @@ use Rattle.upc_values.specs.declared.record.Item.TheVariants.{Did, Stall}
 use Rattle.upc_values.specs.declared.journal.Entry.{Entry}
 use Rattle.upc_values.specs.Scalars.{same_loc}
 use Rattle.upc_values.specs.Operations.{Cell, Operation, accesses_of, accesses}
-use Rattle.upc_values.specs.Orders.{Commit, commit_of, Placing, all_out, first_out, roomy, put_in, put_out, pending_value, changed, with_read, read_in, moved}
+use Rattle.upc_values.specs.Orders.{Commit, commit_of, Placing, all_out, first_out, roomy, put_in, put_out, pending_value, changed, with_read, combined, write_in, read_in, moved}
 use Rattle.upc_values.specs.Drain.{or_else, written, entry_of}
 use Rattle.upc_values.specs.Lists.{Each}
 use Rattle.upc_values.specs.Consistent.{same_place, conflict}
@@ -140,6 +140,16 @@ read-pending l e r c v w p =
           each-append (IsHere p.loc) c.operations (accesses e) p.here (subst (λ z. Each (IsHere z) (accesses e)) (sym (same-cell l v c p w)) r);
     }
 
+pub write-pending : (l : Loc) (u : Scalar) (e : Entry) → e.action ≡ Write l u false → Each (IsHere l) (accesses e) → (c : Commit) (v : Scalar) → written l c.entry.action ≡ Some v → IsPending c → IsPending (combined e c)
+write-pending l u e a r c v w p =
+    record {
+      loc = l;
+      value = u;
+      is = a;
+      here =
+          each-append (IsHere l) c.operations (accesses e) (subst (λ z. Each (IsHere z) c.operations) (same-cell l v c p w) p.here) r;
+    }
+
 -- an operation at a cell, relaxed, and one elsewhere do not conflict
 no-conflict : (l : Loc) (a b : Operation) → IsHere l a → Elsewhere l b → conflict a b ≡ false
 no-conflict l a b h e =
@@ -235,6 +245,14 @@ grows-read_in l t n r w p (Some v) h =
     let e = entry_of t n (Read l false) r in
     grows-changed l (with_read e) (accesses e) (λ c. refl) w p v h (relaxed-reads t n l r) (read_in l e (Some v) w) refl
 
+grows-write_in : (l : Loc) (u : Scalar) (t n : ℕ) (r : Reply) (w : Placing) → Each IsPending w.pending → (o : Option Scalar) → pending_value l w.pending ≡ o → Grows (all_ops w) (accesses_of t n (Write l u false) r) (all_ops (write_in l (entry_of t n (Write l u false) r) o w))
+grows-write_in l u t n r w p None h =
+    subst (λ z. Grows z (accesses_of t n (Write l u false) r) (all_ops (put_in (entry_of t n (Write l u false) r) (roomy w))))
+    (ops-roomy w) (grows-put_in (entry_of t n (Write l u false) r) (roomy w))
+grows-write_in l u t n r w p (Some v) h =
+    let e = entry_of t n (Write l u false) r in
+    grows-changed l (combined e) (accesses e) (λ c. refl) w p v h (relaxed-write t n l u r) (write_in l e (Some v) w) refl
+
 -- the accesses of an item that is the next
 abbrev pub item_ops : ℕ → ℕ → Item → List Operation
 item_ops t n Stall = []
@@ -248,9 +266,7 @@ grows-strict t w a r =
 pub grows-moved : (t : ℕ) (w : Placing) (x : Item) → Each IsPending w.pending → Grows (all_ops w) (item_ops t w.next x) (all_ops (moved t w x))
 grows-moved t w Stall p =
     record { front = all_ops w; back = []; was = sym (append-nil (all_ops w)); is = ops-all_out w ∙ sym (append-nil (all_ops w)); apart = tt }
-grows-moved t w (Did (Write l v false) r) p =
-    subst (λ z. Grows z (accesses_of t w.next (Write l v false) r) (all_ops (put_in (entry_of t w.next (Write l v false) r) (roomy w))))
-    (ops-roomy w) (grows-put_in (entry_of t w.next (Write l v false) r) (roomy w))
+grows-moved t w (Did (Write l v false) r) p = grows-write_in l v t w.next r w p (pending_value l w.pending) refl
 grows-moved t w (Did (Read l false) r) p = grows-read_in l t w.next r w p (pending_value l w.pending) refl
 grows-moved t w (Did (Print x) r) p =
     grows-put_out (entry_of t w.next (Print x) r) w
@@ -272,11 +288,17 @@ pending-read_in l t n r w p (Some v) h =
     let e = entry_of t n (Read l false) r in
     each-changed l (with_read e) IsPending IsPending (λ c q. q) (read-pending l e (relaxed-reads t n l r)) w.pending v h p
 
+pending-write_in : (l : Loc) (u : Scalar) (t n : ℕ) (r : Reply) (w : Placing) → Each IsPending w.pending → (o : Option Scalar) → pending_value l w.pending ≡ o → Each IsPending (write_in l (entry_of t n (Write l u false) r) o w).pending
+pending-write_in l u t n r w p None h =
+    each-append IsPending (roomy w).pending (commit_of (entry_of t n (Write l u false) r) ∷ []) (pending-roomy w p)
+    (record { loc = l; value = u; is = refl; here = relaxed-write t n l u r }, tt)
+pending-write_in l u t n r w p (Some v) h =
+    let e = entry_of t n (Write l u false) r in
+    each-changed l (combined e) IsPending IsPending (λ c q. q) (write-pending l u e refl (relaxed-write t n l u r)) w.pending v h p
+
 pub pending-moved : (t : ℕ) (w : Placing) (x : Item) → Each IsPending w.pending → Each IsPending (moved t w x).pending
 pending-moved t w Stall p = tt
-pending-moved t w (Did (Write l v false) r) p =
-    each-append IsPending (roomy w).pending (commit_of (entry_of t w.next (Write l v false) r) ∷ []) (pending-roomy w p)
-    (record { loc = l; value = v; is = refl; here = relaxed-write t w.next l v r }, tt)
+pending-moved t w (Did (Write l v false) r) p = pending-write_in l v t w.next r w p (pending_value l w.pending) refl
 pending-moved t w (Did (Read l false) r) p = pending-read_in l t w.next r w p (pending_value l w.pending) refl
 pending-moved t w (Did (Print x) r) p = p
 pending-moved t w (Did x r) p = tt

@@ -1,5 +1,5 @@
 -- A walk emits each action's number once at most.
-use Rattle.std.proofs.Common.{◌≡◌, ℕ, ◌+◌, ◌≤◌, ◌==◌, nat_lt, true, false, cond, List, [], ◌∷◌, ◌++◌, length, is_some, Option, Some, None, refl, sym, ap, eqb-true, arith}
+use Rattle.std.proofs.Common.{◌≡◌, ℕ, ◌+◌, ◌≤◌, ◌==◌, nat_lt, true, false, cond, List, [], ◌∷◌, ◌++◌, length, is_some, Option, Some, None, refl, sym, ap, ◌∙◌, eqb-true, arith}
 use Rattle.std.proofs.lemmas.Bool.{cond_both}
 use Rattle.block_layout.specs.declared.place.Loc.{Loc}
 use Rattle.upc_values.specs.declared.scalar.Scalar.{Scalar}
@@ -9,7 +9,7 @@ use Rattle.upc_values.specs.declared.action.Reply.{Reply}
 use Rattle.upc_values.specs.declared.record.Item.{Item}
 use Rattle.upc_values.specs.declared.record.Item.TheVariants.{Did, Stall}
 use Rattle.upc_values.specs.declared.journal.Entry.{Entry}
-use Rattle.upc_values.specs.Orders.{Commit, commit_of, Placing, begun, all_out, first_out, roomy, put_in, put_out, pending_value, changed, with_read, read_in, moved, moved_from, placing}
+use Rattle.upc_values.specs.Orders.{Commit, commit_of, Placing, begun, all_out, first_out, roomy, put_in, put_out, pending_value, changed, with_read, combined, write_in, read_in, moved, moved_from, placing}
 use Rattle.upc_values.specs.Drain.{entry_of}
 use Rattle.upc_values.proofs.Commits.{walk-keeps}
 
@@ -110,13 +110,24 @@ numbered-read_in l e (Some v) w h s =
     numbered-same w (read_in l e (Some v) w)
     (λ n. let k = counted-changed n 0 l (with_read e) (λ c. omega arith) w.pending in omega arith) (omega arith) s
 
+numbered-write_in : (l : Loc) (e : Entry) (o : Option Scalar) (w : Placing) → e.index ≡ w.next → Numbered w → Numbered (write_in l e o w)
+numbered-write_in l e None w h s =
+    numbered-put_in e (roomy w) (h ∙ sym (number-roomy w)) (numbered-roomy w s)
+numbered-write_in l e (Some v) w h s =
+    numbered-new w (write_in l e (Some v) w)
+    (λ n.
+    let b : cond {A = ℕ} (e.index == n) 1 0 ≡ cond {A = ℕ} (w.next == n) 1 0 = ap (λ k. cond {A = ℕ} (k == n) 1 0) h in
+    let k = counted-changed n (cond {A = ℕ} (e.index == n) 1 0) l (combined e) (λ c. omega arith) w.pending in
+    omega arith)
+    refl s
+
 numbered-strict : (t : ℕ) (w : Placing) (a : Action) (r : Reply) → Numbered w → Numbered (put_out (entry_of t w.next a r) (all_out w))
 numbered-strict t w a r s = numbered-put_out (entry_of t w.next a r) (all_out w) refl (numbered-all_out w s)
 
 numbered-moved : (t : ℕ) (w : Placing) (x : Item) → (moved t w x).agrees ≡ true → Numbered w → Numbered (moved t w x)
 numbered-moved t w Stall a s = numbered-all_out w s
 numbered-moved t w (Did (Write l v false) r) a s =
-    numbered-put_in (entry_of t w.next (Write l v false) r) (roomy w) (sym (number-roomy w)) (numbered-roomy w s)
+    numbered-write_in l (entry_of t w.next (Write l v false) r) (pending_value l w.pending) w refl s
 numbered-moved t w (Did (Read l false) r) a s =
     numbered-read_in l (entry_of t w.next (Read l false) r) (pending_value l w.pending) w refl s
 numbered-moved t w (Did (Print x) r) a s = numbered-put_out (entry_of t w.next (Print x) r) w refl s

@@ -113,6 +113,26 @@ numbers a (ℕ.suc n) = a ∷ numbers (a + 1) n
 full-drain : map (λ e. e.index) (drain 0 (program (stores 65 ++ Did (Read (var 2) false) (Value (int 0)) ∷ Did Fence Done ∷ []))) ≡ 0 ∷ 1 ∷ 2 ∷ 67 ∷ numbers 3 64 ++ 68 ∷ 69 ∷ 70 ∷ []
 full-drain = refl
 
+-- a write takes the place of the pending write of its location, which is no entry; in the orders both stand there
+abbrev combining : List (List Item)
+combining =
+    program (Did (Write (var 1) (int 1) false) Done ∷ Did (Write (var 2) (int 1) false) Done ∷ Did (Write (var 1) (int 2) false) Done ∷ Did Fence Done ∷ [])
+    ∷ []
+
+combined-drain : map (λ e. e.index) (drain 0 (slice_index_or combining 0 [])) ≡ 0 ∷ 1 ∷ 4 ∷ 3 ∷ 5 ∷ 6 ∷ 7 ∷ []
+combined-drain = refl
+
+combined-order : map (λ o. o.index) (thread_order (journal combining ((0, 0) ∷ (0, 1) ∷ (0, 4) ∷ (0, 3) ∷ (0, 5) ∷ (0, 6) ∷ (0, 7) ∷ [])) 0) ≡ 0 ∷ 1 ∷ 2 ∷ 4 ∷ 3 ∷ 5 ∷ 5 ∷ 6 ∷ 7 ∷ []
+combined-order = refl
+
+-- 70 stores to one location are one entry
+abbrev stores_to_one : ℕ → List Item
+stores_to_one ℕ.zero = []
+stores_to_one (ℕ.suc n) = stores_to_one n ++ Did (Write (var 1) (int n) false) Done ∷ []
+
+one-drain : map (λ e. e.index) (drain 0 (program (stores_to_one 70 ++ Did Fence Done ∷ []))) ≡ 0 ∷ 1 ∷ 71 ∷ 72 ∷ 73 ∷ 74 ∷ []
+one-drain = refl
+
 -- what is not consistent: a forwarded read of another value than its source's
 abbrev forwarding_wrong : List (List Item)
 forwarding_wrong =

@@ -8,7 +8,7 @@ use Rattle.upc_values.specs.declared.record.Item.{Item}
 use Rattle.upc_values.specs.declared.record.Item.TheVariants.{Did, Stall}
 use Rattle.upc_values.specs.declared.journal.Entry.{Entry}
 use Rattle.upc_values.specs.Operations.{Access, Nothing, Reads, Writes, Writes_sync, Reads_sync, Writes_and_reads_sync, access, Operation, operations_by, accesses_of}
-use Rattle.upc_values.specs.Orders.{Placing, begun, all_out, pending_value, read_in, moved, moved_from, placing, operations_from, rank}
+use Rattle.upc_values.specs.Orders.{Placing, begun, all_out, pending_value, write_in, read_in, moved, moved_from, placing, operations_from, rank}
 use Rattle.upc_values.specs.Drain.{entry_of}
 use Rattle.upc_values.specs.Lists.{Each, Has, Pairwise}
 use Rattle.upc_values.specs.Consistent.{conflict}
@@ -130,9 +130,14 @@ number-read_in : (l : Loc) (e : Entry) (o : Option Scalar) (w : Placing) → (re
 number-read_in l e None w = refl
 number-read_in l e (Some v) w = refl
 
+number-write_in : (l : Loc) (e : Entry) (o : Option Scalar) (w : Placing) → (write_in l e o w).next ≡ w.next + 1
+number-write_in l e None w = ap (λ n. n + 1) (number-roomy w)
+number-write_in l e (Some v) w = refl
+
 number-moved : (t : ℕ) (w : Placing) (x : Item) → (moved t w x).next ≡ w.next + size x
 number-moved t w Stall = omega arith
-number-moved t w (Did (Write l v false) r) = ap (λ n. n + 1) (number-roomy w)
+number-moved t w (Did (Write l v false) r) =
+    number-write_in l (entry_of t w.next (Write l v false) r) (pending_value l w.pending) w
 number-moved t w (Did (Read l false) r) =
     number-read_in l (entry_of t w.next (Read l false) r) (pending_value l w.pending) w
 number-moved t w (Did (Print x) r) = refl

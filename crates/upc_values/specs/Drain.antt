@@ -1,12 +1,12 @@
 -- How a thread's items reach the history through its write buffer of 64 places.
 use Rattle.std.specs.Prelude.{ℕ, ◌+◌, ◌==◌, nat_lt, Bool, true, false, ◌&&◌, cond, List, [], ◌∷◌, ◌++◌, length}
-use Rattle.std.specs.Prelude.{filter, Option, Some, None}
+use Rattle.std.specs.Prelude.{filter, Option, Some, None, is_some}
 use Rattle.block_layout.specs.declared.place.Loc.{Loc}
 use Rattle.upc_values.specs.declared.scalar.Scalar.{Scalar}
 use Rattle.upc_values.specs.declared.action.Action.{Action}
 use Rattle.upc_values.specs.declared.action.Action.TheVariants.{Read, Write, Print}
 use Rattle.upc_values.specs.declared.action.Reply.{Reply}
-use Rattle.upc_values.specs.declared.action.Reply.TheVariants.{Value}
+use Rattle.upc_values.specs.declared.action.Reply.TheVariants.{Done, Value}
 use Rattle.upc_values.specs.declared.record.Item.{Item}
 use Rattle.upc_values.specs.declared.record.Item.TheVariants.{Did, Stall}
 use Rattle.upc_values.specs.declared.journal.Entry.{Entry}
@@ -40,9 +40,19 @@ oldest_out (e ∷ es) w = record { next = w.next; emitted = w.emitted ++ e ∷ [
 abbrev pub with_room : Walk → Walk
 with_room w = cond (nat_lt (length w.pending) 64) w (oldest_out w.pending w)
 
+-- the reply that a relaxed write has
+abbrev pub is_done : Reply → Bool
+is_done Done = true
+is_done r = false
+
 -- the entry becomes pending, as the last
 abbrev pub stored : Entry → Walk → Walk
-stored e w = record { next = w.next + 1; emitted = w.emitted; pending = w.pending ++ e ∷ []; agrees = w.agrees }
+stored e w = record {
+  next = w.next + 1;
+  emitted = w.emitted;
+  pending = w.pending ++ e ∷ [];
+  agrees = w.agrees && is_done e.reply;
+}
 
 -- the entry itself
 abbrev pub passed : Entry → Walk → Walk
@@ -66,6 +76,22 @@ abbrev pub is_value : Scalar → Reply → Bool
 is_value v (Value u) = same_scalar u v
 is_value v r = false
 
+-- the entry stands in the place of the pending write of the location
+abbrev pub replaced : Loc → Entry → List Entry → List Entry
+replaced l e [] = []
+replaced l e (p ∷ ps) = cond (is_some (last_written l ps)) (p ∷ replaced l e ps) (e ∷ ps)
+
+-- a relaxed write of the location: where a pending write has it, that one is combined into this one, which stands in
+-- its place; else this one becomes pending, as the last, and of 64 the oldest leaves
+abbrev pub put : Loc → Entry → Option Scalar → Walk → Walk
+put l e None w = stored e (with_room w)
+put l e (Some v) w = record {
+  next = w.next + 1;
+  emitted = w.emitted;
+  pending = replaced l e w.pending;
+  agrees = w.agrees && is_done e.reply;
+}
+
 -- a relaxed read: nothing is emitted where a pending write has its location, whose last such value it must have;
 -- else itself
 abbrev pub looked_up : Entry → Option Scalar → Walk → Walk
@@ -76,7 +102,7 @@ looked_up e (Some v) w =
 -- one more action: a relaxed write goes into the buffer, a relaxed read looks there first, a Print is committed alone,
 -- and every other action empties the buffer before it
 abbrev pub gone : Entry → Action → Walk → Walk
-gone e (Write l v false) w = stored e (with_room w)
+gone e (Write l v false) w = put l e (last_written l w.pending) w
 gone e (Read l false) w = looked_up e (last_written l w.pending) w
 gone e (Print x) w = passed e w
 gone e a w = passed e (emptied w)

@@ -15,10 +15,11 @@ use Rattle.upc_values.specs.declared.journal.Strand.{Strand}
 use Rattle.upc_values.specs.declared.journal.Journal.{Journal}
 use Rattle.upc_values.specs.declared.order.Op.{Op}
 use Rattle.upc_values.specs.Lists.{Has, Precedes}
-use Rattle.upc_values.specs.Drain.{entry_of, written, or_else, is_value}
+use Rattle.upc_values.specs.Drain.{entry_of, written, or_else, is_value, is_done}
 use Rattle.upc_values.specs.Operations.{Operation, accesses}
 
--- an entry, with the operations that stand in its place: its own, then those of the reads whose source it is
+-- an entry, with the operations that stand in its place: those of its group in program order, which are its own, those
+-- of the writes combined into it, and those of the reads whose source one of them is
 pub record Commit : Type 0 where
   pub entry : Entry
   pub operations : List Operation
@@ -57,7 +58,7 @@ put_in e w = record {
   next = w.next + 1;
   emitted = w.emitted;
   pending = w.pending ++ commit_of e ∷ [];
-  agrees = w.agrees;
+  agrees = w.agrees && is_done e.reply;
 }
 
 -- the entry itself
@@ -83,6 +84,21 @@ changed l f (c ∷ cs) = cond (is_some (pending_value l cs)) (c ∷ changed l f 
 abbrev pub with_read : Entry → Commit → Commit
 with_read e c = record { entry = c.entry; operations = c.operations ++ accesses e }
 
+-- it is combined into this write, which stands in its place
+abbrev pub combined : Entry → Commit → Commit
+combined e c = record { entry = e; operations = c.operations ++ accesses e }
+
+-- a relaxed write: it stands in the place of the pending write of its location, else it becomes pending, as the last
+abbrev pub write_in : Loc → Entry → Option Scalar → Placing → Placing
+write_in l e None w = put_in e (roomy w)
+write_in l e (Some v) w =
+    record {
+      next = w.next + 1;
+      emitted = w.emitted;
+      pending = changed l (combined e) w.pending;
+      agrees = w.agrees && is_done e.reply;
+    }
+
 -- a relaxed read: it stands with the last pending write of its location, else it is itself emitted
 abbrev pub read_in : Loc → Entry → Option Scalar → Placing → Placing
 read_in l e None w = put_out e w
@@ -96,7 +112,7 @@ read_in l e (Some v) w =
 
 -- one more action, as in the drain
 abbrev pub acted : Entry → Action → Placing → Placing
-acted e (Write l v false) w = put_in e (roomy w)
+acted e (Write l v false) w = write_in l e (pending_value l w.pending) w
 acted e (Read l false) w = read_in l e (pending_value l w.pending) w
 acted e (Print x) w = put_out e w
 acted e a w = put_out e (all_out w)

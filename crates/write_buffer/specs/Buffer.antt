@@ -1,5 +1,5 @@
 -- What a write buffer holds: relaxed writes that other threads do not see yet (UPC 5.1.2.3), oldest first.
-use Rattle.std.specs.Prelude.{ℕ, Bool, cond, List, [], ◌∷◌, Option, Some, None}
+use Rattle.std.specs.Prelude.{ℕ, ◌+◌, Bool, true, false, cond, List, [], ◌∷◌, Option, Some, None, is_some}
 use Rattle.std.specs.Option.{option_or}
 use Rattle.block_layout.specs.declared.place.Loc.{Loc}
 use Rattle.upc_values.specs.declared.action.Action.TheVariants.{Write}
@@ -14,6 +14,23 @@ abbrev pub youngest : Loc → List Pending → Option Pending
 youngest l [] = None
 youngest l (p ∷ ps) = option_or (youngest l ps) (cond (same_loc p.loc l) (Some p) None)
 
+
 -- the entry of thread t that a pending write becomes when it is committed
 abbrev pub committed : ℕ → Pending → Entry
 committed t p = entry_of t p.index (Write p.loc p.value Bool.false) Done
+
+-- The write stands in the place of the youngest pending write of its location.
+abbrev pub replaced : Pending → List Pending → List Pending
+replaced q [] = []
+replaced q (p ∷ ps) = cond (is_some (youngest q.loc ps)) (p ∷ replaced q ps) (q ∷ ps)
+
+-- One place further, where there is one; else the first, where the test holds.
+abbrev pub after_first : Option ℕ → Bool → Option ℕ
+after_first (Some k) b = Some (k + 1)
+after_first None true = Some 0
+after_first None false = None
+
+-- The place of the youngest pending write of the location.
+abbrev pub last_place : Loc → List Pending → Option ℕ
+last_place l [] = None
+last_place l (p ∷ ps) = after_first (last_place l ps) (same_loc p.loc l)

@@ -1,35 +1,56 @@
 //! The pending writes of a thread.
 
-ghost use Rattle.std.specs.Prelude.{◌≡◌, ◌≤◌, ◌<◌, ◌↔◌, [], ◌∷◌, ◌++◌, length, All, IfOk, IsSome, IsNone, false};
-ghost use Rattle.std.specs.Prelude.{option_map, option_to_list};
+ghost use Rattle.std.specs.Prelude.{◌≡◌, ◌≤◌, ◌<◌, ◌↔◌, [], ◌∷◌, ◌++◌, length, All, true, Some, None, is_some};
+ghost use Rattle.std.specs.Prelude.{IfOk, IfSome, IsSome, IsNone, false, option_map, option_to_list, replicate, slice_index_or};
+ghost use Rattle.write_buffer.specs.declared.pending.Pending.{Pending};
 ghost use Rattle.upc_values.specs.Scalars as scalars;
-ghost use Rattle.write_buffer.specs.Buffer.{youngest};
+ghost use Rattle.write_buffer.specs.Buffer.{youngest, replaced, last_place};
+ghost use Rattle.write_buffer.specs.Counts as said;
+ghost use Rattle.write_buffer.specs.Counts.{IsCounted};
 
 use crate::pending::Pending;
+use circular_buffer::HeapCircularBuffer;
 use std::alloc::{AllocError, Global};
-use std::collections::VecDeque;
 use std::marker::Model;
 use upc_values::{Loc, Scalar};
 
 /// How many writes may be pending.
 pub const PLACES: usize = 64;
 
-/// The pending writes of a thread, oldest first. Contracts see the list.
+/// The pending writes of a thread, oldest first, and at 256 places how many of them are counted there. Contracts see
+/// the list.
 #[derive(Drop)]
 pub struct WriteBuffer {
-    pending: VecDeque<Pending>,
+    ring: HeapCircularBuffer<Pending>,
+    counts: [u8; 256],
 }
 
 impl Model for WriteBuffer {
-    ghost use Rattle.std.specs.Prelude.{List, length, ◌≤◌};
-    ghost use Rattle.std.specs.VecDeque.{deque_capacity};
+    ghost use Rattle.std.specs.Prelude.{List, length, ◌≤◌, ◌≡◌};
     ghost use Rattle.write_buffer.specs.declared.pending.Pending.{Pending};
+    ghost use Rattle.write_buffer.specs.Counts.{IsCounted};
 
     ghost Value = { List Pending };
 
-    ghost view = { λ b. b.pending.items };
+    ghost view = { λ b. b.ring.items };
 
-    ghost invariant = { λ b. (length b.pending.items ≤ 64) × (64 ≤ deque_capacity b.pending) };
+    ghost invariant = { λ b. (length b.ring.items ≤ 64) × (b.ring.capacity ≡ 64) × IsCounted b.ring.items b.counts };
+}
+
+// Where a location is counted.
+fn place_of(loc: Loc) -> usize
+    ensures place { result ≡ said.place_of loc }
+    ensures below { result < 256 }
+{
+    let sum = u128::from(loc.object) * 31 + u128::from(loc.thread) * 7 + u128::from(loc.offset) / 4;
+    (sum % 256) as usize
+}
+
+// Nothing is counted.
+fn no_counts() -> [u8; 256]
+    ensures { result ≡ replicate 256 0 }
+{
+    [0; 256]
 }
 
 impl WriteBuffer {
@@ -38,39 +59,105 @@ impl WriteBuffer {
         ensures { IfOk result (λ buffer. buffer ≡ []) }
     {
         Ok(WriteBuffer {
-            pending: VecDeque::with_capacity(alloc, PLACES)?,
+            ring: HeapCircularBuffer::with_capacity(alloc, PLACES)?,
+            counts: no_counts(),
         })
     }
 
-    /// The write becomes pending, as the youngest. Where all places were taken, the oldest leaves and is handed out.
-    pub fn store(&mut self, index: u32, loc: Loc, value: Scalar) -> Option<Pending>
-        ensures full { IsSome result ↔ (length self.old ≡ 64) }
-        ensures moved { self.old ++ record { index = index; loc = loc; value = value } ∷ []
-            ≡ option_to_list result ++ self.new }
+    // The place of the youngest pending write of the location.
+    #[tactic(auto, using(crate::proofs::Places::looking_back))]
+    fn find(&self, loc: Loc) -> Option<usize>
+        ensures place { result ≡ last_place loc self.now }
+        ensures within { IfSome result (λ at. at < length self.now) }
     {
-        let oldest = if self.pending.len() == PLACES {
-            self.pending.pop_front()
+        if self.counts[place_of(loc)] == 0 {
+            return None;
+        }
+        for at in (0..self.ring.len()).rev() {
+            let Some(write) = self.ring.get(at) else {
+                unreachable!()
+            };
+            if write.loc == loc {
+                return Some(at);
+            }
+        }
+        None
+    }
+
+    /// The write takes the place of the pending write of its location, which is combined into it; else it becomes
+    /// pending, as the youngest, and where all places were taken, the oldest leaves and is handed out.
+    pub fn store(&mut self, index: u32, loc: Loc, value: Scalar) -> Option<Pending>
+        ensures combined { is_some (youngest loc self.old) ≡ true → (result ≡ None)
+            × (self.new ≡ replaced (record { index = index; loc = loc; value = value }) self.old) }
+        ensures moved { youngest loc self.old ≡ None
+            → self.old ++ record { index = index; loc = loc; value = value } ∷ [] ≡ option_to_list result ++ self.new }
+        ensures full { IsSome result ↔ (length self.old ≡ 64) × (youngest loc self.old ≡ None) }
+    {
+        let write = Pending { index, loc, value };
+        match self.find(loc) {
+            Some(at) => {
+                self.replace(at, write);
+                None
+            }
+            None => self.append(write),
+        }
+    }
+
+    // The write takes the place of the one there, which has its location.
+    fn replace(&mut self, at: usize, write: Pending)
+        requires { last_place write.loc self.old ≡ Some at }
+        ensures { self.new ≡ replaced write self.old }
+    {
+        let Some(place) = self.ring.get_mut(at) else {
+            unreachable!()
+        };
+        *place = write;
+    }
+
+    // The write becomes pending, as the youngest. Where all places were taken, the oldest leaves and is handed out.
+    fn append(&mut self, write: Pending) -> Option<Pending>
+        ensures full { IsSome result ↔ (length self.old ≡ 64) }
+        ensures moved { self.old ++ write ∷ [] ≡ option_to_list result ++ self.new }
+    {
+        let oldest = if self.ring.is_full() {
+            self.take_oldest()
         } else {
             None
         };
-        self.pending
-            .push_back_reserved(Pending { index, loc, value });
+        self.put(write);
         oldest
     }
 
-    /// The number and the value of the youngest pending write of the location, none where there is none.
-    #[tactic(auto, using(crate::proofs::Youngest::looking_back))]
+    // The write becomes pending, as the youngest, where there is a place.
+    fn put(&mut self, write: Pending)
+        requires { length self.old < 64 }
+        ensures { self.new ≡ self.old ++ write ∷ [] }
+    {
+        let place = place_of(write.loc);
+        self.ring.push_back(write);
+        self.counts[place] += 1;
+    }
+
+    /// The number and the value of the pending write of the location, none where there is none.
     pub fn forward(&self, loc: Loc) -> Option<(u32, Scalar)>
         ensures youngest { result ≡ option_map (λ p. (p.index, p.value)) (youngest loc self.now) }
         ensures none { IsNone result ↔ All (λ p. scalars.same_loc p.loc loc ≡ false) self.now }
     {
-        for at in (0..self.pending.len()).rev() {
-            let write = &self.pending[at];
-            if write.loc == loc {
-                return Some((write.index, write.value));
-            }
+        match self.find(loc) {
+            Some(at) => Some(self.read(at)),
+            None => None,
         }
-        None
+    }
+
+    // The number and the value of the write there.
+    fn read(&self, at: usize) -> (u32, Scalar)
+        requires { at < length self.now }
+        ensures { (d : Pending) → result ≡ ((slice_index_or self.now at d).index, (slice_index_or self.now at d).value) }
+    {
+        let Some(write) = self.ring.get(at) else {
+            unreachable!()
+        };
+        (write.index, write.value)
     }
 
     /// The oldest pending write, which leaves, none where the buffer is empty.
@@ -78,7 +165,10 @@ impl WriteBuffer {
         ensures empty { IsNone result ↔ (self.old ≡ []) }
         ensures moved { self.old ≡ option_to_list result ++ self.new }
     {
-        self.pending.pop_front()
+        let oldest = self.ring.pop_front()?;
+        let place = place_of(oldest.loc);
+        self.counts[place] -= 1;
+        Some(oldest)
     }
 
     /// How many writes are pending.
@@ -86,6 +176,6 @@ impl WriteBuffer {
         ensures len { result ≡ length self.now }
         ensures most { result ≤ 64 }
     {
-        self.pending.len() as u32
+        self.ring.len() as u32
     }
 }

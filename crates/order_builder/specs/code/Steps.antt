@@ -51,6 +51,12 @@ abbrev pub stored : Loc → List Named → Named_walk → Named_walk
 stored l ns s =
     record { next = s.next; emitted = s.emitted; pending = s.pending ++ record { loc = l; names = ns } ∷ [] }
 
+-- A write stands in the place of the pending write there, with whose operations it has its own; else it becomes
+-- pending, as the last, and of 64 the oldest is committed.
+abbrev pub put : Loc → List Named → Option ℕ → Named_walk → Named_walk
+put l ns None s = stored l ns (with_room s)
+put l ns (Some k) s = record { next = s.next; emitted = s.emitted; pending = joined k ns s.pending }
+
 -- The action is committed by itself.
 abbrev pub passed : List Named → Named_walk → Named_walk
 passed ns s = record { next = s.next; emitted = s.emitted ++ ns ∷ []; pending = s.pending }
@@ -62,7 +68,7 @@ looked_up ns (Some k) s = record { next = s.next; emitted = s.emitted; pending =
 
 -- One more action, with the names of its operations.
 abbrev pub acted : Action → List Named → Named_walk → Named_walk
-acted (Write l v false) ns s = stored l ns (with_room s)
+acted (Write l v false) ns s = put l ns (last_place l s.pending) s
 acted (Read l false) ns s = looked_up ns (last_place l s.pending) s
 acted (Print x) ns s = passed ns s
 acted a ns s = passed ns (flushed s)
