@@ -11,8 +11,7 @@ use Rattle.upc_values.specs.declared.record.Item.{Item}
 use Rattle.upc_values.specs.declared.record.Item.TheVariants.{Did, Stall}
 use Rattle.upc_values.specs.declared.journal.Entry.{Entry}
 use Rattle.upc_values.specs.Operations.{Place, Cell, Operation, accesses_of, accesses}
-use Rattle.upc_values.specs.Orders.{Commit, commit_of, Placing, begun, all_out, first_out, roomy, put_in, put_out, pending_value, changed, with_read, combined, write_in, read_in, moved, moved_from, placing}
-use Rattle.upc_values.specs.Drain.{or_else, written, is_value, is_done, entry_of}
+use Rattle.upc_values.specs.Drain.{Commit, commit_of, Walk, start, emptied, oldest_out, with_room, stored, passed, pending_value, changed, with_read, combined, put, looked_up, stepped, walked_from, drained, or_else, written, is_value, is_done, entry_of}
 use Rattle.upc_values.specs.Lists.{Each}
 use Rattle.upc_values.specs.Scalars.{value_or}
 use Rattle.upc_values.specs.Consistent.{same_place, last_write, initial_at, ReadsLastFrom}
@@ -59,8 +58,8 @@ reads-of_last initial l v before (o ∷ os) h e = (
   reads-of_last initial l v (before ++ o ∷ []) os h.1 (last_write-after_read (Cell l) before o h.0.0 ∙ e),
 )
 
-put_in-of : (l : Loc) (v : Scalar) (e : Entry) (os : List Operation) → StandsFor e os → IsStored e.action e.reply → written l e.action ≡ Some v → last_write (Cell l) os ≡ Some v
-put_in-of l v e os s st h = s.writes (Cell l) st ∙ cell-accesses l e.thread e.index e.action e.reply st ∙ h
+stored-of : (l : Loc) (v : Scalar) (e : Entry) (os : List Operation) → StandsFor e os → IsStored e.action e.reply → written l e.action ≡ Some v → last_write (Cell l) os ≡ Some v
+stored-of l v e os s st h = s.writes (Cell l) st ∙ cell-accesses l e.thread e.index e.action e.reply st ∙ h
 
 -- a write and what stands for it may be followed by reads of its value
 pub stands-with_reads : (l : Loc) (v : Scalar) (e : Entry) (os reads : List Operation) → StandsFor e os → written l e.action ≡ Some v → AreReads l v reads → StandsFor e (os ++ reads)
@@ -70,7 +69,7 @@ stands-with_reads l v e os reads s h r =
           reads-append initial before os reads (s.reads initial before right)
           (reads-of_last initial l v (before ++ os) reads r
           (last_write-append (Cell l) before os
-          ∙ ap (λ z. or_else z (last_write (Cell l) before)) (put_in-of l v e os s right.stored h)));
+          ∙ ap (λ z. or_else z (last_write (Cell l) before)) (stored-of l v e os s right.stored h)));
       writes = λ p st.
           last_write-append p os reads ∙ ap (λ z. or_else z (last_write p os)) (none-written l v p reads r)
           ∙ s.writes p st;
@@ -172,49 +171,49 @@ joined-settled l v t n r b (c ∷ cs) h e =
     ] in
     go (pending_value l cs) refl e
 
-pub record Sound (w : Placing) : Type 0 where
+pub record Sound (w : Walk) : Type 0 where
   pub emitted : AllStand w.emitted
   pub pending : Each IsSettled w.pending
 
 settled-stand : (cs : List Commit) → Each IsSettled cs → AllStand cs
 settled-stand cs h = all-each cs (each-weaker IsSettled Stands (λ c s. s.stands) cs h)
 
-sound-put_out : (e : Entry) (w : Placing) → Sound w → Sound (put_out e w)
-sound-put_out e w s =
+sound-passed : (e : Entry) (w : Walk) → Sound w → Sound (passed e w)
+sound-passed e w s =
     record { emitted = all-append w.emitted (commit_of e ∷ []) s.emitted (stands-own e, tt); pending = s.pending }
 
-pub sound-all_out : (w : Placing) → Sound w → Sound (all_out w)
-sound-all_out w s =
+pub sound-emptied : (w : Walk) → Sound w → Sound (emptied w)
+sound-emptied w s =
     record { emitted = all-append w.emitted w.pending s.emitted (settled-stand w.pending s.pending); pending = tt }
 
-sound-first_out : (cs : List Commit) (w : Placing) → Each IsSettled cs → Sound w → Sound (first_out cs w)
-sound-first_out [] w h s = s
-sound-first_out (c ∷ cs) w h s =
+sound-oldest_out : (cs : List Commit) (w : Walk) → Each IsSettled cs → Sound w → Sound (oldest_out cs w)
+sound-oldest_out [] w h s = s
+sound-oldest_out (c ∷ cs) w h s =
     record { emitted = all-append w.emitted (c ∷ []) s.emitted (h.0.stands, tt); pending = h.1 }
 
-sound-roomy : (w : Placing) → Sound w → Sound (roomy w)
-sound-roomy w s =
-    cond_both (nat_lt (length w.pending) 64) w (first_out w.pending w) Sound (λ e. s) (λ e. sound-first_out w.pending w s.pending s)
+sound-with_room : (w : Walk) → Sound w → Sound (with_room w)
+sound-with_room w s =
+    cond_both (nat_lt (length w.pending) 64) w (oldest_out w.pending w) Sound (λ e. s) (λ e. sound-oldest_out w.pending w s.pending s)
 
-sound-read_in : (l : Loc) (t n : ℕ) (r : Reply) (o : Option Scalar) (w : Placing) → pending_value l w.pending ≡ o → (read_in l (entry_of t n (Read l false) r) o w).agrees ≡ true → Sound w → Sound (read_in l (entry_of t n (Read l false) r) o w)
-sound-read_in l t n r None w e a s = sound-put_out (entry_of t n (Read l false) r) w s
-sound-read_in l t n r (Some v) w e a s =
+sound-looked_up : (l : Loc) (t n : ℕ) (r : Reply) (o : Option Scalar) (w : Walk) → pending_value l w.pending ≡ o → (looked_up l (entry_of t n (Read l false) r) o w).agrees ≡ true → Sound w → Sound (looked_up l (entry_of t n (Read l false) r) o w)
+sound-looked_up l t n r None w e a s = sound-passed (entry_of t n (Read l false) r) w s
+sound-looked_up l t n r (Some v) w e a s =
     record {
       emitted = s.emitted;
       pending = joined-settled l v t n r (and_parts w.agrees (is_value v r) a).1 w.pending s.pending e;
     }
 
-sound-write_in : (l : Loc) (v : Scalar) (t n : ℕ) (r : Reply) (o : Option Scalar) (w : Placing) → pending_value l w.pending ≡ o → (write_in l (entry_of t n (Write l v false) r) o w).agrees ≡ true → Sound w → Sound (write_in l (entry_of t n (Write l v false) r) o w)
-sound-write_in l v t n r None w e a s =
-    let b = (and_parts (roomy w).agrees (is_done r) a).1 in
-    let k = sound-roomy w s in
+sound-put : (l : Loc) (v : Scalar) (t n : ℕ) (r : Reply) (o : Option Scalar) (w : Walk) → pending_value l w.pending ≡ o → (put l (entry_of t n (Write l v false) r) o w).agrees ≡ true → Sound w → Sound (put l (entry_of t n (Write l v false) r) o w)
+sound-put l v t n r None w e a s =
+    let b = (and_parts (with_room w).agrees (is_done r) a).1 in
+    let k = sound-with_room w s in
     record {
       emitted = k.emitted;
       pending =
-          each-append IsSettled (roomy w).pending (commit_of (entry_of t n (Write l v false) r) ∷ []) k.pending
+          each-append IsSettled (with_room w).pending (commit_of (entry_of t n (Write l v false) r) ∷ []) k.pending
           (settled-own l v t n r b, tt);
     }
-sound-write_in l v t n r (Some u) w e a s =
+sound-put l v t n r (Some u) w e a s =
     let b = (and_parts w.agrees (is_done r) a).1 in
     record {
       emitted = s.emitted;
@@ -222,50 +221,50 @@ sound-write_in l v t n r (Some u) w e a s =
           each-changed l (combined (entry_of t n (Write l v false) r)) IsSettled IsSettled (λ c q. q) (settled-write l v t n r b) w.pending u e s.pending;
     }
 
-pub sound-moved : (t : ℕ) (w : Placing) (x : Item) → (moved t w x).agrees ≡ true → Sound w → Sound (moved t w x)
-sound-moved t w Stall a s = sound-all_out w s
-sound-moved t w (Did (Write l v false) r) a s = sound-write_in l v t w.next r (pending_value l w.pending) w refl a s
-sound-moved t w (Did (Read l false) r) a s = sound-read_in l t w.next r (pending_value l w.pending) w refl a s
-sound-moved t w (Did (Print x) r) a s = sound-put_out (entry_of t w.next (Print x) r) w s
-sound-moved t w (Did x r) a s = sound-put_out (entry_of t w.next x r) (all_out w) (sound-all_out w s)
+pub sound-stepped : (t : ℕ) (w : Walk) (x : Item) → (stepped t w x).agrees ≡ true → Sound w → Sound (stepped t w x)
+sound-stepped t w Stall a s = sound-emptied w s
+sound-stepped t w (Did (Write l v false) r) a s = sound-put l v t w.next r (pending_value l w.pending) w refl a s
+sound-stepped t w (Did (Read l false) r) a s = sound-looked_up l t w.next r (pending_value l w.pending) w refl a s
+sound-stepped t w (Did (Print x) r) a s = sound-passed (entry_of t w.next (Print x) r) w s
+sound-stepped t w (Did x r) a s = sound-passed (entry_of t w.next x r) (emptied w) (sound-emptied w s)
 
 -- a walk that agrees in the end has agreed all along
-agrees-roomy : (w : Placing) → (roomy w).agrees ≡ true → w.agrees ≡ true
-agrees-roomy w =
-    cond_both (nat_lt (length w.pending) 64) w (first_out w.pending w) (λ z. z.agrees ≡ true → w.agrees ≡ true) (λ e a. a)
-    (λ e. let P : List Commit → Type 0 = λ cs. (first_out cs w).agrees ≡ true → w.agrees ≡ true in
+agrees-with_room : (w : Walk) → (with_room w).agrees ≡ true → w.agrees ≡ true
+agrees-with_room w =
+    cond_both (nat_lt (length w.pending) 64) w (oldest_out w.pending w) (λ z. z.agrees ≡ true → w.agrees ≡ true) (λ e a. a)
+    (λ e. let P : List Commit → Type 0 = λ cs. (oldest_out cs w).agrees ≡ true → w.agrees ≡ true in
     elim w.pending as P [ [] ↦ λ a. a | c ∷ cs ↦ λ a. a ])
 
-agrees-read_in : (l : Loc) (e : Entry) (o : Option Scalar) (w : Placing) → (read_in l e o w).agrees ≡ true → w.agrees ≡ true
-agrees-read_in l e None w a = a
-agrees-read_in l e (Some v) w a = (and_parts w.agrees (is_value v e.reply) a).0
+agrees-looked_up : (l : Loc) (e : Entry) (o : Option Scalar) (w : Walk) → (looked_up l e o w).agrees ≡ true → w.agrees ≡ true
+agrees-looked_up l e None w a = a
+agrees-looked_up l e (Some v) w a = (and_parts w.agrees (is_value v e.reply) a).0
 
-agrees-write_in : (l : Loc) (e : Entry) (o : Option Scalar) (w : Placing) → (write_in l e o w).agrees ≡ true → w.agrees ≡ true
-agrees-write_in l e None w a = agrees-roomy w (and_parts (roomy w).agrees (is_done e.reply) a).0
-agrees-write_in l e (Some v) w a = (and_parts w.agrees (is_done e.reply) a).0
+agrees-put : (l : Loc) (e : Entry) (o : Option Scalar) (w : Walk) → (put l e o w).agrees ≡ true → w.agrees ≡ true
+agrees-put l e None w a = agrees-with_room w (and_parts (with_room w).agrees (is_done e.reply) a).0
+agrees-put l e (Some v) w a = (and_parts w.agrees (is_done e.reply) a).0
 
-agrees-moved : (t : ℕ) (w : Placing) (x : Item) → (moved t w x).agrees ≡ true → w.agrees ≡ true
-agrees-moved t w Stall a = a
-agrees-moved t w (Did (Write l v false) r) a =
-    agrees-write_in l (entry_of t w.next (Write l v false) r) (pending_value l w.pending) w a
-agrees-moved t w (Did (Read l false) r) a =
-    agrees-read_in l (entry_of t w.next (Read l false) r) (pending_value l w.pending) w a
-agrees-moved t w (Did (Print x) r) a = a
-agrees-moved t w (Did x r) a = a
+agrees-stepped : (t : ℕ) (w : Walk) (x : Item) → (stepped t w x).agrees ≡ true → w.agrees ≡ true
+agrees-stepped t w Stall a = a
+agrees-stepped t w (Did (Write l v false) r) a =
+    agrees-put l (entry_of t w.next (Write l v false) r) (pending_value l w.pending) w a
+agrees-stepped t w (Did (Read l false) r) a =
+    agrees-looked_up l (entry_of t w.next (Read l false) r) (pending_value l w.pending) w a
+agrees-stepped t w (Did (Print x) r) a = a
+agrees-stepped t w (Did x r) a = a
 
-pub agrees-moved_from : (t : ℕ) (w : Placing) (xs : List Item) → (moved_from t w xs).agrees ≡ true → w.agrees ≡ true
-agrees-moved_from t w [] a = a
-agrees-moved_from t w (x ∷ xs) a = agrees-moved t w x (agrees-moved_from t (moved t w x) xs a)
+pub agrees-walked_from : (t : ℕ) (w : Walk) (xs : List Item) → (walked_from t w xs).agrees ≡ true → w.agrees ≡ true
+agrees-walked_from t w [] a = a
+agrees-walked_from t w (x ∷ xs) a = agrees-stepped t w x (agrees-walked_from t (stepped t w x) xs a)
 
 -- what each step keeps, the whole walk keeps
-pub walk-keeps : (t : ℕ) (P : Placing → Type 0) → ((w : Placing) (x : Item) → (moved t w x).agrees ≡ true → P w → P (moved t w x)) → (w : Placing) (xs : List Item) → (moved_from t w xs).agrees ≡ true → P w → P (moved_from t w xs)
+pub walk-keeps : (t : ℕ) (P : Walk → Type 0) → ((w : Walk) (x : Item) → (stepped t w x).agrees ≡ true → P w → P (stepped t w x)) → (w : Walk) (xs : List Item) → (walked_from t w xs).agrees ≡ true → P w → P (walked_from t w xs)
 walk-keeps t P step w [] a h = h
 walk-keeps t P step w (x ∷ xs) a h =
-    walk-keeps t P step (moved t w x) xs a (step w x (agrees-moved_from t (moved t w x) xs a) h)
+    walk-keeps t P step (stepped t w x) xs a (step w x (agrees-walked_from t (stepped t w x) xs a) h)
 
-pub sound-begun : Sound begun
-sound-begun = record { emitted = tt; pending = tt }
+pub sound-start : Sound start
+sound-start = record { emitted = tt; pending = tt }
 
-pub sound-placing : (t : ℕ) (items : List Item) → (placing t items).agrees ≡ true → Sound (placing t items)
-sound-placing t items a =
-    sound-all_out (moved_from t begun items) (walk-keeps t Sound (sound-moved t) begun items a sound-begun)
+pub sound-drained : (t : ℕ) (items : List Item) → (drained t items).agrees ≡ true → Sound (drained t items)
+sound-drained t items a =
+    sound-emptied (walked_from t start items) (walk-keeps t Sound (sound-stepped t) start items a sound-start)

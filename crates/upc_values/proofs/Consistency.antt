@@ -8,21 +8,21 @@ use Rattle.upc_values.specs.declared.action.Action.TheVariants.{Read, Write}
 use Rattle.upc_values.specs.declared.action.Reply.{Reply}
 use Rattle.upc_values.specs.declared.action.Reply.TheVariants.{Value}
 use Rattle.upc_values.specs.Scalars.{zero, value_or}
-use Rattle.upc_values.specs.Drain.{or_else, last_written}
+use Rattle.upc_values.specs.Drain.{Commit, drained, or_else, last_written}
 use Rattle.upc_values.specs.Consistent.{begins}
 use Rattle.upc_values.proofs.Beginnings.{initial-stays}
 use Rattle.upc_values.specs.declared.journal.Entry.{Entry}
 use Rattle.upc_values.specs.declared.journal.Journal.{Journal}
-use Rattle.upc_values.specs.Orders.{record_of, Commit, placing, operations_at, placed, global_order, thread_order, is_shown, operations_of, IsOf, rank, name_of, StrictOrder, As_placed, As_written, Through}
+use Rattle.upc_values.specs.Orders.{record_of, operations_at, placed, global_order, thread_order, is_shown, operations_of, IsOf, rank, name_of, StrictOrder, As_placed, As_written, Through}
 use Rattle.upc_values.specs.Operations.{Operation}
 use Rattle.upc_values.specs.Openings.{Opening, initial_of}
 use Rattle.upc_values.specs.History.{objects, reply, valued, IsLegalFrom, EachBelow}
 use Rattle.upc_values.specs.Consistent.{FollowsBuffers, same_place, conflict, KeepsProgram, IsConsistent, AreConsistent}
 use Rattle.upc_values.specs.Lists.{Each, Has, Precedes, Pairwise}
 use Rattle.upc_values.proofs.Membership.{precedes-has, has-filter, filter-has, each-has, each-front, each-back, each-weaker, has-cases, pairs-weaker, pairs-at, pairs-from, precedes-total, Distinct, precedes-strict, precedes-trans, precedes-filter, filter-precedes, distinct-classes, filter-flat, flat-agree}
-use Rattle.upc_values.proofs.Numbering.{counted, numbered-placing}
+use Rattle.upc_values.proofs.Numbering.{counted, numbered-drained}
 use Rattle.upc_values.proofs.Growth.{ops, all_ops}
-use Rattle.upc_values.proofs.Own.{Placed, IsOld, Kept, kept-placing, own}
+use Rattle.upc_values.proofs.Own.{Placed, IsOld, Kept, kept-drained, own}
 use Rattle.upc_values.proofs.Placement.{agrees-of, drains-of, reads-right}
 use Rattle.upc_values.proofs.Values.{IsAnswered, AreAnsweredFrom}
 
@@ -67,15 +67,15 @@ or_turn false true h = refl
 or_turn false false h = absurd (false≢true h)
 
 module _ (j : Journal) (f : FollowsBuffers j) where
-  kept : (t : ℕ) → Kept t (placing t (record_of j t)) (operations_of j t)
-  kept t = kept-placing t (record_of j t)
+  kept : (t : ℕ) → Kept t (drained t (record_of j t)) (operations_of j t)
+  kept t = kept-drained t (record_of j t)
 
-  own-is : (t : ℕ) → all_ops (placing t (record_of j t)) ≡ own t (record_of j t)
+  own-is : (t : ℕ) → all_ops (drained t (record_of j t)) ≡ own t (record_of j t)
   own-is t = append-nil (own t (record_of j t))
 
   placed-thread : (e : Entry) → Each (λ o. o.thread ≡ e.thread) (placed j e)
   placed-thread e =
-      let w = placing e.thread (record_of j e.thread) in
+      let w = drained e.thread (record_of j e.thread) in
       each-at (λ o. o.thread ≡ e.thread) e.index w.emitted
       (each-weaker (IsOld e.thread w.next) (λ o. o.thread ≡ e.thread) (λ o q. q.0) (ops w.emitted)
       (each-front (IsOld e.thread w.next) (ops w.emitted) (ops w.pending) (kept e.thread).old))
@@ -91,11 +91,11 @@ module _ (j : Journal) (f : FollowsBuffers j) where
   -- the global order has a thread's operations in the order of its commits
   global-own : (t : ℕ) → t < j.threads → filter (λ o. o.thread == t) (global_order j) ≡ own t (record_of j t)
   global-own t h =
-      let w = placing t (record_of j t) in
-      let n = numbered-placing t (record_of j t) (agrees-of j t f h) in
+      let w = drained t (record_of j t) in
+      let n = numbered-drained t (record_of j t) (agrees-of j t f h) in
       filter-flat (placed j) (λ o. o.thread == t) (λ e. e.thread == t) j.history (all-entries t j.history)
       ∙ flat-agree (placed j) (λ e. operations_at e.index w.emitted) (λ e. e.thread == t)
-      (λ e q. ap (λ s. operations_at e.index (placing s (record_of j s)).emitted) (eqb-true e.thread t q)) j.history
+      (λ e q. ap (λ s. operations_at e.index (drained s (record_of j s)).emitted) (eqb-true e.thread t q)) j.history
       ∙ ap (flat_map (λ e. operations_at e.index w.emitted)) (drains-of j t f h)
       ∙ flat-own w.emitted (λ k. let b = n.once k in omega arith) w.emitted (λ c m. m)
 

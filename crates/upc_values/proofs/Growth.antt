@@ -14,8 +14,7 @@ use Rattle.upc_values.specs.declared.record.Item.TheVariants.{Did, Stall}
 use Rattle.upc_values.specs.declared.journal.Entry.{Entry}
 use Rattle.upc_values.specs.Scalars.{same_loc}
 use Rattle.upc_values.specs.Operations.{Cell, Operation, accesses_of, accesses}
-use Rattle.upc_values.specs.Orders.{Commit, commit_of, Placing, all_out, first_out, roomy, put_in, put_out, pending_value, changed, with_read, combined, write_in, read_in, moved}
-use Rattle.upc_values.specs.Drain.{or_else, written, entry_of}
+use Rattle.upc_values.specs.Drain.{Commit, commit_of, Walk, emptied, oldest_out, with_room, stored, passed, pending_value, changed, with_read, combined, put, looked_up, stepped, or_else, written, entry_of}
 use Rattle.upc_values.specs.Lists.{Each}
 use Rattle.upc_values.specs.Consistent.{same_place, conflict}
 use Rattle.upc_values.proofs.Sameness.{same_loc-true, same_loc-other}
@@ -25,7 +24,7 @@ use Rattle.upc_values.proofs.Membership.{each-append, each-weaker}
 abbrev pub ops : List Commit → List Operation
 ops cs = flat_map (λ c. c.operations) cs
 
-abbrev pub all_ops : Placing → List Operation
+abbrev pub all_ops : Walk → List Operation
 all_ops w = ops w.emitted ++ ops w.pending
 
 -- new is old with more put in, and what stands behind that does not conflict with it
@@ -189,8 +188,8 @@ ops-push : (cs : List Commit) (e : Entry) → ops (cs ++ commit_of e ∷ []) ≡
 ops-push cs e =
     flat_map-append (λ c. c.operations) cs (commit_of e ∷ []) ∙ ap (λ z. ops cs ++ z) (append-nil (accesses e))
 
-grows-put_out : (e : Entry) (w : Placing) → Each (λ a. Each (λ b. conflict a b ≡ false) (ops w.pending)) (accesses e) → Grows (all_ops w) (accesses e) (all_ops (put_out e w))
-grows-put_out e w h =
+grows-passed : (e : Entry) (w : Walk) → Each (λ a. Each (λ b. conflict a b ≡ false) (ops w.pending)) (accesses e) → Grows (all_ops w) (accesses e) (all_ops (passed e w))
+grows-passed e w h =
     record {
       front = ops w.emitted;
       back = ops w.pending;
@@ -199,8 +198,8 @@ grows-put_out e w h =
       apart = h;
     }
 
-grows-put_in : (e : Entry) (w : Placing) → Grows (all_ops w) (accesses e) (all_ops (put_in e w))
-grows-put_in e w =
+grows-stored : (e : Entry) (w : Walk) → Grows (all_ops w) (accesses e) (all_ops (stored e w))
+grows-stored e w =
     record {
       front = all_ops w;
       back = [];
@@ -211,22 +210,22 @@ grows-put_in e w =
       apart = apart-none (accesses e);
     }
 
-pub ops-all_out : (w : Placing) → all_ops (all_out w) ≡ all_ops w
-ops-all_out w = append-nil (ops (w.emitted ++ w.pending)) ∙ flat_map-append (λ c. c.operations) w.emitted w.pending
+pub ops-emptied : (w : Walk) → all_ops (emptied w) ≡ all_ops w
+ops-emptied w = append-nil (ops (w.emitted ++ w.pending)) ∙ flat_map-append (λ c. c.operations) w.emitted w.pending
 
-ops-first_out : (w : Placing) (cs : List Commit) → cs ≡ w.pending → all_ops (first_out cs w) ≡ all_ops w
-ops-first_out w [] h = refl
-ops-first_out w (c ∷ cs) h =
+ops-oldest_out : (w : Walk) (cs : List Commit) → cs ≡ w.pending → all_ops (oldest_out cs w) ≡ all_ops w
+ops-oldest_out w [] h = refl
+ops-oldest_out w (c ∷ cs) h =
     ap (λ z. z ++ ops cs) (flat_map-append (λ c. c.operations) w.emitted (c ∷ []))
     ∙ ap (λ z. (ops w.emitted ++ z) ++ ops cs) (append-nil c.operations)
     ∙ append_assoc (ops w.emitted) c.operations (ops cs) ∙ ap (λ z. ops w.emitted ++ ops z) h
 
-ops-roomy : (w : Placing) → all_ops (roomy w) ≡ all_ops w
-ops-roomy w =
-    cond_both (nat_lt (length w.pending) 64) w (first_out w.pending w) (λ z. all_ops z ≡ all_ops w) (λ e. refl)
-    (λ e. ops-first_out w w.pending refl)
+ops-with_room : (w : Walk) → all_ops (with_room w) ≡ all_ops w
+ops-with_room w =
+    cond_both (nat_lt (length w.pending) 64) w (oldest_out w.pending w) (λ z. all_ops z ≡ all_ops w) (λ e. refl)
+    (λ e. ops-oldest_out w w.pending refl)
 
-grows-changed : (l : Loc) (f : Commit → Commit) (more : List Operation) → ((c : Commit) → (f c).operations ≡ c.operations ++ more) → (w : Placing) → Each IsPending w.pending → (v : Scalar) → pending_value l w.pending ≡ Some v → Each (IsHere l) more → (w' : Placing) → all_ops w' ≡ ops w.emitted ++ ops (changed l f w.pending) → Grows (all_ops w) more (all_ops w')
+grows-changed : (l : Loc) (f : Commit → Commit) (more : List Operation) → ((c : Commit) → (f c).operations ≡ c.operations ++ more) → (w : Walk) → Each IsPending w.pending → (v : Scalar) → pending_value l w.pending ≡ Some v → Each (IsHere l) more → (w' : Walk) → all_ops w' ≡ ops w.emitted ++ ops (changed l f w.pending) → Grows (all_ops w) more (all_ops w')
 grows-changed l f more fm w p v h m w' q =
     let s = splits l f more fm v w.pending p h in
     record {
@@ -237,68 +236,68 @@ grows-changed l f more fm w p v h m w' q =
       apart = apart-here l more s.back m s.behind;
     }
 
-grows-read_in : (l : Loc) (t n : ℕ) (r : Reply) (w : Placing) → Each IsPending w.pending → (o : Option Scalar) → pending_value l w.pending ≡ o → Grows (all_ops w) (accesses_of t n (Read l false) r) (all_ops (read_in l (entry_of t n (Read l false) r) o w))
-grows-read_in l t n r w p None h =
-    grows-put_out (entry_of t n (Read l false) r) w
+grows-looked_up : (l : Loc) (t n : ℕ) (r : Reply) (w : Walk) → Each IsPending w.pending → (o : Option Scalar) → pending_value l w.pending ≡ o → Grows (all_ops w) (accesses_of t n (Read l false) r) (all_ops (looked_up l (entry_of t n (Read l false) r) o w))
+grows-looked_up l t n r w p None h =
+    grows-passed (entry_of t n (Read l false) r) w
     (apart-here l (accesses_of t n (Read l false) r) (ops w.pending) (relaxed-reads t n l r) (all-elsewhere l w.pending p h))
-grows-read_in l t n r w p (Some v) h =
+grows-looked_up l t n r w p (Some v) h =
     let e = entry_of t n (Read l false) r in
-    grows-changed l (with_read e) (accesses e) (λ c. refl) w p v h (relaxed-reads t n l r) (read_in l e (Some v) w) refl
+    grows-changed l (with_read e) (accesses e) (λ c. refl) w p v h (relaxed-reads t n l r) (looked_up l e (Some v) w) refl
 
-grows-write_in : (l : Loc) (u : Scalar) (t n : ℕ) (r : Reply) (w : Placing) → Each IsPending w.pending → (o : Option Scalar) → pending_value l w.pending ≡ o → Grows (all_ops w) (accesses_of t n (Write l u false) r) (all_ops (write_in l (entry_of t n (Write l u false) r) o w))
-grows-write_in l u t n r w p None h =
-    subst (λ z. Grows z (accesses_of t n (Write l u false) r) (all_ops (put_in (entry_of t n (Write l u false) r) (roomy w))))
-    (ops-roomy w) (grows-put_in (entry_of t n (Write l u false) r) (roomy w))
-grows-write_in l u t n r w p (Some v) h =
+grows-put : (l : Loc) (u : Scalar) (t n : ℕ) (r : Reply) (w : Walk) → Each IsPending w.pending → (o : Option Scalar) → pending_value l w.pending ≡ o → Grows (all_ops w) (accesses_of t n (Write l u false) r) (all_ops (put l (entry_of t n (Write l u false) r) o w))
+grows-put l u t n r w p None h =
+    subst (λ z. Grows z (accesses_of t n (Write l u false) r) (all_ops (stored (entry_of t n (Write l u false) r) (with_room w))))
+    (ops-with_room w) (grows-stored (entry_of t n (Write l u false) r) (with_room w))
+grows-put l u t n r w p (Some v) h =
     let e = entry_of t n (Write l u false) r in
-    grows-changed l (combined e) (accesses e) (λ c. refl) w p v h (relaxed-write t n l u r) (write_in l e (Some v) w) refl
+    grows-changed l (combined e) (accesses e) (λ c. refl) w p v h (relaxed-write t n l u r) (put l e (Some v) w) refl
 
 -- the accesses of an item that is the next
 abbrev pub item_ops : ℕ → ℕ → Item → List Operation
 item_ops t n Stall = []
 item_ops t n (Did a r) = accesses_of t n a r
 
-grows-strict : (t : ℕ) (w : Placing) (a : Action) (r : Reply) → Grows (all_ops w) (accesses_of t w.next a r) (all_ops (put_out (entry_of t w.next a r) (all_out w)))
+grows-strict : (t : ℕ) (w : Walk) (a : Action) (r : Reply) → Grows (all_ops w) (accesses_of t w.next a r) (all_ops (passed (entry_of t w.next a r) (emptied w)))
 grows-strict t w a r =
-    subst (λ z. Grows z (accesses_of t w.next a r) (all_ops (put_out (entry_of t w.next a r) (all_out w)))) (ops-all_out w)
-    (grows-put_out (entry_of t w.next a r) (all_out w) (apart-none (accesses_of t w.next a r)))
+    subst (λ z. Grows z (accesses_of t w.next a r) (all_ops (passed (entry_of t w.next a r) (emptied w)))) (ops-emptied w)
+    (grows-passed (entry_of t w.next a r) (emptied w) (apart-none (accesses_of t w.next a r)))
 
-pub grows-moved : (t : ℕ) (w : Placing) (x : Item) → Each IsPending w.pending → Grows (all_ops w) (item_ops t w.next x) (all_ops (moved t w x))
-grows-moved t w Stall p =
-    record { front = all_ops w; back = []; was = sym (append-nil (all_ops w)); is = ops-all_out w ∙ sym (append-nil (all_ops w)); apart = tt }
-grows-moved t w (Did (Write l v false) r) p = grows-write_in l v t w.next r w p (pending_value l w.pending) refl
-grows-moved t w (Did (Read l false) r) p = grows-read_in l t w.next r w p (pending_value l w.pending) refl
-grows-moved t w (Did (Print x) r) p =
-    grows-put_out (entry_of t w.next (Print x) r) w
+pub grows-stepped : (t : ℕ) (w : Walk) (x : Item) → Each IsPending w.pending → Grows (all_ops w) (item_ops t w.next x) (all_ops (stepped t w x))
+grows-stepped t w Stall p =
+    record { front = all_ops w; back = []; was = sym (append-nil (all_ops w)); is = ops-emptied w ∙ sym (append-nil (all_ops w)); apart = tt }
+grows-stepped t w (Did (Write l v false) r) p = grows-put l v t w.next r w p (pending_value l w.pending) refl
+grows-stepped t w (Did (Read l false) r) p = grows-looked_up l t w.next r w p (pending_value l w.pending) refl
+grows-stepped t w (Did (Print x) r) p =
+    grows-passed (entry_of t w.next (Print x) r) w
     (subst (Each (λ a. Each (λ b. conflict a b ≡ false) (ops w.pending))) (sym (no-prints t w.next x r)) tt)
-grows-moved t w (Did x r) p = grows-strict t w x r
+grows-stepped t w (Did x r) p = grows-strict t w x r
 
-pending-first_out : (w : Placing) (cs : List Commit) → Each IsPending cs → Each IsPending w.pending → Each IsPending (first_out cs w).pending
-pending-first_out w [] h p = p
-pending-first_out w (c ∷ cs) h p = h.1
+pending-oldest_out : (w : Walk) (cs : List Commit) → Each IsPending cs → Each IsPending w.pending → Each IsPending (oldest_out cs w).pending
+pending-oldest_out w [] h p = p
+pending-oldest_out w (c ∷ cs) h p = h.1
 
-pending-roomy : (w : Placing) → Each IsPending w.pending → Each IsPending (roomy w).pending
-pending-roomy w p =
-    cond_both (nat_lt (length w.pending) 64) w (first_out w.pending w) (λ z. Each IsPending z.pending) (λ e. p)
-    (λ e. pending-first_out w w.pending p p)
+pending-with_room : (w : Walk) → Each IsPending w.pending → Each IsPending (with_room w).pending
+pending-with_room w p =
+    cond_both (nat_lt (length w.pending) 64) w (oldest_out w.pending w) (λ z. Each IsPending z.pending) (λ e. p)
+    (λ e. pending-oldest_out w w.pending p p)
 
-pending-read_in : (l : Loc) (t n : ℕ) (r : Reply) (w : Placing) → Each IsPending w.pending → (o : Option Scalar) → pending_value l w.pending ≡ o → Each IsPending (read_in l (entry_of t n (Read l false) r) o w).pending
-pending-read_in l t n r w p None h = p
-pending-read_in l t n r w p (Some v) h =
+pending-looked_up : (l : Loc) (t n : ℕ) (r : Reply) (w : Walk) → Each IsPending w.pending → (o : Option Scalar) → pending_value l w.pending ≡ o → Each IsPending (looked_up l (entry_of t n (Read l false) r) o w).pending
+pending-looked_up l t n r w p None h = p
+pending-looked_up l t n r w p (Some v) h =
     let e = entry_of t n (Read l false) r in
     each-changed l (with_read e) IsPending IsPending (λ c q. q) (read-pending l e (relaxed-reads t n l r)) w.pending v h p
 
-pending-write_in : (l : Loc) (u : Scalar) (t n : ℕ) (r : Reply) (w : Placing) → Each IsPending w.pending → (o : Option Scalar) → pending_value l w.pending ≡ o → Each IsPending (write_in l (entry_of t n (Write l u false) r) o w).pending
-pending-write_in l u t n r w p None h =
-    each-append IsPending (roomy w).pending (commit_of (entry_of t n (Write l u false) r) ∷ []) (pending-roomy w p)
+pending-put : (l : Loc) (u : Scalar) (t n : ℕ) (r : Reply) (w : Walk) → Each IsPending w.pending → (o : Option Scalar) → pending_value l w.pending ≡ o → Each IsPending (put l (entry_of t n (Write l u false) r) o w).pending
+pending-put l u t n r w p None h =
+    each-append IsPending (with_room w).pending (commit_of (entry_of t n (Write l u false) r) ∷ []) (pending-with_room w p)
     (record { loc = l; value = u; is = refl; here = relaxed-write t n l u r }, tt)
-pending-write_in l u t n r w p (Some v) h =
+pending-put l u t n r w p (Some v) h =
     let e = entry_of t n (Write l u false) r in
     each-changed l (combined e) IsPending IsPending (λ c q. q) (write-pending l u e refl (relaxed-write t n l u r)) w.pending v h p
 
-pub pending-moved : (t : ℕ) (w : Placing) (x : Item) → Each IsPending w.pending → Each IsPending (moved t w x).pending
-pending-moved t w Stall p = tt
-pending-moved t w (Did (Write l v false) r) p = pending-write_in l v t w.next r w p (pending_value l w.pending) refl
-pending-moved t w (Did (Read l false) r) p = pending-read_in l t w.next r w p (pending_value l w.pending) refl
-pending-moved t w (Did (Print x) r) p = p
-pending-moved t w (Did x r) p = tt
+pub pending-stepped : (t : ℕ) (w : Walk) (x : Item) → Each IsPending w.pending → Each IsPending (stepped t w x).pending
+pending-stepped t w Stall p = tt
+pending-stepped t w (Did (Write l v false) r) p = pending-put l v t w.next r w p (pending_value l w.pending) refl
+pending-stepped t w (Did (Read l false) r) p = pending-looked_up l t w.next r w p (pending_value l w.pending) refl
+pending-stepped t w (Did (Print x) r) p = p
+pending-stepped t w (Did x r) p = tt

@@ -9,8 +9,7 @@ use Rattle.upc_values.specs.declared.action.Reply.{Reply}
 use Rattle.upc_values.specs.declared.record.Item.{Item}
 use Rattle.upc_values.specs.declared.record.Item.TheVariants.{Did, Stall}
 use Rattle.upc_values.specs.declared.journal.Entry.{Entry}
-use Rattle.upc_values.specs.Orders.{Commit, commit_of, Placing, begun, all_out, first_out, roomy, put_in, put_out, pending_value, changed, with_read, combined, write_in, read_in, moved, moved_from, placing}
-use Rattle.upc_values.specs.Drain.{entry_of}
+use Rattle.upc_values.specs.Drain.{Commit, commit_of, Walk, start, emptied, oldest_out, with_room, stored, passed, pending_value, changed, with_read, combined, put, looked_up, stepped, walked_from, drained, entry_of}
 use Rattle.upc_values.proofs.Commits.{walk-keeps}
 
 -- how many of the commits have the number
@@ -30,11 +29,11 @@ counted-changed n m l f h (c ∷ cs) =
     (λ e. let k = counted-changed n m l f h cs in omega arith) (λ e. let k = h c in omega arith)
 
 -- each number below the next is there once at most, and no other
-pub record Numbered (w : Placing) : Type 0 where
+pub record Numbered (w : Walk) : Type 0 where
   pub once : (n : ℕ) → counted n w.emitted + counted n w.pending ≤ 1
   pub below : (n : ℕ) → w.next ≤ n → counted n w.emitted + counted n w.pending ≡ 0
 
-abbrev total : ℕ → Placing → ℕ
+abbrev total : ℕ → Walk → ℕ
 total n w = counted n w.emitted + counted n w.pending
 
 -- a new commit with the next number
@@ -48,92 +47,92 @@ new-below n m a h k =
     cond_both (m == n) 1 0 (λ z. a + z ≡ 0) (λ e. let q : m ≡ n = eqb-true m n e in absurd (omega arith))
     (λ e. let z : a ≡ 0 = k (omega arith) in omega arith)
 
-numbered-same : (w w' : Placing) → ((n : ℕ) → total n w' ≤ total n w) → w.next ≤ w'.next → Numbered w → Numbered w'
+numbered-same : (w w' : Walk) → ((n : ℕ) → total n w' ≤ total n w) → w.next ≤ w'.next → Numbered w → Numbered w'
 numbered-same w w' h le s =
     record {
       once = λ n. let e = h n in let b = s.once n in omega arith;
       below = λ n q. let e = h n in let b = s.below n (omega arith) in omega arith;
     }
 
-numbered-new : (w w' : Placing) → ((n : ℕ) → total n w' ≤ total n w + cond {A = ℕ} (w.next == n) 1 0) → w'.next ≡ w.next + 1 → Numbered w → Numbered w'
+numbered-new : (w w' : Walk) → ((n : ℕ) → total n w' ≤ total n w + cond {A = ℕ} (w.next == n) 1 0) → w'.next ≡ w.next + 1 → Numbered w → Numbered w'
 numbered-new w w' h le s =
     record {
       once = λ n. let a = h n in let b = new-once n w.next (total n w) (s.once n) (s.below n) in omega arith;
       below = λ n q. let a = h n in let b = new-below n w.next (total n w) (omega arith) (s.below n) in omega arith;
     }
 
-numbered-put_out : (e : Entry) (w : Placing) → e.index ≡ w.next → Numbered w → Numbered (put_out e w)
-numbered-put_out e w h s =
-    numbered-new w (put_out e w)
+numbered-passed : (e : Entry) (w : Walk) → e.index ≡ w.next → Numbered w → Numbered (passed e w)
+numbered-passed e w h s =
+    numbered-new w (passed e w)
     (λ n.
     let a = counted-append n w.emitted (commit_of e ∷ []) in
     let b : cond {A = ℕ} (e.index == n) 1 0 ≡ cond {A = ℕ} (w.next == n) 1 0 = ap (λ k. cond {A = ℕ} (k == n) 1 0) h in
     omega arith)
     refl s
 
-numbered-put_in : (e : Entry) (w : Placing) → e.index ≡ w.next → Numbered w → Numbered (put_in e w)
-numbered-put_in e w h s =
-    numbered-new w (put_in e w)
+numbered-stored : (e : Entry) (w : Walk) → e.index ≡ w.next → Numbered w → Numbered (stored e w)
+numbered-stored e w h s =
+    numbered-new w (stored e w)
     (λ n.
     let a = counted-append n w.pending (commit_of e ∷ []) in
     let b : cond {A = ℕ} (e.index == n) 1 0 ≡ cond {A = ℕ} (w.next == n) 1 0 = ap (λ k. cond {A = ℕ} (k == n) 1 0) h in
     omega arith)
     refl s
 
-numbered-all_out : (w : Placing) → Numbered w → Numbered (all_out w)
-numbered-all_out w s =
-    numbered-same w (all_out w) (λ n. let a = counted-append n w.emitted w.pending in omega arith) (omega arith) s
+numbered-emptied : (w : Walk) → Numbered w → Numbered (emptied w)
+numbered-emptied w s =
+    numbered-same w (emptied w) (λ n. let a = counted-append n w.emitted w.pending in omega arith) (omega arith) s
 
-numbered-first_out : (w : Placing) (cs : List Commit) → cs ≡ w.pending → Numbered w → Numbered (first_out cs w)
-numbered-first_out w [] h s = s
-numbered-first_out w (c ∷ cs) h s =
-    numbered-same w (first_out (c ∷ cs) w)
+numbered-oldest_out : (w : Walk) (cs : List Commit) → cs ≡ w.pending → Numbered w → Numbered (oldest_out cs w)
+numbered-oldest_out w [] h s = s
+numbered-oldest_out w (c ∷ cs) h s =
+    numbered-same w (oldest_out (c ∷ cs) w)
     (λ n. let a = counted-append n w.emitted (c ∷ []) in let b = ap (counted n) h in omega arith) (omega arith) s
 
-numbered-roomy : (w : Placing) → Numbered w → Numbered (roomy w)
-numbered-roomy w s =
-    cond_both (nat_lt (length w.pending) 64) w (first_out w.pending w) Numbered (λ e. s)
-    (λ e. numbered-first_out w w.pending refl s)
+numbered-with_room : (w : Walk) → Numbered w → Numbered (with_room w)
+numbered-with_room w s =
+    cond_both (nat_lt (length w.pending) 64) w (oldest_out w.pending w) Numbered (λ e. s)
+    (λ e. numbered-oldest_out w w.pending refl s)
 
-number-first_out : (w : Placing) (cs : List Commit) → (first_out cs w).next ≡ w.next
-number-first_out w [] = refl
-number-first_out w (c ∷ cs) = refl
+number-oldest_out : (w : Walk) (cs : List Commit) → (oldest_out cs w).next ≡ w.next
+number-oldest_out w [] = refl
+number-oldest_out w (c ∷ cs) = refl
 
-pub number-roomy : (w : Placing) → (roomy w).next ≡ w.next
-number-roomy w =
-    cond_both (nat_lt (length w.pending) 64) w (first_out w.pending w) (λ z. z.next ≡ w.next) (λ e. refl)
-    (λ e. number-first_out w w.pending)
+pub number-with_room : (w : Walk) → (with_room w).next ≡ w.next
+number-with_room w =
+    cond_both (nat_lt (length w.pending) 64) w (oldest_out w.pending w) (λ z. z.next ≡ w.next) (λ e. refl)
+    (λ e. number-oldest_out w w.pending)
 
-numbered-read_in : (l : Loc) (e : Entry) (o : Option Scalar) (w : Placing) → e.index ≡ w.next → Numbered w → Numbered (read_in l e o w)
-numbered-read_in l e None w h s = numbered-put_out e w h s
-numbered-read_in l e (Some v) w h s =
-    numbered-same w (read_in l e (Some v) w)
+numbered-looked_up : (l : Loc) (e : Entry) (o : Option Scalar) (w : Walk) → e.index ≡ w.next → Numbered w → Numbered (looked_up l e o w)
+numbered-looked_up l e None w h s = numbered-passed e w h s
+numbered-looked_up l e (Some v) w h s =
+    numbered-same w (looked_up l e (Some v) w)
     (λ n. let k = counted-changed n 0 l (with_read e) (λ c. omega arith) w.pending in omega arith) (omega arith) s
 
-numbered-write_in : (l : Loc) (e : Entry) (o : Option Scalar) (w : Placing) → e.index ≡ w.next → Numbered w → Numbered (write_in l e o w)
-numbered-write_in l e None w h s =
-    numbered-put_in e (roomy w) (h ∙ sym (number-roomy w)) (numbered-roomy w s)
-numbered-write_in l e (Some v) w h s =
-    numbered-new w (write_in l e (Some v) w)
+numbered-put : (l : Loc) (e : Entry) (o : Option Scalar) (w : Walk) → e.index ≡ w.next → Numbered w → Numbered (put l e o w)
+numbered-put l e None w h s =
+    numbered-stored e (with_room w) (h ∙ sym (number-with_room w)) (numbered-with_room w s)
+numbered-put l e (Some v) w h s =
+    numbered-new w (put l e (Some v) w)
     (λ n.
     let b : cond {A = ℕ} (e.index == n) 1 0 ≡ cond {A = ℕ} (w.next == n) 1 0 = ap (λ k. cond {A = ℕ} (k == n) 1 0) h in
     let k = counted-changed n (cond {A = ℕ} (e.index == n) 1 0) l (combined e) (λ c. omega arith) w.pending in
     omega arith)
     refl s
 
-numbered-strict : (t : ℕ) (w : Placing) (a : Action) (r : Reply) → Numbered w → Numbered (put_out (entry_of t w.next a r) (all_out w))
-numbered-strict t w a r s = numbered-put_out (entry_of t w.next a r) (all_out w) refl (numbered-all_out w s)
+numbered-strict : (t : ℕ) (w : Walk) (a : Action) (r : Reply) → Numbered w → Numbered (passed (entry_of t w.next a r) (emptied w))
+numbered-strict t w a r s = numbered-passed (entry_of t w.next a r) (emptied w) refl (numbered-emptied w s)
 
-numbered-moved : (t : ℕ) (w : Placing) (x : Item) → (moved t w x).agrees ≡ true → Numbered w → Numbered (moved t w x)
-numbered-moved t w Stall a s = numbered-all_out w s
-numbered-moved t w (Did (Write l v false) r) a s =
-    numbered-write_in l (entry_of t w.next (Write l v false) r) (pending_value l w.pending) w refl s
-numbered-moved t w (Did (Read l false) r) a s =
-    numbered-read_in l (entry_of t w.next (Read l false) r) (pending_value l w.pending) w refl s
-numbered-moved t w (Did (Print x) r) a s = numbered-put_out (entry_of t w.next (Print x) r) w refl s
-numbered-moved t w (Did x r) a s = numbered-strict t w x r s
+numbered-stepped : (t : ℕ) (w : Walk) (x : Item) → (stepped t w x).agrees ≡ true → Numbered w → Numbered (stepped t w x)
+numbered-stepped t w Stall a s = numbered-emptied w s
+numbered-stepped t w (Did (Write l v false) r) a s =
+    numbered-put l (entry_of t w.next (Write l v false) r) (pending_value l w.pending) w refl s
+numbered-stepped t w (Did (Read l false) r) a s =
+    numbered-looked_up l (entry_of t w.next (Read l false) r) (pending_value l w.pending) w refl s
+numbered-stepped t w (Did (Print x) r) a s = numbered-passed (entry_of t w.next (Print x) r) w refl s
+numbered-stepped t w (Did x r) a s = numbered-strict t w x r s
 
-pub numbered-placing : (t : ℕ) (items : List Item) → (placing t items).agrees ≡ true → Numbered (placing t items)
-numbered-placing t items a =
-    numbered-all_out (moved_from t begun items)
-    (walk-keeps t Numbered (numbered-moved t) begun items a (record { once = λ n. omega arith; below = λ n h. refl }))
+pub numbered-drained : (t : ℕ) (items : List Item) → (drained t items).agrees ≡ true → Numbered (drained t items)
+numbered-drained t items a =
+    numbered-emptied (walked_from t start items)
+    (walk-keeps t Numbered (numbered-stepped t) start items a (record { once = λ n. omega arith; below = λ n h. refl }))

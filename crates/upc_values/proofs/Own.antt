@@ -8,13 +8,13 @@ use Rattle.upc_values.specs.declared.record.Item.{Item}
 use Rattle.upc_values.specs.declared.record.Item.TheVariants.{Did, Stall}
 use Rattle.upc_values.specs.declared.journal.Entry.{Entry}
 use Rattle.upc_values.specs.Operations.{Access, Nothing, Reads, Writes, Writes_sync, Reads_sync, Writes_and_reads_sync, access, Operation, operations_by, accesses_of}
-use Rattle.upc_values.specs.Orders.{Placing, begun, all_out, pending_value, write_in, read_in, moved, moved_from, placing, operations_from, rank}
-use Rattle.upc_values.specs.Drain.{entry_of}
+use Rattle.upc_values.specs.Orders.{operations_from, rank}
+use Rattle.upc_values.specs.Drain.{Walk, start, emptied, pending_value, put, looked_up, stepped, walked_from, drained, entry_of}
 use Rattle.upc_values.specs.Lists.{Each, Has, Pairwise}
 use Rattle.upc_values.specs.Consistent.{conflict}
 use Rattle.upc_values.proofs.Membership.{each-append, each-front, each-back, each-weaker, pairs-insert, has-left, has-right, has-cases}
-use Rattle.upc_values.proofs.Numbering.{number-roomy}
-use Rattle.upc_values.proofs.Growth.{ops, all_ops, Grows, IsPending, ops-all_out, item_ops, grows-moved, pending-moved}
+use Rattle.upc_values.proofs.Numbering.{number-with_room}
+use Rattle.upc_values.proofs.Growth.{ops, all_ops, Grows, IsPending, ops-emptied, item_ops, grows-stepped, pending-stepped}
 
 -- two operations of one thread, of which a stands first
 abbrev pub Placed : Operation → Operation → Type 0
@@ -114,7 +114,7 @@ has-grown old more new g o h =
     ])
 
 -- what holds of a walk that has performed these operations
-pub record Kept (t : ℕ) (w : Placing) (performed : List Operation) : Type 0 where
+pub record Kept (t : ℕ) (w : Walk) (performed : List Operation) : Type 0 where
   pub pairs : Pairwise Placed (all_ops w)
   pub old : Each (IsOld t w.next) (all_ops w)
   pub has : (o : Operation) → Has performed o → Has (all_ops w) o
@@ -126,22 +126,22 @@ abbrev size : Item → ℕ
 size Stall = 0
 size (Did a r) = 1
 
-number-read_in : (l : Loc) (e : Entry) (o : Option Scalar) (w : Placing) → (read_in l e o w).next ≡ w.next + 1
-number-read_in l e None w = refl
-number-read_in l e (Some v) w = refl
+number-looked_up : (l : Loc) (e : Entry) (o : Option Scalar) (w : Walk) → (looked_up l e o w).next ≡ w.next + 1
+number-looked_up l e None w = refl
+number-looked_up l e (Some v) w = refl
 
-number-write_in : (l : Loc) (e : Entry) (o : Option Scalar) (w : Placing) → (write_in l e o w).next ≡ w.next + 1
-number-write_in l e None w = ap (λ n. n + 1) (number-roomy w)
-number-write_in l e (Some v) w = refl
+number-put : (l : Loc) (e : Entry) (o : Option Scalar) (w : Walk) → (put l e o w).next ≡ w.next + 1
+number-put l e None w = ap (λ n. n + 1) (number-with_room w)
+number-put l e (Some v) w = refl
 
-number-moved : (t : ℕ) (w : Placing) (x : Item) → (moved t w x).next ≡ w.next + size x
-number-moved t w Stall = omega arith
-number-moved t w (Did (Write l v false) r) =
-    number-write_in l (entry_of t w.next (Write l v false) r) (pending_value l w.pending) w
-number-moved t w (Did (Read l false) r) =
-    number-read_in l (entry_of t w.next (Read l false) r) (pending_value l w.pending) w
-number-moved t w (Did (Print x) r) = refl
-number-moved t w (Did x r) = refl
+number-stepped : (t : ℕ) (w : Walk) (x : Item) → (stepped t w x).next ≡ w.next + size x
+number-stepped t w Stall = omega arith
+number-stepped t w (Did (Write l v false) r) =
+    number-put l (entry_of t w.next (Write l v false) r) (pending_value l w.pending) w
+number-stepped t w (Did (Read l false) r) =
+    number-looked_up l (entry_of t w.next (Read l false) r) (pending_value l w.pending) w
+number-stepped t w (Did (Print x) r) = refl
+number-stepped t w (Did x r) = refl
 
 new-old : (t n m : ℕ) (x : Item) → m ≡ n + size x → Each (IsOld t m) (item_ops t n x)
 new-old t n m Stall h = tt
@@ -151,55 +151,55 @@ new-old t n m (Did a r) h =
 old-old : (t n m : ℕ) (os : List Operation) → n ≤ m → Each (IsOld t n) os → Each (IsOld t m) os
 old-old t n m os h k = each-weaker (IsOld t n) (IsOld t m) (λ o q. (q.0, omega (arith, q.1))) os k
 
-kept-moved : (t : ℕ) (w : Placing) (x : Item) (performed : List Operation) → Kept t w performed → Kept t (moved t w x) (performed ++ item_ops t w.next x)
-kept-moved t w x performed k =
+kept-stepped : (t : ℕ) (w : Walk) (x : Item) (performed : List Operation) → Kept t w performed → Kept t (stepped t w x) (performed ++ item_ops t w.next x)
+kept-stepped t w x performed k =
     let more = item_ops t w.next x in
-    let new = all_ops (moved t w x) in
-    let g = grows-moved t w x k.pending in
-    let num = number-moved t w x in
+    let new = all_ops (stepped t w x) in
+    let g = grows-stepped t w x k.pending in
+    let num = number-stepped t w x in
     record {
       pairs = grown-pairs t w.next (all_ops w) more new g k.old (new-item t w.next x) (placed-item t w.next x) k.pairs;
       old =
-          grown-each (IsOld t (moved t w x).next) (all_ops w) more new g
-          (old-old t w.next (moved t w x).next (all_ops w) (omega arith) k.old)
-          (new-old t w.next (moved t w x).next x num);
+          grown-each (IsOld t (stepped t w x).next) (all_ops w) more new g
+          (old-old t w.next (stepped t w x).next (all_ops w) (omega arith) k.old)
+          (new-old t w.next (stepped t w x).next x num);
       has = λ o h.
           has-grown (all_ops w) more new g o
           (elim (has-cases performed more o h) [ inl p ↦ has-left (all_ops w) more o (k.has o p) | inr m ↦ has-right (all_ops w) more o m ]);
       only = λ o h.
           elim (has-cases (all_ops w) more o (grown-has (all_ops w) more new g o h)) [ inl p ↦ has-left performed more o (k.only o p) | inr m ↦ has-right performed more o m ];
-      pending = pending-moved t w x k.pending;
+      pending = pending-stepped t w x k.pending;
     }
 
 operations-item : (t n m : ℕ) (x : Item) (xs : List Item) → m ≡ n + size x → operations_from t n (x ∷ xs) ≡ item_ops t n x ++ operations_from t m xs
 operations-item t n m Stall xs h = ap (λ k. operations_from t k xs) (let e : n ≡ m = omega arith in e)
 operations-item t n m (Did a r) xs h = ap (λ k. accesses_of t n a r ++ operations_from t k xs) (sym h)
 
-kept-moved_from : (t : ℕ) (w : Placing) (xs : List Item) (performed : List Operation) → Kept t w performed → Kept t (moved_from t w xs) (performed ++ operations_from t w.next xs)
-kept-moved_from t w [] performed k = subst (Kept t w) (sym (append-nil performed)) k
-kept-moved_from t w (x ∷ xs) performed k =
-    let n = (moved t w x).next in
-    subst (Kept t (moved_from t (moved t w x) xs))
+kept-walked_from : (t : ℕ) (w : Walk) (xs : List Item) (performed : List Operation) → Kept t w performed → Kept t (walked_from t w xs) (performed ++ operations_from t w.next xs)
+kept-walked_from t w [] performed k = subst (Kept t w) (sym (append-nil performed)) k
+kept-walked_from t w (x ∷ xs) performed k =
+    let n = (stepped t w x).next in
+    subst (Kept t (walked_from t (stepped t w x) xs))
     (append_assoc performed (item_ops t w.next x) (operations_from t n xs)
-    ∙ ap (λ z. performed ++ z) (sym (operations-item t w.next n x xs (number-moved t w x))))
-    (kept-moved_from t (moved t w x) xs (performed ++ item_ops t w.next x) (kept-moved t w x performed k))
+    ∙ ap (λ z. performed ++ z) (sym (operations-item t w.next n x xs (number-stepped t w x))))
+    (kept-walked_from t (stepped t w x) xs (performed ++ item_ops t w.next x) (kept-stepped t w x performed k))
 
-kept-all_out : (t : ℕ) (w : Placing) (performed : List Operation) → Kept t w performed → Kept t (all_out w) performed
-kept-all_out t w performed k =
-    let e = sym (ops-all_out w) in
+kept-emptied : (t : ℕ) (w : Walk) (performed : List Operation) → Kept t w performed → Kept t (emptied w) performed
+kept-emptied t w performed k =
+    let e = sym (ops-emptied w) in
     record {
       pairs = subst (Pairwise Placed) e k.pairs;
       old = subst (Each (IsOld t w.next)) e k.old;
       has = λ o h. subst (λ l. Has l o) e (k.has o h);
-      only = λ o h. k.only o (subst (λ l. Has l o) (ops-all_out w) h);
+      only = λ o h. k.only o (subst (λ l. Has l o) (ops-emptied w) h);
       pending = tt;
     }
 
-pub kept-placing : (t : ℕ) (items : List Item) → Kept t (placing t items) (operations_from t 0 items)
-kept-placing t items =
-    kept-all_out t (moved_from t begun items) (operations_from t 0 items)
-    (kept-moved_from t begun items [] (record { pairs = tt; old = tt; has = λ o h. h; only = λ o h. h; pending = tt }))
+pub kept-drained : (t : ℕ) (items : List Item) → Kept t (drained t items) (operations_from t 0 items)
+kept-drained t items =
+    kept-emptied t (walked_from t start items) (operations_from t 0 items)
+    (kept-walked_from t start items [] (record { pairs = tt; old = tt; has = λ o h. h; only = λ o h. h; pending = tt }))
 
 -- a thread's operations in the order of its commits
 abbrev pub own : ℕ → List Item → List Operation
-own t items = ops (placing t items).emitted
+own t items = ops (drained t items).emitted

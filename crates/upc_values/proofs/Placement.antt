@@ -5,16 +5,15 @@ use Rattle.block_layout.specs.declared.place.Loc.{Loc}
 use Rattle.upc_values.specs.declared.scalar.Scalar.{Scalar}
 use Rattle.upc_values.specs.declared.journal.Entry.{Entry}
 use Rattle.upc_values.specs.declared.journal.Journal.{Journal}
-use Rattle.upc_values.specs.Orders.{no_strand, record_of, Commit, placing, operations_at, placed, global_order, is_shown, thread_order}
+use Rattle.upc_values.specs.Orders.{no_strand, record_of, operations_at, placed, global_order, is_shown, thread_order}
 use Rattle.upc_values.specs.Operations.{Operation}
-use Rattle.upc_values.specs.Drain.{entries_of}
+use Rattle.upc_values.specs.Drain.{Commit, entries_in, drained, entries_of}
 use Rattle.upc_values.specs.History.{EachBelow}
 use Rattle.upc_values.specs.Consistent.{FollowsBuffers, ReadsLast}
 use Rattle.upc_values.proofs.Values.{StandsFor, EachStands, AreAnsweredFrom, global-reads, matches-none, reads-filter}
-use Rattle.upc_values.proofs.Commits.{AllStand, sound-placing}
-use Rattle.upc_values.proofs.Numbering.{counted, numbered-placing}
+use Rattle.upc_values.proofs.Commits.{AllStand, sound-drained}
+use Rattle.upc_values.proofs.Numbering.{counted, numbered-drained}
 use Rattle.upc_values.proofs.Membership.{has-filter}
-use Rattle.upc_values.proofs.Drained.{entries_in, drain-plain, agrees-plain}
 use Rattle.upc_values.specs.Lists.{Has}
 
 counted-none : (e : Entry) (cs : List Commit) → counted e.index cs ≡ 0 → Has (map (λ c. c.entry) cs) e → ⊥
@@ -40,21 +39,21 @@ found e (c ∷ cs) s h (inr m) =
     (λ t. found e cs s.1 (omega arith) m)
 
 -- what the buffers emit, thread by thread
-pub agrees-of : (j : Journal) (t : ℕ) → FollowsBuffers j → t < j.threads → (placing t (record_of j t)).agrees ≡ true
-agrees-of j t f h = agrees-plain t (record_of j t) ∙ f.agrees t no_strand (subst (λ n. t < n) (sym f.many) h)
+pub agrees-of : (j : Journal) (t : ℕ) → FollowsBuffers j → t < j.threads → (drained t (record_of j t)).agrees ≡ true
+agrees-of j t f h = f.agrees t no_strand (subst (λ n. t < n) (sym f.many) h)
 
-pub drains-of : (j : Journal) (t : ℕ) → FollowsBuffers j → t < j.threads → entries_of t j.history ≡ entries_in (placing t (record_of j t)).emitted
-drains-of j t f h = f.drains t no_strand (subst (λ n. t < n) (sym f.many) h) ∙ sym (drain-plain t (record_of j t))
+pub drains-of : (j : Journal) (t : ℕ) → FollowsBuffers j → t < j.threads → entries_of t j.history ≡ entries_in (drained t (record_of j t)).emitted
+drains-of j t f h = f.drains t no_strand (subst (λ n. t < n) (sym f.many) h)
 
 stands-placed : (j : Journal) → FollowsBuffers j → (e : Entry) → e.thread < j.threads → Has j.history e → StandsFor e (placed j e)
 stands-placed j f e h m =
     let items = record_of j e.thread in
-    let w = placing e.thread items in
+    let w = drained e.thread items in
     let a = agrees-of j e.thread f h in
-    let once = (numbered-placing e.thread items a).once e.index in
+    let once = (numbered-drained e.thread items a).once e.index in
     let here : Has (entries_of e.thread j.history) e =
     has-filter (λ x. x.thread == e.thread) j.history e (eq-eqb e.thread e.thread refl) m in
-    found e w.emitted (sound-placing e.thread items a).emitted (omega arith)
+    found e w.emitted (sound-drained e.thread items a).emitted (omega arith)
     (subst (λ l. Has l e) (drains-of j e.thread f h) here)
 
 each-stands : (j : Journal) → FollowsBuffers j → (es : List Entry) → EachBelow (j.threads) es → ((e : Entry) → Has es e → Has j.history e) → EachStands (placed j) es

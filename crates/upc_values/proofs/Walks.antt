@@ -7,7 +7,7 @@ use Rattle.upc_values.specs.declared.record.Item.{Item}
 use Rattle.upc_values.specs.declared.record.Item.TheVariants.{Did, Stall}
 use Rattle.upc_values.specs.declared.journal.Entry.{Entry}
 use Rattle.upc_values.specs.Lists.{Each}
-use Rattle.upc_values.specs.Drain.{Walk, start, emptied, oldest_out, with_room, stepped, walked_from, walked, entries_of}
+use Rattle.upc_values.specs.Drain.{Commit, Walk, start, emptied, oldest_out, with_room, stepped, walked_from, walked, entries_of}
 use Rattle.upc_values.specs.Records.{last_from, last_item, is_stall, is_beat_item}
 use Rattle.upc_values.specs.Ends.{is_pause}
 
@@ -43,7 +43,7 @@ beat-pauses o h = cond_both (is_stall o) true (is_beat_item o) (λ b. b ≡ true
 -- an empty buffer, emptied
 pub emptied-same : (w : Walk) → w.pending ≡ [] → emptied w ≡ w
 emptied-same w h =
-    let P : List Entry → List Entry → Type 0 =
+    let P : List Commit → List Commit → Type 0 =
     λ es ps. emptied w ≡ record { next = w.next; emitted = es; pending = ps; agrees = w.agrees } in
     subst (λ ps. P w.emitted ps) (sym h)
     (subst (λ es. P es []) (ap (λ ps. w.emitted ++ ps) h ∙ append-nil w.emitted) refl)

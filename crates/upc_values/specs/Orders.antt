@@ -1,12 +1,8 @@
--- The orders of a journal's operations: each entry of the history stands for its own operations and for the reads that
--- its pending write has answered.
-use Rattle.std.specs.Prelude.{ℕ, ◌≡◌, ◌+◌, ◌*◌, ◌<◌, ◌==◌, nat_lt, Bool, true, false, ◌&&◌, ◌||◌, cond, List, [], ◌∷◌}
-use Rattle.std.specs.Prelude.{◌++◌, length, filter, Option, Some, None, is_some, slice_index_or}
+-- The orders of a journal's operations: each entry of the history stands for its own operations, for those of the writes
+-- combined into it, and for the reads that one of these has answered.
+use Rattle.std.specs.Prelude.{ℕ, ◌≡◌, ◌+◌, ◌*◌, ◌<◌, ◌==◌, Bool, true, ◌||◌, cond, List, [], ◌∷◌}
+use Rattle.std.specs.Prelude.{◌++◌, filter, slice_index_or}
 use Rattle.std.specs.List.{flat_map}
-use Rattle.block_layout.specs.declared.place.Loc.{Loc}
-use Rattle.upc_values.specs.declared.scalar.Scalar.{Scalar}
-use Rattle.upc_values.specs.declared.action.Action.{Action}
-use Rattle.upc_values.specs.declared.action.Action.TheVariants.{Read, Write, Print}
 use Rattle.upc_values.specs.declared.record.Item.{Item}
 use Rattle.upc_values.specs.declared.record.Item.TheVariants.{Did, Stall}
 use Rattle.upc_values.specs.declared.record.End.TheVariants.{Halted}
@@ -15,121 +11,8 @@ use Rattle.upc_values.specs.declared.journal.Strand.{Strand}
 use Rattle.upc_values.specs.declared.journal.Journal.{Journal}
 use Rattle.upc_values.specs.declared.order.Op.{Op}
 use Rattle.upc_values.specs.Lists.{Has, Precedes}
-use Rattle.upc_values.specs.Drain.{entry_of, written, or_else, is_value, is_done}
+use Rattle.upc_values.specs.Drain.{Commit, commits, entry_of}
 use Rattle.upc_values.specs.Operations.{Operation, accesses}
-
--- an entry, with the operations that stand in its place: those of its group in program order, which are its own, those
--- of the writes combined into it, and those of the reads whose source one of them is
-pub record Commit : Type 0 where
-  pub entry : Entry
-  pub operations : List Operation
-
--- an entry with its own operations
-abbrev pub commit_of : Entry → Commit
-commit_of e = record { entry = e; operations = accesses e }
-
--- the drain of a thread's items, over commits in place of entries
-pub record Placing : Type 0 where
-  pub next : ℕ
-  pub emitted : List Commit
-  pub pending : List Commit
-  pub agrees : Bool
-
--- before the first item
-abbrev pub begun : Placing
-begun = record { next = 0; emitted = []; pending = []; agrees = true }
-
--- all pending, in order
-abbrev pub all_out : Placing → Placing
-all_out w = record { next = w.next; emitted = w.emitted ++ w.pending; pending = []; agrees = w.agrees }
-
--- the oldest leaves
-abbrev pub first_out : List Commit → Placing → Placing
-first_out [] w = w
-first_out (c ∷ cs) w = record { next = w.next; emitted = w.emitted ++ c ∷ []; pending = cs; agrees = w.agrees }
-
--- if 64 are pending, the oldest leaves
-abbrev pub roomy : Placing → Placing
-roomy w = cond (nat_lt (length w.pending) 64) w (first_out w.pending w)
-
--- the entry becomes pending, as the last
-abbrev pub put_in : Entry → Placing → Placing
-put_in e w = record {
-  next = w.next + 1;
-  emitted = w.emitted;
-  pending = w.pending ++ commit_of e ∷ [];
-  agrees = w.agrees && is_done e.reply;
-}
-
--- the entry itself
-abbrev pub put_out : Entry → Placing → Placing
-put_out e w = record {
-  next = w.next + 1;
-  emitted = w.emitted ++ commit_of e ∷ [];
-  pending = w.pending;
-  agrees = w.agrees;
-}
-
--- the value of the last pending write of the location
-abbrev pub pending_value : Loc → List Commit → Option Scalar
-pending_value l [] = None
-pending_value l (c ∷ cs) = or_else (pending_value l cs) (written l c.entry.action)
-
--- the last pending write of the location is changed
-abbrev pub changed : Loc → (Commit → Commit) → List Commit → List Commit
-changed l f [] = []
-changed l f (c ∷ cs) = cond (is_some (pending_value l cs)) (c ∷ changed l f cs) (f c ∷ cs)
-
--- it becomes the source of a read
-abbrev pub with_read : Entry → Commit → Commit
-with_read e c = record { entry = c.entry; operations = c.operations ++ accesses e }
-
--- it is combined into this write, which stands in its place
-abbrev pub combined : Entry → Commit → Commit
-combined e c = record { entry = e; operations = c.operations ++ accesses e }
-
--- a relaxed write: it stands in the place of the pending write of its location, else it becomes pending, as the last
-abbrev pub write_in : Loc → Entry → Option Scalar → Placing → Placing
-write_in l e None w = put_in e (roomy w)
-write_in l e (Some v) w =
-    record {
-      next = w.next + 1;
-      emitted = w.emitted;
-      pending = changed l (combined e) w.pending;
-      agrees = w.agrees && is_done e.reply;
-    }
-
--- a relaxed read: it stands with the last pending write of its location, else it is itself emitted
-abbrev pub read_in : Loc → Entry → Option Scalar → Placing → Placing
-read_in l e None w = put_out e w
-read_in l e (Some v) w =
-    record {
-      next = w.next + 1;
-      emitted = w.emitted;
-      pending = changed l (with_read e) w.pending;
-      agrees = w.agrees && is_value v e.reply;
-    }
-
--- one more action, as in the drain
-abbrev pub acted : Entry → Action → Placing → Placing
-acted e (Write l v false) w = write_in l e (pending_value l w.pending) w
-acted e (Read l false) w = read_in l e (pending_value l w.pending) w
-acted e (Print x) w = put_out e w
-acted e a w = put_out e (all_out w)
-
--- one more item: a Stall empties the buffer
-abbrev pub moved : ℕ → Placing → Item → Placing
-moved t w Stall = all_out w
-moved t w (Did a r) = acted (entry_of t w.next a r) a w
-
--- one item after another
-abbrev pub moved_from : ℕ → Placing → List Item → Placing
-moved_from t w [] = w
-moved_from t w (x ∷ xs) = moved_from t (moved t w x) xs
-
--- the items' entries as they are emitted, each with the operations that stand in its place
-abbrev pub placing : ℕ → List Item → Placing
-placing t items = all_out (moved_from t begun items)
 
 -- where there is no strand
 abbrev pub no_strand : Strand
@@ -146,7 +29,7 @@ operations_at n (c ∷ cs) = cond (c.entry.index == n) c.operations (operations_
 
 -- the operations that stand in an entry's place
 abbrev pub placed : Journal → Entry → List Operation
-placed j e = operations_at e.index (placing e.thread (record_of j e.thread)).emitted
+placed j e = operations_at e.index (commits e.thread (record_of j e.thread))
 
 -- the history with each entry replaced by its operations
 abbrev pub global_order : Journal → List Operation
