@@ -11,11 +11,8 @@ mod locks;
 mod meets;
 mod parts;
 mod step;
-mod walk;
 mod world;
-mod writes;
 
 pub use shared_heap::Beginning;
 pub use step::Step;
-pub use walk::drain;
 pub use world::World;
