@@ -1,6 +1,7 @@
 pub mod Agreeing
 pub mod Legality
 pub mod Lists
+pub mod Joining
 pub mod Places
 pub mod Waits
 pub mod Walks

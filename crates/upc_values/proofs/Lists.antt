@@ -1,7 +1,8 @@
 -- What holds of each member of a list.
-use Rattle.std.proofs.Common.{◌≡◌, ◌+◌, sym, subst, ◌∙◌, inl, inr, ℕ, ◌<◌, List, [], ◌∷◌, ◌++◌, length, get_or, take, arith}
+use Rattle.std.proofs.Common.{◌≡◌, ◌+◌, ◌↔◌, All, sym, subst, ◌∙◌, inl, inr, ℕ, ◌<◌, List, [], ◌∷◌, ◌++◌, length, get_or, take, arith}
 use Rattle.std.proofs.lemmas.Bool.{cases_eq}
 use Rattle.std.proofs.lemmas.List.{get_or_default}
+use Rattle.std.proofs.lemmas.List.Elements.{All-cons}
 use Rattle.upc_values.specs.Lists.{Each}
 
 pub each-push : {X : Type 0} (P : X → Type 0) (xs : List X) (x : X) → Each P xs → P x → Each P (xs ++ x ∷ [])
@@ -30,3 +31,16 @@ below-more P xs i x lt is h p k d b =
       | inl e ↦ subst (λ j. P j (get_or xs j d)) (sym e) (subst (P i) (is ∙ get_or_default xs i x d lt) p)
       | inr ne ↦ h k d (omega arith)
     ]
+
+-- P holds of the first member: it holds of each of a list exactly where it holds of each after the first
+pub all-next : {X : Type 0} (P : X → Type 0) (x : X) (rest left xs : List X) → left ≡ x ∷ rest → P x
+    → (All P left ↔ All P xs) → (All P rest ↔ All P xs)
+all-next P x rest left xs is p h = (
+  λ r. h.0 (subst (All P) (sym is) (All-cons P x rest p r)),
+  λ a k d lt. subst (All P) is (h.1 a) (ℕ.suc k) d (omega arith),
+)
+
+-- where it holds of each, it holds of the first that is left
+pub all-first : {X : Type 0} (P : X → Type 0) (x : X) (rest left xs : List X) → left ≡ x ∷ rest
+    → (All P left ↔ All P xs) → All P xs → P x
+all-first P x rest left xs is h a = subst (All P) is (h.1 a) 0 x (omega arith)

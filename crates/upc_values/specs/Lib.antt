@@ -1,4 +1,5 @@
 pub mod Lists
+pub mod Chunks
 pub mod Scalars
 pub mod Shapes
 pub mod Records

@@ -1,12 +1,13 @@
 //! Whether the history and the records of a journal agree.
 
-ghost use Rattle.std.specs.Prelude.{◌≡◌, ◌≤◌, ◌<◌, ◌↔◌, IsTrue, All};
+ghost use Rattle.std.specs.Prelude.{◌≡◌, ◌≤◌, ◌<◌, ◌↔◌, IsTrue, All, length, slice_index_or};
+ghost use Rattle.upc_values.specs.declared.record.Item.{Item};
 ghost use Rattle.upc_values.specs.declared.record.Item.TheVariants.{Did};
 ghost use Rattle.upc_values.specs.Agrees.{IsIn, Agrees, is_did, IsPlace, IsPlaceOf};
 
 use crate::equal::{same_action, same_reply};
-use crate::journal::{Entry, Journal};
-use crate::record::Item;
+use crate::journal::{Entries, Entry, Journal};
+use crate::record::{Item, Items};
 
 // A place in a record: how many items stand before it, and how many of them are actions.
 #[derive(Clone, Copy)]
@@ -21,8 +22,18 @@ fn is_action(item: &Item) -> bool
     matches!(item, Item::Did(_, _))
 }
 
+fn is_action_at(items: &Items, at: usize) -> bool
+    requires { at < length items.now }
+    ensures { (d : Item) → result ≡ is_did (slice_index_or items.now at d) }
+{
+    match items.get(at) {
+        Some(item) => is_action(item),
+        None => unreachable!(),
+    }
+}
+
 // Goes back to a place with at most this many actions before it.
-fn back(items: &[Item], from: Place, number: usize) -> Place
+fn back(items: &Items, from: Place, number: usize) -> Place
     requires { IsPlace items.now from.at from.number }
     ensures place { IsPlace items.now result.at result.number }
     ensures most { result.number ≤ number }
@@ -30,7 +41,7 @@ fn back(items: &[Item], from: Place, number: usize) -> Place
     let mut place = from;
     while place.number > number {
         place.at -= 1;
-        if is_action(&items[place.at]) {
+        if is_action_at(items, place.at) {
             place.number -= 1;
         }
     }
@@ -38,14 +49,14 @@ fn back(items: &[Item], from: Place, number: usize) -> Place
 }
 
 // Goes on to the action of this number.
-fn forward(items: &[Item], from: Place, number: usize) -> Place
+fn forward(items: &Items, from: Place, number: usize) -> Place
     requires place { IsPlace items.now from.at from.number }
     requires most { from.number ≤ number }
     ensures { IsPlaceOf items.now number result.at result.number }
 {
     let mut place = from;
     while place.at < items.len() {
-        if is_action(&items[place.at]) {
+        if is_action_at(items, place.at) {
             if place.number == number {
                 return place;
             }
@@ -57,7 +68,7 @@ fn forward(items: &[Item], from: Place, number: usize) -> Place
 }
 
 // The place of the action of this number.
-fn seek(items: &[Item], from: Place, number: usize) -> Place
+fn seek(items: &Items, from: Place, number: usize) -> Place
     requires { IsPlace items.now from.at from.number }
     ensures { IsPlaceOf items.now number result.at result.number }
 {
@@ -76,7 +87,7 @@ fn is_did_as(item: &Item, entry: &Entry) -> bool
 }
 
 // Whether the entry is the action at its place.
-fn is_at(items: &[Item], place: Place, entry: &Entry) -> bool
+fn is_at(items: &Items, place: Place, entry: &Entry) -> bool
     requires { IsPlaceOf items.now entry.now.index place.at place.number }
     ensures { IsTrue result ↔ IsIn items.now entry.now }
 {
@@ -87,11 +98,11 @@ fn is_at(items: &[Item], place: Place, entry: &Entry) -> bool
 }
 
 // Whether each entry of the thread is an action of the record.
-fn are_in(items: &[Item], thread: usize, history: &[Entry]) -> bool
+fn are_in(items: &Items, thread: usize, history: &Entries) -> bool
     ensures { IsTrue result ↔ All (λ e. e.thread ≡ thread → IsIn items.now e) history.now }
 {
     let mut place = Place { at: 0, number: 0 };
-    for entry in history {
+    for entry in history.iter() {
         if entry.thread as usize == thread {
             place = seek(items, place, entry.index as usize);
             if !is_at(items, place, entry) {
@@ -103,7 +114,7 @@ fn are_in(items: &[Item], thread: usize, history: &[Entry]) -> bool
 }
 
 // Whether each entry's thread is one of the first `count`.
-fn are_below(count: usize, history: &[Entry]) -> bool
+fn are_below(count: usize, history: &Entries) -> bool
     ensures { IsTrue result ↔ All (λ e. e.thread < count) history.now }
 {
     history.iter().all(|entry| (entry.thread as usize) < count)
@@ -113,13 +124,13 @@ fn are_below(count: usize, history: &[Entry]) -> bool
 pub fn agrees(journal: &Journal) -> bool
     ensures { IsTrue result ↔ Agrees journal.now }
 {
-    let history = journal.history.as_slice();
+    let history = &journal.history;
     let strands = journal.strands.as_slice();
     if !are_below(strands.len(), history) {
         return false;
     }
     for (thread, strand) in strands.iter().enumerate() {
-        if !are_in(strand.items.as_slice(), thread, history) {
+        if !are_in(&strand.items, thread, history) {
             return false;
         }
     }

@@ -1,6 +1,7 @@
 //! A whole run.
 
 use crate::action::{Action, Reply};
+use crate::chunked::Chunked;
 use crate::listing::Listing;
 use crate::record::{End, Items};
 
@@ -13,8 +14,8 @@ pub struct Entry {
     pub reply: Reply,
 }
 
-/// A history.
-pub type Entries = Listing<Entry>;
+/// A history: its entries in chunks.
+pub type Entries = Chunked<Entry>;
 
 /// What one thread did, its ticks, and how it ended.
 #[derive(Drop)]

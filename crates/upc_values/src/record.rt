@@ -1,7 +1,7 @@
 //! What one thread did, and how it ended.
 
 use crate::action::{Action, Reply};
-use crate::listing::Listing;
+use crate::chunked::Chunked;
 use upc_text::Place;
 
 /// One item of a thread's record.
@@ -13,8 +13,8 @@ pub enum Item {
     Stall,
 }
 
-/// A thread's record.
-pub type Items = Listing<Item>;
+/// A thread's record: its items in chunks.
+pub type Items = Chunked<Item>;
 
 /// What a thread's source comes to on given replies.
 #[derive(Drop)]

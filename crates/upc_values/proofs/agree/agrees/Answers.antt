@@ -7,17 +7,15 @@ use Rattle.upc_values.proofs.agree.agrees.Goals as goal
 
 pub loop-thread-preserved : goal.loop-thread-preserved
 loop-thread-preserved c =
-    let history = c.as_slice-history.result.now in
+    let history = c.args.journal.now.history in
     let strands = c.as_slice-strands.result.now in
     let s = c.index-strands-thread.result in
-    let here : All (λ e. e.thread ≡ c.loop-thread.thread → IsIn s.items e) history =
-    subst (λ items. All (λ e. e.thread ≡ c.loop-thread.thread → IsIn items e) history) c.as_slice.ensures (c.are_in.ensures.0 c.if-not-are_in.false) in
-    below-more (λ (t : ℕ) (x : Strand). All (λ e. e.thread ≡ t → IsIn x.items e) history) strands c.loop-thread.thread s c.loop-thread-test.true c.index-strands-thread.is c.loop-thread.invariant here
+    below-more (λ (t : ℕ) (x : Strand). All (λ e. e.thread ≡ t → IsIn x.items e) history) strands c.loop-thread.thread s c.loop-thread-test.true c.index-strands-thread.is c.loop-thread.invariant (c.are_in.ensures.0 c.if-not-are_in.false)
 
 pub returns : goal.returns
 returns c =
-    let all : All (IsOf c.args.journal.now.strands) c.args.journal.now.history =
-    subst (λ strands. All (IsOf strands) c.args.journal.now.history) c.as_slice-strands.ensures
-    (subst (λ history. All (IsOf c.as_slice-strands.result.now) history) c.as_slice-history.ensures
-    (agrees-each c.as_slice-strands.result.now c.as_slice-history.result.now c.loop-thread.thread (c.are_below.ensures.0 c.if-not-are_below.false) c.loop-thread-test.false c.loop-thread.invariant)) in
+    let history = c.args.journal.now.history in
+    let all : All (IsOf c.args.journal.now.strands) history =
+    subst (λ strands. All (IsOf strands) history) c.as_slice-strands.ensures
+    (agrees-each c.as_slice-strands.result.now history c.loop-thread.thread (c.are_below.ensures.0 c.if-not-are_below.false) c.loop-thread-test.false c.loop-thread.invariant) in
     (λ _. all, λ _. refl)

@@ -1,22 +1,33 @@
-use Rattle.std.proofs.Common.{◌≡◌, ℕ, subst, sym}
+use Rattle.std.proofs.Common.{◌≡◌}
+use Rattle.std.proofs.lemmas.Bool.{false≢true}
 use Rattle.upc_values.specs.declared.journal.Entry.{Entry}
-use Rattle.upc_values.specs.Agrees.{IsIn, IsPlace}
-use Rattle.upc_values.proofs.Lists.{below-more}
+use Rattle.upc_values.specs.Agrees.{IsIn}
+use Rattle.upc_values.proofs.Lists.{all-next, all-first}
 use Rattle.upc_values.proofs.agree.are_in.Goals as goal
-use Rattle.upc_values.proofs.agree.are_in.Goals.{then-entry-thread+else-not-is_at, else-entry-thread}
 
 pub loop-entry-preserved : goal.loop-entry-preserved
-loop-entry-preserved c =
-    let items = c.args.items.now in
-    let e = c.entry-item.result in
-    let more = below-more (λ (k : ℕ) (x : Entry). x.thread ≡ c.args.thread → IsIn items x) c.args.history.now c.loop-entry.entry-index e c.loop-entry-test.true c.entry-item.is c.loop-entry.invariant.so_far in
-    elim c.if-entry-thread.branch [
-      | then-entry-thread+else-not-is_at w ↦ record {
-        place = subst (λ q. IsPlace items q.at q.number) (sym w.place-is) w.seek-place.ensures.place;
-        so_far = more (λ _. w.is_at.ensures.0 w.if-not-is_at.false);
-      }
-      | else-entry-thread w ↦ record {
-        place = subst (λ q. IsPlace items q.at q.number) (sym w.place-is) c.loop-entry.invariant.place;
-        so_far = more (λ q. absurd (w.if-entry-thread.false q));
-      }
-    ]
+loop-entry-preserved c = record {
+  place = c.loop-entry.invariant.place;
+  left =
+      all-next (λ (e : Entry). e.thread ≡ c.args.thread → IsIn c.args.items.now e) c.in-Some.entry.now c.next.new.self c.loop-entry.entry-iterator c.args.history.now c.in-Some.ensures.steps
+      (λ q. absurd (c.if-entry-thread.false q)) c.loop-entry.invariant.left;
+}
+
+pub loop-entry-preserved-else-not-is_at : goal.loop-entry-preserved-else-not-is_at
+loop-entry-preserved-else-not-is_at c = record {
+  place = c.seek-place.ensures.place;
+  left =
+      all-next (λ (e : Entry). e.thread ≡ c.args.thread → IsIn c.args.items.now e) c.in-Some.entry.now c.next.new.self c.loop-entry.entry-iterator c.args.history.now c.in-Some.ensures.steps
+      (λ _. c.is_at.ensures.0 c.if-not-is_at.false) c.loop-entry.invariant.left;
+}
+
+pub returns-then-not-is_at : goal.returns-then-not-is_at
+returns-then-not-is_at c = (
+  λ h. absurd (false≢true h),
+  λ all.
+      let here =
+      all-first (λ (e : Entry). e.thread ≡ c.args.thread → IsIn c.args.items.now e) c.in-Some.entry.now c.next.new.self c.loop-entry.entry-iterator c.args.history.now c.in-Some.ensures.steps
+      c.loop-entry.invariant.left all in
+      let yes = c.is_at.ensures.1 (here c.if-entry-thread.true) in
+      cc,
+)
