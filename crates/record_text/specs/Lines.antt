@@ -1,5 +1,6 @@
--- The lines of a run's text, and the text.
-use Rattle.std.specs.Prelude.{ℕ, ◌+◌, List, [], ◌∷◌, ◌++◌, length, map, Bool, true, false, codes, decimal}
+-- The lines of a run's text, and the text, in each of its two versions.
+use Rattle.std.specs.Prelude.{ℕ, ◌+◌, ◌==◌, List, [], ◌∷◌, ◌++◌, length, map, Bool, true, false, codes, decimal}
+use Rattle.std.specs.Prelude.{if◌then◌else◌}
 use Rattle.std.specs.List.{flat_map}
 use Rattle.upc_values.specs.declared.record.Item.{Item}
 use Rattle.upc_values.specs.declared.record.End.{End}
@@ -15,6 +16,17 @@ abbrev pub limits_line : ℕ → ℕ → ℕ → Text
 limits_line threads budget actions =
     with_blanks (codes "threads" ∷ decimal threads ∷ codes "budget" ∷ decimal budget
     ∷ codes "actions" ∷ decimal actions ∷ [])
+
+-- The line of the rule: at most 64 relaxed writes of a thread are pending, and one to a location that is pending is
+-- combined with the pending one.
+abbrev pub rule_line : Text
+rule_line = codes "rule places 64 combine"
+
+-- The first lines of a text: its version and the numbers of its run, and in version 2 the rule.
+abbrev pub head_lines : ℕ → ℕ → ℕ → ℕ → List Text
+head_lines version threads budget actions =
+    if version == 1 then codes "upc-record 1" ∷ limits_line threads budget actions ∷ []
+    else codes "upc-record 2" ∷ limits_line threads budget actions ∷ rule_line ∷ []
 
 -- The first line of a thread has its number, its count of items, its ticks and its end.
 abbrev pub thread_line : ℕ → ℕ → ℕ → End → Text
@@ -56,16 +68,27 @@ abbrev pub numbered_lines : {A : Type 0} → (ℕ → A → List Text) → ℕ �
 numbered_lines lines i [] = []
 numbered_lines lines i (x ∷ xs) = lines i x ++ numbered_lines lines (i + 1) xs
 
--- The lines of a run: its numbers, its threads, its history, its strict order and its threads' orders.
-abbrev pub run_lines : Journal → Orders → List Text
-run_lines j o =
-    codes "upc-record 1" ∷ limits_line j.threads j.budget j.actions
-    ∷ (numbered_lines strand_lines 0 j.strands
+-- The other lines of a run: its threads, its history, its strict order, its threads' orders, and `end`.
+abbrev pub body_lines : Journal → Orders → List Text
+body_lines j o =
+    numbered_lines strand_lines 0 j.strands
     ++ (section_lines (codes "history") entry_line j.history
     ++ (section_lines (codes "strict") op_line o.strict
     ++ (numbered_lines order_lines 0 o.threads
-    ++ codes "end" ∷ []))))
+    ++ codes "end" ∷ [])))
 
--- The text of a run is its lines, each with a line end.
+-- The lines of a run in this version: the first ones, and the others.
+abbrev pub run_lines : ℕ → Journal → Orders → List Text
+run_lines version j o = head_lines version j.threads j.budget j.actions ++ body_lines j o
+
+-- The text of a run in this version is its lines, each with a line end.
+abbrev pub version_text : ℕ → Journal → Orders → Text
+version_text version j o = flat_map (λ line. line ++ codes "\n") (run_lines version j o)
+
+-- The text of a run is that of version 2.
 abbrev pub text : Journal → Orders → Text
-text j o = flat_map (λ line. line ++ codes "\n") (run_lines j o)
+text j o = version_text 2 j o
+
+-- The old text of a run is that of version 1, which tells runs from before writes were combined.
+abbrev pub old_text : Journal → Orders → Text
+old_text j o = version_text 1 j o

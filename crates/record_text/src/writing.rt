@@ -1,8 +1,8 @@
 //! The whole text.
 
-ghost use Rattle.std.specs.Prelude.{◌≡◌, ◌++◌, ◌∷◌, [], OnOk, IfOk, codes};
+ghost use Rattle.std.specs.Prelude.{◌≡◌, ◌++◌, OnOk, IfOk};
 ghost use Rattle.record_text.specs.Lines as said;
-ghost use Rattle.record_text.specs.Lines.{limits_line, strand_lines, order_lines, numbered_lines};
+ghost use Rattle.record_text.specs.Lines.{head_lines, limits_line, strand_lines, order_lines, numbered_lines};
 ghost use Rattle.record_text.specs.Short.{HasText};
 ghost use Rattle.record_text.specs.code.Rows.{rows};
 
@@ -25,12 +25,12 @@ fn limits(out: &mut Vec<u8>, journal: &Journal) -> Result<(), OutOfMemory>
 }
 
 fn first_lines(out: &mut Vec<u8>, journal: &Journal) -> Result<(), OutOfMemory>
-    ensures { OnOk result (out.new.items ≡ out.old.items ++ rows (codes "upc-record 1"
-        ∷ limits_line journal.now.threads journal.now.budget journal.now.actions ∷ [])) }
+    ensures { OnOk result (out.new.items ≡ out.old.items
+        ++ rows (head_lines 2 journal.now.threads journal.now.budget journal.now.actions)) }
 {
-    put(out, "upc-record 1\n")?;
+    put(out, "upc-record 2\n")?;
     limits(out, journal)?;
-    put(out, "\n")
+    put(out, "\nrule places 64 combine\n")
 }
 
 fn strands(out: &mut Vec<u8>, strands: &[Strand]) -> Result<(), OutOfMemory>
@@ -53,8 +53,8 @@ fn orders(out: &mut Vec<u8>, orders: &[Order]) -> Result<(), OutOfMemory>
     Ok(())
 }
 
-/// The text of a run, with the orders of its operations: lines of words in bytes of ASCII, each with a line end. The
-/// run has a strand and an order for each thread, its history agrees with its records, and it is short (`is_short`).
+/// The text of a run, with the orders of its operations, in version 2: lines of words in bytes of ASCII, each with a line
+/// end. The run has a strand and an order for each thread, its history agrees with its records, and it is short (`is_short`).
 pub fn render(alloc: Global, journal: &Journal, all: &Orders) -> Result<Vec<u8>, OutOfMemory>
     requires { HasText journal.now all.now }
     ensures { IfOk result (λ bytes. bytes.items ≡ said.text journal.now all.now) }

@@ -1,5 +1,5 @@
-use Rattle.std.proofs.Common.{◌∙◌, ◌++◌, ◌∷◌, [], ap, codes}
-use Rattle.record_text.specs.Lines.{limits_line, strand_lines, entry_line, op_line, order_lines}
+use Rattle.std.proofs.Common.{◌∙◌, ◌++◌, ap, codes}
+use Rattle.record_text.specs.Lines.{head_lines, strand_lines, entry_line, op_line, order_lines}
 use Rattle.record_text.specs.Lines.{numbered_lines, section_lines}
 use Rattle.record_text.specs.code.Rows.{rows}
 use Rattle.record_text.proofs.Wholes.{whole_text}
@@ -11,7 +11,7 @@ returns c =
     let o = c.args.all.now in
     whole_text c.new-out.result.items c.first_lines.new.out.items c.strands.new.out.items c.history.new.out.items
     c.strict.new.out.items c.orders.new.out.items c.put.new.out.items
-    (codes "upc-record 1" ∷ limits_line j.threads j.budget j.actions ∷ [])
+    (head_lines 2 j.threads j.budget j.actions)
     (numbered_lines strand_lines 0 j.strands)
     (section_lines (codes "history") entry_line j.history)
     (section_lines (codes "strict") op_line o.strict)
