@@ -1,4 +1,5 @@
-pub mod Addresses
+pub mod ByLocation
 pub mod Objects
 pub mod Placed
+pub mod Places
 pub mod Starts

@@ -18,7 +18,7 @@ use Rattle.upc_values.specs.Openings.{Opening, IsOpening, bytes_of, cell_of, giv
 use Rattle.upc_values.specs.History.{same_target}
 
 -- What the run began with; the objects made since, in order, and for each of them whether it was released; and the
--- values last saved at locations, one for each.
+-- values last saved at locations, where the first of a location counts.
 pub record HeapState : Type 0 where
   pub opening : Opening
   pub made : List ObjectRef

@@ -5,28 +5,30 @@ ghost use Rattle.block_layout.specs.declared.place.Loc.{Loc};
 ghost use Rattle.upc_values.specs.Openings as openings;
 ghost use Rattle.upc_values.specs.Scalars.{same_loc};
 
-use crate::address::{Address, to_address};
+use crate::pages::Pages;
 use std::alloc::Global;
-use std::collections::BTreeMap;
 use std::marker::Model;
 use upc_text::OutOfMemory;
-use upc_values::{Loc, Scalar};
+use upc_values::{Loc, Scalar, SharedPtr};
 
-/// The values last saved at locations. Contracts see a list of both, with one value for each location.
+/// The values last saved at locations, in pages of its own for each kind of value. Contracts see a list of both, where
+/// the first value of a location counts.
 #[derive(Drop)]
 pub struct SavedCells {
-    map: BTreeMap<Address, Scalar>,
+    integers: Pages<i128>,
+    pointers: Pages<SharedPtr>,
+    locks: Pages<u32>,
 }
 
 impl Model for SavedCells {
     ghost use Rattle.std.specs.Prelude.{List};
     ghost use Rattle.block_layout.specs.declared.place.Loc.{Loc};
     ghost use Rattle.upc_values.specs.declared.scalar.Scalar.{Scalar};
-    ghost use Rattle.shared_heap.specs.code.Cells.{by_loc};
+    ghost use Rattle.shared_heap.specs.code.Cells.{all_cells};
 
     ghost Value = { List (Loc × Scalar) };
 
-    ghost view = { λ c. by_loc c.map.entries };
+    ghost view = { λ c. all_cells c.integers c.pointers c.locks };
 }
 
 impl SavedCells {
@@ -35,7 +37,9 @@ impl SavedCells {
         ensures { result ≡ [] }
     {
         SavedCells {
-            map: BTreeMap::new(alloc),
+            integers: Pages::new(alloc),
+            pointers: Pages::new(alloc),
+            locks: Pages::new(alloc),
         }
     }
 
@@ -43,19 +47,41 @@ impl SavedCells {
     pub(crate) fn get(&self, loc: Loc) -> Option<Scalar>
         ensures { result ≡ openings.given loc self.now }
     {
-        match self.map.get(&to_address(loc)) {
-            Some(value) => Some(*value),
+        if let Some(value) = self.integers.get(loc) {
+            return Some(Scalar::Int(value));
+        }
+        if let Some(value) = self.pointers.get(loc) {
+            return Some(Scalar::Shared(value));
+        }
+        match self.locks.get(loc) {
+            Some(value) => Some(Scalar::Lock(value)),
             None => None,
         }
     }
 
-    // Saves a value at the location. Where there is no memory, nothing changes.
+    // Saves a value at the location. Where there is no memory, nothing changes. A value of another kind that stands
+    // there is forgotten where it would be found before this one; after this one it does not count.
     pub(crate) fn save(&mut self, loc: Loc, value: Scalar) -> Result<(), OutOfMemory>
         ensures saved { IfOk result (λ _. (k : Loc)
             → openings.given k self.new ≡ cond (same_loc loc k) (Some value) (openings.given k self.old)) }
         ensures kept { OnErr result (self.new ≡ self.old) }
     {
-        self.map.insert(to_address(loc), value)?;
-        Ok(())
+        match value {
+            Scalar::Int(value) => {
+                self.integers.save(loc, value)?;
+                Ok(())
+            }
+            Scalar::Shared(value) => {
+                self.pointers.save(loc, value)?;
+                self.integers.forget(loc);
+                Ok(())
+            }
+            Scalar::Lock(value) => {
+                self.locks.save(loc, value)?;
+                self.integers.forget(loc);
+                self.pointers.forget(loc);
+                Ok(())
+            }
+        }
     }
 }
