@@ -17,14 +17,14 @@ use shared_heap::Beginning;
 use std::alloc::Global;
 use std::marker::Model;
 use upc_text::OutOfMemory;
-use upc_values::{Action, Entries, Entry, Listing, Loc, ObjectRef, Scalar, Shape, copy_action};
+use upc_values::{Action, Chunks, Entries, Entry, Loc, ObjectRef, Scalar, Shape, copy_action};
 
 /// The shared memory: what the run began with, and the list of its entries. Contracts see both. The opening is a valid
 /// one, the history is legal from it, and each entry was well formed after the entries before it.
 #[derive(Drop)]
 pub struct World {
     parts: Parts,
-    entries: Vec<Entry>,
+    entries: Chunks<Entry>,
 }
 
 impl Model for World {
@@ -66,7 +66,7 @@ impl World {
     {
         Ok(World {
             parts: Parts::make(alloc, declared, initials, shapes, threads)?,
-            entries: Vec::new(alloc),
+            entries: Chunks::new(alloc),
         })
     }
 
@@ -88,9 +88,9 @@ impl World {
         if self.entries.len() as u64 >= (1 << 62) - 1 {
             return Err(OutOfMemory);
         }
-        let alloc = *self.entries.allocator();
+        let alloc = self.entries.allocator();
         let copy = copy_action(alloc, action)?;
-        self.entries.reserve(1)?;
+        self.entries.reserve()?;
         let Some(reply) = self.parts.act(alloc, thread, action)? else {
             return Ok(Step::Disabled);
         };
@@ -100,11 +100,8 @@ impl World {
             action: copy,
             reply,
         };
-        // There is room for it.
-        match self.entries.push(entry) {
-            Ok(()) => Ok(Step::Done(reply)),
-            Err(_) => unreachable!(),
-        }
+        self.entries.push_reserved(entry);
+        Ok(Step::Done(reply))
     }
 
     /// Whether an action may be asked for now: its location is a cell, its value fits that cell, what it names has been
@@ -170,6 +167,6 @@ impl World {
         ensures waits { WaitsFollow self.0.threads self.1 }
         ensures locks { LocksExclude self.1 }
     {
-        Listing::from_vec(self.entries)
+        Entries::from_chunks(self.entries)
     }
 }

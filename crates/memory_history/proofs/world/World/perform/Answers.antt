@@ -45,7 +45,7 @@ invariant_of-self-2 c =
     let answered : answer t x p ≡ Some r = sym c.in_ok-reply.ensures.answer ∙ c.in-Some.is in
     let acted : Acted t x r p q = subst (λ o. IfSome o (λ z. Acted t x z p q)) c.in-Some.is c.in_ok-reply.ensures.acted in
     let short : length es + 1 < 2 ^ 62 = search rules in
-    let pushed : c.push.new.self.items ≡ es ++ entry_of t c.args.index x r ∷ [] = search rules in
+    let pushed : c.push_reserved.new.self.items ≡ es ++ entry_of t c.args.index x r ∷ [] = search rules in
     subst (IsWorld q) (sym pushed) (world-acted p es c.self.invariant t c.args.index x r q b f answered acted short).1
 
 pub returns-clause-reply : goal.returns-clause-reply
@@ -91,10 +91,10 @@ returns-clause-known c =
     let lawful : reply p.heap.opening es t x ≡ Some r = world-answers p es c.self.invariant t x b f ∙ answered in
     let acted : Acted t x r p q = subst (λ o. IfSome o (λ z. Acted t x z p q)) c.in-Some.is c.in_ok-reply.ensures.acted in
     let short : length es + 1 < 2 ^ 62 = search rules in
-    let pushed : c.push.new.self.items ≡ es ++ entry_of t c.args.index x r ∷ [] = search rules in
+    let pushed : c.push_reserved.new.self.items ≡ es ++ entry_of t c.args.index x r ∷ [] = search rules in
     let k = c.self.invariant.kept in
     let same = (world-acted p es c.self.invariant t c.args.index x r q b f answered acted short).0 in
-    subst (λ o. gives_known o c.push.new.self.items r ≡ true) (sym same)
+    subst (λ o. gives_known o c.push_reserved.new.self.items r ≡ true) (sym same)
     (subst (λ l. gives_known p.heap.opening l r ≡ true) (sym pushed)
     (lawful-known p.heap.opening es t c.args.index x r k.opening k.legal k.formed f lawful))
 
