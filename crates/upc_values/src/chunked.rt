@@ -1,11 +1,11 @@
 //! A list in chunks inside a record.
 
-ghost use Rattle.std.specs.Prelude.{◌≡◌, ◌==◌, [], length, slice_get, option_copied};
+ghost use Rattle.std.specs.Prelude.{◌≡◌, ◌==◌, [], length, slice_get, option_copied, IfOk};
 ghost use Rattle.std.specs.Map.Iter.{ShowsInOrder, deref};
 
 use crate::chunks::Chunks;
 use crate::members::Members;
-use std::alloc::Global;
+use std::alloc::{AllocError, Global};
 use std::marker::Model;
 
 /// A list in chunks inside a record. Contracts see the list of its members.
@@ -37,6 +37,20 @@ impl<T> Chunked<T> {
         ensures { result ≡ chunks.items }
     {
         Chunked { chunks }
+    }
+
+    /// The list of these members, each moved into its chunk.
+    pub fn from_vec(alloc: Global, members: Vec<T>) -> Result<Self, AllocError>
+    where
+        T: Drop,
+        ensures { IfOk result (λ l. l ≡ members.items) }
+    {
+        let mut chunks = Chunks::new(alloc);
+        for member in members {
+            chunks.reserve()?;
+            chunks.push_reserved(member);
+        }
+        Ok(Chunked { chunks })
     }
 
     /// The members, as chunks. It takes no memory.
