@@ -6,6 +6,7 @@ mod composed;
 mod ends;
 mod fail;
 mod fields;
+mod head;
 mod items;
 mod limits;
 mod names;
@@ -14,7 +15,8 @@ mod series;
 mod strands;
 
 pub use fail::Fail;
-pub use limits::{Limits, read_limits};
+pub use head::{Head, read_head};
+pub use limits::Limits;
 pub use names::{Name, section};
 pub use parts::{Parts, expect, split};
 pub use series::{Part, many};

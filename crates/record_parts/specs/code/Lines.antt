@@ -1,13 +1,15 @@
 -- Reading lines.
-use Rattle.std.specs.Prelude.{ℕ, ◌==◌, Bool, true, false, List, Option, if◌then◌else◌, codes}
+use Rattle.std.specs.Prelude.{ℕ, ◌==◌, Bool, true, false, List, [], ◌∷◌, Option, if◌then◌else◌, codes}
 use Rattle.upc_values.specs.declared.journal.Strand.{Strand}
 use Rattle.upc_values.specs.declared.order.Op.{Op}
 use Rattle.record_text.specs.Words.{Text}
+use Rattle.record_text.specs.Lines.{rule_line}
 use Rattle.record_parts.specs.declared.strands.Header.{Header}
 use Rattle.record_parts.specs.declared.limits.Limits.{Limits}
+use Rattle.record_parts.specs.declared.head.Head.{Head}
 use Rattle.record_parts.specs.declared.names.Name.{Name}
-use Rattle.record_parts.specs.code.Readers.{Reader, ◌>>=◌, give, field, many, each, constant, expect, check, whole}
-use Rattle.record_parts.specs.code.Readers.{begins}
+use Rattle.record_parts.specs.code.Readers.{Reader, ◌>>=◌, give, field, many, each, tagged, constant, expect}
+use Rattle.record_parts.specs.code.Readers.{check, whole, begins}
 use Rattle.record_parts.specs.code.Values.{word32, word64, item_of, end_of}
 
 -- The words of a thread's first line.
@@ -103,3 +105,24 @@ limits_words_of = do
 -- The second line.
 abbrev pub limits_of : Text → Option Limits
 limits_of line = whole 32 limits_words_of line
+
+-- The head of version 1, after its first line.
+abbrev pub old_head_of : Reader Head
+old_head_of = do
+  limits ← field limits_of
+  give (record { version = 1; limits = limits })
+
+-- The head of version 2, after its first line.
+abbrev pub combining_head_of : Reader Head
+combining_head_of = do
+  limits ← field limits_of
+  _ ← expect rule_line
+  give (record { version = 2; limits = limits })
+
+-- The heads by their first lines.
+abbrev pub head_table : List (Text × Reader Head)
+head_table = (codes "upc-record 1", old_head_of) ∷ (codes "upc-record 2", combining_head_of) ∷ []
+
+-- The first lines.
+abbrev pub head_of : Reader Head
+head_of = tagged head_table
