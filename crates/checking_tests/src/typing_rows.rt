@@ -1,5 +1,5 @@
 //! For each typing rule a source that breaks it, with its place, and one beside it that breaks none: the programs that
-//! docs/LANGUAGE.md shows. Behind them sources for each limit on declared objects.
+//! docs/ERRORS.md shows. After them sources for each limit on declared objects.
 
 use crate::sources::{accepted, program_of};
 use std::alloc::Global;

@@ -1,4 +1,4 @@
-//! Instructions as words, each under its name in the table of docs/CODE.md with what it names.
+//! Instructions as words, each under its name in the table of docs/MEANING.md with what it names.
 
 use block_layout::{Kind, LocalPtr};
 use integers::{BinOp, UnOp};
