@@ -1,50 +1,69 @@
--- The last pending write of a location, looking back, and names added to those of one.
-use Rattle.std.proofs.Common.{◌≡◌, ℕ, ◌+◌, ◌-◌, ◌<◌, ◌≤◌, Bool, true, false, cond, List, [], ◌∷◌, ◌++◌, length, take, get_or, set, Some, None, refl, sym, ap, ◌∙◌, arith}
-use Rattle.std.proofs.lemmas.List.{take_more, length-take-le}
+-- The pending write of a location, looking back from the youngest, and what is changed there.
+use Rattle.std.proofs.Common.{◌≡◌, ℕ, suc, ◌+◌, ◌-◌, ◌<◌, ◌≤◌, List, [], ◌∷◌, length, drop, get_or, set, Some, None, is_some, sym, ap, ◌∙◌, arith}
+use Rattle.std.proofs.lemmas.Bool.{cond-true, cond-false}
+use Rattle.std.proofs.lemmas.List.{drop_more, length-map, get_or_default}
 use Rattle.block_layout.specs.declared.place.Loc.{Loc}
-use Rattle.upc_values.specs.Scalars.{same_loc}
-use Rattle.order_builder.specs.declared.names.Named.{Named}
-use Rattle.order_builder.specs.declared.buffer.Pending.{Pending}
-use Rattle.order_builder.specs.code.Steps.{after_first, last_place, joined}
+use Rattle.upc_values.specs.declared.scalar.Scalar.{Scalar}
+use Rattle.upc_values.specs.declared.journal.Entry.{Entry}
+use Rattle.upc_values.specs.Drain.{Commit, entries_in, written, or_else, last_written, pending_value, changed}
+use Rattle.order_builder.specs.declared.entry.KeptCommit.{KeptCommit}
+use Rattle.order_builder.specs.code.Views.{entry_in, kept_entries, IsLast}
 
-last_place-push : (l : Loc) (p : Pending) (ps : List Pending) → last_place l (ps ++ p ∷ []) ≡ cond (same_loc p.loc l) (Some (length ps)) (last_place l ps)
-last_place-push l p [] =
-    let P : Bool → Type 0 = λ b. after_first None b ≡ cond b (Some 0) None in
-    elim (same_loc p.loc l) as P [ true ↦ refl | false ↦ refl ]
-last_place-push l p (x ∷ ps) =
-    let P : Bool → Type 0 =
-    λ b. after_first (cond b (Some (length ps)) (last_place l ps)) (same_loc x.loc l) ≡ cond b (Some (length (x ∷ ps))) (last_place l (x ∷ ps)) in
-    ap (λ o. after_first o (same_loc x.loc l)) (last_place-push l p ps)
-    ∙ elim (same_loc p.loc l) as P [ true ↦ ap Some (omega arith) | false ↦ refl ]
+-- one more entry, looking back
+pub one-back : (l : Loc) (es : List Entry) (n : ℕ) (e : Entry) → 0 < n → n ≤ length es → e ≡ get_or es (n - 1) e
+    → last_written l (drop n es) ≡ None → last_written l (drop (n - 1) es) ≡ written l e.action
+one-back l es n e some within is none =
+    ap (last_written l) (drop_more es (n - 1) e (omega arith))
+    ∙ ap (λ m. or_else (last_written l (drop m es)) (written l (get_or es (n - 1) e).action)) (let q : n - 1 + 1 ≡ n = omega arith in q)
+    ∙ ap (λ o. or_else o (written l (get_or es (n - 1) e).action)) none
+    ∙ ap (λ z. written l z.action) (sym is)
 
--- one more write, looking back
-last_place-back : (l : Loc) (ps : List Pending) (n : ℕ) (p : Pending) → 0 < n → n ≤ length ps → p ≡ get_or ps (n - 1) p
-    → last_place l (take n ps) ≡ cond (same_loc p.loc l) (Some (n - 1)) (last_place l (take (n - 1) ps))
-last_place-back l ps n p some within is =
-    let le : n - 1 ≤ length ps = omega arith in
-    ap (λ m. last_place l (take m ps)) (let e : n ≡ n - 1 + 1 = omega arith in e)
-    ∙ ap (last_place l) (take_more ps (n - 1) p (omega arith))
-    ∙ last_place-push l (get_or ps (n - 1) p) (take (n - 1) ps)
-    ∙ ap (λ k. cond (same_loc (get_or ps (n - 1) p).loc l) (Some k) (last_place l (take (n - 1) ps))) (length-take-le (n - 1) ps le)
-    ∙ ap (λ q. cond (same_loc q.loc l) (Some (n - 1)) (last_place l (take (n - 1) ps))) (sym is)
+entry-at : (ks : List KeptCommit) (n : ℕ) (k : KeptCommit) → n < length ks → k ≡ get_or ks n k → entry_in k.entry ≡ get_or (kept_entries ks) n (entry_in k.entry)
+entry-at [] n k lt is = absurd (omega arith)
+entry-at (x ∷ ks) ℕ.zero k lt is = ap (λ z. entry_in z.entry) is
+entry-at (x ∷ ks) (ℕ.suc n) k lt is = entry-at ks n k (omega arith) is
 
--- it has the location
-pub last_place-found : (l : Loc) (ps : List Pending) (n : ℕ) (p : Pending) → 0 < n → n ≤ length ps → p ≡ get_or ps (n - 1) p
-    → same_loc p.loc l ≡ true → last_place l (take n ps) ≡ Some (n - 1)
-last_place-found l ps n p some within is h =
-    last_place-back l ps n p some within is ∙ ap (λ b. cond b (Some (n - 1)) (last_place l (take (n - 1) ps))) h
+-- it writes another location, or none
+pub passed-by : (l : Loc) (ks : List KeptCommit) (n : ℕ) (k : KeptCommit) → 0 < n → n ≤ length ks → k ≡ get_or ks (n - 1) k
+    → written l k.entry.action.now ≡ None → last_written l (drop n (kept_entries ks)) ≡ None → last_written l (drop (n - 1) (kept_entries ks)) ≡ None
+passed-by l ks n k some within is other none =
+    let many : length (kept_entries ks) ≡ length ks = length-map ks (λ z. entry_in z.entry) in
+    one-back l (kept_entries ks) n (entry_in k.entry) some (omega arith) (entry-at ks (n - 1) k (omega arith) is) none ∙ other
 
--- it has another
-pub last_place-passed : (l : Loc) (ps : List Pending) (n : ℕ) (p : Pending) → 0 < n → n ≤ length ps → p ≡ get_or ps (n - 1) p
-    → same_loc p.loc l ≡ false → last_place l (take n ps) ≡ last_place l (take (n - 1) ps)
-last_place-passed l ps n p some within is h =
-    last_place-back l ps n p some within is ∙ ap (λ b. cond b (Some (n - 1)) (last_place l (take (n - 1) ps))) h
+-- it writes the location
+pub found-at : (l : Loc) (ks : List KeptCommit) (n : ℕ) (k : KeptCommit) (v : Scalar) → 0 < n → n ≤ length ks → k ≡ get_or ks (n - 1) k
+    → written l k.entry.action.now ≡ Some v → last_written l (drop n (kept_entries ks)) ≡ None → IsLast l (kept_entries ks) (n - 1) v
+found-at l ks n k v some within is here none =
+    let es = kept_entries ks in
+    let many : length es ≡ length ks = length-map ks (λ z. entry_in z.entry) in
+    let lt : n - 1 < length es = omega arith in
+    let at : entry_in k.entry ≡ get_or es (n - 1) (entry_in k.entry) = entry-at ks (n - 1) k (omega arith) is in
+    record {
+      within = lt;
+      writes = λ d. ap (λ z. written l z.action) (sym (at ∙ get_or_default es (n - 1) (entry_in k.entry) d lt)) ∙ here;
+      last = ap (λ m. last_written l (drop m es)) (let q : n - 1 + 1 ≡ n = omega arith in q) ∙ none;
+    }
 
-pub ruleset looking_back = (last_place-found, last_place-passed)
+-- what a change of the pending write of the location changes
+pub record IsPlace (l : Loc) (cs : List Commit) (k : ℕ) (v : Scalar) : Type 0 where
+  pub value : pending_value l cs ≡ Some v
+  pub changed : (f : Commit → Commit) (d : Commit) → changed l f cs ≡ set cs k (f (get_or cs k d))
 
--- names put into the k-th
-pub set-joined : (ps : List Pending) (k : ℕ) (ns : List Named) (p : Pending) → k < length ps → p ≡ get_or ps k p → set ps k (record { loc = p.loc; names = p.names ++ ns }) ≡ joined k ns ps
-set-joined [] k ns p h e = absurd (omega arith)
-set-joined (x ∷ ps) ℕ.zero ns p h e =
-    ap (λ z. let y : Pending = record { loc = z.loc; names = z.names ++ ns } in y ∷ ps) e
-set-joined (x ∷ ps) (ℕ.suc k) ns p h e = ap (λ z. x ∷ z) (set-joined ps k ns p (omega arith) e)
+pub is-place : (l : Loc) (cs : List Commit) (k : ℕ) (v : Scalar) → IsLast l (entries_in cs) k v → IsPlace l cs k v
+is-place l [] k v s = absurd (let w = s.within in omega arith)
+is-place l (c ∷ cs) ℕ.zero v s =
+    let none : pending_value l cs ≡ None = s.last in
+    record {
+      value = ap (λ o. or_else o (written l c.entry.action)) none ∙ s.writes c.entry;
+      changed = λ f d. cond-false (is_some (pending_value l cs)) (c ∷ changed l f cs) (f c ∷ cs) (ap is_some none);
+    }
+is-place l (c ∷ cs) (ℕ.suc k) v s =
+    let last : last_written l (drop (k + 1) (entries_in cs)) ≡ None =
+    ap (λ m. last_written l (drop m (entries_in (c ∷ cs)))) (let q : suc (k + 1) ≡ suc k + 1 = omega arith in q) ∙ s.last in
+    let rest = is-place l cs k v (record { within = let w = s.within in omega arith; writes = λ d. s.writes d; last = last }) in
+    record {
+      value = ap (λ o. or_else o (written l c.entry.action)) rest.value;
+      changed = λ f d.
+          cond-true (is_some (pending_value l cs)) (c ∷ changed l f cs) (f c ∷ cs) (ap is_some rest.value)
+          ∙ ap (λ z. c ∷ z) (rest.changed f d);
+    }

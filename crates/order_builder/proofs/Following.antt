@@ -6,16 +6,17 @@ use Rattle.std.proofs.lemmas.List.Filters.{length-filter_more}
 use Rattle.std.proofs.lemmas.Grind.{flat_map-append}
 use Rattle.upc_values.specs.declared.journal.Entry.{Entry}
 use Rattle.upc_values.specs.declared.journal.Journal.{Journal}
-use Rattle.upc_values.specs.Drain.{entries_of}
-use Rattle.upc_values.specs.Orders.{Commit, placing, record_of, operations_at, placed}
+use Rattle.upc_values.specs.Drain.{Commit, commit_of, entries_in, commits, entries_of}
+use Rattle.upc_values.specs.Orders.{record_of, operations_at, placed}
 use Rattle.upc_values.specs.Consistent.{FollowsBuffers}
 use Rattle.upc_values.proofs.Lists.{each-at}
 use Rattle.upc_values.proofs.Membership.{left_from}
-use Rattle.upc_values.proofs.Drained.{entries_in, entry-at}
-use Rattle.upc_values.proofs.Numbering.{counted, numbered-placing}
+use Rattle.upc_values.proofs.Drained.{entry-at}
+use Rattle.upc_values.proofs.Numbering.{counted, numbered-drained}
 use Rattle.upc_values.proofs.Placement.{agrees-of, drains-of}
 use Rattle.order_builder.specs.declared.names.Named.{Named}
-use Rattle.order_builder.specs.code.Views.{named, names_in, AreCommits, AreCursors}
+use Rattle.order_builder.specs.declared.entry.KeptCommit.{KeptCommit}
+use Rattle.order_builder.specs.code.Views.{named, by_names, kept, AreKept, AreCommits, AreCursors}
 
 -- a commit of the list is counted
 counted-there : (e : Entry) (cs : List Commit) (k : ℕ) → slice_get (entries_in cs) k ≡ Some e → 1 ≤ counted e.index cs
@@ -30,7 +31,7 @@ counted-there e (c ∷ cs) (ℕ.suc k) h = let n = counted-there e cs k h in ome
 -- the k-th commit is found by its number, where no other has it
 pub record IsAt (e : Entry) (cs : List Commit) (k : ℕ) : Type 0 where
   pub within : k < length cs
-  pub names : (d : List Named) → get_or (map names_in cs) k d ≡ map named (operations_at e.index cs)
+  pub operations : (d : Commit) → (get_or cs k d).operations ≡ operations_at e.index cs
 
 is-at : (e : Entry) (cs : List Commit) (k : ℕ) → slice_get (entries_in cs) k ≡ Some e → counted e.index cs ≤ 1 → IsAt e cs k
 is-at e [] k h n = cc
@@ -38,51 +39,65 @@ is-at e (c ∷ cs) ℕ.zero h n =
     let q : c.entry ≡ e = cc in
     record {
       within = omega arith;
-      names = λ d.
-          ap (map named)
-          (sym (cond-true (c.entry.index == e.index) c.operations (operations_at e.index cs) (eq-eqb c.entry.index e.index (ap (λ z. z.index) q))));
+      operations = λ d.
+          sym (cond-true (c.entry.index == e.index) c.operations (operations_at e.index cs) (eq-eqb c.entry.index e.index (ap (λ z. z.index) q)));
     }
 is-at e (c ∷ cs) (ℕ.suc k) h n =
     let some = counted-there e cs k h in
     let rest = is-at e cs k h (omega arith) in
     record {
       within = let w = rest.within in omega arith;
-      names = λ d.
+      operations = λ d.
           cond_both (c.entry.index == e.index) c.operations (operations_at e.index cs)
-          (λ z. get_or (map names_in cs) k d ≡ map named z)
+          (λ z. (get_or cs k d).operations ≡ z)
           (λ t.
           let one : cond {A = ℕ} (c.entry.index == e.index) 1 0 ≡ 1 = cond-true (c.entry.index == e.index) 1 0 t in
           absurd (omega arith))
-          (λ t. rest.names d);
+          (λ t. rest.operations d);
     }
 
-module _ (j : Journal) (f : FollowsBuffers j) (commits : List (List (List Named))) (are : AreCommits j commits) where
+-- what the program keeps of the k-th commit
+pub many-kept : (ks : List KeptCommit) (cs : List Commit) → AreKept ks cs → length ks ≡ length cs
+many-kept ks cs h = sym (length-map ks kept) ∙ ap length h ∙ length-map cs by_names
+
+names-kept : (ks : List KeptCommit) (cs : List Commit) (k : ℕ) (d : KeptCommit) (c : Commit) → AreKept ks cs → k < length cs → (get_or ks k d).names ≡ map named (get_or cs k c).operations
+names-kept ks [] k d c h lt = absurd (omega arith)
+names-kept [] (y ∷ cs) k d c h lt = cc
+names-kept (x ∷ ks) (y ∷ cs) ℕ.zero d c h lt =
+    let one : kept x ≡ by_names y = cc in
+    ap (λ z. z.names) one
+names-kept (x ∷ ks) (y ∷ cs) (ℕ.suc k) d c h lt =
+    let rest : AreKept ks cs = cc in
+    names-kept ks cs k d c rest (omega arith)
+
+module _ (j : Journal) (f : FollowsBuffers j) (all : List (List KeptCommit)) (are : AreCommits j all) where
   -- what the entry of a number finds at the cursor of its thread
   pub record IsNext (i : ℕ) (e : Entry) (cursor : ℕ) : Type 0 where
     pub below : e.thread < j.threads
-    pub within : cursor < length (get_or commits e.thread [])
-    pub names : (d : List Named) → get_or (get_or commits e.thread []) cursor d ≡ map named (placed j e)
+    pub within : cursor < length (get_or all e.thread [])
+    pub names : (d : KeptCommit) → (get_or (get_or all e.thread []) cursor d).names ≡ map named (placed j e)
 
   is-next : (i : ℕ) (e : Entry) → i < length j.history → e ≡ get_or j.history i e → IsNext i e (length (entries_of e.thread (take i j.history)))
   is-next i e lt is =
       let t = e.thread in
-      let cs = (placing t (record_of j t)).emitted in
+      let cs = commits t (record_of j t) in
       let before = take i j.history in
+      let n = length (entries_of t before) in
       let below : t < j.threads =
       subst (λ z. z.thread < j.threads) (sym is) (each-at (λ z. z.thread < j.threads) j.history i e f.below lt) in
       let parts : before ++ e ∷ drop (i + 1) j.history ≡ j.history =
       ap (λ z. before ++ z) (sym (left_from j.history i e lt is)) ∙ take-append-drop i j.history in
       let entries : entries_of t (before ++ e ∷ drop (i + 1) j.history) ≡ entries_in cs =
       ap (entries_of t) parts ∙ drains-of j t f below in
-      let once = (numbered-placing t (record_of j t) (agrees-of j t f below)).once e.index in
-      let at = is-at e cs (length (entries_of t before)) (entry-at t before (drop (i + 1) j.history) e cs refl entries) (omega arith) in
-      let all = are.each t below in
+      let once = (numbered-drained t (record_of j t) (agrees-of j t f below)).once e.index in
+      let at = is-at e cs n (entry-at t before (drop (i + 1) j.history) e cs refl entries) (omega arith) in
+      let are_kept = are.each t below in
       record {
         below = below;
-        within =
-            subst (λ z. length (entries_of t before) < length z) (sym all)
-            (subst (λ n. length (entries_of t before) < n) (sym (length-map cs names_in)) at.within);
-        names = λ d. ap (λ z. get_or z (length (entries_of t before)) d) all ∙ at.names d;
+        within = subst (λ m. n < m) (sym (many-kept (get_or all t []) cs are_kept)) at.within;
+        names = λ d.
+            names-kept (get_or all t []) cs n d (commit_of e) are_kept at.within
+            ∙ ap (map named) (at.operations (commit_of e));
       }
 
   pub next-at : (cursors : List ℕ) (i : ℕ) (e : Entry) → AreCursors j i cursors → i < length j.history → e ≡ get_or j.history i e → IsNext i e (get_or cursors e.thread 0)
@@ -91,25 +106,25 @@ module _ (j : Journal) (f : FollowsBuffers j) (commits : List (List (List Named)
       subst (IsNext i e) (sym (c.at e.thread n.below)) n
 
   -- what the program reads there
-  pub record Finds (cursors : List ℕ) (e : Entry) (cursor : ℕ) (of : List (List Named)) : Type 0 where
+  pub record Finds (cursors : List ℕ) (e : Entry) (cursor : ℕ) (of : List KeptCommit) : Type 0 where
     pub below : e.thread < j.threads
     pub is : cursor ≡ get_or cursors e.thread 0
     pub within : cursor < length of
-    pub names : (d : List Named) → get_or of cursor d ≡ map named (placed j e)
+    pub names : (d : KeptCommit) → (get_or of cursor d).names ≡ map named (placed j e)
 
-  pub finds : (cursors : List ℕ) (i : ℕ) (e : Entry) (cursor : ℕ) (of : List (List Named)) → AreCursors j i cursors → i < length j.history → e ≡ get_or j.history i e → cursor ≡ get_or cursors e.thread cursor → of ≡ get_or commits e.thread of → Finds cursors e cursor of
-  finds cursors i e cursor of c lt is at all =
+  pub finds : (cursors : List ℕ) (i : ℕ) (e : Entry) (cursor : ℕ) (of : List KeptCommit) → AreCursors j i cursors → i < length j.history → e ≡ get_or j.history i e → cursor ≡ get_or cursors e.thread cursor → of ≡ get_or all e.thread of → Finds cursors e cursor of
+  finds cursors i e cursor of c lt is at found =
       let n = next-at cursors i e c lt is in
       let below : e.thread < j.threads = n.below in
       let there : e.thread < length cursors = let m = c.many in omega arith in
-      let here : e.thread < length commits = let m = are.many in omega arith in
+      let here : e.thread < length all = let m = are.many in omega arith in
       let q : cursor ≡ get_or cursors e.thread 0 = at ∙ get_or_default cursors e.thread cursor 0 there in
-      let r : of ≡ get_or commits e.thread [] = all ∙ get_or_default commits e.thread of [] here in
+      let r : of ≡ get_or all e.thread [] = found ∙ get_or_default all e.thread of [] here in
       record {
         below = below;
         is = q;
-        within = subst (λ z. cursor < length z) (sym r) (subst (λ k. k < length (get_or commits e.thread [])) (sym q) n.within);
-        names = λ d. ap (λ z. get_or z cursor d) r ∙ ap (λ k. get_or (get_or commits e.thread []) k d) q ∙ n.names d;
+        within = subst (λ z. cursor < length z) (sym r) (subst (λ k. k < length (get_or all e.thread [])) (sym q) n.within);
+        names = λ d. ap (λ z. (get_or z cursor d).names) r ∙ ap (λ k. (get_or (get_or all e.thread []) k d).names) q ∙ n.names d;
       }
 
 -- at the beginning

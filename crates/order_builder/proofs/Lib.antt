@@ -1,5 +1,5 @@
 pub mod Finding
-pub mod Draining
+pub mod Showing
 pub mod Following
 pub mod Choosing
 pub mod Satisfying

@@ -1,34 +1,42 @@
-//! The operations that stand in the place of each commit of a thread.
+//! The commits of a thread.
 
-ghost use Rattle.std.specs.Prelude.{◌≡◌, length, map, IfOk};
-ghost use Rattle.upc_values.specs.Orders.{placing};
-ghost use Rattle.order_builder.specs.code.Views.{names_in, AreCommits};
+ghost use Rattle.std.specs.Prelude.{◌≡◌, length, IfOk};
+ghost use Rattle.upc_values.specs.Drain.{commits, drained};
+ghost use Rattle.order_builder.specs.code.Views.{AreKept, AreCommits, IsShown};
 
-use crate::buffer::Buffer;
-use crate::names::Names;
+use crate::entry::KeptCommit;
+use crate::walk::Walk;
 use std::alloc::Global;
 use upc_text::OutOfMemory;
 use upc_values::{Item, Journal, Listing};
 
-/// The operations of each commit of a thread, in the order of the history.
-pub type Commits = Listing<Names>;
+/// The commits of a thread, in the order of the history.
+pub type Commits<'a> = Listing<KeptCommit<'a>>;
 
-// Those of a thread with this record.
-fn commits_of(alloc: Global, thread: u32, items: &[Item]) -> Result<Commits, OutOfMemory>
-    ensures { IfOk result (λ commits. commits ≡ map names_in (placing thread items.now).emitted) }
+/// The walk over all of a thread's items.
+pub fn drained<'a>(alloc: Global, thread: u32, items: &'a [Item]) -> Result<Walk<'a>, OutOfMemory>
+    ensures { IfOk result (λ walk. IsShown (drained thread items.now) walk) }
 {
-    let mut buffer = Buffer::new(alloc);
+    let mut walk = Walk::new(alloc);
     for item in items {
-        buffer.step(alloc, thread, item)?;
+        walk.step(alloc, thread, item)?;
     }
-    buffer.flush()?;
-    Ok(Listing::from_vec(buffer.emitted))
+    walk.empty()?;
+    Ok(walk)
+}
+
+// The commits of a thread with this record.
+fn commits_of<'a>(alloc: Global, thread: u32, items: &'a [Item]) -> Result<Commits<'a>, OutOfMemory>
+    ensures { IfOk result (λ kept. AreKept kept (commits thread items.now)) }
+{
+    let walk = drained(alloc, thread, items)?;
+    Ok(Listing::from_vec(walk.emitted))
 }
 
 /// Those of each thread of the journal, by number.
-pub fn all_commits(alloc: Global, journal: &Journal) -> Result<Vec<Commits>, OutOfMemory>
+pub fn all_commits<'a>(alloc: Global, journal: &'a Journal) -> Result<Vec<Commits<'a>>, OutOfMemory>
     requires { length journal.now.strands ≡ journal.now.threads }
-    ensures { IfOk result (λ commits. AreCommits journal.now commits.items) }
+    ensures { IfOk result (λ kept. AreCommits journal.now kept.items) }
 {
     let strands = journal.strands.as_slice();
     let mut commits = Vec::new(alloc);

@@ -22,7 +22,7 @@ fn place_all(alloc: Global, journal: &Journal, commits: &[Commits]) -> Result<Na
     for entry in journal.history.as_slice() {
         let thread = entry.thread as usize;
         let cursor = cursors[thread];
-        names.extend(commits[thread].as_slice()[cursor].as_slice())?;
+        names.extend(commits[thread].as_slice()[cursor].names.as_slice())?;
         cursors[thread] = cursor + 1;
     }
     Ok(names)

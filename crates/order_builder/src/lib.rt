@@ -1,14 +1,19 @@
-//! The orders of a run: the strict order and each thread's order of a journal's operations (UPC Appendix B).
+//! What a thread's items emit through its write buffer, and the orders of a run: the strict order and each thread's
+//! order of a journal's operations (UPC Appendix B).
 #![tactic(auto)]
 
 mod accesses;
-mod buffer;
 mod commits;
 mod consistent;
+mod entries;
+mod entry;
 mod history;
 mod names;
 mod order;
 mod part;
+mod walk;
+mod written;
 
 pub use consistent::answered_orders_are_consistent;
+pub use entries::drain;
 pub use order::{global_order, orders, strict_order, thread_order};

@@ -1,57 +1,88 @@
--- What the program keeps of operations and of commits.
-use Rattle.std.specs.Prelude.{ℕ, ◌≡◌, ◌<◌, List, [], length, map, take, slice_index_or}
+-- What the program keeps of operations, of commits and of a walk.
+use Rattle.std.specs.Prelude.{ℕ, ◌≡◌, ◌+◌, ◌<◌, List, [], ◌++◌, length, map, take, drop, slice_index_or, slice_set}
+use Rattle.std.specs.Prelude.{Bool, ◌&&◌, Some, None}
 use Rattle.block_layout.specs.declared.place.Loc.{Loc}
-use Rattle.upc_values.specs.declared.action.Action.{Action}
-use Rattle.upc_values.specs.declared.action.Action.TheVariants.{Write}
+use Rattle.upc_values.specs.declared.scalar.Scalar.{Scalar}
+use Rattle.upc_values.specs.declared.journal.Entry.{Entry}
 use Rattle.upc_values.specs.declared.journal.Journal.{Journal}
-use Rattle.upc_values.specs.Drain.{entries_of}
+use Rattle.upc_values.specs.Drain.{Commit, Walk, written, last_written, commits, entries_of}
 use Rattle.upc_values.specs.Operations.{Operation}
-use Rattle.upc_values.specs.Orders.{Commit, Placing, placing, record_of, name_of}
+use Rattle.upc_values.specs.Orders.{record_of, name_of}
 use Rattle.order_builder.specs.declared.names.Named.{Named}
-use Rattle.order_builder.specs.declared.buffer.Pending.{Pending}
-use Rattle.order_builder.specs.declared.buffer.Buffer.{Buffer}
+use Rattle.order_builder.specs.declared.entry.EntryRef.{EntryRef}
+use Rattle.order_builder.specs.declared.entry.KeptCommit.{KeptCommit}
+use Rattle.order_builder.specs.declared.walk.Walk as program
 
 -- An operation's name, and whether it is strict.
 abbrev pub named : Operation → Named
 named o = record { name = name_of o; strict = o.strict }
 
--- The names of a commit's operations.
-abbrev pub names_in : Commit → List Named
-names_in c = map named c.operations
+-- An entry, with the names of the operations in its place.
+pub record Named_commit : Type 0 where
+  pub entry : Entry
+  pub names : List Named
 
--- Where there is no location.
-abbrev pub no_loc : Loc
-no_loc = record { object = 0; thread = 0; offset = 0 }
+-- A commit, with its operations by their names.
+abbrev pub by_names : Commit → Named_commit
+by_names c = record { entry = c.entry; names = map named c.operations }
 
--- The location that an action writes.
-abbrev pub loc_of : Action → Loc
-loc_of (Write l v s) = l
-loc_of a = no_loc
+-- An entry that the program has by reference.
+abbrev pub entry_in : EntryRef → Entry
+entry_in e = record { thread = e.thread; index = e.index; action = e.action.now; reply = e.reply }
 
--- A pending commit: its location and the names of its operations.
-abbrev pub pending_in : Commit → Pending
-pending_in c = record { loc = loc_of c.entry.action; names = names_in c }
+-- A commit that the program keeps.
+abbrev pub kept : KeptCommit → Named_commit
+kept c = record { entry = entry_in c.entry; names = c.names }
 
--- A walk over a thread's record, by the names of operations.
-pub record Named_walk : Type 0 where
-  pub next : ℕ
-  pub emitted : List (List Named)
-  pub pending : List Pending
+-- Names of further operations stand with a commit's own.
+abbrev pub joined : List Named → KeptCommit → KeptCommit
+joined ns c = record { entry = c.entry; names = c.names ++ ns }
 
--- A walk over commits, by their names.
-abbrev pub by_names : Placing → Named_walk
-by_names w = record { next = w.next; emitted = map names_in w.emitted; pending = map pending_in w.pending }
+-- The commit is combined into that of this entry, whose operations have these names.
+abbrev pub combined : EntryRef → List Named → KeptCommit → KeptCommit
+combined e ns c = record { entry = e; names = c.names ++ ns }
 
--- The program's walk.
-abbrev pub seen : Buffer → Named_walk
-seen b = record { next = b.next; emitted = b.emitted.items; pending = b.pending.items }
+-- The commit at this place is changed.
+abbrev pub IsChangedAt : ℕ → (KeptCommit → KeptCommit) → List KeptCommit → List KeptCommit → Type 0
+IsChangedAt k g before after = (d : KeptCommit) → after ≡ slice_set before k (g (slice_index_or before k d))
 
--- For each thread of the journal, the names of the operations of each of its commits.
-pub record AreCommits (j : Journal) (commits : List (List (List Named))) : Type 0 where
-  pub many : length commits ≡ j.threads
-  pub each :
-      (t : ℕ) → t < j.threads
-      → slice_index_or commits t [] ≡ map names_in (placing t (record_of j t)).emitted
+-- The entries of commits that the program keeps.
+abbrev pub kept_entries : List KeptCommit → List Entry
+kept_entries ks = map (λ k. entry_in k.entry) ks
+
+-- The program keeps these commits.
+abbrev pub AreKept : List KeptCommit → List Commit → Type 0
+AreKept ks cs = map kept ks ≡ map by_names cs
+
+-- The program's walk is this one.
+pub record IsShown (w : Walk) (shown : program.Walk) : Type 0 where
+  pub next : shown.next ≡ w.next
+  pub emitted : AreKept shown.emitted.items w.emitted
+  pub pending : AreKept shown.pending.items w.pending
+  pub agrees : shown.agrees ≡ w.agrees
+
+-- Where the program's walk was some walk, it is then what this makes of that walk.
+abbrev pub IsAfter : (Walk → Walk) → program.Walk → program.Walk → Type 0
+IsAfter f before after = (w : Walk) → IsShown w before → IsShown (f w) after
+
+-- One more action has its number.
+abbrev pub counted : program.Walk → program.Walk
+counted s = record { next = s.next + 1; emitted = s.emitted; pending = s.pending; agrees = s.agrees }
+
+-- One more reply is as it must be, or not.
+abbrev pub noted : Bool → program.Walk → program.Walk
+noted b s = record { next = s.next; emitted = s.emitted; pending = s.pending; agrees = s.agrees && b }
+
+-- The last of the entries that writes the location stands at this place and writes this value.
+pub record IsLast (l : Loc) (es : List Entry) (place : ℕ) (value : Scalar) : Type 0 where
+  pub within : place < length es
+  pub writes : (d : Entry) → written l (slice_index_or es place d).action ≡ Some value
+  pub last : last_written l (drop (place + 1) es) ≡ None
+
+-- For each thread of the journal, its commits.
+pub record AreCommits (j : Journal) (kept : List (List KeptCommit)) : Type 0 where
+  pub many : length kept ≡ j.threads
+  pub each : (t : ℕ) → t < j.threads → AreKept (slice_index_or kept t []) (commits t (record_of j t))
 
 -- For each thread, how many of the first i entries of the history are its own.
 pub record AreCursors (j : Journal) (i : ℕ) (cursors : List ℕ) : Type 0 where

@@ -52,7 +52,7 @@ loop-entry-preserved c =
     let of : c.as_slice.result.now ≡ get_or c.args.commits.now e.thread c.as_slice.result.now = search rules in
     let k = finds j c.requires.follows c.args.commits.now c.requires.commits cursors i e c.index-cursor.result.now c.as_slice.result.now c.loop-entry.invariant.cursors lt is c.index-cursor.ensures of in
     let more : c.as_slice-in-loop-entry.result.now ≡ map named (placed j e) =
-    c.as_slice-in-loop-entry.ensures ∙ c.index-as_slice-cursor.is ∙ k.names c.index-as_slice-cursor.result in
+    c.as_slice-in-loop-entry.ensures ∙ k.names c.index-as_slice-cursor.result in
     record {
       names =
           c.in_ok-extend.ensures

@@ -1,0 +1,41 @@
+//! The entries that a thread's items emit.
+
+ghost use Rattle.std.specs.Prelude.{◌≡◌, IfOk, IfSome, is_some};
+ghost use Rattle.upc_values.specs.Drain as drain;
+ghost use Rattle.order_builder.specs.code.Views.{kept_entries};
+
+use crate::commits::drained;
+use crate::entry::KeptCommit;
+use std::alloc::Global;
+use upc_text::OutOfMemory;
+use upc_values::{Entries, Entry, Item, Listing, copy_action};
+
+// The entries of commits.
+fn entries_of(alloc: Global, commits: &[KeptCommit]) -> Result<Entries, OutOfMemory>
+    ensures { IfOk result (λ entries. entries ≡ kept_entries commits.now) }
+{
+    let mut entries = Vec::new(alloc);
+    for commit in commits {
+        entries.push(Entry {
+            thread: commit.entry.thread,
+            index: commit.entry.index,
+            action: copy_action(alloc, commit.entry.action)?,
+            reply: commit.entry.reply,
+        })?;
+    }
+    Ok(Listing::from_vec(entries))
+}
+
+/// The entries that the thread's items emit, none where a relaxed write is not Done, or a read does not have the value
+/// of the pending write that answers it.
+pub fn drain(alloc: Global, thread: u32, items: &[Item]) -> Result<Option<Entries>, OutOfMemory>
+    ensures entries { IfOk result (λ found. IfSome found (λ es. es ≡ drain.drain thread items.now)) }
+    ensures agrees { IfOk result (λ found. is_some found ≡ (drain.walked thread items.now).agrees) }
+{
+    let walk = drained(alloc, thread, items)?;
+    if walk.agrees {
+        Ok(Some(entries_of(alloc, walk.emitted.as_slice())?))
+    } else {
+        Ok(None)
+    }
+}
