@@ -1,4 +1,4 @@
-use Rattle.std.proofs.Common.{◌≡◌, [], List, None, map, replicate, sym, ap, subst, ◌∙◌}
+use Rattle.std.proofs.Common.{[], map, sym, ap, subst, ◌∙◌}
 use Rattle.shared_heap.specs.code.Page.{value_at, IsPage}
 use Rattle.shared_heap.proofs.Places.{page-none, none-values}
 use Rattle.shared_heap.proofs.page.Page.make.Goals as goal

@@ -1,6 +1,6 @@
-use Rattle.std.proofs.Common.{◌≡◌, ◌<◌, ◌≤◌, ◌+◌, ◌-◌, ◌++◌, [], ◌∷◌, suc, length, map, get_or, set, Some, sym, ap, subst, ◌∙◌, arith}
+use Rattle.std.proofs.Common.{◌≡◌, ◌<◌, ◌+◌, ◌-◌, ◌++◌, [], ◌∷◌, suc, length, map, get_or, set, Some, sym, ap, ◌∙◌, arith}
 use Rattle.std.proofs.lemmas.List.{get_or_default}
-use Rattle.shared_heap.specs.code.Page.{value_at, IsPage}
+use Rattle.shared_heap.specs.code.Page.{value_at}
 use Rattle.shared_heap.proofs.Places.{values-set, values-new}
 use Rattle.shared_heap.proofs.page.Page.save.Goals as goal
 
