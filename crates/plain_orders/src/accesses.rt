@@ -10,7 +10,7 @@ ghost use Rattle.plain_orders.specs.Below.{operations_below};
 use crate::operation::Operation;
 use crate::place::Place;
 use std::alloc::{AllocError, Global};
-use upc_values::{Action, Item, Journal, Reply, Scalar};
+use upc_values::{Action, Item, Items, Journal, Reply, Scalar};
 
 const ZERO: Scalar = Scalar::Int(0);
 
@@ -68,11 +68,12 @@ fn push_accesses(
 }
 
 // Adds the operations of a thread's items.
-fn push_items(thread: usize, items: &[Item], list: &mut Vec<Operation>) -> Result<(), AllocError>
+fn push_items(thread: usize, items: &Items, list: &mut Vec<Operation>) -> Result<(), AllocError>
     ensures { OnOk result (list.new.items ≡ list.old.items ++ operations_from thread 0 items.now) }
 {
+    list.reserve(items.len())?;
     let mut next = 0;
-    for item in items {
+    for item in items.iter() {
         if let Item::Did(action, reply) = item {
             push_accesses(thread, next, action, reply, list)?;
             next += 1;
@@ -90,7 +91,7 @@ fn push_thread(
     ensures { OnOk result (list.new.items ≡ list.old.items ++ operations_from thread 0 (record_of journal.now thread)) }
 {
     match journal.strands.as_slice().get(thread) {
-        Some(strand) => push_items(thread, strand.items.as_slice(), list),
+        Some(strand) => push_items(thread, &strand.items, list),
         None => Ok(()),
     }
 }

@@ -1,9 +1,9 @@
-use Rattle.std.proofs.Common.{◌≡◌, ◌≤◌, ◌++◌, drop}
+use Rattle.std.proofs.Common.{◌≡◌, ◌≤◌, ◌+◌, ◌++◌, length}
 use Rattle.upc_values.specs.Orders.{operations_from}
 use Rattle.plain_orders.proofs.accesses.push_items.Given as goal
 
 abbrev pub invariant-loop-item : goal.invariant-loop-item
 invariant-loop-item l = record {
-  rest : l.list.items ++ operations_from l.thread l.next (drop l.item-index l.items) ≡ l.initial.list.items ++ operations_from l.thread 0 l.items;
-  next : l.next ≤ l.item-index;
+  rest : l.list.items ++ operations_from l.thread l.next l.item-iterator ≡ l.initial.list.items ++ operations_from l.thread 0 l.items;
+  next : l.next + length l.item-iterator ≤ length l.items;
 }
