@@ -53,8 +53,9 @@ fn orders(out: &mut Vec<u8>, orders: &[Order]) -> Result<(), OutOfMemory>
     Ok(())
 }
 
-/// The text of a run, with the orders of its operations, in version 2: lines of words in bytes of ASCII, each with a line
-/// end. The run has a strand and an order for each thread, its history agrees with its records, and it is short (`is_short`).
+/// The text of a run, with the orders of its operations, in version 2: lines of words in bytes of ASCII, each with a
+/// line end. The run has a strand and an order for each thread, its history agrees with its records, and it is short
+/// (`is_short`).
 pub fn render(alloc: Global, journal: &Journal, all: &Orders) -> Result<Vec<u8>, OutOfMemory>
     requires { HasText journal.now all.now }
     ensures { IfOk result (λ bytes. bytes.items ≡ said.text journal.now all.now) }
