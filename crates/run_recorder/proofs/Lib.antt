@@ -6,6 +6,7 @@ pub mod ActionLaws
 pub mod ItemLaws
 pub mod EndLaws
 pub mod StrandLaws
+pub mod HeadLaws
 pub mod OrderLaws
 pub mod Tables
 pub mod Agreement

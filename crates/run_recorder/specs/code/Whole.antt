@@ -1,5 +1,5 @@
 -- Reading a whole text.
-use Rattle.std.specs.Prelude.{List, [], Option, codes}
+use Rattle.std.specs.Prelude.{ℕ, List, [], Option, codes}
 use Rattle.upc_values.specs.declared.journal.Entry.{Entry}
 use Rattle.upc_values.specs.declared.journal.Strand.{Strand}
 use Rattle.upc_values.specs.declared.journal.Journal.{Journal}
@@ -7,9 +7,10 @@ use Rattle.upc_values.specs.declared.order.Op.{Op}
 use Rattle.upc_values.specs.declared.order.Orders.{Orders}
 use Rattle.record_text.specs.Words.{Text}
 use Rattle.record_text.specs.Short.{is_short}
+use Rattle.record_parts.specs.declared.head.Head.{Head}
 use Rattle.record_parts.specs.declared.limits.Limits.{Limits}
-use Rattle.record_parts.specs.code.Readers.{Reader, ◌>>=◌, field, many, each, expect, lift, guarded, whole}
-use Rattle.record_parts.specs.code.Lines.{limits_of, strand_of, section_of, name_of, op_of, order_of}
+use Rattle.record_parts.specs.code.Readers.{Reader, ◌>>=◌, many, each, expect, lift, guarded, whole}
+use Rattle.record_parts.specs.code.Lines.{head_of, strand_of, section_of, name_of, op_of, order_of}
 use Rattle.run_recorder.specs.code.Finding.{entries_of}
 
 -- The journal of these numbers, strands and entries.
@@ -23,26 +24,29 @@ journal_of limits strands history =
       history = history;
     }
 
--- The run, where it is short.
-abbrev pub short_run_of : Limits → List Strand → List Entry → List Op → List (List Op) → Option (Journal × Orders)
-short_run_of limits strands history strict threads =
-    let journal = journal_of limits strands history in
-    guarded (is_short journal) (journal, record { strict = strict; threads = threads })
+-- A run with its orders, and before them the version of its text.
+abbrev pub VersionedRun : Type 0
+VersionedRun = ℕ × Journal × Orders
+
+-- The version and the run, where it is short.
+abbrev pub short_run_of : Head → List Strand → List Entry → List Op → List (List Op) → Option VersionedRun
+short_run_of head strands history strict threads =
+    let journal = journal_of head.limits strands history in
+    guarded (is_short journal) (head.version, journal, record { strict = strict; threads = threads })
 
 -- The lines of a run, and the nothing behind the last line end.
-abbrev pub run_of_lines : Reader (Journal × Orders)
+abbrev pub run_of_lines : Reader VersionedRun
 run_of_lines = do
-  _ ← expect (codes "upc-record 1")
-  limits ← field limits_of
-  strands ← many 0 limits.threads strand_of
+  head ← head_of
+  strands ← many 0 head.limits.threads strand_of
   names ← section_of (codes "history") (each name_of)
   strict ← section_of (codes "strict") (each op_of)
-  threads ← many 0 limits.threads order_of
+  threads ← many 0 head.limits.threads order_of
   _ ← expect (codes "end")
   _ ← expect []
   history ← lift (entries_of strands names)
-  lift (short_run_of limits strands history strict threads)
+  lift (short_run_of head strands history strict threads)
 
--- The run with this text.
-abbrev pub run_of : Text → Option (Journal × Orders)
+-- The run with this text, and the text's version.
+abbrev pub run_of : Text → Option VersionedRun
 run_of bytes = whole 10 run_of_lines bytes
