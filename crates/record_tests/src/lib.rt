@@ -1,10 +1,12 @@
-//! Tests of write buffers, of histories and runs by hand, and of the text of a run.
+//! Tests of write buffers, of the shared heap, of histories and runs by hand, and of the text of a run.
 #![tactic(auto)]
 
 #[cfg(test)]
 mod buffers;
 #[cfg(test)]
 mod by_hand;
+#[cfg(test)]
+mod heaps;
 #[cfg(test)]
 mod histories;
 #[cfg(test)]
