@@ -34,14 +34,16 @@ order 0 4\n0.0.w\n0.1.r\n0.2.w\n0.3.r\nend\n",
         wrong: "strict 4\n0.0.w\n0.1.r\n0.2.w\n0.3.r\n\
 order 0 4\n0.1.r\n0.0.w\n0.2.w\n0.3.r\nend\n",
     },
-    // `x = 1; x = y + x;` on one thread, relaxed. Wrong: the read of x where it was issued, before its write.
+    // `x = 1; x = y + x;` on one thread, relaxed. The first write is combined into the second and is no entry; in the
+    // order it stands before the second, with the read behind it. Wrong: the read of x where it was issued, before its
+    // write.
     ByHand {
-        run: "upc-record 1\nthreads 1 budget 1000 actions 100\n\
+        run: "upc-record 2\nthreads 1 budget 1000 actions 100\nrule places 64 combine\n\
 thread 0 items 8 ticks 0 ended 0\n\
 notify start -> done\nwait start -> done\n\
 write relaxed @1.0.0 1 -> done\nread relaxed @2.0.0 -> value 0\nread relaxed @1.0.0 -> value 1\n\
 write relaxed @1.0.0 1 -> done\nnotify finish -> done\nwait finish -> done\n\
-history 7\n0.0\n0.1\n0.3\n0.2\n0.5\n0.6\n0.7\n",
+history 6\n0.0\n0.1\n0.3\n0.5\n0.6\n0.7\n",
         orders: "strict 4\n0.0.w\n0.1.r\n0.6.w\n0.7.r\n\
 order 0 8\n0.0.w\n0.1.r\n0.3.r\n0.2.w\n0.4.r\n0.5.w\n0.6.w\n0.7.r\nend\n",
         wrong: "strict 4\n0.0.w\n0.1.r\n0.6.w\n0.7.r\n\
@@ -70,7 +72,7 @@ order 1 11\n0.0.w\n1.0.w\n0.1.r\n1.1.r\n1.3.r\n0.2.w\n0.4.w\n1.2.w\n1.4.w\n0.5.r
     // Thread 0 does `x = 1; r = x;`, thread 1 `x = 2;`, all relaxed. The read gives 1 and is no entry; in the order of
     // thread 0 it stands behind its write. Wrong: where it was issued, while the write was pending.
     ByHand {
-        run: "upc-record 1\nthreads 2 budget 1000 actions 100\n\
+        run: "upc-record 2\nthreads 2 budget 1000 actions 100\nrule places 64 combine\n\
 thread 0 items 6 ticks 0 ended 0\n\
 notify start -> done\nwait start -> done\n\
 write relaxed @1.0.0 1 -> done\nread relaxed @1.0.0 -> value 1\n\
@@ -88,7 +90,8 @@ order 1 10\n0.0.w\n1.0.w\n0.1.r\n1.1.r\n1.2.w\n1.3.w\n0.2.w\n0.4.w\n0.5.r\n1.4.r
     },
 ];
 
-fn joined(alloc: Global, first: &str, second: &str) -> Result<Vec<u8>, AllocError> {
+/// The one text, and the other after it.
+pub fn joined(alloc: Global, first: &str, second: &str) -> Result<Vec<u8>, AllocError> {
     let mut text = Vec::new(alloc);
     text.extend_from_slice(first.as_bytes())?;
     text.extend_from_slice(second.as_bytes())?;
@@ -194,7 +197,7 @@ fn are_orders_of(alloc: Global, journal: &Journal, given: &Orders) -> Result<boo
 // Whether the orders of a run are those that its text has, and are consistent.
 fn has_orders(alloc: Global, case: &ByHand) -> Result<bool, Fail> {
     let text = joined(alloc, case.run, case.orders)?;
-    let (journal, given) = read_record(alloc, text.as_slice())?;
+    let (_, journal, given) = read_record(alloc, text.as_slice())?;
     if !follows_buffers(alloc, &journal)? {
         return Ok(false);
     }
@@ -204,7 +207,7 @@ fn has_orders(alloc: Global, case: &ByHand) -> Result<bool, Fail> {
 // Whether the other orders are consistent.
 fn passes_wrong(alloc: Global, case: &ByHand) -> Result<bool, Fail> {
     let text = joined(alloc, case.run, case.wrong)?;
-    let (journal, wrong) = read_record(alloc, text.as_slice())?;
+    let (_, journal, wrong) = read_record(alloc, text.as_slice())?;
     Ok(is_consistent(alloc, &journal, &[], &[], &wrong)?)
 }
 
@@ -233,7 +236,7 @@ fn are_by(operations: &[Op], history: &[Entry]) -> bool {
 // Whether each entry of a run is one operation, in the order of the history.
 fn is_one_by_one(alloc: Global, case: &ByHand) -> Result<bool, Fail> {
     let text = joined(alloc, case.run, case.orders)?;
-    let (journal, _) = read_record(alloc, text.as_slice())?;
+    let (_, journal, _) = read_record(alloc, text.as_slice())?;
     if !follows_buffers(alloc, &journal)? {
         return Ok(false);
     }
@@ -279,7 +282,7 @@ fn is_legal(alloc: Global, history: &[Entry]) -> Result<bool, AllocError> {
 // Whether the history of a run is legal.
 fn has_legal(alloc: Global, case: &ByHand) -> Result<bool, Fail> {
     let text = joined(alloc, case.run, case.orders)?;
-    let (journal, _) = read_record(alloc, text.as_slice())?;
+    let (_, journal, _) = read_record(alloc, text.as_slice())?;
     Ok(is_legal(alloc, journal.history.as_slice())?)
 }
 

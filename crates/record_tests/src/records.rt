@@ -1,6 +1,6 @@
 //! The text of a run, written and read back.
 
-use crate::by_hand::{follows_buffers, same_entry, same_orders};
+use crate::by_hand::{follows_buffers, joined, same_entry, same_orders};
 use crate::histories::{read, write};
 use order_builder::orders;
 use run_recorder::{ReadRecord, is_short, read_record, render};
@@ -11,10 +11,16 @@ use upc_values::{
     same_action, same_reply,
 };
 
-// The text of a run of one thread that does nothing.
-const RECORD: &str = "upc-record 1\n\
-threads 1 budget 100000000 actions 4194304\n\
-thread 0 items 4 ticks 0 ended 0\n\
+// The first lines of version 1, of version 2, and of version 2 without its rule.
+const OLD_HEAD: &str = "upc-record 1\nthreads 1 budget 100000000 actions 4194304\n";
+
+const HEAD: &str = "upc-record 2\nthreads 1 budget 100000000 actions 4194304\n\
+rule places 64 combine\n";
+
+const NO_RULE: &str = "upc-record 2\nthreads 1 budget 100000000 actions 4194304\n";
+
+// The other lines of a run of one thread that does nothing.
+const BODY: &str = "thread 0 items 4 ticks 0 ended 0\n\
 notify start -> done\n\
 wait start -> done\n\
 notify finish -> done\n\
@@ -25,8 +31,9 @@ order 0 4\n0.0.w\n0.1.r\n0.2.w\n0.3.r\n\
 end\n";
 
 // A text with every kind of value.
-const EACH: &str = "upc-record 1\n\
+const EACH: &str = "upc-record 2\n\
 threads 2 budget 1 actions 7\n\
+rule places 64 combine\n\
 thread 0 items 8 ticks 18446744073709551615 fault 5 3:14\n\
 read relaxed @1.0.4 -> value -170141183460469231731687303715884105728\n\
 write strict @1.0.4 l:7 -> done\n\
@@ -63,25 +70,34 @@ fn is_bad(alloc: Global, text: &[u8], line: u32) -> bool {
     }
 }
 
-// Whether a text is read, and written as it was.
-fn comes_back(alloc: Global, text: &str) -> Result<bool, Fail> {
-    let (journal, orders) = read_record(alloc, text.as_bytes())?;
+// Whether a text is read, as one of this version, and its run is written so.
+fn is_written_as(alloc: Global, text: &[u8], version: u8, written: &[u8]) -> Result<bool, Fail> {
+    let (found, journal, orders) = read_record(alloc, text)?;
     match text_of(alloc, &journal, &orders)? {
-        Some(again) => Ok(again.as_slice() == text.as_bytes()),
+        Some(again) => Ok(found == version && again.as_slice() == written),
         None => Ok(false),
     }
 }
 
+// A text of version 2 comes back as it was; the run of an old text is written in version 2.
 #[test]
 fn texts_are_read_back(rt: HostRuntime) -> Result<(), Fail> {
-    assert!(rt; comes_back(rt.alloc(), RECORD)?);
-    assert!(rt; comes_back(rt.alloc(), EACH)?);
+    let alloc = rt.alloc();
+    let old = joined(alloc, OLD_HEAD, BODY)?;
+    let text = joined(alloc, HEAD, BODY)?;
+    assert!(rt; is_written_as(alloc, old.as_slice(), 1, text.as_slice())?);
+    assert!(rt; is_written_as(alloc, text.as_slice(), 2, text.as_slice())?);
+    assert!(rt; is_written_as(alloc, EACH.as_bytes(), 2, EACH.as_bytes())?);
     Ok(())
 }
 
 // Texts of no run, with the line that shows it.
-const BAD: [(&[u8], u32); 4] = [
+const BAD: [(&[u8], u32); 6] = [
     (b"", 1),
+    (
+        b"upc-record 3\nthreads 0 budget 1 actions 1\nhistory 0\nstrict 0\nend\n",
+        1,
+    ),
     (
         b"upc-record 1\nthreads 00 budget 1 actions 1\nhistory 0\nstrict 0\nend\n",
         2,
@@ -91,18 +107,31 @@ const BAD: [(&[u8], u32); 4] = [
         2,
     ),
     (
-        b"upc-record 1\nthreads 0 budget 1 actions 1\nhistory 0\nstrict 0\nend\n\n",
-        6,
+        b"upc-record 1\nthreads 0 budget 1 actions 1\nrule places 64 combine\nhistory 0\nstrict 0\nend\n",
+        3,
+    ),
+    (
+        b"upc-record 2\nthreads 0 budget 1 actions 1\nrule places 64 combine\nhistory 0\nstrict 0\nend\n\n",
+        7,
     ),
 ];
 
 #[test]
 fn other_texts_are_bad(rt: HostRuntime) -> Result<(), Fail> {
-    let cut = RECORD.as_bytes().split_last().expect(&rt, "a byte").1;
-    assert!(rt; is_bad(rt.alloc(), cut, 23));
+    let text = joined(rt.alloc(), HEAD, BODY)?;
+    let cut = text.as_slice().split_last().expect(&rt, "a byte").1;
+    assert!(rt; is_bad(rt.alloc(), cut, 24));
     for (text, line) in &BAD {
         assert!(rt; is_bad(rt.alloc(), text, *line));
     }
+    Ok(())
+}
+
+// An old text whose first line alone was changed lacks the line of the rule.
+#[test]
+fn the_rule_is_not_passed_over(rt: HostRuntime) -> Result<(), Fail> {
+    let text = joined(rt.alloc(), NO_RULE, BODY)?;
+    assert!(rt; is_bad(rt.alloc(), text.as_slice(), 3));
     Ok(())
 }
 
@@ -226,16 +255,17 @@ fn same_strands(a: &[Strand], b: &[Strand]) -> bool {
     true
 }
 
-// Whether a text is read as this run with these orders.
+// Whether a text of version 2 is read as this run with these orders.
 fn is_read_as(
     alloc: Global,
     text: &[u8],
     journal: &Journal,
     orders: &Orders,
 ) -> Result<bool, Fail> {
-    let (again, given) = read_record(alloc, text)?;
+    let (version, again, given) = read_record(alloc, text)?;
     Ok(
-        same_history(again.history.as_slice(), journal.history.as_slice())
+        version == 2
+            && same_history(again.history.as_slice(), journal.history.as_slice())
             && same_orders(given.threads.as_slice(), orders.threads.as_slice())
             && same_strands(again.strands.as_slice(), journal.strands.as_slice()),
     )
@@ -248,7 +278,7 @@ fn a_long_text_is_written_and_read_back(rt: HostRuntime) -> Result<(), Fail> {
     let journal = long_journal(alloc)?;
     let orders = orders_of(alloc, &journal)?.expect(&rt, "its orders");
     let text = text_of(alloc, &journal, &orders)?.expect(&rt, "a text");
-    assert_eq!(rt; text.len(), 7_235_773);
+    assert_eq!(rt; text.len(), 7_235_796);
     assert!(rt; is_read_as(alloc, text.as_slice(), &journal, &orders)?);
     Ok(())
 }
