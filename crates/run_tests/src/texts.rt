@@ -13,8 +13,9 @@ use std::test::Fail;
 use upc_values::{Journal, Orders, agrees};
 
 // The text of `int main(){return 0;}`, run by one thread.
-const TEXT: &str = "upc-record 1\n\
+const TEXT: &str = "upc-record 2\n\
 threads 1 budget 100000000 actions 4194304\n\
+rule places 64 combine\n\
 thread 0 items 4 ticks 0 ended 0\n\
 notify start -> done\n\
 wait start -> done\n\

@@ -190,7 +190,8 @@ const CALLS: [Call; 15] = [
         &["record", "-T", "1", "--actions", "9", "f.upc"],
         b"int main(){return 1 / 0;}",
         105,
-        b"upc-record 1\nthreads 1 budget 100000000 actions 9\nthread 0 items 2 ticks 0 fault 2 1:19\n\
+        b"upc-record 2\nthreads 1 budget 100000000 actions 9\nrule places 64 combine\n\
+thread 0 items 2 ticks 0 fault 2 1:19\n\
 notify start -> done\nwait start -> done\nhistory 2\n0.0\n0.1\nstrict 2\n0.0.w\n0.1.r\n\
 order 0 2\n0.0.w\n0.1.r\nend\n",
         b"upc: run error E2 at 1:19 on thread 0\n",
