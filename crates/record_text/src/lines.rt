@@ -8,7 +8,7 @@ ghost use Rattle.record_text.specs.code.Rows.{rows};
 use crate::items::{end, item};
 use crate::put::{number, put};
 use upc_text::OutOfMemory;
-use upc_values::{Entry, Item, Op, Strand};
+use upc_values::{Entries, Entry, Items, Op, Strand};
 
 fn thread(out: &mut Vec<u8>, t: usize, strand: &Strand) -> Result<(), OutOfMemory>
     ensures { OnOk result (out.new.items ≡ out.old.items
@@ -17,17 +17,17 @@ fn thread(out: &mut Vec<u8>, t: usize, strand: &Strand) -> Result<(), OutOfMemor
     put(out, "thread ")?;
     number(out, t)?;
     put(out, " items ")?;
-    number(out, strand.items.as_slice().len())?;
+    number(out, strand.items.len())?;
     put(out, " ticks ")?;
     number(out, strand.ticks)?;
     put(out, " ")?;
     end(out, &strand.end)
 }
 
-fn items(out: &mut Vec<u8>, items: &[Item]) -> Result<(), OutOfMemory>
+fn items(out: &mut Vec<u8>, items: &Items) -> Result<(), OutOfMemory>
     ensures { OnOk result (out.new.items ≡ out.old.items ++ rows (map item_line items.now)) }
 {
-    for one in items {
+    for one in items.iter() {
         item(out, one)?;
         put(out, "\n")?;
     }
@@ -41,7 +41,7 @@ pub(crate) fn strand(out: &mut Vec<u8>, t: usize, strand: &Strand) -> Result<(),
 {
     thread(out, t, strand)?;
     put(out, "\n")?;
-    items(out, strand.items.as_slice())
+    items(out, &strand.items)
 }
 
 fn entry(out: &mut Vec<u8>, entry: &Entry) -> Result<(), OutOfMemory>
@@ -52,10 +52,10 @@ fn entry(out: &mut Vec<u8>, entry: &Entry) -> Result<(), OutOfMemory>
     number(out, entry.index)
 }
 
-fn entries(out: &mut Vec<u8>, entries: &[Entry]) -> Result<(), OutOfMemory>
+fn entries(out: &mut Vec<u8>, entries: &Entries) -> Result<(), OutOfMemory>
     ensures { OnOk result (out.new.items ≡ out.old.items ++ rows (map entry_line entries.now)) }
 {
-    for one in entries {
+    for one in entries.iter() {
         entry(out, one)?;
         put(out, "\n")?;
     }
@@ -63,7 +63,7 @@ fn entries(out: &mut Vec<u8>, entries: &[Entry]) -> Result<(), OutOfMemory>
 }
 
 /// Adds the lines of a history.
-pub(crate) fn history(out: &mut Vec<u8>, all: &[Entry]) -> Result<(), OutOfMemory>
+pub(crate) fn history(out: &mut Vec<u8>, all: &Entries) -> Result<(), OutOfMemory>
     ensures { OnOk result (out.new.items ≡ out.old.items
         ++ rows (said.section_lines (codes "history") entry_line all.now)) }
 {

@@ -18,7 +18,7 @@ fn are_few(strands: &[Strand]) -> bool
 {
     let mut left = MOST_ITEMS;
     for strand in strands {
-        let count = strand.items.as_slice().len();
+        let count = strand.items.len();
         if count > left {
             return false;
         }

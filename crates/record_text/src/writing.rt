@@ -63,7 +63,7 @@ pub fn render(alloc: Global, journal: &Journal, all: &Orders) -> Result<Vec<u8>,
     let mut out = Vec::new(alloc);
     first_lines(&mut out, journal)?;
     strands(&mut out, journal.strands.as_slice())?;
-    history(&mut out, journal.history.as_slice())?;
+    history(&mut out, &journal.history)?;
     strict(&mut out, all.strict.as_slice())?;
     orders(&mut out, all.threads.as_slice())?;
     put(&mut out, "end\n")?;

@@ -1,4 +1,4 @@
-use Rattle.std.proofs.Common.{◌∙◌, ap, length, decimal, ◌++◌}
+use Rattle.std.proofs.Common.{◌∙◌, ap, decimal, ◌++◌}
 use Rattle.std.proofs.lemmas.Result.{on_ok_weaker}
 use Rattle.record_text.specs.Words.{end_words}
 use Rattle.record_text.proofs.Joins.{thread_joined}
@@ -11,5 +11,5 @@ returns c =
     on_ok_weaker c.end.result (λ e.
     thread_joined c.args.out.now.items _ _ _ _ _ _ _ _ _ _ _ (end_words end) (end_some end)
     c.in_ok-put.ensures c.in_ok-number.ensures c.in_ok-put-2.ensures
-    (c.in_ok-number-2.ensures ∙ ap (λ xs. c.put-2.new.out.items ++ decimal (length xs)) c.as_slice.ensures)
+    (c.in_ok-number-2.ensures ∙ ap (λ n. c.put-2.new.out.items ++ decimal n) c.len.ensures)
     c.in_ok-put-3.ensures c.in_ok-number-3.ensures c.in_ok-put-4.ensures e) c.end.ensures

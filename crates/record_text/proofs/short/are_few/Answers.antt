@@ -1,4 +1,4 @@
-use Rattle.std.proofs.Common.{arith, ap, length}
+use Rattle.std.proofs.Common.{arith}
 use Rattle.record_text.proofs.Counting.{few, none_left, one_more, too_many}
 use Rattle.record_text.proofs.short.are_few.Goals as goal
 
@@ -6,14 +6,14 @@ pub returns-then-count-left : goal.returns-then-count-left
 returns-then-count-left c =
     let e = one_more c.args.strands.now c.loop-strand.strand-index c.strand-item.result
     c.loop-strand-test.true c.strand-item.is in
-    let k = ap length c.as_slice-count.ensures in
+    let k = c.len-count.ensures in
     too_many c.args.strands.now (omega (arith, e, k))
 
 pub loop-strand-preserved : goal.loop-strand-preserved
 loop-strand-preserved c =
     let e = one_more c.args.strands.now c.loop-strand.strand-index c.strand-item.result
     c.loop-strand-test.true c.strand-item.is in
-    let k = ap length c.as_slice-count.ensures in
+    let k = c.len-count.ensures in
     omega (arith, e, k)
 
 pub returns : goal.returns

@@ -19,10 +19,9 @@ returns c =
     c.new-out.ensures.items c.in_ok-first_lines.ensures
     (c.in_ok-strands.ensures
     ∙ ap (λ xs. c.first_lines.new.out.items ++ rows (numbered_lines strand_lines 0 xs)) c.as_slice.ensures)
-    (c.in_ok-history.ensures
-    ∙ ap (λ xs. c.strands.new.out.items ++ rows (section_lines (codes "history") entry_line xs)) c.as_slice-2.ensures)
+    c.in_ok-history.ensures
     (c.in_ok-strict.ensures
-    ∙ ap (λ xs. c.history.new.out.items ++ rows (section_lines (codes "strict") op_line xs)) c.as_slice-3.ensures)
+    ∙ ap (λ xs. c.history.new.out.items ++ rows (section_lines (codes "strict") op_line xs)) c.as_slice-2.ensures)
     (c.in_ok-orders.ensures
-    ∙ ap (λ xs. c.strict.new.out.items ++ rows (numbered_lines order_lines 0 xs)) c.as_slice-4.ensures)
+    ∙ ap (λ xs. c.strict.new.out.items ++ rows (numbered_lines order_lines 0 xs)) c.as_slice-3.ensures)
     c.in_ok-put.ensures
