@@ -3,8 +3,8 @@
 use std::alloc::{AllocError, Global};
 use upc_text::Text;
 use upc_values::{
-    Action, Args, End, Entry, Item, Journal, Listing, Loc, Mark, ObjectRef, Reply, Scalar,
-    SharedPtr, Strand, agrees, copy_action, copy_scalar, same_action, same_loc, same_reply,
+    Action, Args, End, Entries, Entry, Item, Items, Journal, Listing, Loc, Mark, ObjectRef, Reply,
+    Scalar, SharedPtr, Strand, agrees, copy_action, copy_scalar, same_action, same_loc, same_reply,
     same_scalar,
 };
 
@@ -138,7 +138,7 @@ fn record(alloc: Global) -> Result<Vec<Item>, AllocError> {
 fn journal(alloc: Global, history: Vec<Entry>) -> Result<Journal, AllocError> {
     let mut strands = Vec::new(alloc);
     strands.push(Strand {
-        items: Listing::from_vec(record(alloc)?),
+        items: Items::from_vec(alloc, record(alloc)?)?,
         ticks: 0,
         end: End::Budget,
     })?;
@@ -147,7 +147,7 @@ fn journal(alloc: Global, history: Vec<Entry>) -> Result<Journal, AllocError> {
         budget: 1,
         actions: 3,
         strands: Listing::from_vec(strands),
-        history: Listing::from_vec(history),
+        history: Entries::from_vec(alloc, history)?,
     })
 }
 

@@ -8,6 +8,8 @@ mod arithmetic_rows;
 #[cfg(test)]
 mod calls;
 #[cfg(test)]
+mod chunks;
+#[cfg(test)]
 mod counted;
 #[cfg(test)]
 mod edges;

@@ -8,32 +8,33 @@ use plain_orders::{is_consistent, operations_of};
 use std::alloc::{AllocError, Global};
 use std::test::Fail;
 use upc_values::{
-    Action, End, Item, Journal, Listing, Mark, Op, Order, Orders, Reply, Scalar, Strand,
+    Action, End, Entries, Item, Items, Journal, Listing, Mark, Op, Order, Orders, Reply, Scalar,
+    Strand,
 };
 
 // The name of an operation: its thread, the number of its action there, and whether it writes or reads.
 type Named = (u32, u32, char);
 
-fn strand(items: Vec<Item>) -> Strand {
-    Strand {
-        items: Listing::from_vec(items),
+fn strand(alloc: Global, items: Vec<Item>) -> Result<Strand, AllocError> {
+    Ok(Strand {
+        items: Items::from_vec(alloc, items)?,
         ticks: 0,
         end: End::Ended(0),
-    }
+    })
 }
 
 // The journal of two threads with these records, without its history.
 fn journal_of(alloc: Global, records: Vec<Vec<Item>>) -> Result<Journal, AllocError> {
     let mut strands = Vec::new(alloc);
     for items in records {
-        strands.push(strand(items))?;
+        strands.push(strand(alloc, items)?)?;
     }
     Ok(Journal {
         threads: 2,
         budget: 1,
         actions: 100,
         strands: Listing::from_vec(strands),
-        history: Listing::new(alloc),
+        history: Entries::new(alloc),
     })
 }
 
