@@ -10,7 +10,7 @@ use crate::fields::{number32, number64};
 use crate::parts::{Parts, expect, split};
 use crate::series::{Part, many};
 use std::alloc::Global;
-use upc_values::{End, Listing, Strand};
+use upc_values::{End, Items, Strand};
 
 /// The first line of a thread.
 #[derive(Drop)]
@@ -65,7 +65,7 @@ impl Part for Strand {
         }
         let items = many(alloc, header.items, lines)?;
         Ok(Strand {
-            items: Listing::from_vec(items),
+            items: Items::from_vec(alloc, items)?,
             ticks: header.ticks,
             end: header.end,
         })
