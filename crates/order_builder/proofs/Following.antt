@@ -1,22 +1,22 @@
 -- Each entry of the history takes the place of the next commit of its thread.
-use Rattle.std.proofs.Common.{◌≡◌, ℕ, ◌+◌, ◌<◌, ◌≤◌, ◌==◌, cond, List, [], ◌∷◌, ◌++◌, map, flat_map, length, take, drop, get_or, set, slice_get, Some, refl, sym, ap, ◌∙◌, subst, append-nil, eq-eqb, eqb-true, inl, inr, arith}
+use Rattle.std.proofs.Common.{◌≡◌, ℕ, ◌+◌, ◌<◌, ◌≤◌, ◌==◌, cond, List, [], ◌∷◌, ◌++◌, map, flat_map, length, get_or, set, slice_get, Some, refl, sym, ap, ◌∙◌, subst, append_assoc, append-nil, eq-eqb, eqb-true, inl, inr, arith}
 use Rattle.std.proofs.lemmas.Bool.{cond_both, cond-true, cases_eq}
-use Rattle.std.proofs.lemmas.List.{take_more, map-append, length-map, take-append-drop, get_or-set_same, get_or-set_other, length-set, get_or_default}
-use Rattle.std.proofs.lemmas.List.Filters.{length-filter_more}
+use Rattle.std.proofs.lemmas.List.{map-append, length-map, length-append, get_or-set_same, get_or-set_other, length-set, get_or_default}
 use Rattle.std.proofs.lemmas.Grind.{flat_map-append}
 use Rattle.upc_values.specs.declared.journal.Entry.{Entry}
 use Rattle.upc_values.specs.declared.journal.Journal.{Journal}
 use Rattle.upc_values.specs.Drain.{Commit, commit_of, entries_in, commits, entries_of}
 use Rattle.upc_values.specs.Orders.{record_of, operations_at, placed}
 use Rattle.upc_values.specs.Consistent.{FollowsBuffers}
-use Rattle.upc_values.proofs.Lists.{each-at}
-use Rattle.upc_values.proofs.Membership.{left_from}
+use Rattle.upc_values.specs.Lists.{Each}
+use Rattle.upc_values.proofs.Membership.{each-back}
+use Rattle.upc_values.proofs.Walks.{entries_of-append, entries-own}
 use Rattle.upc_values.proofs.Drained.{entry-at}
 use Rattle.upc_values.proofs.Numbering.{counted, numbered-drained}
 use Rattle.upc_values.proofs.Placement.{agrees-of, drains-of}
 use Rattle.order_builder.specs.declared.names.Named.{Named}
 use Rattle.order_builder.specs.declared.entry.KeptCommit.{KeptCommit}
-use Rattle.order_builder.specs.code.Views.{named, by_names, kept, AreKept, AreCommits, AreCursors}
+use Rattle.order_builder.specs.code.Views.{named, by_names, kept, AreKept, AreCommits, AreCursors, ArePlaced}
 
 -- a commit of the list is counted
 counted-there : (e : Entry) (cs : List Commit) (k : ℕ) → slice_get (entries_in cs) k ≡ Some e → 1 ≤ counted e.index cs
@@ -71,26 +71,23 @@ names-kept (x ∷ ks) (y ∷ cs) (ℕ.suc k) d c h lt =
     names-kept ks cs k d c rest (omega arith)
 
 module _ (j : Journal) (f : FollowsBuffers j) (all : List (List KeptCommit)) (are : AreCommits j all) where
-  -- what the entry of a number finds at the cursor of its thread
-  pub record IsNext (i : ℕ) (e : Entry) (cursor : ℕ) : Type 0 where
+  -- what the first entry that is left finds at the cursor of its thread
+  pub record IsNext (e : Entry) (cursor : ℕ) : Type 0 where
     pub below : e.thread < j.threads
     pub within : cursor < length (get_or all e.thread [])
     pub names : (d : KeptCommit) → (get_or (get_or all e.thread []) cursor d).names ≡ map named (placed j e)
 
-  is-next : (i : ℕ) (e : Entry) → i < length j.history → e ≡ get_or j.history i e → IsNext i e (length (entries_of e.thread (take i j.history)))
-  is-next i e lt is =
+  is-next : (before left : List Entry) (e : Entry) → before ++ e ∷ left ≡ j.history → IsNext e (length (entries_of e.thread before))
+  is-next before left e parts =
       let t = e.thread in
       let cs = commits t (record_of j t) in
-      let before = take i j.history in
       let n = length (entries_of t before) in
-      let below : t < j.threads =
-      subst (λ z. z.thread < j.threads) (sym is) (each-at (λ z. z.thread < j.threads) j.history i e f.below lt) in
-      let parts : before ++ e ∷ drop (i + 1) j.history ≡ j.history =
-      ap (λ z. before ++ z) (sym (left_from j.history i e lt is)) ∙ take-append-drop i j.history in
-      let entries : entries_of t (before ++ e ∷ drop (i + 1) j.history) ≡ entries_in cs =
-      ap (entries_of t) parts ∙ drains-of j t f below in
+      let each : Each (λ z. z.thread < j.threads) (before ++ e ∷ left) =
+      subst (Each (λ z. z.thread < j.threads)) (sym parts) f.below in
+      let below : t < j.threads = (each-back (λ z. z.thread < j.threads) before (e ∷ left) each).0 in
+      let entries : entries_of t (before ++ e ∷ left) ≡ entries_in cs = ap (entries_of t) parts ∙ drains-of j t f below in
       let once = (numbered-drained t (record_of j t) (agrees-of j t f below)).once e.index in
-      let at = is-at e cs n (entry-at t before (drop (i + 1) j.history) e cs refl entries) (omega arith) in
+      let at = is-at e cs n (entry-at t before left e cs refl entries) (omega arith) in
       let are_kept = are.each t below in
       record {
         below = below;
@@ -100,11 +97,6 @@ module _ (j : Journal) (f : FollowsBuffers j) (all : List (List KeptCommit)) (ar
             ∙ ap (map named) (at.operations (commit_of e));
       }
 
-  pub next-at : (cursors : List ℕ) (i : ℕ) (e : Entry) → AreCursors j i cursors → i < length j.history → e ≡ get_or j.history i e → IsNext i e (get_or cursors e.thread 0)
-  next-at cursors i e c lt is =
-      let n = is-next i e lt is in
-      subst (IsNext i e) (sym (c.at e.thread n.below)) n
-
   -- what the program reads there
   pub record Finds (cursors : List ℕ) (e : Entry) (cursor : ℕ) (of : List KeptCommit) : Type 0 where
     pub below : e.thread < j.threads
@@ -112,11 +104,13 @@ module _ (j : Journal) (f : FollowsBuffers j) (all : List (List KeptCommit)) (ar
     pub within : cursor < length of
     pub names : (d : KeptCommit) → (get_or of cursor d).names ≡ map named (placed j e)
 
-  pub finds : (cursors : List ℕ) (i : ℕ) (e : Entry) (cursor : ℕ) (of : List KeptCommit) → AreCursors j i cursors → i < length j.history → e ≡ get_or j.history i e → cursor ≡ get_or cursors e.thread cursor → of ≡ get_or all e.thread of → Finds cursors e cursor of
-  finds cursors i e cursor of c lt is at found =
-      let n = next-at cursors i e c lt is in
+  pub finds : (names : List Named) (cursors : List ℕ) (now left : List Entry) (e : Entry) (cursor : ℕ) (of : List KeptCommit) → ArePlaced j now names cursors → now ≡ e ∷ left → cursor ≡ get_or cursors e.thread cursor → of ≡ get_or all e.thread of → Finds cursors e cursor of
+  finds names cursors now left e cursor of p steps at found =
+      let parts : p.before ++ e ∷ left ≡ j.history = ap (λ z. p.before ++ z) (sym steps) ∙ p.parts in
+      let m = is-next p.before left e parts in
+      let n : IsNext e (get_or cursors e.thread 0) = subst (IsNext e) (sym (p.cursors_are.at e.thread m.below)) m in
       let below : e.thread < j.threads = n.below in
-      let there : e.thread < length cursors = let m = c.many in omega arith in
+      let there : e.thread < length cursors = let m = p.cursors_are.many in omega arith in
       let here : e.thread < length all = let m = are.many in omega arith in
       let q : cursor ≡ get_or cursors e.thread 0 = at ∙ get_or_default cursors e.thread cursor 0 there in
       let r : of ≡ get_or all e.thread [] = found ∙ get_or_default all e.thread of [] here in
@@ -128,42 +122,48 @@ module _ (j : Journal) (f : FollowsBuffers j) (all : List (List KeptCommit)) (ar
       }
 
 -- at the beginning
-pub cursors-none : (j : Journal) (cursors : List ℕ) → length cursors ≡ j.threads → ((t : ℕ) → get_or cursors t 0 ≡ 0) → AreCursors j 0 cursors
+pub cursors-none : (j : Journal) (cursors : List ℕ) → length cursors ≡ j.threads → ((t : ℕ) → get_or cursors t 0 ≡ 0) → AreCursors j [] cursors
 cursors-none j cursors e h = record { many = e; at = λ t lt. h t }
 
 -- one more entry
-pub cursors-more : (j : Journal) (cursors : List ℕ) (i : ℕ) (e : Entry) → i < length j.history → e ≡ get_or j.history i e → e.thread < j.threads → AreCursors j i cursors → AreCursors j (i + 1) (set cursors e.thread (get_or cursors e.thread 0 + 1))
-cursors-more j cursors i e lt is below c =
+cursors-more : (j : Journal) (cursors : List ℕ) (before : List Entry) (e : Entry) → e.thread < j.threads → AreCursors j before cursors → AreCursors j (before ++ e ∷ []) (set cursors e.thread (get_or cursors e.thread 0 + 1))
+cursors-more j cursors before e below c =
     let t = e.thread in
     let v = get_or cursors t 0 + 1 in
     record {
       many = length-set cursors t v ∙ c.many;
       at = λ u h.
-          let more : length (entries_of u (take (i + 1) j.history)) ≡ length (entries_of u (take i j.history)) + cond {A = ℕ} (t == u) 1 0 =
-          length-filter_more (λ x. x.thread == u) j.history i e lt
-          ∙ ap (λ z. length (entries_of u (take i j.history)) + cond {A = ℕ} (z.thread == u) 1 0) (sym is) in
+          let more : length (entries_of u (before ++ e ∷ [])) ≡ length (entries_of u before) + length (entries_of u (e ∷ [])) =
+          ap length (entries_of-append u before (e ∷ [])) ∙ length-append (entries_of u before) (entries_of u (e ∷ [])) in
           let old = c.at u h in
           elim (cases_eq u t) [
             | inl q ↦
-                let one : cond {A = ℕ} (t == u) 1 0 ≡ 1 = cond-true (t == u) 1 0 (eq-eqb t u (sym q)) in
+                let one : length (entries_of u (e ∷ [])) ≡ 1 = ap length (entries-own u e (sym q)) in
                 let there : get_or (set cursors t v) u 0 ≡ v =
                 ap (λ k. get_or (set cursors t v) k 0) q ∙ get_or-set_same cursors t v 0 (let m = c.many in omega arith) in
                 let same : get_or cursors t 0 ≡ get_or cursors u 0 = ap (λ k. get_or cursors k 0) (sym q) in
                 omega arith
             | inr q ↦
-                let none : cond {A = ℕ} (t == u) 1 0 ≡ 0 =
-                cond_both {A = ℕ} (t == u) 1 0 (λ z. z ≡ 0) (λ e. absurd (q (sym (eqb-true t u e)))) (λ e. refl) in
+                let none : length (entries_of u (e ∷ [])) ≡ 0 =
+                cond_both (t == u) (e ∷ []) [] (λ z. length z ≡ 0) (λ h. absurd (q (sym (eqb-true t u h)))) (λ h. refl) in
                 let there : get_or (set cursors t v) u 0 ≡ get_or cursors u 0 = get_or-set_other cursors t u v 0 q in
                 omega arith
           ];
     }
 
 -- the names so far, and those of one more entry
-pub names-more : (j : Journal) (i : ℕ) (e : Entry) (names more : List Named) → i < length j.history → e ≡ get_or j.history i e → names ≡ map named (flat_map (placed j) (take i j.history)) → more ≡ map named (placed j e) → names ++ more ≡ map named (flat_map (placed j) (take (i + 1) j.history))
-names-more j i e names more lt is h k =
-    let before = take i j.history in
-    let whole : flat_map (placed j) (take (i + 1) j.history) ≡ flat_map (placed j) before ++ placed j e =
-    ap (flat_map (placed j)) (take_more j.history i e lt ∙ ap (λ z. before ++ z ∷ []) (sym is))
-    ∙ flat_map-append (placed j) before (e ∷ []) ∙ ap (λ z. flat_map (placed j) before ++ z) (append-nil (placed j e)) in
-    ap (λ z. z ++ more) h ∙ ap (λ z. map named (flat_map (placed j) before) ++ z) k
-    ∙ sym (ap (map named) whole ∙ map-append named (flat_map (placed j) before) (placed j e))
+pub placed-more : (j : Journal) (names more : List Named) (cursors : List ℕ) (now left : List Entry) (e : Entry) (n : ℕ) → now ≡ e ∷ left → e.thread < j.threads → n ≡ get_or cursors e.thread 0 → more ≡ map named (placed j e) → ArePlaced j now names cursors → ArePlaced j left (names ++ more) (set cursors e.thread (n + 1))
+placed-more j names more cursors now left e n steps below is k p =
+    record {
+      before = p.before ++ e ∷ [];
+      parts = append_assoc p.before (e ∷ []) left ∙ ap (λ z. p.before ++ z) (sym steps) ∙ p.parts;
+      names_are =
+          ap (λ z. z ++ more) p.names_are ∙ ap (λ z. map named (flat_map (placed j) p.before) ++ z) k
+          ∙ sym
+          (ap (map named)
+          (flat_map-append (placed j) p.before (e ∷ []) ∙ ap (λ z. flat_map (placed j) p.before ++ z) (append-nil (placed j e)))
+          ∙ map-append named (flat_map (placed j) p.before) (placed j e));
+      cursors_are =
+          subst (λ m. AreCursors j (p.before ++ e ∷ []) (set cursors e.thread (m + 1))) (sym is)
+          (cursors-more j cursors p.before e below p.cursors_are);
+    }

@@ -8,17 +8,17 @@ use crate::entry::KeptCommit;
 use crate::walk::Walk;
 use std::alloc::Global;
 use upc_text::OutOfMemory;
-use upc_values::{Item, Journal, Listing};
+use upc_values::{Items, Journal, Listing};
 
 /// The commits of a thread, in the order of the history.
 pub type Commits<'a> = Listing<KeptCommit<'a>>;
 
 /// The walk over all of a thread's items.
-pub fn drained<'a>(alloc: Global, thread: u32, items: &'a [Item]) -> Result<Walk<'a>, OutOfMemory>
+pub fn drained<'a>(alloc: Global, thread: u32, items: &'a Items) -> Result<Walk<'a>, OutOfMemory>
     ensures { IfOk result (λ walk. IsShown (drained thread items.now) walk) }
 {
     let mut walk = Walk::new(alloc);
-    for item in items {
+    for item in items.iter() {
         walk.step(alloc, thread, item)?;
     }
     walk.empty()?;
@@ -26,7 +26,7 @@ pub fn drained<'a>(alloc: Global, thread: u32, items: &'a [Item]) -> Result<Walk
 }
 
 // The commits of a thread with this record.
-fn commits_of<'a>(alloc: Global, thread: u32, items: &'a [Item]) -> Result<Commits<'a>, OutOfMemory>
+fn commits_of<'a>(alloc: Global, thread: u32, items: &'a Items) -> Result<Commits<'a>, OutOfMemory>
     ensures { IfOk result (λ kept. AreKept kept (commits thread items.now)) }
 {
     let walk = drained(alloc, thread, items)?;
@@ -41,8 +41,7 @@ pub fn all_commits<'a>(alloc: Global, journal: &'a Journal) -> Result<Vec<Commit
     let strands = journal.strands.as_slice();
     let mut commits = Vec::new(alloc);
     for thread in 0..journal.threads {
-        let items = strands[thread as usize].items.as_slice();
-        commits.push(commits_of(alloc, thread, items)?)?;
+        commits.push(commits_of(alloc, thread, &strands[thread as usize].items)?)?;
     }
     Ok(commits)
 }

@@ -8,27 +8,29 @@ use crate::commits::drained;
 use crate::entry::KeptCommit;
 use std::alloc::Global;
 use upc_text::OutOfMemory;
-use upc_values::{Entries, Entry, Item, Listing, copy_action};
+use upc_values::{Chunks, Entries, Entry, Items, copy_action};
 
 // The entries of commits.
 fn entries_of(alloc: Global, commits: &[KeptCommit]) -> Result<Entries, OutOfMemory>
     ensures { IfOk result (λ entries. entries ≡ kept_entries commits.now) }
 {
-    let mut entries = Vec::new(alloc);
+    let mut entries = Chunks::new(alloc);
     for commit in commits {
-        entries.push(Entry {
+        let action = copy_action(alloc, commit.entry.action)?;
+        entries.reserve()?;
+        entries.push_reserved(Entry {
             thread: commit.entry.thread,
             index: commit.entry.index,
-            action: copy_action(alloc, commit.entry.action)?,
+            action,
             reply: commit.entry.reply,
-        })?;
+        });
     }
-    Ok(Listing::from_vec(entries))
+    Ok(Entries::from_chunks(entries))
 }
 
 /// The entries that the thread's items emit, none where a relaxed write is not Done, or a read does not have the value
 /// of the pending write that answers it.
-pub fn drain(alloc: Global, thread: u32, items: &[Item]) -> Result<Option<Entries>, OutOfMemory>
+pub fn drain(alloc: Global, thread: u32, items: &Items) -> Result<Option<Entries>, OutOfMemory>
     ensures entries { IfOk result (λ found. IfSome found (λ es. es ≡ drain.drain thread items.now)) }
     ensures agrees { IfOk result (λ found. is_some found ≡ (drain.walked thread items.now).agrees) }
 {

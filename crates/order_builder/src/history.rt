@@ -19,7 +19,7 @@ fn place_all(alloc: Global, journal: &Journal, commits: &[Commits]) -> Result<Na
 {
     let mut names = Names::new(alloc);
     let mut cursors: Vec<usize> = vec![in alloc; 0; commits.len()]?;
-    for entry in journal.history.as_slice() {
+    for entry in journal.history.iter() {
         let thread = entry.thread as usize;
         let cursor = cursors[thread];
         names.extend(commits[thread].as_slice()[cursor].names.as_slice())?;

@@ -1,13 +1,14 @@
 -- What the program keeps of operations, of commits and of a walk.
-use Rattle.std.specs.Prelude.{ℕ, ◌≡◌, ◌+◌, ◌<◌, List, [], ◌++◌, length, map, take, drop, slice_index_or, slice_set}
+use Rattle.std.specs.Prelude.{ℕ, ◌≡◌, ◌+◌, ◌<◌, List, [], ◌++◌, length, map, drop, slice_index_or, slice_set}
 use Rattle.std.specs.Prelude.{Bool, ◌&&◌, Some, None}
+use Rattle.std.specs.List.{flat_map}
 use Rattle.block_layout.specs.declared.place.Loc.{Loc}
 use Rattle.upc_values.specs.declared.scalar.Scalar.{Scalar}
 use Rattle.upc_values.specs.declared.journal.Entry.{Entry}
 use Rattle.upc_values.specs.declared.journal.Journal.{Journal}
 use Rattle.upc_values.specs.Drain.{Commit, Walk, written, last_written, commits, entries_of}
 use Rattle.upc_values.specs.Operations.{Operation}
-use Rattle.upc_values.specs.Orders.{record_of, name_of}
+use Rattle.upc_values.specs.Orders.{record_of, placed, name_of}
 use Rattle.order_builder.specs.declared.names.Named.{Named}
 use Rattle.order_builder.specs.declared.entry.EntryRef.{EntryRef}
 use Rattle.order_builder.specs.declared.entry.KeptCommit.{KeptCommit}
@@ -84,7 +85,14 @@ pub record AreCommits (j : Journal) (kept : List (List KeptCommit)) : Type 0 whe
   pub many : length kept ≡ j.threads
   pub each : (t : ℕ) → t < j.threads → AreKept (slice_index_or kept t []) (commits t (record_of j t))
 
--- For each thread, how many of the first i entries of the history are its own.
-pub record AreCursors (j : Journal) (i : ℕ) (cursors : List ℕ) : Type 0 where
+-- For each thread, how many of these entries are its own.
+pub record AreCursors (j : Journal) (before : List Entry) (cursors : List ℕ) : Type 0 where
   pub many : length cursors ≡ j.threads
-  pub at : (t : ℕ) → t < j.threads → slice_index_or cursors t 0 ≡ length (entries_of t (take i j.history))
+  pub at : (t : ℕ) → t < j.threads → slice_index_or cursors t 0 ≡ length (entries_of t before)
+
+-- The entries of the history before those that are left have these names, and each thread's cursor is after its own.
+pub record ArePlaced (j : Journal) (left : List Entry) (names : List Named) (cursors : List ℕ) : Type 0 where
+  pub before : List Entry
+  pub parts : before ++ left ≡ j.history
+  pub names_are : names ≡ map named (flat_map (placed j) before)
+  pub cursors_are : AreCursors j before cursors
