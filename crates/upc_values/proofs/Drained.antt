@@ -1,5 +1,5 @@
 -- The entries of commits, and those of a thread in the history.
-use Rattle.std.proofs.Common.{◌≡◌, ℕ, ◌==◌, cond, List, [], ◌∷◌, ◌++◌, length, is_some, Option, Some, slice_get, refl, sym, ap, ◌∙◌, eq-eqb}
+use Rattle.std.proofs.Common.{◌≡◌, ℕ, ◌==◌, List, [], ◌∷◌, ◌++◌, length, is_some, Some, slice_get, refl, sym, ap, ◌∙◌, eq-eqb}
 use Rattle.std.proofs.lemmas.Bool.{cond_both, cond-true}
 use Rattle.std.proofs.lemmas.List.Elements.{filter-append}
 use Rattle.block_layout.specs.declared.place.Loc.{Loc}

@@ -1,7 +1,7 @@
 -- What is known stays known, and what a lawful reply gives is known after its entry.
-use Rattle.std.proofs.Common.{◌≡◌, ℕ, ◌+◌, ◌*◌, ◌<◌, ◌≤◌, ◌==◌, nat_lt, nat_le, Bool, false, true, ◌&&◌, ◌||◌, not, cond, List, [], ◌∷◌, ◌++◌, length, Option, Some, None, is_none, slice_get, refl, sym, ap, subst, ◌∙◌, append-nil, append_assoc, arith, le-leb, lt-ltb, eqb-true}
+use Rattle.std.proofs.Common.{◌≡◌, ℕ, ◌+◌, ◌*◌, ◌<◌, ◌==◌, nat_lt, nat_le, Bool, false, true, ◌&&◌, ◌||◌, not, cond, List, [], ◌∷◌, ◌++◌, length, Option, Some, None, is_none, slice_get, refl, sym, ap, subst, ◌∙◌, append-nil, append_assoc, arith, le-leb, lt-ltb, eqb-true}
 use Rattle.std.specs.List.{list_any, filter_map, cons_option}
-use Rattle.std.proofs.lemmas.Bool.{false≢true, and_parts, and_from, or_right, cond_both}
+use Rattle.std.proofs.lemmas.Bool.{and_parts, and_from, or_right, cond_both}
 use Rattle.std.proofs.lemmas.List.{length-append}
 use Rattle.std.proofs.lemmas.List.Elements.{filter_map-append}
 use Rattle.std.proofs.lemmas.List.Folds.{list_any-append}
@@ -27,7 +27,7 @@ use Rattle.upc_values.specs.Shapes.{fits_cell}
 use Rattle.upc_values.specs.Calls.{Call, Allocates, Makes_lock, Frees, Frees_lock, Copies, Permutes, Reduces, Reduces_prefixes, Other, call_of}
 use Rattle.upc_values.specs.Drain.{entry_of, written, or_else, last_written}
 use Rattle.upc_values.specs.Openings.{Opening, IsOpening, bytes_of, cell_of, is_named, given, blank_in, initial_of, is_initial}
-use Rattle.upc_values.specs.History.{picked_from, picked, asked, is_meet_of, meets, Lead, leader_from, leader, led, makes, object_of, objects, made, alloc_reply, makes_lock, locks, held, valued, lock_reply, unlock_reply, holder, is_freed, is_given_up, same_target, is_released, allocated, free_reply, led_reply, meet_reply, same_call, notifies, each_thread, agrees_with, marks, all_notified, wait_reply, waits, reply, IsLegalFrom, IsLegal}
+use Rattle.upc_values.specs.History.{picked, is_meet_of, meets, Lead, leader_from, leader, led, makes, object_of, objects, made, alloc_reply, makes_lock, locks, held, valued, lock_reply, unlock_reply, holder, is_freed, is_given_up, same_target, is_released, allocated, free_reply, led_reply, meet_reply, same_call, notifies, each_thread, agrees_with, marks, all_notified, wait_reply, waits, reply, IsLegalFrom, IsLegal}
 use Rattle.upc_values.specs.Formed.{knows, is_known, is_home, may_alloc, IsWellFormed, AreWellFormedFrom, AreWellFormed}
 use Rattle.upc_values.specs.Known.{gives_known, AreKnown}
 use Rattle.upc_values.proofs.Beginnings.{picked-append}

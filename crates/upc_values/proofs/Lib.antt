@@ -12,6 +12,7 @@ pub mod Scalars
 pub mod Membership
 pub mod Sameness
 pub mod Drained
+pub mod Apart
 pub mod Values
 pub mod Commits
 pub mod Growth

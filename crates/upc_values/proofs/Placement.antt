@@ -1,5 +1,5 @@
 -- Each entry of the history finds the operations in its place, and each read has the value of the last write before it.
-use Rattle.std.proofs.Common.{◌≡◌, ℕ, ◌<◌, ◌≤◌, ◌==◌, ◌||◌, true, cond, List, [], ◌∷◌, map, refl, sym, ap, ◌∙◌, subst, eq-eqb, arith, inl, inr}
+use Rattle.std.proofs.Common.{◌≡◌, ℕ, ◌<◌, ◌≤◌, ◌==◌, ◌||◌, true, cond, List, [], ◌∷◌, map, refl, sym, ap, subst, eq-eqb, arith, inl, inr}
 use Rattle.std.proofs.lemmas.Bool.{cond_both, cond-true, or_right, or_left}
 use Rattle.block_layout.specs.declared.place.Loc.{Loc}
 use Rattle.upc_values.specs.declared.scalar.Scalar.{Scalar}

@@ -5,6 +5,7 @@ pub mod Shapes
 pub mod Records
 pub mod Outcomes
 pub mod Drain
+pub mod Apart
 pub mod Strands
 pub mod Ends
 pub mod Sound

@@ -1,5 +1,5 @@
 -- Words on lists.
-use Rattle.std.specs.Prelude.{ℕ, ◌≡◌, ◌<◌, ◌==◌, ◌⊎◌, cond, List, [], ◌∷◌, length, Option, Some, None, slice_index_or}
+use Rattle.std.specs.Prelude.{ℕ, ◌≡◌, ◌<◌, ◌⊎◌, List, [], ◌∷◌, length, slice_index_or}
 
 -- P holds of each member
 abbrev pub Each : {X : Type 0} → (X → Type 0) → List X → Type 0

@@ -1,6 +1,6 @@
 -- Parts of shared objects that library calls see as arrays of their own (UPC 7.2.5, 7.3).
-use Rattle.std.specs.Prelude.{ℕ, zero, suc, ◌+◌, ◌-◌, ◌*◌, ◌%◌, ◌==◌, nat_lt, ℤ, pos, ◌+ℤ◌, ◌-ℤ◌, int_le}
-use Rattle.std.specs.Prelude.{unsigned_abs, Bool, true, false, not, ◌&&◌, ◌||◌, List, [], ◌∷◌, Option, Some, None}
+use Rattle.std.specs.Prelude.{ℕ, zero, suc, ◌+◌, ◌-◌, ◌*◌, ◌%◌, nat_lt, ℤ, pos, ◌+ℤ◌, ◌-ℤ◌, int_le}
+use Rattle.std.specs.Prelude.{unsigned_abs, Bool, false, not, ◌&&◌, ◌||◌, List, Option, Some, None}
 use Rattle.std.specs.Prelude.{slice_get}
 use Rattle.std.specs.List.{list_any, filter_map, range_with_len}
 use Rattle.block_layout.specs.declared.place.SharedPtr.{SharedPtr}

@@ -24,7 +24,7 @@ pub use agree::agrees;
 pub use block_layout::{Cells, Kind, Loc, LocalPtr, ObjectRef, Shape, SharedPtr};
 pub use chunked::Chunked;
 pub use chunks::Chunks;
-pub use consistent::orders_are_consistent;
+pub use consistent::{orders_are_consistent, pending_locations_differ};
 pub use copy::{copy_action, copy_scalar, copy_shape};
 pub use equal::{same_action, same_loc, same_reply, same_scalar};
 pub use fit::{blank, blank_value, fits_kind, value_fits};
