@@ -1,6 +1,5 @@
 -- The counts of pending writes, as writes come and leave.
-use Rattle.std.proofs.Common.{◌≡◌, ◌≢◌, ℕ, ◌+◌, ◌-◌, ◌*◌, ◌/◌, ◌%◌, ◌<◌, ◌≤◌, ◌==◌, Bool, true, false, cond, List, [], ◌∷◌, ◌++◌, length, get_or, set, replicate, drop, slice_get, Option, Some, None, All, refl, sym, ap, subst, ◌∙◌, eqb-true, eq-eqb, inl, inr, arith}
-use Rattle.std.specs.Option.{option_or}
+use Rattle.std.proofs.Common.{◌≡◌, ◌≢◌, ℕ, ◌+◌, ◌-◌, ◌<◌, ◌≤◌, ◌==◌, Bool, true, false, cond, List, [], ◌∷◌, ◌++◌, length, get_or, set, replicate, drop, slice_get, Some, All, refl, sym, ap, ◌∙◌, eqb-true, eq-eqb, inl, inr, arith}
 use Rattle.std.proofs.lemmas.Bool.{cond_both, cond-true, cases_eq}
 use Rattle.std.proofs.lemmas.List.{get_or-set_same, get_or-set_other, length-set, length-replicate}
 use Rattle.circular_buffer.specs.Buffer.{keep_last}
@@ -8,7 +7,6 @@ use Rattle.block_layout.specs.declared.place.Loc.{Loc}
 use Rattle.upc_values.specs.Scalars.{same_loc}
 use Rattle.upc_values.proofs.Sameness.{same_loc-true}
 use Rattle.write_buffer.specs.declared.pending.Pending.{Pending}
-use Rattle.write_buffer.specs.Buffer.{youngest}
 use Rattle.write_buffer.specs.Counts.{place_of, counted, IsCounted}
 
 one-or-none : (b : Bool) → cond {A = ℕ} b 1 0 ≤ 1

@@ -2,7 +2,7 @@
 use Rattle.std.proofs.Common.{◌≡◌, ℕ, suc, ◌+◌, ◌-◌, ◌<◌, ◌≤◌, ◌==◌, Bool, true, false, cond, List, [], ◌∷◌, ◌++◌, length, take, get_or, set, slice_get, Option, Some, None, is_some, All, true≢false, refl, sym, ap, subst, ◌∙◌, arith}
 use Rattle.std.specs.Option.{option_or}
 use Rattle.std.proofs.lemmas.Bool.{cond-true, cond-false}
-use Rattle.std.proofs.lemmas.List.{take_more, length-take-le, length-set}
+use Rattle.std.proofs.lemmas.List.{take_more, length-take-le}
 use Rattle.block_layout.specs.declared.place.Loc.{Loc}
 use Rattle.upc_values.specs.Scalars.{same_loc}
 use Rattle.upc_values.proofs.Sameness.{same_loc-true}
@@ -52,7 +52,7 @@ last_place-absent l (p ∷ ps) h =
     ap (λ o. after_first o (same_loc p.loc l)) (last_place-absent l ps (λ k d lt. h (ℕ.suc k) d (omega arith)))
     ∙ ap (after_first None) (h 0 p (omega arith))
 
-after-none : (o : Option ℕ) (b : Bool) → after_first o b ≡ None → (o ≡ None) × (b ≡ false)
+pub after-none : (o : Option ℕ) (b : Bool) → after_first o b ≡ None → (o ≡ None) × (b ≡ false)
 after-none (Some k) b h = cc
 after-none None true h = cc
 after-none None false h = (refl, refl)

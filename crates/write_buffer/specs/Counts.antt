@@ -1,5 +1,5 @@
 -- How many pending writes are counted at each of 256 places.
-use Rattle.std.specs.Prelude.{ℕ, ◌≡◌, ◌<◌, ◌+◌, ◌*◌, ◌/◌, ◌%◌, ◌==◌, cond, List, [], ◌∷◌, length, slice_index_or}
+use Rattle.std.specs.Prelude.{ℕ, ◌≡◌, ◌+◌, ◌*◌, ◌/◌, ◌%◌, ◌==◌, cond, List, [], ◌∷◌, length, slice_index_or}
 use Rattle.block_layout.specs.declared.place.Loc.{Loc}
 use Rattle.write_buffer.specs.declared.pending.Pending.{Pending}
 

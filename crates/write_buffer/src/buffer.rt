@@ -4,7 +4,7 @@ ghost use Rattle.std.specs.Prelude.{◌≡◌, ◌≤◌, ◌<◌, ◌↔◌, []
 ghost use Rattle.std.specs.Prelude.{IfOk, IfSome, IsSome, IsNone, false, option_map, option_to_list, replicate, slice_index_or};
 ghost use Rattle.write_buffer.specs.declared.pending.Pending.{Pending};
 ghost use Rattle.upc_values.specs.Scalars as scalars;
-ghost use Rattle.write_buffer.specs.Buffer.{youngest, replaced, last_place};
+ghost use Rattle.write_buffer.specs.Buffer.{youngest, replaced, last_place, AreApart};
 ghost use Rattle.write_buffer.specs.Counts as said;
 ghost use Rattle.write_buffer.specs.Counts.{IsCounted};
 
@@ -28,13 +28,15 @@ pub struct WriteBuffer {
 impl Model for WriteBuffer {
     ghost use Rattle.std.specs.Prelude.{List, length, ◌≤◌, ◌≡◌};
     ghost use Rattle.write_buffer.specs.declared.pending.Pending.{Pending};
+    ghost use Rattle.write_buffer.specs.Buffer.{AreApart};
     ghost use Rattle.write_buffer.specs.Counts.{IsCounted};
 
     ghost Value = { List Pending };
 
     ghost view = { λ b. b.ring.items };
 
-    ghost invariant = { λ b. (length b.ring.items ≤ 64) × (b.ring.capacity ≡ 64) × IsCounted b.ring.items b.counts };
+    ghost invariant = { λ b. (length b.ring.items ≤ 64) × (b.ring.capacity ≡ 64) × IsCounted b.ring.items b.counts
+        × AreApart b.ring.items };
 }
 
 // Where a location is counted.
@@ -114,8 +116,10 @@ impl WriteBuffer {
         *place = write;
     }
 
-    // The write becomes pending, as the youngest. Where all places were taken, the oldest leaves and is handed out.
+    // The write, of whose location none is pending, becomes pending, as the youngest. Where all places were taken, the
+    // oldest leaves and is handed out.
     fn append(&mut self, write: Pending) -> Option<Pending>
+        requires { last_place write.loc self.old ≡ None }
         ensures full { IsSome result ↔ (length self.old ≡ 64) }
         ensures moved { self.old ++ write ∷ [] ≡ option_to_list result ++ self.new }
     {
@@ -128,9 +132,10 @@ impl WriteBuffer {
         oldest
     }
 
-    // The write becomes pending, as the youngest, where there is a place.
+    // The write, of whose location none is pending, becomes pending, as the youngest, where there is a place.
     fn put(&mut self, write: Pending)
-        requires { length self.old < 64 }
+        requires room { length self.old < 64 }
+        requires none { last_place write.loc self.old ≡ None }
         ensures { self.new ≡ self.old ++ write ∷ [] }
     {
         let place = place_of(write.loc);
@@ -169,6 +174,13 @@ impl WriteBuffer {
         let place = place_of(oldest.loc);
         self.counts[place] -= 1;
         Some(oldest)
+    }
+
+    /// A law: no two pending writes have one location.
+    pub fn keeps(&self)
+        ensures { AreApart self.now }
+    {
+        let _ = &self.ring;
     }
 
     /// How many writes are pending.

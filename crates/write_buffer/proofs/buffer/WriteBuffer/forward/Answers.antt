@@ -1,7 +1,6 @@
-use Rattle.std.proofs.Common.{◌≡◌, true, false, true≢false, Option, Some, None, option_map, refl, sym, ap, ◌∙◌}
+use Rattle.std.proofs.Common.{true≢false, Some, option_map, refl, sym, ap, ◌∙◌}
 use Rattle.write_buffer.specs.declared.pending.Pending.{Pending}
 use Rattle.upc_values.specs.declared.scalar.Scalar.TheVariants.{Lock}
-use Rattle.write_buffer.specs.Buffer.{youngest}
 use Rattle.write_buffer.proofs.Places.{is-place, none-youngest, none-all}
 use Rattle.write_buffer.proofs.buffer.WriteBuffer.forward.Goals as goal
 

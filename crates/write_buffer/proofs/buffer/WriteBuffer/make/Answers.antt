@@ -1,4 +1,5 @@
-use Rattle.std.proofs.Common.{◌≡◌, ◌≤◌, [], length, sym, ap, subst, arith}
+use Rattle.std.proofs.Common.{◌≤◌, [], length, sym, ap, subst, arith}
+use Rattle.write_buffer.specs.Buffer.{AreApart}
 use Rattle.write_buffer.specs.Counts.{IsCounted}
 use Rattle.write_buffer.proofs.Counting.{is_counted-none}
 use Rattle.write_buffer.proofs.buffer.WriteBuffer.make.Goals as goal
@@ -10,4 +11,5 @@ invariant_of-result c =
       subst (λ z. length z ≤ 64) (sym items) (omega arith),
       room,
       subst (λ z. IsCounted z c.no_counts.result) (sym items) (subst (λ k. IsCounted [] k) (sym c.no_counts.ensures) is_counted-none),
+      subst AreApart (sym items) tt,
     )

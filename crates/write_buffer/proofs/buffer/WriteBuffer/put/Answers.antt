@@ -1,8 +1,9 @@
-use Rattle.std.proofs.Common.{◌≡◌, ◌≤◌, ◌<◌, ◌+◌, ◌++◌, [], ◌∷◌, List, length, set, get_or, sym, ap, subst, ◌∙◌, arith}
+use Rattle.std.proofs.Common.{◌≡◌, ◌≤◌, ◌<◌, ◌+◌, ◌++◌, [], ◌∷◌, None, length, set, get_or, sym, ap, subst, ◌∙◌, arith}
 use Rattle.std.proofs.lemmas.List.{length-append}
-use Rattle.circular_buffer.specs.Buffer.{buffer, keep_last}
-use Rattle.write_buffer.specs.declared.pending.Pending.{Pending}
+use Rattle.circular_buffer.specs.Buffer.{keep_last}
+use Rattle.write_buffer.specs.Buffer.{last_place, AreApart}
 use Rattle.write_buffer.specs.Counts.{IsCounted}
+use Rattle.write_buffer.proofs.Apart.{apart-push}
 use Rattle.write_buffer.proofs.Counting.{counted-few, is_counted-push, keep-all}
 use Rattle.write_buffer.proofs.buffer.WriteBuffer.put.Goals as goal
 
@@ -12,7 +13,7 @@ overflow_add-self c =
     let place = c.place_of-place.result in
     let count = c.self.invariant.2.each place in
     let few = counted-few place i.ring.items in
-    let less : length i.ring.items < 64 = subst (λ ps. length ps < 64) (sym c.self.view_is) c.requires in
+    let less : length i.ring.items < 64 = subst (λ ps. length ps < 64) (sym c.self.view_is) c.requires.room in
     omega arith
 
 pub invariant_of-self : goal.invariant_of-self
@@ -21,7 +22,8 @@ invariant_of-self c =
     let ps = i.ring.items in
     let w = c.args.write in
     let place = c.place_of-place.result in
-    let less : length ps < 64 = subst (λ ps. length ps < 64) (sym c.self.view_is) c.requires in
+    let less : length ps < 64 = subst (λ ps. length ps < 64) (sym c.self.view_is) c.requires.room in
+    let none : last_place w.loc ps ≡ None = subst (λ z. last_place w.loc z ≡ None) (sym c.self.view_is) c.requires.none in
     let more : length (ps ++ w ∷ []) ≡ length ps + 1 = length-append ps (w ∷ []) in
     let cap : i.ring.capacity ≡ 64 = c.self.invariant.1 in
     let all : keep_last i.ring.capacity (ps ++ w ∷ []) ≡ ps ++ w ∷ [] = keep-all i.ring.capacity (ps ++ w ∷ []) (omega arith) in
@@ -31,4 +33,5 @@ invariant_of-self c =
       room,
       subst (λ z. IsCounted z (set i.counts place (get_or i.counts place 0 + 1))) (sym items)
           (is_counted-push ps i.counts w place c.place_of-place.ensures.place c.place_of-place.ensures.below c.self.invariant.2),
+      subst AreApart (sym items) (apart-push ps w none c.self.invariant.3),
     )

@@ -1,8 +1,8 @@
-use Rattle.std.proofs.Common.{◌≡◌, ◌≤◌, ◌<◌, length, set, Option, Some, None, refl, sym, ap, subst, ◌∙◌, arith}
+use Rattle.std.proofs.Common.{◌≡◌, length, set, Some, refl, sym, ap, subst, ◌∙◌, arith}
 use Rattle.std.proofs.lemmas.List.{length-set}
 use Rattle.write_buffer.specs.Buffer.{last_place, replaced}
-use Rattle.write_buffer.specs.Counts.{IsCounted}
 use Rattle.write_buffer.proofs.Places.{is-place, get-none, is_counted-set}
+use Rattle.write_buffer.proofs.Apart.{apart-set}
 use Rattle.write_buffer.proofs.buffer.WriteBuffer.replace.Goals as goal
 
 pub unreachable-requires : goal.unreachable-requires
@@ -20,6 +20,7 @@ invariant_of-self c =
       omega arith,
       c.self.invariant.1,
       is_counted-set ps c.self.inside.counts c.args.at c.args.write at c.self.invariant.2,
+      apart-set ps c.args.at c.args.write at c.self.invariant.3,
     )
 
 pub returns : goal.returns
