@@ -1,5 +1,5 @@
--- The orders of a journal's operations: each entry of the history stands for its own operations, for those of the writes
--- combined into it, and for the reads that one of these has answered.
+-- The orders of a journal's operations: each entry of the history stands for its own operations, for those of the
+-- writes combined into it, and for the reads that one of these has answered.
 use Rattle.std.specs.Prelude.{ℕ, ◌≡◌, ◌+◌, ◌*◌, ◌<◌, ◌==◌, Bool, true, ◌||◌, cond, List, [], ◌∷◌}
 use Rattle.std.specs.Prelude.{◌++◌, filter, slice_index_or}
 use Rattle.std.specs.List.{flat_map}

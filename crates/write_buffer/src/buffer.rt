@@ -1,7 +1,8 @@
 //! The pending writes of a thread.
 
 ghost use Rattle.std.specs.Prelude.{◌≡◌, ◌≤◌, ◌<◌, ◌↔◌, [], ◌∷◌, ◌++◌, length, All, true, Some, None, is_some};
-ghost use Rattle.std.specs.Prelude.{IfOk, IfSome, IsSome, IsNone, false, option_map, option_to_list, replicate, slice_index_or};
+ghost use Rattle.std.specs.Prelude.{IfOk, IfSome, IsSome, IsNone, false, option_map, option_to_list, replicate};
+ghost use Rattle.std.specs.Prelude.{slice_index_or};
 ghost use Rattle.write_buffer.specs.declared.pending.Pending.{Pending};
 ghost use Rattle.upc_values.specs.Scalars as scalars;
 ghost use Rattle.write_buffer.specs.Buffer.{youngest, replaced, last_place, AreApart};
@@ -157,7 +158,8 @@ impl WriteBuffer {
     // The number and the value of the write there.
     fn read(&self, at: usize) -> (u32, Scalar)
         requires { at < length self.now }
-        ensures { (d : Pending) → result ≡ ((slice_index_or self.now at d).index, (slice_index_or self.now at d).value) }
+        ensures { (d : Pending)
+            → result ≡ ((slice_index_or self.now at d).index, (slice_index_or self.now at d).value) }
     {
         let Some(write) = self.ring.get(at) else {
             unreachable!()
