@@ -1,5 +1,5 @@
 -- What pages have for a location is what the list of their values has.
-use Rattle.std.proofs.Common.{ℤ, ◌≡◌, ◌<◌, ◌≤◌, ◌+◌, ◌*◌, ◌%◌, ◌==◌, ◌&&◌, ℕ, suc, cond, List, [], ◌∷◌, ◌++◌, length, map, take, get_or, set, replicate, Bool, true, false, Option, Some, None, refl, sym, ap, ◌∙◌, inl, inr, arith, eqb-true, eq-eqb}
+use Rattle.std.proofs.Common.{ℤ, ◌≡◌, ◌<◌, ◌≤◌, ◌+◌, ◌*◌, ◌%◌, ◌==◌, ◌&&◌, ℕ, suc, cond, List, [], ◌∷◌, ◌++◌, length, map, take, get_or, Bool, true, false, Option, Some, None, refl, sym, ap, ◌∙◌, inl, inr, arith, eqb-true, eq-eqb}
 use Rattle.std.specs.declared.cmp.Ordering.{Ordering}
 use Rattle.std.specs.declared.cmp.Ordering.TheVariants.{Less, Equal, Greater}
 use Rattle.std.specs.Ordering.{is_eq, nat_cmp, ordering_then}
@@ -10,7 +10,7 @@ use Rattle.std.specs.Map.{lookup, keys_of}
 use Rattle.std.specs.Option.{option_map}
 use Rattle.std.specs.BTreeMap.{is_at}
 use Rattle.std.proofs.lemmas.Bool.{cases_eq, ne_eqb, and_parts}
-use Rattle.std.proofs.lemmas.List.{get_or-set_same, get_or-set_other, get_or-take, length-take}
+use Rattle.std.proofs.lemmas.List.{get_or-take, length-take}
 use Rattle.std.proofs.lemmas.Map.Keys.{sorted_head, sorted_tail}
 use Rattle.std.proofs.lemmas.Nat.{div-add-mod'}
 use Rattle.block_layout.specs.declared.place.Loc.{Loc}
@@ -227,37 +227,25 @@ module _ {X : Type 0} where
   found-by_loc l es sorted =
       ap (λ m. found m (by_loc es)) (loc-parts l) ∙ in-pages (page_of l) (l.offset % 1024) es (below l.offset) sorted
 
-  set-at : (vs : List (Option X)) (at k : ℕ) (w : Option X) → length vs ≡ 1024 → at < 1024 → get_or (set vs at w) k None ≡ cond (at == k) w (get_or vs k None)
-  set-at vs at k w long lt =
-      elim (cases_eq at k) [
-        | inl e ↦
-            ap (λ i. get_or (set vs at w) i None) (sym e) ∙ get_or-set_same vs at w None (omega arith)
-            ∙ sym (ap (λ b. cond b w (get_or vs k None)) (eq-eqb at k e))
-        | inr ne ↦
-            get_or-set_other vs at k w None (λ e. ne (sym e))
-            ∙ sym (ap (λ b. cond b w (get_or vs k None)) (ne_eqb at k ne))
-      ]
-
-  changed-at : (at k : ℕ) (old : List (Option X)) (w : Option X) (there : Option (List (Option X))) → length old ≡ 1024 → at < 1024
-      → (b : Bool) → (b ≡ true → at_page k there ≡ get_or old k None) → at_page k (cond b (Some (set old at w)) there) ≡ cond (b && (at == k)) w (at_page k there)
-  changed-at at k old w there long lt true h = set-at old at k w long lt ∙ ap (cond (at == k) w) (sym (h refl))
-  changed-at at k old w there long lt false h = refl
+  changed-at : (at k : ℕ) (old new : List (Option X)) (w : Option X) (there : Option (List (Option X))) → get_or new k None ≡ cond (at == k) w (get_or old k None)
+      → (b : Bool) → (b ≡ true → at_page k there ≡ get_or old k None) → at_page k (cond b (Some new) there) ≡ cond (b && (at == k)) w (at_page k there)
+  changed-at at k old new w there write true h = write ∙ ap (cond (at == k) w) (sym (h refl))
+  changed-at at k old new w there write false h = refl
 
   -- pages of which one is changed at one offset have another value at one location
   pub changed : (es ns : List (PageNumber × List (Option X))) (l : Loc) (number : PageNumber) (at : ℕ) (old new : List (Option X)) (w : Option X)
       → number ≡ page_of l → at ≡ l.offset % 1024 → IsStrictlySortedBy order (keys_of es) → IsStrictlySortedBy order (keys_of ns)
-      → length old ≡ 1024 → new ≡ set old at w → ((k : ℕ) → at_page k (lookup (is_at (order number)) es) ≡ get_or old k None)
+      → ((k : ℕ) → get_or new k None ≡ cond (at == k) w (get_or old k None)) → ((k : ℕ) → at_page k (lookup (is_at (order number)) es) ≡ get_or old k None)
       → ((q : PageNumber) → lookup (is_at (order q)) ns ≡ cond (is_at (order number) q) (Some new) (lookup (is_at (order q)) es))
       → (k : Loc) → found k (by_loc ns) ≡ cond (same_loc l k) w (found k (by_loc es))
-  changed es ns l number at old new w page offset sorted sorted-new long write was now k =
+  changed es ns l number at old new w page offset sorted sorted-new write was now k =
       let q = page_of k in
       let i = k.offset % 1024 in
       let there = lookup (is_at (order q)) es in
-      let lt : at < 1024 = (let b = below l.offset in omega arith) in
       let old-there : is_at (order number) q ≡ true → at_page i there ≡ get_or old i None =
       λ e. ap (λ r. at_page i (lookup (is_at (order r)) es)) (sym (same-page number q e)) ∙ was i in
-      found-by_loc k ns sorted-new ∙ ap (at_page i) (now q ∙ ap (λ x. cond (is_at (order number) q) (Some x) there) write)
-      ∙ changed-at at i old w there long lt (is_at (order number) q) old-there
+      found-by_loc k ns sorted-new ∙ ap (at_page i) (now q)
+      ∙ changed-at at i old new w there (write i) (is_at (order number) q) old-there
       ∙ ap (λ b. cond b w (at_page i there)) (sym (same-at l number at page offset k))
       ∙ ap (cond (same_loc l k) w) (sym (found-by_loc k es sorted))
 
@@ -277,8 +265,3 @@ module _ {X : Type 0} where
       absent-at there (is_at (order number) q) (at == i)
       (λ e. found-by_loc k es sorted ∙ ap (λ r. at_page i (lookup (is_at (order r)) es)) (sym (same-page number q e)) ∙ ap (at_page i) none)
       ∙ ap (λ b. cond b None there) (sym (same-at l number at page refl k))
-
-  pub nones : (n k : ℕ) → ◌≡◌ {A = Option X} (get_or (replicate n None) k None) None
-  nones ℕ.zero k = refl
-  nones (suc n) ℕ.zero = refl
-  nones (suc n) (suc k) = nones n k

@@ -68,7 +68,7 @@ impl<T: Copy + Drop> Pages<T> {
             page.save(at, value)?;
             return Ok(());
         }
-        let mut page = Page::make(self.alloc)?;
+        let mut page = Page::new(self.alloc);
         page.save(at, value)?;
         self.map.insert(number, page)?;
         Ok(())

@@ -1,8 +1,13 @@
-use Rattle.std.proofs.Common.{set, None, ap, ◌∙◌}
-use Rattle.shared_heap.proofs.Places.{values-none}
+use Rattle.std.proofs.Common.{◌<◌, ◌==◌, length, cond, get_or, None, ap, ◌∙◌, arith}
+use Rattle.shared_heap.proofs.Places.{forgotten}
 use Rattle.shared_heap.proofs.page.Page.forget.Goals as goal
 
-pub returns-clause-forgotten : goal.returns-clause-forgotten
-returns-clause-forgotten g c =
+pub returns : goal.returns
+returns g c = λ k.
     let i = c.self.inside in
-    values-none i.values.items i.places.items c.args.at ∙ ap (λ z. set z c.args.at None) c.self.view_is
+    let at = c.args.at in
+    let many = i.places.ok.0 in
+    let len = c.len.ensures in
+    let within = c.if-at-len.false in
+    let lt : at < length i.places.items = omega arith in
+    forgotten i.values.items i.places.items at lt k ∙ ap (λ z. cond (at == k) None (get_or z k None)) c.self.view_is

@@ -19,6 +19,6 @@ returns g c = λ k.
     let page = c.in-Some.page.now in
     let write = c.get_mut.follows.holds c.forget.new.self in
     changed es (c.get_mut.follows.lender c.forget.new.self).entries l c.page_of.result c.offset_in_page.result page c.forget.new.self None
-    c.page_of.ensures c.offset_in_page.ensures.rest c.get_mut.ensures.ordered write.4 c.forget.ensures.offsets c.forget.ensures.forgotten
+    c.page_of.ensures c.offset_in_page.ensures.rest c.get_mut.ensures.ordered write.4 c.forget.ensures
     (λ i. ap (at_page i) (sym c.in-Some.ensures.value)) (write.3 (search rules)).0 k
     ∙ ap (λ z. cond (same_loc l k) None (found k z)) c.self.view_is
