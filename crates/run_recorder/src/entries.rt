@@ -8,7 +8,7 @@ ghost use Rattle.record_parts.specs.code.Readers.{Gives, same};
 use record_parts::{Fail, Name};
 use std::alloc::Global;
 use upc_text::OutOfMemory;
-use upc_values::{Entry, Item, Strand, copy_action};
+use upc_values::{Chunks, Entries, Entry, Item, Items, Strand, copy_action};
 
 // Adds the place of one more item, if it is an action.
 fn note(places: &mut Vec<usize>, at: usize, item: &Item) -> Result<(), OutOfMemory>
@@ -22,12 +22,15 @@ fn note(places: &mut Vec<usize>, at: usize, item: &Item) -> Result<(), OutOfMemo
 }
 
 // The places of the actions, by number.
-fn places(alloc: Global, items: &[Item]) -> Result<Vec<usize>, OutOfMemory>
+fn places(alloc: Global, items: &Items) -> Result<Vec<usize>, OutOfMemory>
     ensures { IfOk result (λ v. IsTable items.now v.items) }
 {
     let mut places = Vec::new(alloc);
     for at in 0..items.len() {
-        note(&mut places, at, &items[at])?;
+        let Some(item) = items.get(at) else {
+            unreachable!()
+        };
+        note(&mut places, at, item)?;
     }
     Ok(places)
 }
@@ -38,7 +41,7 @@ fn tables(alloc: Global, strands: &[Strand]) -> Result<Vec<Vec<usize>>, OutOfMem
 {
     let mut tables = Vec::new(alloc);
     for strand in strands {
-        let table = places(alloc, strand.items.as_slice())?;
+        let table = places(alloc, &strand.items)?;
         tables.push(table)?;
     }
     Ok(tables)
@@ -60,7 +63,7 @@ fn found(alloc: Global, name: Name, item: &Item) -> Result<Entry, Fail>
 }
 
 // The entry of this name, by the places of its thread.
-fn in_thread(alloc: Global, items: &[Item], places: &[usize], name: Name) -> Result<Entry, Fail>
+fn in_thread(alloc: Global, items: &Items, places: &[usize], name: Name) -> Result<Entry, Fail>
     requires { IsTable items.now places.now }
     ensures { Gives same result (entry_by name (did_at items.now name.index)) }
 {
@@ -89,18 +92,19 @@ fn one_entry(
     let Some(places) = tables.get(name.thread as usize) else {
         return Err(Fail::Bad);
     };
-    in_thread(alloc, strand.items.as_slice(), places.as_slice(), name)
+    in_thread(alloc, &strand.items, places.as_slice(), name)
 }
 
 /// The entries of these names. Each is found by the places of its thread.
-pub fn entries(alloc: Global, strands: &[Strand], names: &[Name]) -> Result<Vec<Entry>, Fail>
-    ensures { Gives (λ v. v.items) result (entries_of strands.now names.now) }
+pub fn entries(alloc: Global, strands: &[Strand], names: &[Name]) -> Result<Entries, Fail>
+    ensures { Gives same result (entries_of strands.now names.now) }
 {
     let tables = tables(alloc, strands)?;
-    let mut entries = Vec::new(alloc);
+    let mut entries = Chunks::new(alloc);
     for name in names {
         let found = one_entry(alloc, strands, tables.as_slice(), *name)?;
-        entries.push(found)?;
+        entries.reserve()?;
+        entries.push_reserved(found);
     }
-    Ok(entries)
+    Ok(Entries::from_chunks(entries))
 }

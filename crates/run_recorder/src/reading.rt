@@ -15,17 +15,17 @@ use record_parts::{Fail, Head, Name, Parts, expect, many, read_head, section, sp
 use record_text::is_short;
 use std::alloc::Global;
 use upc_text::Place;
-use upc_values::{Entry, Journal, Listing, Op, Order, Orders, Strand};
+use upc_values::{Entries, Journal, Listing, Op, Order, Orders, Strand};
 
 // The version, and the run of these numbers, strands and entries with these orders, where it is short.
 fn short_run(
     head: Head,
     strands: Vec<Strand>,
-    history: Vec<Entry>,
+    history: Entries,
     strict: Vec<Op>,
     threads: Vec<Order>,
 ) -> Result<(u8, Journal, Orders), Fail>
-    ensures { Gives same result (reader.short_run_of head strands.items history.items
+    ensures { Gives same result (reader.short_run_of head strands.items history
         strict.items threads.items) }
 {
     let journal = Journal {
@@ -33,7 +33,7 @@ fn short_run(
         budget: head.limits.budget,
         actions: head.limits.actions,
         strands: Listing::from_vec(strands),
-        history: Listing::from_vec(history),
+        history,
     };
     let orders = Orders {
         strict: Listing::from_vec(strict),

@@ -1,7 +1,6 @@
-use Rattle.std.proofs.Common.{◌∙◌, sym, subst, ap, refl, length, List, Option}
+use Rattle.std.proofs.Common.{sym, subst, ap, refl, length, Option}
 use Rattle.std.proofs.lemmas.Option.{slice_get_past, slice_get_read}
 use Rattle.upc_values.specs.declared.journal.Strand.{Strand}
-use Rattle.upc_values.specs.declared.record.Item.{Item}
 use Rattle.record_parts.specs.code.Readers.{bind, Gives, same}
 use Rattle.run_recorder.specs.code.Finding.{IsTable, did_at, entry_by}
 use Rattle.run_recorder.proofs.Tables.{tables_at, tables_none}
@@ -23,8 +22,7 @@ in_thread-requires c =
     let b = slice_get_read vs (length vs) t c.in-Some-get.places.now refl c.in-Some-get.ensures.lookup.3.0
     c.in-Some-get.ensures.lookup.1 in
     let table = tables_at ss vs t c.in-Some.strand.now c.in-Some-get.places.now c.requires (sym a) (sym b) in
-    subst (λ ps. IsTable c.as_slice.result.now ps) (sym c.as_slice-2.ensures.value)
-    (subst (λ (is : List Item). IsTable is c.in-Some-get.places.now.items) (sym c.as_slice.ensures) table)
+    subst (λ ps. IsTable c.in-Some.strand.now.items ps) (sym c.as_slice.ensures.value) table
 
 pub returns : goal.returns
 returns c =
@@ -32,6 +30,5 @@ returns c =
     let a = slice_get_read ss (length ss) c.args.name.thread c.in-Some.strand.now refl c.in-Some.ensures.lookup.3.0
     c.in-Some.ensures.lookup.1 in
     subst (λ o. Gives same c.in_thread.result o)
-    (ap (λ is. entry_by c.args.name (did_at is c.args.name.index)) c.as_slice.ensures
-    ∙ ap (λ (o : Option Strand). bind o (λ s. entry_by c.args.name (did_at s.items c.args.name.index))) (sym a))
+    (ap (λ (o : Option Strand). bind o (λ s. entry_by c.args.name (did_at s.items c.args.name.index))) (sym a))
     c.in_thread.ensures

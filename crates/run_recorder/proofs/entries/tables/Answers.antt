@@ -1,5 +1,3 @@
-use Rattle.std.proofs.Common.{subst}
-use Rattle.run_recorder.specs.code.Finding.{IsTable}
 use Rattle.run_recorder.proofs.Tables.{tables_more}
 use Rattle.run_recorder.proofs.entries.tables.Goals as goal
 
@@ -8,4 +6,4 @@ loop-strand-preserved c =
     rw c.in_ok-push.ensures.items
     (tables_more c.args.strands.now c.loop-strand.strand-index c.loop-strand.tables.items c.strand-item.result
     c.in_ok-table.table c.loop-strand-test.true c.strand-item.is c.loop-strand.invariant
-    (subst (λ is. IsTable is c.in_ok-table.table.items) c.as_slice.ensures c.in_ok-table.ensures))
+    c.in_ok-table.ensures)
