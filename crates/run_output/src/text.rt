@@ -7,14 +7,14 @@ use crate::status::{all_ended, first_stop};
 use itoa::Buffer;
 use std::alloc::{AllocError, Global};
 use upc_text::{Code, Place, Refusal};
-use upc_values::{Action, End, Entry, Journal};
+use upc_values::{Action, End, Entries, Journal};
 
 /// The texts of all Prints, in the order of the history.
-pub fn output_text(alloc: Global, history: &[Entry]) -> Result<Vec<u8>, AllocError>
+pub fn output_text(alloc: Global, history: &Entries) -> Result<Vec<u8>, AllocError>
     ensures { IfOk result (λ text. text.items ≡ output history.now) }
 {
     let mut text = Vec::new(alloc);
-    for entry in history {
+    for entry in history.iter() {
         if let Action::Print(printed) = &entry.action {
             text.extend_from_slice(printed.as_slice())?;
         }
