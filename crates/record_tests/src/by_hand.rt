@@ -5,14 +5,15 @@ ghost use Rattle.upc_values.specs.Drain as drains;
 ghost use Rattle.upc_values.specs.Consistent.{FollowsBuffers};
 
 use crate::histories::{X, Y, read, write, zeros};
-use memory_history::{Step, World, drain};
-use order_builder::{global_order, orders, strict_order, thread_order};
+use memory_history::{Step, World};
+use order_builder::{drain, global_order, orders, strict_order, thread_order};
 use plain_orders::is_consistent;
 use run_recorder::read_record;
 use std::alloc::{AllocError, Global};
 use std::test::Fail;
 use upc_values::{
-    Action, Entry, Item, Journal, Op, Order, Orders, Reply, Scalar, same_action, same_reply,
+    Action, Entries, Entry, Items, Journal, Op, Order, Orders, Reply, Scalar, same_action,
+    same_reply,
 };
 
 // A run and its orders, and other orders that Appendix B does not allow, all as in the text of a run.
@@ -109,16 +110,16 @@ pub fn same_entry(a: &Entry, b: &Entry) -> bool
 }
 
 // Whether these are the thread's entries in the history, in order.
-fn are_entries_of(thread: u32, history: &[Entry], entries: &[Entry]) -> bool
+fn are_entries_of(thread: u32, history: &Entries, entries: &Entries) -> bool
     ensures { IsTrue result → drains.entries_of thread history.now ≡ entries.now }
 {
     let mut next = 0usize;
-    for entry in history {
+    for entry in history.iter() {
         if entry.thread == thread {
-            if next >= entries.len() || !same_entry(entry, &entries[next]) {
-                return false;
+            match entries.get(next) {
+                Some(other) if same_entry(entry, other) => next += 1,
+                _ => return false,
             }
-            next += 1;
         }
     }
     next == entries.len()
@@ -128,23 +129,20 @@ fn are_entries_of(thread: u32, history: &[Entry], entries: &[Entry]) -> bool
 fn is_drained(
     alloc: Global,
     thread: u32,
-    items: &[Item],
-    history: &[Entry],
+    items: &Items,
+    history: &Entries,
 ) -> Result<bool, AllocError>
     ensures agrees { IfOk result (λ is. IsTrue is → (drains.walked thread items.now).agrees ≡ true) }
     ensures drains { IfOk result (λ is. IsTrue is
         → drains.entries_of thread history.now ≡ drains.drain thread items.now) }
 {
-    if items.len() >= u32::MAX as usize {
-        return Ok(false);
-    }
     match drain(alloc, thread, items)? {
-        Some(entries) => Ok(are_entries_of(thread, history, entries.as_slice())),
+        Some(entries) => Ok(are_entries_of(thread, history, &entries)),
         None => Ok(false),
     }
 }
 
-fn are_below(threads: u32, history: &[Entry]) -> bool
+fn are_below(threads: u32, history: &Entries) -> bool
     ensures { IsTrue result → All (λ e. e.thread < threads) history.now }
 {
     history.iter().all(|entry| entry.thread < threads)
@@ -155,12 +153,12 @@ pub fn follows_buffers(alloc: Global, journal: &Journal) -> Result<bool, AllocEr
     ensures { IfOk result (λ follows. IsTrue follows → FollowsBuffers journal.now) }
 {
     let strands = journal.strands.as_slice();
-    let history = journal.history.as_slice();
+    let history = &journal.history;
     if strands.len() != journal.threads as usize || !are_below(journal.threads, history) {
         return Ok(false);
     }
     for thread in 0..journal.threads {
-        let items = strands[thread as usize].items.as_slice();
+        let items = &strands[thread as usize].items;
         if !is_drained(alloc, thread, items, history)? {
             return Ok(false);
         }
@@ -221,11 +219,11 @@ fn orders_by_hand(rt: HostRuntime) -> Result<(), Fail> {
 }
 
 // Whether these operations are by the actions of these entries in turn.
-fn are_by(operations: &[Op], history: &[Entry]) -> bool {
+fn are_by(operations: &[Op], history: &Entries) -> bool {
     if operations.len() != history.len() {
         return false;
     }
-    for (operation, entry) in operations.iter().zip(history) {
+    for (operation, entry) in operations.iter().zip(history.iter()) {
         if operation.thread != entry.thread || operation.index != entry.index {
             return false;
         }
@@ -241,7 +239,7 @@ fn is_one_by_one(alloc: Global, case: &ByHand) -> Result<bool, Fail> {
         return Ok(false);
     }
     let order = global_order(alloc, &journal)?;
-    Ok(are_by(order.as_slice(), journal.history.as_slice()))
+    Ok(are_by(order.as_slice(), &journal.history))
 }
 
 // All operations in the order of the history: here each entry is one operation, and no read is forwarded.
@@ -269,9 +267,9 @@ fn answer(
 }
 
 // Whether each entry has the reply that is lawful there, from two variables that begin with 0.
-fn is_legal(alloc: Global, history: &[Entry]) -> Result<bool, AllocError> {
+fn is_legal(alloc: Global, history: &Entries) -> Result<bool, AllocError> {
     let mut world = zeros(alloc)?;
-    for entry in history {
+    for entry in history.iter() {
         if answer(&mut world, entry.thread, entry.index, &entry.action)? != Some(entry.reply) {
             return Ok(false);
         }
@@ -283,7 +281,7 @@ fn is_legal(alloc: Global, history: &[Entry]) -> Result<bool, AllocError> {
 fn has_legal(alloc: Global, case: &ByHand) -> Result<bool, Fail> {
     let text = joined(alloc, case.run, case.orders)?;
     let (_, journal, _) = read_record(alloc, text.as_slice())?;
-    Ok(is_legal(alloc, journal.history.as_slice())?)
+    Ok(is_legal(alloc, &journal.history)?)
 }
 
 #[test]

@@ -4,9 +4,12 @@ ghost use Rattle.std.specs.Prelude.{◌≡◌, [], ◌∷◌, IfOk};
 ghost use Rattle.block_layout.specs.declared.kind.Kind.TheVariants as kind;
 ghost use Rattle.upc_values.specs.Basic as basic;
 
-use memory_history::{Step, World, drain};
+use memory_history::{Step, World};
+use order_builder::drain;
 use std::alloc::{AllocError, Global};
-use upc_values::{Action, Cells, Entry, Item, Kind, Loc, Mark, ObjectRef, Reply, Scalar, Shape};
+use upc_values::{
+    Action, Cells, Entries, Item, Items, Kind, Loc, Mark, ObjectRef, Reply, Scalar, Shape,
+};
 
 /// An int on thread 0.
 pub const X: Loc = Loc {
@@ -253,16 +256,16 @@ fn item_of(asked: &Option<Asked>, value: i128) -> Item {
 }
 
 // A record of these.
-fn record(alloc: Global, all: &[Option<Asked>], value: i128) -> Result<Vec<Item>, AllocError> {
+fn record(alloc: Global, all: &[Option<Asked>], value: i128) -> Result<Items, AllocError> {
     let mut items = Vec::new(alloc);
     for asked in all {
         items.push(item_of(asked, value))?;
     }
-    Ok(items)
+    Items::from_vec(alloc, items)
 }
 
 // Whether the entries have these numbers, in order.
-fn are_numbered(entries: &[Entry], numbers: &[u32]) -> bool {
+fn are_numbered(entries: &Entries, numbers: &[u32]) -> bool {
     if entries.len() != numbers.len() {
         return false;
     }
@@ -277,17 +280,14 @@ fn are_numbered(entries: &[Entry], numbers: &[u32]) -> bool {
 // Whether a record emits the entries with these numbers.
 fn emits(alloc: Global, all: &[Option<Asked>], numbers: &[u32]) -> Result<bool, AllocError> {
     let items = record(alloc, all, 1)?;
-    if items.len() >= 100 {
-        return Ok(false);
-    }
-    match drain(alloc, 0, items.as_slice())? {
-        Some(entries) => Ok(are_numbered(entries.as_slice(), numbers)),
+    match drain(alloc, 0, &items)? {
+        Some(entries) => Ok(are_numbered(&entries, numbers)),
         None => Ok(false),
     }
 }
 
 // A record, and the numbers of the entries that it emits, in order.
-const DRAINED: [(&[Option<Asked>], &[u32]); 4] = [
+const DRAINED: [(&[Option<Asked>], &[u32]); 5] = [
     // A write, and a read elsewhere.
     (
         &[
@@ -305,6 +305,16 @@ const DRAINED: [(&[Option<Asked>], &[u32]); 4] = [
             Some(Asked::Fence),
         ],
         &[0, 2],
+    ),
+    // Two writes of one location: the second takes the place of the first, which is no entry.
+    (
+        &[
+            Some(Asked::Write(X, 1, false)),
+            Some(Asked::Write(Y, 1, false)),
+            Some(Asked::Write(X, 2, false)),
+            Some(Asked::Fence),
+        ],
+        &[2, 1, 3],
     ),
     // A strict write empties the buffer.
     (

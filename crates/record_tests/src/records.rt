@@ -7,8 +7,8 @@ use run_recorder::{ReadRecord, is_short, read_record, render};
 use std::alloc::{AllocError, Global};
 use std::test::Fail;
 use upc_values::{
-    Action, End, Entry, Item, Journal, Listing, Loc, Orders, Reply, Scalar, Strand, agrees,
-    same_action, same_reply,
+    Action, End, Entries, Entry, Item, Items, Journal, Listing, Loc, Orders, Reply, Scalar, Strand,
+    agrees, same_action, same_reply,
 };
 
 // The first lines of version 1, of version 2, and of version 2 without its rule.
@@ -164,13 +164,13 @@ fn long_strand(alloc: Global, thread: u32) -> Result<Strand, AllocError> {
         items.push(Item::Did(action, reply))?;
     }
     Ok(Strand {
-        items: Listing::from_vec(items),
+        items: Items::from_vec(alloc, items)?,
         ticks: 0,
         end: End::Ended(0),
     })
 }
 
-fn long_history(alloc: Global) -> Result<Vec<Entry>, AllocError> {
+fn long_history(alloc: Global) -> Result<Entries, AllocError> {
     let mut history = Vec::new(alloc);
     for at in 0..THREADS * (ITEMS / 4) {
         let thread = at % THREADS;
@@ -183,7 +183,7 @@ fn long_history(alloc: Global) -> Result<Vec<Entry>, AllocError> {
             reply,
         })?;
     }
-    Ok(history)
+    Entries::from_vec(alloc, history)
 }
 
 fn long_journal(alloc: Global) -> Result<Journal, AllocError> {
@@ -196,7 +196,7 @@ fn long_journal(alloc: Global) -> Result<Journal, AllocError> {
         budget: 1,
         actions: u64::from(ITEMS),
         strands: Listing::from_vec(strands),
-        history: Listing::from_vec(long_history(alloc)?),
+        history: long_history(alloc)?,
     })
 }
 
@@ -210,11 +210,11 @@ fn same_item(a: &Item, b: &Item) -> bool {
     }
 }
 
-fn same_items(a: &[Item], b: &[Item]) -> bool {
+fn same_items(a: &Items, b: &Items) -> bool {
     if a.len() != b.len() {
         return false;
     }
-    for (one, other) in a.iter().zip(b) {
+    for (one, other) in a.iter().zip(b.iter()) {
         if !same_item(one, other) {
             return false;
         }
@@ -222,11 +222,11 @@ fn same_items(a: &[Item], b: &[Item]) -> bool {
     true
 }
 
-fn same_history(a: &[Entry], b: &[Entry]) -> bool {
+fn same_history(a: &Entries, b: &Entries) -> bool {
     if a.len() != b.len() {
         return false;
     }
-    for (one, other) in a.iter().zip(b) {
+    for (one, other) in a.iter().zip(b.iter()) {
         if !same_entry(one, other) {
             return false;
         }
@@ -248,7 +248,7 @@ fn same_strands(a: &[Strand], b: &[Strand]) -> bool {
         return false;
     }
     for (one, other) in a.iter().zip(b) {
-        if !same_items(one.items.as_slice(), other.items.as_slice()) {
+        if !same_items(&one.items, &other.items) {
             return false;
         }
     }
@@ -265,7 +265,7 @@ fn is_read_as(
     let (version, again, given) = read_record(alloc, text)?;
     Ok(
         version == 2
-            && same_history(again.history.as_slice(), journal.history.as_slice())
+            && same_history(&again.history, &journal.history)
             && same_orders(given.threads.as_slice(), orders.threads.as_slice())
             && same_strands(again.strands.as_slice(), journal.strands.as_slice()),
     )
