@@ -5,7 +5,7 @@ use Rattle.block_layout.specs.declared.place.Loc.{Loc}
 use Rattle.upc_values.specs.declared.scalar.Scalar.{Scalar}
 use Rattle.upc_values.specs.declared.journal.Entry.{Entry}
 use Rattle.upc_values.specs.Operations.{accesses}
-use Rattle.upc_values.specs.Drain.{Commit, Walk, entries_in, pending_value, last_written, changed, with_read, combined, put, looked_up, is_done, is_value}
+use Rattle.upc_values.specs.Drain.{oldest_out, Commit, Walk, entries_in, pending_value, last_written, changed, with_read, combined, put, looked_up, is_done, is_value}
 use Rattle.order_builder.specs.declared.names.Named.{Named}
 use Rattle.order_builder.specs.declared.entry.EntryRef.{EntryRef}
 use Rattle.order_builder.specs.declared.entry.KeptCommit.{KeptCommit}
@@ -78,6 +78,25 @@ value-kept l ks cs n v s h = (is-place l cs n v (subst (λ es. IsLast l es n v) 
 pub none-kept : (l : Loc) (ks : List KeptCommit) (cs : List Commit) → last_written l (kept_entries ks) ≡ None → AreKept ks cs → pending_value l cs ≡ None
 none-kept l ks cs q h = ap (last_written l) (sym (entries-kept ks cs h)) ∙ q
 
+-- the oldest leaves
+oldest-kept : (w : Walk) (s t : program.Walk) (k : KeptCommit) (ks : List KeptCommit) (cs : List Commit) → t.next ≡ s.next → t.emitted.items ≡ s.emitted.items ++ k ∷ [] → t.pending.items ≡ ks → t.agrees ≡ s.agrees → AreKept (k ∷ ks) cs → IsShown w s → IsShown (oldest_out cs w) t
+oldest-kept w s t k ks [] next emitted pending agrees q h = cc
+oldest-kept w s t k ks (c ∷ cs) next emitted pending agrees q h =
+    let one : kept k ≡ by_names c = cc in
+    let rest : AreKept ks cs = cc in
+    record {
+      next = next ∙ h.next;
+      emitted =
+          ap (map kept) emitted ∙ map-append kept s.emitted.items (k ∷ []) ∙ ap (λ z. z ++ kept k ∷ []) h.emitted
+          ∙ ap (λ z. map by_names w.emitted ++ z ∷ []) one ∙ sym (map-append by_names w.emitted (c ∷ []));
+      pending = ap (map kept) pending ∙ rest;
+      agrees = agrees ∙ h.agrees;
+    }
+
+pub oldest-shown : (s t : program.Walk) (k : KeptCommit) (ks : List KeptCommit) → s.pending.items ≡ k ∷ ks → t.next ≡ s.next → t.emitted.items ≡ s.emitted.items ++ k ∷ [] → t.pending.items ≡ ks → t.agrees ≡ s.agrees → (w : Walk) → IsShown w s → IsShown (oldest_out w.pending w) t
+oldest-shown s t k ks is next emitted pending agrees w h =
+    oldest-kept w s t k ks w.pending next emitted pending agrees (ap (map kept) (sym is) ∙ h.pending) h
+
 -- a pending commit is changed, a reply is noted, and the action has its number
 pub record IsChanged (s t : program.Walk) (ms : List KeptCommit) (b : Bool) : Type 0 where
   pub next : t.next ≡ s.next + 1
@@ -96,23 +115,23 @@ is-changed s r n t b c next emitted agrees note count is =
     }
 
 -- a write that is combined with the pending one
-pub put-shown : (l : Loc) (e : EntryRef) (s t : program.Walk) (n : ℕ) (v : Scalar) (ns : List Named) (ms : List KeptCommit) → IsLast l (kept_entries s.pending.items) n v → ns ≡ map named (accesses (entry_in e)) → ((d : KeptCommit) → ms ≡ set s.pending.items n (views.combined e ns (get_or s.pending.items n d))) → IsChanged s t ms (is_done e.reply) → (w : Walk) → IsShown w s → IsShown (put l (entry_in e) (pending_value l w.pending) w) t
+pub put-shown : (l : Loc) (e : EntryRef) (s t : program.Walk) (n : ℕ) (v : Scalar) (ns : List Named) (ms : List KeptCommit) → IsLast l (kept_entries s.pending.items) n v → ns ≡ map named (accesses (entry_in e)) → ((d : KeptCommit) → ms ≡ set s.pending.items n (views.combined e ns (get_or s.pending.items n d))) → IsChanged s t ms (is_done e.reply.now) → (w : Walk) → IsShown w s → IsShown (put l (entry_in e) (pending_value l w.pending) w) t
 put-shown l e s t n v ns ms last q there is w h =
     subst (λ o. IsShown (put l (entry_in e) o w) t) (sym (value-kept l s.pending.items w.pending n v last h.pending))
     record {
       next = is.next ∙ ap (λ m. m + 1) h.next;
       emitted = ap (map kept) is.emitted ∙ h.emitted;
       pending = ap (map kept) is.pending ∙ write-kept l e ns s.pending.items ms w.pending n v q last there h.pending;
-      agrees = is.agrees ∙ ap (λ b. b && is_done e.reply) h.agrees;
+      agrees = is.agrees ∙ ap (λ b. b && is_done e.reply.now) h.agrees;
     }
 
 -- a read that the pending write answers
-pub look_up-shown : (l : Loc) (e : EntryRef) (s t : program.Walk) (n : ℕ) (v : Scalar) (ns : List Named) (ms : List KeptCommit) → IsLast l (kept_entries s.pending.items) n v → ns ≡ map named (accesses (entry_in e)) → ((d : KeptCommit) → ms ≡ set s.pending.items n (views.joined ns (get_or s.pending.items n d))) → IsChanged s t ms (is_value v e.reply) → (w : Walk) → IsShown w s → IsShown (looked_up l (entry_in e) (pending_value l w.pending) w) t
+pub look_up-shown : (l : Loc) (e : EntryRef) (s t : program.Walk) (n : ℕ) (v : Scalar) (ns : List Named) (ms : List KeptCommit) → IsLast l (kept_entries s.pending.items) n v → ns ≡ map named (accesses (entry_in e)) → ((d : KeptCommit) → ms ≡ set s.pending.items n (views.joined ns (get_or s.pending.items n d))) → IsChanged s t ms (is_value v e.reply.now) → (w : Walk) → IsShown w s → IsShown (looked_up l (entry_in e) (pending_value l w.pending) w) t
 look_up-shown l e s t n v ns ms last q there is w h =
     subst (λ o. IsShown (looked_up l (entry_in e) o w) t) (sym (value-kept l s.pending.items w.pending n v last h.pending))
     record {
       next = is.next ∙ ap (λ m. m + 1) h.next;
       emitted = ap (map kept) is.emitted ∙ h.emitted;
       pending = ap (map kept) is.pending ∙ read-kept l (entry_in e) ns s.pending.items ms w.pending n v q last there h.pending;
-      agrees = is.agrees ∙ ap (λ b. b && is_value v e.reply) h.agrees;
+      agrees = is.agrees ∙ ap (λ b. b && is_value v e.reply.now) h.agrees;
     }

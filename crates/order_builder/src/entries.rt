@@ -22,7 +22,7 @@ fn entries_of(alloc: Global, commits: &[KeptCommit]) -> Result<Entries, OutOfMem
             thread: commit.entry.thread,
             index: commit.entry.index,
             action,
-            reply: commit.entry.reply,
+            reply: *commit.entry.reply,
         });
     }
     Ok(Entries::from_chunks(entries))

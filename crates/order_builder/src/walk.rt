@@ -174,7 +174,7 @@ impl<'a> Walk<'a> {
         ensures { OnOk result (IsAfter (drain.stored (entry_in latest.entry)) self.old self.new) }
     {
         self.pending.push_back(commit_of(alloc, latest)?)?;
-        self.note(is_done(latest.reply));
+        self.note(is_done(*latest.reply));
         self.count()
     }
 
@@ -188,7 +188,7 @@ impl<'a> Walk<'a> {
             Some((at, _)) => {
                 let names = own_names(alloc, latest)?;
                 combine(&mut self.pending, at, latest, names.as_slice())?;
-                self.note(is_done(latest.reply));
+                self.note(is_done(*latest.reply));
                 self.count()
             }
             None => {
@@ -207,7 +207,7 @@ impl<'a> Walk<'a> {
             Some((at, value)) => {
                 let names = own_names(alloc, latest)?;
                 join(&mut self.pending, at, names.as_slice())?;
-                self.note(is_value(value, latest.reply));
+                self.note(is_value(value, *latest.reply));
                 self.count()
             }
             None => self.pass(alloc, latest),
@@ -241,7 +241,7 @@ impl<'a> Walk<'a> {
                     thread,
                     index: self.next,
                     action,
-                    reply: *reply,
+                    reply,
                 };
                 self.go(alloc, latest)
             }

@@ -29,7 +29,7 @@ by_names c = record { entry = c.entry; names = map named c.operations }
 
 -- An entry that the program has by reference.
 abbrev pub entry_in : EntryRef → Entry
-entry_in e = record { thread = e.thread; index = e.index; action = e.action.now; reply = e.reply }
+entry_in e = record { thread = e.thread; index = e.index; action = e.action.now; reply = e.reply.now }
 
 -- A commit that the program keeps.
 abbrev pub kept : KeptCommit → Named_commit

@@ -14,7 +14,7 @@ returns-in_ok-combine-in-Some c =
     (λ e.
     put-shown c.args.loc c.args.latest s c.count.new.self c.in-Some.at c.in-Some.field-0-1 c.as_slice.result.now r.pending.items
     c.in-Some.ensures.last (c.as_slice.ensures ∙ c.in_ok-names-in-Some.ensures) c.in_ok-combine-in-Some.ensures
-    (is-changed s r c.note.new.self c.count.new.self c.is_done.result (drain.is_done c.args.latest.reply) refl refl refl
+    (is-changed s r c.note.new.self c.count.new.self c.is_done.result (drain.is_done c.args.latest.reply.now) refl refl refl
     c.note.ensures e c.is_done.ensures))
     c.count.ensures
 
