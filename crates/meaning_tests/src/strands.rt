@@ -18,7 +18,7 @@ const BUDGET: u64 = 10_000;
 // The replies to the actions of a strand.
 fn replies_of(alloc: Global, strand: &Strand) -> Result<Vec<Reply>, OutOfMemory> {
     let mut replies = Vec::new(alloc);
-    for item in strand.items.as_slice() {
+    for item in strand.items.iter() {
         if let Item::Did(_, reply) = item {
             replies.push(*reply)?;
         }
@@ -29,7 +29,7 @@ fn replies_of(alloc: Global, strand: &Strand) -> Result<Vec<Reply>, OutOfMemory>
 // Whether these are the actions of a strand.
 fn are_actions_of(strand: &Strand, actions: &[Action]) -> bool {
     let mut left = actions;
-    for item in strand.items.as_slice() {
+    for item in strand.items.iter() {
         if let Item::Did(action, _) = item {
             let Some((first, more)) = left.split_first() else {
                 return false;

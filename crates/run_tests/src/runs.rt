@@ -14,7 +14,7 @@ use upc_values::{Action, End, Journal};
 
 /// Whether these are the entries, each by its thread and its number there.
 pub fn has_history(journal: &Journal, entries: &[(u32, u32)]) -> bool {
-    let history = journal.history.as_slice();
+    let history = &journal.history;
     if history.len() != entries.len() {
         return false;
     }
@@ -56,7 +56,7 @@ fn has_strands(journal: &Journal, strands: &[(&str, usize, u64)]) -> bool {
 // Whether the print entries write these lines, in order.
 fn has_printed(journal: &Journal, lines: &[&[u8]]) -> bool {
     let mut at = 0usize;
-    for entry in journal.history.as_slice() {
+    for entry in journal.history.iter() {
         if let Action::Print(text) = &entry.action {
             if at >= lines.len() || text.as_slice() != lines[at] {
                 return false;

@@ -20,7 +20,7 @@ fn text_for(alloc: Global, verdict: &Verdict) -> Result<Vec<u8>, AllocError>
     ensures { IfOk result (λ text. text.items ≡ text_of verdict.now) }
 {
     match verdict {
-        Verdict::Ran(journal) => output_text(alloc, journal.history.as_slice()),
+        Verdict::Ran(journal) => output_text(alloc, &journal.history),
         Verdict::Recorded(journal, orders) => render(alloc, journal, orders),
         Verdict::Passed => Vec::from_slice(alloc, b"ok\n"),
         Verdict::Laid(program) => layout_text(alloc, program),
