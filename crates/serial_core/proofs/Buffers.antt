@@ -12,11 +12,12 @@ use Rattle.upc_values.specs.declared.action.Reply.{Reply}
 use Rattle.upc_values.specs.declared.action.Reply.TheVariants.{Done, Value}
 use Rattle.upc_values.specs.declared.journal.Entry.{Entry}
 use Rattle.upc_values.specs.Scalars.{same_loc}
-use Rattle.upc_values.specs.Drain.{Walk, emptied, oldest_out, stored, replaced, put, passed, looked_up, gone, last_written, is_done, entry_of, entries_of}
+use Rattle.upc_values.specs.Drain.{Commit, commit_of, entries_in, Walk, emptied, oldest_out, stored, pending_value, changed, with_read, combined, put, passed, looked_up, gone, last_written, entry_of, entries_of}
 use Rattle.upc_values.specs.Openings.{Opening, IsOpening}
 use Rattle.upc_values.specs.History.{reply, IsLegal}
 use Rattle.upc_values.specs.Formed.{IsWellFormed, AreWellFormed, fits_after}
 use Rattle.upc_values.specs.Known.{gives_known}
+use Rattle.upc_values.proofs.Drained.{read-entries}
 use Rattle.upc_values.proofs.Walks.{emptied-same, room-left, room-made, entries_of-append, entries-own, entries-all}
 use Rattle.upc_values.proofs.Legality.{unlawful-waits}
 use Rattle.upc_values.proofs.Replies.{formed-grow, fits-grow}
@@ -26,8 +27,7 @@ use Rattle.upc_values.proofs.Scalars.{same_scalar-refl}
 use Rattle.upc_values.proofs.Sameness.{same_loc-true}
 use Rattle.memory_history.specs.World.{performed}
 use Rattle.write_buffer.specs.declared.pending.Pending.{Pending}
-use Rattle.write_buffer.specs.Buffer as buffers
-use Rattle.write_buffer.specs.Buffer.{youngest, committed}
+use Rattle.write_buffer.specs.Buffer.{youngest, replaced, committed}
 use Rattle.serial_core.specs.declared.emit.Way.TheVariants.{Stores, Looks, Passes, Empties}
 use Rattle.serial_core.specs.Kept.{way_of, AreFormed, Holds, AllOf, Grew, Emitted, IsAnswer}
 use Rattle.serial_core.proofs.Lists.{cons-head}
@@ -101,6 +101,14 @@ pub ruleset grows = (grew-same, grew-performed)
 
 pub ruleset grown = (grew-same, grew-then, grew-performed)
 
+-- the entries of commits
+
+entries-append : (cs ds : List Commit) → entries_in (cs ++ ds) ≡ entries_in cs ++ entries_in ds
+entries-append cs ds = map-append (λ c. c.entry) cs ds
+
+entries-many : (cs : List Commit) → length (entries_in cs) ≡ length cs
+entries-many cs = length-map cs (λ c. c.entry)
+
 some-value : (f : Option Pending) → is_some (option_map (λ q. q.value) f) ≡ is_some f
 some-value (Some q) = refl
 some-value None = refl
@@ -116,7 +124,8 @@ pub holds-emptied : (o : Opening) (t n : ℕ) (seen : List Entry) (ps : List Pen
 holds-emptied o t n seen ps w k = record {
   out = entries_of-append t seen (map (committed t) ps)
       ∙ ap (λ l. entries_of t seen ++ l) (entries-all t (map (committed t) ps) (committed-own t ps))
-      ∙ ap (λ l. l ++ map (committed t) ps) k.out ∙ ap (λ l. w.emitted ++ l) k.inside;
+      ∙ ap (λ l. l ++ map (committed t) ps) k.out ∙ ap (λ l. entries_in w.emitted ++ l) k.inside
+      ∙ sym (entries-append w.emitted w.pending);
   inside = refl;
   room = omega arith;
   number = k.number;
@@ -140,64 +149,72 @@ holds-grow o t n seen more ps w h k = record {
   formed = pending-grow o seen more ps k.formed;
 }
 
+-- the walk's pending write of a location is the buffer's youngest
+value-is : (t : ℕ) (l : Loc) (ps : List Pending) (cs : List Commit) → map (committed t) ps ≡ entries_in cs
+    → pending_value l cs ≡ option_map (λ q. q.value) (youngest l ps)
+value-is t l ps cs h = ap (last_written l) (sym h) ∙ youngest-written t l ps
+
 -- what no pending write of the buffer has, none of the walk has
 none-pending : (o : Opening) (t n : ℕ) (l : Loc) (seen : List Entry) (ps : List Pending) (w : Walk) → youngest l ps ≡ None
-    → Holds o t seen ps n w → last_written l w.pending ≡ None
-none-pending o t n l seen ps w h k =
-    ap (last_written l) (sym k.inside) ∙ youngest-written t l ps ∙ ap (option_map (λ q. q.value)) h
+    → Holds o t seen ps n w → pending_value l w.pending ≡ None
+none-pending o t n l seen ps w h k = value-is t l ps w.pending k.inside ∙ ap (option_map (λ q. q.value)) h
 
 -- a write that stands in the place of another
-replaced-written : (t : ℕ) (q : Pending) (ps : List Pending)
-    → map (committed t) (buffers.replaced q ps) ≡ replaced q.loc (committed t q) (map (committed t) ps)
-replaced-written t q [] = refl
-replaced-written t q (p ∷ ps) =
-    let P : Option Pending → Type 0 = λ o. youngest q.loc ps ≡ o →
-    map (committed t) (cond (is_some o) (p ∷ buffers.replaced q ps) (q ∷ ps))
-    ≡ cond (is_some (option_map (λ z. z.value) o)) (committed t p ∷ replaced q.loc (committed t q) (map (committed t) ps)) (committed t q ∷ map (committed t) ps) in
-    let go : (o : Option Pending) → P o = λ o. elim o as P [
-      | Some u ↦ λ e. ap (λ z. committed t p ∷ z) (replaced-written t q ps)
-      | None ↦ λ e. refl
+replaced-combined : (t : ℕ) (q : Pending) (ps : List Pending) (cs : List Commit) → map (committed t) ps ≡ entries_in cs
+    → map (committed t) (replaced q ps) ≡ entries_in (changed q.loc (combined (committed t q)) cs)
+replaced-combined t q [] [] h = refl
+replaced-combined t q [] (c ∷ cs) h = absurd cc
+replaced-combined t q (p ∷ ps) [] h = absurd cc
+replaced-combined t q (p ∷ ps) (c ∷ cs) h =
+    let parts = cons-head (committed t p) c.entry (map (committed t) ps) (entries_in cs) h in
+    let younger : List Commit = changed q.loc (combined (committed t q)) cs in
+    let P : Bool → Type 0 =
+    λ b. map (committed t) (cond b (p ∷ replaced q ps) (q ∷ ps)) ≡ entries_in (cond b (c ∷ younger) (combined (committed t q) c ∷ cs)) in
+    let go : (b : Bool) → P b = λ b. elim b as P [
+      | true ↦ ap (λ z. z ∷ map (committed t) (replaced q ps)) parts.0 ∙ ap (λ z. c.entry ∷ z) (replaced-combined t q ps cs parts.1)
+      | false ↦ ap (λ z. committed t q ∷ z) parts.1
     ] in
-    go (youngest q.loc ps) refl
-    ∙ ap (λ o. cond (is_some o) (committed t p ∷ replaced q.loc (committed t q) (map (committed t) ps)) (committed t q ∷ map (committed t) ps))
-    (sym (youngest-written t q.loc ps))
+    let same : is_some (youngest q.loc ps) ≡ is_some (pending_value q.loc cs) =
+    sym (ap is_some (value-is t q.loc ps cs parts.1) ∙ some-value (youngest q.loc ps)) in
+    subst (λ b. map (committed t) (replaced q (p ∷ ps)) ≡ entries_in (cond b (c ∷ younger) (combined (committed t q) c ∷ cs))) same
+    (go (is_some (youngest q.loc ps)))
 
-length-replaced : (q : Pending) (ps : List Pending) → length (buffers.replaced q ps) ≡ length ps
+length-replaced : (q : Pending) (ps : List Pending) → length (replaced q ps) ≡ length ps
 length-replaced q [] = refl
 length-replaced q (p ∷ ps) =
     let h = length-replaced q ps in
-    cond_both (is_some (youngest q.loc ps)) (p ∷ buffers.replaced q ps) (q ∷ ps) (λ z. length z ≡ length (p ∷ ps)) (λ e. omega arith) (λ e. omega arith)
+    cond_both (is_some (youngest q.loc ps)) (p ∷ replaced q ps) (q ∷ ps) (λ z. length z ≡ length (p ∷ ps)) (λ e. omega arith) (λ e. omega arith)
 
 formed-replaced : (o : Opening) (seen : List Entry) (q : Pending) (ps : List Pending) → IsWellFormed o seen (Write q.loc q.value false)
-    → AreFormed o seen ps → AreFormed o seen (buffers.replaced q ps)
+    → AreFormed o seen ps → AreFormed o seen (replaced q ps)
 formed-replaced o seen q [] asked h = tt
 formed-replaced o seen q (p ∷ ps) asked h =
-    cond_both (is_some (youngest q.loc ps)) (p ∷ buffers.replaced q ps) (q ∷ ps) (AreFormed o seen)
+    cond_both (is_some (youngest q.loc ps)) (p ∷ replaced q ps) (q ∷ ps) (AreFormed o seen)
     (λ e. (h.0, formed-replaced o seen q ps asked h.1)) (λ e. (asked, h.1))
 
 -- a relaxed write that takes the place of another
 pub holds-combined : (o : Opening) (t n : ℕ) (l : Loc) (v : Scalar) (seen : List Entry) (ps qs : List Pending) (w : Walk)
-    → is_some (youngest l ps) ≡ true → qs ≡ buffers.replaced (record { index = n; loc = l; value = v }) ps
+    → is_some (youngest l ps) ≡ true → qs ≡ replaced (record { index = n; loc = l; value = v }) ps
     → IsWellFormed o seen (Write l v false) → Holds o t seen ps n w
     → Holds o t seen qs (n + 1) (gone (entry_of t n (Write l v false) Done) (Write l v false) w)
 holds-combined o t n l v seen ps qs w some is asked k =
     let q : Pending = record { index = n; loc = l; value = v } in
     let e : Entry = entry_of t n (Write l v false) Done in
-    let P : Option Scalar → Type 0 = λ f. last_written l w.pending ≡ f → is_some f ≡ true → Holds o t seen (buffers.replaced q ps) (n + 1) (put l e f w) in
-    let there : is_some (last_written l w.pending) ≡ true =
-    ap (λ z. is_some (last_written l z)) (sym k.inside) ∙ ap is_some (youngest-written t l ps) ∙ some-value (youngest l ps) ∙ some in
+    let P : Option Scalar → Type 0 = λ f. is_some f ≡ true → Holds o t seen (replaced q ps) (n + 1) (put l e f w) in
+    let there : is_some (pending_value l w.pending) ≡ true =
+    ap is_some (value-is t l ps w.pending k.inside) ∙ some-value (youngest l ps) ∙ some in
     let go : (f : Option Scalar) → P f = λ f. elim f as P [
-      | Some u ↦ λ x y. record {
+      | Some u ↦ λ y. record {
         out = k.out;
-        inside = replaced-written t q ps ∙ ap (replaced l e) k.inside;
+        inside = replaced-combined t q ps w.pending k.inside;
         room = (let m = length-replaced q ps in let r = k.room in omega arith);
         number = ap (λ m. m + 1) k.number;
         agrees = and_from w.agrees true k.agrees refl;
         formed = formed-replaced o seen q ps asked k.formed;
       }
-      | None ↦ λ x y. absurd (false≢true y)
+      | None ↦ λ y. absurd (false≢true y)
     ] in
-    subst (λ z. Holds o t seen z (n + 1) (gone e (Write l v false) w)) (sym is) (go (last_written l w.pending) refl there)
+    subst (λ z. Holds o t seen z (n + 1) (gone e (Write l v false) w)) (sym is) (go (pending_value l w.pending) there)
 
 -- a relaxed write where there is room
 pub holds-stored : (o : Opening) (t n : ℕ) (l : Loc) (v : Scalar) (seen : List Entry) (ps qs : List Pending) (w : Walk)
@@ -207,13 +224,14 @@ holds-stored o t n l v seen ps qs w none full is asked k =
     let p : Pending = record { index = n; loc = l; value = v } in
     let e : Entry = entry_of t n (Write l v false) Done in
     let many : length (map (committed t) ps) ≡ length ps = length-map ps (committed t) in
-    let many2 : length (map (committed t) ps) ≡ length w.pending = ap length k.inside in
+    let many2 : length (map (committed t) ps) ≡ length w.pending = ap length k.inside ∙ entries-many w.pending in
     let room : length ps ≤ 64 = k.room in
     let few : length w.pending < 64 = omega (arith, full) in
     subst (λ f. Holds o t seen qs (n + 1) (put l e f w)) (sym (none-pending o t n l seen ps w none k))
     (subst (λ z. Holds o t seen qs (n + 1) (stored e z)) (sym (room-left w few)) (record {
       out = k.out;
-      inside = ap (map (committed t)) (sym is) ∙ map-append (committed t) ps (p ∷ []) ∙ ap (λ z. z ++ e ∷ []) k.inside;
+      inside = ap (map (committed t)) (sym is) ∙ map-append (committed t) ps (p ∷ []) ∙ ap (λ z. z ++ e ∷ []) k.inside
+          ∙ sym (entries-append w.pending (commit_of e ∷ []));
       room = (let l1 = ap length (sym is) in let l2 = length-append ps (p ∷ []) in omega (arith, l1, l2));
       number = ap (λ m. m + 1) k.number;
       agrees = and_from w.agrees true k.agrees refl;
@@ -229,22 +247,24 @@ holds-overflown o t n l v seen ps qs f w none full is asked k =
     let p : Pending = record { index = n; loc = l; value = v } in
     let e : Entry = entry_of t n (Write l v false) Done in
     let many : length (map (committed t) ps) ≡ length ps = length-map ps (committed t) in
-    let many2 : length (map (committed t) ps) ≡ length w.pending = ap length k.inside in
+    let many2 : length (map (committed t) ps) ≡ length w.pending = ap length k.inside ∙ entries-many w.pending in
     let all : 64 ≤ length w.pending = omega arith in
-    let both : w.pending ++ e ∷ [] ≡ committed t f ∷ map (committed t) qs =
+    let both : entries_in w.pending ++ e ∷ [] ≡ committed t f ∷ map (committed t) qs =
     ap (λ z. z ++ e ∷ []) (sym k.inside) ∙ sym (map-append (committed t) ps (p ∷ [])) ∙ ap (map (committed t)) is in
     let formed : AreFormed o seen (f ∷ qs) = subst (AreFormed o seen) is
     (each-append (λ q. IsWellFormed o seen (Write q.loc q.value false)) ps (p ∷ []) k.formed (asked, tt)) in
     let few : length qs ≤ 64 = (let l1 = ap length is in let l2 = length-append ps (p ∷ []) in omega (arith, l1, l2)) in
-    let go : (es : List Entry) → w.pending ≡ es → Holds o t (seen ++ committed t f ∷ []) qs (n + 1) (stored e (oldest_out es w)) =
-    λ es. elim es as (λ es. w.pending ≡ es → Holds o t (seen ++ committed t f ∷ []) qs (n + 1) (stored e (oldest_out es w))) [
+    let go : (cs : List Commit) → w.pending ≡ cs → Holds o t (seen ++ committed t f ∷ []) qs (n + 1) (stored e (oldest_out cs w)) =
+    λ cs. elim cs as (λ cs. w.pending ≡ cs → Holds o t (seen ++ committed t f ∷ []) qs (n + 1) (stored e (oldest_out cs w))) [
       | [] ↦ λ q. (let z : length w.pending ≡ 0 = ap length q in absurd (omega arith))
-      | g ∷ gs ↦ λ q.
-          let parts = cons-head g (committed t f) (gs ++ e ∷ []) (map (committed t) qs) (ap (λ z. z ++ e ∷ []) (sym q) ∙ both) in
+      | c ∷ ds ↦ λ q.
+          let parts = cons-head c.entry (committed t f) (entries_in ds ++ e ∷ []) (map (committed t) qs)
+          (ap (λ z. entries_in z ++ e ∷ []) (sym q) ∙ both) in
           record {
             out = entries_of-append t seen (committed t f ∷ []) ∙ ap (λ z. entries_of t seen ++ z) (entries-own t (committed t f) refl)
-                ∙ ap (λ z. z ++ committed t f ∷ []) k.out ∙ ap (λ z. w.emitted ++ z ∷ []) (sym parts.0);
-            inside = sym parts.1;
+                ∙ ap (λ z. z ++ committed t f ∷ []) k.out ∙ ap (λ z. entries_in w.emitted ++ z ∷ []) (sym parts.0)
+                ∙ sym (entries-append w.emitted (c ∷ []));
+            inside = sym parts.1 ∙ sym (entries-append ds (commit_of e ∷ []));
             room = few;
             number = ap (λ m. m + 1) k.number;
             agrees = and_from w.agrees true k.agrees refl;
@@ -254,12 +274,27 @@ holds-overflown o t n l v seen ps qs f w none full is asked k =
     subst (λ g. Holds o t (seen ++ committed t f ∷ []) qs (n + 1) (put l e g w)) (sym (none-pending o t n l seen ps w none k))
     (subst (λ z. Holds o t (seen ++ committed t f ∷ []) qs (n + 1) (stored e z)) (sym (room-made w all)) (go w.pending refl))
 
+-- a relaxed write where none leaves
+pub holds-kept : (o : Opening) (t n : ℕ) (l : Loc) (v : Scalar) (seen : List Entry) (ps qs : List Pending) (w : Walk)
+    → (is_some (youngest l ps) ≡ true → qs ≡ replaced (record { index = n; loc = l; value = v }) ps)
+    → (youngest l ps ≡ None → ps ++ record { index = n; loc = l; value = v } ∷ [] ≡ qs)
+    → (length ps ≡ 64 → youngest l ps ≡ None → ⊥) → IsWellFormed o seen (Write l v false)
+    → Holds o t seen ps n w → Holds o t seen qs (n + 1) (gone (entry_of t n (Write l v false) Done) (Write l v false) w)
+holds-kept o t n l v seen ps qs w some none full asked k =
+    let P : Option Pending → Type 0 =
+    λ f. youngest l ps ≡ f → Holds o t seen qs (n + 1) (gone (entry_of t n (Write l v false) Done) (Write l v false) w) in
+    let go : (f : Option Pending) → P f = λ f. elim f as P [
+      | Some p ↦ λ e. holds-combined o t n l v seen ps qs w (ap is_some e) (some (ap is_some e)) asked k
+      | None ↦ λ e. holds-stored o t n l v seen ps qs w e (λ many. full many e) (none e) asked k
+    ] in
+    go (youngest l ps) refl
+
 -- an entry that passes
 pub holds-pass : (o : Opening) (t n : ℕ) (seen : List Entry) (ps : List Pending) (a : Action) (r : Reply) (w : Walk) → Holds o t seen ps n w
     → Holds o t (seen ++ entry_of t n a r ∷ []) ps (n + 1) (passed (entry_of t n a r) w)
 holds-pass o t n seen ps a r w k = record {
   out = entries_of-append t seen (entry_of t n a r ∷ []) ∙ ap (λ l. entries_of t seen ++ l) (entries-own t (entry_of t n a r) refl)
-      ∙ ap (λ l. l ++ entry_of t n a r ∷ []) k.out;
+      ∙ ap (λ l. l ++ entry_of t n a r ∷ []) k.out ∙ sym (entries-append w.emitted (commit_of (entry_of t n a r) ∷ []));
   inside = k.inside;
   room = k.room;
   number = ap (λ m. m + 1) k.number;
@@ -293,11 +328,11 @@ pub holds-forwarded : (o : Opening) (t n : ℕ) (l : Loc) (seen : List Entry) (p
     → Holds o t seen ps (n + 1) (gone (entry_of t n (Read l false) (Value q.value)) (Read l false) w)
 holds-forwarded o t n l seen ps q w h k =
     let e : Entry = entry_of t n (Read l false) (Value q.value) in
-    let found : last_written l w.pending ≡ Some q.value =
-    ap (last_written l) (sym k.inside) ∙ youngest-written t l ps ∙ ap (option_map (λ q. q.value)) h in
-    subst (λ f. Holds o t seen ps (n + 1) (looked_up e f w)) (sym found) (record {
+    let found : pending_value l w.pending ≡ Some q.value =
+    value-is t l ps w.pending k.inside ∙ ap (option_map (λ q. q.value)) h in
+    subst (λ f. Holds o t seen ps (n + 1) (looked_up l e f w)) (sym found) (record {
       out = k.out;
-      inside = k.inside;
+      inside = k.inside ∙ sym (read-entries l e w.pending);
       room = k.room;
       number = ap (λ m. m + 1) k.number;
       agrees = and_from w.agrees (Rattle.upc_values.specs.Scalars.same_scalar q.value q.value) k.agrees (same_scalar-refl q.value);
@@ -310,9 +345,7 @@ pub holds-looked : (o : Opening) (t n : ℕ) (l : Loc) (seen : List Entry) (ps :
     → Holds o t (seen ++ entry_of t n (Read l false) r ∷ []) ps (n + 1) (gone (entry_of t n (Read l false) r) (Read l false) w)
 holds-looked o t n l seen ps r w h k =
     let e : Entry = entry_of t n (Read l false) r in
-    let found : last_written l w.pending ≡ None =
-    ap (last_written l) (sym k.inside) ∙ youngest-written t l ps ∙ ap (option_map (λ q. q.value)) h in
-    subst (λ f. Holds o t (seen ++ e ∷ []) ps (n + 1) (looked_up e f w)) (sym found) (holds-pass o t n seen ps (Read l false) r w k)
+    subst (λ f. Holds o t (seen ++ e ∷ []) ps (n + 1) (looked_up l e f w)) (sym (none-pending o t n l seen ps w h k)) (holds-pass o t n seen ps (Read l false) r w k)
 
 -- what an action by itself makes, by its way
 

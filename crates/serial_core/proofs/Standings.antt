@@ -102,8 +102,8 @@ unrested-open k h =
 -- moments
 pub drained-of : (p : Codes) (f : Outcomes) (w : Opening × List Entry) (ks : List Task) → IsRunning w.0 p f w.1 ks → IsDrained (moment_of w ks)
 drained-of p f w ks r =
-    numbered-map standing_of (λ i k. IsAt w.0 p f w.1 i k) (λ t s. entries_of t w.1 ≡ (settled s.«end» (walked t s.items)).emitted)
-    (λ i k a. subst (λ t. entries_of t w.1 ≡ (settled k.«end» (walked t k.items.items)).emitted) a.thread a.kept.holds.out) ks r.tasks
+    numbered-map standing_of (λ i k. IsAt w.0 p f w.1 i k) (λ t s. entries_of t w.1 ≡ entries_in (settled s.«end» (walked t s.items)).emitted)
+    (λ i k a. subst (λ t. entries_of t w.1 ≡ entries_in (settled k.«end» (walked t k.items.items)).emitted) a.thread a.kept.holds.out) ks r.tasks
 
 pub later-of : (p : Codes) (f : Outcomes) (w x : Opening × List Entry) (ks ms : List Task) → IsRunning x.0 p f x.1 ms → length ms ≡ length ks → Grows w.1 x.1
     → IsLater (moment_of w ks) (moment_of x ms)

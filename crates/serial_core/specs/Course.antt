@@ -8,7 +8,7 @@ use Rattle.upc_values.specs.declared.journal.Strand.{Strand}
 use Rattle.upc_values.specs.declared.journal.Journal.{Journal}
 use Rattle.upc_values.specs.Lists.{Each, Numbered}
 use Rattle.upc_values.specs.Records.{last_item, is_stall}
-use Rattle.upc_values.specs.Drain.{walked, entries_of}
+use Rattle.upc_values.specs.Drain.{entries_in, walked, entries_of}
 use Rattle.upc_values.specs.Ends.{stops, is_pause}
 use Rattle.serial_core.specs.Kept.{settled, is_given}
 
@@ -45,7 +45,8 @@ Grows old new = (more : List Entry) × (new ≡ old ++ more)
 
 -- The history has of each thread what its record has emitted, with all that was pending where it has its end.
 abbrev pub IsDrained : Moment → Type 0
-IsDrained m = Numbered (λ t s. entries_of t m.history ≡ (settled s.«end» (walked t s.items)).emitted) m.threads
+IsDrained m =
+    Numbered (λ t s. entries_of t m.history ≡ entries_in (settled s.«end» (walked t s.items)).emitted) m.threads
 
 -- The moment comes after another: the same threads, and a history that goes on and has what the records have emitted.
 pub record IsLater (m n : Moment) : Type 0 where

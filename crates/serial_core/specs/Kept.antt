@@ -11,7 +11,7 @@ use Rattle.upc_values.specs.declared.record.End.TheVariants as ends
 use Rattle.upc_values.specs.declared.journal.Entry.{Entry}
 use Rattle.upc_values.specs.declared.journal.Strand.{Strand}
 use Rattle.upc_values.specs.Lists.{Each}
-use Rattle.upc_values.specs.Drain.{Walk, walked, entries_of, emptied, gone, entry_of}
+use Rattle.upc_values.specs.Drain.{entries_in, Walk, walked, entries_of, emptied, gone, entry_of}
 use Rattle.upc_values.specs.Openings.{Opening}
 use Rattle.upc_values.specs.History.{reply}
 use Rattle.upc_values.specs.Formed.{IsWellFormed, fits_after}
@@ -57,8 +57,8 @@ AreFormed o seen ps = Each (λ p. IsWellFormed o seen (Write p.loc p.value false
 
 -- t's entries among those seen, its buffer and the number of its next action are those of the walk
 pub record Holds (o : Opening) (t : ℕ) (seen : List Entry) (pending : List Pending) (next : ℕ) (w : Walk) : Type 0 where
-  pub out : entries_of t seen ≡ w.emitted
-  pub inside : map (committed t) pending ≡ w.pending
+  pub out : entries_of t seen ≡ entries_in w.emitted
+  pub inside : map (committed t) pending ≡ entries_in w.pending
   pub room : length pending ≤ 64
   pub number : next ≡ w.next
   pub agrees : w.agrees ≡ true
