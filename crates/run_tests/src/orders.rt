@@ -55,7 +55,7 @@ const R: bool = false;
 
 const W: bool = true;
 
-const RUNS: [Run; 4] = [
+const RUNS: [Run; 7] = [
     // The two barriers of a thread that does nothing between them.
     Run {
         source: b"int main(void){return 0;}",
@@ -69,7 +69,8 @@ const RUNS: [Run; 4] = [
         strict: &[(0, 0, W), (0, 1, R), (0, 2, W), (0, 3, R)],
         threads: &[&[(0, 0, W), (0, 1, R), (0, 2, W), (0, 3, R)]],
     },
-    // A forwarded read stands with the write that it reads, behind a read that was issued before that write was done.
+    // A forwarded read stands with the write that it reads, which stands with the write that took its place, after a
+    // read that was issued before that write was done.
     Run {
         source: b"shared int x; shared int y; int main(){x = 1; x = y + x; return 0;}",
         limits: Limits {
@@ -78,7 +79,7 @@ const RUNS: [Run; 4] = [
             actions: 100,
         },
         picks: &[],
-        history: &[(0, 0), (0, 1), (0, 3), (0, 2), (0, 5), (0, 6), (0, 7)],
+        history: &[(0, 0), (0, 1), (0, 3), (0, 5), (0, 6), (0, 7)],
         strict: &[(0, 0, W), (0, 1, R), (0, 6, W), (0, 7, R)],
         threads: &[&[
             (0, 0, W),
@@ -90,6 +91,134 @@ const RUNS: [Run; 4] = [
             (0, 6, W),
             (0, 7, R),
         ]],
+    },
+    // A second write of x takes the place of the first, so both are done before the write of y between them.
+    Run {
+        source: b"shared int x; shared int y; int main(void){x = 1; y = 1; x = 2; upc_fence; return 0;}",
+        limits: Limits {
+            threads: 1,
+            budget: 1000,
+            actions: 100,
+        },
+        picks: &[],
+        history: &[(0, 0), (0, 1), (0, 4), (0, 3), (0, 5), (0, 6), (0, 7)],
+        strict: &[
+            (0, 0, W),
+            (0, 1, R),
+            (0, 5, W),
+            (0, 5, R),
+            (0, 6, W),
+            (0, 7, R),
+        ],
+        threads: &[&[
+            (0, 0, W),
+            (0, 1, R),
+            (0, 2, W),
+            (0, 4, W),
+            (0, 3, W),
+            (0, 5, W),
+            (0, 5, R),
+            (0, 6, W),
+            (0, 7, R),
+        ]],
+    },
+    // A read between two writes of its location, of which the second takes the place of the first, has the first's
+    // value.
+    Run {
+        source: b"shared int x; int main(void){int r; x = 1; r = x; x = 2; return 0;}",
+        limits: Limits {
+            threads: 1,
+            budget: 1000,
+            actions: 100,
+        },
+        picks: &[],
+        history: &[(0, 0), (0, 1), (0, 4), (0, 5), (0, 6)],
+        strict: &[(0, 0, W), (0, 1, R), (0, 5, W), (0, 6, R)],
+        threads: &[&[
+            (0, 0, W),
+            (0, 1, R),
+            (0, 2, W),
+            (0, 3, R),
+            (0, 4, W),
+            (0, 5, W),
+            (0, 6, R),
+        ]],
+    },
+    // A write that another took the place of is no entry, and stands before that one in the order of each thread.
+    Run {
+        source: b"shared int x; int main(void){int r; \
+if (MYTHREAD == 0) {x = 1; x = 2;} upc_barrier; if (MYTHREAD == 1) r = x; return 0;}",
+        limits: Limits {
+            threads: 2,
+            budget: 1000,
+            actions: 100,
+        },
+        picks: &[],
+        history: &[
+            (0, 0),
+            (1, 0),
+            (1, 1),
+            (1, 2),
+            (0, 1),
+            (0, 3),
+            (0, 4),
+            (0, 5),
+            (0, 6),
+            (1, 3),
+            (1, 4),
+            (1, 5),
+            (1, 6),
+            (0, 7),
+        ],
+        strict: &[
+            (0, 0, W),
+            (1, 0, W),
+            (1, 1, R),
+            (1, 2, W),
+            (0, 1, R),
+            (0, 4, W),
+            (0, 5, R),
+            (0, 6, W),
+            (1, 3, R),
+            (1, 5, W),
+            (1, 6, R),
+            (0, 7, R),
+        ],
+        threads: &[
+            &[
+                (0, 0, W),
+                (1, 0, W),
+                (1, 1, R),
+                (1, 2, W),
+                (0, 1, R),
+                (0, 2, W),
+                (0, 3, W),
+                (0, 4, W),
+                (0, 5, R),
+                (0, 6, W),
+                (1, 3, R),
+                (1, 5, W),
+                (1, 6, R),
+                (0, 7, R),
+            ],
+            &[
+                (0, 0, W),
+                (1, 0, W),
+                (1, 1, R),
+                (1, 2, W),
+                (0, 1, R),
+                (0, 2, W),
+                (0, 3, W),
+                (0, 4, W),
+                (0, 5, R),
+                (0, 6, W),
+                (1, 3, R),
+                (1, 4, R),
+                (1, 5, W),
+                (1, 6, R),
+                (0, 7, R),
+            ],
+        ],
     },
     // Both threads read 0 before either write is done; a relaxed read of the other thread is not in a thread's order.
     Run {

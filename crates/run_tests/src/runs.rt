@@ -84,7 +84,7 @@ while (MYTHREAD * (1 - y)) {y = 1; printf(\"%d\\n\", x);} return 0;}";
 
 const ENDLESS: &[u8] = b"int main(){while (1) {} return 0;}";
 
-const RUNS: [Run; 9] = [
+const RUNS: [Run; 12] = [
     // A relaxed read of a pending location gives the pending value and is no entry; another read passes the pending
     // writes.
     Run {
@@ -95,8 +95,48 @@ const RUNS: [Run; 9] = [
             actions: 8,
         },
         picks: &[],
-        history: &[(0, 0), (0, 1), (0, 3), (0, 2), (0, 5), (0, 6), (0, 7)],
+        history: &[(0, 0), (0, 1), (0, 3), (0, 5), (0, 6), (0, 7)],
         strands: &[("ended", 8, 0)],
+        printed: &[],
+    },
+    // A relaxed write takes the place of the pending write of its location.
+    Run {
+        source: b"shared int x; shared int y; int main(void){x = 1; y = 1; x = 2; upc_fence; return 0;}",
+        limits: Limits {
+            threads: 1,
+            budget: 1000,
+            actions: 100,
+        },
+        picks: &[],
+        history: &[(0, 0), (0, 1), (0, 4), (0, 3), (0, 5), (0, 6), (0, 7)],
+        strands: &[("ended", 8, 0)],
+        printed: &[],
+    },
+    // A read has the value that was pending then, though a later write takes its place.
+    Run {
+        source: b"shared int x; int main(void){int r; x = 1; r = x; x = 2; \
+printf(\"%d\\n\", r); printf(\"%d\\n\", x); return 0;}",
+        limits: Limits {
+            threads: 1,
+            budget: 1000,
+            actions: 100,
+        },
+        picks: &[],
+        history: &[(0, 0), (0, 1), (0, 5), (0, 7), (0, 4), (0, 8), (0, 9)],
+        strands: &[],
+        printed: &[b"1\n", b"2\n"],
+    },
+    // However many writes of one location are pending, they take one place.
+    Run {
+        source: b"shared int x; int main(void){int i; for (i = 0; i < 70; i++) x = i; upc_fence; return 0;}",
+        limits: Limits {
+            threads: 1,
+            budget: 1000,
+            actions: 100,
+        },
+        picks: &[],
+        history: &[(0, 0), (0, 1), (0, 71), (0, 72), (0, 73), (0, 74)],
+        strands: &[],
         printed: &[],
     },
     // The 65th pending write makes the oldest leave; a read of another location passes the others, and a fence empties
