@@ -23,7 +23,7 @@ use memory_history::{Step, World};
 use stack_code::Code;
 use stack_machine::{Machine, Wish};
 use std::alloc::{AllocError, Global};
-use upc_values::{Action, End, Item, Listing, Reply, Strand};
+use upc_values::{Action, Chunks, End, Item, Items, Reply, Strand};
 use write_buffer::WriteBuffer;
 
 /// How a task stands after a step.
@@ -48,7 +48,7 @@ pub struct Task {
     machine: Machine,
     thread: u32,
     limits: Limits,
-    items: Vec<Item>,
+    items: Chunks<Item>,
     buffer: WriteBuffer,
     next: u32,
     answer: Option<Reply>,
@@ -63,8 +63,8 @@ fn is_stall(item: &Item) -> bool
 }
 
 // Whether the last item is a Stall.
-fn ends_with_stall(items: &[Item]) -> bool
-    ensures { result ≡ records.is_stall (records.last_item items.now) }
+fn ends_with_stall(items: &Chunks<Item>) -> bool
+    ensures { result ≡ records.is_stall (records.last_item items.now.items) }
 {
     match items.last() {
         Some(item) => is_stall(item),
@@ -79,8 +79,8 @@ fn is_pause(item: &Item) -> bool
 }
 
 // Whether the last item is a Beat or a Stall.
-fn ends_with_pause(items: &[Item]) -> bool
-    ensures { result ≡ ends.is_pause (records.last_item items.now) }
+fn ends_with_pause(items: &Chunks<Item>) -> bool
+    ensures { result ≡ ends.is_pause (records.last_item items.now.items) }
 {
     match items.last() {
         Some(item) => is_pause(item),
@@ -123,7 +123,7 @@ impl Task {
             machine: Machine::make(alloc, code, thread, limits.budget)?,
             thread,
             limits,
-            items: Vec::new(alloc),
+            items: Chunks::new(alloc),
             buffer: WriteBuffer::make(alloc)?,
             next: 0,
             answer: None,
@@ -183,9 +183,9 @@ impl Task {
         ensures waits { IfOk result (λ p. Waits p world.new.0 world.new.1 self.new) }
         ensures opening { world.new.0 ≡ world.old.0 }
     {
-        self.items.reserve(1)?;
+        self.items.reserve()?;
         world.keeps();
-        let stalls = ends_with_stall(self.items.as_slice());
+        let stalls = ends_with_stall(&self.items);
         let Some(Wish::Act(action)) = self.wish.take() else {
             unreachable!()
         };
@@ -271,14 +271,14 @@ impl Task {
     pub fn is_stalled(&self) -> bool
         ensures { result ≡ records.is_stall (records.last_item self.now.items.items) }
     {
-        ends_with_stall(self.items.as_slice())
+        ends_with_stall(&self.items)
     }
 
     /// Whether the task's last item is a Beat or a Stall.
     pub fn is_pausing(&self) -> bool
         ensures { result ≡ ends.is_pause (records.last_item self.now.items.items) }
     {
-        ends_with_pause(self.items.as_slice())
+        ends_with_pause(&self.items)
     }
 
     /// Gives a task that stands at a Beat or a Stall its end: Halted, or at a Stall Deadlocked with what it wants.
@@ -301,7 +301,7 @@ impl Task {
         let Task { items, end, .. } = self;
         let Some(end) = end else { unreachable!() };
         Strand {
-            items: Listing::from_vec(items),
+            items: Items::from_chunks(items),
             ticks,
             end,
         }

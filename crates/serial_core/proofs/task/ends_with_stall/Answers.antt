@@ -4,7 +4,7 @@ use Rattle.upc_values.proofs.Records.{last-get}
 use Rattle.serial_core.proofs.task.ends_with_stall.Goals as goal
 
 pub returns-in-Some : goal.returns-in-Some
-returns-in-Some c = c.is_stall.ensures ∙ ap is_stall (c.in-Some.ensures.value ∙ last-get c.args.items.now)
+returns-in-Some c = c.is_stall.ensures ∙ ap is_stall (c.in-Some.ensures ∙ last-get c.args.items.now.items)
 
 pub returns-in-None : goal.returns-in-None
-returns-in-None c = ap is_stall (c.in-None.ensures.value ∙ last-get c.args.items.now)
+returns-in-None c = ap is_stall (c.in-None.ensures ∙ last-get c.args.items.now.items)

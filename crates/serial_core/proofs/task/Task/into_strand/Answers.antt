@@ -16,5 +16,5 @@ returns c = λ o p f seen h.
     c.ticks-ticks.ensures ended.asked p k.thread k.limits.budget (f k.thread) g.given g.follows.means g.follows.stands
     ∙ ended.counted in
     let S : List Item → ℕ → End → Strand = λ xs n z. record { items = xs; ticks = n; «end» = z } in
-    ap (λ xs. S xs c.ticks-ticks.result e) c.from_vec.ensures ∙ ap (λ n. S k.items.items n e) ticks
+    ap (λ xs. S xs c.ticks-ticks.result e) c.from_chunks.ensures ∙ ap (λ n. S k.items.items n e) ticks
     ∙ ap (λ z. S k.items.items (strand_ticks z k.items.items (outcome_of f k).ticks) z) (sym (ap end_or is))
