@@ -11,7 +11,7 @@ use Rattle.upc_values.specs.declared.record.End.{End}
 use Rattle.upc_values.specs.declared.journal.Entry.{Entry}
 use Rattle.upc_values.specs.Lists.{Each, Numbered}
 use Rattle.upc_values.specs.Records.{last_item, is_stall, is_beat, is_beat_item}
-use Rattle.upc_values.specs.Drain.{walked, entries_of}
+use Rattle.upc_values.specs.Drain.{entries_in, walked, entries_of}
 use Rattle.upc_values.specs.Openings.{Opening}
 use Rattle.upc_values.specs.Ends.{stops, is_pause}
 use Rattle.upc_values.proofs.Lists.{each-push}

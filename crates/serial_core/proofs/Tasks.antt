@@ -12,7 +12,7 @@ use Rattle.upc_values.specs.declared.record.ToldEnd.TheVariants as told
 use Rattle.upc_values.specs.declared.record.End.{End}
 use Rattle.upc_values.specs.declared.record.End.TheVariants as ends
 use Rattle.upc_values.specs.declared.journal.Entry.{Entry}
-use Rattle.upc_values.specs.Drain.{Walk, emptied, walked, gone, entry_of, entries_of}
+use Rattle.upc_values.specs.Drain.{entries_in, Walk, emptied, walked, gone, entry_of, entries_of}
 use Rattle.upc_values.specs.Openings.{Opening}
 use Rattle.upc_values.specs.History.{IsLegal}
 use Rattle.upc_values.specs.Formed.{IsWellFormed, AreWellFormed}
@@ -345,7 +345,7 @@ kept-ended o p f seen k e h opened can =
       ended = λ e' q.
           let same : e ≡ e' = cc in
           record {
-            empty = map-nil (committed t) k.buffer (hw.inside ∙ none);
+            empty = map-nil (committed t) k.buffer (hw.inside ∙ ap entries_in none);
             asked = is.0;
             own = subst (OwnEnd k.limits.actions (outcome_of f k).«end» items) same is.1;
             counted = is.2 ∙ ap (λ z. strand_ticks z items (outcome_of f k).ticks) same;
