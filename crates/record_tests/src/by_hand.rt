@@ -113,6 +113,7 @@ pub fn same_entry(a: &Entry, b: &Entry) -> bool
 fn are_entries_of(thread: u32, history: &Entries, entries: &Entries) -> bool
     ensures { IsTrue result → drains.entries_of thread history.now ≡ entries.now }
 {
+    let count = entries.len();
     let mut next = 0usize;
     for entry in history.iter() {
         if entry.thread == thread {
@@ -122,7 +123,7 @@ fn are_entries_of(thread: u32, history: &Entries, entries: &Entries) -> bool
             }
         }
     }
-    next == entries.len()
+    next == count
 }
 
 // Whether the history takes the thread's items as its write buffer drains.
