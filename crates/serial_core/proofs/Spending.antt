@@ -1,8 +1,7 @@
 -- In a sound journal a strand that ends by its budget has had it.
-use Rattle.std.proofs.Common.{◌≡◌, ℕ, ◌<◌, List, subst, sym, ap, ◌∙◌, slice_index_or}
+use Rattle.std.proofs.Common.{◌≡◌, ℕ, ◌<◌, List, subst, ap, ◌∙◌, slice_index_or}
 use Rattle.upc_values.specs.declared.action.Reply.{Reply}
 use Rattle.upc_values.specs.declared.record.End.TheVariants.{Budget}
-use Rattle.upc_values.specs.declared.record.ToldEnd.TheVariants.{OutOfTicks}
 use Rattle.upc_values.specs.declared.journal.Journal.{Journal}
 use Rattle.upc_values.specs.declared.journal.Strand.{Strand}
 use Rattle.upc_values.specs.Records.{replies_of}

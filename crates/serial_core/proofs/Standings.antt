@@ -1,6 +1,6 @@
 -- How threads stand: what a step, a part in a round and a pick make of it.
-use Rattle.std.proofs.Common.{◌≡◌, ◌≢◌, ℕ, ◌+◌, ◌<◌, ◌≤◌, ◌%◌, nat_lt, arith, Bool, true, false, cond, List, [], ◌∷◌, ◌++◌, map, take, length, Option, Some, None, is_some, refl, sym, ap, subst, ◌∙◌, append-nil, append_assoc, inl, inr, get_or}
-use Rattle.std.specs.Prelude.{not, count_by}
+use Rattle.std.proofs.Common.{◌≡◌, ◌≢◌, ℕ, ◌+◌, ◌<◌, ◌≤◌, ◌%◌, nat_lt, arith, true, false, cond, List, [], ◌∷◌, ◌++◌, map, take, length, Option, Some, None, is_some, refl, sym, ap, subst, ◌∙◌, append-nil, append_assoc, inl, inr, get_or}
+use Rattle.std.specs.Prelude.{count_by}
 use Rattle.std.proofs.lemmas.Bool.{cases_Bool, false≢true, cond-false, ltb-true, ltb-false}
 use Rattle.std.proofs.lemmas.List.Folds.{fold-map}
 use Rattle.std.proofs.lemmas.List.{length-map, get_or-map, take-map, take_more, get_or_past}
@@ -10,7 +10,7 @@ use Rattle.upc_values.specs.declared.record.Item.TheVariants.{Did, Stall}
 use Rattle.upc_values.specs.declared.record.End.{End}
 use Rattle.upc_values.specs.declared.journal.Entry.{Entry}
 use Rattle.upc_values.specs.Lists.{Each, Numbered}
-use Rattle.upc_values.specs.Records.{last_item, is_stall, is_beat, is_beat_item}
+use Rattle.upc_values.specs.Records.{last_item, is_stall, is_beat_item}
 use Rattle.upc_values.specs.Drain.{entries_in, walked, entries_of}
 use Rattle.upc_values.specs.Openings.{Opening}
 use Rattle.upc_values.specs.Ends.{stops, is_pause}
@@ -25,7 +25,7 @@ use Rattle.serial_core.specs.declared.task.Pause.TheVariants as pauses
 use Rattle.serial_core.specs.Sources.{Outcomes}
 use Rattle.serial_core.specs.Kept.{settled, IsPausing, Paused, Adds, Leaves, Waits, is_given, end_or, strand_of}
 use Rattle.serial_core.specs.Course.{Standing, Moment, goes_on, rests, IsQuiet, IsStopped, Grows, IsDrained, IsLater, Steps, Obeys, AreObeyed, TakesPart, ToRest, EachGoes, IsStrandOf, AreOf, IsOutset}
-use Rattle.serial_core.specs.Runs.{IsAt, IsRunning, IsIdle, AreSame, IsOpenAt, OthersStay, IsChosen, open_among, is_open, Rested, Stops, StopsAt, NoneStops, Wanting, AreEach, halted, halted_end, locked, locked_end, standing_of, moment_of, GoesAt}
+use Rattle.serial_core.specs.Runs.{IsAt, IsRunning, IsIdle, AreSame, OthersStay, IsChosen, open_among, Rested, StopsAt, NoneStops, Wanting, AreEach, halted, halted_end, locked, locked_end, standing_of, moment_of, GoesAt}
 use Rattle.serial_core.proofs.Lists.{numbered-map, some-of}
 use Rattle.serial_core.proofs.Options.{none-some, none-is}
 

@@ -5,7 +5,7 @@ use Rattle.serial_core.specs.declared.task.Task.{Task}
 use Rattle.serial_core.specs.Course.{ToRest}
 use Rattle.serial_core.specs.Runs.{Rested, GoesAt, standing_of}
 use Rattle.serial_core.proofs.Running.{same-trans, same-refl}
-use Rattle.serial_core.proofs.Standings.{grows-refl, rested-rests, stopped-of, stays-stopped, grows-trans, each-of, later-of}
+use Rattle.serial_core.proofs.Standings.{grows-refl, stopped-of, stays-stopped, grows-trans, each-of, later-of}
 use Rattle.serial_core.proofs.run.finish_all.Goals as goal
 
 pub loop-at-init : goal.loop-at-init

@@ -1,4 +1,3 @@
-use Rattle.std.proofs.Common.{◌≡◌}
 use Rattle.serial_core.proofs.Standings.{obeys-of}
 use Rattle.serial_core.proofs.run.obey.Goals as goal
 

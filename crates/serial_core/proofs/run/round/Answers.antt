@@ -1,7 +1,5 @@
 use Rattle.std.proofs.Common.{◌<◌, refl, sym, subst, ◌∙◌}
 use Rattle.std.specs.Prelude.{slice_index_or}
-use Rattle.upc_values.specs.declared.record.Item.{Item}
-use Rattle.serial_core.specs.declared.task.Pause.TheVariants as pauses
 use Rattle.serial_core.specs.Kept.{Paused, Adds}
 use Rattle.serial_core.proofs.Options.{none-some}
 use Rattle.serial_core.proofs.Running.{same-trans, same-refl}
