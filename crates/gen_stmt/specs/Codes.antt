@@ -154,7 +154,7 @@ module _ (ς : Source) where
   guard_size strict Everyone m = m
   guard_size strict (AtValue e) m = 1 + length (value_code ς strict e) + 1 + 1 + 1 + m + 1
 
-  -- ---- how many instructions statements have
+  -- ---- how many instructions statements have.
   abbrev mutual
     pub size : Standing → Statement → ℕ
     size κ (Stands at kind) = kind_size κ at kind
@@ -225,7 +225,7 @@ module _ (ς : Source) where
   before_default κ (AndDefault more) = 0
   before_default κ (AndSwitchStatement s more) = size κ s + before_default κ more
 
-  -- ---- statements, by what they stand in and their ways out
+  -- ---- statements, by what they stand in and their ways out.
   abbrev mutual
     pub statement_code : Standing → Ways → Statement → List Instr
     statement_code κ ω (Stands at kind) = kind_code κ ω at kind

@@ -35,7 +35,7 @@ use Rattle.serial_core.specs.declared.task.Pause.{Pause}
 use Rattle.serial_core.specs.declared.task.Pause.TheVariants as pauses
 use Rattle.serial_core.specs.Sources.{Outcomes, IsSource, Follows}
 
--- what a run may be limited to: 1 to 32 threads, up to 10^12 ticks, and 8,388,608 items over all threads
+-- What a run may be limited to: 1 to 32 threads, up to 10^12 ticks, and 8,388,608 items over all threads.
 pub record AreLimits (l : Limits) : Type 0 where
   pub some : 1 ≤ l.threads
   pub threads : l.threads ≤ 32
@@ -44,18 +44,18 @@ pub record AreLimits (l : Limits) : Type 0 where
   pub items : 1 ≤ l.actions
   pub all : l.threads * l.actions ≤ 8388608
 
--- how an action goes by the write buffer
+-- How an action goes by the write buffer.
 abbrev pub way_of : Action → Way
 way_of (Write l v false) = Stores l v
 way_of (Read l false) = Looks l
 way_of (Print x) = Passes
 way_of a = Empties
 
--- the pending writes may be asked for after the entries seen
+-- The pending writes may be asked for after the entries seen.
 abbrev pub AreFormed : Opening → List Entry → List Pending → Type 0
 AreFormed o seen ps = Each (λ p. IsWellFormed o seen (Write p.loc p.value false)) ps
 
--- t's entries among those seen, its buffer and the number of its next action are those of the walk
+-- t's entries among those seen, its buffer and the number of its next action are those of the walk.
 pub record Holds (o : Opening) (t : ℕ) (seen : List Entry) (pending : List Pending) (next : ℕ) (w : Walk) : Type 0 where
   pub out : entries_of t seen ≡ entries_in w.emitted
   pub inside : map (committed t) pending ≡ entries_in w.pending
@@ -64,31 +64,31 @@ pub record Holds (o : Opening) (t : ℕ) (seen : List Entry) (pending : List Pen
   pub agrees : w.agrees ≡ true
   pub formed : AreFormed o seen pending
 
--- all entries are t's
+-- All entries are t's.
 abbrev pub AllOf : ℕ → List Entry → Type 0
 AllOf t es = Each (λ e. e.thread ≡ t) es
 
--- the history grew by entries of t alone
+-- The history grew by entries of t alone.
 pub record Grew (t : ℕ) (old new : List Entry) : Type 0 where
   pub more : List Entry
   pub is : new ≡ old ++ more
   pub all_own : AllOf t more
 
--- the buffer and the history after an action with this answer, where the walk had come to w
+-- The buffer and the history after an action with this answer, where the walk had come to w.
 abbrev pub Emitted : Opening → ℕ → List Entry → List Pending → ℕ → Action → Option Reply → Walk → Type 0
 Emitted o t seen pending next a None w = Holds o t seen pending next (emptied w)
 Emitted o t seen pending next a (Some r) w = Holds o t seen pending (next + 1) (gone (entry_of t next a r) a w)
 
--- what an answer says of itself: a reply fits and is known, and with none the action may wait and is not legal now
+-- What an answer says of itself: a reply fits and is known, and with none the action may wait and is not legal now.
 abbrev pub IsAnswer : Opening → ℕ → List Entry → Action → Option Reply → Type 0
 IsAnswer o t seen a None = (may_wait a ≡ true) × (reply o seen t a ≡ None)
 IsAnswer o t seen a (Some r) = (fits_after o seen a r ≡ true) × (gives_known o seen r ≡ true)
 
--- what the task's source comes to on the replies of the record, where these are the threads' outcomes
+-- What the task's source comes to on the replies of the record, where these are the threads' outcomes.
 abbrev pub outcome_of : Outcomes → Task → Outcome
 outcome_of f k = f k.thread (replies_of k.items.items)
 
--- a record that may stand in a strand of t, after the entries seen, where its source has the outcome
+-- A record that may stand in a strand of t, after the entries seen, where its source has the outcome.
 pub record IsRecord (o : Opening) (t actions : ℕ) (seen : List Entry) (outcome : Outcome) (items : List Item)
     : Type 0 where
   pub did : outcome.actions ≡ actions_of items
@@ -97,7 +97,7 @@ pub record IsRecord (o : Opening) (t actions : ℕ) (seen : List Entry) (outcome
   pub short : length items ≤ actions
   pub known : AreKnown o seen (replies_of items)
 
--- what the machine, and the reply that it has not taken yet, are to the record of a thread with these outcomes
+-- What the machine, and the reply that it has not taken yet, are to the record of a thread with these outcomes.
 pub record Goes (p : Codes) (outcome : List Reply → Outcome) (t b : ℕ) (machine : Seen) (answer : Option Reply)
     (wish : Option Wish) (items : List Item) : Type 0 where
   pub given : List Reply
@@ -111,7 +111,7 @@ pub record Goes (p : Codes) (outcome : List Reply → Outcome) (t b : ℕ) (mach
       → (outcome given).ticks ≡ 1024 * beats (actions_of items)
   pub asked : ((items ≡ []) × (wish ≡ None)) ⊎ HasAsked machine
 
--- a task has its end: its buffer is empty, the end is one that the outcome allows, and the ticks are those of a strand
+-- A task has its end: its buffer is empty, the end is one that the outcome allows, and the ticks are those of a strand.
 pub record HasEnd (actions ticks : ℕ) (pending : List Pending) (machine : Seen) (outcome : Outcome)
     (items : List Item) (e : End) : Type 0 where
   pub empty : pending ≡ []
@@ -119,13 +119,13 @@ pub record HasEnd (actions ticks : ℕ) (pending : List Pending) (machine : Seen
   pub own : OwnEnd actions outcome.«end» items e
   pub counted : ticks ≡ strand_ticks e items outcome.ticks
 
--- at its end a thread has emptied its buffer
+-- At its end a thread has emptied its buffer.
 abbrev pub settled : Option End → Walk → Walk
 settled None w = w
 settled (Some e) w = emptied w
 
--- what a task of the program p keeps between two calls, where these are the threads' outcomes and the entries seen have
--- all its own
+-- What a task of the program p keeps between two calls, where these are the threads' outcomes and the entries seen have
+-- all its own.
 pub record IsKept (o : Opening) (p : Codes) (f : Outcomes) (seen : List Entry) (k : Task) : Type 0 where
   pub source : IsSource o k.limits.budget (f k.thread)
   pub within : k.thread < o.threads
@@ -137,45 +137,45 @@ pub record IsKept (o : Opening) (p : Codes) (f : Outcomes) (seen : List Entry) (
   pub ended : (e : End) → k.«end» ≡ Some e
       → HasEnd k.limits.actions (f k.thread goes.given).ticks k.buffer k.machine (outcome_of f k) k.items.items e
 
--- whatever its source, a task that was kept over the one world is kept over the other
+-- Whatever its source, a task that was kept over the one world is kept over the other.
 abbrev pub Keeps : Opening × List Entry → Task → Opening × List Entry → Task → Type 0
 Keeps w k x m = (p : Codes) (f : Outcomes) → IsKept w.0 p f w.1 k → IsKept x.0 p f x.1 m
 
--- over the same entries a task of the program p stays kept
+-- Over the same entries a task of the program p stays kept.
 abbrev pub StaysKept : Codes → Task → Task → Type 0
 StaysKept p k m = (f : Outcomes) (o : Opening) (seen : List Entry) → IsKept o p f seen k → IsKept o p f seen m
 
--- the same thread and limits
+-- The same thread and limits.
 pub record IsSame (k m : Task) : Type 0 where
   pub thread : m.thread ≡ k.thread
   pub limits : m.limits ≡ k.limits
 
--- the task stands at a Beat whose answer its machine has not taken, or at a Stall
+-- The task stands at a Beat whose answer its machine has not taken, or at a Stall.
 abbrev pub IsPausing : Task → Type 0
 IsPausing k =
     ((is_beat_item (last_item k.items.items) ≡ true) × (k.wish ≡ None))
     ⊎ ((is_stall (last_item k.items.items) ≡ true) × (is_some k.wish ≡ true))
 
--- an end that a task is given, and does not come to by itself
+-- An end that a task is given, and does not come to by itself.
 abbrev pub is_given : End → Bool
 is_given ends.Halted = true
 is_given (ends.Deadlocked a) = true
 is_given e = false
 
--- how a task stands after a step with this pause
+-- How a task stands after a step with this pause.
 abbrev pub Paused : Pause → Task → Type 0
 Paused pauses.Going k = k.«end» ≡ None
 Paused pauses.Beat k = (k.«end» ≡ None) × IsPausing k
 Paused pauses.Stalled k = (k.«end» ≡ None) × IsPausing k
 Paused pauses.Finished k = (e : End) × (k.«end» ≡ Some e) × (is_given e ≡ false)
 
--- the task may be given this end
+-- The task may be given this end.
 abbrev pub CanEnd : Task → End → Type 0
 CanEnd k ends.Halted = IsPausing k
 CanEnd k (ends.Deadlocked a) = (k.wish ≡ Some (Act a)) × (is_stall (last_item k.items.items) ≡ true)
 CanEnd k e = ⊥
 
--- the end that a wish is, or that comes where the record is full
+-- The end that a wish is, or that comes where the record is full.
 abbrev pub own_end : Wish → Bool → Option End
 own_end (Act a) full = cond full (Some ends.ActionsFull) None
 own_end (Ended v) full = Some (ends.Ended v)
@@ -183,7 +183,7 @@ own_end (Exit v) full = Some (ends.Exit v)
 own_end (Fault c p) full = Some (ends.Fault c p)
 own_end Budget full = Some ends.Budget
 
--- what a record gained in a step with this pause, where the task had this wish
+-- What a record gained in a step with this pause, where the task had this wish.
 abbrev pub Adds : Pause → Option Wish → List Item → List Item → Type 0
 Adds pauses.Going wish xs ys =
     (a : Action) × (r : Reply) × (is_beat a ≡ false) × (wish ≡ Some (Act a)) × (ys ≡ xs ++ Did a r ∷ [])
@@ -192,13 +192,13 @@ Adds pauses.Beat wish xs ys =
 Adds pauses.Stalled wish xs ys = (ys ≡ xs) ⊎ (ys ≡ xs ++ Stall ∷ [])
 Adds pauses.Finished wish xs ys = ys ≡ xs
 
--- what a step with this pause leaves of the wish: none after an action, else the same
+-- What a step with this pause leaves of the wish: none after an action, else the same.
 abbrev pub Leaves : Pause → Option Wish → Option Wish → Type 0
 Leaves pauses.Going wish left = left ≡ None
 Leaves pauses.Beat wish left = left ≡ None
 Leaves p wish left = left ≡ wish
 
--- a task that stalled wants what is not legal now
+-- A task that stalled wants what is not legal now.
 abbrev pub Waits : Pause → Opening → List Entry → Task → Type 0
 Waits pauses.Stalled o seen k =
     (a : Action) × (k.wish ≡ Some (Act a)) × (is_stall (last_item k.items.items) ≡ true)
@@ -209,7 +209,7 @@ abbrev pub end_or : Option End → End
 end_or (Some e) = e
 end_or None = ends.Halted
 
--- the strand of a task that has its end
+-- The strand of a task that has its end.
 abbrev pub strand_of : Outcomes → Task → Strand
 strand_of f k = record {
   items = k.items.items;

@@ -113,7 +113,7 @@ module _ (ρ : Running) where
     end_call
     give v
 
-  -- main, and the barrier after it (UPC 6.6.1). It gives what main gives, an int.
+  -- Main, and the barrier after it (UPC 6.6.1). It gives what main gives, an int.
   abbrev pub main_on : Option Function → Doing ℤ
   main_on main = do
     v ← main_called main

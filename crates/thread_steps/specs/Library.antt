@@ -78,7 +78,7 @@ module _ (τ : Thread) where
   unfoldable pub library : LibraryCall → (shape : ℕ) → Place → List Value → Doing Value
   library call shape at args = choose (is_exit call) (exit τ (first_number args)) (formed_call call shape at args)
 
-  -- printf: one Print; it gives the number of bytes (C99 7.19.6.3).
+  -- Printf: one Print; it gives the number of bytes (C99 7.19.6.3).
   unfoldable pub print : (format : List ℕ) → List Value → Doing Value
   print format args = do
     let text = printed format (map number_of args)

@@ -14,11 +14,11 @@ use Rattle.typing_rules.specs.declared.format.FormatStep.{FormatStep}
 use Rattle.typing_rules.specs.declared.format.FormatStep.TheVariants.{Stops, Goes, Prints}
 use Rattle.typing_rules.specs.Values.{base_kind}
 
--- d i u x c
+-- d i u x c.
 abbrev pub is_conversion : ℕ → Bool
 is_conversion b = b == 100 || (b == 105 || (b == 117 || (b == 120 || b == 99)))
 
--- d u x
+-- d u x.
 abbrev pub is_long_conversion : ℕ → Bool
 is_long_conversion b = b == 100 || (b == 117 || b == 120)
 

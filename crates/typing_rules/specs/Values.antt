@@ -79,7 +79,7 @@ base_is_nested b = false
 abbrev pub is_nested : CType → Bool
 is_nested t = base_is_nested (base_of t)
 
--- void, or a lock itself.
+-- Void, or a lock itself.
 abbrev pub is_no_object : Base → Bool
 is_no_object b = same.is_void b || is_lock_object b
 

@@ -6,41 +6,41 @@ use Rattle.upc_lexer.specs.declared.gaps.Gap.TheVariants.{Taken, Unclosed, Absen
 use Rattle.std.specs.List.{list_all}
 use Rattle.upc_lexer.specs.Bytes.{is_blank, is_in_line}
 
--- the bytes, if any, begin with one that fails the test
+-- The bytes, if any, begin with one that fails the test.
 abbrev pub StopsAt : (ℕ → Bool) → List ℕ → Type 0
 StopsAt p [] = Unit {0}
 StopsAt p (b ∷ bs) = p b ≡ false
 
--- `*/` stands somewhere in the bytes
+-- `*/` stands somewhere in the bytes.
 pub record Closes (bytes : List ℕ) : Type 0 where
   pub before : List ℕ
   pub after : List ℕ
   pub found : bytes ≡ before ++ codes "*/" ++ after
 
--- one blank; a comment from `//` to the end of its line; or one from `/*` to the first `*/`
+-- One blank; a comment from `//` to the end of its line; or one from `/*` to the first `*/`.
 pub data IsGap (text rest : List ℕ) : Type 0 where
   blank : (b : ℕ) → text ≡ b ∷ [] → is_blank b ≡ true → IsGap text rest
   line : (body : List ℕ) → text ≡ codes "//" ++ body → list_all is_in_line body ≡ true → StopsAt is_in_line rest
       → IsGap text rest
   block : (body : List ℕ) → text ≡ codes "/*" ++ body ++ codes "*/" → (Closes (body ++ codes "*") → ⊥) → IsGap text rest
 
--- a comment begins here
+-- A comment begins here.
 abbrev pub opens_comment : List ℕ → Bool
 opens_comment [] = false
 opens_comment (a ∷ []) = false
 opens_comment (a ∷ b ∷ rest) = a == 47 && (b == 47 || b == 42)
 
--- no blank and no whole comment begins here
+-- No blank and no whole comment begins here.
 abbrev pub NoGap : List ℕ → Type 0
 NoGap bytes = (text rest : List ℕ) → bytes ≡ text ++ rest → IsGap text rest → ⊥
 
--- what the code finds at the front of the bytes
+-- What the code finds at the front of the bytes.
 abbrev pub FindsGap : List ℕ → Gap → Type 0
 FindsGap bytes (Taken n) = (0 < n) × (n ≤ length bytes) × IsGap (take n bytes) (drop n bytes)
 FindsGap bytes Unclosed = (opens_comment bytes ≡ true) × NoGap bytes
 FindsGap bytes Absent = (opens_comment bytes ≡ false) × NoGap bytes
 
--- the bytes are the rest of a comment, up to the first `*/`
+-- The bytes are the rest of a comment, up to the first `*/`.
 pub record IsCommentEnd (bytes : List ℕ) : Type 0 where
   pub body : List ℕ
   pub ended : bytes ≡ body ++ codes "*/"

@@ -6,11 +6,11 @@ use Rattle.std.specs.Cmp.Lexicographic.{pointwise}
 abbrev pub is_same : List ℕ → List ℕ → Bool
 is_same a b = pointwise nat_eq a b
 
--- each of them once, in order of first appearance
+-- Each of them once, in order of first appearance.
 abbrev pub firsts : List (List ℕ) → List (List ℕ)
 firsts [] = []
 firsts (x ∷ xs) = x ∷ filter (λ y. not (is_same x y)) (firsts xs)
 
--- the names with one more, where it is new
+-- The names with one more, where it is new.
 abbrev pub insert_name : List (List ℕ) → List ℕ → List (List ℕ)
 insert_name names x = if list_any (is_same x) names then names else names ++ x ∷ []

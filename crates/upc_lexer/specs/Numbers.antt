@@ -28,18 +28,18 @@ is_digit_in Hexadecimal b = is_digit b || (nat_le 97 b && nat_le b 102) || (nat_
 abbrev pub digit_value : ℕ → ℕ
 digit_value b = if is_digit b then b - 48 else (if nat_le 97 b then b - 87 else b - 55)
 
--- the number that digits spell, the first the highest
+-- The number that digits spell, the first the highest.
 abbrev pub value_in : Base → List ℕ → ℕ
 value_in base digits = fold (λ value digit. value * radix base + digit_value digit) 0 digits
 
--- a decimal constant begins with a digit other than 0, an octal one with 0, and a hexadecimal one has a digit
+-- A decimal constant begins with a digit other than 0, an octal one with 0, and a hexadecimal one has a digit.
 abbrev pub begins : Base → List ℕ → Bool
 begins base [] = false
 begins Decimal (b ∷ bs) = if b == 48 then false else true
 begins Octal (b ∷ bs) = b == 48
 begins Hexadecimal (b ∷ bs) = true
 
--- what stands before the digits
+-- What stands before the digits.
 abbrev pub IsPrefix : Base → List ℕ → Type 0
 IsPrefix Hexadecimal prefix = (prefix ≡ codes "0x") ⊎ (prefix ≡ codes "0X")
 IsPrefix base prefix = prefix ≡ []
@@ -50,14 +50,14 @@ is_u b = b == 117 || b == 85
 abbrev pub is_l : ℕ → Bool
 is_l b = b == 108 || b == 76
 
--- both small or both capital
+-- Both small or both capital.
 abbrev pub is_ll : ℕ → ℕ → Bool
 is_ll a b = (a == 108 && b == 108) || (a == 76 && b == 76)
 
 abbrev pub suffix : Bool → Bool → Suffix
 suffix unsigned long = record { unsigned = unsigned; long = long }
 
--- `u`, and `l` or `ll`, in either order, each at most once
+-- `u`, and `l` or `ll`, in either order, each at most once.
 abbrev pub suffix_of : List ℕ → Option Suffix
 suffix_of [] = Some (suffix false false)
 suffix_of (a ∷ []) = if is_u a then Some (suffix true false) else (if is_l a then Some (suffix false true) else None)
@@ -68,7 +68,7 @@ suffix_of (a ∷ b ∷ []) =
 suffix_of (a ∷ b ∷ c ∷ []) = if (is_u a && is_ll b c) || (is_ll a b && is_u c) then Some (suffix true true) else None
 suffix_of more = None
 
--- the text is a constant with these digits in this base, and with this suffix
+-- The text is a constant with these digits in this base, and with this suffix.
 pub record IsConstant (text : List ℕ) (base : Base) (digits : List ℕ) (suffix : Suffix) : Type 0 where
   pub prefix : List ℕ
   pub tail : List ℕ
@@ -94,7 +94,7 @@ abbrev pub NumbersFit : List Token → Type 0
 NumbersFit [] = Unit {0}
 NumbersFit (t ∷ ts) = NumberFits t.kind × NumbersFit ts
 
--- the types that a constant may have, in the order in which they are tried
+-- The types that a constant may have, in the order in which they are tried.
 abbrev pub kinds_by : Base → Bool → Bool → List NumberKind
 kinds_by Decimal false false = Int ∷ Long ∷ []
 kinds_by base false false = Int ∷ UInt ∷ Long ∷ ULong ∷ []
@@ -106,11 +106,11 @@ kinds_by base true true = ULong ∷ []
 abbrev pub kinds : Base → Suffix → List NumberKind
 kinds base suffix = kinds_by base suffix.unsigned suffix.long
 
--- the first of the types that has the value
+-- The first of the types that has the value.
 abbrev pub kind_of : Base → Suffix → ℕ → Option NumberKind
 kind_of base suffix value = find (λ kind. nat_le value (greatest kind)) (kinds base suffix)
 
--- the text is a constant of this value and type
+-- The text is a constant of this value and type.
 pub record IsNumber (text : List ℕ) (value : ℕ) (kind : NumberKind) : Type 0 where
   pub base : Base
   pub digits : List ℕ
@@ -119,7 +119,7 @@ pub record IsNumber (text : List ℕ) (value : ℕ) (kind : NumberKind) : Type 0
   pub value_is : value ≡ value_in base digits
   pub kind_is : kind_of base suffix value ≡ Some kind
 
--- the text is a constant for whose value there is no type
+-- The text is a constant for whose value there is no type.
 pub record HasNoType (text : List ℕ) : Type 0 where
   pub base : Base
   pub digits : List ℕ
@@ -127,11 +127,11 @@ pub record HasNoType (text : List ℕ) : Type 0 where
   pub constant : IsConstant text base digits suffix
   pub no_kind : kind_of base suffix (value_in base digits) ≡ None
 
--- the text is no constant
+-- The text is no constant.
 abbrev pub IsNoConstant : List ℕ → Type 0
 IsNoConstant text = (base : Base) (digits : List ℕ) (suffix : Suffix) → IsConstant text base digits suffix → ⊥
 
--- why the text is no number of this language
+-- Why the text is no number of this language.
 abbrev pub RefusesNumber : List ℕ → Code → Type 0
 RefusesNumber text Lex = IsNoConstant text
 RefusesNumber text (Limit n) = (n ≡ 2) × HasNoType text

@@ -19,23 +19,23 @@ use Rattle.upc_lexer.specs.Strings.{IsCharacter, IsString}
 use Rattle.upc_lexer.specs.Places.{place_after}
 use Rattle.upc_lexer.specs.Names.{firsts}
 
--- a letter or `_`, then letters, digits and `_` (C99 6.4.2.1); words too
+-- A letter or `_`, then letters, digits and `_` (C99 6.4.2.1); words too.
 abbrev pub is_name : List ℕ → Bool
 is_name [] = false
 is_name (b ∷ bs) = is_letter b && list_all is_name_byte bs
 
--- a digit, or `.` and a digit
+-- A digit, or `.` and a digit.
 abbrev pub begins_number : List ℕ → Bool
 begins_number [] = false
 begins_number (a ∷ []) = is_digit a
 begins_number (a ∷ b ∷ rest) = is_digit a || (a == 46 && is_digit b)
 
--- such a beginning, then digits, letters, `_` and `.` (C99 6.4.8, without signs); whether it is a constant is asked
--- later
+-- Such a beginning, then digits, letters, `_` and `.` (C99 6.4.8, without signs); whether it is a constant is asked
+-- later.
 abbrev pub is_number : List ℕ → Bool
 is_number text = begins_number text && list_all is_number_byte text
 
--- the text is a token
+-- The text is a token.
 pub data IsToken (text : List ℕ) : Type 0 where
   name : is_name text ≡ true → IsToken text
   number : is_number text ≡ true → IsToken text
@@ -43,22 +43,22 @@ pub data IsToken (text : List ℕ) : Type 0 where
   string : (value : List ℕ) → IsString text value → IsToken text
   mark : (m : AMark) → text ≡ mark_bytes m → IsToken text
 
--- it is one, and no longer front of the same bytes is one
+-- It is one, and no longer front of the same bytes is one.
 pub record IsLongest (text rest : List ℕ) : Type 0 where
   pub spelled : IsToken text
   pub most : (more after : List ℕ) → rest ≡ more ++ after → 0 < length more → IsToken (text ++ more) → ⊥
 
--- the token at the front of these bytes: the longest there, where no comment begins
+-- The token at the front of these bytes: the longest there, where no comment begins.
 pub record IsLexeme (text rest : List ℕ) : Type 0 where
   pub no_comment : opens_comment (text ++ rest) ≡ false
   pub longest : IsLongest text rest
 
--- the text is a name and no word
+-- The text is a name and no word.
 pub record IsPlainName (text : List ℕ) : Type 0 where
   pub is_spelled : is_name text ≡ true
   pub no_word : (w : AWord) → text ≡ word_bytes w → ⊥
 
--- what the kind carries is what the text spells; a name by its number among the names
+-- What the kind carries is what the text spells; a name by its number among the names.
 abbrev pub Spells : List (List ℕ) → TokenKind → List ℕ → Type 0
 Spells names (Name n) text = IsPlainName text × (length text ≤ 255) × (slice_get names n ≡ Some text)
 Spells names (Word w) text = text ≡ word_bytes w
@@ -68,7 +68,7 @@ Spells names (Str value) text = IsString text value × (length value ≤ 4095)
 Spells names (Punct m) text = text ≡ mark_bytes m
 Spells names (Pragma strict) text = ⊥
 
--- a source is made of blanks and comments, and of tokens
+-- A source is made of blanks and comments, and of tokens.
 pub data Piece : Type 0 where
   gap : List ℕ → Piece
   lexeme : List ℕ → TokenKind → Piece
@@ -77,18 +77,18 @@ abbrev pub text_of : Piece → List ℕ
 text_of (gap text) = text
 text_of (lexeme text kind) = text
 
--- the bytes of the pieces, one behind the other
+-- The bytes of the pieces, one behind the other.
 abbrev pub joined : List Piece → List ℕ
 joined [] = []
 joined (p ∷ ps) = text_of p ++ joined ps
 
--- the names among the pieces
+-- The names among the pieces.
 abbrev pub names_in : List Piece → List (List ℕ)
 names_in [] = []
 names_in (lexeme text (Name n) ∷ ps) = text ∷ names_in ps
 names_in (p ∷ ps) = names_in ps
 
--- a token that begins behind these bytes
+-- A token that begins behind these bytes.
 abbrev pub token_at : List ℕ → List ℕ → TokenKind → Token
 token_at front text kind = record {
   kind = kind;
@@ -97,23 +97,23 @@ token_at front text kind = record {
   place = place_after front;
 }
 
--- the tokens of the pieces, which begin behind these bytes
+-- The tokens of the pieces, which begin behind these bytes.
 abbrev pub tokens_in : List ℕ → List Piece → List Token
 tokens_in front [] = []
 tokens_in front (gap text ∷ ps) = tokens_in (front ++ text) ps
 tokens_in front (lexeme text kind ∷ ps) = token_at front text kind ∷ tokens_in (front ++ text) ps
 
--- with these bytes behind it the piece is what stands at its place
+-- With these bytes behind it the piece is what stands at its place.
 abbrev pub IsPiece : List (List ℕ) → Piece → List ℕ → Type 0
 IsPiece names (gap text) rest = IsGap text rest
 IsPiece names (lexeme text kind) rest = IsLexeme text rest × Spells names kind text
 
--- so is each of the pieces, with these bytes behind them
+-- So is each of the pieces, with these bytes behind them.
 abbrev pub Cuts : List (List ℕ) → List Piece → List ℕ → Type 0
 Cuts names [] rest = Unit {0}
 Cuts names (p ∷ ps) rest = IsPiece names p (joined ps ++ rest) × Cuts names ps rest
 
--- the source is cut into pieces with these tokens and these names
+-- The source is cut into pieces with these tokens and these names.
 pub record AreTokensOf (source : List ℕ) (tokens : List Token) (names : List (List ℕ)) : Type 0 where
   pub pieces : List Piece
   pub source_is : joined pieces ≡ source
@@ -121,12 +121,12 @@ pub record AreTokensOf (source : List ℕ) (tokens : List Token) (names : List (
   pub tokens_are : tokens ≡ tokens_in [] pieces
   pub names_are : names ≡ firsts (names_in pieces)
 
--- no token is at the front of the bytes
+-- No token is at the front of the bytes.
 abbrev pub NoLexeme : List ℕ → Type 0
 NoLexeme bytes = (text rest : List ℕ) → bytes ≡ text ++ rest → IsLexeme text rest → ⊥
 
--- why nothing goes on at these bytes: no token, blank or comment begins, a number is no constant or has no type,
--- a name has more than 255 bytes, or the value of a string more than 4,095
+-- Why nothing goes on at these bytes: no token, blank or comment begins, a number is no constant or has no type,
+-- a name has more than 255 bytes, or the value of a string more than 4,095.
 pub data Refuses (bytes : List ℕ) (code : Code) : Type 0 where
   nothing : code ≡ Lex → bytes ≢ [] → NoGap bytes → NoLexeme bytes → Refuses bytes code
   no_constant : (text rest : List ℕ) → code ≡ Lex → bytes ≡ text ++ rest → IsLexeme text rest → is_number text ≡ true
@@ -138,7 +138,7 @@ pub data Refuses (bytes : List ℕ) (code : Code) : Type 0 where
   long_string : (text rest value : List ℕ) → code ≡ Limit 6 → bytes ≡ text ++ rest → IsLexeme text rest
       → IsString text value → 4095 < length value → Refuses bytes code
 
--- the front of the source is cut into pieces, and behind it the source is refused
+-- The front of the source is cut into pieces, and behind it the source is refused.
 pub record RefusedAt (source : List ℕ) (refusal : Refusal) : Type 0 where
   pub names : List (List ℕ)
   pub pieces : List Piece

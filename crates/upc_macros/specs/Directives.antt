@@ -9,7 +9,7 @@ use Rattle.upc_lexer.specs.declared.token.Punct.TheVariants.{LParen}
 use Rattle.upc_macros.specs.Spelling.{between, is_spelled, are_alike, last_end}
 use Rattle.upc_macros.specs.Replacing.{Macros, name_number}
 
--- what a directive does
+-- What a directive does.
 pub data Effect : Type 0 where
   nothing : Effect
   -- it is a pragma, strict or relaxed
@@ -19,7 +19,7 @@ pub data Effect : Type 0 where
   -- the name of this number is no macro any more
   undefine : ℕ → Effect
 
--- the headers that may be included
+-- The headers that may be included.
 abbrev pub header_effect : List ℕ → Option Effect
 header_effect text =
     if pointwise nat_eq text (codes "<upc_strict.h>") then Some (pragma true) else (
@@ -28,12 +28,12 @@ header_effect text =
     || pointwise nat_eq text (codes "<stdio.h>") || pointwise nat_eq text (codes "<stddef.h>")
     then Some nothing else None))
 
--- `#include <H>`: all that stands behind `include`, from its first byte to its last, is the header
+-- `#include <H>`: all that stands behind `include`, from its first byte to its last, is the header.
 abbrev pub include_effect : List ℕ → List Token → Option Effect
 include_effect source [] = None
 include_effect source (t ∷ ts) = header_effect (between source t.start (last_end t ts))
 
--- the name that a directive speaks of: no word, and not `NULL`
+-- The name that a directive speaks of: no word, and not `NULL`.
 abbrev pub macro_name : List ℕ → Token → Option ℕ
 macro_name source t = if is_spelled source t (codes "NULL") then None else name_number t.kind
 
@@ -41,12 +41,12 @@ abbrev pub is_left_paren : TokenKind → Bool
 is_left_paren (Punct LParen) = true
 is_left_paren kind = false
 
--- a `(` directly behind the name would be the beginning of parameters
+-- A `(` directly behind the name would be the beginning of parameters.
 abbrev pub has_parameters : Token → List Token → Bool
 has_parameters name [] = false
 has_parameters name (t ∷ ts) = is_left_paren t.kind && t.start == name.end
 
--- a first definition, or one whose tokens are spelled as those of the macro that is there
+-- A first definition, or one whose tokens are spelled as those of the macro that is there.
 abbrev pub define_name : List ℕ → Option (List Token) → ℕ → List Token → Option Effect
 define_name source None n body = Some (define n body)
 define_name source (Some old) n body = if are_alike source old body then Some nothing else None
@@ -55,7 +55,7 @@ abbrev pub define_number : List ℕ → Macros → Option ℕ → List Token →
 define_number source macros None body = None
 define_number source macros (Some n) body = define_name source (slice_index_or macros n None) n body
 
--- `#define NAME tokens`
+-- `#define NAME tokens`.
 abbrev pub define_effect : List ℕ → Macros → List Token → Option Effect
 define_effect source macros [] = None
 define_effect source macros (name ∷ body) =
@@ -63,13 +63,13 @@ define_effect source macros (name ∷ body) =
     then None
     else define_number source macros (macro_name source name) body
 
--- `#undef NAME`
+-- `#undef NAME`.
 abbrev pub undefine_effect : List ℕ → List Token → Option Effect
 undefine_effect source [] = None
 undefine_effect source (name ∷ []) = option_map undefine (macro_name source name)
 undefine_effect source (name ∷ t ∷ ts) = None
 
--- what stands behind `#pragma upc`
+-- What stands behind `#pragma upc`.
 abbrev pub access_effect : List ℕ → List Token → Option Effect
 access_effect source [] = None
 access_effect source (t ∷ []) =
@@ -78,12 +78,12 @@ access_effect source (t ∷ []) =
     else (if is_spelled source t (codes "relaxed") then Some (pragma false) else None)
 access_effect source (t ∷ u ∷ us) = None
 
--- `#pragma upc strict`, `#pragma upc relaxed`, or a pragma that is not of UPC
+-- `#pragma upc strict`, `#pragma upc relaxed`, or a pragma that is not of UPC.
 abbrev pub pragma_effect : List ℕ → List Token → Option Effect
 pragma_effect source [] = None
 pragma_effect source (t ∷ ts) = if is_spelled source t (codes "upc") then access_effect source ts else Some nothing
 
--- what the tokens behind a `#` do; none where they are no directive
+-- What the tokens behind a `#` do; none where they are no directive.
 abbrev pub effect_of : List ℕ → Macros → List Token → Option Effect
 effect_of source macros [] = Some nothing
 effect_of source macros (t ∷ ts) =

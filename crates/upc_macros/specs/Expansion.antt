@@ -19,13 +19,13 @@ use Rattle.upc_macros.specs.Replacing.{Macros, replaced, placed}
 use Rattle.upc_macros.specs.Directives.{Effect, pragma, define, undefine, effect_of}
 use Rattle.std.specs.Option.{option_or}
 
--- a token put before lines: into the first if it is of that line, else a line of its own
+-- A token put before lines: into the first if it is of that line, else a line of its own.
 abbrev pub onto : Token → List (List Token) → List (List Token)
 onto t [] = (t ∷ []) ∷ []
 onto t ([] ∷ lines) = (t ∷ []) ∷ lines
 onto t ((u ∷ us) ∷ lines) = if t.place.line == u.place.line then (t ∷ u ∷ us) ∷ lines else (t ∷ []) ∷ (u ∷ us) ∷ lines
 
--- the tokens of each line that has some
+-- The tokens of each line that has some.
 abbrev pub lines_of : List Token → List (List Token)
 lines_of [] = []
 lines_of (t ∷ ts) = onto t (lines_of ts)
@@ -34,12 +34,12 @@ abbrev pub is_hash : TokenKind → Bool
 is_hash (kind.Punct Hash) = true
 is_hash k = false
 
--- a token of the expansion, or a `#` where no directive may stand or that makes none
+-- A token of the expansion, or a `#` where no directive may stand or that makes none.
 pub data Item : Type 0 where
   given : Token → Item
   bad : Place → Item
 
--- what a token in a line of text becomes
+-- What a token in a line of text becomes.
 abbrev pub token_items : List ℕ → Macros → Token → List Item
 token_items source macros t =
     if is_hash t.kind then bad t.place ∷ []
@@ -49,7 +49,7 @@ abbrev pub text_items : List ℕ → Macros → List Token → List Item
 text_items source macros [] = []
 text_items source macros (t ∷ ts) = token_items source macros t ++ text_items source macros ts
 
--- a pragma token has the place and the beginning of its `#`, and the end of its line's last token
+-- A pragma token has the place and the beginning of its `#`, and the end of its line's last token.
 abbrev pub pragma_token : Token → List Token → Bool → Token
 pragma_token hash ts strict = record {
   kind = kind.Pragma strict;
@@ -68,7 +68,7 @@ macros_after macros (Some (define n body)) = slice_set macros n (Some body)
 macros_after macros (Some (undefine n)) = slice_set macros n None
 macros_after macros effect = macros
 
--- what the lines become, one after another
+-- What the lines become, one after another.
 abbrev pub items : List ℕ → Macros → List (List Token) → List Item
 items source macros [] = []
 items source macros ([] ∷ lines) = items source macros lines
@@ -77,11 +77,11 @@ items source macros ((t ∷ ts) ∷ lines) =
     ++ items source (macros_after macros (effect_of source macros ts)) lines
     else text_items source macros (t ∷ ts) ++ items source macros lines
 
--- at first no name is a macro
+-- At first no name is a macro.
 abbrev pub expansion : List ℕ → List Token → ℕ → List Item
 expansion source tokens names = items source (replicate names None) (lines_of tokens)
 
--- the words that this profile refuses, by number
+-- The words that this profile refuses, by number.
 abbrev pub profile_of : Word → Option ℕ
 profile_of Auto = Some 1
 profile_of Double = Some 2
@@ -104,7 +104,7 @@ abbrev pub refused_word : TokenKind → Option ℕ
 refused_word (kind.Word w) = profile_of w
 refused_word k = None
 
--- why a token may not stand behind so many others
+-- Why a token may not stand behind so many others.
 abbrev pub word_refusal : Place → Option ℕ → ℕ → Option Refusal
 word_refusal place (Some n) before = Some (record { place = place; code = Profile n })
 word_refusal place None before = if nat_le 1048576 before then Some (record { place = place; code = Limit 1 }) else None
@@ -112,18 +112,18 @@ word_refusal place None before = if nat_le 1048576 before then Some (record { pl
 abbrev pub token_refusal : ℕ → Token → Option Refusal
 token_refusal before t = word_refusal t.place (refused_word t.kind) before
 
--- the first refusal among items that stand behind so many tokens: a bad `#`, a refused word, or one token too many
+-- The first refusal among items that stand behind so many tokens: a bad `#`, a refused word, or one token too many.
 abbrev pub first_refusal : ℕ → List Item → Option Refusal
 first_refusal before [] = None
 first_refusal before (bad place ∷ rest) = Some (record { place = place; code = Directive })
 first_refusal before (given t ∷ rest) = option_or (token_refusal before t) (first_refusal (1 + before) rest)
 
--- the tokens are the whole expansion, and none of them is refused
+-- The tokens are the whole expansion, and none of them is refused.
 pub record IsExpansion (source : List ℕ) (tokens : List Token) (names : ℕ) (out : List Token) : Type 0 where
   pub items_are : expansion source tokens names ≡ map given out
   pub passes : first_refusal 0 (expansion source tokens names) ≡ None
 
--- the expansion is refused there, or there was no memory
+-- The expansion is refused there, or there was no memory.
 abbrev pub StopsExpansion : List ℕ → List Token → ℕ → Stop → Type 0
 StopsExpansion source tokens names (Refused refusal) = first_refusal 0 (expansion source tokens names) ≡ Some refusal
 StopsExpansion source tokens names Memory = Unit {0}

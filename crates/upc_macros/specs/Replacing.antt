@@ -8,7 +8,7 @@ use Rattle.upc_lexer.specs.declared.token.NumberKind.TheVariants.{Int}
 use Rattle.upc_text.specs.declared.place.Place.{Place}
 use Rattle.upc_macros.specs.Spelling.{is_spelled}
 
--- by the number of each name, the tokens that its macro stands for, if it is one
+-- By the number of each name, the tokens that its macro stands for, if it is one.
 abbrev pub Macros : Type 0
 Macros = List (Option (List Token))
 
@@ -19,12 +19,12 @@ name_number kind = None
 abbrev pub body_of : Macros → Token → Option (List Token)
 body_of macros t = option_and_then (λ n. slice_index_or macros n None) (name_number t.kind)
 
--- the macros but that of this token
+-- The macros but that of this token.
 abbrev pub without : Macros → TokenKind → Macros
 without macros (Name n) = slice_set macros n None
 without macros kind = macros
 
--- what is no macro stays, but for `NULL`, which is a macro for `0`
+-- What is no macro stays, but for `NULL`, which is a macro for `0`.
 abbrev pub plain : List ℕ → Token → Token
 plain source t = if is_spelled source t (codes "NULL") then record t { kind = Number 0 Int } else t
 
@@ -32,18 +32,18 @@ abbrev pub or_replaced : Option (List Token) → Token → (Token → List Token
 or_replaced None t replace = t ∷ []
 or_replaced (Some body) t replace = flat_map replace body
 
--- the tokens in the place of a token: those that its macro stands for, each replaced in turn, where in its own
+-- The tokens in the place of a token: those that its macro stands for, each replaced in turn, where in its own
 -- replacement a macro is none. So no more macros lie in one another than there are, and their number bounds the depth.
 abbrev pub replaced : ℕ → List ℕ → Macros → Token → List Token
 replaced zero source macros t = plain source t ∷ []
 replaced (suc depth) source macros t = or_replaced (body_of macros t) (plain source t)
     (replaced depth source (without macros t.kind))
 
--- the place of a token that comes from a macro is that of the macro's use
+-- The place of a token that comes from a macro is that of the macro's use.
 abbrev pub placed : Place → Token → Token
 placed place t = record t { place = place }
 
--- how many names are macros
+-- How many names are macros.
 abbrev pub defined_count : Macros → ℕ
 defined_count [] = 0
 defined_count (None ∷ macros) = defined_count macros

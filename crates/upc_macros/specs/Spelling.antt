@@ -3,7 +3,7 @@ use Rattle.std.specs.Prelude.{ℕ, ◌-◌, Bool, List, [], ◌∷◌, take, dro
 use Rattle.std.specs.Cmp.Lexicographic.{pointwise}
 use Rattle.upc_lexer.specs.declared.token.Token.{Token}
 
--- the bytes of the source from one place up to another
+-- The bytes of the source from one place up to another.
 abbrev pub between : List ℕ → ℕ → ℕ → List ℕ
 between source start end = take (end - start) (drop start source)
 
@@ -13,11 +13,11 @@ spelling source t = between source t.start t.end
 abbrev pub is_spelled : List ℕ → Token → List ℕ → Bool
 is_spelled source t text = pointwise nat_eq (spelling source t) text
 
--- two lists of tokens are spelled alike, one by one
+-- Two lists of tokens are spelled alike, one by one.
 abbrev pub are_alike : List ℕ → List Token → List Token → Bool
 are_alike source xs ys = pointwise (λ x y. pointwise nat_eq (spelling source x) (spelling source y)) xs ys
 
--- where the last of some tokens ends, the first of which is given
+-- Where the last of some tokens ends, the first of which is given.
 abbrev pub last_end : Token → List Token → ℕ
 last_end t [] = t.end
 last_end t (u ∷ us) = last_end u us

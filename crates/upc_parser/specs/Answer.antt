@@ -15,12 +15,12 @@ use Rattle.token_reader.specs.declared.cursor.Fault.TheVariants.{NoTree, TooHigh
 use Rattle.token_reader.specs.Outcome.{Outcome}
 use Rattle.statement_parser.specs.Parse.{unit_at}
 
--- fewer tokens than the limit are never too high
+-- Fewer tokens than the limit are never too high.
 abbrev pub settled_fault : ℕ → Fault → Fault
 settled_fault len NoTree = NoTree
 settled_fault len TooHigh = if nat_lt len 256 then NoTree else TooHigh
 
--- a tree is an answer where no token is left
+-- A tree is an answer where no token is left.
 abbrev pub settle : {A : Type 0} → ℕ → Outcome A → Result A Fault
 settle len (Ok (u, [])) = Ok u
 settle len (Ok (u, x ∷ rest)) = Err NoTree
@@ -33,22 +33,22 @@ abbrev pub code_of : Fault → Code
 code_of NoTree = c.Syntax
 code_of TooHigh = c.Limit 3
 
--- the place of one of the tokens
+-- The place of one of the tokens.
 abbrev pub Among : List Token → Place → Type 0
 Among [] place = ⊥
 Among (x ∷ more) place = (place ≡ x.place) ⊎ Among more place
 
--- the place of one of the tokens, or 1:1 where there is none
+-- The place of one of the tokens, or 1:1 where there is none.
 abbrev pub HasPlace : List Token → Place → Type 0
 HasPlace [] place = place ≡ record { line = 1; column = 1 }
 HasPlace (x ∷ more) place = Among (x ∷ more) place
 
--- a refusal for this cause
+-- A refusal for this cause.
 pub record IsRefusal (tokens : List Token) (fault : Fault) (r : Refusal) : Type 0 where
   pub code : r.code ≡ code_of fault
   pub place : HasPlace tokens r.place
 
--- the parser's end by what it answers, unless memory runs out
+-- The parser's end by what it answers, unless memory runs out.
 abbrev pub Ends : List Token → Result u.Unit Stop → Result (List External) Fault → Type 0
 Ends tokens (Ok x) o = o ≡ Ok (view_unit x)
 Ends tokens (Err s.Memory) o = Unit {0}
@@ -56,19 +56,19 @@ Ends tokens (Err (s.Refused r)) o = (f : Fault) × (o ≡ Err f) × IsRefusal to
 
 -- ---- what `parse` promises
 
--- this tree is the answer, unless memory runs out
+-- This tree is the answer, unless memory runs out.
 abbrev pub Answers : List External → Result u.Unit Stop → Type 0
 Answers u (Ok x) = view_unit x ≡ u
 Answers u (Err s.Memory) = Unit {0}
 Answers u (Err (s.Refused r)) = ⊥
 
--- the tokens are refused by this rule
+-- The tokens are refused by this rule.
 abbrev pub RefusedBy : Code → Result u.Unit Stop → Type 0
 RefusedBy code (Ok x) = ⊥
 RefusedBy code (Err s.Memory) = ⊥
 RefusedBy code (Err (s.Refused r)) = r.code ≡ code
 
--- a refusal is that of the syntax or that of the height, at a token, or at 1:1 where there is none
+-- A refusal is that of the syntax or that of the height, at a token, or at 1:1 where there is none.
 abbrev pub OnlyRefused : List Token → Result u.Unit Stop → Type 0
 OnlyRefused tokens (Ok x) = Unit {0}
 OnlyRefused tokens (Err s.Memory) = Unit {0}

@@ -10,27 +10,27 @@ use Rattle.upc_tree.specs.Expression.{spell_next_exprs, spell_specs, spell_decla
 use Rattle.upc_tree.specs.Expression.{height_specs, height_declarator}
 use Rattle.upc_tree.specs.Proper.{level, IsSome, Proper, ProperNextExprs, ProperSpecs, ProperDeclarator}
 
--- an initialiser (C99 6.7.8)
+-- An initialiser (C99 6.7.8).
 pub data Initial : Type 0 where
   NoInitial : Initial
   ValueInitial : (equal : Span) (value : Expr) → Initial
   ListInitial : (equal left : Span) (first : Expr) (more : NextExprs) (right : Span) → Initial
 
--- a declarator with its initial value
+-- A declarator with its initial value.
 pub data Declared : Type 0 where
   DeclaredAs : (declarator : Declarator) (initial : Initial) → Declared
 
--- further parts of a declaration, each behind its comma
+-- Further parts of a declaration, each behind its comma.
 pub data NextDeclareds : Type 0 where
   NoNextDeclareds : NextDeclareds
   AndDeclared : (comma : Span) (declared : Declared) (more : NextDeclareds) → NextDeclareds
 
--- what a declaration declares
+-- What a declaration declares.
 pub data DeclaredList : Type 0 where
   NoneDeclared : DeclaredList
   SomeDeclared : (first : Declared) (more : NextDeclareds) → DeclaredList
 
--- a declaration (C99 6.7)
+-- A declaration (C99 6.7).
 pub data Declaration : Type 0 where
   Declares : (specs : Specs) (declared : DeclaredList) (semicolon : Span) → Declaration
 
@@ -100,7 +100,7 @@ ProperDeclaredList (SomeDeclared first more) = ProperDeclared first × ProperNex
 abbrev pub ProperDeclaration : Declaration → Type 0
 ProperDeclaration (Declares specs declared semicolon) = IsSome specs × ProperSpecs specs × ProperDeclaredList declared
 
--- whether a specifier is `static`
+-- Whether a specifier is `static`.
 abbrev pub is_static : Spec → Bool
 is_static (WordSpec t.Static span) = true
 is_static _ = false
@@ -109,6 +109,6 @@ abbrev pub NoStatic : Specs → Type 0
 NoStatic NoSpecs = Unit {0}
 NoStatic (AndSpec spec more) = (is_static spec ≡ false) × NoStatic more
 
--- a declaration of block scope is not `static`
+-- A declaration of block scope is not `static`.
 abbrev pub IsLocal : Declaration → Type 0
 IsLocal (Declares specs declared semicolon) = NoStatic specs

@@ -23,7 +23,7 @@ use Rattle.upc_tree.specs.Marks.{constant_word, type_word}
 use Rattle.upc_tree.specs.Tokens.{token, punct, word, name_token, string_token, spell_strings}
 
 mutual
-  -- an expression (C99 6.5)
+  -- An expression (C99 6.5).
   pub data Expr : Type 0 where
     Named : (name : Name) → Expr
     Number : (value : ℕ) (kind : NumberKind) (span : Span) → Expr
@@ -44,26 +44,26 @@ mutual
     Conditional : (test : Expr) (question : Span) (chosen : Expr) (colon : Span) (other : Expr) → Expr
     Comma : (first : Expr) (more : NextExprs) → Expr
 
-  -- the arguments of a call, up to the parenthesis behind them (C99 6.5.2.2)
+  -- The arguments of a call, up to the parenthesis behind them (C99 6.5.2.2).
   pub data Arguments : Type 0 where
     NoArguments : (right : Span) → Arguments
     SomeArguments : (first : Expr) (more : NextExprs) (right : Span) → Arguments
 
-  -- further expressions, each behind its comma
+  -- Further expressions, each behind its comma.
   pub data NextExprs : Type 0 where
     NoNextExprs : NextExprs
     AndExpr : (comma : Span) (value : Expr) (more : NextExprs) → NextExprs
 
-  -- a type name (C99 6.7.6), in the operand of a size operator with sizes
+  -- A type name (C99 6.7.6), in the operand of a size operator with sizes.
   pub data TypeName : Type 0 where
     Typed : (specs : Specs) (pointers : Pointers) (sizes : Dimensions) → TypeName
 
-  -- specifiers and qualifiers (C99 6.7)
+  -- Specifiers and qualifiers (C99 6.7).
   pub data Specs : Type 0 where
     NoSpecs : Specs
     AndSpec : (spec : Spec) (more : Specs) → Specs
 
-  -- a specifier or a qualifier (C99 6.7.1 to 6.7.3)
+  -- A specifier or a qualifier (C99 6.7.1 to 6.7.3).
   pub data Spec : Type 0 where
     WordSpec : (word : TypeWord) (span : Span) → Spec
     QualSpec : (qual : Qual) → Spec
@@ -74,47 +74,47 @@ mutual
     NoQuals : Quals
     AndQual : (qual : Qual) (more : Quals) → Quals
 
-  -- a qualifier (C99 6.7.3, UPC 6.5.1)
+  -- A qualifier (C99 6.7.3, UPC 6.5.1).
   pub data Qual : Type 0 where
     Const : (word : Span) → Qual
     Strict : (word : Span) → Qual
     Relaxed : (word : Span) → Qual
     Shared : (word : Span) (layout : Layout) → Qual
 
-  -- a layout qualifier (UPC 6.5.1.1)
+  -- A layout qualifier (UPC 6.5.1.1).
   pub data Layout : Type 0 where
     NoLayout : Layout
     IndefiniteLayout : (left right : Span) → Layout
     StarLayout : (left star right : Span) → Layout
     BlockLayout : (left : Span) (size : Expr) (right : Span) → Layout
 
-  -- stars, each with its qualifiers (C99 6.7.5.1)
+  -- Stars, each with its qualifiers (C99 6.7.5.1).
   pub data Pointers : Type 0 where
     NoPointers : Pointers
     AndPointer : (star : Span) (quals : Quals) (more : Pointers) → Pointers
 
-  -- sizes in brackets (C99 6.7.5.2)
+  -- Sizes in brackets (C99 6.7.5.2).
   pub data Dimensions : Type 0 where
     NoDimensions : Dimensions
     AndDimension : (left : Span) (size : Expr) (right : Span) (more : Dimensions) → Dimensions
 
-  -- the members of a struct, line by line (C99 6.7.2.1)
+  -- The members of a struct, line by line (C99 6.7.2.1).
   pub data Members : Type 0 where
     NoMembers : Members
     AndMember : (specs : Specs) (first : Declarator) (next : NextDeclarators) (semicolon : Span) (more : Members)
         → Members
 
-  -- further declarators of a line, each behind its comma
+  -- Further declarators of a line, each behind its comma.
   pub data NextDeclarators : Type 0 where
     NoNextDeclarators : NextDeclarators
     AndDeclarator : (comma : Span) (declarator : Declarator) (more : NextDeclarators) → NextDeclarators
 
-  -- a declarator (C99 6.7.5)
+  -- A declarator (C99 6.7.5).
   pub data Declarator : Type 0 where
     ObjectDeclarator : (pointers : Pointers) (name : Name) (sizes : Dimensions) → Declarator
     FunctionDeclarator : (pointers : Pointers) (name : Name) (parameters : Parameters) → Declarator
 
-  -- the parameters of a function, in their parentheses (C99 6.7.5.3)
+  -- The parameters of a function, in their parentheses (C99 6.7.5.3).
   pub data Parameters : Type 0 where
     NoParameters : (left right : Span) → Parameters
     VoidParameters : (left word right : Span) → Parameters
@@ -123,12 +123,12 @@ mutual
   pub data Parameter : Type 0 where
     Parametric : (specs : Specs) (pointers : Pointers) (name : Option Name) (array : ParameterArray) → Parameter
 
-  -- further parameters, each behind its comma
+  -- Further parameters, each behind its comma.
   pub data NextParameters : Type 0 where
     NoNextParameters : NextParameters
     AndParameter : (comma : Span) (parameter : Parameter) (more : NextParameters) → NextParameters
 
-  -- the brackets of a parameter
+  -- The brackets of a parameter.
   pub data ParameterArray : Type 0 where
     NoArray : ParameterArray
     UnsizedArray : (left right : Span) → ParameterArray

@@ -17,7 +17,7 @@ use Rattle.upc_tree.specs.Expression.{NoParameters, VoidParameters, SomeParamete
 use Rattle.upc_tree.specs.Expression.{NextParameters, NoNextParameters, AndParameter, ParameterArray, NoArray}
 use Rattle.upc_tree.specs.Expression.{UnsizedArray, SizedArray}
 
--- how tightly an expression is joined (C99 6.5)
+-- How tightly an expression is joined (C99 6.5).
 abbrev pub level : Expr → ℕ
 level (Comma first more) = 0
 level (Assign a mark at b) = 1
@@ -38,12 +38,12 @@ level (Call callee left arguments) = 15
 level (MemberOf base mark at member) = 15
 level (Postfix base mark at) = 15
 
--- there is a further expression
+-- There is a further expression.
 abbrev pub IsMore : NextExprs → Type 0
 IsMore NoNextExprs = ⊥
 IsMore (AndExpr comma value more) = Unit {0}
 
--- there is a specifier
+-- There is a specifier.
 abbrev pub IsSome : Specs → Type 0
 IsSome NoSpecs = ⊥
 IsSome (AndSpec spec more) = Unit {0}
@@ -71,7 +71,7 @@ abbrev pub open_pointers : Bool → Pointers → Bool
 open_pointers before NoPointers = before
 open_pointers before (AndPointer star quals more) = open_pointers (open_quals false quals) more
 
--- the brackets behind a type are no layout
+-- The brackets behind a type are no layout.
 abbrev pub KeepsSizes : Bool → Dimensions → Type 0
 KeepsSizes takes NoDimensions = Unit {0}
 KeepsSizes takes (AndDimension left size right more) = takes ≡ false
@@ -81,16 +81,16 @@ KeepsArray takes name NoArray = Unit {0}
 KeepsArray takes (Some name) _ = Unit {0}
 KeepsArray takes None _ = takes ≡ false
 
--- there are no brackets
+-- There are no brackets.
 abbrev pub IsEmpty : Dimensions → Type 0
 IsEmpty NoDimensions = Unit {0}
 IsEmpty (AndDimension left size right more) = ⊥
 
--- the target of a cast has no sizes
+-- The target of a cast has no sizes.
 abbrev pub IsUnsized : TypeName → Type 0
 IsUnsized (Typed _ _ sizes) = IsEmpty sizes
 
--- `(void)` is the empty list of parameters (C99 6.7.5.3)
+-- `(void)` is the empty list of parameters (C99 6.7.5.3).
 abbrev pub is_void : Parameter → NextParameters → Bool
 is_void (Parametric (AndSpec (WordSpec t.Void span) NoSpecs) NoPointers None NoArray) NoNextParameters = true
 is_void _ _ = false

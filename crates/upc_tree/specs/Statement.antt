@@ -12,33 +12,33 @@ use Rattle.upc_tree.specs.Expression.{Expr, spell, height}
 use Rattle.upc_tree.specs.Proper.{level, Proper}
 use Rattle.upc_tree.specs.Declaration.{Declaration, spell_declaration, height_declaration, ProperDeclaration, IsLocal}
 
--- an expression in the parentheses of a statement
+-- An expression in the parentheses of a statement.
 pub data Test : Type 0 where
   Tests : (left : Span) (value : Expr) (right : Span) → Test
 
--- what a loop does first, with its semicolon
+-- What a loop does first, with its semicolon.
 pub data First : Type 0 where
   FirstValue : (value : Option Expr) (semicolon : Span) → First
   FirstDeclaration : (declaration : Declaration) → First
 
--- the affinity of a `upc_forall` (UPC 6.6.2)
+-- The affinity of a `upc_forall` (UPC 6.6.2).
 pub data Affinity : Type 0 where
   NoAffinity : Affinity
   ContinueAffinity : (word : Span) → Affinity
   ValueAffinity : (value : Expr) → Affinity
 
--- the parentheses of a `for` (C99 6.8.5.3)
+-- The parentheses of a `for` (C99 6.8.5.3).
 pub data ForHead : Type 0 where
   ForParts : (left : Span) (first : First) (test : Option Expr) (test_end : Span) (step : Option Expr)
       (right : Span) → ForHead
 
--- the parentheses of a `upc_forall` (UPC 6.6.2)
+-- The parentheses of a `upc_forall` (UPC 6.6.2).
 pub data ForallHead : Type 0 where
   ForallParts : (left : Span) (first : First) (test : Option Expr) (test_end : Span) (step : Option Expr)
       (step_end : Span) (affinity : Affinity) (right : Span) → ForallHead
 
 mutual
-  -- a statement (C99 6.8, UPC 6.6)
+  -- A statement (C99 6.8, UPC 6.6).
   pub data Statement : Type 0 where
     Block : (compound : Compound) → Statement
     Value : (value : Option Expr) (semicolon : Span) → Statement
@@ -54,11 +54,11 @@ mutual
     Barrier : (kind : BarrierWord) (at : Span) (value : Option Expr) (semicolon : Span) → Statement
     Fence : (at semicolon : Span) → Statement
 
-  -- a compound statement, with the pragmas at its start (C99 6.8.2, UPC 6.7)
+  -- A compound statement, with the pragmas at its start (C99 6.8.2, UPC 6.7).
   pub data Compound : Type 0 where
     Braces : (left : Span) (pragmas : List Pragma) (items : BlockItems) (right : Span) → Compound
 
-  -- declarations and statements
+  -- Declarations and statements.
   pub data BlockItems : Type 0 where
     NoBlockItems : BlockItems
     AndBlockItem : (item : BlockItem) (more : BlockItems) → BlockItems
@@ -67,7 +67,7 @@ mutual
     DeclarationItem : (declaration : Declaration) → BlockItem
     StatementItem : (statement : Statement) → BlockItem
 
-  -- the body of a `switch`: labels and statements (C99 6.8.1, 6.8.4.2)
+  -- The body of a `switch`: labels and statements (C99 6.8.1, 6.8.4.2).
   pub data SwitchItems : Type 0 where
     NoSwitchItems : SwitchItems
     AndSwitchItem : (item : SwitchItem) (more : SwitchItems) → SwitchItems
@@ -77,12 +77,12 @@ mutual
     DefaultItem : (at colon : Span) → SwitchItem
     SwitchStatement : (statement : Statement) → SwitchItem
 
-  -- the further arms of an `if`
+  -- The further arms of an `if`.
   pub data ElseIfs : Type 0 where
     NoElseIfs : ElseIfs
     AndElseIf : (other at : Span) (test : Test) (body : Statement) (more : ElseIfs) → ElseIfs
 
-  -- the last part of an `if`
+  -- The last part of an `if`.
   pub data Otherwise : Type 0 where
     NoOtherwise : Otherwise
     Else : (at : Span) (body : Statement) → Otherwise
@@ -264,12 +264,12 @@ abbrev mutual
   takes_else_behind NoOtherwise = true
   takes_else_behind (Else at body) = takes_else body
 
--- whether a statement begins with `if`
+-- Whether a statement begins with `if`.
 abbrev pub is_if : Statement → Bool
 is_if (If at test body more last) = true
 is_if _ = false
 
--- no `else` follows, or it does not belong to the statement
+-- No `else` follows, or it does not belong to the statement.
 abbrev pub KeepsElse : Statement → ElseIfs → Otherwise → Type 0
 KeepsElse body (AndElseIf other at test next more) last = takes_else body ≡ false
 KeepsElse body NoElseIfs (Else at next) = takes_else body ≡ false

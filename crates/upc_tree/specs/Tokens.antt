@@ -10,7 +10,7 @@ use Rattle.upc_tree.specs.declared.span.Name.{Name}
 use Rattle.upc_tree.specs.declared.span.StringLiteral.{StringLiteral}
 use Rattle.upc_tree.specs.declared.span.Pragma.{Pragma}
 
--- a token of this kind at this place
+-- A token of this kind at this place.
 abbrev pub token : TokenKind → Span → Token
 token kind span = record { kind = kind; start = span.start; end = span.end; place = span.place }
 
@@ -29,12 +29,12 @@ string_token s = token (k.Str s.bytes) s.span
 abbrev pub pragma_token : Pragma → Token
 pragma_token p = token (k.Pragma p.strict) p.span
 
--- the tokens of the literals, and what follows them
+-- The tokens of the literals, and what follows them.
 abbrev pub spell_strings : List StringLiteral → List Token → List Token
 spell_strings [] rest = rest
 spell_strings (s ∷ more) rest = string_token s ∷ spell_strings more rest
 
--- the tokens of the pragmas, and what follows them
+-- The tokens of the pragmas, and what follows them.
 abbrev pub spell_pragmas : List Pragma → List Token → List Token
 spell_pragmas [] rest = rest
 spell_pragmas (p ∷ more) rest = pragma_token p ∷ spell_pragmas more rest

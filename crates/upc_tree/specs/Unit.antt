@@ -10,14 +10,14 @@ use Rattle.upc_tree.specs.Proper.{IsSome, ProperSpecs, ProperPointers, ProperPar
 use Rattle.upc_tree.specs.Declaration.{Declaration, spell_declaration, height_declaration, ProperDeclaration}
 use Rattle.upc_tree.specs.Statement.{Compound, spell_compound, height_compound, ProperCompound}
 
--- a part of a source (C99 6.9)
+-- A part of a source (C99 6.9).
 pub data External : Type 0 where
   PragmaPart : (pragma : Pragma) → External
   DeclarationPart : (declaration : Declaration) → External
   FunctionPart : (specs : Specs) (pointers : Pointers) (name : Name) (parameters : Parameters) (body : Compound)
       → External
 
--- the tokens of a tree, and what follows them
+-- The tokens of a tree, and what follows them.
 abbrev pub spell_external : External → List Token → List Token
 spell_external (PragmaPart pragma) rest = pragma_token pragma ∷ rest
 spell_external (DeclarationPart declaration) rest = spell_declaration declaration rest
@@ -29,7 +29,7 @@ abbrev pub spell_externals : List External → List Token → List Token
 spell_externals [] rest = rest
 spell_externals (part ∷ more) rest = spell_external part (spell_externals more rest)
 
--- a pragma is a token, and no node
+-- A pragma is a token, and no node.
 abbrev pub height_external : External → ℕ
 height_external (PragmaPart pragma) = 0
 height_external (DeclarationPart declaration) = height_declaration declaration
@@ -53,7 +53,7 @@ ProperExternals (part ∷ more) = ProperExternal part × ProperExternals more
 
 -- A tree of a source is the list of its parts.
 
--- there is a part (C99 6.9)
+-- There is a part (C99 6.9).
 abbrev pub IsFilled : List External → Type 0
 IsFilled [] = ⊥
 IsFilled (part ∷ more) = Unit {0}
@@ -61,11 +61,11 @@ IsFilled (part ∷ more) = Unit {0}
 abbrev pub ProperUnit : List External → Type 0
 ProperUnit u = IsFilled u × ProperExternals u
 
--- the list of the parts is one level
+-- The list of the parts is one level.
 abbrev pub height_unit : List External → ℕ
 height_unit u = height_externals u + 1
 
--- the tokens of a tree
+-- The tokens of a tree.
 abbrev pub tokens_of : List External → List Token
 tokens_of u = spell_externals u []
 
@@ -73,7 +73,7 @@ tokens_of u = spell_externals u []
 abbrev pub height_limit : ℕ
 height_limit = 256
 
--- a proper tree within the limit that has these tokens
+-- A proper tree within the limit that has these tokens.
 pub record IsTree (tokens : List Token) (u : List External) : Type 0 where
   pub proper : ProperUnit u
   pub low : height_unit u ≤ height_limit

@@ -7,7 +7,7 @@ use Rattle.upc_values.specs.declared.scalar.Scalar.TheVariants.{Int, Shared, Loc
 use Rattle.block_layout.specs.Lists.{under}
 use Rattle.integers.specs.Integers.{in_kind}
 
--- how blocks are copied (UPC 7.3)
+-- How blocks are copied (UPC 7.3).
 pub data Way : Type 0 where
   Broadcast : Way
   Scatter : Way
@@ -15,7 +15,7 @@ pub data Way : Type 0 where
   Gather_all : Way
   Exchange : Way
 
--- a collective call, with its arguments
+-- A collective call, with its arguments.
 pub data Call : Type 0 where
   -- 1: upc_all_alloc (UPC 7.2.2)
   Allocates : (nblocks nbytes shape : ℕ) → Call
@@ -36,24 +36,24 @@ pub data Call : Type 0 where
   -- no call of these
   Other : Call
 
--- a size_t
+-- A size_t.
 abbrev pub is_size : ℤ → Bool
 is_size v = in_kind kind.ULong v
 
--- an int
+-- An int.
 abbrev pub is_int : ℤ → Bool
 is_int v = in_kind kind.Int v
 
--- the way of copying, by number of call
+-- The way of copying, by number of call.
 abbrev pub way_of : ℕ → Option Way
 way_of c = under c ((5, Broadcast) ∷ (6, Scatter) ∷ (7, Gather) ∷ (8, Gather_all) ∷ (9, Exchange) ∷ [])
 
--- a call that copies in this way
+-- A call that copies in this way.
 abbrev pub copies : Option Way → SharedPtr → SharedPtr → ℕ → ℤ → Call
 copies (Some w) dst src n f = Copies w dst src n f
 copies None dst src n f = Other
 
--- the call with this number and these arguments, whose numbers are in their types' ranges
+-- The call with this number and these arguments, whose numbers are in their types' ranges.
 abbrev pub call_of : ℕ → List Scalar → Call
 call_of c (Int n ∷ Int b ∷ Int s ∷ []) =
     cond ((c == 1) && (is_size n && (is_size b && is_size s)))

@@ -13,49 +13,49 @@ use Rattle.upc_values.specs.History.{objects, IsLegal, EachBelow}
 use Rattle.upc_values.specs.Operations.{Place, Cell, Sync, Operation}
 use Rattle.upc_values.specs.Orders.{IsOf, StrictOrder, thread_order, is_shown, name_of, rank}
 
--- one place
+-- One place.
 abbrev pub same_place : Place → Place → Bool
 same_place (Cell l) (Cell k) = same_loc l k
 same_place Sync Sync = true
 same_place p q = false
 
--- the value of the last write among the operations on the place
+-- The value of the last write among the operations on the place.
 abbrev pub last_write : Place → List Operation → Option Scalar
 last_write p [] = None
 last_write p (o ∷ os) = or_else (last_write p os) (cond (o.write && same_place o.place p) (Some o.value) None)
 
--- what a place begins with; that of the implied accesses begins with 0
+-- What a place begins with; that of the implied accesses begins with 0.
 abbrev pub initial_at : (Loc → Scalar) → Place → Scalar
 initial_at initial (Cell l) = initial l
 initial_at initial Sync = zero
 
--- each read has the value of the last write before it on its place, or the initial value if there is none
+-- Each read has the value of the last write before it on its place, or the initial value if there is none.
 abbrev pub ReadsLastFrom : (Loc → Scalar) → List Operation → List Operation → Type 0
 ReadsLastFrom initial before [] = Unit {0}
 ReadsLastFrom initial before (o ∷ os) =
     (o.write ≡ false → o.value ≡ value_or (last_write o.place before) (initial_at initial o.place))
     × ReadsLastFrom initial (before ++ o ∷ []) os
 
--- so in a whole order
+-- So in a whole order.
 abbrev pub ReadsLast : (Loc → Scalar) → List Operation → Type 0
 ReadsLast initial order = ReadsLastFrom initial [] order
 
--- one of them is strict, or they are on one place and one is a write
+-- One of them is strict, or they are on one place and one is a write.
 abbrev pub conflict : Operation → Operation → Bool
 conflict a b = (a.strict || b.strict) || (same_place a.place b.place && (a.write || b.write))
 
--- two operations of thread t that conflict, of which a stands first, are in program order
+-- Two operations of thread t that conflict, of which a stands first, are in program order.
 abbrev pub KeepsProgram : ℕ → Operation → Operation → Type 0
 KeepsProgram t a b = a.thread ≡ t → b.thread ≡ t → conflict a b ≡ true → rank a < rank b
 
--- a list that has each operation of the set once, and no other
+-- A list that has each operation of the set once, and no other.
 pub record IsOrderOf (set : Operation → Type 0) (order : List Operation) : Type 0 where
   pub has : (o : Operation) → set o → Has order o
   pub only : (o : Operation) → Has order o → set o
   pub once : Pairwise (λ a b. name_of a ≢ name_of b) order
 
--- a strict order, and for each thread an order of its own operations, all writes and all strict reads, make the
--- operations UPC consistent (UPC Appendix B)
+-- A strict order, and for each thread an order of its own operations, all writes and all strict reads, make the
+-- operations UPC consistent (UPC Appendix B).
 pub record IsConsistent (initial : Loc → Scalar) (threads : ℕ) (set : Operation → Type 0)
     (strict : Operation → Operation → Type 0) (order : ℕ → List Operation) : Type 0 where
   -- the strict order is a strict partial order, and each thread's is a total order of that set
@@ -75,18 +75,18 @@ pub record IsConsistent (initial : Loc → Scalar) (threads : ℕ) (set : Operat
   -- no two operations stand the other way round than in the strict order
   pub agrees : (t : ℕ) → t < threads → Pairwise (λ a b. strict b a → ⊥) (order t)
 
--- the history takes each thread's items as its write buffer drains
+-- The history takes each thread's items as its write buffer drains.
 pub record FollowsBuffers (j : Journal) : Type 0 where
   pub many : length j.strands ≡ j.threads
   pub below : EachBelow j.threads j.history
   pub agrees : Numbered (λ t s. (walked t s.items).agrees ≡ true) j.strands
   pub drains : Numbered (λ t s. entries_of t j.history ≡ drain t s.items) j.strands
 
--- what a location begins with, in a run with this opening and history
+-- What a location begins with, in a run with this opening and history.
 abbrev pub begins : Opening → List Entry → Loc → Scalar
 begins o history l = value_or (initial_of o (objects o history) l) zero
 
--- the orders of a journal whose history takes the buffers' entries and is legal from the opening are consistent
+-- The orders of a journal whose history takes the buffers' entries and is legal from the opening are consistent.
 abbrev pub AreConsistent : Type 0
 AreConsistent =
     (j : Journal) (o : Opening) → FollowsBuffers j → IsLegal o j.history

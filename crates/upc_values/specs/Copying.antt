@@ -20,83 +20,83 @@ use Rattle.block_layout.specs.Cells.{same_cells}
 use Rattle.upc_values.specs.Views.{is_within, leaves_piece, cuts_cell, cells_within, shape_at}
 use Rattle.upc_values.specs.Views.{location_behind}
 
--- where a range of bytes begins: nowhere, in a shared object, or in a private one
+-- Where a range of bytes begins: nowhere, in a shared object, or in a private one.
 pub data Area : Type 0 where
   Nowhere : Area
   In_shared : (p : SharedPtr) → Area
   In_private : (object : ℕ) (offset : ℤ) → Area
 
--- a null pointer leads nowhere
+-- A null pointer leads nowhere.
 abbrev pub shared_area : SharedPtr → Area
 shared_area p = cond (is_null p) Nowhere (In_shared p)
 
--- a private pointer into shared space leads there
+-- A private pointer into shared space leads there.
 abbrev pub local_area : LocalPtr → Area
 local_area Null = Nowhere
 local_area (Private object offset) = In_private object offset
 local_area (Shared object thread offset) =
     In_shared (record { object = object; thread = thread; phase = 0; offset = offset })
 
--- nowhere
+-- Nowhere.
 abbrev pub is_nowhere : Area → Bool
 is_nowhere Nowhere = true
 is_nowhere a = false
 
--- the value whose every byte is c as unsigned char
+-- The value whose every byte is c as unsigned char.
 abbrev pub filled : ℕ → Kind → Scalar
 filled c k = Int (converted k (pos (c * ((256 ^ kind_size k - 1) / 255))))
 
 -- so many threads, the program's shapes, and the shape of the private object that the call names, if it has not ended
 module _ (threads : ℕ) (shapes : List Shape) (private : Option Shape) where
-  -- n bytes leave the piece of their thread
+  -- n bytes leave the piece of their thread.
   abbrev pub leaves_shared : ℕ → Area → Bool
   leaves_shared n (In_shared p) = leaves_piece threads n p
   leaves_shared n a = false
 
-  -- n bytes lie inside an object of this shape
+  -- n bytes lie inside an object of this shape.
   abbrev pub is_inside : Option Shape → ℤ → ℕ → Bool
   is_inside (Some s) offset n = is_within offset n s.size
   is_inside None offset n = false
 
-  -- n bytes leave the private object, or it has ended
+  -- n bytes leave the private object, or it has ended.
   abbrev pub leaves_private : ℕ → Area → Bool
   leaves_private n (In_private object offset) = not (is_inside private offset n)
   leaves_private n a = false
 
-  -- the shape whose cells lie there
+  -- The shape whose cells lie there.
   abbrev pub shape_in : Area → Option Shape
   shape_in Nowhere = None
   shape_in (In_shared p) = shape_at shapes p
   shape_in (In_private object offset) = private
 
-  -- the byte at which the area begins
+  -- The byte at which the area begins.
   abbrev pub first_byte : Area → ℕ
   first_byte Nowhere = 0
   first_byte (In_shared p) = unsigned_abs p.offset
   first_byte (In_private object offset) = unsigned_abs offset
 
-  -- a cell is cut at either end
+  -- A cell is cut at either end.
   abbrev pub is_cut : ℕ → Area → Bool
   is_cut n a = cuts_cell (shape_in a) (first_byte a) n
 
-  -- the cells in n bytes
+  -- The cells in n bytes.
   abbrev pub cells : ℕ → Area → List (ℕ × Kind)
   cells n a = cells_within (shape_in a) (first_byte a) n
 
-  -- the write of a cell, which begins so many bytes behind the beginning: relaxed in a shared object
+  -- The write of a cell, which begins so many bytes behind the beginning: relaxed in a shared object.
   abbrev pub written : Area → ℕ × Kind → Scalar → Expansion (Unit {0})
   written Nowhere c v = nothing
   written (In_shared p) c v = does (act.Write (location_behind p c.0) v false)
   written (In_private object offset) c v = Stores (Private object (offset +ℤ pos c.0)) c.1 v nothing
 
-  -- the read of a cell, and the write of its value
+  -- The read of a cell, and the write of its value.
   abbrev pub copied : Area → Area → ℕ × Kind → Expansion (Unit {0})
   copied dst Nowhere c = nothing
   copied dst (In_shared p) c = Reads (location_behind p c.0) c.1 (λ v. written dst c v)
   copied dst (In_private object offset) c = Loads (Private object (offset +ℤ pos c.0)) c.1 (λ v. written dst c v)
 
   -- upc_memcpy, upc_memget, upc_memput: the whole ranges are tested, then each cell is copied, ascending; no byte, and
-  -- nothing is looked at
+  -- nothing is looked at.
   abbrev pub copy : Area → Area → ℕ → Expansion (Unit {0})
   copy dst src n =
       cond (n == 0) nothing
@@ -108,7 +108,7 @@ module _ (threads : ℕ) (shapes : List Shape) (private : Option Shape) where
       ∷ [])
       (each_in_turn (copied dst src) (cells n dst)))
 
-  -- upc_memset: each cell gets the value whose every byte is c; a cell that holds a pointer is refused
+  -- upc_memset: each cell gets the value whose every byte is c; a cell that holds a pointer is refused.
   abbrev pub set : Area → ℕ → ℕ → Expansion (Unit {0})
   set dst c n =
       cond (n == 0) nothing

@@ -14,7 +14,7 @@ use Rattle.upc_values.specs.Records.{last_item, is_stall, is_beat_item}
 use Rattle.upc_values.specs.Openings.{Opening}
 use Rattle.upc_values.specs.History.{reply}
 
--- an end that ends the run
+-- An end that ends the run.
 abbrev pub stops : End → Bool
 stops (Fault c p) = true
 stops Budget = true
@@ -22,24 +22,24 @@ stops ActionsFull = true
 stops (Exit v) = true
 stops e = false
 
--- an end of a run in which no thread goes on
+-- An end of a run in which no thread goes on.
 abbrev pub settles : End → Bool
 settles (Ended v) = true
 settles (Deadlocked a) = true
 settles e = false
 
--- a thread rests at a Beat or at a Stall
+-- A thread rests at a Beat or at a Stall.
 abbrev pub is_pause : Option Item → Bool
 is_pause x = cond (is_stall x) true (is_beat_item x)
 
--- another strand's end ends the run
+-- Another strand's end ends the run.
 pub record AnotherStops (t : ℕ) (strands : List Strand) : Type 0 where
   pub other : ℕ
   pub differs : other ≢ t
   pub within : other < length strands
   pub stopped : (d : Strand) → stops (slice_index_or strands other d).«end» ≡ true
 
--- what the end of the source's outcome and the items say of a strand's end, where a record has at most `actions` items
+-- What the end of the source's outcome and the items say of a strand's end, where a record has at most `actions` items.
 abbrev pub OwnEnd : ℕ → ToldEnd → List Item → End → Type 0
 OwnEnd actions e items (Ended v) = e ≡ told.Ended v
 OwnEnd actions e items (Fault c p) = e ≡ told.Fault c p
@@ -49,14 +49,14 @@ OwnEnd actions e items ActionsFull = ((a : Action) × (e ≡ told.Wants a)) × (
 OwnEnd actions e items Halted = is_pause (last_item items) ≡ true
 OwnEnd actions e items (Deadlocked a) = (e ≡ told.Wants a) × (is_stall (last_item items) ≡ true)
 
--- what the journal says of it: Halted, another strand ends the run; Deadlocked, the action has no lawful reply after
--- the whole history, and every strand is Ended or Deadlocked
+-- What the journal says of it: Halted, another strand ends the run; Deadlocked, the action has no lawful reply after
+-- the whole history, and every strand is Ended or Deadlocked.
 abbrev pub SharedEnd : Opening → Journal → ℕ → End → Type 0
 SharedEnd o j t Halted = AnotherStops t j.strands
 SharedEnd o j t (Deadlocked a) =
     (reply o j.history t a ≡ None) × Numbered (λ u s. settles s.«end» ≡ true) j.strands
 SharedEnd o j t e = Unit {0}
 
--- each strand whose end is Budget has had its budget of ticks
+-- Each strand whose end is Budget has had its budget of ticks.
 abbrev pub AreSpent : ℕ → List Strand → Type 0
 AreSpent budget strands = Numbered (λ t s. s.«end» ≡ Budget → s.ticks ≡ budget) strands

@@ -22,35 +22,35 @@ use Rattle.upc_values.specs.Calls.{Reduces_prefixes, Other, call_of}
 use Rattle.upc_values.specs.Openings.{Opening, cell_of, is_named}
 use Rattle.upc_values.specs.History.{objects, locks}
 
--- a pointer is null or names an object of the history
+-- A pointer is null or names an object of the history.
 abbrev pub knows : Opening → List Entry → SharedPtr → Bool
 knows o es p = is_named o.threads (objects o es) p
 
--- so of a value: a pointer, or a lock that is null or made
+-- So of a value: a pointer, or a lock that is null or made.
 abbrev pub is_known : Opening → List Entry → Scalar → Bool
 is_known o es (Int v) = true
 is_known o es (Shared p) = knows o es p
 is_known o es (Lock l) = nat_le l (locks es)
 
--- a lock that is made
+-- A lock that is made.
 abbrev pub is_lock : List Entry → ℕ → Bool
 is_lock es l = nat_lt 0 l && nat_le l (locks es)
 
--- whole elements of a shape of the program
+-- Whole elements of a shape of the program.
 abbrev pub is_whole : Option Shape → ℕ → Bool
 is_whole (Some s) nbytes = nbytes % s.size == 0
 is_whole None nbytes = false
 
--- the home is a thread
+-- The home is a thread.
 abbrev pub is_home : ℕ → Option ℕ → Bool
 is_home threads (Some t) = nat_lt t threads
 is_home threads None = true
 
--- an allocation of at least one byte, in whole elements (UPC 7.2.2)
+-- An allocation of at least one byte, in whole elements (UPC 7.2.2).
 abbrev pub may_alloc : Opening → ℕ → ℕ → ℕ → Bool
 may_alloc o nblocks nbytes shape = not (nblocks * nbytes == 0) && is_whole (slice_get o.shapes shape) nbytes
 
--- the arguments of a collective call
+-- The arguments of a collective call.
 abbrev pub may_call : Opening → List Entry → Call → Bool
 may_call o es (Allocates n b s) = is_some (slice_get o.shapes s) && ((n * b == 0) || may_alloc o n b s)
 may_call o es Makes_lock = true
@@ -62,8 +62,8 @@ may_call o es (Reduces dst src op n b k f) = knows o es dst && knows o es src
 may_call o es (Reduces_prefixes dst src op n b k f) = knows o es dst && knows o es src
 may_call o es Other = false
 
--- an action may be asked for: its location is a cell, its value fits that cell, what it names has been made, and its
--- numbers are in their ranges
+-- An action may be asked for: its location is a cell, its value fits that cell, what it names has been made, and its
+-- numbers are in their ranges.
 abbrev pub may_ask : Opening → List Entry → Action → Bool
 may_ask o es (act.Read l s) = is_some (cell_of o (objects o es) l)
 may_ask o es (act.Write l v s) = fits_cell v (cell_of o (objects o es) l) && is_known o es v
@@ -82,22 +82,22 @@ may_ask o es (act.Meet c args) = may_call o es (call_of c args)
 may_ask o es (act.Print x) = true
 may_ask o es (act.Exit v) = true
 
--- an action is well formed after a history where it may be asked for
+-- An action is well formed after a history where it may be asked for.
 abbrev pub IsWellFormed : Opening → List Entry → Action → Type 0
 IsWellFormed o es a = may_ask o es a ≡ true
 
--- each entry was well formed after the entries before it
+-- Each entry was well formed after the entries before it.
 abbrev pub AreWellFormedFrom : Opening → List Entry → List Entry → Type 0
 AreWellFormedFrom o before [] = Unit {0}
 AreWellFormedFrom o before (e ∷ es) =
     IsWellFormed o before e.action × AreWellFormedFrom o (before ++ e ∷ []) es
 
--- so of a whole history
+-- So of a whole history.
 abbrev pub AreWellFormed : Opening → List Entry → Type 0
 AreWellFormed o history = AreWellFormedFrom o [] history
 
--- a pointer that a reply may give: null, or with a shape of the program, a thread and a home of the run, an offset in
--- range and sizes within the limits
+-- A pointer that a reply may give: null, or with a shape of the program, a thread and a home of the run, an offset in
+-- range and sizes within the limits.
 abbrev pub is_pointer : ℕ → List Shape → SharedPtr → Bool
 is_pointer threads shapes p =
     is_null p
@@ -107,16 +107,16 @@ is_pointer threads shapes p =
     && (nat_lt p.object.home threads
     && (in_range p.offset && (nat_le p.object.total 16777216 && nat_le p.object.block 16777216))))))
 
--- a value that a read of this kind may give
+-- A value that a read of this kind may give.
 abbrev pub is_read : ℕ → List Shape → Option Kind → Scalar → Bool
 is_read threads shapes k (Shared p) = fits_cell (Shared p) k && is_pointer threads shapes p
 is_read threads shapes k v = fits_cell v k
 
--- a new object's pointer
+-- A new object's pointer.
 abbrev pub is_start : ℕ → List Shape → SharedPtr → Bool
 is_start threads shapes p = is_pointer threads shapes p && (p.phase == 0)
 
--- a collective call: the pointer of upc_all_alloc, the lock of upc_all_lock_alloc, any other Done; any may be refused
+-- A collective call: the pointer of upc_all_alloc, the lock of upc_all_lock_alloc, any other Done; any may be refused.
 abbrev pub fits_call : ℕ → List Shape → Call → Reply → Bool
 fits_call threads shapes (Allocates n b s) (Value (Shared p)) = is_start threads shapes p
 fits_call threads shapes (Allocates n b s) Done = false
@@ -127,7 +127,7 @@ fits_call threads shapes c (Refused code) =
     (code == LOCK_FREED) || ((code == BAD_FREE) || ((code == COLLECTIVE_MISMATCH) || (code == SHARED_SPACE)))
 fits_call threads shapes c r = false
 
--- the reply fits the action, where a read is of this kind
+-- The reply fits the action, where a read is of this kind.
 abbrev pub fits : ℕ → List Shape → Option Kind → Action → Reply → Bool
 fits threads shapes k (act.Read l s) (Value v) = is_read threads shapes k v
 fits threads shapes k (act.Write l v s) Done = true
@@ -154,11 +154,11 @@ fits threads shapes k (act.Print x) Done = true
 fits threads shapes k (act.Exit v) Done = true
 fits threads shapes k a r = false
 
--- the kind of the cell that an action reads after a history, where it reads one
+-- The kind of the cell that an action reads after a history, where it reads one.
 abbrev pub kind_read : Opening → List Entry → Action → Option Kind
 kind_read o es (act.Read l s) = cell_of o (objects o es) l
 kind_read o es a = None
 
--- the reply fits the action after a history
+-- The reply fits the action after a history.
 abbrev pub fits_after : Opening → List Entry → Action → Reply → Bool
 fits_after o es a r = fits o.threads o.shapes (kind_read o es a) a r

@@ -25,82 +25,82 @@ use Rattle.upc_values.specs.Calls.{Call, Allocates, Makes_lock, Frees, Frees_loc
 use Rattle.upc_values.specs.Openings.{Opening, bytes_of, initial_of}
 use Rattle.upc_values.specs.Drain.{entries_of, or_else, last_written}
 
--- the entries that pass a test, each seen with the entries before it
+-- The entries that pass a test, each seen with the entries before it.
 abbrev pub picked_from : (List Entry → Entry → Bool) → List Entry → List Entry → List Entry
 picked_from test before [] = []
 picked_from test before (e ∷ es) =
     cond (test before e) (e ∷ picked_from test (before ++ e ∷ []) es) (picked_from test (before ++ e ∷ []) es)
 
--- so of a whole history
+-- So of a whole history.
 abbrev pub picked : (List Entry → Entry → Bool) → List Entry → List Entry
 picked test es = picked_from test [] es
 
--- whether some entry passes, seen so
+-- Whether some entry passes, seen so.
 abbrev pub is_any : (List Entry → Entry → Bool) → List Entry → Bool
 is_any test es = nat_lt 0 (length (picked test es))
 
--- whether each thread of the first n passes a test
+-- Whether each thread of the first n passes a test.
 abbrev pub each_thread : ℕ → (ℕ → Bool) → Bool
 each_thread ℕ.zero test = true
 each_thread (ℕ.suc n) test = test n && each_thread n test
 
--- collective calls: what a thread's Meet asks for
+-- Collective calls: what a thread's Meet asks for.
 abbrev pub asked : Action → Call
 asked (act.Meet c args) = call_of c args
 asked a = Call.Other
 
--- a collective call
+-- A collective call.
 abbrev pub is_meet : Action → Bool
 is_meet (act.Meet c args) = true
 is_meet a = false
 
--- the collective calls of a thread, in order
+-- The collective calls of a thread, in order.
 abbrev pub meets : ℕ → List Entry → List Entry
 meets t es = filter (λ e. is_meet e.action) (entries_of t es)
 
--- an entry that is its thread's j-th Meet, from 0, with the entries before it
+-- An entry that is its thread's j-th Meet, from 0, with the entries before it.
 abbrev pub is_meet_of : ℕ → List Entry → Entry → Bool
 is_meet_of j before e = is_meet e.action && (length (meets e.thread before) == j)
 
--- an entry with the entries before it
+-- An entry with the entries before it.
 pub record Lead : Type 0 where
   pub before : List Entry
   pub entry : Entry
 
--- the leader of j: the earliest entry that is some thread's j-th Meet
+-- The leader of j: the earliest entry that is some thread's j-th Meet.
 abbrev pub leader_from : ℕ → List Entry → List Entry → Option Lead
 leader_from j before [] = None
 leader_from j before (e ∷ es) =
     cond (is_meet_of j before e) (Some (record { before = before; entry = e })) (leader_from j (before ++ e ∷ []) es)
 
--- so of a whole history
+-- So of a whole history.
 abbrev pub leader : ℕ → List Entry → Option Lead
 leader j es = leader_from j [] es
 
--- what a leading Meet asks for; nothing, where the entry leads no call
+-- What a leading Meet asks for; nothing, where the entry leads no call.
 abbrev pub led : List Entry → Entry → Call
 led before e = cond (is_none (leader (length (meets e.thread before)) before)) (asked e.action) Call.Other
 
--- the pointer that a reply gives, if it is not null
+-- The pointer that a reply gives, if it is not null.
 abbrev pub pointer_of : Reply → Option SharedPtr
 pointer_of (Value (Shared p)) = cond (is_null p) None (Some p)
 pointer_of r = None
 
--- objects: an Alloc or a leading upc_all_alloc makes one, where its reply is not null (UPC 7.2.2)
+-- Objects: an Alloc or a leading upc_all_alloc makes one, where its reply is not null (UPC 7.2.2).
 abbrev pub makes : Action → Call → Bool
 makes (act.Alloc n b h s) c = true
 makes a (Allocates n b s) = true
 makes a c = false
 
--- the object that an entry names in its reply
+-- The object that an entry names in its reply.
 abbrev pub object_of : Entry → Option ObjectRef
 object_of e = elim (pointer_of e.reply) [ Some p ↦ Some p.object | None ↦ None ]
 
--- the objects after these entries: the declared ones, then those made
+-- The objects after these entries: the declared ones, then those made.
 abbrev pub objects : Opening → List Entry → List ObjectRef
 objects o es = o.declared ++ filter_map object_of (picked (λ before e. makes e.action (led before e)) es)
 
--- a new object of these bytes in all, numbered next and behind all others; with a home it is indefinite (UPC 7.2.2)
+-- A new object of these bytes in all, numbered next and behind all others; with a home it is indefinite (UPC 7.2.2).
 abbrev pub made : Opening → List Entry → ℕ → ℕ → Option ℕ → ℕ → SharedPtr
 made o es nblocks nbytes home shape =
     let objects = objects o es in
@@ -120,66 +120,66 @@ made o es nblocks nbytes home shape =
       offset = pos 0;
     }
 
--- all objects ever made have at most 16,777,216 bytes
+-- All objects ever made have at most 16,777,216 bytes.
 abbrev pub alloc_reply : Opening → List Entry → ℕ → ℕ → Option ℕ → ℕ → Reply
 alloc_reply o es nblocks nbytes home shape =
     cond (nat_lt 16777216 (bytes_of (objects o es) + nblocks * nbytes)) (Refused SHARED_SPACE)
     (Value (Shared (made o es nblocks nbytes home shape)))
 
--- pointers are equal where object, thread and offset are, whatever their phases (UPC 6.4.2)
+-- Pointers are equal where object, thread and offset are, whatever their phases (UPC 6.4.2).
 abbrev pub same_target : SharedPtr → SharedPtr → Bool
 same_target p q = same_object p.object q.object && ((p.thread == q.thread) && int_eq p.offset q.offset)
 
--- frees: a free or a leading upc_all_free with reply Done releases the object (UPC 7.2.2)
+-- Frees: a free or a leading upc_all_free with reply Done releases the object (UPC 7.2.2).
 abbrev pub releases : ℕ → Action → Call → Reply → Bool
 releases n (act.Free p) c Done = p.object.number == n
 releases n a (Frees p) Done = not (is_null p) && (p.object.number == n)
 releases n a c r = false
 
--- something has released the object
+-- Something has released the object.
 abbrev pub is_released : ℕ → List Entry → Bool
 is_released n es = is_any (λ before e. releases n e.action (led before e) e.reply) es
 
--- the pointers that were given by allocations
+-- The pointers that were given by allocations.
 abbrev pub allocated : List Entry → List SharedPtr
 allocated es = filter_map (λ e. pointer_of e.reply) (filter (λ e. makes e.action (asked e.action)) es)
 
--- a free is of what an allocation gave and nothing has released
+-- A free is of what an allocation gave and nothing has released.
 abbrev pub free_reply : List Entry → SharedPtr → Reply
 free_reply es p =
     cond (list_any (λ q. same_target p q && not (is_released q.object.number es)) (allocated es)) Done
     (Refused BAD_FREE)
 
--- locks: an upc_global_lock_alloc or a leading upc_all_lock_alloc makes the next, from 1 on (UPC 7.2.4)
+-- Locks: an upc_global_lock_alloc or a leading upc_all_lock_alloc makes the next, from 1 on (UPC 7.2.4).
 abbrev pub makes_lock : Action → Call → Bool
 makes_lock act.LockMake c = true
 makes_lock a Makes_lock = true
 makes_lock a c = false
 
--- how many locks there are
+-- How many locks there are.
 abbrev pub locks : List Entry → ℕ
 locks es = length (picked (λ before e. makes_lock e.action (led before e)) es)
 
--- a lock is given up by an upc_lock_free or a leading upc_all_lock_free of it, with reply Done
+-- A lock is given up by an upc_lock_free or a leading upc_all_lock_free of it, with reply Done.
 abbrev pub gives_up : ℕ → Action → Call → Reply → Bool
 gives_up l (act.LockFree k) c Done = k == l
 gives_up l a (Frees_lock k) Done = k == l
 gives_up l a c r = false
 
--- something has given the lock up
+-- Something has given the lock up.
 abbrev pub is_given_up : ℕ → List Entry → Bool
 is_given_up l es = is_any (λ before e. gives_up l e.action (led before e) e.reply) es
 
--- the entry is there, and was answered Done
+-- The entry is there, and was answered Done.
 abbrev pub is_done : Option Entry → Bool
 is_done (Some e) = elim e.reply [ Done ↦ true | _ ↦ false ]
 is_done None = false
 
--- every thread has met in the j-th call, with reply Done
+-- Every thread has met in the j-th call, with reply Done.
 abbrev pub all_met : Opening → ℕ → List Entry → Bool
 all_met o j es = each_thread o.threads (λ u. is_done (slice_get (meets u es) j))
 
--- it is freed by such an upc_lock_free, or by such an upc_all_lock_free once all threads have met in it
+-- It is freed by such an upc_lock_free, or by such an upc_all_lock_free once all threads have met in it.
 abbrev pub is_freed : Opening → ℕ → List Entry → Bool
 is_freed o l es =
     is_any
@@ -188,7 +188,7 @@ is_freed o l es =
     && (not (is_meet e.action) || all_met o (length (meets e.thread before)) es))
     es
 
--- an entry takes the lock or lets it go (UPC 7.2.4)
+-- An entry takes the lock or lets it go (UPC 7.2.4).
 abbrev pub turns : ℕ → Action → Reply → Bool
 turns l (act.Lock k) Done = k == l
 turns l (act.Attempt k) (Flag true) = k == l
@@ -199,56 +199,56 @@ abbrev pub is_unlock : Action → Bool
 is_unlock (act.Unlock l) = true
 is_unlock a = false
 
--- the thread that the lock is left with
+-- The thread that the lock is left with.
 abbrev pub left_with : Option Entry → Option ℕ
 left_with (Some e) = cond (is_unlock e.action) None (Some e.thread)
 left_with None = None
 
--- the holder of a lock: the thread of the last entry that takes it or lets it go, if that one takes it
+-- The holder of a lock: the thread of the last entry that takes it or lets it go, if that one takes it.
 abbrev pub holder : ℕ → List Entry → Option ℕ
 holder l es = left_with (last_or None (filter (λ e. turns l e.action e.reply) es))
 
--- a free lock is taken; the holder may not take it again; another waits
+-- A free lock is taken; the holder may not take it again; another waits.
 abbrev pub lock_reply : ℕ → Option ℕ → Option Reply
 lock_reply t None = Some Done
 lock_reply t (Some u) = cond (t == u) (Some (Refused LOCK_AGAIN)) None
 
--- the holder alone may let a lock go
+-- The holder alone may let a lock go.
 abbrev pub unlock_reply : ℕ → Option ℕ → Reply
 unlock_reply t None = Refused LOCK_NOT_HELD
 unlock_reply t (Some u) = cond (t == u) Done (Refused LOCK_NOT_HELD)
 
--- barriers: the mark of a notify (UPC 6.6.1)
+-- Barriers: the mark of a notify (UPC 6.6.1).
 abbrev pub mark_of : Entry → Option Mark
 mark_of e = elim e.action [ act.Notify m ↦ Some m | _ ↦ None ]
 
--- the marks of a thread, in order
+-- The marks of a thread, in order.
 abbrev pub marks : ℕ → List Entry → List Mark
 marks t es = filter_map mark_of (entries_of t es)
 
--- a notify
+-- A notify.
 abbrev pub is_notify : Action → Bool
 is_notify (act.Notify m) = true
 is_notify a = false
 
--- a wait
+-- A wait.
 abbrev pub is_wait : Action → Bool
 is_wait (act.Wait m) = true
 is_wait a = false
 
--- how many notifies a thread has
+-- How many notifies a thread has.
 abbrev pub notifies : ℕ → List Entry → ℕ
 notifies t es = count_by (λ e. (e.thread == t) && is_notify e.action) es
 
--- how many waits a thread has
+-- How many waits a thread has.
 abbrev pub waits : ℕ → List Entry → ℕ
 waits t es = count_by (λ e. (e.thread == t) && is_wait e.action) es
 
--- each of the first n threads has more than p notifies
+-- Each of the first n threads has more than p notifies.
 abbrev pub all_notified : ℕ → ℕ → List Entry → Bool
 all_notified n p es = each_thread n (λ u. nat_lt p (notifies u es))
 
--- marks agree unless both are present and differ
+-- Marks agree unless both are present and differ.
 abbrev pub agree : Mark → Mark → Bool
 agree Absent k = true
 agree m Absent = true
@@ -257,12 +257,12 @@ agree Finish Finish = true
 agree (Given a) (Given b) = int_eq a b
 agree m k = false
 
--- so with a mark, if there is one
+-- So with a mark, if there is one.
 abbrev pub agrees_with : Mark → Option Mark → Bool
 agrees_with m (Some k) = agree m k
 agrees_with m None = true
 
--- the p-th wait of a thread comes after the p-th notify of all threads, whose marks must agree with its own (UPC 6.6.1)
+-- The p-th wait of a thread comes after the p-th notify of all threads, whose marks must agree with its own (UPC 6.6.1)
 abbrev pub wait_reply : Opening → List Entry → ℕ → Mark → Option Reply
 wait_reply o es p m =
     cond (all_notified o.threads p es)
@@ -270,7 +270,7 @@ wait_reply o es p m =
     (Refused BARRIER_MISMATCH)))
     None
 
--- collective calls: the first of the j-th ones is answered by what it asks for
+-- Collective calls: the first of the j-th ones is answered by what it asks for.
 abbrev pub led_reply : Opening → List Entry → Call → Reply
 led_reply o es (Allocates n b s) = cond (n * b == 0) (Value (Shared null)) (alloc_reply o es n b None s)
 led_reply o es Makes_lock = Value (Lock (locks es + 1))
@@ -278,34 +278,34 @@ led_reply o es (Frees p) = cond (is_null p) Done (free_reply es p)
 led_reply o es (Frees_lock l) = cond ((l == 0) || not (is_given_up l es)) Done (Refused LOCK_FREED)
 led_reply o es c = Done
 
--- equal arguments, field by field
+-- Equal arguments, field by field.
 abbrev pub same_list : List Scalar → List Scalar → Bool
 same_list [] [] = true
 same_list (v ∷ vs) (w ∷ ws) = same_scalar v w && same_list vs ws
 same_list vs ws = false
 
--- one call with equal arguments
+-- One call with equal arguments.
 abbrev pub same_call : ℕ → List Scalar → Action → Bool
 same_call c args (act.Meet d brgs) = (c == d) && same_list args brgs
 same_call c args a = false
 
--- each other is answered as the first, from which call, arguments and number of earlier notifies may not differ
+-- Each other is answered as the first, from which call, arguments and number of earlier notifies may not differ.
 abbrev pub meet_reply : Opening → List Entry → ℕ → ℕ → List Scalar → Option Lead → Reply
 meet_reply o es t c args None = led_reply o es (call_of c args)
 meet_reply o es t c args (Some w) =
     cond (same_call c args w.entry.action && (notifies t es == notifies w.entry.thread w.before)) w.entry.reply
     (Refused COLLECTIVE_MISMATCH)
 
--- the reply that gives a value, if there is one
+-- The reply that gives a value, if there is one.
 abbrev pub valued : Option Scalar → Option Reply
 valued (Some v) = Some (Value v)
 valued None = None
 
--- what a location holds after these entries: the last value written to it, else what its cell began with
+-- What a location holds after these entries: the last value written to it, else what its cell began with.
 abbrev pub held : Opening → List Entry → Loc → Option Scalar
 held o es l = or_else (last_written l es) (initial_of o (objects o es) l)
 
--- the one lawful reply of the action by thread t after the entries before it, or none
+-- The one lawful reply of the action by thread t after the entries before it, or none.
 abbrev pub reply : Opening → List Entry → ℕ → Action → Option Reply
 -- a read gives what its location holds
 reply o before t (act.Read l s) = valued (held o before l)
@@ -329,16 +329,16 @@ reply o before t (act.Meet c args) =
 reply o before t (act.Print x) = Some Done
 reply o before t (act.Exit v) = Some Done
 
--- each entry's reply is the lawful one after the entries before it
+-- Each entry's reply is the lawful one after the entries before it.
 abbrev pub IsLegalFrom : Opening → List Entry → List Entry → Type 0
 IsLegalFrom o before [] = Unit {0}
 IsLegalFrom o before (e ∷ es) =
     (reply o before e.thread e.action ≡ Some e.reply) × IsLegalFrom o (before ++ e ∷ []) es
 
--- a whole history is legal
+-- A whole history is legal.
 abbrev pub IsLegal : Opening → List Entry → Type 0
 IsLegal o history = IsLegalFrom o [] history
 
--- each entry's thread is one of the first n
+-- Each entry's thread is one of the first n.
 abbrev pub EachBelow : ℕ → List Entry → Type 0
 EachBelow n history = Each (λ e. e.thread < n) history

@@ -110,7 +110,7 @@ lock_free l = if l == 0 then Gives zero else asks (act.LockFree l)
 abbrev pub all_lock_free : ℕ → Expansion Scalar
 all_lock_free l = asks (act.Meet 4 (Lock l ∷ []))
 
--- printf: one Print of its text, whose number of bytes it gives (C99 7.19.6.3).
+-- Printf: one Print of its text, whose number of bytes it gives (C99 7.19.6.3).
 abbrev pub printf : (format : List ℕ) → List ℤ → Expansion Scalar
 printf format vs = bind (does (act.Print (printed format vs))) (λ u. Gives (as_int (pos (length (printed format vs)))))
 

@@ -18,46 +18,46 @@ use Rattle.upc_values.specs.Scalars.{same_loc}
 use Rattle.upc_values.specs.Shapes.{cell_in, fits_cell, blank}
 use Rattle.upc_values.specs.Drain.{or_else}
 
--- the number of threads, the declared shared objects, the initial values of some of their cells, and the shapes of
--- elements, by number
+-- The number of threads, the declared shared objects, the initial values of some of their cells, and the shapes of
+-- elements, by number.
 pub record Opening : Type 0 where
   pub threads : ℕ
   pub declared : List ObjectRef
   pub initials : List (Loc × Scalar)
   pub shapes : List Shape
 
--- the bytes of all objects
+-- The bytes of all objects.
 abbrev pub bytes_of : List ObjectRef → ℕ
 bytes_of objects = sum_by (λ o. o.total) objects
 
--- the kind of the cell of these objects at a location
+-- The kind of the cell of these objects at a location.
 abbrev pub cell_of : Opening → List ObjectRef → Loc → Option Kind
 cell_of o objects l = cell_in o.threads o.shapes (find (λ x. x.number == l.object) objects) l
 
--- a pointer is null, or names one of the objects: that object in every field, a thread of the run, an offset in range
+-- A pointer is null, or names one of the objects: that object in every field, a thread of the run, an offset in range.
 abbrev pub is_named : ℕ → List ObjectRef → SharedPtr → Bool
 is_named threads objects p =
     is_null p || (list_any (same_object p.object) objects && (nat_lt p.thread threads && in_range p.offset))
 
--- an element of a shared object, which holds no pointer to a private object
+-- An element of a shared object, which holds no pointer to a private object.
 abbrev pub IsSharable : Shape → Type 0
 IsSharable s = Each (λ c. is_private c.1 ≡ false) s.cells
 
--- what the list gives the location
+-- What the list gives the location.
 abbrev pub given : Loc → List (Loc × Scalar) → Option Scalar
 given l [] = None
 given l (x ∷ xs) = cond (same_loc x.0 l) (Some x.1) (given l xs)
 
--- so of a cell, if there is one
+-- So of a cell, if there is one.
 abbrev pub blank_in : Option Kind → Option Scalar
 blank_in (Some k) = Some (blank k)
 blank_in None = None
 
--- what a cell of these objects begins with: its initial value, else 0 or null (C99 6.7.8, UPC 7.2.2)
+-- What a cell of these objects begins with: its initial value, else 0 or null (C99 6.7.8, UPC 7.2.2).
 abbrev pub initial_of : Opening → List ObjectRef → Loc → Option Scalar
 initial_of o objects l = or_else (given l o.initials) (blank_in (cell_of o objects l))
 
--- the i-th declared object, from 0: numbered from 1 on, of whole elements, each behind those before it
+-- The i-th declared object, from 0: numbered from 1 on, of whole elements, each behind those before it.
 pub record IsDeclared (o : Opening) (i : ℕ) (x : ObjectRef) : Type 0 where
   pub number : x.number ≡ i + 1
   pub shape : Shape
@@ -69,14 +69,14 @@ pub record IsDeclared (o : Opening) (i : ℕ) (x : ObjectRef) : Type 0 where
   pub whole_block : x.block % shape.size ≡ 0
   pub base : x.base ≡ bytes_of (take i o.declared)
 
--- an initial value refers to nothing but declared objects
+-- An initial value refers to nothing but declared objects.
 abbrev pub is_initial : Opening → Scalar → Bool
 is_initial o (Int v) = true
 is_initial o (Shared p) = is_named o.threads o.declared p
 is_initial o (Lock l) = l == 0
 
--- an opening: 1 to 32 threads, shapes of shared elements, at most 16,777,216 bytes, and at most one initial value for a
--- cell, which fits it
+-- An opening: 1 to 32 threads, shapes of shared elements, at most 16,777,216 bytes, and at most one initial value for a
+-- cell, which fits it.
 pub record IsOpening (o : Opening) : Type 0 where
   pub least : 0 < o.threads
   pub most : o.threads ≤ 32

@@ -11,7 +11,7 @@ use Rattle.upc_values.specs.declared.action.Reply.TheVariants.{Value, Flag, Refu
 use Rattle.upc_values.specs.declared.journal.Entry.{Entry}
 use Rattle.upc_values.specs.Scalars.{zero}
 
--- what an action accesses: a location, read or written, or the one place of all implied strict accesses
+-- What an action accesses: a location, read or written, or the one place of all implied strict accesses.
 pub data Access : Type 0 where
   Nothing : Access
   Reads : (loc : Loc) (strict : Bool) (value : Scalar) → Access
@@ -20,7 +20,7 @@ pub data Access : Type 0 where
   Reads_sync : Access
   Writes_and_reads_sync : Access
 
--- the accesses of an action with its reply; one that was refused has none
+-- The accesses of an action with its reply; one that was refused has none.
 abbrev pub access : Action → Reply → Access
 access a (Refused c) = Nothing
 access (Read l s) (Value v) = Reads l s v
@@ -46,12 +46,12 @@ access (Meet c x) r = Nothing
 access (Print x) r = Nothing
 access (Exit v) r = Nothing
 
--- where an operation acts: at a location, or at the one place of all implied strict accesses
+-- Where an operation acts: at a location, or at the one place of all implied strict accesses.
 pub data Place : Type 0 where
   Cell : (loc : Loc) → Place
   Sync : Place
 
--- a read or a write by an action of a thread (UPC Appendix B)
+-- A read or a write by an action of a thread (UPC Appendix B).
 pub record Operation : Type 0 where
   pub thread : ℕ
   pub index : ℕ
@@ -60,15 +60,15 @@ pub record Operation : Type 0 where
   pub place : Place
   pub value : Scalar
 
--- a read by action i of thread t
+-- A read by action i of thread t.
 abbrev pub read_at : ℕ → ℕ → Place → Bool → Scalar → Operation
 read_at t i p s v = record { thread = t; index = i; write = false; strict = s; place = p; value = v }
 
--- a write by action i of thread t
+-- A write by action i of thread t.
 abbrev pub write_at : ℕ → ℕ → Place → Bool → Scalar → Operation
 write_at t i p s v = record { thread = t; index = i; write = true; strict = s; place = p; value = v }
 
--- the operations of these accesses, by action i of thread t; the implied ones all have the value 0
+-- The operations of these accesses, by action i of thread t; the implied ones all have the value 0.
 abbrev pub operations_by : ℕ → ℕ → Access → List Operation
 operations_by t i Nothing = []
 operations_by t i (Reads l s v) = read_at t i (Cell l) s v ∷ []
@@ -77,10 +77,10 @@ operations_by t i Writes_sync = write_at t i Sync true zero ∷ []
 operations_by t i Reads_sync = read_at t i Sync true zero ∷ []
 operations_by t i Writes_and_reads_sync = write_at t i Sync true zero ∷ read_at t i Sync true zero ∷ []
 
--- the operations of an action with its reply
+-- The operations of an action with its reply.
 abbrev pub accesses_of : ℕ → ℕ → Action → Reply → List Operation
 accesses_of t i a r = operations_by t i (access a r)
 
--- the operations of an entry's own action
+-- The operations of an entry's own action.
 abbrev pub accesses : Entry → List Operation
 accesses e = accesses_of e.thread e.index e.action e.reply

@@ -14,63 +14,63 @@ use Rattle.upc_values.specs.Lists.{Has, Precedes}
 use Rattle.upc_values.specs.Drain.{Commit, commits, entry_of}
 use Rattle.upc_values.specs.Operations.{Operation, accesses}
 
--- where there is no strand
+-- Where there is no strand.
 abbrev pub no_strand : Strand
 no_strand = record { items = []; ticks = 0; «end» = Halted }
 
--- the record of a thread
+-- The record of a thread.
 abbrev pub record_of : Journal → ℕ → List Item
 record_of j t = (slice_index_or j.strands t no_strand).items
 
--- the operations that stand in the place of the entry with this number
+-- The operations that stand in the place of the entry with this number.
 abbrev pub operations_at : ℕ → List Commit → List Operation
 operations_at n [] = []
 operations_at n (c ∷ cs) = cond (c.entry.index == n) c.operations (operations_at n cs)
 
--- the operations that stand in an entry's place
+-- The operations that stand in an entry's place.
 abbrev pub placed : Journal → Entry → List Operation
 placed j e = operations_at e.index (commits e.thread (record_of j e.thread))
 
--- the history with each entry replaced by its operations
+-- The history with each entry replaced by its operations.
 abbrev pub global_order : Journal → List Operation
 global_order j = flat_map (placed j) j.history
 
--- the strict operations in the order of the history
+-- The strict operations in the order of the history.
 abbrev pub strict_list : Journal → List Operation
 strict_list j = filter (λ o. o.strict) (global_order j)
 
--- an operation stands in thread t's order: its own ones, all writes, and all strict reads
+-- An operation stands in thread t's order: its own ones, all writes, and all strict reads.
 abbrev pub is_shown : ℕ → Operation → Bool
 is_shown t o = (o.thread == t) || (o.write || o.strict)
 
--- the order of a thread: its own operations, all writes and all strict reads, in the order of the history
+-- The order of a thread: its own operations, all writes and all strict reads, in the order of the history.
 abbrev pub thread_order : Journal → ℕ → List Operation
 thread_order j t = filter (is_shown t) (global_order j)
 
--- the operations of a thread's items in program order, from action n on
+-- The operations of a thread's items in program order, from action n on.
 abbrev pub operations_from : ℕ → ℕ → List Item → List Operation
 operations_from t n [] = []
 operations_from t n (Stall ∷ items) = operations_from t n items
 operations_from t n (Did a r ∷ items) = accesses (entry_of t n a r) ++ operations_from t (n + 1) items
 
--- the operations of a thread, in program order
+-- The operations of a thread, in program order.
 abbrev pub operations_of : Journal → ℕ → List Operation
 operations_of j t = operations_from t 0 (record_of j t)
 
--- an operation of the journal: of some thread's item
+-- An operation of the journal: of some thread's item.
 abbrev pub IsOf : Journal → Operation → Type 0
 IsOf j o = (o.thread < j.threads) × Has (operations_of j o.thread) o
 
--- the name of an operation
+-- The name of an operation.
 abbrev pub name_of : Operation → Op
 name_of o = record { thread = o.thread; index = o.index; write = o.write }
 
--- program order: by action number, in a fence the write first
+-- Program order: by action number, in a fence the write first.
 abbrev pub rank : Operation → ℕ
 rank o = 2 * o.index + cond o.write 0 1
 
--- the strict order: strict operations as in the history, operations of one thread, one of them strict, by program
--- order, and what follows by transitivity (UPC Appendix B)
+-- The strict order: strict operations as in the history, operations of one thread, one of them strict, by program
+-- order, and what follows by transitivity (UPC Appendix B).
 pub data StrictOrder (j : Journal) : Operation → Operation → Type 0 where
   As_placed :
       (a b : Operation) → a.strict ≡ true → b.strict ≡ true → Precedes (global_order j) a b → StrictOrder j a b

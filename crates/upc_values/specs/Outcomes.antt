@@ -11,13 +11,13 @@ use Rattle.upc_values.specs.Openings.{Opening}
 use Rattle.upc_values.specs.Formed.{IsWellFormed, fits_after}
 use Rattle.upc_values.specs.Known.{HasGiven}
 
--- the actions that were answered, the ticks, and the end
+-- The actions that were answered, the ticks, and the end.
 pub record Outcome : Type 0 where
   pub actions : List Action
   pub ticks : ℕ
   pub «end» : ToldEnd
 
--- the action for which no reply is left
+-- The action for which no reply is left.
 abbrev pub wanted : ToldEnd → Option Action
 wanted (Wants a) = Some a
 wanted e = None

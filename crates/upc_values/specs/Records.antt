@@ -6,13 +6,13 @@ use Rattle.upc_values.specs.declared.action.Reply.{Reply}
 use Rattle.upc_values.specs.declared.record.Item.{Item}
 use Rattle.upc_values.specs.declared.record.Item.TheVariants.{Did, Stall}
 
--- the actions of a record, stalls left out
+-- The actions of a record, stalls left out.
 abbrev pub actions_of : List Item → List Action
 actions_of [] = []
 actions_of (Did a r ∷ items) = a ∷ actions_of items
 actions_of (Stall ∷ items) = actions_of items
 
--- their replies
+-- Their replies.
 abbrev pub replies_of : List Item → List Reply
 replies_of [] = []
 replies_of (Did a r ∷ items) = r ∷ replies_of items
@@ -22,7 +22,7 @@ abbrev pub last_from : Option Item → List Item → Option Item
 last_from o [] = o
 last_from o (x ∷ items) = last_from (Some x) items
 
--- the last item, if there is one
+-- The last item, if there is one.
 abbrev pub last_item : List Item → Option Item
 last_item items = last_from None items
 
@@ -38,7 +38,7 @@ abbrev pub is_beat_item : Option Item → Bool
 is_beat_item (Some (Did a r)) = is_beat a
 is_beat_item x = false
 
--- how many Beats there are
+-- How many Beats there are.
 abbrev pub beats : List Action → ℕ
 beats [] = 0
 beats (Beat ∷ actions) = beats actions + 1

@@ -10,12 +10,12 @@ use Rattle.block_layout.specs.Lists.{under}
 use Rattle.integers.specs.Integers.{converted}
 use Rattle.integers.specs.Operators.{truth, binary_of}
 
--- the types of elements, by number: those of the calls that end in C UC S US I UI L UL
+-- The types of elements, by number: those of the calls that end in C UC S US I UI L UL.
 abbrev pub element_kind : ℕ → Kind
 element_kind k =
     slice_index_or (Char ∷ UChar ∷ Short ∷ UShort ∷ Int ∷ UInt ∷ Long ∷ ULong ∷ []) k Int
 
--- what joins two values
+-- What joins two values.
 pub data Reduction : Type 0 where
   Sum : Reduction
   Product : Reduction
@@ -27,7 +27,7 @@ pub data Reduction : Type 0 where
   Least : Reduction
   Greatest : Reduction
 
--- UPC_ADD, UPC_MULT, UPC_AND, UPC_OR, UPC_XOR, UPC_LOGAND, UPC_LOGOR, UPC_MIN, UPC_MAX, by their numbers
+-- UPC_ADD, UPC_MULT, UPC_AND, UPC_OR, UPC_XOR, UPC_LOGAND, UPC_LOGOR, UPC_MIN, UPC_MAX, by their numbers.
 abbrev pub reduction : ℤ → Option Reduction
 reduction n =
     cond (int_lt n (pos 0)) None
@@ -35,7 +35,7 @@ reduction n =
     ((1, Sum) ∷ (2, Product) ∷ (4, Bits_and) ∷ (8, Bits_or) ∷ (16, Bits_xor) ∷ (32, Both) ∷ (64, Either)
     ∷ (128, Least) ∷ (256, Greatest) ∷ []))
 
--- the kind after promotion (C99 6.3.1.1)
+-- The kind after promotion (C99 6.3.1.1).
 abbrev pub promoted : Kind → Kind
 promoted Char = Int
 promoted UChar = Int
@@ -43,7 +43,7 @@ promoted Short = Int
 promoted UShort = Int
 promoted k = k
 
--- what an operator gives on two numbers of a promoted kind (C99 6.5)
+-- What an operator gives on two numbers of a promoted kind (C99 6.5).
 abbrev pub reduced : Reduction → Kind → ℤ → ℤ → Result ℤ ℕ
 reduced Sum k a b = binary_of Add k a b
 reduced Product k a b = binary_of Multiply k a b
@@ -55,26 +55,26 @@ reduced Either k a b = Ok (truth (not (int_eq a (pos 0)) || not (int_eq b (pos 0
 reduced Least k a b = Ok (int_min a b)
 reduced Greatest k a b = Ok (int_max a b)
 
--- a result brought back to the elements' type
+-- A result brought back to the elements' type.
 abbrev pub back_to : Kind → Result ℤ ℕ → Result ℤ ℕ
 back_to k (Ok v) = Ok (converted k v)
 back_to k (Err c) = Err c
 
--- one step: the operator after promotion, then conversion to the elements' type
+-- One step: the operator after promotion, then conversion to the elements' type.
 abbrev pub step : Reduction → Kind → ℤ → ℤ → Result ℤ ℕ
 step op k a b = back_to k (reduced op (promoted k) a b)
 
--- from left to right, the first run error decides
+-- From left to right, the first run error decides.
 abbrev pub step_from : Reduction → Kind → Result ℤ ℕ → ℤ → Result ℤ ℕ
 step_from op k (Ok a) b = step op k a b
 step_from op k (Err c) b = Err c
 
--- so on from a value
+-- So on from a value.
 abbrev pub folded_from : Reduction → Kind → Result ℤ ℕ → List ℤ → Result ℤ ℕ
 folded_from op k a [] = a
 folded_from op k a (v ∷ vs) = folded_from op k (step_from op k a v) vs
 
--- so of all elements, of which the first is the value to begin with
+-- So of all elements, of which the first is the value to begin with.
 abbrev pub folded : Reduction → Kind → List ℤ → Result ℤ ℕ
 folded op k [] = Ok (pos 0)
 folded op k (v ∷ vs) = folded_from op k (Ok v) vs

@@ -16,26 +16,26 @@ use Rattle.upc_values.specs.declared.scalar.Value.TheVariants as value
 use Rattle.block_layout.specs.Lists.{under}
 use Rattle.integers.specs.Integers.{in_kind}
 
--- the kind of the cell that begins at this byte, where elements of this shape follow one another (C99 6.2.5)
+-- The kind of the cell that begins at this byte, where elements of this shape follow one another (C99 6.2.5).
 abbrev pub kind_at : Option Shape → ℕ → Option Kind
 kind_at (Some s) x = under (x % s.size) s.cells
 kind_at None x = None
 
--- the kind of the cell at a location, if there is one: inside the piece of its thread (UPC 6.5.1.1)
+-- The kind of the cell at a location, if there is one: inside the piece of its thread (UPC 6.5.1.1).
 abbrev pub cell_in : ℕ → List Shape → Option ObjectRef → Loc → Option Kind
 cell_in threads shapes None l = None
 cell_in threads shapes (Some o) l =
     cond (nat_lt l.offset (piece_of o l.thread threads)) (kind_at (slice_get shapes o.shape) l.offset) None
 
--- whether a kind is of integers (C99 6.2.5)
+-- Whether a kind is of integers (C99 6.2.5).
 abbrev pub is_integer : Kind → Bool
 is_integer (kind.Shared n b) = false
 is_integer kind.Lock = false
 is_integer (kind.Private n) = false
 is_integer k = true
 
--- whether a value fits a cell: an integer in the kind's range, a pointer-to-shared whose phase is 0 or below the kind's
--- block, a lock
+-- Whether a value fits a cell: an integer in the kind's range, a pointer-to-shared whose phase is 0 or below the kind's
+-- block, a lock.
 abbrev pub fits_kind : Scalar → Kind → Bool
 fits_kind (Int v) k = is_integer k && in_kind k v
 fits_kind (Shared p) (kind.Shared n b) = (p.phase == 0) || nat_lt p.phase b
@@ -43,12 +43,12 @@ fits_kind (Shared p) k = false
 fits_kind (Lock l) kind.Lock = true
 fits_kind (Lock l) k = false
 
--- there is a cell, and the value fits it
+-- There is a cell, and the value fits it.
 abbrev pub fits_cell : Scalar → Option Kind → Bool
 fits_cell v (Some k) = fits_kind v k
 fits_cell v None = false
 
--- what a cell without an initial value begins with: 0, or null (C99 6.7.8)
+-- What a cell without an initial value begins with: 0, or null (C99 6.7.8).
 abbrev pub blank : Kind → Scalar
 blank (kind.Shared n b) = Shared null
 blank kind.Lock = Lock 0

@@ -15,7 +15,7 @@ use Rattle.upc_values.specs.Formed.{AreWellFormed}
 use Rattle.upc_values.specs.Strands.{Conforms, AreJustified}
 use Rattle.upc_values.specs.Ends.{OwnEnd, SharedEnd}
 
--- what thread t's strand is to the history, where its source has this meaning
+-- What thread t's strand is to the history, where its source has this meaning.
 pub record IsStrand (o : Opening) (t actions : ℕ) (history : List Entry) (outcome : List Reply → Outcome)
     (s : Strand) : Type 0 where
   -- its record is what its source gives on its replies

@@ -14,7 +14,7 @@ use Rattle.upc_values.specs.Drain.{drain, entries_of}
 use Rattle.upc_values.specs.Openings.{Opening}
 use Rattle.upc_values.specs.History.{reply}
 
--- a Lock or a Wait alone may find no lawful reply
+-- A Lock or a Wait alone may find no lawful reply.
 abbrev pub may_wait : Action → Bool
 may_wait (Lock l) = true
 may_wait (Wait m) = true
@@ -28,32 +28,32 @@ abbrev pub first_is_stall : List Item → Bool
 first_is_stall (Stall ∷ items) = true
 first_is_stall items = false
 
--- the action that comes next, where `want` comes after the items
+-- The action that comes next, where `want` comes after the items.
 abbrev pub next_action : Option Action → List Item → Option Action
 next_action want [] = want
 next_action want (Did a r ∷ items) = Some a
 next_action want (Stall ∷ items) = next_action want items
 
--- no two Stalls are adjacent, and each stands before a Lock or a Wait, or is last while one is wanted
+-- No two Stalls are adjacent, and each stands before a Lock or a Wait, or is last while one is wanted.
 abbrev pub StallsStand : Option Action → List Item → Type 0
 StallsStand want [] = Unit {0}
 StallsStand want (Did a r ∷ items) = StallsStand want items
 StallsStand want (Stall ∷ items) =
     (first_is_stall items ≡ false) × MayWait (next_action want items) × StallsStand want items
 
--- the ticks of a strand whose outcome has n: those of the Beats where it was halted at one
+-- The ticks of a strand whose outcome has n: those of the Beats where it was halted at one.
 abbrev pub strand_ticks : End → List Item → ℕ → ℕ
 strand_ticks Halted items n = cond (is_beat_item (last_item items)) (1024 * beats (actions_of items)) n
 strand_ticks e items n = n
 
--- the strand conforms to the outcome that its source has on its replies
+-- The strand conforms to the outcome that its source has on its replies.
 pub record Conforms (outcome : Outcome) (s : Strand) : Type 0 where
   pub actions : outcome.actions ≡ actions_of s.items
   pub stalls : StallsStand (wanted outcome.«end») s.items
   pub ticks : s.ticks ≡ strand_ticks s.«end» s.items outcome.ticks
 
--- a Stall of t after these items, before the next action: some prefix of the history has just the entries that the
--- items emit, and after it the action has no lawful reply
+-- A Stall of t after these items, before the next action: some prefix of the history has just the entries that the
+-- items emit, and after it the action has no lawful reply.
 pub record IsJustified (o : Opening) (t : ℕ) (history : List Entry) (before : List Item)
     (next : Option Action) : Type 0 where
   pub front : List Entry
@@ -64,7 +64,7 @@ pub record IsJustified (o : Opening) (t : ℕ) (history : List Entry) (before : 
   pub wants : next ≡ Some action
   pub none : reply o front t action ≡ None
 
--- each Stall of the items, which stand after others, is justified
+-- Each Stall of the items, which stand after others, is justified.
 abbrev pub AreJustified : Opening → ℕ → List Entry → Option Action → List Item → List Item → Type 0
 AreJustified o t history want before [] = Unit {0}
 AreJustified o t history want before (Did a r ∷ items) =

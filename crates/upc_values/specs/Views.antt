@@ -13,17 +13,17 @@ use Rattle.block_layout.specs.Shapes.{kind_size, same_kind}
 use Rattle.upc_values.specs.Shapes.{kind_at}
 use Rattle.upc_values.specs.Calls.{Way, Broadcast, Scatter, Gather, Gather_all, Exchange}
 
--- the pointer with phase 0
+-- The pointer with phase 0.
 abbrev pub from_phase_0 : SharedPtr → SharedPtr
 from_phase_0 p = record p { phase = 0 }
 
--- the phase counts with a block of at least 1, and is 0 with an indefinite one
+-- The phase counts with a block of at least 1, and is 0 with an indefinite one.
 abbrev pub with_block : SharedPtr → ℕ → SharedPtr
 with_block p zero = from_phase_0 p
 with_block p (suc b) = p
 
--- the pointer to element i of an array with this block and element size, whose element 0 is at p (UPC 6.4.2, 6.5.1.1):
--- p stands for some element of such an array, and this pointer for the i-th behind it
+-- The pointer to element i of an array with this block and element size, whose element 0 is at p (UPC 6.4.2, 6.5.1.1):
+-- p stands for some element of such an array, and this pointer for the i-th behind it.
 abbrev pub element : SharedPtr → ℕ → ℕ → ℕ → ℕ → SharedPtr
 element p zero size threads i = record p { offset = p.offset +ℤ pos (i * size) }
 element p (suc b) size threads i =
@@ -35,63 +35,63 @@ element p (suc b) size threads i =
       offset = (p.offset -ℤ pos (p.phase * size)) +ℤ offset_at e (suc b) size threads;
     }
 
--- the location so many bytes behind it
+-- The location so many bytes behind it.
 abbrev pub location_behind : SharedPtr → ℕ → Loc
 location_behind p i = record { object = p.object.number; thread = p.thread; offset = unsigned_abs p.offset + i }
 
--- n bytes from an offset on, within so many
+-- n bytes from an offset on, within so many.
 abbrev pub is_within : ℤ → ℕ → ℕ → Bool
 is_within offset n room = int_le (pos 0) offset && int_le (offset +ℤ pos n) (pos room)
 
--- n bytes at a pointer: an offset among them leaves its range
+-- n bytes at a pointer: an offset among them leaves its range.
 abbrev pub leaves_range : ℕ → SharedPtr → Bool
 leaves_range n p = not (in_range p.offset && in_range (p.offset +ℤ pos (n - 1)))
 
--- n bytes at a pointer leave the piece of their thread
+-- n bytes at a pointer leave the piece of their thread.
 abbrev pub leaves_piece : ℕ → ℕ → SharedPtr → Bool
 leaves_piece threads n p = not (is_within p.offset n (piece_of p.object p.thread threads))
 
--- where elements of this shape follow one another, whether a cell begins before this byte and ends behind it
+-- Where elements of this shape follow one another, whether a cell begins before this byte and ends behind it.
 abbrev pub cuts : Option Shape → ℕ → Bool
 cuts (Some s) x = list_any (λ c. nat_lt c.0 (x % s.size) && nat_lt (x % s.size) (c.0 + kind_size c.1)) s.cells
 cuts None x = false
 
--- n bytes from this one on cut a cell at either end
+-- n bytes from this one on cut a cell at either end.
 abbrev pub cuts_cell : Option Shape → ℕ → ℕ → Bool
 cuts_cell s x n = cuts s x || cuts s (x + n)
 
--- a cell, by how far behind the first byte it begins and by its kind
+-- A cell, by how far behind the first byte it begins and by its kind.
 abbrev pub placed_kind : ℕ → Option Kind → Option (ℕ × Kind)
 placed_kind i (Some k) = Some (i, k)
 placed_kind i None = None
 
--- the cells in n bytes from this one on
+-- The cells in n bytes from this one on.
 abbrev pub cells_within : Option Shape → ℕ → ℕ → List (ℕ × Kind)
 cells_within s x n = filter_map (λ i. placed_kind i (kind_at s (x + i))) (range_with_len 0 n)
 
--- the kind is of this kind
+-- The kind is of this kind.
 abbrev pub is_kind : Kind → Option Kind → Bool
 is_kind k (Some j) = same_kind k j
 is_kind k None = false
 
--- the shape of a pointer's object
+-- The shape of a pointer's object.
 abbrev pub shape_at : List Shape → SharedPtr → Option Shape
 shape_at shapes p = slice_get shapes p.object.shape
 
--- a cell of this kind begins at the pointer
+-- A cell of this kind begins at the pointer.
 abbrev pub is_cell : List Shape → Kind → SharedPtr → Bool
 is_cell shapes k p = is_kind k (kind_at (shape_at shapes p) (unsigned_abs p.offset))
 
--- an array of char that a call sees: its block and its bytes
+-- An array of char that a call sees: its block and its bytes.
 pub record View : Type 0 where
   pub block : ℕ
   pub bytes : ℕ
 
--- an array of char with this block and so many bytes
+-- An array of char with this block and so many bytes.
 abbrev pub view : ℕ → ℕ → View
 view block bytes = record { block = block; bytes = bytes }
 
--- the destination of a copying call in which each thread has n bytes (UPC 7.3)
+-- The destination of a copying call in which each thread has n bytes (UPC 7.3).
 abbrev pub destination : Way → ℕ → ℕ → View
 destination Broadcast threads n = view n (n * threads)
 destination Scatter threads n = view n (n * threads)
@@ -99,7 +99,7 @@ destination Gather threads n = view 0 (n * threads)
 destination Gather_all threads n = view (n * threads) (n * threads * threads)
 destination Exchange threads n = view (n * threads) (n * threads * threads)
 
--- the source
+-- The source.
 abbrev pub source : Way → ℕ → ℕ → View
 source Broadcast threads n = view 0 n
 source Scatter threads n = view 0 (n * threads)
@@ -107,6 +107,6 @@ source Gather threads n = view n (n * threads)
 source Gather_all threads n = view n (n * threads)
 source Exchange threads n = view (n * threads) (n * threads * threads)
 
--- the pointer to byte x of an array of char with this block
+-- The pointer to byte x of an array of char with this block.
 abbrev pub byte_at : SharedPtr → ℕ → ℕ → ℕ → SharedPtr
 byte_at p block threads x = element (from_phase_0 p) block 1 threads x
