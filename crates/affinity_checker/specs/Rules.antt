@@ -6,42 +6,47 @@ use Rattle.upc_text.specs.declared.place.Refusal.{Refusal}
 use Rattle.upc_text.specs.declared.place.Code.TheVariants.{Typing}
 use Rattle.affinity_checker.specs.declared.around.Around.{Around}
 
--- A loop around a statement, inside the innermost upc_forall if there is one.
+-- What stands around the body of a `while`, `do` or `for`: one loop more, inside the innermost upc_forall if there is
+-- one (C99 6.8.5).
 abbrev pub in_loop : Around → Around
 in_loop a = record { looped = true; switched = a.switched; shared = a.shared; inside = true }
 
--- A switch around a statement.
+-- What stands around the body of a switch: one switch more, inside the innermost upc_forall if there is one
+-- (C99 6.8.4.2).
 abbrev pub in_switch : Around → Around
 in_switch a = record { looped = a.looped; switched = true; shared = a.shared; inside = true }
 
--- A upc_forall around a statement: a loop, and nothing stands inside it yet.
+-- What stands around the body of a upc_forall: it is a loop, and nothing stands inside it yet (UPC 6.6.2).
 abbrev pub in_forall : Around → Around
 in_forall a = record { looped = true; switched = a.switched; shared = true; inside = false }
 
--- Around the body of a function stands nothing.
+-- Nothing stands around the body of a function (C99 6.9.1).
 abbrev pub nothing : Around
 nothing = record { looped = false; switched = false; shared = false; inside = false }
 
+-- One refusal, by the typing rule with this number, at this place.
 abbrev pub refused : Place → ℕ → List Refusal
 refused place rule = record { place = place; code = Typing rule } ∷ []
 
+-- The refusals where the test holds, else none.
 abbrev pub where_true : Bool → List Refusal → List Refusal
 where_true b rs = if b then rs else []
 
--- Rule 23 is broken by a break outside every loop and switch, rule 24 by one that leaves the body of a upc_forall.
+-- The breaches of a break: of rule 23 outside every loop and switch, of rule 24 where it leaves the body of a
+-- upc_forall (C99 6.8.6.3, UPC 6.6.2).
 abbrev pub at_break : Around → Place → List Refusal
 at_break a place = where_true (not (a.looped || a.switched)) (refused place 23)
     ++ where_true (a.shared && not a.inside) (refused place 24)
 
--- Rule 23 is broken by a continue outside every loop.
+-- The breach of a continue: of rule 23 outside every loop (C99 6.8.6.2).
 abbrev pub at_continue : Around → Place → List Refusal
 at_continue a place = where_true (not a.looped) (refused place 23)
 
--- Rule 24 is broken by a return that leaves the body of a upc_forall.
+-- The breach of a return: of rule 24 where it leaves the body of a upc_forall (C99 6.8.6.4, UPC 6.6.2).
 abbrev pub at_return : Around → Place → List Refusal
 at_return a place = where_true a.shared (refused place 24)
 
--- The first of a list.
+-- The first of some refusals, if there is one.
 abbrev pub first : List Refusal → Option Refusal
 first [] = None
 first (r ∷ rs) = Some r

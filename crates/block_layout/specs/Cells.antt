@@ -1,11 +1,11 @@
--- Lists of cells: moved, copied one behind the other (both in Moved), without pointers to private objects, compared.
+-- Lists of cells: moved, copied one after the other (both in Moved), without pointers to private objects, compared.
 use Rattle.std.specs.Prelude.{Bool, true, false, not, ℕ, List, [], ◌∷◌, ◌==◌, ◌&&◌, filter}
 pub use Rattle.block_layout.specs.Moved.{moved, copies}
 use Rattle.block_layout.specs.Shapes.{same_kind}
 use Rattle.block_layout.specs.declared.kind.Kind.{Kind}
 use Rattle.block_layout.specs.declared.kind.Kind.TheVariants.{Private}
 
--- A pointer to a private object.
+-- The cell is a pointer to a private object.
 abbrev pub is_private : Kind → Bool
 is_private (Private n) = true
 is_private k = false
@@ -14,11 +14,12 @@ is_private k = false
 abbrev pub sharable : List (ℕ × Kind) → List (ℕ × Kind)
 sharable cells = filter (λ c. not (is_private c.1)) cells
 
--- The same cells, in place and kind.
+-- Two lists of cells are equal, each cell in place and kind.
 abbrev pub same_cells : List (ℕ × Kind) → List (ℕ × Kind) → Bool
 same_cells [] [] = true
 same_cells (c ∷ cs) (d ∷ ds) = (c.0 == d.0) && (same_kind c.1 d.1 && same_cells cs ds)
 same_cells cs ds = false
 
+-- Two cells are equal in place and kind.
 abbrev pub same_cell : ℕ × Kind → ℕ × Kind → Bool
 same_cell c d = c.0 == d.0 && same_kind c.1 d.1

@@ -8,7 +8,7 @@ count_below passes zero = 0
 count_below passes (suc n) = if passes n then suc (count_below passes n) else count_below passes n
 
 -- The bytes of an object on a thread: those whose block falls to the thread, counted. An indefinite object has all its
--- bytes on its home.
+-- bytes on its home (UPC 6.5.1.1).
 abbrev pub piece_of : ObjectRef → ℕ → ℕ → ℕ
 piece_of object thread threads =
     if object.block == 0

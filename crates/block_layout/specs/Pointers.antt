@@ -6,7 +6,7 @@ use Rattle.std.specs.Ordering.{int_eq}
 use Rattle.block_layout.specs.Places.{thread_at, phase_at, offset_at}
 use Rattle.block_layout.specs.declared.place.Loc.{Loc}
 
--- The null pointer has zeros throughout.
+-- The null pointer-to-shared, which has zeros throughout.
 abbrev pub null : SharedPtr
 null =
     record {
@@ -16,19 +16,22 @@ null =
       offset = pos 0;
     }
 
+-- The pointer-to-shared is null.
 abbrev pub IsNull : SharedPtr → Type 0
 IsNull p = p ≡ null
 
--- The tests of these equalities.
+-- Whether two shared objects are equal in every number that they have.
 abbrev pub same_object : ObjectRef → ObjectRef → Bool
 same_object a b =
     a.number == b.number && a.total == b.total && a.block == b.block && a.home == b.home
     && a.shape == b.shape && a.base == b.base
 
+-- Whether two pointers-to-shared are equal in object, thread, phase and offset.
 abbrev pub same_pointer : SharedPtr → SharedPtr → Bool
 same_pointer p q =
     same_object p.object q.object && p.thread == q.thread && p.phase == q.phase && int_eq p.offset q.offset
 
+-- Whether a pointer-to-shared is null.
 abbrev pub is_null : SharedPtr → Bool
 is_null p = same_pointer p null
 
@@ -43,8 +46,8 @@ element_offset e zero size threads = e *ℤ pos size
 element_offset e (suc b) size threads = offset_at e (suc b) size threads
 
 -- A pointer to elements of this block and size stands for element e with shift d: thread and phase are the element's,
--- and the offset is the element's plus d. With block 0 the thread may be any. A pointer made from a declared array has
--- shift 0.
+-- and the offset is the element's plus d. With block 0 the thread may be any; a pointer made from a declared array has
+-- shift 0 (UPC 6.4.2, 6.5.1.1).
 pub record StandsFor (p : SharedPtr) (e d : ℤ) (block size threads : ℕ) : Type 0 where
   pub thread : 0 < block → p.thread ≡ thread_at e block threads
   pub phase : p.phase ≡ element_phase e block

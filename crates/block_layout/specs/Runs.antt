@@ -11,12 +11,15 @@ pub record Repeated : Type 0 where
   pub count : ℕ
   pub cells : List (ℕ × Kind)
 
+-- So many copies of a pattern of cells, by where the first begins and how far apart they begin.
 abbrev pub repeated : ℕ → ℕ → ℕ → List (ℕ × Kind) → Repeated
 repeated start stride count cells = record { start = start; stride = stride; count = count; cells = cells }
 
+-- The cells of all copies of a pattern, one copy after the other.
 abbrev pub run_cells : Repeated → List (ℕ × Kind)
 run_cells r = moved r.start (copies r.count r.stride r.cells)
 
+-- The cells of all copies of some patterns, in order.
 abbrev pub runs_cells : List Repeated → List (ℕ × Kind)
 runs_cells [] = []
 runs_cells (r ∷ rs) = run_cells r ++ runs_cells rs
@@ -32,7 +35,7 @@ pub record IsRun (r : Repeated) : Type 0 where
   pub cell : 0 < length r.cells
   pub near : ((r.start ≡ 0) × (r.count ≡ 1)) ⊎ AreNear (run_cells r)
 
--- The copies of the second run go on behind those of the first, so many bytes from one to the next.
+-- The copies of the second run go on after those of the first, so many bytes from one to the next.
 pub record GoesOn (stride : ℕ) (r s : Repeated) : Type 0 where
   pub positive : 0 < stride
   pub own : (r.count ≡ 1) ⊎ (r.stride ≡ stride)
@@ -44,10 +47,12 @@ abbrev pub hits : ℕ → ℕ → ℕ → ℕ → ℕ → Bool
 hits start stride zero offset place = false
 hits start stride (suc n) offset place = hits start stride n offset place || (start + (n * stride + offset)) == place
 
--- What is left of a copy that begins at `start`, and so many copies behind it.
+-- What is left of a copy that begins at `start`, and so many copies after it.
 abbrev pub copies_left : List (ℕ × Kind) → ℕ → ℕ → ℕ → List (ℕ × Kind) → List (ℕ × Kind)
 copies_left left start stride more pattern = moved start left ++ moved (start + stride) (copies more stride pattern)
 
+-- What is left of a copy and of the copies after it lies at places that 32 bits can name, unless it is one copy that
+-- begins at 0; and a pattern of which copies are left has a cell.
 pub record IsLeft (left : List (ℕ × Kind)) (start stride more : ℕ) (pattern : List (ℕ × Kind)) : Type 0 where
   pub near : ((start ≡ 0) × (more ≡ 0)) ⊎ AreNear (copies_left left start stride more pattern)
   pub cell : 0 < more → 0 < length pattern

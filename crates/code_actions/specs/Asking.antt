@@ -49,12 +49,12 @@ abbrev pub PushesKnown : Opening → StackWork → Type 0
 PushesKnown o (Push v) = IsKnownValue o [] v
 PushesKnown o w = Unit {0}
 
--- So of an operation.
+-- An operation that pushes no value, or one that is known before any action.
 abbrev pub NamesKnown : Opening → Operation → Type 0
 NamesKnown o (work.Stack w) = PushesKnown o w
 NamesKnown o w = Unit {0}
 
--- So of an instruction.
+-- An instruction that pushes no value, or one that is known before any action.
 abbrev pub IsDeclaredIn : Opening → Instr → Type 0
 IsDeclaredIn o i = NamesKnown o i.does
 
@@ -65,7 +65,8 @@ pub record NamesDeclared (o : Opening) (codes : Codes) : Type 0 where
   pub pushed : Each (Each (IsDeclaredIn o)) codes.functions
   pub initials : Each (λ x. IsKnownValue o [] x.1) codes.private_initials
 
--- What a thread of such code means on each list of replies.
+-- The function f gives what a thread of the code, with a budget of at least one tick, means on each list of replies,
+-- where the code names nothing but what the opening declares.
 pub record IsThreadOf (o : Opening) (codes : Codes) (thread budget : ℕ) (f : List Reply → Outcome) : Type 0 where
   pub opening : IsOpening o
   pub code : IsCode codes
@@ -91,7 +92,7 @@ pub record AsksWell (o : Opening) (f : List Reply → Outcome) : Type 0 where
   pub formed :
       (rs : List Reply) (before : List Entry) (a : Action) → (f rs).«end» ≡ Wants a
       → HasGiven o before rs → IsWellFormed o before a
-  -- It names nothing but what the opening declares or one of these replies gave.
+  -- The wanted action names nothing but what the opening declares or one of these replies gave.
   pub names :
       (rs : List Reply) (before : List Entry) (a : Action) → (f rs).«end» ≡ Wants a
       → HasGiven o before rs → NamesGiven o rs a

@@ -27,16 +27,16 @@ lock_in r = None
 abbrev pub objects_given : Opening → List Reply → List ObjectRef
 objects_given o replies = o.declared ++ filter_map object_in replies
 
--- One of them has this number.
+-- Among the objects that a thread may name is one with this number.
 abbrev pub is_object_given : Opening → List Reply → ℕ → Bool
 is_object_given o replies n = list_any (λ x. x.number == n) (objects_given o replies)
 
--- A reply gave this lock.
+-- One of the replies gave this lock.
 abbrev pub is_lock_given : List Reply → ℕ → Bool
 is_lock_given replies l = list_any (λ k. k == l) (filter_map lock_in replies)
 
--- A number; a pointer that is null or leads into an object that was given, which it names in every field; a lock that
--- is null or was given.
+-- What a scalar names was given: it is a number, a pointer that is null or leads into an object that was given, which
+-- it names in every field, or a lock that is null or was given.
 abbrev pub is_given : Opening → List Reply → Scalar → Bool
 is_given o replies (scalar.Int v) = true
 is_given o replies (scalar.Shared p) = is_null p || list_any (same_object p.object) (objects_given o replies)

@@ -6,7 +6,7 @@ use Rattle.upc_values.specs.declared.record.ToldEnd.TheVariants.{Wants}
 use Rattle.upc_values.specs.Outcomes.{Outcome}
 use Rattle.thread_steps.specs.Fronts.{IsInTurn}
 
--- What a thread wants, if it wants an action.
+-- The action that a thread wants, if its end is that it wants one.
 abbrev pub wanted_by : ToldEnd → List Action
 wanted_by (Wants a) = a ∷ []
 wanted_by e = []

@@ -6,19 +6,19 @@ use Rattle.clap.specs.Simple.{on_top}
 use Rattle.clap.specs.declared.builder.action.ArgAction.TheVariants.{Set}
 use Rattle.clap.specs.declared.builder.value_parser.ValueParser.TheVariants.{Unsigned}
 
--- A word that has to be there, known by its place.
+-- The rule of a word that has to be there, known by its place.
 abbrev pub word_rule : Text → Rule
 word_rule id = record (new_rule id) { required = true; action = Some Set }
 
--- A number from 1 to `most`.
+-- The rule of an option that is a number from 1 to `most`.
 abbrev pub number_rule : Text → ℕ → Rule
 number_rule id most = record (new_rule id) { action = Some Set; parser = Some (Unsigned 1 most) }
 
--- `-T n`, the number of threads, which has to be there.
+-- The rule of `-T n`, the number of threads, which has to be there.
 abbrev pub threads_rule : Rule
 threads_rule = record (number_rule (codes "threads") 32) { short = Some 84; required = true }
 
--- `--budget n`, the ticks that each thread is allowed.
+-- The rule of `--budget n`, the ticks that each thread is allowed.
 abbrev pub budget_rule : Rule
 budget_rule =
     record (number_rule (codes "budget") 1000000000000) {
@@ -26,17 +26,17 @@ budget_rule =
       defaults = codes "100000000" ∷ [];
     }
 
--- `--actions n`, the items that each thread's record may have.
+-- The rule of `--actions n`, the items that each thread's record may have.
 abbrev pub actions_rule : Rule
 actions_rule = record (number_rule (codes "actions") 8388608) { long = Some (codes "actions") }
 
--- `upc`, which is given the words after the program's name and has no flag for help or a version.
+-- The command `upc`, which is given the words after the program's name and has no flag for help or a version.
 abbrev pub bare_app : App
 bare_app =
     on_top (λ s. record s { no_binary_name = true; disable_help_flag = true; disable_version_flag = true })
     (new_app (codes "upc"))
 
--- `upc MODE -T n [--budget n] [--actions n] FILE`.
+-- The command `upc MODE -T n [--budget n] [--actions n] FILE`.
 abbrev pub upc_app : App
 upc_app =
     with_rule

@@ -18,7 +18,7 @@ pub record Asked : Type 0 where
   pub actions : ℕ
   pub file : Text
 
--- What contracts see of a call.
+-- What the words ask for, by the call that the program has made of them.
 abbrev pub view_call : Call → Asked
 view_call call =
     record {
@@ -47,7 +47,7 @@ number_of text =
 abbrev pub number_in : List Row → Text → Option ℕ
 number_in rows id = option_and_then number_of (first_of id rows)
 
--- The mode that was given.
+-- The mode that was given for MODE, if it is one.
 abbrev pub mode_in : List Row → Option Mode
 mode_in rows = option_and_then mode_named (first_of (codes "MODE") rows)
 
@@ -55,13 +55,13 @@ mode_in rows = option_and_then mode_named (first_of (codes "MODE") rows)
 abbrev pub share : ℕ → ℕ
 share threads = 4194304 / threads
 
--- First the one, then what its value leads to.
+-- First a value, and then, where there is one, what it leads to.
 infixl 10 ◌>>=◌
 abbrev pub ◌>>=◌ : {A B : Type 0} → Option A → (A → Option B) → Option B
 None >>= f = None
 (Some x) >>= f = f x
 
--- The values together, where each that has to be there is.
+-- What these values ask for, where each that has to be there is.
 abbrev pub asked_from : Option Mode → Option ℕ → Option ℕ → Option ℕ → Option Text → Option Asked
 asked_from mode threads budget actions file = do
   m ← mode
@@ -70,7 +70,7 @@ asked_from mode threads budget actions file = do
   f ← file
   Some (record { mode = m; threads = t; budget = b; actions = unwrap_or actions (share t); file = f })
 
--- The values of what was found.
+-- What the values found in the words ask for, where each that has to be there is.
 abbrev pub asked_by : List Row → Option Asked
 asked_by rows =
     asked_from (mode_in rows) (number_in rows (codes "threads")) (number_in rows (codes "budget"))
@@ -89,7 +89,7 @@ pub record IsAllowed (a : Asked) : Type 0 where
   pub items : a.threads * a.actions ≤ 8388608
   pub sample : a.mode ≡ Sample → IsSampleNumber a.file
 
--- Each value lies in its range.
+-- Each value that is asked for lies in its range.
 pub record IsInRange (a : Asked) : Type 0 where
   pub one_thread : 1 ≤ a.threads
   pub threads : a.threads ≤ 32

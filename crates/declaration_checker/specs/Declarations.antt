@@ -29,31 +29,39 @@ pub use Rattle.typed_tree.specs.Words.{element_use}
 
 -- ---- where `[*]` may stand, and what declares a tag alone
 
--- The declarator is an array without a star, so that the layout among the specifiers is that of its elements.
+-- The declarator is an array without a star, so that the layout among the specifiers is that of its elements
+-- (UPC 6.5.1.1).
 abbrev pub is_plain_array : Declarator → Bool
 is_plain_array (ObjectDeclarator pointers name sizes) = is_none pointers && has_sizes sizes
 is_plain_array (FunctionDeclarator stars name parameters) = false
 
+-- The declarator without its initialiser (C99 6.7).
 abbrev pub declarator_of : d.Declared → Declarator
 declarator_of (DeclaredAs declarator i) = declarator
 
+-- Each further declarator is an array without a star.
 abbrev pub all_plain_arrays : NextDeclareds → Bool
 all_plain_arrays NoNextDeclareds = true
 all_plain_arrays (AndDeclared comma x more) = is_plain_array (declarator_of x) && all_plain_arrays more
 
+-- There is a declarator, and each is an array without a star, so that `[*]` may stand among the specifiers
+-- (UPC 6.5.1.1).
 abbrev pub declares_arrays : DeclaredList → Bool
 declares_arrays NoneDeclared = false
 declares_arrays (SomeDeclared first more) = is_plain_array (declarator_of first) && all_plain_arrays more
 
+-- The declaration has no declarator, so that it declares a tag at most (C99 6.7.2.3).
 abbrev pub is_alone : DeclaredList → Bool
 is_alone NoneDeclared = true
 is_alone (SomeDeclared first more) = false
 
 -- ---- functions
 
+-- What a function gives and takes, by the type of its result and by its parameters (C99 6.7.5.3).
 abbrev pub signature_of : Shaped → Declared → Signature
 signature_of result ps = record { result = result.ctype; parameters = ps.types }
 
+-- The walk over the node of a prototype, after which its function is known as declared (C99 6.7.5.3).
 abbrev pub declares_function : Setting → Env → Place → ℕ → Bool → Signature → Walk (Unit {0})
 declares_function ξ Γ place name forms signature =
     andthen (look (λ s. prototype_again ξ Γ s name signature)) (λ again.
@@ -62,22 +70,25 @@ declares_function ξ Γ place name forms signature =
 
 -- ---- initialisers (C99 6.7.8)
 
--- At file scope a constant is asked for.
+-- An initialiser of a file-scope object is judged as a constant, and no other is (C99 6.7.8).
 abbrev pub initial_constant : Setting → Bool → k.Expr → Walk (Unit {0})
 initial_constant ξ true a = andthen (constantly ξ a) (λ c. give (tt {0}))
 initial_constant ξ false a = give (tt {0})
 
+-- The walk over one initial value that is used so; at file scope it is judged as a constant (C99 6.7.8).
 abbrev pub walk_initial_value : Setting → Env → Bool → Use → Expr → Walk k.Expr
 walk_initial_value ξ Γ file how value =
     andthen (walk ξ Γ how value) (λ a. andthen (initial_constant ξ file a) (λ u. give a))
 
+-- The walk over the further values of a list of initial values, in order (C99 6.7.8).
 abbrev pub walk_initial_values : Setting → Env → Bool → Use → NextExprs → Walk Exprs
 walk_initial_values ξ Γ file how NoNextExprs = give k.NoExprs
 walk_initial_values ξ Γ file how (AndExpr comma value more) =
     andthen (walk_initial_value ξ Γ file how value) (λ x. andthen (walk_initial_values ξ Γ file how more) (λ xs.
     give (k.AndExpr x xs)))
 
--- The initialiser of what a declarator declares: of an object of a type, or of a function.
+-- The walk over the initialiser, if any, of what a declarator declares: an object of this type, or a function, which
+-- may have none (C99 6.7.8).
 abbrev pub walk_initial : Setting → Env → Place → Bool → CType → d.Initial → Walk k.Initial
 walk_initial ξ Γ place object t d.NoInitial = give k.NoInitial
 walk_initial ξ Γ place object t (d.ValueInitial equal value) =
@@ -91,11 +102,13 @@ walk_initial ξ Γ place object t (d.ListInitial equal left first more right) =
 
 -- ---- declarations
 
--- The scope behind declarators, and the objects that they declare.
+-- The scope after declarators, and the objects that they declare (C99 6.7).
 pub record Behind : Type 0 where
   pub scope : Env
   pub objects : List DeclaredObject
 
+-- What declarators leave with one object more: the scope after it, and the object with its home by the scope before it
+-- (C99 6.2.1, 6.7).
 abbrev pub with_object : Behind → Env → Place → List ℕ → CType → Env → k.Initial → Behind
 with_object before Γ place name t behind initial = record {
   scope = behind;
@@ -103,8 +116,7 @@ with_object before Γ place name t behind initial = record {
       before.objects ++ (record { at = place; name = name; home = next_home t Γ; ctype = t; initial = initial } ∷ []);
 }
 
--- A declarator with its initialiser. What it declares is in scope in the initialiser already (C99 6.2.1). `place` is
--- that of the declaration.
+-- The walk over a declarator with its initialiser, in which what it declares is in scope already (C99 6.2.1, 6.7.5).
 abbrev pub walk_declared : Setting → Place → Shaped → Behind → d.Declared → Walk Behind
 walk_declared ξ place t before (DeclaredAs (ObjectDeclarator pointers name sizes) initial) =
     let Γ = before.scope in
@@ -126,21 +138,25 @@ walk_declared ξ place t before (DeclaredAs (FunctionDeclarator pointers name pa
     andthen (walk_initial ξ behind at false int initial) (λ i.
     give (record { scope = behind; objects = before.objects })))))
 
+-- The walk over the further declarators of a declaration, each in scope in those after it (C99 6.2.1, 6.7).
 abbrev pub walk_next_declareds : Setting → Place → Shaped → Behind → NextDeclareds → Walk Behind
 walk_next_declareds ξ place t before NoNextDeclareds = give before
 walk_next_declareds ξ place t before (AndDeclared comma x more) =
     andthen (walk_declared ξ place t before x) (λ b. walk_next_declareds ξ place t b more)
 
+-- The walk over all declarators of a declaration, in order (C99 6.7).
 abbrev pub walk_declared_list : Setting → Place → Shaped → Behind → DeclaredList → Walk Behind
 walk_declared_list ξ place t before NoneDeclared = give before
 walk_declared_list ξ place t before (SomeDeclared first more) =
     andthen (walk_declared ξ place t before first) (λ b. walk_next_declareds ξ place t b more)
 
+-- What stands around the specifiers of a declaration: `[*]` may stand there where they declare arrays alone, and
+-- `static` at file scope (C99 6.7.1, UPC 6.5.1.1).
 abbrev pub specifying : Place → Env → DeclaredList → Specifying
 specifying at Γ list = record { at = at; star = declares_arrays list; static = is_file Γ; alone = is_alone list }
 
--- A declaration: its specifiers form a type before its declarators, and what else they break is judged behind its
--- initialisers.
+-- The walk over a declaration: its specifiers form a type before its declarators, and what else they break is judged
+-- after its initialisers (C99 6.7).
 abbrev pub walk_declaration : Setting → Env → Declaration → Walk Behind
 walk_declaration ξ Γ (Declares specs list semicolon) =
     andthen (walk_specifiers ξ Γ (specifying (specs_place specs) Γ list) specs) (λ p.

@@ -37,12 +37,12 @@ use Rattle.walk_state.specs.Known.{refer, close_struct, open_struct, is_again}
 
 -- ---- parts
 
--- A constant expression is done: it stands where one is asked for.
+-- An expression is judged where a constant is asked for, and its constant is given (C99 6.6).
 abbrev pub constantly : Setting → k.Expr → Walk Value
 constantly ξ a = andthen (judge ξ (place_of a) (n.Constantly (attr_of a))) (λ u. give (attr_of a).constant)
 
--- Specifiers end: those that form no type break rule 4 there, before any rule that asks for their type. The
--- declaration that they stand in goes on, so nothing is counted yet.
+-- Specifiers end: those that form no type break rule 4 there, before any rule that asks for their type. The declaration
+-- that they stand in goes on, so nothing is counted yet (C99 6.7.2).
 unfoldable pub end_specifiers : Setting → Place → Specified → Walk (Unit {0})
 end_specifiers ξ at p s = record {
   seen = record { at = at; facts = facts_in ξ s; node = n.Specifies (forms_type p) } ∷ [];
@@ -50,14 +50,16 @@ end_specifiers ξ at p s = record {
   value = tt {0};
 }
 
--- Specifiers with their end, which comes before what stands behind them.
+-- The walk over specifiers with their end, which comes before what stands after them (C99 6.7.2).
 abbrev pub to_their_end : Setting → Place → Walk Specified → Walk Specified
 to_their_end ξ at specifiers = andthen specifiers (λ p. andthen (end_specifiers ξ at p) (λ u. give p))
 
 -- ---- the walk
 
+-- The walk over expressions, types, members and parameters, children first and from left to right (C99 6.5, 6.7;
+-- UPC 6.4, 6.5).
 abbrev mutual
-  -- An expression that is used so.
+  -- The walk over an expression that is used so (C99 6.5, UPC 6.4).
   pub walk : Setting → Env → Use → Expr → Walk k.Expr
   walk ξ Γ how (Named name) =
       finish ξ (name_at name) (n.Name how (meaning ξ Γ name.number)) (λ φ. name_kind ξ (meaning ξ Γ name.number)
@@ -107,32 +109,34 @@ abbrev mutual
       andthen (walk ξ Γ n.Plain first) (λ x. andthen (walk_more ξ Γ [] more) (λ xs.
       finish ξ (place_of x) (n.Comma (last_of x xs)) (λ φ. k.Comma (k.AndExpr x xs))))
 
-  -- The arguments of a call, each with its use.
+  -- The walk over the arguments of a call, each with its use (C99 6.5.2.2).
   pub walk_arguments : Setting → Env → List Use → Arguments → Walk Exprs
   walk_arguments ξ Γ uses (NoArguments right) = give k.NoExprs
   walk_arguments ξ Γ uses (SomeArguments first more right) =
       andthen (walk ξ Γ (first_use uses) first) (λ x. andthen (walk_more ξ Γ (later_uses uses) more) (λ xs.
       give (k.AndExpr x xs)))
 
+  -- The walk over the further expressions of a list, each with its use; one without a use of its own is plain.
   pub walk_more : Setting → Env → List Use → NextExprs → Walk Exprs
   walk_more ξ Γ uses NoNextExprs = give k.NoExprs
   walk_more ξ Γ uses (AndExpr comma value more) =
       andthen (walk ξ Γ (first_use uses) value) (λ x. andthen (walk_more ξ Γ (later_uses uses) more) (λ xs.
       give (k.AndExpr x xs)))
 
-  -- A type name, which is refused there.
+  -- The walk over a type name, whose breaks stand at this place (C99 6.7.6).
   pub walk_type : Setting → Env → Place → TypeName → Walk Formed
   walk_type ξ Γ at (Typed specs pointers sizes) =
       andthen (to_their_end ξ at (walk_specs ξ Γ (in_type at) specs)) (λ p.
       andthen (walk_pointers ξ Γ false (specified_type p) pointers) (λ t.
       andthen (walk_sizes ξ Γ sizes) (λ ns. give (formed ξ.threads (named_type (specifiers_form false p) t) ns))))
 
-  -- Specifiers and qualifiers.
+  -- The walk over specifiers and qualifiers, in order (C99 6.7).
   pub walk_specs : Setting → Env → Specifying → Specs → Walk Specified
   walk_specs ξ Γ how NoSpecs = give nothing_specified
   walk_specs ξ Γ how (AndSpec spec more) =
       andthen (walk_spec ξ Γ how spec) (λ p. andthen (walk_specs ξ Γ how more) (λ q. give (both_specified p q)))
 
+  -- The walk over one specifier: a word, a qualifier, a tag, or a struct with its members (C99 6.7.1 to 6.7.3).
   pub walk_spec : Setting → Env → Specifying → Spec → Walk Specified
   walk_spec ξ Γ how (WordSpec word span) = give (record { words = word ∷ []; structs = []; quals = no_quals })
   walk_spec ξ Γ how (QualSpec qual) =
@@ -145,11 +149,13 @@ abbrev mutual
       andthen (close_struct ξ (at word) number ms) (λ u.
       give (record { words = []; structs = number ∷ []; quals = no_quals }))))
 
+  -- The walk over the qualifiers of a pointer, in order (C99 6.7.3, 6.7.5.1).
   pub walk_quals : Setting → Env → Bool → Quals → Walk s.Quals
   walk_quals ξ Γ star NoQuals = give no_quals
   walk_quals ξ Γ star (AndQual qual more) =
       andthen (walk_qual ξ Γ star qual) (λ p. andthen (walk_quals ξ Γ star more) (λ q. give (both_quals p q)))
 
+  -- The walk over one qualifier, whose layout may be `[*]` or not (C99 6.7.3, UPC 6.5.1).
   pub walk_qual : Setting → Env → Bool → Qual → Walk s.Quals
   walk_qual ξ Γ star (Const word) = give (record { constant = true; layouts = []; strict = false; relaxed = false })
   walk_qual ξ Γ star (Strict word) = give (record { constant = false; layouts = []; strict = true; relaxed = false })
@@ -158,7 +164,7 @@ abbrev mutual
       andthen (walk_layout ξ Γ star layout) (λ l.
       give (record { constant = false; layouts = l ∷ []; strict = false; relaxed = false }))
 
-  -- A layout: none is block size 1, an empty one is indefinite.
+  -- The walk over a layout: without one the block size is 1, and empty brackets are indefinite (UPC 6.5.1.1).
   pub walk_layout : Setting → Env → Bool → Layout → Walk s.Layout
   walk_layout ξ Γ star NoLayout = give (s.Blocks 1)
   walk_layout ξ Γ star (IndefiniteLayout left right) = give (s.Blocks 0)
@@ -167,19 +173,21 @@ abbrev mutual
       andthen (walk ξ Γ n.Plain size) (λ a. andthen (constantly ξ a) (λ c.
       andthen (judge ξ (at left) (n.Block (attr_of a))) (λ u. give (s.Blocks (block_size c)))))
 
-  -- Stars, from left to right; `[*]` may stand behind the last one where sizes follow.
+  -- The walk over stars from left to right, each of which makes a pointer; `[*]` may stand after the last one where
+  -- sizes follow (C99 6.7.5.1, UPC 6.5.1.1).
   pub walk_pointers : Setting → Env → Bool → Shaped → Pointers → Walk Shaped
   walk_pointers ξ Γ star t NoPointers = give t
   walk_pointers ξ Γ star t (AndPointer span quals more) =
       andthen (walk_quals ξ Γ (star && is_none more) quals) (λ q. walk_pointers ξ Γ star (pointer_to t q) more)
 
+  -- The walk over the sizes of an array, outermost first (C99 6.7.5.2).
   pub walk_sizes : Setting → Env → Dimensions → Walk (List Value)
   walk_sizes ξ Γ NoDimensions = give []
   walk_sizes ξ Γ (AndDimension left size right more) =
       andthen (walk ξ Γ n.Plain size) (λ a. andthen (constantly ξ a) (λ c.
       andthen (walk_sizes ξ Γ more) (λ cs. give (c ∷ cs))))
 
-  -- The members of a struct behind others.
+  -- The walk over the members of a struct, which come after those that it has already (C99 6.7.2.1).
   pub walk_members : Setting → Env → List Member → Members → Walk (List Member)
   walk_members ξ Γ before NoMembers = give before
   walk_members ξ Γ before (AndMember specs first next semicolon more) =
@@ -188,11 +196,13 @@ abbrev mutual
       andthen (walk_next_members ξ Γ (specified_type p) ms next) (λ all.
       andthen (judge ξ (specs_place specs) (n.Specifies (specifiers_form false p))) (λ u. walk_members ξ Γ all more))))
 
+  -- The walk over the further declarators of members that share their specifiers (C99 6.7.2.1).
   pub walk_next_members : Setting → Env → Shaped → List Member → NextDeclarators → Walk (List Member)
   walk_next_members ξ Γ t before NoNextDeclarators = give before
   walk_next_members ξ Γ t before (AndDeclarator comma declarator more) =
       andthen (walk_member ξ Γ t before declarator) (λ ms. walk_next_members ξ Γ t ms more)
 
+  -- The walk over one declarator of a member; a function, which no member may be, adds none (C99 6.7.2.1).
   pub walk_member : Setting → Env → Shaped → List Member → Declarator → Walk (List Member)
   walk_member ξ Γ t before (ObjectDeclarator pointers name sizes) =
       andthen (walk_pointers ξ Γ false t pointers) (λ p. andthen (walk_sizes ξ Γ sizes) (λ ns.
@@ -205,18 +215,20 @@ abbrev mutual
       andthen (judge ξ (pointers_place pointers name) (n.MemberFunction p.forms p.ctype)) (λ u.
       give before)))
 
-  -- Parameters, in a scope of their own.
+  -- The walk over the parameters of a function, in the scope that they have for themselves (C99 6.2.1, 6.7.5.3).
   pub walk_parameters : Setting → Env → Parameters → Walk Declared
   walk_parameters ξ Γ (NoParameters left right) = give (record { types = []; scope = Γ })
   walk_parameters ξ Γ (VoidParameters left word right) = give (record { types = []; scope = Γ })
   walk_parameters ξ Γ (SomeParameters left first more right) =
       andthen (walk_parameter ξ (record { types = []; scope = Γ }) first) (λ d. walk_next_parameters ξ d more)
 
+  -- The walk over the further parameters of a function, each in scope in those after it (C99 6.2.1, 6.7.5.3).
   pub walk_next_parameters : Setting → Declared → NextParameters → Walk Declared
   walk_next_parameters ξ before NoNextParameters = give before
   walk_next_parameters ξ before (AndParameter comma parameter more) =
       andthen (walk_parameter ξ before parameter) (λ d. walk_next_parameters ξ d more)
 
+  -- The walk over one parameter, which is in scope after itself (C99 6.2.1, 6.7.5.3).
   pub walk_parameter : Setting → Declared → Parameter → Walk Declared
   walk_parameter ξ before (Parametric specs pointers name array) =
       andthen (to_their_end ξ (specs_place specs) (walk_specs ξ before.scope (in_type (specs_place specs)) specs)) (λ p.
@@ -225,13 +237,13 @@ abbrev mutual
       andthen (judge ξ (specs_place specs) (n.Parameter (is_again ξ before.scope name) f)) (λ u.
       give (with_parameter before name f.ctype)))))
 
-  -- The brackets of a parameter.
+  -- The walk over the brackets of a parameter, if it has some, with a size or without (C99 6.7.5.3).
   pub walk_array : Setting → Env → Shaped → ParameterArray → Walk Formed
   walk_array ξ Γ t NoArray = give (formed ξ.threads t [])
   walk_array ξ Γ t (UnsizedArray left right) = give (parameter_array ξ.threads t None)
   walk_array ξ Γ t (SizedArray left size right) =
       andthen (walk ξ Γ n.Plain size) (λ a. andthen (constantly ξ a) (λ c. give (parameter_array ξ.threads t (Some c))))
 
--- Specifiers and qualifiers with their end.
+-- The walk over the specifiers of a declaration, with their end (C99 6.7).
 abbrev pub walk_specifiers : Setting → Env → Specifying → Specs → Walk Specified
 walk_specifiers ξ Γ how specs = to_their_end ξ how.at (walk_specs ξ Γ how specs)

@@ -18,7 +18,7 @@ abbrev pub is_call : Expr → Bool
 is_call (Call callee left arguments) = true
 is_call x = false
 
--- Another expression that begins with one of its parts, or with a parenthesis around it (C99 6.5.1, 6.5.2).
+-- An expression in parentheses, a subscript, a member, or `++` or `--` after its operand (C99 6.5.1, 6.5.2).
 abbrev pub is_postfix : Expr → Bool
 is_postfix (Paren left inner right) = true
 is_postfix (Subscript a left i right) = true
@@ -26,7 +26,7 @@ is_postfix (MemberOf a mark dot name) = true
 is_postfix (Postfix a mark span) = true
 is_postfix x = false
 
--- An operator in front of an expression (C99 6.5.3).
+-- An operator before its operand, which is an expression (C99 6.5.3).
 abbrev pub is_prefix : Expr → Bool
 is_prefix (Unary mark span a) = true
 is_prefix (SizeOfExpr word span a) = true
@@ -38,12 +38,12 @@ is_typed (SizeOfType word span left type right) = true
 is_typed (Cast left type right a) = true
 is_typed x = false
 
--- A choice (C99 6.5.15).
+-- A conditional expression (C99 6.5.15).
 abbrev pub is_choice : Expr → Bool
 is_choice (Conditional test question a colon b) = true
 is_choice x = false
 
--- Other operands with operators between them (C99 6.5.5 to 6.5.17).
+-- An operator between two operands, an assignment, or a comma expression (C99 6.5.5 to 6.5.14, 6.5.16, 6.5.17).
 abbrev pub is_infix : Expr → Bool
 is_infix (Binary a mark span b) = true
 is_infix (Assign a mark span b) = true

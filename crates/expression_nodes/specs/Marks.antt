@@ -27,18 +27,21 @@ use Rattle.typing_rules.specs.Nodes.{Attr, Node, Use}
 use Rattle.typed_tree.specs.Tree as t
 use Rattle.typed_tree.specs.Tree.{Expr, ExprKind}
 
+-- The integer kind of a number by the type of its constant (C99 6.4.4.1).
 abbrev pub number_kind : NumberKind → Kind
 number_kind u.Int = k.Int
 number_kind u.UInt = k.UInt
 number_kind u.Long = k.Long
 number_kind u.ULong = k.ULong
 
+-- The size operator that each word means (C99 6.5.3.4, UPC 6.4.1).
 abbrev pub size_operator : SizeWord → SizeOperator
 size_operator s.Sizeof = Bytes
 size_operator s.Localsizeof = LocalBytes
 size_operator s.Blocksizeof = BlockSize
 size_operator s.Elemsizeof = ElementBytes
 
+-- The node of an operator before its operand (C99 6.5.3.1 to 6.5.3.3).
 abbrev pub unary_node : UnaryMark → Attr → Node
 unary_node AddressOf x = n.Address x
 unary_node Dereference x = n.Dereference x
@@ -49,6 +52,8 @@ unary_node Not x = n.Unary v.Not x
 unary_node Increment x = n.Step x
 unary_node Decrement x = n.Step x
 
+-- The typed expression of an operator before its operand; `++` and `--` there give the new value (C99 6.5.3.1 to
+-- 6.5.3.3).
 abbrev pub unary_kind : UnaryMark → Expr → ExprKind
 unary_kind AddressOf x = t.Address x
 unary_kind Dereference x = t.Dereference x
@@ -59,10 +64,12 @@ unary_kind Not x = t.Unary v.Not x
 unary_kind Increment x = t.Step IncrementFirst x
 unary_kind Decrement x = t.Step DecrementFirst x
 
+-- The operator of `++` and `--` after their operand, where they give the old value (C99 6.5.2.4).
 abbrev pub postfix_operator : PostfixMark → StepOperator
 postfix_operator p.Increment = IncrementAfter
 postfix_operator p.Decrement = DecrementAfter
 
+-- The node of an operator between two operands (C99 6.5.5 to 6.5.14).
 abbrev pub binary_node : BinaryMark → Attr → Attr → Node
 binary_node b.Multiply x y = n.Binary o.Multiply x y
 binary_node b.Divide x y = n.Binary o.Divide x y
@@ -83,6 +90,7 @@ binary_node b.BitOr x y = n.Binary o.BitOr x y
 binary_node b.And x y = n.And x y
 binary_node b.Or x y = n.Or x y
 
+-- The typed expression of an operator between two operands (C99 6.5.5 to 6.5.14).
 abbrev pub binary_kind : BinaryMark → Expr → Expr → ExprKind
 binary_kind b.Multiply x y = t.Binary o.Multiply x y
 binary_kind b.Divide x y = t.Binary o.Divide x y
@@ -103,11 +111,13 @@ binary_kind b.BitOr x y = t.Binary o.BitOr x y
 binary_kind b.And x y = t.And x y
 binary_kind b.Or x y = t.Or x y
 
--- The right side of `=` converts into the type of the left one; that of a compound assignment is an operand.
+-- How the right side of an assignment is used: that of `=` converts into the type of the left side, that of a compound
+-- assignment is a plain operand (C99 6.5.16).
 abbrev pub right_use : AssignMark → CType → Use
 right_use a.Assign type = n.Into type
 right_use mark type = n.Plain
 
+-- The node of an assignment, by `=` or compound (C99 6.5.16).
 abbrev pub assign_node : AssignMark → Attr → Attr → Node
 assign_node a.Assign x y = n.Assign x y
 assign_node a.Multiply x y = n.Compound o.Multiply x y
@@ -121,6 +131,7 @@ assign_node a.BitAnd x y = n.Compound o.BitAnd x y
 assign_node a.BitXor x y = n.Compound o.BitXor x y
 assign_node a.BitOr x y = n.Compound o.BitOr x y
 
+-- The typed expression of an assignment, by `=` or compound (C99 6.5.16).
 abbrev pub assign_kind : AssignMark → Expr → Expr → ExprKind
 assign_kind a.Assign x y = t.Assign x y
 assign_kind a.Multiply x y = t.Compound o.Multiply x y

@@ -14,23 +14,29 @@ use Rattle.typed_tree.specs.Tree as k
 use Rattle.typed_tree.specs.Tree.{ExprKind, Exprs, attr_of}
 pub use Rattle.typed_tree.specs.Words.{text_in, text_of, format_in, last_of}
 
+-- The bytes of neighbouring strings, joined into one (C99 5.1.1.2, 6.4.5).
 abbrev pub joined : List StringLiteral → List ℕ
 joined [] = []
 joined (x ∷ xs) = x.bytes ++ joined xs
 
+-- The node of `.` or `->` with the name of a member (C99 6.5.2.3).
 abbrev pub member_of : MemberMark → Attr → List ℕ → n.Node
 member_of Dot a name = n.MemberOf a name
 member_of Arrow a name = n.MemberBehind a name
 
+-- The typed expression of `.` or `->`, with the number of the member of this name in its struct (C99 6.5.2.3).
 abbrev pub member_kind : MemberMark → k.Expr → List ℕ → Facts → ExprKind
 member_kind Dot a name φ = k.Member a (found_index (member_named φ.structs (attr_of a).ctype name))
 member_kind Arrow a name φ = k.MemberBehind a (target_index φ.structs (base_target (base (attr_of a))) name)
 
+-- The node of `MYTHREAD`, `THREADS` or `UPC_MAX_BLOCK_SIZE` (UPC 6.3).
 abbrev pub constant_node : Setting → ConstantWord → n.Node
 constant_node ξ c.Mythread = n.Mythread
 constant_node ξ c.Threads = n.Threads ξ.threads
 constant_node ξ c.MaxBlockSize = n.MaxBlockSize
 
+-- The typed expression of `MYTHREAD`, which differs from thread to thread, or of `THREADS` or `UPC_MAX_BLOCK_SIZE`,
+-- which are constants (UPC 6.3).
 abbrev pub constant_kind : ConstantWord → ExprKind
 constant_kind c.Mythread = k.Mythread
 constant_kind word = k.Literal

@@ -8,8 +8,8 @@ use Rattle.typing_rules.specs.Rules.{lowest}
 use Rattle.node_attributes.specs.declared.reached.MemberNode.{MemberNode}
 use Rattle.walk_state.specs.Finishes.{Refuses}
 
--- The node meets every rule, and this is what it is, with the number of the member; else the lowest rule that it
--- breaks is answered, or want of memory.
+-- The node of a member meets every rule, and the answer has its attribute and the member's number; else the answer is
+-- the lowest rule that the node breaks, or want of memory.
 abbrev pub JudgesMember : Facts → Place → Node → ℕ → Result MemberNode Stop → Type 0
 JudgesMember φ at x index (Ok m) = (lowest φ x ≡ None) × (view_attr m.attr ≡ attr φ x) × (m.index ≡ index)
 JudgesMember φ at x index (Err e) = Refuses (lowest φ x) at e

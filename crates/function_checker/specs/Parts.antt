@@ -11,12 +11,12 @@ use Rattle.walk_state.specs.Walk.{Walk, give, andthen, judge}
 use Rattle.statement_checker.specs.Statements.{walk_block}
 use Rattle.function_checker.specs.Units.{Made, Earlier, body_around, with_definition}
 
--- What was said of a function before its definition, where this is known.
+-- What is known of a function before its definition, by all that was declared so far (C99 6.9.1).
 abbrev pub earlier_in : Setting → Env → State → ℕ → Signature → Earlier
 earlier_in ξ Γ s name signature =
     record { again = definition_again ξ Γ s name; differs = differs name signature s.functions }
 
--- A definition whose function is in scope: its body in this scope, and its own node.
+-- The walk over a definition whose function and parameters are in scope: its body, and its own node (C99 6.9.1).
 abbrev pub body_part : Setting → Bool → Made → Place → Bool → Name → Signature → Earlier → Compound → Env → Walk Made
 body_part ξ strict before place forms name signature was body Γ =
     andthen (walk_block ξ Γ (body_around signature.result) strict body) (λ x.

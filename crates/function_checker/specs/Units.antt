@@ -32,46 +32,51 @@ pub use Rattle.typed_tree.specs.Words.{is_int_base, is_empty, is_main_function}
 
 -- ---- what the source defines
 
--- The functions that the source defines, in order.
+-- The names of the functions that a source defines, by their numbers, in order (C99 6.9.1).
 abbrev pub defined_in : List External → List ℕ
 defined_in [] = []
 defined_in (FunctionPart specs stars name parameters body ∷ xs) = name.number ∷ defined_in xs
 defined_in (x ∷ xs) = defined_in xs
 
+-- The place of the first token of a pragma, a declaration or a definition (C99 6.9).
 abbrev pub external_place : External → Place
 external_place (PragmaPart pragma) = pragma.span.place
 external_place (DeclarationPart (Declares specs list semicolon)) = specs_place specs
 external_place (FunctionPart specs stars name parameters body) = specs_place specs
 
--- The first token of the source.
+-- The place of the first token of a source, or 1:1 where it has none.
 abbrev pub source_place : List External → Place
 source_place [] = no_place
 source_place (x ∷ xs) = external_place x
 
 -- ---- functions (C99 6.9.1)
 
--- What the source has declared and defined.
+-- What a source has declared and defined so far: its scope, its objects and its functions (C99 6.9).
 pub record Made : Type 0 where
   pub scope : Env
   pub objects : List DeclaredObject
   pub functions : List Function
 
+-- What stands around the body of a function with this result: no loop, no switch and no upc_forall (C99 6.9.1).
 abbrev pub body_around : CType → Around
 body_around result = record { result = value_type result; breaks = enclosing.Nothing; loops = false; forall = false }
 
--- What was said of a function before its definition: whether that declares it again, and whether it differs.
+-- What is known of a function before its definition: whether the definition declares its name again, and whether it
+-- differs from a prototype (C99 6.7.5.3, 6.9.1).
 pub record Earlier : Type 0 where
   pub again : Bool
   pub differs : Bool
 
+-- The walk looks up what is known of a function before its definition (C99 6.9.1).
 abbrev pub earlier : Setting → Env → ℕ → Signature → Walk Earlier
 earlier ξ Γ name signature =
     look (λ s. record { again = definition_again ξ Γ s name; differs = differs name signature s.functions })
 
+-- What stands around the specifiers of a definition: `static` may stand there, and `[*]` may not (C99 6.7.1, 6.9.1).
 abbrev pub in_definition : Place → Specifying
 in_definition at = record { at = at; star = false; static = true; alone = false }
 
--- The function is in scope in its body, and its parameters and its body are one scope.
+-- What a source has declared and defined, with one function more (C99 6.9.1).
 abbrev pub with_definition : Setting → Made → Place → ℕ → Signature → Statement → Made
 with_definition ξ before place name signature body = record {
   scope = with_entry name (m.Function signature) before.scope;
@@ -86,14 +91,15 @@ with_definition ξ before place name signature body = record {
       } ∷ []);
 }
 
--- A function's parameters have the types that its signature says; so the scope of the body is that of the parameters,
--- inside one that has the function itself.
+-- The scope of a function's body: that of its parameters, inside one in which the function itself is declared
+-- (C99 6.2.1, 6.9.1).
 abbrev pub with_outer_entry : ℕ → Signature → Env → Env
 with_outer_entry name signature (Scope level top counts (Within Γ)) =
     Scope level top counts (Within (with_entry name (m.Function signature) Γ))
 with_outer_entry name signature (Scope level top counts NoScope) = Scope level top counts NoScope
 
--- A definition behind its specifiers and stars, which form a type or not: its parameters, its body, and its own node.
+-- The walk over a definition after its specifiers and stars, of which it is given whether they form a type: its
+-- parameters, its body, and its own node (C99 6.9.1).
 abbrev pub walk_definition : Setting → Bool → Made → Place → Bool → CType → Name → Parameters → Compound → Walk Made
 walk_definition ξ strict before place forms result name parameters body =
     andthen (walk_parameters ξ (inside before.scope) parameters) (λ ps.
@@ -104,12 +110,14 @@ walk_definition ξ strict before place forms result name parameters body =
     andthen (judge ξ place (n.Defines was.again was.differs forms signature)) (λ v.
     give (with_definition ξ before place name.number signature x))))))
 
+-- The walk over a definition, from its specifiers on (C99 6.9.1).
 abbrev pub walk_function : Setting → Bool → Made → Place → Specs → Pointers → Name → Parameters → Compound → Walk Made
 walk_function ξ strict before place specs pointers name parameters body =
     andthen (walk_specifiers ξ before.scope (in_definition place) specs) (λ p.
     andthen (walk_pointers ξ before.scope false (specified_type p) pointers) (λ t.
     enclosed (walk_definition ξ strict before place (specifiers_form true p && t.forms) t.ctype name parameters body)))
 
+-- The walk over a pragma, a declaration or a definition at file scope (C99 6.9, UPC 6.7).
 abbrev pub walk_external : Setting → Bool → Made → External → Walk Made
 walk_external ξ strict before (PragmaPart pragma) = give before
 walk_external ξ strict before (DeclarationPart declaration) =
@@ -118,10 +126,13 @@ walk_external ξ strict before (DeclarationPart declaration) =
 walk_external ξ strict before (FunctionPart specs pointers name parameters body) =
     walk_function ξ strict before (specs_place specs) specs pointers name parameters body
 
+-- Whether accesses are strict after a part of the source: a pragma at file scope decides it, and any other part leaves
+-- it (UPC 6.7).
 abbrev pub strict_from : Bool → External → Bool
 strict_from before (PragmaPart pragma) = pragma.strict
 strict_from before x = before
 
+-- The walk over the parts of a source in order, where accesses are strict or not before the first (C99 6.9, UPC 6.7).
 abbrev pub walk_externals : Setting → Bool → Made → List External → Walk Made
 walk_externals ξ strict before [] = give before
 walk_externals ξ strict before (x ∷ xs) =
@@ -129,24 +140,26 @@ walk_externals ξ strict before (x ∷ xs) =
 
 -- ---- the whole source
 
+-- What is the same for a whole source: its names, the number of threads, the functions that it defines, and that it may
+-- have 65,535 structs, objects, parameters of definitions and functions (C99 5.2.4.1).
 abbrev pub setting : List (List ℕ) → ℕ → List External → Setting
 setting names threads unit = record { names = names; threads = threads; defined = defined_in unit; most = 65535 }
 
--- The walk from the first token to the last. At the start relaxed is in force (UPC 6.7). The file itself is the last
--- node.
+-- The walk over a whole source: at its start relaxed is in force, and the file itself is the last node (C99 6.9,
+-- UPC 6.7).
 abbrev pub walk_unit : Setting → List External → Walk Made
 walk_unit ξ unit =
     andthen (walk_externals ξ false (record { scope = file; objects = []; functions = [] }) unit) (λ made.
     andthen (judge ξ (source_place unit) (n.File (list_any is_main_function made.functions))) (λ u. give made))
 
--- All nodes of a source in the order in which they are finished.
+-- All nodes of a source, in the order in which they are finished (C99 6.5 to 6.9).
 abbrev pub unit_nodes : List (List ℕ) → ℕ → List External → List Seen
 unit_nodes names threads unit = (walk_unit (setting names threads unit) unit begin).seen
 
--- What the source declares and defines, with types.
+-- What a source declares and defines, with types (C99 6.9).
 abbrev pub typed_unit : List (List ℕ) → ℕ → List External → Made
 typed_unit names threads unit = (walk_unit (setting names threads unit) unit begin).value
 
--- The first typing fault of a source.
+-- The first node of a source that breaks a typing rule, with its lowest one, if there is such a node.
 abbrev pub unit_fault : List (List ℕ) → ℕ → List External → Option Fault
 unit_fault names threads unit = first_fault (unit_nodes names threads unit)

@@ -5,7 +5,7 @@ use Rattle.typed_tree.specs.ViewStatements.{view_object, view_function}
 use Rattle.function_checker.specs.declared.units.Made as m
 use Rattle.function_checker.specs.Units.{Made}
 
--- The objects and the functions, in this scope.
+-- What the code has of the objects and functions of a source, as contracts see it, with this scope.
 abbrev pub view_made : Env → m.Made → Made
 view_made scope x =
     record { scope = scope; objects = map view_object x.objects.items; functions = map view_function x.functions.items }

@@ -51,141 +51,163 @@ use Rattle.gen_expr.specs.Sources.{Source, running_of}
 
 -- ---- instructions at a place of the source
 
+-- An instruction that does this work at a place of the source.
 abbrev pub instruction : Place → Operation → Instr
 instruction at w = record { place = at; does = w }
 
+-- An instruction at a place of the source that works on the stack alone.
 abbrev pub stacks : Place → StackWork → Instr
 stacks at w = record { place = at; does = work.Stack w }
 
+-- An instruction at a place of the source that makes a value of values.
 abbrev pub makes : Place → ValueWork → Instr
 makes at w = record { place = at; does = work.Value w }
 
+-- An instruction at a place of the source that jumps within its function.
 abbrev pub jumps : Place → Jump → Instr
 jumps at w = record { place = at; does = work.Way w }
 
+-- An instruction that pushes a value.
 abbrev pub pushes : Place → Value → Instr
 pushes at v = stacks at (stack.Push v)
 
+-- An instruction that converts the value on top (C99 6.3, 6.5.4; UPC 6.4.3).
 abbrev pub casts : Place → CastTo → Instr
 casts at into = makes at (make.Cast into)
 
+-- An instruction that reads the cell of this kind at the place on top, strict or relaxed (C99 6.3.2.1, UPC 6.5.1.1).
 abbrev pub loads : Place → Kind → Bool → Instr
 loads at kind strict = record { place = at; does = work.Object (cell.Load (record { kind = kind; strict = strict })) }
 
+-- An instruction that writes the value on top to the cell of this kind at the place below it, strict or relaxed
+-- (C99 6.5.16, UPC 6.5.1.1).
 abbrev pub saves : Place → Kind → Bool → Instr
 saves at kind strict = record { place = at; does = work.Object (cell.Save (record { kind = kind; strict = strict })) }
 
--- The code of one part behind that of a test: the first is done where the test is not 0, else the second. What is
--- passed is counted by its length.
+-- The code of a test and two parts, of which the first is done where the test is not 0, else the second (C99 6.5.13 to
+-- 6.5.15).
 abbrev pub either_code : Place → (test first second : List Instr) → List Instr
 either_code at test first second =
     test
     ++ (jumps at (jump.SkipIfZero (length first + 1))
     ∷ (first ++ (jumps at (jump.GoOn (length second)) ∷ second)))
 
--- The two operands give way to a value.
+-- The code that puts 0 in the place of the two values on top, where an operator has none for their types.
 abbrev pub no_value_code : Place → List Instr
 no_value_code at = stacks at stack.Pop ∷ (stacks at stack.Pop ∷ (pushes at no_value ∷ []))
 
--- The operand below the top goes.
+-- The code that removes the operand below the top.
 abbrev pub under_code : Place → List Instr
 under_code at = stacks at stack.Swap ∷ (stacks at stack.Pop ∷ [])
 
--- Whether the two pointers on top are not equal (C99 6.5.9).
+-- The code of whether the two pointers on top are not equal (C99 6.5.9).
 abbrev pub different_code : Place → List Instr
 different_code at = makes at make.Same ∷ (stacks at stack.Not ∷ [])
 
--- A unary operator on the value on top (C99 6.5.3.3).
+-- The code of a unary operator on the value on top (C99 6.5.3.3).
 abbrev pub unary_code : Place → UnOp → Option Kind → List Instr
 unary_code at un.Not kind = stacks at stack.Not ∷ []
 unary_code at o (Some kind) = makes at (make.Apply o (promoted kind)) ∷ []
 unary_code at o None = stacks at stack.Pop ∷ (pushes at no_value ∷ [])
 
--- A binary operator on the two integers on top (C99 6.3.1.8).
+-- The code of a binary operator on the two integers on top, after the usual arithmetic conversions (C99 6.3.1.8, 6.5.5
+-- to 6.5.12).
 abbrev pub integers_code : Place → BinOp → (left right : Option Kind) → List Instr
 integers_code at o (Some j) (Some k) = makes at (make.Operate o (working_kind o j k) (right_kind o j k)) ∷ []
 integers_code at o j k = no_value_code at
 
--- How many arguments have a conversion.
+-- How many arguments have a conversion, which are those that are evaluated.
 abbrev pub arguments_count : List CastTo → Exprs → ℕ
 arguments_count (c ∷ cs) (AndExpr a more) = 1 + arguments_count cs more
 arguments_count cs args = 0
 
 module _ (ς : Source) where
-  -- The pointer on top of an integer, so many objects behind or before (C99 6.5.6, UPC 6.4.2).
+  -- The code of a pointer plus the integer on top of it: the place so many objects of a type after it (C99 6.5.6,
+  -- UPC 6.4.2).
   abbrev pub advance_code : Place → CType → List Instr
   advance_code at t = makes at (make.Advance (elements_of ς.structs t) (leaves (base_of t))) ∷ []
 
+  -- The code of a pointer minus the integer on top of it: the place so many objects of a type before it (C99 6.5.6,
+  -- UPC 6.4.2).
   abbrev pub retreat_code : Place → CType → List Instr
   retreat_code at t = makes at (make.Retreat (elements_of ς.structs t) (leaves (base_of t))) ∷ []
 
-  -- A binary operator on two pointers (C99 6.5.6, 6.5.8, 6.5.9).
+  -- The code of a binary operator on two pointers to a type (C99 6.5.6, 6.5.8, 6.5.9).
   abbrev pub on_pointers_code : Place → BinOp → CType → List Instr
   on_pointers_code at op.Subtract t = makes at (make.Difference (elements_of ς.structs t)) ∷ []
   on_pointers_code at op.Equal t = makes at make.Same ∷ []
   on_pointers_code at op.NotEqual t = different_code at
   on_pointers_code at o t = makes at (make.Order o (elements_of ς.structs t)) ∷ []
 
-  -- On a pointer and an integer.
+  -- The code of a binary operator on a pointer to a type and an integer: the sum or the difference, or an equality with
+  -- the constant 0 (C99 6.5.6, 6.5.9).
   abbrev pub on_pointer_code : Place → BinOp → CType → List Instr
   on_pointer_code at op.Add t = advance_code at t
   on_pointer_code at op.Subtract t = retreat_code at t
   on_pointer_code at o t = on_pointers_code at o t
 
-  -- On an integer and a pointer.
+  -- The code of a binary operator on an integer and a pointer to a type: the sum, or an equality with the constant 0
+  -- (C99 6.5.6, 6.5.9).
   abbrev pub before_pointer_code : Place → BinOp → CType → List Instr
   before_pointer_code at op.Add t = stacks at stack.Swap ∷ advance_code at t
   before_pointer_code at o t = on_pointers_code at o t
 
+  -- The code of a binary operator on the two values on top, by the target of each that is a pointer and the kind of
+  -- each that is an integer (C99 6.5.5 to 6.5.12).
   abbrev pub operated_code : Place → BinOp → (left right : Option CType) → (j k : Option Kind) → List Instr
   operated_code at o (Some t) (Some u) j k = on_pointers_code at o t
   operated_code at o (Some t) None j k = on_pointer_code at o t
   operated_code at o None (Some u) j k = before_pointer_code at o u
   operated_code at o None None j k = integers_code at o j k
 
-  -- A binary operator on the values of two types on top (C99 6.5.5 to 6.5.12).
+  -- The code of a binary operator on the two values on top, by their types (C99 6.5.5 to 6.5.12).
   abbrev pub binary_code : Place → BinOp → (left right : CType) → List Instr
   binary_code at o a b = operated_code at o (target_of a) (target_of b) (integer_of a) (integer_of b)
 
+  -- The code of the value of the cell of this kind at the place on top; what has no cell of its own, an array or a
+  -- struct, has the place as its value (C99 6.3.2.1, UPC 6.5.1.1).
   abbrev pub loaded_code : Bool → Place → CType → Option Kind → List Instr
   loaded_code strict at t (Some kind) = loads at kind (is_strict strict t) ∷ []
   loaded_code strict at t None = []
 
-  -- The value of the object of a type at the place on top (C99 6.3.2.1).
+  -- The code of the value of the object of a type at the place on top (C99 6.3.2.1).
   abbrev pub held_code : Bool → Place → CType → List Instr
   held_code strict at t = loaded_code strict at t (cell_kind ς.structs t)
 
+  -- The code that writes the value on top to the cell of this kind at the place below it; for what has no cell of its
+  -- own that place is removed. The value stays (C99 6.5.16, UPC 6.5.1.1).
   abbrev pub saved_code : Bool → Place → CType → Option Kind → List Instr
   saved_code strict at t (Some kind) = saves at kind (is_strict strict t) ∷ []
   saved_code strict at t None = under_code at
 
-  -- The value on top is kept in the object of a type at the place below it, and stays (C99 6.5.16).
+  -- The code by which the object of a type at the place below the top gets the value on top, which stays (C99 6.5.16).
   abbrev pub put_code : Bool → Place → CType → List Instr
   put_code strict at t = saved_code strict at t (cell_kind ς.structs t)
 
-  -- What names an object gives its value (C99 6.3.2.1).
+  -- The code that follows an expression whose value is wanted: an lvalue is read (C99 6.3.2.1).
   abbrev pub value_in_code : Bool → Place → Attr → List Instr
   value_in_code strict at attr = if is_lvalue attr.form then held_code strict at attr.ctype else []
 
-  -- Where a named object lies (C99 6.2.4, UPC 6.5.1).
+  -- The code of where a named object lies (C99 6.2.4, UPC 6.5.1).
   abbrev pub object_code : Place → Home → List Instr
   object_code at (home.Private n) = pushes at (value.Local (local.Private n (pos 0))) ∷ []
   object_code at (home.Shared n) = pushes at (shared_object (running_of ς) n) ∷ []
   object_code at (home.Local n) = record { place = at; does = work.Object (cell.Local n) } ∷ []
 
-  -- The place that a subscript names, from the pointer and the index on top; where the pointer is a row of an array
-  -- of arrays the index lies in it (C99 6.5.2.1).
+  -- The code of the place that a subscript names, from the pointer and the index on top; where the pointer is a row of
+  -- an array of arrays the index must lie in it (C99 6.5.2.1).
   abbrev pub subscript_code : Place → CType → Option ℕ → List Instr
   subscript_code at t None = advance_code at t
   subscript_code at t (Some count) =
       stacks at stack.Over
       ∷ (stacks at stack.Over ∷ (advance_code at t ++ (makes at (make.InRow count) ∷ [])))
 
-  -- The value on top becomes that of the object of a type at the place below it, whose type it has not yet.
+  -- The code by which the object of a type at the place below the top gets the value on top, converted into that type
+  -- first (C99 6.5.16.2).
   abbrev pub again_code : Bool → Place → CType → List Instr
   again_code strict at t = casts at (conversion t t) ∷ put_code strict at t
 
-  -- What `++` and `--` do with the place on top, and which value of the two they leave (C99 6.5.2.4, 6.5.3.1).
+  -- The code of `++` or `--` before its operand, from the place on top: the new value stays (C99 6.5.3.1).
   abbrev pub first_step_code : Bool → Place → BinOp → CType → List Instr
   first_step_code strict at o t =
       stacks at stack.Copy
@@ -193,6 +215,7 @@ module _ (ς : Source) where
       ++ (pushes at (number (pos 1))
       ∷ (binary_code at o t int ++ again_code strict at t)))
 
+  -- The code of `++` or `--` after its operand, from the place on top: the old value stays (C99 6.5.2.4).
   abbrev pub after_step_code : Bool → Place → BinOp → CType → List Instr
   after_step_code strict at o t =
       stacks at stack.Copy
@@ -202,13 +225,16 @@ module _ (ς : Source) where
       ∷ (pushes at (number (pos 1))
       ∷ (binary_code at o t int ++ (again_code strict at t ++ (stacks at stack.Pop ∷ [])))))))
 
+  -- The code of `++` or `--`, from the place on top, by whether it stands before its operand or after it (C99 6.5.2.4,
+  -- 6.5.3.1).
   abbrev pub step_code : Bool → Place → StepOperator → CType → List Instr
   step_code strict at step.IncrementFirst t = first_step_code strict at op.Add t
   step_code strict at step.DecrementFirst t = first_step_code strict at op.Subtract t
   step_code strict at step.IncrementAfter t = after_step_code strict at op.Add t
   step_code strict at step.DecrementAfter t = after_step_code strict at op.Subtract t
 
-  -- A compound assignment, from the place and the right operand on top (C99 6.5.16.2).
+  -- The code of a compound assignment, from the place of its left operand and the value of the right one on top
+  -- (C99 6.5.16.2).
   abbrev pub compound_code : Bool → Place → BinOp → (left right : CType) → List Instr
   compound_code strict at o t u =
       stacks at stack.Over
@@ -217,16 +243,17 @@ module _ (ς : Source) where
 
   -- In a block whose accesses are strict or not.
   module _ (strict : Bool) where
+    -- The code of expressions and of their parts, in a block whose accesses are strict or not (C99 6.5, UPC 6.4).
     abbrev mutual
-      -- The code of the value of an expression.
+      -- The code of the value of an expression (C99 6.5).
       pub value_code : Expr → List Instr
       value_code (Is at attr kind) = given_code at attr kind ++ value_in_code strict (inner_place_in at kind) attr
 
-      -- The code of the place of the object that an expression names.
+      -- The code of the place of the object that an expression names (C99 6.3.2.1).
       pub address_code : Expr → List Instr
       address_code (Is at attr kind) = given_code at attr kind
 
-      -- The code of what an expression gives: a place where it names an object, else its value.
+      -- The code of what an expression gives: a place where it names an object, else its value (C99 6.3.2.1, 6.5).
       pub given_code : Place → Attr → ExprKind → List Instr
       -- constants, and the number of the thread (C99 6.5.1, 6.5.3.4; UPC 6.4.1)
       given_code at attr Literal = pushes at (number (known_or_zero attr.constant)) ∷ []
@@ -295,7 +322,8 @@ module _ (ς : Source) where
       -- , (C99 6.5.17)
       given_code at attr (Comma parts) = last_code at parts
 
-      -- The code of printf with its format and its arguments.
+      -- The code of a call of printf: the arguments after its format are promoted, and their text is printed
+      -- (C99 6.5.2.2, 7.19.6.3).
       pub printed_code : Place → Exprs → List Instr
       printed_code at NoExprs = pushes at no_value ∷ []
       printed_code at (AndExpr format more) =
@@ -306,16 +334,17 @@ module _ (ς : Source) where
             does = work.Thread (thread.Print (format_of format) (arguments_count cs more));
           } ∷ [])
 
-      -- The code of arguments, each with its conversion, and how many there are.
+      -- The code of arguments, from left to right and each with its conversion (C99 6.5.2.2).
       pub arguments_code : List CastTo → Exprs → List Instr
       arguments_code (c ∷ cs) (AndExpr a more) = value_code a ++ (casts (place_of a) c ∷ arguments_code cs more)
       arguments_code cs args = []
 
-      -- The code of the value of the last of some expressions.
+      -- The code of the value of the last of some expressions, which are evaluated in order (C99 6.5.17).
       pub last_code : Place → Exprs → List Instr
       last_code at NoExprs = pushes at no_value ∷ []
       last_code at (AndExpr a more) = value_code a ++ further_code more
 
+      -- The code of the further parts of a comma expression, each after the value before it is removed (C99 6.5.17).
       pub further_code : Exprs → List Instr
       further_code NoExprs = []
       further_code (AndExpr a more) = stacks (place_of a) stack.Pop ∷ (value_code a ++ further_code more)

@@ -8,8 +8,8 @@ use Rattle.stack_code.specs.Depths.{IsDeep}
 use Rattle.gen_expr.specs.Sources.{Source}
 use Rattle.gen_expr.specs.Codes.{value_code}
 
--- The depths of the code of an expression agree, and it leaves its value alone: so it stands in a function that gives
--- the value back.
+-- The operand depths of the code of each expression agree, and it leaves one operand, its value: with an instruction
+-- after it that gives the value back it is a function whose depths agree.
 abbrev pub ExpressionsAreDeep : Type 0
 ExpressionsAreDeep =
     (ς : Source) (strict : Bool) (e : Expr) (at : Place)

@@ -19,7 +19,7 @@ use Rattle.stack_code.specs.declared.instruction.Instr.{Instr}
 use Rattle.gen_expr.specs.Sources.{Source, running_of}
 use Rattle.gen_expr.specs.Codes.{instruction, stacks, makes, jumps, pushes, loads, saves}
 
--- It pushes no value that it names.
+-- The work on the stack is no push of a value.
 abbrev pub PushesNone : StackWork → Type 0
 PushesNone (Push v) = ⊥
 PushesNone w = Unit {0}

@@ -33,7 +33,7 @@ GivesValue ρ functions call strict e code =
     → Meets ρ.thread functions Value (there here operands calls σ)
     (value_at (further (length code) here) operands calls) (value ρ call strict e σ)
 
--- So it is with the code of the expression.
+-- Wherever functions have the code of an expression, it does what the expression does, and leaves its value.
 abbrev pub MeansValue : Running → List (List Instr) → Calls → Bool → Expr → Type 0
 MeansValue ρ functions call strict e = GivesValue ρ functions call strict e (value_code (source_of ρ) strict e)
 
@@ -51,7 +51,7 @@ MeansExpression ς strict e code =
     (ρ : Running) (functions : List (List Instr)) (call : Calls)
     → source_of ρ ≡ ς → CallsMeet ρ functions call → GivesValue ρ functions call strict e code
 
--- To the function that is being made was appended code that means an expression, and nothing else was changed.
+-- Code that means an expression has been appended to the function that is being made, and nothing else has changed.
 pub record AppendsMeaning (ς : Source) (strict : Bool) (e : Expr) (old new : Making) : Type 0 where
   pub code : List Instr
   pub appended : new ≡ with_instructions code old

@@ -14,7 +14,7 @@ pub record Source : Type 0 where
   pub shared : List SharedDecl
   pub shapes : List Shape
 
--- The program that a thread runs.
+-- The program that a thread runs, without the thread, which is what its code is made from.
 abbrev pub source_of : Running → Source
 source_of ρ = record {
   functions = ρ.functions;

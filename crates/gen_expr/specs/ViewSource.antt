@@ -5,6 +5,7 @@ use Rattle.typed_tree.specs.ViewStatements.{view_function}
 use Rattle.gen_expr.specs.declared.source.Source as s
 use Rattle.gen_expr.specs.Sources.{Source}
 
+-- What the code generator makes code from, as contracts see it.
 abbrev pub view_source : s.Source → Source
 view_source x = record {
   functions = map view_function x.functions.now;

@@ -8,7 +8,7 @@ use Rattle.stack_code.specs.Codes.{Codes}
 use Rattle.stack_code.specs.Outcomes.{CodeMeans}
 
 -- Code means what a program means: each thread, with each budget of at least one tick and on all replies, fitting or
--- not, comes to the outcome that the program's thread comes to, places included, and to no other.
+-- not, has the outcome that the program's thread has, places included, and no other.
 abbrev pub MeansProgram : Codes → Checked → Type 0
 MeansProgram codes program =
     (thread budget : ℕ) (replies : List Reply) (o : Outcome) → 0 < budget

@@ -18,6 +18,7 @@ names_among objects (value.Scalar (Shared p)) = is_null p || list_any (same_obje
 names_among objects (value.Local (local.Shared object thread offset)) = list_any (same_object object) objects
 names_among objects v = true
 
+-- The value names no shared object but these.
 abbrev pub NamesAmong : List ObjectRef → Value → Type 0
 NamesAmong objects v = names_among objects v ≡ true
 

@@ -20,49 +20,54 @@ use Rattle.gen_expr.specs.Codes.{pushes}
 use Rattle.gen_stmt.specs.Ways.{in_function}
 use Rattle.gen_stmt.specs.Codes.{acts, gives_back, leaves, enters, statement_code, items_code}
 
--- How the argument of a parameter is kept.
+-- The access that keeps an argument in a parameter of this type, where the parameter is a cell of this kind; without a
+-- cell there is none (C99 6.5.2.2).
 abbrev pub access_of : CType → Option Kind → Option CellAccess
 access_of t (Some kind) = Some (record { kind = kind; strict = is_strict false t })
 access_of t None = None
 
--- The parameters get the values of the arguments.
+-- The instruction by which the parameters get the values of the arguments (C99 6.5.2.2).
 abbrev pub receives : Place → List (Option CellAccess) → Instr
 receives at cells = record { place = at; does = work.Call (call.Receive cells) }
 
 module _ (ς : Source) where
-  -- How the argument of a parameter of this type is kept.
+  -- The access that keeps an argument in a parameter of this type, if that has a cell of its own (C99 6.5.2.2).
   abbrev pub parameter_access : CType → Option CellAccess
   parameter_access t = access_of t (cell_kind ς.structs t)
 
-  -- The body of a function, whose block has the parameters too (C99 6.2.1, 6.9.1).
+  -- The code of the body of a function, whose block has the parameters too (C99 6.2.1, 6.9.1).
   abbrev pub opened_code : Function → Place → Bool → Items → List Instr
   opened_code f at strict items =
       enters at 0 (shapes_in (running_of ς) f items)
       ∷ (receives at (map parameter_access f.parameters)
       ∷ (items_code ς (in_body (running_of ς) f strict) (in_function 1) items ++ (leaves at ∷ [])))
 
-  -- A body that is no block receives nothing.
+  -- The code of the body of a function; one that is no block receives nothing (C99 6.9.1).
   abbrev pub body_code : Function → Statement → List Instr
   body_code f (Stands at (Block strict items)) = opened_code f at strict items
   body_code f s =
       receives f.at [] ∷ statement_code ς (in_body (running_of ς) f false) (in_function 0) s
 
-  -- A function from its first statement to its end, where it gives 0 or null unless it has returned.
+  -- The code of a function from its first statement to its end, where it gives 0 or null unless it has returned
+  -- (C99 6.9.1).
   abbrev pub function_code : Function → List Instr
   function_code f =
       body_code f f.body
       ++ (pushes f.at (blank_of (cell_kind ς.structs f.result)) ∷ (gives_back f.at 0 ∷ []))
 
--- How many functions stand before main, or all where there is none.
+-- How many of some functions stand before main, by whether the first one is main and by how many of the others stand
+-- before it.
 abbrev pub counted : Bool → ℕ → ℕ
 counted true n = 0
 counted false n = suc n
 
+-- How many functions stand before main, or all where there is none (C99 5.1.2.2.1).
 abbrev pub main_number : List Function → ℕ
 main_number [] = 0
 main_number (f ∷ fs) = counted (is_main f) (main_number fs)
 
--- What a thread begins with: the barrier before main, main, and the barrier behind it (UPC 6.6.1).
+-- The code with which a thread begins: the barrier before main, the call of main, and the barrier after it
+-- (C99 5.1.2.2.1, UPC 6.6.1).
 abbrev pub entry_code : Source → List Instr
 entry_code ς =
     let at = main_place (running_of ς) (main_of ς.functions) in
@@ -72,15 +77,16 @@ entry_code ς =
     ∷ (acts at (thread.Notify Finish)
     ∷ (acts at (thread.Wait Finish) ∷ (record { place = at; does = work.Call call.Quit } ∷ [])))))
 
--- The functions of the code: function n + 1 is function n of the program.
+-- The functions of the code: the entry is function 0, and function n + 1 is function n of the program (C99 6.9.1).
 abbrev pub functions_code : Source → List (List Instr)
 functions_code ς = entry_code ς ∷ map (function_code ς) ς.functions
 
--- A program without a thread.
+-- What the code of a checked program is made from.
 abbrev pub source : Checked → Source
 source program = source_of (running program 0 0)
 
--- The code of a program.
+-- The code of a program: its threads and shapes, its functions, and the private objects of the file with their initial
+-- values (C99 6.9, UPC 6.3).
 abbrev pub program_code : Checked → Codes
 program_code program = record {
   threads = program.threads;

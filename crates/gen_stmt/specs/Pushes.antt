@@ -16,12 +16,12 @@ use Rattle.stack_code.specs.declared.instruction.Operation.TheVariants as work
 use Rattle.gen_expr.specs.Sources.{Source, running_of}
 use Rattle.gen_stmt.specs.Programs.{source, program_code}
 
--- P holds of what such work pushes, if it pushes a value.
+-- P holds of the value that work on the stack pushes, if it pushes one.
 abbrev pub PushedBy : (Value → Type 0) → StackWork → Type 0
 PushedBy P (Push v) = P v
 PushedBy P w = Unit {0}
 
--- So of an operation.
+-- P holds of the value that an operation pushes, if it pushes one.
 abbrev pub Pushes : (Value → Type 0) → Operation → Type 0
 Pushes P (work.Stack w) = PushedBy P w
 Pushes P w = Unit {0}
@@ -34,7 +34,8 @@ pub data IsPushed (ς : Source) (v : Value) : Type 0 where
   shared : (n : ℕ) → v ≡ shared_object (running_of ς) n → IsPushed ς v
   blank : (kind : Kind) → v ≡ blank_value kind → IsPushed ς v
 
--- Each value that an instruction of the program's code pushes is of these.
+-- Each value that an instruction of the program's code pushes is an integer, the place where an object of the file
+-- begins, or 0 or null.
 abbrev pub PushesOnly : Checked → Type 0
 PushesOnly program =
     Each (Each (λ i. Pushes (IsPushed (source program)) i.does)) (program_code program).functions

@@ -7,7 +7,7 @@ use Rattle.block_layout.specs.declared.kind.Kind.TheVariants.{Char, UChar, Short
 use Rattle.block_layout.specs.declared.kind.Kind.TheVariants.{Shared, Lock, Private}
 use Rattle.block_layout.specs.declared.run_error.TheConstants.{SIGNED_OVERFLOW}
 
--- The bits of an integer kind. A kind that is no integer has none.
+-- The bits of an integer kind; a kind that is no integer has none (C99 6.2.6.2).
 abbrev pub width : Kind → ℕ
 width Char = 8
 width UChar = 8
@@ -21,7 +21,7 @@ width (Shared n b) = 0
 width Lock = 0
 width (Private n) = 0
 
--- Whether a kind has negative values. char has them.
+-- Whether a kind has negative values, as char has (C99 6.2.5).
 abbrev pub is_signed : Kind → Bool
 is_signed Char = true
 is_signed UChar = false
@@ -35,7 +35,7 @@ is_signed (Shared n b) = false
 is_signed Lock = false
 is_signed (Private n) = false
 
--- The least value of a kind.
+-- The least value of an integer kind (C99 6.2.5).
 abbrev pub least : Kind → ℤ
 least Char = neg_ℤ (pos (2 ^ 7))
 least UChar = pos 0
@@ -49,26 +49,27 @@ least (Shared n b) = pos 0
 least Lock = pos 0
 least (Private n) = pos 0
 
--- How many values a kind has.
+-- How many values an integer kind has (C99 6.2.6.2).
 abbrev pub values : Kind → ℕ
 values kind = 2 ^ width kind
 
--- A number lies in a kind's range.
+-- A number lies in a kind's range (C99 6.2.5).
 pub record InKind (v : ℤ) (kind : Kind) : Type 0 where
   pub low : least kind ≤ℤ v
   pub high : v <ℤ (least kind +ℤ pos (values kind))
 
+-- Whether a number lies in a kind's range (C99 6.2.5).
 abbrev pub in_kind : Kind → ℤ → Bool
 in_kind kind v = int_le (least kind) v && int_lt v (least kind +ℤ pos (values kind))
 
--- An integer kind.
+-- The kind is that of an integer type (C99 6.2.5).
 abbrev pub IsInteger : Kind → Type 0
 IsInteger (Shared n b) = ⊥
 IsInteger Lock = ⊥
 IsInteger (Private n) = ⊥
 IsInteger kind = Unit {0}
 
--- An integer kind that promotion leaves as it is (C99 6.3.1.1).
+-- The kind is an integer kind that promotion leaves as it is (C99 6.3.1.1).
 abbrev pub IsPromoted : Kind → Type 0
 IsPromoted Int = Unit {0}
 IsPromoted UInt = Unit {0}
@@ -80,7 +81,7 @@ IsPromoted kind = ⊥
 abbrev pub AreCongruent : ℤ → ℤ → Kind → Type 0
 AreCongruent a b kind = (m : ℤ) × (a ≡ b +ℤ m *ℤ pos (values kind))
 
--- The number of a kind's range that is congruent to v.
+-- The number of a kind's range that differs from v by a multiple of the number of the kind's values (C99 6.3.1.3).
 abbrev pub converted : Kind → ℤ → ℤ
 converted kind v = least kind +ℤ pos (floor_mod (v -ℤ least kind) (values kind))
 
@@ -91,6 +92,6 @@ brought kind v =
     then (if in_kind kind v then Ok v else Err SIGNED_OVERFLOW)
     else Ok (converted kind v)
 
--- The exact result of a signed kind is none of its values.
+-- An exact result is none of the values of its kind, which is signed (C99 6.5).
 abbrev pub IsLost : Kind → ℤ → Type 0
 IsLost kind v = IsTrue (is_signed kind) × (¬ (InKind v kind))

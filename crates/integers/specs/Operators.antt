@@ -27,29 +27,29 @@ bits_of kind v = floor_mod v (values kind)
 abbrev pub is_count : Kind → ℤ → Bool
 is_count kind b = int_le (pos 0) b && int_lt b (pos (width kind))
 
--- The quotient, rounded towards zero (C99 6.5.5).
+-- The quotient, rounded towards zero; a divisor of 0 is run error 2 (C99 6.5.5).
 abbrev pub quotient_of : Kind → ℤ → ℤ → Result ℤ ℕ
 quotient_of kind a b = if int_eq b (pos 0) then Err ZERO_DIVISOR else brought kind (int_div a b)
 
--- The remainder of that quotient, where the quotient is a value of the kind (C99 6.5.5).
+-- The remainder of a quotient rounded towards zero, where that quotient is a value of the kind (C99 6.5.5).
 abbrev pub remainder_of : Kind → ℤ → ℤ → Result ℤ ℕ
 remainder_of kind a b =
     if int_eq b (pos 0)
     then Err ZERO_DIVISOR
     else if in_kind kind (int_div a b) then Ok (int_rem a b) else Err SIGNED_OVERFLOW
 
--- The value times 2 to the count, for a value that is not negative (C99 6.5.7).
+-- The value times 2 to the power of the count, for a value that is not negative (C99 6.5.7).
 abbrev pub left_shift_of : Kind → ℤ → ℤ → Result ℤ ℕ
 left_shift_of kind a b =
     if int_lt a (pos 0)
     then Err SIGNED_OVERFLOW
     else if is_count kind b then brought kind (a *ℤ pos (2 ^ unsigned_abs b)) else Err SHIFT_RANGE
 
--- The value by 2 to the count, rounded down (C99 6.5.7).
+-- The value divided by 2 to the power of the count, rounded down (C99 6.5.7).
 abbrev pub right_shift_of : Kind → ℤ → ℤ → Result ℤ ℕ
 right_shift_of kind a b = if is_count kind b then Ok (floor_div a (2 ^ unsigned_abs b)) else Err SHIFT_RANGE
 
--- What a binary operator gives at operands of a kind, a shift's count being of any.
+-- What a binary operator gives at operands of a kind, a shift's count being of any (C99 6.5.5 to 6.5.12).
 abbrev pub binary_of : BinOp → Kind → ℤ → ℤ → Result ℤ ℕ
 binary_of Multiply kind a b = brought kind (a *ℤ b)
 binary_of Divide kind a b = quotient_of kind a b
@@ -81,7 +81,7 @@ RightFits ShiftLeft kind b = (neg_ℤ (pos (2 ^ 63)) ≤ℤ b) × (b <ℤ pos (2
 RightFits ShiftRight kind b = (neg_ℤ (pos (2 ^ 63)) ≤ℤ b) × (b <ℤ pos (2 ^ 64))
 RightFits op kind b = InKind b kind
 
--- The kind of a result: comparisons and `!` give int (C99 6.5.3.3, 6.5.8, 6.5.9).
+-- The kind of a binary operator's result: comparisons give int (C99 6.5.8, 6.5.9).
 abbrev pub binary_kind : BinOp → Kind → Kind
 binary_kind Less kind = Int
 binary_kind Greater kind = Int
@@ -91,11 +91,12 @@ binary_kind Equal kind = Int
 binary_kind NotEqual kind = Int
 binary_kind op kind = kind
 
+-- The kind of a unary operator's result: `!` gives int (C99 6.5.3.3).
 abbrev pub unary_kind : UnOp → Kind → Kind
 unary_kind Not kind = Int
 unary_kind op kind = kind
 
--- `/` and `%`.
+-- The operator is `/` or `%` (C99 6.5.5).
 abbrev pub IsDivision : BinOp → Type 0
 IsDivision Divide = Unit {0}
 IsDivision Remainder = Unit {0}

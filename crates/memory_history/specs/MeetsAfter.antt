@@ -55,7 +55,7 @@ times thread m = slice_index_or m.counts thread 0
 abbrev pub is_leading : ℕ → MeetsState → Bool
 is_leading thread m = times thread m == length m.leaders
 
--- No call.
+-- The leader that stands for none, where nobody has led a call.
 abbrev pub nobody : LeaderState
 nobody = record { call = 0; args = []; notifies = 0; reply = Done; done = 0 }
 
@@ -63,7 +63,7 @@ nobody = record { call = 0; args = []; notifies = 0; reply = Done; done = 0 }
 abbrev pub leader_at : ℕ → MeetsState → LeaderState
 leader_at j m = slice_index_or m.leaders j nobody
 
--- What the leader called.
+-- What a leader called, with its arguments.
 abbrev pub called : LeaderState → Call
 called l = call_of l.call l.args
 

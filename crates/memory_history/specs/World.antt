@@ -11,18 +11,18 @@ use Rattle.memory_history.specs.After.{PartsState, IsAfter}
 use Rattle.memory_history.specs.declared.step.Step.{Step}
 use Rattle.memory_history.specs.declared.step.Step.TheVariants.{Done, Disabled}
 
--- the reply of a step, none where the action had none
+-- The reply of a step; there is none where the action had none.
 abbrev pub answer_of : Step → Option Reply
 answer_of (Done r) = Some r
 answer_of Disabled = None
 
--- the history after action i of thread t with this answer: one entry more, or the same
+-- The history after action i of thread t with this answer: one entry more, or the same.
 abbrev pub performed : List Entry → ℕ → ℕ → Action → Option Reply → List Entry
 performed es t i a None = es
 performed es t i a (Some r) = es ++ entry_of t i a r ∷ []
 
 -- What a history keeps: it is legal from its opening, each entry was well formed and is of one of the threads, and
--- there are fewer than 2^62.
+-- there are fewer than 2^62 entries.
 pub record IsKept (o : Opening) (es : List Entry) : Type 0 where
   pub opening : IsOpening o
   pub legal : IsLegal o es

@@ -13,6 +13,7 @@ use Rattle.upc_values.specs.declared.scalar.Value.{Value}
 use Rattle.private_store.specs.Live.{Live, bytes_in, blank_things}
 use Rattle.private_store.specs.Cells.{stored}
 
+-- The kind of the cell that begins at a byte of an object of this shape, if there is one.
 abbrev pub kind_in : Option Shape → ℕ → Option Kind
 kind_in None byte = None
 kind_in (Some s) byte = under byte s.cells
@@ -22,14 +23,17 @@ abbrev pub private_cell : List Shape → LocalPtr → Option Kind
 private_cell shapes (local.Private object (pos offset)) = kind_in (slice_get shapes object) offset
 private_cell shapes p = None
 
+-- There is a cell, and the value fits it.
 abbrev pub fits_cell : Value → Option Kind → Bool
 fits_cell v (Some kind) = value_fits v kind
 fits_cell v None = false
 
+-- What lives after a write, or, where the write is a run error, what lived before it.
 abbrev pub if_stored : Result Live ℕ → Live → Live
 if_stored (Ok t) s = t
 if_stored (Err code) s = s
 
+-- What lives after an initial value is stored in its cell, if there is such a cell (C99 6.7.8).
 abbrev pub begun_cell : Option Kind → LocalPtr × Value → Live → Live
 begun_cell (Some kind) x s = if_stored (stored x.0 kind x.1 s) s
 begun_cell None x s = s

@@ -25,6 +25,7 @@ pub record Cell : Type 0 where
   pub object : Thing
   pub place : ℕ
 
+-- The cell at this place of an object; where there is no such place, run error 18 (C99 6.5).
 abbrev pub cell_there : Thing → Option ℕ → Result Cell ℕ
 cell_there x (Some c) = Ok record { object = x; place = c }
 cell_there x None = Err CELL_TYPE
@@ -45,11 +46,12 @@ reached local.Null kind things = Err NULL_ACCESS
 reached (local.Private number offset) kind things = cell_in (thing number things) offset kind
 reached (local.Shared o t offset) kind things = Err PRIVATE_RANGE
 
+-- The value of a cell that an access of this kind reaches, or the code of its run error.
 abbrev pub value_in : Kind → Result Cell ℕ → Result Value ℕ
 value_in kind (Ok c) = Ok (slice_index_or c.object.values c.place (blank_value kind))
 value_in kind (Err code) = Err code
 
--- What a read gives.
+-- What a read of this kind through a pointer gives: the value of the cell, or the code of the run error (C99 6.5).
 abbrev pub loaded : LocalPtr → Kind → Live → Result Value ℕ
 loaded p kind s = value_in kind (reached p kind s.objects)
 
@@ -62,11 +64,12 @@ abbrev pub put : Cell → Value → Live → Live
 put c v s =
     record s { objects = map (λ x. if x.number == c.object.number then changed c v else x) s.objects }
 
+-- What lives after a write to a cell that an access reaches, or the code of its run error.
 abbrev pub put_in : Result Cell ℕ → Value → Live → Result Live ℕ
 put_in (Ok c) v s = Ok (put c v s)
 put_in (Err code) v s = Err code
 
--- What lives after a write, or the code of the run error.
+-- What lives after a write through a pointer, or the code of the run error (C99 6.5.16).
 abbrev pub stored : LocalPtr → Kind → Value → Live → Result Live ℕ
 stored p kind v s = put_in (reached p kind s.objects) v s
 

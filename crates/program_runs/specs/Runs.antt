@@ -18,8 +18,8 @@ use Rattle.serial_core.specs.declared.limits.Limits.{Limits}
 use Rattle.serial_core.specs.Course.{IsCourse}
 use Rattle.program_runs.specs.Served.{RunsToday}
 
--- The journal is a sound run of the program within these limits: each thread's record is what its source comes to on
--- the recorded replies, and one legal history takes these records as the write buffers drain. The strict order and the
+-- The journal is a sound run of the program within these limits: each thread's record is what its source gives on the
+-- recorded replies, and one legal history takes these records as the write buffers drain. The strict order and the
 -- orders of the threads that this gives make the records UPC consistent (UPC Appendix B). Each thread's p-th wait
 -- stands after the p-th notify of all threads; between two acquisitions of one lock its first holder lets it go; a
 -- thread whose ticks are spent has had as many as the budget; and the run went by the picks and then round by round,
@@ -35,7 +35,7 @@ pub record IsRunOf (program : Checked) (l : Limits) (picks : List ℕ) (j : Jour
   pub spent : AreSpent l.budget j.strands
   pub course : IsCourse picks j
 
--- The refusal of a program that does not run today: `profile 0` at 1:1.
+-- The refusal of a program that does not run today, which is `profile 0` at 1:1.
 pub record IsNotYet (program : Checked) (r : Refusal) : Type 0 where
   pub runs : RunsToday program → ⊥
   pub code : r.code ≡ Profile 0

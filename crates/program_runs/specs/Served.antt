@@ -30,12 +30,12 @@ is_served_call (Reduce k) = false
 is_served_call (PrefixReduce k) = false
 is_served_call call = true
 
--- Work that the machine does today: all but such calls.
+-- Work that the machine does today: all but calls of the library that do not run.
 abbrev pub is_served_work : ThreadWork → Bool
 is_served_work (Library call shape n) = is_served_call call
 is_served_work w = true
 
--- So of an operation.
+-- An operation that the machine does today.
 abbrev pub is_served : Operation → Bool
 is_served (Thread w) = is_served_work w
 is_served w = true

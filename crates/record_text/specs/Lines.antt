@@ -89,6 +89,6 @@ version_text version j o = flat_map (λ line. line ++ codes "\n") (run_lines ver
 abbrev pub text : Journal → Orders → Text
 text j o = version_text 2 j o
 
--- The old text of a run is that of version 1, which tells runs from before writes were combined.
+-- The old text of a run is that of version 1, in which runs stand from before writes were combined.
 abbrev pub old_text : Journal → Orders → Text
 old_text j o = version_text 1 j o

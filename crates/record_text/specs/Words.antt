@@ -54,7 +54,7 @@ pointer_parts p = object_parts p.object ++ (decimal p.thread ∷ decimal p.phase
 abbrev pub pointer_text : SharedPtr → Text
 pointer_text p = codes "p:" ++ with_colons (pointer_parts p)
 
--- A scalar is an integer, a lock's number behind `l:`, or a pointer-to-shared.
+-- A scalar is an integer, a lock's number after `l:`, or a pointer-to-shared.
 abbrev pub scalar_text : Scalar → Text
 scalar_text (scalar.Int v) = signed_decimal v
 scalar_text (scalar.Lock n) = codes "l:" ++ decimal n

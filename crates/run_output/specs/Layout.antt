@@ -6,11 +6,11 @@ use Rattle.block_layout.specs.Pieces.{piece_of}
 use Rattle.typed_tree.specs.declared.beginning.SharedDecl.{SharedDecl}
 use Rattle.typed_tree.specs.Programs.{Checked, start_of}
 
--- A word and a number in decimal.
+-- A word, and after it a number in decimal.
 abbrev pub field : List ℕ → ℕ → List ℕ
 field word number = word ++ decimal number
 
--- The bytes that each thread has of an object, each behind a blank.
+-- The bytes that each thread has of an object, each after a blank.
 abbrev pub pieces_text : ℕ → ObjectRef → List ℕ
 pieces_text threads object =
     flat_map (λ t. field (codes " ") (piece_of object t threads)) (range_with_len 0 threads)

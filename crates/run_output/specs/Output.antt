@@ -15,7 +15,7 @@ use Rattle.upc_values.specs.declared.journal.Strand.{Strand}
 use Rattle.upc_values.specs.declared.journal.Journal.{Journal}
 use Rattle.upc_values.specs.Ends.{stops}
 
--- The text of a Print.
+-- The text of a Print; any other action has none.
 abbrev pub printed : Action → List ℕ
 printed (Print text) = text
 printed a = []
@@ -34,7 +34,7 @@ pub record Ending : Type 0 where
   pub thread : ℕ
   pub «end» : End
 
--- The lowest thread whose end ends the run.
+-- The lowest thread whose end ends the run, with that end.
 abbrev pub first_stop : ℕ → List Strand → Option Ending
 first_stop t [] = None
 first_stop t (s ∷ strands) =
@@ -49,7 +49,7 @@ is_ended e = false
 abbrev pub all_ended : List Strand → Bool
 all_ended strands = list_all (λ s. is_ended s.«end») strands
 
--- What thread 0's main returned.
+-- What the main of thread 0 returned; 0 where thread 0 is not Ended.
 abbrev pub first_value : List Strand → ℤ
 first_value (s ∷ strands) = elim s.«end» [ Ended v ↦ v | _ ↦ pos 0 ]
 first_value [] = pos 0
@@ -62,7 +62,8 @@ stop_status ActionsFull = 108
 stop_status (Exit v) = clipped v
 stop_status e = 106
 
--- The status by the end that decides, if there is one.
+-- The status of a run by the end that ends it, if there is one: without one it is the value of thread 0 where all are
+-- Ended, else 106.
 abbrev pub status_by : Option Ending → List Strand → ℕ
 status_by (Some s) strands = stop_status s.«end»
 status_by None strands = cond (all_ended strands) (clipped (first_value strands)) 106
@@ -72,7 +73,7 @@ status_by None strands = cond (all_ended strands) (clipped (first_value strands)
 abbrev pub status_of : Journal → ℕ
 status_of j = status_by (first_stop 0 j.strands) j.strands
 
--- L:C.
+-- A place as its line, a colon and its column, in decimal.
 abbrev pub place_text : Place → List ℕ
 place_text p = decimal p.line ++ codes ":" ++ decimal p.column
 
@@ -98,7 +99,8 @@ stop_line t Budget = codes "upc: budget on thread " ++ decimal t ++ codes "\n"
 stop_line t ActionsFull = codes "upc: actions full on thread " ++ decimal t ++ codes "\n"
 stop_line t e = []
 
--- The line by the end that decides, if there is one.
+-- The line of a run by the end that ends it, if there is one: without one it is empty where all are Ended, else that of
+-- a deadlock.
 abbrev pub line_by : Option Ending → List Strand → List ℕ
 line_by (Some s) strands = stop_line s.thread s.«end»
 line_by None strands = cond (all_ended strands) [] (codes "upc: deadlock\n")

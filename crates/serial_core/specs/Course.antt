@@ -12,7 +12,7 @@ use Rattle.upc_values.specs.Drain.{entries_in, walked, entries_of}
 use Rattle.upc_values.specs.Ends.{stops, is_pause}
 use Rattle.serial_core.specs.Kept.{settled, is_given}
 
--- How a thread stands: the items of its record so far, and its end where it has come to one.
+-- How a thread stands: the items of its record so far, and its end where it has one.
 pub record Standing : Type 0 where
   pub items : List Item
   pub «end» : Option End
@@ -54,7 +54,7 @@ pub record IsLater (m n : Moment) : Type 0 where
   pub grows : Grows m.history n.history
   pub drained : IsDrained n
 
--- One step of a thread: its record gains an item, or it stalls where it stood at a Stall, or comes to its own end.
+-- One step of a thread: its record gains an item, or it stalls where it stood at a Stall, or reaches its own end.
 abbrev pub Steps : Standing → Standing → Type 0
 Steps s u = (s.«end» ≡ None)
     × (((x : Item) × (u ≡ record { items = s.items ++ x ∷ []; «end» = None }))
@@ -91,11 +91,11 @@ pub record TakesPart (s u : Standing) : Type 0 where
   pub last : Steps (record { items = s.items ++ items; «end» = None }) u
   pub rested : rests u ≡ true
 
--- In a round a thread without an end takes part.
+-- In a round a thread without an end takes part, and one with an end stays.
 abbrev pub InRound : Standing → Standing → Type 0
 InRound s u = ((goes_on s ≡ false) × (u ≡ s)) ⊎ TakesPart s u
 
--- Once the run has ended a thread that does not rest goes on to its rest.
+-- Once the run has ended a thread that does not rest goes on to its rest, and one that rests stays.
 abbrev pub ToRest : Standing → Standing → Type 0
 ToRest s u = ((rests s ≡ true) × (u ≡ s)) ⊎ ((rests s ≡ false) × TakesPart s u)
 
@@ -115,30 +115,30 @@ abbrev pub GoesRounds : ℕ → Moment → Moment → Type 0
 GoesRounds zero m n = n ≡ m
 GoesRounds (suc many) m n = (mid : Moment) × GoesRounds many m mid × IsRound mid n
 
--- An end has ended the run, and each thread comes to its rest.
+-- An end has ended the run, and each thread that does not rest goes on to its rest.
 pub record ComesToRest (m n : Moment) : Type 0 where
   pub stopped : IsStopped m
   pub each : EachGoes ToRest m n
   pub later : IsLater m n
 
--- After the picks: rounds, but where an end has ended the run no more than that each thread comes to its rest.
+-- What follows the picks: rounds, or, where an end has ended the run, that each thread goes on to its rest.
 abbrev pub GoesOut : Moment → Moment → Type 0
 GoesOut m n = ComesToRest m n ⊎ ((many : ℕ) × GoesRounds many m n)
 
--- A thread's strand: its record, and its end, which it is given where it has come to none.
+-- A thread's strand: its record, and its end, which it is given where it has reached none.
 pub record IsStrandOf (s : Standing) (r : Strand) : Type 0 where
   pub items : r.items ≡ s.items
   pub own : (e : End) → s.«end» ≡ Some e → r.«end» ≡ e
   pub given : s.«end» ≡ None → is_given r.«end» ≡ true
 
--- The strands and the history are those of a moment.
+-- The strands and the history of a journal are those of a moment.
 pub record AreOf (m : Moment) (history : List Entry) (strands : List Strand) : Type 0 where
   pub same : history ≡ m.history
   pub many : length strands ≡ length m.threads
   pub each : (t : ℕ) (d : Standing) (r : Strand) → t < length m.threads
       → IsStrandOf (slice_index_or m.threads t d) (slice_index_or strands t r)
 
--- So many threads, which have done nothing.
+-- A moment at which so many threads have done nothing.
 pub record IsOutset (threads : ℕ) (m : Moment) : Type 0 where
   pub many : length m.threads ≡ threads
   pub none : Numbered (λ t s. s ≡ record { items = []; «end» = None }) m.threads

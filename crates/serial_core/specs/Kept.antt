@@ -55,7 +55,7 @@ way_of a = Empties
 abbrev pub AreFormed : Opening → List Entry → List Pending → Type 0
 AreFormed o seen ps = Each (λ p. IsWellFormed o seen (Write p.loc p.value false)) ps
 
--- t's entries among those seen, its buffer and the number of its next action are those of the walk.
+-- The entries of thread t among those seen, its buffer and the number of its next action are those of the walk.
 pub record Holds (o : Opening) (t : ℕ) (seen : List Entry) (pending : List Pending) (next : ℕ) (w : Walk) : Type 0 where
   pub out : entries_of t seen ≡ entries_in w.emitted
   pub inside : map (committed t) pending ≡ entries_in w.pending
@@ -64,17 +64,17 @@ pub record Holds (o : Opening) (t : ℕ) (seen : List Entry) (pending : List Pen
   pub agrees : w.agrees ≡ true
   pub formed : AreFormed o seen pending
 
--- All entries are t's.
+-- All entries are of thread t.
 abbrev pub AllOf : ℕ → List Entry → Type 0
 AllOf t es = Each (λ e. e.thread ≡ t) es
 
--- The history grew by entries of t alone.
+-- The history grew by entries of thread t alone.
 pub record Grew (t : ℕ) (old new : List Entry) : Type 0 where
   pub more : List Entry
   pub is : new ≡ old ++ more
   pub all_own : AllOf t more
 
--- The buffer and the history after an action with this answer, where the walk had come to w.
+-- The buffer and the history after an action with this answer, where the walk stood at w before it.
 abbrev pub Emitted : Opening → ℕ → List Entry → List Pending → ℕ → Action → Option Reply → Walk → Type 0
 Emitted o t seen pending next a None w = Holds o t seen pending next (emptied w)
 Emitted o t seen pending next a (Some r) w = Holds o t seen pending (next + 1) (gone (entry_of t next a r) a w)
@@ -84,11 +84,11 @@ abbrev pub IsAnswer : Opening → ℕ → List Entry → Action → Option Reply
 IsAnswer o t seen a None = (may_wait a ≡ true) × (reply o seen t a ≡ None)
 IsAnswer o t seen a (Some r) = (fits_after o seen a r ≡ true) × (gives_known o seen r ≡ true)
 
--- What the task's source comes to on the replies of the record, where these are the threads' outcomes.
+-- The outcome of the task's source on the replies of its record, where these are the threads' outcomes.
 abbrev pub outcome_of : Outcomes → Task → Outcome
 outcome_of f k = f k.thread (replies_of k.items.items)
 
--- A record that may stand in a strand of t, after the entries seen, where its source has the outcome.
+-- A record that may stand in a strand of thread t, after the entries seen, where its source has the outcome.
 pub record IsRecord (o : Opening) (t actions : ℕ) (seen : List Entry) (outcome : Outcome) (items : List Item)
     : Type 0 where
   pub did : outcome.actions ≡ actions_of items
@@ -119,7 +119,7 @@ pub record HasEnd (actions ticks : ℕ) (pending : List Pending) (machine : Seen
   pub own : OwnEnd actions outcome.«end» items e
   pub counted : ticks ≡ strand_ticks e items outcome.ticks
 
--- At its end a thread has emptied its buffer.
+-- The walk of a thread, which has emptied the buffer where the thread has its end.
 abbrev pub settled : Option End → Walk → Walk
 settled None w = w
 settled (Some e) w = emptied w
@@ -145,7 +145,7 @@ Keeps w k x m = (p : Codes) (f : Outcomes) → IsKept w.0 p f w.1 k → IsKept x
 abbrev pub StaysKept : Codes → Task → Task → Type 0
 StaysKept p k m = (f : Outcomes) (o : Opening) (seen : List Entry) → IsKept o p f seen k → IsKept o p f seen m
 
--- The same thread and limits.
+-- Two tasks are of one thread and have the same limits.
 pub record IsSame (k m : Task) : Type 0 where
   pub thread : m.thread ≡ k.thread
   pub limits : m.limits ≡ k.limits
@@ -156,7 +156,7 @@ IsPausing k =
     ((is_beat_item (last_item k.items.items) ≡ true) × (k.wish ≡ None))
     ⊎ ((is_stall (last_item k.items.items) ≡ true) × (is_some k.wish ≡ true))
 
--- An end that a task is given, and does not come to by itself.
+-- An end that a task is given, and does not reach by itself.
 abbrev pub is_given : End → Bool
 is_given ends.Halted = true
 is_given (ends.Deadlocked a) = true
@@ -205,6 +205,7 @@ Waits pauses.Stalled o seen k =
     × (reply o seen k.thread a ≡ None)
 Waits p o seen k = Unit {0}
 
+-- The end of a task; one that has none yet counts as Halted.
 abbrev pub end_or : Option End → End
 end_or (Some e) = e
 end_or None = ends.Halted

@@ -56,7 +56,7 @@ pub record IsSaved (old : HeapState) (l : Loc) (v : Scalar) (new : HeapState) : 
 abbrev pub start_of : ObjectRef → SharedPtr
 start_of x = record { object = x; thread = x.home; phase = 0; offset = pos 0 }
 
--- The object that is made next: it is numbered next and lies behind all others.
+-- The object that is made next: it is numbered next, and lies after all others.
 abbrev pub next_object : HeapState → (total block home shape : ℕ) → ObjectRef
 next_object h total block home shape =
     record {

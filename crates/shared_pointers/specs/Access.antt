@@ -15,6 +15,7 @@ pub record IsInPiece (p : SharedPtr) (width threads : ℕ) : Type 0 where
   pub least : pos 0 ≤ℤ p.offset
   pub most : (p.offset +ℤ pos width) ≤ℤ pos (piece_of p.object p.thread threads)
 
+-- Whether an access of `width` bytes at a pointer lies inside the piece of the pointer's thread.
 abbrev pub in_piece : SharedPtr → ℕ → ℕ → Bool
 in_piece p width threads =
     int_le (pos 0) p.offset && int_le (p.offset +ℤ pos width) (pos (piece_of p.object p.thread threads))
@@ -23,7 +24,8 @@ in_piece p width threads =
 abbrev pub byte_of_element : SharedPtr → Shape → ℕ
 byte_of_element p shape = floor_mod p.offset shape.size
 
--- What an access of this kind through p names: the tests come in this order.
+-- The location that an access of this kind through p names, or the first of its run errors, which are tested in this
+-- order (C99 6.5.3.2, UPC 6.5.1.1).
 abbrev pub cell_at : SharedPtr → Shape → Kind → ℕ → Result Loc ℕ
 cell_at p shape kind threads =
     if is_null p

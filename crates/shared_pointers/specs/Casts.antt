@@ -8,18 +8,18 @@ use Rattle.block_layout.specs.declared.run_error.TheConstants.{NULL_ACCESS, NOT_
 use Rattle.block_layout.specs.Places.{in_range}
 use Rattle.block_layout.specs.Pointers.{is_null, same_object}
 
--- The pointer to the member at this offset of the struct that p points to.
+-- The pointer to the member at this offset of the struct to which p points (UPC 6.4.4).
 abbrev pub member_pointer : SharedPtr → ℕ → SharedPtr
 member_pointer p offset = record p { phase = 0; offset = p.offset +ℤ pos offset }
 
--- What `&p->m` gives: that pointer, where its offset is in range.
+-- What `&p->m` gives: the pointer to the member, where its offset is in range (C99 6.5.2.3, UPC 6.4.4).
 abbrev pub member_of : SharedPtr → ℕ → Result SharedPtr ℕ
 member_of p offset =
     if is_null p
     then Err NULL_ACCESS
     else if in_range (p.offset +ℤ pos offset) then Ok (member_pointer p offset) else Err POINTER_RANGE
 
--- What a cast from one block to another gives: the same target, with phase 0 where the blocks differ.
+-- What a cast from one block to another gives: the same target, with phase 0 where the blocks differ (UPC 6.4.3).
 abbrev pub cast_block : SharedPtr → (from into : ℕ) → SharedPtr
 cast_block p from into =
     record {
@@ -29,11 +29,11 @@ cast_block p from into =
       offset = p.offset;
     }
 
--- What a cast to pointer-to-local gives on thread `me`.
+-- What a cast to pointer-to-local gives on thread `me`, which may cast what lies on it alone (UPC 6.4.3).
 abbrev pub local_of : SharedPtr → ℕ → Result LocalPtr ℕ
 local_of p me =
     if is_null p then Ok Null else if p.thread == me then Ok (Shared p.object p.thread p.offset) else Err NOT_LOCAL
 
--- What `p == q` gives: the same bytes of the same object, whatever the phases.
+-- What `p == q` gives: the same bytes of the same object, whatever the phases (UPC 6.4.2).
 abbrev pub same_target : SharedPtr → SharedPtr → Bool
 same_target p q = same_object p.object q.object && p.thread == q.thread && int_eq p.offset q.offset

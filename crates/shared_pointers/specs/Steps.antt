@@ -9,8 +9,8 @@ use Rattle.block_layout.specs.declared.run_error.TheConstants.{NULL_ACCESS, POIN
 use Rattle.block_layout.specs.Places.{thread_at, phase_at, offset_at, in_range}
 use Rattle.block_layout.specs.Pointers.{StandsFor, is_null, same_pointer}
 
--- q lies x elements behind p: in p's object, with an indefinite block on p's thread, q stands for the element of p plus
--- x, with p's shift.
+-- The pointer q lies x elements after p: it is in p's object, with an indefinite block on p's thread, and stands for
+-- the element of p plus x, with p's shift (UPC 6.4.2).
 pub record LiesBehind (p q : SharedPtr) (x : ℤ) (block size threads : ℕ) : Type 0 where
   pub object : q.object ≡ p.object
   pub thread : block ≡ 0 → q.thread ≡ p.thread
@@ -24,7 +24,7 @@ element_in_row p block = p.thread * block + p.phase
 abbrev pub row_offset : SharedPtr → ℕ → ℤ
 row_offset p size = p.offset -ℤ pos (p.phase * size)
 
--- The pointer that lies i elements behind p, with a block of at least 1.
+-- The pointer that lies i elements after p, with a block of at least 1 (UPC 6.4.2).
 abbrev pub moved_by_blocks : SharedPtr → ℤ → ℕ → ℕ → ℕ → SharedPtr
 moved_by_blocks p i block size threads =
     let e = pos (element_in_row p block) +ℤ i in
@@ -35,29 +35,29 @@ moved_by_blocks p i block size threads =
       offset = offset_at e block size threads +ℤ row_offset p size;
     }
 
--- The pointer that lies i elements behind p.
+-- The pointer that lies i elements after p (UPC 6.4.2).
 abbrev pub moved : SharedPtr → ℤ → ℕ → ℕ → ℕ → SharedPtr
 moved p i zero size threads = record p { offset = p.offset +ℤ i *ℤ pos size }
 moved p i (suc b) size threads = moved_by_blocks p i (suc b) size threads
 
--- What `p + i` gives: the pointer moved, where its offset is in range.
+-- What `p + i` gives: the pointer moved, where its offset is in range (UPC 6.4.2).
 abbrev pub advanced : SharedPtr → ℤ → ℕ → ℕ → ℕ → Result SharedPtr ℕ
 advanced p i block size threads =
     let q = moved p i block size threads in
     if is_null p then Err NULL_ACCESS else if in_range q.offset then Ok q else Err POINTER_RANGE
 
--- How many elements q would lie behind p, with a block of at least 1: whole rows apart, and places in the row apart.
+-- How many elements q would lie after p, with a block of at least 1: whole rows apart, and places in the row apart.
 abbrev pub apart_by_blocks : SharedPtr → SharedPtr → ℕ → ℕ → ℕ → ℤ
 apart_by_blocks q p block size threads =
     floor_div (row_offset q size -ℤ row_offset p size) (block * size) *ℤ pos block *ℤ pos threads
     +ℤ (pos (element_in_row q block) -ℤ pos (element_in_row p block))
 
--- How many elements q would lie behind p.
+-- How many elements q would lie after p.
 abbrev pub apart : SharedPtr → SharedPtr → ℕ → ℕ → ℕ → ℤ
 apart q p zero size threads = floor_div (q.offset -ℤ p.offset) size
 apart q p (suc b) size threads = apart_by_blocks q p (suc b) size threads
 
--- What `q - p` gives: the number x for which `p + x` is q, where there is one.
+-- What `q - p` gives: the number x for which `p + x` is q, where there is one (UPC 6.4.2).
 abbrev pub difference : SharedPtr → SharedPtr → ℕ → ℕ → ℕ → Result ℤ ℕ
 difference q p block size threads =
     let x = apart q p block size threads in
@@ -65,7 +65,7 @@ difference q p block size threads =
     then Ok x
     else Err POINTER_PAIR
 
--- What a comparison of pointers gives: their difference against 0.
+-- What a comparison of pointers gives: their difference compared with 0 (UPC 6.4.2).
 abbrev pub order_of : Result ℤ ℕ → Result Ordering ℕ
 order_of (Ok x) = Ok (int_cmp x (pos 0))
 order_of (Err code) = Err code

@@ -48,84 +48,100 @@ use Rattle.source_meaning.specs.Running.{Running, shared_object, parameters_of}
 abbrev pub Calls : Type 0
 Calls = ℕ → List Value → Place → Doing Value
 
--- What stands where there is no value: what gives none is only done.
+-- The value 0, which stands for that of an expression that has none, as a call of a void function or the name of a
+-- function; nothing uses it (C99 6.3.2.2).
 abbrev pub no_value : Value
 no_value = number (pos 0)
 
--- The type of an expression, and the types of some.
+-- The type of an expression (C99 6.5).
 abbrev pub type_of : Expr → CType
 type_of e = (attr_of e).ctype
 
+-- The types of some expressions, in order.
 abbrev pub types_of : Exprs → List CType
 types_of es = map (λ a. a.ctype) (attrs_of es)
 
+-- The places of expressions inside their parentheses (C99 6.5.1).
 abbrev mutual
-  -- Where an expression begins inside its parentheses: the place of a read of what it names.
+  -- Where an expression begins inside its parentheses, which is the place of a read of what it names.
   pub inner_place : Expr → Place
   inner_place (Is at attr kind) = inner_place_in at kind
 
+  -- Where an expression of this kind, whose own place is given, begins inside its parentheses.
   pub inner_place_in : Place → ExprKind → Place
   inner_place_in at (Paren a) = inner_place a
   inner_place_in at kind = at
 
+-- How many elements an array type has; no other type has elements (C99 6.2.5).
 abbrev pub count_in : Base → Option ℕ
 count_in (Array element count) = Some count
 count_in b = None
 
+-- The dimensions of arrays of arrays (C99 6.5.2.1).
 abbrev mutual
-  -- The dimension that a further subscript of an array of arrays has to lie in: how many elements the array has that
-  -- a subscript names.
+  -- How many elements the array has that a subscript of an array of arrays names: a further subscript has to lie in
+  -- this dimension (C99 6.5.2.1).
   pub dimension : Expr → Option ℕ
   dimension (Is at attr kind) = dimension_in attr kind
 
+  -- The dimension in which a further subscript has to lie, after an expression of this kind and attribute; none where
+  -- it is no subscript (C99 6.5.2.1).
   pub dimension_in : Attr → ExprKind → Option ℕ
   dimension_in attr (Paren a) = dimension a
   dimension_in attr (Subscript a i) = count_in (base_of attr.ctype)
   dimension_in attr kind = None
 
+-- The formats of printf (C99 7.19.6.1).
 abbrev mutual
-  -- The format of a printf, which is its first argument.
+  -- The bytes of the format that an expression is, as the first argument of a printf; any other expression has none
+  -- (C99 7.19.6.3).
   pub format_of : Expr → List ℕ
   format_of (Is at attr kind) = format_in kind
 
+  -- The bytes of the format that an expression of this kind is, inside its parentheses.
   pub format_in : ExprKind → List ℕ
   format_in (Format bytes) = bytes
   format_in (Paren a) = format_of a
   format_in kind = []
 
+-- The call is printf (C99 7.19.6.3).
 abbrev pub is_printf : LibraryCall → Bool
 is_printf Printf = true
 is_printf call = false
 
+-- The expression has the form of an lvalue: it names an object (C99 6.3.2.1).
 abbrev pub is_lvalue : Form → Bool
 is_lvalue (Lvalue address) = true
 is_lvalue form = false
 
 -- ---- steps that several constructs take
 
--- A further subscript of an array of arrays lies in its dimension.
+-- A further subscript i of an array of arrays lies in its dimension, or is a run error; any other subscript is not
+-- tested (C99 6.5.2.1, 6.5.6).
 abbrev pub within_row : Place → Option ℕ → Value → ℤ → Doing (Unit {0})
 within_row at None p i = skip
 within_row at (Some count) p i = in_row count at p i
 
--- A unary operator, on an integer where the operand is one (C99 6.5.3.3).
+-- The value of a unary operator: of `!` by whether its operand is zero, of any other on an integer after promotion
+-- (C99 6.5.3.3).
 abbrev pub unary : Place → UnOp → Option Kind → Value → Doing Value
 unary at un.Not kind v = give (truth_value (is_zero v))
 unary at o (Some kind) v = apply o (promoted kind) at v
 unary at o None v = give no_value
 
--- A binary operator on two integers (C99 6.3.1.8).
+-- The value of a binary operator on two integers, after the usual arithmetic conversions (C99 6.3.1.8, 6.5.5 to
+-- 6.5.12).
 abbrev pub integers : Place → BinOp → (left right : Option Kind) → Value → Value → Doing Value
 integers at o (Some j) (Some k) x y = operate o (working_kind o j k) (right_kind o j k) at x y
 integers at o j k x y = give no_value
 
 module _ (ρ : Running) where
-  -- The place i objects of a type behind another (C99 6.5.6, UPC 6.4.2).
+  -- The place i objects of a type after another (C99 6.5.6, UPC 6.4.2).
   abbrev pub behind : Place → CType → Value → ℤ → Doing Value
   behind at t p i = advance ρ.thread (elements_of ρ.structs t) at p (i *ℤ pos (leaves (base_of t)))
 
-  -- A binary operator on two pointers to a type; the constant 0 may stand for one in an equality (C99 6.5.6, 6.5.8,
-  -- 6.5.9).
+  -- The value of a binary operator on two pointers to a type; the constant 0 may stand for one in an equality
+  -- (C99 6.5.6, 6.5.8, 6.5.9).
   abbrev pub on_pointers : Place → BinOp → CType → Value → Value → Doing Value
   on_pointers at op.Subtract t x y = difference ρ.thread (elements_of ρ.structs t) at x y
   on_pointers at op.Equal t x y = same ρ.thread x y
@@ -134,27 +150,33 @@ module _ (ρ : Running) where
     give (truth_value (is_zero v))
   on_pointers at o t x y = order ρ.thread o (elements_of ρ.structs t) at x y
 
-  -- On a pointer and an integer.
+  -- The value of a binary operator on a pointer to a type and an integer: the sum or the difference, or an equality
+  -- with the constant 0 (C99 6.5.6, 6.5.9).
   abbrev pub on_pointer : Place → BinOp → CType → Value → Value → Doing Value
   on_pointer at op.Add t x y = behind at t x (number_of y)
   on_pointer at op.Subtract t x y = behind at t x (neg_ℤ (number_of y))
   on_pointer at o t x y = on_pointers at o t x y
 
-  -- On an integer and a pointer.
+  -- The value of a binary operator on an integer and a pointer to a type: the sum, or an equality with the constant 0
+  -- (C99 6.5.6, 6.5.9).
   abbrev pub before_pointer : Place → BinOp → CType → Value → Value → Doing Value
   before_pointer at op.Add t x y = behind at t y (number_of x)
   before_pointer at o t x y = on_pointers at o t x y
 
+  -- The value of a binary operator on two values, by the target of each that is a pointer and the kind of each that is
+  -- an integer (C99 6.5.5 to 6.5.12).
   abbrev pub operated : Place → BinOp → (left right : Option CType) → (j k : Option Kind) → Value → Value → Doing Value
   operated at o (Some t) (Some u) j k x y = on_pointers at o t x y
   operated at o (Some t) None j k x y = on_pointer at o t x y
   operated at o None (Some u) j k x y = before_pointer at o u x y
   operated at o None None j k x y = integers at o j k x y
 
-  -- A binary operator on values of two types (C99 6.5.5 to 6.5.12).
+  -- The value of a binary operator on values of two types (C99 6.5.5 to 6.5.12).
   abbrev pub binary : Place → BinOp → (left right : CType) → Value → Value → Doing Value
   binary at o a b x y = operated at o (target_of a) (target_of b) (integer_of a) (integer_of b) x y
 
+  -- The value of the cell of this kind at a place; what has no cell of its own, an array or a struct, has the place as
+  -- its value (C99 6.3.2.1).
   abbrev pub loaded : Bool → Place → CType → Option Kind → Value → Doing Value
   loaded strict at t (Some kind) p = load ρ.thread kind (is_strict strict t) at p
   loaded strict at t None p = give p
@@ -163,15 +185,18 @@ module _ (ρ : Running) where
   abbrev pub held : Bool → Place → CType → Value → Doing Value
   held strict at t p = loaded strict at t (cell_kind ρ.structs t) p
 
+  -- The cell of this kind at a place gets a new value; to what has no cell of its own, an array or a struct, nothing is
+  -- written (C99 6.5.16).
   abbrev pub saved : Bool → Place → CType → Option Kind → Value → Value → Doing (Unit {0})
   saved strict at t (Some kind) p v = save ρ.thread kind (is_strict strict t) at p v
   saved strict at t None p v = skip
 
-  -- The object of a type at a place has a new value (C99 6.5.16).
+  -- The object of a type at a place gets a new value (C99 6.5.16).
   abbrev pub put : Bool → Place → CType → Value → Value → Doing (Unit {0})
   put strict at t p v = saved strict at t (cell_kind ρ.structs t) p v
 
-  -- What an expression gives that names an object or not: the value of the object, or its own (C99 6.3.2.1).
+  -- The value of an expression by what it gives: of an lvalue the value of the object at that place, of any other what
+  -- it gives (C99 6.3.2.1).
   abbrev pub value_in : Bool → Place → Attr → Value → Doing Value
   value_in strict at attr v = choose (is_lvalue attr.form) (held strict at attr.ctype v) (give v)
 
@@ -181,13 +206,15 @@ module _ (ρ : Running) where
   object (home.Shared n) = give (shared_object ρ n)
   object (home.Local n) = local_object n
 
-  -- The operator of `++` and `--`, and which value of the two they give (C99 6.5.2.4, 6.5.3.1).
+  -- The operator by which `++` and `--` change their operand by 1 (C99 6.5.2.4, 6.5.3.1).
   abbrev pub step_operator : StepOperator → BinOp
   step_operator step.IncrementFirst = op.Add
   step_operator step.IncrementAfter = op.Add
   step_operator step.DecrementFirst = op.Subtract
   step_operator step.DecrementAfter = op.Subtract
 
+  -- Which of the old and the new value `++` and `--` give: before their operand the new one, after it the old one
+  -- (C99 6.5.2.4, 6.5.3.1).
   abbrev pub step_value : StepOperator → (old new : Value) → Value
   step_value step.IncrementFirst old new = new
   step_value step.DecrementFirst old new = new
@@ -208,24 +235,27 @@ module _ (ρ : Running) where
 
   -- ---- calls of the library (C99 7.19.6.3, UPC 7.2, 7.3)
 
+  -- The number of the shape of this type's leaf elements among the program's shapes, 0 without a type (UPC 6.5.1.1).
   abbrev pub shape_number : Option CType → ℕ
   shape_number (Some t) = number_among ρ.thread.shapes (element_shape ρ.structs t)
   shape_number None = 0
 
-  -- The number of the shape of the elements that an allocation makes: those to which its pointer leads (UPC 7.2.2).
+  -- The number of the shape of the elements that an allocation makes, which are those to which its pointer leads; any
+  -- other call has 0 (UPC 7.2.2).
   abbrev pub allocated_shape : LibraryCall → CType → ℕ
   allocated_shape c t = if is_allocation c then shape_number (target_of t) else 0
 
   -- ---- expressions. In a block whose accesses are strict or not; `call` says what calls of functions do.
   module _ (call : Calls) (strict : Bool) where
+    -- What expressions do and give, each by its parts (C99 6.5, UPC 6.4).
     abbrev mutual
-      -- The value of an expression.
+      -- The value of an expression (C99 6.5).
       pub value : Expr → Doing Value
       value (Is at attr kind) = do
         v ← given at attr kind
         value_in strict (inner_place_in at kind) attr v
 
-      -- Where the object lies that an expression names.
+      -- Where the object lies that an expression names (C99 6.3.2.1).
       pub address : Expr → Doing Value
       address (Is at attr kind) = given at attr kind
 
@@ -316,14 +346,16 @@ module _ (ρ : Running) where
       -- , (C99 6.5.17)
       given at attr (Comma parts) = last no_value parts
 
-      -- printf with its format and its arguments (C99 7.19.6.3).
+      -- A call of printf: the arguments after its format are promoted, and their text is printed (C99 6.5.2.2,
+      -- 7.19.6.3).
       pub printed : Exprs → Doing Value
       printed NoExprs = give no_value
       printed (AndExpr format more) = do
         vs ← arguments (map promotion (types_of more)) more []
         print ρ.thread (format_of format) vs
 
-      -- The values of arguments, behind those that are there, each with its conversion (C99 6.5.2.2).
+      -- The values of arguments, from left to right and each with its conversion, after those that are there already
+      -- (C99 6.5.2.2).
       pub arguments : List CastTo → Exprs → List Value → Doing (List Value)
       arguments (c ∷ cs) (AndExpr a more) before = do
         v ← value a
@@ -331,7 +363,7 @@ module _ (ρ : Running) where
         arguments cs more (before ++ (w ∷ []))
       arguments cs args before = give before
 
-      -- The value of the last of some expressions.
+      -- The value of the last of some expressions, which are evaluated in order (C99 6.5.17).
       pub last : Value → Exprs → Doing Value
       last v NoExprs = give v
       last v (AndExpr a more) = do

@@ -44,17 +44,16 @@ abbrev pub IsSettled : ToldEnd → Type 0
 IsSettled (Wants a) = ⊥
 IsSettled e = Unit {0}
 
--- Of a further reply to an action that was wanted: where the reply fits the action, a read being of a cell of that
--- kind, the action is done; and
--- where it does not fit, the thread ends with that, before the action.
+-- What a further reply does to an action that was wanted: where it fits the action, a read being of a cell of that
+-- kind, the action is done; where it does not, the thread ends by this reply, before the action.
 pub record IsAnswered (τ : Thread) (kind : Option Kind) (a : Action) (r : Reply) (before : Outcome) (number : ℕ)
     (after : Outcome) : Type 0 where
   pub done : fits τ.threads τ.shapes kind a r ≡ true → Begins (before.actions ++ a ∷ []) after.actions
   pub misfit : fits τ.threads τ.shapes kind a r ≡ false
       → (after.«end» ≡ Misfit number) × (after.actions ≡ before.actions)
 
--- The reply with this number does not fit the action that was wanted without it, a read being of a cell of that kind;
--- what other replies to it would do goes by the same kind.
+-- The reply with this number does not fit the action that was wanted before it, a read being of a cell of that kind;
+-- whatever other reply stood there would be judged by the same kind.
 pub record IsUnfit (τ : Thread) (outcome : List Reply → Outcome) (rs : List Reply) (number : ℕ) : Type 0 where
   pub front : List Reply
   pub reply : Reply
@@ -68,8 +67,8 @@ pub record IsUnfit (τ : Thread) (outcome : List Reply → Outcome) (rs : List R
       (r : Reply) (rest : List Reply) → IsAnswered τ kind action r (outcome front) number (outcome (front ++ r ∷ rest))
   pub unfit : fits τ.threads τ.shapes kind action reply ≡ false
 
--- What a thread comes to takes the replies in order: each answers one action, and none is looked at before its action
--- is wanted.
+-- A thread's outcome takes the replies in order: each answers one action, and none is looked at before its action is
+-- wanted.
 pub record TakesReplies (τ : Thread) (outcome : List Reply → Outcome) : Type 0 where
   pub once : (rs : List Reply) → length (outcome rs).actions ≤ length rs
   pub wants : (rs : List Reply) (a : Action) → (outcome rs).«end» ≡ Wants a → length (outcome rs).actions ≡ length rs
@@ -82,7 +81,7 @@ pub record TakesReplies (τ : Thread) (outcome : List Reply → Outcome) : Type 
       outcome rs
   pub misfits : (rs : List Reply) (k : ℕ) → (outcome rs).«end» ≡ Misfit k → IsUnfit τ outcome rs k
 
--- So of each thread of a program, with a budget of at least one tick.
+-- The outcome of each thread of a program, with a budget of at least one tick, takes the replies in order.
 pub record AllTakeReplies (program : Checked) : Type 0 where
   pub each : (thread budget : ℕ) → 0 < budget
       → TakesReplies (running program thread budget).thread (thread_outcome program thread budget)
@@ -91,7 +90,7 @@ pub record AllTakeReplies (program : Checked) : Type 0 where
 abbrev pub beginning : List Action
 beginning = Notify Start ∷ Wait Start ∷ []
 
--- The barrier after it.
+-- The barrier after main (UPC 6.6.1).
 abbrev pub finish : List Action
 finish = Notify Finish ∷ Wait Finish ∷ []
 
@@ -101,17 +100,18 @@ pub record IsFramed (outcome : Outcome) : Type 0 where
   pub begins : Begins outcome.actions beginning ⊎ Begins beginning outcome.actions
   pub ends : (v : ℤ) → outcome.«end» ≡ Ended v → (before : List Action) × (outcome.actions ≡ before ++ finish)
 
--- So does each thread of a program, with a budget of at least one tick.
+-- Each thread of a program, with a budget of at least one tick, stands between the barrier before main and the one
+-- after it (UPC 6.6.1).
 pub record AllAreFramed (program : Checked) : Type 0 where
   pub each : (thread budget : ℕ) (replies : List Reply) → 0 < budget
       → IsFramed (thread_outcome program thread budget replies)
 
--- A thread counts no more ticks than its budget, and its ticks are out where they are the budget.
+-- A thread counts no more ticks than its budget, and where its ticks are out it has counted just so many.
 pub record KeepsBudget (budget : ℕ) (outcome : Outcome) : Type 0 where
   pub ticks : outcome.ticks ≤ budget
   pub spent : outcome.«end» ≡ OutOfTicks → outcome.ticks ≡ budget
 
--- So does each thread of a program, with a budget of at least one tick.
+-- No thread of a program, with a budget of at least one tick, counts more ticks than its budget.
 pub record AllKeepBudgets (program : Checked) : Type 0 where
   pub each :
       (thread budget : ℕ) (replies : List Reply) → 0 < budget
@@ -122,7 +122,7 @@ pub record KeepsTurns (outcome : Outcome) : Type 0 where
   pub wants : (a : Action) → outcome.«end» ≡ Wants a → IsInTurn (outcome.actions ++ a ∷ [])
   pub settled : IsSettled outcome.«end» → IsInTurn outcome.actions
 
--- So does each thread of a program, with a budget of at least one tick.
+-- In what each thread of a program does, with a budget of at least one tick, notifies and waits alternate (UPC 6.6.1).
 pub record AllKeepTurns (program : Checked) : Type 0 where
   pub each :
       (thread budget : ℕ) (replies : List Reply) → 0 < budget
@@ -133,7 +133,7 @@ pub record BeatsInTime (outcome : List Reply → Outcome) : Type 0 where
   pub ticks : (rs : List Reply) → (outcome rs).«end» ≡ Wants Beat
       → (outcome rs).ticks ≡ 1024 * (beats (outcome rs).actions + 1)
 
--- So does each thread of a program.
+-- Each thread of a program wants its Beats at the multiples of 1,024 ticks, one at each.
 pub record AllBeatInTime (program : Checked) : Type 0 where
   pub each : (thread budget : ℕ) → BeatsInTime (thread_outcome program thread budget)
 
@@ -141,6 +141,7 @@ pub record AllBeatInTime (program : Checked) : Type 0 where
 abbrev pub opening_of : Checked → Opening
 opening_of program = opening_in program.threads (start_of program)
 
+-- The action is a read of a shared location.
 abbrev pub is_read : Action → Bool
 is_read (Read l strict) = true
 is_read a = false
@@ -160,16 +161,18 @@ pub record GoesOn (o : Opening) (outcome : List Reply → Outcome) : Type 0 wher
       × ((r : Reply) → fits o.threads o.shapes kind a r ≡ true
       → (outcome (rs ++ r ∷ [])).actions ≡ (outcome rs).actions ++ a ∷ [])
 
--- So does each thread of a program, with a budget of at least one tick.
+-- Each thread of a program, with a budget of at least one tick, begins with nothing done and goes on by each reply that
+-- fits.
 pub record AllGoOn (program : Checked) : Type 0 where
   pub each : (thread budget : ℕ) → 0 < budget → GoesOn (opening_of program) (thread_outcome program thread budget)
 
--- So many arguments.
+-- There are so many arguments.
 abbrev pub AreSoMany : ℕ → Exprs → Type 0
 AreSoMany zero NoExprs = Unit {0}
 AreSoMany (suc n) (AndExpr a more) = AreSoMany n more
 AreSoMany n args = ⊥
 
+-- The value of a result passes, if it has one.
 abbrev pub GivesIn : {A : Type 0} → (A → Type 0) → Res A → Type 0
 GivesIn V (Val v σ) = V v
 GivesIn V (Over e σ) = Unit {0}
@@ -188,6 +191,7 @@ pub record FormsCalls (ρ : Running) : Type 0 where
       → Gives (List Value) (λ vs. is_formed ρ.thread.shapes call shape vs ≡ true)
       (arguments ρ functions strict (map parameter_conversion (call_parameters call)) args [])
 
--- So does each thread of a program.
+-- In each thread of a program all threads may meet with the arguments of a collective call that has as many of them as
+-- parameters.
 pub record AllFormCalls (program : Checked) : Type 0 where
   pub each : (thread budget : ℕ) → FormsCalls (running program thread budget)

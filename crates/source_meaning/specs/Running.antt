@@ -13,8 +13,7 @@ use Rattle.typed_tree.specs.Initials.{numbered}
 use Rattle.thread_steps.specs.States.{Thread}
 
 -- A program that a thread runs: its functions by number, its structs with the numbers of pointer types, its declared
--- shared objects in order, and
--- the thread.
+-- shared objects in order, and the thread.
 pub record Running : Type 0 where
   pub functions : List Function
   pub structs : Structs
@@ -30,6 +29,7 @@ running program thread budget = record {
   thread = record { number = thread; threads = program.threads; budget = budget; shapes = (start_of program).shapes };
 }
 
+-- The pointer-to-shared to the place on thread 0 where an object begins; without an object it is null (UPC 6.5.1.1).
 abbrev pub start_in : Option ObjectRef → Value
 start_in (Some object) = value.Scalar (Shared (record { object = object; thread = 0; phase = 0; offset = pos 0 }))
 start_in None = value.Scalar (Shared null)
@@ -38,10 +38,11 @@ start_in None = value.Scalar (Shared null)
 abbrev pub shared_object : Running → ℕ → Value
 shared_object ρ number = start_in (numbered ρ.shared number)
 
+-- The types of the parameters of a function; a function that is missing has none (C99 6.9.1).
 abbrev pub parameters_in : Option Function → List CType
 parameters_in (Some f) = f.parameters
 parameters_in None = []
 
--- The types of a function's parameters.
+-- The types of the parameters of the function with this number (C99 6.9.1).
 abbrev pub parameters_of : Running → ℕ → List CType
 parameters_of ρ number = parameters_in (slice_get ρ.functions number)

@@ -28,55 +28,59 @@ use Rattle.source_meaning.specs.Types.{integer_of, shape_of}
 use Rattle.source_meaning.specs.Running.{Running}
 use Rattle.source_meaning.specs.Expressions.{Calls, no_value, type_of, value, object, behind, converted_to, put}
 
--- How a statement is left: at its end, by `break`, by `continue`, or by `return` with a value.
+-- How a statement is left: at its end, by `break`, by `continue`, or by `return` with a value (C99 6.8.6).
 pub data Flow : Type 0 where
   Next : Flow
   Broke : Flow
   Again : Flow
   Gave : (given : Value) → Flow
 
+-- What a statement does: a step whose value says how the statement is left (C99 6.8).
 abbrev pub Does : Type 0
 Does = Doing Flow
 
 -- What a statement stands in: whether accesses that do not say so are strict (UPC 6.7), how many objects of its
--- function are in scope, and the
--- result of its function.
+-- function are in scope, and the type of its function's result.
 pub record Standing : Type 0 where
   pub strict : Bool
   pub count : ℕ
   pub result : CType
 
+-- The standing in a block whose accesses that do not say so are strict or relaxed (UPC 6.7).
 abbrev pub with_strict : Bool → Standing → Standing
 with_strict strict κ = record κ { strict = strict }
 
--- Behind the declaration of some objects.
+-- The standing after the declaration of some objects, which are then in scope (C99 6.2.1).
 abbrev pub with_objects : List DeclaredObject → Standing → Standing
 with_objects objects κ = record κ { count = κ.count + length objects }
 
 -- ---- ways out
 
--- What follows in a list of statements.
+-- What follows a statement in a list, by how it is left: at its end the rest of the list; `break`, `continue` and
+-- `return` leave the list (C99 6.8.2, 6.8.6).
 abbrev pub go_on : Flow → Does → Does
 go_on Next rest = rest
 go_on Broke rest = give Broke
 go_on Again rest = give Again
 go_on (Gave v) rest = give (Gave v)
 
--- What follows the body in a loop: `break` leaves the loop, and `continue` its body (C99 6.8.6.2, 6.8.6.3).
+-- What follows the body in a loop, by how it is left: `break` leaves the loop, and `continue` the body alone
+-- (C99 6.8.6.2, 6.8.6.3).
 abbrev pub turn_on : Flow → Does → Does
 turn_on Next rest = rest
 turn_on Broke rest = give Next
 turn_on Again rest = rest
 turn_on (Gave v) rest = give (Gave v)
 
--- Behind a switch: `break` has left it (C99 6.8.6.3).
+-- How a switch is left, by how its parts are: `break` leaves the switch alone (C99 6.8.6.3).
 abbrev pub caught : Flow → Flow
 caught Next = Next
 caught Broke = Next
 caught Again = Again
 caught (Gave v) = Gave v
 
--- Behind the body of a upc_forall, which no `break` and no `return` leaves (UPC 6.6.2).
+-- How a turn of a upc_forall is left, by how its body is: at its end, or by `return`; in a typed program neither
+-- `break` nor `return` leaves the body (UPC 6.6.2).
 abbrev pub finished : Flow → Flow
 finished Next = Next
 finished Broke = Next
@@ -89,16 +93,18 @@ objects_in NoItems = []
 objects_in (AndObjects objects more) = objects ++ objects_in more
 objects_in (AndStatement s more) = objects_in more
 
+-- The type of an array's elements; any other type stands for itself (C99 6.2.5).
 abbrev pub element_type : Base → CType → CType
 element_type (Array e count) t = e
 element_type b t = t
 
 module _ (ρ : Running) where
-  -- The cells of some objects.
+  -- The sizes and the cells of some objects, in order.
   abbrev pub shapes_of : List DeclaredObject → List Shape
   shapes_of objects = map (λ x. shape_of ρ.structs x.ctype) objects
 
-  -- Inside a block with these objects, which are in scope behind so many (C99 6.2.4, 6.8.2).
+  -- A block around a body: its objects, before which so many are in scope, are made anew and end with it (C99 6.2.4,
+  -- 6.8.2).
   abbrev pub blocked : (from : ℕ) → List DeclaredObject → Place → Does → Does
   blocked from objects at body = do
     open_block from (shapes_of objects) at
@@ -108,13 +114,15 @@ module _ (ρ : Running) where
 
   -- ---- loops (C99 6.8.5)
 
-  -- The body, the last part, and then all again.
+  -- One turn of a loop and what follows: the body, the last part, and then all again, unless the body has left the loop
+  -- (C99 6.8.5).
   abbrev pub around : (body last again : Does) → Does
   around body last again = do
     f ← body
     turn_on f (do last; again)
 
-  -- A loop of at most so many turns: a tick, the test, and where it is not 0 the body, the last part, and again.
+  -- A loop of at most so many turns: a tick, the test, and where it is not 0 the body, the last part, and again
+  -- (C99 6.8.5).
   abbrev pub turns : ℕ → (test : Doing Value) → (body last : Does) → Does
   turns zero test body last = λ _. Unfinished
   turns (suc n) test body last = do
@@ -122,7 +130,8 @@ module _ (ρ : Running) where
     v ← test
     choose (is_zero v) (give Next) (around body last (turns n test body last))
 
-  -- A loop. No thread takes more turns than its budget of ticks.
+  -- A loop with this test, this body and this last part; no thread takes more turns than its budget of ticks
+  -- (C99 6.8.5).
   abbrev pub loop : (test : Doing Value) → (body last : Does) → Does
   loop test body last = turns ρ.thread.budget test body last
 
@@ -136,6 +145,7 @@ module _ (ρ : Running) where
 
   -- ---- barriers (UPC 6.6.1)
 
+  -- What upc_notify, upc_wait and upc_barrier do with this mark: a barrier is a notify, and then a wait (UPC 6.6.1).
   abbrev pub synchronised : Synchronises → Place → Mark → Doing (Unit {0})
   synchronised Notify at mark = notify ρ.thread at mark
   synchronised Wait at mark = wait ρ.thread at mark
@@ -144,30 +154,33 @@ module _ (ρ : Running) where
     wait ρ.thread at mark
 
   module _ (call : Calls) where
-    -- The value of an expression of a statement.
+    -- The value of an expression that stands in a statement.
     abbrev pub evaluated : Standing → Expr → Doing Value
     evaluated κ e = value ρ call κ.strict e
 
-    -- An expression for what it does (C99 6.8.3).
+    -- An expression that is evaluated for what it does, and whose value is discarded; without one nothing is done
+    -- (C99 6.8.3).
     abbrev pub aside : Standing → Option Expr → Does
     aside κ None = give Next
     aside κ (Some e) = do
       evaluated κ e
       give Next
 
-    -- The test of a loop; an absent one is as 1 (C99 6.8.5.3).
+    -- The value of a loop's test, where an absent one counts as 1 (C99 6.8.5.3).
     abbrev pub tested : Standing → Option Expr → Doing Value
     tested κ None = give (number (pos 1))
     tested κ (Some e) = evaluated κ e
 
-    -- The value of a barrier statement, as an int.
+    -- The mark of a barrier statement: its value, converted into an int, or none (UPC 6.6.1).
     abbrev pub marked : Standing → Option Expr → Doing Mark
     marked κ None = give Absent
     marked κ (Some e) = do
       v ← evaluated κ e
       give (Given (converted kind.Int (number_of v)))
 
-    -- A body, where the turn is this thread's; where a loop around it controls, no affinity is evaluated (UPC 6.6.2).
+    -- The body of a upc_forall in one turn: without an affinity, or with `continue`, each thread does it; with one it
+    -- is done where the turn is this thread's; inside a body that controls already no affinity is evaluated
+    -- (UPC 6.6.2).
     abbrev pub guarded : Standing → Affinity → Does → Does
     guarded κ Everyone body = do
       f ← body
@@ -181,7 +194,7 @@ module _ (ρ : Running) where
 
     -- ---- initialisers (C99 6.7.8)
 
-    -- The elements of an array from element i on.
+    -- The elements of an array from element i on get the values of a list, in order (C99 6.7.8).
     abbrev pub listed : Standing → DeclaredObject → ℕ → Exprs → Doing (Unit {0})
     listed κ x i NoExprs = skip
     listed κ x i (AndExpr e more) = do
@@ -191,6 +204,8 @@ module _ (ρ : Running) where
       put ρ κ.strict x.at (element_type (base_of x.ctype) x.ctype) q v
       listed κ x (i + 1) more
 
+    -- An object gets its initial value, converted into its type, and an array the values of its list; an object without
+    -- an initialiser is left as it is (C99 6.7.8).
     abbrev pub initialised : Standing → DeclaredObject → Initial → Doing (Unit {0})
     initialised κ x NoInitial = skip
     initialised κ x (InitialValue e) = do
@@ -199,14 +214,15 @@ module _ (ρ : Running) where
       put ρ κ.strict x.at x.ctype p v
     initialised κ x (InitialList es) = listed κ x 0 es
 
-    -- Some objects get their initial values, in order.
+    -- Some objects get their initial values, in order (C99 6.7.8).
     abbrev pub declared : Standing → List DeclaredObject → Doing (Unit {0})
     declared κ [] = skip
     declared κ (x ∷ xs) = do
       initialised κ x x.initial
       declared κ xs
 
-    -- The head of a loop is a block, with what is done first.
+    -- The head of a `for` or a upc_forall is a block: its objects get their initial values, its first expression is
+    -- evaluated, and then comes the loop (C99 6.8.5, 6.8.5.3).
     abbrev pub headed : Standing → Place → Head → Does → Does
     headed κ at head body = blocked κ.count head.objects at (do
       declared κ head.objects
@@ -215,9 +231,11 @@ module _ (ρ : Running) where
 
     -- ---- statements
     abbrev mutual
+      -- What a statement does (C99 6.8, UPC 6.6).
       pub run : Standing → Statement → Does
       run κ (Stands at kind) = run_kind κ at kind
 
+      -- What a statement of this kind at this place does (C99 6.8, UPC 6.6).
       pub run_kind : Standing → Place → StatementKind → Does
       -- a block (C99 6.8.2, UPC 6.7)
       run_kind κ at (Block strict items) = blocked κ.count (objects_in items) at
@@ -259,18 +277,19 @@ module _ (ρ : Running) where
         fence ρ.thread
         give Next
 
+      -- What stands last in an `if`: the statement of its `else`, if it has one (C99 6.8.4.1).
       pub run_last : Standing → StatementOption → Does
       run_last κ NoStatement = give Next
       run_last κ (TheStatement s) = run κ s
 
-      -- The first arm whose test is not 0, else what comes last.
+      -- An `if` by its arms: the body of the first arm whose test is not 0, else what stands last (C99 6.8.4.1).
       pub run_arms : Standing → Arms → Does → Does
       run_arms κ NoArms last = last
       run_arms κ (AndArm test body more) last = do
         v ← evaluated κ test
         choose (is_zero v) (run_arms κ more last) (run κ body)
 
-      -- The parts of a block, in order.
+      -- The parts of a block, in order (C99 6.8.2).
       pub run_items : Standing → Items → Does
       run_items κ NoItems = give Next
       run_items κ (AndObjects objects more) = do
@@ -280,7 +299,7 @@ module _ (ρ : Running) where
         f ← run κ s
         go_on f (run_items κ more)
 
-      -- The parts of a switch from the first of these on: it falls through later labels.
+      -- The parts of a switch from the first of these on: it falls through later labels (C99 6.8.4.2).
       pub run_switch : Standing → SwitchItems → Does
       run_switch κ NoSwitchItems = give Next
       run_switch κ (AndCase w more) = run_switch κ more
@@ -289,14 +308,14 @@ module _ (ρ : Running) where
         f ← run κ s
         go_on f (run_switch κ more)
 
-      -- From the first label with this value on, or the other.
+      -- The parts of a switch from the first `case` with this value on; where there is none, the other (C99 6.8.4.2).
       pub from_case : Standing → ℤ → SwitchItems → Does → Does
       from_case κ v NoSwitchItems other = other
       from_case κ v (AndCase w more) other = choose (int_eq v w) (run_switch κ more) (from_case κ v more other)
       from_case κ v (AndDefault more) other = from_case κ v more other
       from_case κ v (AndSwitchStatement s more) other = from_case κ v more other
 
-      -- From `default` on, if there is one.
+      -- The parts of a switch from its `default` on; without one nothing is done (C99 6.8.4.2).
       pub from_default : Standing → SwitchItems → Does
       from_default κ NoSwitchItems = give Next
       from_default κ (AndCase w more) = from_default κ more

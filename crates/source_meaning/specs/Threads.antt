@@ -1,4 +1,4 @@
--- What a thread of a program does, from its first barrier to its last, and what it comes to (C99 5.1.2.2.3, 6.9.1;
+-- What a thread of a program does, from its first barrier to its last, and its outcome (C99 5.1.2.2.3, 6.9.1;
 -- UPC 6.6.1).
 use Rattle.std.specs.Prelude.{ℕ, zero, suc, ◌+◌, ℤ, nat_eq, Bool, false, List, [], ◌∷◌, ◌++◌, length, map}
 use Rattle.std.specs.Prelude.{codes, Option, Some, None, slice_get}
@@ -36,20 +36,21 @@ abbrev pub blank_of : Option Kind → Value
 blank_of (Some k) = blank_value k
 blank_of None = no_value
 
--- What a body gives by how it was left.
+-- What a function gives by how its body is left: the value of its `return`, else 0 or null (C99 6.8.6.4, 6.9.1).
 abbrev pub given_by : Value → Flow → Value
 given_by blank (Gave v) = v
 given_by blank flow = blank
 
+-- The function is named main (C99 5.1.2.2.1).
 abbrev pub is_main : Function → Bool
 is_main f = pointwise nat_eq f.name (codes "main")
 
--- The function main, if there is one.
+-- The function main, if there is one (C99 5.1.2.2.1).
 abbrev pub main_of : List Function → Option Function
 main_of functions = find is_main functions
 
 module _ (ρ : Running) where
-  -- What the body of a function stands in, behind its parameters.
+  -- What the body of a function stands in, with the function's parameters in scope (C99 6.2.1, 6.9.1).
   abbrev pub in_body : Function → Bool → Standing
   in_body f strict = record { strict = strict; count = length f.parameters; result = f.result }
 
@@ -74,7 +75,7 @@ module _ (ρ : Running) where
     close_block
     give flow
 
-  -- The body of a function is a block.
+  -- What the body of a function, which is a block, does with these arguments (C99 6.9.1).
   abbrev pub body : Calls → Function → List Value → Statement → Does
   body call f args (Stands at (Block strict items)) = opened call f args at strict items
   body call f args s = run ρ call (in_body f false) s
@@ -97,10 +98,11 @@ module _ (ρ : Running) where
     end_call
     give v
 
-  -- So many calls may be active at once, and one more may be tried.
+  -- The most calls that may be active at once, main's among them; one more is run error 19.
   unfoldable pub most_calls : ℕ
   most_calls = MOST_CALLS
 
+  -- Where the definition of main begins, which is the place of the barriers around main; 1:1 without a main.
   abbrev pub main_place : Option Function → Place
   main_place (Some f) = f.at
   main_place None = record { line = 1; column = 1 }
@@ -113,7 +115,7 @@ module _ (ρ : Running) where
     end_call
     give v
 
-  -- Main, and the barrier after it (UPC 6.6.1). It gives what main gives, an int.
+  -- What main does, and the barrier after it (UPC 6.6.1); its value is what main gives, as an int (C99 5.1.2.2.3).
   abbrev pub main_on : Option Function → Doing ℤ
   main_on main = do
     v ← main_called main
@@ -121,20 +123,23 @@ module _ (ρ : Running) where
     wait ρ.thread (main_place main) Finish
     give (converted kind.Int (number_of v))
 
-  -- A thread: the barrier before main, and main.
+  -- The whole course of a thread, by its main: the barrier before main, main, and the barrier after it (UPC 6.6.1).
   abbrev pub course_from : Option Function → Doing ℤ
   course_from main = do
     notify ρ.thread (main_place main) Start
     wait ρ.thread (main_place main) Start
     main_on main
 
+  -- The whole course of a thread that runs the program (C99 5.1.2.2.1, UPC 6.6.1).
   abbrev pub course : Doing ℤ
   course = course_from (main_of ρ.functions)
 
--- What a thread has come to where it ends so.
+-- The outcome of a thread that ends so in this state.
 abbrev pub told : ToldEnd → State → Outcome
 told e σ = record { actions = σ.actions; ticks = σ.ticks; «end» = e }
 
+-- The outcome of a thread by the result of its course: Ended with main's value, or the end that it has reached before
+-- (C99 5.1.2.2.3).
 abbrev pub outcome_of : Res ℤ → Outcome
 outcome_of (Val v σ) = told (Ended v) σ
 outcome_of (Over e σ) = told e σ
@@ -151,7 +156,7 @@ initial_state program replies = record {
   replies = replies;
 }
 
--- What a thread of a program comes to, with a budget of ticks and on these replies.
+-- The outcome of a thread of a program, with a budget of ticks and on these replies (C99 5.1.2.3).
 unfoldable pub thread_outcome : Checked → (thread budget : ℕ) → List Reply → Outcome
 thread_outcome program thread budget replies =
     outcome_of (course (running program thread budget) (initial_state program replies))

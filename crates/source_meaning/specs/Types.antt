@@ -28,23 +28,27 @@ use Rattle.thread_steps.specs.declared.elements.Elements.{Elements}
 abbrev pub target_of : CType → Option CType
 target_of t = base_target (base_of t)
 
--- The kind of an integer type.
+-- The kind of an integer type; no other type has one (C99 6.2.5).
 abbrev pub integer_of : CType → Option Kind
 integer_of t = base_kind (base_of t)
 
--- Whether an access to an object of this type is strict: by the type, else by the block that it stands in (UPC
--- 6.5.1.1, 6.7).
+-- Whether an access is strict: by the word `strict` or `relaxed` of its object's type, and where the type has neither
+-- by the block (UPC 6.5.1.1, 6.7).
 abbrev pub strict_by : Bool → Access → Bool
 strict_by block Unsaid = block
 strict_by block Strict = true
 strict_by block Relaxed = false
 
+-- Whether an access to an object of this type is strict: by the type, else by the block in which the access stands
+-- (UPC 6.5.1.1, 6.7).
 abbrev pub is_strict : Bool → CType → Bool
 is_strict block t = strict_by block (access_of t)
 
 -- ---- conversions (C99 6.3, 6.5.4; UPC 6.4.3)
 
--- Into a pointer to this target, from a pointer whose target has this block.
+-- The conversion into a pointer to this target of a value whose target, if it has one, has this block: into a pointer
+-- to a lock, into a pointer-to-shared with the same block or with another one, or into a pointer to a private object
+-- (UPC 6.4.3).
 abbrev pub pointer_conversion : Option ℕ → CType → CastTo
 pointer_conversion from target =
     if is_lock_object (base_of target)
@@ -53,16 +57,19 @@ pointer_conversion from target =
     then (if same_block from (block_of target) then to.Shared else to.OtherBlock)
     else to.Local)
 
+-- The conversion into a type of a value whose target, if it has one, has this block: into its integer kind or its kind
+-- of pointer; into any other type, as void, the value is discarded (C99 6.3.2.2).
 abbrev pub base_conversion : Option ℕ → Base → CastTo
 base_conversion from (Integer kind) = to.Integer kind
 base_conversion from (Pointer target) = pointer_conversion from target
 base_conversion from base = to.Nothing
 
--- From a value of one type into another type.
+-- The conversion of a value of one type into another type (C99 6.3, 6.5.4; UPC 6.4.3).
 abbrev pub conversion : CType → CType → CastTo
 conversion from t = base_conversion (target_block (target_of from)) (base_of t)
 
--- Into the type of a parameter of the library. A pointer-to-shared keeps its phase there.
+-- The conversion of an argument into the type of a parameter of the library, in which a pointer-to-shared keeps its
+-- phase (C99 6.5.2.2; UPC 7).
 abbrev pub parameter_conversion : LibraryParameter → CastTo
 parameter_conversion SharedPointer = to.Shared
 parameter_conversion PrivatePointer = to.Local
@@ -71,6 +78,7 @@ parameter_conversion Size = to.Integer kind.ULong
 parameter_conversion Int = to.Integer kind.Int
 parameter_conversion NoFunction = to.Integer kind.Int
 
+-- The integer promotion of a value of this kind; a value of no integer kind is discarded (C99 6.3.1.1).
 abbrev pub promotion_of : Option Kind → CastTo
 promotion_of (Some k) = to.Integer (promoted k)
 promotion_of None = to.Nothing
@@ -85,31 +93,33 @@ conversions (a ∷ as_) (p ∷ ps) = conversion a p ∷ conversions as_ ps
 conversions as_ ps = []
 
 -- ---- layout, where the structs have these members and the targets of pointers these numbers. A type without layout
--- is as one byte without cells;
--- in a typed program no object has such a type.
+-- counts as one byte without cells; in a typed program no object has such a type.
 module _ (structs : Structs) where
+  -- The size in bytes that a layout gives; a type without layout counts as one byte (C99 6.5.3.4).
   abbrev pub bytes_or_one : Option Layout → ℕ
   bytes_or_one (Some l) = l.size
   bytes_or_one None = 1
 
-  -- The bytes of an object.
+  -- The size in bytes of an object (C99 6.5.3.4).
   abbrev pub bytes_of : Base → ℕ
   bytes_of b = bytes_or_one (base_within structs.completed b)
 
-  -- The kind of the cell of a scalar; an array or a struct has none of its own.
+  -- The kind of the cell of a scalar type; an array or a struct has none of its own (C99 6.2.5).
   abbrev pub cell_kind : CType → Option Kind
   cell_kind t = scalar_kind structs.targets (base_of t)
 
+  -- The size and the cells of an object whose type has a layout; a type without layout counts as one byte without
+  -- cells.
   abbrev pub shape_or_byte : Option Layout → Base → Shape
   shape_or_byte (Some l) b = object_shape structs b
   shape_or_byte None b = record { size = 1; cells = [] }
 
-  -- The cells of an object.
+  -- The size and the cells of an object of this type (C99 6.2.5, 6.7.2.1).
   abbrev pub shape_of : CType → Shape
   shape_of t = shape_or_byte (base_within structs.completed (base_of t)) (base_of t)
 
-  -- The elements that a pointer to this type names: leaf elements (UPC 6.5.1.1). A block is at most 16,777,216; in a
-  -- typed program each is.
+  -- The block and the size of the elements that a pointer to this type counts, which are leaf elements (UPC 6.4.2,
+  -- 6.5.1.1); a block of more than 16,777,216, which no typed program has, counts as that.
   abbrev pub elements_of : CType → Elements
   elements_of target = record {
     block = min (block_or_none (block_of target)) 16777216;
@@ -125,14 +135,16 @@ module _ (structs : Structs) where
       let l = base_layout (layout_in structs.completed) (base_of m.ctype) in
       offset_from (aligned end l.align + l.size) n ms
 
+  -- The bytes before member n of the struct with this number, 0 where there is no struct (C99 6.7.2.1).
   abbrev pub offset_in : Option ℕ → ℕ → ℕ
   offset_in (Some number) n = offset_from 0 n (members_of structs number)
   offset_in None n = 0
 
-  -- The bytes before member n of a struct of this type.
+  -- The bytes before member n of a struct of this type (C99 6.7.2.1).
   abbrev pub member_offset : CType → ℕ → ℕ
   member_offset t n = offset_in (base_struct (base_of t)) n
 
+  -- The bytes before member n of the struct to which a pointer leads, 0 where it leads to none (C99 6.5.2.3, 6.7.2.1).
   abbrev pub target_offset : Option CType → ℕ → ℕ
   target_offset (Some t) n = member_offset t n
   target_offset None n = 0

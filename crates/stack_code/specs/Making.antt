@@ -16,7 +16,7 @@ pub record Making : Type 0 where
   pub current : List Instr
   pub failed : Bool
 
--- Nothing but shapes.
+-- The code of so many threads and these shapes that has no function and no private object yet.
 abbrev pub empty : ℕ → List Shape → Making
 empty threads shapes = record {
   codes = codes_of threads shapes [] [] [];
@@ -24,32 +24,32 @@ empty threads shapes = record {
   failed = false;
 }
 
--- With one more instruction in the function.
+-- The code with one more instruction in the function.
 abbrev pub with_instruction : Instr → Making → Making
 with_instruction i m = record m { current = m.current ++ i ∷ [] }
 
--- With these instructions more in the function.
+-- The code with these instructions more in the function.
 abbrev pub with_instructions : List Instr → Making → Making
 with_instructions is m = record m { current = m.current ++ is }
 
--- With memory wanting.
+-- The code for which memory was wanting.
 abbrev pub with_failure : Making → Making
 with_failure m = record m { failed = true }
 
--- With the function ended: the next one begins.
+-- The code with the function ended, after which the next one begins.
 abbrev pub with_function : Making → Making
 with_function m = record m {
   codes = record m.codes { functions = m.codes.functions ++ m.current ∷ [] };
   current = [];
 }
 
--- With one more private object of the file.
+-- The code with one more private object of the file.
 abbrev pub with_object : Shape → Making → Making
 with_object shape m = record m {
   codes = record m.codes { private_shapes = m.codes.private_shapes ++ shape ∷ [] };
 }
 
--- With one more initial value.
+-- The code with one more initial value of a cell of a private object.
 abbrev pub with_initial : LocalPtr → Value → Making → Making
 with_initial at v m = record m {
   codes = record m.codes { private_initials = m.codes.private_initials ++ (at, v) ∷ [] };

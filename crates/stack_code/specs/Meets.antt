@@ -11,7 +11,7 @@ abbrev pub HasAt : List Instr → ℕ → List Instr → Type 0
 HasAt code place [] = Unit {0}
 HasAt code place (i ∷ more) = (slice_get code place ≡ Some i) × HasAt code (place + 1) more
 
--- So in a function of the code, from a spot on.
+-- These instructions stand in a function of the code, from a spot on.
 abbrev pub HasFrom : List (List Instr) → Spot → List Instr → Type 0
 HasFrom functions at part = HasAt (function_at functions at.function) at.place part
 
@@ -24,15 +24,15 @@ piled (v ∷ vs) operands = piled vs (v ∷ operands)
 abbrev pub there : Spot → List Value → List Spot → State → Conf
 there at operands calls = At at [] operands calls
 
--- At a spot with a value on top.
+-- A spot with a value on top of these operands.
 abbrev pub value_at : Spot → List Value → List Spot → Value → State → Conf
 value_at at operands calls v = there at (v ∷ operands) calls
 
--- At a spot with values on top.
+-- A spot with some values on top of these operands.
 abbrev pub values_at : Spot → List Value → List Spot → List Value → State → Conf
 values_at at operands calls vs = there at (piled vs operands) calls
 
--- At a spot, whatever was given.
+-- A spot with these operands, whatever value was given.
 abbrev pub place_at : {A : Type 0} → Spot → List Value → List Spot → A → State → Conf
 place_at at operands calls _ = there at operands calls
 
@@ -42,11 +42,13 @@ module _ (τ : Thread) (functions : List (List Instr)) where
     pub count : ℕ
     pub is : steps τ functions count c ≡ d
 
+  -- From c the code leads to where `go` says for the value of a result, or to the end of the thread in which the result
+  -- ends.
   abbrev pub Comes : {A : Type 0} → Conf → (A → State → Conf) → Res A → Type 0
   Comes c go (Val a σ) = Leads c (go a σ)
   Comes c go (Over told σ) = Leads c (Halt told σ)
   Comes c go Unfinished = Unit {0}
 
-  -- From c the code comes to where `go` says that the result is, or to the end of the thread where it is one.
+  -- From c the code leads to where `go` says that the result is, or to the end of the thread where it is one.
   pub record Meets (A : Type 0) (c : Conf) (go : A → State → Conf) (r : Res A) : Type 0 where
     pub by : Comes c go r

@@ -18,7 +18,7 @@ abbrev pub is_if : Statement → Bool
 is_if (If word test body more last) = true
 is_if x = false
 
--- A statement that is a scope of its own, but for a compound one (C99 6.8.4, 6.8.5).
+-- A statement that is a scope of its own, other than a compound one (C99 6.8.4, 6.8.5; UPC 6.6.2).
 abbrev pub is_scoped : Statement → Bool
 is_scoped (If word test body more last) = true
 is_scoped (Switch word test left items right) = true

@@ -17,7 +17,7 @@ use Rattle.statement_checker.specs.Statements.{walk_forall_head, walk_statement,
 use Rattle.statement_checker.specs.Statements.{walk_otherwise}
 use Rattle.statement_nodes.specs.Judged.{tests_of}
 
--- An `if` with its arms.
+-- The walk over an `if` with its arms, inside its scope (C99 6.8.4.1).
 abbrev pub if_part : Setting → Bool → Span → Test → s.Statement → ElseIfs → Otherwise → Around → Env → Walk k.Statement
 if_part ξ strict word test body more last c Γ =
     andthen (walk_test ξ Γ test) (λ a. andthen (enclosed (walk_statement ξ (inside Γ) c strict body)) (λ b.
@@ -25,7 +25,7 @@ if_part ξ strict word test body more last c Γ =
     andthen (judge ξ (at word) (n.Tests (attr_of a ∷ x.tests))) (λ u.
     give (k.Stands (at word) (k.If (k.AndArm a b x.arms) o)))))))
 
--- A `switch`.
+-- The walk over a `switch`, inside its scope (C99 6.8.4.2).
 abbrev pub switch_part : Setting → Bool → Span → Test → SwitchItems → Around → Env → Walk k.Statement
 switch_part ξ strict word test items c Γ =
     andthen (walk_test ξ Γ test) (λ a.
@@ -33,25 +33,25 @@ switch_part ξ strict word test items c Γ =
     andthen (judge ξ (at word) (n.Switch (attr_of a) x.labels x.defaults)) (λ u.
     give (k.Stands (at word) (k.Switch a x.items)))))
 
--- A `while`.
+-- The walk over a `while`, inside its scope (C99 6.8.5.1).
 abbrev pub while_part : Setting → Bool → Span → Test → s.Statement → Around → Env → Walk k.Statement
 while_part ξ strict word test body c Γ =
     andthen (walk_test ξ Γ test) (λ a. andthen (enclosed (walk_statement ξ (inside Γ) c strict body)) (λ b.
     andthen (judge ξ (at word) (n.Tests (attr_of a ∷ []))) (λ u. give (k.Stands (at word) (k.While a b)))))
 
--- A `do` with its `while`.
+-- The walk over a `do` with its `while`, inside its scope (C99 6.8.5.2).
 abbrev pub do_part : Setting → Bool → Span → Test → s.Statement → Around → Env → Walk k.Statement
 do_part ξ strict word test body c Γ =
     andthen (enclosed (walk_statement ξ (inside Γ) c strict body)) (λ b. andthen (walk_test ξ Γ test) (λ a.
     andthen (judge ξ (at word) (n.Tests (attr_of a ∷ []))) (λ u. give (k.Stands (at word) (k.DoWhile b a)))))
 
--- A `for`.
+-- The walk over a `for`, inside its scope (C99 6.8.5.3).
 abbrev pub for_part : Setting → Bool → Span → ForHead → s.Statement → Around → Env → Walk k.Statement
 for_part ξ strict word head body c Γ =
     andthen (walk_for_head ξ Γ head) (λ h. andthen (enclosed (walk_statement ξ (inside h.scope) c strict body)) (λ b.
     andthen (judge ξ (at word) (n.Tests (tests_of h.head.test))) (λ u. give (k.Stands (at word) (k.For h.head b)))))
 
--- A `upc_forall` (UPC 6.6.2).
+-- The walk over a `upc_forall`, inside its scope (UPC 6.6.2).
 abbrev pub forall_part : Setting → Bool → Span → ForallHead → s.Statement → Around → Env → Walk k.Statement
 forall_part ξ strict word head body c Γ =
     andthen (walk_forall_head ξ Γ head) (λ h.
@@ -59,7 +59,8 @@ forall_part ξ strict word head body c Γ =
     andthen (judge ξ (at word) (n.Tests (tests_of h.head.test))) (λ u.
     give (k.Stands (at word) (k.Forall h.head h.affinity b)))))
 
--- Each of them, and a statement of another kind as it is.
+-- The walk over a statement that is a scope of its own, inside that scope; any other statement is walked over whole
+-- (C99 6.8.4, 6.8.5; UPC 6.6.2).
 abbrev pub scoped_part : Setting → Bool → s.Statement → Around → Env → Walk k.Statement
 scoped_part ξ strict (s.If word test body more last) c Γ = if_part ξ strict word test body more last c Γ
 scoped_part ξ strict (s.Switch word test left items right) c Γ = switch_part ξ strict word test items (in_switch c) Γ

@@ -36,11 +36,12 @@ pub use Rattle.typed_tree.specs.Words.{in_loop, in_switch, in_forall, label_valu
 
 -- ---- what stands around
 
--- Whether accesses are strict behind these pragmas (UPC 6.7).
+-- Whether accesses are strict after these pragmas, of which the last decides (UPC 6.7).
 abbrev pub strict_behind : Bool → List Pragma → Bool
 strict_behind before [] = before
 strict_behind before (p ∷ ps) = strict_behind p.strict ps
 
+-- Which barrier statement each word begins (UPC 6.6.1).
 abbrev pub synchronises : BarrierWord → Synchronises
 synchronises w.Notify = y.Notify
 synchronises w.Wait = y.Wait
@@ -48,21 +49,25 @@ synchronises w.Barrier = y.Barrier
 
 -- ---- expressions of statements
 
+-- The walk over the expression of a statement, if it has one (C99 6.8.3).
 abbrev pub walk_value : Setting → Env → Option Expr → Walk (Option k.Expr)
 walk_value ξ Γ None = give None
 walk_value ξ Γ (Some e) = andthen (walk ξ Γ n.Plain e) (λ a. give (Some a))
 
+-- The walk over the controlling expression of a statement, in its parentheses (C99 6.8.4, 6.8.5).
 abbrev pub walk_test : Setting → Env → Test → Walk k.Expr
 walk_test ξ Γ (Tests left value right) = walk ξ Γ n.Plain value
 
 -- ---- the heads of loops
 
--- The scope of a loop, what its first part declares, and its expression.
+-- What the first part of a loop's head leaves: the scope of the loop, the objects that this part declares, and its
+-- expression (C99 6.8.5.3).
 pub record Begun : Type 0 where
   pub scope : Env
   pub objects : List DeclaredObject
   pub first : Option k.Expr
 
+-- The walk over the first part of a loop's head: an expression, a declaration, or nothing (C99 6.8.5.3).
 abbrev pub walk_first : Setting → Env → First → Walk Begun
 walk_first ξ Γ (FirstValue value semicolon) =
     andthen (walk_value ξ Γ value) (λ a. give (record { scope = Γ; objects = []; first = a }))
@@ -70,10 +75,12 @@ walk_first ξ Γ (FirstDeclaration declaration) =
     andthen (walk_declaration ξ Γ declaration) (λ b.
     give (record { scope = b.scope; objects = b.objects; first = None }))
 
+-- The head of a loop, of its first part, its test and what it does last in each turn (C99 6.8.5.3).
 abbrev pub head_of : Begun → Option k.Expr → Option k.Expr → k.Head
 head_of b test step = record { objects = b.objects; first = b.first; test = test; step = step }
 
--- An affinity is judged at its expression (UPC 6.6.2).
+-- The walk over the affinity of a `upc_forall`, which is judged at its expression; without one, or with `continue`,
+-- each thread takes every turn (UPC 6.6.2).
 abbrev pub walk_affinity : Setting → Env → Affinity → Walk k.Affinity
 walk_affinity ξ Γ NoAffinity = give k.Everyone
 walk_affinity ξ Γ (ContinueAffinity word) = give k.Everyone
@@ -81,18 +88,21 @@ walk_affinity ξ Γ (ValueAffinity value) =
     andthen (walk ξ Γ n.Plain value) (λ a. andthen (judge ξ (place_of a) (n.Affinity (attr_of a))) (λ u.
     give (k.AtValue a)))
 
--- A head with the scope behind it.
+-- The head of a loop with the scope after it, and with the affinity, which a `for` has not (C99 6.8.5.3, UPC 6.6.2).
 pub record Headed : Type 0 where
   pub scope : Env
   pub head : k.Head
   pub affinity : k.Affinity
 
+-- The walk over the head of a `for`: what its first part declares is in scope in the others (C99 6.8.5.3).
 abbrev pub walk_for_head : Setting → Env → ForHead → Walk Headed
 walk_for_head ξ Γ (ForParts left first test test_end step right) =
     andthen (walk_first ξ Γ first) (λ b. andthen (walk_value ξ b.scope test) (λ t.
     andthen (walk_value ξ b.scope step) (λ p.
     give (record { scope = b.scope; head = head_of b t p; affinity = k.Everyone }))))
 
+-- The walk over the head of a `upc_forall`: what its first part declares is in scope in the others, of which the
+-- affinity is the last (UPC 6.6.2).
 abbrev pub walk_forall_head : Setting → Env → ForallHead → Walk Headed
 walk_forall_head ξ Γ (ForallParts left first test test_end step step_end affinity right) =
     andthen (walk_first ξ Γ first) (λ b. andthen (walk_value ξ b.scope test) (λ t.
@@ -102,48 +112,59 @@ walk_forall_head ξ Γ (ForallParts left first test test_end step step_end affin
 
 -- ---- switch
 
--- The labels of a switch, and how often `default` stands there.
+-- The body of a switch: its parts, the constants of its labels, and how often `default` stands there (C99 6.8.4.2).
 pub record Labelled : Type 0 where
   pub items : k.SwitchItems
   pub labels : List Constant
   pub defaults : ℕ
 
+-- The body of a switch with one more `case` before it, whose constant is converted into the kind of the switch
+-- (C99 6.8.4.2).
 abbrev pub with_case : Option Kind → Constant → Labelled → Labelled
 with_case kind c x =
     record { items = k.AndCase (label_value kind c) x.items; labels = c ∷ x.labels; defaults = x.defaults }
 
+-- The body of a switch with one more `default` before it (C99 6.8.4.2).
 abbrev pub with_default : Labelled → Labelled
 with_default x = record { items = k.AndDefault x.items; labels = x.labels; defaults = x.defaults + 1 }
 
+-- The body of a switch with one more statement before it (C99 6.8.4.2).
 abbrev pub with_statement : k.Statement → Labelled → Labelled
 with_statement s x = record { items = k.AndSwitchStatement s x.items; labels = x.labels; defaults = x.defaults }
 
 -- ---- statements
 
--- The further arms of an `if`, with the conditions that are judged at the statement, and the scope of the part behind
--- the last `else`.
+-- The further arms of an `if`, with the conditions that are judged at the statement, and the scope of the part after
+-- the last `else` (C99 6.8.4.1).
 pub record Armed : Type 0 where
   pub arms : k.Arms
   pub tests : List Attr
   pub scope : Env
 
+-- The further arms of an `if` with one more before them (C99 6.8.4.1).
 abbrev pub with_arm : k.Expr → k.Statement → Armed → Armed
 with_arm test body x = record { arms = k.AndArm test body x.arms; tests = attr_of test ∷ x.tests; scope = x.scope }
 
--- The scope inside Δ, which is that of a condition inside Γ: a condition may declare a tag, but no name.
+-- A scope one level inside Δ, which is that of a condition inside Γ: a condition may declare a tag, but no name, so
+-- names are sought in Γ next (C99 6.2.1, 6.8.4).
 abbrev pub deeper : Env → Env → Env
 deeper Γ Δ = Scope (level_of Δ + 1) [] (counts_of Δ) (Within Γ)
 
+-- The walk over the expression of a `return`, if it has one, which converts into the result of its function
+-- (C99 6.8.6.4).
 abbrev pub walk_returned : Setting → Env → Around → Option Expr → Walk (Option k.Expr)
 walk_returned ξ Γ c None = give None
 walk_returned ξ Γ c (Some e) = andthen (walk ξ Γ (n.Into c.result) e) (λ a. give (Some a))
 
+-- The place of an expression statement: that of its expression, or of its semicolon where it has none (C99 6.8.3).
 abbrev pub statement_place : Option k.Expr → Span → Place
 statement_place None semicolon = at semicolon
 statement_place (Some a) semicolon = place_of a
 
+-- The walk over statements and their parts (C99 6.8, UPC 6.6).
 abbrev mutual
-  -- A statement. Those that choose and those that repeat are blocks, and so are their parts (C99 6.8.4, 6.8.5).
+  -- The walk over a statement: those that choose and those that repeat are blocks, and so are their parts (C99 6.8.4,
+  -- 6.8.5).
   pub walk_statement : Setting → Env → Around → Bool → Statement → Walk k.Statement
   walk_statement ξ Γ c strict (s.Block compound) = walk_block ξ (inside Γ) c strict compound
   walk_statement ξ Γ c strict (s.Value value semicolon) =
@@ -188,13 +209,14 @@ abbrev mutual
       andthen (walk_value ξ Γ value) (λ a. synchronise ξ (at word) (synchronises kind) a)
   walk_statement ξ Γ c strict (s.Fence word semicolon) = give (k.Stands (at word) k.Fence)
 
-  -- A compound statement in a scope that is there: that of a function has its parameters.
+  -- The walk over a compound statement, in a scope that is there already: that of a function's body has the parameters
+  -- (C99 6.8.2, 6.9.1).
   pub walk_block : Setting → Env → Around → Bool → Compound → Walk k.Statement
   walk_block ξ Γ c strict (Braces left pragmas items right) =
       enclosed (andthen (walk_items ξ Γ c (strict_behind strict pragmas) items) (λ xs.
       give (k.Stands (at left) (k.Block (strict_behind strict pragmas) xs))))
 
-  -- A declaration is in scope behind itself.
+  -- The walk over the parts of a block, in order; a declaration is in scope after itself (C99 6.2.1, 6.8.2).
   pub walk_items : Setting → Env → Around → Bool → BlockItems → Walk k.Items
   walk_items ξ Γ c strict NoBlockItems = give k.NoItems
   walk_items ξ Γ c strict (AndBlockItem (DeclarationItem declaration) more) =
@@ -204,6 +226,8 @@ abbrev mutual
       andthen (walk_statement ξ Γ c strict statement) (λ x. andthen (walk_items ξ Γ c strict more) (λ xs.
       give (k.AndStatement x xs)))
 
+  -- The walk over the body of a switch on a value of this kind: its labels, its `default` and its statements
+  -- (C99 6.8.1, 6.8.4.2).
   pub walk_switch : Setting → Env → Around → Bool → Option Kind → SwitchItems → Walk Labelled
   walk_switch ξ Γ c strict kind NoSwitchItems = give (record { items = k.NoSwitchItems; labels = []; defaults = 0 })
   walk_switch ξ Γ c strict kind (AndSwitchItem (CaseItem word value colon) more) =
@@ -215,14 +239,15 @@ abbrev mutual
       andthen (walk_statement ξ Γ c strict statement) (λ y. andthen (walk_switch ξ Γ c strict kind more) (λ x.
       give (with_statement y x)))
 
-  -- The part behind an `else` is a block, here Δ, inside the `if` whose scope is Γ: the condition of a further arm
-  -- stands in it, and so do all arms behind that one.
+  -- The walk over the further arms of an `if` with the scope Γ. The part after an `else` is a block, here Δ: the
+  -- condition of the next arm stands in it, and so do all later arms (C99 6.8.4).
   pub walk_else_ifs : Setting → Env → Env → Around → Bool → ElseIfs → Walk Armed
   walk_else_ifs ξ Γ Δ c strict NoElseIfs = give (record { arms = k.NoArms; tests = []; scope = Δ })
   walk_else_ifs ξ Γ Δ c strict (AndElseIf other word test body more) =
       andthen (walk_test ξ Δ test) (λ a. andthen (enclosed (walk_statement ξ (inside Δ) c strict body)) (λ b.
       andthen (walk_else_ifs ξ Γ (deeper Γ Δ) c strict more) (λ x. give (with_arm a b x))))
 
+  -- The walk over the part after the last `else`, if there is one (C99 6.8.4.1).
   pub walk_otherwise : Setting → Env → Around → Bool → Otherwise → Walk k.StatementOption
   walk_otherwise ξ Δ c strict NoOtherwise = give k.NoStatement
   walk_otherwise ξ Δ c strict (Else word body) =

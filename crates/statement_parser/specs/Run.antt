@@ -9,7 +9,7 @@ use Rattle.token_reader.specs.declared.cursor.Fail.{Fail}
 use Rattle.token_reader.specs.Run.{Reads, boxed}
 use Rattle.statement_parser.specs.Parse.{statements_at}
 
--- a function value that parses statements of at most this height
+-- A function value that parses statements of at most this height.
 pub record Nests (height : ℕ) (pre : Global → MutBor Tokens → ℕ → Type 0) (post : Global → MutBor Tokens → ℕ
     → Result (Box Statement Global) Fail → MutBor Tokens → Type 0) : Type 0 where
   pub small : height < 4294967295

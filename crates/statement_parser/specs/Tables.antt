@@ -7,6 +7,8 @@ use Rattle.upc_tree.specs.declared.mark.BarrierWord.TheVariants as b
 use Rattle.statement_parser.specs.declared.start.StatementStart.{StatementStart}
 use Rattle.statement_parser.specs.declared.start.StatementStart.TheVariants as s
 
+-- What a statement is, by its first token: a compound statement, one that begins with a word, or an expression
+-- statement (C99 6.8, UPC 6.6).
 abbrev pub statement_start : TokenKind → StatementStart
 statement_start (k.Punct p.LBrace) = s.Block
 statement_start (k.Word w.If) = s.If

@@ -17,14 +17,14 @@ use Rattle.thread_steps.specs.Ranges.{IsHeldScalar}
 use Rattle.step_values.specs.declared.library.LibraryStep.{LibraryStep}
 use Rattle.step_values.specs.declared.library.LibraryStep.TheVariants.{Nothing, Null, Fails, Asks}
 
--- The expansion that a step stands for.
+-- The library call that a step stands for: one that gives a value, fails, or asks for one action.
 abbrev pub expansion_of : LibraryStep → Expansion Scalar
 expansion_of Nothing = e.Gives zero
 expansion_of Null = e.Gives (Shared null)
 expansion_of (Fails code) = e.Fails code
 expansion_of (Asks action) = asks action
 
--- The calls that ask for one action at most.
+-- The call of the library asks for one action at most (UPC 7.2.2, 7.2.4).
 abbrev pub asks_once : LibraryCall → Bool
 asks_once call.GlobalAlloc = true
 asks_once call.AllAlloc = true
@@ -45,7 +45,7 @@ abbrev pub DoesSoThere : (threads : ℕ) → List Shape → (me shape : ℕ) →
 DoesSoThere threads shapes me shape call args step =
     (private : ℕ → Option Shape) → library_call threads shapes me private call shape args ≡ expansion_of step
 
--- A reply whose value a thread can come to.
+-- The value of a reply, if it has one, is in the range of those that a thread can have.
 abbrev pub IsHeldReply : (threads : ℕ) → List Shape → Reply → Type 0
 IsHeldReply threads shapes (reply.Value v) = IsHeldScalar threads shapes v
 IsHeldReply threads shapes r = Unit {0}

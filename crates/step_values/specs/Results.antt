@@ -24,25 +24,26 @@ abbrev pub number_value : Result ℤ ℕ → Result Value ℕ
 number_value (Ok v) = Ok (number v)
 number_value (Err code) = Err code
 
--- What `operate` gives: the operator on both operands at their kinds (C99 6.5.5 to 6.5.12).
+-- What a binary operator gives on both operands at their kinds, or its run error (C99 6.5.5 to 6.5.12).
 abbrev pub operated : BinOp → (left right : Kind) → Value → Value → Result Value ℕ
 operated op left right a b =
     number_value (binary_of op left (converted left (number_of a)) (converted right (number_of b)))
 
--- What `apply` gives (C99 6.5.3.3).
+-- What a unary operator gives on an operand at its kind, or its run error (C99 6.5.3.3).
 abbrev pub applied : UnOp → Kind → Value → Result Value ℕ
 applied op kind a = number_value (unary_of op kind (converted kind (number_of a)))
 
--- What `order` gives: a difference against 0 (C99 6.5.8, UPC 6.4.2).
+-- What an order of two pointers gives by their difference, which is compared with 0, or its run error (C99 6.5.8,
+-- UPC 6.4.2).
 abbrev pub ordered : BinOp → Result ℤ ℕ → Result Value ℕ
 ordered op (Ok x) = number_value (binary_of op kind.Long x (pos 0))
 ordered op (Err code) = Err code
 
--- What `in_row` tests: an index is one of a row of so many elements (C99 6.5.2.1, 6.5.6).
+-- An index is one of a row of so many elements, else the run error of the pointer's object (C99 6.5.2.1, 6.5.6).
 abbrev pub row_test : (count : ℕ) → Value → ℤ → Result (Unit {0}) ℕ
 row_test count p i = if int_le (pos 0) i && int_lt i (pos count) then Ok tt else Err (outside p)
 
--- The calls of the library that ask for nothing (UPC 7.2.3).
+-- The call of the library asks for no action (UPC 7.2.3).
 abbrev pub asks_nothing : LibraryCall → Bool
 asks_nothing call.ThreadOf = true
 asks_nothing call.PhaseOf = true
@@ -50,7 +51,7 @@ asks_nothing call.AddressField = true
 asks_nothing call.AffinitySize = true
 asks_nothing c = false
 
--- What an expansion without a step gives.
+-- What a library call gives that takes no step, a value or a run error; none where it takes one.
 abbrev pub given_at_once : Expansion Scalar → Option (Result Value ℕ)
 given_at_once (Gives v) = Some (Ok (value.Scalar v))
 given_at_once (Fails code) = Some (Err code)

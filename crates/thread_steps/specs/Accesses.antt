@@ -1,6 +1,5 @@
--- Accesses to objects: of a shared one by an action, of a private one in the thread's store (C99 6.5.16; UPC
--- 6.5.1.1), and the calls of the
--- library as they go on.
+-- Accesses to objects: of a shared one by an action, of a private one in the thread's store (C99 6.5.16; UPC 6.5.1.1),
+-- and the calls of the library as they go on.
 use Rattle.std.specs.Prelude.{ℕ, ℤ, Bool, false, [], Option, Some, None, Result, Ok, Err}
 use Rattle.upc_text.specs.declared.place.Place.{Place}
 use Rattle.block_layout.specs.declared.kind.Kind.{Kind}
@@ -26,17 +25,17 @@ use Rattle.thread_steps.specs.States.{valued}
 use Rattle.thread_steps.specs.Values.{kept, kept_scalar, scalar_of}
 use Rattle.thread_steps.specs.Actions.{ask}
 
--- The pointer-to-shared to the place of a pointer-to-local (UPC 6.4.3).
+-- The pointer-to-shared to the place of a pointer-to-local, with phase 0 (UPC 6.4.3).
 abbrev pub into_shared : ObjectRef → ℕ → ℤ → SharedPtr
 into_shared object thread offset = record { object = object; thread = thread; phase = 0; offset = offset }
 
--- The elements of an object whose shape the program does not have: a byte without cells. In a typed program each
--- object has one.
+-- The shape of an object's elements; where the program does not have it, which is so of no object of a typed program, a
+-- byte without cells.
 abbrev pub shape_or_byte : Option Shape → Shape
 shape_or_byte (Some s) = s
 shape_or_byte None = record { size = 1; cells = [] }
 
--- The store with a new value, or a run error.
+-- The state with this store, or the end of the thread by this run error.
 abbrev pub with_store : Place → State → Result Live ℕ → Res (Unit {0})
 with_store at σ (Ok s) = Val tt (record σ { store = s })
 with_store at σ (Err code) = fault code at σ
@@ -45,7 +44,7 @@ with_store at σ (Err code) = fault code at σ
 abbrev pub load_private : Kind → Place → LocalPtr → Doing Value
 load_private kind at p = λ σ. valued at (loaded p kind σ.store) σ
 
--- The write of one.
+-- The write of a cell of a private object, which keeps a value that fits its kind (C99 6.5.16).
 abbrev pub save_private : Kind → Place → LocalPtr → Value → Doing (Unit {0})
 save_private kind at p v = λ σ. with_store at σ (stored p kind (kept kind v) σ.store)
 
@@ -60,25 +59,28 @@ module _ (τ : Thread) where
     r ← ask τ (Some kind) (act.Read l strict)
     give (value_in r)
 
-  -- The write of one.
+  -- The write of a location, strict or relaxed (UPC 6.5.1.1).
   abbrev pub write : Bool → Loc → Scalar → Doing (Unit {0})
   write strict l v = do
     ask τ None (act.Write l v strict)
     skip
 
-  -- The read of a cell of a shared object.
+  -- The read of the cell of a kind at a pointer-to-shared, strict or relaxed (C99 6.5, UPC 6.5.1.1).
   abbrev pub load_shared : Kind → Bool → Place → SharedPtr → Doing Value
   load_shared kind strict at p = do
     l ← valued at (cell kind p)
     v ← read kind strict l
     give (value.Scalar v)
 
-  -- The write of one.
+  -- The write of the cell of a kind at a pointer-to-shared, strict or relaxed, which keeps a scalar that fits its kind
+  -- (C99 6.5.16, UPC 6.5.1.1).
   abbrev pub save_shared : Kind → Bool → Place → SharedPtr → Value → Doing (Unit {0})
   save_shared kind strict at p v = do
     l ← valued at (cell kind p)
     write strict l (kept_scalar kind (scalar_of v))
 
+  -- The read of a cell through a value, by what the value is: through a pointer-to-local into shared space it is
+  -- relaxed, and through null or what is no pointer it is run error 4 (C99 6.5.3.2, UPC 6.4.3).
   abbrev pub load_at : Kind → Bool → Place → Value → Doing Value
   load_at kind strict at (value.Scalar (Shared p)) = load_shared kind strict at p
   load_at kind strict at (value.Local (local.Shared object thread offset)) = load_shared kind false at
@@ -86,6 +88,8 @@ module _ (τ : Thread) where
   load_at kind strict at (value.Local p) = load_private kind at p
   load_at kind strict at v = fault NULL_ACCESS at
 
+  -- The write of a cell through a value, by what the value is: through a pointer-to-local into shared space it is
+  -- relaxed, and through null or what is no pointer it is run error 4 (C99 6.5.3.2, UPC 6.4.3).
   abbrev pub save_at : Kind → Bool → Place → Value → Value → Doing (Unit {0})
   save_at kind strict at (value.Scalar (Shared p)) v = save_shared kind strict at p v
   save_at kind strict at (value.Local (local.Shared object thread offset)) v = save_shared kind false at
@@ -94,12 +98,11 @@ module _ (τ : Thread) where
   save_at kind strict at p v = fault NULL_ACCESS at
 
   -- The value of the cell of a kind to which a pointer leads. Through a pointer-to-local a shared object is accessed
-  -- relaxed; what is no pointer
-  -- is as null.
+  -- relaxed, and what is no pointer counts as null (C99 6.5.3.2, UPC 6.5.1.1).
   unfoldable pub load : Kind → Bool → Place → Value → Doing Value
   load kind strict at p = load_at kind strict at p
 
-  -- A new value of that cell.
+  -- The cell of a kind to which a pointer leads gets a new value (C99 6.5.16, UPC 6.5.1.1).
   unfoldable pub save : Kind → Bool → Place → Value → Value → Doing (Unit {0})
   save kind strict at p v = save_at kind strict at p v
 
@@ -120,5 +123,6 @@ module _ (τ : Thread) where
     save_private kind at p (value.Scalar v)
     expanded at after
 
+  -- The steps of a call of the library, one after another, at the place of the call.
   unfoldable pub run : {A : Type 0} → Place → Expansion A → Doing A
   run at x = expanded at x

@@ -19,18 +19,23 @@ use Rattle.thread_steps.specs.States.{choose, over, fault, fault_if}
 abbrev pub is_controlled : State → Bool
 is_controlled σ = not (controls σ.store == 0)
 
+-- The thread has notified and not yet waited (UPC 6.6.1).
 abbrev pub is_notified : State → Bool
 is_notified σ = σ.notified
 
+-- The thread has made no notify, or has waited since (UPC 6.6.1).
 abbrev pub is_not_notified : State → Bool
 is_not_notified σ = not σ.notified
 
+-- The ticks that the thread has counted.
 abbrev pub ticks_of : State → ℕ
 ticks_of σ = σ.ticks
 
+-- The state in which the thread has notified and not yet waited, or has not (UPC 6.6.1).
 abbrev pub with_notified : Bool → State → State
 with_notified b σ = record σ { notified = b }
 
+-- The state with one more tick.
 abbrev pub with_tick : State → State
 with_tick σ = record σ { ticks = σ.ticks + 1 }
 
@@ -39,12 +44,12 @@ abbrev pub answered : Bool → Action → Reply → List Reply → Doing Reply
 answered true a r rest = λ σ. Val r (record σ { actions = σ.actions ++ a ∷ []; replies = rest })
 answered false a r rest = λ σ. Over (Misfit (length σ.actions)) σ
 
--- Where no reply is left, the thread wants the action.
+-- The next of the replies answers the action; where none is left, the thread wants the action.
 abbrev pub answered_from : Thread → Option Kind → Action → List Reply → Doing Reply
 answered_from τ kind a [] = over (Wants a)
 answered_from τ kind a (r ∷ rest) = answered (fits τ.threads τ.shapes kind a r) a r rest
 
--- The run error of a reply that refuses.
+-- A reply that refuses ends the thread by its run error, and any other lets it go on.
 abbrev pub unless_refused : Place → Reply → Doing (Unit {0})
 unless_refused at (Refused code) = fault code at
 unless_refused at r = skip
@@ -54,7 +59,7 @@ module _ (τ : Thread) where
   unfoldable pub ask : Option Kind → Action → Doing Reply
   ask kind a = λ σ. answered_from τ kind a σ.replies σ
 
-  -- One action whose reply is Done, or a refusal.
+  -- One action whose reply is Done, or a refusal, which ends the thread by its run error.
   abbrev pub does : Place → Action → Doing (Unit {0})
   does at a = do
     r ← ask None a
@@ -68,7 +73,8 @@ module _ (τ : Thread) where
     choose (n % 1024 == 0) (do ask None act.Beat; skip) skip
     choose (n == τ.budget) (over OutOfTicks) skip
 
-  -- upc_notify: not in a controlling body, and not behind another one (UPC 6.6.1).
+  -- A upc_notify: run error 12 in a controlling body, and run error 10 after another one without its wait (UPC 6.6.1,
+  -- 6.6.2).
   unfoldable pub notify : Place → Mark → Doing (Unit {0})
   notify at mark = do
     fault_if is_controlled BARRIER_IN_FORALL at
@@ -76,7 +82,7 @@ module _ (τ : Thread) where
     does at (act.Notify mark)
     change (with_notified true)
 
-  -- upc_wait: not in a controlling body, and behind a notify (UPC 6.6.1).
+  -- A upc_wait: run error 12 in a controlling body, and run error 10 where no notify is open (UPC 6.6.1, 6.6.2).
   unfoldable pub wait : Place → Mark → Doing (Unit {0})
   wait at mark = do
     fault_if is_controlled BARRIER_IN_FORALL at
@@ -84,19 +90,20 @@ module _ (τ : Thread) where
     does at (act.Wait mark)
     change (with_notified false)
 
-  -- A collective call may begin: not in a controlling body, and not behind a notify (UPC 6.6.1, 7.3).
+  -- A collective call may begin: run error 12 in a controlling body, and run error 10 after a notify without its wait
+  -- (UPC 6.6.1, 6.6.2, 7.3).
   unfoldable pub meet : Place → Doing (Unit {0})
   meet at = do
     fault_if is_controlled BARRIER_IN_FORALL at
     fault_if is_notified PHASE_ORDER at
 
-  -- upc_fence (UPC 6.6.1).
+  -- A upc_fence (UPC 6.6.1).
   unfoldable pub fence : Doing (Unit {0})
   fence = do
     ask None act.Fence
     skip
 
-  -- upc_global_exit: the thread ends behind it (UPC 7.2.1).
+  -- A upc_global_exit, after which the thread ends (UPC 7.2.1).
   unfoldable pub exit : {A : Type 0} → ℤ → Doing A
   exit v = do
     ask None (act.Exit v)

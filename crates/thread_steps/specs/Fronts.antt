@@ -7,7 +7,7 @@ use Rattle.upc_values.specs.declared.action.Action.TheVariants.{Notify, Wait}
 abbrev pub Begins : (front all : List Action) → Type 0
 Begins front all = (rest : List Action) × (all ≡ front ++ rest)
 
--- Whether a notify is open behind an action; none where the action stands out of turn (UPC 6.6.1).
+-- Whether a notify is open after an action; none where the action stands out of turn (UPC 6.6.1).
 abbrev pub turned : Option Bool → Action → Option Bool
 turned (Some false) (Notify mark) = Some true
 turned (Some true) (Wait mark) = Some false
@@ -15,11 +15,11 @@ turned state (Notify mark) = None
 turned state (Wait mark) = None
 turned state a = state
 
--- So behind actions.
+-- Whether a notify is open after some actions; none where one of them stands out of turn (UPC 6.6.1).
 abbrev pub turned_by : Option Bool → List Action → Option Bool
 turned_by state [] = state
 turned_by state (a ∷ more) = turned_by (turned state a) more
 
--- Notifies and waits alternate, beginning with a notify; so behind them one is open or none is.
+-- Notifies and waits alternate, beginning with a notify (UPC 6.6.1).
 abbrev pub IsInTurn : List Action → Type 0
 IsInTurn actions = (now : Bool) × (turned_by (Some false) actions ≡ Some now)

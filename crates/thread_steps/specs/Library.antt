@@ -24,32 +24,36 @@ use Rattle.thread_steps.specs.Accesses.{run}
 abbrev pub private_shapes : State → ℕ → Option Shape
 private_shapes σ number = option_map (λ x. x.shape) (thing number σ.store.objects)
 
+-- The integer that the first of some values is; 0 where there is none.
 abbrev pub first_number : List Value → ℤ
 first_number [] = pos 0
 first_number (v ∷ vs) = number_of v
 
+-- The call is upc_global_exit (UPC 7.2.1).
 abbrev pub is_exit : LibraryCall → Bool
 is_exit GlobalExit = true
 is_exit call = false
 
+-- The call is one of the collective calls 1 to 12 (UPC 7.2.2, 7.2.4, 7.3).
 abbrev pub is_call : Call → Bool
 is_call Other = false
 is_call call = true
 
--- What all threads meet with: the arguments; the number of its shape is one more in an allocation, and that of the type
--- of its elements stands for the function in a reduction (UPC 7.2.2, 7.3.2.1).
+-- The arguments with which all threads meet in a collective call: those of the call, in an allocation with the number
+-- of its shape as one more, and in a reduction with that of the elements' type in place of the function (UPC 7.2.2,
+-- 7.3.2.1).
 abbrev pub met_with : LibraryCall → (shape : ℕ) → List Value → List Value
 met_with AllAlloc shape args = args ++ number (pos shape) ∷ []
 met_with (Reduce k) shape args = with_element k args
 met_with (PrefixReduce k) shape args = with_element k args
 met_with call shape args = args
 
--- They are of the types of a collective call's parameters, if the call has this number.
+-- The arguments are of the types of the parameters of the collective call with this number, if there is one.
 abbrev pub are_met : Option ℕ → List Scalar → Bool
 are_met (Some n) args = is_call (call_of n args)
 are_met None args = true
 
--- The program has the shape of the elements that upc_all_alloc makes.
+-- The program has the shape of the elements that upc_all_alloc makes; any other call needs none.
 abbrev pub has_shape : List Shape → LibraryCall → (shape : ℕ) → Bool
 has_shape shapes AllAlloc shape = is_some (slice_get shapes shape)
 has_shape shapes call shape = true
@@ -60,7 +64,8 @@ is_formed shapes call shape args =
     are_met (meet_number call) (scalars (met_with call shape args)) && has_shape shapes call shape
 
 module _ (τ : Thread) where
-  -- A call that goes on as its definition says; a collective one may begin where all threads may meet.
+  -- A call of the library does what its definition says; a collective one begins only where the thread may meet
+  -- (UPC 6.6.1, 7).
   abbrev pub called : LibraryCall → (shape : ℕ) → Place → List Value → Doing Value
   called call shape at args = do
     choose (is_some (meet_number call)) (meet τ at) skip
@@ -68,7 +73,8 @@ module _ (τ : Thread) where
     v ← run τ at (library_call τ.threads τ.shapes τ.number private call shape args)
     give (value.Scalar v)
 
-  -- A call that does nothing where its arguments are none of its parameters' types.
+  -- A call of the library, which does nothing and gives 0 where it is collective and its arguments are not of its
+  -- parameters' types.
   abbrev pub formed_call : LibraryCall → (shape : ℕ) → Place → List Value → Doing Value
   formed_call call shape at args =
       choose (is_formed τ.shapes call shape args) (called call shape at args) (give (number (pos 0)))
@@ -78,7 +84,7 @@ module _ (τ : Thread) where
   unfoldable pub library : LibraryCall → (shape : ℕ) → Place → List Value → Doing Value
   library call shape at args = choose (is_exit call) (exit τ (first_number args)) (formed_call call shape at args)
 
-  -- Printf: one Print; it gives the number of bytes (C99 7.19.6.3).
+  -- A printf: one Print of its text, whose number of bytes it gives (C99 7.19.6.3).
   unfoldable pub print : (format : List ℕ) → List Value → Doing Value
   print format args = do
     let text = printed format (map number_of args)

@@ -19,9 +19,8 @@ use Rattle.thread_steps.specs.States.{Thread, Doing, ◌>>=◌, give, valued}
 use Rattle.thread_steps.specs.Values.{number, number_of}
 use Rattle.thread_steps.specs.Pointers.{local_value}
 
--- A binary operator on integers: the left operand at the kind at which it works, the right one at its own (C99 6.5.5
--- to 6.5.12). In a typed
--- program they are values of these kinds once the usual conversions are done.
+-- A binary operator on integers: the left operand at the kind at which it works, the right one at its own (C99 6.5.5 to
+-- 6.5.12). In a typed program they are values of these kinds once the usual conversions are done.
 unfoldable pub operate : BinOp → (left right : Kind) → Place → Value → Value → Doing Value
 operate op left right at a b = do
   v ← valued at (binary_of op left (converted left (number_of a)) (converted right (number_of b)))
@@ -34,7 +33,7 @@ apply op kind at a = do
   give (number v)
 
 module _ (τ : Thread) where
-  -- What a conversion gives.
+  -- The value that a conversion gives, or its run error (C99 6.3, 6.5.4; UPC 6.4.3).
   abbrev pub cast_value : CastTo → Value → Result Value ℕ
   cast_value (to.Integer kind) v = Ok (number (converted kind (number_of v)))
   cast_value to.Shared (value.Scalar (Shared p)) = Ok (value.Scalar (Shared p))
@@ -48,6 +47,6 @@ module _ (τ : Thread) where
   cast_value to.Lock v = Ok (value.Scalar (Lock 0))
   cast_value to.Nothing v = Ok (number (pos 0))
 
-  -- A conversion (C99 6.3, 6.5.4; UPC 6.4.3).
+  -- A value is converted, or the conversion is a run error at this place (C99 6.3, 6.5.4; UPC 6.4.3).
   unfoldable pub cast : CastTo → Place → Value → Doing Value
   cast into at v = valued at (cast_value into v)

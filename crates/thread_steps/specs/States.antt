@@ -1,4 +1,4 @@
--- What a thread does, step by step: each step leads from a state to a value with the state behind it, or ends the
+-- What a thread does, step by step: each step leads from a state to a value with the state after it, or ends the
 -- thread.
 use Rattle.std.specs.Prelude.{ℕ, Bool, true, false, List, Result, Ok, Err}
 use Rattle.upc_text.specs.declared.place.Place.{Place}
@@ -17,9 +17,8 @@ pub record Thread : Type 0 where
   pub budget : ℕ
   pub shapes : List Shape
 
--- What a thread has come to: its private objects, its ticks, whether it has notified and not yet waited (UPC 6.6.1),
--- its actions so far, and the
--- replies that it will be given.
+-- The state of a thread: its private objects, its ticks, whether it has notified and not yet waited (UPC 6.6.1), its
+-- actions so far, and the replies that it will be given.
 pub record State : Type 0 where
   pub store : Live
   pub ticks : ℕ
@@ -27,33 +26,35 @@ pub record State : Type 0 where
   pub actions : List Action
   pub replies : List Reply
 
--- What comes of a step: a value and the state behind it, or the end of the thread. The third says that a definition
--- was given too few turns for
--- its loops; it never comes of a whole program.
+-- The result of a step: a value and the state after it, or the end of the thread; or that a definition was given too
+-- few turns for its loops, which is the result of no whole program.
 pub data Res (A : Type 0) : Type 0 where
   Val : (value : A) (after : State) → Res A
   Over : (told : ToldEnd) (after : State) → Res A
   Unfinished : Res A
 
--- What comes next is done where a value came.
+-- The result of a step and of the next one, which is done where the first has given a value.
 abbrev pub bind : {A B : Type 0} → Res A → (A → State → Res B) → Res B
 bind (Val a σ) go = go a σ
 bind (Over told σ) go = Over told σ
 bind Unfinished go = Unfinished
 
--- What is done from a state on. `x ← m` does m and calls its value x; what stands behind it is done then.
+-- What is done from a state on, with its result; in `x ← m` the value of m is called x, and what stands below is done
+-- then.
 abbrev pub Doing : Type 0 → Type 0
 Doing A = State → Res A
 
+-- What m does, and then what f does with its value.
 infixl 10 ◌>>=◌
 abbrev pub ◌>>=◌ : {A B : Type 0} → Doing A → (A → Doing B) → Doing B
 m >>= f = λ σ. bind (m σ) f
 
+-- What m does, and then what n does, whatever value m has given.
 infixl 10 ◌>>◌
 abbrev pub ◌>>◌ : {A B : Type 0} → Doing A → Doing B → Doing B
 m >> n = λ σ. bind (m σ) (λ _. n)
 
--- A value, and nothing is done.
+-- A value is given, and nothing is done.
 abbrev pub give : {A : Type 0} → A → Doing A
 give a = λ σ. Val a σ
 
@@ -61,32 +62,32 @@ give a = λ σ. Val a σ
 abbrev pub skip : Doing (Unit {0})
 skip = give tt
 
--- What the state says.
+-- A value is read off the state, which stays as it is.
 abbrev pub know : {A : Type 0} → (State → A) → Doing A
 know f = λ σ. Val (f σ) σ
 
--- The state changes.
+-- The state becomes what f makes of it.
 abbrev pub change : (State → State) → Doing (Unit {0})
 change f = λ σ. Val tt (f σ)
 
--- The first where a test holds, else the second.
+-- What is done is the first where a test holds, else the second.
 abbrev pub choose : {A : Type 0} → Bool → Doing A → Doing A → Doing A
 choose true a b = a
 choose false a b = b
 
--- The thread ends.
+-- The thread ends in this way.
 abbrev pub over : {A : Type 0} → ToldEnd → Doing A
 over told = λ σ. Over told σ
 
--- A run error, by its code, at the place of its construct.
+-- The thread ends by a run error, by its code, at the place of its construct.
 abbrev pub fault : {A : Type 0} → ℕ → Place → Doing A
 fault code at = over (Fault code at)
 
--- A run error where the state passes a test.
+-- The thread ends by a run error where the state passes a test.
 abbrev pub fault_if : (State → Bool) → ℕ → Place → Doing (Unit {0})
 fault_if test code at = λ σ. choose (test σ) (fault code at) skip σ
 
--- A value, or a run error.
+-- A value is given, or the thread ends by a run error, by its code, at the place of its construct.
 abbrev pub valued : {A : Type 0} → Place → Result A ℕ → Doing A
 valued at (Ok v) = give v
 valued at (Err code) = fault code at

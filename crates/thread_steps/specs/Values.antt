@@ -41,6 +41,6 @@ is_zero (value.Local p) = false
 abbrev pub kept : Kind → Value → Value
 kept kind v = if value_fits v kind then v else blank_value kind
 
--- So of a cell of a shared object.
+-- What a cell of a shared object keeps of a scalar: the scalar, where it fits the cell's kind; else 0 or null.
 abbrev pub kept_scalar : Kind → Scalar → Scalar
 kept_scalar kind v = if fits_kind v kind then v else blank kind

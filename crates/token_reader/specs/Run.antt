@@ -9,18 +9,21 @@ use Rattle.token_reader.specs.declared.cursor.Fail.{Fail}
 use Rattle.token_reader.specs.declared.cursor.Fail.TheVariants as fail
 use Rattle.token_reader.specs.Outcome.{Outcome}
 
+-- A failure of the code is that of the outcome, or memory ran out.
 abbrev pub Fails : {A : Type 0} → Fail → Outcome A → Type 0
 Fails fail.Memory o = Unit {0}
 Fails (fail.Fault f) o = o ≡ Err f
 
+-- The code gives the tree of the outcome and leaves its tokens, or fails as it does, unless memory runs out.
 abbrev pub Reads : {X A : Type 0} → (X → A) → Outcome A → Result X Fail → List Token → Type 0
 Reads view o (Ok x) rest = o ≡ Ok (view x, rest)
 Reads view o (Err e) rest = Fails e o
 
--- what lies in a box, seen so
+-- What a box holds, seen so.
 abbrev pub boxed : {X A : Type 0} → (X → A) → Box X Global → A
 boxed view x = view x.value
 
+-- What stands for itself.
 abbrev pub same : {X : Type 0} → X → X
 same x = x
 
@@ -32,7 +35,7 @@ pub data Steps {T : Type 0} (goes : List Token → Bool) (post : MutBor Tokens �
       → (x : T) (old new : MutBor Tokens) → old.now.rest.now ≡ mid → post old (Ok x) new
       → Steps goes post start (xs ++ x ∷ []) new.now.rest.now
 
--- how a run of items ended
+-- How a run of items ended: after the last of them, with the fault of one, or with no memory.
 abbrev pub Ran : {T : Type 0} → (List Token → Bool) → (MutBor Tokens → Result T Fail → MutBor Tokens → Type 0)
     → List Token → Result (Vec T Global) Fail → List Token → Type 0
 Ran goes post start (Ok v) rest =

@@ -10,7 +10,7 @@ use Rattle.token_reader.specs.declared.cursor.Fail.{Fail}
 use Rattle.token_reader.specs.Run.{Reads, boxed}
 use Rattle.type_parser.specs.Expression.{at_height}
 
--- function values that parse expressions and structs of at most this height
+-- Function values that parse expressions and structs of at most this height.
 pub record Nests (height : ℕ) (pre : Global → MutBor Tokens → ℕ → ℕ → Type 0) (post : Global → MutBor Tokens → ℕ
     → ℕ → Result (Box Expr Global) Fail → MutBor Tokens → Type 0)
     (pre_struct : Global → MutBor Tokens → ℕ → Type 0) (post_struct : Global → MutBor Tokens → ℕ

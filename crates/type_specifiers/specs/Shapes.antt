@@ -10,12 +10,14 @@ use Rattle.typing_rules.specs.Values.{value_type, is_array}
 use Rattle.typing_rules.specs.Nodes.{Formed}
 use Rattle.type_specifiers.specs.Specifiers.{Shaped, array_of, elements}
 
--- The block size that a constant says, 1 where it is none (UPC 6.5.1.1).
+-- The block size that a constant gives: its value where that is from 0 to UPC_MAX_BLOCK_SIZE; any other constant, which
+-- rule 5 refuses, counts as 1 (UPC 6.5.1.1).
 abbrev pub block_size : Value → ℕ
 block_size (Known v) = if int_le (pos 0) v && int_le v (pos 16777216) then unsigned_abs v else 1
 block_size other = 1
 
--- An array as a parameter is a pointer to its first element (C99 6.7.5.3).
+-- The type of a parameter that is declared with this type: an array becomes a pointer to its first element
+-- (C99 6.7.5.3).
 abbrev pub adjusted : CType → CType
 adjusted t = if is_array t then value_type t else t
 
@@ -27,22 +29,27 @@ pub record Specifying : Type 0 where
   pub static : Bool
   pub alone : Bool
 
+-- What stands around the specifiers of a type name, a parameter or members: neither `[*]` nor `static` may stand there,
+-- and they do not declare a tag alone (C99 6.7.2.1, 6.7.5.3, 6.7.6).
 abbrev pub in_type : Place → Specifying
 in_type at = record { at = at; star = false; static = false; alone = false }
 
+-- No star stands here in a declarator (C99 6.7.5.1).
 abbrev pub is_none : Pointers → Bool
 is_none NoPointers = true
 is_none (AndPointer star quals more) = false
 
+-- At least one size in brackets stands here in a declarator (C99 6.7.5.2).
 abbrev pub has_sizes : Dimensions → Bool
 has_sizes NoDimensions = false
 has_sizes (AndDimension left size right more) = true
 
--- A type name or parameter, whose specifiers are judged with it.
+-- The type of a type name or a parameter, which fits only where its specifiers fit too (C99 6.7.5.3, 6.7.6).
 abbrev pub named_type : Bool → Shaped → Shaped
 named_type forms t = record t { forms = forms && t.forms }
 
--- A parameter's type before its adjustment.
+-- The type of a parameter that is declared as an array, with or without a size, before it becomes a pointer
+-- (C99 6.7.5.3).
 abbrev pub parameter_array : ℕ → Shaped → Option Value → Formed
 parameter_array threads s None = record { forms = s.forms; ctype = array_of s.ctype 1; sizes = [] }
 parameter_array threads s (Some size) =

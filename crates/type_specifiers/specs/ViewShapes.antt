@@ -14,11 +14,12 @@ use Rattle.type_specifiers.specs.declared.shaped.Shaped as h
 use Rattle.type_specifiers.specs.Specifiers as s
 use Rattle.type_specifiers.specs.Shapes.{Specifying}
 
+-- A layout of the code, as contracts see it.
 abbrev pub view_blocks : Blocks → s.Layout
 view_blocks (b.Size size) = s.Blocks size
 view_blocks b.Star = s.Star
 
--- That qualifier alone.
+-- One qualifier of the code, as contracts see it: qualifiers of which it is the only one.
 abbrev pub view_qualifier : Qualifier → s.Quals
 view_qualifier q.Const = record { constant = true; layouts = []; strict = false; relaxed = false }
 view_qualifier q.Strict = record { constant = false; layouts = []; strict = true; relaxed = false }
@@ -26,21 +27,25 @@ view_qualifier q.Relaxed = record { constant = false; layouts = []; strict = fal
 view_qualifier (q.Shared blocks) =
     record { constant = false; layouts = view_blocks blocks ∷ []; strict = false; relaxed = false }
 
+-- Qualifiers of the code, as contracts see them.
 abbrev pub view_quals : qs.Quals → s.Quals
 view_quals x =
     record { constant = x.constant; layouts = map view_blocks x.layouts.items; strict = x.strict; relaxed = x.relaxed }
 
--- That specifier alone.
+-- One specifier of the code, as contracts see it: specifiers of which it is the only one.
 abbrev pub view_specifier : Specifier → s.Specified
 view_specifier (p.Word word) = record { words = word ∷ []; structs = []; quals = s.no_quals }
 view_specifier (p.Struct number) = record { words = []; structs = number ∷ []; quals = s.no_quals }
 view_specifier (p.Qual qualifier) = record { words = []; structs = []; quals = view_qualifier qualifier }
 
+-- Specifiers of the code, as contracts see them.
 abbrev pub view_specified : ps.Specified → s.Specified
 view_specified x = record { words = x.words.items; structs = x.structs.items; quals = view_quals x.quals }
 
+-- What stands around specifiers of the code, as contracts see it.
 abbrev pub view_specifying : w.Specifying → Specifying
 view_specifying x = record { at = x.at; star = x.star; static = x.may_be_static; alone = x.alone }
 
+-- A type so far of the code, as contracts see it.
 abbrev pub view_shaped : h.Shaped → s.Shaped
 view_shaped x = record { forms = x.forms; ctype = view x.ctype; star = x.star }

@@ -1,4 +1,4 @@
--- The element types that a program allocates (UPC 7.2.3): those of the calls of upc_global_alloc, upc_all_alloc and
+-- The element types that a program allocates (UPC 7.2.2): those of the calls of upc_global_alloc, upc_all_alloc and
 -- upc_alloc in functions, in the order in which the calls are finished. An element type is the target of the call's
 -- type, where it has a layout.
 use Rattle.std.specs.Prelude.{if◌then◌else◌, List, [], ◌∷◌, ◌++◌, Option, Some, None}
@@ -21,25 +21,30 @@ use Rattle.typing_rules.specs.Rules.{has_size}
 
 -- ---- calls
 
--- This type, where it has a layout.
+-- This type, where it has a layout: it is complete, and has no more bytes than an object can have.
 abbrev pub laid : Structs → CType → List CType
 laid s t = if has_size s t then t ∷ [] else []
 
+-- The target of a pointer, where there is one and it has a layout.
 abbrev pub laid_target : Structs → Option CType → List CType
 laid_target s None = []
 laid_target s (Some t) = laid s t
 
--- That of a call.
+-- The element type that a call with a value of this type allocates; a call of any other function allocates none
+-- (UPC 7.2.2).
 abbrev pub allocated_call : Structs → CType → Target → List CType
 allocated_call s t (c.Function number) = []
 allocated_call s t (c.Library call) = if is_allocation call then laid_target s (base_target (base_of t)) else []
 
 -- ---- expressions
 
+-- The element types that calls in an expression allocate (UPC 7.2.2).
 abbrev mutual
+  -- The element types that an expression allocates, in the order in which its calls are finished.
   pub allocated_expr : Structs → Expr → List CType
   allocated_expr s (Is at attr kind) = allocated_kind s attr kind
 
+  -- The element types that the parts of an expression allocate, and then that of the expression where it is a call.
   pub allocated_kind : Structs → Attr → ExprKind → List CType
   allocated_kind s attr Literal = []
   allocated_kind s attr Mythread = []
@@ -66,40 +71,49 @@ abbrev mutual
   allocated_kind s attr (Conditional test a b) = allocated_expr s test ++ allocated_expr s a ++ allocated_expr s b
   allocated_kind s attr (Comma parts) = allocated_exprs s parts
 
+  -- The element types that some expressions allocate, from left to right.
   pub allocated_exprs : Structs → Exprs → List CType
   allocated_exprs s NoExprs = []
   allocated_exprs s (AndExpr a more) = allocated_expr s a ++ allocated_exprs s more
 
+-- The element types that an expression allocates; none where there is no expression.
 abbrev pub allocated_value : Structs → Option Expr → List CType
 allocated_value s None = []
 allocated_value s (Some a) = allocated_expr s a
 
 -- ---- objects and heads
 
+-- The element types that an initialiser allocates, from left to right (C99 6.7.8).
 abbrev pub allocated_initial : Structs → Initial → List CType
 allocated_initial s NoInitial = []
 allocated_initial s (InitialValue value) = allocated_expr s value
 allocated_initial s (InitialList values) = allocated_exprs s values
 
+-- The element types that the initialisers of objects allocate, in the order of the objects.
 abbrev pub allocated_objects : Structs → List DeclaredObject → List CType
 allocated_objects s [] = []
 allocated_objects s (x ∷ xs) = allocated_initial s x.initial ++ allocated_objects s xs
 
+-- The element types that the head of a loop allocates: its first part, its condition, and then its step.
 abbrev pub allocated_head : Structs → Head → List CType
 allocated_head s head =
     allocated_objects s head.objects ++ allocated_value s head.first ++ allocated_value s head.test
     ++ allocated_value s head.step
 
+-- The element types that the affinity of a upc_forall allocates (UPC 6.6.2).
 abbrev pub allocated_affinity : Structs → Affinity → List CType
 allocated_affinity s Everyone = []
 allocated_affinity s (AtValue value) = allocated_expr s value
 
 -- ---- statements
 
+-- The element types that calls in a statement allocate (UPC 7.2.2).
 abbrev mutual
+  -- The element types that a statement allocates, in the order in which its calls are finished.
   pub allocated_statement : Structs → Statement → List CType
   allocated_statement s (Stands at kind) = allocated_by s kind
 
+  -- The element types that the parts of a statement allocate, in the order of the source.
   pub allocated_by : Structs → StatementKind → List CType
   allocated_by s (Block strict items) = allocated_items s items
   allocated_by s (Value value) = allocated_value s value
@@ -116,27 +130,31 @@ abbrev mutual
   allocated_by s (Synchronise how value) = allocated_value s value
   allocated_by s Fence = []
 
+  -- The element types that the statement after the last `else` allocates; none where there is no such statement.
   pub allocated_last : Structs → StatementOption → List CType
   allocated_last s NoStatement = []
   allocated_last s (TheStatement x) = allocated_statement s x
 
+  -- The element types that the arms of an `if` allocate: of each its condition, and then its statement.
   pub allocated_arms : Structs → Arms → List CType
   allocated_arms s NoArms = []
   allocated_arms s (AndArm test body more) =
       allocated_expr s test ++ allocated_statement s body ++ allocated_arms s more
 
+  -- The element types that the parts of a block allocate, in order.
   pub allocated_items : Structs → Items → List CType
   allocated_items s NoItems = []
   allocated_items s (AndObjects objects more) = allocated_objects s objects ++ allocated_items s more
   allocated_items s (AndStatement x more) = allocated_statement s x ++ allocated_items s more
 
+  -- The element types that the statements in the body of a `switch` allocate, in order.
   pub allocated_switch : Structs → SwitchItems → List CType
   allocated_switch s NoSwitchItems = []
   allocated_switch s (AndCase value more) = allocated_switch s more
   allocated_switch s (AndDefault more) = allocated_switch s more
   allocated_switch s (AndSwitchStatement x more) = allocated_statement s x ++ allocated_switch s more
 
--- Those of all functions.
+-- The element types that functions allocate, function by function (UPC 7.2.2).
 abbrev pub allocated_in : Structs → List Function → List CType
 allocated_in s [] = []
 allocated_in s (f ∷ fs) = allocated_statement s f.body ++ allocated_in s fs

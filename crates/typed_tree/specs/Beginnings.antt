@@ -17,6 +17,9 @@ use Rattle.typed_tree.specs.Elements.{element_shapes}
 use Rattle.typed_tree.specs.Objects.{shared_in, private_in, type_of, placed_from}
 use Rattle.typed_tree.specs.Initials.{Setting, shared_from, private_from}
 
+-- What a program begins with: its structs, where each pointer in an object has a type with a number, the shapes of
+-- shared elements by number, the shared objects with their initial values, and the shapes of the private objects of the
+-- file with their initial values (C99 6.7.8, UPC 6.5.1).
 pub record Beginning : Type 0 where
   pub structs : Structs
   pub shapes : List Shape
@@ -25,6 +28,7 @@ pub record Beginning : Type 0 where
   pub private_shapes : List Shape
   pub private_initials : List (LocalPtr × Value)
 
+-- What a program of the code begins with, seen without where it lies in memory.
 abbrev pub view_beginning : b.Beginning → Beginning
 view_beginning x = record {
   structs = view_structs x.structs;
@@ -35,7 +39,8 @@ view_beginning x = record {
   private_initials = x.private_initials.items;
 }
 
--- What begins with these objects, where these structs have their targets of pointers.
+-- What a program of so many threads with these objects of the file begins with, where it allocates elements of these
+-- types, and these structs have a number for the type of each pointer in an object.
 abbrev pub begun : ℕ → Structs → List DeclaredObject → List CType → Beginning
 begun threads structs objects allocated =
     let shapes = element_shapes structs (map type_of (shared_in objects) ++ allocated) in
@@ -51,13 +56,14 @@ begun threads structs objects allocated =
       private_initials = private_from σ 0 (private_in objects);
     }
 
--- What a program of this many threads with these structs and objects of the file begins with, where it allocates
--- elements of these types, and its functions have parameters and objects of those.
+-- What a program of so many threads with these structs and objects of the file begins with, where it allocates elements
+-- of the types `allocated`, and its functions have parameters and objects of the types `inside` (C99 6.7.8, UPC 6.5.1).
 abbrev pub beginning_of : ℕ → Structs → List DeclaredObject → List CType → List CType → Beginning
 beginning_of threads structs objects allocated inside =
     begun threads (with_targets structs (map type_of objects ++ allocated ++ inside)) objects allocated
 
--- Its shared part.
+-- The shared part of what a program of so many threads begins with: its shared objects, their initial values, and the
+-- shapes of shared elements (UPC 6.5.1.1).
 abbrev pub opening_in : ℕ → Beginning → Opening
 opening_in threads b = record {
   threads = threads;

@@ -8,29 +8,33 @@ use Rattle.block_layout.specs.Cells.{same_cells, sharable}
 use Rattle.upc_types.specs.Types.{CType, base_of, Structs}
 use Rattle.upc_types.specs.Cells.{leaf_shape}
 
--- One leaf element of a shared object of this type.
+-- The size and the cells of one leaf element of a shared object of this type; pointers to private objects are no cells
+-- there (UPC 6.5.1.1).
 abbrev pub element_shape : Structs → CType → Shape
 element_shape structs t = record {
   size = (leaf_shape structs (base_of t)).size;
   cells = sharable (leaf_shape structs (base_of t)).cells;
 }
 
+-- Whether two shapes have the same size and the same cells.
 abbrev pub same_shape : Shape → Shape → Bool
 same_shape a b = a.size == b.size && same_cells a.cells b.cells
 
--- The place of the first shape that is equal, and where none is, their count.
+-- The number of a shape among these: the place of the first that is equal, from 0, and where none is, their count.
 abbrev pub number_among : List Shape → Shape → ℕ
 number_among [] s = 0
 number_among (x ∷ xs) s = if same_shape x s then 0 else number_among xs s + 1
 
--- The shapes once this one has a number.
+-- The shapes with numbers after this one was given a number, where no equal one had one.
 abbrev pub with_shape : List Shape → Shape → List Shape
 with_shape xs s = if nat_lt (number_among xs s) (length xs) then xs else xs ++ (s ∷ [])
 
+-- The shapes with numbers after each of these was given a number, where no equal one had one.
 abbrev pub with_shapes : List Shape → List Shape → List Shape
 with_shapes xs [] = xs
 with_shapes xs (s ∷ ss) = with_shapes (with_shape xs s) ss
 
--- The shapes of the elements of objects of these types; equal ones are one, at the first.
+-- The shapes of the leaf elements of shared objects of these types, by number; equal ones are one, at the first
+-- (UPC 6.5.1.1).
 abbrev pub element_shapes : Structs → List CType → List Shape
 element_shapes structs ts = with_shapes [] (map (element_shape structs) ts)

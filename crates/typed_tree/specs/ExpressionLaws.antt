@@ -1,4 +1,4 @@
--- What the nodes of a program give of an expression, to who has the tree alone.
+-- What the nodes of a program say of its expressions, where only the tree is known.
 use Rattle.std.specs.Prelude.{◌≡◌, ℕ, ◌<◌, ◌≤◌, pos, true, List, length, Some, slice_get, IsTrue, ◌⊎◌}
 use Rattle.upc_text.specs.declared.place.Place.{Place}
 use Rattle.block_layout.specs.declared.kind.Kind.{Kind}
@@ -51,7 +51,7 @@ MemberInRange = (p : Checked) (locals : List CType) (how : Use) (at : Place) (at
     (number : ℕ) × (base_struct (base_of (attr_of a).ctype) ≡ Some number)
     × (index < length (members_of p.structs number))
 
--- So of the struct that the expression leads to.
+-- A member after `->` is one of the struct that the expression before it leads to (C99 6.5.2.3).
 abbrev pub MemberBehindInRange : Type 0
 MemberBehindInRange = (p : Checked) (locals : List CType) (how : Use) (at : Place) (attr : Attr) (a : Expr)
     (index : ℕ) → MeetsExpr p locals how (k.Is at attr (k.MemberBehind a index)) →

@@ -27,7 +27,8 @@ use Rattle.typed_tree.specs.Objects.{object_of}
 use Rattle.upc_values.specs.declared.scalar.Value.{Value}
 use Rattle.upc_values.specs.declared.scalar.Value.TheVariants as value
 
--- What there is: threads, private objects of the file, structs, and shared objects of the file.
+-- What initialisers may refer to: the number of threads, how many private objects the file has, the structs, and the
+-- shared objects of the file.
 pub record Setting : Type 0 where
   pub threads : ℕ
   pub privates : ℕ
@@ -36,44 +37,51 @@ pub record Setting : Type 0 where
 
 -- ---- values
 
+-- The value of an integer constant expression, and 0 for every other constant (C99 6.6).
 abbrev pub known_or_zero : Constant → ℤ
 known_or_zero (Known v) = v
 known_or_zero c = pos 0
 
--- The integer that a constant is in an object of this kind (C99 6.3.1.3).
+-- The integer with which an object of this kind begins by a constant: the constant's value, converted, and 0 where it
+-- has no integer value (C99 6.3.1.3).
 abbrev pub integer_in : Kind → Constant → ℤ
 integer_in kind c = known_or_zero (cast_constant kind c)
 
--- A thread of the run, a phase of the block, and an offset in range.
+-- Whether a pointer-to-shared with this block names a thread of the run, a phase of the block, and an offset in range.
 abbrev pub fits : ℕ → ℕ → SharedPtr → Bool
 fits threads block p = nat_lt p.thread threads && ((p.phase == 0 || nat_lt p.phase block) && in_range p.offset)
 
+-- A pointer-to-shared with this block, or null where its thread, phase or offset is out of range.
 abbrev pub fitting : ℕ → ℕ → SharedPtr → SharedPtr
 fitting threads block p = if fits threads block p then p else null
 
--- The shared object with this number, from 1 on.
+-- The shared object with this number, from 1 on; none where there is no such object.
 abbrev pub numbered : List SharedDecl → ℕ → Option ObjectRef
 numbered shared zero = None
 numbered shared (suc n) = slice_get (map object_of shared) n
 
+-- The pointer-to-shared with this block into an object, with this thread, phase and offset; null where there is no
+-- object, or they are out of range.
 abbrev pub pointer_into : ℕ → ℕ → Option ObjectRef → ℕ → ℕ → ℤ → SharedPtr
 pointer_into threads block None thread phase offset = null
 pointer_into threads block (Some object) thread phase offset =
     fitting threads block (record { object = object; thread = thread; phase = phase; offset = offset })
 
--- The pointer-to-shared that a constant is.
+-- The pointer-to-shared with this block that a constant gives: the address of a shared object of the file, else null
+-- (C99 6.6).
 abbrev pub shared_pointer_in : Setting → ℕ → Constant → SharedPtr
 shared_pointer_in σ block (Address (static.Shared object thread phase offset) e) =
     pointer_into σ.threads block (numbered σ.shared object) thread phase offset
 shared_pointer_in σ block c = null
 
--- The pointer-to-local that a constant is.
+-- The pointer to a private object that a constant gives: the address of one of the file, else null (C99 6.6).
 abbrev pub local_pointer_in : Setting → Constant → LocalPtr
 local_pointer_in σ (Address (static.Private object offset) e) =
     if nat_lt object σ.privates && in_range offset then local.Private object offset else local.Null
 local_pointer_in σ c = local.Null
 
--- What a constant is in an object of this kind. A lock pointer is null.
+-- The value with which an object of this kind begins by a constant: a converted integer, or a pointer to an object of
+-- the file; a lock pointer is null (C99 6.7.8).
 abbrev pub value_in : Setting → Kind → Constant → Value
 value_in σ (k.Shared n block) c = value.Scalar (scalar.Shared (shared_pointer_in σ block c))
 value_in σ (k.Private n) c = value.Local (local_pointer_in σ c)
@@ -82,49 +90,61 @@ value_in σ kind c = value.Scalar (scalar.Int (integer_in kind c))
 
 -- ---- initialisers
 
--- The kind of a scalar.
+-- The kind of a scalar's cell; a type that is no scalar has none (C99 6.2.5).
 abbrev pub scalar_kind : List CType → Base → Option Kind
 scalar_kind targets (Integer kind) = Some kind
 scalar_kind targets (Pointer target) = Some (pointer_kind targets target)
 scalar_kind targets b = None
 
--- What an object without braces begins with.
+-- The value that an initialiser without braces gives an object with a cell of this kind; there is none where the
+-- initialiser is another, or the object has no such cell (C99 6.7.8).
 abbrev pub single : Setting → Option Kind → Initial → Option Value
 single σ (Some kind) (InitialValue e) = Some (value_in σ kind (constant_of (attr_of e)))
 single σ kind other = None
 
--- Those of a shared object: it is no pointer to a private object.
+-- The value with which the first cell of the shared object with this number begins, if there is one; a pointer to a
+-- private object is none (UPC 6.5.1.1).
 abbrev pub at_start : ℕ → Option Value → List (Loc × Scalar)
 at_start number (Some (value.Scalar v)) = (record { object = number; thread = 0; offset = 0 }, v) ∷ []
 at_start number v = []
 
+-- The initial values that the initialisers of shared objects give, where the objects are numbered from this number on
+-- (C99 6.7.8).
 abbrev pub shared_from : Setting → ℕ → List DeclaredObject → List (Loc × Scalar)
 shared_from σ number [] = []
 shared_from σ number (x ∷ xs) =
     at_start number (single σ (scalar_kind σ.structs.targets (base_of x.ctype)) x.initial)
     ++ shared_from σ (number + 1) xs
 
--- The constants of an initialiser: of a list as many as the array has elements.
+-- The constants of the initialiser of an object: of the list of an array as many as it has elements, of another object
+-- its one value (C99 6.7.8).
 abbrev pub constants_in : Base → Initial → List Constant
 constants_in (Array t count) (InitialList values) = take count (map constant_of (attrs_of values))
 constants_in (Array t count) other = []
 constants_in b (InitialValue e) = constant_of (attr_of e) ∷ []
 constants_in b other = []
 
--- What has these values: the elements of an array, or the object.
+-- The type of each part of an object to which an initialiser gives a value: an element of an array, or the object
+-- itself (C99 6.7.8).
 abbrev pub part_of : Base → Base
 part_of (Array (Qualified e c s x) count) = e
 part_of b = b
 
+-- The initial values that these constants give cells of one kind, one after the other in a private object from this
+-- byte on.
 abbrev pub cells_from : Setting → ℕ → Kind → ℕ → List Constant → List (LocalPtr × Value)
 cells_from σ number kind offset [] = []
 cells_from σ number kind offset (c ∷ cs) =
     (local.Private number (pos offset), value_in σ kind c) ∷ cells_from σ number kind (offset + kind_size kind) cs
 
+-- The initial values that these constants give cells of this kind, one after the other in a private object from its
+-- beginning on; none where the parts of the object are no scalars.
 abbrev pub cells_in : Setting → ℕ → Option Kind → List Constant → List (LocalPtr × Value)
 cells_in σ number None cs = []
 cells_in σ number (Some kind) cs = cells_from σ number kind 0 cs
 
+-- The initial values that the initialisers of private objects give, where the objects are numbered from this number on
+-- (C99 6.7.8).
 abbrev pub private_from : Setting → ℕ → List DeclaredObject → List (LocalPtr × Value)
 private_from σ number [] = []
 private_from σ number (x ∷ xs) =

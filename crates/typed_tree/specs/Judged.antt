@@ -39,10 +39,12 @@ pub record JudgedAt (p : Checked) (structs : Structs) (x : Node) (a : Attr) : Ty
   pub rules : lowest (facts_at p structs) x ≡ None
   pub is : a ≡ attr (facts_at p structs) x
 
+-- The node of an expression meets every rule at its place in the source, with the structs that are complete there, and
+-- the expression is what the node says.
 abbrev pub Judged : Checked → Node → Attr → Type 0
 Judged p x a = (structs : Structs) × JudgedAt p structs x a
 
--- The kinds of numbers (C99 6.4.4.1).
+-- The kinds that numbers have: int, unsigned int, long and unsigned long (C99 6.4.4.1).
 abbrev pub IsNumberKind : Kind → Type 0
 IsNumberKind kind.Int = Unit {0}
 IsNumberKind kind.UInt = Unit {0}
@@ -50,8 +52,8 @@ IsNumberKind kind.Long = Unit {0}
 IsNumberKind kind.ULong = Unit {0}
 IsNumberKind other = ⊥
 
--- The nodes of numbers, characters and named constants (C99 6.4.4, UPC 6.3), which the tree does not tell apart. A
--- number is in the range of its kind.
+-- The nodes of numbers, characters and named constants, which are all one kind of expression in the tree (C99 6.4.4,
+-- UPC 6.3). A number is in the range of its kind.
 abbrev pub IsConstant : Checked → Node → Type 0
 IsConstant p (n.Name how (m.Named c)) = Unit {0}
 IsConstant p (n.Number number value) = IsNumberKind number × InKind (pos value) number

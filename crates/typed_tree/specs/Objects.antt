@@ -13,37 +13,42 @@ use Rattle.typed_tree.specs.Tree.{DeclaredObject}
 use Rattle.typed_tree.specs.declared.beginning.SharedDecl.{SharedDecl}
 use Rattle.typed_tree.specs.Elements.{element_shape, number_among}
 
+-- Whether an object that lies there is a shared one.
 abbrev pub is_shared : Home → Bool
 is_shared (Shared number) = true
 is_shared home = false
 
+-- Whether an object that lies there is a private one of the file.
 abbrev pub is_private : Home → Bool
 is_private (Private number) = true
 is_private home = false
 
+-- The shared objects among these, in order.
 abbrev pub shared_in : List DeclaredObject → List DeclaredObject
 shared_in objects = filter (λ x. is_shared x.home) objects
 
+-- The private objects of the file among these, in order.
 abbrev pub private_in : List DeclaredObject → List DeclaredObject
 private_in objects = filter (λ x. is_private x.home) objects
 
+-- The type of a declared object.
 abbrev pub type_of : DeclaredObject → CType
 type_of x = x.ctype
 
--- The bytes of these objects.
+-- The bytes of these objects in all.
 abbrev pub bytes_in : Structs → List DeclaredObject → ℕ
 bytes_in structs objects = sum_by (λ x. size structs x.ctype) objects
 
--- The private objects of the file have at most so many bytes in all.
+-- The most bytes that the private objects of the file may have in all (limit 4).
 abbrev pub most_private_bytes : ℕ
 most_private_bytes = 1048576
 
--- The shared objects have at most so many bytes in all.
+-- The most bytes that the shared objects may have in all (limit 5).
 abbrev pub most_shared_bytes : ℕ
 most_shared_bytes = 16777216
 
--- Where a shared object of this type and number lies, behind so many bytes of others. Its block is in bytes, and no
--- longer than the object.
+-- Where a shared object of this number and type lies, after so many bytes of others (UPC 6.5.1.1). Its block is in
+-- bytes, and no longer than the object.
 abbrev pub lies : Structs → List Shape → ℕ → ℕ → CType → ObjectRef
 lies structs shapes number base t = record {
   number = number;
@@ -54,7 +59,8 @@ lies structs shapes number base t = record {
   base = base;
 }
 
--- A shared object with this number, behind so many bytes of others.
+-- A shared object with this number, after so many bytes of others: its name, where it lies, its block in elements, and
+-- the number and size of its leaf elements (UPC 6.5.1.1).
 abbrev pub placed : Structs → List Shape → ℕ → ℕ → DeclaredObject → SharedDecl
 placed structs shapes number base x = record {
   name = x.name;
@@ -64,10 +70,12 @@ placed structs shapes number base x = record {
   size = (element_shape structs x.ctype).size;
 }
 
+-- Where a declared shared object lies.
 abbrev pub object_of : SharedDecl → ObjectRef
 object_of x = x.object
 
--- Shared objects, one behind the other.
+-- Shared objects, numbered from this number on, each after the bytes of the one before it, and the first after so many
+-- bytes of others (UPC 6.5.1.1).
 abbrev pub placed_from : Structs → List Shape → ℕ → ℕ → List DeclaredObject → List SharedDecl
 placed_from structs shapes number base [] = []
 placed_from structs shapes number base (x ∷ xs) =

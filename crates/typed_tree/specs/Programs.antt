@@ -14,7 +14,7 @@ use Rattle.typed_tree.specs.Allocated.{allocated_in}
 use Rattle.typed_tree.specs.Beginnings.{Beginning, beginning_of}
 use Rattle.typed_tree.specs.ViewStatements.{view_function, view_object}
 
--- The structs, before any target of pointers has a number.
+-- The structs without any target of pointers that has a number.
 abbrev pub without_targets : Structs → Structs
 without_targets structs = record { declared = structs.declared; completed = structs.completed; targets = [] }
 
@@ -33,7 +33,7 @@ checked_of threads structs objects functions =
 
 -- ---- what it begins with
 
--- What a program begins with.
+-- What a program begins with, by its own objects, functions and structs (C99 6.7.8, UPC 6.5.1).
 abbrev pub start_of : Checked → Beginning
 start_of x =
     beginning_of x.threads x.structs x.objects (allocated_in x.structs x.functions) (types_in x.structs x.functions)
@@ -44,30 +44,30 @@ numbered_structs x = (start_of x).structs
 
 -- ---- how much there is of it (docs/LANGUAGE.md, "Limits")
 
--- The bytes of the private objects of the file.
+-- The bytes that the private objects of the file have in all (limit 4).
 abbrev pub private_bytes : Checked → ℕ
 private_bytes x = bytes_in x.structs (private_in x.objects)
 
--- The bytes of the shared objects.
+-- The bytes that the shared objects of a program have in all (limit 5).
 abbrev pub shared_bytes : Checked → ℕ
 shared_bytes x = bytes_in x.structs (shared_in x.objects)
 
--- How many functions, parameters and objects of functions these functions bring.
+-- How many functions these are, together with their parameters and the objects that they declare.
 abbrev pub count_in : List Function → ℕ
 count_in [] = 0
 count_in (g ∷ gs) = 1 + length g.parameters + length (objects_in g.body) + count_in gs
 
--- How many structs, objects, parameters of definitions and functions there are.
+-- How many structs, objects, parameters of definitions and functions a program has in all (limit 7).
 abbrev pub count_of : Checked → ℕ
 count_of x = x.structs.declared + length x.objects + count_in x.functions
 
--- There are at most so many structs, objects, parameters of definitions and functions in all.
+-- The most structs, objects, parameters of definitions and functions that a program may have in all (limit 7).
 abbrev pub most_declared : ℕ
 most_declared = 65535
 
 -- ---- what contracts see
 
--- The record of a program with these parts.
+-- The record of a program of the code with these parts, seen without where they lie in memory.
 abbrev pub view_parts : ℕ → Vec o.Object Global → Vec f.Function Global → b.Beginning → Checked
 view_parts threads objects functions beginning =
     checked_of threads (view_structs beginning.structs) (map view_object objects.items)

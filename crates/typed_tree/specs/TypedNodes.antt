@@ -37,11 +37,14 @@ pub record Declares (p : Checked) (number : ℕ) (s : Signature) : Type 0 where
   pub result : value_type s.result ≡ function.result
   pub parameters : map value_type s.parameters ≡ map value_type function.parameters
 
+-- The nodes of expressions meet their rules (C99 6.5, UPC 6.4).
 abbrev mutual
-  -- An expression that is used so, where objects of these types are in scope in the function.
+  -- The nodes of an expression that is used so meet their rules, where objects of these types are in scope in the
+  -- function.
   pub MeetsExpr : Checked → List CType → Use → Expr → Type 0
   MeetsExpr p locals how (k.Is at attr kind) = MeetsKind p locals how attr kind
 
+  -- The nodes of what an expression consists of meet their rules, and the expression is what its own node says.
   pub MeetsKind : Checked → List CType → Use → Attr → ExprKind → Type 0
   MeetsKind p locals how attr k.Literal = (x : n.Node) × IsConstant p x × Judged p x attr
   MeetsKind p locals how attr k.Mythread = Judged p n.Mythread attr
@@ -95,12 +98,13 @@ abbrev mutual
   MeetsKind p locals how attr (k.Comma (k.AndExpr a more)) =
       Judged p (n.Comma (last_of a more)) attr × MeetsExpr p locals n.Plain a × MeetsExprs p locals [] more
 
-  -- Expressions, each used so.
+  -- The nodes of some expressions, each of which is used so, meet their rules.
   pub MeetsExprs : Checked → List CType → List Use → Exprs → Type 0
   MeetsExprs p locals uses k.NoExprs = Unit {0}
   MeetsExprs p locals uses (k.AndExpr a more) =
       MeetsExpr p locals (first_use uses) a × MeetsExprs p locals (later_uses uses) more
 
+-- The nodes of an expression whose value is taken meet their rules, where there is such an expression.
 abbrev pub MeetsValue : Checked → List CType → Option Expr → Type 0
 MeetsValue p locals None = Unit {0}
 MeetsValue p locals (Some a) = MeetsExpr p locals n.Plain a
@@ -112,13 +116,14 @@ abbrev pub MeetsConstant : Checked → Bool → Expr → Type 0
 MeetsConstant p true a = Meets p (n.Constantly (attr_of a))
 MeetsConstant p false a = Unit {0}
 
--- The values of an initialiser list, each used so.
+-- The nodes of the values of an initialiser list, each of which is used so, meet their rules, and at file scope the
+-- values are constant expressions (C99 6.7.8).
 abbrev pub MeetsValues : Checked → List CType → Bool → Use → Exprs → Type 0
 MeetsValues p locals file how k.NoExprs = Unit {0}
 MeetsValues p locals file how (k.AndExpr a more) =
     MeetsExpr p locals how a × MeetsConstant p file a × MeetsValues p locals file how more
 
--- The initialiser of an object of this type, at file scope or in a function.
+-- The initialiser of an object of this type, at file scope or in a function, meets the rules (C99 6.7.8).
 abbrev pub MeetsInitial : Checked → List CType → Bool → CType → Initial → Type 0
 MeetsInitial p locals file t k.NoInitial = Unit {0}
 MeetsInitial p locals file t (k.InitialValue a) =
@@ -127,70 +132,82 @@ MeetsInitial p locals file t (k.InitialList values) =
     Meets p (n.InitialList file true t (attrs_of values))
     × MeetsValues p locals file (element_use (base_target (base_of t))) values
 
--- The types of the objects in scope in the function, behind a further object.
+-- The types of the objects in scope in the function after one more object of this type that lies there; one of the file
+-- adds none.
 abbrev pub in_scope : Home → CType → List CType → List CType
 in_scope (Local number) t locals = locals ++ (t ∷ [])
 in_scope home t locals = locals
 
+-- The types of the objects in scope in the function after the declaration of an object (C99 6.2.1).
 abbrev pub behind : List CType → DeclaredObject → List CType
 behind locals x = in_scope x.home x.ctype locals
 
+-- The types of the objects in scope in the function after the declarations of these objects (C99 6.2.1).
 abbrev pub behind_all : List CType → List DeclaredObject → List CType
 behind_all locals [] = locals
 behind_all locals (x ∷ xs) = behind_all (behind locals x) xs
 
--- An object, which is in scope in its own initialiser (C99 6.2.1).
+-- A declared object and its initialiser meet their rules; the object is in scope in its own initialiser (C99 6.2.1).
 pub record MeetsObject (p : Checked) (locals : List CType) (file : Bool) (x : DeclaredObject) : Type 0 where
   pub stands : Stands p (behind locals x) x.home x.ctype
   pub declared : (again : Bool) × (formed : Formed) × (formed.ctype ≡ x.ctype)
       × Meets p (n.DeclaresObject again file formed)
   pub initial : MeetsInitial p (behind locals x) file x.ctype x.initial
 
+-- Declared objects meet their rules, each in scope for those after it (C99 6.2.1).
 abbrev pub MeetsObjects : Checked → List CType → Bool → List DeclaredObject → Type 0
 MeetsObjects p locals file [] = Unit {0}
 MeetsObjects p locals file (x ∷ xs) = MeetsObject p locals file x × MeetsObjects p (behind locals x) file xs
 
 -- ---- statements
 
+-- The parts of the head of a loop meet their rules; the objects that it declares are in scope in its other parts
+-- (C99 6.8.5.3, UPC 6.6.2).
 abbrev pub MeetsHead : Checked → List CType → Head → Type 0
 MeetsHead p locals head =
     MeetsObjects p locals false head.objects × MeetsValue p (behind_all locals head.objects) head.first
     × MeetsValue p (behind_all locals head.objects) head.test × MeetsValue p (behind_all locals head.objects) head.step
     × Meets p (n.Tests (tests_of head.test))
 
+-- The affinity of a upc_forall meets its rules (UPC 6.6.2).
 abbrev pub MeetsAffinity : Checked → List CType → Affinity → Type 0
 MeetsAffinity p locals k.Everyone = Unit {0}
 MeetsAffinity p locals (k.AtValue a) = Meets p (n.Affinity (attr_of a)) × MeetsExpr p locals n.Plain a
 
--- The conditions of an `if`.
+-- What the conditions of an `if` are to it, in order (C99 6.8.4.1).
 abbrev pub tests_in : Arms → List Attr
 tests_in k.NoArms = []
 tests_in (k.AndArm test body more) = attr_of test ∷ tests_in more
 
--- The values of the labels of a switch, and how often `default` stands there.
+-- The values with which the `case` labels of a `switch` compare, in order (C99 6.8.4.2).
 abbrev pub cases_in : SwitchItems → List ℤ
 cases_in k.NoSwitchItems = []
 cases_in (k.AndCase value more) = value ∷ cases_in more
 cases_in (k.AndDefault more) = cases_in more
 cases_in (k.AndSwitchStatement s more) = cases_in more
 
+-- How often `default` stands in a `switch` (C99 6.8.4.2).
 abbrev pub defaults_in : SwitchItems → ℕ
 defaults_in k.NoSwitchItems = 0
 defaults_in (k.AndCase value more) = defaults_in more
 defaults_in (k.AndDefault more) = defaults_in more + 1
 defaults_in (k.AndSwitchStatement s more) = defaults_in more
 
--- A switch on this value: its cases are the values of labels in its kind (C99 6.8.4.2).
+-- The labels of a `switch` on this value meet their rules; its cases have the values of labels in its kind
+-- (C99 6.8.4.2).
 pub record MeetsLabels (p : Checked) (a : Attr) (items : SwitchItems) : Type 0 where
   pub labels : List Constant
   pub values : cases_in items ≡ map (label_value (base_kind (base a))) labels
   pub rules : Meets p (n.Switch a labels (defaults_in items))
 
+-- The nodes of statements meet their rules (C99 6.8, UPC 6.6).
 abbrev mutual
-  -- A statement with this around it, where objects of these types are in scope in the function.
+  -- The nodes of a statement with this around it meet their rules, where objects of these types are in scope in the
+  -- function (C99 6.8, UPC 6.6).
   pub MeetsStatement : Checked → Around → List CType → Statement → Type 0
   MeetsStatement p c locals (k.Stands at kind) = MeetsBy p c locals kind
 
+  -- The nodes of what a statement consists of meet their rules.
   pub MeetsBy : Checked → Around → List CType → StatementKind → Type 0
   MeetsBy p c locals (k.Block strict items) = MeetsItems p c locals items
   MeetsBy p c locals (k.Value value) = MeetsValue p locals value
@@ -217,22 +234,26 @@ abbrev mutual
   MeetsBy p c locals (k.Synchronise how (Some a)) = Meets p (n.Barrier (attr_of a)) × MeetsExpr p locals n.Plain a
   MeetsBy p c locals k.Fence = Unit {0}
 
+  -- The nodes of the statement after the last `else` meet their rules, where there is such a statement (C99 6.8.4.1).
   pub MeetsLast : Checked → Around → List CType → StatementOption → Type 0
   MeetsLast p c locals k.NoStatement = Unit {0}
   MeetsLast p c locals (k.TheStatement s) = MeetsStatement p c locals s
 
+  -- The nodes in the arms of an `if` meet their rules (C99 6.8.4.1).
   pub MeetsArms : Checked → Around → List CType → Arms → Type 0
   MeetsArms p c locals k.NoArms = Unit {0}
   MeetsArms p c locals (k.AndArm test body more) =
       MeetsExpr p locals n.Plain test × MeetsStatement p c locals body × MeetsArms p c locals more
 
-  -- A declaration is in scope behind itself.
+  -- The nodes in the parts of a block meet their rules; what a declaration declares is in scope in the parts after it
+  -- (C99 6.2.1, 6.8.2).
   pub MeetsItems : Checked → Around → List CType → Items → Type 0
   MeetsItems p c locals k.NoItems = Unit {0}
   MeetsItems p c locals (k.AndObjects objects more) =
       MeetsObjects p locals false objects × MeetsItems p c (behind_all locals objects) more
   MeetsItems p c locals (k.AndStatement s more) = MeetsStatement p c locals s × MeetsItems p c locals more
 
+  -- The nodes of the statements in the body of a `switch` meet their rules (C99 6.8.4.2).
   pub MeetsSwitch : Checked → Around → List CType → SwitchItems → Type 0
   MeetsSwitch p c locals k.NoSwitchItems = Unit {0}
   MeetsSwitch p c locals (k.AndCase value more) = MeetsSwitch p c locals more
@@ -241,11 +262,12 @@ abbrev mutual
 
 -- ---- the whole program
 
--- What stands around the body of a function.
+-- What stands around the body of a function with this result: no loop, and nothing that a `break` would leave.
 abbrev pub around : CType → Around
 around result = record { result = result; breaks = enclosing.Nothing; loops = false; forall = false }
 
--- A function: its parameters are the first objects in scope. Its result has no qualifiers of its own.
+-- The nodes of a function meet their rules, where its parameters are the first objects in scope in it (C99 6.9.1). Its
+-- result has no qualifiers of its own.
 pub record MeetsFunction (p : Checked) (f : Function) : Type 0 where
   pub body : MeetsStatement p (around f.result) f.parameters f.body
   pub defined : (again differs forms : Bool) × (s : Signature) × (s.parameters ≡ f.parameters)

@@ -6,7 +6,9 @@ use Rattle.upc_types.specs.View.{view}
 use Rattle.typing_rules.specs.Nodes.{Attr, view_attr}
 use Rattle.typed_tree.specs.Tree as t
 
+-- The parts of expressions of the code, seen without where they lie in memory.
 abbrev mutual
+  -- What an expression of the code consists of, seen without where it lies in memory.
   pub view_kind : ExprKind → t.ExprKind
   view_kind k.Literal = t.Literal
   view_kind k.Mythread = t.Mythread
@@ -41,13 +43,15 @@ abbrev mutual
       (t.Is far (view_attr last) (view_kind behind))
   view_kind (k.Comma' shape parts) = t.Comma (view_row parts)
 
+  -- Expressions of the code in order, seen without where they lie in memory.
   pub view_row : {m : _} → Row_of-Expr m → t.Exprs
   view_row end_of-Expr = t.NoExprs
   view_row (more_of-Expr at attr kind more) = t.AndExpr (t.Is at (view_attr attr) (view_kind kind)) (view_row more)
 
+-- An expression of the code, seen without where it lies in memory.
 abbrev pub view_expr : e.Expr → t.Expr
 view_expr x = t.Is x.place (view_attr x.attr) (view_kind x.kind)
 
--- What an expression of the tree is to the node above it.
+-- What an expression of the code is to the node above it.
 abbrev pub attr_seen : e.Expr → Attr
 attr_seen x = view_attr x.attr

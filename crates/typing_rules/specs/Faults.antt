@@ -16,13 +16,16 @@ pub record Fault : Type 0 where
   pub rule : ℕ
   pub at : Place
 
+-- The fault at a place, where a node there breaks this rule as its lowest; none where it breaks no rule.
 abbrev pub fault_by : Option ℕ → Place → Option Fault
 fault_by None at = None
 fault_by (Some n) at = Some (record { rule = n; at = at })
 
+-- The fault of a node: the lowest rule that it breaks, at its place; none where it breaks no rule.
 abbrev pub fault_of : Seen → Option Fault
 fault_of x = fault_by (lowest x.facts x.node) x.at
 
+-- The earlier one of two faults where it is there, else the later one.
 abbrev pub or_later : Option Fault → Option Fault → Option Fault
 or_later None later = later
 or_later (Some f) later = Some f
@@ -36,6 +39,7 @@ first_fault (x ∷ xs) = or_later (fault_of x) (first_fault xs)
 pub record Meets (x : Seen) : Type 0 where
   pub none : (rule : ℕ) → Breaks rule (table x.facts x.node) → ⊥
 
+-- Each of these nodes meets every rule.
 abbrev pub AllMeet : List Seen → Type 0
 AllMeet [] = Unit {0}
 AllMeet (x ∷ xs) = Meets x × AllMeet xs

@@ -23,7 +23,7 @@ use Rattle.typing_rules.specs.declared.library.LibraryParameter.{LibraryParamete
 use Rattle.typing_rules.specs.declared.library.LibraryParameter.TheVariants.{SharedPointer, PrivatePointer}
 use Rattle.typing_rules.specs.declared.library.LibraryParameter.TheVariants.{LockPointer, Size, Int, NoFunction}
 
--- The letters that stand for an element type in the names of the reductions.
+-- The letters that stand for an element type in the names of the reductions (UPC 7.3).
 abbrev pub letters : ElementKind → List ℕ
 letters e.Char = codes "C"
 letters e.UnsignedChar = codes "UC"
@@ -34,7 +34,7 @@ letters e.UnsignedInt = codes "UI"
 letters e.Long = codes "L"
 letters e.UnsignedLong = codes "UL"
 
--- How each call is spelled.
+-- How each call of the library is spelled (C99 7.19.6.3; UPC 7.2, 7.3).
 abbrev pub call_name : LibraryCall → List ℕ
 call_name Printf = codes "printf"
 call_name ThreadOf = codes "upc_threadof"
@@ -67,7 +67,7 @@ call_name Permute = codes "upc_all_permute"
 call_name (Reduce kind) = codes "upc_all_reduce" ++ letters kind
 call_name (PrefixReduce kind) = codes "upc_all_prefix_reduce" ++ letters kind
 
--- How each constant is spelled.
+-- How each named constant of the library is spelled (UPC 7.3).
 abbrev pub constant_name : LibraryConstant → List ℕ
 constant_name c.Add = codes "UPC_ADD"
 constant_name c.Multiply = codes "UPC_MULT"
@@ -85,7 +85,7 @@ constant_name c.OutNoSync = codes "UPC_OUT_NOSYNC"
 constant_name c.OutMySync = codes "UPC_OUT_MYSYNC"
 constant_name c.OutAllSync = codes "UPC_OUT_ALLSYNC"
 
--- The value of each constant, an int.
+-- The value of each named constant of the library, an int (UPC 7.3).
 abbrev pub constant_value : LibraryConstant → ℕ
 constant_value c.Add = 1
 constant_value c.Multiply = 2
@@ -103,11 +103,12 @@ constant_value c.OutNoSync = 8
 constant_value c.OutMySync = 16
 constant_value c.OutAllSync = 32
 
+-- All element types that reductions have (UPC 7.3).
 abbrev pub element_kinds : List ElementKind
 element_kinds =
     e.Char ∷ e.UnsignedChar ∷ e.Short ∷ e.UnsignedShort ∷ e.Int ∷ e.UnsignedInt ∷ e.Long ∷ e.UnsignedLong ∷ []
 
--- All calls.
+-- All calls of the library (C99 7.19.6.3; UPC 7.2, 7.3).
 abbrev pub calls : List LibraryCall
 calls =
     (Printf ∷ ThreadOf ∷ PhaseOf ∷ AddressField ∷ AffinitySize ∷ GlobalAlloc ∷ AllAlloc ∷ Alloc ∷ Free ∷ AllFree ∷
@@ -115,50 +116,53 @@ calls =
     Memset ∷ GlobalExit ∷ Broadcast ∷ Scatter ∷ Gather ∷ GatherAll ∷ Exchange ∷ Permute ∷ [])
     ++ (map Reduce element_kinds ++ map PrefixReduce element_kinds)
 
--- All constants.
+-- All named constants of the library (UPC 7.3).
 abbrev pub constants : List LibraryConstant
 constants =
     c.Add ∷ c.Multiply ∷ c.BitAnd ∷ c.BitOr ∷ c.BitXor ∷ c.LogicalAnd ∷ c.LogicalOr ∷ c.Least ∷ c.Greatest ∷
     c.InNoSync ∷ c.InMySync ∷ c.InAllSync ∷ c.OutNoSync ∷ c.OutMySync ∷ c.OutAllSync ∷ []
 
--- The first of the list that is spelled so.
+-- The first of these things whose name is this text.
 abbrev pub spelled : {A : Type 0} → (A → List ℕ) → List A → List ℕ → Option A
 spelled name [] text = None
 spelled name (x ∷ xs) text = if pointwise nat_eq (name x) text then Some x else spelled name xs text
 
--- The call of that name.
+-- The call of the library with this name.
 abbrev pub call_named : List ℕ → Option LibraryCall
 call_named text = spelled call_name calls text
 
--- The constant of that name.
+-- The named constant of the library with this name.
 abbrev pub constant_named : List ℕ → Option LibraryConstant
 constant_named text = spelled constant_name constants text
 
 -- ---- types
 
--- The type of these bytes, which is not qualified.
+-- The type of this kind, without qualifiers.
 abbrev pub plain : Kind → CType
 plain kind = Qualified (Integer kind) false None Unsaid
 
+-- The type int, without qualifiers (C99 6.2.5).
 abbrev pub int : CType
 int = plain k.Int
 
+-- The type void, without qualifiers (C99 6.2.5).
 abbrev pub void : CType
 void = Qualified Void false None Unsaid
 
--- `size_t`, which is unsigned long.
+-- The type `size_t`, which is unsigned long (C99 7.17).
 abbrev pub size_type : CType
 size_type = plain k.ULong
 
--- `upc_lock_t *`.
+-- The type `upc_lock_t *` of lock pointers (UPC 7.2.4).
 abbrev pub lock_pointer : CType
 lock_pointer = Qualified (Pointer (Qualified LockObject false None Unsaid)) false None Unsaid
 
--- `shared void *`.
+-- The type `shared void *`, which allocations give and many parameters have (UPC 7.2).
 abbrev pub shared_void_pointer : CType
 shared_void_pointer = Qualified (Pointer (Qualified Void false (Some 1) Unsaid)) false None Unsaid
 
--- What a call gives. printf gives the number of bytes.
+-- The type of what a call of the library gives; printf gives the number of bytes as an int (C99 7.19.6.3; UPC 7.2,
+-- 7.3).
 abbrev pub call_result : LibraryCall → CType
 call_result Printf = int
 call_result ThreadOf = size_type
@@ -173,7 +177,7 @@ call_result AllLockAlloc = lock_pointer
 call_result LockAttempt = int
 call_result _ = void
 
--- What a call takes. The arguments of printf are judged by its format.
+-- What a call of the library takes (C99 7.19.6.3; UPC 7.2, 7.3). The arguments of printf are judged by its format.
 abbrev pub call_parameters : LibraryCall → List LibraryParameter
 call_parameters Printf = []
 call_parameters ThreadOf = SharedPointer ∷ []
@@ -206,7 +210,7 @@ call_parameters Permute = SharedPointer ∷ SharedPointer ∷ SharedPointer ∷ 
 call_parameters (Reduce kind) = SharedPointer ∷ SharedPointer ∷ Int ∷ Size ∷ Size ∷ NoFunction ∷ Int ∷ []
 call_parameters (PrefixReduce kind) = SharedPointer ∷ SharedPointer ∷ Int ∷ Size ∷ Size ∷ NoFunction ∷ Int ∷ []
 
--- The calls whose result has its type only where it is converted (UPC 7.2.3).
+-- The calls whose result has its type only where it is converted (UPC 7.2.2).
 abbrev pub is_allocation : LibraryCall → Bool
 is_allocation GlobalAlloc = true
 is_allocation AllAlloc = true

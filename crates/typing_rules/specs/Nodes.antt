@@ -18,11 +18,12 @@ pub record Attr : Type 0 where
   pub form : Form
   pub constant : Constant
 
+-- What an expression is to the node above it, seen without where its type lies in memory.
 abbrev pub view_attr : r.Attr → Attr
 view_attr a = record { ctype = types.view a.ctype; form = a.form; constant = a.constant }
 
--- What the node above does with an expression, seen through parentheses: it takes its value, calls it, takes an
--- element of it, takes its size, prints by it, or converts it into a type.
+-- What the node above does with an expression, seen through parentheses: it calls it, takes an element of it, takes its
+-- size, prints by it as a format, converts it into a type, or, where it is plain, does anything else with it.
 pub data Use : Type 0 where
   Plain : Use
   Called : Use
@@ -32,20 +33,22 @@ pub data Use : Type 0 where
   Into : (t : CType) → Use
 
 -- A type name, or what a declarator declares: whether its specifiers and qualifiers form a type, the type, and its
--- sizes, outermost first.
+-- array sizes, outermost first (C99 6.7.5, 6.7.6).
 pub record Formed : Type 0 where
   pub forms : Bool
   pub ctype : CType
   pub sizes : List Constant
 
 -- What a jump or a return stands in: the result of its function, what a `break` would leave, whether a loop is around
--- it, and whether it is in the body of a upc_forall.
+-- it, and whether it is in the body of a upc_forall (C99 6.8.6, UPC 6.6.2).
 pub record Around : Type 0 where
   pub result : CType
   pub breaks : Enclosing
   pub loops : Bool
   pub forall : Bool
 
+-- A node of the tree: a line of the grammar, with what the rules look at of its parts and of what is around it (C99 6.5
+-- to 6.9; UPC 6.4 to 6.6).
 pub data Node : Type 0 where
   -- expressions (C99 6.5)
   Name : (how : Use) (means : Meaning) → Node

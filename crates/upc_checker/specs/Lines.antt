@@ -1,11 +1,13 @@
--- The lines of the grammar that rules speak of; a number with its kind and its value.
+-- The lines of the grammar to which typing rules apply.
 use Rattle.std.specs.Prelude.{ℕ}
 use Rattle.block_layout.specs.declared.kind.Kind.{Kind}
 use Rattle.typing_rules.specs.Nodes as n
 use Rattle.typing_rules.specs.Nodes.{Node}
 
+-- A line of the grammar to which typing rules apply; a number has its kind and its value (C99 6.5 to 6.9; UPC 6.4 to
+-- 6.6).
 pub data Line : Type 0 where
-  -- expressions (C99 6.5, 6.6); operators by how many operands they have
+  -- Expressions (C99 6.5, 6.6); operators by how many operands they have.
   Name : Line
   Number : (kind : Kind) (value : ℕ) → Line
   Character : Line
@@ -23,7 +25,7 @@ pub data Line : Type 0 where
   Conditional : Line
   Comma : Line
   Constantly : Line
-  -- declarations (C99 6.7, 6.9, UPC 6.5.1.1)
+  -- Declarations (C99 6.7, 6.9, UPC 6.5.1.1).
   Block : Line
   StarBlock : Line
   Specifies : Line
@@ -37,7 +39,7 @@ pub data Line : Type 0 where
   InitialList : Line
   Defines : Line
   File : Line
-  -- statements (C99 6.8, UPC 6.6)
+  -- Statements (C99 6.8, UPC 6.6).
   Tests : Line
   Switch : Line
   Affinity : Line

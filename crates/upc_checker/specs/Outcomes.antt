@@ -12,17 +12,18 @@ use Rattle.walk_state.specs.Walk.{Walked}
 use Rattle.function_checker.specs.Units.{Made, setting, walk_unit}
 use Rattle.upc_checker.specs.Limits.{Passed, limit_in}
 
--- A refusal with its place and its code, or what the source is.
+-- The outcome of a check: a refusal with its place and its code, or what the source declares and defines, with types.
 pub data Outcome : Type 0 where
   Refused : (refusal : Refusal) → Outcome
   Accepted : (checked : Checked) → Outcome
 
--- The first typing fault decides, and where there is none the first limit that is passed.
+-- The first typing fault decides an outcome, and where there is none the first limit that is passed.
 abbrev pub outcome_by : Option Fault → Option Passed → Checked → Outcome
 outcome_by (Some f) limit checked = Refused (record { place = f.at; code = Typing f.rule })
 outcome_by None (Some l) checked = Refused (record { place = l.at; code = Limit l.limit })
 outcome_by None None checked = Accepted checked
 
+-- The outcome of a check on so many threads, by the walk over the source.
 abbrev pub outcome_in : ℕ → Walked Made → Outcome
 outcome_in threads w =
     outcome_by (first_fault w.seen) (limit_in w) (record {
@@ -32,7 +33,7 @@ outcome_in threads w =
       functions = w.value.functions;
     })
 
--- The outcome of a source.
+-- The outcome of a source with these names on so many threads.
 abbrev pub outcome : List (List ℕ) → ℕ → List External → Outcome
 outcome names threads unit = outcome_in threads (walk_unit (setting names threads unit) unit begin)
 
@@ -42,7 +43,7 @@ Answers view o (Ok program) = o ≡ Accepted (view program)
 Answers view o (Err stop.Memory) = Unit {0}
 Answers view o (Err (stop.Refused refusal)) = o ≡ Refused refusal
 
--- The source is accepted.
+-- The outcome is that the source is accepted.
 pub record Accepts (o : Outcome) : Type 0 where
   pub checked : Checked
   pub is : o ≡ Accepted checked

@@ -15,21 +15,23 @@ use Rattle.typed_tree.specs.Programs.{Checked}
 use Rattle.typed_tree.specs.Programs.{checked_of}
 use Rattle.typed_tree.specs.Objects.{is_shared}
 
--- Which objects are of a sort.
+-- Whether an object of the file is of a sort: private, or shared.
 abbrev pub view_sort : Sort → Home → Bool
 view_sort s.Private home = is_private home
 view_sort s.Shared home = is_shared home
 
+-- The limit that is passed, or none, that the code holds.
 abbrev pub view_passed : Option p.Passed → Option Passed
 view_passed None = None
 view_passed (Some x) = Some (record { limit = x.limit; at = x.place })
 
+-- What a source declares and defines, with types, as the code holds it.
 abbrev pub view_checked : c.Checked → Checked
 view_checked x =
     checked_of x.threads (view_structs x.structs) (map view_object x.objects.items) (map view_function
     x.functions.items)
 
--- The answer where these limits are passed, or none.
+-- The answer of the code where this limit is passed, or none.
 abbrev pub KeepsLimits : Option Passed → Result (Unit {0}) Stop → Type 0
 KeepsLimits None (Ok u) = Unit {0}
 KeepsLimits None (Err e) = ⊥

@@ -5,12 +5,12 @@ use Rattle.upc_lexer.specs.declared.lexemes.Found.TheVariants.{Name, Token}
 use Rattle.upc_lexer.specs.Gaps.{opens_comment, NoGap}
 use Rattle.upc_lexer.specs.Tokens.{IsLexeme, IsPlainName, Spells}
 
--- neither a blank nor a comment is at the front
+-- Neither a blank nor a comment is at the front of the bytes (C99 6.4, 6.4.9).
 pub record IsGapless (bytes : List ℕ) : Type 0 where
   pub no_comment : opens_comment bytes ≡ false
   pub no_gap : NoGap bytes
 
--- a token is at the front, and it is this one
+-- A token is at the front of the bytes, and it is the one that the code has found (C99 6.4).
 abbrev pub Finds : List ℕ → Found → Type 0
 Finds bytes (Name n) = (n ≤ length bytes) × IsLexeme (take n bytes) (drop n bytes) × IsPlainName (take n bytes)
     × (n ≤ 255)

@@ -11,36 +11,38 @@ abbrev pub StopsAt : (ℕ → Bool) → List ℕ → Type 0
 StopsAt p [] = Unit {0}
 StopsAt p (b ∷ bs) = p b ≡ false
 
--- `*/` stands somewhere in the bytes.
+-- The mark `*/` stands somewhere in the bytes (C99 6.4.9).
 pub record Closes (bytes : List ℕ) : Type 0 where
   pub before : List ℕ
   pub after : List ℕ
   pub found : bytes ≡ before ++ codes "*/" ++ after
 
--- One blank; a comment from `//` to the end of its line; or one from `/*` to the first `*/`.
+-- The text is one blank, a comment from `//` to the end of its line, or one from `/*` to the first `*/` (C99 6.4,
+-- 6.4.9).
 pub data IsGap (text rest : List ℕ) : Type 0 where
   blank : (b : ℕ) → text ≡ b ∷ [] → is_blank b ≡ true → IsGap text rest
   line : (body : List ℕ) → text ≡ codes "//" ++ body → list_all is_in_line body ≡ true → StopsAt is_in_line rest
       → IsGap text rest
   block : (body : List ℕ) → text ≡ codes "/*" ++ body ++ codes "*/" → (Closes (body ++ codes "*") → ⊥) → IsGap text rest
 
--- A comment begins here.
+-- Whether a comment begins at the front of the bytes (C99 6.4.9).
 abbrev pub opens_comment : List ℕ → Bool
 opens_comment [] = false
 opens_comment (a ∷ []) = false
 opens_comment (a ∷ b ∷ rest) = a == 47 && (b == 47 || b == 42)
 
--- No blank and no whole comment begins here.
+-- No blank and no whole comment is at the front of the bytes (C99 6.4, 6.4.9).
 abbrev pub NoGap : List ℕ → Type 0
 NoGap bytes = (text rest : List ℕ) → bytes ≡ text ++ rest → IsGap text rest → ⊥
 
--- What the code finds at the front of the bytes.
+-- What the code finds at the front of the bytes: a blank or a comment of so many bytes, a comment that is not closed,
+-- or neither (C99 6.4, 6.4.9).
 abbrev pub FindsGap : List ℕ → Gap → Type 0
 FindsGap bytes (Taken n) = (0 < n) × (n ≤ length bytes) × IsGap (take n bytes) (drop n bytes)
 FindsGap bytes Unclosed = (opens_comment bytes ≡ true) × NoGap bytes
 FindsGap bytes Absent = (opens_comment bytes ≡ false) × NoGap bytes
 
--- The bytes are the rest of a comment, up to the first `*/`.
+-- The bytes are the rest of a comment, up to the first `*/` (C99 6.4.9).
 pub record IsCommentEnd (bytes : List ℕ) : Type 0 where
   pub body : List ℕ
   pub ended : bytes ≡ body ++ codes "*/"

@@ -11,6 +11,7 @@ use Rattle.upc_lexer.specs.declared.token.Punct.TheVariants.{PercentEqual, PlusE
 use Rattle.upc_lexer.specs.declared.token.Punct.TheVariants.{ShiftRightEqual, AmpersandEqual, CaretEqual, BarEqual}
 use Rattle.upc_lexer.specs.declared.token.Punct.TheVariants.{Comma, Hash, HashHash}
 
+-- The bytes of each mark (C99 6.4.6).
 abbrev pub mark_bytes : Punct → List ℕ
 mark_bytes LBracket = codes "["
 mark_bytes RBracket = codes "]"

@@ -3,10 +3,11 @@ use Rattle.std.specs.Prelude.{ℕ, Bool, not, List, [], ◌∷◌, ◌++◌, fil
 use Rattle.std.specs.List.{list_any}
 use Rattle.std.specs.Cmp.Lexicographic.{pointwise}
 
+-- Whether two names have the same bytes.
 abbrev pub is_same : List ℕ → List ℕ → Bool
 is_same a b = pointwise nat_eq a b
 
--- Each of them once, in order of first appearance.
+-- Some names, each once, in order of first appearance.
 abbrev pub firsts : List (List ℕ) → List (List ℕ)
 firsts [] = []
 firsts (x ∷ xs) = x ∷ filter (λ y. not (is_same x y)) (firsts xs)

@@ -4,8 +4,8 @@ use Rattle.std.specs.List.{suffix_len}
 use Rattle.upc_text.specs.declared.place.Place.{Place}
 use Rattle.upc_lexer.specs.Bytes.{is_in_line}
 
--- The place behind these bytes of a source: one line more for each line end, and one column more for each byte since
--- the last.
+-- The place after these bytes of a source: one line more for each line end, and one column more for each byte since the
+-- last.
 abbrev pub place_after : List ℕ → Place
 place_after front = record {
   line = 1 + count_by (λ b. b == 10) front;

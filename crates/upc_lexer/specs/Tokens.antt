@@ -19,23 +19,23 @@ use Rattle.upc_lexer.specs.Strings.{IsCharacter, IsString}
 use Rattle.upc_lexer.specs.Places.{place_after}
 use Rattle.upc_lexer.specs.Names.{firsts}
 
--- A letter or `_`, then letters, digits and `_` (C99 6.4.2.1); words too.
+-- Whether a text is a letter or `_`, then letters, digits and `_`, as names and words are (C99 6.4.2.1).
 abbrev pub is_name : List ℕ → Bool
 is_name [] = false
 is_name (b ∷ bs) = is_letter b && list_all is_name_byte bs
 
--- A digit, or `.` and a digit.
+-- Whether bytes begin as numbers do: with a digit, or with `.` and a digit (C99 6.4.8).
 abbrev pub begins_number : List ℕ → Bool
 begins_number [] = false
 begins_number (a ∷ []) = is_digit a
 begins_number (a ∷ b ∷ rest) = is_digit a || (a == 46 && is_digit b)
 
--- Such a beginning, then digits, letters, `_` and `.` (C99 6.4.8, without signs); whether it is a constant is asked
--- later.
+-- Whether a text begins as numbers do and goes on with digits, letters, `_` and `.`, be it a constant or not
+-- (C99 6.4.8, without signs).
 abbrev pub is_number : List ℕ → Bool
 is_number text = begins_number text && list_all is_number_byte text
 
--- The text is a token.
+-- The text is a token: a name or a word, a number, a character, a string, or a mark (C99 6.4).
 pub data IsToken (text : List ℕ) : Type 0 where
   name : is_name text ≡ true → IsToken text
   number : is_number text ≡ true → IsToken text
@@ -43,22 +43,23 @@ pub data IsToken (text : List ℕ) : Type 0 where
   string : (value : List ℕ) → IsString text value → IsToken text
   mark : (m : AMark) → text ≡ mark_bytes m → IsToken text
 
--- It is one, and no longer front of the same bytes is one.
+-- The text is a token, and no longer front of the same bytes is one (C99 6.4).
 pub record IsLongest (text rest : List ℕ) : Type 0 where
   pub spelled : IsToken text
   pub most : (more after : List ℕ) → rest ≡ more ++ after → 0 < length more → IsToken (text ++ more) → ⊥
 
--- The token at the front of these bytes: the longest there, where no comment begins.
+-- The text is the token at the front of bytes: the longest there, where no comment begins (C99 6.4).
 pub record IsLexeme (text rest : List ℕ) : Type 0 where
   pub no_comment : opens_comment (text ++ rest) ≡ false
   pub longest : IsLongest text rest
 
--- The text is a name and no word.
+-- The text is a name and no word (C99 6.4.1, 6.4.2.1).
 pub record IsPlainName (text : List ℕ) : Type 0 where
   pub is_spelled : is_name text ≡ true
   pub no_word : (w : AWord) → text ≡ word_bytes w → ⊥
 
--- What the kind carries is what the text spells; a name by its number among the names.
+-- The text spells a token of this kind: a name by its number among the names, with at most 255 bytes, and a string with
+-- at most 4,095 bytes of value (C99 6.4, 5.2.4.1).
 abbrev pub Spells : List (List ℕ) → TokenKind → List ℕ → Type 0
 Spells names (Name n) text = IsPlainName text × (length text ≤ 255) × (slice_get names n ≡ Some text)
 Spells names (Word w) text = text ≡ word_bytes w
@@ -68,27 +69,28 @@ Spells names (Str value) text = IsString text value × (length value ≤ 4095)
 Spells names (Punct m) text = text ≡ mark_bytes m
 Spells names (Pragma strict) text = ⊥
 
--- A source is made of blanks and comments, and of tokens.
+-- A piece of a source: a blank or a comment, or a token with its kind (C99 6.4).
 pub data Piece : Type 0 where
   gap : List ℕ → Piece
   lexeme : List ℕ → TokenKind → Piece
 
+-- The bytes of a piece of a source.
 abbrev pub text_of : Piece → List ℕ
 text_of (gap text) = text
 text_of (lexeme text kind) = text
 
--- The bytes of the pieces, one behind the other.
+-- The bytes of the pieces, one after the other.
 abbrev pub joined : List Piece → List ℕ
 joined [] = []
 joined (p ∷ ps) = text_of p ++ joined ps
 
--- The names among the pieces.
+-- The names among the pieces, each as often as it stands there.
 abbrev pub names_in : List Piece → List (List ℕ)
 names_in [] = []
 names_in (lexeme text (Name n) ∷ ps) = text ∷ names_in ps
 names_in (p ∷ ps) = names_in ps
 
--- A token that begins behind these bytes.
+-- The token of this text and kind that begins after these bytes of a source.
 abbrev pub token_at : List ℕ → List ℕ → TokenKind → Token
 token_at front text kind = record {
   kind = kind;
@@ -97,23 +99,23 @@ token_at front text kind = record {
   place = place_after front;
 }
 
--- The tokens of the pieces, which begin behind these bytes.
+-- The tokens of the pieces, which begin after these bytes of a source.
 abbrev pub tokens_in : List ℕ → List Piece → List Token
 tokens_in front [] = []
 tokens_in front (gap text ∷ ps) = tokens_in (front ++ text) ps
 tokens_in front (lexeme text kind ∷ ps) = token_at front text kind ∷ tokens_in (front ++ text) ps
 
--- With these bytes behind it the piece is what stands at its place.
+-- A piece is what stands at its place where these bytes follow it: a blank, a comment, or the longest token (C99 6.4).
 abbrev pub IsPiece : List (List ℕ) → Piece → List ℕ → Type 0
 IsPiece names (gap text) rest = IsGap text rest
 IsPiece names (lexeme text kind) rest = IsLexeme text rest × Spells names kind text
 
--- So is each of the pieces, with these bytes behind them.
+-- Each of the pieces is what stands at its place, where these bytes follow the last of them (C99 6.4).
 abbrev pub Cuts : List (List ℕ) → List Piece → List ℕ → Type 0
 Cuts names [] rest = Unit {0}
 Cuts names (p ∷ ps) rest = IsPiece names p (joined ps ++ rest) × Cuts names ps rest
 
--- The source is cut into pieces with these tokens and these names.
+-- The source is cut into pieces with these tokens and these names (C99 6.4).
 pub record AreTokensOf (source : List ℕ) (tokens : List Token) (names : List (List ℕ)) : Type 0 where
   pub pieces : List Piece
   pub source_is : joined pieces ≡ source
@@ -121,12 +123,12 @@ pub record AreTokensOf (source : List ℕ) (tokens : List Token) (names : List (
   pub tokens_are : tokens ≡ tokens_in [] pieces
   pub names_are : names ≡ firsts (names_in pieces)
 
--- No token is at the front of the bytes.
+-- No token is at the front of the bytes (C99 6.4).
 abbrev pub NoLexeme : List ℕ → Type 0
 NoLexeme bytes = (text rest : List ℕ) → bytes ≡ text ++ rest → IsLexeme text rest → ⊥
 
--- Why nothing goes on at these bytes: no token, blank or comment begins, a number is no constant or has no type,
--- a name has more than 255 bytes, or the value of a string more than 4,095.
+-- Why a source is refused at these bytes: no token, blank or comment begins there, a number is no constant or has no
+-- type, a name has more than 255 bytes, or the value of a string more than 4,095 (C99 6.4, 5.2.4.1).
 pub data Refuses (bytes : List ℕ) (code : Code) : Type 0 where
   nothing : code ≡ Lex → bytes ≢ [] → NoGap bytes → NoLexeme bytes → Refuses bytes code
   no_constant : (text rest : List ℕ) → code ≡ Lex → bytes ≡ text ++ rest → IsLexeme text rest → is_number text ≡ true
@@ -138,7 +140,7 @@ pub data Refuses (bytes : List ℕ) (code : Code) : Type 0 where
   long_string : (text rest value : List ℕ) → code ≡ Limit 6 → bytes ≡ text ++ rest → IsLexeme text rest
       → IsString text value → 4095 < length value → Refuses bytes code
 
--- The front of the source is cut into pieces, and behind it the source is refused.
+-- The front of the source is cut into pieces, and after it the source is refused (C99 6.4, 5.2.4.1).
 pub record RefusedAt (source : List ℕ) (refusal : Refusal) : Type 0 where
   pub names : List (List ℕ)
   pub pieces : List Piece

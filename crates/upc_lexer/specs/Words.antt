@@ -1,4 +1,4 @@
--- How each word is spelled (C99 6.4.1; UPC 6.1), and the type words.
+-- How each word is spelled (C99 6.4.1; UPC 6.2), and the type words.
 use Rattle.std.specs.Prelude.{ℕ, List, codes}
 use Rattle.upc_lexer.specs.declared.token.Word.{Word}
 use Rattle.upc_lexer.specs.declared.token.Word.TheVariants.{Break, Case, Char, Const, Continue, Default, Do, Else}
@@ -11,6 +11,7 @@ use Rattle.upc_lexer.specs.declared.token.Word.TheVariants.{UpcLockT, UpcOpT, Up
 use Rattle.upc_lexer.specs.declared.token.Word.TheVariants.{Float, Goto, Inline, Register, Restrict, Typedef, Union}
 use Rattle.upc_lexer.specs.declared.token.Word.TheVariants.{Volatile, Bool, Complex, Imaginary}
 
+-- The bytes of each word: those of C99 and UPC, and the names of types of the library (C99 6.4.1, 7.17; UPC 6.2, 7).
 abbrev pub word_bytes : Word → List ℕ
 word_bytes Break = codes "break"
 word_bytes Case = codes "case"

@@ -1,4 +1,4 @@
--- Directives (C99 6.10, without conditions and macros with parameters; UPC 6.1.1, 7.1).
+-- Directives (C99 6.10, without conditions and macros with parameters; UPC 6.7, 7.1).
 use Rattle.std.specs.Prelude.{ℕ, Bool, true, false, ◌||◌, ◌&&◌, ◌==◌, List, [], ◌∷◌, Option, Some, None, option_map}
 use Rattle.std.specs.Prelude.{slice_index_or, codes, if◌then◌else◌, nat_eq}
 use Rattle.std.specs.Cmp.Lexicographic.{pointwise}
@@ -9,17 +9,17 @@ use Rattle.upc_lexer.specs.declared.token.Punct.TheVariants.{LParen}
 use Rattle.upc_macros.specs.Spelling.{between, is_spelled, are_alike, last_end}
 use Rattle.upc_macros.specs.Replacing.{Macros, name_number}
 
--- What a directive does.
+-- What a directive does (C99 6.10; UPC 6.7, 7.1).
 pub data Effect : Type 0 where
   nothing : Effect
-  -- it is a pragma, strict or relaxed
+  -- It is a pragma, strict or relaxed.
   pragma : Bool → Effect
-  -- the name of this number becomes a macro for these tokens
+  -- The name of this number becomes a macro for these tokens.
   define : ℕ → List Token → Effect
-  -- the name of this number is no macro any more
+  -- The name of this number is no macro any more.
   undefine : ℕ → Effect
 
--- The headers that may be included.
+-- What an `#include` of a header does; it is no directive where the header is not accepted (C99 6.10.2, UPC 7.1).
 abbrev pub header_effect : List ℕ → Option Effect
 header_effect text =
     if pointwise nat_eq text (codes "<upc_strict.h>") then Some (pragma true) else (
@@ -28,34 +28,37 @@ header_effect text =
     || pointwise nat_eq text (codes "<stdio.h>") || pointwise nat_eq text (codes "<stddef.h>")
     then Some nothing else None))
 
--- `#include <H>`: all that stands behind `include`, from its first byte to its last, is the header.
+-- What `#include` does, where all that stands after it, from the first byte to the last, is the header (C99 6.10.2).
 abbrev pub include_effect : List ℕ → List Token → Option Effect
 include_effect source [] = None
 include_effect source (t ∷ ts) = header_effect (between source t.start (last_end t ts))
 
--- The name that a directive speaks of: no word, and not `NULL`.
+-- The number of the name that `#define` or `#undef` is given; none where the token is `NULL` or no name (C99 6.10.3).
 abbrev pub macro_name : List ℕ → Token → Option ℕ
 macro_name source t = if is_spelled source t (codes "NULL") then None else name_number t.kind
 
+-- Whether a token is `(` (C99 6.4.6).
 abbrev pub is_left_paren : TokenKind → Bool
 is_left_paren (Punct LParen) = true
 is_left_paren kind = false
 
--- A `(` directly behind the name would be the beginning of parameters.
+-- Whether a `(` stands directly after the name of a macro, where its parameters would begin (C99 6.10.3).
 abbrev pub has_parameters : Token → List Token → Bool
 has_parameters name [] = false
 has_parameters name (t ∷ ts) = is_left_paren t.kind && t.start == name.end
 
--- A first definition, or one whose tokens are spelled as those of the macro that is there.
+-- What a definition of a name does: a first one makes the name a macro, one more with tokens that are spelled alike
+-- does nothing, and any other is no directive (C99 6.10.3).
 abbrev pub define_name : List ℕ → Option (List Token) → ℕ → List Token → Option Effect
 define_name source None n body = Some (define n body)
 define_name source (Some old) n body = if are_alike source old body then Some nothing else None
 
+-- What a definition of a name does, by the number of the name; without one it is no directive (C99 6.10.3).
 abbrev pub define_number : List ℕ → Macros → Option ℕ → List Token → Option Effect
 define_number source macros None body = None
 define_number source macros (Some n) body = define_name source (slice_index_or macros n None) n body
 
--- `#define NAME tokens`.
+-- What `#define NAME tokens` does; without a name, or with parameters, it is no directive (C99 6.10.3).
 abbrev pub define_effect : List ℕ → Macros → List Token → Option Effect
 define_effect source macros [] = None
 define_effect source macros (name ∷ body) =
@@ -63,13 +66,14 @@ define_effect source macros (name ∷ body) =
     then None
     else define_number source macros (macro_name source name) body
 
--- `#undef NAME`.
+-- What `#undef NAME` does; without a name, or with more tokens, it is no directive (C99 6.10.3.5).
 abbrev pub undefine_effect : List ℕ → List Token → Option Effect
 undefine_effect source [] = None
 undefine_effect source (name ∷ []) = option_map undefine (macro_name source name)
 undefine_effect source (name ∷ t ∷ ts) = None
 
--- What stands behind `#pragma upc`.
+-- What `#pragma upc` does by the tokens after it, of which only `strict` alone and `relaxed` alone make a directive
+-- (UPC 6.7).
 abbrev pub access_effect : List ℕ → List Token → Option Effect
 access_effect source [] = None
 access_effect source (t ∷ []) =
@@ -78,12 +82,13 @@ access_effect source (t ∷ []) =
     else (if is_spelled source t (codes "relaxed") then Some (pragma false) else None)
 access_effect source (t ∷ u ∷ us) = None
 
--- `#pragma upc strict`, `#pragma upc relaxed`, or a pragma that is not of UPC.
+-- What `#pragma` does by the tokens after it: one that is not of UPC does nothing, and one without tokens is no
+-- directive (C99 6.10.6, UPC 6.7).
 abbrev pub pragma_effect : List ℕ → List Token → Option Effect
 pragma_effect source [] = None
 pragma_effect source (t ∷ ts) = if is_spelled source t (codes "upc") then access_effect source ts else Some nothing
 
--- What the tokens behind a `#` do; none where they are no directive.
+-- What the tokens after a `#` do; none where they are no directive (C99 6.10; UPC 6.7, 7.1).
 abbrev pub effect_of : List ℕ → Macros → List Token → Option Effect
 effect_of source macros [] = Some nothing
 effect_of source macros (t ∷ ts) =

@@ -10,20 +10,21 @@ use Rattle.upc_macros.specs.Spelling.{is_spelled}
 use Rattle.upc_macros.specs.Directives.{Effect, nothing, pragma, define, undefine}
 use Rattle.upc_macros.specs.Table.{body_tokens, IsBody}
 
+-- What a directive does as the code holds it, with the tokens of a macro from those of the source.
 abbrev pub effect_seen : List Token → Change → Effect
 effect_seen tokens Nothing = nothing
 effect_seen tokens (Pragma strict) = pragma strict
 effect_seen tokens (Define n b) = define n (body_tokens tokens b)
 effect_seen tokens (Undefine n) = undefine n
 
--- it speaks of a name of the source, and of tokens of it
+-- What a directive does as the code holds it names a name of the source, and tokens of it.
 abbrev pub IsChange : List Token → ℕ → Change → Type 0
 IsChange tokens names Nothing = Unit {0}
 IsChange tokens names (Pragma strict) = Unit {0}
 IsChange tokens names (Define n b) = (n < names) × IsBody tokens b
 IsChange tokens names (Undefine n) = n < names
 
--- the word that a directive begins with
+-- The word with which a directive begins is this one, or is none of those that the profile has (C99 6.10).
 abbrev pub IsKeyword : List ℕ → Token → Keyword → Type 0
 IsKeyword source t Include = is_spelled source t (codes "include") ≡ true
 IsKeyword source t key.Define = (is_spelled source t (codes "include") ≡ false)

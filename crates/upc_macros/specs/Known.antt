@@ -14,29 +14,29 @@ use Rattle.upc_macros.specs.Replacing.{Macros, replaced}
 use Rattle.upc_macros.specs.Table.{seen, body_tokens}
 use Rattle.upc_macros.specs.Walk.{placed_items, put_back, pending}
 
--- It is no macro, or each token that it stands for has the property.
+-- A name is no macro, or each token that its macro stands for has the property.
 abbrev pub FreeBody : Option (List Token) → (Token → Type 0) → Type 0
 FreeBody None free = Unit {0}
 FreeBody (Some body) free = All free body
 
--- It is no macro, or one all of whose tokens are such in turn, within so many levels. Here no macro is hidden in its
--- own replacement, since such a macro never meets itself.
+-- A token is free within so many levels: it is no macro, or each token that it stands for is free within one level
+-- less. Here no macro is hidden in its own replacement, since such a macro never meets itself.
 abbrev pub IsFree : ℕ → Macros → TokenKind → Type 0
 IsFree zero macros kind = ⊥
 IsFree (suc depth) macros (Name n) = FreeBody (slice_index_or macros n None) (λ t. IsFree depth macros t.kind)
 IsFree (suc depth) macros kind = Unit {0}
 
--- A gift of that time.
+-- What a macro is known to give, if that was learnt after the last directive that changed a macro; else none.
 abbrev pub current : Option Gift → ℕ → Option Gift
 current None since = None
 current (Some gift) since = if gift.since == since then Some gift else None
 
--- What is known that the token gives.
+-- What a token that is a macro is known to give; none where nothing is known of it.
 abbrev pub gift_of : Known → TokenKind → Option Gift
 gift_of k (Name n) = current (slice_index_or k.gifts.items n None) k.since
 gift_of k kind = None
 
--- The token is said to be a macro.
+-- Whether a token is recorded as a macro.
 abbrev pub is_defined : Known → TokenKind → Bool
 is_defined k (Name n) = slice_index_or k.defined.items n false
 is_defined k kind = false
@@ -49,7 +49,8 @@ pub record IsGift (source : List ℕ) (tokens : List Token) (table : List (Optio
   pub gives : (t : Token) (place : Place) → t.kind ≡ Name n → placed_items place (take gift.count (drop gift.from out))
       ≡ placed_items place (replaced (length table) source (seen tokens table) t)
 
--- What is known of each macro is so, none was learnt later than now, and a name that is said to be none is none.
+-- What is known of each macro is true and was learnt no later than now, and a name that is not recorded as a macro is
+-- none.
 pub record AreKnown (source : List ℕ) (tokens : List Token) (table : List (Option Body)) (out : List Token) (k : Known)
     : Type 0 where
   pub size : length k.gifts.items ≡ length table
@@ -60,15 +61,15 @@ pub record AreKnown (source : List ℕ) (tokens : List Token) (table : List (Opt
   pub defined : (n : ℕ) → slice_index_or k.defined.items n false ≡ false
       → slice_index_or (seen tokens table) n None ≡ None
 
--- Where the one is such a token, the other is one within a level less.
+-- Where the first token is free within some levels and one more, the second is free within those levels.
 abbrev pub Leads : Macros → TokenKind → TokenKind → Type 0
 Leads macros from to = (depth : ℕ) → IsFree (suc depth) macros from → IsFree depth macros to
 
--- The tokens of a macro that were walked.
+-- The tokens of a macro that the walk has passed.
 abbrev pub front_of : List Token → Frame → List Token
 front_of tokens f = take (f.next - f.body.begin) (drop f.body.begin tokens)
 
--- Those met no macro that was being replaced.
+-- The tokens of a macro that the walk has passed have met no macro that was being replaced.
 abbrev pub IsFreeSoFar : List Token → List (Option Body) → Frame → Type 0
 IsFreeSoFar tokens whole f = (depth : ℕ) × All (λ t. IsFree depth (seen tokens whole) t.kind) (front_of tokens f)
 
@@ -104,7 +105,8 @@ pub record IsListening (tokens : List Token) (whole table : List (Option Body)) 
   pub outer : AreOuter tokens whole out bound f.name f.before fs
   pub within : (n : ℕ) (b : Body) → slice_get table n ≡ Some (Some b) → slice_get whole n ≡ Some (Some b)
 
--- When the macro was entered, the walk had put out what it gave by then, and had the tokens of the macro before it.
+-- When the macro was entered, the walk had put out the first tokens of the whole, and still had to put out what this
+-- macro gives and then the rest of the macros around it.
 pub record IsBegun (source : List ℕ) (tokens whole : List Token) (first depth : ℕ) (table : List (Option Body))
     (f : Frame) (fs : List Frame) : Type 0 where
   pub head : List Token
@@ -112,7 +114,7 @@ pub record IsBegun (source : List ℕ) (tokens whole : List Token) (first depth 
   pub whole_is : whole ≡ head ++ (flat_map (replaced depth source (seen tokens table)) (body_tokens tokens f.body)
       ++ pending source tokens (suc depth) (put_back table f) fs)
 
--- So it was with each of these macros.
+-- Each of these macros, the innermost first, was entered as `IsBegun` says.
 abbrev pub AreBegun : List ℕ → List Token → List Token → ℕ → ℕ → List (Option Body) → List Frame → Type 0
 AreBegun source tokens whole first depth table [] = Unit {0}
 AreBegun source tokens whole first depth table (f ∷ fs) = IsBegun source tokens whole first depth table f fs

@@ -9,39 +9,44 @@ use Rattle.upc_macros.specs.Replacing.{placed, replaced}
 use Rattle.upc_macros.specs.Expansion.{Item, given, first_refusal}
 use Rattle.upc_macros.specs.Table.{seen, IsBody, AreBodies, macro_count}
 
--- tokens as items of the expansion at a place
+-- Tokens as items of the expansion at a place.
 abbrev pub placed_items : Place → List Token → List Item
 placed_items place ts = map (λ t. given (placed place t)) ts
 
--- the tokens of a macro that are still to be replaced
+-- The tokens of a macro that are still to be replaced.
 abbrev pub rest_of : List Token → Frame → List Token
 rest_of tokens f = take (f.body.end - f.next) (drop f.next tokens)
 
--- the table with a macro that was taken out of it
+-- The table with a macro that was taken out of it.
 abbrev pub put_back : List (Option Body) → Frame → List (Option Body)
 put_back table f = slice_set table f.name (Some f.body)
 
--- what is still to be put out: the rest of the innermost macro, without those that it lies in, and then of those
+-- What is still to be put out: the rest of the innermost macro, replaced without the macros around it, and then the
+-- rest of those.
 abbrev pub pending : List ℕ → List Token → ℕ → List (Option Body) → List Frame → List Token
 pending source tokens depth table [] = []
 pending source tokens depth table (f ∷ fs) = flat_map (replaced depth source (seen tokens table)) (rest_of tokens f)
     ++ pending source tokens (suc depth) (put_back table f) fs
 
--- the table with all of them
+-- The table with all macros that were taken out of it.
 abbrev pub all_back : List (Option Body) → List Frame → List (Option Body)
 all_back table [] = table
 all_back table (f ∷ fs) = all_back (put_back table f) fs
 
+-- A macro that is being replaced has the number of a name, and its next token is one of its own, or it has none left.
 pub record IsFrame (tokens : List Token) (names : ℕ) (f : Frame) : Type 0 where
   pub numbered : f.name < names
   pub forward : f.next ≤ f.body.end
   pub body : IsBody tokens f.body
 
+-- Each of these macros that are being replaced has the number of a name, and its next token is one of its own, or it
+-- has none left.
 abbrev pub AreFrames : List Token → ℕ → List Frame → Type 0
 AreFrames tokens names [] = Unit {0}
 AreFrames tokens names (f ∷ fs) = IsFrame tokens names f × AreFrames tokens names fs
 
--- a walk that began with these macros and put out so much has still this to do
+-- A walk through macros that stand inside one another: what it gives in all is what it has put out and what is still to
+-- be put out.
 pub record IsWalk (source : List ℕ) (tokens : List Token) (place : Place) (first : List Token) (whole : List Token)
     (old : List (Option Body)) (table : List (Option Body)) (frames : List Frame) (out : List Token) : Type 0 where
   pub done : List Token

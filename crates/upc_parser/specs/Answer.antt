@@ -15,7 +15,7 @@ use Rattle.token_reader.specs.declared.cursor.Fault.TheVariants.{NoTree, TooHigh
 use Rattle.token_reader.specs.Outcome.{Outcome}
 use Rattle.statement_parser.specs.Parse.{unit_at}
 
--- Fewer tokens than the limit are never too high.
+-- Why there is no tree, where no tree of fewer than 256 tokens is too high.
 abbrev pub settled_fault : ℕ → Fault → Fault
 settled_fault len NoTree = NoTree
 settled_fault len TooHigh = if nat_lt len 256 then NoTree else TooHigh
@@ -26,9 +26,11 @@ settle len (Ok (u, [])) = Ok u
 settle len (Ok (u, x ∷ rest)) = Err NoTree
 settle len (Err f) = Err (settled_fault len f)
 
+-- The tree of a whole source of at most 256 levels that the parser finds, or why it finds none (C99 6.9).
 unfoldable pub answer : List Token → Result (List External) Fault
 answer tokens = settle (length tokens) (unit_at height_limit tokens)
 
+-- The code of a refusal: syntax where no tree has the tokens, and limit 3 where each such tree is too high.
 abbrev pub code_of : Fault → Code
 code_of NoTree = c.Syntax
 code_of TooHigh = c.Limit 3
@@ -43,12 +45,12 @@ abbrev pub HasPlace : List Token → Place → Type 0
 HasPlace [] place = place ≡ record { line = 1; column = 1 }
 HasPlace (x ∷ more) place = Among (x ∷ more) place
 
--- A refusal for this cause.
+-- A refusal of these tokens for this cause has its code, and the place of a token, or 1:1 where there is none.
 pub record IsRefusal (tokens : List Token) (fault : Fault) (r : Refusal) : Type 0 where
   pub code : r.code ≡ code_of fault
   pub place : HasPlace tokens r.place
 
--- The parser's end by what it answers, unless memory runs out.
+-- The parser ends with this outcome: with its tree, or with a refusal for its cause, unless memory runs out.
 abbrev pub Ends : List Token → Result u.Unit Stop → Result (List External) Fault → Type 0
 Ends tokens (Ok x) o = o ≡ Ok (view_unit x)
 Ends tokens (Err s.Memory) o = Unit {0}
@@ -62,13 +64,13 @@ Answers u (Ok x) = view_unit x ≡ u
 Answers u (Err s.Memory) = Unit {0}
 Answers u (Err (s.Refused r)) = ⊥
 
--- The tokens are refused by this rule.
+-- The tokens are refused with this code.
 abbrev pub RefusedBy : Code → Result u.Unit Stop → Type 0
 RefusedBy code (Ok x) = ⊥
 RefusedBy code (Err s.Memory) = ⊥
 RefusedBy code (Err (s.Refused r)) = r.code ≡ code
 
--- A refusal is that of the syntax or that of the height, at a token, or at 1:1 where there is none.
+-- A refusal is one of the syntax or of the height, at the place of a token, or at 1:1 where there is none.
 abbrev pub OnlyRefused : List Token → Result u.Unit Stop → Type 0
 OnlyRefused tokens (Ok x) = Unit {0}
 OnlyRefused tokens (Err s.Memory) = Unit {0}

@@ -17,7 +17,7 @@ use Rattle.run_output.specs.Output.{output, status_of}
 use Rattle.upc_top.specs.Verdicts.{Reading, Caused, text_of, line_of, status_for, refusal_of, journal_of}
 use Rattle.upc_top.specs.Verdicts.{without_memory, orders_in, IsSample}
 
--- What a sink has taken, where it tells it, and its count of faults, before and after.
+-- What a sink has taken, where that is known, and its count of faults, before and after.
 pub record Writing : Type 0 where
   pub taken_before : Option (List ℕ)
   pub taken_after : Option (List ℕ)
@@ -75,14 +75,14 @@ abbrev pub RefusesOtherWords : List (List ℕ) → Done → Type 0
 RefusesOtherWords words done =
     ((a : Asked) → Asks words a → ⊥) → (done.status ≡ 100) ⊎ (done.status ≡ 103) ⊎ (done.status ≡ 104)
 
--- A file that is read, is told and has more bytes than a source may have is not run, and not refused for what it holds:
--- the answer is that it is too long, a failed read, a failed write or want of memory.
+-- A file that is read, whose bytes are known and more than a source may have, is not run, and not refused for what it
+-- holds: the answer is that it is too long, a failed read, a failed write or want of memory.
 abbrev pub RefusesLongFiles : List (List ℕ) → Reading → Done → Type 0
 RefusesLongFiles words reading done =
     (a : Asked) (bytes : List ℕ) → Asks words a → (a.mode ≡ Sample → ⊥) → reading.told a.file ≡ Some bytes
     → 1048576 < length bytes → (done.status ≡ 110) ⊎ (done.status ≡ 102) ⊎ (done.status ≡ 103) ⊎ (done.status ≡ 104)
 
--- The file is told and no longer than a source may be, and no read of it failed.
+-- The file's bytes are known and no more than a source may have, and no read of it failed.
 pub record IsToldWhole (reading : Reading) (file bytes : List ℕ) : Type 0 where
   pub told : reading.told file ≡ Some bytes
   pub short : length bytes ≤ 1048576
@@ -129,8 +129,8 @@ pub record HasWritten (out : Writing) (done : Done) (text : List ℕ) : Type 0 w
   pub status : done.status ≡ 0
   pub gained : Gained out text
 
--- What bytes come to in each mode, or memory was wanting: a program that runs today is run, or run and recorded, unless
--- its run is too long for a text; an accepted source is passed, or laid out.
+-- What is done with bytes in each mode, or memory was wanting: a program that runs today is run, or run and recorded,
+-- unless its run is too long for a text; an accepted source is passed, or laid out.
 abbrev pub IsDone : Mode → ℕ → List ℕ → Writing → Done → Type 0
 IsDone Run threads bytes out done =
     (checked : Checked) → IsRunnable threads bytes checked → HasRun out done ⊎ (done.status ≡ 104)
@@ -145,7 +145,8 @@ IsDone Layout threads bytes out done =
     (checked : Checked) → IsAccepted threads bytes checked
     → HasWritten out done (layout checked) ⊎ (done.status ≡ 104)
 
--- Where the words were taken, their source is there and nothing failed, an accepted source comes to what its mode says.
+-- Where the words were taken, their source is there and nothing failed, what its mode says is done with an accepted
+-- source.
 abbrev pub IsComplete : List (List ℕ) → Reading → Writing → Writing → Done → Type 0
 IsComplete words reading out err done =
     (a : Asked) (bytes : List ℕ) → Succeeds words reading out err a bytes → IsDone a.mode a.threads bytes out done

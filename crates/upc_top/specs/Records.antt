@@ -1,4 +1,4 @@
--- What a run comes to whose record was asked for.
+-- The verdict on a run, with its record where that was asked for.
 use Rattle.std.specs.Prelude.{◌≡◌, false, Some}
 use Rattle.command_words.specs.declared.call.Mode.{Mode}
 use Rattle.command_words.specs.declared.call.Mode.TheVariants.{Record}
@@ -15,7 +15,7 @@ IsRecordOf j (Overlong k) = (k ≡ j) × (is_short j ≡ false)
 IsRecordOf j (NoMemory (Some k)) = k ≡ j
 IsRecordOf j v = ⊥
 
--- What a run comes to in a mode: its record in mode `record`, in every other mode what it prints.
+-- The verdict on a run by the mode: on its record in mode `record`, in every other mode on what it prints.
 abbrev pub IsShown : Mode → Journal → Verdict → Type 0
 IsShown Record j v = IsRecordOf j v
 IsShown mode j v = v ≡ Ran j

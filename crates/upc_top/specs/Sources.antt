@@ -1,5 +1,5 @@
--- What a source comes to on its way to a program for so many threads: tokens, then their expansion, then the tree of
--- that, then the typed tree, then the program.
+-- The way of a source to a program for so many threads: tokens, then their expansion, then the tree of that, then the
+-- typed tree, then the program.
 use Rattle.std.specs.Prelude.{ℕ, ◌≡◌, ◌≤◌, true, List, length}
 use Rattle.upc_text.specs.declared.place.Code.{Code}
 use Rattle.upc_text.specs.declared.place.Code.TheVariants.{Syntax, Limit}
@@ -19,25 +19,26 @@ use Rattle.program_runs.specs.Served.{RunsToday}
 use Rattle.program_runs.specs.Runs.{IsNotYet}
 use Rattle.upc_top.specs.Words.{runs}
 
--- The bytes have tokens over these names, which expand to these.
+-- The bytes have tokens over these names, and these tokens are their expansion.
 pub record IsExpanded (bytes : List ℕ) (names : List (List ℕ)) (expanded : List Token) : Type 0 where
   pub tokens : List Token
   pub cut : AreTokensOf bytes tokens names
   pub expansion : IsExpansion bytes tokens (length names) expanded
 
--- These have this tree, a proper one of at most 256 levels.
+-- The expansion of the bytes has this tree, a proper one of at most 256 levels.
 pub record IsRead (bytes : List ℕ) (names : List (List ℕ)) (tree : List External) : Type 0 where
   pub expanded : List Token
   pub expands : IsExpanded bytes names expanded
   pub grammar : IsTree expanded tree
 
--- The tree breaks no typing rule and passes no limit on so many threads: it is this.
+-- The tree of the bytes breaks no typing rule and passes no limit on so many threads, and is this program with its
+-- types.
 pub record IsTyped (threads : ℕ) (bytes : List ℕ) (names : List (List ℕ)) (tree : List External)
     (checked : Checked) : Type 0 where
   pub read : IsRead bytes names tree
   pub typed : outcome names threads tree ≡ o.Accepted checked
 
--- The source is accepted: its tree is this.
+-- The source is accepted on so many threads, as this program with its types.
 pub record IsAccepted (threads : ℕ) (bytes : List ℕ) (checked : Checked) : Type 0 where
   pub names : List (List ℕ)
   pub tree : List External
@@ -60,7 +61,8 @@ pub data HasNoTree (expanded : List Token) (code : Code) : Type 0 where
   too_high : code ≡ Limit 3 → 256 ≤ length expanded → ((u : List External) → IsTree expanded u → ⊥)
       → HasNoTree expanded code
 
--- Why a source is refused.
+-- Why a source is refused: it has no tokens, no expansion or no tree, or the tree breaks a typing rule or passes a
+-- limit.
 pub data IsRefused (threads : ℕ) (bytes : List ℕ) (r : Refusal) : Type 0 where
   -- It has no tokens.
   no_tokens : RefusedAt bytes r → IsRefused threads bytes r

@@ -1,4 +1,4 @@
--- What the top call comes to, why, and what it then writes.
+-- The verdicts of the top call, their causes, and what each writes.
 use Rattle.std.specs.Prelude.{ℕ, ◌≡◌, ◌≤◌, true, false, List, [], length, Option, Some, None, codes, decimal}
 use Rattle.upc_text.specs.declared.place.Refusal.{Refusal}
 use Rattle.upc_text.specs.declared.faults.ReadEnd.{ReadEnd}
@@ -25,7 +25,7 @@ use Rattle.upc_top.specs.Sources.{IsAccepted, IsRunnable, IsRefusedIn}
 use Rattle.run_output.specs.Layout.{layout}
 use Rattle.run_output.specs.Output.{output, status_of, run_line, refusal_line}
 
--- What the files hold, where it is told, and their counts of faults before and after.
+-- What the files hold, where that is known, and their counts of faults before and after.
 pub record Reading : Type 0 where
   pub told : List ℕ → Option (List ℕ)
   pub before : List ℕ → ℕ
@@ -46,19 +46,19 @@ pub record RunsAs (a : Asked) (bytes : List ℕ) (j : Journal) : Type 0 where
   pub runnable : IsRunnable a.threads bytes checked
   pub run : IsRunOf checked (limits_of a) [] j
 
--- What the program prints was asked for, and it ran so.
+-- What the program prints was asked for, and the journal is its run.
 pub record RanFrom (a : Asked) (bytes : List ℕ) (j : Journal) : Type 0 where
   pub prints : prints a.mode ≡ true
   pub run : RunsAs a bytes j
 
--- The record of a run was asked for, it ran so, and these are the run's orders, with which it has a text.
+-- The record of a run was asked for, the journal is that run, and these are the run's orders, with which it has a text.
 pub record RecordedFrom (a : Asked) (bytes : List ℕ) (j : Journal) (o : Orders) : Type 0 where
   pub mode : a.mode ≡ Record
   pub run : RunsAs a bytes j
   pub orders : o ≡ orders_of j
   pub has : HasText j o
 
--- The record of a run was asked for, it ran so, and is too long for a text.
+-- The record of a run was asked for, the journal is that run, and it is too long for a text.
 pub record OverlongFrom (a : Asked) (bytes : List ℕ) (j : Journal) : Type 0 where
   pub mode : a.mode ≡ Record
   pub run : RunsAs a bytes j
@@ -70,12 +70,12 @@ pub record PassedFrom (a : Asked) (bytes : List ℕ) : Type 0 where
   pub checked : Checked
   pub accepted : IsAccepted a.threads bytes checked
 
--- The layout of the bytes' program was asked for, and they are accepted as this.
+-- The layout of the bytes' program was asked for, and they are accepted as this program.
 pub record LaidFrom (a : Asked) (bytes : List ℕ) (checked : Checked) : Type 0 where
   pub mode : a.mode ≡ Layout
   pub accepted : IsAccepted a.threads bytes checked
 
--- What a source comes to that was read whole or made.
+-- What each verdict says of the bytes of a source that was read whole or made.
 abbrev pub ComesFrom : Asked → List ℕ → Verdict → Type 0
 ComesFrom a bytes (Refused refusal) = IsRefusedIn a.mode a.threads bytes refusal
 ComesFrom a bytes (Ran j) = RanFrom a bytes j
@@ -87,7 +87,7 @@ ComesFrom a bytes (NoMemory None) = Unit {0}
 ComesFrom a bytes (NoMemory (Some j)) = RunsAs a bytes j
 ComesFrom a bytes v = ⊥
 
--- These are the file's bytes, where it is told, no more than a source may have.
+-- These are the file's bytes, where they are known, and no more than a source may have.
 pub record IsFile (told : Option (List ℕ)) (bytes : List ℕ) : Type 0 where
   pub whole : IsWhole told bytes
   pub short : length bytes ≤ 1048576
@@ -117,7 +117,7 @@ pub record Taken (words : List (List ℕ)) (P : Asked → Type 0) : Type 0 where
   pub range : IsInRange asked
   pub holds : P asked
 
--- The words were taken, the source was read whole or made, and this is what its bytes come to.
+-- The words were taken, the source was read whole or made, and this is the verdict on its bytes.
 abbrev pub CameTo : List (List ℕ) → Reading → Verdict → Type 0
 CameTo words r v = Taken words (λ a. Holds r a (λ bytes. ComesFrom a bytes v))
 
@@ -126,7 +126,7 @@ pub record FailedToRead (r : Reading) (a : Asked) : Type 0 where
   pub file : a.mode ≡ Sample → ⊥
   pub rose : Rose (r.before a.file) (r.after a.file)
 
--- A file is read in every mode but `sample`, and where it is told, it has more bytes than a source may have.
+-- A file is read in every mode but `sample`, and where its bytes are known, they are more than a source may have.
 pub record IsTooLong (r : Reading) (a : Asked) : Type 0 where
   pub file : a.mode ≡ Sample → ⊥
   pub longer : IsLonger (r.told a.file) 1048576
@@ -153,7 +153,7 @@ without_memory (Overlong j) = NoMemory (Some j)
 without_memory (NoMemory o) = NoMemory o
 without_memory v = NoMemory None
 
--- What goes to the output.
+-- The text that a verdict writes to the output.
 abbrev pub text_of : Verdict → List ℕ
 text_of (Ran j) = output j.history
 text_of (Recorded j o) = text j o
@@ -161,7 +161,7 @@ text_of Passed = codes "ok\n"
 text_of (Laid program) = layout (view_program program)
 text_of v = []
 
--- The line that goes to the error output.
+-- The line that a verdict writes to the error output.
 abbrev pub line_of : Verdict → List ℕ
 line_of Usage = codes "upc: usage\n"
 line_of ReadFault = codes "upc: read fault\n"
@@ -174,7 +174,7 @@ line_of Passed = []
 line_of (Laid program) = []
 line_of (NoMemory j) = codes "upc: no memory\n"
 
--- The status.
+-- The status that a verdict gives.
 abbrev pub status_for : Verdict → ℕ
 status_for Usage = 100
 status_for ReadFault = 102
@@ -187,12 +187,12 @@ status_for Passed = 0
 status_for (Laid program) = 0
 status_for (NoMemory j) = 104
 
--- The refusal that is handed out.
+-- The refusal that a verdict hands out, if it is one.
 abbrev pub refusal_of : Verdict → Option Refusal
 refusal_of (Refused r) = Some r
 refusal_of v = None
 
--- The journal that is handed out.
+-- The journal that a verdict hands out, if there is one.
 abbrev pub journal_of : Verdict → Option Journal
 journal_of (Ran j) = Some j
 journal_of (Recorded j o) = Some j
@@ -200,12 +200,12 @@ journal_of (Overlong j) = Some j
 journal_of (NoMemory o) = o
 journal_of v = None
 
--- The orders that are handed out: where a text was made.
+-- The orders that a verdict hands out: those of a run of which a text was made.
 abbrev pub orders_in : Verdict → Option Orders
 orders_in (Recorded j o) = Some o
 orders_in v = None
 
--- What is written can be: a record has a text.
+-- What a verdict writes can be written: a record has a text.
 abbrev pub IsWritable : Verdict → Type 0
 IsWritable (Recorded j o) = HasText j o
 IsWritable v = Unit {0}

@@ -11,7 +11,7 @@ prints Record = false
 prints Check = false
 prints Layout = false
 
--- They and the mode `record` run a program.
+-- The modes `run`, `sample` and `record` run a program.
 abbrev pub runs : Mode → Bool
 runs Run = true
 runs Sample = true

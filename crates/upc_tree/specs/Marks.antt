@@ -23,7 +23,7 @@ use Rattle.upc_tree.specs.declared.mark.TypeWord.TheVariants as t
 use Rattle.upc_tree.specs.declared.mark.BarrierWord.{BarrierWord}
 use Rattle.upc_tree.specs.declared.mark.BarrierWord.TheVariants as r
 
--- The operators before an operand (C99 6.5.3).
+-- The mark of each operator that stands before its operand (C99 6.5.3).
 abbrev pub unary_punct : UnaryMark → Punct
 unary_punct u.AddressOf = p.Ampersand
 unary_punct u.Dereference = p.Star
@@ -34,17 +34,17 @@ unary_punct u.Not = p.Exclamation
 unary_punct u.Increment = p.PlusPlus
 unary_punct u.Decrement = p.MinusMinus
 
--- The operators behind an operand (C99 6.5.2.4).
+-- The mark of each operator that stands after its operand (C99 6.5.2.4).
 abbrev pub postfix_punct : PostfixMark → Punct
 postfix_punct f.Increment = p.PlusPlus
 postfix_punct f.Decrement = p.MinusMinus
 
--- The operators before a member (C99 6.5.2.3).
+-- The mark of each operator that stands before the name of a member (C99 6.5.2.3).
 abbrev pub member_punct : MemberMark → Punct
 member_punct m.Dot = p.Dot
 member_punct m.Arrow = p.Arrow
 
--- The operators between two operands (C99 6.5.5 to 6.5.14).
+-- The mark of each operator that stands between two operands (C99 6.5.5 to 6.5.14).
 abbrev pub binary_punct : BinaryMark → Punct
 binary_punct b.Multiply = p.Star
 binary_punct b.Divide = p.Slash
@@ -65,7 +65,7 @@ binary_punct b.BitOr = p.Bar
 binary_punct b.And = p.AndAnd
 binary_punct b.Or = p.OrOr
 
--- The assignment operators (C99 6.5.16).
+-- The mark of each assignment operator (C99 6.5.16).
 abbrev pub assign_punct : AssignMark → Punct
 assign_punct a.Assign = p.Equal
 assign_punct a.Multiply = p.StarEqual
@@ -79,20 +79,20 @@ assign_punct a.BitAnd = p.AmpersandEqual
 assign_punct a.BitXor = p.CaretEqual
 assign_punct a.BitOr = p.BarEqual
 
--- The size operators (C99 6.5.3.4, UPC 6.4.1).
+-- The word of each size operator (C99 6.5.3.4, UPC 6.4.1).
 abbrev pub size_word : SizeWord → Word
 size_word s.Sizeof = w.Sizeof
 size_word s.Localsizeof = w.UpcLocalsizeof
 size_word s.Blocksizeof = w.UpcBlocksizeof
 size_word s.Elemsizeof = w.UpcElemsizeof
 
--- The words that are expressions (UPC 6.3).
+-- The word of each expression that is a single word (UPC 6.3).
 abbrev pub constant_word : ConstantWord → Word
 constant_word c.Mythread = w.Mythread
 constant_word c.Threads = w.Threads
 constant_word c.MaxBlockSize = w.UpcMaxBlockSize
 
--- The words among specifiers that are no qualifiers (C99 6.7.1, 6.7.2, UPC 7).
+-- The word of each specifier that is a single word and no qualifier (C99 6.7.1, 6.7.2, UPC 7).
 abbrev pub type_word : TypeWord → Word
 type_word t.Static = w.Static
 type_word t.Void = w.Void
@@ -108,7 +108,7 @@ type_word t.LockT = w.UpcLockT
 type_word t.OpT = w.UpcOpT
 type_word t.FlagT = w.UpcFlagT
 
--- The words of the statements that synchronise (UPC 6.6.1).
+-- The word of a notify, of a wait and of a barrier (UPC 6.6.1).
 abbrev pub barrier_word : BarrierWord → Word
 barrier_word r.Notify = w.UpcNotify
 barrier_word r.Wait = w.UpcWait
@@ -117,7 +117,7 @@ barrier_word r.Barrier = w.UpcBarrier
 -- How tightly an expression is joined: a comma expression has level 0, an assignment 1, a conditional 2, the operators
 -- between two operands 3 to 12, a cast 13, what begins with an operator 14, and everything else 15 (C99 6.5).
 
--- The level of an operator between two operands.
+-- How tightly an operator between two operands binds, from 3 for `||` to 12 for `*`, `/` and `%` (C99 6.5.5 to 6.5.14).
 abbrev pub binary_level : BinaryMark → ℕ
 binary_level b.Or = 3
 binary_level b.And = 4
@@ -138,7 +138,7 @@ binary_level b.Multiply = 12
 binary_level b.Divide = 12
 binary_level b.Remainder = 12
 
--- The least level of the operand behind an operator: `++` and `--` take no cast (C99 6.5.3).
+-- The least level of the operand after an operator: `++` and `--` take no cast (C99 6.5.3).
 abbrev pub operand_level : UnaryMark → ℕ
 operand_level u.Increment = 14
 operand_level u.Decrement = 14

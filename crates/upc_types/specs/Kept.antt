@@ -13,14 +13,14 @@ pub record IsFine (l : Layout) : Type 0 where
   pub low : 0 < l.align
   pub high : l.align ≤ 16
 
--- Each struct was completed once, and its members were complete then (C99 6.7.2.1, 6.7.2.3).
+-- Whether each struct was completed once, when the types of its members were complete (C99 6.7.2.1, 6.7.2.3).
 abbrev pub is_ordered : List Completed → Bool
 is_ordered [] = true
 is_ordered (c ∷ older) = not (complete_in older c.number)
     && (all_complete (complete_in older) c.members && is_ordered older)
 
--- What is known of each struct by its number is what the structs, in the order of completion, say; and each has a fine
--- layout.
+-- What is known of each struct by its number is what the structs, in the order of completion, say; and each has a size
+-- and an alignment that an object can have.
 pub record IsKept (completed : List Completed) (known : List (Option Known)) : Type 0 where
   pub each : (n : ℕ) → get_or known n None ≡ known_in completed n
   pub fine : (n : ℕ) → ForSome (known_in completed n) (λ k. IsFine k.layout)

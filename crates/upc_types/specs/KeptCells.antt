@@ -9,6 +9,6 @@ use Rattle.upc_types.specs.declared.shape.KeptCells.{KeptCells}
 abbrev pub AreKept : (ℕ → List (ℕ × Kind)) → List KeptCells → Type 0
 AreKept cells_of kept = All (λ k. k.cells ≡ cells_of k.number) kept
 
--- What is held by the number of a struct are its cells.
+-- The cells that are held by the number of a struct are its cells.
 abbrev pub AreHeld : (ℕ → List (ℕ × Kind)) → List (Option (List (ℕ × Kind))) → Type 0
 AreHeld cells_of held = (n : ℕ) → ForSome (get_or held n None) (λ cells. cells ≡ cells_of n)

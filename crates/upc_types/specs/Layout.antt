@@ -9,11 +9,11 @@ use Rattle.upc_types.specs.Types.{CType, Qualified, Base, Void, Integer, Struct,
 use Rattle.upc_types.specs.Types.{Member, Completed, Structs, members_of}
 use Rattle.upc_types.specs.Same.{is_lock_object}
 
--- The alignment of a scalar is its size.
+-- The layout of a scalar of so many bytes, whose alignment is its size.
 abbrev pub scalar : ℕ → Layout
 scalar n = record { size = n; align = n }
 
--- A type that is not complete has no size.
+-- The layout that stands for an incomplete type, which has no size (C99 6.2.5).
 abbrev pub no_layout : Layout
 no_layout = record { size = 0; align = 1 }
 
@@ -21,27 +21,30 @@ no_layout = record { size = 0; align = 1 }
 abbrev pub aligned : ℕ → ℕ → ℕ
 aligned n align = (n + (align - 1)) / align * align
 
--- Where the members end when each stands at the first place of its alignment behind the one before it.
+-- Where members with these layouts end that follow so many bytes, each at the first place of its alignment after the
+-- one before it (C99 6.7.2.1).
 abbrev pub end_behind : ℕ → List Layout → ℕ
 end_behind end [] = end
 end_behind end (m ∷ ms) = end_behind (aligned end m.align + m.size) ms
 
--- The widest alignment, at least 1.
+-- The widest of this alignment and those of members with these layouts.
 abbrev pub widest : ℕ → List Layout → ℕ
 widest least [] = least
 widest least (m ∷ ms) = widest (max least m.align) ms
 
--- A struct is aligned as its widest member and padded at its end.
+-- The layout of a struct of members with these layouts: it is aligned as its widest member, and padded at its end to a
+-- multiple of its alignment (C99 6.7.2.1).
 abbrev pub struct_layout : List Layout → Layout
 struct_layout ms = record { size = aligned (end_behind 0 ms) (widest 1 ms); align = widest 1 ms }
 
--- A pointer to a shared object or to a lock has 16 bytes, another 8.
+-- The bytes of a pointer by its target: 16 to a shared object or to a lock, and 8 to another.
 abbrev pub pointer_size : Base → Option ℕ → ℕ
 pointer_size LockObject shared = 16
 pointer_size b (Some block) = 16
 pointer_size b None = 8
 
--- The layout of a type, where that of each struct is known. An array has the size of all its elements.
+-- The size and alignment of a type, where those of each struct are known; an array has the size of all its elements and
+-- the alignment of one (C99 6.5.3.4).
 abbrev pub base_layout : (ℕ → Layout) → Base → Layout
 base_layout structs Void = no_layout
 base_layout structs (Integer kind) = scalar (kind_size kind)
@@ -62,35 +65,40 @@ base_complete structs (Array (Qualified e c s x) count) = nat_lt 0 count && base
 base_complete structs (Pointer target) = true
 base_complete structs LockObject = false
 
+-- The layouts of members in order, where that of each struct is known.
 abbrev pub member_layouts : (ℕ → Layout) → List Member → List Layout
 member_layouts structs ms = map (λ m. base_layout structs (base_of m.ctype)) ms
 
+-- The layout of a struct by what is known of it; where nothing is, that of an incomplete type.
 abbrev pub layout_or_none : Option Known → Layout
 layout_or_none None = no_layout
 layout_or_none (Some k) = k.layout
 
--- A pointer to a private object: it leads neither to a shared object nor to a lock.
+-- Whether a pointer to this target leads to a private object: neither to a shared object nor to a lock.
 abbrev pub is_private_target : CType → Bool
 is_private_target (Qualified b c s x) = not (is_some s) && not (is_lock_object b)
 
--- Whether an object of a type holds a pointer to a private object, itself, in a member or in an element, where it is
--- known of which structs that is so.
+-- Whether an object of a type is a pointer to a private object, or holds one in a member or an element, where it is
+-- known of which structs that is so (UPC 6.5.1.1).
 abbrev pub base_holds_private : (ℕ → Bool) → Base → Bool
 base_holds_private structs (Pointer t) = is_private_target t
 base_holds_private structs (Struct number) = structs number
 base_holds_private structs (Array (Qualified e c s x) count) = base_holds_private structs e
 base_holds_private structs b = false
 
--- Whether one of these members does.
+-- Whether one of these members is or holds a pointer to a private object, where it is known of which structs that is
+-- so.
 abbrev pub members_hold_private : (ℕ → Bool) → List Member → Bool
 members_hold_private structs ms = list_any (λ m. base_holds_private structs (base_of m.ctype)) ms
 
+-- Whether an object of a struct holds a pointer to a private object, by what is known of the struct; one of which
+-- nothing is known does not.
 abbrev pub private_or_not : Option Known → Bool
 private_or_not None = false
 private_or_not (Some k) = k.holds_private
 
--- What is known of a struct: its place in the order of completion, from 0, its layout, and whether an object of it
--- holds a pointer to a private object. None where it is incomplete.
+-- What is known of a struct by its number, nothing where it is incomplete: its place in the order of completion, from
+-- 0, its layout, and whether an object of it holds a pointer to a private object.
 abbrev pub known_in : List Completed → ℕ → Option Known
 known_in [] number = None
 known_in (c ∷ older) number =
@@ -102,46 +110,48 @@ known_in (c ∷ older) number =
     }
     else known_in older number
 
+-- The layout of a struct by its number; where it is incomplete, that of an incomplete type (C99 6.7.2.1).
 abbrev pub layout_in : List Completed → ℕ → Layout
 layout_in completed number = layout_or_none (known_in completed number)
 
--- The offset of a member by its number, among members with these layouts that stand behind so many bytes, each at the
--- first place of its alignment behind the one before it (C99 6.7.2.1).
+-- The offset of a member by its number, from 0, among members with these layouts that follow so many bytes, each at the
+-- first place of its alignment after the one before it; where they end, if there is no such member (C99 6.7.2.1).
 abbrev pub offset_behind : (end : ℕ) → List Layout → (member : ℕ) → ℕ
 offset_behind end [] member = end
 offset_behind end (m ∷ ms) zero = aligned end m.align
 offset_behind end (m ∷ ms) (suc member) = offset_behind (aligned end m.align + m.size) ms member
 
--- The offset in bytes of the member with this number, from 0, in the struct with this number; where the members end,
--- if it has no such member.
+-- The offset in bytes of the member with this number, from 0, in the struct with this number; where the members end, if
+-- it has no such member (C99 6.7.2.1).
 abbrev pub member_offset : Structs → (number member : ℕ) → ℕ
 member_offset structs number member =
     offset_behind 0 (member_layouts (layout_in structs.completed) (members_of structs number)) member
 
--- Whether an object of a struct holds a pointer to a private object.
+-- Whether an object of the struct with this number holds a pointer to a private object.
 abbrev pub private_in : List Completed → ℕ → Bool
 private_in completed number = private_or_not (known_in completed number)
 
+-- Whether the struct with this number is complete (C99 6.2.5, 6.7.2.3).
 abbrev pub complete_in : List Completed → ℕ → Bool
 complete_in completed number = is_some (known_in completed number)
 
--- Whether a type is complete.
+-- Whether a type is complete (C99 6.2.5).
 abbrev pub is_complete : Structs → CType → Bool
 is_complete structs t = base_complete (complete_in structs.completed) (base_of t)
 
--- Whether an object of a type holds a pointer to a private object, itself, in a member or in an element.
+-- Whether an object of a type is a pointer to a private object, or holds one in a member or an element (UPC 6.5.1.1).
 abbrev pub holds_private : Structs → CType → Bool
 holds_private structs t = base_holds_private (private_in structs.completed) (base_of t)
 
--- The size of a type, 0 where it is incomplete.
+-- The size of a type in bytes, 0 where it is incomplete (C99 6.5.3.4).
 abbrev pub size : Structs → CType → ℕ
 size structs t = (base_layout (layout_in structs.completed) (base_of t)).size
 
--- The alignment of a type.
+-- The alignment of a type in bytes.
 abbrev pub alignment : Structs → CType → ℕ
 alignment structs t = (base_layout (layout_in structs.completed) (base_of t)).align
 
--- No object has more bytes.
+-- The most bytes that an object may have (typing rule 6).
 abbrev pub most_bytes : ℕ
 most_bytes = 16777216
 
@@ -152,7 +162,7 @@ base_within completed b =
     then Some (base_layout (layout_in completed) b)
     else None
 
--- Whether each member has a complete type.
+-- Whether each of these members has a complete type, where it is known which structs are complete (C99 6.7.2.1).
 abbrev pub all_complete : (ℕ → Bool) → List Member → Bool
 all_complete structs [] = true
 all_complete structs (m ∷ ms) = base_complete structs (base_of m.ctype) && all_complete structs ms
@@ -166,14 +176,15 @@ members_within completed ms =
     then Some (struct_layout (member_layouts (layout_in completed) ms))
     else None
 
--- The layout of an array, where its element has this one.
+-- The layout of an array of so many elements of this layout, None where the element has none, where there is no
+-- element, or where the array has more bytes than an object can have.
 abbrev pub many : Option Layout → ℕ → Option Layout
 many None count = None
 many (Some e) count = if nat_lt 0 count && nat_le (count * e.size) most_bytes
     then Some record { size = count * e.size; align = e.align } else None
 
--- The layout of a struct whose members up to `end`, of this widest alignment, are followed by these; None as in
--- `members_within`.
+-- The layout of a struct with some members up to `end`, the widest of this alignment, and then these; None where one of
+-- these is incomplete or the struct has more bytes than an object can have.
 abbrev pub members_from : List Completed → ℕ → ℕ → List Member → Option Layout
 members_from completed end align ms =
     if all_complete (complete_in completed) ms && nat_le
@@ -186,7 +197,8 @@ members_from completed end align ms =
     }
     else None
 
--- The layout of a struct whose members end there, None where it has more bytes than an object can have.
+-- The layout of a struct whose members end there and whose widest alignment is this, None where it has more bytes than
+-- an object can have.
 abbrev pub finished : ℕ → ℕ → Option Layout
 finished end align = if nat_le (aligned end align) most_bytes
     then Some record { size = aligned end align; align = align } else None

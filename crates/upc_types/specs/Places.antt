@@ -3,7 +3,7 @@ use Rattle.std.specs.Prelude.{◌≡◌, ℕ, zero, suc, ◌<◌, nat_eq, if◌t
 use Rattle.std.specs.BTreeMap.{get, BTreeMap}
 use Rattle.std.specs.Ordering.{nat_cmp}
 
--- The latest place of a number below this one.
+-- The latest place below a given one at which a number stands in a list, from 0.
 abbrev pub place_below : List ℕ → ℕ → ℕ → Option ℕ
 place_below numbers n zero = None
 place_below numbers n (suc place) =

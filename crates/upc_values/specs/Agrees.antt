@@ -13,13 +13,13 @@ pub record IsIn (items : List Item) (e : Entry) : Type 0 where
   pub action : slice_get (actions_of items) e.index ≡ Some e.action
   pub reply : slice_get (replies_of items) e.index ≡ Some e.reply
 
--- The entry equals the item that its thread and its number name.
+-- The entry is the item that its thread and its number name in the records.
 pub record IsOf (strands : List Strand) (e : Entry) : Type 0 where
   pub strand : Strand
   pub thread : slice_get strands e.thread ≡ Some strand
   pub item : IsIn strand.items e
 
--- Each entry does.
+-- Each entry of the history is the item that its thread and its number name in the records.
 abbrev pub Agrees : Journal → Type 0
 Agrees j = All (IsOf j.strands) j.history
 
@@ -28,7 +28,7 @@ abbrev pub is_did : Item → Bool
 is_did (Did a r) = true
 is_did Stall = false
 
--- n of the first `at` items are actions.
+-- Of the first `at` items n are actions.
 pub record IsPlace (items : List Item) (at n : ℕ) : Type 0 where
   pub within : at ≤ length items
   pub number : n ≡ length (actions_of (take at items))

@@ -7,12 +7,12 @@ use Rattle.upc_values.specs.declared.action.Action.TheVariants.{Read, Write, Fen
 use Rattle.upc_values.specs.declared.journal.Entry.{Entry}
 use Rattle.upc_values.specs.Lists.{Each}
 
--- the mark carries no value (UPC 6.6.1)
+-- The mark carries no value (UPC 6.6.1).
 abbrev pub is_unvalued : Mark → Bool
 is_unvalued (Given v) = false
 is_unvalued m = true
 
--- a read, a write, a fence, a Beat, a print, or a notify or wait without a value
+-- The action is a read, a write, a fence, a Beat, a print, or a notify or a wait without a value.
 abbrev pub is_basic : Action → Bool
 is_basic (Read l s) = true
 is_basic (Write l v s) = true
@@ -23,6 +23,6 @@ is_basic (Wait m) = is_unvalued m
 is_basic (Print x) = true
 is_basic a = false
 
--- each entry is of such an action
+-- Each entry is of an action that needs no lock, no new object, no collective call and no value at a barrier.
 abbrev pub AreBasic : List Entry → Type 0
 AreBasic es = Each (λ e. is_basic e.action ≡ true) es

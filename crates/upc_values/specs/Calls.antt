@@ -7,7 +7,7 @@ use Rattle.upc_values.specs.declared.scalar.Scalar.TheVariants.{Int, Shared, Loc
 use Rattle.block_layout.specs.Lists.{under}
 use Rattle.integers.specs.Integers.{in_kind}
 
--- How blocks are copied (UPC 7.3).
+-- The ways in which a collective call copies blocks (UPC 7.3).
 pub data Way : Type 0 where
   Broadcast : Way
   Scatter : Way
@@ -15,7 +15,7 @@ pub data Way : Type 0 where
   Gather_all : Way
   Exchange : Way
 
--- A collective call, with its arguments.
+-- A collective call with its arguments, by number (UPC 7.2.2, 7.2.4, 7.3).
 pub data Call : Type 0 where
   -- 1: upc_all_alloc (UPC 7.2.2)
   Allocates : (nblocks nbytes shape : ℕ) → Call
@@ -36,24 +36,25 @@ pub data Call : Type 0 where
   -- no call of these
   Other : Call
 
--- A size_t.
+-- The number lies in the range of size_t (C99 6.2.5, 7.17).
 abbrev pub is_size : ℤ → Bool
 is_size v = in_kind kind.ULong v
 
--- An int.
+-- The number lies in the range of int (C99 6.2.5).
 abbrev pub is_int : ℤ → Bool
 is_int v = in_kind kind.Int v
 
--- The way of copying, by number of call.
+-- The way in which the collective call with this number copies, if it is one that copies (UPC 7.3).
 abbrev pub way_of : ℕ → Option Way
 way_of c = under c ((5, Broadcast) ∷ (6, Scatter) ∷ (7, Gather) ∷ (8, Gather_all) ∷ (9, Exchange) ∷ [])
 
--- A call that copies in this way.
+-- The collective call that copies in this way; without a way there is none.
 abbrev pub copies : Option Way → SharedPtr → SharedPtr → ℕ → ℤ → Call
 copies (Some w) dst src n f = Copies w dst src n f
 copies None dst src n f = Other
 
--- The call with this number and these arguments, whose numbers are in their types' ranges.
+-- The collective call with this number and these arguments, if they are of its parameters' types and in their ranges
+-- (UPC 7.2.2, 7.2.4, 7.3).
 abbrev pub call_of : ℕ → List Scalar → Call
 call_of c (Int n ∷ Int b ∷ Int s ∷ []) =
     cond ((c == 1) && (is_size n && (is_size b && is_size s)))

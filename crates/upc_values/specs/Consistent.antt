@@ -13,13 +13,13 @@ use Rattle.upc_values.specs.History.{objects, IsLegal, EachBelow}
 use Rattle.upc_values.specs.Operations.{Place, Cell, Sync, Operation}
 use Rattle.upc_values.specs.Orders.{IsOf, StrictOrder, thread_order, is_shown, name_of, rank}
 
--- One place.
+-- Two places are the same.
 abbrev pub same_place : Place → Place → Bool
 same_place (Cell l) (Cell k) = same_loc l k
 same_place Sync Sync = true
 same_place p q = false
 
--- The value of the last write among the operations on the place.
+-- The value of the last write of a place among some operations, if there is one.
 abbrev pub last_write : Place → List Operation → Option Scalar
 last_write p [] = None
 last_write p (o ∷ os) = or_else (last_write p os) (cond (o.write && same_place o.place p) (Some o.value) None)
@@ -29,18 +29,20 @@ abbrev pub initial_at : (Loc → Scalar) → Place → Scalar
 initial_at initial (Cell l) = initial l
 initial_at initial Sync = zero
 
--- Each read has the value of the last write before it on its place, or the initial value if there is none.
+-- Each read of these operations, which stand after others, has the value of the last write before it on its place, or
+-- the initial value if there is none.
 abbrev pub ReadsLastFrom : (Loc → Scalar) → List Operation → List Operation → Type 0
 ReadsLastFrom initial before [] = Unit {0}
 ReadsLastFrom initial before (o ∷ os) =
     (o.write ≡ false → o.value ≡ value_or (last_write o.place before) (initial_at initial o.place))
     × ReadsLastFrom initial (before ++ o ∷ []) os
 
--- So in a whole order.
+-- In an order each read has the value of the last write before it on its place, or the initial value if there is none
+-- (UPC Appendix B).
 abbrev pub ReadsLast : (Loc → Scalar) → List Operation → Type 0
 ReadsLast initial order = ReadsLastFrom initial [] order
 
--- One of them is strict, or they are on one place and one is a write.
+-- Two operations conflict: one of them is strict, or they are on one place and one is a write (UPC Appendix B).
 abbrev pub conflict : Operation → Operation → Bool
 conflict a b = (a.strict || b.strict) || (same_place a.place b.place && (a.write || b.write))
 
@@ -75,7 +77,8 @@ pub record IsConsistent (initial : Loc → Scalar) (threads : ℕ) (set : Operat
   -- no two operations stand the other way round than in the strict order
   pub agrees : (t : ℕ) → t < threads → Pairwise (λ a b. strict b a → ⊥) (order t)
 
--- The history takes each thread's items as its write buffer drains.
+-- The history has of each thread just the entries that its record emits through the write buffer, and the record agrees
+-- with the buffer.
 pub record FollowsBuffers (j : Journal) : Type 0 where
   pub many : length j.strands ≡ j.threads
   pub below : EachBelow j.threads j.history

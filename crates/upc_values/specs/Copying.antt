@@ -26,77 +26,79 @@ pub data Area : Type 0 where
   In_shared : (p : SharedPtr) → Area
   In_private : (object : ℕ) (offset : ℤ) → Area
 
--- A null pointer leads nowhere.
+-- Where a pointer-to-shared leads; null leads nowhere.
 abbrev pub shared_area : SharedPtr → Area
 shared_area p = cond (is_null p) Nowhere (In_shared p)
 
--- A private pointer into shared space leads there.
+-- Where a pointer-to-local leads: into a private object, or into shared space (UPC 6.4.3); null leads nowhere.
 abbrev pub local_area : LocalPtr → Area
 local_area Null = Nowhere
 local_area (Private object offset) = In_private object offset
 local_area (Shared object thread offset) =
     In_shared (record { object = object; thread = thread; phase = 0; offset = offset })
 
--- Nowhere.
+-- The area is nowhere.
 abbrev pub is_nowhere : Area → Bool
 is_nowhere Nowhere = true
 is_nowhere a = false
 
--- The value whose every byte is c as unsigned char.
+-- The value whose every byte is c as an unsigned char (UPC 7.2.5).
 abbrev pub filled : ℕ → Kind → Scalar
 filled c k = Int (converted k (pos (c * ((256 ^ kind_size k - 1) / 255))))
 
--- so many threads, the program's shapes, and the shape of the private object that the call names, if it has not ended
+-- So many threads, the program's shapes, and the shape of the private object that the call names, if it has not ended.
 module _ (threads : ℕ) (shapes : List Shape) (private : Option Shape) where
-  -- n bytes leave the piece of their thread.
+  -- The area is in a shared object, and the n bytes from its beginning on do not all lie in the piece of their thread.
   abbrev pub leaves_shared : ℕ → Area → Bool
   leaves_shared n (In_shared p) = leaves_piece threads n p
   leaves_shared n a = false
 
-  -- n bytes lie inside an object of this shape.
+  -- There is an object of this shape, and the n bytes from the offset on lie inside it.
   abbrev pub is_inside : Option Shape → ℤ → ℕ → Bool
   is_inside (Some s) offset n = is_within offset n s.size
   is_inside None offset n = false
 
-  -- n bytes leave the private object, or it has ended.
+  -- The area is in a private object, which has ended, or in which the n bytes from its beginning on do not all lie.
   abbrev pub leaves_private : ℕ → Area → Bool
   leaves_private n (In_private object offset) = not (is_inside private offset n)
   leaves_private n a = false
 
-  -- The shape whose cells lie there.
+  -- The shape whose cells lie in an area: that of a shared object's elements, or that of a private object; there is
+  -- none where there is no object.
   abbrev pub shape_in : Area → Option Shape
   shape_in Nowhere = None
   shape_in (In_shared p) = shape_at shapes p
   shape_in (In_private object offset) = private
 
-  -- The byte at which the area begins.
+  -- The byte of its private object, or of its thread's piece, at which an area begins.
   abbrev pub first_byte : Area → ℕ
   first_byte Nowhere = 0
   first_byte (In_shared p) = unsigned_abs p.offset
   first_byte (In_private object offset) = unsigned_abs offset
 
-  -- A cell is cut at either end.
+  -- A cell is cut at either end of n bytes from an area's beginning on.
   abbrev pub is_cut : ℕ → Area → Bool
   is_cut n a = cuts_cell (shape_in a) (first_byte a) n
 
-  -- The cells in n bytes.
+  -- The cells in n bytes from an area's beginning on.
   abbrev pub cells : ℕ → Area → List (ℕ × Kind)
   cells n a = cells_within (shape_in a) (first_byte a) n
 
-  -- The write of a cell, which begins so many bytes behind the beginning: relaxed in a shared object.
+  -- The write of a cell that begins so many bytes after an area's beginning; in a shared object it is relaxed
+  -- (UPC 7.2.5).
   abbrev pub written : Area → ℕ × Kind → Scalar → Expansion (Unit {0})
   written Nowhere c v = nothing
   written (In_shared p) c v = does (act.Write (location_behind p c.0) v false)
   written (In_private object offset) c v = Stores (Private object (offset +ℤ pos c.0)) c.1 v nothing
 
-  -- The read of a cell, and the write of its value.
+  -- The read of a cell of the source, and the write of its value to the destination's cell.
   abbrev pub copied : Area → Area → ℕ × Kind → Expansion (Unit {0})
   copied dst Nowhere c = nothing
   copied dst (In_shared p) c = Reads (location_behind p c.0) c.1 (λ v. written dst c v)
   copied dst (In_private object offset) c = Loads (Private object (offset +ℤ pos c.0)) c.1 (λ v. written dst c v)
 
-  -- upc_memcpy, upc_memget, upc_memput: the whole ranges are tested, then each cell is copied, ascending; no byte, and
-  -- nothing is looked at.
+  -- What upc_memcpy, upc_memget and upc_memput do: the whole ranges are tested, then each cell is copied, ascending;
+  -- for no byte at all nothing is tested (UPC 7.2.5).
   abbrev pub copy : Area → Area → ℕ → Expansion (Unit {0})
   copy dst src n =
       cond (n == 0) nothing
@@ -108,7 +110,8 @@ module _ (threads : ℕ) (shapes : List Shape) (private : Option Shape) where
       ∷ [])
       (each_in_turn (copied dst src) (cells n dst)))
 
-  -- upc_memset: each cell gets the value whose every byte is c; a cell that holds a pointer is refused.
+  -- What upc_memset does: the whole range is tested, then each cell gets the value whose every byte is c, ascending; a
+  -- cell that holds a pointer is run error 18 (UPC 7.2.5).
   abbrev pub set : Area → ℕ → ℕ → Expansion (Unit {0})
   set dst c n =
       cond (n == 0) nothing

@@ -40,7 +40,7 @@ pub record Walk : Type 0 where
   pub pending : List Commit
   pub agrees : Bool
 
--- Before the first item.
+-- The walk before the first item.
 abbrev pub start : Walk
 start = record { next = 0; emitted = []; pending = []; agrees = true }
 
@@ -48,7 +48,7 @@ start = record { next = 0; emitted = []; pending = []; agrees = true }
 abbrev pub emptied : Walk → Walk
 emptied w = record { next = w.next; emitted = w.emitted ++ w.pending; pending = []; agrees = w.agrees }
 
--- The oldest pending write is emitted.
+-- The oldest pending write, if there is one, is emitted.
 abbrev pub oldest_out : List Commit → Walk → Walk
 oldest_out [] w = w
 oldest_out (c ∷ cs) w = record { next = w.next; emitted = w.emitted ++ c ∷ []; pending = cs; agrees = w.agrees }
@@ -57,17 +57,17 @@ oldest_out (c ∷ cs) w = record { next = w.next; emitted = w.emitted ++ c ∷ [
 abbrev pub with_room : Walk → Walk
 with_room w = cond (nat_lt (length w.pending) 64) w (oldest_out w.pending w)
 
--- The entry itself is emitted.
+-- The entry is emitted itself, with its own operations.
 abbrev pub passed : Entry → Walk → Walk
 passed e w =
     record { next = w.next + 1; emitted = w.emitted ++ commit_of e ∷ []; pending = w.pending; agrees = w.agrees }
 
--- The reply that a relaxed write has.
+-- The reply is Done, as that of a relaxed write is.
 abbrev pub is_done : Reply → Bool
 is_done Done = true
 is_done r = false
 
--- The reply that a read of a pending write has.
+-- The reply gives this value, as that of a read of a pending write does.
 abbrev pub is_value : Scalar → Reply → Bool
 is_value v (Value u) = same_scalar u v
 is_value v r = false
@@ -81,7 +81,7 @@ stored e w = record {
   agrees = w.agrees && is_done e.reply;
 }
 
--- What the action writes to the location.
+-- What an action writes to the location, if it writes there.
 abbrev pub written : Loc → Action → Option Scalar
 written l (Write k v s) = cond (same_loc k l) (Some v) None
 written l a = None
@@ -148,12 +148,12 @@ abbrev pub stepped : ℕ → Walk → Item → Walk
 stepped t w Stall = emptied w
 stepped t w (Did a r) = gone (entry_of t w.next a r) a w
 
--- One item after another.
+-- A walk that goes on over these items, one after another.
 abbrev pub walked_from : ℕ → Walk → List Item → Walk
 walked_from t w [] = w
 walked_from t w (x ∷ xs) = walked_from t (stepped t w x) xs
 
--- A walk over these items.
+-- A walk over these items from the first one on.
 abbrev pub walked : ℕ → List Item → Walk
 walked t items = walked_from t start items
 
@@ -165,10 +165,10 @@ drained t items = emptied (walked t items)
 abbrev pub commits : ℕ → List Item → List Commit
 commits t items = (drained t items).emitted
 
--- The entries that the items emit.
+-- The entries that the items emit, in order.
 abbrev pub drain : ℕ → List Item → List Entry
 drain t items = entries_in (commits t items)
 
--- The entries of a thread.
+-- The entries of one thread among some, in order.
 abbrev pub entries_of : ℕ → List Entry → List Entry
 entries_of t es = filter (λ e. e.thread == t) es

@@ -14,7 +14,7 @@ use Rattle.upc_values.specs.Records.{last_item, is_stall, is_beat_item}
 use Rattle.upc_values.specs.Openings.{Opening}
 use Rattle.upc_values.specs.History.{reply}
 
--- An end that ends the run.
+-- A thread's end that ends the run.
 abbrev pub stops : End → Bool
 stops (Fault c p) = true
 stops Budget = true
@@ -22,17 +22,17 @@ stops ActionsFull = true
 stops (Exit v) = true
 stops e = false
 
--- An end of a run in which no thread goes on.
+-- A thread's end in a run in which no thread goes on: Ended or Deadlocked.
 abbrev pub settles : End → Bool
 settles (Ended v) = true
 settles (Deadlocked a) = true
 settles e = false
 
--- A thread rests at a Beat or at a Stall.
+-- The item is a Beat or a Stall, at which a thread rests.
 abbrev pub is_pause : Option Item → Bool
 is_pause x = cond (is_stall x) true (is_beat_item x)
 
--- Another strand's end ends the run.
+-- The end of another strand than that of thread t ends the run.
 pub record AnotherStops (t : ℕ) (strands : List Strand) : Type 0 where
   pub other : ℕ
   pub differs : other ≢ t
@@ -49,8 +49,8 @@ OwnEnd actions e items ActionsFull = ((a : Action) × (e ≡ told.Wants a)) × (
 OwnEnd actions e items Halted = is_pause (last_item items) ≡ true
 OwnEnd actions e items (Deadlocked a) = (e ≡ told.Wants a) × (is_stall (last_item items) ≡ true)
 
--- What the journal says of it: Halted, another strand ends the run; Deadlocked, the action has no lawful reply after
--- the whole history, and every strand is Ended or Deadlocked.
+-- What the journal says of the end of thread t's strand: of Halted, that another strand ends the run; of Deadlocked,
+-- that its action has no lawful reply after the whole history, and every strand is Ended or Deadlocked.
 abbrev pub SharedEnd : Opening → Journal → ℕ → End → Type 0
 SharedEnd o j t Halted = AnotherStops t j.strands
 SharedEnd o j t (Deadlocked a) =

@@ -11,7 +11,7 @@ use Rattle.upc_values.specs.declared.action.Action.TheVariants as act
 use Rattle.upc_values.specs.declared.action.Reply.{Reply}
 use Rattle.upc_values.specs.declared.action.Reply.TheVariants.{Value, Refused}
 
--- A library call, from one moment on.
+-- A library call, from one moment on: a value, a run error, or a step and what follows each answer to it.
 pub data Expansion (A : Type 0) : Type 0 where
   Gives : (value : A) → Expansion A
   -- a run error, by its code
@@ -24,7 +24,7 @@ pub data Expansion (A : Type 0) : Type 0 where
   Loads : (place : LocalPtr) (kind : Kind) → (Scalar → Expansion A) → Expansion A
   Stores : (place : LocalPtr) (kind : Kind) (value : Scalar) → Expansion A → Expansion A
 
--- First the one, then what its value leads to.
+-- First one part of a call, and then what its value leads to.
 abbrev pub bind : {A B : Type 0} → Expansion A → (A → Expansion B) → Expansion B
 bind (Gives v) go = go v
 bind (Fails c) go = Fails c
@@ -33,16 +33,16 @@ bind (Asks a after) go = Asks a (λ r. bind (after r) go)
 bind (Loads p k after) go = Loads p k (λ v. bind (after v) go)
 bind (Stores p k v after) go = Stores p k v (bind after go)
 
--- Nothing at all.
+-- A call that does nothing.
 abbrev pub nothing : Expansion (Unit {0})
 nothing = Gives tt
 
--- The run error of a reply that refuses.
+-- A reply that refuses is its run error, and after any other the call goes on.
 abbrev pub unless_refused : Reply → Expansion (Unit {0})
 unless_refused (Refused c) = Fails c
 unless_refused r = nothing
 
--- An action whose reply says no more than whether it was refused.
+-- An action whose reply says no more than whether it was refused, which is its run error.
 abbrev pub does : Action → Expansion (Unit {0})
 does a = Asks a unless_refused
 
@@ -50,27 +50,27 @@ does a = Asks a unless_refused
 abbrev pub barrier : Expansion (Unit {0})
 barrier = bind (does (act.Notify Absent)) (λ u. does (act.Wait Absent))
 
--- One after another.
+-- What f does for each member of a list, one after another.
 abbrev pub each_in_turn : {X : Type 0} → (X → Expansion (Unit {0})) → List X → Expansion (Unit {0})
 each_in_turn f [] = nothing
 each_in_turn f (x ∷ xs) = bind (f x) (λ u. each_in_turn f xs)
 
--- What a list of steps gives, in order.
+-- What f gives for each member of a list, in order.
 abbrev pub gathered : {X Y : Type 0} → (X → Expansion Y) → List X → Expansion (List Y)
 gathered f [] = Gives []
 gathered f (x ∷ xs) = bind (f x) (λ y. bind (gathered f xs) (λ ys. Gives (y ∷ ys)))
 
--- Tests with their run errors: the first that holds decides.
+-- Tests with their run errors: the first that holds decides, and where none does the call goes on.
 abbrev pub refused_by : {A : Type 0} → List (Bool × ℕ) → Expansion A → Expansion A
 refused_by [] go = go
 refused_by (x ∷ xs) go = cond x.0 (Fails x.1) (refused_by xs go)
 
--- The value that a reply gives.
+-- The value that a reply gives; 0 where it gives none.
 abbrev pub value_in : Reply → Scalar
 value_in (Value v) = v
 value_in r = Int (pos 0)
 
--- What is left after one reply, and after replies; a private cell's value is handed in as a reply.
+-- What is left of a call after one reply; the value of a private cell is handed in as a reply.
 abbrev pub after_reply : {A : Type 0} → Expansion A → Reply → Expansion A
 after_reply (Gives v) r = Gives v
 after_reply (Fails c) r = Fails c
@@ -79,7 +79,7 @@ after_reply (Asks a after) r = after r
 after_reply (Loads p k after) r = after (value_in r)
 after_reply (Stores p k v after) r = after
 
--- So after replies, in order.
+-- What is left of a call after some replies, in order.
 abbrev pub after_replies : {A : Type 0} → Expansion A → List Reply → Expansion A
 after_replies x [] = x
 after_replies x (r ∷ rs) = after_replies (after_reply x r) rs

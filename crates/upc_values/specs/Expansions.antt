@@ -25,51 +25,53 @@ use Rattle.upc_values.specs.Views.{destination, source, byte_at, from_phase_0, w
 use Rattle.block_layout.specs.Cells.{same_cells}
 use Rattle.upc_values.specs.Views.{leaves_range, leaves_piece, cuts_cell, cells_within, shape_at, is_cell}
 
--- A group of flags: none, or NOSYNC 1, MYSYNC 2 or ALLSYNC 4; those of the exit are 8 times as much.
+-- A group of flags: none, or NOSYNC 1, MYSYNC 2 or ALLSYNC 4; those of the exit are 8 times as much (UPC 7.3).
 abbrev pub is_sync : ℕ → Bool
 is_sync f = (f == 0) || ((f == 1) || ((f == 2) || (f == 4)))
 
--- Flags: at most one of each group, and no other bits.
+-- The flags of a call are at most one of each group, and no other bits (UPC 7.3).
 abbrev pub are_flags : ℤ → Bool
 are_flags f = int_le (pos 0) f && (int_lt f (pos 64) && (is_sync (unsigned_abs f % 8) && is_sync (unsigned_abs f / 8)))
 
--- The barrier at the entry, unless the flags say NOSYNC.
+-- The barrier at the entry of a call, unless its flags say NOSYNC (UPC 7.3).
 abbrev pub entry : ℤ → Expansion (Unit {0})
 entry f = cond (unsigned_abs f % 8 == 1) nothing barrier
 
--- The barrier at the exit.
+-- The barrier at the exit of a call, unless its flags say NOSYNC (UPC 7.3).
 abbrev pub exit : ℤ → Expansion (Unit {0})
 exit f = cond (unsigned_abs f / 8 == 1) nothing barrier
 
--- Sizes of at most 16,777,216.
+-- The size is more than 16,777,216, which is the most that a call takes.
 abbrev pub is_large : ℕ → Bool
 is_large n = nat_lt 16777216 n
 
--- The destination begins on thread 0, but for a gather.
+-- The destination of a copying call begins on thread 0, but for a gather (UPC 7.3).
 abbrev pub is_destination : Way → SharedPtr → Bool
 is_destination Gather p = true
 is_destination w p = p.thread == 0
 
--- The source begins on thread 0, but for a broadcast and a scatter.
+-- The source of a copying call begins on thread 0, but for a broadcast and a scatter (UPC 7.3).
 abbrev pub is_source : Way → SharedPtr → Bool
 is_source Broadcast p = true
 is_source Scatter p = true
 is_source w p = p.thread == 0
 
--- The arguments of calls 5 to 9.
+-- The arguments are such as calls 5 to 9 take: flags, a size in range, and pointers to where their arrays begin
+-- (UPC 7.3).
 abbrev pub are_copy_args : Way → SharedPtr → SharedPtr → ℕ → ℤ → Bool
 are_copy_args w dst src n f = are_flags f && (not (is_large n) && (is_destination w dst && is_source w src))
 
--- The arguments of call 10.
+-- The arguments are such as call 10 takes: flags, a size in range, and pointers to thread 0 (UPC 7.3).
 abbrev pub are_permute_args : SharedPtr → SharedPtr → SharedPtr → ℕ → ℤ → Bool
 are_permute_args dst src perm n f =
     are_flags f && (not (is_large n) && ((dst.thread == 0) && ((src.thread == 0) && (perm.thread == 0))))
 
--- With a block, the phase of an operand is below it.
+-- With a block, the phase of a reduction's operand is below it.
 abbrev pub is_phase : SharedPtr → ℕ → Bool
 is_phase p blk = (blk == 0) || nat_lt p.phase blk
 
--- The arguments of calls 11 and 12: a known operator, at least one element, sizes in range.
+-- The arguments are such as calls 11 and 12 take: flags, a known operator, at least one element, and sizes in range
+-- (UPC 7.3).
 abbrev pub are_reduction_args : SharedPtr → ℤ → ℕ → ℕ → ℤ → Bool
 are_reduction_args src op n blk f =
     are_flags f
@@ -85,29 +87,29 @@ pub record Part : Type 0 where
   pub into : SharedPtr
   pub from : SharedPtr
 
--- A part that goes from there to here.
+-- The part that is copied from one pointer to another.
 abbrev pub part : SharedPtr → SharedPtr → Part
 part into from = record { into = into; from = from }
 
--- thread `me` of so many, with the program's shapes
+-- Thread `me` of so many, with the program's shapes.
 module _ (threads : ℕ) (shapes : List Shape) (me : ℕ) where
   -- The numbers of all threads.
   abbrev pub all_threads : List ℕ
   all_threads = range_with_len 0 threads
 
-  -- Byte x of the destination of a copying call.
+  -- The pointer to byte x of the destination of a copying call.
   abbrev pub into : Way → SharedPtr → ℕ → ℕ → SharedPtr
   into w dst n x = byte_at dst (destination w threads n).block threads x
 
-  -- Byte x of the source.
+  -- The pointer to byte x of the source of a copying call.
   abbrev pub from : Way → SharedPtr → ℕ → ℕ → SharedPtr
   from w src n x = byte_at src (source w threads n).block threads x
 
-  -- n bytes from this byte of the source go to this byte of the destination.
+  -- The part of a copying call that goes from this byte of the source to this byte of the destination.
   abbrev pub goes : Way → SharedPtr → SharedPtr → ℕ → ℕ → ℕ → Part
   goes w dst src n y x = part (into w dst n x) (from w src n y)
 
-  -- The parts of n bytes that the thread copies.
+  -- The parts of n bytes that the thread copies in a copying call (UPC 7.3).
   abbrev pub parts : Way → SharedPtr → SharedPtr → ℕ → List Part
   -- the source to the thread's block
   parts Broadcast dst src n = goes Broadcast dst src n 0 (me * n) ∷ []
@@ -122,23 +124,23 @@ module _ (threads : ℕ) (shapes : List Shape) (me : ℕ) where
   parts Exchange dst src n =
       map (λ j. goes Exchange dst src n (j * (n * threads) + me * n) (me * (n * threads) + j * n)) all_threads
 
-  -- n bytes at a pointer leave the piece of their thread.
+  -- The n bytes from a pointer on do not all lie in the piece of its thread (UPC 6.5.1.1).
   abbrev pub outside : ℕ → SharedPtr → Bool
   outside n p = leaves_piece threads n p
 
-  -- n bytes at a pointer cut a cell.
+  -- A cell is cut at either end of n bytes from a pointer on.
   abbrev pub cut : ℕ → SharedPtr → Bool
   cut n p = cuts_cell (shape_at shapes p) (unsigned_abs p.offset) n
 
-  -- The cells in n bytes at a pointer.
+  -- The cells in n bytes from a pointer on.
   abbrev pub cells : ℕ → SharedPtr → List (ℕ × Kind)
   cells n p = cells_within (shape_at shapes p) (unsigned_abs p.offset) n
 
-  -- Cells are cut, or differ in place or kind.
+  -- A part cuts cells, or its two sides differ in the place or the kind of a cell.
   abbrev pub differ : ℕ → Part → Bool
   differ n x = cut n x.into || (cut n x.from || not (same_cells (cells n x.into) (cells n x.from)))
 
-  -- Cells are read and written one by one, ascending.
+  -- The cells of a part are read and written one by one, ascending.
   abbrev pub copied : ℕ → Part → Expansion (Unit {0})
   copied n x =
       each_in_turn
@@ -155,24 +157,24 @@ module _ (threads : ℕ) (shapes : List Shape) (me : ℕ) where
       ∷ [])
       (each_in_turn (copied n) xs)
 
-  -- Work on at least one byte.
+  -- Work that is done where there is at least one byte.
   abbrev pub some_bytes : ℕ → Expansion (Unit {0}) → Expansion (Unit {0})
   some_bytes n work = cond (n == 0) nothing work
 
-  -- An element of a view, read as an integer.
+  -- The integer that an element of a view is; what is none counts as 0.
   abbrev pub number_of : Scalar → ℤ
   number_of (Int v) = v
   number_of v = pos 0
 
-  -- The read of an element.
+  -- The read of an element of a view as an integer.
   abbrev pub number_at : Kind → SharedPtr → Expansion ℤ
   number_at k p = Reads (location p) k (λ v. Gives (number_of v))
 
-  -- The write of an element.
+  -- The write of an integer to an element of a view.
   abbrev pub number_put : SharedPtr → ℤ → Expansion (Unit {0})
   number_put p v = does (act.Write (location p) (Int v) false)
 
-  -- The elements of a view, each a cell of this kind.
+  -- What is done with the elements of a view, after the test that each is a cell of this kind.
   abbrev pub are_cells : Kind → List SharedPtr → Expansion (Unit {0}) → Expansion (Unit {0})
   are_cells k ps go =
       refused_by
@@ -182,20 +184,22 @@ module _ (threads : ℕ) (shapes : List Shape) (me : ℕ) where
       ∷ [])
       go
 
-  -- Call 10: the elements of the permutation, one for each thread.
+  -- The elements of the permutation of upc_all_permute, one int for each thread (UPC 7.3).
   abbrev pub permutation : SharedPtr → List SharedPtr
   permutation perm = map (λ i. element (from_phase_0 perm) 1 4 threads i) all_threads
 
-  -- Thread t's number is in the list.
+  -- The number of thread t is in the list.
   abbrev pub is_at : ℕ → List ℤ → Bool
   is_at t vs = list_any (λ v. int_eq v (pos t)) vs
 
-  -- The block of the element that has the thread's number goes to the thread's block.
+  -- The part by which block i of the source goes to the thread's block, where element i of the permutation is the
+  -- thread's number.
   abbrev pub chosen : SharedPtr → SharedPtr → ℕ → List ℤ → Part
   chosen dst src n vs =
       part (byte_at dst n threads (me * n)) (byte_at src n threads (position_or_len (λ v. int_eq v (pos me)) vs * n))
 
-  -- The tests of the permutation and of the thread's block, the permutation, the test of it, the copy.
+  -- What upc_all_permute does on a thread: it tests the permutation's elements and the thread's block, reads the
+  -- permutation and tests it, and copies (UPC 7.3).
   abbrev pub permute : SharedPtr → SharedPtr → SharedPtr → ℕ → Expansion (Unit {0})
   permute dst src perm n =
       let ps = permutation perm in
@@ -210,49 +214,51 @@ module _ (threads : ℕ) (shapes : List Shape) (me : ℕ) where
       (bind (gathered (number_at kind.Int) ps) (λ vs.
       refused_by ((not (each_thread threads (λ t. is_at t vs)), LIBRARY_ARGS) ∷ []) (go vs)))
 
-  -- Element i of the view of a reduction's operand.
+  -- The pointer to element i of the view of a reduction's operand.
   abbrev pub operand : SharedPtr → ℕ → ℕ → ℕ → SharedPtr
   operand p blk k i = element (with_block p blk) blk (kind_size (element_kind k)) threads i
 
-  -- The elements of an operand.
+  -- The pointers to the first n elements of the view of a reduction's operand.
   abbrev pub operands : SharedPtr → ℕ → ℕ → ℕ → List SharedPtr
   operands p blk k n = map (operand p blk k) (range_with_len 0 n)
 
-  -- A value, or a run error.
+  -- The value of a step of a reduction, or its run error.
   abbrev pub outcome : Result ℤ ℕ → Expansion ℤ
   outcome (Ok v) = Gives v
   outcome (Err c) = Fails c
 
-  -- Call 11: all elements are read, ascending, and joined to the value so far, which is written once.
+  -- What upc_all_reduce does from a value on: the elements left are read, ascending, and joined to the value so far,
+  -- which is written once (UPC 7.3).
   abbrev pub total : Reduction → Kind → ℤ → SharedPtr → List SharedPtr → Expansion (Unit {0})
   total op k a dst [] = number_put dst a
   total op k a dst (p ∷ ps) =
       bind (number_at k p) (λ v. bind (outcome (step op k a v)) (λ b. total op k b dst ps))
 
-  -- So from the first element on.
+  -- What upc_all_reduce does with its elements, of which the first is the value to begin with (UPC 7.3).
   abbrev pub reduce : Option Reduction → Kind → SharedPtr → List SharedPtr → Expansion (Unit {0})
   reduce (Some op) k dst (p ∷ ps) = bind (number_at k p) (λ v. total op k v dst ps)
   reduce op k dst ps = nothing
 
-  -- Call 12: each element is read and joined, and the value so far is written, ascending.
+  -- What upc_all_prefix_reduce does from a value on: each element left is read and joined to the value so far, which is
+  -- written to its place, ascending (UPC 7.3).
   abbrev pub totals : Reduction → Kind → ℤ → List Part → Expansion (Unit {0})
   totals op k a [] = nothing
   totals op k a (x ∷ xs) =
       bind (number_at k x.from) (λ v.
       bind (outcome (step op k a v)) (λ b. bind (number_put x.into b) (λ u. totals op k b xs)))
 
-  -- So from the first element on, which is written as it is.
+  -- What upc_all_prefix_reduce does with its elements, of which the first is written as it is (UPC 7.3).
   abbrev pub reduce_prefixes : Option Reduction → Kind → List Part → Expansion (Unit {0})
   reduce_prefixes (Some op) k (x ∷ xs) =
       bind (number_at k x.from) (λ v. bind (number_put x.into v) (λ u. totals op k v xs))
   reduce_prefixes op k xs = nothing
 
-  -- Destination and source, element by element.
+  -- The parts of a destination and a source, element by element.
   abbrev pub paired : List SharedPtr → List SharedPtr → List Part
   paired (p ∷ ps) (q ∷ qs) = part p q ∷ paired ps qs
   paired ps qs = []
 
-  -- The work of a call on this thread.
+  -- What a collective call does on this thread between its barriers (UPC 7.3).
   abbrev pub work : Call → Expansion (Unit {0})
   work (Copies w dst src n f) = some_bytes n (move n (parts w dst src n))
   work (Permutes dst src perm n f) = permute dst src perm n
@@ -267,7 +273,7 @@ module _ (threads : ℕ) (shapes : List Shape) (me : ℕ) where
       cond (dst.thread == me) (are_cells (element_kind k) (into ++ from) reduction) nothing
   work call = nothing
 
-  -- The tests of a call's arguments, in order.
+  -- The tests of a collective call's arguments, in order, each with its run error.
   abbrev pub tests : Call → List (Bool × ℕ)
   tests (Copies w dst src n f) =
       (is_null dst || is_null src, NULL_ACCESS) ∷ (not (are_copy_args w dst src n f), LIBRARY_ARGS) ∷ []
@@ -281,7 +287,7 @@ module _ (threads : ℕ) (shapes : List Shape) (me : ℕ) where
       ∷ (not (are_reduction_args src op n blk f && (is_phase dst blk && is_aligned dst src blk)), LIBRARY_ARGS) ∷ []
   tests call = []
 
-  -- The flags of a call.
+  -- The flags of a collective call.
   abbrev pub flags_of : Call → ℤ
   flags_of (Copies w dst src n f) = f
   flags_of (Permutes dst src perm n f) = f
@@ -289,7 +295,7 @@ module _ (threads : ℕ) (shapes : List Shape) (me : ℕ) where
   flags_of (Reduces_prefixes dst src op n blk k f) = f
   flags_of call = pos 0
 
-  -- What the thread does in collective call c, from 5 to 12, with these arguments.
+  -- What the thread does in collective call c, from 5 to 12, with these arguments (UPC 7.3).
   abbrev pub collective : ℕ → List Scalar → Expansion (Unit {0})
   collective c args =
       let call = call_of c args in

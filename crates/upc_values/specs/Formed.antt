@@ -26,22 +26,23 @@ use Rattle.upc_values.specs.History.{objects, locks}
 abbrev pub knows : Opening → List Entry → SharedPtr → Bool
 knows o es p = is_named o.threads (objects o es) p
 
--- So of a value: a pointer, or a lock that is null or made.
+-- A value refers to nothing but what the history knows: a pointer is null or names an object, and a lock is null or
+-- made.
 abbrev pub is_known : Opening → List Entry → Scalar → Bool
 is_known o es (Int v) = true
 is_known o es (Shared p) = knows o es p
 is_known o es (Lock l) = nat_le l (locks es)
 
--- A lock that is made.
+-- The lock is one that the history has made.
 abbrev pub is_lock : List Entry → ℕ → Bool
 is_lock es l = nat_lt 0 l && nat_le l (locks es)
 
--- Whole elements of a shape of the program.
+-- So many bytes are whole elements of a shape of the program.
 abbrev pub is_whole : Option Shape → ℕ → Bool
 is_whole (Some s) nbytes = nbytes % s.size == 0
 is_whole None nbytes = false
 
--- The home is a thread.
+-- The home of a new object is a thread of the run, if it has one.
 abbrev pub is_home : ℕ → Option ℕ → Bool
 is_home threads (Some t) = nat_lt t threads
 is_home threads None = true
@@ -50,7 +51,8 @@ is_home threads None = true
 abbrev pub may_alloc : Opening → ℕ → ℕ → ℕ → Bool
 may_alloc o nblocks nbytes shape = not (nblocks * nbytes == 0) && is_whole (slice_get o.shapes shape) nbytes
 
--- The arguments of a collective call.
+-- A collective call may be asked for: what its arguments name has been made, and an allocation is of a shape of the
+-- program and of whole elements (UPC 7.2.2, 7.2.4, 7.3).
 abbrev pub may_call : Opening → List Entry → Call → Bool
 may_call o es (Allocates n b s) = is_some (slice_get o.shapes s) && ((n * b == 0) || may_alloc o n b s)
 may_call o es Makes_lock = true
@@ -86,13 +88,13 @@ may_ask o es (act.Exit v) = true
 abbrev pub IsWellFormed : Opening → List Entry → Action → Type 0
 IsWellFormed o es a = may_ask o es a ≡ true
 
--- Each entry was well formed after the entries before it.
+-- Each of these entries, which stand after others, was well formed after the entries before it.
 abbrev pub AreWellFormedFrom : Opening → List Entry → List Entry → Type 0
 AreWellFormedFrom o before [] = Unit {0}
 AreWellFormedFrom o before (e ∷ es) =
     IsWellFormed o before e.action × AreWellFormedFrom o (before ++ e ∷ []) es
 
--- So of a whole history.
+-- Each entry of a history was well formed after the entries before it.
 abbrev pub AreWellFormed : Opening → List Entry → Type 0
 AreWellFormed o history = AreWellFormedFrom o [] history
 
@@ -112,11 +114,12 @@ abbrev pub is_read : ℕ → List Shape → Option Kind → Scalar → Bool
 is_read threads shapes k (Shared p) = fits_cell (Shared p) k && is_pointer threads shapes p
 is_read threads shapes k v = fits_cell v k
 
--- A new object's pointer.
+-- A pointer that an allocation may give: one that a reply may give, with phase 0 (UPC 7.2.2).
 abbrev pub is_start : ℕ → List Shape → SharedPtr → Bool
 is_start threads shapes p = is_pointer threads shapes p && (p.phase == 0)
 
--- A collective call: the pointer of upc_all_alloc, the lock of upc_all_lock_alloc, any other Done; any may be refused.
+-- The reply fits the collective call: of upc_all_alloc it is a pointer, of upc_all_lock_alloc a lock, of any other
+-- Done; any may be refused.
 abbrev pub fits_call : ℕ → List Shape → Call → Reply → Bool
 fits_call threads shapes (Allocates n b s) (Value (Shared p)) = is_start threads shapes p
 fits_call threads shapes (Allocates n b s) Done = false
@@ -127,7 +130,7 @@ fits_call threads shapes c (Refused code) =
     (code == LOCK_FREED) || ((code == BAD_FREE) || ((code == COLLECTIVE_MISMATCH) || (code == SHARED_SPACE)))
 fits_call threads shapes c r = false
 
--- The reply fits the action, where a read is of this kind.
+-- The reply fits the action, where a read is of a cell of this kind.
 abbrev pub fits : ℕ → List Shape → Option Kind → Action → Reply → Bool
 fits threads shapes k (act.Read l s) (Value v) = is_read threads shapes k v
 fits threads shapes k (act.Write l v s) Done = true

@@ -50,19 +50,19 @@ given_by (reply.Refused c) = Fails c
 abbrev pub asks : Action → Expansion Scalar
 asks a = Asks a given_by
 
--- What gives no value gives 0, which nothing uses.
+-- A call that gives no value gives 0, which nothing uses.
 abbrev pub valued : Expansion (Unit {0}) → Expansion Scalar
 valued x = bind x (λ u. Gives zero)
 
--- upc_threadof: the thread of a pointer-to-shared, 0 for null, which has zeros throughout (UPC 7.2.3).
+-- What upc_threadof gives: the thread of a pointer-to-shared, 0 for null, which has zeros throughout (UPC 7.2.3).
 abbrev pub thread_of : SharedPtr → Expansion Scalar
 thread_of p = Gives (as_size (pos p.thread))
 
--- upc_phaseof: its phase, 0 for null (UPC 7.2.3).
+-- What upc_phaseof gives: the phase of a pointer-to-shared, 0 for null (UPC 7.2.3).
 abbrev pub phase_of : SharedPtr → Expansion Scalar
 phase_of p = Gives (as_size (pos p.phase))
 
--- upc_addrfield: the bytes of all objects with lower numbers, and the offset; 0 for null (UPC 7.2.3).
+-- What upc_addrfield gives: the bytes of all objects with lower numbers, and the offset; 0 for null (UPC 7.2.3).
 abbrev pub address_field : SharedPtr → Expansion Scalar
 address_field p = Gives (as_size (pos p.object.base +ℤ p.offset))
 
@@ -70,62 +70,62 @@ address_field p = Gives (as_size (pos p.object.base +ℤ p.offset))
 abbrev pub laid_out : ℕ → ℕ → ObjectRef
 laid_out total block = record { number = 0; total = total; block = block; home = 0; shape = 0; base = 0 }
 
--- A lock that is not null, or the run error of a null one.
+-- A call on a lock that is not null; on null it is run error 4 (UPC 7.2.4).
 abbrev pub with_lock : ℕ → Expansion Scalar → Expansion Scalar
 with_lock l go = refused_by ((l == 0, NULL_ACCESS) ∷ []) go
 
--- upc_free: one Free; null does nothing (UPC 7.2.2).
+-- What upc_free does: one Free; on null nothing (UPC 7.2.2).
 abbrev pub free : SharedPtr → Expansion Scalar
 free p = if is_null p then Gives zero else asks (act.Free p)
 
--- upc_all_free: all threads meet; null is met for too (UPC 7.2.2).
+-- What upc_all_free does: all threads meet, on null too (UPC 7.2.2).
 abbrev pub all_free : SharedPtr → Expansion Scalar
 all_free p = asks (act.Meet 3 (Shared p ∷ []))
 
--- upc_global_lock_alloc: one new lock (UPC 7.2.4).
+-- What upc_global_lock_alloc does: it makes one new lock (UPC 7.2.4).
 abbrev pub global_lock_alloc : Expansion Scalar
 global_lock_alloc = asks act.LockMake
 
--- upc_all_lock_alloc: all threads meet, and get one lock (UPC 7.2.4).
+-- What upc_all_lock_alloc does: all threads meet, and get one lock (UPC 7.2.4).
 abbrev pub all_lock_alloc : Expansion Scalar
 all_lock_alloc = asks (act.Meet 2 [])
 
--- upc_lock (UPC 7.2.4).
+-- What upc_lock does: one Lock (UPC 7.2.4).
 abbrev pub lock : ℕ → Expansion Scalar
 lock l = with_lock l (asks (act.Lock l))
 
--- upc_lock_attempt: 1 where the lock was taken, else 0 (UPC 7.2.4).
+-- What upc_lock_attempt does: one Attempt; it gives 1 where the lock was taken, else 0 (UPC 7.2.4).
 abbrev pub lock_attempt : ℕ → Expansion Scalar
 lock_attempt l = with_lock l (asks (act.Attempt l))
 
--- upc_unlock (UPC 7.2.4).
+-- What upc_unlock does: one Unlock (UPC 7.2.4).
 abbrev pub unlock : ℕ → Expansion Scalar
 unlock l = with_lock l (asks (act.Unlock l))
 
--- upc_lock_free: one LockFree; null does nothing (UPC 7.2.4).
+-- What upc_lock_free does: one LockFree; on null nothing (UPC 7.2.4).
 abbrev pub lock_free : ℕ → Expansion Scalar
 lock_free l = if l == 0 then Gives zero else asks (act.LockFree l)
 
--- upc_all_lock_free: all threads meet; null is met for too (UPC 7.2.4).
+-- What upc_all_lock_free does: all threads meet, on null too (UPC 7.2.4).
 abbrev pub all_lock_free : ℕ → Expansion Scalar
 all_lock_free l = asks (act.Meet 4 (Lock l ∷ []))
 
--- Printf: one Print of its text, whose number of bytes it gives (C99 7.19.6.3).
+-- What printf does: one Print of its text, whose number of bytes it gives (C99 7.19.6.3).
 abbrev pub printf : (format : List ℕ) → List ℤ → Expansion Scalar
 printf format vs = bind (does (act.Print (printed format vs))) (λ u. Gives (as_int (pos (length (printed format vs)))))
 
--- Where a value leads to as a pointer.
+-- Where a value leads as a pointer; what is no pointer leads nowhere.
 abbrev pub area_of : Value → Area
 area_of (value.Scalar (Shared p)) = shared_area p
 area_of (value.Local p) = local_area p
 area_of v = Nowhere
 
--- The scalar of a value that is no private pointer.
+-- The scalar that a value is, if it is no pointer-to-local.
 abbrev pub scalar_of : Value → Option Scalar
 scalar_of (value.Scalar v) = Some v
 scalar_of (value.Local p) = None
 
--- The scalars of such values.
+-- The scalars among some values, in order.
 abbrev pub scalars : List Value → List Scalar
 scalars vs = filter_map scalar_of vs
 
@@ -166,37 +166,39 @@ meet_number c = None
 -- Thread `me` of so many, with the program's shapes, and the shapes, by number, of its private objects that have not
 -- ended.
 module _ (threads : ℕ) (shapes : List Shape) (me : ℕ) (private : ℕ → Option Shape) where
-  -- upc_affinitysize: the bytes that lie on a thread, of an object of `total` bytes in blocks of `nbytes` (UPC 7.2.3).
+  -- What upc_affinitysize gives: the bytes that lie on a thread, of an object of `total` bytes in blocks of `nbytes`
+  -- (UPC 7.2.3).
   abbrev pub affinity_size : (total nbytes thread : ℕ) → Expansion Scalar
   affinity_size total nbytes thread =
       refused_by ((nat_le threads thread || (is_large total || is_large nbytes), LIBRARY_ARGS) ∷ [])
       (Gives (as_size (pos (piece_of (laid_out total nbytes) thread threads))))
 
-  -- An allocation of at least one byte holds whole elements of this shape, or the run error of one that does not.
+  -- An allocation of at least one byte is of whole elements of this shape; one that is not is run error 18.
   abbrev pub in_elements : (shape nblocks nbytes : ℕ) → Expansion Scalar → Expansion Scalar
   in_elements shape nblocks nbytes go =
       refused_by
       ((not (nblocks * nbytes == 0) && not (is_whole (slice_get shapes shape) nbytes), CELL_TYPE) ∷ [])
       go
 
-  -- One Alloc of whole elements; an allocation of no byte gives null without it.
+  -- One Alloc of whole elements; an allocation of no byte gives null without it (UPC 7.2.2).
   abbrev pub allocation : (home : Option ℕ) (shape nblocks nbytes : ℕ) → Expansion Scalar
   allocation home shape nblocks nbytes =
       if nblocks * nbytes == 0
       then Gives (Shared null)
       else in_elements shape nblocks nbytes (asks (act.Alloc nblocks nbytes home shape))
 
-  -- upc_global_alloc: an array of `nblocks` blocks of `nbytes` bytes each (UPC 7.2.2).
+  -- What upc_global_alloc does: it makes an array of `nblocks` blocks of `nbytes` bytes each (UPC 7.2.2).
   abbrev pub global_alloc : (shape nblocks nbytes : ℕ) → Expansion Scalar
   global_alloc shape nblocks nbytes = allocation None shape nblocks nbytes
 
-  -- upc_all_alloc: all threads meet, and get one such array; they meet for an allocation of no byte too (UPC 7.2.2).
+  -- What upc_all_alloc does: all threads meet, for no byte too, and get one array of `nblocks` blocks of `nbytes` bytes
+  -- each (UPC 7.2.2).
   abbrev pub all_alloc : (shape nblocks nbytes : ℕ) → Expansion Scalar
   all_alloc shape nblocks nbytes =
       in_elements shape nblocks nbytes
       (asks (act.Meet 1 (Int (pos nblocks) ∷ Int (pos nbytes) ∷ Int (pos shape) ∷ [])))
 
-  -- upc_alloc: `nbytes` bytes on the calling thread, of indefinite block (UPC 7.2.2).
+  -- What upc_alloc does: it makes `nbytes` bytes on the calling thread, of indefinite block (UPC 7.2.2).
   abbrev pub alloc : (shape nbytes : ℕ) → Expansion Scalar
   alloc shape nbytes = allocation (Some me) shape 1 nbytes
 
@@ -205,28 +207,29 @@ module _ (threads : ℕ) (shapes : List Shape) (me : ℕ) (private : ℕ → Opt
   private_shape (In_private object offset) = private object
   private_shape a = None
 
-  -- upc_memcpy: from a shared object to a shared object (UPC 7.2.5).
+  -- What upc_memcpy does: it copies bytes of a shared object to a shared object (UPC 7.2.5).
   abbrev pub memcpy : (dst src : Area) (n : ℕ) → Expansion Scalar
   memcpy dst src n = valued (copy threads shapes None dst src n)
 
-  -- upc_memget: from a shared object to a private one (UPC 7.2.5).
+  -- What upc_memget does: it copies bytes of a shared object to a private one (UPC 7.2.5).
   abbrev pub memget : (dst src : Area) (n : ℕ) → Expansion Scalar
   memget dst src n = valued (copy threads shapes (private_shape dst) dst src n)
 
-  -- upc_memput: from a private object to a shared one (UPC 7.2.5).
+  -- What upc_memput does: it copies bytes of a private object to a shared one (UPC 7.2.5).
   abbrev pub memput : (dst src : Area) (n : ℕ) → Expansion Scalar
   memput dst src n = valued (copy threads shapes (private_shape src) dst src n)
 
-  -- upc_memset: bytes of a shared object are set to c as an unsigned char (UPC 7.2.5).
+  -- What upc_memset does: it sets bytes of a shared object to c as an unsigned char (UPC 7.2.5).
   abbrev pub memset : (dst : Area) (c : ℤ) (n : ℕ) → Expansion Scalar
   memset dst c n = valued (set threads shapes None dst (unsigned_abs (converted kind.UChar c)) n)
 
-  -- Calls 5 to 12 of the collective ones: upc_all_broadcast to upc_all_prefix_reduce (UPC 7.3).
+  -- What the collective calls 5 to 12 do, upc_all_broadcast to upc_all_prefix_reduce (UPC 7.3).
   abbrev pub together : (c : ℕ) → List Value → Expansion Scalar
   together c args = valued (collective threads shapes me c (scalars args))
 
   -- What a call does with these arguments, each converted to its parameter's type; an allocation makes elements of the
-  -- shape with this number. printf, which has a format, and upc_global_exit, which ends the thread, are not among them.
+  -- shape with this number. A printf, which has a format, and upc_global_exit, which ends the thread, are not among
+  -- them (UPC 7.2, 7.3).
   abbrev pub library_call : LibraryCall → (shape : ℕ) → List Value → Expansion Scalar
   library_call call.ThreadOf shape (value.Scalar (Shared p) ∷ []) = thread_of p
   library_call call.PhaseOf shape (value.Scalar (Shared p) ∷ []) = phase_of p

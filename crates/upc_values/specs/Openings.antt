@@ -18,15 +18,15 @@ use Rattle.upc_values.specs.Scalars.{same_loc}
 use Rattle.upc_values.specs.Shapes.{cell_in, fits_cell, blank}
 use Rattle.upc_values.specs.Drain.{or_else}
 
--- The number of threads, the declared shared objects, the initial values of some of their cells, and the shapes of
--- elements, by number.
+-- What a run begins with: the number of threads, the declared shared objects, the initial values of some of their
+-- cells, and the shapes of elements, by number (C99 6.7.8, UPC 6.5.1.1).
 pub record Opening : Type 0 where
   pub threads : ℕ
   pub declared : List ObjectRef
   pub initials : List (Loc × Scalar)
   pub shapes : List Shape
 
--- The bytes of all objects.
+-- The bytes of some objects in all.
 abbrev pub bytes_of : List ObjectRef → ℕ
 bytes_of objects = sum_by (λ o. o.total) objects
 
@@ -39,16 +39,16 @@ abbrev pub is_named : ℕ → List ObjectRef → SharedPtr → Bool
 is_named threads objects p =
     is_null p || (list_any (same_object p.object) objects && (nat_lt p.thread threads && in_range p.offset))
 
--- An element of a shared object, which holds no pointer to a private object.
+-- An element of a shared object, which holds no pointer to a private object (UPC 6.5.1.1).
 abbrev pub IsSharable : Shape → Type 0
 IsSharable s = Each (λ c. is_private c.1 ≡ false) s.cells
 
--- What the list gives the location.
+-- The value that a list has first for a location, if it has one.
 abbrev pub given : Loc → List (Loc × Scalar) → Option Scalar
 given l [] = None
 given l (x ∷ xs) = cond (same_loc x.0 l) (Some x.1) (given l xs)
 
--- So of a cell, if there is one.
+-- What a cell without an initial value begins with, if there is a cell: 0, or null (C99 6.7.8).
 abbrev pub blank_in : Option Kind → Option Scalar
 blank_in (Some k) = Some (blank k)
 blank_in None = None
@@ -57,7 +57,7 @@ blank_in None = None
 abbrev pub initial_of : Opening → List ObjectRef → Loc → Option Scalar
 initial_of o objects l = or_else (given l o.initials) (blank_in (cell_of o objects l))
 
--- The i-th declared object, from 0: numbered from 1 on, of whole elements, each behind those before it.
+-- The i-th declared object, from 0: numbered from 1 on, of whole elements, each after those before it.
 pub record IsDeclared (o : Opening) (i : ℕ) (x : ObjectRef) : Type 0 where
   pub number : x.number ≡ i + 1
   pub shape : Shape

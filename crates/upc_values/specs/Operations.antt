@@ -77,7 +77,7 @@ operations_by t i Writes_sync = write_at t i Sync true zero ∷ []
 operations_by t i Reads_sync = read_at t i Sync true zero ∷ []
 operations_by t i Writes_and_reads_sync = write_at t i Sync true zero ∷ read_at t i Sync true zero ∷ []
 
--- The operations of an action with its reply.
+-- The operations of action i of thread t, with its reply.
 abbrev pub accesses_of : ℕ → ℕ → Action → Reply → List Operation
 accesses_of t i a r = operations_by t i (access a r)
 

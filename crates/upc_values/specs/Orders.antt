@@ -14,11 +14,11 @@ use Rattle.upc_values.specs.Lists.{Has, Precedes}
 use Rattle.upc_values.specs.Drain.{Commit, commits, entry_of}
 use Rattle.upc_values.specs.Operations.{Operation, accesses}
 
--- Where there is no strand.
+-- The strand that stands for one that is missing: it has done nothing.
 abbrev pub no_strand : Strand
 no_strand = record { items = []; ticks = 0; «end» = Halted }
 
--- The record of a thread.
+-- The record of a thread in a journal.
 abbrev pub record_of : Journal → ℕ → List Item
 record_of j t = (slice_index_or j.strands t no_strand).items
 
@@ -57,7 +57,7 @@ operations_from t n (Did a r ∷ items) = accesses (entry_of t n a r) ++ operati
 abbrev pub operations_of : Journal → ℕ → List Operation
 operations_of j t = operations_from t 0 (record_of j t)
 
--- An operation of the journal: of some thread's item.
+-- An operation of the journal, which is one of some thread's items.
 abbrev pub IsOf : Journal → Operation → Type 0
 IsOf j o = (o.thread < j.threads) × Has (operations_of j o.thread) o
 
@@ -65,7 +65,7 @@ IsOf j o = (o.thread < j.threads) × Has (operations_of j o.thread) o
 abbrev pub name_of : Operation → Op
 name_of o = record { thread = o.thread; index = o.index; write = o.write }
 
--- Program order: by action number, in a fence the write first.
+-- The place of an operation in program order: by action number, and in a fence the write first.
 abbrev pub rank : Operation → ℕ
 rank o = 2 * o.index + cond o.write 0 1
 

@@ -1,4 +1,4 @@
--- What a thread's source comes to on given replies.
+-- The outcome of a thread's source on given replies.
 use Rattle.std.specs.Prelude.{ℕ, ◌≡◌, ◌+◌, ◌*◌, true, List, [], ◌∷◌, ◌++◌, Option, Some, None}
 use Rattle.upc_values.specs.declared.action.Action.{Action}
 use Rattle.upc_values.specs.declared.action.Action.TheVariants.{Beat}
@@ -11,13 +11,13 @@ use Rattle.upc_values.specs.Openings.{Opening}
 use Rattle.upc_values.specs.Formed.{IsWellFormed, fits_after}
 use Rattle.upc_values.specs.Known.{HasGiven}
 
--- The actions that were answered, the ticks, and the end.
+-- The outcome of a thread: the actions that were answered, the ticks, and the end (C99 5.1.2.3).
 pub record Outcome : Type 0 where
   pub actions : List Action
   pub ticks : ℕ
   pub «end» : ToldEnd
 
--- The action for which no reply is left.
+-- The action that a thread wants where it ends for want of a reply.
 abbrev pub wanted : ToldEnd → Option Action
 wanted (Wants a) = Some a
 wanted e = None

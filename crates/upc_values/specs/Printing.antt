@@ -14,7 +14,7 @@ use Rattle.upc_values.specs.declared.format.Piece.TheVariants.{Plain, Converted,
 use Rattle.upc_values.specs.declared.format.Found.{Found}
 use Rattle.block_layout.specs.Lists.{under}
 
--- The decimal digits.
+-- The byte is a decimal digit.
 abbrev pub is_digit : ℕ → Bool
 is_digit b = nat_le 48 b && nat_le b 57
 
@@ -23,7 +23,7 @@ abbrev pub begins_with : ℕ → List ℕ → Bool
 begins_with b [] = false
 begins_with b (x ∷ xs) = x == b
 
--- A flag is one byte where it stands.
+-- The bytes of a flag or an `l`: one where it stands, else none.
 abbrev pub count_of : Bool → ℕ
 count_of stands = if stands then 1 else 0
 
@@ -34,15 +34,15 @@ width_of (a ∷ []) = if a == 48 then None else Some (a - 48)
 width_of (a ∷ b ∷ []) = if a == 48 then None else Some (10 * (a - 48) + (b - 48))
 width_of ds = None
 
--- The letters `d i u x c`.
+-- The style of a conversion by its letter, which is one of `d i u x c` (C99 7.19.6.1).
 abbrev pub style_of : ℕ → Option Style
 style_of b = under b ((100, Signed) ∷ (105, Signed) ∷ (117, Unsigned) ∷ (120, Hexadecimal) ∷ (99, Byte) ∷ [])
 
--- The letters `d u x`, which may stand behind an `l`.
+-- The style of a conversion by its letter after an `l`, which is one of `d u x` (C99 7.19.6.1).
 abbrev pub long_style_of : ℕ → Option Style
 long_style_of b = under b ((100, Signed) ∷ (117, Unsigned) ∷ (120, Hexadecimal) ∷ [])
 
--- The style that the first byte gives, with an `l` before it or without.
+-- The style that the first byte gives, after an `l` or without one.
 abbrev pub style_in : (long : Bool) → List ℕ → Option Style
 style_in long [] = None
 style_in long (b ∷ bs) = if long then long_style_of b else style_of b
@@ -53,7 +53,8 @@ conversion zeros (Some w) long (Some s) n =
     record { piece = Converted (record { zeros = zeros; width = w; long = long; style = s }); bytes = n }
 conversion zeros w long s n = record { piece = Stray; bytes = 0 }
 
--- The conversion that the bytes behind a `%` begin with: an optional `0`, an optional width, an optional `l`, a letter.
+-- The conversion with which the bytes after a `%` begin: an optional `0`, an optional width, an optional `l`, a letter
+-- (C99 7.19.6.1).
 abbrev pub conversion_in : List ℕ → Found
 conversion_in bs =
     let zeros = begins_with 48 bs in
@@ -63,11 +64,11 @@ conversion_in bs =
     let bytes = count_of zeros + length width + count_of long + 1 in
     conversion zeros (width_of width) long (style_in long (drop (count_of long) letters)) bytes
 
--- What begins at a `%`: with another `%` behind it one that prints itself, else a conversion.
+-- What the bytes after a `%` begin: with another `%` one that prints itself, else a conversion (C99 7.19.6.1).
 abbrev pub found_in : List ℕ → Found
 found_in bs = if begins_with 37 bs then record { piece = Plain 37; bytes = 1 } else conversion_in bs
 
--- The pieces of a format behind its first n bytes: a `%` begins a conversion, whose bytes are passed over, and every
+-- The pieces of a format after its first n bytes: a `%` begins a conversion, whose bytes are passed over, and every
 -- other byte prints itself.
 abbrev pub pieces_behind : ℕ → List ℕ → List Piece
 pieces_behind n [] = []
@@ -77,17 +78,17 @@ pieces_behind zero (b ∷ bs) =
     then (found_in bs).piece ∷ pieces_behind (found_in bs).bytes bs
     else Plain b ∷ pieces_behind 0 bs
 
--- The pieces of a format.
+-- The pieces of a format (C99 7.19.6.1).
 abbrev pub pieces : List ℕ → List Piece
 pieces format = pieces_behind 0 format
 
--- A text that is shorter than the width is filled on its left: with zeros behind the sign, or with blanks before it.
+-- A text that is shorter than the width is filled on its left: with zeros after the sign, or with blanks before it.
 abbrev pub filled : Bool → ℕ → (sign digits : List ℕ) → List ℕ
 filled zeros width sign digits =
     let fill = width - length (sign ++ digits) in
     if zeros then sign ++ replicate fill 48 ++ digits else replicate fill 32 ++ sign ++ digits
 
--- The type to which a conversion's value is converted.
+-- The kind to which a conversion's value is converted (C99 7.19.6.1).
 abbrev pub kind_of : (long : Bool) → Style → Kind
 kind_of long Signed = if long then Long else Int
 kind_of long Unsigned = if long then ULong else UInt
@@ -101,7 +102,7 @@ shown Unsigned n = decimal n
 shown Hexadecimal n = digits 16 false n
 shown Byte n = n ∷ []
 
--- A byte is filled with blanks, whatever the flag.
+-- The style may be filled with zeros; a byte is filled with blanks, whatever the flag.
 abbrev pub may_have_zeros : Style → Bool
 may_have_zeros Byte = false
 may_have_zeros s = true
@@ -121,6 +122,6 @@ text (Converted c ∷ ps) (v ∷ vs) = text_of c v ++ text ps vs
 text (Converted c ∷ ps) [] = text ps []
 text (Stray ∷ ps) vs = text ps vs
 
--- What printf prints, by its format and the values behind it (C99 7.19.6.1).
+-- What printf prints, by its format and the values after it (C99 7.19.6.1).
 abbrev pub printed : (format : List ℕ) → List ℤ → List ℕ
 printed format vs = text (pieces format) vs

@@ -10,12 +10,12 @@ use Rattle.block_layout.specs.Lists.{under}
 use Rattle.integers.specs.Integers.{converted}
 use Rattle.integers.specs.Operators.{truth, binary_of}
 
--- The types of elements, by number: those of the calls that end in C UC S US I UI L UL.
+-- The kind of a reduction's elements, by number: those of the calls that end in C UC S US I UI L UL (UPC 7.3.2.1).
 abbrev pub element_kind : ℕ → Kind
 element_kind k =
     slice_index_or (Char ∷ UChar ∷ Short ∷ UShort ∷ Int ∷ UInt ∷ Long ∷ ULong ∷ []) k Int
 
--- What joins two values.
+-- The operators of reductions (UPC 7.3).
 pub data Reduction : Type 0 where
   Sum : Reduction
   Product : Reduction
@@ -27,7 +27,8 @@ pub data Reduction : Type 0 where
   Least : Reduction
   Greatest : Reduction
 
--- UPC_ADD, UPC_MULT, UPC_AND, UPC_OR, UPC_XOR, UPC_LOGAND, UPC_LOGOR, UPC_MIN, UPC_MAX, by their numbers.
+-- The operator with this number, as UPC_ADD, UPC_MULT, UPC_AND, UPC_OR, UPC_XOR, UPC_LOGAND, UPC_LOGOR, UPC_MIN and
+-- UPC_MAX have them, if there is one (UPC 7.3).
 abbrev pub reduction : ℤ → Option Reduction
 reduction n =
     cond (int_lt n (pos 0)) None
@@ -43,7 +44,7 @@ promoted Short = Int
 promoted UShort = Int
 promoted k = k
 
--- What an operator gives on two numbers of a promoted kind (C99 6.5).
+-- What a reduction's operator gives on two numbers of a promoted kind (C99 6.5).
 abbrev pub reduced : Reduction → Kind → ℤ → ℤ → Result ℤ ℕ
 reduced Sum k a b = binary_of Add k a b
 reduced Product k a b = binary_of Multiply k a b
@@ -55,26 +56,27 @@ reduced Either k a b = Ok (truth (not (int_eq a (pos 0)) || not (int_eq b (pos 0
 reduced Least k a b = Ok (int_min a b)
 reduced Greatest k a b = Ok (int_max a b)
 
--- A result brought back to the elements' type.
+-- The result of an operator, converted back to the elements' kind (C99 6.3.1.3).
 abbrev pub back_to : Kind → Result ℤ ℕ → Result ℤ ℕ
 back_to k (Ok v) = Ok (converted k v)
 back_to k (Err c) = Err c
 
--- One step: the operator after promotion, then conversion to the elements' type.
+-- One step of a reduction: the operator after promotion, then the conversion to the elements' kind.
 abbrev pub step : Reduction → Kind → ℤ → ℤ → Result ℤ ℕ
 step op k a b = back_to k (reduced op (promoted k) a b)
 
--- From left to right, the first run error decides.
+-- One step from the result so far, which stays where it is a run error.
 abbrev pub step_from : Reduction → Kind → Result ℤ ℕ → ℤ → Result ℤ ℕ
 step_from op k (Ok a) b = step op k a b
 step_from op k (Err c) b = Err c
 
--- So on from a value.
+-- The steps of a reduction over these elements, from left to right, from the result so far.
 abbrev pub folded_from : Reduction → Kind → Result ℤ ℕ → List ℤ → Result ℤ ℕ
 folded_from op k a [] = a
 folded_from op k a (v ∷ vs) = folded_from op k (step_from op k a v) vs
 
--- So of all elements, of which the first is the value to begin with.
+-- The steps of a reduction over all elements, from left to right, of which the first is the value to begin with
+-- (UPC 7.3).
 abbrev pub folded : Reduction → Kind → List ℤ → Result ℤ ℕ
 folded op k [] = Ok (pos 0)
 folded op k (v ∷ vs) = folded_from op k (Ok v) vs

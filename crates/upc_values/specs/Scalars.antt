@@ -6,26 +6,26 @@ use Rattle.block_layout.specs.Pointers.{same_pointer}
 use Rattle.upc_values.specs.declared.scalar.Scalar.{Scalar}
 use Rattle.upc_values.specs.declared.scalar.Scalar.TheVariants.{Int, Shared, Lock}
 
--- One location.
+-- Two locations are the same.
 abbrev pub same_loc : Loc → Loc → Bool
 same_loc l k = (l.object == k.object) && ((l.thread == k.thread) && (l.offset == k.offset))
 
--- One scalar.
+-- Two scalars are the same.
 abbrev pub same_scalar : Scalar → Scalar → Bool
 same_scalar (Int a) (Int b) = int_eq a b
 same_scalar (Shared p) (Shared q) = same_pointer p q
 same_scalar (Lock a) (Lock b) = a == b
 same_scalar v w = false
 
--- An int is from -2^31 to 2^31 - 1.
+-- The number lies in the range of int, from -2^31 to 2^31 - 1 (C99 6.2.5).
 abbrev pub is_int : ℤ → Bool
 is_int v = int_le (negsuc 2147483647) v && int_le v (pos 2147483647)
 
--- An object without an initialiser begins with 0 (C99 6.7.8).
+-- The 0 with which an object without an initialiser begins (C99 6.7.8).
 abbrev pub zero : Scalar
 zero = Int (pos 0)
 
--- The value, if there is one, else the other.
+-- The first value, where there is one; else the second.
 abbrev pub value_or : Option Scalar → Scalar → Scalar
 value_or (Some v) d = v
 value_or None d = d

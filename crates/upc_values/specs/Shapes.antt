@@ -34,8 +34,8 @@ is_integer kind.Lock = false
 is_integer (kind.Private n) = false
 is_integer k = true
 
--- Whether a value fits a cell: an integer in the kind's range, a pointer-to-shared whose phase is 0 or below the kind's
--- block, a lock.
+-- Whether a scalar fits a cell of a kind: an integer in the kind's range, a pointer-to-shared whose phase is 0 or below
+-- the kind's block, a lock.
 abbrev pub fits_kind : Scalar → Kind → Bool
 fits_kind (Int v) k = is_integer k && in_kind k v
 fits_kind (Shared p) (kind.Shared n b) = (p.phase == 0) || nat_lt p.phase b
@@ -54,7 +54,8 @@ blank (kind.Shared n b) = Shared null
 blank kind.Lock = Lock 0
 blank k = Int (pos 0)
 
--- Whether a value fits a cell: a scalar as above, a pointer-to-local each kind of private pointers.
+-- Whether a value fits a cell of a kind: a scalar as it does in a shared object, and a pointer-to-local where the kind
+-- is one of pointers to private objects.
 abbrev pub value_fits : Value → Kind → Bool
 value_fits (value.Scalar v) k = fits_kind v k
 value_fits (value.Local p) (kind.Private n) = true

@@ -1,4 +1,4 @@
--- When a thread's record is what its source comes to, and when a Stall is justified.
+-- When a thread's record is what its source gives, and when a Stall is justified.
 use Rattle.std.specs.Prelude.{ℕ, ◌≡◌, ◌*◌, Bool, true, false, cond, List, [], ◌∷◌, ◌++◌, length, Option, Some, None}
 use Rattle.upc_values.specs.declared.action.Action.{Action}
 use Rattle.upc_values.specs.declared.action.Action.TheVariants.{Lock, Wait}
@@ -20,15 +20,17 @@ may_wait (Lock l) = true
 may_wait (Wait m) = true
 may_wait a = false
 
+-- There is an action, and it is a Lock or a Wait.
 abbrev pub MayWait : Option Action → Type 0
 MayWait (Some a) = may_wait a ≡ true
 MayWait None = ⊥
 
+-- The first of the items is a Stall.
 abbrev pub first_is_stall : List Item → Bool
 first_is_stall (Stall ∷ items) = true
 first_is_stall items = false
 
--- The action that comes next, where `want` comes after the items.
+-- The action that comes first in some items; where they have none, the one that is wanted after them.
 abbrev pub next_action : Option Action → List Item → Option Action
 next_action want [] = want
 next_action want (Did a r ∷ items) = Some a
@@ -46,7 +48,7 @@ abbrev pub strand_ticks : End → List Item → ℕ → ℕ
 strand_ticks Halted items n = cond (is_beat_item (last_item items)) (1024 * beats (actions_of items)) n
 strand_ticks e items n = n
 
--- The strand conforms to the outcome that its source has on its replies.
+-- The strand's actions, Stalls and ticks are those of the outcome that its source has on its replies.
 pub record Conforms (outcome : Outcome) (s : Strand) : Type 0 where
   pub actions : outcome.actions ≡ actions_of s.items
   pub stalls : StallsStand (wanted outcome.«end») s.items

@@ -19,7 +19,7 @@ use Rattle.upc_values.specs.Views.{destination, source, byte_at, from_phase_0, e
 abbrev pub is_synchronised : ℤ → Bool
 is_synchronised f = not (unsigned_abs f % 8 == 1) && not (unsigned_abs f / 8 == 1)
 
--- So of a call's flags.
+-- The call is one from 5 to 12, and NOSYNC neither at its entry nor at its exit (UPC 7.3.1).
 abbrev pub is_synchronised_call : Call → Bool
 is_synchronised_call (Copies w dst src n f) = is_synchronised f
 is_synchronised_call (Permutes dst src perm n f) = is_synchronised f
@@ -55,8 +55,8 @@ abbrev pub IsApart : Opening → List Entry → Call → Type 0
 IsApart o history call =
     (l : Loc) → is_some (cell_of o (objects o history) l) ≡ true → IsInto o.threads call l → IsFrom o.threads call l → ⊥
 
--- The j-th collective call of thread t is this one, was answered Done behind n notifies of the thread, and is over: the
--- thread's second wait behind it, which is that of the exit, was answered Done.
+-- The j-th collective call of thread t is this one, was answered Done after n notifies of the thread, and is over: the
+-- thread's second wait after it, which is that of the exit, was answered Done.
 pub record HasLeft (t j n c : ℕ) (args : List Scalar) (history : List Entry) : Type 0 where
   pub front : List Entry
   pub meet : Entry

@@ -13,17 +13,18 @@ use Rattle.block_layout.specs.Shapes.{kind_size, same_kind}
 use Rattle.upc_values.specs.Shapes.{kind_at}
 use Rattle.upc_values.specs.Calls.{Way, Broadcast, Scatter, Gather, Gather_all, Exchange}
 
--- The pointer with phase 0.
+-- The pointer with phase 0 in place of its own.
 abbrev pub from_phase_0 : SharedPtr → SharedPtr
 from_phase_0 p = record p { phase = 0 }
 
--- The phase counts with a block of at least 1, and is 0 with an indefinite one.
+-- The pointer as one with this block: its phase counts with a block of at least 1, and is 0 with an indefinite one
+-- (UPC 6.4.2).
 abbrev pub with_block : SharedPtr → ℕ → SharedPtr
 with_block p zero = from_phase_0 p
 with_block p (suc b) = p
 
--- The pointer to element i of an array with this block and element size, whose element 0 is at p (UPC 6.4.2, 6.5.1.1):
--- p stands for some element of such an array, and this pointer for the i-th behind it.
+-- The pointer to element i of an array with this block and element size, whose element 0 is at p: p stands for some
+-- element of such an array, and this pointer for the i-th after it (UPC 6.4.2, 6.5.1.1).
 abbrev pub element : SharedPtr → ℕ → ℕ → ℕ → ℕ → SharedPtr
 element p zero size threads i = record p { offset = p.offset +ℤ pos (i * size) }
 element p (suc b) size threads i =
@@ -35,54 +36,54 @@ element p (suc b) size threads i =
       offset = (p.offset -ℤ pos (p.phase * size)) +ℤ offset_at e (suc b) size threads;
     }
 
--- The location so many bytes behind it.
+-- The location so many bytes after a pointer.
 abbrev pub location_behind : SharedPtr → ℕ → Loc
 location_behind p i = record { object = p.object.number; thread = p.thread; offset = unsigned_abs p.offset + i }
 
--- n bytes from an offset on, within so many.
+-- The n bytes from an offset on lie among the first `room` bytes.
 abbrev pub is_within : ℤ → ℕ → ℕ → Bool
 is_within offset n room = int_le (pos 0) offset && int_le (offset +ℤ pos n) (pos room)
 
--- n bytes at a pointer: an offset among them leaves its range.
+-- Of n bytes from a pointer on, the first or the last has an offset out of range.
 abbrev pub leaves_range : ℕ → SharedPtr → Bool
 leaves_range n p = not (in_range p.offset && in_range (p.offset +ℤ pos (n - 1)))
 
--- n bytes at a pointer leave the piece of their thread.
+-- The n bytes from a pointer on do not all lie in the piece of its thread (UPC 6.5.1.1).
 abbrev pub leaves_piece : ℕ → ℕ → SharedPtr → Bool
 leaves_piece threads n p = not (is_within p.offset n (piece_of p.object p.thread threads))
 
--- Where elements of this shape follow one another, whether a cell begins before this byte and ends behind it.
+-- Where elements of this shape follow one another, whether a cell begins before this byte and ends after it.
 abbrev pub cuts : Option Shape → ℕ → Bool
 cuts (Some s) x = list_any (λ c. nat_lt c.0 (x % s.size) && nat_lt (x % s.size) (c.0 + kind_size c.1)) s.cells
 cuts None x = false
 
--- n bytes from this one on cut a cell at either end.
+-- A cell is cut at either end of n bytes from this byte on.
 abbrev pub cuts_cell : Option Shape → ℕ → ℕ → Bool
 cuts_cell s x n = cuts s x || cuts s (x + n)
 
--- A cell, by how far behind the first byte it begins and by its kind.
+-- A cell, by how many bytes after the first it begins and by its kind.
 abbrev pub placed_kind : ℕ → Option Kind → Option (ℕ × Kind)
 placed_kind i (Some k) = Some (i, k)
 placed_kind i None = None
 
--- The cells in n bytes from this one on.
+-- The cells in n bytes from this byte on.
 abbrev pub cells_within : Option Shape → ℕ → ℕ → List (ℕ × Kind)
 cells_within s x n = filter_map (λ i. placed_kind i (kind_at s (x + i))) (range_with_len 0 n)
 
--- The kind is of this kind.
+-- There is a cell, and it is of this kind.
 abbrev pub is_kind : Kind → Option Kind → Bool
 is_kind k (Some j) = same_kind k j
 is_kind k None = false
 
--- The shape of a pointer's object.
+-- The shape of the elements of a pointer's object, if the program has it.
 abbrev pub shape_at : List Shape → SharedPtr → Option Shape
 shape_at shapes p = slice_get shapes p.object.shape
 
--- A cell of this kind begins at the pointer.
+-- A cell of this kind begins where the pointer leads.
 abbrev pub is_cell : List Shape → Kind → SharedPtr → Bool
 is_cell shapes k p = is_kind k (kind_at (shape_at shapes p) (unsigned_abs p.offset))
 
--- An array of char that a call sees: its block and its bytes.
+-- An array of char as which a call sees an object: its block and its bytes (UPC 7.3).
 pub record View : Type 0 where
   pub block : ℕ
   pub bytes : ℕ
@@ -99,7 +100,7 @@ destination Gather threads n = view 0 (n * threads)
 destination Gather_all threads n = view (n * threads) (n * threads * threads)
 destination Exchange threads n = view (n * threads) (n * threads * threads)
 
--- The source.
+-- The source of a copying call in which each thread has n bytes (UPC 7.3).
 abbrev pub source : Way → ℕ → ℕ → View
 source Broadcast threads n = view 0 n
 source Scatter threads n = view 0 (n * threads)

@@ -9,16 +9,17 @@ use Rattle.typed_tree.specs.Scopes.{State}
 use Rattle.typing_rules.specs.Faults.{Fault, first_fault}
 use Rattle.walk_state.specs.Walk.{Walked}
 
+-- The refusal for a typing fault, or none where there is no fault.
 abbrev pub refusal_by : Option Fault → Option Refusal
 refusal_by None = None
 refusal_by (Some f) = Some (record { place = f.at; code = Typing f.rule })
 
--- Want of memory, or the refusal of the first fault.
+-- The code stops for want of memory, or with the refusal for the first fault.
 abbrev pub Stops : Option Fault → Stop → Type 0
 Stops fault stop.Memory = Unit {0}
 Stops fault (stop.Refused refusal) = refusal_by fault ≡ Some refusal
 
--- All nodes meet their rules, this is known behind the walk, and it makes this.
+-- All nodes of a walk meet their rules, this is known after the walk, and it makes this.
 pub record Comes {A : Type 0} (w : Walked A) (s : State) (a : A) : Type 0 where
   pub fine : first_fault w.seen ≡ None
   pub state : w.state ≡ s
@@ -29,6 +30,6 @@ abbrev pub Meets : {A B : Type 0} → (B → A) → Walked A → State → Resul
 Meets view w s (Ok x) = Comes w s (view x)
 Meets view w s (Err e) = Stops (first_fault w.seen) e
 
--- What lies in a box, seen so.
+-- What a box holds, seen so.
 abbrev pub boxed : {X A : Type 0} → (X → A) → Box X Global → A
 boxed view x = view x.value

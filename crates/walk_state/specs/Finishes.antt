@@ -13,7 +13,7 @@ use Rattle.typing_rules.specs.Rules.{lowest}
 use Rattle.typed_tree.specs.Tree.{ExprKind, Is}
 use Rattle.typed_tree.specs.ViewTree.{view_expr}
 
--- It is want of memory, or the refusal by this rule at this place.
+-- The code stops for want of memory, or with the refusal by this rule at this place.
 abbrev pub Refuses : Option ℕ → Place → Stop → Type 0
 Refuses rule at stop.Memory = Unit {0}
 Refuses None at (stop.Refused refusal) = ⊥

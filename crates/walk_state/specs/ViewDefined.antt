@@ -4,7 +4,7 @@ use Rattle.std.specs.HashMap.{get, HashMap}
 use Rattle.std.specs.List.{list_any}
 use Rattle.walk_state.specs.Defined.{number_in}
 
--- The number of a function that is defined.
+-- The number of a function among those that are defined, none where it is not defined (C99 6.9.1).
 abbrev pub numbered : List ℕ → ℕ → Option ℕ
 numbered names name = if list_any (λ x. x == name) names then Some (number_in names name) else None
 

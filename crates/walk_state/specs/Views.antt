@@ -10,18 +10,19 @@ use Rattle.walk_state.specs.declared.known.Known as k
 use Rattle.walk_state.specs.declared.functions.Functions as u
 use Rattle.walk_state.specs.ViewFunctions.{view_function}
 
+-- The setting that the code holds, with the limit of 65,535 (C99 5.2.4.1).
 abbrev pub view_setting : s.Setting → Setting
 view_setting x = record { names = x.names.now; threads = x.threads; defined = x.defined.now.names.items; most = 65535 }
 
--- What nodes may look at.
+-- What nodes may look at, as the code holds it: the structs and the number of threads.
 abbrev pub facts_of : s.Setting → k.Known → Facts
 facts_of x known = record { structs = view_structs known.structs; threads = x.threads }
 
--- The latest function first.
+-- The functions that the code holds, the latest first.
 abbrev pub view_functions : u.Functions → List KnownFunction
 view_functions x = reverse (map view_function x.list.items)
 
--- What is known, with these tags in scope.
+-- What the code knows, with these tags in scope.
 abbrev pub state_with : List Tag → k.Known → State
 state_with tags x =
     record {
@@ -32,5 +33,6 @@ state_with tags x =
       above = x.above;
     }
 
+-- What the code knows, with the tags in scope that it holds.
 abbrev pub state_of : t.Tags → k.Known → State
 state_of tags x = state_with (view_tags tags) x

@@ -10,12 +10,12 @@ use Rattle.upc_values.specs.Scalars.{same_loc}
 use Rattle.upc_values.specs.Drain.{entry_of}
 use Rattle.write_buffer.specs.declared.pending.Pending.{Pending}
 
--- the youngest pending write of the location: that of the younger ones, else the oldest one itself
+-- The youngest pending write of the location, if there is one.
 abbrev pub youngest : Loc → List Pending → Option Pending
 youngest l [] = None
 youngest l (p ∷ ps) = option_or (youngest l ps) (cond (same_loc p.loc l) (Some p) None)
 
--- the entry of thread t that a pending write becomes when it is committed
+-- The entry of thread t that a pending write becomes when it is committed.
 abbrev pub committed : ℕ → Pending → Entry
 committed t p = entry_of t p.index (Write p.loc p.value Bool.false) Done
 

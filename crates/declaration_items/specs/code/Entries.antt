@@ -15,7 +15,8 @@ use Rattle.thread_items.specs.code.Evaluations.{seen}
 use Rattle.thread_items.specs.code.Items.{Item}
 use Rattle.thread_items.specs.code.Seen.{Seen, headed, more_works, with_flow, with_state}
 
--- The block of a loop was entered, or the thread has ended so.
+-- The block of a loop was entered, and what its head leaves is to be done inside it, or the thread has ended there
+-- (C99 6.8.5.3).
 abbrev pub HeadWent : Running → pure.Standing → Head → StatementKind → Place → Seen → Step (Unit {0})
     → Evaluation → Type 0
 HeadWent ρ κ head kind at s (Gives u) m =
@@ -24,7 +25,7 @@ HeadWent ρ κ head kind at s (Gives u) m =
 HeadWent ρ κ head kind at s (Ends e) m =
     open_block κ.count (pure.shapes_of ρ head.objects) at s.state ≡ Over e (state_seen m.progress)
 
--- A block was entered, and this is left to be done inside it, or the thread has ended so.
+-- A block was entered, and these items are to be done inside it, or the thread has ended there (C99 6.8.2).
 abbrev pub BlockWent : (from : ℕ) → List Shape → Place → (inside : List Item) → Seen → Step (Unit {0})
     → Evaluation → Type 0
 BlockWent from shapes at inside s (Gives u) m =

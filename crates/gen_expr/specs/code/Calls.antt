@@ -15,14 +15,14 @@ use Rattle.stack_code.specs.declared.instruction.Instr.{Instr}
 use Rattle.gen_expr.specs.Sources.{Source, running_of}
 use Rattle.gen_expr.specs.Codes.{instruction, arguments_count, arguments_code}
 
--- A call of a function of the source.
+-- The code of a call of a function of the source (C99 6.5.2.2).
 abbrev pub function_call_code : Source → Bool → Place → ℕ → Exprs → List Instr
 function_call_code ς strict at n args =
     let cs = conversions (types_of args) (parameters_of (running_of ς) n) in
     arguments_code ς strict cs args
     ++ (instruction at (work.Call (CallTo (suc n) (arguments_count cs args))) ∷ [])
 
--- A call of the library that is no printf.
+-- The code of a call of the library other than printf (UPC 7.2, 7.3).
 abbrev pub library_call_code : Source → Bool → Place → CType → LibraryCall → Exprs → List Instr
 library_call_code ς strict at t c args =
     let cs = map parameter_conversion (call_parameters c) in

@@ -11,25 +11,26 @@ use Rattle.stack_code.specs.Making.{Making}
 use Rattle.gen_expr.specs.Sources.{Source}
 use Rattle.gen_stmt.specs.Programs.{functions_code}
 
--- With these functions behind those that are ended.
+-- Code that is being made, with these functions after those that are ended.
 abbrev pub with_functions : List (List Instr) → Making → Making
 with_functions functions m = record m { codes = record m.codes { functions = m.codes.functions ++ functions } }
 
--- With these private objects of the file behind the others.
+-- Code that is being made, with these private objects of the file after the others.
 abbrev pub with_objects : List Shape → Making → Making
 with_objects shapes m = record m { codes = record m.codes { private_shapes = m.codes.private_shapes ++ shapes } }
 
--- With these initial values behind the others.
+-- Code that is being made, with these initial values of private objects after the others.
 abbrev pub with_initials : List (LocalPtr × Value) → Making → Making
 with_initials initials m =
     record m { codes = record m.codes { private_initials = m.codes.private_initials ++ initials } }
 
--- What the code of these functions is made from, where a program begins so.
+-- What the code of these functions is made from, in a program with this beginning.
 abbrev pub source_with : List Function → Beginning → Source
 source_with functions b =
     record { functions = functions; structs = b.structs; shared = b.shared_objects; shapes = b.shapes }
 
--- All of the code of so many threads with these functions, where a program begins so.
+-- All of the code, for so many threads, of a program with these functions and this beginning: no function is being
+-- made, and nothing has failed.
 abbrev pub made : ℕ → List Function → Beginning → Making
 made threads functions b = record {
   codes = codes_of threads b.shapes (functions_code (source_with functions b)) b.private_shapes b.private_initials;

@@ -9,19 +9,22 @@ use Rattle.gen_stmt.specs.declared.standing.Standing as s
 use Rattle.gen_stmt.specs.Ways.{Way, Ways, way}
 use Rattle.gen_stmt.specs.code.Parts.{Labelled}
 
+-- A way out of a statement in the code generator, as contracts see it.
 abbrev pub view_exit : e.Exit → Way
 view_exit w = way w.blocks w.distance
 
+-- The ways out of a statement in the code generator, as contracts see them.
 abbrev pub view_exits : es.Exits → Ways
 view_exits x = record { broken = view_exit x.broken; again = view_exit x.again; blocks = x.blocks }
 
+-- What a statement stands in, in the code generator, as contracts see it.
 abbrev pub view_standing : s.Standing → Standing
 view_standing x = record { strict = x.strict; count = x.count; result = view x.result.now }
 
--- Where so many objects are in scope.
+-- What a statement stands in, with so many objects of its function in scope.
 abbrev pub with_count : ℕ → Standing → Standing
 with_count count κ = record κ { count = count }
 
--- The body of a switch with its labels, in order.
+-- The body of a switch in the code generator, as contracts see it, with its labels in order.
 abbrev pub view_labelled : l.Labelled → Labelled
 view_labelled x = record { code = x.code; labels = reverse x.labels.items; default = x.default }

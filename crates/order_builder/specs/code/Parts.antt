@@ -16,6 +16,6 @@ is_in (Shown t) n = (n.name.thread == t) || (n.name.write || n.strict)
 abbrev pub order_of : Part → List Named → List Op
 order_of part names = map (λ n. n.name) (filter (is_in part) names)
 
--- Those of the order of each of so many threads.
+-- The names of the operations in the order of each of so many threads.
 abbrev pub shown_below : List Named → ℕ → List (List Op)
 shown_below names n = map (λ t. order_of (Shown t) names) (range_with_len 0 n)

@@ -1,4 +1,4 @@
--- Words and lines behind others, as they are written one by one.
+-- Words and lines one after another, as they are written.
 use Rattle.std.specs.Prelude.{List, [], ◌∷◌, ◌++◌}
 use Rattle.record_text.specs.Words.{Text}
 
@@ -7,7 +7,7 @@ abbrev pub after_blanks : List Text → Text
 after_blanks [] = []
 after_blanks (w ∷ ws) = 32 ∷ (w ++ after_blanks ws)
 
--- Each line with its line end behind it.
+-- Each line with its line end after it.
 abbrev pub rows : List Text → Text
 rows [] = []
 rows (l ∷ ls) = l ++ (10 ∷ rows ls)

@@ -17,7 +17,7 @@ pub record IsKept (h : HeapState) (count : ℕ) : Type 0 where
   pub heap : IsHeap h
   pub bytes : count ≡ bytes_of (all_objects h)
 
--- An object that may be made next: it could be declared behind all others, and there is room for it.
+-- An object that may be made next: it could be declared after all others, and there is room for it.
 pub record IsNext (h : HeapState) (x : ObjectRef) : Type 0 where
   pub placed : IsDeclared (all_declared h) (length (all_objects h)) x
   pub room : bytes_of (all_objects h) + x.total ≤ 16777216

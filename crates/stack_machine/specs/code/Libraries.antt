@@ -9,13 +9,14 @@ use Rattle.thread_steps.specs.States.{Thread, Doing, ◌>>=◌, ◌>>◌, give, 
 use Rattle.thread_steps.specs.Actions.{meet}
 use Rattle.thread_steps.specs.Accesses.{run}
 
--- What an expansion comes to, as a value.
+-- A call of the library, step by step, whose scalar is given as a value (C99 7.19.6.3, UPC 7).
 abbrev pub expanded_to : Thread → Place → Expansion Scalar → Doing Value
 expanded_to τ at x = do
   v ← run τ at x
   give (value.Scalar v)
 
--- So where all threads may have to meet first.
+-- A call of the library, step by step, which begins only where all threads may meet if it is collective (UPC 6.6.1,
+-- 7.3).
 abbrev pub met_then : Bool → Thread → Place → Expansion Scalar → Doing Value
 met_then collective τ at x = do
   choose collective (meet τ at) skip

@@ -7,7 +7,7 @@ use Rattle.thread_steps.specs.Blocks.{local_object}
 use Rattle.stack_code.specs.declared.instruction.CellAccess.{CellAccess}
 use Rattle.stack_code.specs.Steps.{kept_in}
 
--- The i-th parameter gets the value of its argument.
+-- The i-th parameter gets the value of its argument (C99 6.5.2.2).
 unfoldable pub received_one : Thread → Place → ℕ → Option CellAccess → Value → Doing (Unit {0})
 received_one τ at i c v = do
   p ← local_object i

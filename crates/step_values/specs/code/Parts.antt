@@ -28,7 +28,7 @@ IsGiven threads call args r =
     (shapes : List Shape) (me : ℕ) (private : ℕ → Option Shape) (shape : ℕ)
     → Some r ≡ given_at_once (library_call threads shapes me private call shape args)
 
--- The offset of a pointer-to-local lies in range.
+-- The offset of a pointer-to-local, if it has one, lies in range.
 abbrev pub IsNear : LocalPtr → Type 0
 IsNear local.Null = Unit {0}
 IsNear (local.Private object offset) = InRange offset
@@ -40,12 +40,12 @@ DoesSo call args step =
     (threads : ℕ) (shapes : List Shape) (me : ℕ) (private : ℕ → Option Shape) (shape : ℕ)
     → library_call threads shapes me private call shape args ≡ expansion_of step
 
--- All threads meet in upc_all_alloc.
+-- All threads meet in upc_all_alloc (UPC 7.2.2).
 abbrev pub is_allocating : Call → Bool
 is_allocating (Allocates nblocks nbytes shape) = true
 is_allocating call = false
 
--- They meet in upc_all_lock_alloc.
+-- All threads meet in upc_all_lock_alloc (UPC 7.2.4).
 abbrev pub is_lock_making : Call → Bool
 is_lock_making Makes_lock = true
 is_lock_making call = false
@@ -56,22 +56,22 @@ done_or first second reply.Done = true
 done_or first second (reply.Refused code) = (code == first) || (code == second)
 done_or first second r = false
 
--- A size that an argument is.
+-- The size that an argument gives, if it is an integer.
 abbrev pub size_of : Value → Option ℕ
 size_of (value.Scalar (Int v)) = Some (unsigned_abs v)
 size_of v = None
 
--- Two sizes, where both are some.
+-- Two sizes, if both are there.
 abbrev pub both_sizes : Option ℕ → Option ℕ → Option (ℕ × ℕ)
 both_sizes (Some n) (Some b) = Some (n, b)
 both_sizes n b = None
 
--- The sizes that two arguments are.
+-- The sizes that a list of two arguments gives, if both are integers.
 abbrev pub two_sizes : List Value → Option (ℕ × ℕ)
 two_sizes (n ∷ b ∷ []) = both_sizes (size_of n) (size_of b)
 two_sizes args = None
 
--- The size that one argument is.
+-- The size that a list of one argument gives, if that is an integer.
 abbrev pub one_size : List Value → Option ℕ
 one_size (b ∷ []) = size_of b
 one_size args = None

@@ -1,4 +1,4 @@
--- What an evaluation comes to.
+-- What an evaluation leads to.
 use Rattle.std.specs.Prelude.{◌≡◌, ℤ}
 use Rattle.thread_steps.specs.States.{Res, Over}
 use Rattle.source_meaning.specs.Running.{Running}
@@ -9,6 +9,7 @@ use Rattle.thread_items.specs.code.Seen.{Seen, meant}
 use Rattle.thread_items.specs.code.ViewItems.{flow_seen, listed}
 use Rattle.thread_items.specs.declared.evaluation.Evaluation.{Evaluation}
 
+-- An evaluation, seen without where it lies in memory.
 abbrev pub seen : Evaluation → Seen
 seen m = record {
   works = listed m.works;
@@ -18,7 +19,7 @@ seen m = record {
   state = state_seen m.progress;
 }
 
--- This has been done: what is left comes to the same, or the thread has ended so.
+-- An evaluation has gone on: what is left gives this result, or the thread has ended, and that is the result.
 abbrev pub Went : Running → Res ℤ → Step (Unit {0}) → Evaluation → Type 0
 Went ρ r (Gives u) m = r ≡ meant ρ (seen m)
 Went ρ r (Ends e) m = r ≡ Over e (state_seen m.progress)

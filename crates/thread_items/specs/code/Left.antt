@@ -1,5 +1,5 @@
--- What the items that are left come to: of the calls that may still become active, of how the last statement was left,
--- and of the values of the expressions that are under way, youngest first.
+-- What the items that are left do, by the calls that may still become active, by how the last statement was left, and
+-- by the values of the expressions that are under way, youngest first.
 use Rattle.std.specs.Prelude.{ℕ, suc, ℤ, not, Bool, true, false, List, [], ◌∷◌, drop}
 use Rattle.std.specs.Prelude.{Option, Some, None}
 use Rattle.upc_text.specs.declared.place.Place.{Place}
@@ -35,11 +35,12 @@ use Rattle.thread_items.specs.code.Items.{Last, Drop, Run, Parts, Cases, Select,
 use Rattle.thread_items.specs.code.Items.{Mine, Guard}
 use Rattle.thread_items.specs.code.Items.{Finished, Release, Arm, Declare, Listed, Keep, Give, Mark, Return, End}
 
--- What follows, by the calls that may still become active, how the last statement was left, and the values.
+-- What follows, by how many calls may still become active, how the last statement was left, and the values.
 abbrev pub Going : Type 0
 Going = ℕ → Flow → List Given → Doing ℤ
 
--- Whether an operator takes two operands.
+-- An expression of this kind is a subscript, an assignment, or an operator between two operands of which both are
+-- evaluated (C99 6.5.2.1, 6.5.5 to 6.5.12, 6.5.16).
 abbrev pub is_infix : ExprKind → Bool
 is_infix (tree.Subscript a i) = true
 is_infix (tree.Binary o a b) = true
@@ -47,10 +48,13 @@ is_infix (tree.Assign a b) = true
 is_infix (tree.Compound o a b) = true
 is_infix kind = false
 
+-- An expression is a subscript, an assignment, or an operator between two operands of which both are evaluated
+-- (C99 6.5.2.1, 6.5.5 to 6.5.12, 6.5.16).
 abbrev pub takes_two : Expr → Bool
 takes_two (Is at attr kind) = is_infix kind
 
--- Whether an operator takes one operand.
+-- An expression of this kind is a member, or an operator on one operand other than `&` and `*` (C99 6.5.2.3, 6.5.2.4,
+-- 6.5.3.1, 6.5.3.3, 6.5.4).
 abbrev pub is_prefix : ExprKind → Bool
 is_prefix (tree.Member a index) = true
 is_prefix (tree.MemberBehind a index) = true
@@ -59,20 +63,23 @@ is_prefix (tree.Unary o a) = true
 is_prefix (tree.Cast a) = true
 is_prefix kind = false
 
+-- An expression is a member, or an operator on one operand other than `&` and `*` (C99 6.5.2.3, 6.5.2.4, 6.5.3.1,
+-- 6.5.3.3, 6.5.4).
 abbrev pub is_unary : Expr → Bool
 is_unary (Is at attr kind) = is_prefix kind
 
--- Whether a first operand decides what is done.
+-- The first operand of an expression of this kind decides what else is evaluated (C99 6.5.13 to 6.5.15).
 abbrev pub decides_in : ExprKind → Bool
 decides_in (tree.And a b) = true
 decides_in (tree.Or a b) = true
 decides_in (tree.Conditional test a b) = true
 decides_in kind = false
 
+-- The first operand of an expression decides what else is evaluated (C99 6.5.13 to 6.5.15).
 abbrev pub decides : Expr → Bool
 decides (Is at attr kind) = decides_in kind
 
--- The test of a loop, and what it does last in a turn, where there is one.
+-- The test of a loop, if it has one (C99 6.8.5).
 abbrev pub test_in : tree.StatementKind → Option Expr
 test_in (tree.While test body) = Some test
 test_in (tree.DoWhile body test) = Some test
@@ -80,13 +87,14 @@ test_in (tree.For head body) = head.test
 test_in (tree.Forall head whose body) = head.test
 test_in kind = None
 
+-- The expression that a loop evaluates last in a turn, if it has one (C99 6.8.5.3, UPC 6.6.2).
 abbrev pub step_in : tree.StatementKind → Option Expr
 step_in (tree.For head body) = head.step
 step_in (tree.Forall head whose body) = head.step
 step_in kind = None
 
 module _ (ρ : Running) where
-  -- What follows a first operand of this value.
+  -- What follows a first operand of this value, in an expression of this kind (C99 6.5.13 to 6.5.15).
   abbrev pub branched_by : Calls → Bool → Attr → ExprKind → Given → Doing Given
   branched_by call strict attr (tree.And a b) x =
       choose (is_zero x) (give (truth_value false)) (truth_after ρ (value ρ call strict b))
@@ -97,19 +105,23 @@ module _ (ρ : Running) where
       (converted_to ρ attr.ctype a (value ρ call strict a))
   branched_by call strict attr kind x = give x
 
+  -- What follows a first operand of this value, in an expression (C99 6.5.13 to 6.5.15).
   abbrev pub branched : Calls → Bool → Expr → Given → Doing Given
   branched call strict (Is at attr kind) x = branched_by call strict attr kind x
 
-  -- A call whose arguments have these values.
+  -- A call, as an expression of this kind, whose arguments have these values (C99 6.5.2.2; UPC 7.2, 7.3).
   abbrev pub called_by : Calls → Place → Attr → ExprKind → List Given → Doing Given
   called_by call at attr (tree.Call (target.Function number) args) vs = call number vs at
   called_by call at attr (tree.Call (target.Library c) args) vs = library_called ρ at attr c args vs
   called_by call at attr kind vs = give no_value
 
+  -- A call, as an expression, whose arguments have these values (C99 6.5.2.2; UPC 7.2, 7.3).
   abbrev pub called_so : Calls → Expr → List Given → Doing Given
   called_so call (Is at attr kind) vs = called_by call at attr kind vs
 
   -- ---- loops: the test, the body and the last part of one (C99 6.8.5, UPC 6.6.2)
+
+  -- The body of a loop; that of a upc_forall is done where the turn is this thread's (C99 6.8.5, UPC 6.6.2).
   abbrev pub body_of : Calls → Standing → tree.StatementKind → Does
   body_of call κ (tree.While test body) = run ρ call κ body
   body_of call κ (tree.DoWhile body test) = run ρ call κ body
@@ -117,12 +129,12 @@ module _ (ρ : Running) where
   body_of call κ (tree.Forall head whose body) = guarded ρ call κ whose (run ρ call κ body)
   body_of call κ kind = give Next
 
-  -- At most so many turns.
+  -- A loop of at most so many turns: its test, its body and its last part (C99 6.8.5, UPC 6.6.2).
   abbrev pub turned : Calls → Standing → tree.StatementKind → ℕ → Does
   turned call κ kind n =
       turns ρ n (tested ρ call κ (test_in kind)) (body_of call κ kind) (aside ρ call κ (step_in kind))
 
-  -- An item, and what follows.
+  -- What an item does, and then what follows.
   abbrev pub does : Item → Going → Going
   does (Value strict e) k n f vs = value ρ (called ρ n) strict e >>= (λ v. k n f (v ∷ vs))
   does (Address strict e) k n f vs = address ρ (called ρ n) strict e >>= (λ v. k n f (v ∷ vs))
@@ -171,6 +183,7 @@ module _ (ρ : Running) where
   does (Return saved blank) k n f vs = end_call >> k (suc n) saved (given_by blank f ∷ vs)
   does (End at) k n f vs = notify ρ.thread at mark.Finish >> (wait ρ.thread at mark.Finish >> k n f vs)
 
+  -- What all items that are left do, one after the other; at the end the thread gives the youngest value as an int.
   abbrev pub left : List Item → Going
   left [] n f vs = give (converted kind.Int (number_of (top vs)))
   left (w ∷ ws) n f vs = does w (left ws) n f vs

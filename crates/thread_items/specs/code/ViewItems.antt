@@ -21,21 +21,24 @@ use Rattle.thread_items.specs.declared.works.Works.{Works}
 use Rattle.thread_items.specs.code.Items as i
 use Rattle.thread_items.specs.code.Items.{Item}
 
--- The conversions of these arguments.
+-- The conversions of these arguments into what the code says that their call takes (C99 6.5.2.2).
 abbrev pub casts_of : Parameters → Exprs → List CastTo
 casts_of (p.Types ts) more = conversions (types_of more) (map view ts.now)
 casts_of (p.Library ps) more = map parameter_conversion ps.now
 casts_of p.Promoted more = map promotion (types_of more)
 
+-- How a statement was left in the code, as contracts see it.
 abbrev pub flow_seen : Flow → pure.Flow
 flow_seen Next = pure.Next
 flow_seen Broke = pure.Broke
 flow_seen Again = pure.Again
 flow_seen (Gave v) = pure.Gave v
 
+-- What a statement stands in, seen without where its result lies in memory.
 abbrev pub view_standing : Standing → pure.Standing
 view_standing s = record { strict = s.strict; count = s.count; result = view s.result.now }
 
+-- One item of the code, seen without where the tree lies in memory.
 abbrev pub view_work : Work → Item
 view_work (w.Value strict e) = i.Value strict (view_expr e.now)
 view_work (w.Address strict e) = i.Address strict (view_expr e.now)
@@ -73,6 +76,6 @@ view_work (w.Mark how at) = i.Mark how at
 view_work (w.Return flow blank) = i.Return (flow_seen flow) blank
 view_work (w.End at) = i.End at
 
--- What is left to do, what comes first at the head.
+-- The items that are left, in order, seen without where the tree lies in memory.
 abbrev pub listed : Works → List Item
 listed ws = map view_work (reverse ws.items.items)

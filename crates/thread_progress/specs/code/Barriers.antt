@@ -4,6 +4,6 @@ use Rattle.upc_values.specs.declared.scalar.Mark.{Mark}
 use Rattle.thread_steps.specs.States.{Thread, Doing, ◌>>◌}
 use Rattle.thread_steps.specs.Actions.{notify, wait}
 
--- The two halves of a barrier.
+-- Both halves of a barrier: a notify, and then a wait (UPC 6.6.1).
 unfoldable pub passed : Thread → Place → Mark → Doing (Unit {0})
 passed τ at mark = notify τ at mark >> wait τ at mark

@@ -9,7 +9,7 @@ use Rattle.upc_values.specs.Formed.{is_read}
 use Rattle.thread_steps.specs.States.{Thread, Doing, ◌>>◌, skip, choose}
 use Rattle.thread_steps.specs.Actions.{ask}
 
--- Whether a reply fits a read of a cell of this kind.
+-- A reply fits a read of a cell of this kind.
 abbrev pub fits_read : ℕ → List Shape → Option Kind → Reply → Bool
 fits_read threads shapes kind (Value v) = is_read threads shapes kind v
 fits_read threads shapes kind r = false

@@ -15,21 +15,22 @@ use Rattle.thread_steps.specs.Library.{library, print}
 use Rattle.source_meaning.specs.Running.{Running}
 use Rattle.source_meaning.specs.Expressions.{format_of, is_printf, allocated_shape}
 
--- What an expansion comes to, as a value.
+-- A call of the library, step by step, whose scalar is given as a value (C99 7.19.6.3, UPC 7).
 abbrev pub expanded_to : Thread → Place → Expansion Scalar → Doing Value
 expanded_to τ at x = run τ at x >>= (λ v. give (value.Scalar v))
 
--- So where all threads may have to meet.
+-- A call of the library, step by step, which begins only where all threads may meet if it is collective (UPC 6.6.1,
+-- 7.3).
 abbrev pub met_then : Bool → Thread → Place → Expansion Scalar → Doing Value
 met_then b τ at x = choose b (meet τ at) skip >> expanded_to τ at x
 
--- The format of a printf, which is its first argument.
+-- The format of a printf, which is its first argument (C99 7.19.6.3).
 abbrev pub format_first : Exprs → List ℕ
 format_first NoExprs = []
 format_first (AndExpr format more) = format_of format
 
 module _ (ρ : Running) where
-  -- A call of the library whose arguments have these values.
+  -- A call of the library whose arguments have these values (C99 7.19.6.3; UPC 7.2, 7.3).
   abbrev pub library_called : Place → Attr → LibraryCall → Exprs → List Value → Doing Value
   library_called at attr c args vs =
       choose (is_printf c) (print ρ.thread (format_first args) vs)

@@ -20,28 +20,28 @@ use Rattle.source_meaning.specs.Expressions.{within_row, behind, unary, binary, 
 use Rattle.source_meaning.specs.Expressions.{type_of, dimension}
 
 module _ (ρ : Running) where
-  -- A subscript, which may have to lie in a dimension (C99 6.5.2.1).
+  -- The place that a subscript names, whose index may have to lie in a dimension (C99 6.5.2.1).
   abbrev pub subscript : Place → CType → Option ℕ → Value → ℤ → Doing Value
   subscript at t count p i = do
     q ← behind ρ at t p i
     within_row at count p i
     give q
 
-  -- A value, converted, is the new one of the object at a place (C99 6.5.16.1).
+  -- A value, converted, becomes that of the object at a place, and is given (C99 6.5.16.1).
   abbrev pub put_cast : Bool → Place → CastTo → Place → CType → (p v : Value) → Doing Value
   put_cast strict at into there t p v = do
     w ← cast ρ.thread into there v
     put ρ strict at t p w
     give w
 
-  -- A compound assignment (C99 6.5.16.2).
+  -- A compound assignment to the object at a place, with the value of its right operand (C99 6.5.16.2).
   abbrev pub compound : Bool → Place → BinOp → (left right : CType) → (p y : Value) → Doing Value
   compound strict at o t u p y = do
     x ← held ρ strict at t p
     z ← binary ρ at o t u x y
     put_cast strict at (conversion t t) at t p z
 
-  -- `++` and `--` (C99 6.5.2.4, 6.5.3.1).
+  -- A `++` or `--` of the object at a place (C99 6.5.2.4, 6.5.3.1).
   abbrev pub step : Bool → Place → StepOperator → CType → Value → Doing Value
   step strict at o t p = do
     v ← held ρ strict at t p
@@ -49,7 +49,8 @@ module _ (ρ : Running) where
     u ← put_cast strict at (conversion t t) at t p w
     give (step_value ρ o v u)
 
-  -- The operator of an expression, where its operands have these values; one operand is the second.
+  -- What the operator of an expression of this kind gives, where its operands have these values; one operand is the
+  -- second (C99 6.5).
   abbrev pub operated_by : Bool → Place → Attr → ExprKind → (x y : Value) → Doing Value
   operated_by strict at attr (tree.Subscript a i) p n =
       subscript at attr.ctype (dimension a) p (number_of n)
@@ -66,5 +67,7 @@ module _ (ρ : Running) where
   operated_by strict at attr (tree.Compound o a b) p y = compound strict at o (type_of a) (type_of b) p y
   operated_by strict at attr kind x y = give y
 
+  -- What the operator of an expression gives, where its operands have these values; one operand is the second
+  -- (C99 6.5).
   abbrev pub operated : Bool → Expr → (x y : Value) → Doing Value
   operated strict (Is at attr kind) x y = operated_by strict at attr kind x y

@@ -7,13 +7,15 @@ use Rattle.thread_steps.specs.Ranges.{IsHeld}
 use Rattle.thread_steps.specs.States.{Thread}
 use Rattle.thread_progress.specs.declared.runner.Runner.{Runner}
 
+-- The thread that runs, seen without where its shapes lie in memory.
 abbrev pub thread_seen : Runner → Thread
 thread_seen s = record { number = s.number; threads = s.threads; budget = s.budget; shapes = s.shapes.now }
 
--- There are as many threads as may be, and the shared elements have shapes.
+-- A run may have so many threads, and each shape of shared elements is one.
 pub record Fits (s : Runner) : Type 0 where
   pub threads : IsThreads s.threads
   pub shapes : Each IsShape s.shapes.now
 
+-- The value is in range for the threads and the shapes of the run.
 abbrev pub IsHeldThere : Runner → Value → Type 0
 IsHeldThere s v = IsHeld s.threads s.shapes.now v

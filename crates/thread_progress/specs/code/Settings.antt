@@ -6,6 +6,7 @@ use Rattle.source_meaning.specs.Running.{Running}
 use Rattle.thread_progress.specs.declared.setting.Setting.{Setting}
 use Rattle.thread_progress.specs.code.Runners.{thread_seen}
 
+-- The program as a thread runs it, seen without where it lies in memory.
 abbrev pub running_seen : Setting → Running
 running_seen s = record {
   functions = map view_function s.functions.now;
