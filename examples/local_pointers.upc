@@ -1,5 +1,5 @@
 /* The part of a shared array that a thread has, by a private pointer. A pointer-to-shared may be cast to a private one
-   on the thread where it leads, and there the blocks of that thread lie one behind another (UPC 6.4.3, 6.5.1.1).
+   on the thread where it leads, and there the blocks of that thread lie one after another (UPC 6.4.3, 6.5.1.1).
    upc_affinitysize says how many bytes of so many in such blocks a thread has (UPC 7.2.3). */
 #include <upc_relaxed.h>
 #include <stdio.h>

@@ -1,5 +1,5 @@
 /* Message passing. Thread 0 writes the data, which is relaxed, and then a flag, which is strict; thread 1 waits for the
-   flag and prints the data. A strict access stands behind all that its thread did before (UPC 6.5.1.1), so with two
+   flag and prints the data. A strict access stands after all that its thread did before (UPC 6.5.1.1), so with two
    threads it prints 42 in every run. The last loop stands for `if`. */
 relaxed shared int data;
 strict shared int flag;

@@ -1,5 +1,5 @@
-/* A barrier in two halves. Behind upc_notify a thread may do what concerns no other thread, and only upc_wait holds it
-   until all have notified (UPC 6.6.1): what was written before the notify can be read behind the wait. Each thread
+/* A barrier in two halves. After upc_notify a thread may do what concerns no other thread, and only upc_wait holds it
+   until all have notified (UPC 6.6.1): what was written before the notify can be read after the wait. Each thread
    makes its elements, notifies, smooths those whose neighbours it made itself, waits, and then those at the edges of
    its blocks, whose neighbours lie on other threads. */
 #include <upc_relaxed.h>

@@ -1,5 +1,5 @@
 /* Three ways to hand a value over. Thread 0 writes it and then says so; the last thread waits until it is said, and
-   reads it. What is relaxed alone may be seen in any order; a strict access stands behind all that its thread did
+   reads it. What is relaxed alone may be seen in any order; a strict access stands after all that its thread did
    before, and before all that it does after (UPC 6.5.1.1): by a strict variable, by the pragma at the head of a block
    (UPC 6.7), or by a fence between two relaxed accesses (UPC 6.6.1). It prints 42 three times, on any number of
    threads. */

@@ -1,5 +1,5 @@
 /* The sum of an array that lies on all threads. Each thread fills the elements that lie on it, adds up its part, and
-   adds that to the total behind a lock; thread 0 prints the total when all have met (UPC 6.5.1.1, 6.6, 7.2.4). */
+   adds that to the total under a lock; thread 0 prints the total when all have met (UPC 6.5.1.1, 6.6, 7.2.4). */
 #include <upc_relaxed.h>
 #include <stdio.h>
 

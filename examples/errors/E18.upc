@@ -1,4 +1,4 @@
-/* E18: behind one member of a struct a pointer comes to no cell of its type: here to padding. */
+/* E18: after one member of a struct a pointer reaches no cell of its type: here padding. */
 struct pair {
   char small;
   long wide;

@@ -1,8 +1,8 @@
 /* 2+2W, two and two writes: both threads write both variables, in opposite orders: 1 first and then 2.
 
-   Outcomes, as (x, y) behind the barrier:
+   Outcomes, as (x, y) after the barrier:
    - Relaxed, by UPC: (1, 1), (1, 2), (2, 1), (2, 2). In (1, 1) both first writes come last. The threads' orders may
-     even differ, so that two threads find different values behind the barrier.
+     even differ, so that two threads find different values after the barrier.
    - Strict, by UPC: all but (1, 1). The write that stands last of all is the second of its thread, and it writes 2.
    - By the write buffer: all but (1, 1). The writes of a thread leave its buffer in order.
    - By the order of the rounds: (1, 2). All of thread 1 stands before all of thread 0. */

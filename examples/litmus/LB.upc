@@ -6,7 +6,7 @@
    - Strict, by UPC: all but (1, 1). The access that stands first of all is a read, and it gives 0.
    - By the write buffer: all but (1, 1). A read is made at once and a write never before its turn, so the first read
      comes before both writes.
-   - By the order of the rounds: (1, 0). Thread 1 reads before thread 0 begins, and thread 0 behind all of thread 1. */
+   - By the order of the rounds: (1, 0). Thread 1 reads before thread 0 begins, and thread 0 after all of thread 1. */
 #include <upc_relaxed.h>
 #include <stdio.h>
 

@@ -1,7 +1,7 @@
 /* R: thread 0 writes x and then 1 into y; thread 1 writes 2 into y and then reads x.
 
-   Outcomes, as (what thread 1 read of x, what y is behind the barrier):
-   - Relaxed, by UPC: (0, 1), (0, 2), (1, 1), (1, 2). In (0, 2) the write of 2 comes behind that of 1, and yet the read
+   Outcomes, as (what thread 1 read of x, what y is after the barrier):
+   - Relaxed, by UPC: (0, 1), (0, 2), (1, 1), (1, 2). In (0, 2) the write of 2 comes after that of 1, and yet the read
      that follows it misses x, which was written before that 1.
    - Strict, by UPC: all but (0, 2).
    - By the write buffer: all four. For (0, 2) the write of 2 waits while thread 1 reads and thread 0 does all its work.

@@ -1,9 +1,9 @@
 /* S: thread 0 writes 2 into x and then y; thread 1 reads y and then writes 1 into x.
 
-   Outcomes, as (what thread 1 read of y, what x is behind the barrier):
-   - Relaxed, by UPC: (0, 1), (0, 2), (1, 1), (1, 2). In (1, 2) thread 1 saw y, which was written behind x, and still
+   Outcomes, as (what thread 1 read of y, what x is after the barrier):
+   - Relaxed, by UPC: (0, 1), (0, 2), (1, 1), (1, 2). In (1, 2) thread 1 saw y, which was written after x, and still
      its own write of x comes before that one. The threads' orders may even set the two writes of x differently, so that
-     one thread finds 1 behind the barrier and the other 2.
+     one thread finds 1 after the barrier and the other 2.
    - Strict, by UPC: all but (1, 2). It is enough that both accesses to y are strict.
    - By the write buffer: all but (1, 2). Where y is seen, x stands in the history already, and thread 1's
      write follows.

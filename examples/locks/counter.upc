@@ -1,4 +1,4 @@
-/* A counter behind a lock. Each thread adds 10 times 1: reads, adds and writes. Without the lock two threads may read
+/* A counter under a lock. Each thread adds 10 times 1: reads, adds and writes. Without the lock two threads may read
    the same value, and one of their turns is lost. upc_lock lets one thread through at a time, and what it wrote before
    upc_unlock is seen by the next (UPC 7.2.4): so relaxed accesses are enough inside. All threads call
    upc_all_lock_alloc and get the same lock. The counter comes to ten for each thread. */

@@ -1,4 +1,4 @@
-/* A queue with room for four, behind a lock. Even threads put numbers in, all threads take them out, and each number
+/* A queue with room for four, under a lock. Even threads put numbers in, all threads take them out, and each number
    is taken once. A thread that finds the queue full or empty gives the lock back and tries again, so nobody waits
    while it holds the lock. Which thread takes a number depends on the run; that all are taken does not (UPC 7.2.4).
    Nothing is called between upc_lock and upc_unlock: this runtime ends a thread's part in a round at a loop's test or a

@@ -1,4 +1,4 @@
--- The first of two lists, one behind the other.
+-- The first of two lists, one after the other.
 use Rattle.std.proofs.Common.{◌≡◌, List, [], ◌∷◌, ◌++◌, refl}
 use Rattle.upc_text.specs.declared.place.Refusal.{Refusal}
 use Rattle.affinity_checker.specs.Rules.{first}

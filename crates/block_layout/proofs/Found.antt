@@ -56,7 +56,7 @@ some_bytes (kind.Shared n b) = omega arith
 some_bytes kind.Lock = omega arith
 some_bytes (kind.Private n) = omega arith
 
--- A cell behind others begins behind them.
+-- A cell after others begins after them.
 begins_behind : (cells : List (ℕ × Kind)) (from size byte : ℕ) (k : Kind) → CellsWithin cells from size → has_cell cells byte k ≡ true → from ≤ byte
 begins_behind [] from size byte k h e = absurd (false≢true e)
 begins_behind (c ∷ cells) from size byte k h e =
@@ -88,7 +88,7 @@ cell_found (c ∷ cells) from size byte k h e =
 pub pair_is : (n m : ℕ) (k l : Kind) → n ≡ m → k ≡ l → ◌≡◌ {A = ℕ × Kind} (n, k) (m, l)
 pair_is n m k l e f = cc
 
--- The test tells whether the list contains the cell.
+-- The test says whether the list contains the cell.
 has_contains : (cells : List (ℕ × Kind)) (byte : ℕ) (k : Kind) → has_cell cells byte k ≡ true → Contains cells (byte, k)
 has_contains [] byte k e = absurd (false≢true e)
 has_contains (c ∷ cells) byte k e = by_first (c.0 == byte && same_kind c.1 k) refl e (has_contains cells byte k)

@@ -53,7 +53,7 @@ runs_under_end rs place i l = ap (λ (ts : List Repeated). under place (runs_cel
 pub found_before : (xs ys : List (ℕ × Kind)) (size place : ℕ) (k : Kind) → CellsWithin (xs ++ ys) 0 size → has_cell xs place k ≡ true → under place (xs ++ ys) ≡ Some k
 found_before xs ys size place k h e = cell_found (xs ++ ys) 0 size place k h (has_before xs ys place k e)
 
--- What is told of the whole, where it is told of its parts.
+-- The answer for the whole, by the answers for its parts.
 pub exact_of : (cells : List (ℕ × Kind)) (place : ℕ) (k : Kind) (r : Bool) → r ≡ has_cell cells place k → (r ≡ true) ↔ Contains cells (place, k)
 exact_of cells place k r e = let both = has_exact cells place k in (λ h. both.0 (sym e ∙ h), λ h. e ∙ both.1 h)
 

@@ -43,7 +43,7 @@ reach_still start stride n offset place l still some =
       | inr k ↦ k.0 ∙ sym (hits_none start stride n offset place (λ i b e. k.1 (let z : i * stride ≡ i * 0 = ap (λ m. i * m) still in omega (arith, z, e))))
     ]
 
--- Copies one behind the other.
+-- Copies one after the other.
 pub reach_step : (start stride n offset place gap : ℕ) → gap + (start + offset) ≡ place → 0 < stride → gap % stride ≡ 0 → nat_lt (gap / stride) n ≡ hits start stride n offset place
 reach_step start stride n offset place gap is some whole =
     let q : ℕ = gap / stride in

@@ -1,4 +1,4 @@
--- Runs whose copies go on behind those of the run before.
+-- Runs whose copies go on after those of the run before.
 use Rattle.std.proofs.Common.{◌≡◌, ℕ, zero, suc, ◌+◌, ◌*◌, ◌<◌, ◌≤◌, ◌⊎◌, inl, inr, List, [], ◌∷◌, ◌++◌, sym, ap, ◌∙◌, subst, append_assoc, arith}
 use Rattle.std.proofs.lemmas.List.{append-nil}
 use Rattle.block_layout.specs.declared.kind.Kind.{Kind}
@@ -8,7 +8,7 @@ use Rattle.block_layout.proofs.Within.{copies_step, one_copy}
 use Rattle.block_layout.proofs.Near.{near_append, near_copy}
 use Rattle.block_layout.proofs.RunLists.{runs_push}
 
--- Copies behind copies.
+-- Copies after copies.
 copies_joined : (s c d t : ℕ) (cells : List (ℕ × Kind)) → moved s (copies c t cells) ++ moved (s + c * t) (copies d t cells) ≡ moved s (copies (c + d) t cells)
 copies_joined s c zero t cells =
     let e : c + 0 ≡ c = omega arith in

@@ -1,4 +1,4 @@
--- Cells that lie one behind the other, told step by step.
+-- Cells that lie one after the other, step by step.
 use Rattle.std.proofs.Common.{◌≡◌, ℕ, ◌+◌, ◌*◌, ◌<◌, ◌≤◌, Option, Some, None, IfSome, SomeIff, List, [], ◌∷◌, ◌++◌, length, get_or, take, sym, ap, ◌∙◌, subst, arith}
 use Rattle.std.proofs.lemmas.List.{take_more}
 use Rattle.block_layout.specs.declared.kind.Kind.{Kind}

@@ -1,4 +1,4 @@
--- The tests of pointers tell their equalities.
+-- The tests of pointers decide their equalities.
 use Rattle.std.proofs.Common.{◌≡◌, ℕ, ◌==◌, Bool, true, false, refl}
 use Rattle.std.proofs.Math.IntN.{ℤ}
 use Rattle.std.specs.Ordering.{int_eq}

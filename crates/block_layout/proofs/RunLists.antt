@@ -40,7 +40,7 @@ moved_more rs before xs ys start i r d l is cells done pushed =
     ∙ ap (λ zs. xs ++ zs) (sym (moved_append start (runs_cells (take i rs)) (run_cells d)))
     ∙ ap (λ zs. xs ++ moved start zs) (sym e)
 
--- Cells of runs behind a tail that is sealed.
+-- Cells of runs after a tail that is sealed.
 pub runs_behind : (ts : List Repeated) (tail xs ys : List (ℕ × Kind)) → runs_cells ts ≡ xs ++ ys → tail ≡ [] → runs_cells ts ++ tail ≡ xs ++ ys
 runs_behind ts tail xs ys e none = ap (λ zs. runs_cells ts ++ zs) none ∙ append-nil (runs_cells ts) ∙ e
 

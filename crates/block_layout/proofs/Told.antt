@@ -1,4 +1,4 @@
--- Runs whose patterns tell whether their cells are the same.
+-- Runs whose patterns decide whether their cells are the same.
 use Rattle.std.proofs.Common.{◌≡◌, ℕ, zero, suc, ◌+◌, ◌-◌, ◌<◌, ◌==◌, ◌&&◌, inl, inr, Bool, true, false, List, [], ◌∷◌, ◌++◌, length, drop, take, get_or, refl, sym, ap, ◌∙◌, append_assoc, arith}
 use Rattle.std.proofs.lemmas.Bool.{eq-eqb}
 use Rattle.std.proofs.lemmas.Bool.Decides.{eqb_tells}
@@ -68,7 +68,7 @@ runs_differ r s some a b n l h xs ys =
     ∙ differ_front (moved r.start r.cells) (moved r.start s.cells) (rest ++ xs) (others ++ ys) (length_moved r.start r.cells ∙ l ∙ sym (length_moved r.start s.cells))
     (same_moved r.start r.cells s.cells ∙ h)
 
--- What the patterns of two runs tell.
+-- What the patterns of two runs decide.
 pub run_told : (r s : Repeated) (same : Bool) → 0 < r.count → r.start ≡ s.start → r.stride ≡ s.stride → r.count ≡ s.count → length r.cells ≡ length s.cells → same ≡ same_cells r.cells s.cells
     → IsTold same (run_cells r) (run_cells s)
 run_told r s true some a b n l h =
@@ -93,7 +93,7 @@ runs_parts (r ∷ rs) (suc i) d l =
     ∙ sym (append_assoc (run_cells r) (runs_cells (take i rs)) (run_cells (get_or rs i d) ++ runs_cells (drop (i + 1) rs)))
     ∙ ap (λ n. (run_cells r ++ runs_cells (take i rs)) ++ (run_cells (get_or rs i d) ++ runs_cells (drop n (r ∷ rs)))) e
 
--- Runs that differ behind equal ones.
+-- Runs that differ after equal ones.
 pub told_differ : (rs ts : List Repeated) (i : ℕ) (r t : Repeated) → i < length rs → i < length ts → r ≡ get_or rs i r → t ≡ get_or ts i t
     → runs_cells (take i rs) ≡ runs_cells (take i ts) → IsTold false (run_cells r) (run_cells t) → IsTold false (runs_cells rs) (runs_cells ts)
 told_differ rs ts i r t l m is at before differ xs ys =
@@ -111,6 +111,6 @@ told_differ rs ts i r t l m is at before differ xs ys =
     ap (λ zs. same_cells zs (runs_cells ts ++ ys)) first ∙ ap (λ zs. same_cells (p ++ (run_cells r ++ (a ++ xs))) zs) second
     ∙ same_front p (run_cells r ++ (a ++ xs)) (run_cells t ++ (b ++ ys)) ∙ differ (a ++ xs) (b ++ ys)
 
--- Tails behind equal runs.
+-- Tails after equal runs.
 pub told_tails : (rs ts xs ys : List (ℕ × Kind)) → rs ≡ ts → same_cells (rs ++ xs) (ts ++ ys) ≡ same_cells xs ys
 told_tails rs ts xs ys e = ap (λ zs. same_cells (zs ++ xs) (ts ++ ys)) e ∙ same_front ts xs ys

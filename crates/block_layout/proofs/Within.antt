@@ -1,4 +1,4 @@
--- Cells that are moved, copied one behind the other, and lie inside their object, ascending and without overlap.
+-- Cells that are moved, copied one after the other, and lie inside their object, ascending and without overlap.
 use Rattle.std.proofs.Common.{◌≡◌, ℕ, zero, suc, ◌+◌, ◌*◌, ◌<◌, ◌≤◌, List, [], ◌∷◌, ◌++◌, length, get_or, refl, ap, ◌∙◌, subst, arith}
 use Rattle.std.proofs.lemmas.List.{map-append}
 use Rattle.block_layout.specs.declared.kind.Kind.{Kind}
@@ -45,7 +45,7 @@ pub moved_nowhere : (xs : List (ℕ × Kind)) → moved 0 xs ≡ xs
 moved_nowhere [] = refl
 moved_nowhere (c ∷ xs) = let e : 0 + c.0 ≡ c.0 = omega arith in rw (e, moved_nowhere xs) refl
 
--- One more element behind the others.
+-- One more element after the others.
 pub copies_step : (start i size : ℕ) (xs : List (ℕ × Kind)) → moved start (copies (i + 1) size xs) ≡ moved start (copies i size xs) ++ moved (start + i * size) xs
 copies_step start i size xs =
     let e : i + 1 ≡ suc i = omega arith in

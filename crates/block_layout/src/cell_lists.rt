@@ -25,7 +25,7 @@ fn push_moved(
     Ok(())
 }
 
-// Adds the cells of so many elements, one behind the other from there.
+// Adds the cells of so many elements, one after the other from there.
 pub(crate) fn push_lists(
     cells: &mut Vec<(u32, Kind)>,
     start: u32,

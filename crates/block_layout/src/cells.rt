@@ -26,7 +26,7 @@ const MOST: usize = 256;
 /// Cells of an element: the byte offset and the kind of each. Contracts see the list.
 #[derive(Drop)]
 pub struct Cells {
-    // Copies of patterns, and the cells behind them.
+    // Copies of patterns, and the cells after them.
     runs: Vec<Run>,
     tail: Vec<(u32, Kind)>,
 }
@@ -41,7 +41,7 @@ impl Model for Cells {
     ghost view = { λ c. runs_cells c.runs.items ++ c.tail.items };
 }
 
-// Whether so many copies of so many cells are few enough to stand behind these one by one.
+// Whether so many copies of so many cells are few enough to stand after these one by one.
 fn are_few(before: usize, count: u32, cells: usize) -> bool {
     cells.saturating_mul(count as usize) <= MOST.saturating_sub(before)
 }
@@ -116,7 +116,7 @@ impl Cells {
         runs_have(self.runs.as_slice(), place, kind) || list_has(self.tail.as_slice(), place, kind)
     }
 
-    /// One cell more, behind the others.
+    /// One cell more, after the others.
     pub fn push(&mut self, place: u32, kind: Kind) -> Result<(), AllocError>
         ensures { OnOk result (self.new ≡ self.old ++ (place, kind) ∷ []) }
     {
@@ -127,7 +127,7 @@ impl Cells {
         Ok(())
     }
 
-    /// The cells of so many elements of one size, the first of which begins at a byte, behind the others.
+    /// The cells of so many elements of one size, the first of which begins at a byte, after the others.
     #[tactic(auto, using(crate::proofs::Within::one_copy))]
     pub fn push_copies(
         &mut self,
@@ -151,7 +151,7 @@ impl Cells {
         push_run_copies(&mut self.runs, start, count, size, runs.as_slice())
     }
 
-    // The cells of one element, behind the others.
+    // The cells of one element, after the others.
     fn push_part(&mut self, start: u32, size: u32, part: &Cells) -> Result<(), AllocError>
         requires within { CellsWithin part.now 0 size }
         requires near { start + size ≤ 4294967295 }
@@ -162,7 +162,7 @@ impl Cells {
         self.push_pattern(start, 1, size, part.tail.as_slice())
     }
 
-    // Copies of these cells, behind the others.
+    // Copies of these cells, after the others.
     fn push_pattern(
         &mut self,
         start: u32,
@@ -243,7 +243,7 @@ impl Cells {
         self.lie_in_step(size)
     }
 
-    // Whether one copy of each pattern tells that the cells lie in so many bytes.
+    // Whether one copy of each pattern shows that the cells lie in so many bytes.
     fn end_within(&self, size: u32) -> bool
         ensures { IsTrue result → CellsWithin self.now 0 size }
     {

@@ -13,11 +13,11 @@ pub struct CellsIter<'a> {
     // The cells of this copy that are left, and where the copy begins.
     left: &'a [(u32, Kind)],
     start: u32,
-    // The copies of the run behind this one.
+    // The copies of the run after this one.
     stride: u32,
     more: u32,
     pattern: &'a [(u32, Kind)],
-    // The runs behind this one, and the last cells.
+    // The runs after this one, and the last cells.
     runs: &'a [Run],
     tail: &'a [(u32, Kind)],
 }
@@ -71,7 +71,7 @@ impl<'a> Iterator for CellsIter<'a> {
 }
 
 impl<'a> CellsIter<'a> {
-    // The cells of these runs, and these behind them.
+    // The cells of these runs, and these after them.
     pub(crate) fn of(runs: &'a [Run], tail: &'a [(u32, Kind)]) -> CellsIter<'a>
         ensures { result ≡ runs_cells runs.now ++ tail.now }
     {

@@ -1,4 +1,4 @@
-//! Where cells end, told by one copy of each pattern.
+//! Where cells end, by one copy of each pattern.
 
 ghost use Rattle.std.specs.Prelude.{IfSome};
 ghost use Rattle.block_layout.specs.Runs.{run_cells, runs_cells};
@@ -21,7 +21,7 @@ pub(crate) fn end_of_list(cells: &[(u32, Kind)], from: u32) -> Option<u32>
     Some(end)
 }
 
-// Where the cells of a run end, if one copy tells that they lie from there on, ascending and without overlap.
+// Where the cells of a run end, if one copy shows that they lie from there on, ascending and without overlap.
 fn end_of_run(run: &Run, from: u32) -> Option<u32>
     ensures { IfSome result (λ end. LieUpTo (run_cells run.now) from end) }
 {
@@ -35,7 +35,7 @@ fn end_of_run(run: &Run, from: u32) -> Option<u32>
     run.stride.checked_mul(run.count)?.checked_add(run.start)
 }
 
-// Where the cells of runs end, if one copy of each tells that they lie ascending and without overlap.
+// Where the cells of runs end, if one copy of each shows that they lie ascending and without overlap.
 pub(crate) fn end_of_runs(runs: &[Run]) -> Option<u32>
     ensures { IfSome result (λ end. LieUpTo (runs_cells runs.now) 0 end) }
 {

@@ -49,7 +49,7 @@ impl Run {
         }
     }
 
-    /// Elements of one size, one behind the other.
+    /// Elements of one size, one after the other.
     #[tactic(auto, using(crate::proofs::Near::elements_are_run))]
     pub(crate) fn elements(
         alloc: Global,
@@ -103,7 +103,7 @@ impl Run {
         })
     }
 
-    // The bytes from one copy to the next, where the copies of the other run go on behind these.
+    // The bytes from one copy to the next, where the copies of the other run go on after these.
     fn stride_to(&self, next: &Run) -> Option<u32>
         ensures { IfSome result (λ stride. GoesOn stride self.now next.now) }
     {
@@ -119,7 +119,7 @@ impl Run {
         goes_on.then_some(stride)
     }
 
-    /// The copies of both as one run, where those of the other go on behind these.
+    /// The copies of both as one run, where those of the other go on after these.
     pub(crate) fn joined(&self, next: &Run) -> Result<Option<Run>, AllocError>
         ensures { IfOk result (λ joined. IfSome joined (λ run. run_cells run
             ≡ run_cells self.now ++ run_cells next.now)) }

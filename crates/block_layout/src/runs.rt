@@ -23,7 +23,7 @@ pub(crate) fn copy_runs(alloc: Global, runs: &[Run]) -> Result<Vec<Run>, AllocEr
     Ok(copy)
 }
 
-// Adds a run. Where its copies go on behind those of the last one, the last one has them too.
+// Adds a run. Where its copies go on after those of the last one, the last one has them too.
 #[tactic(auto, using(crate::proofs::RunLists::runs_push, crate::proofs::Joined::joined_behind))]
 pub(crate) fn push_run(to: &mut Vec<Run>, run: Run) -> Result<(), AllocError>
     ensures { OnOk result (runs_cells to.new.items ≡ runs_cells to.old.items ++ run_cells run) }

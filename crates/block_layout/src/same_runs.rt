@@ -7,7 +7,7 @@ ghost use Rattle.block_layout.specs.SameRuns.{IsTold};
 use crate::cell_lists::same_lists;
 use crate::run::Run;
 
-// Whether the cells of two runs are the same, where their patterns tell.
+// Whether the cells of two runs are the same, where their patterns decide that.
 fn same_run(a: &Run, b: &Run) -> Option<bool>
     ensures { IfSome result (λ same. IsTold same (run_cells a.now) (run_cells b.now)) }
 {
@@ -20,7 +20,7 @@ fn same_run(a: &Run, b: &Run) -> Option<bool>
     Some(same_lists(a.cells.as_slice(), b.cells.as_slice()))
 }
 
-/// Whether the cells of two lists of runs are the same, where their patterns tell.
+/// Whether the cells of two lists of runs are the same, where their patterns decide that.
 pub(crate) fn same_runs(a: &[Run], b: &[Run]) -> Option<bool>
     ensures { IfSome result (λ same. IsTold same (runs_cells a.now) (runs_cells b.now)) }
 {

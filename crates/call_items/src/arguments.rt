@@ -20,7 +20,7 @@ use typed_tree::Expr;
 use upc_text::OutOfMemory;
 use upc_values::Value;
 
-// The conversion of an argument, and what those behind it are converted into.
+// The conversion of an argument, and what those after it are converted into.
 fn next_cast<'p>(parameters: Parameters<'p>, a: &Expr) -> Option<(CastTo, Parameters<'p>)>
     ensures { (more : Exprs) → MatchOption result
         (casts_of parameters.entry (tree.AndExpr (view_expr a.now) more) ≡ [])
@@ -39,7 +39,7 @@ fn next_cast<'p>(parameters: Parameters<'p>, a: &Expr) -> Option<(CastTo, Parame
     }
 }
 
-// One argument more, and then those behind it.
+// One argument more, and then those after it.
 fn push_argument<'p>(
     evaluation: &mut Evaluation<'p>,
     strict: bool,

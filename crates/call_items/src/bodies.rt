@@ -19,7 +19,7 @@ use typed_tree::{Function, Item, Statement, StatementKind};
 use upc_text::OutOfMemory;
 use upc_values::Value;
 
-// What the body of a function stands in, behind its parameters.
+// What the body of a function stands in, after its parameters.
 fn in_body<'p>(
     setting: Setting<'p>,
     function: &'p Function,

@@ -53,7 +53,7 @@ pub fn push_return<'p>(evaluation: &mut Evaluation<'p>, blank: Value) -> Result<
     Ok(())
 }
 
-/// The end of a call, behind a statement that was left so.
+/// The end of a call, after a statement that was left so.
 #[tactic(auto, using(thread_items::proofs::Enters::returns_of))]
 pub fn come_back<'p>(
     evaluation: &mut Evaluation<'p>,

@@ -73,7 +73,7 @@ fn equal(a: &[(u32, Kind)], b: &[(u32, Kind)]) -> bool {
             .all(|(x, y)| x.0 == y.0 && x.1.is(y.1))
 }
 
-// How many chars, ints behind them, elements in a row, and rows.
+// How many chars, ints after them, elements in a row, and rows.
 const GRIDS: [(u32, u32, u32, u32); 12] = [
     (0, 0, 3, 3),
     (1, 0, 1, 1),
@@ -102,7 +102,7 @@ fn element(alloc: Global, chars: u32, ints: u32) -> Result<(Cells, Vec<(u32, Kin
     Ok((cells, list))
 }
 
-// A long, and behind it rows of elements of chars and ints, as cells and as a list.
+// A long, and after it rows of elements of chars and ints, as cells and as a list.
 fn grid(
     alloc: Global,
     chars: u32,
@@ -259,7 +259,7 @@ fn begun(alloc: Global, count: u32, kind: Kind, rest: &[(u32, Kind)]) -> Result<
     Ok(cells)
 }
 
-// Lists that are not the same as 300 longs with an int behind them.
+// Lists that are not the same as 300 longs with an int after them.
 const OTHERS: [(u32, Kind, (u32, Kind)); 6] = [
     (299, Kind::Long, (2400, Kind::Int)),
     (301, Kind::Long, (2400, Kind::Int)),

@@ -104,7 +104,7 @@ const D: Loc = Loc {
     offset: 0,
 };
 
-// Each shared object behind the bytes of those before it, with its block, its elements and their size. The shapes of
+// Each shared object after the bytes of those before it, with its block, its elements and their size. The shapes of
 // declared elements come first, then those of elements that calls allocate.
 #[test]
 fn shared_objects(rt: HostRuntime) -> Result<(), Fail> {

@@ -6,7 +6,7 @@ use std::alloc::Global;
 use std::test::Fail;
 use upc_text::{Code, Stop};
 
-// What a source comes to on two threads.
+// The answer to a source on two threads.
 enum Answer {
     WellTyped,
     Refused(Code, u32, u32),
@@ -274,7 +274,7 @@ const ROWS: [Row; 68] = [
     ),
 ];
 
-// Whether a source comes to this.
+// Whether a source has this answer.
 fn is_answered<T>(answered: &Result<T, Stop>, answer: &Answer) -> bool {
     match (answered, answer) {
         (Ok(_), WellTyped) => true,
@@ -285,7 +285,7 @@ fn is_answered<T>(answered: &Result<T, Stop>, answer: &Answer) -> bool {
     }
 }
 
-// Whether a source for two threads comes to this, with its program and without it.
+// Whether a source for two threads has this answer, with its program and without it.
 fn comes_to(alloc: Global, source: &[u8], answer: &Answer) -> bool {
     if source.len() > 1_048_576 {
         return false;

@@ -33,7 +33,7 @@ use Rattle.code_actions.proofs.Doings.{grown_to}
 use Rattle.code_actions.proofs.Doings.{IsGood, EndsWell, Comes}
 use Rattle.code_actions.proofs.Instructions.{Point, res_of, AllKnown, Stands, step_asks}
 
--- ---- what code has come to
+-- ---- where the code stands
 
 abbrev conf_of : Res Point → Conf
 conf_of (Val point υ) = At point.at point.given point.operands point.calls υ
@@ -60,7 +60,7 @@ ended_actions : (c : Conf) (p : Outcome) → HasEnded c p → (state_of c).actio
 ended_actions (At at given operands calls σ) p h = absurd h
 ended_actions (Halt e σ) p h = ap (λ q. q.actions) h
 
--- The thread has ended behind what an outcome has done, since a reply does not fit.
+-- The thread has ended after what an outcome has done, since a reply does not fit.
 abbrev HasMissed : Outcome → Conf → Type 0
 HasMissed p (At at given operands calls σ) = ⊥
 HasMissed p (Halt e υ) = (e ≡ Misfit (length p.actions)) × (υ.actions ≡ p.actions)

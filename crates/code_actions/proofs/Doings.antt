@@ -41,7 +41,7 @@ Reaches actions (Val v υ) = Begins actions υ.actions
 Reaches actions (Over e υ) = Begins actions υ.actions
 Reaches actions Unfinished = ⊥
 
--- The thread ends behind these actions, since a reply does not fit.
+-- The thread ends after these actions, since a reply does not fit.
 abbrev pub Misses : {A : Type 0} → List Action → Res A → Type 0
 Misses actions (Val v υ) = ⊥
 Misses actions (Over e υ) = (e ≡ Misfit (length actions)) × (υ.actions ≡ actions)

@@ -33,7 +33,7 @@ names o past object thread offset =
 abbrev pub knows : Opening → List Reply → SharedPtr → Bool
 knows o past p = is_named o.threads (objects_given o past) p
 
--- So of a value: a pointer, or a lock that is null or given.
+-- A scalar is known: a pointer is null or names a given object, and a lock is null or given.
 abbrev pub is_known : Opening → List Reply → Scalar → Bool
 is_known o past (Int v) = true
 is_known o past (Shared p) = knows o past p

@@ -49,7 +49,7 @@ use Rattle.code_actions.proofs.Doings.{know_asks}
 use Rattle.code_actions.proofs.Primitives as p
 use Rattle.code_actions.proofs.Calls.{call_goes}
 
--- ---- what code has come to, as what comes of a step of a thread
+-- ---- where the code stands, as what comes of a step of a thread
 
 -- The spot of the next instruction, the arguments, the operands, and the spots to which the active calls lead back.
 pub record Point : Type 0 where
@@ -101,7 +101,7 @@ module _ (o : Opening) (past : List Reply) where
   abbrev pub Stands : Point → Type 0
   Stands point = AllKnown point.given × AllKnown point.operands
 
-  -- Where P holds, what code comes to from a state is reached well.
+  -- Where P holds, the code goes on well from a state.
   abbrev pub Going : (P : Type 0) → (State → Conf) → Type 0
   Going P go = Asks o past Point P Stands (λ σ. res_of (go σ))
 
@@ -140,7 +140,7 @@ module _ (o : Opening) (past : List Reply) where
   quit_asks : (P : Type 0) (n : ℤ) → Going P (Halt (told.Ended n))
   quit_asks P n = exit_asks o past Point P Stands (told.Ended n) (λ υ later. tt)
 
-  -- A step, and what code comes to behind it.
+  -- A step, and where the code stands after it.
   module _ (A P : Type 0) (V : A → Type 0) (m : Doing A) (go : A → State → Conf) (hm : Asks o past A P V m)
       (hgo : (v : A) → Going (P × V v) (go v)) where
     same_result : (σ : State) (r : Res A) → Grown σ r → bind r (λ v υ. res_of (go v υ)) ≡ res_of (conf_of r go)
@@ -211,7 +211,7 @@ module _ (o : Opening) (past : List Reply) (v : IsOpening o) (finds : FindsNamed
       (keeping (P × Known o past q) access at q y (λ r. r.1) (λ r. (h r.0).0)) (λ u.
       receiving ((P × Known o past q) × Unit {0}) at (i + 1) cells vs (λ r. (h r.0.0).1)))
 
-  -- What code comes to from known arguments and operands.
+  -- Where the code stands, from known arguments and operands.
   module _ (given operands : List Value) (calls : List Spot) where
     abbrev Before : Type 0
     Before = AllKnown o past given × AllKnown o past operands

@@ -48,7 +48,7 @@ one_numbered n (y ∷ xs) x h e = (h.0, one_numbered (n + 1) xs x h.1 (omega ari
 abbrev object_in : Option SharedPtr → Option ObjectRef
 object_in p = elim p [ Some x ↦ Some x.object | None ↦ None ]
 
--- An object with the number behind n.
+-- An object with the number after n.
 abbrev IsNext : ℕ → Option ObjectRef → Type 0
 IsNext n (Some x) = x.number ≡ n + 1
 IsNext n None = Unit {0}

@@ -128,7 +128,7 @@ module _ (o : Opening) (past : List Reply) (v : IsOpening o) (finds : FindsNamed
       subst (λ x. cell_of o (objects_given o past) x ≡ Some k) t.is
       (ap (λ x. cell_in o.threads o.shapes x (location p)) found ∙ reached_kind p k l s refl t)
 
-  -- So is the cell of a kind that begins among the bytes behind a pointer.
+  -- The cell of a kind that begins among the bytes from a pointer on is a cell of that kind among the given objects.
   pub cell_behind : (p : SharedPtr) (n i : ℕ) (k : Kind) → names o past p.object p.thread p.offset ≡ true
       → leaves_piece o.threads n p ≡ false → i < n → kind_at (shape_at o.shapes p) (unsigned_abs p.offset + i) ≡ Some k
       → cell_of o (objects_given o past) (location_behind p i) ≡ Some k

@@ -45,7 +45,7 @@ use Rattle.stack_code.specs.Steps.{received, called as does_call, worked, act, s
 use Rattle.stack_code.specs.Outcomes.{CodeMeans, HasEnded, told_by, beginning}
 use Rattle.code_actions.specs.Turns.{TakesTurns}
 
--- In what was done notifies and waits alternate, and a notify is open behind it as the state says.
+-- In what was done notifies and waits alternate, and a notify is open after it as the state says.
 abbrev IsTurn : State → Type 0
 IsTurn σ = turned_by (Some false) σ.actions ≡ Some σ.notified
 
@@ -72,7 +72,7 @@ module _ (τ : Thread) where
   ends_so d go h (Over t υ) e = e
   ends_so d go h Unfinished e = (false, refl)
 
-  -- A step, and what code comes to behind it.
+  -- A step, and where the code stands after it.
   then_goes : {A : Type 0} (m : Doing A) (go : A → State → Conf) → Keeps A m
       → ((v : A) (υ : State) → IsTurn υ → Alternates (go v υ)) → (σ : State) → IsTurn σ
       → Alternates (conf_of (m σ) go)

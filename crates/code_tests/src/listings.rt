@@ -1,4 +1,4 @@
-//! The code of five small programs, as text: an instruction a line, behind the place in the source that its run errors
+//! The code of five small programs, as text: an instruction a line, after the place in the source that its run errors
 //! name. docs/CODE.md says what each instruction does. Function 0 is what a thread begins with, and the functions of
 //! the source follow. The names of objects of a function are numbered from 0, and shared objects from 1.
 
@@ -69,7 +69,7 @@ int main(void) {
 ";
 
 const LISTED: [Listed; 7] = [
-    // The barrier before main, main, and the barrier behind it.
+    // The barrier before main, main, and the barrier after it.
     Listed {
         source: ASSIGNMENT,
         function: 0,
@@ -196,7 +196,7 @@ const LISTED: [Listed; 7] = [
 1:1 GiveBack 0
 ",
     },
-    // A recursion: the argument lies behind the left operand of the sum, which stays below the operands of the call.
+    // A recursion: the argument comes after the left operand of the sum, which stays below the operands of the call.
     Listed {
         source: RECURSION,
         function: 1,

@@ -61,7 +61,7 @@ fn put_action(text: &mut String, action: &Action) -> Result<(), AllocError> {
     }
 }
 
-// What a wish tells, where it ends the thread.
+// Adds how a wish ends the thread, where it does.
 fn put_end(text: &mut String, wish: &Wish) -> Result<(), AllocError> {
     match wish {
         Wish::Act(_) => Ok(()),
@@ -72,7 +72,7 @@ fn put_end(text: &mut String, wish: &Wish) -> Result<(), AllocError> {
     }
 }
 
-// What a thread tells next, added in words: whether it waits for a reply, and whether that of a read.
+// What the machine answers next: an action that waits for a reply, which is a read's or another one's, or the end.
 #[derive(Clone, Copy)]
 enum Told {
     Reads,
@@ -106,8 +106,8 @@ fn tell(
     Ok(put_wish(text, &wish)?)
 }
 
-// What the thread of a row tells in turn, a line each, to the end with its ticks. Its reads are answered by the values
-// of the row in turn, and by 0 behind them.
+// What the thread of a row asks for in turn, a line each, to the end with its ticks. Its reads are answered by the
+// values of the row in turn, and by 0 after them.
 fn told_by(alloc: Global, code: &Code, row: &Row) -> Result<String, OutOfMemory> {
     let mut text = String::new(alloc);
     if row.thread >= code.threads() || row.budget < 1 {
@@ -155,7 +155,7 @@ enum Made {
     ByHand,
 }
 
-// A thread of so many by a source, what its reads are answered, and all that it tells.
+// A thread of so many by a source, the values that its reads are given, and the text of all that it asks for.
 struct Row {
     source: &'static [u8],
     made: Made,
@@ -355,7 +355,7 @@ fn code_of(alloc: Global, row: &Row) -> Result<Option<Code>, Stop> {
     }
 }
 
-// Adds the names of the instructions of code, and answers what the thread of the row tells.
+// Adds the names of the instructions of code, and gives the text of what the thread of the row asks for.
 fn told_of(
     alloc: Global,
     row: &Row,

@@ -154,7 +154,7 @@ pub fn word(operation: &Operation) -> &'static str {
     }
 }
 
-/// Adds a number behind a space.
+/// Adds a number after a space.
 pub fn put_number(text: &mut String, number: i128) -> Result<(), AllocError> {
     write!(text, " {number}")
 }

@@ -1,4 +1,4 @@
-//! The command line, as `clap` is told of it.
+//! The command line, as it is declared to `clap`.
 
 ghost use Rattle.std.specs.Prelude.{◌≡◌, IfOk, false, Some, None, [], ◌∷◌, codes};
 ghost use Rattle.clap.specs.Words.{app_of, rule_of, with_rule};

@@ -192,7 +192,7 @@ mutual
 
 -- ---- walks with which some come in
 
--- Behind a walk, `n` had come in with what it begins with, and as many as `f` says with what it makes.
+-- After a walk, `n` had come in with what it begins with, and as many as `f` says with what it makes.
 pub record Brings {A : Type 0} (n : ℕ) (w : Walk A) (f : A → ℕ) : Type 0 where
   pub brought : (s : State) → (w s).state.come + n ≡ s.come + f (w s).value
 
@@ -201,7 +201,7 @@ pub kept : {A B : Type 0} {n : ℕ} {w : Walk A} {go : A → Walk B} {g : B → 
 unfolding andthen
 kept {n = n} {w = w} {go = go} {g = g} h k = record { brought = λ s. (k (w s).value).brought (w s).state ∙ ap (λ c. c + g (go (w s).value (w s).state).value) (h.same s) }
 
--- A part with which some come in, behind others.
+-- A part with which some come in, after others.
 pub brings : {A B : Type 0} {n : ℕ} {w : Walk A} {f : A → ℕ} {go : A → Walk B} {g : B → ℕ} → Brings 0 w f → ((a : A) → Brings (n + f a) (go a) g) → Brings n (andthen w go) g
 unfolding andthen
 brings {n = n} {w = w} {f = f} {go = go} {g = g} h k = record { brought = λ s. let p = h.brought s in let q = (k (w s).value).brought (w s).state in omega (arith, p, q) }
@@ -246,7 +246,7 @@ initial_keeps ξ Γ place object t (d.ListInitial equal left first more right) =
     keeps_then (initial_value_keeps ξ Γ _ _ first) (λ x. keeps_then (initial_values_keep ξ Γ _ _ more) (λ xs.
     keeps_then (keeps_judge ξ _ _ (λ s. refl)) (λ u. keeps_give _)))
 
--- The objects behind declarators.
+-- The objects after declarators.
 abbrev pub objects_behind : Behind → ℕ
 objects_behind b = length b.objects
 

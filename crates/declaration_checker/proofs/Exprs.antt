@@ -12,7 +12,7 @@ pub attrs_seen : (xs : List Expr) → map attr_seen xs ≡ attrs_of (exprs_of (m
 attrs_seen [] = refl
 attrs_seen (x ∷ xs) = ap (λ (l : List Attr). attr_seen x ∷ l) (attrs_seen xs)
 
--- Expressions in a vector, one behind another.
+-- Expressions in a vector, one after another.
 pub exprs_behind : (xs : List Expr) → behind AndExpr (map view_expr xs) NoExprs ≡ exprs_of (map view_expr xs)
 exprs_behind [] = refl
 exprs_behind (x ∷ xs) = ap (AndExpr (view_expr x)) (exprs_behind xs)

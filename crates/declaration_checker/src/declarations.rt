@@ -534,7 +534,7 @@ fn judge_specifiers(
 }
 
 /// A declaration: the objects that it declares, in order. Its specifiers form a type before its declarators, and what
-/// else they break is judged behind its initialisers.
+/// else they break is judged after its initialisers.
 pub fn walk_declaration(
     declaration: &Declaration,
     setting: Setting<'_>,

@@ -82,7 +82,7 @@ pub fn block<'p>(
     enter_block(evaluation, setting, standing, place, strict, items)
 }
 
-// What is left to do behind the entry of a loop's block.
+// What is left to do after the entry of a loop's block.
 fn push_head<'p>(
     evaluation: &mut Evaluation<'p>,
     setting: Setting<'p>,

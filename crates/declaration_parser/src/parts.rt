@@ -14,7 +14,7 @@ use token_reader::{Fail, Tokens, expect_punct};
 use upc_lexer::Punct;
 use upc_tree::{Declarator, External, Spec};
 
-/// What stands behind the specifiers of a declaration that declares no name.
+/// What stands after the specifiers of a declaration that declares no name.
 #[tactic(auto, unfolding(crate::specs::Parse::none_declared))]
 pub fn none_declared(
     alloc: Global,
@@ -29,7 +29,7 @@ pub fn none_declared(
     Ok(External::Declaration(declaration))
 }
 
-/// What stands behind the first declarator of a declaration.
+/// What stands after the first declarator of a declaration.
 #[tactic(auto, unfolding(crate::specs::Parse::behind_declarator))]
 pub fn behind_declarator(
     alloc: Global,

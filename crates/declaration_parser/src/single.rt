@@ -13,7 +13,7 @@ use upc_expressions::expr;
 use upc_lexer::{Punct, Word};
 use upc_tree::{BarrierWord, BlockItem, Span, Statement, SwitchItem};
 
-/// A `break`, behind its word.
+/// A `break`, after its word.
 #[tactic(auto, unfolding(crate::specs::Parse::break_statement))]
 pub fn break_statement(
     alloc: Global,
@@ -26,7 +26,7 @@ pub fn break_statement(
     Ok(boxed(alloc, Statement::Break { word, semicolon })?)
 }
 
-/// A `continue`, behind its word.
+/// A `continue`, after its word.
 #[tactic(auto, unfolding(crate::specs::Parse::continue_statement))]
 pub fn continue_statement(
     alloc: Global,
@@ -40,7 +40,7 @@ pub fn continue_statement(
     Ok(boxed(alloc, Statement::Continue { word, semicolon })?)
 }
 
-/// A `upc_fence`, behind its word.
+/// A `upc_fence`, after its word.
 #[tactic(auto, unfolding(crate::specs::Parse::fence_statement))]
 pub fn fence_statement(
     alloc: Global,
@@ -67,7 +67,7 @@ pub fn value_statement(
     Ok(boxed(alloc, Statement::Expression { value, semicolon })?)
 }
 
-/// A `return`, behind its word.
+/// A `return`, after its word.
 #[tactic(auto, unfolding(crate::specs::Parse::return_statement))]
 pub fn return_statement(
     alloc: Global,
@@ -90,7 +90,7 @@ pub fn return_statement(
     )?)
 }
 
-/// A `upc_notify`, `upc_wait` or `upc_barrier`, behind its word.
+/// A `upc_notify`, `upc_wait` or `upc_barrier`, after its word.
 #[tactic(auto, unfolding(crate::specs::Parse::barrier_statement))]
 pub fn barrier_statement(
     alloc: Global,

@@ -18,7 +18,7 @@ use Rattle.walk_state.proofs.Walks.{Same, same_trans, same_meets, first_of_two, 
 after_fine : (xs ys : List Seen) → first_fault xs ≡ None → first_fault (xs ++ ys) ≡ first_fault ys
 after_fine xs ys h = first_of_two xs ys ∙ ap (λ o. or_later o (first_fault ys)) h
 
--- Behind a part that comes to something, what follows it decides.
+-- After a part that gives a value, what follows it decides.
 pub goes_on : {A B : Type 0} (w : Walk A) (go : A → Walk B) (s between : State) (a : A) → Comes (w s) between a → Same (andthen w go s) (go a between)
 unfolding andthen
 goes_on w go s between a h =
@@ -34,7 +34,7 @@ within_fine : (xs ys zs : List Seen) → first_fault xs ≡ None → first_fault
 within_fine xs ys zs h =
     first_of_two (xs ++ ys) zs ∙ ap (λ o. or_later o (first_fault zs)) (after_fine xs ys h) ∙ sym (first_of_two ys zs)
 
--- The same of a part in front of others, with something behind them all.
+-- The same of a part in front of others, with something after them all.
 pub goes_within : {A B C : Type 0} (w : Walk A) (go : A → Walk B) (last : B → Walk C) (s between : State) (a : A) → Comes (w s) between a →
     Same (andthen (andthen w go) last s) (andthen (go a) last between)
 unfolding andthen

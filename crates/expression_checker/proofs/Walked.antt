@@ -134,7 +134,7 @@ type_stops_at_sizes view ξ Γ how place specs stars sizes s s1 s2 after p t0 t1
 
 -- ---- members and parameters
 
--- Parameters whose tags are out of scope behind them.
+-- Parameters whose tags are out of scope after them.
 pub enclosed_comes : (ξ : Setting) (Γ inner : Env) (ps : t.Parameters) (s first after : State) (d : Declared) → inner ≡ inside Γ → first ≡ s → Comes (walk_parameters ξ inner ps first) after d →
     Comes (enclosed (walk_parameters ξ (inside Γ) ps) s) (record after { tags = s.tags }) d
 enclosed_comes ξ Γ inner ps s first after d e f h =

@@ -223,7 +223,7 @@ fn walk_layout(
     }
 }
 
-// Whether `[*]` may stand behind a star: behind the last one.
+// Whether `[*]` may stand after a star, which it may after the last one.
 fn is_last(star: bool, pointers: &[Pointer], i: usize) -> bool
     requires { i < length pointers.now }
     ensures { result ≡ (star && shapes.is_none (pointers_of (map view_pointer (drop (i + 1)
@@ -232,7 +232,7 @@ fn is_last(star: bool, pointers: &[Pointer], i: usize) -> bool
     star && i + 1 == pointers.len()
 }
 
-/// Stars behind a type; `star`: `[*]` may stand behind the last one.
+/// Stars after a type; `star`: `[*]` may stand after the last one.
 #[cycle(walk)]
 pub fn walk_pointers(
     pointers: &[Pointer],

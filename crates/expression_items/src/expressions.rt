@@ -65,7 +65,7 @@ pub fn value<'p>(
     )
 }
 
-/// The value behind a place, where there is one.
+/// The value of the object at a place, where an expression names one.
 #[tactic(auto, unfolding(thread_items::specs::code::Seen::with_item, thread_items::specs::code::Seen::meant))]
 pub fn hold<'p>(
     evaluation: &mut Evaluation<'p>,

@@ -143,7 +143,7 @@ module _ (n : ℕ) (L : Level) (ih : Reads n L) where
     | inr z ↦ high (omega arith) (rw z.0 refl)
   ]
 
-  -- ---- directly behind an expression
+  -- ---- directly after an expression
 
   postfix_leads : (h count : ℕ) (r : Outcome Expr) (u : Expr) (rest : List Token) → Gets (suc n) h r (u, rest) → length rest ≤ count
       → Leads (suc n) h rest (r >>= λ u. postfix n L count u.0 u.1) (λ c. postfix n L c u rest)

@@ -90,7 +90,7 @@ module _ (n : ℕ) (L : Level) (ih : Finds n L) where
   primary_by_finds (k.Punct p.LParen) at ts x e = paren_finds at ts x e
   primary_by_finds _ at ts x e = absurd cc
 
-  -- ---- directly behind an expression
+  -- ---- directly after an expression
 
   suffixed_finds : (mark : Suffix) (base : Expr) (at : Span) (ts : List Token) (x : Expr × List Token) → Proper base → 15 ≤ level base → suffixed n L mark base at ts ≡ Ok x
       → FoundExpr (suc n) 15 (spell base (punct (suffix_punct mark) at ∷ ts)) x

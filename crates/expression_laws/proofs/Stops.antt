@@ -337,7 +337,7 @@ array_no_name NoArray ts h = closed_name ts h
 array_no_name (UnsizedArray l r) ts h = refl
 array_no_name (SizedArray l e r) ts h = refl
 
--- what may stand behind specifiers
+-- what may stand after specifiers
 pub record Behind (local : Bool) (b : Bool) (ts : List Token) : Type 0 where
   pub no_spec : starts (is_spec local) ts ≡ false
   pub no_brace : starts (is_punct p.LBrace) ts ≡ false
@@ -347,7 +347,7 @@ pub behind_stars : (b : Bool) (q : Pointers) (ts : List Token) → Quiet ts → 
 behind_stars b NoPointers ts quiet stops = record { no_spec = quiet.no_spec; no_brace = quiet.no_brace; stops = stops }
 behind_stars b (AndPointer s q m) ts quiet stops = record { no_spec = refl; no_brace = refl; stops = stops_open b _ refl }
 
--- stars and a name stand behind specifiers anywhere
+-- stars and a name stand after specifiers anywhere
 pub behind_named : (local b : Bool) (q : Pointers) (x : Name) (ts : List Token) → Behind local b (spell_pointers q (name_token x ∷ ts))
 behind_named local b NoPointers x ts = record { no_spec = refl; no_brace = refl; stops = stops_open b _ refl }
 behind_named local b (AndPointer s q m) x ts = record { no_spec = refl; no_brace = refl; stops = stops_open b _ refl }

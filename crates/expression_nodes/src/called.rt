@@ -92,7 +92,7 @@ pub fn first_use<'u>(uses: Uses<'u>) -> Use<'u>
     }
 }
 
-/// The uses of the arguments behind it.
+/// The uses of the arguments after it.
 pub fn later_uses<'u>(uses: Uses<'u>) -> Uses<'u>
     ensures { view_uses result ≡ pure.later_uses (view_uses uses.entry) }
 {

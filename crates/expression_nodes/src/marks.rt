@@ -36,7 +36,7 @@ pub fn size_operator(word: SizeWord) -> SizeOperator
     }
 }
 
-/// `++` or `--` behind its operand.
+/// `++` or `--` after its operand.
 pub fn postfix_operator(mark: PostfixMark) -> StepOperator
     ensures { result ≡ pure.postfix_operator mark }
 {

@@ -144,7 +144,7 @@ fn text_of(
     text.share()
 }
 
-/// String literals that stand behind one another.
+/// String literals that stand one after another.
 pub fn finish_strings(
     alloc: Global,
     how: Use<'_>,
@@ -287,7 +287,7 @@ fn finish_step(
     Ok(build::step(setting.alloc, at, attr, op, a)?)
 }
 
-/// `++` or `--` behind its operand.
+/// `++` or `--` after its operand.
 pub fn finish_postfix(
     setting: Setting<'_>,
     known: &Known,

@@ -264,7 +264,7 @@ pub fn put_expr(out: &mut Backwards, e: &Expr) -> Result<(), OutOfMemory>
     }
 }
 
-// An expression with a mark behind it.
+// An expression with a mark after it.
 #[cycle(put)]
 fn put_marked(out: &mut Backwards, e: &Expr, mark: Punct, at: Span) -> Result<(), OutOfMemory>
     ensures { OnOk result (out.new ≡ spell (view e.now) (punct mark at ∷ out.old)) }
@@ -362,7 +362,7 @@ fn put_arguments(out: &mut Backwards, arguments: &Arguments) -> Result<(), OutOf
     }
 }
 
-/// Puts the tokens of further expressions, each behind its comma.
+/// Puts the tokens of further expressions, each after its comma.
 #[cycle(put)]
 pub fn put_next_exprs(out: &mut Backwards, more: &[NextExpr]) -> Result<(), OutOfMemory>
     ensures { OnOk result (out.new ≡ spell_next_exprs (next_exprs_of (map view_next_expr more.now)) out.old) }

@@ -32,7 +32,7 @@ fn shown(alloc: Global, source: &str) -> Result<String, Fail> {
     }
 }
 
-// Whether a source comes to this.
+// Whether a source gives this.
 fn comes_to(alloc: Global, source: &str, want: &str) -> Result<bool, Fail> {
     let got = shown(alloc, source)?;
     Ok(got.as_str() == want)
@@ -132,7 +132,7 @@ fn sources(rt: HostRuntime) -> Result<(), Fail> {
     Ok(())
 }
 
-// What stands before so many bytes and behind them, and whether they pass.
+// What stands before so many bytes and after them, and whether they pass.
 const LIMITS: [(&str, u32, bool); 4] = [
     ("", 255, true),
     ("", 256, false),

@@ -15,7 +15,7 @@ pub fn expanded(alloc: Global, source: &str) -> Result<Vec<Token>, Stop> {
     expand(alloc, bytes, &lexed)
 }
 
-/// Three texts, one behind the other.
+/// Three texts, one after the other.
 pub fn joined(alloc: Global, first: &str, second: &str, third: &str) -> Result<String, AllocError> {
     let mut text = String::from_str(alloc, first)?;
     text.push_str(second)?;
@@ -35,7 +35,7 @@ fn put_token(text: &mut String, source: &str, token: &Token) -> Result<(), Alloc
     }
 }
 
-// The tokens as they are spelled, with a blank behind each.
+// The tokens as they are spelled, with a blank after each.
 fn spelled(alloc: Global, source: &str, tokens: &[Token]) -> Result<String, AllocError> {
     let mut text = String::new(alloc);
     for token in tokens {
@@ -63,7 +63,7 @@ fn shown(alloc: Global, source: &str) -> Result<String, Fail> {
     }
 }
 
-// Whether a source comes to this.
+// Whether a source gives this.
 fn comes_to(alloc: Global, source: &str, want: &str) -> Result<bool, Fail> {
     let got = shown(alloc, source)?;
     Ok(got.as_str() == want)
@@ -176,7 +176,7 @@ fn places(rt: HostRuntime) -> Result<(), Fail> {
     Ok(())
 }
 
-// Macros by number up to a last one, each for twice the one before, behind the definition of the first.
+// Macros by number up to a last one, each for twice the one before, after the definition of the first.
 fn doubling(alloc: Global, first: &str, levels: u32) -> Result<String, AllocError> {
     let mut source = String::from_str(alloc, first)?;
     let mut below = 0u32;
@@ -187,14 +187,14 @@ fn doubling(alloc: Global, first: &str, levels: u32) -> Result<String, AllocErro
     Ok(source)
 }
 
-// Whether a text behind 64 of them, of which the first is one token, comes to this.
+// Whether a text after 64 of them, of which the first is one token, gives this.
 fn limited(alloc: Global, text: &str, want: &str) -> Result<bool, Fail> {
     let source = doubling(alloc, "#define A0 x\n", 65)?;
     let whole = joined(alloc, source.as_str(), text, "")?;
     comes_to(alloc, whole.as_str(), want)
 }
 
-// How many tokens a text behind them has.
+// How many tokens a text after them has.
 fn count(alloc: Global, text: &str) -> Result<Option<usize>, Fail> {
     let source = doubling(alloc, "#define A0 x\n", 65)?;
     let whole = joined(alloc, source.as_str(), text, "")?;
@@ -214,7 +214,7 @@ fn limit(rt: HostRuntime) -> Result<(), Fail> {
     Ok(())
 }
 
-// A text behind 60 macros that stand for nothing, and what it comes to.
+// A text after 60 macros that stand for nothing, and what it gives.
 const NOTHING: [(&str, &str); 3] = [
     ("A60 x A60", "x "),
     ("A60\n#define B A60 x A60\nB A60 B", "x x "),

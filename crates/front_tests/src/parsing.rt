@@ -25,7 +25,7 @@ fn verdict(alloc: Global, source: &str) -> Result<String, Fail> {
     }
 }
 
-/// Whether the verdict on a text between two others is this, behind which an ending stands.
+/// Whether the verdict on a text between two others is this, with an ending after it.
 fn is_judged(
     alloc: Global,
     (before, text, after): (&str, &str, &str),
@@ -151,7 +151,7 @@ const STATEMENTS: [(&str, &str); 34] = [
     ),
 ];
 
-// What may not stand in the body of a function; the body begins at 2:1, and the brace behind it stands at 3:1.
+// What may not stand in the body of a function; the body begins at 2:1, and the brace after it stands at 3:1.
 const MISSED_STATEMENTS: [(&str, &str); 41] = [
     ("static int a;", "2:1"),
     ("int static a;", "2:5"),
@@ -236,7 +236,7 @@ const MISSED_EXPRESSIONS: [(&str, &str); 36] = [
     ("\"a\"b;", "2:4"),
 ];
 
-// What stands before and behind the texts of a table, the table, and what stands behind each verdict.
+// What stands before and after the texts of a table, the table, and what stands after each verdict.
 type Group = (
     &'static str,
     &'static str,
@@ -492,7 +492,7 @@ fn each_else_is_the_nearest_ones(rt: HostRuntime) -> Result<(), Fail> {
     Ok(())
 }
 
-/// A text, and so many copies of another behind it.
+/// A text, and so many copies of another after it.
 fn repeated(alloc: Global, before: &str, text: &str, count: u32) -> Result<String, AllocError> {
     let mut source = String::from_str(alloc, before)?;
     for _ in 0..count {
@@ -501,7 +501,7 @@ fn repeated(alloc: Global, before: &str, text: &str, count: u32) -> Result<Strin
     Ok(source)
 }
 
-// A text, another so many times, a third, a fourth so many times, what stands behind them, and the verdict: trees of
+// A text, another so many times, a third, a fourth so many times, what stands after them, and the verdict: trees of
 // 256 levels, and of one or two more. Then long lists, which are flat: they are parsed, walked and dropped without
 // deep recursion.
 type Long = (

@@ -73,7 +73,7 @@ unit_brings ξ unit = goes_on (externals_bring ξ false _ unit) (λ made. kept (
 abbrev Few : ℕ → State → Type 0
 Few most s = s.above ≡ None → s.come + s.structs.declared ≤ most
 
--- Behind this walk it is so whatever came before.
+-- After this walk it is so whatever came before.
 record Ends {A : Type 0} (most : ℕ) (w : Walk A) : Type 0 where
   few : (s : State) → Few most (w s).state
 

@@ -224,7 +224,7 @@ fn walk_defined(
     Ok(())
 }
 
-// A definition behind its specifiers and stars: the function is in scope in its body.
+// A definition after its specifiers and stars: the function is in scope in its body.
 fn walk_definition(
     function: &upc_tree::Function,
     place: Place,

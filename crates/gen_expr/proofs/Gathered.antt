@@ -182,7 +182,7 @@ module _ (ς : Source) (Q : Instr → Type 0) (h : HoldsOfForms ς Q) where
           joined (code.given_code ς strict at attr kind) _ (given at attr kind)
           (chosen (mean.is_lvalue attr.form) _ _ (held strict (mean.inner_place_in at kind) attr.ctype) tt)
 
-      -- So of its place.
+      -- Each instruction of the code of its place.
       pub address_gathers : (e : Expr) → Each Q (code.address_code ς strict e)
       address_gathers (Is at attr kind) = given at attr kind
 

@@ -73,7 +73,7 @@ module _ (τ : Thread) (functions : List (List Instr)) where
       → Meets τ functions A c (λ a. there p (left a) calls) r → Meets τ functions A c (λ a. there q (left a) calls) r
   lands_at A c p q left calls r e m = subst (λ (s : Spot). Meets τ functions A c (λ a. there s (left a) calls) r) e m
 
-  -- One part behind another.
+  -- One part after another.
   pub then_runs : (A B : Type 0) (first second : List Instr) (operands : List Value) (mid : A → List Value)
       (left : B → List Value) (m : Doing A) (f : A → Doing B) → Runs A first operands mid m
       → ((a : A) → Runs B second (mid a) left (f a)) → Runs B (first ++ second) operands left (m >>= f)
@@ -149,7 +149,7 @@ module _ (τ : Thread) (functions : List (List Instr)) where
         (Val (h a) υ)) (sym (e a)) (meet.here τ functions B (λ b. there near (left b) calls) (h a) υ));
   }
 
-  -- The same meaning, told otherwise.
+  -- The same meaning, given otherwise.
   pub told_runs : (A : Type 0) (code : List Instr) (operands : List Value) (left : A → List Value) (m n : Doing A)
       → ((σ : State) → m σ ≡ n σ) → Runs A code operands left m → Runs A code operands left n
   told_runs A code operands left m n e x = record {
@@ -169,7 +169,7 @@ module _ (τ : Thread) (functions : List (List Instr)) where
       → some ≡ others → Runs A code some left m → Runs A code others left m
   over_runs A code some others left m e x = subst (λ (l : List Value). Runs A code l left m) e x
 
-  -- Two parts behind the jump of a test.
+  -- Two parts after the jump of a test.
   sides_run : (B : Type 0) (place : Place) (first second : List Instr) (v : Value) (operands : List Value)
       (left : B → List Value) (x y : Doing B) → Runs B first operands left x → Runs B second operands left y
       → Runs B (jumps place (SkipIfZero (length first + 1)) ∷ (first ++ (jumps place (GoOn (length second)) ∷ second)))

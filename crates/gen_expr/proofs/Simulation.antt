@@ -309,7 +309,7 @@ module _ (ρ : Running) (functions : List (List Instr)) where
 
   -- ---- parts of expressions
 
-  -- Truth behind a value.
+  -- Truth after a value.
   truth_runs : (at : Place) (c : List Instr) (operands : List Value) (m : Doing Value) → Leaves c operands m
       → Leaves (c ++ (stacks at stack.Truth ∷ [])) operands (mean.truth_after ρ m)
   truth_runs at c operands m x =
@@ -317,7 +317,7 @@ module _ (ρ : Running) (functions : List (List Instr)) where
       (λ v. part.stack_runs ρ.thread functions Value at stack.Truth [] (v ∷ operands) (onto operands) _
       (part.none_runs ρ.thread functions Value _ (onto operands)))
 
-  -- A conversion behind a value.
+  -- A conversion after a value.
   pub converted_runs : (t : CType) (a : Expr) (c : List Instr) (operands : List Value) (m : Doing Value)
       → Leaves c operands m
       → Leaves (c ++ (casts (place_of a) (type.conversion (type_of a) t) ∷ [])) operands (mean.converted_to ρ t a m)

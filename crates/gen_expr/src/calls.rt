@@ -94,7 +94,7 @@ pub(crate) fn library_casts(alloc: Global, call: LibraryCall) -> Result<Vec<Cast
     Ok(casts)
 }
 
-/// The conversions of the arguments of a printf behind its format.
+/// The conversions of the arguments of a printf after its format.
 pub(crate) fn promotions(alloc: Global, args: &[Expr]) -> Result<Vec<CastTo>, OutOfMemory>
     ensures { IfOk result (λ casts. casts.items
         ≡ map types.promotion (mean.types_of (exprs_of (map view_expr args.now)))) }
@@ -169,7 +169,7 @@ fn shape_number(alloc: Global, source: Source<'_>, t: &CType) -> Result<u32, Out
     Ok(number_among(source.shapes, &shape))
 }
 
-/// Appends a call of the library, behind so many arguments.
+/// Appends a call of the library, after so many arguments.
 pub(crate) fn put_library(
     code: &mut Vec<Instr>,
     source: Source<'_>,
@@ -202,7 +202,7 @@ fn format_of(alloc: Global, e: &Expr) -> Result<Text, OutOfMemory>
     }
 }
 
-/// Appends a printf, behind so many arguments.
+/// Appends a printf, after so many arguments.
 pub(crate) fn put_print(
     code: &mut Vec<Instr>,
     place: Place,

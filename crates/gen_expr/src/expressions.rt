@@ -439,7 +439,7 @@ fn put_arguments(
     Ok(())
 }
 
-// The last of some expressions behind the others (C99 6.5.17).
+// The last of some expressions after the others (C99 6.5.17).
 #[cycle(expression_code)]
 fn put_parts(
     code: &mut Vec<Instr>,

@@ -49,11 +49,11 @@ pub on_ok : {T E : Type 0} (r : Result T E) (P Q : Type 0) → (P → Q) → OnO
 on_ok (Ok x) P Q f h = f h
 on_ok (Err e) P Q f h = tt
 
--- Code, as it is told otherwise.
+-- Code, as it is given otherwise.
 pub instead : (new x y : List Instr) → x ≡ y → new ≡ x → new ≡ y
 instead new x y e h = h ∙ e
 
--- Code behind other code, as it is told otherwise.
+-- Code after other code, as it is given otherwise.
 pub behind : (old new x y : List Instr) → x ≡ y → new ≡ old ++ x → new ≡ old ++ y
 behind old new x y e h = h ∙ ap (λ (l : List Instr). old ++ l) e
 
@@ -304,7 +304,7 @@ module _ (ς : Source) where
       ∙ headed κ at head (guard_code ς at κ.strict whose body (size ς η s)) step _ _
       (guard_long ς at κ.strict whose body (size ς η s) long)
 
-  -- ---- parts that are told by equations
+  -- ---- parts that are given by equations
 
   pub within_whole : (κ η : Standing) (ω : Ways) (at : Place) (strict : Bool) (xs ys : List m.Item)
       → η ≡ with_strict strict κ → xs ≡ ys

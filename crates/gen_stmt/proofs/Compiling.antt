@@ -22,7 +22,7 @@ use Rattle.gen_stmt.specs.code.Compiled.{made, source_with, with_functions, with
 
 -- ---- what is added
 
--- A function that is ended stands behind the others.
+-- A function that is ended stands after the others.
 pub ended : (m : Making) (code : List Instr) → m.current ≡ []
     → with_function (with_instructions code m) ≡ with_functions (code ∷ []) m
 ended m code e =

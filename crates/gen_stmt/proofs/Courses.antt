@@ -235,7 +235,7 @@ module _ (ρ : Running) (fs : List (List Instr)) (calling : Calls)
       plain_runs f (Stands at (Synchronise how e)) tail args ops σ has
   body_runs f (Stands at Fence) tail args ops σ has = plain_runs f (Stands at Fence) tail args ops σ has
 
-  -- Behind its body a function gives a value.
+  -- After its body a function gives a value.
   gives : (end : ℕ) (ops : List Value) (blank : Value) (at : Place) (f : Flow) (σ : State)
       → HasAt code end (pushes at blank ∷ (gives_back at 0 ∷ []))
       → Leads θ fs (ended ops end f σ) (given_back (given_by blank f) ops (back ∷ calls) σ)
@@ -387,7 +387,7 @@ module _ (meant : ExpressionsAreMeant) (ρ : Running) where
 
 -- ---- programs
 module _ (meant : ExpressionsAreMeant) (program : Checked) where
-  -- A thread that has come to a result.
+  -- A thread that has a result.
   coded : (thread budget : ℕ) (replies : List Reply) (r : Res ℤ) → IsFinished r
       → Meets (running program thread budget).thread (program_code program).functions ℤ
       (At (record { function = 0; place = 0 }) [] [] [] (initial_state program replies)) (λ v τ. Halt (Ended v) τ) r

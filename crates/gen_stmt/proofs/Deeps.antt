@@ -185,7 +185,7 @@ late_loop at ct cs cl m d P t s em l leads =
     (single goes d d (λ more. Lands more n d) refl (λ f more l. l)) (loop_deepens at ct cs cl m d P t s em l leads)
     (λ more w. body_lands at ct cs cl m d P t s em l leads more w)
 
--- Behind the comparisons of a switch: the value goes, and the jump leads to a place of the body.
+-- After the comparisons of a switch: the value goes, and the jump leads to a place of the body.
 abbrev behind_cases : (at : Place) (part : List Instr) (n d : ℕ) (P Q : List ℕ → Type 0) (x : Deepens part d P)
     → ((more : List ℕ) → Q more → P more) → ((more : List ℕ) → Q more → Lands (x.depths ++ more) n d)
     → Deepens (stacks at stack.Pop ∷ (jumps at (jump.GoOn n) ∷ part)) (suc d) Q

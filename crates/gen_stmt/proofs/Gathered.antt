@@ -63,11 +63,11 @@ module _ (ς : Source) (P : Value → Type 0) (p : HoldsOf ς P) where
   abbrev Holds : List Instr → Type 0
   Holds is = Each (λ i. Fine P i.does) is
 
-  -- One part behind another.
+  -- One part after another.
   both : (a b : List Instr) → Holds a → Holds b → Holds (a ++ b)
   both a b x y = each-append (λ i. Fine P i.does) a b x y
 
-  -- One instruction behind a part.
+  -- One instruction after a part.
   behind : (a : List Instr) (i : Instr) → Holds a → Fine P i.does → Holds (a ++ i ∷ [])
   behind a i x y = both a (i ∷ []) x (y, tt)
 

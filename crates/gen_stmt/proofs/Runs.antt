@@ -139,7 +139,7 @@ module _ (ρ : Running) (fs : List (List Instr)) (call : Calls)
   abbrev pub any_on : {A : Type 0} → ℕ → List Value → A → State → Conf
   any_on pc ops a σ = on pc ops σ
 
-  -- The same behind the end of so many blocks.
+  -- The same after the end of so many blocks.
   abbrev pub shut : ℕ → (State → Conf) → State → Conf
   shut n go σ = conf_of (close_blocks n σ) (λ _. go)
 
@@ -379,7 +379,7 @@ module _ (ρ : Running) (fs : List (List Instr)) (call : Calls)
   finishes ops out ω Again σ = here θ fs Flow (flow_at ops out ω) Next σ
   finishes ops out ω (Gave v) σ = here θ fs Flow (flow_at ops out ω) (Gave v) σ
 
-  -- The jump past what stands behind the first of two parts.
+  -- The jump past what stands after the first of two parts.
   passes : (f : Flow) (σ : State) (mid n out : ℕ) (ops : List Value) (ω : Ways) (at : Place) → mid + (n + 1) ≡ out
       → slice_get code mid ≡ Some (jumps at (jump.GoOn n)) → Leads θ fs (flow_at ops mid ω f σ) (flow_at ops out ω f σ)
   passes Next σ mid n out ops ω at e h =
@@ -439,7 +439,7 @@ module _ (ρ : Running) (fs : List (List Instr)) (call : Calls)
 
   -- ---- tests
 
-  -- The two sides of a test, behind its jump: where the value is 0, and where it is not.
+  -- The two sides of a test, after its jump: where the value is 0, and where it is not.
   by_zero : (A : Type 0) (go : A → State → Conf) (pc n q : ℕ) (ops : List Value) (v : Value) (x y : Doing A)
       (at : Place) (σ : State) → slice_get code pc ≡ Some (jumps at (jump.SkipIfZero n)) → pc + (n + 1) ≡ q
       → Meet A (on q ops σ) go (x σ) → Meet A (on (pc + 1) ops σ) go (y σ)
@@ -585,7 +585,7 @@ module _ (ρ : Running) (fs : List (List Instr)) (call : Calls)
       turned ops mid (mid + ll + 1) ω f (last >> again) τ
       (then_meets θ fs Flow Flow _ (any_on (mid + ll) ops) go (last τ) _ (l.ends τ) (λ _ υ. ra υ)))
 
-  -- At most n turns of a loop, from where the code does a tick and comes to the test.
+  -- At most n turns of a loop, from where the code does a tick and reaches the test.
   turns_run : (pc lt ls ll : ℕ) (ω : Ways) (ops : List Value) (at : Place) (test : Doing Value) (body last : Does)
       → Loop pc lt ls ll ops ω at test body last → (n : ℕ) (c : Conf) (σ : State)
       → step θ fs c ≡ conf_of (tick θ σ) (any_on (pc + 1) ops)

@@ -51,7 +51,7 @@ module _ (ς : Source) (strict : Bool) where
       part_step (λ xs. declared_code ς strict (map view_object xs))
       (λ x. initial_code ς strict (view_object x) (view_initial x.initial)) (λ x xs. refl)
 
-  -- The first element of an array, and those behind it.
+  -- The first element of an array, and those after it.
   listed_more : (x : DeclaredObject) (n : ℕ) (v : Expr) (more : Exprs) → listed_code ς strict x n (AndExpr v more)
       ≡ listed_code ς strict x n (AndExpr v NoExprs) ++ listed_code ς strict x (n + 1) more
   listed_more x n v more =

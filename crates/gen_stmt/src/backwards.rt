@@ -5,7 +5,7 @@ use std::alloc::Global;
 use std::marker::Model;
 use upc_text::OutOfMemory;
 
-/// Code, written from the last instruction to the first, so that what stands behind a part is known before it.
+/// Code, written from the last instruction to the first, so that what stands after a part is known before it.
 /// Contracts see it in order.
 #[derive(Drop)]
 pub(crate) struct Backwards {

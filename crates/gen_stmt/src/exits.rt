@@ -6,7 +6,7 @@ ghost use Rattle.gen_stmt.specs.code.Views.{view_exit, view_exits};
 
 use upc_text::OutOfMemory;
 
-/// A way out of a statement: how many blocks are left on it, and how many instructions behind the statement it passes.
+/// A way out of a statement: how many blocks are left on it, and how many instructions after the statement it passes.
 #[derive(Clone, Copy)]
 pub(crate) struct Exit {
     pub blocks: usize,
@@ -86,7 +86,7 @@ pub(crate) fn all_inner(exits: Exits) -> Result<Exits, OutOfMemory>
     })
 }
 
-/// In the body of a loop, behind which so many instructions stand before the jump back.
+/// In the body of a loop, after which so many instructions stand before the jump back.
 pub(crate) fn in_loop(last: usize, exits: Exits) -> Result<Exits, OutOfMemory>
     ensures { IfOk result (λ x. view_exits x ≡ pure.in_loop last (view_exits exits)) }
 {

@@ -28,7 +28,7 @@ use upc_text::{OutOfMemory, Place};
 use upc_types::CType;
 use upc_values::{Listing, Scalar, Value, blank_value};
 
-// What the body of a function stands in, behind its parameters.
+// What the body of a function stands in, after its parameters.
 fn in_body(function: &Function, strict: bool) -> Standing<'_>
     ensures { (ρ : Running) → view_standing result ≡ threads.in_body ρ (view_function function.now) strict }
 {

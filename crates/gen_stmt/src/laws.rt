@@ -7,7 +7,7 @@ ghost use Rattle.gen_stmt.specs.Programs.{program_code};
 ghost use Rattle.gen_stmt.specs.Pushes.{PushesOnly};
 ghost use Rattle.gen_stmt.specs.Meanings.{MeansProgram};
 
-/// The code of a program means what the program means: each of its threads comes to the same outcome, whatever it is
+/// The code of a program means what the program means: each of its threads has the same outcome, whatever it is
 /// answered.
 pub fn programs_are_meant()
     ensures { (program : Checked) → MeansProgram (program_code program) program }

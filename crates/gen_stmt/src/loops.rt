@@ -61,7 +61,7 @@ pub(crate) fn put_while(
     put_loop(code, place, tested, body, Vec::new(alloc))
 }
 
-/// Appends a do loop, from the code of its body: it begins behind its test.
+/// Appends a do loop, from the code of its body: it begins after its test.
 pub(crate) fn put_do(
     code: &mut Vec<Instr>,
     source: Source<'_>,

@@ -107,8 +107,8 @@ fn builder_of(alloc: Global, program: &Program) -> Result<Builder, OutOfMemory>
     Ok(builder)
 }
 
-/// The code of a program, which means what the program means: each of its threads comes to the same outcome, whatever
-/// it is answered. It has the program's threads and its shapes of shared elements, and names no shared object but the
+/// The code of a program, which means what the program means: each of its threads has the same outcome, whatever it
+/// is answered. It has the program's threads and its shapes of shared elements, and names no shared object but the
 /// declared ones.
 pub fn compile(alloc: Global, program: &Program) -> Result<Code, OutOfMemory>
     ensures code { IfOk result (λ code. code ≡ pure.program_code (view_program program.now)) }

@@ -32,7 +32,7 @@ pub(crate) fn put_act(
     put_operation(code, place, Operation::Thread(work))
 }
 
-/// Appends the begin of a block behind so many names in scope.
+/// Appends the begin of a block after so many names in scope.
 pub(crate) fn put_enter(
     code: &mut Vec<Instr>,
     place: Place,

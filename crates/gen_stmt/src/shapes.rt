@@ -120,7 +120,7 @@ pub(crate) fn count_in(item: &Item) -> usize
     }
 }
 
-/// How many objects are in scope behind the parts of a block, if so many are before it.
+/// How many objects are in scope after the parts of a block, if so many are before it.
 pub(crate) fn count_all(count: usize, items: &[Item]) -> Result<usize, OutOfMemory>
     ensures { IfOk result (λ n. n ≡ count + length (objects_in (view_items items.now))) }
 {

@@ -41,7 +41,7 @@ pub(crate) fn with_count(count: usize, standing: Standing<'_>) -> Standing<'_>
     }
 }
 
-/// Behind the declaration of some objects.
+/// The standing after the declaration of some objects, which are then in scope (C99 6.2.1).
 pub(crate) fn with_objects<'p>(
     objects: &[Object],
     standing: Standing<'p>,

@@ -223,7 +223,7 @@ fn put_item(
     }
 }
 
-// A statement before those that stand behind it.
+// A statement before those that stand after it.
 #[cycle(statements)]
 fn put_before(
     out: &mut Backwards,

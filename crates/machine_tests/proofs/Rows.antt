@@ -3,7 +3,7 @@ use Rattle.std.proofs.Common.{ℕ, ◌+◌, ◌≤◌, List, [], ◌∷◌, ◌+
 use Rattle.block_layout.specs.declared.kind.Kind.{Kind}
 use Rattle.block_layout.specs.Shapes.{kind_size, CellsWithin}
 
--- one more cell behind those that end at the middle
+-- one more cell after those that end at the middle
 pub one_more : (cells : List (ℕ × Kind)) (from mid size : ℕ) (c : ℕ × Kind) → from ≤ mid → CellsWithin cells from mid → mid ≤ c.0 → c.0 + kind_size c.1 ≤ size
     → CellsWithin (cells ++ c ∷ []) from size
 one_more [] from mid size c l h begins ends = (omega arith, ends, tt)

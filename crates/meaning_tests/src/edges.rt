@@ -9,7 +9,8 @@ const READS: &[u8] = b"shared int x; int main(void){return x;}";
 
 const LOOPS: &[u8] = b"int main(void){int i = 0; while (i < 3) i = i + 1; return i;}";
 
-// A thread of one that is told so, by a word and a number, after so many actions.
+// The only thread of a source, with these replies and this budget of ticks: its end, as a word and a number, and
+// how many actions it has done.
 struct Row {
     source: &'static [u8],
     replies: &'static [Reply],
@@ -19,7 +20,7 @@ struct Row {
 }
 
 const ROWS: [Row; 14] = [
-    // The barriers before main and behind it, and a read between them.
+    // The barriers before main and after it, and a read between them.
     Row {
         source: READS,
         replies: &[],
@@ -129,7 +130,7 @@ const ROWS: [Row; 14] = [
         told: ("fault", 11),
         actions: 2,
     },
-    // Three turns, and the test behind them, are four ticks.
+    // Three turns, and the test after them, are four ticks.
     Row {
         source: LOOPS,
         replies: &[Reply::Done, Reply::Done],

@@ -1,4 +1,4 @@
-//! Tests of the meaning of programs: what their threads did in runs is told again by plain evaluation.
+//! Tests of the meaning of programs: plain evaluation gives again what their threads did in runs.
 #![tactic(auto)]
 
 #[cfg(test)]

@@ -254,7 +254,7 @@ int main(void) {
 ",
         threads: ON_ALL,
     },
-    // A barrier that not all threads come to.
+    // A barrier that not all threads reach.
     Source {
         text: b"#include <upc.h>
 int main(void) {

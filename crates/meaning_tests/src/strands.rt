@@ -43,7 +43,7 @@ fn are_actions_of(strand: &Strand, actions: &[Action]) -> bool {
     left.is_empty()
 }
 
-// Whether a strand may end so where its source comes to this.
+// Whether a strand may end so where its source has this outcome.
 fn is_end_of(told: &ToldEnd, end: &End) -> bool {
     match (told, end) {
         (ToldEnd::Ended(a), End::Ended(b)) => a == b,
@@ -57,7 +57,7 @@ fn is_end_of(told: &ToldEnd, end: &End) -> bool {
     }
 }
 
-// A strand, told again.
+// A strand, evaluated again on its replies.
 fn told_of(
     alloc: Global,
     program: &Program,

@@ -27,7 +27,7 @@ use Rattle.memory_history.proofs.Starts.{allocated-live}
 
 -- ---- objects and cells
 
--- the heap's objects behind the declared ones are those that the history made
+-- the heap's objects after the declared ones are those that the history made
 pub made-same : (o : Opening) (es : List Entry) (h : HeapState) → HeapAfter o es h → made_in es ≡ h.made
 made-same o es h a =
     append_cancel_left o.declared (made_in es) h.made

@@ -1,4 +1,4 @@
--- The objects of a legal history stand as declared ones do: numbered, of whole elements, each behind those before it.
+-- The objects of a legal history stand as declared ones do: numbered, of whole elements, each after those before it.
 use Rattle.std.proofs.Common.{◌≡◌, ℕ, ◌+◌, ◌*◌, ◌<◌, ◌≤◌, true, List, [], ◌∷◌, ◌++◌, length, Option}
 use Rattle.std.proofs.Common.{sym, ap, subst, ◌∙◌, inl, inr, append-nil}
 use Rattle.block_layout.specs.declared.place.ObjectRef.{ObjectRef}
@@ -13,7 +13,7 @@ use Rattle.memory_history.proofs.Entries.{Keeps, by_entries}
 use Rattle.memory_history.proofs.Growing.{objects-push}
 use Rattle.memory_history.proofs.Objects.{Makes, makes-made, made-cases}
 
--- a new object behind the objects xs
+-- a new object after the objects xs
 pub record IsNext (o : Opening) (xs : List ObjectRef) (x : ObjectRef) : Type 0 where
   pub placed : IsDeclared (with_objects o xs) (length xs) x
   pub room : bytes_of xs + x.total ≤ 16777216

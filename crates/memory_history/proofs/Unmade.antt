@@ -17,7 +17,7 @@ use Rattle.upc_values.proofs.Beginnings.{picked-append}
 use Rattle.sync_objects.specs.Locks.{fresh, lock_after}
 use Rattle.memory_history.proofs.Freeing.{any_from, any-next, any-same, gives}
 
--- a lock behind those that are made is none of them
+-- a lock after those that are made is none of them
 other-lock : (es : List Entry) (k l : ℕ) → locks es < l → nat_le k (locks es) ≡ true → (k == l) ≡ false
 other-lock es k l lt h = let few = leb-true k (locks es) h in ne_eqb k l (λ q. omega arith)
 
@@ -49,7 +49,7 @@ fewer-front l before more h =
     ap length (picked-append test [] before more) ∙ length-append (picked test before) (picked_from test before more) in
     omega arith
 
--- so of all entries of a history
+-- the same for all entries of a history
 none-turn : (o : Opening) (l : ℕ) (before es : List Entry) → AreWellFormedFrom o before es → locks (before ++ es) < l
     → filter (λ e. turns l e.action e.reply) es ≡ []
 none-turn o l before [] f lt = refl

@@ -70,8 +70,8 @@ impl World {
         })
     }
 
-    /// Acts on the history: the lawful reply, with one entry appended, or `Disabled` where there is none, which only a
-    /// Lock and a Wait come to. It reads no older entry. After want of memory, which also comes where there would be
+    /// Acts on the history: the lawful reply, with one entry appended, or `Disabled` where there is none, as may be
+    /// for a Lock or a Wait only. It reads no older entry. After want of memory, which also comes where there would be
     /// 2^62 entries, the history is as it was.
     pub fn perform(&mut self, thread: u32, index: u32, action: &Action) -> Result<Step, OutOfMemory>
         requires below { thread < self.old.0.threads }

@@ -13,7 +13,7 @@ use Rattle.typing_rules.specs.Rules.{has_name}
 abbrev pub found_with : ℕ → ℕ → CType → Option Found
 found_with index offset ctype = Some record { index = index; offset = offset; ctype = ctype }
 
--- The member with this number, where the first of these stands behind some bytes and has that number.
+-- The member with this number, where the first of these stands after some bytes and has that number.
 abbrev pub found_at : Structs → ℕ → ℕ → List Member → Member → Option ℕ → Option Found
 found_at structs index end ms d None = None
 found_at structs index end ms d (Some i) =

@@ -1,4 +1,4 @@
-//! Addresses that are known before the run, and what lies behind them (C99 6.5.6, 6.6; UPC 6.4.2, 6.4.4).
+//! Addresses that are known before the run, and those some elements after them (C99 6.5.6, 6.6; UPC 6.4.2, 6.4.4).
 
 ghost use Rattle.std.specs.Prelude.{◌≡◌, ◌*◌, ◌<◌, ◌≤◌, ◌^◌, IfSome, pos, ◌+ℤ◌, ◌*ℤ◌, unsigned_abs};
 ghost use Rattle.block_layout.specs.Places.{in_range, offset_at};
@@ -113,7 +113,7 @@ fn offset_in_row(p: &SharedPtr, e: i128, block: u32, size: u32, threads: u32) ->
     offset + row
 }
 
-// The place some elements behind a pointer, with a block of at least 1.
+// The place some elements after a pointer, with a block of at least 1.
 fn moved_by_blocks(p: &SharedPtr, i: i128, block: u32, size: u32, threads: u32) -> Spot
     requires step { unsigned_abs i ≤ 2 ^ 90 }
     requires some_block { 0 < block }
@@ -139,7 +139,7 @@ fn offset_plus(offset: i64, i: i128, size: u32) -> i128
     i128::from(offset) + bytes
 }
 
-// The place some elements behind a pointer.
+// The place some elements after a pointer.
 fn moved(p: &SharedPtr, i: i128, block: u32, size: u32, threads: u32) -> Spot
     requires step { unsigned_abs i ≤ 2 ^ 90 }
     requires some_thread { 0 < threads }
@@ -167,7 +167,7 @@ pub(crate) fn block_or_none(block: Option<u32>) -> u32
     }
 }
 
-// An address some leaf elements behind another.
+// An address some leaf elements after another.
 fn place_plus(
     threads: u32,
     block: Option<u32>,
@@ -201,7 +201,7 @@ fn place_plus(
     }
 }
 
-// The element so many behind another, where it lies in their array or right behind its end.
+// The element so many places after another, where it lies in their array or right after its end.
 fn element_behind(e: Element, i: i128) -> Option<Element>
     requires { unsigned_abs i ≤ 2 ^ 64 }
     ensures value { result ≡ c.element_behind e i }
@@ -219,7 +219,7 @@ fn element_behind(e: Element, i: i128) -> Option<Element>
     }
 }
 
-/// What lies behind an address by a step that has no value.
+/// What a step from an address gives that leads to no place (C99 6.5.6).
 pub(crate) fn lost_behind(address: Constant) -> Constant
     ensures value { result ≡ c.lost_behind address }
     ensures within { IsWithin result }

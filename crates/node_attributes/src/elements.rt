@@ -25,7 +25,7 @@ use typing_rules::{Attr, Constant, Form};
 use upc_text::OutOfMemory;
 use upc_types::{Base, CType, Structs, copy_type};
 
-// The address so many objects of this type behind another.
+// The address so many objects of this type after another.
 fn address_behind(
     structs: &Structs,
     threads: u32,
@@ -45,7 +45,7 @@ fn address_behind(
     address_plus(threads, t.shared, leaves.bytes, leaves.count, address, i)
 }
 
-// So by a number that is constant.
+// The address as many objects of this type after another as a constant says.
 fn indexed(structs: &Structs, threads: u32, t: &CType, address: Constant, i: Constant) -> Constant
     requires some_thread { 0 < threads }
     requires sized { rules.has_size (view_structs structs.now) (view t.now) ≡ true }
@@ -79,7 +79,7 @@ pub fn subscript(structs: &Structs, threads: u32, a: &Attr, i: &Attr) -> Result<
     }
 }
 
-// A pointer, some objects behind another.
+// A pointer, some objects after another.
 fn pointer(
     alloc: Global,
     structs: &Structs,

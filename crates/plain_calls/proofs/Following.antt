@@ -79,7 +79,7 @@ load-stops p k done (r ∷ rs) stop.Memory t h = tt
 load-stops p k done (r ∷ rs) (stop.Asks a) t h = absurd (no-error r (stop.Asks a) _ _ (ap (λ u. u.1) h) refl refl)
 load-stops p k done (r ∷ rs) (stop.Fails c) t h = absurd (no-error r (stop.Fails c) _ _ (ap (λ u. u.1) h) refl refl)
 
--- one member after another: what is left at a member leads on to what is left behind it
+-- one member after another: what is left at a member leads on to what is left after it
 pub each-on : {X : Type 0} (f : X → Expansion (Unit {0})) (xs : List X) (i : ℕ) (d : X) (s t : Standing) → i < length xs → Follows (f (slice_index_or xs i d)) s (Ok tt) t → run (each_in_turn f (drop i xs)) s ≡ run (each_in_turn f (drop (i + 1) xs)) t
 each-on f xs i d s t h k =
     rw (add-one, drop-cons xs i d h) (on (f (slice_index_or xs i d)) (λ u. each_in_turn f (drop (suc i) xs)) s tt t k)
@@ -90,7 +90,7 @@ each-stops f xs i d s e t h k =
     subst (λ ys. Follows (each_in_turn f ys) s (Err e) t) (sym (drop-cons xs i d h))
     (stops (f (slice_index_or xs i d)) (λ u. each_in_turn f (drop (suc i) xs)) s e t k)
 
--- behind the last there is nothing
+-- after the last there is nothing
 pub each-done : {X : Type 0} (f : X → Expansion (Unit {0})) (xs : List X) (i : ℕ) (s : Standing) → length xs ≤ i → Follows (each_in_turn f (drop i xs)) s (Ok tt) s
 each-done f xs i s h = ap (λ ys. run (each_in_turn f ys) s) (drop_all i xs h)
 
@@ -110,7 +110,7 @@ end_of (Err (stop.Asks s)) = end.Asks s
 end_of (Err (stop.Fails c)) = end.Fails c
 end_of (Err stop.Memory) = end.Done
 
--- what is told from here on, behind the steps so far
+-- the steps and the end from here on, after the steps so far
 abbrev pub whole : Standing × Result (Unit {0}) Stop → Told
 whole z = record { steps = z.0.done; end = end_of z.1 }
 
@@ -139,7 +139,7 @@ whole-told (Stores p k v go) done (r ∷ rs) = whole-told go (done ++ Store p k 
 pub told-whole : (x : Expansion (Unit {0})) (rs : List Reply) (z : Standing × Result (Unit {0}) Stop) → run x (standing [] rs) ≡ z → whole z ≡ told x rs
 told-whole x rs z e = ap whole (sym e) ∙ whole-told x [] rs
 
--- the steps with the end are what is told
+-- the steps, with the end
 abbrev ending : List Step → End → Told
 ending steps e = record { steps = steps; end = e }
 

@@ -1,4 +1,4 @@
--- The end of what is told is that of what the replies leave.
+-- The end of a call is that of what the replies leave.
 use Rattle.std.proofs.Common.{◌≡◌, ℕ, List, [], ◌∷◌, refl}
 use Rattle.upc_values.specs.declared.action.Reply.{Reply}
 use Rattle.upc_values.specs.Expansion.{Gives, Fails, Reads, Asks, Loads, Stores, value_in, after_replies}

@@ -29,7 +29,7 @@ told (Loads p k go) (r ∷ rs) = after (Load p k) (told (go (value_in r)) rs)
 told (Stores p k v go) [] = at_once (end.Asks (Store p k v))
 told (Stores p k v go) (r ∷ rs) = after (Store p k v) (told go rs)
 
--- A collective call has a number from 5 to 12; what is told of it, and nothing of another number (UPC 7.3).
+-- What a collective call does, which has a number from 5 to 12, and nothing for any other number (UPC 7.3).
 abbrev pub if_collective : ℕ → Told → Option Told
 if_collective call t = if nat_le 5 call && nat_le call 12 then Some t else None
 

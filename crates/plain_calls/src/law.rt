@@ -1,4 +1,4 @@
-//! What is told, and what is left.
+//! How a call ends where its replies end.
 
 ghost use Rattle.plain_calls.specs.Told.{EndsAgree};
 

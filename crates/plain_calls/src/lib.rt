@@ -1,5 +1,5 @@
-//! What a thread does in a memory call, told over a list of replies (UPC 7.2.5); and what every library call's telling
-//! uses: the thread in a call, pointers to bytes and elements, and cells.
+//! What a thread does in a memory call, by a list of replies (UPC 7.2.5); and what every library call uses for that:
+//! the thread in a call, pointers to bytes and elements, and cells.
 #![tactic(auto)]
 
 mod cells;

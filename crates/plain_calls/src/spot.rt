@@ -40,7 +40,7 @@ fn further(p: &SharedPtr, size: u32, i: u64) -> Spot
     }
 }
 
-// The number of the element that is `i` behind the one of a pointer's thread and phase.
+// The number of the element that is `i` after the one of a pointer's thread and phase.
 fn number_behind(p: &SharedPtr, block: u32, i: u64) -> i128
     ensures value { result ≡ pos (p.now.thread * block + p.now.phase + i) }
     ensures near { unsigned_abs result ≤ 2 ^ 91 }
@@ -111,7 +111,7 @@ impl Spot {
         )
     }
 
-    /// The location so many bytes behind it.
+    /// The location so many bytes after it.
     pub fn location_behind(&self, bytes: u64, i: u64) -> Loc
         requires room { IsRoomFor bytes self.now.offset }
         requires inside { i < bytes }

@@ -139,7 +139,7 @@ impl<'a> Telling<'a> {
         self.act(Action::Wait(Mark::Absent))
     }
 
-    /// What is told where the call ends so.
+    /// The steps and the end of a call that ends so.
     pub fn finish(self, end: Result<(), Stop>) -> Result<Told, AllocError>
         ensures { (x : Expansion (Unit {0})) (replies : List Reply)
             → Follows x (standing [] replies) end self.entry

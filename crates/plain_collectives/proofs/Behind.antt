@@ -1,4 +1,4 @@
--- What parts of a call in a row come to: values gathered, tests in order, work of one thread.
+-- What parts of a call in a row give: values gathered, tests in order, work of one thread.
 use Rattle.std.proofs.Math.Seq.{drop-cons}
 use Rattle.std.proofs.lemmas.List.{drop_all, append-nil}
 use Rattle.std.specs.Prelude.{slice_index_or}
@@ -105,7 +105,7 @@ next-pointwise : {A B : Type 0} (s : Standing) (r : Result A Stop) (g h : A → 
 next-pointwise s (Ok v) g h e = e v s
 next-pointwise s (Err x) g h e = refl
 
--- what runs alike from every value does so behind what gives the value
+-- what runs alike from every value does so after what gives the value
 pub pointwise : {A B : Type 0} (x : Expansion A) (g h : A → Expansion B) (s : Standing) → ((v : A) (t : Standing) → run (g v) t ≡ run (h v) t) → run (bind x g) s ≡ run (bind x h) s
 pointwise x g h s e =
     run-bind x g s.done s.left ∙ next-pointwise (run x s).0 (run x s).1 g h e ∙ sym (run-bind x h s.done s.left)

@@ -23,7 +23,7 @@ same-class kind x y m e =
     let moved : x -ℤ least kind ≡ (y -ℤ least kind) +ℤ m *ℤ pos d = omega (arith, ints, e) in
     ap (λ n. least kind +ℤ pos n) (ap (λ z. floor_mod z d) moved ∙ rest-shift (y -ℤ least kind) m d (pow_pos (width kind)))
 
--- so of a sum of converted numbers
+-- a sum of converted numbers is in the class of the sum of the numbers
 pub class-sum : (kind : Kind) (a b : ℤ) → converted kind (converted kind a +ℤ converted kind b) ≡ converted kind (a +ℤ b)
 class-sum kind a b =
     let p = converted-congruent a kind in
@@ -44,7 +44,7 @@ factor a x b c v e =
     ap (λ z. z *ℤ b) e ∙ mul-sum-any a (c *ℤ v) b
     ∙ ap (λ z. a *ℤ b +ℤ z) (mul-twice-any c v b ∙ ap (λ z. c *ℤ z) (*ℤ_comm v b) ∙ sym (mul-twice-any c b v))
 
--- so of a product of converted numbers
+-- a product of converted numbers is in the class of the product of the numbers
 pub class-product : (kind : Kind) (a b : ℤ) → converted kind (converted kind a *ℤ converted kind b) ≡ converted kind (a *ℤ b)
 class-product kind a b =
     let v = pos (values kind) in

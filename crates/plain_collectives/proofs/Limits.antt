@@ -1,4 +1,4 @@
--- The sizes of a call whose arguments pass their tests; and a call that is not told apart does as any other.
+-- The sizes of a call whose arguments pass their tests; and a call that is not distinguished does as any other.
 use Rattle.std.proofs.Common.{◌≡◌, ℕ, ◌≤◌, ◌==◌, is_none, Bool, true, false, not, ◌&&◌, ◌||◌, cond, List, [], Some, None, refl, arith}
 use Rattle.std.proofs.Math.IntN.{ℤ}
 use Rattle.block_layout.specs.declared.place.SharedPtr.{SharedPtr}

@@ -130,7 +130,7 @@ reduces_read c (Int a) (Int b) o n x k f = refl
 reduces_read c (Int a) b o n x k f = refl
 reduces_read c (Lock a) b o n x k f = refl
 
--- so of arguments that were read
+-- the same for arguments that were read
 reduces-some : (c : ℕ) (a b o n x k f : Scalar) (d s : SharedPtr) (op : ℤ) (cnt blk knd : ℕ) (fl : ℤ) → Some d ≡ shared_in a → Some s ≡ shared_in b → Some op ≡ int_in o → Some cnt ≡ size_in n → Some blk ≡ size_in x → Some knd ≡ kind_in k → Some fl ≡ int_in f → numbered c d s op cnt blk knd fl ≡ kept (call_of c (a ∷ b ∷ o ∷ n ∷ x ∷ k ∷ f ∷ []))
 reduces-some c a b o n x k f d s op cnt blk knd fl e1 e2 e3 e4 e5 e6 e7 =
     sym (reduces_read c a b o n x k f ∙ rw (← e1, ← e2, ← e3, ← e4, ← e5, ← e6, ← e7) refl)
@@ -143,7 +143,7 @@ pub reduces-second : (c : ℕ) (a b o n x k f : Scalar) (d s : SharedPtr) (op : 
 reduces-second c a b o n x k f d s op cnt blk knd fl is e1 e2 e3 e4 e5 e6 e7 =
     sym (ap (λ m. numbered m d s op cnt blk knd fl) is) ∙ reduces-some c a b o n x k f d s op cnt blk knd fl e1 e2 e3 e4 e5 e6 e7
 
--- a call of 1 to 4 is not told apart
+-- a call of 1 to 4 is not distinguished
 kept-none : (b : Bool) (x : said.Call) → kept x ≡ said.Other → said.Other ≡ kept (cond b x said.Other)
 kept-none true x e = sym e
 kept-none false x e = refl

@@ -18,7 +18,7 @@ way_in way.Gather = said.Gather
 way_in way.GatherAll = said.Gather_all
 way_in way.Exchange = said.Exchange
 
--- so of a way that there may be
+-- The way of the definitions, where there is one.
 abbrev pub way_option : Option Way → Option said.Way
 way_option (Some w) = Some (way_in w)
 way_option None = None
@@ -31,7 +31,7 @@ call_in (call.Reduces o f) = said.Reduces o.dst o.src o.op o.count o.block o.kin
 call_in (call.ReducesPrefixes o f) = said.Reduces_prefixes o.dst o.src o.op o.count o.block o.kind f
 call_in call.Other = said.Other
 
--- a call that copies or reduces; no other is told apart
+-- A call that copies or reduces as it is, and Other for any other call.
 abbrev pub kept : said.Call → said.Call
 kept (said.Copies w dst src n f) = said.Copies w dst src n f
 kept (said.Permutes dst src perm n f) = said.Permutes dst src perm n f
@@ -52,7 +52,7 @@ abbrev pub int_in : Scalar → Option ℤ
 int_in (Int v) = cond (is_int v) (Some v) None
 int_in v = None
 
--- a call that was read, or none that is told apart
+-- The call that was read, or Other where none was.
 abbrev pub called : Option Call → said.Call
 called (Some c) = call_in c
 called None = said.Other

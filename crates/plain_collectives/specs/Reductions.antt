@@ -16,7 +16,7 @@ reduction_in reduction.Either = said.Either
 reduction_in reduction.Least = said.Least
 reduction_in reduction.Greatest = said.Greatest
 
--- so of an operator that there may be
+-- The operator of the definitions, where there is one.
 abbrev pub reduction_option : Option Reduction → Option said.Reduction
 reduction_option (Some r) = Some (reduction_in r)
 reduction_option None = None

@@ -84,7 +84,7 @@ pub fn read_number(telling: &mut Telling<'_>, kind: Kind, element: &Spot) -> Res
     }
 }
 
-/// So as a number of a reduction.
+/// Reads an element as a number of a reduction.
 pub fn read_value(telling: &mut Telling<'_>, kind: Kind, element: &Spot) -> Result<Number, Stop>
     requires { IsRoomFor 1 element.now.offset }
     ensures { Follows (said.number_at 0 [] 0 kind (pointer_of element.now)) telling.old result telling.new }

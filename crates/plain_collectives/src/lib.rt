@@ -1,4 +1,4 @@
-//! What each thread does in a collective call, told over a list of replies (UPC 7.3).
+//! What each thread does in a collective call, by a list of replies (UPC 7.3).
 #![tactic(auto)]
 
 mod arguments;

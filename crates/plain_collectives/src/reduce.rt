@@ -98,7 +98,7 @@ fn total(
     write_number(telling, dst, &so_far)
 }
 
-// So from the first element on.
+// Joins the elements from the first on, ascending, and writes the value once.
 fn reduce(
     telling: &mut Telling<'_>,
     op: Reduction,
@@ -167,7 +167,7 @@ fn totals(
     Ok(())
 }
 
-// So from the first element on, which is written as it is.
+// Writes the first element as it is; then each one is joined, and the value so far is written, ascending.
 fn reduce_prefixes(
     telling: &mut Telling<'_>,
     op: Reduction,

@@ -7,7 +7,7 @@ left-pairs : {X : Type 0} (R : X → X → Type 0) (xs : List X) (i : ℕ) (x : 
     → (Pairwise R (drop i xs) ↔ Pairwise R xs) → (Each (R x) (drop (i + 1) xs) × Pairwise R (drop (i + 1) xs)) ↔ Pairwise R xs
 left-pairs R xs i x lt is inv = subst (λ l. Pairwise R l ↔ Pairwise R xs) (left_from xs i x lt is) inv
 
--- the member stands so to each behind it
+-- the member stands so to each after it
 pub pairs-turn : {X : Type 0} (R : X → X → Type 0) (xs : List X) (i : ℕ) (x : X) → i < length xs → x ≡ get_or xs i x
     → (Pairwise R (drop i xs) ↔ Pairwise R xs) → Each (R x) (drop (i + 1) xs) → Pairwise R (drop (i + 1) xs) ↔ Pairwise R xs
 pairs-turn R xs i x lt is inv each =

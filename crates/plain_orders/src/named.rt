@@ -43,7 +43,7 @@ pub(crate) fn find_all(
     Ok(Some(list))
 }
 
-/// So for each list of names.
+/// The operations of each list of names, none where a name has no operation.
 pub(crate) fn find_each(
     alloc: Global,
     operations: &[Operation],

@@ -11,7 +11,7 @@ use block_layout::run_error::{NULL_ACCESS, PRIVATE_RANGE};
 use block_layout::{Kind, LocalPtr};
 
 /// The place of the object with a number, where numbers rise. A look at two places finds it where no number before its
-/// own is that of an object that has ended, and where none behind it is.
+/// own is that of an object that has ended, and where none after it is.
 #[inline(always)]
 pub(crate) fn object_place(objects: &[Object], number: u64) -> Option<usize>
     requires { AreNumbered objects.now }

@@ -54,7 +54,7 @@ private_skip xs i x h e s =
     ap private_in (next view_object xs i x h e)
     ∙ left (is_private x.home) (view_object x) (private_in (map view_object (drop (i + 1) xs))) s
 
--- Behind the last there are none.
+-- After the last there are none.
 pub shared_end : (xs : List Object) (i : ℕ) → length xs ≤ i → shared_in (map view_object (drop i xs)) ≡ []
 shared_end xs i h = ap (λ ys. shared_in (map view_object ys)) (drop_all i xs h)
 
@@ -67,7 +67,7 @@ each_next : {X Y : Type 0} (P : Y → Type 0) (f : X → Y) (xs : List X) (i : �
     ≡ get_or xs i x → Each P (map f (drop i xs)) → Each P (f x ∷ map f (drop (i + 1) xs))
 each_next P f xs i x h e l = subst (Each P) (next f xs i x h e) l
 
--- The layout of an object, and those of the ones behind it.
+-- The layout of an object, and those of the ones after it.
 pub object_here : (structs : Structs) (xs : List Object) (i : ℕ) (x : Object) → i < length xs → x ≡ get_or xs i x →
     Each (λ y. has_size structs y.ctype ≡ true) (map view_object (drop i xs)) → has_size structs (view x.ctype) ≡ true
 object_here structs xs i x h e l =

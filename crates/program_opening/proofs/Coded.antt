@@ -83,7 +83,7 @@ other_cases shapes s place o at below a f here rest i d false false e k low high
     let other : i ≢ place = eqb-false i place k in
     rest i d (omega (arith, u, above, other)) high
 
--- Behind one that is not equal, the next place of the code.
+-- After one that is not equal, the next place of the code.
 pub other_more : (shapes : List Shape) (s : Shape) (place : ℕ) (o at : Option ℕ) → place < length shapes →
     at ≡ Some place → o ≡ place_below (codes_of shapes) (code_of s) place →
     ((d : Shape) → same_shape (get_or shapes place d) s ≡ false) →

@@ -15,7 +15,7 @@ before_one : (b : Bool) (n m count : ℕ) → (n < count → m ≡ n) → (if b 
 before_one true n m count f h = refl
 before_one false n m count f h = ap (λ k. k + 1) (f (omega arith))
 
--- A target has the same number where more stand behind.
+-- A target has the same number where more stand after it.
 number_before : (ts us : List CType) (t : CType) → number_of ts t < length ts → number_of (ts ++ us) t ≡ number_of ts t
 number_before [] us t h = absurd (omega arith)
 number_before (x ∷ ts) us t h =

@@ -10,7 +10,7 @@ before_one : (b : Bool) (n m count : ℕ) → (n < count → m ≡ n) → (if b 
 before_one true n m count f h = refl
 before_one false n m count f h = ap (λ k. k + 1) (f (omega arith))
 
--- So it does where more stand behind.
+-- A shape has the same number where more stand after it.
 pub number_before : (xs ys : List Shape) (s : Shape) → number_among xs s < length xs → number_among (xs ++ ys) s ≡ number_among xs s
 number_before [] ys s h = absurd (omega arith)
 number_before (x ∷ xs) ys s h = before_one (same_shape x s) (number_among xs s) (number_among (xs ++ ys) s) (length xs) (number_before xs ys s) h

@@ -26,7 +26,7 @@ last_first cs (q ∷ ps) p =
     ap (λ ts. ts ++ pending_targets cs q) (last_first cs ps p)
     ∙ append_assoc (pending_targets cs p) (all_pending cs ps) (pending_targets cs q)
 
--- A member, and those behind it.
+-- A member, and those after it.
 pub at_next : (cs : List Completed) (number i : ℕ) (xs : List c.Member) (x : c.Member) → map view_member xs ≡ members_in cs number →
     i < length xs → x ≡ get_or xs i x →
     pending_targets cs (record { number = number; member = i })
@@ -104,7 +104,7 @@ over s ps p xs m l e =
       noted = subst (λ (x : Structs). AreNoted x (struct_targets s.completed p.number)) same r.noted;
     }
 
--- A member that comes next, before those behind it.
+-- A member that comes next, before those after it.
 pub record IsNext (s : Structs) (ps : List Pending) (p q : Pending) (leaf : Leaf) : Type 0 where
   pub rest : with_pending (with_leaf s leaf) (ps ++ (q ∷ [])) ≡ with_pending s (ps ++ (p ∷ []))
   pub ended : AreEnded (with_leaf s leaf) (ps ++ (q ∷ []))

@@ -35,7 +35,7 @@ use Rattle.upc_types.proofs.Within.{kind_bytes}
 use Rattle.upc_types.proofs.Members.{kind_some}
 use Rattle.upc_values.proofs.Membership.{each-append}
 
--- ---- cells of one kind, one behind the other
+-- ---- cells of one kind, one after the other
 
 abbrev AreOf : Kind → List (ℕ × Kind) → Type 0
 AreOf kind cells = Each (λ c. c.1 ≡ kind) cells

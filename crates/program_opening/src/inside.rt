@@ -30,7 +30,7 @@ fn push_types(types: &[CType], structs: &Structs, out: &mut Vec<CType>) -> Resul
     Ok(())
 }
 
-// So the types of these objects.
+// Adds copies of the types of these objects, where they have a layout.
 fn push_objects(
     objects: &[Object],
     structs: &Structs,
@@ -45,7 +45,7 @@ fn push_objects(
     Ok(())
 }
 
-// So of the objects that a statement declares.
+// Adds copies of the types of the objects that a statement declares, where they have a layout.
 #[cycle(types_inside_statements)]
 fn push_statement(
     statement: &Statement,

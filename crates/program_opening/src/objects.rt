@@ -59,7 +59,7 @@ fn block_or_none(block: Option<u32>) -> u32
     block.unwrap_or(0)
 }
 
-// A shared object with this number, behind so many bytes of others, whose elements have this shape and so many bytes.
+// A shared object with this number, after so many bytes of others, whose elements have this shape and so many bytes.
 #[tactic(auto, using(crate::proofs::Chosen::sizes))]
 fn placed(
     alloc: Global,
@@ -122,7 +122,7 @@ fn placed_next(
     Ok(one)
 }
 
-// The shared objects among these, one behind the other, and the shapes of their elements by number.
+// The shared objects among these, one after the other, and the shapes of their elements by number.
 #[tactic(auto, using(crate::proofs::Chosen::shared_objects))]
 fn placed_objects(
     alloc: Global,
@@ -160,7 +160,7 @@ pub(crate) struct SharedPart {
     pub(crate) objects: Vec<SharedDecl>,
 }
 
-/// The shared objects among these, one behind the other, with the shapes of their elements and of objects of these
+/// The shared objects among these, one after the other, with the shapes of their elements and of objects of these
 /// types.
 pub(crate) fn shared_part(
     alloc: Global,

@@ -102,7 +102,7 @@ fn note_leaf(
     Ok(())
 }
 
-// Goes on with the next member, and leaves those behind it. A struct without a next one is done.
+// Goes on with the next member, and leaves those after it. A struct without a next one is done.
 fn note_next(
     structs: &mut Structs,
     done: &mut [bool],

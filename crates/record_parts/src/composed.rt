@@ -12,7 +12,7 @@ use block_layout::{Loc, ObjectRef, SharedPtr};
 use std::alloc::Global;
 use upc_values::Scalar;
 
-// What stands behind `@`.
+// What stands after `@`.
 fn after_at(word: &[u8]) -> Result<&[u8], Fail>
     ensures { Gives (λ t. t.now) result (strip (codes "@") word.now) }
 {
@@ -22,7 +22,7 @@ fn after_at(word: &[u8]) -> Result<&[u8], Fail>
     }
 }
 
-// What stands behind `l:`.
+// What stands after `l:`.
 fn after_lock(word: &[u8]) -> Result<&[u8], Fail>
     ensures { Gives (λ t. t.now) result (strip (codes "l:") word.now) }
 {
@@ -32,7 +32,7 @@ fn after_lock(word: &[u8]) -> Result<&[u8], Fail>
     }
 }
 
-// What stands behind `p:`.
+// What stands after `p:`.
 fn after_pointer(word: &[u8]) -> Result<&[u8], Fail>
     ensures { Gives (λ t. t.now) result (strip (codes "p:") word.now) }
 {

@@ -36,7 +36,7 @@ order 0 4\n0.0.w\n0.1.r\n0.2.w\n0.3.r\nend\n",
 order 0 4\n0.1.r\n0.0.w\n0.2.w\n0.3.r\nend\n",
     },
     // `x = 1; x = y + x;` on one thread, relaxed. The first write is combined into the second and is no entry; in the
-    // order it stands before the second, with the read behind it. Wrong: the read of x where it was issued, before its
+    // order it stands before the second, with the read after it. Wrong: the read of x where it was issued, before its
     // write.
     ByHand {
         run: "upc-record 2\nthreads 1 budget 1000 actions 100\nrule places 64 combine\n\
@@ -51,7 +51,7 @@ order 0 8\n0.0.w\n0.1.r\n0.3.r\n0.2.w\n0.4.r\n0.5.w\n0.6.w\n0.7.r\nend\n",
 order 0 8\n0.0.w\n0.1.r\n0.3.r\n0.4.r\n0.2.w\n0.5.w\n0.6.w\n0.7.r\nend\n",
     },
     // Store buffering: thread 0 does `x = 1; r = y;`, thread 1 `y = 1; r = x;`, all relaxed, and both read 0. The order
-    // of a thread has not the other's read. Wrong: thread 0 reads y behind thread 1's write.
+    // of a thread has not the other's read. Wrong: thread 0 reads y after thread 1's write.
     ByHand {
         run: "upc-record 1\nthreads 2 budget 1000 actions 100\n\
 thread 0 items 6 ticks 0 ended 0\n\
@@ -71,7 +71,7 @@ order 0 11\n0.0.w\n1.0.w\n0.1.r\n1.1.r\n1.2.w\n0.3.r\n0.2.w\n0.4.w\n1.4.w\n0.5.r
 order 1 11\n0.0.w\n1.0.w\n0.1.r\n1.1.r\n1.3.r\n0.2.w\n0.4.w\n1.2.w\n1.4.w\n0.5.r\n1.5.r\nend\n",
     },
     // Thread 0 does `x = 1; r = x;`, thread 1 `x = 2;`, all relaxed. The read gives 1 and is no entry; in the order of
-    // thread 0 it stands behind its write. Wrong: where it was issued, while the write was pending.
+    // thread 0 it stands after its write. Wrong: where it was issued, while the write was pending.
     ByHand {
         run: "upc-record 2\nthreads 2 budget 1000 actions 100\nrule places 64 combine\n\
 thread 0 items 6 ticks 0 ended 0\n\

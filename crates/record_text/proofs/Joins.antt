@@ -11,7 +11,7 @@ pub join_after : (w : Text) (ws : List Text) → with_blanks (w ∷ ws) ≡ w ++
 join_after w [] = sym (append-nil w)
 join_after w (v ∷ ws) = ap (λ u. w ++ (32 ∷ u)) (join_after v ws)
 
--- Some words, and some behind them.
+-- Some words, and some after them.
 pub join_append : (mark : ℕ) (xs ys : List Text) → 0 < length xs → 0 < length ys
     → join_with_byte mark (xs ++ ys) ≡ join_with_byte mark xs ++ (mark ∷ join_with_byte mark ys)
 join_append mark [] ys h k = absurd (omega arith)
@@ -21,7 +21,7 @@ join_append mark (x ∷ v ∷ xs) ys h k =
     ap (λ u. x ++ (mark ∷ u)) (join_append mark (v ∷ xs) ys (omega arith) k)
     ∙ sym (append_assoc x (mark ∷ join_with_byte mark (v ∷ xs)) (mark ∷ join_with_byte mark ys))
 
--- The words behind the first one.
+-- The words after the first one.
 pub last_joined : (k : Text) (ws : List Text) → 0 < length ws → with_blanks (k ∷ ws) ≡ k ++ (32 ∷ with_blanks ws)
 last_joined k ws h = join_append 32 (k ∷ []) ws (omega arith) h
 

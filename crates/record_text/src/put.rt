@@ -1,4 +1,4 @@
-//! Bytes and numbers, behind what is written.
+//! Bytes and numbers, put after what is written.
 
 ghost use Rattle.std.specs.Prelude.{◌≡◌, ◌++◌, OnOk};
 

@@ -20,7 +20,7 @@ fn add_field(text: &mut Vec<u8>, word: &[u8], number: u32) -> Result<(), AllocEr
     add_number(text, number)
 }
 
-// The bytes that each thread has of an object, each behind a blank.
+// The bytes that each thread has of an object, each after a blank.
 fn pieces(alloc: Global, threads: u32, object: &ObjectRef) -> Result<Vec<u8>, AllocError>
     requires { IsSmall object.now }
     ensures { IfOk result (λ text. text.items ≡ pieces_text threads object.now) }

@@ -22,7 +22,7 @@ pub fn output_text(alloc: Global, history: &Entries) -> Result<Vec<u8>, AllocErr
     Ok(text)
 }
 
-/// Puts a text behind a line.
+/// Appends a text to a line.
 pub fn add(line: &mut Vec<u8>, text: &[u8]) -> Result<(), AllocError>
     ensures { IfOk result (λ _. line.new.items ≡ line.old.items ++ text.now) }
 {
@@ -30,7 +30,7 @@ pub fn add(line: &mut Vec<u8>, text: &[u8]) -> Result<(), AllocError>
     Ok(())
 }
 
-/// Puts a number behind a line, in decimal.
+/// Appends a number to a line, in decimal.
 pub fn add_number(line: &mut Vec<u8>, number: u32) -> Result<(), AllocError>
     ensures { IfOk result (λ _. line.new.items ≡ line.old.items ++ decimal number) }
 {

@@ -74,7 +74,7 @@ home = rule_field in_word home_of home_text FitsHome field_home
 abbrev Is : List Text → Action → List Text → List Text → Type 0
 Is before a ws rest = (before ++ ws ≡ action_words a ++ rest) × FitsAction a
 
--- What the reader behind this name reads is written so.
+-- What the reader reads after this name is written so.
 abbrev Handled : Text → Reader Action → Type 0
 Handled name r = (ws : List Text) (a : Action) (rest : List Text) → r ws ≡ Some (a, rest) → Is (name ∷ []) a ws rest
 

@@ -36,7 +36,7 @@ place = rule_field in_word place_of place_text FitsPlace
 abbrev IsEnd : List Text → End → List Text → List Text → Type 0
 IsEnd before e ws rest = (before ++ ws ≡ end_words e ++ rest) × FitsEnd e
 
--- What the reader behind this name reads is written so.
+-- What the reader reads after this name is written so.
 abbrev Handled : Text → Reader End → Type 0
 Handled name r = (ws : List Text) (e : End) (rest : List Text) → r ws ≡ Some (e, rest) → IsEnd (name ∷ []) e ws rest
 

@@ -44,7 +44,7 @@ flag = rule_field in_word flag_of flag_text Always
 abbrev IsReply : List Text → Reply → List Text → List Text → Type 0
 IsReply before r ws rest = (before ++ ws ≡ reply_words r ++ rest) × FitsReply r
 
--- What the reader behind this name reads is written so.
+-- What the reader reads after this name is written so.
 abbrev Handled : Text → Reader Reply → Type 0
 Handled name reader =
     (ws : List Text) (r : Reply) (rest : List Text) → reader ws ≡ Some (r, rest) → IsReply (name ∷ []) r ws rest

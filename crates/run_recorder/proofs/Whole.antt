@@ -36,7 +36,7 @@ use Rattle.run_recorder.proofs.OrderLaws.{FitsName, name_line, field_name, field
 use Rattle.run_recorder.proofs.OrderLaws.{rule_orders}
 use Rattle.run_recorder.proofs.Agreement.{entries_takes, entries_again}
 
--- The lines, and the nothing behind the last.
+-- The lines, and the empty text after the last.
 abbrev parts : VersionedRun → List Text
 parts x = run_lines x.0 x.1 x.2 ++ [] ∷ []
 
@@ -119,7 +119,7 @@ guarded_again false x ws e = absurd (true≢false (sym e))
 
 -- ---- the whole
 
--- The lines up to the history, with what stands behind them.
+-- The lines up to the history, with what stands after them.
 abbrev up_to_threads : Head → List Strand → List Text → List Text
 up_to_threads h ss ws = first_lines h ++ (numbered_lines strand_lines 0 ss ++ ws)
 
@@ -276,7 +276,7 @@ any_byte b = true
 field_run : IsField any_byte run_of (λ x. join_with_byte 10 (parts x)) Is
 field_run = field_whole 10 rule_run some_parts refl refl line_no_end (λ b h. refl)
 
--- Lines that end with byte 10 are lines with that byte between, and nothing behind the last.
+-- Lines that end with byte 10 are lines with that byte between, and nothing after the last.
 joined : (ls : List Text) → flat_map (λ l. l ++ codes "\n") ls ≡ join_with_byte 10 (ls ++ [] ∷ [])
 joined [] = refl
 joined (l ∷ []) = append-nil (l ++ 10 ∷ [])

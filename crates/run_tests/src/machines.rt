@@ -11,7 +11,7 @@ use std::test::Fail;
 use upc_text::{OutOfMemory, Stop};
 use upc_values::{Action, Reply, Scalar};
 
-// What a turn of a thread comes to: what it asked for was answered, or it ended with a value or otherwise.
+// How a turn of a thread ends: what it asked for was answered, or it ended with a value or otherwise.
 #[derive(Clone, Copy)]
 enum Turn {
     Answered(Reply),

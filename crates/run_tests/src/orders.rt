@@ -380,13 +380,13 @@ const IN_TURN: &[u32] = &[
 ];
 
 const CASES: [Case; 10] = [
-    // Message passing behind a strict flag.
+    // Message passing with a strict flag.
     Case {
         source: b"relaxed shared int data; strict shared int flag; int main(void){int r = 0; \
 if (MYTHREAD == 0) {data = 42; flag = 1;} else {while (flag == 0) {} r = data;} return r;}",
         picks: &[1, 1, 1, 0, 1, 0, 1, 0, 1, 0, 0, 1],
     },
-    // Message passing behind a fence, both accesses relaxed.
+    // Message passing with fences, both accesses relaxed.
     Case {
         source: b"shared int data; shared int flag; int main(void){int r; int s = 0; \
 if (MYTHREAD == 0) {data = 42; upc_fence; flag = 1;} else {r = flag; upc_fence; s = data;} return s;}",

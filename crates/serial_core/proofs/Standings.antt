@@ -196,7 +196,7 @@ grows-refl xs = ([], sym (append-nil xs))
 pub grows-trans : (xs ys zs : List Entry) → Grows xs ys → Grows ys zs → Grows xs zs
 grows-trans xs ys zs g h = (g.0 ++ h.0, h.1 ∙ ap (λ l. l ++ h.0) g.1 ∙ append_assoc xs g.0 h.0)
 
--- a part in a round that has not come to its rest
+-- a part in a round that has not reached its rest
 abbrev pub Going : Standing → Standing → Type 0
 Going s u = (items : List Item) × Each (λ x. is_pause (Some x) ≡ false) items × (u ≡ with (s.items ++ items) None)
 

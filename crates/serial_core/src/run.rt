@@ -366,7 +366,8 @@ fn rounds<R: Wait>(
     unreachable!()
 }
 
-// After the picks: rounds; but where an end has ended the run already, none is begun, and each task comes to its rest.
+// After the picks: rounds; but where an end has ended the run already, none is begun, and each task goes on to its
+// rest.
 fn go_out<R: Wait>(
     rt: &R,
     alloc: Global,
@@ -505,7 +506,7 @@ fn objects_of(alloc: Global, shared: &[SharedDecl]) -> Result<Vec<ObjectRef>, Al
 /// Where an end has ended the run already after the picks, no round is begun: every thread that stands neither at a
 /// Beat nor at a Stall goes on to one, or to its end.
 ///
-/// The journal is sound: each thread's record is what its code comes to on the recorded replies, and one legal history
+/// The journal is sound: each thread's record is what its code gives on the recorded replies, and one legal history
 /// takes these records as the write buffers drain.
 pub fn run_by<R: Wait>(
     rt: &R,

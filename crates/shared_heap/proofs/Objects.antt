@@ -185,7 +185,7 @@ pub has-number : (o : Opening) (x : ObjectRef) → IsOpening o → (x.number ≡
     → list_any (same_object x) o.declared ≡ is_there x (slice_get o.declared (x.number - 1))
 has-number o x v some = has-at 1 (x.number - 1) x o.declared (opening-numbered o v) (omega arith)
 
--- ---- those behind others
+-- ---- those after others
 
 pub numbered-behind : (from : ℕ) (xs ys : List ObjectRef) → AreNumbered from (xs ++ ys) → AreNumbered (length xs + from) ys
 unfolding AreNumbered

@@ -1,4 +1,4 @@
--- Objects that are made stand as declared ones do: numbered, of whole elements, each behind those before it.
+-- Objects that are made stand as declared ones do: numbered, of whole elements, each after those before it.
 use Rattle.std.proofs.Common.{◌≡◌, ◌==◌, ℕ, ◌+◌, ◌*◌, ◌%◌, ◌<◌, ◌≤◌, nat_lt, Bool, true, false, not, ◌&&◌, cond, List, [], ◌∷◌, ◌++◌, length, get_or, Option, Some, None, is_some, slice_get, refl, sym, ap, subst, ◌∙◌, inl, inr, append_assoc, arith, ltb-true, ltb-false, eqb-true, eq-eqb, mul-zero, zero-mul, suc-mul, pos_of_ne-zero, take_all, length-append}
 use native.Mathlib.Nat.{zero-mod}
 use Rattle.std.specs.List.{list_any}

@@ -108,7 +108,7 @@ impl Heap {
         &self.beginning
     }
 
-    /// A law: the opening is valid, the objects made stand as declared ones behind those would, and all have at most
+    /// A law: the opening is valid, the objects made stand as declared ones after those would, and all have at most
     /// 16,777,216 bytes.
     pub fn keeps(&self)
         ensures { IsHeap self.now }

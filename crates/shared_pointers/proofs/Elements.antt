@@ -132,7 +132,8 @@ pub stands-somewhere : (p : SharedPtr) (b s T : ℕ) → p.thread < T → IsPhas
 stands-somewhere p zero s T h k = (pos 0, (p.offset, record { thread = λ l. absurd (omega (arith, l)); phase = k; offset = omega (arith, ints) }))
 stands-somewhere p (suc b) s T h k = (pos (element_in_row p (suc b)), (row_offset p s, first-blocks p (pos (element_in_row p (suc b))) b s T (omega (arith, ints)) h k))
 
--- Two pointers of one object, with an indefinite block on one thread, that stand for one element with one shift are equal.
+-- Two pointers of one object, with an indefinite block on one thread, that stand for one element with one shift are
+-- equal.
 pub stands-unique : (q r : SharedPtr) (e d : ℤ) (b s T : ℕ) → q.object ≡ r.object → (b ≡ 0 → q.thread ≡ r.thread) → StandsFor q e d b s T → StandsFor r e d b s T → q ≡ r
 stands-unique q r e d zero s T same thread h k = pointer-fields q r same (thread refl) (h.phase ∙ sym k.phase) (h.offset ∙ sym k.offset)
 stands-unique q r e d (suc b) s T same thread h k =
@@ -160,7 +161,7 @@ pub apart-moved : (p : SharedPtr) (x : ℤ) (b s T : ℕ) → 0 < s → 0 < T �
 apart-moved p x zero s T h k = apart-along p x s T h
 apart-moved p x (suc b) s T h k = apart-blocks p x b s T h k
 
--- Only the pointer moved by x lies x elements behind.
+-- Only p moved by x lies x elements after p.
 pub behind-moved : (p q : SharedPtr) (x : ℤ) (b s T : ℕ) → p.thread < T → IsPhase p.phase b → LiesBehind p q x b s T → q ≡ moved p x b s T
 behind-moved p q x b s T h k behind =
     let some : (e : ℤ) × ((d : ℤ) × StandsFor p e d b s T) = stands-somewhere p b s T h k in

@@ -12,7 +12,7 @@ use crate::step::{Place, place_behind};
 use block_layout::run_error::POINTER_PAIR;
 use block_layout::{ObjectRef, SharedPtr, floor_quotient};
 
-/// What `q - p` gives (UPC 6.4.2): how many elements `q` lies behind `p`, for a type with this block, 0 for indefinite,
+/// What `q - p` gives (UPC 6.4.2): how many elements `q` lies after `p`, for a type with this block, 0 for indefinite,
 /// and this size of an element in bytes.
 ///
 /// `POINTER_PAIR` where one is null, or where no number of elements leads from `p` to `q`.
@@ -57,7 +57,7 @@ fn is_at(q: &SharedPtr, object: ObjectRef, place: Place) -> bool
         && i128::from(q.offset) == place.offset
 }
 
-// How many elements `q` would lie behind `p`.
+// How many elements `q` would lie after `p`.
 fn elements_apart(q: &SharedPtr, p: &SharedPtr, block: u32, size: u32, threads: u32) -> i128
     requires later { IsPointer q.now block threads }
     requires pointer { IsPointer p.now block threads }
@@ -86,7 +86,7 @@ fn apart_by_blocks(q: &SharedPtr, p: &SharedPtr, block: u32, size: u32, threads:
     rows_apart(q, p, block, size, threads) + places_apart(q, p, block, threads)
 }
 
-// How many elements the row of `q` begins behind the row of `p`.
+// How many elements the row of `q` begins after the row of `p`.
 fn rows_apart(q: &SharedPtr, p: &SharedPtr, block: u32, size: u32, threads: u32) -> i128
     requires later { IsPointer q.now block threads }
     requires pointer { IsPointer p.now block threads }

@@ -13,7 +13,7 @@ use block_layout::{FARTHEST, SharedPtr, wide};
 // The greatest distance of an offset from 0.
 const MOST: i128 = FARTHEST as i128;
 
-/// What `p + i` gives (UPC 6.4.2): the pointer that lies `i` elements behind `p`, for a type with this block, 0 for
+/// What `p + i` gives (UPC 6.4.2): the pointer that lies `i` elements after `p`, for a type with this block, 0 for
 /// indefinite, and this size of an element in bytes.
 ///
 /// `NULL_ACCESS` for the null pointer, `POINTER_RANGE` where the offset leaves -2^40 to 2^40.
@@ -55,7 +55,7 @@ pub struct Place {
     pub offset: i128,
 }
 
-// The place `i` elements behind a pointer, with a block of at least 1.
+// The place `i` elements after a pointer, with a block of at least 1.
 fn place_by_blocks(p: &SharedPtr, i: i128, block: u32, size: u32, threads: u32) -> Place
     requires pointer { IsPointer p.now block threads }
     requires target { IsTarget block size }
@@ -80,7 +80,7 @@ fn place_by_blocks(p: &SharedPtr, i: i128, block: u32, size: u32, threads: u32) 
     }
 }
 
-// The place `i` elements behind a pointer.
+// The place `i` elements after a pointer.
 pub fn place_behind(p: &SharedPtr, i: i128, block: u32, size: u32, threads: u32) -> Place
     requires pointer { IsPointer p.now block threads }
     requires target { IsTarget block size }

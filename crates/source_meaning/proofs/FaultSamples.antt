@@ -37,7 +37,7 @@ use Rattle.source_meaning.proofs.Samples.{outcome, begins, done}
 
 -- ---- pointers and cells
 
--- `shared [] int a[20]; int main(void){return *(&a[0] + 549755813888);}`: 2^41 bytes behind a[0].
+-- `shared [] int a[20]; int main(void){return *(&a[0] + 549755813888);}`: 2^41 bytes after a[0].
 abbrev far : Checked
 far =
     program 1 (shared_object (blocked_ints 0 20) 1 ∷ [])

@@ -255,7 +255,7 @@ reduces =
     ∷ gives (num (pos 0)) ∷ []))
     ∷ [])
 
--- The place of a shared int of the file with this number, behind so many bytes of others.
+-- The place of a shared int of the file with this number, after so many bytes of others.
 abbrev placed_int : (number base : ℕ) → SharedPtr
 placed_int number base = record {
   object = record { number = number; total = 4; block = 4; home = 0; shape = 0; base = base };
@@ -308,7 +308,7 @@ second =
     let x = shared shared_pair 1 in
     Is here (attr pair_facts (n.MemberOf (attr_of x) (codes "i"))) (t.Member x 1)
 
--- `shared struct pair x; int main(void){return x.i;}`: i lies 4 bytes behind the beginning.
+-- `shared struct pair x; int main(void){return x.i;}`: i lies 4 bytes after the beginning.
 abbrev paired : Checked
 paired =
     with_structs pairs

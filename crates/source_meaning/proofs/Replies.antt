@@ -129,7 +129,7 @@ module _ (τ : Thread) (σ : State) (none : σ.actions ≡ []) where
 
 -- ---- the replies before one that does not fit
 
--- A reply behind which no further action is done did not fit.
+-- A reply after which no further action is done did not fit.
 unfit_by : (b : Bool) (a : Action) (before after : List Action) → length after ≡ length before
     → (b ≡ true → Begins (before ++ a ∷ []) after) → b ≡ false
 unfit_by false a before after e f = refl
@@ -149,7 +149,7 @@ wants_or_settled (Exit v) = inr tt
 wants_or_settled (Fault code at) = inr tt
 wants_or_settled OutOfTicks = inr tt
 
--- The k-th reply, with those before it and those behind it.
+-- The k-th reply, with those before it and those after it.
 split_at : (k : ℕ) (rs : List Reply) → k < length rs
     → (front : List Reply) × (r : Reply) × (more : List Reply) × (rs ≡ front ++ r ∷ more) × (length front ≡ k)
 split_at k [] lt = absurd (omega arith)

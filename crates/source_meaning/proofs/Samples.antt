@@ -35,7 +35,7 @@ use Rattle.source_meaning.proofs.Trees.{shared_object, block, does, gives, while
 use Rattle.source_meaning.proofs.Trees.{barrier_at, notify_at, listed, local_array, if_so, head_of, for_all, exprs}
 use Rattle.source_meaning.proofs.Trees.{function, program, main, column, here}
 
--- What a thread comes to: its end, behind the actions between the barriers.
+-- The outcome of a thread: its end, after the actions between the barriers.
 abbrev pub outcome : List Action → ℕ → ToldEnd → Outcome
 outcome actions ticks e = record { actions = actions; ticks = ticks; «end» = e }
 
@@ -357,7 +357,7 @@ unfolding thread_outcome most_calls ask notify wait begin_call end_call open_blo
     local_object operate cast load save advance
 initials-give = refl
 
--- `int main(void){int a[3]; return a[3];}`: the place behind the last element is none of the array.
+-- `int main(void){int a[3]; return a[3];}`: the place after the last element is none of the array.
 abbrev too_far : Checked
 too_far = program 1 [] (main (block (listed 0 3 [] ∷ []) (gives (element (local_array 0 3) (num (pos 3))) ∷ [])) ∷ [])
 

@@ -5,7 +5,7 @@ ghost use Rattle.typed_tree.specs.Programs.{Checked};
 ghost use Rattle.source_meaning.specs.Laws.{AllAreFramed, AllBeatInTime, AllFormCalls, AllGoOn, AllKeepBudgets};
 ghost use Rattle.source_meaning.specs.Laws.{AllKeepTurns, AllTakeReplies, IsTotal};
 
-/// Every thread of every program comes to a value or to its end, where its budget has at least one tick.
+/// No thread of any program is left unfinished, where its budget has at least one tick.
 #[tactic(auto, using(crate::proofs::Finished::is_total))]
 pub fn threads_are_finished()
     ensures { (program : Checked) → IsTotal program }

@@ -20,7 +20,7 @@ deep_append (i ∷ a) b (d ∷ ds) es before more p q = (
   deep_append a b ds es (d ∷ before) more p.1 q,
 )
 
--- What lies behind n depths.
+-- What lies after n depths.
 pub lands_past : (ds more : List ℕ) (n k d : ℕ) → length ds ≡ n → Lands more k d → Lands (ds ++ more) (n + k) d
 lands_past [] more n k d e l = let q : k ≡ n + k = omega arith in subst (λ j. Lands more j d) q l
 lands_past (x ∷ ds) more zero k d e l = absurd (omega arith)
@@ -28,7 +28,7 @@ lands_past (x ∷ ds) more (suc n) k d e l =
     let q : suc (n + k) ≡ suc n + k = omega arith in
     subst (λ j. Lands ((x ∷ ds) ++ more) j d) q (lands_past ds more n k d (omega arith) l)
 
--- The same, right behind them.
+-- The same, right after them.
 pub lands_end : (ds more : List ℕ) (n d : ℕ) → length ds ≡ n → Lands more 0 d → Lands (ds ++ more) n d
 lands_end ds more n d e l =
     let q : n + 0 ≡ n = omega arith in subst (λ j. Lands (ds ++ more) j d) q (lands_past ds more n 0 d e l)
@@ -55,7 +55,7 @@ pub record Deepens (is : List Instr) (d : ℕ) (P : List ℕ → Type 0) : Type 
 abbrev pub Then : ℕ → List ℕ → Type 0
 Then d more = Lands more 0 d
 
--- One part behind another, where what the first needs to follow comes of the second.
+-- One part after another, where what the first needs to follow comes of the second.
 abbrev pub joins : (a b : List Instr) (d e : ℕ) (P Q : List ℕ → Type 0) (x : Deepens a d P) (y : Deepens b e Q)
     → ((more : List ℕ) → Q more → P (y.depths ++ more)) → Deepens (a ++ b) d Q
 joins a b d e P Q x y h = record {

@@ -75,7 +75,7 @@ module _ (τ : Thread) (functions : List (List Instr)) where
   pub one_step : (c d : Conf) → step τ functions c ≡ d → Leads τ functions c d
   one_step c d e = record { count = 1; is = e }
 
-  -- What is met from where code comes to is met from here.
+  -- What is met from where the code leads to is met from here.
   pub after : (A : Type 0) (c d : Conf) (go : A → State → Conf) (r : Res A)
       → Leads τ functions c d → Meets τ functions A d go r → Meets τ functions A c go r
   after A c d go (Val a σ) l m = record { by = leads_on c d _ l m.by }
@@ -118,7 +118,7 @@ module _ (τ : Thread) (functions : List (List Instr)) where
   lands A c go on (Over told σ) l m = record { by = m.by }
   lands A c go on Unfinished l m = record { by = tt }
 
-  -- The two sides of a test, behind its jump.
+  -- The two sides of a test, after its jump.
   pub chooses : (A : Type 0) (go : A → State → Conf) (at : Spot → Conf) (b : Bool) (p q : Spot) (c : Conf)
       (x y : Doing A) (σ : State) → step τ functions c ≡ at (pick b p q) → Meets τ functions A (at p) go (x σ)
       → Meets τ functions A (at q) go (y σ) → Meets τ functions A c go (choose b x y σ)

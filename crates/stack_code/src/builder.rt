@@ -139,7 +139,7 @@ impl Builder {
         self.alloc
     }
 
-    /// Ends the function, which gets the next number, from 0. The instructions behind it are those of another one.
+    /// Ends the function, which gets the next number, from 0. The instructions after it are those of another one.
     pub fn end_function(&mut self) -> Result<(), OutOfMemory>
         ensures done { OnOk result (self.new ≡ with_function self.old) }
         ensures failed { OnErr result (self.new.failed ≡ true) }

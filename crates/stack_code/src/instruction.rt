@@ -1,8 +1,8 @@
 //! The instructions.
 //!
 //! An instruction takes operands from the stack and leaves operands there. In the table below `a b -> v` says that b
-//! lay on top of a, and that v lies there instead. What is done to objects and asked for stands behind it, with its
-//! section of C99, or of UPC 1.3 where that is said.
+//! lay on top of a, and that v lies there instead. The next column says what is done to objects and asked
+//! for, and the last one the section of C99 for that, or of UPC 1.3 where that is said.
 //!
 //! | instruction | operands | what it does | section |
 //! |---|---|---|---|
@@ -17,11 +17,11 @@
 //! | `Operate` | `a b -> v` | a binary operator on integers | 6.5.5 to 6.5.12 |
 //! | `Apply` | `a -> v` | a unary operator on an integer | 6.5.3.3 |
 //! | `Cast(to)` | `a -> v` | a conversion | 6.3, UPC 6.4.3 |
-//! | `Advance` | `p i -> v` | the pointer i objects behind p | 6.5.6, UPC 6.4.2 |
+//! | `Advance` | `p i -> v` | the pointer i objects after p | 6.5.6, UPC 6.4.2 |
 //! | `Retreat` | `p i -> v` | the pointer i objects before p | 6.5.6, UPC 6.4.2 |
 //! | `InRow(n)` | `p i q -> q` | a run error unless i is from 0 to n - 1 | 6.5.2.1 |
-//! | `Member(n)` | `p -> v` | the pointer to the member n bytes behind p | 6.5.2.3 |
-//! | `Difference` | `q p -> v` | how many elements q lies behind p | 6.5.6, UPC 6.4.2 |
+//! | `Member(n)` | `p -> v` | the pointer to the member n bytes after p | 6.5.2.3 |
+//! | `Difference` | `q p -> v` | how many elements q lies after p | 6.5.6, UPC 6.4.2 |
 //! | `Order` | `q p -> v` | whether q stands so to p | 6.5.8, UPC 6.4.2 |
 //! | `Same` | `q p -> v` | whether q and p are equal pointers | 6.5.9, UPC 6.4.2 |
 //! | `Local(n)` | `-> p` | where the n-th local object in scope lies | 6.2.4 |
@@ -47,7 +47,7 @@
 //! | `Control`, `Release` | | the body of a controlling upc_forall begins, ends | UPC 6.6.2 |
 //! | `Mine` | `a -> v` | 1 where a turn with affinity a is the thread's, else 0 | UPC 6.6.2 |
 //! | `Library` | `a .. -> v` | a call of the library with the operands as arguments | UPC 7.2, 7.3 |
-//! | `Print` | `a .. -> v` | printf with the operands as arguments behind the format | 7.19.6.3 |
+//! | `Print` | `a .. -> v` | printf with the operands as arguments after the format | 7.19.6.3 |
 
 use block_layout::{Kind, Shape};
 use integers::{BinOp, UnOp};

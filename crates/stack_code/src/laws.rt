@@ -6,7 +6,7 @@ ghost use Rattle.stack_code.specs.declared.instruction.Instr.{Instr};
 ghost use Rattle.stack_code.specs.Codes.{Codes};
 ghost use Rattle.stack_code.specs.Outcomes.{HasOneOutcome, StaysEnded};
 
-/// A thread of code comes to at most one outcome, whatever it is answered.
+/// A thread of code has at most one outcome, whatever it is answered.
 #[tactic(auto, using(crate::proofs::Ends::one_outcome))]
 pub fn one_outcome_at_most()
     ensures { (codes : Codes) → HasOneOutcome codes }

@@ -1,4 +1,4 @@
--- What a thread does has nothing to do with the actions before, nor with the replies behind those that it takes.
+-- What a thread does has nothing to do with the actions before, nor with the replies after those that it takes.
 use Rattle.std.proofs.Common.{◌≡◌, ℕ, suc, ◌<◌, List, [], ◌∷◌, ◌++◌, Option}
 use Rattle.std.proofs.Common.{Bool, true, false, refl, sym, ◌∙◌, ap, subst, arith, append_assoc}
 use Rattle.std.specs.Prelude.{Result, Ok, Err}
@@ -21,11 +21,11 @@ use Rattle.thread_steps.proofs.Kept.{Property, IsBasic, IsAsking, IsKept, Ignore
 use Rattle.thread_steps.proofs.Kept.{asked_notify_kept, asked_wait_kept, asked_called_kept, asked_tick_kept}
 use Rattle.thread_steps.proofs.Lasting.{Lasts, lasting}
 
--- The state with actions before its own, and replies behind its own.
+-- The state with actions before its own, and replies after its own.
 abbrev pub shift : State → List Action → List Reply → State
 shift σ before later = record σ { actions = before ++ σ.actions; replies = σ.replies ++ later }
 
--- What comes of actions before and replies behind.
+-- What comes of actions before and replies after.
 abbrev pub Shifted : Type 0 → Type 0
 Shifted A = List Action → List Reply → Res A
 
@@ -252,7 +252,7 @@ both τ P Q K L = record {
   };
 }
 
--- A step that is framed, and comes to a value or to the end of the thread.
+-- A step that is framed, and gives a value or ends the thread.
 abbrev pub Calm : Thread → Property
 Calm τ = Both Framed (Lasts τ)
 

@@ -18,8 +18,8 @@ use step_values::int_of;
 use upc_text::{OutOfMemory, Place};
 use upc_values::Value;
 
-/// What a thread has come to: the place of its next instruction, the arguments that the youngest call was given and
-/// has not received yet, its operands, where its calls lead back, and the rest.
+/// Where a thread stands: the place of its next instruction, the arguments that the youngest call was given and has
+/// not received yet, its operands, where its calls lead back, and the rest.
 #[derive(Drop)]
 pub(crate) struct Task {
     pub(crate) function: usize,
@@ -31,7 +31,7 @@ pub(crate) struct Task {
 }
 
 impl Task {
-    // The spot behind this instruction is where a call leads back to.
+    // The spot after this instruction is where a call leads back to.
     fn push_call(&mut self, function: usize) -> Result<(), OutOfMemory>
         requires { self.old.place < usize.MAX }
         ensures { OnOk result (self.new ≡ record self.old {

@@ -14,8 +14,8 @@ pub fn instructions_go_on()
     ensures { (τ : Thread) (functions : List (List Instr)) → GoesOn τ functions }
 {}
 
-/// A machine that goes on as its instructions say, and keeps nothing of the actions and replies before, tells what the
-/// code means on the replies that it was given.
+/// A machine that goes on as its instructions say, and keeps nothing of the actions and replies before, answers what
+/// the code means on the replies that it was given.
 #[tactic(auto, using(crate::proofs::Standings::goes_by_replies))]
 pub fn machines_go_by_replies()
     ensures { (codes : Codes) (thread budget : ℕ) → GoesByReplies codes thread budget }

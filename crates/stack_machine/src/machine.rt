@@ -48,7 +48,7 @@ impl Model for Machine {
     ghost invariant = { λ m. IsKept m.phase m.runner.number m.runner.budget m.threads m.shapes (task_seen m.task) };
 }
 
-// The wish that tells a stop.
+// The wish that stands for a stop.
 fn wish_of(stop: Stop) -> Wish
     ensures { told_of result ≡ told_by stop }
 {
@@ -151,7 +151,7 @@ impl Machine {
         }
     }
 
-    /// The ticks of the thread where it told something last.
+    /// The ticks of the thread at its last answer.
     pub fn ticks(&self) -> u64
         ensures { HasAsked self.now → (codes : Codes) (thread budget : ℕ) (f : List Reply → Outcome)
             → (given : List Reply)

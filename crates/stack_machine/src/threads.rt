@@ -228,7 +228,7 @@ fn first_number(arguments: &[Value]) -> i128
     }
 }
 
-// So where it is an int. What is none cannot come of checked code.
+// The first argument, where it is an int. What is none cannot come of checked code.
 fn first_int(arguments: &[Value]) -> Option<i32>
     ensures { IfSome result (λ v. v ≡ library.first_number arguments.now) }
 {

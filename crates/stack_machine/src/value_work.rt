@@ -56,7 +56,7 @@ fn negated(i: i128) -> i128
     -i
 }
 
-// The pointer so many objects behind another, each of `count` elements.
+// The pointer so many objects after another, each of `count` elements.
 #[inline(always)]
 fn ahead(code: &Code, elements: Elements, count: u32, p: Value, i: &Value) -> Result<Value, u8>
     requires elements { ElementsFit elements count }

@@ -1,4 +1,4 @@
--- Parts of statements: lists whose parts take several steps, scopes inside, and nodes that are judged behind their
+-- Parts of statements: lists whose parts take several steps, scopes inside, and nodes that are judged after their
 -- parts.
 use Rattle.std.proofs.Common.{IsTrue, ◌≡◌, ℕ, ◌+◌, ◌<◌, map, List, [], ◌∷◌, ◌++◌, Bool, true, false, Option, Result, refl, sym, ap, ◌∙◌, subst, arith, Box, Vec, Global}
 use Rattle.std.proofs.lemmas.List.{append_assoc, append-nil, map-append}
@@ -89,7 +89,7 @@ left_grouped whole f w v go s h =
 
 -- ---- scopes
 
--- A part in a scope inside, whose tags are out of scope behind it.
+-- A part in a scope inside, whose tags are out of scope after it.
 pub encloses_part : {B C : Type 0} (view : C → B) (W : Env → Walk B) (Γ inner : Env) (tags own last : List Tag) (before after : Known) (r : Result C Stop) →
     inner ≡ Γ → own ≡ tags → Meets view (W inner (state_with own before)) (state_with last after) r → Meets view (enclosed (W Γ) (state_with tags before)) (state_with tags after) r
 encloses_part view W Γ inner tags own last before after r e f h =

@@ -70,7 +70,7 @@ pub(crate) fn in_forall(around: Around<'_>) -> Around<'_>
     }
 }
 
-/// Whether accesses are strict behind these pragmas (UPC 6.7).
+/// Whether accesses are strict after these pragmas (UPC 6.7).
 pub(crate) fn strict_behind(before: bool, pragmas: &[Pragma]) -> bool
     ensures { result ≡ pure.strict_behind before pragmas.now }
 {

@@ -353,7 +353,7 @@ pub fn walk_block(
     Ok(build::block(setting.alloc, compound.open.place, strict, parts)?)
 }
 
-// A declaration is in scope behind itself.
+// What a declaration declares is in scope after it.
 #[cycle(statement)]
 fn walk_items(
     items: &[BlockItem],
@@ -582,8 +582,8 @@ fn walk_forall(
     finish_forall(here.setting.alloc, word.place, headed, body)
 }
 
-// The further arms of an `if`, behind the first one, each condition in the part behind the `else` before it. Behind
-// them `scope` is that of the part behind the last `else`.
+// The further arms of an `if`, after the first one, each condition in the part after the `else` before it. After
+// them `scope` is that of the part after the last `else`.
 #[cycle(statement)]
 fn walk_else_ifs<'e>(
     more: &[ElseIf],
@@ -620,7 +620,7 @@ fn walk_else_ifs<'e>(
     Ok(arms)
 }
 
-// The part behind the last `else`, in a scope that is there.
+// The part after the last `else`, in a scope that is there.
 #[cycle(statement)]
 fn walk_otherwise(
     otherwise: &Otherwise,

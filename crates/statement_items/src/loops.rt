@@ -27,7 +27,7 @@ fn is_next(flow: Flow) -> bool
     matches!(flow, Flow::Next)
 }
 
-// Behind the body of a upc_forall.
+// How a turn of a upc_forall is left, by how its body is (UPC 6.6.2).
 fn finished(flow: Flow) -> Flow
     ensures { flow_seen result ≡ mean.finished (flow_seen flow) }
 {
@@ -142,7 +142,7 @@ pub fn turn<'p>(
     }
 }
 
-/// A turn from behind its test on.
+/// The rest of a turn after its test (C99 6.8.5).
 #[tactic(auto, using(thread_items::proofs::Turning::loops))]
 pub fn tested<'p>(
     evaluation: &mut Evaluation<'p>,
@@ -250,7 +250,7 @@ fn controlling<'p>(
     evaluation.push_two(Work::Release, Work::Run(standing, body))
 }
 
-/// A turn from behind its body on.
+/// The rest of a turn after its body (C99 6.8.5).
 #[tactic(auto, using(thread_items::proofs::Turning::rounds))]
 pub fn around<'p>(
     evaluation: &mut Evaluation<'p>,
@@ -322,7 +322,7 @@ pub fn mine<'p>(
     }
 }
 
-/// The body of a upc_forall behind its affinity.
+/// The body of a upc_forall after its affinity.
 #[tactic(auto, using(thread_items::proofs::Turning::guards))]
 pub fn guard<'p>(
     evaluation: &mut Evaluation<'p>,

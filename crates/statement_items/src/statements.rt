@@ -174,7 +174,7 @@ pub fn mark<'p>(
     }
 }
 
-/// upc_fence.
+/// A upc_fence (UPC 6.6.1).
 #[tactic(auto, using(thread_items::proofs::Stating::barriers))]
 pub fn fence<'p>(
     evaluation: &mut Evaluation<'p>,
@@ -268,7 +268,7 @@ pub fn catch<'p>(evaluation: &mut Evaluation<'p>, setting: Setting<'p>)
     evaluation.leave_so(flow);
 }
 
-// Behind a switch.
+// How a switch is left, by how its parts are (C99 6.8.6.3).
 fn caught(flow: Flow) -> Flow
     ensures { flow_seen result ≡ mean.caught (flow_seen flow) }
 {

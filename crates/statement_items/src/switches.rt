@@ -56,7 +56,7 @@ fn is_label(label: Option<i128>, item: &SwitchItem) -> bool
     }
 }
 
-// What stands behind the first such label.
+// What stands after the first such label.
 #[tactic(auto, using(thread_items::proofs::Selecting::labels))]
 fn behind_label(label: Option<i128>, items: &[SwitchItem]) -> Option<&[SwitchItem]>
     ensures { MatchOption result (behind_label label (views.view_switch_items items.now) ≡ None)

@@ -40,7 +40,7 @@ Noded (DeclarationPart x) = Unit {0}
 Noded (FunctionPart s q x r b) = Unit {0}
 
 module _ (n : ℕ) where
-  -- the parts of a declaration behind its first declarator
+  -- the parts of a declaration after its first declarator
   behind_reads : (s : Specs) (x : Declarator) (i : Initial) (m : NextDeclareds) (c : Span) (rest : List Token) → ProperInitial i → ProperNextDeclareds m
       → Gets n (max (height_initial i) (height_next_declareds m)) (parse.behind_declarator n s x (spell_initial i (spell_next_declareds m (punct p.Semicolon c ∷ rest)))) (DeclarationPart (Declares s (SomeDeclared (DeclaredAs x i) m) c), rest)
   unfolding parse.behind_declarator

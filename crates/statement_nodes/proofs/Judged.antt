@@ -30,7 +30,7 @@ pub refuses : {B C : Type 0} (view : C → B) (ξ : Setting) (at : Place) (x : N
     rule ≡ lowest (facts_in ξ s) x → Refuses rule at e → Meets view (andthen (judge ξ at x) (λ u. give b) s) s (Err e)
 refuses view ξ at x b s rule e h r = stops view (judge ξ at x) (λ u. give b) s s e (judge_stops ξ at x s rule e h r)
 
--- So of a `return`.
+-- The node of a `return` that is judged last meets its rules, or the walk stops at it.
 pub judges_returned : (ξ : Setting) (c : Around) (place : Place) (a : Option k.Expr) (s : State) (rule : Option ℕ) (y : Box Statement Global) →
     rule ≡ lowest (facts_in ξ s) (returned_node c a) → rule ≡ None → view_statement y.value ≡ k.Stands place (k.Return a) →
     Meets (boxed view_statement) (andthen (judge ξ place (returned_node c a)) (λ u. give (k.Stands place (k.Return a))) s) s (Ok y)

@@ -1,4 +1,4 @@
-//! Statements that are finished: each is judged behind its parts, and put into the tree.
+//! Statements that are finished: each is judged after its parts, and put into the tree.
 #![tactic(auto)]
 
 pub mod nodes;

@@ -1,4 +1,4 @@
-//! Statements that are finished: each is judged behind its parts.
+//! Statements that are finished: each is judged after its parts.
 
 ghost use Rattle.std.specs.Prelude.{◌≡◌, ◌∷◌, [], map, Some};
 ghost use Rattle.typing_rules.specs.Attributes.{Facts};
@@ -28,7 +28,7 @@ use typing_rules::Around;
 use upc_text::{Place, Stop};
 use walk_state::finish::judged;
 
-/// An `if` with its arms, behind which their conditions are judged (C99 6.8.4.1).
+/// An `if` with its arms, after which their conditions are judged (C99 6.8.4.1).
 pub fn finish_if(
     alloc: Global,
     at: Place,

@@ -340,7 +340,7 @@ impl<H: Fn(Global, &mut Tokens<'_>, u32) -> Result<Box<Statement>, Fail>> Rules<
         Ok(block(self.alloc, compound)?)
     }
 
-    /// What stands behind the word that a statement begins with.
+    /// What stands after the word that a statement begins with.
     fn statement_from(
         &self,
         tokens: &mut Tokens<'_>,

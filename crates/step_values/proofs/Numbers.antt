@@ -1,4 +1,4 @@
--- What lies in an integer kind is a number that a thread can come to.
+-- What lies in an integer kind is a number that a thread can have.
 use Rattle.std.proofs.Common.{ℕ, zero, suc, ◌*◌, ◌≤◌, ◌<◌, ◌^◌, unsigned_abs, List, [], ◌∷◌, length, map, arith}
 use Rattle.std.specs.Prelude.{All, slice_index_or}
 use Rattle.std.proofs.Math.IntN.{ℤ, pos, neg_ℤ, ◌*ℤ◌}
@@ -36,7 +36,7 @@ zero-number = record { least = omega (arith, ints); most = omega (arith, ints) }
 pub number-near : (v : ℤ) → IsNumber v → unsigned_abs v ≤ 2 ^ 66
 number-near v h = omega (arith, ints, h.least, h.most)
 
--- So of each of the integers that values are.
+-- Each of the integers that these values are is near 0.
 pub numbers-near : (vs : List Value) → All (λ v. IsNumber (number_of v)) vs → (k : ℕ) (d : ℤ)
     → k < length (map number_of vs) → unsigned_abs (slice_index_or (map number_of vs) k d) ≤ 2 ^ 66
 numbers-near [] all k d h = absurd (omega arith)
@@ -50,7 +50,7 @@ held-number threads shapes (value.Scalar (scalar.Shared p)) h = zero-number
 held-number threads shapes (value.Scalar (scalar.Lock l)) h = zero-number
 held-number threads shapes (value.Local p) h = zero-number
 
--- So of each of several values.
+-- The integers that several values in range are.
 pub held-numbers : (threads : ℕ) (shapes : List Shape) (vs : List Value) → Each (IsHeld threads shapes) vs
     → All (λ v. IsNumber (number_of v)) vs
 held-numbers threads shapes [] h k d l = absurd (omega arith)

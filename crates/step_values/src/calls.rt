@@ -176,7 +176,7 @@ fn piece(threads: u32, total: u128, block: u128, thread: u128) -> Result<Value, 
     Ok(size(i128::from(piece_bytes(&object, thread as u32, threads))))
 }
 
-/// The text that printf prints, by its format and the values behind it (C99 7.19.6.3).
+/// The text that printf prints, by its format and the values after it (C99 7.19.6.3).
 pub fn printed(alloc: Global, format: &[u8], args: &[Value]) -> Result<Text, OutOfMemory>
     requires { All (λ v. IsNumber (number_of v)) args.now }
     ensures { IfOk result (λ text. text ≡ printing.printed format.now (map number_of args.now)) }

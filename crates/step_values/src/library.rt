@@ -155,7 +155,7 @@ fn size_of(v: &Value) -> Option<u64>
     }
 }
 
-// So two of them.
+// Two sizes of an allocation.
 fn both_sizes(nblocks: &Value, nbytes: &Value) -> Option<(u64, u64)>
     requires nblocks { IsNumber (number_of nblocks.now) }
     requires nbytes { IsNumber (number_of nbytes.now) }

@@ -79,7 +79,7 @@ fn has_shape(shapes: &[Shape], shape: u32) -> bool
     shapes.get(shape as usize).is_some()
 }
 
-// So in upc_all_alloc.
+// Whether all threads may meet with these arguments in upc_all_alloc.
 fn is_allocation(
     alloc: Global,
     shapes: &[Shape],

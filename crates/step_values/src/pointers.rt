@@ -30,7 +30,7 @@ use upc_values::{Scalar, Value};
 
 // ---- `p + i`
 
-/// `p + i`: the pointer so many elements behind another; what is no pointer is as null (C99 6.5.6, UPC 6.4.2).
+/// `p + i`: the pointer so many elements after another; what is no pointer is as null (C99 6.5.6, UPC 6.4.2).
 ///
 /// `NULL_ACCESS` for a null pointer, `POINTER_RANGE` where the offset leaves -2^40 to 2^40.
 pub fn advanced(threads: u32, elements: Elements, p: Value, i: i128) -> Result<Value, u8>
@@ -90,7 +90,7 @@ fn bytes_of(i: i128, size: u32) -> i128
     i * i128::from(size)
 }
 
-// The pointer-to-local so many bytes behind another.
+// The pointer-to-local so many bytes after another.
 fn moved(p: &LocalPtr, bytes: i128) -> Result<Value, u8>
     requires { unsigned_abs bytes ≤ 2 ^ 126 }
     ensures value { result ≡ pure.local_value (pure.local_moved p.now bytes) }
@@ -118,7 +118,7 @@ fn moved(p: &LocalPtr, bytes: i128) -> Result<Value, u8>
     }
 }
 
-// The offset so many bytes behind another, where it is in range.
+// The offset so many bytes after another, where it is in range.
 fn offset_behind(offset: i64, bytes: i128) -> Result<i64, u8>
     requires { unsigned_abs bytes ≤ 2 ^ 126 }
     ensures value { result ≡ (if in_range (offset +ℤ bytes)
@@ -181,7 +181,7 @@ fn member_shared(offset: u32, p: &SharedPtr) -> Result<Value, u8>
 
 // ---- `q - p`, `q < p`
 
-/// `q - p`: how many elements q lies behind p (C99 6.5.6, UPC 6.4.2).
+/// `q - p`: how many elements q lies after p (C99 6.5.6, UPC 6.4.2).
 ///
 /// `POINTER_PAIR` where there is no such number, or they are no two pointers of one kind.
 pub fn difference(threads: u32, elements: Elements, q: &Value, p: &Value) -> Result<Value, u8>
@@ -221,7 +221,7 @@ fn against_zero(op: BinOp, x: i64) -> Result<Value, u8>
     Ok(number(binary(op, Kind::Long, i128::from(x), 0)?))
 }
 
-// How many elements q lies behind p.
+// How many elements q lies after p.
 fn apart(threads: u32, elements: Elements, q: &Value, p: &Value) -> Result<i64, u8>
     requires some_threads { IsThreads threads }
     requires target { IsTarget elements.block elements.size }
@@ -238,7 +238,7 @@ fn apart(threads: u32, elements: Elements, q: &Value, p: &Value) -> Result<i64, 
     }
 }
 
-// How many elements a pointer-to-shared lies behind another.
+// How many elements a pointer-to-shared lies after another.
 fn apart_shared(threads: u32, elements: Elements, q: &SharedPtr, p: &SharedPtr) -> Result<i64, u8>
     requires some_threads { IsThreads threads }
     requires target { IsTarget elements.block elements.size }
@@ -254,7 +254,7 @@ fn apart_shared(threads: u32, elements: Elements, q: &SharedPtr, p: &SharedPtr) 
     shared::distance(&later, &from, elements.block, elements.size, threads)
 }
 
-// How many elements a pointer-to-local lies behind another: they lie in one object, and whole elements apart.
+// How many elements a pointer-to-local lies after another: they lie in one object, and whole elements apart.
 fn apart_local(size: u32, q: &LocalPtr, p: &LocalPtr) -> Result<i64, u8>
     requires size { 0 < size }
     requires later { IsNear q.now }

@@ -120,7 +120,7 @@ pub fn call(
     )
 }
 
-/// A member, behind a dot or an arrow.
+/// A member, after a dot or an arrow.
 pub fn member_of(
     alloc: Global,
     base: Box<Expr>,
@@ -141,7 +141,7 @@ pub fn member_of(
     )
 }
 
-/// An increment or a decrement behind its operand.
+/// An increment or a decrement after its operand.
 pub fn step(
     alloc: Global,
     base: Box<Expr>,
@@ -347,7 +347,7 @@ pub fn struct_spec(word: Span, tag: Name, left: Span, members: Vec<Member>, righ
     }
 }
 
-/// A block size in brackets, behind `shared`.
+/// A block size in brackets, after `shared`.
 pub fn block_layout(size: Dimension) -> Layout
     ensures { view_layout result ≡ t.BlockLayout size.open (view size.size.value) size.close }
 {
@@ -358,7 +358,7 @@ pub fn block_layout(size: Dimension) -> Layout
     }
 }
 
-/// A size in brackets, behind the name of a parameter.
+/// A size in brackets, after the name of a parameter.
 pub fn sized_array(size: Dimension) -> ParameterArray
     ensures { view_array result ≡ t.SizedArray size.open (view size.size.value) size.close }
 {
@@ -475,7 +475,7 @@ pub fn parameter(
     )
 }
 
-/// A further parameter, behind its comma.
+/// A further parameter, after its comma.
 pub fn next_parameter(comma: Span, parameter: Box<Parameter>) -> NextParameter
     ensures { view_next_parameter result ≡ (comma, view_parameter parameter.value) }
 {

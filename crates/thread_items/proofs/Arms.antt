@@ -37,7 +37,7 @@ module _ (ρ : Running) (strict : Bool) (at : Place) (attr : Attr) (s t : Seen) 
   abbrev this : tree.ExprKind → Expr
   this kind = Is at attr kind
 
-  -- What follows, behind a value.
+  -- What follows, after a value.
   abbrev k : Given → Doing ℤ
   k x = left ρ s.works s.free s.flow (x ∷ s.values)
 
@@ -167,7 +167,7 @@ module _ (ρ : Running) (strict : Bool) (at : Place) (attr : Attr) (s t : Seen) 
       (λ x. branched ρ (called ρ s.free) strict (this (tree.Conditional c a b)) x) k
       ∙ ap (meant ρ) (sym e)
 
-  -- `++` and `--`, as they are told and as they are done.
+  -- `++` and `--`, as they are given and as they are done.
   step_told : (o : StepOperator) (a : Expr) → Given → Doing Given
   step_told o a p =
       held ρ strict at (type_of a) p >>= (λ v. binary ρ at (step_operator ρ o) (type_of a) int v (number (pos 1))

@@ -145,7 +145,7 @@ pub ruleset mains = (main_missing, main_begins)
 
 pub ruleset starts = (starts_over, starts_so)
 
--- ---- what is told
+-- ---- outcomes
 
 pub over_told : (r : Res ℤ) (over : ToldEnd) (τ : State) → r ≡ Over over τ → outcome_of r ≡ told over τ
 over_told r over τ h = ap outcome_of h

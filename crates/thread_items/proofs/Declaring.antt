@@ -146,7 +146,7 @@ module _ (ρ : Running) (κ : Standing) (s t : Seen) where
       then_one {A = Flow} {B = Flow} r (λ f. close_block >> give f) k
       ∙ then_same r _ _ (λ f τ. then_one {A = Unit {0}} {B = Flow} (close_block τ) (λ _. give f) k)
 
-  -- Behind the declarations of a head.
+  -- After the declarations of a head.
   first_in : (o : Option Expr) (η : Standing) (kind : tree.StatementKind) (υ : State)
       → bind (bind (aside ρ c κ o υ) (λ _. turned ρ c η kind ρ.thread.budget)) (λ g. close_block >> k g)
       ≡ left ρ (aside_items κ o ++ (Turn η kind ρ.thread.budget ∷ Leave ∷ s.works)) s.free Next s.values υ
@@ -155,7 +155,7 @@ module _ (ρ : Running) (κ : Standing) (s t : Seen) where
       three {B = Given} {C = Flow} {D = Flow} {E = ℤ} (λ _. give Next) (λ _. turned ρ c η kind ρ.thread.budget)
       (λ g. close_block >> k g) (value ρ c κ.strict a υ)
 
-  -- The head of a loop whose turns are those of a kind of statement, behind the entry of its block.
+  -- The head of a loop whose turns are those of a kind of statement, after the entry of its block.
   abbrev headed_so : Head → Standing → tree.StatementKind → Res (Unit {0}) → Res ℤ
   headed_so head η kind r =
       bind (bind r (λ _. (declared ρ c κ head.objects >> (aside ρ c κ head.first >> turned ρ c η kind ρ.thread.budget))

@@ -36,7 +36,7 @@ function_at fs n x h e =
 pub no_function : (fs : List f.Function) (n : ℕ) → length fs ≤ n → slice_get (map view_function fs) n ≡ None
 no_function fs n h = slice_get-map view_function fs n ∙ ap (option_map view_function) (slice_get_past fs n h)
 
--- What a function gives that was left so, behind the end of its call.
+-- What a function gives that was left so, after the end of its call.
 given_back : (blank : Given) (K : Given → Doing ℤ) (r : Res Flow)
     → bind (bind (bind r (λ g. give (given_by blank g))) (λ v. end_call >> give v)) K
     ≡ bind r (λ g. end_call >> K (given_by blank g))
@@ -57,7 +57,7 @@ module _ (ρ : Running) (s t : Seen) where
   abbrev counted : ℕ → Seen
   counted n = record s { free = n }
 
-  -- What a call comes to, by what its tick and its beginning come to.
+  -- What a call gives, by what its tick and its beginning give.
   abbrev ticked : ℕ → ℕ → List Given → Place → Res (Unit {0}) → Res ℤ
   ticked n number vs at r =
       bind (bind r (λ _. begin_call at >> (function ρ (called ρ n) (slice_get ρ.functions number) vs

@@ -1,4 +1,4 @@
--- What a program keeps, and what a thread of it is told.
+-- What a program keeps, and the outcome of a thread of it.
 use Rattle.std.proofs.Common.{◌≡◌, ℕ, List, Option, sym, ap, ◌∙◌}
 use Rattle.std.proofs.Math.Logic.{∥∥₁_elim}
 use Rattle.std.specs.Coded.{Coded, Coded-set, codes}
@@ -16,7 +16,7 @@ pub use Rattle.source_meaning.proofs.Beginnings.{shapes_fit, privates_begin}
 use Rattle.thread_items.specs.code.Courses.{comes_to, running_with, state_with}
 
 module _ (x : Checked) (b : Beginning) (thread budget : ℕ) (replies : List Reply) (e : ToldEnd) (τ : State) where
-  -- The thread is told so where the program begins with this.
+  -- The thread has this outcome where the program begins with this.
   abbrev pub HasTold : Type 0
   HasTold = outcome_of (comes_to (running_with x b thread budget) (main_of x.functions) (state_with b replies)) ≡ told e τ
 

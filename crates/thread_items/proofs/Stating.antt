@@ -37,7 +37,7 @@ module _ (ρ : Running) (κ : Standing) (s t : Seen) where
   abbrev c : Calls
   c = called ρ s.free
 
-  -- What follows a statement that was left so, and so behind the youngest value.
+  -- What follows a statement that was left so; and, below, what follows it without the youngest value.
   abbrev k : Flow → Doing ℤ
   k g = left ρ s.works s.free g s.values
 
@@ -158,7 +158,7 @@ module _ (ρ : Running) (κ : Standing) (s t : Seen) where
 
   -- ---- blocks
 
-  -- A body behind which its block ends.
+  -- A body after which its block ends.
   blocked_body : (r : Res Flow)
       → bind (bind r (λ f. close_block >> give f)) k ≡ bind r (λ g. close_block >> k g)
   blocked_body r =

@@ -155,7 +155,7 @@ module _ (ρ : Running) (κ : Standing) (s t : Seen) where
       ∙ ap (λ x. meant ρ (more_works (Run κ body ∷ Around κ x ρ.thread.budget ∷ []) s)) (sym is)
       ∙ ap (meant ρ) (sym same)
 
-  -- A turn behind its tick.
+  -- A turn after its tick.
   turn_in : (kind : tree.StatementKind) (n : ℕ) (o : Option Expr) (τ : State)
       → bind (bind (tested ρ c κ o τ) (λ v. choose (is_zero v) (give Next)
       (around ρ (body_of ρ c κ kind) (aside ρ c κ (step_in kind)) (turned ρ c κ kind n)))) k

@@ -19,7 +19,7 @@ use upc_text::OutOfMemory;
 use upc_values::{Scalar, Value};
 
 /// What is left to do, the values of the expressions that are under way, how the last statement was left, how many
-/// calls may still become active, and what the thread has come to.
+/// calls may still become active, and the state of the thread.
 #[derive(Drop)]
 pub struct Evaluation<'p> {
     pub works: Works<'p>,

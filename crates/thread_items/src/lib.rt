@@ -1,4 +1,4 @@
-//! What a thread has left to do, item by item, the values that are under way, and what both come to.
+//! What a thread has left to do, item by item, the values that are under way, and what both give.
 #![tactic(auto)]
 
 mod evaluation;

@@ -29,7 +29,7 @@ pub fn with_strict(strict: bool, standing: Standing<'_>) -> Standing<'_>
     }
 }
 
-/// Behind the declaration of some objects.
+/// The standing after the declaration of some objects, which are then in scope (C99 6.2.1).
 pub fn with_objects<'p>(
     objects: &[Object],
     standing: Standing<'p>,

@@ -32,7 +32,7 @@ pub enum Work<'p> {
     Value(bool, &'p Expr),
     /// The place of the object that an expression names, or its value.
     Address(bool, &'p Expr),
-    /// The value behind a place, where there is one.
+    /// The value of the object at a place, where an expression names one.
     Hold(bool, Place, &'p Attr),
     /// The operator of an expression whose operands have their values.
     Operate(bool, &'p Expr),
@@ -62,11 +62,11 @@ pub enum Work<'p> {
     /// The end of a switch, and of a block.
     Caught,
     Leave,
-    /// A loop that has so many turns left: a whole turn, from behind its test on, and from behind its body on.
+    /// A loop that has so many turns left: a whole turn, the rest of one after its test, and the rest after its body.
     Turn(Standing<'p>, &'p StatementKind, u64),
     Test(Standing<'p>, &'p StatementKind, u64),
     Around(Standing<'p>, &'p StatementKind, u64),
-    /// Whether the turn of an affinity is the thread's, and the body of a upc_forall behind that.
+    /// Whether the turn of an affinity is the thread's, and the body of a upc_forall after that.
     Mine(Place),
     Guard(Standing<'p>, &'p Statement),
     /// The end of the body of a upc_forall, and its end where it controls.
@@ -92,7 +92,7 @@ pub enum Work<'p> {
     /// The value of a `return`, and of a notify, wait or barrier.
     Give,
     Mark(Synchronises, Place),
-    /// The end of a call, behind a statement that was left so, and that of main.
+    /// The end of a call, after a statement that was left so, and that of main.
     Return(Flow, Value),
     End(Place),
 }

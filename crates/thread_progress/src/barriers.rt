@@ -37,7 +37,7 @@ impl<'r> Progress<'r> {
         }
     }
 
-    /// The barrier before main, or behind it.
+    /// The barrier before main, or after it.
     #[tactic(auto, unfolding(crate::specs::code::Barriers::passed))]
     pub fn pass(
         &mut self,

@@ -42,7 +42,7 @@ fn format_of(alloc: Global, e: &Expr) -> Result<Text, OutOfMemory>
     }
 }
 
-// So where it is the first argument.
+// The format of a printf with these arguments: the first one.
 fn format_first(alloc: Global, args: &[Expr]) -> Result<Text, OutOfMemory>
     ensures { IfOk result (λ format. format ≡ format_first (exprs_of (map view_expr args.now))) }
 {

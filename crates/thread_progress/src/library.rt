@@ -37,7 +37,7 @@ fn first_number(args: &[Value]) -> i128
     }
 }
 
-// So where it is an int. What is none cannot come of a typed program.
+// The first argument, where it is an int. What is none cannot come of a typed program.
 fn first_int(args: &[Value]) -> Option<i32>
     ensures { IfSome result (λ v. v ≡ pure.first_number args.now) }
 {
@@ -56,7 +56,7 @@ fn is_exit(call: LibraryCall) -> bool
 }
 
 impl<'r> Progress<'r> {
-    /// printf.
+    /// A printf (C99 7.19.6.3).
     #[tactic(auto, unfolding(thread_steps::specs::Library::print))]
     pub(crate) fn print(
         &mut self,

@@ -1,4 +1,4 @@
-//! Named objects, and what is behind the places of expressions (C99 6.2.4, 6.3.2.1; UPC 6.5.1).
+//! Named objects, and the values of the objects that expressions name (C99 6.2.4, 6.3.2.1; UPC 6.5.1).
 
 ghost use Rattle.std.specs.Prelude.{◌≡◌, IfOk};
 ghost use Rattle.typing_rules.specs.Nodes.{view_attr};

@@ -168,7 +168,7 @@ impl<'r> Progress<'r> {
         }
     }
 
-    // The pointer so many elements behind another.
+    // The pointer so many elements after another.
     #[tactic(auto, unfolding(thread_steps::specs::Pointers::advance))]
     fn advance(
         &self,
@@ -188,7 +188,7 @@ impl<'r> Progress<'r> {
         }
     }
 
-    /// The place so many objects of a type behind another.
+    /// The place so many objects of a type after another.
     pub fn behind(
         &self,
         setting: Setting<'_>,

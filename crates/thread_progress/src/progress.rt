@@ -1,4 +1,4 @@
-//! What a thread has come to beside what is left to do.
+//! The state of a thread beside what is left to do.
 
 ghost use Rattle.std.specs.Prelude.{◌≡◌, ◌<◌, length, IfOk};
 ghost use Rattle.thread_progress.specs.code.Fitting.{beat, fits_read};
@@ -142,7 +142,7 @@ impl<'r> Progress<'r> {
         }
     }
 
-    /// upc_notify.
+    /// A upc_notify (UPC 6.6.1).
     #[tactic(auto, unfolding(thread_steps::specs::Actions::notify))]
     pub(crate) fn notify(
         &mut self,
@@ -168,7 +168,7 @@ impl<'r> Progress<'r> {
         }
     }
 
-    /// upc_wait.
+    /// A upc_wait (UPC 6.6.1).
     #[tactic(auto, unfolding(thread_steps::specs::Actions::wait))]
     pub(crate) fn wait(
         &mut self,
@@ -208,7 +208,7 @@ impl<'r> Progress<'r> {
         Step::Gives(())
     }
 
-    /// upc_fence.
+    /// A upc_fence (UPC 6.6.1).
     #[tactic(auto, unfolding(thread_steps::specs::Actions::fence))]
     pub fn fence(&mut self, runner: Runner<'_>) -> Result<Step<()>, OutOfMemory>
         ensures { IfOk result (λ s. Came (pure.fence (thread_seen runner.entry) (state_seen self.old)) s self.new) }
@@ -219,7 +219,7 @@ impl<'r> Progress<'r> {
         }
     }
 
-    /// upc_global_exit: the thread ends behind it.
+    /// A upc_global_exit, after which the thread ends (UPC 7.2.1).
     #[tactic(auto, unfolding(thread_steps::specs::Actions::exit))]
     pub(crate) fn exit(
         &mut self,

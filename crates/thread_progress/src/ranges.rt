@@ -1,4 +1,4 @@
-//! The ranges of values. In a typed program each value that a thread comes to lies in them; what does not is refused
+//! The ranges of values. In a typed program each value that a thread can have lies in them; what does not is refused
 //! as for want of memory.
 
 ghost use Rattle.std.specs.Prelude.{IsTrue};

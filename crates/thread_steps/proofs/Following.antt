@@ -27,7 +27,7 @@ use Rattle.thread_steps.proofs.Fronts.{begins_itself, begins_pushed, begins_on}
 abbrev pub total : State → ℕ
 total σ = length σ.actions + length σ.replies
 
--- With further replies behind those that are left.
+-- With further replies after those that are left.
 abbrev pub plus : State → Reply → List Reply → State
 plus σ x xs = record σ { replies = σ.replies ++ x ∷ xs }
 
@@ -38,7 +38,7 @@ Later A = Reply → List Reply → Res A
 abbrev later_on : {A B : Type 0} → Later A → (A → Doing B) → Later B
 later_on R f = λ x xs. bind (R x xs) f
 
--- What a thread comes to by an operation is no value of main, and a reply that does not fit is the next one.
+-- The end of a thread by an operation is no value of main, and a reply that does not fit is the next one.
 abbrev pub IsFair : ToldEnd → State → Type 0
 IsFair (Ended v) υ = ⊥
 IsFair (Misfit k) υ = (k ≡ length υ.actions) × (0 < length υ.replies)
@@ -228,7 +228,7 @@ module _ (τ : Thread) where
       on_store (Ok s) σ same k = record { grown = (k ∙ same, begins_itself σ.actions, refl); extends = λ x xs. refl }
       on_store (Err code) σ same k = record { grown = (begins_itself σ.actions, refl, tt); extends = λ x xs. refl }
 
-  -- Behind the end of a call one call less is active.
+  -- After the end of a call one call less is active.
   module _ (d : ℕ) (A : Type 0) where
     abbrev back : A → Doing A
     back v = change (with_live returned) >> give v

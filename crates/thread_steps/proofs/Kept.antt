@@ -46,7 +46,7 @@ abbrev pub Ignores : {A : Type 0} → (State → A) → Type 0
 Ignores f = (σ : State) (actions : List Action) (replies : List Reply) → f
     (record σ { actions = actions; replies = replies }) ≡ f σ
 
--- An end that a thread comes to by what it does: a run error, or an exit.
+-- An end that a thread reaches by what it does: a run error, or an exit.
 abbrev pub IsOwn : ToldEnd → Type 0
 IsOwn (told.Fault code at) = Unit {0}
 IsOwn (told.Exit v) = Unit {0}

@@ -1,6 +1,5 @@
 -- What an operation does with so many turns for each loop is never unfinished: where the turns and the ticks make up
--- the budget, it comes to a
--- value or to the end of the thread.
+-- the budget, it gives a value or ends the thread.
 use Rattle.std.proofs.Common.{◌≡◌, ℕ, suc, ◌+◌, ◌%◌, ◌<◌, ◌≤◌, List, [], ◌∷◌, Option, None}
 use Rattle.std.proofs.Common.{Bool, true, false, refl, ◌∙◌, arith}
 use Rattle.std.specs.Prelude.{Result, Ok, Err, ◌==◌}

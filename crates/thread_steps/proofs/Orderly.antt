@@ -58,7 +58,7 @@ IsOrderly flag b (Asks a after) = (now : Bool) × Turns b a now × ((r : Reply) 
 IsOrderly flag b (Loads p kind after) = (v : Scalar) → IsOrderly flag b (after v)
 IsOrderly flag b (Stores p kind v after) = IsOrderly flag b after
 
--- So of a call that leaves an open notify open, and else none.
+-- A library call leaves an open notify open, and none open where none was.
 pub record Orderly (flag : Bool) (A : Type 0) (e : Expansion A) : Type 0 where
   pub by : IsOrderly flag flag e
 

@@ -1,4 +1,4 @@
--- Steps one behind the other.
+-- Steps one after the other.
 use Rattle.std.proofs.Common.{◌≡◌, refl}
 use Rattle.thread_steps.specs.States.{State, Res, Val, Over, Unfinished, Doing, bind}
 

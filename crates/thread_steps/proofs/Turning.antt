@@ -39,7 +39,7 @@ turned_push : (s : Option Bool) (xs : List Action) (y : Action) → turned_by s 
 turned_push s [] y = refl
 turned_push s (z ∷ zs) y = turned_push (turned s z) zs y
 
--- Behind the action y a notify is open as `c` says, where before it one is as `b` says.
+-- After the action y a notify is open as `c` says, where before it one is as `b` says.
 pushed : (xs : List Action) (y : Action) (b c : Bool) → turned_by (Some false) xs ≡ Some b
     → turned (Some b) y ≡ Some c → turned_by (Some false) (xs ++ y ∷ []) ≡ Some c
 pushed xs y b c e h = turned_push (Some false) xs y ∙ ap (λ s. turned s y) e ∙ h

@@ -29,8 +29,8 @@ use Rattle.thread_steps.specs.Actions.{ask}
 abbrev pub into_shared : ObjectRef → ℕ → ℤ → SharedPtr
 into_shared object thread offset = record { object = object; thread = thread; phase = 0; offset = offset }
 
--- The shape of an object's elements; where the program does not have it, which is so of no object of a typed program, a
--- byte without cells.
+-- The shape of an object's elements; where the program does not have it, which is the case for no object of a typed
+-- program, a byte without cells.
 abbrev pub shape_or_byte : Option Shape → Shape
 shape_or_byte (Some s) = s
 shape_or_byte None = record { size = 1; cells = [] }

@@ -137,7 +137,7 @@ size_forth (k.Word w.UpcElemsizeof) s h = ap size_kind (the_size _ _ h)
 size_forth (k.Punct x) s h = absurd (punct_no_size x s h)
 size_forth _ s h = absurd cc
 
--- the mark of what goes on directly behind
+-- the mark of what goes on directly after an expression
 abbrev pub suffix_punct : Suffix → Punct
 suffix_punct suffix.Subscript = p.LBracket
 suffix_punct suffix.Call = p.LParen
@@ -259,7 +259,7 @@ joint_small (joint.Assign mark) = omega arith
 joint_small joint.Question = omega arith
 joint_small (joint.Binary mark) = binary_small mark
 
--- the least level of what stands behind a joint
+-- the least level of what stands after a joint
 abbrev pub right_least : Joint → ℕ
 right_least joint.Comma = 1
 right_least (joint.Assign mark) = 1

@@ -17,7 +17,7 @@ pub enum Prefix {
     Other,
 }
 
-/// What goes on with an expression directly behind it (C99 6.5.2).
+/// What goes on with an expression directly after it (C99 6.5.2).
 #[derive(Clone, Copy)]
 pub enum Suffix {
     Subscript,

@@ -140,7 +140,7 @@ const CALLS: [Call; 15] = [
         b"",
         b"",
     ),
-    // A thread comes to its budget, and to the end of its record.
+    // A thread reaches its budget, and the end of its record.
     (
         &["run", "-T", "1", "--budget", "10", "f.upc"],
         FOREVER,

@@ -15,7 +15,7 @@ use Rattle.typing_rules.specs.Rules.{first_converts, all_convert, first_taken, a
 use Rattle.typing_rules.specs.Rules.{no_functions}
 use Rattle.typing_rules.specs.Format.{step, go_on, one_more, conversions, takes, is_anything, all_printed, prints_by}
 
--- What is left behind one more part.
+-- What is left after one more part.
 pub one_less : {X Y : Type 0} (f : X → Y) (xs : List X) (i : ℕ) → drop 1 (map f (drop i xs)) ≡ map f (drop (i + 1) xs)
 one_less f xs i = drop-map f 1 (drop i xs) ∙ ap (map f) (drop-drop 1 i xs)
 

@@ -43,7 +43,7 @@ pub fn value(
     node(alloc, place, StatementKind::Value(value))
 }
 
-/// `if`, with what stands behind its `else`.
+/// An `if`, with what stands after its `else`.
 pub fn if_chain(
     alloc: Global,
     place: Place,

@@ -205,7 +205,7 @@ fn arrays_of(alloc: Global, t: CType, sizes: &[Constant]) -> Result<CType, OutOf
     Ok(t)
 }
 
-/// The type with sizes behind it.
+/// The type with sizes after it.
 pub fn formed(
     alloc: Global,
     threads: u32,

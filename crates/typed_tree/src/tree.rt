@@ -6,7 +6,7 @@ use upc_text::{Place, Text};
 use upc_types::CType;
 use upc_values::LibraryCall;
 
-/// `++` and `--`, before and behind their operand (C99 6.5.2.4, 6.5.3.1).
+/// `++` and `--`, before and after their operand (C99 6.5.2.4, 6.5.3.1).
 #[derive(Clone, Copy)]
 pub enum StepOperator {
     IncrementFirst,

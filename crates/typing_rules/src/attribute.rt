@@ -21,7 +21,7 @@ pub enum Static {
     },
 }
 
-/// Which element of its array an object is, from 0 to the number of elements: the last is the place behind the array's
+/// Which element of its array an object is, from 0 to the number of elements: the last is the place after the array's
 /// end. An object that is no element of an array is the one element of its own (C99 6.5.6).
 #[derive(Clone, Copy)]
 pub struct Element {

@@ -1,4 +1,4 @@
-//! The outside itself: files by name, and an output. Each counts its failures and tells nothing of what it holds.
+//! The outside itself: files by name, and an output. Each counts its failures, and what it holds is not known.
 
 ghost use Rattle.std.specs.Prelude.{◌≡◌, ◌≤◌, length, IfOk, None};
 

@@ -306,7 +306,7 @@ module _ (ξ : Setting) (once : Once ξ.names) where
   named : (f : Function) → is_named_main f ≡ true → f.name ≡ main_text
   named f h = (bytes_decides f.name main_text).0 h
 
-  -- Behind main no function is named so.
+  -- After main no function is named so.
   none_behind : (name : ℕ) (ns : List ℕ) (fs : List Function) → spelling ξ name ≡ main_text → (Has ns name → ⊥) → Called ξ ns fs → filter is_named_main fs ≡ []
   none_behind name [] [] e k h = refl
   none_behind name [] (f ∷ fs) e k h = absurd h

@@ -53,7 +53,7 @@ lines_both : (xs ys : List TreeNode) → LinesFit xs → LinesFit ys → LinesFi
 lines_both [] ys h i = i
 lines_both (x ∷ xs) ys h i = (h.0, lines_both xs ys h.1 i)
 
--- The numbers of these nodes fit, and those of the tokens behind them.
+-- The numbers of these nodes fit, and those of the tokens after them.
 record Leaves (xs : List TreeNode) (rest : List Token) : Type 0 where
   nodes : LinesFit xs
   tokens : NumbersFit rest

@@ -1,4 +1,4 @@
--- What a source comes to that is walked.
+-- The outcome of a source that is walked.
 use Rattle.std.proofs.Common.{◌≡◌, ℕ, Option, Some, None, Ok, Err, refl, sym, ap, ◌∙◌}
 use Rattle.upc_text.specs.declared.place.Refusal.{Refusal}
 use Rattle.upc_text.specs.declared.faults.Stop.{Stop}

@@ -48,7 +48,7 @@ pub agree_since : {all older : List KnownFunction} → Since all older → Agree
 agree_since Now h = h
 agree_since (Sooner f older d k) h = agree_since k (d, h)
 
--- ---- what is known behind a walk
+-- ---- what is known after a walk
 
 -- What is known at a place, where these structs and functions are known at the end.
 pub record Ends (cs : List Completed) (fs : List KnownFunction) (s : State) : Type 0 where

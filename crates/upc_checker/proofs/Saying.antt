@@ -44,7 +44,7 @@ jumps_append (x ∷ xs) ys =
 joined : {A : Type 0} (a b c d : List A) → a ≡ b → c ≡ d → a ++ c ≡ b ++ d
 joined a b c d e f = ap (λ x. x ++ c) e ∙ ap (λ y. b ++ y) f
 
--- One part behind another.
+-- One part after another.
 pub says_then : {A B : Type 0} {P : A → Type 0} {Q : B → Type 0} {w : Walk A} {go : A → Walk B} {xs ys : List TreeNode} {js ks : List Refusal} →
     Says P w xs js → ((a : A) → P a → Says Q (go a) ys ks) → Says Q (andthen w go) (xs ++ ys) (js ++ ks)
 unfolding andthen

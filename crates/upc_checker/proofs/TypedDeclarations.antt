@@ -86,7 +86,7 @@ module _ (z : Whole) where
       Inv (record { scope = declare name x.ctype b.scope; objects = b.objects ++ (x ∷ []) }) (behind l x) × Stands (program z) (behind l x) x.home x.ctype)
       (prototype : (b : Behind) (l : List CType) (name : ℕ) (s : Signature) → Among name s z.known → Inv b l →
       Inv (record { scope = with_entry name (m.Function s) b.scope; objects = b.objects }) l) where
-    -- So many objects come in behind others.
+    -- So many objects come in after others.
     pub record Produced (before b : Behind) : Type 0 where
       pub new : List DeclaredObject
       pub objects : b.objects ≡ before.objects ++ new

@@ -251,7 +251,7 @@ module _ (z : Whole) where
 
   -- ---- what a source has declared and defined
 
-  -- So much comes in behind what was there: objects, and functions of these names.
+  -- So much comes in after what was there: objects, and functions of these names.
   record Built (names : List ℕ) (before b : Made) : Type 0 where
     new_objects : List DeclaredObject
     new_functions : List Function

@@ -44,7 +44,7 @@ fn left_by(layout: Option<Layout>, room: u32) -> Option<u32>
     }
 }
 
-// What is left of the room for objects of one sort behind an object.
+// What is left of the room for objects of one sort after an object.
 fn left_behind(structs: &Structs, sort: Sort, room: u32, object: &Object) -> Option<u32>
     ensures { result ≡ pure.left_behind (view_structs structs.now) (view_sort sort) room
         (view_object object.now) }

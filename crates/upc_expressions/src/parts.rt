@@ -14,7 +14,7 @@ use token_reader::{Fail, Tokens};
 use type_parser::Grammar;
 use upc_tree::{Declarator, Dimension, NextExpr, Parameters, Pointer, Spec};
 
-/// Further expressions of a list, each behind its comma.
+/// Further expressions of a list, each after its comma.
 pub fn next_exprs(alloc: Global, tokens: &mut Tokens<'_>, n: u32) -> Result<Vec<NextExpr>, Fail>
     requires { n < 4294967295 }
     ensures { Reads view_next_exprs (spec.next_exprs (at_height n) tokens.old.rest.now) result tokens.new.rest.now }

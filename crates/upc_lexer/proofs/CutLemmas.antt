@@ -134,7 +134,7 @@ all_cut source at tokens names place h le = record {
   names_are = h.names_are;
 }
 
--- one that is refused at a place behind what is cut is refused
+-- one that is refused at a place after what is cut is refused
 pub cut_refused : (source : List ℕ) (at : ℕ) (tokens : List Token) (names : List (List ℕ)) (place : Place) (stop : Stop) → IsCutTo source at tokens names place → StopsHere (drop at source) place stop → StopsSource source stop
 cut_refused source at tokens names place (Refused refusal) h s = record {
   names = names;

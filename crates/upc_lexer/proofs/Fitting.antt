@@ -41,6 +41,6 @@ pieces_fit names front (lexeme text kind ∷ ps) rest h = (spelled_fits names ki
 pub numbers_fit : (source : List ℕ) (tokens : List Token) (names : List (List ℕ)) → AreTokensOf source tokens names → NumbersFit tokens
 numbers_fit source tokens names h = subst NumbersFit (sym h.tokens_are) (pieces_fit names [] h.pieces [] h.cut)
 
--- So of what is cut so far.
+-- The numbers of the tokens that are cut so far fit.
 pub cut_fits : (source : List ℕ) (at : ℕ) (tokens : List Token) (names : List (List ℕ)) (place : Place) → IsCutTo source at tokens names place → NumbersFit tokens
 cut_fits source at tokens names place h = subst NumbersFit (sym h.tokens_are) (pieces_fit names [] h.pieces (drop at source) h.cut)

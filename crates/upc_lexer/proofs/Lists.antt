@@ -29,7 +29,7 @@ run_passes_by : (p : ℕ → Bool) (x : ℕ) (xs : List ℕ) (b : Bool) → p x 
 run_passes_by p x xs true e h = let k : 1 + prefix_len p xs ≡ suc (prefix_len p xs) = omega arith in rw (k, e) h
 run_passes_by p x xs false e h = refl
 
--- the front of a run passes the test, and the run stops behind it
+-- the front of a run passes the test, and the run stops after it
 pub run_passes : (p : ℕ → Bool) (xs : List ℕ) → list_all p (take (prefix_len p xs) xs) ≡ true
 run_passes p [] = refl
 run_passes p (x ∷ xs) = run_passes_by p x xs (p x) refl (run_passes p xs)

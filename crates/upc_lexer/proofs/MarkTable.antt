@@ -156,7 +156,7 @@ found Equal = refl
 found Comma = refl
 found Hash = refl
 
--- a mark that stands in the table behind another is no longer
+-- a mark that stands in the table after another is no longer
 pub no_longer : (k : ℕ) (q : Punct) → k ≤ place q → length (mark_bytes q) ≤ length (mark_bytes (get_or MARKS k LBracket))
 no_longer k q le =
     subst (λ x. length (mark_bytes x) ≤ length (mark_bytes (get_or MARKS k LBracket))) (found q)

@@ -69,7 +69,7 @@ decimal_base : (digits tail : List ℕ) → begins Decimal digits ≡ true → b
 decimal_base [] tail b = absurd cc
 decimal_base (d ∷ ds) tail b = decimal_base_by d (ds ++ tail) (not_true (eqb d 48) b)
 
--- the base is told by the text
+-- the text gives the base
 base_is : (text : List ℕ) (base : Base) (digits : List ℕ) (s : Suffix) → IsConstant text base digits s → base_of text ≡ base
 base_is text Hexadecimal digits s h = elim h.prefixed [ inl p ↦ rw (h.spelled, p) refl | inr p ↦ rw (h.spelled, p) refl ]
 base_is text Octal digits s h = rw (h.spelled, h.prefixed) (octal_base digits h.tail s h.begun h.in_base h.ended)

@@ -24,7 +24,7 @@ run_same p xs ys zs ws a b c d e =
     let n : length xs ≡ length zs = sym (run_is p xs ys a b) ∙ ap (prefix_len p) e ∙ run_is p zs ws c d in
     sym (take-append_seam xs ys) ∙ ap (take (length xs)) e ∙ ap (λ n. take n (zs ++ ws)) n ∙ take-append_seam zs ws
 
--- one body does not go on behind the other
+-- one body does not go on after the other
 body_front : (xs ys vs ws more : List ℕ) → (Closes (ys ++ 42 ∷ []) → ⊥) → ys ≡ xs ++ more → 42 ∷ 47 ∷ vs ≡ more ++ 42 ∷ 47 ∷ ws → xs ≡ ys
 body_front xs ys vs ws [] n e f = sym (e ∙ append-nil xs)
 body_front xs ys vs ws (a ∷ []) n e f = absurd (omega (arith, (head_is (head_is f).1).0))

@@ -26,7 +26,7 @@ mapped : (c : ℕ) (r : Option (List ℕ)) (w : List ℕ) → option_map (λ v. 
 mapped c None w e = absurd cc
 mapped c (Some v) w e = (v, refl, cc)
 
--- the value of two texts together is that of the one with that of the other behind it
+-- the value of two texts together is that of the one with that of the other after it
 one_append : (a : ℕ) (ys v : List ℕ) → is_plain_string a ≡ true → string_value (a ∷ ys) ≡ option_map (λ w. a ∷ w) (string_value ys)
 one_append a [] v p = rw p refl
 one_append a (y ∷ ys) v p = rw p refl
@@ -123,7 +123,7 @@ spelled_plain a (b ∷ rest) p n = let e = plain_no_escape a p in let f = rw (p,
 spelled_escape : (a b c : ℕ) (rest : List ℕ) → is_plain_string a ≡ false → eqb a 92 ≡ true → escape b ≡ Some c → spelled_at (a ∷ b ∷ rest) ≡ None → ⊥
 spelled_escape a b c rest p e s n = let f = rw (p, e, s) at n in cc
 
--- a text with a value begins with a plain byte or an escape, whatever is behind it
+-- a text with a value begins with a plain byte or an escape, whatever is after it
 some_spelled : (a : ℕ) (rest v more : List ℕ) → string_value (a ∷ rest) ≡ Some v → spelled_at (a ∷ (rest ++ more)) ≡ None → ⊥
 some_spelled a rest v more h n = elim (starts a rest v h) [
   | plain w p f is ↦ spelled_plain a (rest ++ more) p n
@@ -165,7 +165,7 @@ no_string at inside value text rest other body st e h =
       | inr l ↦ shorter_value h.inside value other (take at inside) (drop at inside) rest l.more body.value_is st h.spelled l.front l.back
     ]
 
--- the string that ends behind the bytes that may stand in it
+-- the string that ends after the bytes that may stand in it
 pub a_string : (at : ℕ) (inside value : List ℕ) → IsStringBody inside value at → at < length inside → get_or inside at 0 ≡ 34 → IsString (34 ∷ take (suc at) inside) value
 a_string at inside value body lt q = record {
   inside = take at inside;

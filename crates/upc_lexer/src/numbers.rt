@@ -16,14 +16,14 @@ pub(crate) enum Base {
     Hexadecimal,
 }
 
-/// What is said behind the digits: whether there is `u`, and whether there is `l` or `ll`.
+/// What stands after the digits: whether there is `u`, and whether there is `l` or `ll`.
 #[derive(Clone, Copy)]
 pub(crate) struct Suffix {
     pub(crate) unsigned: bool,
     pub(crate) long: bool,
 }
 
-/// The base, and what stands behind its prefix.
+/// The base, and what stands after its prefix.
 fn split_base(text: &[u8]) -> (Base, &[u8])
     ensures base { result.0 ≡ base_of text.now }
     ensures rest { result.1.now ≡ behind_prefix text.now }

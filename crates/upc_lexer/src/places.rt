@@ -4,7 +4,7 @@ ghost use Rattle.upc_lexer.specs.Places.{place_after};
 
 use upc_text::Place;
 
-/// The place behind a text that begins at a place.
+/// The place after a text that begins at a place.
 pub(crate) fn place_behind(place: Place, text: &[u8]) -> Place
     requires line { place.line + length text.now < 2 ^ 32 }
     requires column { place.column + length text.now < 2 ^ 32 }

@@ -133,7 +133,7 @@ fn add_piece<'a>(
     }
 }
 
-/// What printf prints, by its format and the values behind it, in order. A `%` that begins no conversion, and a
+/// What printf prints, by its format and the values after it, in order. A `%` that begins no conversion, and a
 /// conversion without a value, print nothing.
 pub fn print_text(alloc: Global, format: &[u8], args: &[i128]) -> Result<Text, OutOfMemory>
     requires { All IsNear args.now }

@@ -41,7 +41,7 @@ stops_later old mid xs ys (Refused r) h g =
     let n : length mid ≡ length old + length xs = ap length h.new_is ∙ length-append old h.tokens ∙ ap (λ k. length old + k) (sym (length-map h.tokens given) ∙ ap length (sym h.items_are)) in
     first_refusal-append (length old) xs ys ∙ rw h.passes (ap (λ k. first_refusal k ys) (sym n) ∙ g)
 
--- and stays so whatever is behind it
+-- and stays so whatever is after it
 pub stops_before : (n : ℕ) (xs ys : List Item) (stop : Stop) → StopsIn n xs stop → StopsIn n (xs ++ ys) stop
 stops_before n xs ys Memory h = tt
 stops_before n xs ys (Refused r) h = first_refusal-append n xs ys ∙ rw h refl

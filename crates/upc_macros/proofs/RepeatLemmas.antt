@@ -16,7 +16,7 @@ use Rattle.upc_macros.proofs.Refusals.{takes_append, stops_later, stops_before}
 pub one_given : (place : Place) (t : Token) (k : TokenKind) → k ≡ t.kind → given (record { kind = k; start = t.start; end = t.end; place = place }) ∷ [] ≡ given (placed place t) ∷ []
 one_given place t k e = ap (λ (x : TokenKind). given (record { kind = x; start = t.start; end = t.end; place = place }) ∷ []) e
 
--- the token is still there behind others that came
+-- the token is still there after others that came
 there : (old mid ts : List Token) (from i : ℕ) (t : Token) → from + i < length old → mid ≡ old ++ ts → t ≡ get_or mid (from + i) t → get_or (drop from old) i t ≡ t
 there old mid ts from i t lt e k = get_or-drop from old i t ∙ sym (get_or_append_left old ts t (from + i) lt) ∙ ap (λ l. get_or l (from + i) t) (sym e) ∙ sym k
 

@@ -72,7 +72,7 @@ fn macro_name(source: &[u8], token: &Token) -> Option<usize>
     }
 }
 
-/// Whether a `(` stands directly behind the name.
+/// Whether a `(` stands directly after the name.
 fn has_parameters(name: &Token, body: &[Token]) -> bool
     ensures { result ≡ has_parameters name.now body.now }
 {
@@ -246,7 +246,7 @@ fn first_word(source: &[u8], token: &Token) -> Keyword
     }
 }
 
-/// What the directive does whose tokens behind the `#` are those from `begin` up to `end`: `None` if it is none.
+/// What the directive does whose tokens after the `#` are those from `begin` up to `end`: `None` if it is none.
 pub(crate) fn effect_of(
     source: &[u8],
     tokens: &[Token],

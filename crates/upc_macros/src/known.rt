@@ -19,7 +19,7 @@ pub(crate) struct Gift {
 /// What is known of the macros as they are.
 #[derive(Drop)]
 pub(crate) struct Known {
-    /// The index of the first token behind the last directive that changed a macro.
+    /// The index of the first token after the last directive that changed a macro.
     pub(crate) since: usize,
     /// For each name, whether it is a macro, also while it is being replaced.
     pub(crate) defined: Vec<bool>,
@@ -83,7 +83,7 @@ impl Known {
         });
     }
 
-    /// A directive made this name a macro, or none, and this token is the first behind it: nothing is known any more.
+    /// A directive made this name a macro, or none, and this token is the first after it: nothing is known any more.
     pub(crate) fn change(&mut self, name: usize, defined: bool, since: usize)
         requires { name < length self.old.defined.items }
         ensures since { self.new.since ≡ since }

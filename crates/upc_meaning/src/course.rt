@@ -102,7 +102,7 @@ fn enter_main<'p>(
     }
 }
 
-// main is called, and the barrier behind it is left to be done.
+// main is called, and the barrier after it is left to be done.
 #[tactic(auto, using(thread_items::proofs::Courses::main_refused, thread_items::proofs::Courses::main_goes))]
 fn call_main<'p>(
     evaluation: &mut Evaluation<'p>,
@@ -262,9 +262,9 @@ fn progress_of<'r>(
     })
 }
 
-/// What a thread of a program comes to on these replies, with a budget of ticks, by plain evaluation of its typed tree:
-/// its actions in order, and its end, or the action that it wants next. `Misfit(k)` comes exactly where reply k does
-/// not fit the action that asks for it.
+/// The outcome of a thread of a program on these replies, with a budget of ticks, by plain evaluation of its typed
+/// tree: its actions in order, and its end, or the action that it wants next. `Misfit(k)` comes exactly where reply k
+/// does not fit the action that asks for it.
 pub fn replay<'p>(
     alloc: Global,
     program: &'p Program,

@@ -85,7 +85,7 @@ fn take_operand<'p>(
     }
 }
 
-// So of one that may end the thread.
+// An item of an expression that may end the thread.
 fn take_operator<'p>(
     evaluation: &mut Evaluation<'p>,
     setting: Setting<'p>,

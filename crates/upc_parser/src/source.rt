@@ -18,7 +18,7 @@ use upc_tree::Unit;
 /// How high a tree may be. With fewer tokens it is not higher.
 const HEIGHT_LIMIT: u32 = 256;
 
-/// The place of the token behind which there are fewer than `left`; of the last token, if there is none; 1:1 without
+/// The place of the token after which there are fewer than `left`; of the last token, if there is none; 1:1 without
 /// tokens.
 fn place_of(tokens: &[Token], left: usize) -> Place
     ensures { HasPlace tokens.now result }

@@ -8,7 +8,7 @@ objects =
     codes "#include <upc_relaxed.h>\n" ++ codes "#include <stdio.h>\n" ++ codes "#define M (16*THREADS)\n"
     ++ codes "shared [16] int a[M];\n" ++ codes "shared [16] int b[M];\n" ++ codes "shared int sum;\n"
 
--- A text, and a number behind it in decimal.
+-- A text, and a number after it in decimal.
 abbrev pub numbered : List ℕ → ℕ → List ℕ
 numbered text number = text ++ decimal number
 
@@ -30,7 +30,7 @@ beginning =
     codes "int main(void){int i;int part=0;upc_lock_t *lk=upc_all_lock_alloc();\n"
     ++ codes "upc_forall(i=0;i<M;i++;&a[i])a[i]=i;\n" ++ codes "upc_barrier;\n"
 
--- What stands behind them: the threads add up their parts of `a` under a lock, and thread 0 prints the sum (UPC 7.2.4).
+-- What stands after them: the threads add up their parts of `a` under a lock, and thread 0 prints the sum (UPC 7.2.4).
 abbrev pub ending : ℕ → List ℕ
 ending stages =
     codes "upc_forall(i=0;i<M;i++;&a[i])part+=a[i];\n" ++ codes "upc_lock(lk);sum+=part;upc_unlock(lk);\n"

@@ -8,7 +8,7 @@ use itoa::Buffer;
 use std::alloc::Global;
 use upc_text::OutOfMemory;
 
-// Puts a text behind the source.
+// Appends a text to the source.
 fn add(text: &mut Vec<u8>, more: &[u8]) -> Result<(), OutOfMemory>
     ensures { IfOk result (λ _. text.new.items ≡ text.old.items ++ more.now) }
 {
@@ -16,7 +16,7 @@ fn add(text: &mut Vec<u8>, more: &[u8]) -> Result<(), OutOfMemory>
     Ok(())
 }
 
-// Puts a number behind the source, in decimal.
+// Appends a number to the source, in decimal.
 fn add_number(text: &mut Vec<u8>, number: u32) -> Result<(), OutOfMemory>
     ensures { IfOk result (λ _. text.new.items ≡ text.old.items ++ decimal number) }
 {
@@ -24,7 +24,7 @@ fn add_number(text: &mut Vec<u8>, number: u32) -> Result<(), OutOfMemory>
     add(text, buffer.format(number).as_bytes())
 }
 
-// Puts a text and a number behind the source.
+// Appends a text and a number to the source.
 fn add_numbered(text: &mut Vec<u8>, more: &[u8], number: u32) -> Result<(), OutOfMemory>
     ensures { IfOk result (λ _. text.new.items ≡ text.old.items ++ source.numbered more.now number) }
 {

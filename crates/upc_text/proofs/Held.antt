@@ -6,7 +6,7 @@ use Rattle.std.proofs.lemmas.List.Folds.{find-append}
 use Rattle.std.proofs.lemmas.Slice.Eq.{bytes_eq-Decides}
 use Rattle.upc_text.specs.Memory.{held_under}
 
--- what comes behind a list in which nothing was found
+-- what comes after a list in which nothing was found
 only_last :
     (found : Option (List ℕ × List ℕ)) (file : List ℕ × List ℕ) (same : Bool) → same ≡ true →
     IsNone (option_map (λ (f : List ℕ × List ℕ). f.1) found) →

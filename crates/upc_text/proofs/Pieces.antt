@@ -17,7 +17,7 @@ pub taken_with-more :
 taken_with-more told n m bytes =
     taken_with-twice told (take n bytes) (take m (drop n bytes)) ∙ ap (taken_with told) (sym (take-add n m bytes))
 
--- what stands behind the first bytes makes more first bytes of them
+-- what stands after the first bytes makes more first bytes of them
 pub StandsAt-more :
     (told : Option (List ℕ)) (xs piece : List ℕ) → StandsAt told 0 xs → StandsAt told (length xs) piece →
     StandsAt told 0 (xs ++ piece)
@@ -28,7 +28,7 @@ StandsAt-more (Some bytes) xs piece front behind =
     ∙ sym (take-add (length xs) (length piece) bytes)
     ∙ ap (λ n. take n bytes) (sym (length-append xs piece))
 
--- a slice from a place on is what stands behind that place
+-- a slice from a place on is what stands after that place
 pub rest_from : (bytes : List ℕ) (done : ℕ) → take (length bytes - done) (drop done bytes) ≡ drop done bytes
 rest_from bytes done =
     let short : length (drop done bytes) ≤ length bytes - done = omega (arith, length-drop done bytes) in
@@ -46,7 +46,7 @@ taken_with-next start before after bytes done n first next =
     ∙ ap (λ told. taken_with told (take n (drop done bytes))) first
     ∙ taken_with-more start done n bytes
 
--- a piece that was read behind the first bytes makes more first bytes of them
+-- a piece that was read after the first bytes makes more first bytes of them
 pub StandsAt-next :
     (told later : Option (List ℕ)) (xs piece ys : List ℕ) (at : ℕ) → StandsAt told 0 xs → later ≡ told →
     StandsAt later at piece → at ≡ length xs → ys ≡ xs ++ piece → StandsAt told 0 ys

@@ -1,4 +1,4 @@
-//! The outside: what is read, what is written, and what is told when a round begins.
+//! The outside: what is read, what is written, and what is called when a round begins.
 ghost use Rattle.std.specs.Prelude.{◌≡◌, ◌<◌, ◌≤◌, ℕ, List, Option, length, take, IfOk, OnErr};
 ghost use Rattle.upc_text.specs.Outside.{Rose, StandsAt, EndsBy, taken_with};
 
@@ -6,14 +6,14 @@ use crate::Failed;
 
 /// Named inputs, each read from any place.
 pub trait Sources {
-    /// The bytes of each name, where they are told. No read changes them.
+    /// The bytes of each name, where they are known. No read changes them.
     ghost bytes_of: { Self → List ℕ → Option (List ℕ) };
 
     /// The count of faults of each name. It never falls.
     ghost faults: { Self → List ℕ → ℕ };
 
     /// Reads bytes of the name from byte `at` on into the front of `buf`, and gives how many. The bytes of
-    /// `buf` behind them are left open. Of no bytes at all, `Ok(0)`, it speaks only at the end or past it.
+    /// `buf` after them are left open. It gives `Ok(0)`, no bytes at all, only at the end or past it.
     fn read_at(&mut self, name: &str, at: u64, buf: &mut [u8]) -> Result<usize, Failed>
         requires room { 0 < length buf.old }
         ensures bound { IfOk result (λ n. n ≤ length buf.new) }
@@ -26,7 +26,7 @@ pub trait Sources {
 
 /// An output, which takes bytes at its end.
 pub trait Sink {
-    /// The bytes that it has taken, where it tells them.
+    /// The bytes that it has taken, where they are known.
     ghost taken: { Self → Option (List ℕ) };
 
     /// The count of faults. It never falls.
@@ -43,7 +43,7 @@ pub trait Sink {
         ensures counts { faults self.old ≤ faults self.new };
 }
 
-/// Who is told of the beginning of each thread's part of a round.
+/// What is called at the beginning of each thread's part of a round.
 pub trait Gate: Sync {
     /// Called once at the start of the thread's part of the round. Threads are numbered from 0, rounds from 1.
     fn round_begins(&self, thread: u32, round: u64);

@@ -63,7 +63,7 @@ impl Sources for SureFiles {
     }
 }
 
-/// A sink that never fails. It keeps nothing of what it takes, and does not tell it.
+/// A sink that never fails. It keeps nothing, and what it has taken is not known.
 #[derive(Clone, Copy, PartialEq, Eq, Debug)]
 pub struct SureSink;
 

@@ -49,7 +49,7 @@ there-is Record r file bytes given h k = whole-is (r.told file) bytes given h.to
 there-is Check r file bytes given h k = whole-is (r.told file) bytes given h.told k.whole
 there-is Layout r file bytes given h k = whole-is (r.told file) bytes given h.told k.whole
 
--- a file that is there is told
+-- the bytes of a file that is there are known
 there-file : (m : Mode) (r : Reading) (file bytes : List ℕ) → (m ≡ Sample → ⊥) → IsThere m r file bytes → IsToldWhole r file bytes
 there-file Sample r file bytes n h = absurd (n refl)
 there-file Run r file bytes n h = h
@@ -57,7 +57,7 @@ there-file Record r file bytes n h = h
 there-file Check r file bytes n h = h
 there-file Layout r file bytes n h = h
 
--- what is read of a told file is short
+-- what is read of a file whose bytes are known is short
 source-short : (m : Mode) (told : Option (List ℕ)) (file bytes given : List ℕ) → (m ≡ Sample → ⊥) → told ≡ Some bytes
     → IsSource m file told given → length bytes ≤ 1048576
 source-short Sample told file bytes given n e h = absurd (n refl)
@@ -68,7 +68,7 @@ source-short Layout told file bytes given n e h = subst (λ b. length b ≤ 1048
 
 -- ---- the answer
 
--- what came to one verdict came to another that follows from it
+-- what had one verdict had another that follows from it
 came-on : (words : List (List ℕ)) (r : Reading) (v w : Verdict)
     → ((a : Asked) (bytes : List ℕ) → ComesFrom a bytes v → ComesFrom a bytes w) → CameTo words r v → CameTo words r w
 came-on words r v w f c = record {
@@ -260,7 +260,7 @@ other-words words r out err d a = other-words-by words r out err d a.verdict a.c
 
 -- ---- long files
 
--- what is held of a told file is short
+-- what is held of a file whose bytes are known is short
 not-long : (words : List (List ℕ)) (r : Reading) (a : Asked) (bytes : List ℕ) → Asks words a → (a.mode ≡ Sample → ⊥)
     → r.told a.file ≡ Some bytes → 1048576 < length bytes → (v : Verdict) → CameTo words r v → ⊥
 not-long words r a bytes asks file told long v c =

@@ -1,4 +1,4 @@
--- What is shown of a run is what a source comes to.
+-- What is shown of a run is the outcome of a source.
 use Rattle.std.proofs.Common.{◌≡◌, ◌∙◌, ℕ, true, List, Some, None, length, sym, ap, subst}
 use Rattle.std.proofs.lemmas.List.FromFn.{length-map-range_with_len}
 use Rattle.upc_values.specs.declared.journal.Journal.{Journal}

@@ -1,4 +1,4 @@
-//! From the words to what the top call comes to.
+//! From the words to the verdict of the top call.
 
 ghost use Rattle.std.specs.Prelude.{◌≡◌, ◌≤◌, ℕ, List, true, length, map, string_bytes};
 ghost use Rattle.typed_tree.specs.ViewProgram.{view_program};
@@ -23,7 +23,7 @@ use typed_tree::Program;
 use upc_text::{ReadEnd, Sources, Stop};
 use upc_values::Journal;
 
-// What a run comes to: its record where that was asked for, else what it prints.
+// The verdict on a run: its record where that was asked for, else what it prints.
 fn shown(alloc: Global, mode: Mode, journal: Journal) -> Verdict
     requires follows { FollowsBuffers journal }
     requires runs { runs mode ≡ true }
@@ -61,7 +61,7 @@ fn run_accepted<R: Wait>(
     }
 }
 
-// What a source comes to that is refused, or for which memory was wanting.
+// The verdict on a source that is refused, or for which memory was wanting.
 fn stopped(stop: Stop) -> Verdict
     ensures { (a : Asked) (bytes : List ℕ) → StopsReading a.threads bytes stop → ComesFrom a bytes result }
 {
@@ -71,7 +71,7 @@ fn stopped(stop: Stop) -> Verdict
     }
 }
 
-// What a source comes to. Where no more is asked than whether it is accepted, no program is made.
+// The verdict on a source. Where no more is asked than whether it is accepted, no program is made.
 fn come_to<R: Wait>(rt: &R, alloc: Global, call: &Call<'_>, bytes: &[u8]) -> Verdict
     requires range { IsInRange (view_call call.now) }
     requires allowed { IsAllowed (view_call call.now) }
@@ -94,7 +94,7 @@ fn come_to<R: Wait>(rt: &R, alloc: Global, call: &Call<'_>, bytes: &[u8]) -> Ver
     }
 }
 
-/// What the words and the file come to.
+/// The verdict on the words and the file.
 pub fn judge<R: Wait, S: Sources>(rt: &R, alloc: Global, words: &[String], files: &mut S) -> Verdict
     ensures { Caused (map string_bytes words.now)
         (reading (S.bytes_of files.old) (S.faults files.old) (S.faults files.new))

@@ -9,7 +9,7 @@ use record_text::is_short;
 use std::alloc::Global;
 use upc_values::Journal;
 
-/// What a run comes to whose record was asked for: the run with its orders, or that it is too long for a text.
+/// The verdict on a run whose record was asked for: the run with its orders, or that it is too long for a text.
 pub fn recorded(alloc: Global, journal: Journal) -> Verdict
     requires { FollowsBuffers journal }
     ensures { IsRecordOf journal result }

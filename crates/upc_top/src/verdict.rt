@@ -1,10 +1,10 @@
-//! What the top call comes to, before it is written.
+//! The verdict of the top call, before it is written.
 
 use typed_tree::Program;
 use upc_text::Refusal;
 use upc_values::{Journal, Orders};
 
-/// What the top call comes to.
+/// The verdict of the top call.
 #[derive(Drop)]
 pub enum Verdict {
     /// The words are refused.

@@ -18,7 +18,7 @@ pub struct DeclaredList {
     pub more: Vec<NextDeclared>,
 }
 
-/// A further part of a declaration, behind its comma.
+/// A further part of a declaration, after its comma.
 #[derive(Drop)]
 pub struct NextDeclared {
     pub comma: Span,

@@ -103,7 +103,7 @@ pub enum Expr {
     },
 }
 
-/// The arguments of a call, with the parenthesis behind them.
+/// The arguments of a call, with the parenthesis after them.
 #[cycle(expression)]
 #[derive(Drop)]
 pub enum Arguments {
@@ -117,7 +117,7 @@ pub enum Arguments {
     },
 }
 
-/// A further expression of a list, behind its comma.
+/// A further expression of a list, after its comma.
 #[cycle(expression)]
 #[derive(Drop)]
 pub struct NextExpr {
@@ -216,7 +216,7 @@ pub struct Member {
     pub semicolon: Span,
 }
 
-/// A further declarator of a line, behind its comma.
+/// A further declarator of a line, after its comma.
 #[cycle(expression)]
 #[derive(Drop)]
 pub struct NextDeclarator {
@@ -262,7 +262,7 @@ pub enum Parameters {
     },
 }
 
-/// A further parameter, behind its comma.
+/// A further parameter, after its comma.
 #[cycle(expression)]
 #[derive(Drop)]
 pub struct NextParameter {

@@ -13,7 +13,7 @@ pub enum UnaryMark {
     Decrement,
 }
 
-/// `++` or `--` behind an operand (C99 6.5.2.4).
+/// `++` or `--` after an operand (C99 6.5.2.4).
 #[derive(Clone, Copy)]
 pub enum PostfixMark {
     Increment,

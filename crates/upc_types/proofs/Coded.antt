@@ -103,7 +103,7 @@ unlike_cases targets t place o at below s f here rest i d false false e k low hi
     let other : i ≢ place = eqb-false i place k in
     rest i d (omega (arith, u, above, other)) high
 
--- Behind one that is not alike, the next place of the code.
+-- After one that is not alike, the next place of the code.
 pub unlike_more : (targets : List CType) (t : CType) (place : ℕ) (o at : Option ℕ) → place < length targets → at ≡ Some place → o ≡ place_below (codes_of targets) (code_of t) place →
     ((d : CType) → alike (get_or targets place d) t ≡ false) → ((i : ℕ) (d : CType) → up_to at ≤ i → i < length targets → alike (get_or targets i d) t ≡ false) →
     (i : ℕ) (d : CType) → up_to o ≤ i → i < length targets → alike (get_or targets i d) t ≡ false

@@ -1,4 +1,4 @@
--- Members that have sizes, one behind the other.
+-- Members that have sizes, one after the other.
 use Rattle.std.proofs.Common.{◌≡◌, ℕ, zero, suc, ◌+◌, ◌<◌, ◌≤◌, nat_le, Bool, true, false, ◌&&◌, if◌then◌else◌, List, [], ◌∷◌, ◌++◌, length, map, drop, get_or, Some, None, is_some, refl, sym, ap, ◌∙◌, append_assoc, subst, arith, leb-true}
 use Rattle.std.proofs.lemmas.Bool.{and_parts}
 use Rattle.upc_types.specs.declared.layout.Layout.{Layout}
@@ -9,7 +9,7 @@ use Rattle.upc_types.specs.Layout.{aligned, end_behind, widest, base_layout, bas
 use Rattle.upc_types.specs.Starts.{starts_behind}
 use Rattle.upc_types.proofs.Members.{next, aligned_low, alignment_some, grow, widest_low}
 
--- Members behind some bytes, which have sizes and end within an object.
+-- Members after some bytes, which have sizes and end within an object.
 pub record MembersFrom (cs : List Completed) (end : ℕ) (ms : List Member) : Type 0 where
   pub complete : all_complete (complete_in cs) ms ≡ true
   pub near : end_behind end (member_layouts (layout_in cs) ms) ≤ most_bytes

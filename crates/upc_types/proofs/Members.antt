@@ -1,4 +1,4 @@
--- Layouts of members, one behind the other.
+-- Layouts of members, one after the other.
 use Rattle.std.proofs.Common.{◌≡◌, ℕ, ◌+◌, ◌<◌, ◌≤◌, max, nat_le, Bool, true, false, ◌==◌, ◌&&◌, ◌⊎◌, inl, inr, if◌then◌else◌, List, [], ◌∷◌, length, map, drop, get_or, Option, Some, None, refl, sym, ap, ◌∙◌, arith, leb-false}
 use Rattle.std.proofs.lemmas.List.{drop_more}
 use Rattle.std.proofs.lemmas.Bool.{lt-leb}
@@ -64,7 +64,7 @@ layout_some (c ∷ older) n = elim (c.number == n) as (λ b. 0 < (layout_or_none
 pub alignment_some : (cs : List Completed) (b : Base) → 0 < (base_layout (layout_in cs) b).align
 alignment_some cs b = base_some (layout_in cs) (layout_some cs) b
 
--- Members end behind where they begin.
+-- Members do not end before they begin.
 pub grow : (cs : List Completed) (end : ℕ) (ms : List Member) → end ≤ end_behind end (member_layouts (layout_in cs) ms)
 grow cs end [] = omega arith
 grow cs end (m ∷ ms) =
@@ -82,7 +82,7 @@ too_large cs end align ms p h =
     let a = aligned_low (end_behind end ls) (widest align ls) (omega arith) in
     lt-leb _ most_bytes (omega arith)
 
--- Members that end behind the last byte that an object can have make no struct.
+-- Members that end after the last byte that an object can have make no struct.
 pub from_large : (cs : List Completed) (end align : ℕ) (ms : List Member) → 0 < align → most_bytes < end → members_from cs end align ms ≡ None
 from_large cs end align ms p h = rw (too_large cs end align ms p h, and-false) refl
 
@@ -97,7 +97,7 @@ none_is true true l h = absurd cc
 none_is true false l h = inr refl
 none_is false q l h = inl refl
 
--- A member that fits goes behind those before it.
+-- A member that fits goes after those before it.
 pub from_more : (cs : List Completed) (end align : ℕ) (m : Member) (ms : List Member) (p : Layout) → base_within cs (base_of m.ctype) ≡ Some p →
     members_from cs end align (m ∷ ms) ≡ members_from cs (aligned end p.align + p.size) (max align p.align) ms
 from_more cs end align m ms p h =

@@ -99,7 +99,7 @@ module _ {X : Type 0} {A : Type 0} (name_of : X → ℕ) (F : List X → A) (nam
   pub begins : (xs : List X) (o : Option ℕ) → o ≡ place_below (map name_of xs) name (length xs) → F (reverse xs) ≡ F (reverse (take (up_to o) xs))
   begins xs o e = ap (λ ys. F (reverse ys)) (sym (take_all (length xs) xs (omega arith))) ∙ skips xs (length xs) o (omega arith) (sym e)
 
-  -- Behind one that is passed over, the next place of the name.
+  -- After one that is passed over, the next place of the name.
   pub goes_back : (xs : List X) (d : X) (n : ℕ) (o : Option ℕ) → n < length xs → F (get_or xs n d ∷ reverse (take n xs)) ≡ F (reverse (take n xs)) → o ≡ place_below (map name_of xs) name n →
       F (reverse (take (suc n) xs)) ≡ F (reverse (take (up_to o) xs))
   goes_back xs d n o h pass e = ap F (latest_of xs d n h) ∙ pass ∙ skips xs n o (omega (arith, h)) (sym e)

@@ -13,7 +13,7 @@ read-entries l e (c ∷ cs) =
     cond_both (is_some (pending_value l cs)) (c ∷ changed l (with_read e) cs) (with_read e c ∷ cs)
     (λ z. entries_in z ≡ entries_in (c ∷ cs)) (λ h. ap (λ z. c.entry ∷ z) (read-entries l e cs)) (λ h. refl)
 
--- what a list has behind a front
+-- what a list has after a front
 get-behind : {X : Type 0} (xs : List X) (x : X) (ys : List X) → slice_get (xs ++ x ∷ ys) (length xs) ≡ Some x
 get-behind [] x ys = refl
 get-behind (y ∷ xs) x ys = get-behind xs x ys

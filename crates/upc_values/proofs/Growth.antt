@@ -1,4 +1,4 @@
--- Each step of a walk puts the item's accesses into the list of the thread's operations, and what stands behind them
+-- Each step of a walk puts the item's accesses into the list of the thread's operations, and what stands after them
 -- there does not conflict with them.
 use Rattle.std.proofs.Common.{◌≡◌, ℕ, nat_lt, ◌&&◌, ◌||◌, Bool, true, false, cond, List, [], ◌∷◌, ◌++◌, length, is_some, flat_map, Option, Some, None, refl, sym, ap, ◌∙◌, subst, append_assoc, append-nil}
 use Rattle.std.proofs.lemmas.Bool.{cond_both}
@@ -27,7 +27,7 @@ ops cs = flat_map (λ c. c.operations) cs
 abbrev pub all_ops : Walk → List Operation
 all_ops w = ops w.emitted ++ ops w.pending
 
--- new is old with more put in, and what stands behind that does not conflict with it
+-- new is old with more put in, and what stands after that does not conflict with it
 pub record Grows (old more new : List Operation) : Type 0 where
   pub front : List Operation
   pub back : List Operation

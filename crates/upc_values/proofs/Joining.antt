@@ -15,7 +15,7 @@ module _ {X : Type 0} where
       let e = h.0 in
       omega arith
 
-  -- what stands in front of a list, and behind it
+  -- what stands in front of a list, and after it
   pub get-front : (xs ys : List X) (i : ℕ) → i < length xs → slice_get (xs ++ ys) i ≡ slice_get xs i
   get-front [] ys i lt = absurd (omega arith)
   get-front (x ∷ xs) ys ℕ.zero lt = refl

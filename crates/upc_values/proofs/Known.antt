@@ -127,7 +127,7 @@ held-known o es l v f =
 
 -- ---- what an entry makes
 
--- an entry that passes is picked behind those before it
+-- an entry that passes is picked after those before it
 picked-more : (test : List Entry → Entry → Bool) (before : List Entry) (e : Entry) → test before e ≡ true → picked test (before ++ e ∷ []) ≡ picked test before ++ e ∷ []
 picked-more test before e h = picked-append test [] before (e ∷ []) ∙ ap (λ b. picked test before ++ cond b (e ∷ []) []) h
 

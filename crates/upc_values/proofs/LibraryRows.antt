@@ -35,7 +35,7 @@ on_1 c vs = library_call 2 (ints ∷ []) 1 privates c 0 vs
 abbrev int : ℕ → Value
 int n = value.Scalar (Int (pos n))
 
--- An int on thread 1, four bytes in, behind 24 bytes of other objects.
+-- An int on thread 1, four bytes in, after 24 bytes of other objects.
 abbrev p : SharedPtr
 p =
     record {

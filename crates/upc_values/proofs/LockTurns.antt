@@ -108,7 +108,7 @@ let_go-lawful o es t u l (act.Unlock k) Done h w held =
     same-number t u (own-unlock (is_freed o k es) t u known)
 let_go-lawful o es t u l a r h w held = absurd (false≢true h)
 
--- While a thread holds the lock, the next that takes it stands behind an Unlock by that thread.
+-- While a thread holds the lock, the next that takes it stands after an Unlock by that thread.
 between : (o : Opening) (t l : ℕ) (es middle rest : List Entry) (second : Entry)
     → holder l es ≡ Some t → IsLegal o (es ++ (middle ++ second ∷ rest)) → takes l second.action second.reply ≡ true
     → (e : Entry) × Has middle e × IsUnlockOf t l e

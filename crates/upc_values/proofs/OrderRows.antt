@@ -86,7 +86,7 @@ buffered-legal = (refl, (refl, (refl, (refl, (refl, (refl, (refl, (refl, (refl, 
 buffered-order : map named (thread_order (journal buffering buffered) 0) ≡ (0, 0) ∷ (1, 0) ∷ (0, 1) ∷ (1, 1) ∷ (0, 3) ∷ (0, 2) ∷ (0, 4) ∷ (1, 2) ∷ (1, 4) ∷ (0, 5) ∷ (1, 5) ∷ []
 buffered-order = refl
 
--- a forwarded read: thread 0 writes x and reads it, thread 1 writes x; the read stands behind its source
+-- a forwarded read: thread 0 writes x and reads it, thread 1 writes x; the read stands after its source
 abbrev forwarding : List (List Item)
 forwarding =
     program (Did (Write (var 1) (int 1) false) Done ∷ Did (Read (var 1) false) (Value (int 1)) ∷ [])

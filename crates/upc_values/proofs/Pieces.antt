@@ -1,9 +1,9 @@
--- The pieces of a format behind some of its bytes.
+-- The pieces of a format after some of its bytes.
 use Rattle.std.proofs.Common.{◌≡◌, ℕ, ◌+◌, ◌<◌, List, [], ◌∷◌, length, drop, get_or, refl, ap, sym, ◌∙◌, add-one, arith}
 use Rattle.upc_values.specs.declared.format.Found.{Found}
 use Rattle.upc_values.specs.Printing.{pieces, pieces_behind, found_in}
 
--- The pieces behind n bytes are those of the bytes that are left.
+-- The pieces after n bytes are those of the bytes that are left.
 pub pieces_behind-drop : (n : ℕ) (bs : List ℕ) → pieces_behind n bs ≡ pieces (drop n bs)
 pieces_behind-drop ℕ.zero [] = refl
 pieces_behind-drop (ℕ.suc n) [] = refl

@@ -4,7 +4,7 @@ use Rattle.std.specs.Fmt.{digits}
 use Rattle.std.proofs.Common.{refl}
 use Rattle.upc_values.specs.Printing.{printed}
 
--- Zeros stand behind the sign, blanks before it.
+-- Zeros stand after the sign, blanks before it.
 zeros : printed (codes "<%05d>") (negsuc 41 ∷ []) ≡ codes "<-0042>"
 unfolding digits
 zeros = refl

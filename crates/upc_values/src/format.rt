@@ -30,7 +30,7 @@ pub enum Piece {
     Stray,
 }
 
-/// A piece, and how many bytes it has: behind its `%`, where it is looked for there, else in all.
+/// A piece, and how many bytes it has: after its `%`, where it is looked for there, else in all.
 #[derive(Clone, Copy)]
 pub struct Found {
     pub piece: Piece,
@@ -153,7 +153,7 @@ fn conversion_of(
     }
 }
 
-// The conversion that the bytes behind a `%` begin with.
+// The conversion that the bytes after a `%` begin with.
 fn conversion_in(bytes: &[u8]) -> Found
     ensures value { result ≡ printing.conversion_in bytes.now }
     ensures within { result.bytes ≤ length bytes.now }
@@ -168,7 +168,7 @@ fn conversion_in(bytes: &[u8]) -> Found
     conversion_of(zeros, width_of(width), long, style, count)
 }
 
-// What begins at a `%`, by the bytes behind it.
+// What begins at a `%`, by the bytes after it.
 fn found_in(bytes: &[u8]) -> Found
     ensures value { result ≡ printing.found_in bytes.now }
     ensures within { result.bytes ≤ length bytes.now }

@@ -16,7 +16,7 @@ pub enum Item {
 /// A thread's record: its items in chunks.
 pub type Items = Chunked<Item>;
 
-/// What a thread's source comes to on given replies.
+/// How a thread's source ends on given replies.
 #[derive(Drop)]
 pub enum ToldEnd {
     /// No reply is left for this action.

@@ -1,4 +1,4 @@
-//! Worked calls, each told over its replies.
+//! Worked calls, each by the replies that it is given.
 
 use plain_calls::{Area, Caller, End, Step, Told, copy, local_area, set, shared_area};
 use plain_collectives::{Thread, collective};
@@ -81,7 +81,7 @@ fn is_told(told: &Told, rows: &[Row], last: Last) -> bool {
     true
 }
 
-// Whether a collective call tells these steps and this end.
+// Whether a collective call takes these steps and has this end.
 fn tells(
     alloc: Global,
     thread: &Thread<'_>,
@@ -97,7 +97,7 @@ fn tells(
     }
 }
 
-// Whether it tells the first of these steps, so many, and this end.
+// Whether it takes the first of these steps, so many, and has this end.
 fn begins(
     alloc: Global,
     thread: &Thread<'_>,
@@ -124,7 +124,7 @@ fn tells_nothing(
     Ok(collective(alloc, thread, call, args, replies)?.is_none())
 }
 
-// Whether a copy by a caller tells these steps and this end.
+// Whether a copy by a caller takes these steps and has this end.
 fn copies_so(
     alloc: Global,
     caller: &Caller<'_>,
@@ -137,7 +137,7 @@ fn copies_so(
     Ok(is_told(&told, rows, last))
 }
 
-// Whether a fill by a caller tells these steps and this end.
+// Whether a fill by a caller takes these steps and has this end.
 fn fills_so(
     alloc: Global,
     caller: &Caller<'_>,
@@ -701,7 +701,7 @@ const OPERATIONS: [(u32, Kind, i128, i128, i128, i128, Last); 13] = [
     ),
 ];
 
-// Each operand is read as it is told.
+// Each operand is read as the call says.
 #[test]
 fn operators(rt: HostRuntime) -> Result<(), Fail> {
     let alloc = rt.alloc();

@@ -18,7 +18,7 @@ const FIRST: Turn = Turn {
     phase: 0,
 };
 
-// The place behind: blocks go to the threads in turn, and an indefinite block never ends.
+// The next place: blocks go to the threads in turn, and an indefinite block never ends.
 fn following(turn: Turn, block: u32, threads: u32) -> Turn {
     if block == 0 {
         return turn;

@@ -43,7 +43,7 @@ pub fn begin(alloc: Global) -> Result<Vec<Item>, AllocError> {
     Ok(items)
 }
 
-/// What each thread does behind `main`.
+/// What each thread does after `main`.
 pub fn finish(items: &mut Vec<Item>) -> Result<(), AllocError> {
     items.push(Item::Did(Action::Notify(Mark::Finish), Reply::Done))?;
     items.push(Item::Did(Action::Wait(Mark::Finish), Reply::Done))?;

@@ -110,7 +110,7 @@ const SECOND: [Named; 11] = [
     (1, 5, 'r'),
 ];
 
-// Thread 1's read stands behind thread 0's write.
+// Thread 1's read stands after thread 0's write.
 const LATE: [Named; 11] = [
     (0, 0, 'w'),
     (1, 0, 'w'),
@@ -140,7 +140,7 @@ const TURNED: [Named; 11] = [
     (1, 5, 'r'),
 ];
 
-// Thread 1's write stands behind its notify.
+// Thread 1's write stands after its notify.
 const PASSED: [Named; 11] = [
     (0, 0, 'w'),
     (1, 0, 'w'),
@@ -193,7 +193,7 @@ fn buffered_writes(rt: HostRuntime) -> Result<(), Fail> {
     Ok(())
 }
 
-// Of the history 0.0 1.0 0.1 1.1 1.2 1.3 0.2 0.4 0.5 1.4: thread 0's read stands behind its write, which it has read
+// Of the history 0.0 1.0 0.1 1.1 1.2 1.3 0.2 0.4 0.5 1.4: thread 0's read stands after its write, which it has read
 // from the buffer.
 const STRICT_FORWARDED: [Named; 8] = [
     (0, 0, 'w'),

@@ -275,7 +275,7 @@ fn conflict(a: &Operation, b: &Operation) -> bool {
     a.strict || b.strict || (a.place == b.place && (a.write || b.write))
 }
 
-/// What stands behind an operation of a thread is not before it in program order, where they conflict.
+/// What stands after an operation of a thread is not before it in program order, where they conflict.
 fn keeps_program(first: &Operation, behind: &[Operation]) -> bool {
     for o in behind {
         if o.name.thread == first.name.thread && conflict(first, o) && is_before(o, first) {

@@ -31,14 +31,14 @@ fresh_by : (n m : ℕ) (b d : Bool) → (b || d) ≡ false → (d ≡ false → 
 fresh_by n m true d h f = absurd cc
 fresh_by n m false d h f = ap (λ k. k + 1) (f h)
 
--- Another is counted behind them.
+-- Another is counted after them.
 fresh : (names others : List ℕ) (name : ℕ) → list_any (λ x. x == name) names ≡ false → number_in (names ++ others) name ≡ length names + number_in others name
 fresh [] others name h = omega arith
 fresh (x ∷ names) others name h =
     let e = fresh_by (number_in (names ++ others) name) (length names + number_in others name) (x == name) (list_any (λ y. y == name) names) h (fresh names others name) in
     omega (arith, e)
 
--- The new one is found behind the others where it is none of them.
+-- The new one is found after the others where it is none of them.
 abbrev last : ℕ → Bool → Option ℕ
 last count d = if d then Some count else None
 

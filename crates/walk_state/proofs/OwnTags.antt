@@ -20,7 +20,7 @@ pub missed_own : (name : ℕ) (xs ys : List Tag) → find_tag name xs ≡ None �
 missed_own name [] ys h = refl
 missed_own name (x ∷ xs) ys h = missed_one (nat_eq x.name name) x.number (find_tag name xs) (find_tag name (xs ++ ys)) (find_tag name ys) h (missed_own name xs ys)
 
--- So of the tags of a scope itself.
+-- A tag that is found among those of a scope itself is found where more are around them.
 pub found_here : (name level : ℕ) (xs ys : List Tag) (number : ℕ) → tag_here name level xs ≡ Some number → tag_here name level (xs ++ ys) ≡ Some number
 found_here name level [] ys number h = absurd cc
 found_here name level (x ∷ xs) ys number h =

@@ -19,7 +19,7 @@ use Rattle.walk_state.proofs.Walks.{Same, same_meets, goes, stops, finished}
 pub record Reaches {A B : Type 0} (view : B → A) (w : Walked A) (s : State) (r : Result B Stop) : Type 0 where
   pub met : Meets view w s r
 
--- A part comes to something, and this stands behind it.
+-- A part gives a value, and this follows it.
 pub next : {A B C : Type 0} {view : C → B} (w : Walk A) (go : A → Walk B) {s between after : State} {a : A} {r : Result C Stop} →
     Comes (w s) between a → Reaches view (go a between) after r → Reaches view (andthen w go s) after r
 next w go h k = record { met = goes _ _ _ _ _ _ _ _ h k.met }
@@ -46,7 +46,7 @@ no_memory {view = view} {w = w} {after = after} {r = r} h = record { met = err_m
 pub of_form : {T A C : Type 0} (go : T → Walk A) (view : C → A) (x y : T) (s after : State) (r : Result C Stop) → x ≡ y → Reaches view (go y s) after r → Meets view (go x s) after r
 of_form go view x y s after r e h = subst (λ z. Meets view (go z s) after r) (sym e) h.met
 
--- A walk that comes to the same.
+-- A walk with the same outcome.
 pub through : {A C : Type 0} {view : C → A} {v w : Walked A} {after : State} {r : Result C Stop} → Same v w → Reaches view w after r → Reaches view v after r
 through g h = record { met = same_meets _ _ _ _ _ g h.met }
 
@@ -59,7 +59,7 @@ pub ends : (ξ : Setting) (at : Place) (x : Node) (kind : Facts → ExprKind) (s
     Finishes (facts_in ξ s) at x (kind (facts_in ξ s)) r → Reaches (boxed view_expr) (finish ξ at x kind s) s r
 ends ξ at x kind s {r = r} h = record { met = finished ξ at x kind s r h }
 
--- All parts come to something.
+-- All parts give a value.
 pub comes : {A : Type 0} {w : Walked A} {s : State} {a : A} → Reaches (λ (x : A). x) w s (Ok a) → Comes w s a
 comes h = h.met
 
@@ -70,6 +70,6 @@ moved go x y s s1 a e h = subst (λ z. Comes (go z s) s1 a) e h
 pub moved_stop : {X A : Type 0} (go : X → Walk A) (x y : X) (s : State) (e : Stop) → x ≡ y → Stops (first_fault (go x s).seen) e → Stops (first_fault (go y s).seen) e
 moved_stop go x y s e f h = subst (λ z. Stops (first_fault (go z s).seen) e) f h
 
--- What has come to something has reached it.
+-- What has given a value has reached it.
 pub arrives : {A C : Type 0} {view : C → A} {w : Walked A} {s : State} {a : A} {x : C} → Comes w s a → a ≡ view x → Reaches view w s (Ok x)
 arrives {view = view} {w = w} {s = s} h e = record { met = subst (λ b. Comes w s b) e h }

@@ -39,7 +39,7 @@ pub pushed_behind : {X A L : Type 0} (view : X → A) (join : A → L → L) (xs
 pushed_behind view join xs zs x ys e =
     sym (ap (λ l. behind join (map view l) ys) e ∙ ap (λ l. behind join l ys) (map-append view xs (x ∷ [])) ∙ behind-append join (map view xs) (view x) ys)
 
--- The whole walk comes to the same as that over what is left, and this makes of what is left the whole.
+-- The whole walk has the same outcome as that over what is left, and this makes of what is left the whole.
 pub record IsLeft {L M : Type 0} (whole : Walked M) (f : L → M) (rest : Walk L) (s : State) : Type 0 where
   pub same : Same whole (andthen rest (λ ys. give (f ys)) s)
 
@@ -85,7 +85,7 @@ list_done view whole f end s r h e =
 
 -- ---- walks that hand on what came so far
 
--- The whole walk comes to the same as that from here.
+-- The whole walk has the same outcome as that from here.
 pub fold_goes : {A B : Type 0} (whole : Walked B) (w : Walk A) (go : A → Walk B) (s between : State) (a : A) →
     Same whole (andthen w go s) → Comes (w s) between a → Same whole (go a between)
 unfolding andthen

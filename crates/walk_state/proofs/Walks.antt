@@ -30,7 +30,7 @@ stops_later x y stop.Memory h = tt
 stops_later None y (stop.Refused r) h = absurd cc
 stops_later (Some f) y (stop.Refused r) h = h
 
--- Where a walk stops, what comes behind it is not walked.
+-- Where a walk stops, what comes after it is not walked.
 pub stops : {A B C : Type 0} (view : C → B) (w : Walk A) (go : A → Walk B) (s after : State) (e : Stop) → Stops (first_fault (w s).seen) e → Meets view (andthen w go s) after (Err e)
 unfolding andthen
 stops view w go s after e h = rw (first_of_two (w s).seen (go (w s).value (w s).state).seen) (stops_later (first_fault (w s).seen) (first_fault (go (w s).value (w s).state).seen) e h)
@@ -40,13 +40,13 @@ goes_one : {B C : Type 0} (view : C → B) (xs : List Seen) (y : Walked B) (afte
 goes_one view xs y after (Ok x) f h = record { fine = first_of_two xs y.seen ∙ ap (λ o. or_later o (first_fault y.seen)) f ∙ h.fine; state = h.state; value = h.value }
 goes_one view xs y after (Err e) f h = rw (first_of_two xs y.seen, f) h
 
--- Where a walk comes to something, what comes behind it decides.
+-- Where a walk gives a value, what comes after it decides.
 pub goes : {A B C : Type 0} (view : C → B) (w : Walk A) (go : A → Walk B) (s between after : State) (a : A) (r : Result C Stop) →
     Comes (w s) between a → Meets view (go a between) after r → Meets view (andthen w go s) after r
 unfolding andthen
 goes view w go s between after a r h k = goes_one view (w s).seen (go (w s).value (w s).state) after r h.fine (rw (h.value, h.state) k)
 
--- What a walk comes to stands behind it.
+-- A walk that only gives a value ends with it.
 pub gives : {A : Type 0} (s : State) (a : A) → Comes (give a s) s a
 gives s a = record { fine = refl; state = refl; value = refl }
 
@@ -79,13 +79,13 @@ pub looks : {A : Type 0} (f : State → A) (s : State) → Comes (look f s) s (f
 unfolding look
 looks f s = record { fine = refl; state = refl; value = refl }
 
--- Behind a part its tags are out of scope.
+-- After a part its tags are out of scope.
 pub encloses : {A C : Type 0} (view : C → A) (w : Walk A) (s after : State) (r : Result C Stop) → Meets view (w s) after r → Meets view (enclosed w s) (record after { tags = s.tags }) r
 unfolding enclosed
 encloses view w s after (Ok x) h = record { fine = h.fine; state = ap (λ (t : State). let u : State = record t { tags = s.tags } in u) h.state; value = h.value }
 encloses view w s after (Err e) h = h
 
--- Two walks that come to the same.
+-- Two walks with the same outcome.
 pub record Same {A : Type 0} (v w : Walked A) : Type 0 where
   pub fault : first_fault v.seen ≡ first_fault w.seen
   pub state : v.state ≡ w.state
@@ -113,7 +113,7 @@ next_fault xs ys zs f e =
     let d = first_of_two zs [] in
     a ∙ ap (λ o. or_later o None) (b ∙ ap (λ o. or_later o (first_fault (ys ++ []))) f ∙ c) ∙ twice (first_fault ys) ∙ ap (λ o. or_later o None) e ∙ sym d
 
--- One part of a list is walked: what stands behind it decides, with the part in front.
+-- One part of a list is walked: what stands after it decides, with the part in front.
 pub next_part : {A L M : Type 0} (w : Walk A) (rest : Walk L) (join : A → L → L) (f : L → M) (s between : State) (a : A) → Comes (w s) between a →
     Same (andthen (andthen w (λ y. andthen rest (λ ys. give (join y ys)))) (λ ys. give (f ys)) s) (andthen rest (λ ys. give (f (join a ys))) between)
 unfolding andthen

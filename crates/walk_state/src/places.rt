@@ -39,7 +39,7 @@ pub fn specs_place(specs: &[Spec]) -> Place
     }
 }
 
-/// The first token of stars and a name behind them.
+/// The first token of stars and a name after them.
 pub fn pointers_place(pointers: &[Pointer], name: Name) -> Place
     ensures { result ≡ pure.pointers_place (pointers_of (map view_pointer pointers.now)) name }
 {

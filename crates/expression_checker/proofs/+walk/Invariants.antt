@@ -14,7 +14,7 @@ use Rattle.walk_state.proofs.Walks.{Same}
 use Rattle.expression_checker.proofs.Lists.{front}
 use Rattle.expression_checker.proofs.+walk.Given as goal
 
--- The walk over a list comes to the same as the walk over the rest, with what is made so far.
+-- The walk over a list has the same outcome as the walk over the rest, with what is made so far.
 
 abbrev pub invariant-expressions::walk_more-loop-part : goal.invariant-expressions::walk_more-loop-part
 invariant-expressions::walk_more-loop-part l =

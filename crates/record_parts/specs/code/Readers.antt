@@ -38,7 +38,7 @@ Reads view read (Err e) new = Fails e read
 abbrev pub same : {X : Type 0} → X → X
 same x = x
 
--- A reader gives a value and the parts behind it, where the parts begin with one.
+-- A reader gives a value and the parts after it, where the parts begin with one.
 abbrev pub Reader : Type 0 → Type 0
 Reader A = List Text → Option (A × List Text)
 

@@ -34,7 +34,7 @@ short_run_of head strands history strict threads =
     let journal = journal_of head.limits strands history in
     guarded (is_short journal) (head.version, journal, record { strict = strict; threads = threads })
 
--- The lines of a run, and the nothing behind the last line end.
+-- The lines of a run, and the empty text after the last line end.
 abbrev pub run_of_lines : Reader VersionedRun
 run_of_lines = do
   head ← head_of

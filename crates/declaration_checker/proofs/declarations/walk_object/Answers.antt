@@ -36,7 +36,7 @@ use Rattle.declaration_checker.proofs.declarations.walk_object.Goals as goal
 abbrev node : Setting → Env → Name → Formed → n.Node
 node ξ Γ name f = n.DeclaresObject (stands.object_again ξ Γ name) (is_file Γ) f
 
--- What is walked behind the stars and the sizes.
+-- What is walked after the stars and the sizes.
 abbrev rest : Setting → Behind → Name → Place → Initial → Place → Formed → Walk Behind
 rest ξ before name place initial at f =
     let Γ = before.scope in

@@ -30,7 +30,7 @@ use Rattle.walk_state.proofs.Walks.{goes, stops}
 use Rattle.walk_state.proofs.Turns.{goes_by, stops_by}
 use Rattle.declaration_checker.proofs.declarations.walk_prototype.Goals as goal
 
--- What is walked behind the parameters.
+-- What is walked after the parameters.
 abbrev rest : Setting → Behind → Name → Initial → Shaped → Place → List CType → Walk Behind
 rest ξ before name initial p at ts =
     let Γ = before.scope in
