@@ -1,10 +1,10 @@
 /* Reads and writes of shared cells, relaxed or strict by the header that bench/machine/run puts
-   in front, with the number of turns. */
-shared int cell[16];
+   in front, with the number of turns and of cells. */
+shared int cell[CELLS];
 
 int main(void) {
   int i;
   for (i = 0; i < TURNS; i++)
-    cell[i % 16] = cell[(i + 5) % 16] + 1;
+    cell[i % CELLS] = cell[(i + 5) % CELLS] + 1;
   return 0;
 }
