@@ -1,4 +1,4 @@
-//! Words (C99 6.4.1; UPC 6.1; the type words).
+//! Words (C99 6.4.1; UPC 6.2; the type words).
 ghost use Rattle.std.specs.Prelude.{◌≡◌, IfSome, IfNone};
 ghost use Rattle.upc_lexer.specs.declared.token.Word.{Word as AWord};
 ghost use Rattle.upc_lexer.specs.Words.{word_bytes};
