@@ -1,5 +1,5 @@
 -- What the code finds at the front of some bytes is the token there.
-use Rattle.std.proofs.Common.{◌≡◌, ℕ, ◌<◌, ◌≤◌, zero, suc, Bool, true, false, List, [], ◌∷◌, ◌++◌, length, get_or, take, drop, append-nil, Some, refl, sym, ap, ◌∙◌, subst, arith}
+use Rattle.std.proofs.Common.{◌≡◌, ℕ, ◌<◌, ◌≤◌, zero, suc, Bool, true, false, ◌||◌, List, [], ◌∷◌, ◌++◌, length, get_or, take, drop, append-nil, Some, refl, sym, ap, ◌∙◌, subst, inl, inr, arith}
 use Rattle.std.proofs.lemmas.Bool.Decides.{nat_tests}
 use Rattle.std.proofs.lemmas.List.{take-append-drop, length-take}
 use Rattle.std.proofs.lemmas.List.Sums.{prefix_len-le-length}
@@ -9,12 +9,13 @@ use Rattle.upc_text.specs.declared.place.Code.TheVariants.{Lex, Limit, Directive
 use Rattle.upc_lexer.specs.declared.token.Punct.{Punct as AMark}
 use Rattle.upc_lexer.specs.declared.token.Word.{Word as AWord}
 use Rattle.upc_lexer.specs.Bytes.{is_letter, is_digit, is_name_byte, is_number_byte}
-use Rattle.upc_lexer.specs.Gaps.{IsGap}
+use Rattle.upc_lexer.specs.Gaps.{IsGap, NoGap}
+use Rattle.upc_lexer.specs.Splices.{opens_trigraph}
 use Rattle.upc_lexer.specs.Marks.{mark_bytes}
 use Rattle.upc_lexer.specs.Words.{word_bytes}
 use Rattle.upc_lexer.specs.Numbers.{RefusesNumber}
 use Rattle.upc_lexer.specs.Strings.{IsCharacter, IsString}
-use Rattle.upc_lexer.specs.Tokens.{gap, lexeme, Spells, is_name, begins_number, is_number, IsLongest, IsLexeme, IsPlainName, NoLexeme, Refuses, nothing, no_constant, no_type, long_name, long_string}
+use Rattle.upc_lexer.specs.Tokens.{gap, lexeme, Spells, is_name, begins_number, is_number, takes_sign, IsLongest, IsLexeme, IsPlainName, NoLexeme, Refuses, nothing, no_constant, no_type, long_name, long_string}
 use Rattle.upc_text.specs.declared.place.Place.{Place}
 use Rattle.upc_lexer.specs.declared.token.Token.{Token}
 use Rattle.upc_lexer.specs.declared.token.TokenKind.{TokenKind}
@@ -23,10 +24,44 @@ use Rattle.upc_lexer.specs.Names.{insert_name}
 use Rattle.upc_lexer.specs.Steps.{Steps, token_of, names_with}
 use Rattle.upc_lexer.specs.Found.{IsGapless}
 use Rattle.upc_lexer.proofs.Lists.{run_passes, run_stops}
+use Rattle.upc_lexer.proofs.OneCut.{longest_once, rest_same}
 use Rattle.upc_lexer.proofs.TokenHeads.{no_token, name_longest, number_longest, character_longest, string_longest, mark_longest, no_character, no_string_here, no_mark}
 
-pub made_lexeme : (n : ℕ) (bytes : List ℕ) → IsGapless bytes → IsLongest (take n bytes) (drop n bytes) → IsLexeme (take n bytes) (drop n bytes)
-made_lexeme n bytes g l = record { no_comment = rw take-append-drop g.no_comment; longest = l }
+true_false : true ≡ false → ⊥
+true_false e = cc
+
+pub made_lexeme : (n : ℕ) (bytes : List ℕ) → IsGapless bytes → takes_sign (take n bytes) (drop n bytes) ≡ false → IsLongest (take n bytes) (drop n bytes) → IsLexeme (take n bytes) (drop n bytes)
+made_lexeme n bytes g s l = record {
+  no_comment = rw take-append-drop g.no_comment;
+  no_trigraph = rw take-append-drop g.no_trigraph;
+  no_sign = s;
+  longest = l;
+}
+
+-- what begins with no digit takes no sign
+no_sign_front : (n : ℕ) (bytes : List ℕ) → is_digit (get_or bytes 0 0) ≡ false → takes_sign (take n bytes) (drop n bytes) ≡ false
+no_sign_front zero bytes h = refl
+no_sign_front (suc n) [] h = refl
+no_sign_front (suc n) (b ∷ bytes) h = rw h refl
+
+letter_no_digit : (b : ℕ) → is_letter b ≡ true → is_digit b ≡ false
+letter_no_digit b h = grind (arith, nat_tests)
+
+or_left : (a b : Bool) → (a || b) ≡ false → a ≡ false
+or_left true b h = h
+or_left false b h = refl
+
+no_digit_front : (bytes : List ℕ) → begins_number bytes ≡ false → is_digit (get_or bytes 0 0) ≡ false
+no_digit_front [] h = refl
+no_digit_front (b ∷ []) h = h
+no_digit_front (b ∷ c ∷ bytes) h = or_left (is_digit b) _ h
+
+character_no_sign : (text rest : List ℕ) (v : ℕ) → IsCharacter text v → takes_sign text rest ≡ false
+character_no_sign text rest v (inl h) = rw h.0 refl
+character_no_sign text rest v (inr h) = rw h.1 refl
+
+string_no_sign : (text rest v : List ℕ) → IsString text v → takes_sign text rest ≡ false
+string_no_sign text rest v h = rw h.quoted refl
 
 letter_on : (b : ℕ) → is_letter b ≡ true → is_name_byte b ≡ true
 letter_on b h = rw h refl
@@ -50,7 +85,7 @@ name_found (b ∷ bs) n lt g l e =
     let longest : IsLongest (take n (b ∷ bs)) (drop n (b ∷ bs)) = rw k (name_longest b (take (prefix_len is_name_byte bs) bs) (drop (prefix_len is_name_byte bs) bs) l (run_passes is_name_byte bs) (run_stops is_name_byte bs)) in
     record {
       within = within;
-      lexeme = made_lexeme n (b ∷ bs) g longest;
+      lexeme = made_lexeme n (b ∷ bs) g (no_sign_front n (b ∷ bs) (letter_no_digit b l)) longest;
       is_spelled = rw (k, l, run_passes is_name_byte bs) refl;
       length_is = omega (arith, length-take n (b ∷ bs), within);
     }
@@ -80,34 +115,37 @@ front_begins b (c ∷ bs) false d h = rw (run_one is_number_byte c bs (second_on
 
 pub record NumberFound (bytes : List ℕ) (n : ℕ) : Type 0 where
   pub within : n ≤ length bytes
-  pub lexeme : IsLexeme (take n bytes) (drop n bytes)
+  pub longest : IsLongest (take n bytes) (drop n bytes)
   pub is_spelled : is_number (take n bytes) ≡ true
 
-pub number_found : (bytes : List ℕ) (n : ℕ) → IsGapless bytes → begins_number bytes ≡ true → n ≡ prefix_len is_number_byte bytes → NumberFound bytes n
-number_found [] n g h e = absurd cc
-number_found (b ∷ bs) n g h e =
+pub number_found : (bytes : List ℕ) (n : ℕ) → begins_number bytes ≡ true → n ≡ prefix_len is_number_byte bytes → NumberFound bytes n
+number_found [] n h e = absurd cc
+number_found (b ∷ bs) n h e =
     let k : n ≡ suc (prefix_len is_number_byte bs) = e ∙ run_one is_number_byte b bs (number_on b bs h) in
     let begins = front_begins b bs (is_digit b) refl h in
     let all : list_all is_number_byte (b ∷ take (prefix_len is_number_byte bs) bs) ≡ true = rw (number_on b bs h, run_passes is_number_byte bs) refl in
     record {
       within = omega (arith, k, prefix_len-le-length is_number_byte bs);
-      lexeme = made_lexeme n (b ∷ bs) g (rw k (number_longest b (take (prefix_len is_number_byte bs) bs) (drop (prefix_len is_number_byte bs) bs) begins all (run_stops is_number_byte bs)));
+      longest = rw k (number_longest b (take (prefix_len is_number_byte bs) bs) (drop (prefix_len is_number_byte bs) bs) begins all (run_stops is_number_byte bs));
       is_spelled = rw (k, begins, all) refl;
     }
 
-pub number_refused : (bytes : List ℕ) (n : ℕ) (code : Code) → NumberFound bytes n → RefusesNumber (take n bytes) code → Refuses bytes code
-number_refused bytes n Lex f r = no_constant (take n bytes) (drop n bytes) refl (sym (take-append-drop n bytes)) f.lexeme f.is_spelled r
-number_refused bytes n (Limit m) f r = no_type (take n bytes) (drop n bytes) (ap Limit r.0) (sym (take-append-drop n bytes)) f.lexeme f.is_spelled r.1
-number_refused bytes n Directive f r = absurd r
-number_refused bytes n (Profile m) f r = absurd r
-number_refused bytes n Syntax f r = absurd r
-number_refused bytes n (Typing m) f r = absurd r
+pub number_lexeme : (bytes : List ℕ) (n : ℕ) → IsGapless bytes → NumberFound bytes n → takes_sign (take n bytes) (drop n bytes) ≡ false → IsLexeme (take n bytes) (drop n bytes)
+number_lexeme bytes n g f s = made_lexeme n bytes g s f.longest
+
+pub number_refused : (bytes : List ℕ) (n : ℕ) (code : Code) → IsGapless bytes → NumberFound bytes n → takes_sign (take n bytes) (drop n bytes) ≡ false → RefusesNumber (take n bytes) code → Refuses bytes code
+number_refused bytes n Lex g f s r = no_constant (take n bytes) (drop n bytes) refl (sym (take-append-drop n bytes)) (number_lexeme bytes n g f s) f.is_spelled r
+number_refused bytes n (Limit m) g f s r = no_type (take n bytes) (drop n bytes) (ap Limit r.0) (sym (take-append-drop n bytes)) (number_lexeme bytes n g f s) f.is_spelled r.1
+number_refused bytes n Directive g f s r = absurd r
+number_refused bytes n (Profile m) g f s r = absurd r
+number_refused bytes n Syntax g f s r = absurd r
+number_refused bytes n (Typing m) g f s r = absurd r
 
 pub character_found : (bytes : List ℕ) (n v : ℕ) → IsGapless bytes → IsCharacter (take n bytes) v → IsLexeme (take n bytes) (drop n bytes)
-character_found bytes n v g h = made_lexeme n bytes g (character_longest (take n bytes) (drop n bytes) v h)
+character_found bytes n v g h = made_lexeme n bytes g (character_no_sign (take n bytes) (drop n bytes) v h) (character_longest (take n bytes) (drop n bytes) v h)
 
 pub string_found : (bytes v : List ℕ) (n : ℕ) → IsGapless bytes → IsString (take n bytes) v → IsLexeme (take n bytes) (drop n bytes)
-string_found bytes v n g h = made_lexeme n bytes g (string_longest (take n bytes) (drop n bytes) v h)
+string_found bytes v n g h = made_lexeme n bytes g (string_no_sign (take n bytes) (drop n bytes) v h) (string_longest (take n bytes) (drop n bytes) v h)
 
 pub string_too_long : (bytes v : List ℕ) (n : ℕ) → IsGapless bytes → IsString (take n bytes) v → 4095 < length v → Refuses bytes (Limit 6)
 string_too_long bytes v n g h lt = long_string (take n bytes) (drop n bytes) v refl (sym (take-append-drop n bytes)) (string_found bytes v n g h) h lt
@@ -118,6 +156,29 @@ nonempty bytes lt e = omega (arith, ap length e)
 -- nothing begins
 refused : (bytes : List ℕ) → 0 < length bytes → IsGapless bytes → NoLexeme bytes → Refuses bytes Lex
 refused bytes lt g none = nothing refl (nonempty bytes lt) g.no_gap none
+
+-- a number that goes on in C99 is no token
+signed_stuck : (bytes : List ℕ) (n : ℕ) → NumberFound bytes n → takes_sign (take n bytes) (drop n bytes) ≡ true → NoLexeme bytes
+signed_stuck bytes n f s text rest e h =
+    let whole : take n bytes ++ drop n bytes ≡ text ++ rest = take-append-drop n bytes ∙ e in
+    let same : take n bytes ≡ text = longest_once (take n bytes) text (drop n bytes) rest f.longest h.longest whole in
+    let after : drop n bytes ≡ rest = rest_same (take n bytes) text (drop n bytes) rest same whole in
+    let both : takes_sign (take n bytes) (drop n bytes) ≡ takes_sign text rest = ap (λ t. takes_sign t (drop n bytes)) same ∙ ap (takes_sign text) after in
+    true_false (sym s ∙ both ∙ h.no_sign)
+
+some_bytes : (bytes : List ℕ) → begins_number bytes ≡ true → 0 < length bytes
+some_bytes [] h = absurd cc
+some_bytes (b ∷ bytes) h = omega arith
+
+pub number_goes_on : (bytes : List ℕ) (n : ℕ) → IsGapless bytes → begins_number bytes ≡ true → NumberFound bytes n → takes_sign (take n bytes) (drop n bytes) ≡ true → Refuses bytes Lex
+number_goes_on bytes n g h f s = refused bytes (some_bytes bytes h) g (signed_stuck bytes n f s)
+
+-- a trigraph is no token
+trigraph_no_lexeme : (bytes : List ℕ) → opens_trigraph bytes ≡ true → NoLexeme bytes
+trigraph_no_lexeme bytes t text rest e h = true_false (sym t ∙ ap opens_trigraph e ∙ h.no_trigraph)
+
+pub trigraph_refused : (bytes : List ℕ) → 0 < length bytes → NoGap bytes → opens_trigraph bytes ≡ true → Refuses bytes Lex
+trigraph_refused bytes lt none t = nothing refl (nonempty bytes lt) none (trigraph_no_lexeme bytes t)
 
 pub character_absent : (bytes : List ℕ) → 0 < length bytes → IsGapless bytes → get_or bytes 0 0 ≡ 39 → ((text rest : List ℕ) (v : ℕ) → bytes ≡ text ++ rest → IsCharacter text v → ⊥) → Refuses bytes Lex
 character_absent [] lt g q none = absurd (omega arith)
@@ -136,7 +197,7 @@ mark_found bytes n m g d e k longest =
     let text : length (take n bytes) ≡ n = ap length e ∙ sym k in
     let whole : begins_number (take n bytes ++ drop n bytes) ≡ false = rw take-append-drop d in (
       omega (arith, length-take n bytes, text),
-      made_lexeme n bytes g (mark_longest (take n bytes) (drop n bytes) m e whole
+      made_lexeme n bytes g (no_sign_front n bytes (no_digit_front bytes d)) (mark_longest (take n bytes) (drop n bytes) m e whole
           (λ q f. rw text (longest q (subst (λ xs. take (length (mark_bytes q)) xs ≡ mark_bytes q) (take-append-drop n bytes) f)))),
     )
 

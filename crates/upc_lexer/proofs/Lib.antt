@@ -3,14 +3,15 @@ pub mod WordTable
 pub mod MarkTable
 pub mod Values
 pub mod NumberLemmas
+pub mod ScanLemmas
 pub mod GapLemmas
 pub mod StringLemmas
 pub mod MarkHeads
 pub mod TokenHeads
-pub mod FoundLemmas
 pub mod NameLemmas
 pub mod CutLemmas
 pub mod Sorts
 pub mod OneCut
+pub mod FoundLemmas
 pub mod OneList
 pub mod Fitting

@@ -1,68 +1,37 @@
 -- A source is cut in one way.
-use Rattle.std.proofs.Common.{◌≡◌, ℕ, ◌<◌, Bool, true, false, List, [], ◌∷◌, ◌++◌, length, take, append-nil, append_assoc, refl, sym, ap, ◌∙◌, subst, inl, inr, arith}
-use Rattle.std.proofs.Math.Seq.{take-append_seam}
+use Rattle.std.proofs.Common.{◌≡◌, ℕ, ◌<◌, true, false, List, [], ◌∷◌, ◌++◌, length, append-nil, append_assoc, refl, sym, ap, ◌∙◌, subst, inl, inr, arith}
 use Rattle.std.proofs.lemmas.Bool.Decides.{nat_tests}
-use Rattle.std.specs.List.{list_all, prefix_len}
 use Rattle.upc_text.specs.declared.place.Code.{Code}
 use Rattle.upc_text.specs.declared.place.Code.TheVariants.{Lex, Limit}
 use Rattle.upc_lexer.specs.declared.token.TokenKind.{TokenKind}
 use Rattle.upc_lexer.specs.declared.token.TokenKind.TheVariants.{Name, Word, Number, Character, Str, Punct, Pragma}
 use Rattle.upc_lexer.specs.Bytes.{is_blank, is_letter, is_in_line}
-use Rattle.upc_lexer.specs.Gaps.{IsGap, blank, line, block, Closes, StopsAt, opens_comment}
+use Rattle.upc_lexer.specs.Gaps.{IsGap, blank, line, block, opens_comment}
 use Rattle.upc_lexer.specs.Numbers.{HasNoType, IsNoConstant}
 use Rattle.upc_lexer.specs.Strings.{IsString}
-use Rattle.upc_lexer.specs.Tokens.{Piece, gap, lexeme, text_of, joined, begins_number, is_number, IsToken, IsLexeme, IsPlainName, Spells, IsPiece, Cuts, NoLexeme, Refuses, nothing, no_constant, no_type, long_name, long_string}
-use Rattle.upc_lexer.proofs.Lists.{head_is, and_left, fronts, run_is}
+use Rattle.upc_lexer.specs.Tokens.{Piece, gap, lexeme, text_of, joined, begins_number, is_number, IsToken, IsLongest, IsLexeme, IsPlainName, Spells, IsPiece, Cuts, NoLexeme, Refuses, nothing, no_constant, no_type, long_name, long_string}
+use Rattle.upc_lexer.proofs.Lists.{head_is, and_left, fronts}
+use Rattle.upc_lexer.proofs.GapLemmas.{run_same, body_same, blank_no_slash, block_rest}
 use Rattle.upc_lexer.proofs.MarkHeads.{is_mark_head}
 use Rattle.upc_lexer.proofs.TokenHeads.{a_name, a_number, a_character, a_string, a_mark, head, no_token}
 use Rattle.upc_lexer.proofs.Sorts.{Sort, IsSort, of_name, of_number, of_character, of_string, of_mark, sort_once, spelled_sort, string_once, typed_or_not}
 
 -- ---- gaps
 
-run_same : (p : ℕ → Bool) (xs ys zs ws : List ℕ) → list_all p xs ≡ true → StopsAt p ys → list_all p zs ≡ true → StopsAt p ws → xs ++ ys ≡ zs ++ ws → xs ≡ zs
-run_same p xs ys zs ws a b c d e =
-    let n : length xs ≡ length zs = sym (run_is p xs ys a b) ∙ ap (prefix_len p) e ∙ run_is p zs ws c d in
-    sym (take-append_seam xs ys) ∙ ap (take (length xs)) e ∙ ap (λ n. take n (zs ++ ws)) n ∙ take-append_seam zs ws
-
--- one body does not go on after the other
-body_front : (xs ys vs ws more : List ℕ) → (Closes (ys ++ 42 ∷ []) → ⊥) → ys ≡ xs ++ more → 42 ∷ 47 ∷ vs ≡ more ++ 42 ∷ 47 ∷ ws → xs ≡ ys
-body_front xs ys vs ws [] n e f = sym (e ∙ append-nil xs)
-body_front xs ys vs ws (a ∷ []) n e f = absurd (omega (arith, (head_is (head_is f).1).0))
-body_front xs ys vs ws (a ∷ b ∷ more) n e f =
-    let star : 42 ≡ a = (head_is f).0 in
-    let slash : 47 ≡ b = (head_is (head_is f).1).0 in
-    absurd (n (record {
-      before = xs;
-      after = more ++ 42 ∷ [];
-      found = ap (λ t. t ++ 42 ∷ []) e ∙ rw (← star, ← slash) (append_assoc xs (42 ∷ 47 ∷ more) (42 ∷ []) ∙ sym (append_assoc xs (42 ∷ 47 ∷ []) (more ++ 42 ∷ [])));
-    }))
-
-body_same : (xs ys vs ws : List ℕ) → (Closes (xs ++ 42 ∷ []) → ⊥) → (Closes (ys ++ 42 ∷ []) → ⊥) → xs ++ 42 ∷ 47 ∷ vs ≡ ys ++ 42 ∷ 47 ∷ ws → xs ≡ ys
-body_same xs ys vs ws n m e = elim (fronts xs (42 ∷ 47 ∷ vs) ys (42 ∷ 47 ∷ ws) e) [
-  | inl l ↦ body_front xs ys vs ws l.more m l.front l.back
-  | inr l ↦ sym (body_front ys xs ws vs l.more n l.front l.back)
-]
-
-blank_no_slash : (b : ℕ) → is_blank b ≡ true → b ≡ 47 → ⊥
-blank_no_slash b h e = grind (arith, nat_tests)
-
-block_rest : (body rest : List ℕ) → (47 ∷ 42 ∷ body ++ 42 ∷ 47 ∷ []) ++ rest ≡ 47 ∷ 42 ∷ (body ++ 42 ∷ 47 ∷ rest)
-block_rest body rest = ap (λ t. 47 ∷ 42 ∷ t) (append_assoc body (42 ∷ 47 ∷ []) rest)
-
 gap_once : (t s r q : List ℕ) → IsGap t r → IsGap s q → t ++ r ≡ s ++ q → t ≡ s
 gap_once t s r q (blank b x h) (blank c y g) e =
     let f : b ∷ r ≡ c ∷ q = ap (λ u. u ++ r) (sym x) ∙ e ∙ ap (λ u. u ++ q) y in
     x ∙ ap (λ b. b ∷ []) (head_is f).0 ∙ sym y
-gap_once t s r q (blank b x h) (line y f g k) e = absurd (blank_no_slash b h (head_is (ap (λ u. u ++ r) (sym x) ∙ e ∙ ap (λ u. u ++ q) f)).0)
-gap_once t s r q (blank b x h) (block y f g) e = absurd (blank_no_slash b h (head_is (ap (λ u. u ++ r) (sym x) ∙ e ∙ ap (λ u. u ++ q) f)).0)
-gap_once t s r q (line x f g k) (blank b y h) e = absurd (blank_no_slash b h (sym (head_is (ap (λ u. u ++ r) (sym f) ∙ e ∙ ap (λ u. u ++ q) y)).0))
-gap_once t s r q (block x f g) (blank b y h) e = absurd (blank_no_slash b h (sym (head_is (ap (λ u. u ++ r) (sym f) ∙ e ∙ ap (λ u. u ++ q) y)).0))
-gap_once t s r q (line x f g k) (line y h i j) e =
+gap_once t s r q (blank b x h) (line y f g k m) e = absurd (blank_no_slash b h (head_is (ap (λ u. u ++ r) (sym x) ∙ e ∙ ap (λ u. u ++ q) f)).0)
+gap_once t s r q (blank b x h) (block y f g m) e = absurd (blank_no_slash b h (head_is (ap (λ u. u ++ r) (sym x) ∙ e ∙ ap (λ u. u ++ q) f)).0)
+gap_once t s r q (line x f g k m) (blank b y h) e = absurd (blank_no_slash b h (sym (head_is (ap (λ u. u ++ r) (sym f) ∙ e ∙ ap (λ u. u ++ q) y)).0))
+gap_once t s r q (block x f g m) (blank b y h) e = absurd (blank_no_slash b h (sym (head_is (ap (λ u. u ++ r) (sym f) ∙ e ∙ ap (λ u. u ++ q) y)).0))
+gap_once t s r q (line x f g k m) (line y h i j n) e =
     let two = (head_is (head_is (ap (λ u. u ++ r) (sym f) ∙ e ∙ ap (λ u. u ++ q) h)).1).1 in
     f ∙ ap (λ u. 47 ∷ 47 ∷ u) (run_same is_in_line x r y q g k i j two) ∙ sym h
-gap_once t s r q (line x f g k) (block y h i) e = absurd (omega (arith, (head_is (head_is (ap (λ u. u ++ r) (sym f) ∙ e ∙ ap (λ u. u ++ q) h)).1).0))
-gap_once t s r q (block x f g) (line y h i j) e = absurd (omega (arith, (head_is (head_is (ap (λ u. u ++ r) (sym f) ∙ e ∙ ap (λ u. u ++ q) h)).1).0))
-gap_once t s r q (block x f g) (block y h i) e =
+gap_once t s r q (line x f g k m) (block y h i n) e = absurd (omega (arith, (head_is (head_is (ap (λ u. u ++ r) (sym f) ∙ e ∙ ap (λ u. u ++ q) h)).1).0))
+gap_once t s r q (block x f g m) (line y h i j n) e = absurd (omega (arith, (head_is (head_is (ap (λ u. u ++ r) (sym f) ∙ e ∙ ap (λ u. u ++ q) h)).1).0))
+gap_once t s r q (block x f g m) (block y h i n) e =
     let whole : 47 ∷ 42 ∷ (x ++ 42 ∷ 47 ∷ r) ≡ 47 ∷ 42 ∷ (y ++ 42 ∷ 47 ∷ q) = sym (block_rest x r) ∙ ap (λ u. u ++ r) (sym f) ∙ e ∙ ap (λ u. u ++ q) h ∙ block_rest y q in
     f ∙ ap (λ u. 47 ∷ 42 ∷ u ++ 42 ∷ 47 ∷ []) (body_same x y r q g i (head_is (head_is whole).1).1) ∙ sym h
 
@@ -96,20 +65,23 @@ gap_no_lexeme t s r q (blank b x h) g e =
       | a_string v y n ↦ blank_no_34 b h y
       | a_mark m y n ↦ blank_no_mark b h y
     ]
-gap_no_lexeme t s r q (line x f h k) g e = true_false (ap opens_comment (ap (λ u. u ++ r) (sym f) ∙ e) ∙ g.no_comment)
-gap_no_lexeme t s r q (block x f h) g e = true_false (ap opens_comment (ap (λ u. u ++ r) (sym f) ∙ e) ∙ g.no_comment)
+gap_no_lexeme t s r q (line x f h k m) g e = true_false (ap opens_comment (ap (λ u. u ++ r) (sym f) ∙ e) ∙ g.no_comment)
+gap_no_lexeme t s r q (block x f h m) g e = true_false (ap opens_comment (ap (λ u. u ++ r) (sym f) ∙ e) ∙ g.no_comment)
 
-longer : (s t r q more : List ℕ) → IsLexeme s r → IsLexeme t q → t ≡ s ++ more → r ≡ more ++ q → s ≡ t
+longer : (s t r q more : List ℕ) → IsLongest s r → IsLongest t q → t ≡ s ++ more → r ≡ more ++ q → s ≡ t
 longer s t r q [] h g front back = sym (front ∙ append-nil s)
-longer s t r q (m ∷ more) h g front back = absurd (h.longest.most (m ∷ more) q back (omega arith) (subst IsToken front g.longest.spelled))
+longer s t r q (m ∷ more) h g front back = absurd (h.most (m ∷ more) q back (omega arith) (subst IsToken front g.spelled))
 
-pub lexeme_once : (s t r q : List ℕ) → IsLexeme s r → IsLexeme t q → s ++ r ≡ t ++ q → s ≡ t
-lexeme_once s t r q h g e = elim (fronts s r t q e) [
+pub longest_once : (s t r q : List ℕ) → IsLongest s r → IsLongest t q → s ++ r ≡ t ++ q → s ≡ t
+longest_once s t r q h g e = elim (fronts s r t q e) [
   | inl l ↦ longer s t r q l.more h g l.front l.back
   | inr l ↦ sym (longer t s q r l.more g h l.front l.back)
 ]
 
-rest_same : (s t r q : List ℕ) → s ≡ t → s ++ r ≡ t ++ q → r ≡ q
+pub lexeme_once : (s t r q : List ℕ) → IsLexeme s r → IsLexeme t q → s ++ r ≡ t ++ q → s ≡ t
+lexeme_once s t r q h g e = longest_once s t r q h.longest g.longest e
+
+pub rest_same : (s t r q : List ℕ) → s ≡ t → s ++ r ≡ t ++ q → r ≡ q
 rest_same [] [] r q h e = e
 rest_same [] (y ∷ t) r q h e = absurd (omega (arith, ap length h))
 rest_same (x ∷ s) [] r q h e = absurd (omega (arith, ap length h))
@@ -123,8 +95,8 @@ Stuck bytes = (names : List (List ℕ)) (p : Piece) (rest : List ℕ) → bytes 
 
 no_gap_text : (t r : List ℕ) → IsGap t r → t ≡ [] → ⊥
 no_gap_text t r (blank b x h) e = omega (arith, ap length (sym e ∙ x))
-no_gap_text t r (line x f g k) e = omega (arith, ap length (sym e ∙ f))
-no_gap_text t r (block x f g) e = omega (arith, ap length (sym e ∙ f))
+no_gap_text t r (line x f g k m) e = omega (arith, ap length (sym e ∙ f))
+no_gap_text t r (block x f g m) e = omega (arith, ap length (sym e ∙ f))
 
 pub empty_front : (t r : List ℕ) → [] ≡ t ++ r → t ≡ []
 empty_front [] r e = refl

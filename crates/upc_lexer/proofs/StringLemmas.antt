@@ -1,11 +1,11 @@
 -- What a string literal's bytes stand for.
-use Rattle.std.proofs.Common.{◌≡◌, ℕ, ◌+◌, ◌<◌, ◌≤◌, zero, suc, Bool, true, false, eqb, List, [], ◌∷◌, ◌++◌, length, get_or, take, drop, append_assoc, Option, Some, None, refl, sym, ap, ◌∙◌, subst, inl, inr, arith}
+use Rattle.std.proofs.Common.{◌≡◌, ℕ, ◌+◌, ◌<◌, ◌≤◌, zero, suc, Bool, true, false, eqb, List, [], ◌∷◌, ◌++◌, length, get_or, take, drop, append-nil, append_assoc, Option, Some, None, refl, sym, ap, ◌∙◌, subst, inl, inr, arith}
 use Rattle.std.proofs.lemmas.Bool.Decides.{nat_tests}
 use Rattle.std.proofs.Math.Seq.{take-add, take-suc}
 use Rattle.std.proofs.lemmas.List.{take-append-drop}
 use Rattle.std.specs.Option.{option_map, option_and_then}
 use Rattle.upc_lexer.specs.Gaps.{StopsAt}
-use Rattle.upc_lexer.specs.Strings.{escape, is_plain_string, string_value, spelled_at, IsStringBody, IsString}
+use Rattle.upc_lexer.specs.Strings.{escape, is_plain_string, string_value, spelled_at, is_read_otherwise, IsStringBody, IsString}
 use Rattle.upc_lexer.proofs.Lists.{fronts, head_is}
 
 no_plain : (a : ℕ) → eqb a 92 ≡ true → is_plain_string a ≡ false
@@ -166,11 +166,12 @@ no_string at inside value text rest other body st e h =
     ]
 
 -- the string that ends after the bytes that may stand in it
-pub a_string : (at : ℕ) (inside value : List ℕ) → IsStringBody inside value at → at < length inside → get_or inside at 0 ≡ 34 → IsString (34 ∷ take (suc at) inside) value
-a_string at inside value body lt q = record {
+pub a_string : (at : ℕ) (inside value : List ℕ) → IsStringBody inside value at → at < length inside → get_or inside at 0 ≡ 34 → is_read_otherwise (take at inside) ≡ false → IsString (34 ∷ take (suc at) inside) value
+a_string at inside value body lt q so = record {
   inside = take at inside;
   quoted = ap (λ xs. 34 ∷ xs) (take-suc inside at 0 lt ∙ rw q refl);
   spelled = body.value_is;
+  only_so = so;
 }
 
 pub stops_past : (p : ℕ → Bool) (n : ℕ) (xs : List ℕ) → length xs ≤ n → StopsAt p (drop n xs)
@@ -185,14 +186,46 @@ stops_here p zero (x ∷ xs) lt h = h
 stops_here p (suc n) (x ∷ xs) lt h = stops_here p n xs (omega arith) h
 
 -- what the code finds
-pub string_found : (bytes inside value : List ℕ) (at : ℕ) → 1 ≤ length bytes → get_or bytes 0 0 ≡ 34 → inside ≡ drop 1 bytes → IsStringBody inside value at → at < length inside → get_or inside at 0 ≡ 34 → IsString (take (at + 2) bytes) value
-string_found [] inside value at le q r body lt e = absurd (omega arith)
-string_found (b ∷ bytes) inside value at le q r body lt e =
+pub string_found : (bytes inside value : List ℕ) (at : ℕ) → 1 ≤ length bytes → get_or bytes 0 0 ≡ 34 → inside ≡ drop 1 bytes → IsStringBody inside value at → at < length inside → get_or inside at 0 ≡ 34 → is_read_otherwise (take at inside) ≡ false → IsString (take (at + 2) bytes) value
+string_found [] inside value at le q r body lt e so = absurd (omega arith)
+string_found (b ∷ bytes) inside value at le q r body lt e so =
     let k : at + 2 ≡ suc (suc at) = omega arith in
-    rw (k, q, ← r) (a_string at inside value body lt e)
+    rw (k, q, ← r) (a_string at inside value body lt e so)
 
 pub string_absent : (bytes inside value : List ℕ) (at : ℕ) → 1 ≤ length bytes → get_or bytes 0 0 ≡ 34 → inside ≡ drop 1 bytes → IsStringBody inside value at → StopsAt (λ b. eqb b 34) (drop at inside) → (text rest other : List ℕ) → bytes ≡ text ++ rest → IsString text other → ⊥
 string_absent [] inside value at le q r body st text rest other e h = omega arith
 string_absent (b ∷ bytes) inside value at le q r body st text rest other e h =
     let front : 34 ∷ inside ≡ b ∷ bytes = cc in
     no_string at inside value text rest other body st (front ∙ e) h
+
+-- the bytes between the quotes are the only ones that may stand there
+more_inside : (other p r rest : List ℕ) (inside value : List ℕ) (more : List ℕ) → string_value p ≡ Some value → string_value inside ≡ Some other → inside ≡ p ++ more → 34 ∷ r ≡ more ++ 34 ∷ rest → p ≡ inside
+more_inside other p r rest inside value [] v h e f = sym (append-nil p) ∙ sym e
+more_inside other p r rest inside value (m ∷ more) v h e f =
+    let quote : 34 ≡ m = (head_is f).0 in
+    let none : string_value (m ∷ more) ≡ None = subst (λ q. string_value (q ∷ more) ≡ None) quote (quote_no_value more) in
+    absurd (none_of_map value (string_value (m ∷ more)) other none (sym (value_append p (m ∷ more) value v) ∙ ap string_value (sym e) ∙ h))
+
+drop_quote : (at : ℕ) (inside : List ℕ) → at < length inside → get_or inside at 0 ≡ 34 → drop at inside ≡ 34 ∷ drop (suc at) inside
+drop_quote at [] lt q = absurd (omega arith)
+drop_quote zero (x ∷ inside) lt q = rw q refl
+drop_quote (suc at) (x ∷ inside) lt q = drop_quote at inside (omega arith) q
+
+-- a string whose bytes C99 reads in another way is none
+otherwise_here : (at : ℕ) (inside value text rest other : List ℕ) → IsStringBody inside value at → at < length inside → get_or inside at 0 ≡ 34 → is_read_otherwise (take at inside) ≡ true → 34 ∷ inside ≡ text ++ rest → IsString text other → ⊥
+otherwise_here at inside value text rest other body lt q so e h =
+    let whole : 34 ∷ inside ≡ 34 ∷ (h.inside ++ 34 ∷ []) ++ rest = e ∙ ap (λ t. t ++ rest) h.quoted in
+    let same : inside ≡ h.inside ++ 34 ∷ rest = (head_is {x = 34} {y = 34} whole).1 ∙ append_assoc h.inside (34 ∷ []) rest in
+    let parts : take at inside ++ 34 ∷ drop (suc at) inside ≡ h.inside ++ 34 ∷ rest = ap (λ r. take at inside ++ r) (sym (drop_quote at inside lt q)) ∙ take-append-drop at inside ∙ same in
+    let one : take at inside ≡ h.inside = elim (fronts (take at inside) (34 ∷ drop (suc at) inside) h.inside (34 ∷ rest) parts) [
+      | inl l ↦ more_inside other (take at inside) (drop (suc at) inside) rest h.inside value l.more body.value_is h.spelled l.front l.back
+      | inr l ↦ sym (more_inside value h.inside rest (drop (suc at) inside) (take at inside) other l.more h.spelled body.value_is l.front l.back)
+    ] in
+    let f : true ≡ false = sym so ∙ ap is_read_otherwise one ∙ h.only_so in
+    cc
+
+pub string_otherwise : (bytes inside value : List ℕ) (at : ℕ) → 1 ≤ length bytes → get_or bytes 0 0 ≡ 34 → inside ≡ drop 1 bytes → IsStringBody inside value at → at < length inside → get_or inside at 0 ≡ 34 → is_read_otherwise (take at inside) ≡ true → (text rest other : List ℕ) → bytes ≡ text ++ rest → IsString text other → ⊥
+string_otherwise [] inside value at le q r body lt e so text rest other f h = omega arith
+string_otherwise (b ∷ bytes) inside value at le q r body lt e so text rest other f h =
+    let front : 34 ∷ inside ≡ b ∷ bytes = cc in
+    otherwise_here at inside value text rest other body lt e so (front ∙ f) h

@@ -1,4 +1,5 @@
 pub mod Bytes
+pub mod Splices
 pub mod Gaps
 pub mod Words
 pub mod Marks

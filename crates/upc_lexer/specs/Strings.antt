@@ -1,6 +1,8 @@
 -- Character constants and string literals (C99 6.4.4.4, 6.4.5).
-use Rattle.std.specs.Prelude.{◌≡◌, ℕ, Bool, true, not, ◌||◌, ◌&&◌, nat_le, ◌==◌, if◌then◌else◌, List, [], ◌∷◌, ◌++◌}
+use Rattle.std.specs.Prelude.{◌≡◌, ℕ, Bool, true, false, not, ◌||◌, ◌&&◌, nat_le, ◌==◌, if◌then◌else◌}
+use Rattle.std.specs.Prelude.{List, [], ◌∷◌, ◌++◌}
 use Rattle.std.specs.Prelude.{Option, Some, None, option_map, option_and_then, ◌⊎◌, ◌≤◌, length, take, drop}
+use Rattle.upc_lexer.specs.Splices.{has_trigraph}
 
 -- The byte for which an escape stands, by the byte after its `\`, which is one of `n t r a b f v \ ' " ? 0`
 -- (C99 6.4.4.4).
@@ -38,11 +40,29 @@ string_value (a ∷ b ∷ rest) =
     if is_plain_string a then option_map (λ v. a ∷ v) (string_value (b ∷ rest))
     else (if a == 92 then option_and_then (λ c. option_map (λ v. c ∷ v) (string_value rest)) (escape b) else None)
 
+-- At the front are `\0` and an octal digit, which begin a longer octal escape (C99 6.4.4.4).
+abbrev pub opens_octal : List ℕ → Bool
+opens_octal [] = false
+opens_octal (a ∷ []) = false
+opens_octal (a ∷ b ∷ []) = false
+opens_octal (a ∷ b ∷ c ∷ rest) = a == 92 && b == 48 && nat_le 48 c && nat_le c 55
+
+-- Such an escape stands somewhere in the bytes, where each `\` takes the byte after it.
+abbrev pub has_octal : List ℕ → Bool
+has_octal [] = false
+has_octal (a ∷ []) = false
+has_octal (a ∷ b ∷ rest) = opens_octal (a ∷ b ∷ rest) || (if a == 92 then has_octal rest else has_octal (b ∷ rest))
+
+-- C99 reads the bytes between two `"` in another way: by a longer octal escape (C99 6.4.4.4) or a trigraph (5.2.1.1).
+abbrev pub is_read_otherwise : List ℕ → Bool
+is_read_otherwise inside = has_octal inside || has_trigraph inside
+
 -- The text is a string literal of this value (C99 6.4.5).
 pub record IsString (text value : List ℕ) : Type 0 where
   pub inside : List ℕ
   pub quoted : text ≡ 34 ∷ inside ++ 34 ∷ []
   pub spelled : string_value inside ≡ Some value
+  pub only_so : is_read_otherwise inside ≡ false
 
 -- The byte of a string's value that the front of the bytes spells, and with how many bytes; none where it spells none
 -- (C99 6.4.5).

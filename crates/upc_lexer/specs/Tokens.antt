@@ -1,6 +1,6 @@
 -- The tokens of a source (C99 6.4).
-use Rattle.std.specs.Prelude.{◌≡◌, ◌≢◌, ℕ, ◌+◌, ◌<◌, ◌≤◌, Bool, true, false, ◌||◌, ◌&&◌, ◌==◌, List, [], ◌∷◌, ◌++◌}
-use Rattle.std.specs.Prelude.{length, Some, slice_get}
+use Rattle.std.specs.Prelude.{◌≡◌, ◌≢◌, ℕ, ◌+◌, ◌-◌, ◌<◌, ◌≤◌, Bool, true, false, ◌||◌, ◌&&◌, ◌==◌, List, [], ◌∷◌, ◌++◌}
+use Rattle.std.specs.Prelude.{length, Some, slice_get, slice_index_or}
 use Rattle.std.specs.List.{list_all}
 use Rattle.upc_text.specs.declared.place.Code.{Code}
 use Rattle.upc_text.specs.declared.place.Code.TheVariants.{Lex, Limit}
@@ -11,6 +11,7 @@ use Rattle.upc_lexer.specs.declared.token.TokenKind.TheVariants.{Name, Word, Num
 use Rattle.upc_lexer.specs.declared.token.Word.{Word as AWord}
 use Rattle.upc_lexer.specs.declared.token.Punct.{Punct as AMark}
 use Rattle.upc_lexer.specs.Bytes.{is_letter, is_digit, is_name_byte, is_number_byte}
+use Rattle.upc_lexer.specs.Splices.{opens_trigraph}
 use Rattle.upc_lexer.specs.Gaps.{IsGap, NoGap, opens_comment}
 use Rattle.upc_lexer.specs.Words.{word_bytes}
 use Rattle.upc_lexer.specs.Marks.{mark_bytes}
@@ -48,9 +49,19 @@ pub record IsLongest (text rest : List ℕ) : Type 0 where
   pub spelled : IsToken text
   pub most : (more after : List ℕ) → rest ≡ more ++ after → 0 < length more → IsToken (text ++ more) → ⊥
 
--- The text is the token at the front of bytes: the longest there, where no comment begins (C99 6.4).
+-- A number ends in `e` or `E` directly before `+` or `-`: in C99 it goes on with the sign (C99 6.4.8).
+abbrev pub takes_sign : List ℕ → List ℕ → Bool
+takes_sign text rest =
+    is_digit (slice_index_or text 0 0)
+    && (slice_index_or text (length text - 1) 0 == 101 || slice_index_or text (length text - 1) 0 == 69)
+    && (slice_index_or rest 0 0 == 43 || slice_index_or rest 0 0 == 45)
+
+-- The token at the front of these bytes is the longest there, where no comment and no trigraph (C99 5.2.1.1) begins, and
+-- is no number that C99 goes on with (C99 6.4.8).
 pub record IsLexeme (text rest : List ℕ) : Type 0 where
   pub no_comment : opens_comment (text ++ rest) ≡ false
+  pub no_trigraph : opens_trigraph (text ++ rest) ≡ false
+  pub no_sign : takes_sign text rest ≡ false
   pub longest : IsLongest text rest
 
 -- The text is a name and no word (C99 6.4.1, 6.4.2.1).

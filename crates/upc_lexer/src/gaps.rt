@@ -5,13 +5,14 @@ ghost use Rattle.upc_lexer.specs.Bytes.{is_in_line};
 ghost use Rattle.upc_lexer.specs.Gaps.{Closes, IsCommentEnd, FindsGap};
 
 use crate::bytes::{is_blank, is_in_line};
+use crate::splices::{ends_in_splice, has_spliced_end};
 
 /// What stands between tokens at some place.
 pub(crate) enum Gap {
     /// A blank or a comment of so many bytes.
     Taken(usize),
-    /// A comment that nothing closes.
-    Unclosed,
+    /// A comment that nothing closes, or that ends elsewhere without its splices.
+    Refused,
     /// Neither a blank nor a comment.
     Absent,
 }
@@ -43,10 +44,23 @@ pub(crate) fn gap_at(bytes: &[u8]) -> Gap
 {
     match bytes {
         [byte, ..] if is_blank(*byte) => Gap::Taken(1),
-        [b'/', b'/', rest @ ..] => Gap::Taken(2 + line_length(rest)),
+        [b'/', b'/', rest @ ..] => {
+            let length = line_length(rest);
+            if ends_in_splice(&rest[..length]) {
+                Gap::Refused
+            } else {
+                Gap::Taken(2 + length)
+            }
+        }
         [b'/', b'*', rest @ ..] => match comment_length(rest) {
-            Some(length) => Gap::Taken(2 + length),
-            None => Gap::Unclosed,
+            Some(length) => {
+                if has_spliced_end(&rest[..length]) {
+                    Gap::Refused
+                } else {
+                    Gap::Taken(2 + length)
+                }
+            }
+            None => Gap::Refused,
         },
         _ => Gap::Absent,
     }

@@ -2,7 +2,7 @@
 ghost use Rattle.std.specs.Prelude.{◌≡◌, ◌<◌, false, true, length, slice_index, IfOk, IfErr};
 ghost use Rattle.std.specs.List.{prefix_len};
 ghost use Rattle.upc_lexer.specs.Bytes.{is_letter, is_name_byte, is_number_byte};
-ghost use Rattle.upc_lexer.specs.Tokens.{begins_number, Refuses};
+ghost use Rattle.upc_lexer.specs.Tokens.{begins_number, takes_sign, Refuses};
 ghost use Rattle.upc_lexer.specs.Found.{IsGapless, Finds};
 
 use crate::bytes::{is_digit, is_letter, is_name_byte, is_number_byte};
@@ -53,6 +53,18 @@ fn number_length(bytes: &[u8]) -> usize
         .count()
 }
 
+/// A number ends in `e` or `E` directly before a sign.
+fn takes_sign(text: &[u8], rest: &[u8]) -> bool
+    ensures { result ≡ takes_sign text.now rest.now }
+{
+    if text.is_empty() || rest.is_empty() {
+        return false;
+    }
+    is_digit(text[0])
+        && matches!(text[text.len() - 1], b'e' | b'E')
+        && matches!(rest[0], b'+' | b'-')
+}
+
 fn name_at(bytes: &[u8]) -> Result<Found, Code>
     requires some { 0 < length bytes.now }
     requires gapless { IsGapless bytes.now }
@@ -78,7 +90,11 @@ fn number_at(bytes: &[u8]) -> Result<Found, Code>
     ensures err { IfErr result (Refuses bytes.now) }
 {
     let length = number_length(bytes);
-    match number(&bytes[..length]) {
+    let (text, rest) = bytes.split_at(length);
+    if takes_sign(text, rest) {
+        return Err(Code::Lex);
+    }
+    match number(text) {
         Ok((value, kind)) => Ok(Found::Token(TokenKind::Number { value, kind }, length)),
         Err(code) => Err(code),
     }

@@ -11,6 +11,7 @@ use crate::gaps::{Gap, gap_at};
 use crate::lexemes::{Found, lexeme_at};
 use crate::names::Names;
 use crate::places::place_behind;
+use crate::splices::opens_trigraph;
 use crate::token::{Token, TokenKind};
 use std::alloc::Global;
 use upc_text::{Code, OutOfMemory, Place, Refusal, Stop};
@@ -93,17 +94,27 @@ fn step(
 {
     match gap_at(bytes) {
         Gap::Taken(length) => Ok(length),
-        Gap::Unclosed => Err(Stop::Refused(Refusal {
+        Gap::Refused => Err(Stop::Refused(Refusal {
             place,
             code: Code::Lex,
         })),
-        Gap::Absent => take_token(alloc, lexed, bytes, at, place),
+        Gap::Absent => {
+            if opens_trigraph(bytes) {
+                Err(Stop::Refused(Refusal {
+                    place,
+                    code: Code::Lex,
+                }))
+            } else {
+                take_token(alloc, lexed, bytes, at, place)
+            }
+        }
     }
 }
 
 /// The tokens of a source of at most 1,048,576 bytes (C99 6.4).
 ///
-/// A source is refused with `Code::Lex` where no token, blank or comment begins or a number is no constant, with
+/// A source is refused with `Code::Lex` where no token, blank or comment begins that C99 reads so too, or a number is no
+/// constant, with
 /// `Code::Limit(2)` at a constant for which there is no type, and with `Code::Limit(6)` at a name of more than 255
 /// bytes or a string of more than 4,095. The first such place counts. The numbers are in the range of their type.
 pub fn lex(alloc: Global, source: &[u8]) -> Result<Lexed, Stop>

@@ -9,6 +9,7 @@ mod marks;
 mod names;
 mod numbers;
 mod places;
+mod splices;
 mod strings;
 mod token;
 mod words;

@@ -1,8 +1,9 @@
 //! Character constants and string literals (C99 6.4.4.4, 6.4.5).
 ghost use Rattle.std.specs.Prelude.{◌≡◌, IfOk};
 ghost use Rattle.upc_lexer.specs.Strings.{escape, is_plain_character, is_plain_string, spelled_at, IsStringBody};
-ghost use Rattle.upc_lexer.specs.Strings.{FindsCharacter, FindsString};
+ghost use Rattle.upc_lexer.specs.Strings.{opens_octal, has_octal, is_read_otherwise, FindsCharacter, FindsString};
 
+use crate::splices::has_trigraph;
 use std::alloc::Global;
 use upc_text::{OutOfMemory, Text};
 
@@ -71,6 +72,37 @@ fn string_body(alloc: Global, inside: &[u8]) -> Result<(Text, usize), OutOfMemor
     Ok((value.share()?, at))
 }
 
+/// `\0` and an octal digit are at the front.
+fn opens_octal(bytes: &[u8]) -> bool
+    ensures { result ≡ opens_octal bytes.now }
+{
+    match bytes {
+        [a, b, c, ..] => *a == b'\\' && *b == b'0' && b'0' <= *c && *c <= b'7',
+        _ => false,
+    }
+}
+
+/// Such an escape stands somewhere in the bytes, where each `\` takes the byte after it.
+fn has_octal(bytes: &[u8]) -> bool
+    ensures { result ≡ has_octal bytes.now }
+{
+    let mut at = 0;
+    while at < bytes.len() {
+        if opens_octal(&bytes[at..]) {
+            return true;
+        }
+        at += if bytes[at] == b'\\' { 2 } else { 1 };
+    }
+    false
+}
+
+/// C99 reads the bytes between two `"` in another way.
+fn is_read_otherwise(inside: &[u8]) -> bool
+    ensures { result ≡ is_read_otherwise inside.now }
+{
+    has_octal(inside) || has_trigraph(inside)
+}
+
 /// The value of the string literal at the front of the bytes, and how many bytes it takes.
 pub(crate) fn string(alloc: Global, bytes: &[u8]) -> Result<Option<(Text, usize)>, OutOfMemory>
     ensures { IfOk result (FindsString bytes.now) }
@@ -79,7 +111,7 @@ pub(crate) fn string(alloc: Global, bytes: &[u8]) -> Result<Option<(Text, usize)
         return Ok(None);
     };
     let (value, length) = string_body(alloc, inside)?;
-    if length < inside.len() && inside[length] == b'"' {
+    if length < inside.len() && inside[length] == b'"' && !is_read_otherwise(&inside[..length]) {
         Ok(Some((value, length + 2)))
     } else {
         Ok(None)
