@@ -56,8 +56,8 @@ takes_sign text rest =
     && (slice_index_or text (length text - 1) 0 == 101 || slice_index_or text (length text - 1) 0 == 69)
     && (slice_index_or rest 0 0 == 43 || slice_index_or rest 0 0 == 45)
 
--- The token at the front of these bytes is the longest there, where no comment and no trigraph (C99 5.2.1.1) begins, and
--- is no number that C99 goes on with (C99 6.4.8).
+-- The token at the front of these bytes is the longest there, where no comment and no trigraph (C99 5.2.1.1) begins,
+-- and is no number that C99 goes on with (C99 6.4.8).
 pub record IsLexeme (text rest : List ℕ) : Type 0 where
   pub no_comment : opens_comment (text ++ rest) ≡ false
   pub no_trigraph : opens_trigraph (text ++ rest) ≡ false
