@@ -1,5 +1,5 @@
 -- The numbers of an expansion are in the range of their types where those of the source are.
-use Rattle.std.proofs.Common.{◌≡◌, ℕ, zero, suc, Bool, true, false, if◌then◌else◌, List, [], ◌∷◌, ◌++◌, length, map, set, Option, Some, None, option_map, refl, sym, subst, arith}
+use Rattle.std.proofs.Common.{◌≡◌, ℕ, zero, suc, Bool, true, false, if◌then◌else◌, List, [], ◌∷◌, ◌++◌, length, drop, map, set, Option, Some, None, option_map, refl, sym, subst, arith}
 use Rattle.std.specs.Prelude.{flat_map, replicate, codes, ◌||◌, nat_eq}
 use Rattle.std.specs.List.{slice_index_or}
 use Rattle.std.specs.Cmp.Lexicographic.{pointwise}
@@ -11,7 +11,9 @@ use Rattle.upc_lexer.specs.declared.token.NumberKind.TheVariants.{Int}
 use Rattle.upc_lexer.specs.Numbers.{NumberFits, NumbersFit}
 use Rattle.upc_macros.specs.Spelling.{between, is_spelled, are_alike, last_end}
 use Rattle.upc_macros.specs.Replacing.{Macros, body_of, without, plain, or_replaced, replaced, placed}
-use Rattle.upc_macros.specs.Directives.{Effect, nothing, pragma, define, undefine, header_effect, include_effect, macro_name, has_parameters, define_name, define_number, define_effect, undefine_effect, access_effect, pragma_effect, effect_of}
+use Rattle.upc_macros.specs.Directives.{Effect, nothing, pragma, define, undefine, header_effect, include_effect, macro_name, has_parameters, define_name, define_number, define_effect, undefine_effect, access_effect, pragma_effect, effect_of, directive_effect}
+use Rattle.upc_macros.specs.declared.continuation.Reading.TheVariants.{Blank}
+use Rattle.upc_macros.specs.Continuation.{goes_on}
 use Rattle.upc_macros.specs.declared.table.Body.{Body}
 use Rattle.upc_macros.specs.Expansion.{Item, given, bad, onto, lines_of, is_hash, token_items, text_items, effect_items, macros_after, items}
 use Rattle.upc_macros.specs.Lines.{IsExpandedTo}
@@ -153,6 +155,10 @@ effect_fits source macros (t ∷ ts) h =
     (if_fits (is_spelled source t (codes "undef")) (undefine_effect source ts) _ (undefine_fits source ts)
     (if_fits (is_spelled source t (codes "pragma")) (pragma_effect source ts) None (pragma_fits source ts) tt)))
 
+directive_fits : (source : List ℕ) (macros : Macros) (hash : Token) (ts : List Token) → NumbersFit ts → EffectFits (directive_effect source macros hash ts)
+directive_fits source macros hash ts h =
+    if_fits (goes_on Blank (drop (last_end hash ts) source)) None (effect_of source macros ts) tt (effect_fits source macros ts h)
+
 after_fits : (macros : Macros) (effect : Option Effect) → EffectFits effect → MacrosFit macros → MacrosFit (macros_after macros effect)
 after_fits macros None e h = h
 after_fits macros (Some nothing) e h = h
@@ -221,8 +227,8 @@ items_fit : (source : List ℕ) (macros : Macros) (lines : List (List Token)) �
 items_fit source macros [] m h = tt
 items_fit source macros ([] ∷ lines) m h = items_fit source macros lines m h.1
 items_fit source macros ((t ∷ ts) ∷ lines) m h =
-    let effect = effect_of source macros ts in
-    let after = after_fits macros effect (effect_fits source macros ts h.0.1) m in
+    let effect = directive_effect source macros t ts in
+    let after = after_fits macros effect (directive_fits source macros t ts h.0.1) m in
     if_items (is_hash t.kind) (effect_items t ts effect ++ items source (macros_after macros effect) lines) (text_items source macros (t ∷ ts) ++ items source macros lines)
     (items_append (effect_items t ts effect) (items source (macros_after macros effect) lines) (effect_items_fit t ts effect) (items_fit source (macros_after macros effect) lines after h.1))
     (items_append (text_items source macros (t ∷ ts)) (items source macros lines) (text_fits source macros (t ∷ ts) m h.0) (items_fit source macros lines m h.1))

@@ -1,3 +1,4 @@
+pub mod ContinuationLemmas
 pub mod Tables
 pub mod Refusals
 pub mod WalkLemmas

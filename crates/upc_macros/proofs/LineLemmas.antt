@@ -6,7 +6,7 @@ use Rattle.std.specs.Option.{option_map}
 use Rattle.std.proofs.Math.Seq.{drop-cons}
 use Rattle.std.proofs.lemmas.Bool.Decides.{eqb_tells}
 use Rattle.std.proofs.lemmas.Bool.{eqb-true, eq-eqb}
-use Rattle.std.proofs.lemmas.List.{drop_all, drop-drop, get_or-take, get_or-drop}
+use Rattle.std.proofs.lemmas.List.{drop_all, drop-drop, get_or-take, get_or-drop, get_or_default}
 use Rattle.upc_text.specs.declared.faults.Stop.{Stop}
 use Rattle.upc_text.specs.declared.faults.Stop.TheVariants.{Refused, Memory}
 use Rattle.upc_lexer.specs.declared.token.Token.{Token}
@@ -14,12 +14,14 @@ use Rattle.upc_lexer.specs.declared.token.TokenKind.TheVariants.{Pragma}
 use Rattle.upc_macros.specs.declared.table.Body.{Body}
 use Rattle.upc_macros.specs.Spelling.{last_end}
 use Rattle.upc_macros.specs.Replacing.{Macros}
-use Rattle.upc_macros.specs.Directives.{pragma, define, undefine, effect_of}
+use Rattle.upc_macros.specs.Directives.{pragma, define, undefine, effect_of, directive_effect}
+use Rattle.upc_macros.specs.declared.continuation.Reading.TheVariants.{Blank}
+use Rattle.upc_macros.specs.Continuation.{goes_on}
 use Rattle.upc_macros.specs.Expansion.{given, is_hash, onto, lines_of, text_items, effect_items, macros_after, items, expansion, first_refusal, IsExpansion, StopsExpansion}
 use Rattle.upc_macros.specs.Table.{seen, body_tokens, AreBodies, Takes, StopsIn}
 use Rattle.upc_macros.specs.declared.directives.Effect.{Effect as Change}
 use Rattle.upc_macros.specs.Effects.{effect_seen}
-use Rattle.upc_macros.specs.Lines.{behind_hash, line_effect, hash_items, line_items, LineDone, LineStops, IsExpandedTo}
+use Rattle.upc_macros.specs.Lines.{behind_hash, hash_effect, line_effect, hash_items, line_items, LineDone, LineStops, IsExpandedTo}
 use Rattle.upc_macros.proofs.Tables.{map-set}
 use Rattle.upc_macros.proofs.Refusals.{takes_append, stops_later, stops_before}
 use Rattle.upc_macros.proofs.DirectiveLemmas.{part_first, last_is}
@@ -63,13 +65,25 @@ line_is (t ∷ ts) first n lt e h =
 pub items_text : (source : List ℕ) (macros : Macros) (line : List Token) (t : Token) (ts : List Token) (lines : List (List Token)) → line ≡ t ∷ ts → is_hash t.kind ≡ false → items source macros (line ∷ lines) ≡ text_items source macros line ++ items source macros lines
 items_text source macros line t ts lines e h = rw (e, h) refl
 
-pub items_hash : (source : List ℕ) (macros : Macros) (line : List Token) (t : Token) (ts : List Token) (lines : List (List Token)) → line ≡ t ∷ ts → is_hash t.kind ≡ true → items source macros (line ∷ lines) ≡ effect_items t ts (effect_of source macros ts) ++ items source (macros_after macros (effect_of source macros ts)) lines
+pub items_hash : (source : List ℕ) (macros : Macros) (line : List Token) (t : Token) (ts : List Token) (lines : List (List Token)) → line ≡ t ∷ ts → is_hash t.kind ≡ true → items source macros (line ∷ lines) ≡ effect_items t ts (directive_effect source macros t ts) ++ items source (macros_after macros (directive_effect source macros t ts)) lines
 items_hash source macros line t ts lines e h = rw (e, h) refl
+
+-- the effect of a directive, by its `#`
+effect_line : (source : List ℕ) (tokens : List Token) (table : List (Option Body)) (begin end : ℕ) (hash : Token) → begin < length tokens → hash ≡ get_or tokens begin hash → line_effect source tokens table begin end ≡ directive_effect source (seen tokens table) hash (behind_hash tokens begin end)
+effect_line source tokens table begin end hash lt e =
+    ap (hash_effect source tokens table (behind_hash tokens begin end)) (drop-cons tokens begin hash lt ∙ ap (λ t. t ∷ drop (suc begin) tokens) (sym e))
 
 -- the items of a directive, by its `#`
 pub hash_line : (source : List ℕ) (tokens : List Token) (table : List (Option Body)) (begin end : ℕ) (hash : Token) → begin < length tokens → hash ≡ get_or tokens begin hash → line_items source tokens table begin end ≡ effect_items hash (behind_hash tokens begin end) (line_effect source tokens table begin end)
 hash_line source tokens table begin end hash lt e =
     ap (hash_items source tokens table begin end) (drop-cons tokens begin hash lt ∙ ap (λ t. t ∷ drop (suc begin) tokens) (sym e))
+
+items_line : (source : List ℕ) (tokens line : List Token) (table : List (Option Body)) (begin end : ℕ) (t : Token) (lines : List (List Token)) → line ≡ t ∷ behind_hash tokens begin end → is_hash t.kind ≡ true → begin < length tokens → t ≡ get_or tokens begin t → items source (seen tokens table) (line ∷ lines) ≡ line_items source tokens table begin end ++ items source (macros_after (seen tokens table) (line_effect source tokens table begin end)) lines
+items_line source tokens line table begin end t lines e h lt f =
+    let effect = effect_line source tokens table begin end t lt f in
+    items_hash source (seen tokens table) line t (behind_hash tokens begin end) lines e h
+    ∙ ap (λ x. effect_items t (behind_hash tokens begin end) x ++ items source (macros_after (seen tokens table) x) lines) (sym effect)
+    ∙ ap (λ x. x ++ items source (macros_after (seen tokens table) (line_effect source tokens table begin end)) lines) (sym (hash_line source tokens table begin end t lt f))
 
 -- the end of the last token of a line
 pub line_end : (tokens : List Token) (begin end : ℕ) (hash last : Token) → begin < end → end ≤ length tokens → hash ≡ get_or tokens begin hash → last ≡ get_or tokens (end - 1) last → last_end hash (behind_hash tokens begin end) ≡ last.end
@@ -96,7 +110,7 @@ pub hash_done : (source : List ℕ) (tokens line : List Token) (table later : Li
 hash_done source tokens line table later old new begin end t e h lt f same bodies macros taken = record {
   its = line_items source tokens table begin end;
   taken = taken;
-  items_are = λ lines. items_hash source (seen tokens table) line t (behind_hash tokens begin end) lines e h ∙ ap (λ x. x ++ items source (macros_after (seen tokens table) (line_effect source tokens table begin end)) lines) (sym (hash_line source tokens table begin end t lt f)) ∙ ap (λ m. line_items source tokens table begin end ++ items source m lines) (sym macros);
+  items_are = λ lines. items_line source tokens line table begin end t lines e h lt f ∙ ap (λ m. line_items source tokens table begin end ++ items source m lines) (sym macros);
   same_length = same;
   bodies = bodies;
 }
@@ -107,8 +121,7 @@ text_stopped source tokens line table old stop t ts e h s lines =
 
 pub hash_stopped : (source : List ℕ) (tokens line : List Token) (table : List (Option Body)) (old : List Token) (stop : Stop) (begin end : ℕ) (t : Token) → line ≡ t ∷ behind_hash tokens begin end → is_hash t.kind ≡ true → begin < length tokens → t ≡ get_or tokens begin t → StopsIn (length old) (line_items source tokens table begin end) stop → LineStops source tokens line table old stop
 hash_stopped source tokens line table old stop begin end t e h lt f s lines =
-    let its = subst (λ l. StopsIn (length old) l stop) (hash_line source tokens table begin end t lt f) s in
-    subst (λ l. StopsIn (length old) l stop) (sym (items_hash source (seen tokens table) line t (behind_hash tokens begin end) lines e h)) (stops_before (length old) _ _ stop its)
+    subst (λ l. StopsIn (length old) l stop) (sym (items_line source tokens line table begin end t lines e h lt f)) (stops_before (length old) _ _ stop s)
 
 pub text_done_if : {T E : Type 0} (r : Result T E) (source : List ℕ) (tokens line : List Token) (table later : List (Option Body)) (old new : List Token) (t : Token) (ts : List Token) → line ≡ t ∷ ts → is_hash t.kind ≡ false → AreBodies tokens table → OnOk r (later ≡ table) → OnOk r (Takes old new (text_items source (seen tokens table) line)) → OnOk r (LineDone source tokens line table later old new)
 text_done_if (Ok x) source tokens line table later old new t ts e h bodies a b = text_done source tokens line table later old new t ts e h bodies a b
@@ -176,8 +189,8 @@ finish source tokens names at table out h le =
     }
 
 -- the effect that the code found is the line's
-pub effect_is : (source : List ℕ) (tokens : List Token) (table shown : List (Option Body)) (begin end : ℕ) (e f : Change) → shown ≡ table → e ≡ f → Some (effect_seen tokens e) ≡ effect_of source (seen tokens shown) (behind_hash tokens begin end) → line_effect source tokens table begin end ≡ Some (effect_seen tokens f)
-effect_is source tokens table shown begin end e f s h g = ap (λ t. effect_of source (seen tokens t) (behind_hash tokens begin end)) (sym s) ∙ sym g ∙ ap (λ x. Some (effect_seen tokens x)) h
+pub effect_is : (source : List ℕ) (tokens : List Token) (table shown : List (Option Body)) (begin end : ℕ) (e f : Change) → shown ≡ table → e ≡ f → Some (effect_seen tokens e) ≡ line_effect source tokens shown begin end → line_effect source tokens table begin end ≡ Some (effect_seen tokens f)
+effect_is source tokens table shown begin end e f s h g = ap (λ t. line_effect source tokens t begin end) (sym s) ∙ sym g ∙ ap (λ x. Some (effect_seen tokens x)) h
 
 pub pragma_items : (source : List ℕ) (tokens : List Token) (table : List (Option Body)) (begin end : ℕ) (hash last : Token) (strict : Bool) → begin < end → end ≤ length tokens → hash ≡ get_or tokens begin hash → last ≡ get_or tokens (end - 1) last → line_effect source tokens table begin end ≡ Some (pragma strict) → given (record { kind = Pragma strict; start = hash.start; end = (get_or tokens (end - 1) last).end; place = hash.place }) ∷ [] ≡ line_items source tokens table begin end
 pragma_items source tokens table begin end hash last strict lt le e f g =
@@ -190,3 +203,12 @@ define_macros source tokens table begin end n b g = map-set (option_map (body_to
 
 pub undefine_macros : (source : List ℕ) (tokens : List Token) (table : List (Option Body)) (begin end n : ℕ) → line_effect source tokens table begin end ≡ Some (undefine n) → seen tokens (set table n None) ≡ macros_after (seen tokens table) (line_effect source tokens table begin end)
 undefine_macros source tokens table begin end n g = map-set (option_map (body_tokens tokens)) table n None ∙ ap (macros_after (seen tokens table)) (sym g)
+
+-- a directive that goes on after its line, and one that does not
+pub effect_by : (source : List ℕ) (tokens : List Token) (table : List (Option Body)) (begin end : ℕ) (last : Token) (b : Bool) → begin < end → end ≤ length tokens → last ≡ get_or tokens (end - 1) last → b ≡ goes_on Blank (drop last.end source) → line_effect source tokens table begin end ≡ cond b None (effect_of source (seen tokens table) (behind_hash tokens begin end))
+effect_by source tokens table begin end last b lt le f g =
+    let hash : Token = get_or tokens begin last in
+    let small : begin < length tokens = omega (arith, lt, le) in
+    let first : hash ≡ get_or tokens begin hash = get_or_default tokens begin last hash small in
+    let found : b ≡ goes_on Blank (drop (last_end hash (behind_hash tokens begin end)) source) = g ∙ ap (λ n. goes_on Blank (drop n source)) (sym (line_end tokens begin end hash last lt le first f)) in
+    effect_line source tokens table begin end hash small first ∙ ap (λ x. cond x None (effect_of source (seen tokens table) (behind_hash tokens begin end))) (sym found)

@@ -1,6 +1,6 @@
 -- Directives (C99 6.10, without conditions and macros with parameters; UPC 6.7, 7.1).
 use Rattle.std.specs.Prelude.{ℕ, Bool, true, false, ◌||◌, ◌&&◌, ◌==◌, List, [], ◌∷◌, Option, Some, None, option_map}
-use Rattle.std.specs.Prelude.{slice_index_or, codes, if◌then◌else◌, nat_eq}
+use Rattle.std.specs.Prelude.{slice_index_or, drop, codes, if◌then◌else◌, nat_eq}
 use Rattle.std.specs.Cmp.Lexicographic.{pointwise}
 use Rattle.upc_lexer.specs.declared.token.Token.{Token}
 use Rattle.upc_lexer.specs.declared.token.TokenKind.{TokenKind}
@@ -8,6 +8,8 @@ use Rattle.upc_lexer.specs.declared.token.TokenKind.TheVariants.{Punct}
 use Rattle.upc_lexer.specs.declared.token.Punct.TheVariants.{LParen}
 use Rattle.upc_macros.specs.Spelling.{between, is_spelled, are_alike, last_end}
 use Rattle.upc_macros.specs.Replacing.{Macros, name_number}
+use Rattle.upc_macros.specs.declared.continuation.Reading.TheVariants.{Blank}
+use Rattle.upc_macros.specs.Continuation.{goes_on}
 
 -- What a directive does (C99 6.10; UPC 6.7, 7.1).
 pub data Effect : Type 0 where
@@ -96,3 +98,9 @@ effect_of source macros (t ∷ ts) =
     if is_spelled source t (codes "define") then define_effect source macros ts else (
     if is_spelled source t (codes "undef") then undefine_effect source ts else (
     if is_spelled source t (codes "pragma") then pragma_effect source ts else None)))
+
+-- What the directive of this `#` and of the tokens behind it does: nothing is known where they are none, or where C99
+-- goes on with it past a comment that its line does not end (C99 5.1.1.2).
+abbrev pub directive_effect : List ℕ → Macros → Token → List Token → Option Effect
+directive_effect source macros hash ts =
+    if goes_on Blank (drop (last_end hash ts) source) then None else effect_of source macros ts

@@ -16,7 +16,7 @@ use Rattle.upc_lexer.specs.declared.token.Word.TheVariants.{Complex, Imaginary}
 use Rattle.upc_lexer.specs.declared.token.Punct.TheVariants.{Hash}
 use Rattle.upc_macros.specs.Spelling.{last_end}
 use Rattle.upc_macros.specs.Replacing.{Macros, replaced, placed}
-use Rattle.upc_macros.specs.Directives.{Effect, pragma, define, undefine, effect_of}
+use Rattle.upc_macros.specs.Directives.{Effect, pragma, define, undefine, directive_effect}
 use Rattle.std.specs.Option.{option_or}
 
 -- A token put before lines: into the first of them if it is of that line, else as a line of its own (C99 6.10).
@@ -80,8 +80,8 @@ abbrev pub items : List ℕ → Macros → List (List Token) → List Item
 items source macros [] = []
 items source macros ([] ∷ lines) = items source macros lines
 items source macros ((t ∷ ts) ∷ lines) =
-    if is_hash t.kind then effect_items t ts (effect_of source macros ts)
-    ++ items source (macros_after macros (effect_of source macros ts)) lines
+    if is_hash t.kind then effect_items t ts (directive_effect source macros t ts)
+    ++ items source (macros_after macros (directive_effect source macros t ts)) lines
     else text_items source macros (t ∷ ts) ++ items source macros lines
 
 -- What the tokens of a source become, where at first no name is a macro (C99 6.10).

@@ -1,8 +1,8 @@
 -- A directive in the code: it has the tokens from one index up to another.
-use Rattle.std.specs.Prelude.{◌≡◌, ℕ, ◌+◌, ◌-◌, ◌≤◌, List, [], ◌∷◌, ◌++◌, Option, length, take, drop}
+use Rattle.std.specs.Prelude.{◌≡◌, ℕ, ◌+◌, ◌-◌, ◌≤◌, List, [], ◌∷◌, ◌++◌, Option, None, length, take, drop}
 use Rattle.upc_lexer.specs.declared.token.Token.{Token}
 use Rattle.upc_macros.specs.declared.table.Body.{Body}
-use Rattle.upc_macros.specs.Directives.{Effect, effect_of}
+use Rattle.upc_macros.specs.Directives.{Effect, directive_effect}
 use Rattle.upc_text.specs.declared.faults.Stop.{Stop}
 use Rattle.upc_macros.specs.Expansion.{Item, effect_items, items, lines_of, expansion}
 use Rattle.upc_macros.specs.Table.{seen, AreBodies, Takes, StopsIn}
@@ -11,9 +11,15 @@ use Rattle.upc_macros.specs.Table.{seen, AreBodies, Takes, StopsIn}
 abbrev pub behind_hash : List Token → ℕ → ℕ → List Token
 behind_hash tokens begin end = take (end - (begin + 1)) (drop (begin + 1) tokens)
 
+-- What a directive does, by its `#`, which is the first of these tokens, and the tokens after it (C99 6.10).
+abbrev pub hash_effect : List ℕ → List Token → List (Option Body) → List Token → List Token → Option Effect
+hash_effect source tokens table behind [] = None
+hash_effect source tokens table behind (hash ∷ rest) = directive_effect source (seen tokens table) hash behind
+
 -- What the directive of a line does, by the numbers of the line's tokens (C99 6.10).
 abbrev pub line_effect : List ℕ → List Token → List (Option Body) → ℕ → ℕ → Option Effect
-line_effect source tokens table begin end = effect_of source (seen tokens table) (behind_hash tokens begin end)
+line_effect source tokens table begin end =
+    hash_effect source tokens table (behind_hash tokens begin end) (drop begin tokens)
 
 -- What the line of a directive becomes, where its tokens from the `#` on are given (C99 6.10).
 abbrev pub hash_items : List ℕ → List Token → List (Option Body) → ℕ → ℕ → List Token → List Item

@@ -7,8 +7,10 @@ ghost use Rattle.upc_macros.specs.Directives.{header_effect, include_effect, mac
 ghost use Rattle.upc_macros.specs.Directives.{define_effect, define_name, undefine_effect, access_effect};
 ghost use Rattle.upc_macros.specs.Directives.{pragma_effect, effect_of};
 ghost use Rattle.upc_macros.specs.Effects.{effect_seen, IsChange, IsKeyword};
+ghost use Rattle.upc_macros.specs.Lines.{line_effect};
 ghost use Rattle.upc_macros.specs.Table.{seen, AreInOrder, AreOrdered, AreBodies, IsBody, body_tokens};
 
+use crate::continuation::goes_on;
 use crate::spelling::spelling;
 use crate::table::Body;
 use upc_lexer::{Punct, Token, TokenKind};
@@ -246,8 +248,8 @@ fn first_word(source: &[u8], token: &Token) -> Keyword
     }
 }
 
-/// What the directive does whose tokens after the `#` are those from `begin` up to `end`: `None` if it is none.
-pub(crate) fn effect_of(
+/// What the tokens after a `#` do, from `begin` up to `end`: `None` if they are no directive.
+fn effect_of(
     source: &[u8],
     tokens: &[Token],
     macros: &[Option<Body>],
@@ -274,4 +276,28 @@ pub(crate) fn effect_of(
         Keyword::Pragma => pragma_effect(source, line),
         Keyword::Other => None,
     }
+}
+
+/// What the directive does whose `#` has the index `begin`, and whose tokens end before `end`: `None` if it is none, or
+/// if C99 goes on with it after its line.
+pub(crate) fn directive_effect(
+    source: &[u8],
+    tokens: &[Token],
+    macros: &[Option<Body>],
+    begin: usize,
+    end: usize,
+) -> Option<Effect>
+    requires tokens { AreInOrder (length source.now) (length macros.now) tokens.now }
+    requires bodies { AreBodies tokens.now macros.now }
+    requires forward { begin < end }
+    requires within { end ≤ length tokens.now }
+    ensures effect { option_map (effect_seen tokens.now) result
+        ≡ line_effect source.now tokens.now macros.now begin end }
+    ensures within { IfSome result (IsChange tokens.now (length macros.now)) }
+{
+    let last = &tokens[end - 1];
+    if goes_on(&source[last.end as usize..]) {
+        return None;
+    }
+    effect_of(source, tokens, macros, begin + 1, end)
 }

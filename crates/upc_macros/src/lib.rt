@@ -1,6 +1,7 @@
 //! Directives, and the replacement of macros (C99 6.10).
 #![tactic(auto)]
 
+mod continuation;
 mod directives;
 mod known;
 mod lines;

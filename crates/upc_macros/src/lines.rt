@@ -10,7 +10,7 @@ ghost use Rattle.upc_macros.specs.Lines.{line_effect, line_items, LineDone, Line
 ghost use Rattle.upc_macros.specs.Table.{seen, AreInOrder, AreBodies, Takes, StopsIn};
 ghost use Rattle.upc_macros.specs.Known.{AreKnown};
 
-use crate::directives::{Effect, effect_of};
+use crate::directives::{Effect, directive_effect};
 use crate::known::Known;
 use crate::output::emit;
 use crate::table::Body;
@@ -89,7 +89,7 @@ fn directive_line(
 {
     let hash = &tokens[begin];
     let place = hash.place;
-    match effect_of(source, tokens, macros.as_slice(), begin + 1, end) {
+    match directive_effect(source, tokens, macros.as_slice(), begin, end) {
         None => Err(Stop::Refused(Refusal {
             place,
             code: Code::Directive,
