@@ -40,7 +40,7 @@ fn comes_to(alloc: Global, source: &str, want: &str) -> Result<bool, Fail> {
 
 // A source, and its tokens or its refusal. A constant has the smallest type in the list for its base and suffix
 // (C99 6.4.4.1).
-const SOURCES: [(&str, &str); 57] = [
+const SOURCES: [(&str, &str); 93] = [
     ("0", "0 Int "),
     ("2147483647", "2147483647 Int "),
     ("2147483648", "2147483648 Long "),
@@ -122,6 +122,52 @@ const SOURCES: [(&str, &str); 57] = [
     ),
     ("0x10000000000000000", "1:1 Limit(2)"),
     ("@ 9223372036854775808", "1:1 Lex"),
+    // A longer octal escape (C99 6.4.4.4).
+    ("x \"\\00\"", "1:3 Lex"),
+    ("\"a\\07\"", "1:1 Lex"),
+    ("'\\01'", "1:1 Lex"),
+    ("\"\\08\"", "Str(Text { bytes: [0, 56] }) "),
+    (
+        "\"\\0\"\"1\"",
+        "Str(Text { bytes: [0] }) Str(Text { bytes: [49] }) ",
+    ),
+    ("\"\\\\01\"", "Str(Text { bytes: [92, 48, 49] }) "),
+    // Trigraphs (C99 5.2.1.1).
+    ("x \"??=\"", "1:3 Lex"),
+    ("\"??/\"", "1:1 Lex"),
+    ("\"a??'\"", "1:1 Lex"),
+    ("\"\\??>\"", "1:1 Lex"),
+    ("a??(", "1:2 Lex"),
+    ("??=", "1:1 Lex"),
+    ("? ??-", "1:3 Lex"),
+    ("???!", "1:2 Lex"),
+    (
+        "\"??\" \"??:\"",
+        "Str(Text { bytes: [63, 63] }) Str(Text { bytes: [63, 63, 58] }) ",
+    ),
+    ("?? '?'", "Punct(Question) Punct(Question) Character(63) "),
+    ("/*??(*/ //??=", ""),
+    // Line splices in comments (C99 5.1.1.2).
+    ("x // y\\\nz", "1:3 Lex"),
+    ("//\\", "1:1 Lex"),
+    ("//\\\r\n", "1:1 Lex"),
+    ("//??/\n", "1:1 Lex"),
+    ("//??/\r", "1:1 Lex"),
+    ("//?/\nx", "Name(0) "),
+    ("//\\ \nx", "Name(0) "),
+    ("x /**\\\n/", "1:3 Lex"),
+    ("/* *\\\n/ x */", "1:1 Lex"),
+    ("/* *\\\r\n/ x */", "1:1 Lex"),
+    ("/* *??/\n/ x */", "1:1 Lex"),
+    ("/* *??/\r\n/ x */", "1:1 Lex"),
+    ("/* *\\\n\\\n/ x */", "1:1 Lex"),
+    ("/*\\\n/ x */y", "Name(0) "),
+    ("/* *\\\n * \\\n/ ??/\n*/y", "Name(0) "),
+    // A sign after an exponent's letter (C99 6.4.8).
+    ("0xe+1", "1:1 Lex"),
+    ("x 0X1E-", "1:3 Lex"),
+    ("0xe +1", "14 Int Punct(Plus) 1 Int "),
+    ("0xf+0xE", "15 Int Punct(Plus) 14 Int "),
 ];
 
 #[test]

@@ -70,7 +70,7 @@ fn comes_to(alloc: Global, source: &str, want: &str) -> Result<bool, Fail> {
 }
 
 // A source, and its tokens after expansion or its refusal.
-const SOURCES: [(&str, &str); 48] = [
+const SOURCES: [(&str, &str); 57] = [
     (
         "#define N 5\nint main(void){return N*2;}",
         "int main ( void ) { return 5 * 2 ; } ",
@@ -135,6 +135,16 @@ const SOURCES: [(&str, &str); 48] = [
     ("_Imaginary", "1:1 Profile(15)"),
     ("union\n#if", "1:1 Profile(11)"),
     ("#if\nunion", "1:1 Directive"),
+    // A directive goes on past a comment (C99 5.1.1.2).
+    ("#define X 1 /*\n*/ 2\nX", "1:1 Directive"),
+    ("x\n#define X /*\n*/ /*\n*//**/1", "2:1 Directive"),
+    ("# /*\n*/ define X", "1:1 Directive"),
+    ("#undef X /*\n*/ #undef X", "1:1 Directive"),
+    ("#pragma omp /*\n*//", "1:1 Directive"),
+    ("#define X 1 /*\n*/\nX", "1 "),
+    ("#define X 1 /*\n* /**/ // 2\nX", "1 "),
+    ("#define X 1 /*\n*/ /*\n\n*/", ""),
+    ("#define X 1 // /*\nX /*\n*/ X", "1 1 "),
 ];
 
 #[test]
