@@ -1,0 +1,5 @@
+int main(void) {
+  /* one *\
+/ return 1; /* two */
+  return 0;
+}

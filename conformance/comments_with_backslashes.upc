@@ -1,0 +1,5 @@
+/*************\
+ * A box, \  *
+\*************/
+// a \ and ??/ before the end
+int main(void) { return 0; }

@@ -1,0 +1,5 @@
+int main(void) {
+  // is it so??/
+  return 1;
+  return 0;
+}

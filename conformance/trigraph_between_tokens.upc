@@ -1,0 +1,2 @@
+int a??(4??);
+int main(void) { return 0; }
