@@ -41,8 +41,8 @@ use Rattle.walk_state.specs.Known.{refer, close_struct, open_struct, is_again}
 abbrev pub constantly : Setting → k.Expr → Walk Value
 constantly ξ a = andthen (judge ξ (place_of a) (n.Constantly (attr_of a))) (λ u. give (attr_of a).constant)
 
--- Specifiers end: those that form no type break rule 4 there, before any rule that asks for their type. The declaration
--- that they stand in goes on, so nothing is counted yet (C99 6.7.2).
+-- Specifiers end: those that form no type, or whose qualifiers do not go together, break rule 4 there, before any rule
+-- that asks for their type. The declaration that they stand in goes on, so nothing is counted yet (C99 6.7.2).
 unfoldable pub end_specifiers : Setting → Place → Specified → Walk (Unit {0})
 end_specifiers ξ at p s = record {
   seen = record { at = at; facts = facts_in ξ s; node = n.Specifies (forms_type p) } ∷ [];

@@ -202,15 +202,15 @@ abbrev pub is_formed : Option Base → Bool
 is_formed None = false
 is_formed (Some b) = true
 
--- The specifiers form a type, whatever qualifiers are among them (C99 6.7.2).
+-- The specifiers form a type, and their qualifiers go together (C99 6.7.2, 6.7.3, UPC 6.5.1): this is known where they
+-- end.
 abbrev pub forms_type : Specified → Bool
-forms_type s = is_formed (specified_base s)
+forms_type s = is_formed (specified_base s) && quals_fit s.quals
 
--- The specifiers form a type, their qualifiers go together, and `static` stands once at most, and only where it may
+-- The specifiers form a type, and their qualifiers go together; `static` stands once at most, and only where it may
 -- (C99 6.7.1 to 6.7.3, UPC 6.5.1).
 abbrev pub specifiers_form : Bool → Specified → Bool
-specifiers_form static s =
-    forms_type s && quals_fit s.quals && nat_le (count Static s.words) (if static then 1 else 0)
+specifiers_form static s = forms_type s && nat_le (count Static s.words) (if static then 1 else 0)
 
 -- ---- what specifiers, pointers and sizes make
 

@@ -154,11 +154,11 @@ pub fn specified_base(found: &Specified) -> Option<Base>
     base_of_parts(found.words.as_slice(), found.structs.as_slice())
 }
 
-/// Whether specifiers form a type, whatever qualifiers are among them.
+/// Whether specifiers form a type, and their qualifiers go together.
 pub fn forms_type(found: &Specified) -> bool
     ensures { result ≡ pure.forms_type (view_specified found.now) }
 {
-    specified_base(found).is_some()
+    specified_base(found).is_some() && quals_fit(&found.quals)
 }
 
 /// Whether specifiers form a type, and the rest fits: `static` stands where it may.
@@ -166,9 +166,7 @@ pub fn specifiers_form(may_be_static: bool, found: &Specified) -> bool
     ensures { result ≡ pure.specifiers_form may_be_static (view_specified found.now) }
 {
     let most = if may_be_static { 1 } else { 0 };
-    forms_type(found)
-        && quals_fit(&found.quals)
-        && count(TypeWord::Static, found.words.as_slice()) <= most
+    forms_type(found) && count(TypeWord::Static, found.words.as_slice()) <= most
 }
 
 /// The block size that a constant says, 1 where it is none.
