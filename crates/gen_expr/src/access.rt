@@ -11,7 +11,7 @@ use crate::operators::{put_advance, put_binary};
 use crate::put::{put_cast, put_load, put_push, put_save, put_stack, put_value};
 use crate::source::Source;
 use block_layout::Kind;
-use code_types::{cell_kind, conversion, is_strict};
+use meaning_types::{cell_kind, conversion, is_strict};
 use integers::BinOp;
 use stack_code::{Instr, StackWork, ValueWork};
 use typed_tree::StepOperator;

@@ -19,9 +19,9 @@ ghost use Rattle.gen_expr.specs.ViewSource.{view_source};
 
 use crate::put::put;
 use crate::source::Source;
-use code_types::{conversion, parameter_conversion, promotion, target_of};
-use program_opening::{element_shape, number_among};
-use rule_checks::calls::{call_parameters, is_allocation};
+use meaning_types::{conversion, parameter_conversion, promotion, target_of};
+use typed_tree_opening::{element_shape, number_among};
+use typing_rules_checks::calls::{call_parameters, is_allocation};
 use stack_code::{CallWork, Instr, Operation, ThreadWork};
 use std::alloc::Global;
 use thread_steps::CastTo;

@@ -22,7 +22,7 @@ use crate::operators::{put_binary, put_unary};
 use crate::places::{dimension, inner_place, put_constant, put_nothing};
 use crate::put::{put_cast, put_stack, put_value};
 use crate::source::Source;
-use code_types::{conversion, integer_of, member_offset, target_of, target_offset};
+use meaning_types::{conversion, integer_of, member_offset, target_of, target_offset};
 use stack_code::{Instr, StackWork, ValueWork};
 use std::alloc::Global;
 use thread_steps::CastTo;

@@ -19,7 +19,7 @@ use crate::put::{put_all, put_enter, put_leave};
 use crate::shapes::push_block_shapes;
 use crate::values::value_of;
 use block_layout::Kind;
-use code_types::integer_of;
+use meaning_types::integer_of;
 use gen_expr::{Source, put_cast, put_jump, put_stack, put_value_code};
 use stack_code::{Instr, Jump, Operation, StackWork};
 use thread_steps::CastTo;

@@ -19,7 +19,7 @@ use crate::shapes::{push_block_shapes, push_type_shapes};
 use crate::standing::Standing;
 use crate::statements::{items_of, put_statement};
 use block_layout::Kind;
-use code_types::{cell_kind, is_strict};
+use meaning_types::{cell_kind, is_strict};
 use gen_expr::{Source, put_push};
 use stack_code::{CallWork, CellAccess, Instr, Operation};
 use std::alloc::Global;

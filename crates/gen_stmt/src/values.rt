@@ -8,7 +8,7 @@ ghost use Rattle.gen_expr.specs.Codes.{value_code};
 ghost use Rattle.gen_expr.specs.ViewSource.{view_source};
 ghost use Rattle.gen_stmt.specs.Codes as pure;
 
-use code_types::conversion;
+use meaning_types::conversion;
 use gen_expr::{Source, put_cast, put_push, put_stack, put_value_code};
 use stack_code::{Instr, StackWork};
 use std::alloc::Global;

@@ -15,8 +15,8 @@ use Rattle.stack_code.specs.Kept.{IsCode}
 use Rattle.serial_core.specs.Sources.{HasOutcome}
 use Rattle.gen_stmt.specs.Meanings.{MeansProgram}
 use Rattle.gen_stmt.specs.Names.{NamesOnly}
-use Rattle.code_actions.specs.Asking.{AsksWell}
-use Rattle.code_actions.proofs.Asking.{asks_well}
+use Rattle.stack_code_laws.specs.Asking.{AsksWell}
+use Rattle.stack_code_laws.proofs.Asking.{asks_well}
 use Rattle.serial_core.specs.declared.limits.Limits.{Limits}
 use Rattle.serial_core.specs.Sources.{Outcomes, IsSource, HasOutcomes}
 use Rattle.serial_core.specs.Sources as serial

@@ -6,16 +6,16 @@ use Rattle.hex.specs.Hex.{IsBytes}
 use Rattle.hex.specs.Hex.{IsBytes}
 use Rattle.upc_values.specs.declared.action.Action.{Action}
 use Rattle.upc_values.specs.declared.action.Action.TheVariants as action
-use Rattle.record_text.specs.Words.{Text, loc_text, pointer_text, scalar_text, mark_text, home_text, strict_text}
-use Rattle.record_text.specs.Words.{hex_text, action_words}
-use Rattle.record_parts.specs.Bounds.{most_u8, most_u32, most_u64, most_i32}
+use Rattle.run_recorder_text.specs.Words.{Text, loc_text, pointer_text, scalar_text, mark_text, home_text, strict_text}
+use Rattle.run_recorder_text.specs.Words.{hex_text, action_words}
+use Rattle.run_recorder_parts.specs.Bounds.{most_u8, most_u32, most_u64, most_i32}
 use Rattle.run_recorder.specs.Ranges.{IsWithin, FitsLoc, FitsPointer}
 use Rattle.run_recorder.specs.Ranges.{FitsScalar, FitsMark, FitsHome, FitsAction}
-use Rattle.record_parts.specs.code.Readers.{Reader, give, field, many, each, number_of, int_of}
-use Rattle.record_parts.specs.code.Values.{word32, word64, signed32, loc_of, pointer_of, scalar_of, mark_of, home_of}
-use Rattle.record_parts.specs.code.Values.{strict_of, hex_of, read_of, write_of, marked_of, locked_of, alloc_of}
-use Rattle.record_parts.specs.code.Values.{free_of, meet_of, print_of, exit_of, action_table, action_of}
-use Rattle.record_parts.proofs.Bytes.{in_word, EachPasses, in_word_digits}
+use Rattle.run_recorder_parts.specs.code.Readers.{Reader, give, field, many, each, number_of, int_of}
+use Rattle.run_recorder_parts.specs.code.Values.{word32, word64, signed32, loc_of, pointer_of, scalar_of, mark_of, home_of}
+use Rattle.run_recorder_parts.specs.code.Values.{strict_of, hex_of, read_of, write_of, marked_of, locked_of, alloc_of}
+use Rattle.run_recorder_parts.specs.code.Values.{free_of, meet_of, print_of, exit_of, action_table, action_of}
+use Rattle.run_recorder_parts.proofs.Bytes.{in_word, EachPasses, in_word_digits}
 use Rattle.run_recorder.proofs.Forms.{IsRule, rule_field, then_takes, give_takes, then_again, Handles, tagged_takes}
 use Rattle.run_recorder.proofs.Forms.{AreAll, rule_each}
 use Rattle.run_recorder.proofs.WordLaws.{field_number, field_int, field_mark, field_home, Always, field_strict}

@@ -6,8 +6,8 @@ use Rattle.run_recorder.specs.declared.fail.ReadRecord.TheVariants.{Bad, Memory}
 use Rattle.run_recorder.specs.code.Told.{Tells}
 use Rattle.upc_values.specs.declared.journal.Journal.{Journal}
 use Rattle.upc_values.specs.declared.order.Orders.{Orders}
-use Rattle.record_text.specs.Words.{Text}
-use Rattle.record_text.specs.Lines.{text, old_text}
+use Rattle.run_recorder_text.specs.Words.{Text}
+use Rattle.run_recorder_text.specs.Lines.{text, old_text}
 use Rattle.run_recorder.specs.Recorded.{IsRecordable, IsTextOf, IsNoText, TellsOneRun, OneRunEachText}
 use Rattle.run_recorder.specs.code.Whole.{VersionedRun, run_of}
 use Rattle.run_recorder.proofs.Whole.{told, told_again}

@@ -8,12 +8,12 @@ use Rattle.std.proofs.lemmas.List.{append-nil, nil_from_length}
 use Rattle.std.proofs.lemmas.List.Splits.{join_with_byte-slice_split}
 use Rattle.std.proofs.lemmas.Slice.Eq.{bytes_eq-Decides}
 use Rattle.upc_values.specs.Lists.{Each}
-use Rattle.record_text.specs.Words.{Text}
-use Rattle.record_text.specs.Lines.{numbered_lines}
-use Rattle.record_parts.specs.code.Readers.{bind, Reader, give, ◌>>=◌, field, many, each, choose, tagged, constant}
-use Rattle.record_parts.specs.code.Readers.{expect, check, ended, whole, strip}
-use Rattle.record_parts.proofs.Bytes.{Passes, Passes-append, EachPasses, EachPasses-weaker, EachPasses-append}
-use Rattle.record_parts.proofs.Bytes.{join_passes, split_join}
+use Rattle.run_recorder_text.specs.Words.{Text}
+use Rattle.run_recorder_text.specs.Lines.{numbered_lines}
+use Rattle.run_recorder_parts.specs.code.Readers.{bind, Reader, give, ◌>>=◌, field, many, each, choose, tagged, constant}
+use Rattle.run_recorder_parts.specs.code.Readers.{expect, check, ended, whole, strip}
+use Rattle.run_recorder_parts.proofs.Bytes.{Passes, Passes-append, EachPasses, EachPasses-weaker, EachPasses-append}
+use Rattle.run_recorder_parts.proofs.Bytes.{join_passes, split_join}
 
 abbrev pub some : {A : Type 0} → A → Option A
 some a = Some a

@@ -1,21 +1,21 @@
 -- Replies and items, each with its laws.
 use Rattle.std.proofs.Common.{◌≡◌, ◌∙◌, ◌<◌, Bool, true, false, cond, List, [], ◌∷◌, ◌++◌, length, Some, refl, sym}
 use Rattle.std.proofs.Common.{ap, codes, append_assoc}
-use Rattle.record_text.proofs.SomeWords.{item_some}
+use Rattle.run_recorder_text.proofs.SomeWords.{item_some}
 use Rattle.upc_values.specs.declared.action.Action.{Action}
 use Rattle.upc_values.specs.declared.action.Action.TheVariants as action
 use Rattle.upc_values.specs.declared.action.Reply.{Reply}
 use Rattle.upc_values.specs.declared.action.Reply.TheVariants as reply
 use Rattle.upc_values.specs.declared.record.Item.{Item}
 use Rattle.upc_values.specs.declared.record.Item.TheVariants as item
-use Rattle.record_text.specs.Words.{Text, with_blanks, flag_text, action_words, reply_words, item_words}
-use Rattle.record_text.specs.Lines.{item_line}
+use Rattle.run_recorder_text.specs.Words.{Text, with_blanks, flag_text, action_words, reply_words, item_words}
+use Rattle.run_recorder_text.specs.Lines.{item_line}
 use Rattle.run_recorder.specs.Ranges.{FitsReply, FitsItem}
-use Rattle.record_parts.specs.code.Readers.{Reader, give, field, expect, whole, begins}
-use Rattle.record_parts.specs.code.Values.{flag_of, value_of, flag_reply_of, refused_of, reply_table, reply_of}
-use Rattle.record_parts.specs.code.Values.{did_of, stall_of, heads, item_words_of, item_of}
-use Rattle.record_parts.proofs.Bytes.{in_line, in_word, Passes, EachPasses, EachPasses-append, word_line}
-use Rattle.record_parts.proofs.Bytes.{word_no_blank}
+use Rattle.run_recorder_parts.specs.code.Readers.{Reader, give, field, expect, whole, begins}
+use Rattle.run_recorder_parts.specs.code.Values.{flag_of, value_of, flag_reply_of, refused_of, reply_table, reply_of}
+use Rattle.run_recorder_parts.specs.code.Values.{did_of, stall_of, heads, item_words_of, item_of}
+use Rattle.run_recorder_parts.proofs.Bytes.{in_line, in_word, Passes, EachPasses, EachPasses-append, word_line}
+use Rattle.run_recorder_parts.proofs.Bytes.{word_no_blank}
 use Rattle.run_recorder.proofs.Forms.{some, IsField, IsRule, rule_field, then_takes, give_takes, then_again, Handles}
 use Rattle.run_recorder.proofs.Forms.{tagged_takes, field_whole, rule_expect}
 use Rattle.run_recorder.proofs.WordLaws.{if_takes, if_not, constant_case, Always}

@@ -6,15 +6,15 @@ use Rattle.block_layout.specs.declared.place.ObjectRef.{ObjectRef}
 use Rattle.block_layout.specs.declared.place.SharedPtr.{SharedPtr}
 use Rattle.upc_values.specs.declared.scalar.Scalar.{Scalar}
 use Rattle.upc_values.specs.declared.scalar.Scalar.TheVariants as scalar
-use Rattle.record_text.specs.Words.{Text, loc_text, object_parts, pointer_parts, pointer_text, scalar_text}
-use Rattle.record_parts.specs.Bounds.{most_u32, most_i64, most_i128}
+use Rattle.run_recorder_text.specs.Words.{Text, loc_text, object_parts, pointer_parts, pointer_text, scalar_text}
+use Rattle.run_recorder_parts.specs.Bounds.{most_u32, most_i64, most_i128}
 use Rattle.run_recorder.specs.Ranges.{IsWithin, FitsLoc, FitsObject, FitsPointer}
 use Rattle.run_recorder.specs.Ranges.{FitsScalar}
-use Rattle.record_parts.specs.code.Readers.{field, begins, number_of, int_of}
-use Rattle.record_parts.specs.code.Values.{word32, loc_parts_of, loc_of, object_parts_of, pointer_parts_of}
-use Rattle.record_parts.specs.code.Values.{pointer_of, lock_number_of, scalar_of}
-use Rattle.record_parts.proofs.Bytes.{in_word, in_part, Passes, decimal_passes, EachPasses, EachPasses-append}
-use Rattle.record_parts.proofs.Bytes.{in_part_digits, in_word_digits, part_word, part_no_dot, part_no_colon}
+use Rattle.run_recorder_parts.specs.code.Readers.{field, begins, number_of, int_of}
+use Rattle.run_recorder_parts.specs.code.Values.{word32, loc_parts_of, loc_of, object_parts_of, pointer_parts_of}
+use Rattle.run_recorder_parts.specs.code.Values.{pointer_of, lock_number_of, scalar_of}
+use Rattle.run_recorder_parts.proofs.Bytes.{in_word, in_part, Passes, decimal_passes, EachPasses, EachPasses-append}
+use Rattle.run_recorder_parts.proofs.Bytes.{in_part_digits, in_word_digits, part_word, part_no_dot, part_no_colon}
 use Rattle.run_recorder.proofs.Forms.{IsField, IsRule, rule_field, then_takes, give_takes, then_again, field_whole}
 use Rattle.run_recorder.proofs.Forms.{field_prefixed}
 use Rattle.run_recorder.proofs.WordLaws.{if_takes, if_not, mapped_takes, mapped_again, field_number, field_int}

@@ -1,17 +1,17 @@
 -- The second line, and the lines of a thread, each with their laws.
 use Rattle.std.proofs.Common.{◌≡◌, ◌∙◌, ◌≤◌, ◌==◌, ℕ, List, [], ◌∷◌, ◌++◌, length, map, Some, refl, sym, ap, arith}
 use Rattle.std.proofs.Common.{decimal, codes, eqb-true, eq-eqb}
-use Rattle.record_parts.specs.declared.strands.Header.{Header}
-use Rattle.record_parts.specs.declared.limits.Limits.{Limits}
+use Rattle.run_recorder_parts.specs.declared.strands.Header.{Header}
+use Rattle.run_recorder_parts.specs.declared.limits.Limits.{Limits}
 use Rattle.upc_values.specs.declared.journal.Strand.{Strand}
-use Rattle.record_text.specs.Words.{Text, end_words}
-use Rattle.record_text.specs.Lines.{limits_line, thread_line, item_line, strand_lines, numbered_lines}
-use Rattle.record_parts.specs.Bounds.{most_u32, most_u64}
+use Rattle.run_recorder_text.specs.Words.{Text, end_words}
+use Rattle.run_recorder_text.specs.Lines.{limits_line, thread_line, item_line, strand_lines, numbered_lines}
+use Rattle.run_recorder_parts.specs.Bounds.{most_u32, most_u64}
 use Rattle.run_recorder.specs.Ranges.{FitsItem, FitsEnd, FitsStrand}
-use Rattle.record_parts.specs.code.Readers.{field, many, each, expect}
-use Rattle.record_parts.specs.code.Values.{item_of}
-use Rattle.record_parts.specs.code.Lines.{header_words_of, header_of, strand_of, limits_words_of, limits_of}
-use Rattle.record_parts.proofs.Bytes.{in_line, in_word, Passes, EachPasses}
+use Rattle.run_recorder_parts.specs.code.Readers.{field, many, each, expect}
+use Rattle.run_recorder_parts.specs.code.Values.{item_of}
+use Rattle.run_recorder_parts.specs.code.Lines.{header_words_of, header_of, strand_of, limits_words_of, limits_of}
+use Rattle.run_recorder_parts.proofs.Bytes.{in_line, in_word, Passes, EachPasses}
 use Rattle.run_recorder.proofs.Forms.{IsRule, rule_field, then_takes, give_takes, then_again, AreMany, rule_many}
 use Rattle.run_recorder.proofs.Forms.{AreAll, rule_each, rule_expect, check_takes, check_again}
 use Rattle.run_recorder.proofs.ActionLaws.{n32, n64}

@@ -12,14 +12,14 @@ use Rattle.std.specs.Prelude.{Vec}
 use Rattle.std.specs.declared.alloc.Global.{Global}
 use Rattle.upc_values.specs.declared.record.Item.TheVariants.{Did, Stall}
 use Rattle.upc_values.specs.declared.journal.Entry.{Entry}
-use Rattle.record_parts.specs.declared.fail.Fail.{Fail}
-use Rattle.record_parts.specs.declared.fail.Fail.TheVariants.{Bad, Memory}
+use Rattle.run_recorder_parts.specs.declared.fail.Fail.{Fail}
+use Rattle.run_recorder_parts.specs.declared.fail.Fail.TheVariants.{Bad, Memory}
 use Rattle.upc_values.specs.declared.action.Action.{Action}
 use Rattle.upc_values.specs.declared.action.Reply.{Reply}
 use Rattle.upc_values.specs.declared.record.Item.{Item}
 use Rattle.upc_values.specs.declared.journal.Strand.{Strand}
-use Rattle.record_parts.specs.declared.names.Name.{Name}
-use Rattle.record_parts.specs.code.Readers.{bind, Fails}
+use Rattle.run_recorder_parts.specs.declared.names.Name.{Name}
+use Rattle.run_recorder_parts.specs.code.Readers.{bind, Fails}
 use Rattle.run_recorder.specs.code.Finding.{did_at, entry_of, entries_of, did_of_item, did_in, IsTable, after}
 use Rattle.run_recorder.specs.code.Finding.{AreTables}
 use Rattle.run_recorder.proofs.Forms.{some_is}

@@ -6,28 +6,28 @@ use Rattle.std.specs.List.{join_with_byte, flat_map}
 use Rattle.std.proofs.lemmas.List.{append-nil, length-map}
 use Rattle.upc_values.specs.Lists.{Each}
 use Rattle.upc_values.specs.declared.journal.Entry.{Entry}
-use Rattle.record_parts.specs.declared.head.Head.{Head}
+use Rattle.run_recorder_parts.specs.declared.head.Head.{Head}
 use Rattle.std.proofs.Common.{leb-true}
 use Rattle.std.specs.Prelude.{nat_le, All}
 use Rattle.upc_values.specs.Agrees.{IsOf}
-use Rattle.record_text.specs.Short.{most_entries, most_items}
+use Rattle.run_recorder_text.specs.Short.{most_entries, most_items}
 use Rattle.upc_values.specs.declared.journal.Strand.{Strand}
 use Rattle.upc_values.specs.declared.journal.Journal.{Journal}
 use Rattle.upc_values.specs.declared.order.Op.{Op}
 use Rattle.upc_values.specs.declared.order.Orders.{Orders}
-use Rattle.record_parts.specs.declared.names.Name.{Name}
-use Rattle.record_text.specs.Words.{Text, with_blanks}
-use Rattle.record_text.specs.Lines.{strand_lines, entry_line, op_line, section_lines, order_lines, numbered_lines}
-use Rattle.record_text.specs.Lines.{body_lines, run_lines, version_text}
-use Rattle.record_text.specs.Short.{is_short, item_count}
-use Rattle.record_parts.specs.Bounds.{most_u32}
+use Rattle.run_recorder_parts.specs.declared.names.Name.{Name}
+use Rattle.run_recorder_text.specs.Words.{Text, with_blanks}
+use Rattle.run_recorder_text.specs.Lines.{strand_lines, entry_line, op_line, section_lines, order_lines, numbered_lines}
+use Rattle.run_recorder_text.specs.Lines.{body_lines, run_lines, version_text}
+use Rattle.run_recorder_text.specs.Short.{is_short, item_count}
+use Rattle.run_recorder_parts.specs.Bounds.{most_u32}
 use Rattle.run_recorder.specs.Ranges.{FitsStrand, FitsEntry, FitsOp, FitsOrder}
 use Rattle.run_recorder.specs.Recorded.{IsRecordable, IsTextOf}
-use Rattle.record_parts.specs.code.Readers.{Reader, ◌>>=◌, each, expect, guarded, lift}
-use Rattle.record_parts.specs.code.Lines.{name_of, op_of, section_of}
+use Rattle.run_recorder_parts.specs.code.Readers.{Reader, ◌>>=◌, each, expect, guarded, lift}
+use Rattle.run_recorder_parts.specs.code.Lines.{name_of, op_of, section_of}
 use Rattle.run_recorder.specs.code.Finding.{entry_name, entries_of}
 use Rattle.run_recorder.specs.code.Whole.{VersionedRun, journal_of, run_of_lines, run_of}
-use Rattle.record_parts.proofs.Bytes.{both, in_line, EachPasses, EachPasses-append, line_no_end}
+use Rattle.run_recorder_parts.proofs.Bytes.{both, in_line, EachPasses, EachPasses-append, line_no_end}
 use Rattle.run_recorder.proofs.Forms.{IsField, IsRule, then_takes, give_takes, then_again, EachFrom, AreMany}
 use Rattle.run_recorder.proofs.Forms.{field_whole, rule_expect}
 use Rattle.run_recorder.proofs.StrandLaws.{IsThread, rule_strands}

@@ -7,15 +7,15 @@ use Rattle.std.specs.List.{list_all}
 use Rattle.std.proofs.lemmas.Fmt.{decimal_is_IsNumeral_wide}
 use Rattle.upc_values.specs.declared.scalar.Mark.{Mark}
 use Rattle.upc_values.specs.declared.scalar.Mark.TheVariants as mark
-use Rattle.record_text.specs.Words.{Text, mark_text, home_text, strict_text}
-use Rattle.record_parts.specs.Bounds.{most_u32, most_i32}
+use Rattle.run_recorder_text.specs.Words.{Text, mark_text, home_text, strict_text}
+use Rattle.run_recorder_parts.specs.Bounds.{most_u32, most_i32}
 use Rattle.run_recorder.specs.Ranges.{IsWithin, FitsMark, FitsHome}
-use Rattle.record_parts.specs.code.Readers.{bind, constant, begins, number_of, negative, int_of}
-use Rattle.record_parts.specs.code.Values.{mark_of, home_of, strict_of}
-use Rattle.record_parts.proofs.Bytes.{and_true, in_word, Passes, LetsDigits, decimal_passes, begins_not}
-use Rattle.record_parts.proofs.Bytes.{is_digit_byte, is_int_byte, digits_are, ints_are, in_word_digits}
+use Rattle.run_recorder_parts.specs.code.Readers.{bind, constant, begins, number_of, negative, int_of}
+use Rattle.run_recorder_parts.specs.code.Values.{mark_of, home_of, strict_of}
+use Rattle.run_recorder_parts.proofs.Bytes.{and_true, in_word, Passes, LetsDigits, decimal_passes, begins_not}
+use Rattle.run_recorder_parts.proofs.Bytes.{is_digit_byte, is_int_byte, digits_are, ints_are, in_word_digits}
 use Rattle.run_recorder.proofs.Forms.{some_is, bind_some, IsField, constant_takes}
-use Rattle.record_parts.proofs.Numbers.{number_takes, number_again}
+use Rattle.run_recorder_parts.proofs.Numbers.{number_takes, number_again}
 
 -- ---- choices
 

@@ -23,7 +23,7 @@ use Rattle.upc_values.specs.declared.journal.Journal.{Journal}
 use Rattle.upc_values.specs.declared.order.Op.{Op}
 use Rattle.upc_values.specs.declared.order.Orders.{Orders}
 use Rattle.upc_values.specs.Lists.{Each}
-use Rattle.record_parts.specs.Bounds.{most_u8, most_u32, most_u64, most_i32, most_i64, most_i128}
+use Rattle.run_recorder_parts.specs.Bounds.{most_u8, most_u32, most_u64, most_i32, most_i64, most_i128}
 
 -- An integer is from - (most + 1) to most.
 abbrev pub IsWithin : ℕ → ℤ → Type 0

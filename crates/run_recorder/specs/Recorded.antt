@@ -2,9 +2,9 @@
 use Rattle.std.specs.Prelude.{ℕ, ◌≡◌, ◌⊎◌}
 use Rattle.upc_values.specs.declared.journal.Journal.{Journal}
 use Rattle.upc_values.specs.declared.order.Orders.{Orders}
-use Rattle.record_text.specs.Words.{Text}
-use Rattle.record_text.specs.Lines.{text, old_text}
-use Rattle.record_text.specs.Short.{HasText}
+use Rattle.run_recorder_text.specs.Words.{Text}
+use Rattle.run_recorder_text.specs.Lines.{text, old_text}
+use Rattle.run_recorder_text.specs.Short.{HasText}
 use Rattle.run_recorder.specs.Ranges.{Fits}
 
 -- A run is recordable where it has a text and its numbers lie in the ranges of their types, as those of every value

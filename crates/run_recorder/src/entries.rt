@@ -3,9 +3,9 @@
 ghost use Rattle.std.specs.Prelude.{◌≡◌, IfOk, OnOk};
 ghost use Rattle.run_recorder.specs.code.Finding.{AreTables, IsTable, after, did_at, did_of_item};
 ghost use Rattle.run_recorder.specs.code.Finding.{entries_of, entry_of, entry_by};
-ghost use Rattle.record_parts.specs.code.Readers.{Gives, same};
+ghost use Rattle.run_recorder_parts.specs.code.Readers.{Gives, same};
 
-use record_parts::{Fail, Name};
+use run_recorder_parts::{Fail, Name};
 use std::alloc::Global;
 use upc_text::OutOfMemory;
 use upc_values::{Chunks, Entries, Entry, Item, Items, Strand, copy_action};

@@ -7,4 +7,4 @@ mod reading;
 
 pub use fail::ReadRecord;
 pub use reading::{one_run_each_text, read_record};
-pub use record_text::{is_short, render};
+pub use run_recorder_text::{is_short, render};

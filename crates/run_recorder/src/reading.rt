@@ -4,15 +4,15 @@ ghost use Rattle.std.specs.Prelude.{ℕ, ◌≡◌, ◌≢◌, IfOk, IfErr, Matc
 ghost use Rattle.upc_values.specs.declared.journal.Journal.{Journal};
 ghost use Rattle.upc_values.specs.declared.order.Orders.{Orders};
 ghost use Rattle.run_recorder.specs.Recorded.{IsRecordable, IsTextOf, IsNoText, OneRunEachText};
-ghost use Rattle.record_parts.specs.code.Readers.{Gives, Reads, same, texts};
+ghost use Rattle.run_recorder_parts.specs.code.Readers.{Gives, Reads, same, texts};
 ghost use Rattle.run_recorder.specs.code.Whole as reader;
 ghost use Rattle.run_recorder.specs.code.Told.{Tells};
 ghost use Rattle.run_recorder.specs.declared.fail.ReadRecord.TheVariants.{Memory};
 
 use crate::entries::entries;
 use crate::fail::ReadRecord;
-use record_parts::{Fail, Head, Name, Parts, expect, many, read_head, section, split};
-use record_text::is_short;
+use run_recorder_parts::{Fail, Head, Name, Parts, expect, many, read_head, section, split};
+use run_recorder_text::is_short;
 use std::alloc::Global;
 use upc_text::Place;
 use upc_values::{Entries, Journal, Listing, Op, Order, Orders, Strand};

@@ -9,8 +9,8 @@ use Rattle.upc_values.specs.LibraryCalls.{library_call}
 use Rattle.thread_steps.specs.States.{Thread, State, Val, Over}
 use Rattle.thread_steps.specs.Values.{number}
 use Rattle.thread_steps.specs.Library.{library, private_shapes}
-use Rattle.step_values.specs.Results.{asks_nothing, given_at_once}
-use Rattle.step_values.proofs.AtOnce.{gives_at_once}
+use Rattle.thread_values.specs.Results.{asks_nothing, given_at_once}
+use Rattle.thread_values.proofs.AtOnce.{gives_at_once}
 
 module _ (τ : Thread) (at : Place) (σ : State) where
   module _ (c : LibraryCall) (shape : ℕ) (args : List Value) (threads : ℕ) (xs : List Value) (answer : Result Value ℕ) where

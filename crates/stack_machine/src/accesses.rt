@@ -18,7 +18,7 @@ use crate::wish::Halt;
 use block_layout::run_error::NULL_ACCESS;
 use block_layout::{Kind, Loc, LocalPtr, SharedPtr};
 use stack_code::{CellAccess, Code};
-use step_values::{cell, into_shared, is_read, kept, kept_scalar, scalar_of};
+use thread_values::{cell, into_shared, is_read, kept, kept_scalar, scalar_of};
 use upc_text::Place;
 use upc_values::{Action, Reply, Scalar, Value};
 

@@ -23,7 +23,7 @@ use crate::jumps::close_blocks;
 use crate::runner::Runner;
 use crate::wish::{Halt, Stop};
 use stack_code::{CallWork, CellAccess, Code};
-use step_values::int_of;
+use thread_values::int_of;
 use upc_text::Place;
 
 impl Task {

@@ -14,7 +14,7 @@ use crate::jumps::close_blocks;
 use crate::progress::Progress;
 use crate::stacks::{Operands, Spot, Spots};
 use crate::wish::{Halt, Stop};
-use step_values::int_of;
+use thread_values::int_of;
 use upc_text::{OutOfMemory, Place};
 use upc_values::Value;
 

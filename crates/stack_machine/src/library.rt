@@ -8,7 +8,7 @@ ghost use Rattle.thread_steps.specs.Library as pure;
 ghost use Rattle.thread_steps.specs.Ranges.{IsHeld};
 ghost use Rattle.thread_steps.specs.States.{Thread, Val};
 ghost use Rattle.stack_code.specs.Codes.{thread_of};
-ghost use Rattle.step_values.specs.Asking.{expansion_of};
+ghost use Rattle.thread_values.specs.Asking.{expansion_of};
 ghost use Rattle.stack_machine.specs.code.Kept.{AreHeld};
 ghost use Rattle.stack_machine.specs.code.Libraries.{expanded_to, met_then};
 ghost use Rattle.stack_machine.specs.code.Turns.{Came, state_seen};
@@ -19,7 +19,7 @@ use crate::wish::Halt;
 use block_layout::SharedPtr;
 use block_layout::run_error::{BARRIER_IN_FORALL, PHASE_ORDER};
 use stack_code::Code;
-use step_values::{LibraryStep, is_collective, is_formed, library_step, reply_fits, reply_value};
+use thread_values::{LibraryStep, is_collective, is_formed, library_step, reply_fits, reply_value};
 use upc_text::Place;
 use upc_values::{Action, LibraryCall, Scalar, Value};
 

@@ -14,7 +14,7 @@ use crate::stacks::Operands;
 use crate::wish::Halt;
 use block_layout::Shape;
 use stack_code::{CellAccess, Code, ObjectWork};
-use step_values::pointer_to;
+use thread_values::pointer_to;
 use upc_text::Place;
 use upc_values::Listing;
 

@@ -17,7 +17,7 @@ use crate::runner::Runner;
 use crate::stacks::Operands;
 use crate::wish::Halt;
 use stack_code::{Code, ThreadWork};
-use step_values::{
+use thread_values::{
     has_turn, int_of, library_value, number_of, printed, printed_count, truth_value,
 };
 use upc_text::{Place, Text};

@@ -13,14 +13,14 @@ ghost use Rattle.stack_code.specs.Kept.{ElementsFit, ValuesFit};
 ghost use Rattle.stack_code.specs.Steps.{At, Spot, made, top, second, third};
 ghost use Rattle.stack_machine.specs.code.Kept.{AreHeld};
 ghost use Rattle.stack_machine.specs.code.Turns.{Arrived, IsFirm, body_seen, state_seen};
-ghost use Rattle.step_values.specs.Results.{row_test};
+ghost use Rattle.thread_values.specs.Results.{row_test};
 ghost use Rattle.stack_machine.specs.code.Works as pure;
 
 use crate::progress::Progress;
 use crate::stacks::Operands;
 use crate::wish::Halt;
 use stack_code::{Code, ValueWork};
-use step_values::{
+use thread_values::{
     advanced, applied, cast, difference, in_row, member_behind, number_of, operated, order, same,
 };
 use thread_steps::Elements;

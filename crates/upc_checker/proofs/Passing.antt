@@ -13,13 +13,13 @@ use Rattle.typing_rules.specs.Rules.{lowest}
 use Rattle.typing_rules.specs.Faults.{Seen, Fault, fault_by, first_fault, or_later}
 use Rattle.typed_tree.specs.Scopes.{Setting, Env, State, KnownFunction, differs, level_of, with_tag, here, is_object, is_taken}
 use Rattle.typed_tree.specs.Tree.{Expr, Is, ExprKind}
-use Rattle.walk_state.specs.Counts.{counted}
-use Rattle.walk_state.specs.Walk.{Walk, give, andthen, judge, finish, update, look, enclosed, facts_in}
-use Rattle.walk_state.specs.Known.{tag_seen, unless_found, refer, open_struct, close_struct, is_complete_struct, members_size}
-use Rattle.walk_state.proofs.Walks.{first_of_two}
-use Rattle.type_specifiers.specs.Specifiers.{Specified}
-use Rattle.expression_checker.specs.Expressions.{end_specifiers, to_their_end}
-use Rattle.declaration_checker.specs.Declarations.{declares_function}
+use Rattle.upc_checker_scopes.specs.Counts.{counted}
+use Rattle.upc_checker_scopes.specs.Walk.{Walk, give, andthen, judge, finish, update, look, enclosed, facts_in}
+use Rattle.upc_checker_scopes.specs.Known.{tag_seen, unless_found, refer, open_struct, close_struct, is_complete_struct, members_size}
+use Rattle.upc_checker_scopes.proofs.Walks.{first_of_two}
+use Rattle.upc_checker_types.specs.Specifiers.{Specified}
+use Rattle.upc_checker_expressions.specs.Expressions.{end_specifiers, to_their_end}
+use Rattle.upc_checker_declarations.specs.Declarations.{declares_function}
 use Rattle.typed_tree.specs.Judged.{Earlier, Before}
 
 -- ---- functions that are known

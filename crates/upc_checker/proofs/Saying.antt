@@ -11,9 +11,9 @@ use Rattle.typing_rules.specs.Faults.{Seen}
 use Rattle.typed_tree.specs.Scopes.{Setting, State}
 use Rattle.typed_tree.specs.Tree as k
 use Rattle.typed_tree.specs.Tree.{ExprKind, place_of, attr_of}
-use Rattle.walk_state.specs.Walk.{Walk, give, andthen, judge, finish, update, look, enclosed, facts_in}
-use Rattle.type_specifiers.specs.Specifiers.{Specified}
-use Rattle.expression_checker.specs.Expressions.{constantly, end_specifiers, to_their_end}
+use Rattle.upc_checker_scopes.specs.Walk.{Walk, give, andthen, judge, finish, update, look, enclosed, facts_in}
+use Rattle.upc_checker_types.specs.Specifiers.{Specified}
+use Rattle.upc_checker_expressions.specs.Expressions.{constantly, end_specifiers, to_their_end}
 use Rattle.affinity_checker.specs.Rules.{refused, where_true}
 use Rattle.upc_checker.specs.Lines.{Line, line_of}
 use Rattle.upc_checker.specs.Lines as l

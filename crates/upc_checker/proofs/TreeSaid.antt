@@ -16,14 +16,14 @@ use Rattle.upc_tree.specs.Expression.{Expr, Named, Number, Character, Strings, C
 use Rattle.upc_types.specs.Types.{CType, Member}
 use Rattle.typing_rules.specs.Nodes.{Attr, Use}
 use Rattle.typed_tree.specs.Scopes.{Setting, Env, Scope, is_file, declare}
-use Rattle.walk_state.specs.Places.{at, specs_place}
-use Rattle.walk_state.specs.Known.{refer, close_struct}
-use Rattle.type_specifiers.specs.Specifiers.{Shaped}
-use Rattle.type_specifiers.specs.Shapes.{Specifying, adjusted}
-use Rattle.type_specifiers.specs.Members.{Declared, declare_parameter}
-use Rattle.expression_nodes.specs.Marks.{unary_node, binary_node, assign_node}
-use Rattle.expression_nodes.specs.Parts.{member_of, constant_node}
-use Rattle.expression_checker.specs.Expressions.{walk, walk_arguments, walk_more, walk_type, walk_specs, walk_spec, walk_quals, walk_qual, walk_layout, walk_pointers, walk_sizes, walk_members, walk_next_members, walk_member, walk_parameters, walk_next_parameters, walk_parameter, walk_array}
+use Rattle.upc_checker_scopes.specs.Places.{at, specs_place}
+use Rattle.upc_checker_scopes.specs.Known.{refer, close_struct}
+use Rattle.upc_checker_types.specs.Specifiers.{Shaped}
+use Rattle.upc_checker_types.specs.Shapes.{Specifying, adjusted}
+use Rattle.upc_checker_types.specs.Members.{Declared, declare_parameter}
+use Rattle.upc_checker_nodes.specs.Marks.{unary_node, binary_node, assign_node}
+use Rattle.upc_checker_nodes.specs.Parts.{member_of, constant_node}
+use Rattle.upc_checker_expressions.specs.Expressions.{walk, walk_arguments, walk_more, walk_type, walk_specs, walk_spec, walk_quals, walk_qual, walk_layout, walk_pointers, walk_sizes, walk_members, walk_next_members, walk_member, walk_parameters, walk_next_parameters, walk_parameter, walk_array}
 use Rattle.upc_checker.specs.Lines.{line_of}
 use Rattle.upc_checker.specs.Lines as l
 use Rattle.upc_checker.specs.TreeNodes.{node, first_place, nodes, argument_nodes, next_nodes, type_nodes, specs_nodes, spec_nodes, quals_nodes, qual_nodes, layout_nodes, pointer_nodes, size_nodes, member_nodes, next_declarator_nodes, declarator_nodes, parameters_nodes, next_parameter_nodes, parameter_nodes, array_nodes}

@@ -18,10 +18,10 @@ use Rattle.typing_rules.specs.Rules.{is_called}
 use Rattle.typed_tree.specs.Scopes.{Env, Scope, spelling, is_file, next_home, declare, with_entry, inside}
 use Rattle.typed_tree.specs.Tree as k
 use Rattle.typed_tree.specs.Tree.{Expr, Exprs, DeclaredObject, attr_of, attrs_of}
-use Rattle.walk_state.specs.Known.{object_again}
-use Rattle.walk_state.specs.Places.{pointers_place}
-use Rattle.type_specifiers.specs.Specifiers.{Shaped, formed}
-use Rattle.declaration_checker.specs.Declarations.{initial_constant, walk_initial_value, walk_initial_values, element_use, walk_initial, Behind, walk_declared, walk_next_declareds, walk_declared_list, walk_declaration, signature_of}
+use Rattle.upc_checker_scopes.specs.Known.{object_again}
+use Rattle.upc_checker_scopes.specs.Places.{pointers_place}
+use Rattle.upc_checker_types.specs.Specifiers.{Shaped, formed}
+use Rattle.upc_checker_declarations.specs.Declarations.{initial_constant, walk_initial_value, walk_initial_values, element_use, walk_initial, Behind, walk_declared, walk_next_declareds, walk_declared_list, walk_declaration, signature_of}
 use Rattle.typed_tree.specs.Judged.{Meets, Stands}
 use Rattle.typed_tree.specs.TypedNodes.{MeetsExpr, MeetsConstant, MeetsValues, MeetsInitial, MeetsObject, MeetsObjects, in_scope, behind, behind_all}
 use Rattle.upc_checker.proofs.Passing.{Among, Good, good_then, good_give, good_judge, any_judge, any_to_their_end, good_enclosed, good_weaken, good_declares}

@@ -37,20 +37,20 @@ use Rattle.typed_tree.specs.Scopes.{Setting, Env, Scope, Outer, NoScope, Within,
 use Rattle.typed_tree.specs.Tree as k
 use Rattle.typed_tree.specs.Tree.{Expr, ExprKind, Exprs, DeclaredObject, Function, attr_of, attrs_of, place_of}
 use Rattle.typed_tree.specs.Programs.{Checked}
-use Rattle.walk_state.specs.Defined.{number_in}
-use Rattle.walk_state.specs.Known.{is_main}
-use Rattle.walk_state.specs.Places.{at}
-use Rattle.walk_state.specs.Walk.{Walk, facts_in}
-use Rattle.type_specifiers.specs.Specifiers.{Shaped}
-use Rattle.type_specifiers.specs.Shapes.{Specifying, adjusted}
-use Rattle.type_specifiers.specs.Members.{Declared, with_parameter}
-use Rattle.expression_nodes.specs.Called.{called_name, called_by, runs_by, target_by, name_kind, uses_by, first_use, later_uses}
-use Rattle.expression_nodes.specs.Marks.{unary_node, unary_kind, binary_node, binary_kind, right_use, assign_node, assign_kind, number_kind}
-use Rattle.expression_nodes.specs.Parts.{member_of, member_kind, constant_node, constant_kind, format_in}
-use Rattle.expression_checker.specs.Expressions.{constantly, walk, walk_arguments, walk_more, walk_type, walk_specs, walk_spec, walk_quals, walk_qual, walk_layout, walk_pointers, walk_sizes, walk_members, walk_next_members, walk_member, walk_parameters, walk_next_parameters, walk_parameter, walk_array}
+use Rattle.upc_checker_scopes.specs.Defined.{number_in}
+use Rattle.upc_checker_scopes.specs.Known.{is_main}
+use Rattle.upc_checker_scopes.specs.Places.{at}
+use Rattle.upc_checker_scopes.specs.Walk.{Walk, facts_in}
+use Rattle.upc_checker_types.specs.Specifiers.{Shaped}
+use Rattle.upc_checker_types.specs.Shapes.{Specifying, adjusted}
+use Rattle.upc_checker_types.specs.Members.{Declared, with_parameter}
+use Rattle.upc_checker_nodes.specs.Called.{called_name, called_by, runs_by, target_by, name_kind, uses_by, first_use, later_uses}
+use Rattle.upc_checker_nodes.specs.Marks.{unary_node, unary_kind, binary_node, binary_kind, right_use, assign_node, assign_kind, number_kind}
+use Rattle.upc_checker_nodes.specs.Parts.{member_of, member_kind, constant_node, constant_kind, format_in}
+use Rattle.upc_checker_expressions.specs.Expressions.{constantly, walk, walk_arguments, walk_more, walk_type, walk_specs, walk_spec, walk_quals, walk_qual, walk_layout, walk_pointers, walk_sizes, walk_members, walk_next_members, walk_member, walk_parameters, walk_next_parameters, walk_parameter, walk_array}
 use Rattle.typed_tree.specs.Judged.{IsNumberKind, Meets, Judged, Stands}
 use Rattle.typed_tree.specs.TypedNodes.{MeetsExpr, MeetsKind, MeetsExprs}
-use Rattle.walk_state.proofs.SameTypes.{Alike, alike_from}
+use Rattle.upc_checker_scopes.proofs.SameTypes.{Alike, alike_from}
 use Rattle.upc_checker.proofs.Passing.{Among, Agree, Ends, Good, good_then, any_then, good_give, any_give, good_judge, any_judge, any_to_their_end, good_number, good_finish, good_enclosed, good_refer, good_open, good_close, good_weaken}
 
 -- ---- lists

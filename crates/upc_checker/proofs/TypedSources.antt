@@ -26,12 +26,12 @@ use Rattle.typed_tree.specs.Scopes.{Setting, Env, Scope, Counts, NoScope, Within
 use Rattle.typed_tree.specs.Tree.{DeclaredObject, Function, Statement}
 use Rattle.typed_tree.specs.Objects.{is_private, is_shared, private_in, shared_in, type_of}
 use Rattle.typed_tree.specs.Programs.{Checked, without_targets}
-use Rattle.walk_state.specs.Known.{definition_again}
-use Rattle.walk_state.specs.Walk.{Walk, give, andthen, judge, update, look, facts_in}
-use Rattle.type_specifiers.specs.Members.{Declared}
-use Rattle.declaration_checker.specs.Declarations.{Behind, walk_declaration}
-use Rattle.statement_checker.specs.Statements.{walk_block}
-use Rattle.function_checker.specs.Units.{Made, Earlier, earlier, with_definition, with_outer_entry, body_around, defined_in, is_main_function, walk_definition, walk_function, walk_externals, walk_unit, setting}
+use Rattle.upc_checker_scopes.specs.Known.{definition_again}
+use Rattle.upc_checker_scopes.specs.Walk.{Walk, give, andthen, judge, update, look, facts_in}
+use Rattle.upc_checker_types.specs.Members.{Declared}
+use Rattle.upc_checker_declarations.specs.Declarations.{Behind, walk_declaration}
+use Rattle.upc_checker_statements.specs.Statements.{walk_block}
+use Rattle.upc_checker_functions.specs.Units.{Made, Earlier, earlier, with_definition, with_outer_entry, body_around, defined_in, is_main_function, walk_definition, walk_function, walk_externals, walk_unit, setting}
 use Rattle.upc_checker.specs.Limits.{limit_in}
 use Rattle.upc_checker.specs.Outcomes.{Accepted, outcome}
 use Rattle.upc_checker.proofs.Causes.{accepted_by}

@@ -27,9 +27,9 @@ use Rattle.upc_tree.specs.Statement.{NoAffinity, ContinueAffinity, ValueAffinity
 use Rattle.upc_tree.specs.Statement.{ForallParts}
 use Rattle.upc_tree.specs.Unit.{External, PragmaPart, DeclarationPart, FunctionPart}
 use Rattle.typing_rules.specs.Faults.{Seen}
-use Rattle.expression_nodes.specs.Marks.{number_kind}
-use Rattle.walk_state.specs.Places.{at, name_at, pointers_place, specs_place}
-use Rattle.function_checker.specs.Units.{source_place}
+use Rattle.upc_checker_nodes.specs.Marks.{number_kind}
+use Rattle.upc_checker_scopes.specs.Places.{at, name_at, pointers_place, specs_place}
+use Rattle.upc_checker_functions.specs.Units.{source_place}
 use Rattle.upc_checker.specs.Lines as l
 use Rattle.upc_checker.specs.Lines.{Line, line_of}
 

@@ -10,7 +10,7 @@ ghost use Rattle.upc_checker.specs.Outcomes.{Answers, Decides, outcome};
 ghost use Rattle.upc_checker.specs.ViewUnits.{view_checked};
 
 use crate::whole::{Checked, check_source};
-use program_opening::begin;
+use typed_tree_opening::begin;
 use std::alloc::Global;
 use typed_tree::Program;
 use upc_lexer::Names;

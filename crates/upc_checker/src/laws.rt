@@ -12,7 +12,7 @@ ghost use Rattle.typed_tree.specs.ExpressionLaws.{CallFits, MemberInRange, Membe
 ghost use Rattle.typed_tree.specs.ExpressionLaws.{LayoutsStay, LiteralInRange};
 ghost use Rattle.typed_tree.specs.TypedNodes.{MeetsRules};
 ghost use Rattle.typed_tree.specs.Programs.{Checked};
-ghost use Rattle.function_checker.specs.Units.{unit_nodes};
+ghost use Rattle.upc_checker_functions.specs.Units.{unit_nodes};
 ghost use Rattle.affinity_checker.specs.Breaches.{unit_breaches};
 ghost use Rattle.upc_checker.specs.TreeNodes.{tree_nodes, node_of};
 ghost use Rattle.upc_checker.specs.Jumps.{jump_breaches};

@@ -10,7 +10,7 @@ use typed_tree::Object;
 use typing_rules::Home;
 use upc_text::Place;
 use upc_types::{Layout, Structs};
-use walk_state::known::Known;
+use upc_checker_scopes::known::Known;
 
 /// Objects of the file that are not shared, or those that are.
 #[derive(Clone, Copy)]

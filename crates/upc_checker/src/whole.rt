@@ -9,7 +9,7 @@ ghost use Rattle.upc_checker.specs.Outcomes.{Answers, outcome};
 ghost use Rattle.upc_checker.specs.ViewUnits.{view_checked, KeepsLimits};
 
 use crate::limits::limit_in;
-use function_checker::units::{defined_in, walk_unit};
+use upc_checker_functions::units::{defined_in, walk_unit};
 use std::alloc::Global;
 use typed_tree::env::file;
 use typed_tree::{Function, Object};
@@ -17,9 +17,9 @@ use upc_lexer::Names;
 use upc_text::{Code, Refusal, Stop};
 use upc_tree::Unit;
 use upc_types::Structs;
-use walk_state::known::{Known, nothing_known};
-use walk_state::setting::Setting;
-use walk_state::tags::Tags;
+use upc_checker_scopes::known::{Known, nothing_known};
+use upc_checker_scopes::setting::Setting;
+use upc_checker_scopes::tags::Tags;
 
 /// A source that is accepted: the number of threads, the structs, the objects of the file in order, and the functions
 /// by number.

@@ -4,11 +4,11 @@ use Rattle.upc_text.specs.declared.place.Place.{Place}
 use Rattle.typed_tree.specs.Tree.{StatementKind, Stands}
 use Rattle.source_meaning.specs.Running.{Running}
 use Rattle.source_meaning.specs.Statements.{Standing}
-use Rattle.thread_progress.specs.declared.progress.Step.{Step}
-use Rattle.thread_items.specs.code.Seen.{Seen, with_item}
-use Rattle.thread_items.specs.code.Items.{Run}
-use Rattle.thread_items.specs.declared.evaluation.Evaluation.{Evaluation}
-use Rattle.thread_items.specs.code.Evaluations.{Went}
+use Rattle.upc_meaning_state.specs.declared.progress.Step.{Step}
+use Rattle.upc_meaning_work.specs.code.Seen.{Seen, with_item}
+use Rattle.upc_meaning_work.specs.code.Items.{Run}
+use Rattle.upc_meaning_work.specs.declared.evaluation.Evaluation.{Evaluation}
+use Rattle.upc_meaning_work.specs.code.Evaluations.{Went}
 
 pub went_as : {E : Type 0} (ρ : Running) (κ : Standing) (s : Seen) (at : Place) (k n : StatementKind) → k ≡ n
     → (m : Evaluation) (r : Result (Step (Unit {0})) E)

@@ -7,22 +7,22 @@ ghost use Rattle.typed_tree.specs.ViewStatements.{view_function};
 ghost use Rattle.source_meaning.specs.Running.{Running};
 ghost use Rattle.source_meaning.specs.Threads as mean;
 ghost use Rattle.source_meaning.specs.Threads.{outcome_of, thread_outcome, told};
-ghost use Rattle.thread_progress.specs.code.Came.{state_seen};
-ghost use Rattle.thread_progress.specs.code.Runners.{Fits};
-ghost use Rattle.thread_progress.specs.code.Settings.{running_seen};
-ghost use Rattle.thread_items.specs.code.Courses.{comes_to, fresh, main_comes_to, main_entered};
-ghost use Rattle.thread_items.specs.code.Courses.{running_with, state_with, view_main};
-ghost use Rattle.thread_items.specs.code.Seen.{meant, with_item};
-ghost use Rattle.thread_items.specs.code.ViewItems.{view_work};
-ghost use Rattle.thread_items.specs.code.Evaluations.{Went, seen};
+ghost use Rattle.upc_meaning_state.specs.code.Came.{state_seen};
+ghost use Rattle.upc_meaning_state.specs.code.Runners.{Fits};
+ghost use Rattle.upc_meaning_state.specs.code.Settings.{running_seen};
+ghost use Rattle.upc_meaning_work.specs.code.Courses.{comes_to, fresh, main_comes_to, main_entered};
+ghost use Rattle.upc_meaning_work.specs.code.Courses.{running_with, state_with, view_main};
+ghost use Rattle.upc_meaning_work.specs.code.Seen.{meant, with_item};
+ghost use Rattle.upc_meaning_work.specs.code.ViewItems.{view_work};
+ghost use Rattle.upc_meaning_work.specs.code.Evaluations.{Went, seen};
 
 use crate::threads;
-use call_items::functions;
+use upc_meaning_steps::functions;
 use private_store::{MOST_CALLS, Store};
 use std::alloc::Global;
-use step_values::int_of;
-use thread_items::{Evaluation, Flow, Values, Work, Works};
-use thread_progress::{Progress, Runner, Setting, Step, is_numeric};
+use thread_values::int_of;
+use upc_meaning_work::{Evaluation, Flow, Values, Work, Works};
+use upc_meaning_state::{Progress, Runner, Setting, Step, is_numeric};
 use typed_tree::{Function, Program};
 use upc_text::{OutOfMemory, Place};
 use upc_values::{Actions, Listing, Mark, Reply, Scalar, ToldEnd, Value};
@@ -41,7 +41,7 @@ fn is_main(function: &Function) -> bool
 }
 
 // The function main, if there is one.
-#[tactic(auto, using(thread_items::proofs::Courses::first_main))]
+#[tactic(auto, using(upc_meaning_work::proofs::Courses::first_main))]
 fn main_of(functions: &[Function]) -> Option<&Function>
     ensures { view_main result ≡ mean.main_of (map view_function functions.now) }
 {
@@ -77,7 +77,7 @@ fn beginning<'p>(alloc: Global, progress: Progress<'p>) -> Evaluation<'p>
 }
 
 // main has begun; its statements are next.
-#[tactic(auto, using(thread_items::proofs::Courses::mains))]
+#[tactic(auto, using(upc_meaning_work::proofs::Courses::mains))]
 fn enter_main<'p>(
     evaluation: &mut Evaluation<'p>,
     setting: Setting<'p>,
@@ -103,7 +103,7 @@ fn enter_main<'p>(
 }
 
 // main is called, and the barrier after it is left to be done.
-#[tactic(auto, using(thread_items::proofs::Courses::main_refused, thread_items::proofs::Courses::main_goes))]
+#[tactic(auto, using(upc_meaning_work::proofs::Courses::main_refused, upc_meaning_work::proofs::Courses::main_goes))]
 fn call_main<'p>(
     evaluation: &mut Evaluation<'p>,
     setting: Setting<'p>,
@@ -125,7 +125,7 @@ fn call_main<'p>(
 }
 
 // The barrier before main, and main.
-#[tactic(auto, using(thread_items::proofs::Courses::starts))]
+#[tactic(auto, using(upc_meaning_work::proofs::Courses::starts))]
 fn start<'p>(
     evaluation: &mut Evaluation<'p>,
     setting: Setting<'p>,
@@ -146,7 +146,7 @@ fn start<'p>(
 }
 
 // Takes the first item off that is left, if one is left.
-#[tactic(auto, using(thread_items::proofs::Courses::items))]
+#[tactic(auto, using(upc_meaning_work::proofs::Courses::items))]
 fn next_item<'p>(evaluation: &mut Evaluation<'p>, setting: Setting<'p>) -> Option<Work<'p>>
     ensures { MatchOption result
         (meant (running_seen setting.entry) (seen evaluation.old)
@@ -159,7 +159,7 @@ fn next_item<'p>(evaluation: &mut Evaluation<'p>, setting: Setting<'p>) -> Optio
 }
 
 // The end, where nothing is left to do.
-#[tactic(auto, using(thread_items::proofs::Courses::items))]
+#[tactic(auto, using(upc_meaning_work::proofs::Courses::items))]
 fn end<'p>(evaluation: &Evaluation<'p>, setting: Setting<'p>) -> Result<ToldEnd, OutOfMemory>
     requires { (seen evaluation.now).works ≡ [] }
     ensures { IfOk result (λ e. outcome_of (meant (running_seen setting.entry) (seen evaluation.now))
@@ -173,7 +173,7 @@ fn end<'p>(evaluation: &Evaluation<'p>, setting: Setting<'p>) -> Result<ToldEnd,
 }
 
 // Does all that is left.
-#[tactic(auto, using(thread_items::proofs::Courses::told_behind_by))]
+#[tactic(auto, using(upc_meaning_work::proofs::Courses::told_behind_by))]
 fn finish<'p>(evaluation: &mut Evaluation<'p>, setting: Setting<'p>) -> Result<ToldEnd, OutOfMemory>
     requires { Fits setting.runner }
     ensures { IfOk result (λ e. outcome_of (meant (running_seen setting.entry) (seen evaluation.old))
@@ -195,7 +195,7 @@ fn finish<'p>(evaluation: &mut Evaluation<'p>, setting: Setting<'p>) -> Result<T
 }
 
 // A whole thread.
-#[tactic(auto, using(thread_items::proofs::Courses::told_by))]
+#[tactic(auto, using(upc_meaning_work::proofs::Courses::told_by))]
 fn run_thread<'p>(
     evaluation: &mut Evaluation<'p>,
     setting: Setting<'p>,

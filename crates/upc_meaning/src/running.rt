@@ -2,22 +2,22 @@
 
 ghost use Rattle.std.specs.Prelude.{◌≡◌, IfOk, OnOk};
 ghost use Rattle.typed_tree.specs.ViewStatements as views;
-ghost use Rattle.thread_progress.specs.code.Runners.{Fits};
-ghost use Rattle.thread_progress.specs.code.Settings.{running_seen};
-ghost use Rattle.thread_items.specs.code.Seen.{meant, with_item};
-ghost use Rattle.thread_items.specs.code.Items as item;
-ghost use Rattle.thread_items.specs.code.ViewItems.{view_standing};
-ghost use Rattle.thread_items.specs.code.Evaluations.{Went, seen};
+ghost use Rattle.upc_meaning_state.specs.code.Runners.{Fits};
+ghost use Rattle.upc_meaning_state.specs.code.Settings.{running_seen};
+ghost use Rattle.upc_meaning_work.specs.code.Seen.{meant, with_item};
+ghost use Rattle.upc_meaning_work.specs.code.Items as item;
+ghost use Rattle.upc_meaning_work.specs.code.ViewItems.{view_standing};
+ghost use Rattle.upc_meaning_work.specs.code.Evaluations.{Went, seen};
 
-use declaration_items::declarations::{block, headed};
-use statement_items::{statements, switches};
-use thread_items::{Evaluation, Standing, Work};
-use thread_progress::{Setting, Step};
+use upc_meaning_steps::declarations::{block, headed};
+use upc_meaning_steps::{statements, switches};
+use upc_meaning_work::{Evaluation, Standing, Work};
+use upc_meaning_state::{Setting, Step};
 use typed_tree::{Statement, StatementKind};
 use upc_text::OutOfMemory;
 
 // A loop without a head.
-#[tactic(auto, using(thread_items::proofs::Turning::loops))]
+#[tactic(auto, using(upc_meaning_work::proofs::Turning::loops))]
 fn plain_loop<'p>(
     evaluation: &mut Evaluation<'p>,
     setting: Setting<'p>,

@@ -1,25 +1,25 @@
 //! What is left to do, item by item.
 
 ghost use Rattle.std.specs.Prelude.{◌≡◌, IfOk};
-ghost use Rattle.thread_progress.specs.code.Runners.{Fits};
-ghost use Rattle.thread_progress.specs.code.Settings.{running_seen};
-ghost use Rattle.thread_items.specs.code.Seen.{meant, with_item};
-ghost use Rattle.thread_items.specs.code.Items as item;
-ghost use Rattle.thread_items.specs.code.ViewItems.{view_work};
-ghost use Rattle.thread_items.specs.code.Evaluations.{Went, seen};
+ghost use Rattle.upc_meaning_state.specs.code.Runners.{Fits};
+ghost use Rattle.upc_meaning_state.specs.code.Settings.{running_seen};
+ghost use Rattle.upc_meaning_work.specs.code.Seen.{meant, with_item};
+ghost use Rattle.upc_meaning_work.specs.code.Items as item;
+ghost use Rattle.upc_meaning_work.specs.code.ViewItems.{view_work};
+ghost use Rattle.upc_meaning_work.specs.code.Evaluations.{Went, seen};
 
 use crate::running;
-use call_items::{arguments, functions};
-use declaration_items::declarations;
-use expression_items::expressions;
-use statement_items::{loops, statements, switches};
-use thread_items::{Evaluation, Work};
-use thread_progress::{Setting, Step};
+use upc_meaning_steps::{arguments, functions};
+use upc_meaning_steps::declarations;
+use upc_meaning_steps::expressions;
+use upc_meaning_steps::{loops, statements, switches};
+use upc_meaning_work::{Evaluation, Work};
+use upc_meaning_state::{Setting, Step};
 use upc_text::{OutOfMemory, Place};
 use upc_values::Mark;
 
 // A value that nothing uses.
-#[tactic(auto, using(thread_items::proofs::Courses::ends_of))]
+#[tactic(auto, using(upc_meaning_work::proofs::Courses::ends_of))]
 fn drop_value<'p>(evaluation: &mut Evaluation<'p>, setting: Setting<'p>)
     ensures { with_item (running_seen setting.entry) item.Drop (seen evaluation.old)
         ≡ meant (running_seen setting.entry) (seen evaluation.new) }
@@ -28,7 +28,7 @@ fn drop_value<'p>(evaluation: &mut Evaluation<'p>, setting: Setting<'p>)
 }
 
 // The end of main.
-#[tactic(auto, using(thread_items::proofs::Courses::ends_of))]
+#[tactic(auto, using(upc_meaning_work::proofs::Courses::ends_of))]
 fn end_main<'p>(
     evaluation: &mut Evaluation<'p>,
     setting: Setting<'p>,

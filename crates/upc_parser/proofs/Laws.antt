@@ -4,15 +4,15 @@ use Rattle.std.specs.Prelude.{nat_lt}
 use Rattle.std.proofs.lemmas.Bool.{ltb-false, ltb-true}
 use Rattle.upc_lexer.specs.declared.token.Token.{Token}
 use Rattle.upc_tree.specs.Unit.{External, height_unit, tokens_of, ProperUnit, IsTree}
-use Rattle.token_reader.specs.declared.cursor.Fault.{Fault}
-use Rattle.token_reader.specs.declared.cursor.Fault.TheVariants.{NoTree, TooHigh}
-use Rattle.token_reader.specs.Outcome.{Outcome}
-use Rattle.token_reader.proofs.Sequence.{Gets, gets, high}
-use Rattle.statement_parser.specs.Parse.{unit_at}
+use Rattle.upc_parser_ground.specs.declared.cursor.Fault.{Fault}
+use Rattle.upc_parser_ground.specs.declared.cursor.Fault.TheVariants.{NoTree, TooHigh}
+use Rattle.upc_parser_ground.specs.Outcome.{Outcome}
+use Rattle.upc_parser_ground.proofs.Sequence.{Gets, gets, high}
+use Rattle.upc_parser_statements.specs.Parse.{unit_at}
 use Rattle.upc_parser.specs.Answer.{settle, answer}
-use Rattle.statement_laws.proofs.Low.{low_unit}
-use Rattle.statement_laws.proofs.CompleteUnit.{unit_reads}
-use Rattle.statement_laws.proofs.SoundUnit.{unit_finds}
+use Rattle.upc_parser_laws.proofs.Low.{low_unit}
+use Rattle.upc_parser_laws.proofs.CompleteUnit.{unit_reads}
+use Rattle.upc_parser_laws.proofs.SoundUnit.{unit_finds}
 
 abbrev U : Type 0
 U = List External

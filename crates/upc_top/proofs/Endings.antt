@@ -6,15 +6,15 @@ use Rattle.std.proofs.lemmas.Fmt.{decimal_injective}
 use Rattle.upc_text.specs.Outside.{Rose, IsWhole, IsLonger}
 use Rattle.upc_text.specs.declared.place.Refusal.{Refusal}
 use Rattle.typed_tree.specs.Programs.{Checked}
-use Rattle.command_words.specs.declared.call.Mode.{Mode}
-use Rattle.command_words.specs.declared.call.Mode.TheVariants.{Run, Record, Check, Layout, Sample}
-use Rattle.command_words.specs.Values.{Asked, Asks}
-use Rattle.command_words.proofs.Taken.{one_asked}
+use Rattle.upc_top_words.specs.declared.call.Mode.{Mode}
+use Rattle.upc_top_words.specs.declared.call.Mode.TheVariants.{Run, Record, Check, Layout, Sample}
+use Rattle.upc_top_words.specs.Values.{Asked, Asks}
+use Rattle.upc_top_words.proofs.Taken.{one_asked}
 use Rattle.upc_top.specs.declared.done.Done.{Done}
 use Rattle.upc_top.specs.declared.verdict.Verdict.{Verdict}
 use Rattle.upc_top.specs.declared.verdict.Verdict.TheVariants.{Usage, ReadFault, TooLong, Refused, Ran, Recorded, Overlong, Passed, Laid, NoMemory}
 use Rattle.upc_top.specs.Words.{prints, runs}
-use Rattle.run_output.specs.Layout.{layout}
+use Rattle.upc_top_output.specs.Layout.{layout}
 use Rattle.upc_top.specs.Sources.{IsAccepted, IsRunnable, IsRefusedIn, not_accepted, not_runnable}
 use Rattle.upc_top.proofs.Readings.{never_both, never_outside, same_checked}
 use Rattle.upc_top.specs.Verdicts.{Reading, IsSample, IsSource, Holds, Taken, Caused, CameTo, ComesFrom, FailedToRead, IsTooLong, status_for, text_of, journal_of, orders_in, without_memory, IsWritable}

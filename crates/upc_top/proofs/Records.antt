@@ -5,10 +5,10 @@ use Rattle.upc_values.specs.declared.journal.Journal.{Journal}
 use Rattle.upc_values.specs.declared.order.Orders.{Orders}
 use Rattle.upc_values.specs.Consistent.{FollowsBuffers}
 use Rattle.order_builder.specs.Named.{orders_of, thread_names}
-use Rattle.record_text.specs.Short.{HasText, is_short}
-use Rattle.command_words.specs.declared.call.Mode.{Mode}
-use Rattle.command_words.specs.declared.call.Mode.TheVariants.{Run, Record, Check, Layout, Sample}
-use Rattle.command_words.specs.Values.{Asked}
+use Rattle.run_recorder_text.specs.Short.{HasText, is_short}
+use Rattle.upc_top_words.specs.declared.call.Mode.{Mode}
+use Rattle.upc_top_words.specs.declared.call.Mode.TheVariants.{Run, Record, Check, Layout, Sample}
+use Rattle.upc_top_words.specs.Values.{Asked}
 use Rattle.upc_top.specs.declared.verdict.Verdict.{Verdict}
 use Rattle.upc_top.specs.declared.verdict.Verdict.TheVariants.{Usage, ReadFault, TooLong, Refused, Ran, Recorded, Overlong, Passed, Laid, NoMemory}
 use Rattle.upc_top.specs.Words.{prints, runs}

@@ -3,17 +3,17 @@ use Rattle.std.specs.Prelude.{ℕ, ◌≡◌, ◌≤◌, ◌<◌, ◌⊎◌, fal
 use Rattle.upc_text.specs.Outside.{Rose, taken_with, TookPrefix}
 use Rattle.upc_values.specs.declared.journal.Journal.{Journal}
 use Rattle.upc_values.specs.declared.order.Orders.{Orders}
-use Rattle.record_text.specs.Short.{is_short}
-use Rattle.record_text.specs.Lines.{text}
+use Rattle.run_recorder_text.specs.Short.{is_short}
+use Rattle.run_recorder_text.specs.Lines.{text}
 use Rattle.typed_tree.specs.Programs.{Checked}
-use Rattle.command_words.specs.declared.call.Mode.{Mode}
-use Rattle.command_words.specs.declared.call.Mode.TheVariants.{Run, Record, Check, Layout, Sample}
-use Rattle.command_words.specs.Values.{Asked, Asks}
+use Rattle.upc_top_words.specs.declared.call.Mode.{Mode}
+use Rattle.upc_top_words.specs.declared.call.Mode.TheVariants.{Run, Record, Check, Layout, Sample}
+use Rattle.upc_top_words.specs.Values.{Asked, Asks}
 use Rattle.upc_top.specs.declared.verdict.Verdict.{Verdict}
 use Rattle.upc_top.specs.declared.done.Done.{Done}
 use Rattle.upc_top.specs.Sources.{IsAccepted, IsRunnable}
-use Rattle.run_output.specs.Layout.{layout}
-use Rattle.run_output.specs.Output.{output, status_of}
+use Rattle.upc_top_output.specs.Layout.{layout}
+use Rattle.upc_top_output.specs.Output.{output, status_of}
 use Rattle.upc_top.specs.Verdicts.{Reading, Caused, text_of, line_of, status_for, refusal_of, journal_of}
 use Rattle.upc_top.specs.Verdicts.{without_memory, orders_in, IsSample}
 

@@ -1,10 +1,10 @@
 -- The verdict on a run, with its record where that was asked for.
 use Rattle.std.specs.Prelude.{◌≡◌, false, Some}
-use Rattle.command_words.specs.declared.call.Mode.{Mode}
-use Rattle.command_words.specs.declared.call.Mode.TheVariants.{Record}
+use Rattle.upc_top_words.specs.declared.call.Mode.{Mode}
+use Rattle.upc_top_words.specs.declared.call.Mode.TheVariants.{Record}
 use Rattle.upc_values.specs.declared.journal.Journal.{Journal}
 use Rattle.order_builder.specs.Named.{orders_of}
-use Rattle.record_text.specs.Short.{HasText, is_short}
+use Rattle.run_recorder_text.specs.Short.{HasText, is_short}
 use Rattle.upc_top.specs.declared.verdict.Verdict.{Verdict}
 use Rattle.upc_top.specs.declared.verdict.Verdict.TheVariants.{Ran, Recorded, Overlong, NoMemory}
 

@@ -14,7 +14,7 @@ use Rattle.upc_parser.specs.Answer.{HasPlace}
 use Rattle.upc_checker.specs.Outcomes as o
 use Rattle.upc_checker.specs.Outcomes.{outcome}
 use Rattle.typed_tree.specs.Programs.{Checked}
-use Rattle.command_words.specs.declared.call.Mode.{Mode}
+use Rattle.upc_top_words.specs.declared.call.Mode.{Mode}
 use Rattle.program_runs.specs.Served.{RunsToday}
 use Rattle.program_runs.specs.Runs.{IsNotYet}
 use Rattle.upc_top.specs.Words.{runs}

@@ -8,22 +8,22 @@ use Rattle.upc_values.specs.declared.journal.Journal.{Journal}
 use Rattle.upc_values.specs.declared.order.Orders.{Orders}
 use Rattle.typed_tree.specs.Programs.{Checked}
 use Rattle.typed_tree.specs.ViewProgram.{view_program}
-use Rattle.command_words.specs.declared.call.Mode.{Mode}
-use Rattle.command_words.specs.declared.call.Mode.TheVariants.{Record, Check, Layout, Sample}
-use Rattle.command_words.specs.Values.{Asked, Asks, IsInRange}
+use Rattle.upc_top_words.specs.declared.call.Mode.{Mode}
+use Rattle.upc_top_words.specs.declared.call.Mode.TheVariants.{Record, Check, Layout, Sample}
+use Rattle.upc_top_words.specs.Values.{Asked, Asks, IsInRange}
 use Rattle.serial_core.specs.declared.limits.Limits.{Limits}
 use Rattle.program_runs.specs.Runs.{IsRunOf}
 use Rattle.order_builder.specs.Named.{orders_of}
-use Rattle.record_text.specs.Short.{HasText, is_short}
-use Rattle.record_text.specs.Lines.{text}
+use Rattle.run_recorder_text.specs.Short.{HasText, is_short}
+use Rattle.run_recorder_text.specs.Lines.{text}
 use Rattle.upc_sample.specs.Sample.{sample}
 use Rattle.upc_top.specs.declared.verdict.Verdict.{Verdict}
 use Rattle.upc_top.specs.declared.verdict.Verdict.TheVariants.{Usage, ReadFault, TooLong, Refused, Ran, Passed, Laid}
 use Rattle.upc_top.specs.declared.verdict.Verdict.TheVariants.{Recorded, Overlong, NoMemory}
 use Rattle.upc_top.specs.Words.{prints, runs}
 use Rattle.upc_top.specs.Sources.{IsAccepted, IsRunnable, IsRefusedIn}
-use Rattle.run_output.specs.Layout.{layout}
-use Rattle.run_output.specs.Output.{output, status_of, run_line, refusal_line}
+use Rattle.upc_top_output.specs.Layout.{layout}
+use Rattle.upc_top_output.specs.Output.{output, status_of, run_line, refusal_line}
 
 -- What the files hold, where that is known, and their counts of faults before and after.
 pub record Reading : Type 0 where

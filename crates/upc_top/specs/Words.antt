@@ -1,7 +1,7 @@
 -- What the modes of the command line do with a program.
 use Rattle.std.specs.Prelude.{Bool, true, false}
-use Rattle.command_words.specs.declared.call.Mode.{Mode}
-use Rattle.command_words.specs.declared.call.Mode.TheVariants.{Run, Record, Check, Layout, Sample}
+use Rattle.upc_top_words.specs.declared.call.Mode.{Mode}
+use Rattle.upc_top_words.specs.declared.call.Mode.TheVariants.{Run, Record, Check, Layout, Sample}
 
 -- The modes `run` and `sample` run a program, and write what it prints.
 abbrev pub prints : Mode → Bool

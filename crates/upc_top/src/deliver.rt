@@ -8,10 +8,10 @@ ghost use Rattle.upc_top.specs.Delivery.{writing, Delivered, Delivers};
 
 use crate::done::Done;
 use crate::verdict::Verdict;
-use record_text::render;
-use run_output::layout::layout_text;
-use run_output::status::status_of;
-use run_output::text::{output_text, refusal_text, run_text};
+use run_recorder_text::render;
+use upc_top_output::layout::layout_text;
+use upc_top_output::status::status_of;
+use upc_top_output::text::{output_text, refusal_text, run_text};
 use std::alloc::{AllocError, Global};
 use upc_text::{Sink, put_all};
 

@@ -5,7 +5,7 @@ ghost use Rattle.upc_top.specs.Records.{IsRecordOf};
 
 use crate::verdict::Verdict;
 use order_builder::orders;
-use record_text::is_short;
+use run_recorder_text::is_short;
 use std::alloc::Global;
 use upc_values::Journal;
 

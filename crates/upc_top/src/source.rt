@@ -1,10 +1,10 @@
 //! The source that the words ask for.
 
 ghost use Rattle.std.specs.Prelude.{◌≤◌, length, IfOk, IfErr};
-ghost use Rattle.command_words.specs.Values.{IsAllowed, view_call};
+ghost use Rattle.upc_top_words.specs.Values.{IsAllowed, view_call};
 ghost use Rattle.upc_top.specs.Verdicts.{reading, IsSource, NoSource};
 
-use command_words::{Call, Mode, sample_number};
+use upc_top_words::{Call, Mode, sample_number};
 use std::alloc::Global;
 use upc_sample::sample;
 use upc_text::{ReadEnd, Sources, read_all};

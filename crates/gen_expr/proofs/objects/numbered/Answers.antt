@@ -1,5 +1,5 @@
 use Rattle.std.proofs.Common.{◌<◌, sym, arith}
-use Rattle.program_opening.proofs.Worth.{numbered_at}
+use Rattle.typed_tree_opening.proofs.Worth.{numbered_at}
 use Rattle.gen_expr.proofs.objects.numbered.Goals as goal
 
 pub returns : goal.returns

@@ -8,11 +8,11 @@ use Rattle.typing_rules.specs.Faults.{first_fault}
 use Rattle.typed_tree.specs.Scopes.{Setting, State, Tag, begin}
 use Rattle.typed_tree.specs.ViewEnv.{view_env}
 use Rattle.typed_tree.specs.ViewStatements.{view_object}
-use Rattle.walk_state.specs.Ends.{Stops, Comes}
+use Rattle.upc_checker_scopes.specs.Ends.{Stops, Comes}
 use Rattle.upc_checker.specs.Limits.{limit_by}
-use Rattle.function_checker.specs.Units as pure
-use Rattle.walk_state.specs.Views.{state_of, state_with}
-use Rattle.function_checker.specs.ViewMade.{view_made}
+use Rattle.upc_checker_functions.specs.Units as pure
+use Rattle.upc_checker_scopes.specs.Views.{state_of, state_with}
+use Rattle.upc_checker_functions.specs.ViewMade.{view_made}
 use Rattle.upc_checker.specs.ViewUnits.{view_checked, KeepsLimits}
 use Rattle.upc_checker.proofs.Outcomes.{answers_fault, answers_limit, accepted}
 use Rattle.upc_checker.proofs.whole.check_source.Goals as goal

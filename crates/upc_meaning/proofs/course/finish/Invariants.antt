@@ -1,7 +1,7 @@
 use Rattle.std.proofs.Common.{◌≡◌}
-use Rattle.thread_progress.specs.code.Settings.{running_seen}
-use Rattle.thread_items.specs.code.Seen.{meant}
-use Rattle.thread_items.specs.code.Evaluations.{seen}
+use Rattle.upc_meaning_state.specs.code.Settings.{running_seen}
+use Rattle.upc_meaning_work.specs.code.Seen.{meant}
+use Rattle.upc_meaning_work.specs.code.Evaluations.{seen}
 use Rattle.upc_meaning.proofs.course.finish.Given as goal
 
 abbrev pub invariant-loop : goal.invariant-loop

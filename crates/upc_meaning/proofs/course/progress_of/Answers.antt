@@ -1,5 +1,5 @@
 use Rattle.typed_tree.specs.Beginnings.{view_beginning}
-use Rattle.thread_items.proofs.Programs.{privates_begin}
+use Rattle.upc_meaning_work.proofs.Programs.{privates_begin}
 use Rattle.upc_meaning.proofs.course.progress_of.Goals as goal
 
 pub make-requires : goal.make-requires

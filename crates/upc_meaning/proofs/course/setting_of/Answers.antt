@@ -4,7 +4,7 @@ use Rattle.block_layout.specs.Shapes.{IsShape}
 use Rattle.shared_pointers.specs.Ranges.{IsThreads}
 use Rattle.upc_values.specs.Lists.{Each}
 use Rattle.typed_tree.specs.Beginnings.{view_beginning}
-use Rattle.thread_items.proofs.Programs.{shapes_fit}
+use Rattle.upc_meaning_work.proofs.Programs.{shapes_fit}
 use Rattle.upc_meaning.proofs.course.setting_of.Goals as goal
 
 pub returns-clause-fits : goal.returns-clause-fits

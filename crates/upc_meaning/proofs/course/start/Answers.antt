@@ -1,9 +1,9 @@
 use Rattle.std.proofs.Common.{ap}
-use Rattle.thread_progress.specs.code.Came.{state_seen}
-use Rattle.thread_progress.specs.code.Settings.{running_seen}
-use Rattle.thread_items.specs.code.Courses.{view_main}
-use Rattle.thread_items.specs.code.Seen.{with_state}
-use Rattle.thread_items.proofs.Courses.{starts_over, starts_so}
+use Rattle.upc_meaning_state.specs.code.Came.{state_seen}
+use Rattle.upc_meaning_state.specs.code.Settings.{running_seen}
+use Rattle.upc_meaning_work.specs.code.Courses.{view_main}
+use Rattle.upc_meaning_work.specs.code.Seen.{with_state}
+use Rattle.upc_meaning_work.proofs.Courses.{starts_over, starts_so}
 use Rattle.upc_meaning.proofs.course.start.Goals as goal
 
 pub returns-in-Ends : goal.returns-in-Ends

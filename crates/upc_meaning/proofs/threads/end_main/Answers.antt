@@ -1,8 +1,8 @@
 use Rattle.std.proofs.Common.{refl}
-use Rattle.thread_progress.specs.code.Came.{state_seen}
-use Rattle.thread_progress.specs.code.Settings.{running_seen}
-use Rattle.thread_items.proofs.Courses.{end_goes, end_stops}
-use Rattle.thread_items.specs.code.Evaluations.{seen}
+use Rattle.upc_meaning_state.specs.code.Came.{state_seen}
+use Rattle.upc_meaning_state.specs.code.Settings.{running_seen}
+use Rattle.upc_meaning_work.proofs.Courses.{end_goes, end_stops}
+use Rattle.upc_meaning_work.specs.code.Evaluations.{seen}
 use Rattle.upc_meaning.proofs.threads.end_main.Goals as goal
 
 pub returns-in-Ends : goal.returns-in-Ends

@@ -1,4 +1,4 @@
-use Rattle.command_words.specs.Values.{view_call}
+use Rattle.upc_top_words.specs.Values.{view_call}
 use Rattle.upc_top.proofs.judge.come_to.Goals as goal
 
 pub returns-in-Err : goal.returns-in-Err

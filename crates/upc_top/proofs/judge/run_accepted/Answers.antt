@@ -1,6 +1,6 @@
 use Rattle.std.proofs.Common.{refl, rules}
 use Rattle.typed_tree.specs.ViewProgram.{view_program}
-use Rattle.command_words.specs.Values.{view_call}
+use Rattle.upc_top_words.specs.Values.{view_call}
 use Rattle.upc_top.specs.Sources.{not_runnable}
 use Rattle.upc_top.proofs.Readings.{accepted_threads}
 use Rattle.upc_top.proofs.Records.{shown-comes}

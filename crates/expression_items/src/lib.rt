@@ -1,5 +1,0 @@
-//! What a thread does at each item of an expression.
-#![tactic(auto)]
-
-mod calls;
-pub mod expressions;

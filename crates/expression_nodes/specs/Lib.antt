@@ -1,5 +1,0 @@
-pub mod Marks
-pub mod ViewUses
-pub mod Called
-pub mod Parts
-pub mod ViewJudged

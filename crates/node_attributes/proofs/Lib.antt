@@ -1,3 +1,0 @@
-pub mod Sized
-pub mod Finding
-pub mod Wide

@@ -1,4 +1,0 @@
-use Rattle.node_attributes.proofs.attributes.address.Goals as goal
-
-pub invariant_of-result-clause-within : goal.invariant_of-result-clause-within
-invariant_of-result-clause-within c = c.address_in.ensures.within c.args.a.now.names

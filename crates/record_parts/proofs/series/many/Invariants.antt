@@ -1,8 +1,0 @@
-use Rattle.std.proofs.Common.{◌≡◌, ◌-◌}
-use Rattle.record_parts.specs.code.Readers.{many, texts}
-use Rattle.record_parts.proofs.Loops.{with_front}
-use Rattle.record_parts.proofs.series.many.Given as goal
-
-abbrev pub invariant-loop-at : goal.invariant-loop-at
-invariant-loop-at g l = with_front l.found.items (many l.at (l.count - l.at) g.T.Part.of (texts l.parts.rest.now))
-    ≡ many 0 l.count g.T.Part.of (texts l.fn.parts.rest.now)

@@ -1,9 +1,0 @@
-use Rattle.std.proofs.Common.{◌≡◌, ◌++◌, map}
-use Rattle.record_text.specs.Lines.{entry_line}
-use Rattle.record_text.specs.code.Rows.{rows}
-use Rattle.record_text.proofs.lines.entries.Given as goal
-
-abbrev pub invariant-loop-one : goal.invariant-loop-one
-invariant-loop-one l =
-    l.out.items ++ rows (map entry_line l.one-iterator)
-    ≡ l.fn.out.items ++ rows (map entry_line l.entries)

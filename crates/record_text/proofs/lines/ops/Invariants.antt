@@ -1,8 +1,0 @@
-use Rattle.std.proofs.Common.{◌≡◌, ◌++◌, drop, map}
-use Rattle.record_text.specs.Lines.{op_line}
-use Rattle.record_text.specs.code.Rows.{rows}
-use Rattle.record_text.proofs.lines.ops.Given as goal
-
-abbrev pub invariant-loop-one : goal.invariant-loop-one
-invariant-loop-one l =
-    l.out.items ++ rows (map op_line (drop l.one-index l.ops)) ≡ l.fn.out.items ++ rows (map op_line l.ops)

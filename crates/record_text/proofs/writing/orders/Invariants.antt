@@ -1,9 +1,0 @@
-use Rattle.std.proofs.Common.{◌≡◌, ◌++◌, drop}
-use Rattle.record_text.specs.Lines.{numbered_lines, order_lines}
-use Rattle.record_text.specs.code.Rows.{rows}
-use Rattle.record_text.proofs.writing.orders.Given as goal
-
-abbrev pub invariant-loop-t : goal.invariant-loop-t
-invariant-loop-t l =
-    l.out.items ++ rows (numbered_lines order_lines l.t (drop l.t l.orders))
-    ≡ l.fn.out.items ++ rows (numbered_lines order_lines 0 l.orders)

@@ -1,6 +1,0 @@
-use Rattle.integers.specs.Operators.{binary_kind}
-use Rattle.rule_checks.proofs.Operands.{kind_value}
-use Rattle.rule_checks.proofs.constants.binary_known.Goals as goal
-
-pub valued-requires : goal.valued-requires
-valued-requires c = kind_value c.binary.result (binary_kind c.args.op c.working_kind-kind.result) c.binary.ensures.range

@@ -1,7 +1,0 @@
-use Rattle.std.proofs.Common.{◌≡◌, ◌++◌}
-use Rattle.run_output.specs.Layout.{pieces_text}
-use Rattle.run_output.proofs.Lines.{pieces_from}
-use Rattle.run_output.proofs.layout.pieces.Given as goal
-
-abbrev pub invariant-loop-thread : goal.invariant-loop-thread
-invariant-loop-thread l = l.text.items ++ pieces_from l.threads l.object l.thread ≡ pieces_text l.threads l.object

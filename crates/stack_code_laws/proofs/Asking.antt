@@ -1,0 +1,312 @@
+-- What threads of code ask for.
+use Rattle.std.proofs.Common.{◌≡◌, ℕ, zero, suc, ◌+◌, ◌<◌, List, [], ◌∷◌, ◌++◌, length, true, false}
+use Rattle.std.proofs.Common.{refl, sym, ◌∙◌, ap, subst, arith}
+use Rattle.std.proofs.lemmas.List.{length_push}
+use Rattle.upc_values.specs.declared.scalar.Value.{Value}
+use Rattle.upc_values.specs.declared.action.Action.{Action}
+use Rattle.upc_values.specs.declared.action.Reply.{Reply}
+use Rattle.upc_values.specs.declared.record.ToldEnd.{ToldEnd}
+use Rattle.upc_values.specs.declared.record.ToldEnd.TheVariants.{Wants, Misfit, Ended, Exit, Fault, OutOfTicks}
+use Rattle.upc_values.specs.declared.journal.Entry.{Entry}
+use Rattle.upc_values.specs.Lists.{Each}
+use Rattle.upc_values.specs.Outcomes.{Outcome}
+use Rattle.upc_values.specs.Openings.{Opening, IsOpening}
+use Rattle.upc_values.specs.Formed as history
+use Rattle.upc_values.specs.Known.{HasGiven}
+use Rattle.thread_steps.specs.States.{Thread, State, Res, Val, Over, Unfinished}
+use Rattle.thread_steps.specs.Fronts.{Begins}
+use Rattle.thread_steps.proofs.Fronts.{begins_itself, begins_on, all_of}
+use Rattle.thread_steps.proofs.Following.{total, plus, Later}
+use Rattle.stack_code.specs.declared.instruction.Instr.{Instr}
+use Rattle.stack_code.specs.Codes.{Codes, thread_of}
+use Rattle.stack_code.specs.Steps.{Spot, Conf, At, Halt, nowhere, step, steps}
+use Rattle.stack_code.specs.Outcomes.{told_by, HasEnded, initial_state, beginning}
+use Rattle.stack_code.proofs.Ends.{steps_add, steps_ended}
+use Rattle.stack_code_laws.specs.Asking.{IsDeclaredIn, IsThreadOf, AsksWell}
+use Rattle.stack_code_laws.specs.Names.{NamesGiven}
+use Rattle.stack_code_laws.proofs.Given.{FindsNamed, IsWellFormed, fits_after}
+use Rattle.stack_code_laws.proofs.Histories.{names_given, all_known, finds_named, formed_there, fits_there}
+use Rattle.stack_code_laws.proofs.KnownValues.{runner}
+use Rattle.stack_code_laws.proofs.Stores.{begun_filled}
+use Rattle.stack_code_laws.proofs.Doings.{GrownTo, Grown, Reaches, Misses}
+use Rattle.stack_code_laws.proofs.Doings.{grown_to}
+use Rattle.stack_code_laws.proofs.Doings.{IsGood, EndsWell, Comes}
+use Rattle.stack_code_laws.proofs.Instructions.{Point, res_of, AllKnown, Stands, step_asks}
+
+-- ---- where the code stands
+
+abbrev conf_of : Res Point → Conf
+conf_of (Val point υ) = At point.at point.given point.operands point.calls υ
+conf_of (Over e υ) = Halt e υ
+conf_of Unfinished = Halt OutOfTicks nowhere
+
+conf_is : (c : Conf) → conf_of (res_of c) ≡ c
+conf_is (At at given operands calls σ) = refl
+conf_is (Halt e σ) = refl
+
+abbrev state_of : Conf → State
+state_of (At at given operands calls σ) = σ
+state_of (Halt e σ) = σ
+
+grown_state : (σ : State) (c : Conf) → Grown σ (res_of c) → GrownTo σ (state_of c)
+grown_state σ (At at given operands calls υ) g = g
+grown_state σ (Halt e υ) g = g
+
+reached_state : (actions : List Action) (c : Conf) → Reaches actions (res_of c) → Begins actions (state_of c).actions
+reached_state actions (At at given operands calls υ) h = h
+reached_state actions (Halt e υ) h = h
+
+ended_actions : (c : Conf) (p : Outcome) → HasEnded c p → (state_of c).actions ≡ p.actions
+ended_actions (At at given operands calls σ) p h = absurd h
+ended_actions (Halt e σ) p h = ap (λ q. q.actions) h
+
+-- The thread has ended after what an outcome has done, since a reply does not fit.
+abbrev HasMissed : Outcome → Conf → Type 0
+HasMissed p (At at given operands calls σ) = ⊥
+HasMissed p (Halt e υ) = (e ≡ Misfit (length p.actions)) × (υ.actions ≡ p.actions)
+
+missed_at : (p : Outcome) (actions : List Action) (c : Conf) → actions ≡ p.actions → Misses actions (res_of c)
+    → HasMissed p c
+missed_at p actions (At at given operands calls σ) e h = absurd h
+missed_at p actions (Halt t υ) e h = (h.0 ∙ ap (λ (xs : List Action). Misfit (length xs)) e, h.1 ∙ e)
+
+action_or : Action → ToldEnd → Action
+action_or other (Wants a) = a
+action_or other e = other
+
+same_action : (a b : Action) → Wants a ≡ Wants b → a ≡ b
+unfolding action_or
+same_action a b e = ap (action_or a) e
+
+module _ (τ : Thread) (functions : List (List Instr)) where
+  ended_stays : (n : ℕ) (c : Conf) (p : Outcome) → HasEnded c p → steps τ functions n c ≡ c
+  ended_stays n (At at given operands calls σ) p h = absurd h
+  ended_stays n (Halt e σ) p h = steps_ended τ functions n e σ
+
+  missed_stays : (n : ℕ) (c : Conf) (p q : Outcome) → HasMissed p c → HasEnded (steps τ functions n c) q
+      → (q.«end» ≡ Misfit (length p.actions)) × (q.actions ≡ p.actions)
+  missed_stays n (At at given operands calls σ) p q h e = absurd h
+  missed_stays n (Halt t υ) p q h e =
+      let g : told_by t υ ≡ q = subst (λ d. HasEnded d q) (steps_ended τ functions n t υ) e in
+      (sym (ap (λ x. x.«end») g) ∙ h.0, sym (ap (λ x. x.actions) g) ∙ h.1)
+
+module _ (o : Opening) (past : List Reply) (v : IsOpening o) (finds : FindsNamed o past) (me budget : ℕ)
+    (one : me < o.threads) (functions : List (List Instr)) (declared : Each (Each (IsDeclaredIn o)) functions) where
+  abbrev τ : Thread
+  τ = runner o me budget
+
+  -- Along instructions the actions grow, each by one reply.
+  steps_grow : (n : ℕ) (c : Conf) → GrownTo (state_of c) (state_of (steps τ functions n c))
+  steps_grow zero c = (begins_itself (state_of c).actions, refl)
+  steps_grow (suc n) (At here given operands calls σ) =
+      let c = step τ functions (At here given operands calls σ) in
+      grown_to σ (state_of c) (state_of (steps τ functions n c))
+      (grown_state σ c
+      ((step_asks o past v finds me budget one functions declared here given operands calls).grows σ))
+      (steps_grow n c)
+  steps_grow (suc n) (Halt e σ) = steps_grow n (Halt e σ)
+
+  -- An action is wanted at the end of what begins at a point: it may be asked for, each reply was heard, and with a
+  -- further reply that fits it, it is done; with one that does not, the thread ends.
+  record IsWanted (p : Outcome) (a : Action) (σ : State) (begins : List Reply → Conf) : Type 0 where
+    formed : IsWellFormed o past a
+    heard : length p.actions ≡ total σ
+    fit : (r : Reply) → fits_after o past a r ≡ true
+        → (count : ℕ)
+        × Begins (p.actions ++ a ∷ []) (state_of (steps τ functions count (begins (r ∷ [])))).actions
+    misfit : (r : Reply) → fits_after o past a r ≡ false
+        → (count : ℕ) × HasMissed p (steps τ functions count (begins (r ∷ [])))
+
+  module _ (here : Spot) (given operands : List Value) (calls : List Spot) (σ : State) (p : Outcome) (a : Action)
+      (w : p.«end» ≡ Wants a) where
+    -- Where the thread begins with further replies.
+    abbrev with_more : List Reply → Conf
+    with_more more = At here given operands calls (record σ { replies = σ.replies ++ more })
+
+    abbrev next_with : Later Point
+    next_with x xs = res_of (step τ functions (with_more (x ∷ xs)))
+
+    halted : (e : ToldEnd) (υ : State) → EndsWell o past e υ next_with → GrownTo σ υ → told_by e υ ≡ p
+        → IsWanted p a σ with_more
+    halted (Wants b) υ h g t =
+        let same = same_action b a (ap (λ q. q.«end») t ∙ w) in
+        let acts = ap (λ q. q.actions) t in
+        let n = ap length acts in
+        let none = ap length h.none in
+        let all = g.1 in
+        record {
+          formed = subst (IsWellFormed o past) same h.formed;
+          heard = omega arith;
+          fit = λ r f. (
+            1,
+            subst (λ l. Begins l (state_of (step τ functions (with_more (r ∷ [])))).actions)
+                (ap (λ l. l ++ b ∷ []) acts ∙ ap (λ c. p.actions ++ c ∷ []) same)
+                (reached_state (υ.actions ++ b ∷ []) (step τ functions (with_more (r ∷ [])))
+                (h.fit r [] (subst (λ c. fits_after o past c r ≡ true) (sym same) f))),
+          );
+          misfit = λ r f. (
+            1,
+            missed_at p υ.actions (step τ functions (with_more (r ∷ []))) acts
+                (h.misfit r [] (subst (λ c. fits_after o past c r ≡ false) (sym same) f)),
+          );
+        }
+    halted (Misfit k) υ h g t = let q = ap (λ q. q.«end») t ∙ w in absurd cc
+    halted (Ended n) υ h g t = let q = ap (λ q. q.«end») t ∙ w in absurd cc
+    halted (Exit n) υ h g t = let q = ap (λ q. q.«end») t ∙ w in absurd cc
+    halted (Fault code at) υ h g t = let q = ap (λ q. q.«end») t ∙ w in absurd cc
+    halted OutOfTicks υ h g t = let q = ap (λ q. q.«end») t ∙ w in absurd cc
+
+  wanted_from : (n : ℕ) (here : Spot) (given operands : List Value) (calls : List Spot) (σ : State)
+      → AllKnown o past given × AllKnown o past operands → IsGood o past σ → (p : Outcome) (a : Action)
+      → (w : p.«end» ≡ Wants a) → HasEnded (steps τ functions n (At here given operands calls σ)) p
+      → IsWanted p a σ (with_more here given operands calls σ p a w)
+  wanted_from zero here given operands calls σ k good p a w h = absurd h
+  wanted_from (suc n) here given operands calls σ k good p a w h =
+      let s = step_asks o past v finds me budget one functions declared here given operands calls in
+      by_next (step τ functions (At here given operands calls σ)) (s.by k σ good) (s.grows σ) h (wanted_from n)
+    where
+      from : List Reply → Conf
+      from = with_more here given operands calls σ p a w
+
+      by_next : (c : Conf)
+          → Comes o past (Stands o past) (res_of c) (next_with here given operands calls σ p a w) → Grown σ (res_of c)
+          → HasEnded (steps τ functions n c) p
+          → ((at : Spot) (vs ws : List Value) (back : List Spot) (υ : State)
+          → AllKnown o past vs × AllKnown o past ws → IsGood o past υ → (q : Outcome) (b : Action)
+          → (z : q.«end» ≡ Wants b) → HasEnded (steps τ functions n (At at vs ws back υ)) q
+          → IsWanted q b υ (with_more at vs ws back υ q b z))
+          → IsWanted p a σ (with_more here given operands calls σ p a w)
+      by_next (At at vs ws back υ) c g e next =
+          let i = next at vs ws back υ c.0 c.1 p a w e in
+          let all = g.1 in
+          let m = i.heard in
+          record {
+            formed = i.formed;
+            heard = omega arith;
+            fit = λ r f.
+                let j = i.fit r f in
+                let there = step τ functions (At here given operands calls (plus σ r [])) in
+                let same : there ≡ At at vs ws back (plus υ r []) =
+                sym (conf_is there) ∙ ap conf_of (c.2 r []) in (
+                  suc j.0,
+                  subst (λ d. Begins (p.actions ++ a ∷ []) (state_of (steps τ functions j.0 d)).actions) (sym same) j.1,
+                );
+            misfit = λ r f.
+                let j = i.misfit r f in
+                let there = step τ functions (At here given operands calls (plus σ r [])) in
+                let same : there ≡ At at vs ws back (plus υ r []) =
+                sym (conf_is there) ∙ ap conf_of (c.2 r []) in (
+                  suc j.0,
+                  subst (λ d. HasMissed p (steps τ functions j.0 d)) (sym same) j.1,
+                );
+          }
+      by_next (Halt e υ) c g h next =
+          halted here given operands calls σ p a w e υ c g
+          (subst (λ d. HasEnded d p) (steps_ended τ functions n e υ) h)
+
+module _ (o : Opening) (codes : Codes) (thread budget : ℕ) (f : List Reply → Outcome)
+    (h : IsThreadOf o codes thread budget f) where
+  same_thread : thread_of codes thread budget ≡ runner o thread budget
+  same_thread =
+      λ i. record { number = thread; threads = h.declared.threads i; budget = budget; shapes = h.declared.shapes i }
+
+  one : thread < o.threads
+  one = subst (λ n. thread < n) h.declared.threads h.number
+
+  -- How many instructions lead to the end.
+  count_of : List Reply → ℕ
+  count_of replies = (h.means replies).count
+
+  ended : (replies : List Reply)
+      → HasEnded (steps (runner o thread budget) codes.functions (count_of replies) (beginning codes replies))
+      (f replies)
+  unfolding count_of
+  ended replies =
+      subst (λ t. HasEnded (steps t codes.functions (count_of replies) (beginning codes replies)) (f replies))
+      same_thread
+      (h.means replies).ended
+
+  module _ (rs : List Reply) (es : List Entry) (a : Action) (w : (f rs).«end» ≡ Wants a) (has : HasGiven o es rs) where
+    abbrev origin : Spot
+    origin = record { function = 0; place = 0 }
+
+    finds : FindsNamed o rs
+    finds = finds_named o es h.opening has.legal rs has.known
+
+    is_wanted : IsWanted o rs h.opening finds thread budget one codes.functions h.declared.pushed
+        (f rs) a
+        (initial_state codes rs) (λ more. beginning codes (rs ++ more))
+    is_wanted =
+        wanted_from o rs h.opening finds thread budget one codes.functions h.declared.pushed
+        (count_of rs) origin [] [] [] (initial_state codes rs) (tt, tt)
+        (record {
+          store = begun_filled o rs codes.private_shapes codes.private_initials h.declared.initials
+              h.code.private.fit;
+          replies = all_known o es rs has.known;
+        })
+        (f rs) a w (ended rs)
+
+    fits_so : (r : Reply) → history.fits_after o es a r ≡ fits_after o rs a r
+    fits_so r = fits_there o es h.opening has.legal rs has.known a is_wanted.formed r
+
+    formed_so : history.IsWellFormed o es a
+    formed_so = formed_there o es h.opening has.legal rs has.known a is_wanted.formed
+
+    named_so : NamesGiven o rs a
+    named_so = names_given o rs a is_wanted.formed
+
+    taken : (r : Reply) → history.fits_after o es a r ≡ true → (f (rs ++ r ∷ [])).actions ≡ (f rs).actions ++ a ∷ []
+    taken r fit =
+        let τ = runner o thread budget in
+        let k = is_wanted.fit r (sym (fits_so r) ∙ fit) in
+        let first = beginning codes (rs ++ r ∷ []) in
+        let n = count_of (rs ++ r ∷ []) in
+        let end = steps τ codes.functions n first in
+        let grow =
+        steps_grow o rs h.opening finds thread budget one codes.functions h.declared.pushed in
+        let acts = ended_actions end (f (rs ++ r ∷ [])) (ended (rs ++ r ∷ [])) in
+        let further = steps τ codes.functions n (steps τ codes.functions k.0 first) in
+        let swap : k.0 + n ≡ n + k.0 = omega arith in
+        let same : further ≡ end =
+        sym (steps_add τ codes.functions k.0 n first) ∙ ap (λ m. steps τ codes.functions m first) swap
+        ∙ steps_add τ codes.functions n k.0 first
+        ∙ ended_stays τ codes.functions k.0 end (f (rs ++ r ∷ [])) (ended (rs ++ r ∷ [])) in
+        let begins : Begins ((f rs).actions ++ a ∷ []) (f (rs ++ r ∷ [])).actions =
+        subst (λ l. Begins ((f rs).actions ++ a ∷ []) l) (ap (λ c. (state_of c).actions) same ∙ acts)
+        (begins_on ((f rs).actions ++ a ∷ []) (state_of (steps τ codes.functions k.0 first)).actions
+        (state_of further).actions k.1 (grow n (steps τ codes.functions k.0 first)).0) in
+        let all = (grow n first).1 in
+        let many = ap length acts in
+        let heard = is_wanted.heard in
+        let one = length_push rs r in
+        let more = length_push (f rs).actions a in
+        all_of ((f rs).actions ++ a ∷ []) (f (rs ++ r ∷ [])).actions begins (omega arith)
+
+    missed : (r : Reply) → history.fits_after o es a r ≡ false
+        → ((f (rs ++ r ∷ [])).«end» ≡ Misfit (length rs)) × ((f (rs ++ r ∷ [])).actions ≡ (f rs).actions)
+    missed r misfit =
+        let τ = runner o thread budget in
+        let k = is_wanted.misfit r (sym (fits_so r) ∙ misfit) in
+        let first = beginning codes (rs ++ r ∷ []) in
+        let n = count_of (rs ++ r ∷ []) in
+        let q = f (rs ++ r ∷ []) in
+        let end = steps τ codes.functions n first in
+        let swap : n + k.0 ≡ k.0 + n = omega arith in
+        let same : end ≡ steps τ codes.functions n (steps τ codes.functions k.0 first) =
+        sym (ended_stays τ codes.functions k.0 end q (ended (rs ++ r ∷ [])))
+        ∙ sym (steps_add τ codes.functions n k.0 first) ∙ ap (λ m. steps τ codes.functions m first) swap
+        ∙ steps_add τ codes.functions k.0 n first in
+        let m = missed_stays τ codes.functions n (steps τ codes.functions k.0 first) (f rs) q k.1
+        (subst (λ c. HasEnded c q) same (ended (rs ++ r ∷ []))) in
+        let all = is_wanted.heard in
+        let heard : length (f rs).actions ≡ length rs = omega arith in
+        (m.0 ∙ ap Misfit heard, m.1)
+
+pub asks_well : (o : Opening) (codes : Codes) (thread budget : ℕ) (f : List Reply → Outcome)
+    → IsThreadOf o codes thread budget f → AsksWell o f
+asks_well o codes thread budget f h = record {
+  goes = λ rs before a r w has fit. taken o codes thread budget f h rs before a w has r fit;
+  misfits = λ rs before a r w has misfit. missed o codes thread budget f h rs before a w has r misfit;
+  formed = λ rs before a w has. formed_so o codes thread budget f h rs before a w has;
+  names = λ rs before a w has. named_so o codes thread budget f h rs before a w has;
+}

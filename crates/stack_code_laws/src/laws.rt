@@ -1,0 +1,24 @@
+//! What holds of every code that names nothing but what an opening declares.
+
+ghost use Rattle.std.specs.Prelude.{ℕ, List};
+ghost use Rattle.upc_values.specs.declared.action.Reply.{Reply};
+ghost use Rattle.upc_values.specs.Outcomes.{Outcome};
+ghost use Rattle.upc_values.specs.Openings.{Opening};
+ghost use Rattle.stack_code.specs.Codes.{Codes};
+ghost use Rattle.stack_code.specs.Outcomes.{CodeMeans};
+ghost use Rattle.stack_code_laws.specs.Asking.{IsThreadOf, AsksWell};
+ghost use Rattle.stack_code_laws.specs.Turns.{TakesTurns};
+
+/// Whatever a thread of code wants may be asked for after each history that may have given its replies, and with a
+/// reply that fits it is one more of the actions that the thread did. It names nothing but what the opening declares or
+/// one of these replies gave.
+pub fn code_asks_well()
+    ensures { (o : Opening) (codes : Codes) (thread budget : ℕ) (f : List Reply → Outcome)
+        → IsThreadOf o codes thread budget f → AsksWell o f }
+{}
+
+/// Every thread of every code notifies and waits in turn, beginning with a notify (UPC 6.6.1).
+pub fn code_takes_turns()
+    ensures { (codes : Codes) (thread budget : ℕ) (replies : List Reply) (outcome : Outcome)
+        → CodeMeans codes thread budget replies outcome → TakesTurns outcome }
+{}

@@ -1,7 +1,0 @@
-use Rattle.std.proofs.Common.{◌≡◌, drop}
-use Rattle.statement_checker.specs.Statements as pure
-use Rattle.statement_checker.proofs.heads.strict_behind.Given as goal
-
--- what is left decides
-abbrev pub invariant-loop-pragma : goal.invariant-loop-pragma
-invariant-loop-pragma l = pure.strict_behind l.strict (drop l.pragma-index l.pragmas) ≡ pure.strict_behind l.before l.pragmas

@@ -1,9 +1,0 @@
-pub mod Listings
-pub mod Low
-pub mod Begins
-pub mod CompleteDeclarations
-pub mod CompleteStatements
-pub mod CompleteUnit
-pub mod SoundDeclarations
-pub mod SoundStatements
-pub mod SoundUnit

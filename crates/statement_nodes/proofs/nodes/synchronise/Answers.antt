@@ -1,8 +1,0 @@
-use Rattle.std.proofs.Common.{refl, sym}
-use Rattle.statement_nodes.proofs.nodes.synchronise.Goals as goal
-
-pub returns-in_ok-synchronise-in-None : goal.returns-in_ok-synchronise-in-None
-returns-in_ok-synchronise-in-None c = λ ξ s. rw c.in-None.is (record { fine = refl; state = refl; value = sym c.in_ok-synchronise-in-None.ensures })
-
-pub returns-in-Some : goal.returns-in-Some
-returns-in-Some c = λ ξ s. rw c.in-Some.is (c.finish_barrier.ensures ξ s)

@@ -1,4 +1,0 @@
-use Rattle.statement_parser.proofs.knot.+statement.Given as goal
-
-abbrev pub decreases-statement : goal.decreases-statement
-decreases-statement l = l.height

@@ -1,2 +1,0 @@
-mod Rolled
-mod Seen

@@ -1,7 +1,0 @@
-use Rattle.upc_tree.specs.View.{view_arguments}
-use Rattle.upc_tree.proofs.Rows.{filled_is}
-use Rattle.syntax_makers.proofs.Seen.{seen}
-use Rattle.syntax_makers.proofs.expressions.arguments.Goals as goal
-
-pub returns : goal.returns
-returns c = seen view_arguments c.boxed.result _ _ (filled_is c.args.first c.args.more c.args.right) c.boxed.ensures

@@ -1,7 +1,0 @@
-use Rattle.upc_tree.specs.View.{view}
-use Rattle.upc_tree.proofs.Rows.{comma_is}
-use Rattle.syntax_makers.proofs.Seen.{seen}
-use Rattle.syntax_makers.proofs.expressions.comma.Goals as goal
-
-pub returns : goal.returns
-returns c = seen view c.boxed.result _ _ (comma_is c.args.first c.args.more) c.boxed.ensures

@@ -1,7 +1,0 @@
-use Rattle.upc_tree.specs.View.{view_declarator}
-use Rattle.upc_tree.proofs.Rows.{function_is}
-use Rattle.syntax_makers.proofs.Seen.{seen}
-use Rattle.syntax_makers.proofs.expressions.function.Goals as goal
-
-pub returns : goal.returns
-returns c = seen view_declarator c.boxed.result _ _ (function_is c.args.pointers c.args.name c.args.parameters) c.boxed.ensures

@@ -1,5 +1,0 @@
-use Rattle.syntax_makers.proofs.Rolled.{line_is}
-use Rattle.syntax_makers.proofs.expressions.member.Goals as goal
-
-pub returns : goal.returns
-returns c = line_is c.args.specs c.args.first c.args.more c.args.semicolon

@@ -1,7 +1,0 @@
-use Rattle.upc_tree.specs.View.{view_parameter}
-use Rattle.syntax_makers.proofs.Seen.{seen}
-use Rattle.syntax_makers.proofs.Rolled.{parametric_is}
-use Rattle.syntax_makers.proofs.expressions.parameter.Goals as goal
-
-pub returns : goal.returns
-returns c = seen view_parameter c.boxed.result _ _ (parametric_is c.args.specs c.args.pointers c.args.name c.args.array) c.boxed.ensures

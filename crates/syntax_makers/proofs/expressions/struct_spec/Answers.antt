@@ -1,5 +1,0 @@
-use Rattle.upc_tree.proofs.Rows.{struct_is}
-use Rattle.syntax_makers.proofs.expressions.struct_spec.Goals as goal
-
-pub returns : goal.returns
-returns c = struct_is c.args.word c.args.tag c.args.left c.args.members c.args.right

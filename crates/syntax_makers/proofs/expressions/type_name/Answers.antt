@@ -1,7 +1,0 @@
-use Rattle.upc_tree.specs.View.{view_type}
-use Rattle.syntax_makers.proofs.Seen.{seen}
-use Rattle.syntax_makers.proofs.Rolled.{typed_is}
-use Rattle.syntax_makers.proofs.expressions.type_name.Goals as goal
-
-pub returns : goal.returns
-returns c = seen view_type c.boxed.result _ _ (typed_is c.args.specs c.args.pointers c.args.sizes) c.boxed.ensures

@@ -1,7 +1,0 @@
-use Rattle.upc_tree.specs.ViewStatement.{view_statement}
-use Rattle.upc_tree.proofs.StatementRows.{compound_is}
-use Rattle.syntax_makers.proofs.Seen.{seen}
-use Rattle.syntax_makers.proofs.statements.block.Goals as goal
-
-pub returns : goal.returns
-returns c = seen view_statement c.boxed.result _ _ (compound_is c.args.compound) c.boxed.ensures

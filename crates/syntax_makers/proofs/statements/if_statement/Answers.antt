@@ -1,7 +1,0 @@
-use Rattle.upc_tree.specs.ViewStatement.{view_statement}
-use Rattle.upc_tree.proofs.StatementRows.{if_is}
-use Rattle.syntax_makers.proofs.Seen.{seen}
-use Rattle.syntax_makers.proofs.statements.if_statement.Goals as goal
-
-pub returns : goal.returns
-returns c = seen view_statement c.boxed.result _ _ (if_is c.args.word c.args.test c.args.body c.args.more c.args.otherwise) c.boxed.ensures

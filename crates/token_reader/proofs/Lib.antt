@@ -1,5 +1,0 @@
-pub mod Lists
-pub mod Ran
-pub mod Sequence
-pub mod TableFacts
-pub mod Turns

@@ -1,5 +1,0 @@
-use Rattle.type_specifiers.proofs.Naming.{noted}
-use Rattle.type_specifiers.proofs.members.note.Goals as goal
-
-pub returns-clause-ok : goal.returns-clause-ok
-returns-clause-ok c = λ q. noted c.args.numbers.now c.insert.new.self (λ k. k.items) c.args.name.items c.args.number c.in_ok-insert.ensures.updates q

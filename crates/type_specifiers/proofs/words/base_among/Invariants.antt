@@ -1,8 +1,0 @@
-use Rattle.std.proofs.Common.{◌≡◌, drop, map}
-use Rattle.type_specifiers.specs.Specifiers as pure
-use Rattle.type_specifiers.specs.ViewWords.{view_row}
-use Rattle.type_specifiers.proofs.words.base_among.Given as goal
-
--- what is left decides
-abbrev pub invariant-loop-row : goal.invariant-loop-row
-invariant-loop-row l = pure.base_among (map view_row l.rows) l.words ≡ pure.base_among (map view_row (drop l.row-index l.rows)) l.words

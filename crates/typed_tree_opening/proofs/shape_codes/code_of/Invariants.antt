@@ -1,0 +1,11 @@
+use Rattle.std.proofs.Common.{◌≡◌, ◌<◌}
+use Rattle.typed_tree_opening.specs.Apart.{cells_code, code_of}
+use Rattle.typed_tree_opening.proofs.shape_codes.code_of.Given as goal
+
+abbrev pub invariant-loop-cell : goal.invariant-loop-cell
+invariant-loop-cell l = record {
+  next : (goal.iterator-loop-cell).can_next l.cell-iterator;
+  finite : (goal.iterator-loop-cell).is_finite l.cell-iterator;
+  rest : cells_code l.left l.code l.cell-iterator ≡ code_of l.shape;
+  small : l.code < 4294967296;
+}

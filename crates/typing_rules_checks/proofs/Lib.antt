@@ -1,0 +1,4 @@
+pub mod Operands
+pub mod Sized
+pub mod Finding
+pub mod Wide

@@ -1,0 +1,19 @@
+use Rattle.std.proofs.lemmas.Result.{err_from_is_err_and}
+use Rattle.typing_rules.specs.Attributes.{Facts}
+use Rattle.typing_rules.specs.Nodes as n
+use Rattle.typing_rules.specs.Nodes.{view_attr}
+use Rattle.upc_checker_nodes.proofs.Finished.{refuses, judges}
+use Rattle.upc_checker_nodes.proofs.judgements.judge_and.Goals as goal
+
+pub returns-in_err-judged : goal.returns-in_err-judged
+returns-in_err-judged c =
+    λ φ.
+    let x : n.Node = n.And (view_attr c.args.a.now.attr) (view_attr c.args.b.now.attr) in
+    let p = err_from_is_err_and c.from_residual.result c.from_residual.ensures.1 in
+    refuses φ c.args.a.now.place x c.logical.result c.from_residual.result c.in_err-judged.field-0.0 p.0 p.1 p.2 (c.logical.ensures.and φ) c.in_err-judged.ensures.err
+
+pub returns : goal.returns
+returns c =
+    λ φ.
+    let x : n.Node = n.And (view_attr c.args.a.now.attr) (view_attr c.args.b.now.attr) in
+    judges φ c.args.a.now.place x c.logical.result c.and-attr.result (c.logical.ensures.and φ) c.in_ok-judged.ensures.ok (c.and-attr.ensures φ)

@@ -1,0 +1,20 @@
+use Rattle.std.proofs.Common.{sym, ◌∙◌}
+use Rattle.std.proofs.lemmas.Result.{err_from_is_err_and}
+use Rattle.typing_rules.specs.Attributes.{Facts, found_index, member_named}
+use Rattle.typing_rules.specs.Nodes as n
+use Rattle.typing_rules.specs.Nodes.{view_attr}
+use Rattle.upc_checker_scopes.specs.Views.{facts_of}
+use Rattle.upc_checker_nodes.proofs.Finished.{refuses_member}
+use Rattle.upc_checker_nodes.proofs.judgements.judge_member_of.Goals as goal
+
+pub returns-in_err-judged : goal.returns-in_err-judged
+returns-in_err-judged c =
+    let φ : Facts = facts_of c.args.setting c.args.known.now in
+    let x : n.Node = n.MemberOf (view_attr c.args.a.now.attr) c.args.name.now in
+    let index = found_index (member_named φ.structs (view_attr c.args.a.now.attr).ctype c.args.name.now) in
+    let p = err_from_is_err_and c.from_residual.result c.from_residual.ensures.1 in
+    refuses_member φ c.args.a.now.place x index c.member_of.result c.from_residual.result c.in_err-judged.field-0.0 p.0 p.1 p.2 (c.member_of.ensures c.args.setting.threads) c.in_err-judged.ensures.err
+
+pub returns : goal.returns
+returns c =
+    (sym (c.member_of.ensures c.args.setting.threads) ∙ c.in_ok-judged.ensures.ok, c.in_ok-member.ensures.attr c.args.setting.threads, c.in_ok-member.ensures.index)

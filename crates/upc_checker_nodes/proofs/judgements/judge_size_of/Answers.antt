@@ -1,0 +1,26 @@
+use Rattle.std.proofs.Common.{sym, ◌∙◌}
+use Rattle.std.proofs.lemmas.Result.{err_from_is_err_and}
+use Rattle.typing_rules.specs.Attributes.{Facts}
+use Rattle.typing_rules.specs.Nodes as n
+use Rattle.typing_rules.specs.Nodes.{view_attr}
+use Rattle.upc_checker_scopes.specs.Views.{facts_of}
+use Rattle.upc_checker_nodes.proofs.Finished.{refuses, judges, size_sized}
+use Rattle.upc_checker_nodes.proofs.judgements.judge_size_of.Goals as goal
+
+pub returns-in_err-judged : goal.returns-in_err-judged
+returns-in_err-judged c =
+    let φ : Facts = facts_of c.args.setting c.args.known.now in
+    let x : n.Node = n.SizeOf c.args.op (view_attr c.args.a.now.attr) in
+    let p = err_from_is_err_and c.from_residual.result c.from_residual.ensures.1 in
+    refuses φ c.args.at x c.size_of.result c.from_residual.result c.in_err-judged.field-0.0 p.0 p.1 p.2 (c.size_of.ensures c.args.setting.threads) c.in_err-judged.ensures.err
+
+pub returns : goal.returns
+returns c =
+    let φ : Facts = facts_of c.args.setting c.args.known.now in
+    let x : n.Node = n.SizeOf c.args.op (view_attr c.args.a.now.attr) in
+    judges φ c.args.at x c.size_of.result c.size_of-attr.result (c.size_of.ensures c.args.setting.threads) c.in_ok-judged.ensures.ok (c.size_of-attr.ensures)
+
+pub size_of-attr-requires-clause-sized : goal.size_of-attr-requires-clause-sized
+size_of-attr-requires-clause-sized c =
+    let φ : Facts = facts_of c.args.setting c.args.known.now in
+    size_sized φ c.args.op (view_attr c.args.a.now.attr) (sym (c.size_of.ensures c.args.setting.threads) ∙ c.in_ok-judged.ensures.ok)

@@ -1,0 +1,23 @@
+use Rattle.std.proofs.lemmas.Result.{err_from_is_err_and}
+use Rattle.typing_rules.specs.Attributes.{Facts}
+use Rattle.typing_rules.specs.Nodes as n
+use Rattle.typing_rules.specs.Nodes.{view_attr}
+use Rattle.typed_tree.specs.Tree as k
+use Rattle.typed_tree.specs.ViewTree.{view_expr}
+use Rattle.upc_checker_nodes.proofs.Finished.{unbuilt, built}
+use Rattle.upc_checker_nodes.proofs.nodes.finish_dereference.Goals as goal
+
+pub returns-in_err-attr : goal.returns-in_err-attr
+returns-in_err-attr c =
+    λ φ.
+    let x : n.Node = n.Dereference (view_attr c.args.a.value.attr) in
+    let kind = k.Dereference (view_expr c.args.a.value) in
+    let p = err_from_is_err_and c.from_residual.result c.from_residual.ensures.1 in
+    unbuilt φ c.args.at x kind c.from_residual.result c.in_err-attr.field-0.0 p.0 p.1 p.2 (rw (c.deref.ensures) at (c.in_err-attr.ensures φ))
+
+pub returns : goal.returns
+returns c =
+    λ φ.
+    let x : n.Node = n.Dereference (view_attr c.args.a.value.attr) in
+    let kind = k.Dereference (view_expr c.args.a.value) in
+    built φ c.args.at x kind c.in_ok-attr.attr c.in_ok-dereference.field-0 (rw (c.deref.ensures) at (c.in_ok-attr.ensures φ)) (c.in_ok-dereference.ensures)

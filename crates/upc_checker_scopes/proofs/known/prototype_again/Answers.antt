@@ -1,0 +1,17 @@
+use Rattle.std.proofs.Common.{sym, ◌∙◌}
+use Rattle.typed_tree.specs.Scopes.{is_taken, is_object, here, differs}
+use Rattle.typed_tree.specs.ViewEnv.{view_env}
+use Rattle.typing_rules.specs.Views.{view_signature}
+use Rattle.upc_checker_scopes.specs.Views.{view_setting, state_with}
+use Rattle.upc_checker_scopes.proofs.Closing.{third}
+use Rattle.upc_checker_scopes.proofs.known.prototype_again.Goals as goal
+use Rattle.upc_checker_scopes.proofs.known.prototype_again.Goals.{then-is_taken, else-is_taken}
+
+pub returns-else-has_object : goal.returns-else-has_object
+returns-else-has_object c = λ tags.
+    let s = state_with tags c.args.known.now in
+    elim c.if-is_taken.branch [
+      | then-is_taken w ↦ absurd cc
+      | else-is_taken w ↦ third (is_taken (view_setting c.args.setting) c.args.name) (is_object (here c.args.name (view_env c.args.env.now))) (differs c.args.name (view_signature c.args.signature.now) s.functions) c.differs.result
+          (sym c.is_taken.ensures ∙ w.if-is_taken.false) (sym w.has_object.ensures ∙ sym w.value-is ∙ c.if-has_object.false) (c.differs.ensures tags)
+    ]

@@ -1,0 +1,34 @@
+use Rattle.std.proofs.Common.{subst}
+use Rattle.std.proofs.lemmas.Result.{err_from_is_err_and}
+use Rattle.upc_tree.specs.ViewStatement as trees
+use Rattle.typed_tree.specs.Tree as k
+use Rattle.typed_tree.specs.ViewEnv.{view_env}
+use Rattle.typed_tree.specs.ViewStatements.{view_statement, view_value}
+use Rattle.typed_tree.specs.declared.tree.Synchronises.{Synchronises}
+use Rattle.upc_checker_scopes.specs.Ends.{Meets}
+use Rattle.upc_checker_statements.specs.Statements as pure
+use Rattle.upc_checker_nodes.specs.Judged as judged
+use Rattle.upc_checker_scopes.specs.Ends.{boxed}
+use Rattle.upc_checker_scopes.specs.Views.{view_setting, state_of}
+use Rattle.upc_checker_scopes.proofs.Walks.{goes, stops}
+use Rattle.upc_checker_statements.proofs.statements.walk_barrier.Goals as goal
+
+pub returns-in_err-a : goal.returns-in_err-a
+returns-in_err-a c = λ semicolon.
+    let ξ = view_setting c.args.here.setting in
+    let Γ = view_env c.args.env.now in
+    let s = state_of c.args.tags.now c.args.known.now in
+    let e = c.in_err-a.field-0.0 in
+    let p = err_from_is_err_and c.from_residual.result c.from_residual.ensures.1 in
+    let id = λ (x : k.Statement). x in
+    rw (p.1, p.2)
+    (stops id (pure.walk_value ξ Γ (trees.view_value c.args.value.now)) _ s s e c.in_err-a.ensures)
+
+pub returns : goal.returns
+returns c = λ semicolon.
+    let ξ = view_setting c.args.here.setting in
+    let Γ = view_env c.args.env.now in
+    let s = state_of c.args.tags.now c.args.known.now in
+    let t = (state_of c.walk_value.new.tags c.walk_value.new.known) in
+    let done = subst (λ (how : Synchronises). Meets (boxed view_statement) (judged.synchronise ξ c.args.at.place how (view_value c.in_ok-a.a) t) t c.synchronise.result) c.synchronises.ensures (c.synchronise.ensures ξ t) in
+    goes (boxed view_statement) (pure.walk_value ξ Γ (trees.view_value c.args.value.now)) _ s t t (view_value c.in_ok-a.a) c.synchronise.result c.in_ok-a.ensures done

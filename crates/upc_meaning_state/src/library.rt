@@ -1,0 +1,220 @@
+//! Calls of the library whose arguments have their values (C99 7.19.6.3; UPC 7.2, 7.3).
+
+ghost use Rattle.std.specs.Prelude.{◌≡◌, IsTrue, All, IfOk, IfSome, true};
+ghost use Rattle.thread_steps.specs.Library as pure;
+ghost use Rattle.thread_steps.specs.Ranges.{IsNumber};
+ghost use Rattle.thread_steps.specs.Values.{number_of};
+ghost use Rattle.upc_values.specs.LibraryCalls.{asks};
+ghost use Rattle.thread_values.specs.Asking.{expansion_of};
+ghost use Rattle.upc_meaning_state.specs.code.Came.{Came, state_seen};
+ghost use Rattle.upc_meaning_state.specs.code.Libraries.{expanded_to, met_then};
+ghost use Rattle.upc_meaning_state.specs.code.Runners.{Fits, thread_seen};
+
+use crate::progress::{Progress, Step};
+use crate::ranges::is_numeric;
+use crate::runner::Runner;
+use block_layout::SharedPtr;
+use thread_values::{
+    LibraryStep, is_collective, is_formed, library_step, library_value, number_of, printed,
+    printed_count, reply_value,
+};
+use upc_text::{OutOfMemory, Place};
+use upc_values::{Action, LibraryCall, Scalar, ToldEnd, Value};
+
+fn are_numeric(args: &[Value]) -> bool
+    ensures { IsTrue result → All (λ v. IsNumber (number_of v)) args.now }
+{
+    args.iter().all(is_numeric)
+}
+
+// The first argument as a number, 0 where there is none.
+fn first_number(args: &[Value]) -> i128
+    ensures { result ≡ pure.first_number args.now }
+{
+    match args.first() {
+        None => 0,
+        Some(v) => number_of(v),
+    }
+}
+
+// The first argument, where it is an int. What is none cannot come of a typed program.
+fn first_int(args: &[Value]) -> Option<i32>
+    ensures { IfSome result (λ v. v ≡ pure.first_number args.now) }
+{
+    let v = first_number(args);
+    if v < -2_147_483_648 || v > 2_147_483_647 {
+        None
+    } else {
+        Some(v as i32)
+    }
+}
+
+fn is_exit(call: LibraryCall) -> bool
+    ensures { result ≡ pure.is_exit call }
+{
+    matches!(call, LibraryCall::GlobalExit)
+}
+
+impl<'r> Progress<'r> {
+    /// A printf (C99 7.19.6.3).
+    #[tactic(auto, unfolding(thread_steps::specs::Library::print))]
+    pub(crate) fn print(
+        &mut self,
+        runner: Runner<'_>,
+        format: &[u8],
+        args: &[Value],
+    ) -> Result<Step<Value>, OutOfMemory>
+        ensures { IfOk result (λ s. Came (pure.print (thread_seen runner.entry) format.now args.now
+            (state_seen self.old)) s self.new) }
+    {
+        if !are_numeric(args) {
+            return Err(OutOfMemory);
+        }
+        let text = printed(runner.alloc, format, args)?;
+        let count = printed_count(&text);
+        match self.ask(runner, None, Action::Print(text))? {
+            Step::Ends(end) => Ok(Step::Ends(end)),
+            Step::Gives(_) => Ok(Step::Gives(count)),
+        }
+    }
+
+    // One action, whose reply gives the value.
+    #[tactic(auto, using(crate::proofs::Libraries::asked_gives, crate::proofs::Libraries::asked_fails, crate::proofs::Libraries::asked_ends))]
+    fn ask_value(
+        &mut self,
+        runner: Runner<'_>,
+        place: Place,
+        action: Action,
+    ) -> Result<Step<Value>, OutOfMemory>
+        ensures { IfOk result (λ s. Came (expanded_to (thread_seen runner.entry) place (asks action)
+            (state_seen self.old)) s self.new) }
+    {
+        match self.ask(runner, None, action)? {
+            Step::Ends(end) => Ok(Step::Ends(end)),
+            Step::Gives(reply) => match reply_value(&reply) {
+                Err(code) => Ok(Step::Ends(ToldEnd::Fault(code, place))),
+                Ok(v) => Ok(Step::Gives(v)),
+            },
+        }
+    }
+
+    // A step of a call.
+    #[tactic(auto, unfolding(thread_steps::specs::Accesses::run))]
+    fn take_step(
+        &mut self,
+        runner: Runner<'_>,
+        place: Place,
+        step: LibraryStep,
+    ) -> Result<Step<Value>, OutOfMemory>
+        ensures { IfOk result (λ s. Came (expanded_to (thread_seen runner.entry) place (expansion_of step)
+            (state_seen self.old)) s self.new) }
+    {
+        match step {
+            LibraryStep::Nothing => Ok(Step::Gives(Value::Scalar(Scalar::Int(0)))),
+            LibraryStep::Null => Ok(Step::Gives(Value::Scalar(Scalar::Shared(SharedPtr::NULL)))),
+            LibraryStep::Fails(error) => Ok(Step::Ends(ToldEnd::Fault(error, place))),
+            LibraryStep::Asks(action) => self.ask_value(runner, place, action),
+        }
+    }
+
+    // Such a step where all threads may have to meet.
+    fn met_step(
+        &mut self,
+        runner: Runner<'_>,
+        is_collective: bool,
+        place: Place,
+        step: LibraryStep,
+    ) -> Result<Step<Value>, OutOfMemory>
+        ensures { IfOk result (λ s. Came (met_then is_collective (thread_seen runner.entry) place (expansion_of step)
+            (state_seen self.old)) s self.new) }
+    {
+        if !is_collective {
+            return self.take_step(runner, place, step);
+        }
+        match self.meet(runner, place) {
+            Step::Ends(end) => Ok(Step::Ends(end)),
+            Step::Gives(()) => self.take_step(runner, place, step),
+        }
+    }
+
+    // upc_global_exit.
+    #[tactic(auto, using(crate::proofs::AtOnce::exit_is))]
+    fn exit_call(
+        &mut self,
+        runner: Runner<'_>,
+        place: Place,
+        call: LibraryCall,
+        shape: u32,
+        args: &[Value],
+    ) -> Result<Step<Value>, OutOfMemory>
+        requires { pure.is_exit call ≡ true }
+        ensures { IfOk result (λ s. Came (pure.library (thread_seen runner.entry) call shape place args.now
+            (state_seen self.old)) s self.new) }
+    {
+        match first_int(args) {
+            None => Err(OutOfMemory),
+            Some(value) => self.exit(runner, value),
+        }
+    }
+
+    // A call that asks for one action at most; any other answers want of memory.
+    #[tactic(auto, using(thread_values::proofs::Asking::unformed))]
+    fn asking_call(
+        &mut self,
+        runner: Runner<'_>,
+        place: Place,
+        call: LibraryCall,
+        shape: u32,
+        args: &[Value],
+    ) -> Result<Step<Value>, OutOfMemory>
+        requires { Fits runner }
+        ensures { IfOk result (λ s. Came (pure.library (thread_seen runner.entry) call shape place args.now
+            (state_seen self.old)) s self.new) }
+    {
+        if !are_numeric(args) {
+            return Err(OutOfMemory);
+        }
+        let step = library_step(
+            runner.alloc,
+            runner.number,
+            runner.shapes,
+            call,
+            shape,
+            args,
+        )?;
+        match step {
+            None => Err(OutOfMemory),
+            Some(step) => {
+                if !is_formed(runner.alloc, runner.shapes, call, shape, args)? {
+                    return Ok(Step::Gives(Value::Scalar(Scalar::Int(0))));
+                }
+                self.met_step(runner, is_collective(call), place, step)
+            }
+        }
+    }
+
+    /// A call of the library other than printf. Those that ask for more than one action answer want of memory.
+    pub(crate) fn library(
+        &mut self,
+        runner: Runner<'_>,
+        place: Place,
+        call: LibraryCall,
+        shape: u32,
+        args: &[Value],
+    ) -> Result<Step<Value>, OutOfMemory>
+        requires { Fits runner }
+        ensures { IfOk result (λ s. Came (pure.library (thread_seen runner.entry) call shape place args.now
+            (state_seen self.old)) s self.new) }
+    {
+        if is_exit(call) {
+            return self.exit_call(runner, place, call, shape, args);
+        }
+        match library_value(runner.threads, call, args) {
+            None => self.asking_call(runner, place, call, shape, args),
+            Some(answer) => match answer {
+                Err(code) => Ok(Step::Ends(ToldEnd::Fault(code, place))),
+                Ok(v) => Ok(Step::Gives(v)),
+            },
+        }
+    }
+}

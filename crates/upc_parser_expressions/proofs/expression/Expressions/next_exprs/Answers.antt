@@ -1,0 +1,12 @@
+use Rattle.std.proofs.Common.{rules}
+use Rattle.upc_lexer.specs.declared.token.Punct.TheVariants as p
+use Rattle.upc_tree.specs.Lists.{next_exprs_of}
+use Rattle.upc_tree.specs.View.{view_next_expr}
+use Rattle.upc_parser_ground.specs.Outcome.{starts, is_punct}
+use Rattle.upc_parser_types.specs.Expression.{at_height, next_exprs, next_expr}
+use Rattle.upc_parser_ground.proofs.Ran.{ran_listed}
+use Rattle.upc_parser_expressions.proofs.expression.Expressions.next_exprs.Goals as goal
+
+pub returns : goal.returns
+unfolding next_exprs
+returns g c = ran_listed view_next_expr (starts (is_punct p.Comma)) (next_expr (at_height c.args.n)) _ (λ old new r p. search rules) next_exprs_of c.args.tokens.now.rest.now c.many.result c.many.new.tokens.rest.now c.many.ensures

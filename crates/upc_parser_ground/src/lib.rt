@@ -1,0 +1,21 @@
+//! Tokens read from the front: which are left, what comes next, what a token begins or continues, and items one after
+//! the other (C99 6.5, 6.7; UPC 6.4, 6.5).
+//! Syntax trees from their parts: each call gives the tree that it is named after, where memory allows.
+#![tactic(auto)]
+
+mod ahead;
+mod boxes;
+mod cursor;
+mod items;
+mod start;
+pub mod expressions;
+pub mod statements;
+
+pub use ahead::{Ahead, Sign, starts, starts_two};
+pub use cursor::{Fail, Fault, Tokens, expect_punct, expect_word, name, span_of};
+pub use items::many;
+pub use start::{
+    Joint, Prefix, QualWord, SpecStart, Suffix, joint_level, joint_of, left_least, operand_level,
+    prefix_of, qual_start, spec_start, suffix_of,
+};
+pub use boxes::boxed;

@@ -1,0 +1,14 @@
+pub mod CompleteExpressions
+pub mod CompleteTypes
+pub mod Listings
+pub mod Low
+pub mod SoundExpressions
+pub mod SoundTypes
+pub mod Stops
+pub mod Begins
+pub mod CompleteDeclarations
+pub mod CompleteStatements
+pub mod CompleteUnit
+pub mod SoundDeclarations
+pub mod SoundStatements
+pub mod SoundUnit

@@ -1,0 +1,11 @@
+use Rattle.std.proofs.Common.{rules}
+use Rattle.upc_tree.specs.ViewStatement.{view_external}
+use Rattle.upc_parser_ground.specs.Outcome.{starts}
+use Rattle.upc_parser_ground.specs.Ahead.{is_any}
+use Rattle.upc_parser_ground.proofs.Ran.{ran_reads}
+use Rattle.upc_parser_statements.specs.Parse.{all_externals, external_at}
+use Rattle.upc_parser_statements.proofs.externals.externals.Goals as goal
+
+pub returns : goal.returns
+unfolding all_externals
+returns c = ran_reads view_external (starts is_any) (external_at c.args.height) _ (λ old new r p. search rules) c.args.tokens.now.rest.now c.many.result c.many.new.tokens.rest.now c.many.ensures

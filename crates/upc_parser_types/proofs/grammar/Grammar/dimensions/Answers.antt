@@ -1,0 +1,12 @@
+use Rattle.std.proofs.Common.{rules}
+use Rattle.upc_lexer.specs.declared.token.Punct.TheVariants as p
+use Rattle.upc_tree.specs.Lists.{dimensions_of}
+use Rattle.upc_tree.specs.View.{view_dimension}
+use Rattle.upc_parser_ground.specs.Outcome.{starts, is_punct}
+use Rattle.upc_parser_types.specs.Expression.{at_height, dimensions, dimension}
+use Rattle.upc_parser_ground.proofs.Ran.{ran_listed}
+use Rattle.upc_parser_types.proofs.grammar.Grammar.dimensions.Goals as goal
+
+pub returns : goal.returns
+unfolding dimensions
+returns g c = ran_listed view_dimension (starts (is_punct p.LBracket)) (dimension (at_height c.args.n)) _ (λ old new r p. search rules) dimensions_of c.args.tokens.now.rest.now c.many.result c.many.new.tokens.rest.now c.many.ensures
