@@ -2,8 +2,8 @@
 use Rattle.std.proofs.Common.{◌≡◌, [], ◌++◌, None, refl}
 use Rattle.upc_tree.specs.declared.span.Span.{Span}
 use Rattle.upc_tree.specs.Statement.{Statement, If, Switch, While, DoWhile, For, Forall, Break, Continue, Return, Block, Braces, AndBlockItem, NoBlockItems, StatementItem, AndSwitchItem, NoSwitchItems, SwitchStatement, NoElseIfs, AndElseIf, Else, Test, ForHead, ForallHead}
-use Rattle.affinity_checker.specs.Rules.{nothing, refused}
-use Rattle.affinity_checker.specs.Breaches.{breaches}
+use Rattle.affinity_checker.specs.layer.Rules.{nothing, refused}
+use Rattle.affinity_checker.specs.layer.Breaches.{breaches}
 
 module _ (s p : Span) (test : Test) (head : ForHead) (all : ForallHead) where
   abbrev all_of : Statement → Statement

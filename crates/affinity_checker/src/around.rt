@@ -1,7 +1,7 @@
 //! What stands around a statement in its function.
 
 ghost use Rattle.std.specs.Prelude.{◌≡◌};
-ghost use Rattle.affinity_checker.specs.Rules as pure;
+ghost use Rattle.affinity_checker.specs.layer.Rules as pure;
 
 use upc_text::{Code, Place, Refusal};
 

@@ -1,14 +1,14 @@
 //! The first breach of a source.
 
 ghost use Rattle.std.specs.Prelude.{◌≡◌, map};
-ghost use Rattle.upc_tree.specs.Lists.{block_items_of, switch_items_of, else_ifs_of};
-ghost use Rattle.upc_tree.specs.ViewStatement.{view_statement, view_compound, view_block_item, view_switch_item};
-ghost use Rattle.upc_tree.specs.ViewStatement.{view_else_if, view_otherwise, view_external, view_unit};
+ghost use Rattle.upc_tree.specs.layer.Lists.{block_items_of, switch_items_of, else_ifs_of};
+ghost use Rattle.upc_tree.specs.layer.ViewStatement.{view_statement, view_compound, view_block_item, view_switch_item};
+ghost use Rattle.upc_tree.specs.layer.ViewStatement.{view_else_if, view_otherwise, view_external, view_unit};
 ghost use Rattle.std.specs.Option.{option_or};
-ghost use Rattle.affinity_checker.specs.Rules.{first};
-ghost use Rattle.affinity_checker.specs.Breaches.{breaches, in_compound, in_block_items, in_block_item};
-ghost use Rattle.affinity_checker.specs.Breaches.{in_switch_items, in_switch_item, in_else_ifs, in_otherwise};
-ghost use Rattle.affinity_checker.specs.Breaches.{in_external, unit_breaches};
+ghost use Rattle.affinity_checker.specs.layer.Rules.{first};
+ghost use Rattle.affinity_checker.specs.layer.Breaches.{breaches, in_compound, in_block_items, in_block_item};
+ghost use Rattle.affinity_checker.specs.layer.Breaches.{in_switch_items, in_switch_item, in_else_ifs, in_otherwise};
+ghost use Rattle.affinity_checker.specs.layer.Breaches.{in_external, unit_breaches};
 
 use crate::around::{Around, NOTHING};
 use upc_text::Refusal;

@@ -8,7 +8,7 @@ use Rattle.block_layout.specs.declared.kind.Kind.{Kind}
 use Rattle.block_layout.specs.declared.kind.Kind.TheVariants as kind
 use Rattle.block_layout.specs.Lists.{under}
 use Rattle.block_layout.specs.Moved.{moved, copies}
-use Rattle.block_layout.specs.Runs.{Repeated, run_cells, hits}
+use Rattle.block_layout.specs.code.Runs.{Repeated, run_cells, hits}
 use Rattle.block_layout.specs.Shapes.{kind_size, same_kind, has_cell, CellsWithin}
 use Rattle.block_layout.proofs.Near.{moved_append}
 

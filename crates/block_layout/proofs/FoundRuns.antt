@@ -5,7 +5,7 @@ use Rattle.std.proofs.lemmas.List.{drop_all}
 use Rattle.std.proofs.lemmas.List.Folds.{list_any-append}
 use Rattle.block_layout.specs.declared.kind.Kind.{Kind}
 use Rattle.block_layout.specs.Lists.{under}
-use Rattle.block_layout.specs.Runs.{Repeated, run_cells, runs_cells}
+use Rattle.block_layout.specs.code.Runs.{Repeated, run_cells, runs_cells}
 use Rattle.block_layout.specs.Shapes.{same_kind, has_cell, CellsWithin}
 use Rattle.block_layout.proofs.RunLists.{runs_drop}
 use Rattle.block_layout.proofs.Found.{cell_found, has_exact, under_behind}

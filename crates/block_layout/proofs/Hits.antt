@@ -3,7 +3,7 @@ use Rattle.std.proofs.Common.{◌≡◌, ℕ, zero, suc, ◌+◌, ◌-◌, ◌*�
 use Rattle.std.proofs.lemmas.Nat.{mod-mul-add, div-add-mod'}
 use Rattle.std.proofs.lemmas.Bool.{cases_lt}
 use Rattle.std.proofs.lemmas.Bool.Decides.{eqb_tells, leb_tells}
-use Rattle.block_layout.specs.Runs.{hits}
+use Rattle.block_layout.specs.code.Runs.{hits}
 use Rattle.block_layout.proofs.Within.{last_copy}
 
 or_right : (a b : Bool) → b ≡ true → (a || b) ≡ true

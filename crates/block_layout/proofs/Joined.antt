@@ -3,7 +3,7 @@ use Rattle.std.proofs.Common.{◌≡◌, ℕ, zero, suc, ◌+◌, ◌*◌, ◌<�
 use Rattle.std.proofs.lemmas.List.{append-nil}
 use Rattle.block_layout.specs.declared.kind.Kind.{Kind}
 use Rattle.block_layout.specs.Moved.{moved, copies}
-use Rattle.block_layout.specs.Runs.{Repeated, run_cells, runs_cells, AreNear, IsRun, GoesOn}
+use Rattle.block_layout.specs.code.Runs.{Repeated, run_cells, runs_cells, AreNear, IsRun, GoesOn}
 use Rattle.block_layout.proofs.Within.{copies_step, one_copy}
 use Rattle.block_layout.proofs.Near.{near_append, near_copy}
 use Rattle.block_layout.proofs.RunLists.{runs_push}

@@ -3,7 +3,7 @@ use Rattle.std.proofs.Common.{◌≡◌, ℕ, ◌+◌, ◌*◌, ◌<◌, ◌≤�
 use Rattle.std.proofs.lemmas.List.{take_more}
 use Rattle.block_layout.specs.declared.kind.Kind.{Kind}
 use Rattle.block_layout.specs.Moved.{copies}
-use Rattle.block_layout.specs.Runs.{Repeated, run_cells, runs_cells}
+use Rattle.block_layout.specs.code.Runs.{Repeated, run_cells, runs_cells}
 use Rattle.block_layout.specs.Shapes.{kind_size, CellsWithin, LieUpTo}
 use Rattle.block_layout.proofs.Within.{lower, wider_within, append_within, moved_within, copies_within, one_copy}
 use Rattle.block_layout.proofs.RunLists.{runs_take}

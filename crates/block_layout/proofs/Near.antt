@@ -5,7 +5,7 @@ use Rattle.std.proofs.lemmas.List.{map-append}
 use Rattle.block_layout.specs.declared.kind.Kind.{Kind}
 use Rattle.block_layout.specs.Shapes.{CellsWithin, kind_size}
 use Rattle.block_layout.specs.Cells.{moved, copies}
-use Rattle.block_layout.specs.Runs.{Repeated, run_cells, AreNear, IsRun}
+use Rattle.block_layout.specs.code.Runs.{Repeated, run_cells, AreNear, IsRun}
 use Rattle.block_layout.proofs.Within.{copies_within, moved_twice, moved_nowhere}
 
 pub near_append : (xs ys : List (ℕ × Kind)) → AreNear xs → AreNear ys → AreNear (xs ++ ys)

@@ -3,7 +3,7 @@ use Rattle.std.proofs.Common.{◌≡◌, ℕ, zero, suc, ◌+◌, ◌-◌, ◌*�
 use Rattle.std.proofs.lemmas.List.{append-nil}
 use Rattle.block_layout.specs.declared.kind.Kind.{Kind}
 use Rattle.block_layout.specs.Moved.{moved, copies}
-use Rattle.block_layout.specs.Runs.{Repeated, run_cells, runs_cells, copies_left, AreNear, IsRun, IsLeft}
+use Rattle.block_layout.specs.code.Runs.{Repeated, run_cells, runs_cells, copies_left, AreNear, IsRun, IsLeft}
 use Rattle.block_layout.proofs.Within.{moved_twice, moved_nowhere}
 use Rattle.block_layout.proofs.Near.{near_right, near_copy, near_first, moved_append}
 

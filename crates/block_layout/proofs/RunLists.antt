@@ -3,7 +3,7 @@ use Rattle.std.proofs.Common.{◌≡◌, ℕ, zero, suc, ◌+◌, ◌<◌, ◌�
 use Rattle.std.proofs.lemmas.List.{take_more, drop_more, append-nil}
 use Rattle.block_layout.specs.declared.kind.Kind.{Kind}
 use Rattle.block_layout.specs.Moved.{moved, copies}
-use Rattle.block_layout.specs.Runs.{Repeated, run_cells, runs_cells, AreNear}
+use Rattle.block_layout.specs.code.Runs.{Repeated, run_cells, runs_cells, AreNear}
 use Rattle.block_layout.specs.Shapes.{CellsWithin}
 use Rattle.block_layout.proofs.Within.{one_copy}
 use Rattle.block_layout.proofs.Near.{near_left, near_within, near_right, moved_append}

@@ -5,7 +5,7 @@ use Rattle.std.proofs.lemmas.List.Elements.{filter-append}
 use Rattle.std.proofs.lemmas.List.{append-nil}
 use Rattle.block_layout.specs.declared.kind.Kind.{Kind}
 use Rattle.block_layout.specs.Cells.{moved, copies, is_private, sharable}
-use Rattle.block_layout.specs.Runs.{Repeated, run_cells, runs_cells, AreNear, IsRun}
+use Rattle.block_layout.specs.code.Runs.{Repeated, run_cells, runs_cells, AreNear, IsRun}
 use Rattle.block_layout.proofs.RunLists.{runs_take}
 
 pub sharable_append : (xs ys : List (ℕ × Kind)) → sharable (xs ++ ys) ≡ sharable xs ++ sharable ys

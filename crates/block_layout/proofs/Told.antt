@@ -5,8 +5,8 @@ use Rattle.std.proofs.lemmas.Bool.Decides.{eqb_tells}
 use Rattle.block_layout.specs.declared.kind.Kind.{Kind}
 use Rattle.block_layout.specs.Cells.{moved, copies, same_cells}
 use Rattle.block_layout.specs.Shapes.{same_kind}
-use Rattle.block_layout.specs.Runs.{Repeated, run_cells, runs_cells, copies_left}
-use Rattle.block_layout.specs.SameRuns.{IsTold}
+use Rattle.block_layout.specs.code.Runs.{Repeated, run_cells, runs_cells, copies_left}
+use Rattle.block_layout.specs.code.SameRuns.{IsTold}
 use Rattle.block_layout.proofs.Found.{kind_itself}
 use Rattle.block_layout.proofs.Same.{same_exact}
 use Rattle.block_layout.proofs.Readings.{copies_front}

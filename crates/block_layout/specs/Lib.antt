@@ -5,7 +5,5 @@ pub mod Pointers
 pub mod Shapes
 pub mod Lists
 pub mod Cells
-pub mod RunErrors
-pub mod Runs
 pub mod Moved
-pub mod SameRuns
+pub mod code

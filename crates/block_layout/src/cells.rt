@@ -3,7 +3,7 @@
 ghost use Rattle.std.specs.Prelude.{◌≡◌, ◌+◌, ◌*◌, ◌≤◌, ◌++◌, ◌∷◌, ◌↔◌, ℕ, [], IfOk, IsTrue, OnOk, Contains};
 ghost use Rattle.block_layout.specs.Cells as pure;
 ghost use Rattle.block_layout.specs.Lists.{under};
-ghost use Rattle.block_layout.specs.Runs.{AreNear, runs_cells};
+ghost use Rattle.block_layout.specs.code.Runs.{AreNear, runs_cells};
 ghost use Rattle.block_layout.specs.Shapes.{CellsWithin, has_cell};
 ghost use Rattle.block_layout.specs.declared.kind.Kind.{Kind};
 
@@ -33,7 +33,7 @@ pub struct Cells {
 
 impl Model for Cells {
     ghost use Rattle.std.specs.Prelude.{ℕ, ◌++◌, List};
-    ghost use Rattle.block_layout.specs.Runs.{runs_cells};
+    ghost use Rattle.block_layout.specs.code.Runs.{runs_cells};
     ghost use Rattle.block_layout.specs.declared.kind.Kind.{Kind};
 
     ghost Value = { List (ℕ × Kind) };

@@ -1,7 +1,7 @@
 //! The cells of an element, one after another.
 
 ghost use Rattle.std.specs.Prelude.{◌≡◌, ◌++◌};
-ghost use Rattle.block_layout.specs.Runs.{AreNear, runs_cells};
+ghost use Rattle.block_layout.specs.code.Runs.{AreNear, runs_cells};
 
 use crate::kind::Kind;
 use crate::run::Run;
@@ -25,7 +25,7 @@ pub struct CellsIter<'a> {
 impl<'a> Model for CellsIter<'a> {
     ghost use Rattle.std.specs.Prelude.{ℕ, ◌+◌, ◌++◌, List};
     ghost use Rattle.block_layout.specs.Moved.{moved, copies};
-    ghost use Rattle.block_layout.specs.Runs.{AreNear, IsLeft, copies_left, runs_cells};
+    ghost use Rattle.block_layout.specs.code.Runs.{AreNear, IsLeft, copies_left, runs_cells};
     ghost use Rattle.block_layout.specs.declared.kind.Kind.{Kind};
 
     ghost Value = { List (ℕ × Kind) };

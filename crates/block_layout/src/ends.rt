@@ -1,7 +1,7 @@
 //! Where cells end, by one copy of each pattern.
 
 ghost use Rattle.std.specs.Prelude.{IfSome};
-ghost use Rattle.block_layout.specs.Runs.{run_cells, runs_cells};
+ghost use Rattle.block_layout.specs.code.Runs.{run_cells, runs_cells};
 ghost use Rattle.block_layout.specs.Shapes.{LieUpTo};
 
 use crate::kind::Kind;

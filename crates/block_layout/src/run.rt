@@ -5,7 +5,7 @@ ghost use Rattle.std.specs.List.{list_any};
 ghost use Rattle.std.specs.Prelude.{◌≡◌, ◌+◌, ◌*◌, ◌<◌, ◌≤◌, ◌++◌, IfOk, IfSome, MatchOption, None, true, length};
 ghost use Rattle.block_layout.specs.Cells as pure;
 ghost use Rattle.block_layout.specs.Lists.{under};
-ghost use Rattle.block_layout.specs.Runs.{AreNear, GoesOn, IsRun, hits, repeated, run_cells};
+ghost use Rattle.block_layout.specs.code.Runs.{AreNear, GoesOn, IsRun, hits, repeated, run_cells};
 ghost use Rattle.block_layout.specs.Shapes.{CellsWithin, has_cell};
 
 use crate::cell_lists::same_lists;
@@ -26,7 +26,7 @@ pub(crate) struct Run {
 
 impl Model for Run {
     ghost use Rattle.std.specs.Arc.{arc_value};
-    ghost use Rattle.block_layout.specs.Runs.{Repeated, IsRun, repeated};
+    ghost use Rattle.block_layout.specs.code.Runs.{Repeated, IsRun, repeated};
 
     ghost Value = { Repeated };
 

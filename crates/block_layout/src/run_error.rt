@@ -1,7 +1,7 @@
 //! The codes of the run errors.
 
 ghost use Rattle.std.specs.Prelude.{◌≡◌, [], ◌∷◌};
-ghost use Rattle.block_layout.specs.RunErrors.{run_errors};
+ghost use Rattle.block_layout.specs.code.RunErrors.{run_errors};
 
 /// A signed result does not fit its type (C99 6.5).
 pub const SIGNED_OVERFLOW: u8 = 1;

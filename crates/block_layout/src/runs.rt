@@ -3,7 +3,7 @@
 ghost use Rattle.std.specs.Prelude.{◌≡◌, ◌++◌, ◌+◌, ◌*◌, ◌≤◌, [], IfOk, OnOk, MatchOption, None, true};
 ghost use Rattle.block_layout.specs.Moved.{moved, copies};
 ghost use Rattle.block_layout.specs.Lists.{under};
-ghost use Rattle.block_layout.specs.Runs.{AreNear, run_cells, runs_cells};
+ghost use Rattle.block_layout.specs.code.Runs.{AreNear, run_cells, runs_cells};
 ghost use Rattle.block_layout.specs.Shapes.{CellsWithin, has_cell};
 
 use crate::kind::Kind;

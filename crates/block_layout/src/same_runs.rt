@@ -1,8 +1,8 @@
 //! Runs that are compared without a walk of their copies.
 
 ghost use Rattle.std.specs.Prelude.{IfSome};
-ghost use Rattle.block_layout.specs.Runs.{run_cells, runs_cells};
-ghost use Rattle.block_layout.specs.SameRuns.{IsTold};
+ghost use Rattle.block_layout.specs.code.Runs.{run_cells, runs_cells};
+ghost use Rattle.block_layout.specs.code.SameRuns.{IsTold};
 
 use crate::cell_lists::same_lists;
 use crate::run::Run;

@@ -3,7 +3,7 @@
 ghost use Rattle.std.specs.Arc.{arc_value};
 ghost use Rattle.std.specs.Prelude.{◌≡◌, ◌++◌, IfOk, OnOk};
 ghost use Rattle.block_layout.specs.Cells as pure;
-ghost use Rattle.block_layout.specs.Runs.{run_cells, runs_cells};
+ghost use Rattle.block_layout.specs.code.Runs.{run_cells, runs_cells};
 
 use crate::cell_lists::{same_lists, sharable_list};
 use crate::kind::Kind;

@@ -3,7 +3,7 @@ use Rattle.std.proofs.Common.{◌≡◌, ℕ, suc, ◌+◌, List, [], ◌∷◌,
 use Rattle.upc_text.specs.declared.place.Place.{Place}
 use Rattle.stack_code.specs.declared.instruction.Jump.TheVariants.{GoOn, SkipIfZero}
 use Rattle.stack_code.specs.declared.instruction.Instr.{Instr}
-use Rattle.stack_code.specs.Depths.{Lands}
+use Rattle.stack_code.specs.layer.Depths.{Lands}
 use Rattle.stack_code.proofs.Deepenings.{Deepens, Then, joins, follows, single, lands_past, lands_end, lands_assoc}
 use Rattle.gen_expr.specs.Codes.{jumps}
 

@@ -34,7 +34,7 @@ use Rattle.stack_code.specs.declared.instruction.Instr.{Instr}
 use Rattle.gen_expr.specs.Sources.{Source, running_of}
 use Rattle.gen_expr.specs.Codes as code
 use Rattle.gen_expr.specs.Codes.{pushes, casts, makes, stacks, arguments_count}
-use Rattle.gen_expr.specs.Gathered.{HoldsOfForms}
+use Rattle.gen_expr.specs.layer.Gathered.{HoldsOfForms}
 
 module _ (ς : Source) (Q : Instr → Type 0) (h : HoldsOfForms ς Q) where
   joined : (xs ys : List Instr) → Each Q xs → Each Q ys → Each Q (xs ++ ys)

@@ -39,13 +39,13 @@ use Rattle.stack_code.specs.declared.instruction.CallWork.TheVariants.{CallTo}
 use Rattle.stack_code.specs.declared.instruction.ThreadWork.TheVariants as thread
 use Rattle.stack_code.specs.declared.instruction.Operation.TheVariants as work
 use Rattle.stack_code.specs.declared.instruction.Instr.{Instr}
-use Rattle.stack_code.specs.Steps.{Spot, conf_of, act, further}
-use Rattle.stack_code.specs.Meets.{piled, there}
+use Rattle.stack_code.specs.layer.Steps.{Spot, conf_of, act, further}
+use Rattle.stack_code.specs.layer.Meets.{piled, there}
 use Rattle.stack_code.proofs.Meetings.{piled_more, youngest_piled, below_piled}
 use Rattle.gen_expr.specs.Sources.{source_of}
 use Rattle.gen_expr.specs.Codes as code
 use Rattle.gen_expr.specs.Codes.{pushes, casts, makes, stacks, arguments_count}
-use Rattle.gen_expr.specs.Meanings.{CallsMeet, ExpressionsAreMeant}
+use Rattle.gen_expr.specs.layer.Meanings.{CallsMeet, ExpressionsAreMeant}
 use Rattle.gen_expr.proofs.Parts as part
 use Rattle.gen_expr.proofs.Parts.{Runs, Gives, then_gives}
 

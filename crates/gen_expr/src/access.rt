@@ -5,7 +5,7 @@ ghost use Rattle.upc_types.specs.View.{view};
 ghost use Rattle.typing_rules.specs.Nodes.{view_attr};
 ghost use Rattle.typing_rules.specs.Library as library;
 ghost use Rattle.gen_expr.specs.Codes as pure;
-ghost use Rattle.gen_expr.specs.ViewSource.{view_source};
+ghost use Rattle.gen_expr.specs.layer.ViewSource.{view_source};
 
 use crate::operators::{put_advance, put_binary};
 use crate::put::{put_cast, put_load, put_push, put_save, put_stack, put_value};

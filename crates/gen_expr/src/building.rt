@@ -2,10 +2,10 @@
 
 ghost use Rattle.std.specs.Prelude.{◌≡◌, true, OnOk, OnErr, IsErr};
 ghost use Rattle.typed_tree.specs.ViewTree.{view_expr};
-ghost use Rattle.stack_code.specs.Making.{with_instructions};
+ghost use Rattle.stack_code.specs.layer.Making.{with_instructions};
 ghost use Rattle.gen_expr.specs.Codes as pure;
-ghost use Rattle.gen_expr.specs.Meanings.{AppendsMeaning};
-ghost use Rattle.gen_expr.specs.ViewSource.{view_source};
+ghost use Rattle.gen_expr.specs.layer.Meanings.{AppendsMeaning};
+ghost use Rattle.gen_expr.specs.layer.ViewSource.{view_source};
 
 use crate::expressions::put_value_code;
 use crate::source::Source;

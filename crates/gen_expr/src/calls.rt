@@ -15,7 +15,7 @@ ghost use Rattle.stack_code.specs.declared.instruction.ThreadWork.TheVariants as
 ghost use Rattle.stack_code.specs.declared.instruction.Operation.TheVariants as work;
 ghost use Rattle.gen_expr.specs.Sources.{running_of};
 ghost use Rattle.gen_expr.specs.Codes as pure;
-ghost use Rattle.gen_expr.specs.ViewSource.{view_source};
+ghost use Rattle.gen_expr.specs.layer.ViewSource.{view_source};
 
 use crate::put::put;
 use crate::source::Source;

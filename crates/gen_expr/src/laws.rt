@@ -1,7 +1,7 @@
 //! What holds of the code of every expression.
 
-ghost use Rattle.gen_expr.specs.Meanings.{ExpressionsAreMeant};
-ghost use Rattle.gen_expr.specs.Depths.{ExpressionsAreDeep};
+ghost use Rattle.gen_expr.specs.layer.Meanings.{ExpressionsAreMeant};
+ghost use Rattle.gen_expr.specs.code.Depths.{ExpressionsAreDeep};
 
 /// The code of an expression does what the expression does.
 pub fn expressions_keep_their_meaning()

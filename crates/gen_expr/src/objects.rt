@@ -5,7 +5,7 @@ ghost use Rattle.typed_tree.specs.Initials as initials;
 ghost use Rattle.source_meaning.specs.Running as running;
 ghost use Rattle.gen_expr.specs.Sources.{running_of};
 ghost use Rattle.gen_expr.specs.Codes as pure;
-ghost use Rattle.gen_expr.specs.ViewSource.{view_source};
+ghost use Rattle.gen_expr.specs.layer.ViewSource.{view_source};
 
 use crate::put::{put, put_push};
 use crate::source::Source;

@@ -11,7 +11,7 @@ use Rattle.private_store.specs.Live.{Live, youngest, older, blocks_before, open_
 use Rattle.private_store.specs.Live.{returned, recounted_from, recounted}
 use Rattle.thread_steps.specs.States.{State}
 use Rattle.thread_steps.specs.Blocks.{with_live, close_block, end_call}
-use Rattle.stack_code.specs.Steps.{Spot, At, conf_of, close_blocks, given_back}
+use Rattle.stack_code.specs.layer.Steps.{Spot, At, conf_of, close_blocks, given_back}
 
 -- The youngest of some things, of which the youngest was replaced, and the older ones.
 youngest_set : {X : Type 0} (xs : List X) (x y : X) → youngest xs ≡ Some x

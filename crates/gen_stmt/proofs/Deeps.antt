@@ -27,7 +27,7 @@ use Rattle.stack_code.specs.declared.instruction.StackWork.TheVariants as stack
 use Rattle.stack_code.specs.declared.instruction.Jump.TheVariants as jump
 use Rattle.stack_code.specs.declared.instruction.ThreadWork.TheVariants as thread
 use Rattle.stack_code.specs.declared.instruction.Instr.{Instr}
-use Rattle.stack_code.specs.Depths.{effect_of, Lands, Fine, Deep, IsDeep}
+use Rattle.stack_code.specs.layer.Depths.{effect_of, Lands, Fine, Deep, IsDeep}
 use Rattle.gen_expr.specs.Sources.{Source, running_of}
 use Rattle.gen_expr.specs.Codes.{stacks, jumps, pushes, casts, value_code, object_code, put_code}
 use Rattle.stack_code.proofs.Deepenings.{onto, deep_append, lands_past, lands_end, lands_assoc, back_past, Deepens}

@@ -35,15 +35,15 @@ use Rattle.stack_code.specs.declared.instruction.StackWork.TheVariants as stack
 use Rattle.stack_code.specs.declared.instruction.Operation.{Operation}
 use Rattle.stack_code.specs.declared.instruction.Operation.TheVariants as work
 use Rattle.stack_code.specs.declared.instruction.Instr.{Instr}
-use Rattle.stack_code.specs.Depths.{OnCall, BeginsNone, BeginsOnce}
+use Rattle.stack_code.specs.layer.Depths.{OnCall, BeginsNone, BeginsOnce}
 use Rattle.gen_expr.specs.Sources.{Source, running_of}
 use Rattle.gen_expr.specs.Codes as expr
-use Rattle.gen_expr.specs.Gathered.{HoldsOfForms, PushesNone}
+use Rattle.gen_expr.specs.layer.Gathered.{HoldsOfForms, PushesNone}
 use Rattle.gen_expr.proofs.Gathered.{value_gathers}
 use Rattle.gen_stmt.specs.Ways.{Ways, all_past, all_inner, in_loop, in_switch, in_forall, in_function}
 use Rattle.gen_stmt.specs.Codes as stmt
 use Rattle.gen_stmt.specs.Programs.{body_code, function_code, source, program_code}
-use Rattle.gen_stmt.specs.Pushes.{PushedBy, Pushes, IsPushed, integer, private, shared, blank, PushesOnly}
+use Rattle.gen_stmt.specs.layer.Pushes.{PushedBy, Pushes, IsPushed, integer, private, shared, blank, PushesOnly}
 
 -- Whether an instruction is none that begins a function without a tick, and P holds of what it pushes.
 abbrev Fine : (Value → Type 0) → Operation → Type 0

@@ -24,7 +24,7 @@ use Rattle.typed_tree.specs.declared.beginning.SharedDecl.{SharedDecl}
 use Rattle.typed_tree.specs.Initials.{numbered}
 use Rattle.typed_tree.specs.Objects.{object_of}
 use Rattle.typed_tree.specs.Beginnings.{Beginning, opening_in}
-use Rattle.typed_tree.specs.PrivateOpenings.{IsPrivateOpening, is_known}
+use Rattle.typed_tree.specs.layer.PrivateOpenings.{IsPrivateOpening, is_known}
 use Rattle.typed_tree.specs.Programs.{Checked, start_of}
 use Rattle.source_meaning.specs.Laws.{opening_of}
 use Rattle.source_meaning.specs.Running.{start_in}
@@ -33,8 +33,8 @@ use Rattle.stack_code.specs.declared.instruction.StackWork.TheVariants as stack
 use Rattle.stack_code.specs.declared.instruction.Operation.{Operation}
 use Rattle.stack_code.specs.declared.instruction.Operation.TheVariants as work
 use Rattle.gen_stmt.specs.Programs.{source, program_code}
-use Rattle.gen_stmt.specs.Pushes.{PushedBy, Pushes, IsPushed, integer, private, shared, blank}
-use Rattle.gen_stmt.specs.Names.{NamesAmong, NamesOnly}
+use Rattle.gen_stmt.specs.layer.Pushes.{PushedBy, Pushes, IsPushed, integer, private, shared, blank}
+use Rattle.gen_stmt.specs.layer.Names.{NamesAmong, NamesOnly}
 use Rattle.source_meaning.proofs.Beginnings.{each_prop}
 use Rattle.gen_stmt.proofs.Gathered.{program_pushes}
 

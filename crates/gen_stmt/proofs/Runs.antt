@@ -49,14 +49,14 @@ use Rattle.stack_code.specs.declared.instruction.Jump.TheVariants as jump
 use Rattle.stack_code.specs.declared.instruction.ThreadWork.TheVariants as thread
 use Rattle.stack_code.specs.declared.instruction.Instr.{Instr}
 use Rattle.stack_code.specs.Codes.{function_at}
-use Rattle.stack_code.specs.Steps.{Spot, Conf, At, Halt, conf_of, pick, close_blocks, given_back, act, step}
-use Rattle.stack_code.specs.Meets.{HasAt, Leads, Meets}
+use Rattle.stack_code.specs.layer.Steps.{Spot, Conf, At, Halt, conf_of, pick, close_blocks, given_back, act, step}
+use Rattle.stack_code.specs.layer.Meets.{HasAt, Leads, Meets}
 use Rattle.stack_code.proofs.Meetings.{has_front, has_back, has_past, leads_on, stays, one_step, after, then_meets}
 use Rattle.stack_code.proofs.Meetings.{same_step, here, lands, chooses, fetched}
 use Rattle.gen_expr.specs.Sources.{Source, source_of, running_of}
 use Rattle.gen_expr.specs.Codes.{stacks, jumps, pushes, casts, saves, value_code, object_code, put_code, saved_code}
 use Rattle.gen_expr.specs.Codes.{advance_code}
-use Rattle.gen_expr.specs.Meanings.{MeansValue}
+use Rattle.gen_expr.specs.layer.Meanings.{MeansValue}
 use Rattle.gen_stmt.specs.Ways.{Ways, way, all_past, all_inner, in_loop, in_switch, in_forall}
 use Rattle.gen_stmt.specs.Codes.{leaves, enters, acts, gives_back, block_code, loop_code, loop_size, control_code}
 use Rattle.gen_stmt.specs.Codes.{label_code, synchronise_code, synchronise_value_code, cases, converted_code}

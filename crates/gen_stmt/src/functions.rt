@@ -6,7 +6,7 @@ ghost use Rattle.typed_tree.specs.ViewStatements.{view_function, view_items, vie
 ghost use Rattle.source_meaning.specs.Running.{Running};
 ghost use Rattle.source_meaning.specs.Threads as threads;
 ghost use Rattle.gen_expr.specs.Sources.{running_of};
-ghost use Rattle.gen_expr.specs.ViewSource.{view_source};
+ghost use Rattle.gen_expr.specs.layer.ViewSource.{view_source};
 ghost use Rattle.gen_stmt.specs.Ways.{in_function};
 ghost use Rattle.gen_stmt.specs.Codes.{statement_code};
 ghost use Rattle.gen_stmt.specs.Programs as pure;

@@ -3,10 +3,10 @@
 ghost use Rattle.std.specs.Prelude.{◌≡◌, [], ◌∷◌, map, IfOk, OnOk};
 ghost use Rattle.typed_tree.specs.ViewProgram.{view_program};
 ghost use Rattle.typed_tree.specs.ViewStatements.{view_function};
-ghost use Rattle.gen_expr.specs.ViewSource.{view_source};
+ghost use Rattle.gen_expr.specs.layer.ViewSource.{view_source};
 ghost use Rattle.gen_stmt.specs.Programs as pure;
-ghost use Rattle.gen_stmt.specs.Meanings.{MeansProgram};
-ghost use Rattle.gen_stmt.specs.Names.{NamesOnly};
+ghost use Rattle.gen_stmt.specs.layer.Meanings.{MeansProgram};
+ghost use Rattle.gen_stmt.specs.layer.Names.{NamesOnly};
 ghost use Rattle.source_meaning.specs.Laws.{opening_of};
 ghost use Rattle.typed_tree.specs.Beginnings.{view_beginning};
 ghost use Rattle.gen_stmt.specs.code.Compiled.{made, source_with, with_functions, with_initials, with_objects};

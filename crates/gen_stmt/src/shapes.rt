@@ -8,7 +8,7 @@ ghost use Rattle.typed_tree.specs.ViewStatements.{view_item, view_items, view_ob
 ghost use Rattle.source_meaning.specs.Types as pure;
 ghost use Rattle.source_meaning.specs.Statements.{shapes_of, objects_in};
 ghost use Rattle.gen_expr.specs.Sources.{running_of};
-ghost use Rattle.gen_expr.specs.ViewSource.{view_source};
+ghost use Rattle.gen_expr.specs.layer.ViewSource.{view_source};
 
 use crate::exits::sum;
 use block_layout::{Cells, Shape};

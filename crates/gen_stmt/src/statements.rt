@@ -7,7 +7,7 @@ ghost use Rattle.typed_tree.specs.ViewStatements.{view_affinity, view_arms, view
 ghost use Rattle.typed_tree.specs.ViewStatements.{view_last};
 ghost use Rattle.typed_tree.specs.ViewStatements.{view_statement, view_switch_item, view_switch_items};
 ghost use Rattle.gen_expr.specs.Codes.{value_code};
-ghost use Rattle.gen_expr.specs.ViewSource.{view_source};
+ghost use Rattle.gen_expr.specs.layer.ViewSource.{view_source};
 ghost use Rattle.gen_stmt.specs.Ways.{all_past};
 ghost use Rattle.gen_stmt.specs.Codes as pure;
 ghost use Rattle.gen_stmt.specs.code.Parts as parts;

@@ -5,7 +5,7 @@ ghost use Rattle.upc_types.specs.View.{view};
 ghost use Rattle.typed_tree.specs.ViewTree.{view_expr};
 ghost use Rattle.typed_tree.specs.ViewStatements.{view_value};
 ghost use Rattle.gen_expr.specs.Codes.{value_code};
-ghost use Rattle.gen_expr.specs.ViewSource.{view_source};
+ghost use Rattle.gen_expr.specs.layer.ViewSource.{view_source};
 ghost use Rattle.gen_stmt.specs.Codes as pure;
 
 use meaning_types::conversion;

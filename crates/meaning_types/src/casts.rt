@@ -2,7 +2,7 @@
 
 ghost use Rattle.std.specs.Prelude.{◌≡◌};
 ghost use Rattle.upc_types.specs.View.{view};
-ghost use Rattle.typing_rules.specs.Views.{view_target};
+ghost use Rattle.typing_rules.specs.layer.Views.{view_target};
 ghost use Rattle.typing_rules.specs.Attributes as attributes;
 ghost use Rattle.source_meaning.specs.Types as pure;
 

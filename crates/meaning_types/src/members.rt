@@ -3,7 +3,7 @@
 ghost use Rattle.std.specs.Prelude.{◌≡◌, Some};
 ghost use Rattle.upc_types.specs.View.{view};
 ghost use Rattle.upc_types.specs.ViewStructs.{view_structs};
-ghost use Rattle.typing_rules.specs.Views.{view_target};
+ghost use Rattle.typing_rules.specs.layer.Views.{view_target};
 ghost use Rattle.source_meaning.specs.Types as pure;
 
 use upc_types::{Base, CType, Structs};

@@ -15,13 +15,13 @@ use Rattle.upc_values.specs.Openings.{Opening}
 use Rattle.upc_values.specs.History.{reply, led_reply, valued}
 use Rattle.upc_values.specs.Formed as formed
 use Rattle.upc_values.specs.Formed.{IsWellFormed}
-use Rattle.shared_heap.specs.Heap.{cell_at}
-use Rattle.memory_history.specs.Calls.{asked_of}
-use Rattle.memory_history.specs.MeetsAfter.{LeaderState, times, is_leading, leader_at, nobody, called, joined_answer}
-use Rattle.memory_history.specs.After.{PartsState, IsAfter}
-use Rattle.memory_history.specs.World.{IsKept}
-use Rattle.memory_history.specs.Acting as said
-use Rattle.memory_history.specs.Acting.{MayAct, HasLock, answer, led_answer, meet_answer}
+use Rattle.shared_heap.specs.layer.Heap.{cell_at}
+use Rattle.memory_history.specs.code.Calls.{asked_of}
+use Rattle.memory_history.specs.code.MeetsAfter.{LeaderState, times, is_leading, leader_at, nobody, called, joined_answer}
+use Rattle.memory_history.specs.code.After.{PartsState, IsAfter}
+use Rattle.memory_history.specs.layer.World.{IsKept}
+use Rattle.memory_history.specs.code.Acting as said
+use Rattle.memory_history.specs.code.Acting.{MayAct, HasLock, answer, led_answer, meet_answer}
 use Rattle.memory_history.proofs.HeapReplies.{knows-answer, may_read-answer, may_write-answer, may_alloc-answer, held-answer, alloc-reply, led_alloc-answer, free-reply, led_free-answer}
 use Rattle.memory_history.proofs.LockSteps.{asked-made, lock-answers, attempt-answers, unlock-answers, give_up-answers, lock_make-answers}
 use Rattle.memory_history.proofs.MeetLocks.{makes_lock-answers, frees_lock-answers, leader-made}

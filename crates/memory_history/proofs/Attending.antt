@@ -17,8 +17,8 @@ use Rattle.upc_values.specs.Drain.{entry_of, entries_of}
 use Rattle.upc_values.specs.Openings.{Opening}
 use Rattle.upc_values.specs.History as history
 use Rattle.upc_values.specs.History.{each_thread, agrees_with, mark_of, marks, is_notify, is_wait, notifies, waits, reply}
-use Rattle.sync_objects.specs.Barrier.{Attendance, fresh, attendance_of, all_notified, all_agree, wait_answer, with_attendance, notified, waited}
-use Rattle.memory_history.specs.BarrierAfter.{attendance_after, BarrierAfter}
+use Rattle.sync_objects.specs.layer.Barrier.{Attendance, fresh, attendance_of, all_notified, all_agree, wait_answer, with_attendance, notified, waited}
+use Rattle.memory_history.specs.code.BarrierAfter.{attendance_after, BarrierAfter}
 use Rattle.memory_history.proofs.Growing.{marks-push, waits-push}
 
 -- ---- notifies and marks

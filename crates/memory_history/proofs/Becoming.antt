@@ -20,18 +20,18 @@ use Rattle.upc_values.specs.History.{reply, leader, meets, is_notify, is_wait, i
 use Rattle.upc_values.specs.Formed as formed
 use Rattle.upc_values.specs.Formed.{IsWellFormed}
 use Rattle.sync_objects.specs.declared.locks.LockState.{LockState}
-use Rattle.sync_objects.specs.Locks.{with_lock, as_given_up, as_freed}
-use Rattle.sync_objects.specs.Barrier.{Attendance}
-use Rattle.shared_heap.specs.Heap.{HeapState, all_objects, new_object, with_object, without_object, grow_answer, release_answer, is_live_start}
+use Rattle.sync_objects.specs.layer.Locks.{with_lock, as_given_up, as_freed}
+use Rattle.sync_objects.specs.layer.Barrier.{Attendance}
+use Rattle.shared_heap.specs.layer.Heap.{HeapState, all_objects, new_object, with_object, without_object, grow_answer, release_answer, is_live_start}
 use Rattle.memory_history.specs.declared.calls.Asked.TheVariants as asks
-use Rattle.memory_history.specs.Calls.{asked_of}
-use Rattle.memory_history.specs.HeapAfter.{HeapAfter}
-use Rattle.memory_history.specs.LocksAfter.{LocksAfter, given_up_by, with_some, locks_led, locks_met, locks_after_meet, concerns_locks}
-use Rattle.memory_history.specs.BarrierAfter.{BarrierAfter}
-use Rattle.memory_history.specs.MeetsAfter.{MeetsState, MeetsAfter, times, is_leading, leader_at, called, met_with, joined_answer}
-use Rattle.memory_history.specs.After.{PartsState, IsAfter}
-use Rattle.memory_history.specs.World.{IsKept}
-use Rattle.memory_history.specs.Acting.{with_heap, with_locks, with_barrier, with_meets, led_answer, meet_answer, notifies, led, met_by_all, ended, met, next, Acted}
+use Rattle.memory_history.specs.code.Calls.{asked_of}
+use Rattle.memory_history.specs.code.HeapAfter.{HeapAfter}
+use Rattle.memory_history.specs.code.LocksAfter.{LocksAfter, given_up_by, with_some, locks_led, locks_met, locks_after_meet, concerns_locks}
+use Rattle.memory_history.specs.code.BarrierAfter.{BarrierAfter}
+use Rattle.memory_history.specs.code.MeetsAfter.{MeetsState, MeetsAfter, times, is_leading, leader_at, called, met_with, joined_answer}
+use Rattle.memory_history.specs.code.After.{PartsState, IsAfter}
+use Rattle.memory_history.specs.layer.World.{IsKept}
+use Rattle.memory_history.specs.code.Acting.{with_heap, with_locks, with_barrier, with_meets, led_answer, meet_answer, notifies, led, met_by_all, ended, met, next, Acted}
 use Rattle.memory_history.proofs.HeapReplies.{may_lead_alloc}
 use Rattle.memory_history.proofs.HeapSteps.{IsStill, still-push, is_quiet, quiet-still, refused-still, follow-still, is_heap_call, lead-still, lead_null-still, lead_free_null-still, write-push, alloc-push, lead_alloc-push, free-push, lead_free-push}
 use Rattle.memory_history.proofs.LockSteps.{locks-other, lock-taken, attempt-taken, lock-let_go, lock-given_up, lock-made}

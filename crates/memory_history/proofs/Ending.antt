@@ -8,15 +8,15 @@ use Rattle.upc_values.specs.declared.scalar.Scalar.TheVariants.{Shared}
 use Rattle.upc_values.specs.declared.action.Reply.{Reply}
 use Rattle.upc_values.specs.declared.action.Reply.TheVariants.{Done, Value, Flag, Refused}
 use Rattle.upc_values.specs.Calls.{Call, Allocates, Makes_lock, Frees, Frees_lock, Copies, Permutes, Reduces, Reduces_prefixes, Other, call_of}
-use Rattle.sync_objects.specs.Locks.{IsMade, lock_of, with_lock, as_given_up}
-use Rattle.shared_heap.specs.Heap.{with_object, without_object}
+use Rattle.sync_objects.specs.layer.Locks.{IsMade, lock_of, with_lock, as_given_up}
+use Rattle.shared_heap.specs.layer.Heap.{with_object, without_object}
 use Rattle.memory_history.specs.declared.calls.Asked.{Asked}
 use Rattle.memory_history.specs.declared.calls.Asked.TheVariants as asks
-use Rattle.memory_history.specs.Calls.{asked_of}
-use Rattle.memory_history.specs.LocksAfter.{given_up_by}
-use Rattle.memory_history.specs.MeetsAfter.{LeaderState, MeetsState, nobody, times, is_leading, leader_at, called, leading, joined, counted, with_leader, with_joined, is_done_reply}
-use Rattle.memory_history.specs.After.{PartsState}
-use Rattle.memory_history.specs.Acting.{may_call, HasLock, with_heap, with_locks, with_meets, led}
+use Rattle.memory_history.specs.code.Calls.{asked_of}
+use Rattle.memory_history.specs.code.LocksAfter.{given_up_by}
+use Rattle.memory_history.specs.code.MeetsAfter.{LeaderState, MeetsState, nobody, times, is_leading, leader_at, called, leading, joined, counted, with_leader, with_joined, is_done_reply}
+use Rattle.memory_history.specs.code.After.{PartsState}
+use Rattle.memory_history.specs.code.Acting.{may_call, HasLock, with_heap, with_locks, with_meets, led}
 use Rattle.memory_history.specs.code.Calling.{begun_call, answered, settled}
 
 pub done-is : (r : Reply) → is_done_reply r ≡ true → r ≡ Done

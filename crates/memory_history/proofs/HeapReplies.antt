@@ -18,8 +18,8 @@ use Rattle.upc_values.specs.Drain.{or_else}
 use Rattle.upc_values.specs.Openings.{Opening, IsOpening, bytes_of, cell_of, is_named, initial_of}
 use Rattle.upc_values.specs.History.{objects, made, alloc_reply, is_released, free_reply, led_reply, held, valued, reply, IsLegal}
 use Rattle.upc_values.specs.Formed.{knows, is_known, is_home, may_alloc, may_call, may_ask, IsWellFormed, AreWellFormed}
-use Rattle.shared_heap.specs.Heap.{HeapState, all_objects, cell_at, written, content, start_of, new_object, grow_answer, is_live_start, release_answer}
-use Rattle.memory_history.specs.HeapAfter.{HeapAfter}
+use Rattle.shared_heap.specs.layer.Heap.{HeapState, all_objects, cell_at, written, content, start_of, new_object, grow_answer, is_live_start, release_answer}
+use Rattle.memory_history.specs.code.HeapAfter.{HeapAfter}
 use Rattle.memory_history.proofs.Objects.{made_in}
 use Rattle.shared_heap.proofs.Placed.{with_objects}
 use Rattle.memory_history.proofs.Placed.{objects-opening}

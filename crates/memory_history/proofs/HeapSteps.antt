@@ -20,9 +20,9 @@ use Rattle.upc_values.specs.Drain.{entry_of, written, or_else}
 use Rattle.upc_values.specs.Openings.{Opening, IsOpening, bytes_of}
 use Rattle.upc_values.specs.History.{asked, meets, Lead, leader, led, makes, objects, made, releases, is_released, IsLegal}
 use Rattle.upc_values.specs.Formed.{is_home, may_alloc, IsWellFormed, AreWellFormed}
-use Rattle.shared_heap.specs.Heap as heap
-use Rattle.shared_heap.specs.Heap.{HeapState, IsSaved, new_object, grow_answer, with_object, with_released, without_object}
-use Rattle.memory_history.specs.HeapAfter.{HeapAfter}
+use Rattle.shared_heap.specs.layer.Heap as heap
+use Rattle.shared_heap.specs.layer.Heap.{HeapState, IsSaved, new_object, grow_answer, with_object, with_released, without_object}
+use Rattle.memory_history.specs.code.HeapAfter.{HeapAfter}
 use Rattle.memory_history.proofs.Growing.{objects-push, released-push, last_written-push}
 use Rattle.memory_history.proofs.Entries.{both-true}
 use Rattle.memory_history.proofs.Objects.{made_by, Makes, makes-made, idle, ungiven, makes-none}

@@ -11,7 +11,7 @@ use Rattle.upc_values.specs.declared.journal.Entry.{Entry}
 use Rattle.upc_values.specs.Calls.{Other}
 use Rattle.upc_values.specs.Openings.{Opening}
 use Rattle.upc_values.specs.History.{is_meet, meets, is_meet_of, Lead, leader_from, leader, asked, led, is_done, each_thread, all_met}
-use Rattle.memory_history.specs.MeetsAfter.{done_below, is_done_reply}
+use Rattle.memory_history.specs.code.MeetsAfter.{done_below, is_done_reply}
 use Rattle.memory_history.proofs.Growing.{one_if, length-one, meets-push, leader-push}
 
 pub met_count-push : (u : ℕ) (es : List Entry) (e : Entry) → length (meets u (es ++ e ∷ [])) ≡ length (meets u es) + cond ((e.thread == u) && is_meet e.action) 1 0

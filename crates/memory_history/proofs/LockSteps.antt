@@ -14,8 +14,8 @@ use Rattle.upc_values.specs.Openings.{Opening}
 use Rattle.upc_values.specs.History.{is_meet, makes_lock, locks, gives_up, is_given_up, is_freed, turns, left_with, holder, reply}
 use Rattle.upc_values.specs.Formed.{is_lock, AreWellFormed}
 use Rattle.sync_objects.specs.declared.locks.LockState.{LockState}
-use Rattle.sync_objects.specs.Locks.{fresh, IsMade, lock_of, with_lock, held_by, let_go, as_given_up, as_freed, lock_answer, attempt_answer, unlock_answer, give_up_answer, lock_after}
-use Rattle.memory_history.specs.LocksAfter.{LocksAfter, concerns_locks}
+use Rattle.sync_objects.specs.layer.Locks.{fresh, IsMade, lock_of, with_lock, held_by, let_go, as_given_up, as_freed, lock_answer, attempt_answer, unlock_answer, give_up_answer, lock_after}
+use Rattle.memory_history.specs.code.LocksAfter.{LocksAfter, concerns_locks}
 use Rattle.memory_history.proofs.Growing.{locks-push, given_up-push, holder-push}
 use Rattle.memory_history.proofs.Leaders.{led-other}
 use Rattle.memory_history.proofs.Freeing.{freed-other}

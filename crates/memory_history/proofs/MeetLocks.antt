@@ -15,9 +15,9 @@ use Rattle.upc_values.specs.Openings.{Opening}
 use Rattle.upc_values.specs.History.{leader, meets, led, asked, makes_lock, locks, gives_up, is_given_up, is_freed, all_met, holder, notifies, led_reply}
 use Rattle.upc_values.specs.Formed.{may_call, AreWellFormed}
 use Rattle.sync_objects.specs.declared.locks.LockState.{LockState}
-use Rattle.sync_objects.specs.Locks.{fresh, IsMade, lock_of, as_given_up, as_freed, give_up_answer, lock_after}
-use Rattle.memory_history.specs.MeetsAfter.{LeaderState, MeetsState, MeetsAfter, times, is_leading, nobody, leader_at, called, met_with}
-use Rattle.memory_history.specs.LocksAfter.{LocksAfter, given_up_by, with_some, locks_led, locks_met, locks_after_meet}
+use Rattle.sync_objects.specs.layer.Locks.{fresh, IsMade, lock_of, as_given_up, as_freed, give_up_answer, lock_after}
+use Rattle.memory_history.specs.code.MeetsAfter.{LeaderState, MeetsState, MeetsAfter, times, is_leading, nobody, leader_at, called, met_with}
+use Rattle.memory_history.specs.code.LocksAfter.{LocksAfter, given_up_by, with_some, locks_led, locks_met, locks_after_meet}
 use Rattle.memory_history.proofs.Growing.{locks-push, given_up-push, holder-push}
 use Rattle.memory_history.proofs.Leaders.{cond_same}
 use Rattle.memory_history.proofs.Meeting.{led-same, all-same, meets-met, met-within, led-leader}

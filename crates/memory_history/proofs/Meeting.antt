@@ -13,7 +13,7 @@ use Rattle.upc_values.specs.Drain.{entry_of}
 use Rattle.upc_values.specs.Calls.{Other, call_of}
 use Rattle.upc_values.specs.Openings.{Opening}
 use Rattle.upc_values.specs.History.{is_meet, meets, is_meet_of, Lead, leader, asked, led, is_done, all_met, notifies, same_call, led_reply, meet_reply, reply}
-use Rattle.memory_history.specs.MeetsAfter.{LeaderState, MeetsState, done_below, Leads, MeetsAfter, times, is_leading, nobody, leader_at, joined_answer, is_done_reply, counted, leading, joined, with_leader, with_joined, met_with}
+use Rattle.memory_history.specs.code.MeetsAfter.{LeaderState, MeetsState, done_below, Leads, MeetsAfter, times, is_leading, nobody, leader_at, joined_answer, is_done_reply, counted, leading, joined, with_leader, with_joined, met_with}
 use Rattle.memory_history.proofs.Leaders.{met_count-push, few-met, leader-stays, leader-new, leader-none, done_below-other, done_below-own, met-count}
 
 none-is : (x : Option Lead) → is_none x ≡ true → x ≡ None

@@ -8,7 +8,7 @@ use Rattle.upc_values.specs.Openings.{Opening}
 use Rattle.upc_values.specs.History.{reply}
 use Rattle.upc_values.specs.Formed.{IsWellFormed}
 use Rattle.upc_values.proofs.Legality.{legal-push, formed-push, below-push}
-use Rattle.memory_history.specs.World.{IsKept}
+use Rattle.memory_history.specs.layer.World.{IsKept}
 
 pub kept-push : (o : Opening) (es : List Entry) (t i : ℕ) (a : Action) (r : Reply) → IsKept o es → t < o.threads
     → IsWellFormed o es a → reply o es t a ≡ Some r → length es + 1 < 2 ^ 62 → IsKept o (es ++ entry_of t i a r ∷ [])

@@ -6,7 +6,7 @@ use Rattle.upc_values.specs.declared.journal.Entry.{Entry}
 use Rattle.upc_values.specs.Openings.{Opening, IsOpening, IsDeclared, bytes_of}
 use Rattle.upc_values.specs.History.{objects, made, IsLegal}
 use Rattle.upc_values.specs.Formed.{is_home, may_alloc, AreWellFormed}
-use Rattle.shared_heap.specs.Heap.{HeapState}
+use Rattle.shared_heap.specs.layer.Heap.{HeapState}
 use Rattle.shared_heap.proofs.Placed.{with_objects}
 use Rattle.shared_heap.proofs.Placed as heaps
 use Rattle.memory_history.proofs.Entries.{Keeps, by_entries}

@@ -6,7 +6,7 @@ use Rattle.upc_values.specs.declared.scalar.Scalar.TheVariants.{Int, Shared, Loc
 use Rattle.upc_values.specs.Calls as said
 use Rattle.upc_values.specs.Calls.{call_of, is_size, is_int}
 use Rattle.memory_history.specs.declared.calls.Asked.TheVariants as asks
-use Rattle.memory_history.specs.Calls.{asked_of, shared_in, size_in, has_kind, are_numbers, reduced}
+use Rattle.memory_history.specs.code.Calls.{asked_of, shared_in, size_in, has_kind, are_numbers, reduced}
 
 -- ---- seven arguments
 

@@ -20,7 +20,7 @@ use Rattle.upc_values.specs.History.{picked, asked, meets, Lead, leader, led, po
 use Rattle.upc_values.specs.Formed.{AreWellFormed}
 use Rattle.upc_values.proofs.Sameness.{same_scalar-true}
 use Rattle.upc_values.proofs.Membership.{has-left, has-right, has-cases, has-filter}
-use Rattle.shared_heap.specs.Heap.{start_of, is_live_start}
+use Rattle.shared_heap.specs.layer.Heap.{start_of, is_live_start}
 use Rattle.memory_history.proofs.Growing.{allocated-push}
 use Rattle.memory_history.proofs.Entries.{Keeps, by_entries, picked-has, has-filter_map, filter_map-has, list_any-has, has-list_any, both-true, leader-has}
 use Rattle.memory_history.proofs.Objects.{made_in, made_by, given_by, made-push, Makes, makes-given, given-made, made-cases}

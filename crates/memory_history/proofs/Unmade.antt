@@ -14,7 +14,7 @@ use Rattle.upc_values.specs.Openings.{Opening}
 use Rattle.upc_values.specs.History.{picked, picked_from, makes_lock, leader, meets, asked, led, locks, gives_up, is_given_up, turns, left_with, is_meet, all_met, is_freed}
 use Rattle.upc_values.specs.Formed.{is_lock, may_call, IsWellFormed, AreWellFormedFrom, AreWellFormed}
 use Rattle.upc_values.proofs.Beginnings.{picked-append}
-use Rattle.sync_objects.specs.Locks.{fresh, lock_after}
+use Rattle.sync_objects.specs.layer.Locks.{fresh, lock_after}
 use Rattle.memory_history.proofs.Freeing.{any_from, any-next, any-same, gives}
 
 -- a lock after those that are made is none of them

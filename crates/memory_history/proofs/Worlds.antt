@@ -13,10 +13,10 @@ use Rattle.upc_values.specs.History.{reply}
 use Rattle.upc_values.specs.Formed.{IsWellFormed}
 use Rattle.upc_values.specs.Strands.{may_wait}
 use Rattle.upc_values.proofs.Legality.{unlawful-waits}
-use Rattle.sync_objects.specs.Barrier as barrier
-use Rattle.memory_history.specs.After.{PartsState, IsAfter}
-use Rattle.memory_history.specs.World.{IsKept, IsWorld}
-use Rattle.memory_history.specs.Acting.{begun, answer, may_ask, MayAct, Acted}
+use Rattle.sync_objects.specs.layer.Barrier as barrier
+use Rattle.memory_history.specs.code.After.{PartsState, IsAfter}
+use Rattle.memory_history.specs.layer.World.{IsKept, IsWorld}
+use Rattle.memory_history.specs.code.Acting.{begun, answer, may_ask, MayAct, Acted}
 use Rattle.memory_history.proofs.More.{kept-push}
 use Rattle.memory_history.proofs.Asking.{ask-same, may-act, answer-same}
 use Rattle.memory_history.proofs.Becoming.{acted-after}

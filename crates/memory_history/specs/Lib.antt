@@ -1,9 +1,2 @@
-pub mod World
-pub mod HeapAfter
-pub mod LocksAfter
-pub mod BarrierAfter
-pub mod MeetsAfter
-pub mod After
-pub mod Calls
-pub mod Acting
 pub mod code
+pub mod layer

@@ -3,8 +3,8 @@
 ghost use Rattle.std.specs.Prelude.{◌≡◌, true, IfOk, OnErr};
 ghost use Rattle.upc_values.specs.declared.action.Action.TheVariants as act;
 ghost use Rattle.upc_values.specs.Formed.{may_alloc, is_home};
-ghost use Rattle.shared_heap.specs.Heap.{grow_answer, release_answer};
-ghost use Rattle.memory_history.specs.Acting.{next};
+ghost use Rattle.shared_heap.specs.layer.Heap.{grow_answer, release_answer};
+ghost use Rattle.memory_history.specs.code.Acting.{next};
 
 use crate::parts::Parts;
 use upc_text::OutOfMemory;

@@ -2,9 +2,9 @@
 
 ghost use Rattle.std.specs.Prelude.{◌≡◌, ◌<◌, length, None, IfSome};
 ghost use Rattle.upc_values.specs.declared.action.Action.TheVariants as act;
-ghost use Rattle.sync_objects.specs.Barrier.{may_pass};
-ghost use Rattle.memory_history.specs.Acting as said;
-ghost use Rattle.memory_history.specs.Acting.{next};
+ghost use Rattle.sync_objects.specs.layer.Barrier.{may_pass};
+ghost use Rattle.memory_history.specs.code.Acting as said;
+ghost use Rattle.memory_history.specs.code.Acting.{next};
 
 use crate::parts::Parts;
 use upc_values::{Mark, Reply};

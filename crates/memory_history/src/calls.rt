@@ -2,8 +2,8 @@
 
 ghost use Rattle.std.specs.Prelude.{◌≡◌, ◌∷◌, [], is_some};
 ghost use Rattle.upc_values.specs.Calls.{call_of, way_of};
-ghost use Rattle.memory_history.specs.Calls.{asked_of};
-ghost use Rattle.memory_history.specs.Calls as said;
+ghost use Rattle.memory_history.specs.code.Calls.{asked_of};
+ghost use Rattle.memory_history.specs.code.Calls as said;
 
 use block_layout::{Kind, SharedPtr};
 use integers::lies_in;

@@ -2,10 +2,10 @@
 
 ghost use Rattle.std.specs.Prelude.{◌≡◌, ◌<◌, ◌≤◌, ◌^◌, true, length, IfOk, OnErr};
 ghost use Rattle.upc_values.specs.declared.action.Action.TheVariants as act;
-ghost use Rattle.memory_history.specs.MeetsAfter.{times, is_leading, leader_at, called, leading, joined_answer};
-ghost use Rattle.memory_history.specs.MeetsAfter.{with_leader, with_joined};
-ghost use Rattle.memory_history.specs.Acting as said;
-ghost use Rattle.memory_history.specs.Acting.{MayAct, HasLock, with_meets};
+ghost use Rattle.memory_history.specs.code.MeetsAfter.{times, is_leading, leader_at, called, leading, joined_answer};
+ghost use Rattle.memory_history.specs.code.MeetsAfter.{with_leader, with_joined};
+ghost use Rattle.memory_history.specs.code.Acting as said;
+ghost use Rattle.memory_history.specs.code.Acting.{MayAct, HasLock, with_meets};
 
 use crate::calls::{Asked, read_call};
 use crate::leader::is_done;

@@ -3,7 +3,7 @@
 ghost use Rattle.std.specs.Prelude.{◌≡◌};
 ghost use Rattle.upc_values.specs.Shapes as shapes;
 ghost use Rattle.upc_values.specs.Formed as formed;
-ghost use Rattle.memory_history.specs.Acting as said;
+ghost use Rattle.memory_history.specs.code.Acting as said;
 
 use crate::calls::{Asked, read_call};
 use crate::parts::Parts;

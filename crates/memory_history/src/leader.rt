@@ -3,8 +3,8 @@
 ghost use Rattle.std.specs.Prelude.{◌≡◌, ◌<◌, ◌-◌, ◌^◌, false, IfOk};
 ghost use Rattle.upc_values.specs.declared.action.Reply.TheVariants as replies;
 ghost use Rattle.upc_values.specs.History as history;
-ghost use Rattle.memory_history.specs.Calls.{asked_of};
-ghost use Rattle.memory_history.specs.MeetsAfter as said;
+ghost use Rattle.memory_history.specs.code.Calls.{asked_of};
+ghost use Rattle.memory_history.specs.code.MeetsAfter as said;
 
 use crate::calls::{Asked, read_call};
 use block_layout::run_error::COLLECTIVE_MISMATCH;
@@ -25,7 +25,7 @@ pub struct Leader {
 }
 
 impl Model for Leader {
-    ghost use Rattle.memory_history.specs.MeetsAfter.{LeaderState};
+    ghost use Rattle.memory_history.specs.code.MeetsAfter.{LeaderState};
 
     ghost Value = { LeaderState };
 

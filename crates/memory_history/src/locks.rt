@@ -5,9 +5,9 @@ ghost use Rattle.std.specs.Prelude.{IfSome, OnErr};
 ghost use Rattle.upc_values.specs.declared.action.Action.TheVariants as act;
 ghost use Rattle.upc_values.specs.declared.scalar.Scalar.TheVariants as scalar;
 ghost use Rattle.upc_values.specs.declared.action.Reply.TheVariants as reply;
-ghost use Rattle.sync_objects.specs.Locks.{fresh, give_up_answer, lock_of};
-ghost use Rattle.memory_history.specs.Acting as said;
-ghost use Rattle.memory_history.specs.Acting.{is_lock, next};
+ghost use Rattle.sync_objects.specs.layer.Locks.{fresh, give_up_answer, lock_of};
+ghost use Rattle.memory_history.specs.code.Acting as said;
+ghost use Rattle.memory_history.specs.code.Acting.{is_lock, next};
 
 use crate::parts::Parts;
 use upc_text::OutOfMemory;

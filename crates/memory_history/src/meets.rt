@@ -1,9 +1,9 @@
 //! Collective calls: how often each thread has met, and what led each call.
 
 ghost use Rattle.std.specs.Prelude.{◌≡◌, ◌<◌, ◌+◌, ◌-◌, ◌^◌, [], length, replicate, IfOk, OnErr};
-ghost use Rattle.memory_history.specs.Calls.{asked_of};
-ghost use Rattle.memory_history.specs.MeetsAfter as said;
-ghost use Rattle.memory_history.specs.MeetsAfter.{times, leader_at, is_leading};
+ghost use Rattle.memory_history.specs.code.Calls.{asked_of};
+ghost use Rattle.memory_history.specs.code.MeetsAfter as said;
+ghost use Rattle.memory_history.specs.code.MeetsAfter.{times, leader_at, is_leading};
 ghost use Rattle.memory_history.specs.code.Calling as calling;
 
 use crate::calls::Asked;
@@ -21,7 +21,7 @@ pub struct Meets {
 }
 
 impl Model for Meets {
-    ghost use Rattle.memory_history.specs.MeetsAfter.{MeetsState};
+    ghost use Rattle.memory_history.specs.code.MeetsAfter.{MeetsState};
 
     ghost Value = { MeetsState };
 

@@ -2,10 +2,10 @@
 
 ghost use Rattle.std.specs.Prelude.{◌≡◌, true, None, [], replicate, IfOk, IfSome, OnErr};
 ghost use Rattle.upc_values.specs.Openings.{IsOpening};
-ghost use Rattle.shared_heap.specs.Heap as heap;
-ghost use Rattle.sync_objects.specs.Barrier as barrier;
-ghost use Rattle.memory_history.specs.Acting as said;
-ghost use Rattle.memory_history.specs.Acting.{Acted, MayAct};
+ghost use Rattle.shared_heap.specs.layer.Heap as heap;
+ghost use Rattle.sync_objects.specs.layer.Barrier as barrier;
+ghost use Rattle.memory_history.specs.code.Acting as said;
+ghost use Rattle.memory_history.specs.code.Acting.{Acted, MayAct};
 
 use crate::meets::Meets;
 use shared_heap::Heap;
@@ -26,7 +26,7 @@ pub struct Parts {
 }
 
 impl Model for Parts {
-    ghost use Rattle.memory_history.specs.After.{PartsState};
+    ghost use Rattle.memory_history.specs.code.After.{PartsState};
 
     ghost Value = { PartsState };
 

@@ -5,11 +5,11 @@ ghost use Rattle.upc_values.specs.Openings.{IsOpening};
 ghost use Rattle.upc_values.specs.History as history;
 ghost use Rattle.upc_values.specs.History.{IsLegal, EachBelow};
 ghost use Rattle.upc_values.specs.Formed.{IsWellFormed, AreWellFormed, fits_after};
-ghost use Rattle.upc_values.specs.Known.{gives_known};
+ghost use Rattle.upc_values.specs.layer.Known.{gives_known};
 ghost use Rattle.upc_values.specs.Waits.{WaitsFollow};
 ghost use Rattle.upc_values.specs.Locks.{LocksExclude};
 ghost use Rattle.upc_values.specs.Strands.{may_wait};
-ghost use Rattle.memory_history.specs.World.{answer_of, performed};
+ghost use Rattle.memory_history.specs.layer.World.{answer_of, performed};
 
 use crate::parts::Parts;
 use crate::step::Step;
@@ -31,7 +31,7 @@ impl Model for World {
     ghost use Rattle.std.specs.Prelude.{List};
     ghost use Rattle.upc_values.specs.declared.journal.Entry.{Entry};
     ghost use Rattle.upc_values.specs.Openings.{Opening};
-    ghost use Rattle.memory_history.specs.World.{IsWorld};
+    ghost use Rattle.memory_history.specs.layer.World.{IsWorld};
 
     ghost Value = { Opening × List Entry };
 

@@ -1,4 +1,2 @@
-pub mod Told
-pub mod Run
-pub mod Spots
-pub mod Areas
+pub mod layer
+pub mod code

@@ -6,9 +6,9 @@ use Rattle.std.proofs.Common.{◌≡◌, ◌==◌, eq-eqb, Some, None, Bool, tru
 use Rattle.upc_values.specs.Expansion.{Expansion, Gives, Fails, bind, gathered, refused_by}
 use Rattle.plain_calls.specs.declared.telling.Stop.{Stop}
 use Rattle.plain_calls.specs.declared.telling.Stop.TheVariants as stop
-use Rattle.plain_calls.specs.Run.{Standing, run, Follows}
+use Rattle.plain_calls.specs.layer.Run.{Standing, run, Follows}
 use Rattle.plain_calls.proofs.Following.{next, then, run-bind, on, stops}
-use Rattle.plain_collectives.specs.Calls.{refusal_in}
+use Rattle.plain_collectives.specs.code.Calls.{refusal_in}
 
 -- ---- what a list of steps gives, one by one
 

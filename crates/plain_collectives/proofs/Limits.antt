@@ -15,7 +15,7 @@ use Rattle.upc_values.specs.Expansions as expansions
 use Rattle.upc_values.specs.Expansions.{is_large}
 use Rattle.plain_collectives.specs.declared.call.Call.{Call}
 use Rattle.plain_collectives.specs.declared.call.Call.TheVariants as call
-use Rattle.plain_collectives.specs.Calls.{call_in, kept, refusal_in, FitsLimits}
+use Rattle.plain_collectives.specs.code.Calls.{call_in, kept, refusal_in, FitsLimits}
 
 -- the second of two tests did not hold
 second-passed : (b d : Bool) (m n : ℕ) → None ≡ cond b (Some m) (cond d (Some n) None) → d ≡ false

@@ -6,7 +6,7 @@ use Rattle.upc_values.specs.declared.scalar.Scalar.{Scalar}
 use Rattle.upc_values.specs.declared.scalar.Scalar.TheVariants.{Int, Shared, Lock}
 use Rattle.upc_values.specs.Calls as said
 use Rattle.upc_values.specs.Calls.{call_of, way_of, is_size, is_int}
-use Rattle.plain_collectives.specs.Calls.{kept, shared_in, size_in, int_in, kind_in}
+use Rattle.plain_collectives.specs.code.Calls.{kept, shared_in, size_in, int_in, kind_in}
 
 -- the call that copies so
 abbrev pub copied : Option SharedPtr → Option SharedPtr → Option ℕ → Option ℤ → Option said.Way → said.Call

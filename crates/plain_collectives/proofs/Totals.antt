@@ -10,7 +10,7 @@ use Rattle.upc_values.specs.Expansion.{Expansion, bind, Gives}
 use Rattle.upc_values.specs.Expansions as said
 use Rattle.upc_values.specs.Reductions as reductions
 use Rattle.plain_calls.specs.declared.telling.Stop.{Stop}
-use Rattle.plain_calls.specs.Run.{Standing, run, Follows, ComesTo}
+use Rattle.plain_calls.specs.layer.Run.{Standing, run, Follows, ComesTo}
 use Rattle.plain_calls.proofs.Following.{on, stops}
 use Rattle.plain_collectives.proofs.Behind.{regroup, pointwise}
 

@@ -1,3 +1,1 @@
-pub mod Calls
-pub mod Reductions
-pub mod Parts
+pub mod code

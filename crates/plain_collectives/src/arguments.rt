@@ -3,7 +3,7 @@
 ghost use Rattle.std.specs.Prelude.{◌≡◌, ℕ, List, not, ◌==◌, ◌||◌, ◌&&◌, ◌∷◌, []};
 ghost use Rattle.block_layout.specs.declared.kind.Shape.{Shape};
 ghost use Rattle.upc_values.specs.Expansions as said;
-ghost use Rattle.plain_collectives.specs.Calls.{call_in, way_in, refusal_in};
+ghost use Rattle.plain_collectives.specs.code.Calls.{call_in, way_in, refusal_in};
 
 use crate::call::{Call, Operands, Way};
 use crate::reduction::is_operator;

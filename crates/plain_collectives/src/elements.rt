@@ -6,8 +6,8 @@ ghost use Rattle.block_layout.specs.Shapes.{kind_size};
 ghost use Rattle.upc_values.specs.Expansion.{gathered};
 ghost use Rattle.upc_values.specs.Expansions as said;
 ghost use Rattle.upc_values.specs.Views as views;
-ghost use Rattle.plain_calls.specs.Run.{Follows};
-ghost use Rattle.plain_calls.specs.Spots.{pointer_of, IsRoomFor};
+ghost use Rattle.plain_calls.specs.layer.Run.{Follows};
+ghost use Rattle.plain_calls.specs.layer.Spots.{pointer_of, IsRoomFor};
 
 use crate::number::Number;
 use crate::thread::Thread;

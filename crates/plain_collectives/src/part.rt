@@ -5,9 +5,9 @@ ghost use Rattle.std.specs.List.{All, list_any};
 ghost use Rattle.upc_values.specs.Expansion.{each_in_turn, Reads, does};
 ghost use Rattle.upc_values.specs.Expansions as said;
 ghost use Rattle.upc_values.specs.Views as views;
-ghost use Rattle.plain_calls.specs.Run.{Follows};
-ghost use Rattle.plain_calls.specs.Spots.{pointer_of};
-ghost use Rattle.plain_collectives.specs.Parts.{part_of, HasRoom};
+ghost use Rattle.plain_calls.specs.layer.Run.{Follows};
+ghost use Rattle.plain_calls.specs.layer.Spots.{pointer_of};
+ghost use Rattle.plain_collectives.specs.code.Parts.{part_of, HasRoom};
 
 use crate::thread::Thread;
 use block_layout::run_error::{CELL_TYPE, OUT_OF_OBJECT, POINTER_RANGE};

@@ -8,9 +8,9 @@ ghost use Rattle.upc_values.specs.Expansion.{bind, gathered, refused_by};
 ghost use Rattle.upc_values.specs.Expansions as said;
 ghost use Rattle.upc_values.specs.History.{each_thread};
 ghost use Rattle.upc_values.specs.Views as views;
-ghost use Rattle.plain_calls.specs.Run.{Follows};
-ghost use Rattle.plain_calls.specs.Spots.{pointer_of, IsRoomFor};
-ghost use Rattle.plain_collectives.specs.Parts.{part_of};
+ghost use Rattle.plain_calls.specs.layer.Run.{Follows};
+ghost use Rattle.plain_calls.specs.layer.Spots.{pointer_of, IsRoomFor};
+ghost use Rattle.plain_collectives.specs.code.Parts.{part_of};
 
 use crate::elements::{are_not_cells, leave_pieces, leave_range, read_numbers};
 use crate::part::{Part, cut, move_parts};

@@ -9,10 +9,10 @@ ghost use Rattle.upc_values.specs.Expansion.{Gives, bind};
 ghost use Rattle.upc_values.specs.Expansions as said;
 ghost use Rattle.upc_values.specs.Reductions as reductions;
 ghost use Rattle.upc_values.specs.Views as views;
-ghost use Rattle.plain_collectives.specs.Calls.{refusal_in};
-ghost use Rattle.plain_collectives.specs.Reductions.{reduction_in};
-ghost use Rattle.plain_calls.specs.Run.{Follows};
-ghost use Rattle.plain_calls.specs.Spots.{pointer_of, IsRoomFor};
+ghost use Rattle.plain_collectives.specs.code.Calls.{refusal_in};
+ghost use Rattle.plain_collectives.specs.code.Reductions.{reduction_in};
+ghost use Rattle.plain_calls.specs.layer.Run.{Follows};
+ghost use Rattle.plain_calls.specs.layer.Spots.{pointer_of, IsRoomFor};
 
 use crate::call::Operands;
 use crate::elements::{are_not_cells, leave_pieces, leave_range, read_value, write_number};

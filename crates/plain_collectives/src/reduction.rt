@@ -3,7 +3,7 @@
 ghost use Rattle.std.specs.Prelude.{◌≡◌, ◌<◌, not, is_none};
 ghost use Rattle.integers.specs.Integers.{IsInteger};
 ghost use Rattle.upc_values.specs.Reductions as said;
-ghost use Rattle.plain_collectives.specs.Reductions.{reduction_option};
+ghost use Rattle.plain_collectives.specs.code.Reductions.{reduction_option};
 
 use block_layout::Kind;
 

@@ -6,7 +6,7 @@ ghost use mir.Syntax.{w128};
 ghost use Rattle.integers.specs.Integers.{is_signed, values, converted, brought, IsInteger, IsPromoted};
 ghost use Rattle.integers.specs.Operators.{bits_of, truth};
 ghost use Rattle.upc_values.specs.Reductions as said;
-ghost use Rattle.plain_collectives.specs.Reductions.{reduction_in};
+ghost use Rattle.plain_collectives.specs.code.Reductions.{reduction_in};
 
 use crate::reduction::Reduction;
 use block_layout::Kind;

@@ -4,9 +4,9 @@ ghost use Rattle.std.specs.Prelude.{◌≡◌, ◌==◌, ◌%◌, ◌/◌, ℕ, 
 ghost use Rattle.block_layout.specs.declared.kind.Shape.{Shape};
 ghost use Rattle.upc_values.specs.Expansion.{bind, does, nothing, barrier};
 ghost use Rattle.upc_values.specs.Expansions as said;
-ghost use Rattle.plain_collectives.specs.Calls.{call_in, way_in, FitsLimits};
-ghost use Rattle.plain_calls.specs.Run.{Follows};
-ghost use Rattle.plain_calls.specs.Told.{if_collective, told};
+ghost use Rattle.plain_collectives.specs.code.Calls.{call_in, way_in, FitsLimits};
+ghost use Rattle.plain_calls.specs.layer.Run.{Follows};
+ghost use Rattle.plain_calls.specs.layer.Told.{if_collective, told};
 
 use crate::arguments::refusal;
 use crate::call::{Call, Way, call_of};

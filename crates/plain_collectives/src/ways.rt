@@ -4,8 +4,8 @@ ghost use Rattle.std.specs.Prelude.{◌≡◌, ◌≤◌, ◌<◌, ◌+◌, ◌*
 ghost use Rattle.upc_values.specs.Calls as calls;
 ghost use Rattle.upc_values.specs.Views as views;
 ghost use Rattle.upc_values.specs.Expansions as said;
-ghost use Rattle.plain_collectives.specs.Calls.{way_in};
-ghost use Rattle.plain_collectives.specs.Parts.{part_of};
+ghost use Rattle.plain_collectives.specs.code.Calls.{way_in};
+ghost use Rattle.plain_collectives.specs.code.Parts.{part_of};
 
 use crate::call::Way;
 use crate::part::Part;

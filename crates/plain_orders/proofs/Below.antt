@@ -8,7 +8,7 @@ use Rattle.upc_values.specs.Lists.{Each, Has}
 use Rattle.upc_values.specs.Operations.{Access, Nothing, Reads, Writes, Writes_sync, Reads_sync, Writes_and_reads_sync, Operation, access, operations_by}
 use Rattle.upc_values.specs.Orders.{IsOf, operations_of, operations_from, record_of}
 use Rattle.upc_values.proofs.Membership.{has-cases, has-left, has-right, each-append, each-has}
-use Rattle.plain_orders.specs.Below.{operations_below}
+use Rattle.plain_orders.specs.code.Below.{operations_below}
 
 by-thread : (t i : ℕ) (a : Access) → Each (λ o. o.thread ≡ t) (operations_by t i a)
 by-thread t i Nothing = tt

@@ -6,8 +6,8 @@ use Rattle.upc_values.specs.Operations.{Operation}
 use Rattle.upc_values.specs.Orders.{rank, name_of, is_shown}
 use Rattle.upc_values.specs.Consistent.{IsOrderOf}
 use Rattle.upc_values.proofs.Membership.{precedes-has, precedes-total, precedes-trans, pairs-at, pairs-weaker, Distinct}
-use Rattle.plain_orders.specs.Strict.{IsWritten, IsStep, StrictBy, As_listed, As_written, Through}
-use Rattle.plain_orders.specs.Whole.{AgreesWith}
+use Rattle.plain_orders.specs.code.Strict.{IsWritten, IsStep, StrictBy, As_listed, As_written, Through}
+use Rattle.plain_orders.specs.code.Whole.{AgreesWith}
 
 abbrev pub Shown : (Operation → Type 0) → ℕ → Operation → Type 0
 Shown set t o = set o × (is_shown t o ≡ true)

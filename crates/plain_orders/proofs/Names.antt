@@ -11,9 +11,9 @@ use Rattle.upc_values.specs.declared.order.Orders.{Orders}
 use Rattle.upc_values.specs.Orders.{IsOf, name_of}
 use Rattle.upc_values.specs.Consistent.{IsOrderOf}
 use Rattle.upc_values.proofs.Membership.{each-has, each-from, pairs-at, pairs-weaker}
-use Rattle.plain_orders.specs.Strict.{StrictBy, As_listed, As_written, Through}
-use Rattle.plain_orders.specs.Whole.{order_at, AreOrdersOf}
-use Rattle.plain_orders.specs.Named.{IsNamed, AreNamed, AreConsistentOrders}
+use Rattle.plain_orders.specs.code.Strict.{StrictBy, As_listed, As_written, Through}
+use Rattle.plain_orders.specs.code.Whole.{order_at, AreOrdersOf}
+use Rattle.plain_orders.specs.code.Named.{IsNamed, AreNamed, AreConsistentOrders}
 use Rattle.plain_orders.proofs.Chains.{own-shown}
 
 -- the member at a place of a list, by what a function gives there

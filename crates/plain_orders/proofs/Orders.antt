@@ -6,7 +6,7 @@ use Rattle.upc_values.specs.Orders.{name_of}
 use Rattle.upc_values.specs.Consistent.{IsOrderOf}
 use Rattle.upc_values.proofs.Membership.{each-has, each-from}
 use Rattle.plain_orders.specs.declared.part.Part.{Part}
-use Rattle.plain_orders.specs.Parts.{is_in, IsPartOf}
+use Rattle.plain_orders.specs.code.Parts.{is_in, IsPartOf}
 
 abbrev pub HasAll : Part → List Operation → List Operation → Type 0
 HasAll part operations list = Each (λ o. is_in part o ≡ true → Has list o) operations

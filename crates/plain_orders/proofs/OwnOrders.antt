@@ -14,10 +14,10 @@ use Rattle.upc_values.specs.Orders.{IsOf, StrictOrder, strict_list, thread_order
 use Rattle.upc_values.specs.Consistent.{ReadsLast, ReadsLastFrom, KeepsProgram, IsOrderOf, IsConsistent, initial_at, last_write, begins}
 use Rattle.upc_values.proofs.Consistency.{all-consistent}
 use Rattle.upc_values.proofs.Membership.{has-filter, filter-has, precedes-has, precedes-filter, filter-precedes, pairs-at, pairs-from, pairs-weaker}
-use Rattle.plain_orders.specs.Strict.{StrictBy, As_listed, As_written, Through}
-use Rattle.plain_orders.specs.Whole.{order_at}
-use Rattle.plain_orders.specs.Named.{AreConsistentOrders}
-use Rattle.plain_orders.specs.Own.{OwnOrdersAgree, AreOwnOrders, Arises}
+use Rattle.plain_orders.specs.code.Strict.{StrictBy, As_listed, As_written, Through}
+use Rattle.plain_orders.specs.code.Whole.{order_at}
+use Rattle.plain_orders.specs.code.Named.{AreConsistentOrders}
+use Rattle.plain_orders.specs.code.Own.{OwnOrdersAgree, AreOwnOrders, Arises}
 use Rattle.plain_orders.proofs.Chains.{StrictOf, strict-shown}
 
 -- a consistent strict order and thread orders, in other words

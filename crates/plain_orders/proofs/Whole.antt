@@ -10,8 +10,8 @@ use Rattle.upc_values.specs.Operations.{Operation}
 use Rattle.upc_values.specs.Orders.{rank, name_of, is_shown}
 use Rattle.upc_values.specs.Consistent.{IsOrderOf}
 use Rattle.upc_values.proofs.Membership.{each-has, each-from, precedes-has, precedes-total, precedes-trans, precedes-strict, pairs-at, pairs-from}
-use Rattle.plain_orders.specs.Strict.{IsStep, StrictBy, As_listed, As_written, Through}
-use Rattle.plain_orders.specs.Whole.{order_at, AgreesWith, IsThreadOrder, AreOrdersOf}
+use Rattle.plain_orders.specs.code.Strict.{IsStep, StrictBy, As_listed, As_written, Through}
+use Rattle.plain_orders.specs.code.Whole.{order_at, AgreesWith, IsThreadOrder, AreOrdersOf}
 use Rattle.plain_orders.proofs.Chains.{StrictOf, own-shown, chain, chain-first, chain-kept, distinct}
 use Rattle.upc_values.proofs.Consistency.{or_turn}
 

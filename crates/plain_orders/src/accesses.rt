@@ -5,7 +5,7 @@ ghost use Rattle.upc_values.specs.Lists.{Has};
 ghost use Rattle.upc_values.specs.Operations as operations;
 ghost use Rattle.upc_values.specs.Operations.{Operation};
 ghost use Rattle.upc_values.specs.Orders.{operations_from, record_of, IsOf};
-ghost use Rattle.plain_orders.specs.Below.{operations_below};
+ghost use Rattle.plain_orders.specs.code.Below.{operations_below};
 
 use crate::operation::Operation;
 use crate::place::Place;

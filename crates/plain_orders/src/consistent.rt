@@ -2,8 +2,8 @@
 
 ghost use Rattle.std.specs.Prelude.{◌↔◌, ℕ, ◌<◌, IsTrue, length};
 ghost use Rattle.upc_values.specs.Lists.{Each, Has};
-ghost use Rattle.plain_orders.specs.Parts.{initial_by};
-ghost use Rattle.plain_orders.specs.Whole.{order_at, IsThreadOrder, AreOrdersOf};
+ghost use Rattle.plain_orders.specs.code.Parts.{initial_by};
+ghost use Rattle.plain_orders.specs.code.Whole.{order_at, IsThreadOrder, AreOrdersOf};
 
 use crate::operation::Operation;
 use crate::order::is_order_of;

@@ -1,9 +1,9 @@
 //! Whether orders make the operations of a journal consistent.
 
 ghost use Rattle.std.specs.Prelude.{◌↔◌, ◌<◌, IsTrue, IfOk};
-ghost use Rattle.plain_orders.specs.Parts.{initial_by};
-ghost use Rattle.plain_orders.specs.Named.{AreConsistentOrders};
-ghost use Rattle.plain_orders.specs.Own.{AreOwnOrders, Arises};
+ghost use Rattle.plain_orders.specs.code.Parts.{initial_by};
+ghost use Rattle.plain_orders.specs.code.Named.{AreConsistentOrders};
+ghost use Rattle.plain_orders.specs.code.Own.{AreOwnOrders, Arises};
 
 use crate::accesses::operations_of;
 use crate::consistent::are_consistent;

@@ -4,7 +4,7 @@ ghost use Rattle.std.specs.Prelude.{◌≡◌, ◌≢◌, List, IfOk, MatchOptio
 ghost use Rattle.upc_values.specs.Lists.{Each, Has};
 ghost use Rattle.upc_values.specs.Operations as said;
 ghost use Rattle.upc_values.specs.Orders.{name_of};
-ghost use Rattle.plain_orders.specs.Named.{IsNamed, AreNamed};
+ghost use Rattle.plain_orders.specs.code.Named.{IsNamed, AreNamed};
 
 use crate::operation::Operation;
 use std::alloc::{AllocError, Global};

@@ -5,7 +5,7 @@ ghost use Rattle.upc_values.specs.Operations as operations;
 ghost use Rattle.upc_values.specs.Orders.{name_of, rank};
 ghost use Rattle.upc_values.specs.Orders as orders;
 ghost use Rattle.upc_values.specs.Consistent as consistent;
-ghost use Rattle.plain_orders.specs.Parts.{place_of};
+ghost use Rattle.plain_orders.specs.code.Parts.{place_of};
 
 use crate::place::{Place, same_place};
 use std::marker::Model;
@@ -24,7 +24,7 @@ pub struct Operation {
 
 impl Model for Operation {
     ghost use Rattle.upc_values.specs.Operations as operations;
-    ghost use Rattle.plain_orders.specs.Parts.{place_of};
+    ghost use Rattle.plain_orders.specs.code.Parts.{place_of};
 
     ghost Value = { operations.Operation };
 

@@ -4,8 +4,8 @@ ghost use Rattle.std.specs.Prelude.{◌≡◌, ◌≢◌, ◌↔◌, IsTrue, tru
 ghost use Rattle.upc_values.specs.Lists.{Each, Has, Pairwise};
 ghost use Rattle.upc_values.specs.Orders.{name_of};
 ghost use Rattle.upc_values.specs.Consistent.{IsOrderOf};
-ghost use Rattle.plain_orders.specs.Parts as parts;
-ghost use Rattle.plain_orders.specs.Parts.{IsPartOf};
+ghost use Rattle.plain_orders.specs.code.Parts as parts;
+ghost use Rattle.plain_orders.specs.code.Parts.{IsPartOf};
 
 use crate::operation::Operation;
 use crate::part::{Part, is_in};

@@ -1,7 +1,7 @@
 //! Which operations an order is of.
 
 ghost use Rattle.std.specs.Prelude.{◌≡◌};
-ghost use Rattle.plain_orders.specs.Parts as parts;
+ghost use Rattle.plain_orders.specs.code.Parts as parts;
 
 use crate::operation::Operation;
 

@@ -2,7 +2,7 @@
 
 ghost use Rattle.std.specs.Prelude.{◌≡◌};
 ghost use Rattle.upc_values.specs.Consistent as consistent;
-ghost use Rattle.plain_orders.specs.Parts.{place_of};
+ghost use Rattle.plain_orders.specs.code.Parts.{place_of};
 
 use block_layout::Loc;
 

@@ -5,7 +5,7 @@ ghost use Rattle.upc_values.specs.Scalars.{value_or, zero};
 ghost use Rattle.upc_values.specs.Openings.{given, blank_in};
 ghost use Rattle.upc_values.specs.Consistent as consistent;
 ghost use Rattle.upc_values.specs.Consistent.{initial_at, ReadsLast};
-ghost use Rattle.plain_orders.specs.Parts.{place_of, kind_given, initial_by};
+ghost use Rattle.plain_orders.specs.code.Parts.{place_of, kind_given, initial_by};
 
 use crate::operation::Operation;
 use crate::place::{Place, same_place};

@@ -2,8 +2,8 @@
 
 ghost use Rattle.std.specs.Prelude.{◌↔◌, IsTrue};
 ghost use Rattle.upc_values.specs.Lists.{Each, Precedes, Pairwise};
-ghost use Rattle.plain_orders.specs.Strict.{IsWritten, IsStep};
-ghost use Rattle.plain_orders.specs.Whole.{AgreesWith};
+ghost use Rattle.plain_orders.specs.code.Strict.{IsWritten, IsStep};
+ghost use Rattle.plain_orders.specs.code.Whole.{AgreesWith};
 
 use crate::operation::Operation;
 use crate::order::has;

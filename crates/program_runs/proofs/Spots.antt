@@ -4,7 +4,7 @@ use Rattle.std.specs.Prelude.{slice_get}
 use Rattle.upc_values.specs.Lists.{Each}
 use Rattle.stack_code.specs.declared.instruction.Instr.{Instr}
 use Rattle.stack_code.specs.Codes.{function_at, instructions_of}
-use Rattle.stack_code.specs.Steps.{Spot}
+use Rattle.stack_code.specs.layer.Steps.{Spot}
 use Rattle.program_runs.specs.Served.{is_served}
 
 abbrev pub IsServed : Instr → Type 0

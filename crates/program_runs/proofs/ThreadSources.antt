@@ -11,15 +11,15 @@ use Rattle.source_meaning.proofs.Beats.{all_beat_in_time}
 use Rattle.source_meaning.proofs.Finished.{all_keep_budgets}
 use Rattle.source_meaning.proofs.Going.{all_go_on}
 use Rattle.stack_code.specs.Codes.{Codes}
-use Rattle.stack_code.specs.Kept.{IsCode}
-use Rattle.serial_core.specs.Sources.{HasOutcome}
-use Rattle.gen_stmt.specs.Meanings.{MeansProgram}
-use Rattle.gen_stmt.specs.Names.{NamesOnly}
-use Rattle.stack_code_laws.specs.Asking.{AsksWell}
+use Rattle.stack_code.specs.layer.Kept.{IsCode}
+use Rattle.serial_core.specs.layer.Sources.{HasOutcome}
+use Rattle.gen_stmt.specs.layer.Meanings.{MeansProgram}
+use Rattle.gen_stmt.specs.layer.Names.{NamesOnly}
+use Rattle.stack_code_laws.specs.layer.Asking.{AsksWell}
 use Rattle.stack_code_laws.proofs.Asking.{asks_well}
 use Rattle.serial_core.specs.declared.limits.Limits.{Limits}
-use Rattle.serial_core.specs.Sources.{Outcomes, IsSource, HasOutcomes}
-use Rattle.serial_core.specs.Sources as serial
+use Rattle.serial_core.specs.layer.Sources.{Outcomes, IsSource, HasOutcomes}
+use Rattle.serial_core.specs.layer.Sources as serial
 use Rattle.program_runs.proofs.Begun.{same_opening, begun_opening}
 use Rattle.program_runs.proofs.Naming.{names_declared}
 

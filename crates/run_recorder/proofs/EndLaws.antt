@@ -4,7 +4,7 @@ use Rattle.upc_values.specs.declared.record.End.{End}
 use Rattle.upc_values.specs.declared.record.End.TheVariants as end
 use Rattle.upc_text.specs.declared.place.Place.{Place}
 use Rattle.run_recorder_text.specs.Words.{Text, place_text, end_words}
-use Rattle.run_recorder.specs.Ranges.{FitsPlace, FitsEnd}
+use Rattle.run_recorder.specs.code.Ranges.{FitsPlace, FitsEnd}
 use Rattle.run_recorder_parts.specs.code.Readers.{Reader, give, field}
 use Rattle.run_recorder_parts.specs.code.Values.{place_parts_of, place_of, valued_of, fault_of, deadlocked_of, end_table}
 use Rattle.run_recorder_parts.specs.code.Values.{end_of}

@@ -1,3 +1,5 @@
 pub mod Finding
 pub mod Whole
 pub mod Told
+pub mod Ranges
+pub mod Recorded

@@ -16,7 +16,7 @@ use Rattle.upc_values.specs.Drain.{Commit, commit_of, entries_in, Walk, emptied,
 use Rattle.upc_values.specs.Openings.{Opening, IsOpening}
 use Rattle.upc_values.specs.History.{reply, IsLegal}
 use Rattle.upc_values.specs.Formed.{IsWellFormed, AreWellFormed, fits_after}
-use Rattle.upc_values.specs.Known.{gives_known}
+use Rattle.upc_values.specs.layer.Known.{gives_known}
 use Rattle.upc_values.proofs.Drained.{read-entries}
 use Rattle.upc_values.proofs.Walks.{emptied-same, room-left, room-made, entries_of-append, entries-own, entries-all}
 use Rattle.upc_values.proofs.Legality.{unlawful-waits}
@@ -25,9 +25,9 @@ use Rattle.memory_history.proofs.ReadValues.{pending-fits}
 use Rattle.upc_values.proofs.Known.{written-known}
 use Rattle.upc_values.proofs.Scalars.{same_scalar-refl}
 use Rattle.upc_values.proofs.Sameness.{same_loc-true}
-use Rattle.memory_history.specs.World.{performed}
+use Rattle.memory_history.specs.layer.World.{performed}
 use Rattle.write_buffer.specs.declared.pending.Pending.{Pending}
-use Rattle.write_buffer.specs.Buffer.{youngest, replaced, committed}
+use Rattle.write_buffer.specs.layer.Buffer.{youngest, replaced, committed}
 use Rattle.serial_core.specs.declared.emit.Way.TheVariants.{Stores, Looks, Passes, Empties}
 use Rattle.serial_core.specs.Kept.{way_of, AreFormed, Holds, AllOf, Grew, Emitted, IsAnswer}
 use Rattle.serial_core.proofs.Lists.{cons-head}

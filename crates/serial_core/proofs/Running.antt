@@ -21,14 +21,14 @@ use Rattle.serial_core.specs.declared.limits.Limits.{Limits}
 use Rattle.serial_core.specs.declared.task.Task.{Task}
 use Rattle.serial_core.specs.declared.task.Pause.{Pause}
 use Rattle.serial_core.specs.declared.task.Pause.TheVariants as pauses
-use Rattle.serial_core.specs.Sources.{Outcomes}
+use Rattle.serial_core.specs.layer.Sources.{Outcomes}
 use Rattle.serial_core.specs.Course.{Standing}
 use Rattle.serial_core.specs.Kept.{AreLimits, IsKept, IsSame, Grew, Paused, is_given, outcome_of, settled, Holds, end_or, strand_of}
-use Rattle.serial_core.specs.Runs.{IsAt, HasOwnEnd, IsIdle, IsRunning, IsStart, IsNew, AreSame, Rested, Stops, Wanting, Given, IsOver, AreEach, halted, halted_end, locked, locked_end, CanLock}
+use Rattle.serial_core.specs.code.Runs.{IsAt, HasOwnEnd, IsIdle, IsRunning, IsStart, IsNew, AreSame, Rested, Stops, Wanting, Given, IsOver, AreEach, halted, halted_end, locked, locked_end, CanLock}
 use Rattle.std.proofs.lemmas.List.Sums.{count_by_more_yes, count_by_more_no}
 use Rattle.std.proofs.Common.{take, ◌+◌}
 use Rattle.std.specs.Prelude.{not}
-use Rattle.serial_core.specs.Runs.{IsOpenAt, is_open, open_among}
+use Rattle.serial_core.specs.code.Runs.{IsOpenAt, is_open, open_among}
 use Rattle.serial_core.proofs.Lists.{numbered-map, both, some-of}
 use Rattle.serial_core.proofs.Options.{none-some}
 use Rattle.serial_core.proofs.Tasks.{kept-grow, kept-ended}

@@ -10,7 +10,7 @@ use Rattle.upc_values.specs.Outcomes.{Outcome}
 use Rattle.upc_values.specs.Strands.{strand_ticks}
 use Rattle.upc_values.specs.Ends.{OwnEnd, AreSpent}
 use Rattle.upc_values.specs.Sound.{IsSound, IsStrand}
-use Rattle.serial_core.specs.Sources.{Outcomes, IsSource}
+use Rattle.serial_core.specs.layer.Sources.{Outcomes, IsSource}
 
 strand-spent : (o : Opening) (b t : ℕ) (outcome : List Reply → Outcome) (j : Journal) (s : Strand) → IsSource o b outcome
     → IsStrand o t j.actions j.history outcome s → s.«end» ≡ Budget → s.ticks ≡ b

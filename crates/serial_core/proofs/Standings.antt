@@ -22,10 +22,10 @@ use Rattle.stack_machine.specs.declared.wish.Wish.TheVariants.{Act}
 use Rattle.serial_core.specs.declared.task.Task.{Task}
 use Rattle.serial_core.specs.declared.task.Pause.{Pause}
 use Rattle.serial_core.specs.declared.task.Pause.TheVariants as pauses
-use Rattle.serial_core.specs.Sources.{Outcomes}
+use Rattle.serial_core.specs.layer.Sources.{Outcomes}
 use Rattle.serial_core.specs.Kept.{settled, IsPausing, Paused, Adds, Leaves, Waits, is_given, end_or, strand_of}
 use Rattle.serial_core.specs.Course.{Standing, Moment, goes_on, rests, IsQuiet, IsStopped, Grows, IsDrained, IsLater, Steps, Obeys, AreObeyed, TakesPart, ToRest, EachGoes, IsStrandOf, AreOf, IsOutset}
-use Rattle.serial_core.specs.Runs.{IsAt, IsRunning, IsIdle, AreSame, OthersStay, IsChosen, open_among, Rested, StopsAt, NoneStops, Wanting, AreEach, halted, halted_end, locked, locked_end, standing_of, moment_of, GoesAt}
+use Rattle.serial_core.specs.code.Runs.{IsAt, IsRunning, IsIdle, AreSame, OthersStay, IsChosen, open_among, Rested, StopsAt, NoneStops, Wanting, AreEach, halted, halted_end, locked, locked_end, standing_of, moment_of, GoesAt}
 use Rattle.serial_core.proofs.Lists.{numbered-map, some-of}
 use Rattle.serial_core.proofs.Options.{none-some, none-is}
 

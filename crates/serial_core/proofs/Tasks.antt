@@ -16,7 +16,7 @@ use Rattle.upc_values.specs.Drain.{entries_in, Walk, emptied, walked, gone, entr
 use Rattle.upc_values.specs.Openings.{Opening}
 use Rattle.upc_values.specs.History.{IsLegal}
 use Rattle.upc_values.specs.Formed.{IsWellFormed, AreWellFormed}
-use Rattle.upc_values.specs.Known.{gives_known, AreKnown, HasGiven}
+use Rattle.upc_values.specs.layer.Known.{gives_known, AreKnown, HasGiven}
 use Rattle.upc_values.specs.Outcomes.{Outcome, wanted}
 use Rattle.upc_values.specs.Records.{actions_of, replies_of, last_item, is_stall, is_beat_item, beats}
 use Rattle.upc_values.specs.Strands.{StallsStand, AreJustified, strand_ticks}
@@ -26,14 +26,14 @@ use Rattle.upc_values.proofs.Lists.{each-push}
 use Rattle.upc_values.proofs.Walks.{walked-push, paused-empty, stall-pauses, beat-pauses, emptied-same, entries-other}
 use Rattle.upc_values.proofs.Records.{last-push, actions-did, replies-did, actions-stall, replies-stall, stand-did, stand-stall, justified-did, justified-stall, justified-grow, beats-push, beat-of, stall-no_beat}
 use Rattle.stack_code.specs.Codes.{Codes}
-use Rattle.stack_machine.specs.Machine.{Seen}
+use Rattle.stack_machine.specs.layer.Machine.{Seen}
 use Rattle.stack_machine.specs.declared.wish.Wish.{Wish}
 use Rattle.stack_machine.specs.declared.wish.Wish.TheVariants.{Act, Ended, Exit, Fault, Budget}
-use Rattle.stack_machine.specs.Machine.{Answered, HasAsked, HasHeard, listed, told_of}
-use Rattle.write_buffer.specs.Buffer.{committed}
+use Rattle.stack_machine.specs.layer.Machine.{Answered, HasAsked, HasHeard, listed, told_of}
+use Rattle.write_buffer.specs.layer.Buffer.{committed}
 use Rattle.serial_core.specs.declared.limits.Limits.{Limits}
 use Rattle.serial_core.specs.declared.task.Task.{Task}
-use Rattle.serial_core.specs.Sources.{Outcomes, IsSource, HasOutcomes, Follows}
+use Rattle.serial_core.specs.layer.Sources.{Outcomes, IsSource, HasOutcomes, Follows}
 use Rattle.serial_core.specs.Kept.{AreLimits, Holds, outcome_of, IsRecord, Goes, settled, IsKept, Grew, Emitted, IsAnswer, IsPausing, CanEnd, is_given, own_end}
 use Rattle.serial_core.proofs.Lists.{map-nil}
 use Rattle.serial_core.proofs.Options.{none-some, some-is}

@@ -15,25 +15,25 @@ use Rattle.upc_values.specs.Drain.{entries_in, Walk, walked, entries_of, emptied
 use Rattle.upc_values.specs.Openings.{Opening}
 use Rattle.upc_values.specs.History.{reply}
 use Rattle.upc_values.specs.Formed.{IsWellFormed, fits_after}
-use Rattle.upc_values.specs.Known.{gives_known, AreKnown}
+use Rattle.upc_values.specs.layer.Known.{gives_known, AreKnown}
 use Rattle.upc_values.specs.Outcomes.{Outcome, wanted}
 use Rattle.upc_values.specs.Records.{actions_of, replies_of, last_item, is_stall, is_beat, is_beat_item, beats}
 use Rattle.upc_values.specs.Strands.{StallsStand, AreJustified, strand_ticks, may_wait}
 use Rattle.upc_values.specs.Ends.{OwnEnd}
 use Rattle.stack_code.specs.Codes.{Codes}
-use Rattle.stack_machine.specs.Machine.{Seen}
+use Rattle.stack_machine.specs.layer.Machine.{Seen}
 use Rattle.stack_machine.specs.declared.wish.Wish.{Wish}
 use Rattle.stack_machine.specs.declared.wish.Wish.TheVariants.{Act, Ended, Exit, Fault, Budget}
-use Rattle.stack_machine.specs.Machine.{Answered, HasAsked, listed, told_of}
+use Rattle.stack_machine.specs.layer.Machine.{Answered, HasAsked, listed, told_of}
 use Rattle.write_buffer.specs.declared.pending.Pending.{Pending}
-use Rattle.write_buffer.specs.Buffer.{committed}
+use Rattle.write_buffer.specs.layer.Buffer.{committed}
 use Rattle.serial_core.specs.declared.emit.Way.{Way}
 use Rattle.serial_core.specs.declared.emit.Way.TheVariants.{Stores, Looks, Passes, Empties}
 use Rattle.serial_core.specs.declared.limits.Limits.{Limits}
 use Rattle.serial_core.specs.declared.task.Task.{Task}
 use Rattle.serial_core.specs.declared.task.Pause.{Pause}
 use Rattle.serial_core.specs.declared.task.Pause.TheVariants as pauses
-use Rattle.serial_core.specs.Sources.{Outcomes, IsSource, Follows}
+use Rattle.serial_core.specs.layer.Sources.{Outcomes, IsSource, Follows}
 
 -- What a run may be limited to: 1 to 32 threads, up to 10^12 ticks, and 8,388,608 items over all threads.
 pub record AreLimits (l : Limits) : Type 0 where

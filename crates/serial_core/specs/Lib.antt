@@ -1,4 +1,4 @@
-pub mod Sources
 pub mod Kept
 pub mod Course
-pub mod Runs
+pub mod layer
+pub mod code

@@ -5,8 +5,8 @@ ghost use Rattle.upc_values.specs.declared.action.Action.TheVariants.{Write};
 ghost use Rattle.upc_values.specs.declared.action.Reply.TheVariants.{Done};
 ghost use Rattle.upc_values.specs.Drain.{Walk};
 ghost use Rattle.upc_values.specs.Formed.{IsWellFormed};
-ghost use Rattle.memory_history.specs.World.{answer_of};
-ghost use Rattle.write_buffer.specs.Buffer.{committed};
+ghost use Rattle.memory_history.specs.layer.World.{answer_of};
+ghost use Rattle.write_buffer.specs.layer.Buffer.{committed};
 ghost use Rattle.serial_core.specs.Kept.{way_of, AreFormed, Holds, Grew, Emitted, IsAnswer};
 
 use memory_history::{Step, World};

@@ -12,7 +12,7 @@ ghost use Rattle.upc_values.specs.Ends.{OwnEnd};
 ghost use Rattle.stack_code.specs.Codes.{Codes};
 ghost use Rattle.stack_machine.specs.declared.wish.Wish.TheVariants.{Act};
 ghost use Rattle.serial_core.specs.declared.task.Pause.TheVariants.{Finished};
-ghost use Rattle.serial_core.specs.Sources.{Outcomes, HasOutcomes};
+ghost use Rattle.serial_core.specs.layer.Sources.{Outcomes, HasOutcomes};
 ghost use Rattle.serial_core.specs.Kept as kept;
 ghost use Rattle.serial_core.specs.Kept.{AreLimits, IsKept, Keeps, StaysKept, IsSame, Grew, Paused, CanEnd, Adds};
 ghost use Rattle.serial_core.specs.Kept.{Leaves, Waits, is_given, outcome_of, strand_of};

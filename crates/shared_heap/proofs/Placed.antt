@@ -23,7 +23,7 @@ use Rattle.upc_values.proofs.Beginnings.{cell-stays}
 use Rattle.upc_values.proofs.Lists.{each-grow}
 use Rattle.upc_values.specs.declared.action.Reply.TheVariants.{Value, Refused}
 use Rattle.block_layout.specs.declared.run_error.TheConstants.{SHARED_SPACE}
-use Rattle.shared_heap.specs.Heap.{HeapState, all_objects, start_of, new_object, grow_answer, with_object, IsHeap}
+use Rattle.shared_heap.specs.layer.Heap.{HeapState, all_objects, start_of, new_object, grow_answer, with_object, IsHeap}
 use Rattle.shared_heap.specs.code.Kept.{IsNext, IsKept}
 
 -- an opening with other objects

@@ -1,2 +1,2 @@
-pub mod Heap
 pub mod code
+pub mod layer

@@ -7,8 +7,8 @@ ghost use Rattle.upc_values.specs.declared.action.Reply.TheVariants as reply;
 ghost use Rattle.upc_values.specs.Openings.{bytes_of};
 ghost use Rattle.upc_values.specs.History.{same_target};
 ghost use Rattle.upc_values.specs.Formed.{may_alloc, is_home};
-ghost use Rattle.shared_heap.specs.Heap as said;
-ghost use Rattle.shared_heap.specs.Heap.{all_objects};
+ghost use Rattle.shared_heap.specs.layer.Heap as said;
+ghost use Rattle.shared_heap.specs.layer.Heap.{all_objects};
 ghost use Rattle.shared_heap.specs.code.Kept.{IsNext};
 
 use crate::heap::Heap;

@@ -6,8 +6,8 @@ ghost use Rattle.block_layout.specs.Pointers as pointers;
 ghost use Rattle.upc_values.specs.Openings as openings;
 ghost use Rattle.upc_values.specs.Openings.{IsOpening, bytes_of};
 ghost use Rattle.upc_values.specs.Formed.{may_alloc, is_home};
-ghost use Rattle.shared_heap.specs.Heap as said;
-ghost use Rattle.shared_heap.specs.Heap.{all_objects, IsSaved, IsHeap};
+ghost use Rattle.shared_heap.specs.layer.Heap as said;
+ghost use Rattle.shared_heap.specs.layer.Heap.{all_objects, IsSaved, IsHeap};
 
 use crate::beginning::Beginning;
 use crate::cells::SavedCells;
@@ -29,7 +29,7 @@ pub struct Heap {
 }
 
 impl Model for Heap {
-    ghost use Rattle.shared_heap.specs.Heap.{HeapState};
+    ghost use Rattle.shared_heap.specs.layer.Heap.{HeapState};
     ghost use Rattle.shared_heap.specs.code.Kept.{IsKept};
 
     ghost Value = { HeapState };

@@ -7,7 +7,7 @@ use Rattle.block_layout.specs.Places.{thread_at, phase_at, offset_at}
 use Rattle.block_layout.proofs.Pointers.{pointer-fields}
 use Rattle.block_layout.specs.declared.place.SharedPtr.{SharedPtr}
 use Rattle.block_layout.specs.Pointers.{StandsFor}
-use Rattle.shared_pointers.specs.Ranges.{IsPhase}
+use Rattle.shared_pointers.specs.layer.Ranges.{IsPhase}
 use Rattle.shared_pointers.specs.Steps.{LiesBehind, apart, moved, moved_by_blocks, element_in_row, row_offset}
 use Rattle.block_layout.proofs.Numbers.{floor_div-unique, floor_mod-unique, floor_mod-below, mul-sum, mul-twice, row-below, by_row, floor_div-twice}
 

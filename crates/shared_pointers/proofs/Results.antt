@@ -11,7 +11,7 @@ use Rattle.block_layout.specs.Places.{InRange, in_range}
 use Rattle.block_layout.specs.Pointers.{StandsFor, IsNull, is_null, null, element_offset, same_pointer}
 use Rattle.block_layout.proofs.Pointers.{same_pointer-true, same_pointer-refl, null-false}
 use Rattle.block_layout.proofs.Ranges.{in_range-true, in_range-false}
-use Rattle.shared_pointers.specs.Ranges.{IsPhase}
+use Rattle.shared_pointers.specs.layer.Ranges.{IsPhase}
 use Rattle.shared_pointers.specs.Steps.{LiesBehind, moved, advanced, apart, difference, order_of}
 use Rattle.shared_pointers.proofs.Elements.{moved-behind, moved-stands, behind-moved, apart-moved}
 

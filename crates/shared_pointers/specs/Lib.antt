@@ -1,4 +1,4 @@
-pub mod Ranges
 pub mod Steps
 pub mod Casts
 pub mod Access
+pub mod layer

@@ -3,7 +3,7 @@
 ghost use Rattle.std.specs.Prelude.{◌≡◌, ◌≢◌, ◌⊎◌, ◌↔◌, pos, ◌+ℤ◌, Ok, IfOk, IfErr, IsErrOf};
 ghost use Rattle.block_layout.specs.Places.{InRange};
 ghost use Rattle.block_layout.specs.Pointers.{IsNull};
-ghost use Rattle.shared_pointers.specs.Ranges.{IsPhase};
+ghost use Rattle.shared_pointers.specs.layer.Ranges.{IsPhase};
 ghost use Rattle.shared_pointers.specs.Casts.{member_of, member_pointer, cast_block, local_of};
 
 use block_layout::run_error::{NOT_LOCAL, NULL_ACCESS, POINTER_RANGE};

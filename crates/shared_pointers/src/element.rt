@@ -2,7 +2,7 @@
 
 ghost use Rattle.std.specs.Prelude.{ℤ};
 ghost use Rattle.block_layout.specs.Pointers.{StandsFor};
-ghost use Rattle.shared_pointers.specs.Ranges.{IsPointer, IsTarget, IsThreads};
+ghost use Rattle.shared_pointers.specs.layer.Ranges.{IsPointer, IsTarget, IsThreads};
 
 use block_layout::SharedPtr;
 

@@ -1,7 +1,7 @@
 //! Where a pointer lies in its row of blocks: a row has one block of each thread.
 
 ghost use Rattle.std.specs.Prelude.{◌≡◌, ◌≤◌, ◌^◌, unsigned_abs};
-ghost use Rattle.shared_pointers.specs.Ranges.{IsPointer, IsTarget, IsThreads};
+ghost use Rattle.shared_pointers.specs.layer.Ranges.{IsPointer, IsTarget, IsThreads};
 ghost use Rattle.shared_pointers.specs.Steps.{element_in_row, row_offset};
 
 use block_layout::SharedPtr;

@@ -3,7 +3,7 @@
 ghost use Rattle.std.specs.Prelude.{◌≡◌, ◌<◌, ◌↔◌, ℤ, ◌+ℤ◌, IfOk, IfErr, IsErrOf, ◌⊎◌};
 ghost use Rattle.block_layout.specs.Places.{InRange};
 ghost use Rattle.block_layout.specs.Pointers.{IsNull, StandsFor, element_offset};
-ghost use Rattle.shared_pointers.specs.Ranges.{IsPhase, IsPointer, IsTarget, IsThreads, IsStep};
+ghost use Rattle.shared_pointers.specs.layer.Ranges.{IsPhase, IsPointer, IsTarget, IsThreads, IsStep};
 ghost use Rattle.shared_pointers.specs.Steps.{LiesBehind, moved, moved_by_blocks, advanced};
 
 use crate::row::{element_in_row, row_offset};

@@ -13,7 +13,7 @@ use Rattle.upc_values.specs.Openings.{IsOpening}
 use Rattle.upc_values.specs.declared.scalar.Value.{Value}
 use Rattle.private_store.specs.Beginnings as store
 use Rattle.typed_tree.specs.Beginnings.{Beginning, opening_in}
-use Rattle.typed_tree.specs.PrivateOpenings.{IsPrivateOpening}
+use Rattle.typed_tree.specs.layer.PrivateOpenings.{IsPrivateOpening}
 
 pub each_prop : {X : Type 0} (P : X → Type 0) → ((x : X) → IsProp (P x)) → (xs : List X) → IsProp (Each P xs)
 each_prop P h [] = Unit-prop

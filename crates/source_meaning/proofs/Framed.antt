@@ -12,7 +12,7 @@ use Rattle.typed_tree.specs.Tree.{Function}
 use Rattle.typed_tree.specs.Programs.{Checked, start_of}
 use Rattle.thread_steps.specs.States.{Thread, State, Res, Val, Over, Unfinished, bind, ◌>>◌, give}
 use Rattle.thread_steps.specs.Actions.{notify, wait}
-use Rattle.thread_steps.specs.Fronts.{Begins}
+use Rattle.thread_steps.specs.layer.Fronts.{Begins}
 use Rattle.thread_steps.proofs.Depths.{depth}
 use Rattle.thread_steps.proofs.Barriers.{DoneOnce, notify_once, wait_once}
 use Rattle.thread_steps.proofs.Kept as k

@@ -5,7 +5,7 @@ use Rattle.upc_values.specs.declared.record.ToldEnd.{ToldEnd}
 use Rattle.upc_values.specs.declared.record.ToldEnd.TheVariants.{Wants, Misfit, Ended, Exit, Fault, OutOfTicks}
 use Rattle.typed_tree.specs.Programs.{Checked, start_of}
 use Rattle.thread_steps.specs.States.{Thread, State, Res, Val, Over, Unfinished}
-use Rattle.thread_steps.specs.Fronts.{IsInTurn}
+use Rattle.thread_steps.specs.layer.Fronts.{IsInTurn}
 use Rattle.thread_steps.proofs.Turning as t
 use Rattle.source_meaning.specs.Running.{running}
 use Rattle.source_meaning.specs.Threads.{course, initial_state, thread_outcome, outcome_of}

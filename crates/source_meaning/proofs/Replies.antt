@@ -11,7 +11,7 @@ use Rattle.upc_values.specs.Outcomes.{Outcome, wanted}
 use Rattle.upc_values.specs.Formed.{fits}
 use Rattle.typed_tree.specs.Programs.{Checked, start_of}
 use Rattle.thread_steps.specs.States.{Thread, State, Res, Val, Over, Unfinished}
-use Rattle.thread_steps.specs.Fronts.{Begins}
+use Rattle.thread_steps.specs.layer.Fronts.{Begins}
 use Rattle.thread_steps.proofs.Depths.{depth}
 use Rattle.thread_steps.proofs.Following as f
 use Rattle.source_meaning.specs.Running.{Running, running}

@@ -20,7 +20,7 @@ use Rattle.typing_rules.specs.Library.{call_parameters}
 use Rattle.upc_values.specs.declared.library.LibraryCall.{LibraryCall}
 use Rattle.upc_values.specs.declared.scalar.Value.{Value}
 use Rattle.thread_steps.specs.States.{Thread, State, Res, Val, Over, Unfinished, Doing}
-use Rattle.thread_steps.specs.Fronts.{Begins, IsInTurn}
+use Rattle.thread_steps.specs.layer.Fronts.{Begins, IsInTurn}
 use Rattle.thread_steps.specs.Library.{has_shape, is_formed}
 use Rattle.source_meaning.specs.Types.{parameter_conversion}
 use Rattle.source_meaning.specs.Running.{Running, running}

@@ -3,7 +3,7 @@ use Rattle.std.proofs.Common.{◌≡◌, ℕ, zero, suc, ◌+◌, List, [], ◌�
 use Rattle.std.proofs.Common.{append_assoc, length-append}
 use Rattle.std.proofs.lemmas.List.{append-nil}
 use Rattle.stack_code.specs.declared.instruction.Instr.{Instr}
-use Rattle.stack_code.specs.Depths.{raised, effect_of, Lands, Agrees, Fine, Deep, IsDeep}
+use Rattle.stack_code.specs.layer.Depths.{raised, effect_of, Lands, Agrees, Fine, Deep, IsDeep}
 
 -- The depths of what was passed, the nearest first.
 abbrev pub onto : List ℕ → List ℕ → List ℕ

@@ -5,7 +5,7 @@ use Rattle.block_layout.specs.declared.place.LocalPtr.{LocalPtr}
 use Rattle.upc_values.specs.Lists.{Each}
 use Rattle.upc_values.proofs.Lists.{each-push}
 use Rattle.upc_values.specs.declared.scalar.Value.{Value}
-use Rattle.stack_code.specs.Kept.{IsKnown}
+use Rattle.stack_code.specs.layer.Kept.{IsKnown}
 
 -- One more initial value that names nothing out of range.
 pub more_known : (threads : ℕ) (shapes : List Shape) (initials : List (LocalPtr × Value)) (at : LocalPtr) (v : Value)

@@ -1,8 +1,2 @@
 pub mod Codes
-pub mod Shorts
-pub mod Steps
-pub mod Outcomes
-pub mod Meets
-pub mod Depths
-pub mod Kept
-pub mod Making
+pub mod layer

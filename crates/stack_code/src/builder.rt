@@ -2,13 +2,13 @@
 
 ghost use Rattle.std.specs.Prelude.{◌≡◌, [], true, ◌↔◌, IfOk, OnOk, OnErr, IsErr, IsTrue, map};
 ghost use Rattle.block_layout.specs.Shapes.{IsShape};
-ghost use Rattle.shared_pointers.specs.Ranges.{IsThreads};
+ghost use Rattle.shared_pointers.specs.layer.Ranges.{IsThreads};
 ghost use Rattle.upc_values.specs.Lists.{Each};
 ghost use Rattle.private_store.specs.Beginnings.{IsBeginning};
-ghost use Rattle.stack_code.specs.Depths.{IsDeep, BeginsOnce};
-ghost use Rattle.stack_code.specs.Kept.{IsCode, IsFitting, IsKnown};
-ghost use Rattle.stack_code.specs.Making.{Making, empty, with_instruction, with_instructions};
-ghost use Rattle.stack_code.specs.Making.{with_function, with_object, with_initial, with_failure};
+ghost use Rattle.stack_code.specs.layer.Depths.{IsDeep, BeginsOnce};
+ghost use Rattle.stack_code.specs.layer.Kept.{IsCode, IsFitting, IsKnown};
+ghost use Rattle.stack_code.specs.layer.Making.{Making, empty, with_instruction, with_instructions};
+ghost use Rattle.stack_code.specs.layer.Making.{with_function, with_object, with_initial, with_failure};
 
 use crate::code::Code;
 use crate::fitting::{are_fitting, is_known};
@@ -36,7 +36,7 @@ pub struct Builder {
 impl Model for Builder {
     ghost use Rattle.std.specs.Prelude.{map};
     ghost use Rattle.stack_code.specs.Codes.{codes_of};
-    ghost use Rattle.stack_code.specs.Making.{Making, IsMaking};
+    ghost use Rattle.stack_code.specs.layer.Making.{Making, IsMaking};
 
     ghost Value = { Making };
 

@@ -4,11 +4,11 @@ ghost use Rattle.std.specs.Prelude.{◌↔◌, IsTrue, length};
 ghost use Rattle.block_layout.specs.declared.kind.Shape.{Shape};
 ghost use Rattle.block_layout.specs.Shapes.{IsShape};
 ghost use Rattle.integers.specs.Integers.{IsInteger, IsPromoted};
-ghost use Rattle.shared_pointers.specs.Ranges.{IsTarget};
-ghost use Rattle.thread_steps.specs.Ranges.{IsNumber, IsObject, IsShared};
+ghost use Rattle.shared_pointers.specs.layer.Ranges.{IsTarget};
+ghost use Rattle.thread_steps.specs.layer.Ranges.{IsNumber, IsObject, IsShared};
 ghost use Rattle.upc_values.specs.Lists.{Each};
-ghost use Rattle.stack_code.specs.Kept.{IsKnownScalar, IsKnown, IsFitting, StackFits, ObjectsFit};
-ghost use Rattle.stack_code.specs.Kept.{CastFits, ElementsFit, RightFits, ValuesFit};
+ghost use Rattle.stack_code.specs.layer.Kept.{IsKnownScalar, IsKnown, IsFitting, StackFits, ObjectsFit};
+ghost use Rattle.stack_code.specs.layer.Kept.{CastFits, ElementsFit, RightFits, ValuesFit};
 
 use crate::instruction::{Instr, ObjectWork, Operation, StackWork, ValueWork};
 use block_layout::{Kind, LocalPtr, ObjectRef, Shape, is_in_range};

@@ -12,18 +12,18 @@ use Rattle.upc_values.specs.Lists.{Each}
 use Rattle.upc_values.specs.Outcomes.{Outcome}
 use Rattle.upc_values.specs.Openings.{Opening, IsOpening}
 use Rattle.upc_values.specs.Formed as history
-use Rattle.upc_values.specs.Known.{HasGiven}
+use Rattle.upc_values.specs.layer.Known.{HasGiven}
 use Rattle.thread_steps.specs.States.{Thread, State, Res, Val, Over, Unfinished}
-use Rattle.thread_steps.specs.Fronts.{Begins}
+use Rattle.thread_steps.specs.layer.Fronts.{Begins}
 use Rattle.thread_steps.proofs.Fronts.{begins_itself, begins_on, all_of}
 use Rattle.thread_steps.proofs.Following.{total, plus, Later}
 use Rattle.stack_code.specs.declared.instruction.Instr.{Instr}
 use Rattle.stack_code.specs.Codes.{Codes, thread_of}
-use Rattle.stack_code.specs.Steps.{Spot, Conf, At, Halt, nowhere, step, steps}
-use Rattle.stack_code.specs.Outcomes.{told_by, HasEnded, initial_state, beginning}
+use Rattle.stack_code.specs.layer.Steps.{Spot, Conf, At, Halt, nowhere, step, steps}
+use Rattle.stack_code.specs.layer.Outcomes.{told_by, HasEnded, initial_state, beginning}
 use Rattle.stack_code.proofs.Ends.{steps_add, steps_ended}
-use Rattle.stack_code_laws.specs.Asking.{IsDeclaredIn, IsThreadOf, AsksWell}
-use Rattle.stack_code_laws.specs.Names.{NamesGiven}
+use Rattle.stack_code_laws.specs.layer.Asking.{IsDeclaredIn, IsThreadOf, AsksWell}
+use Rattle.stack_code_laws.specs.code.Names.{NamesGiven}
 use Rattle.stack_code_laws.proofs.Given.{FindsNamed, IsWellFormed, fits_after}
 use Rattle.stack_code_laws.proofs.Histories.{names_given, all_known, finds_named, formed_there, fits_there}
 use Rattle.stack_code_laws.proofs.KnownValues.{runner}

@@ -30,7 +30,7 @@ use Rattle.upc_values.specs.Copying.{copy, set}
 use Rattle.upc_values.specs.Expansions.{is_large, collective}
 use Rattle.upc_values.specs.LibraryCalls as l
 use Rattle.thread_steps.specs.Library.{is_call, is_formed}
-use Rattle.stack_code_laws.specs.Names.{is_lock_given}
+use Rattle.stack_code_laws.specs.code.Names.{is_lock_given}
 use Rattle.stack_code_laws.proofs.Given.{is_known, FindsNamed, may_call, IsWellFormed, fits_after}
 use Rattle.stack_code_laws.proofs.KnownValues.{Known}
 use Rattle.stack_code_laws.proofs.Doings.{Nothing}

@@ -40,7 +40,7 @@ use Rattle.upc_values.specs.Expansions as x
 use Rattle.upc_values.specs.Expansions.{Part}
 use Rattle.upc_values.proofs.Membership.{each-append, each-front, each-back}
 use Rattle.thread_steps.specs.Library.{is_call}
-use Rattle.stack_code_laws.specs.Names.{objects_given}
+use Rattle.stack_code_laws.specs.code.Names.{objects_given}
 use Rattle.stack_code_laws.proofs.Given.{names, knows, is_known, FindsNamed, may_call, IsWellFormed, fits_after}
 use Rattle.stack_code_laws.proofs.KnownValues.{pointer_names}
 use Rattle.block_layout.proofs.Found.{kind_is}

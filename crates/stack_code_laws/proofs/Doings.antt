@@ -18,7 +18,7 @@ use Rattle.thread_steps.specs.States.{Thread, State, Res, Val, Over, Unfinished,
 use Rattle.thread_steps.specs.States.{give, skip, know, change, choose, over, fault, fault_if, valued}
 use Rattle.thread_steps.specs.Actions.{ask, answered, answered_from}
 use Rattle.thread_steps.specs.Accesses.{with_store}
-use Rattle.thread_steps.specs.Fronts.{Begins}
+use Rattle.thread_steps.specs.layer.Fronts.{Begins}
 use Rattle.thread_steps.proofs.Fronts.{begins_itself, begins_pushed, begins_on}
 use Rattle.thread_steps.proofs.Following.{total, plus, Later}
 use Rattle.stack_code_laws.proofs.Given.{gives_known, AreKnown, IsWellFormed, fits_after}

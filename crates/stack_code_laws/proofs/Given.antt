@@ -22,7 +22,7 @@ use Rattle.upc_values.specs.Calls.{Call, Allocates, Makes_lock, Frees, Frees_loc
 use Rattle.upc_values.specs.Calls.{Reduces_prefixes, Other, call_of}
 use Rattle.upc_values.specs.Openings.{Opening, cell_of, is_named}
 use Rattle.upc_values.specs.Formed.{is_home, may_alloc, fits}
-use Rattle.stack_code_laws.specs.Names.{objects_given, is_lock_given}
+use Rattle.stack_code_laws.specs.code.Names.{objects_given, is_lock_given}
 
 -- A place in the piece of a given object that a thread has.
 abbrev pub names : Opening → List Reply → (object : ObjectRef) (thread : ℕ) (offset : ℤ) → Bool

@@ -27,10 +27,10 @@ use Rattle.upc_values.specs.Openings.{Opening, IsOpening, cell_of}
 use Rattle.upc_values.specs.History.{objects, locks, IsLegal, picked, makes, led, object_of}
 use Rattle.upc_values.specs.Formed as history
 use Rattle.upc_values.specs.Formed.{fits, is_lock}
-use Rattle.upc_values.specs.Known as replies
+use Rattle.upc_values.specs.layer.Known as replies
 use Rattle.upc_values.proofs.Membership.{each-weaker}
-use Rattle.stack_code_laws.specs.Names.{object_in, lock_in, objects_given, is_object_given, is_lock_given, is_given}
-use Rattle.stack_code_laws.specs.Names.{NamesGiven}
+use Rattle.stack_code_laws.specs.code.Names.{object_in, lock_in, objects_given, is_object_given, is_lock_given, is_given}
+use Rattle.stack_code_laws.specs.code.Names.{NamesGiven}
 use Rattle.stack_code_laws.proofs.Given.{names, knows, is_known, gives_known, AreKnown, FindsNamed, may_call, IsWellFormed}
 use Rattle.stack_code_laws.proofs.Given.{fits_after}
 use Rattle.stack_code_laws.proofs.ObjectNumbers.{AreNumberedFrom, objects_numbered, object_found}

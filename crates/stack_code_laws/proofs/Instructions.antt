@@ -37,11 +37,11 @@ use Rattle.stack_code.specs.declared.instruction.Operation.{Operation}
 use Rattle.stack_code.specs.declared.instruction.Operation.TheVariants as work
 use Rattle.stack_code.specs.declared.instruction.Instr.{Instr}
 use Rattle.stack_code.specs.Codes.{function_at, instructions_of}
-use Rattle.stack_code.specs.Steps.{Spot, Conf, At, Halt, further, back, conf_of, top, rest, second, third, below_two}
-use Rattle.stack_code.specs.Steps.{youngest, gives, leaves, pick, close_blocks, given_back, begun, stacked, made}
-use Rattle.stack_code.specs.Steps.{placed}
-use Rattle.stack_code.specs.Steps.{acted, jumped, kept_in, received, called, worked, act, step}
-use Rattle.stack_code_laws.specs.Asking.{PushesKnown, NamesKnown, IsDeclaredIn}
+use Rattle.stack_code.specs.layer.Steps.{Spot, Conf, At, Halt, further, back, conf_of, top, rest, second, third, below_two}
+use Rattle.stack_code.specs.layer.Steps.{youngest, gives, leaves, pick, close_blocks, given_back, begun, stacked, made}
+use Rattle.stack_code.specs.layer.Steps.{placed}
+use Rattle.stack_code.specs.layer.Steps.{acted, jumped, kept_in, received, called, worked, act, step}
+use Rattle.stack_code_laws.specs.layer.Asking.{PushesKnown, NamesKnown, IsDeclaredIn}
 use Rattle.stack_code_laws.proofs.Given.{FindsNamed}
 use Rattle.stack_code_laws.proofs.KnownValues.{runner, Known, first_value}
 use Rattle.stack_code_laws.proofs.Doings.{Grown, Nothing, Asks, then_asks, give_asks, skip_asks, exit_asks}

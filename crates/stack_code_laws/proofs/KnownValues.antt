@@ -35,8 +35,8 @@ use Rattle.thread_steps.specs.Values.{kept, kept_scalar, scalar_of}
 use Rattle.thread_steps.specs.Pointers.{phased, shared_value, local_value, local_moved, advanced}
 use Rattle.thread_steps.specs.Pointers.{member_behind}
 use Rattle.thread_steps.specs.Operators.{cast_value}
-use Rattle.stack_code_laws.specs.Names.{object_in, objects_given}
-use Rattle.stack_code_laws.specs.Asking as first
+use Rattle.stack_code_laws.specs.code.Names.{object_in, objects_given}
+use Rattle.stack_code_laws.specs.layer.Asking as first
 use Rattle.stack_code_laws.proofs.Given.{names, knows, is_known, IsKnownValue}
 
 -- A thread of a run from an opening.

@@ -32,7 +32,7 @@ use Rattle.upc_values.specs.Copying.{Area, Nowhere, In_shared, In_private, fille
 use Rattle.upc_values.specs.LibraryCalls.{area_of}
 use Rattle.upc_values.proofs.Membership.{each-weaker}
 use Rattle.thread_steps.specs.Values.{scalar_of}
-use Rattle.stack_code_laws.specs.Names.{objects_given}
+use Rattle.stack_code_laws.specs.code.Names.{objects_given}
 use Rattle.stack_code_laws.proofs.Given.{names, is_known, FindsNamed}
 use Rattle.stack_code_laws.proofs.KnownValues.{Known, pointer_names, scalar_known}
 use Rattle.block_layout.proofs.Found.{kind_is}

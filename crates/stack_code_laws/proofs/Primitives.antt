@@ -47,7 +47,7 @@ use Rattle.thread_steps.specs.Pointers as p
 use Rattle.thread_steps.specs.Operators as o
 use Rattle.thread_steps.specs.Blocks as b
 use Rattle.thread_steps.specs.Library as l
-use Rattle.stack_code_laws.specs.Names.{objects_given}
+use Rattle.stack_code_laws.specs.code.Names.{objects_given}
 use Rattle.stack_code_laws.proofs.Given.{knows, is_known, gives_known, FindsNamed, IsWellFormed, fits_after}
 use Rattle.stack_code_laws.proofs.KnownValues.{runner, Known, KnownIn, kept_scalar_known, scalar_known}
 use Rattle.stack_code_laws.proofs.KnownValues.{names_pointer, advanced_known, member_known, cast_known}

@@ -33,7 +33,7 @@ use Rattle.shared_pointers.specs.Access.{cell_at, in_piece, byte_of_element}
 use Rattle.private_store.proofs.Places.{some_bytes}
 use Rattle.thread_steps.specs.Accesses.{shape_or_byte, cell}
 use Rattle.thread_steps.specs.Values.{kept_scalar}
-use Rattle.stack_code_laws.specs.Names.{objects_given}
+use Rattle.stack_code_laws.specs.code.Names.{objects_given}
 use Rattle.stack_code_laws.proofs.Given.{names, knows, FindsNamed}
 use Rattle.stack_code_laws.proofs.KnownValues.{runner, pointer_names}
 

@@ -28,7 +28,7 @@ use Rattle.private_store.specs.Cells.{put_in, stored}
 use Rattle.private_store.specs.Beginnings.{fits_cell, private_cell, if_stored, begun_cell, blank, begun}
 use Rattle.block_layout.proofs.Found.{kind_is}
 use Rattle.thread_steps.proofs.Blanks.{blank_fits, kept_fits}
-use Rattle.stack_code_laws.specs.Asking.{IsKnownValue}
+use Rattle.stack_code_laws.specs.layer.Asking.{IsKnownValue}
 use Rattle.stack_code_laws.proofs.KnownValues.{Known, blank_value_known, kept_known, first_value}
 
 -- ---- what fits

@@ -21,7 +21,7 @@ use Rattle.thread_steps.specs.Library.{library, print}
 use Rattle.thread_steps.specs.Actions.{tick, notify, wait, fence}
 use Rattle.thread_steps.specs.Blocks.{begin_call, end_call, open_block, close_block, local_object, is_deep}
 use Rattle.thread_steps.specs.Blocks.{with_live, control, release, mine}
-use Rattle.thread_steps.specs.Fronts.{turned_by, IsInTurn}
+use Rattle.thread_steps.specs.layer.Fronts.{turned_by, IsInTurn}
 use Rattle.thread_steps.proofs.Kept as k
 use Rattle.thread_steps.proofs.Turning.{IsFine, Ends, InTurn, turning}
 use Rattle.stack_code.specs.declared.instruction.CellAccess.{CellAccess}
@@ -39,11 +39,11 @@ use Rattle.stack_code.specs.declared.instruction.Operation.{Operation}
 use Rattle.stack_code.specs.declared.instruction.Operation.TheVariants as work
 use Rattle.stack_code.specs.declared.instruction.Instr.{Instr}
 use Rattle.stack_code.specs.Codes.{Codes, function_at, thread_of}
-use Rattle.stack_code.specs.Steps.{Spot, Conf, At, Halt, conf_of, top, rest, second, third, below_two, int_of, youngest}
-use Rattle.stack_code.specs.Steps.{Next, gives, leaves, further, back, close_blocks, given_back, begun, made, placed, acted, jumped, kept_in}
-use Rattle.stack_code.specs.Steps.{received, called as does_call, worked, act, steps}
-use Rattle.stack_code.specs.Outcomes.{CodeMeans, HasEnded, told_by, beginning}
-use Rattle.stack_code_laws.specs.Turns.{TakesTurns}
+use Rattle.stack_code.specs.layer.Steps.{Spot, Conf, At, Halt, conf_of, top, rest, second, third, below_two, int_of, youngest}
+use Rattle.stack_code.specs.layer.Steps.{Next, gives, leaves, further, back, close_blocks, given_back, begun, made, placed, acted, jumped, kept_in}
+use Rattle.stack_code.specs.layer.Steps.{received, called as does_call, worked, act, steps}
+use Rattle.stack_code.specs.layer.Outcomes.{CodeMeans, HasEnded, told_by, beginning}
+use Rattle.stack_code_laws.specs.code.Turns.{TakesTurns}
 
 -- In what was done notifies and waits alternate, and a notify is open after it as the state says.
 abbrev IsTurn : State → Type 0

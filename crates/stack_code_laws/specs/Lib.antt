@@ -1,3 +1,2 @@
-pub mod Asking
-pub mod Names
-pub mod Turns
+pub mod layer
+pub mod code

@@ -5,9 +5,9 @@ ghost use Rattle.upc_values.specs.declared.action.Reply.{Reply};
 ghost use Rattle.upc_values.specs.Outcomes.{Outcome};
 ghost use Rattle.upc_values.specs.Openings.{Opening};
 ghost use Rattle.stack_code.specs.Codes.{Codes};
-ghost use Rattle.stack_code.specs.Outcomes.{CodeMeans};
-ghost use Rattle.stack_code_laws.specs.Asking.{IsThreadOf, AsksWell};
-ghost use Rattle.stack_code_laws.specs.Turns.{TakesTurns};
+ghost use Rattle.stack_code.specs.layer.Outcomes.{CodeMeans};
+ghost use Rattle.stack_code_laws.specs.layer.Asking.{IsThreadOf, AsksWell};
+ghost use Rattle.stack_code_laws.specs.code.Turns.{TakesTurns};
 
 /// Whatever a thread of code wants may be asked for after each history that may have given its replies, and with a
 /// reply that fits it is one more of the actions that the thread did. It names nothing but what the opening declares or

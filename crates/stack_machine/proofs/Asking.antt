@@ -19,10 +19,10 @@ use Rattle.thread_steps.specs.Accesses.{run, expanded}
 use Rattle.thread_steps.specs.Values.{number}
 use Rattle.thread_steps.specs.Library.{library, is_formed}
 use Rattle.thread_values.specs.declared.library.LibraryStep.{LibraryStep}
-use Rattle.thread_values.specs.Results.{given_at_once}
-use Rattle.thread_values.specs.Asking.{asks_once, expansion_of, DoesSoThere}
+use Rattle.thread_values.specs.layer.Results.{given_at_once}
+use Rattle.thread_values.specs.layer.Asking.{asks_once, expansion_of, DoesSoThere}
 use Rattle.thread_values.proofs.Asking.{formed, gives}
-use Rattle.stack_machine.specs.Machine.{listed}
+use Rattle.stack_machine.specs.layer.Machine.{listed}
 use Rattle.stack_machine.specs.declared.wish.Halt.{Halt}
 use Rattle.stack_machine.specs.declared.wish.Halt.TheVariants.{Stops}
 use Rattle.stack_machine.specs.declared.wish.Stop.TheVariants.{Fault}

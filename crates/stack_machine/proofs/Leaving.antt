@@ -3,7 +3,7 @@ use Rattle.std.proofs.Common.{◌≡◌, ℕ, zero, suc, ◌+◌, ◌-◌, ◌<�
 use Rattle.private_store.specs.Live.{Live, left}
 use Rattle.thread_steps.specs.States.{State, Val}
 use Rattle.thread_steps.specs.Blocks.{close_block}
-use Rattle.stack_code.specs.Steps.{close_blocks}
+use Rattle.stack_code.specs.layer.Steps.{close_blocks}
 use Rattle.stack_machine.specs.code.Jumps.{lefts}
 
 pub left_more : (n i : ℕ) (s : Live) → i < n → lefts (n - i) s ≡ lefts (n - (i + 1)) (left s)

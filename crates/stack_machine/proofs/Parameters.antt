@@ -14,7 +14,7 @@ use Rattle.thread_steps.specs.States.{Thread, State, Res, Val, bind}
 use Rattle.thread_steps.specs.Accesses.{save_private}
 use Rattle.thread_steps.specs.Blocks.{local_object, pointer_to}
 use Rattle.stack_code.specs.declared.instruction.CellAccess.{CellAccess}
-use Rattle.stack_code.specs.Steps.{received}
+use Rattle.stack_code.specs.layer.Steps.{received}
 use Rattle.stack_machine.specs.declared.wish.Halt.{Halt}
 use Rattle.stack_machine.specs.declared.wish.Halt.TheVariants.{Memory, Asks, Stops}
 use Rattle.stack_machine.specs.declared.progress.Progress.{Progress}

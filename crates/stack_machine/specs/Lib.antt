@@ -1,4 +1,2 @@
-pub mod Bodies
-pub mod Standing
-pub mod Machine
 pub mod code
+pub mod layer

@@ -12,3 +12,5 @@ pub mod Machines
 pub mod Receiving
 pub mod Quick
 pub mod Shorts
+pub mod Bodies
+pub mod Standing

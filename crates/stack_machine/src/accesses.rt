@@ -6,7 +6,7 @@ ghost use Rattle.upc_values.specs.declared.scalar.Scalar.TheVariants as scalar;
 ghost use Rattle.private_store.specs.Cells as cells;
 ghost use Rattle.private_store.specs.Cells.{IsPrivate};
 ghost use Rattle.thread_steps.specs.Accesses as pure;
-ghost use Rattle.thread_steps.specs.Ranges.{IsHeld, IsHeldScalar};
+ghost use Rattle.thread_steps.specs.layer.Ranges.{IsHeld, IsHeldScalar};
 ghost use Rattle.thread_steps.specs.States.{Thread, Val};
 ghost use Rattle.thread_steps.specs.Values as values;
 ghost use Rattle.stack_code.specs.Codes.{thread_of};

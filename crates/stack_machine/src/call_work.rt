@@ -4,14 +4,14 @@ ghost use Rattle.std.specs.Prelude.{◌≡◌, ◌<◌, ◌≤◌, [], ℕ, leng
 ghost use Rattle.block_layout.specs.declared.kind.Shape.{Shape};
 ghost use Rattle.upc_text.specs.declared.place.Place.{Place};
 ghost use Rattle.upc_values.specs.declared.action.Action.{Action};
-ghost use Rattle.thread_steps.specs.Ranges.{IsNumber};
+ghost use Rattle.thread_steps.specs.layer.Ranges.{IsNumber};
 ghost use Rattle.thread_steps.specs.States.{Thread};
 ghost use Rattle.thread_steps.specs.Values.{number_of};
 ghost use Rattle.stack_code.specs.declared.instruction.CallWork.TheVariants as calls;
 ghost use Rattle.stack_code.specs.declared.instruction.Operation.TheVariants as operation;
 ghost use Rattle.stack_code.specs.Codes.{function_at};
-ghost use Rattle.stack_code.specs.Depths.{LandsAt, call_effect};
-ghost use Rattle.stack_code.specs.Steps.{called, further, rest, top};
+ghost use Rattle.stack_code.specs.layer.Depths.{LandsAt, call_effect};
+ghost use Rattle.stack_code.specs.layer.Steps.{called, further, rest, top};
 ghost use Rattle.stack_machine.specs.code.Jumps.{lefts};
 ghost use Rattle.stack_machine.specs.code.Kept.{AreHeld, HoldsHeld, IsHolding};
 ghost use Rattle.stack_machine.specs.code.Steps.{Advances};

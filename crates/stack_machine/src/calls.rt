@@ -2,11 +2,11 @@
 
 ghost use Rattle.std.specs.Prelude.{◌≡◌, ◌+◌, ◌<◌, ◌∷◌, [], List, IfErr, OnOk};
 ghost use Rattle.upc_values.specs.declared.action.Action.{Action};
-ghost use Rattle.thread_steps.specs.Ranges.{IsNumber};
+ghost use Rattle.thread_steps.specs.layer.Ranges.{IsNumber};
 ghost use Rattle.thread_steps.specs.States.{Thread};
 ghost use Rattle.thread_steps.specs.Values.{number_of};
 ghost use Rattle.stack_code.specs.declared.instruction.CallWork.TheVariants as work;
-ghost use Rattle.stack_code.specs.Steps.{called, given_back};
+ghost use Rattle.stack_code.specs.layer.Steps.{called, given_back};
 ghost use Rattle.stack_machine.specs.code.Tasks.{spot_at, task_seen, called_body, begun_body, HasReturned, Remains};
 ghost use Rattle.stack_machine.specs.code.Turns.{Arrived, IsFirm, state_seen};
 

@@ -4,8 +4,8 @@ ghost use Rattle.std.specs.Prelude.{ℕ, List};
 ghost use Rattle.thread_steps.specs.States.{Thread};
 ghost use Rattle.stack_code.specs.declared.instruction.Instr.{Instr};
 ghost use Rattle.stack_code.specs.Codes.{Codes};
-ghost use Rattle.stack_machine.specs.Bodies.{GoesOn};
-ghost use Rattle.stack_machine.specs.Standing.{GoesByReplies};
+ghost use Rattle.stack_machine.specs.code.Bodies.{GoesOn};
+ghost use Rattle.stack_machine.specs.code.Standing.{GoesByReplies};
 
 /// What one instruction does goes by the body and the replies that it hears alone: not by the actions before, nor by
 /// the replies that follow.

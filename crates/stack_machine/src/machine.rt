@@ -4,8 +4,8 @@ ghost use Rattle.std.specs.Prelude.{◌≡◌, ◌<◌, ◌≤◌, ◌++◌, [],
 ghost use Rattle.stack_code.specs.Codes.{Codes};
 ghost use Rattle.upc_values.specs.declared.action.Reply.{Reply};
 ghost use Rattle.upc_values.specs.Outcomes.{Outcome};
-ghost use Rattle.stack_code.specs.Outcomes.{CodeMeans};
-ghost use Rattle.stack_machine.specs.Machine.{listed, told_by, told_of, Answered, HasHeard, HasAsked, HasFailed};
+ghost use Rattle.stack_code.specs.layer.Outcomes.{CodeMeans};
+ghost use Rattle.stack_machine.specs.layer.Machine.{listed, told_by, told_of, Answered, HasHeard, HasAsked, HasFailed};
 
 use crate::calls::Task;
 use crate::progress::Progress;
@@ -31,7 +31,7 @@ pub struct Machine {
 }
 
 impl Model for Machine {
-    ghost use Rattle.stack_machine.specs.Machine.{Seen};
+    ghost use Rattle.stack_machine.specs.layer.Machine.{Seen};
     ghost use Rattle.stack_machine.specs.code.Machines.{IsKept};
     ghost use Rattle.stack_machine.specs.code.Tasks.{task_seen};
 

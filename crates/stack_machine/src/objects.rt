@@ -4,7 +4,7 @@ ghost use Rattle.std.specs.Prelude.{◌<◌, OnOk};
 ghost use Rattle.block_layout.specs.Shapes.{IsShape};
 ghost use Rattle.upc_values.specs.Lists.{Each};
 ghost use Rattle.stack_code.specs.declared.instruction.ObjectWork.TheVariants as work;
-ghost use Rattle.stack_code.specs.Kept.{ObjectsFit};
+ghost use Rattle.stack_code.specs.layer.Kept.{ObjectsFit};
 ghost use Rattle.stack_machine.specs.code.Kept.{AreAllHeld, HasKept};
 ghost use Rattle.stack_machine.specs.code.Turns.{Places, Rests};
 

@@ -4,11 +4,11 @@ ghost use Rattle.std.specs.Prelude.{◌≡◌, ◌<◌, IfSome, OnOk};
 ghost use Rattle.upc_values.specs.declared.action.Action.{Action};
 ghost use Rattle.upc_values.specs.declared.scalar.Value.{Value};
 ghost use Rattle.thread_steps.specs.Library as library;
-ghost use Rattle.thread_steps.specs.Ranges.{IsNumber};
+ghost use Rattle.thread_steps.specs.layer.Ranges.{IsNumber};
 ghost use Rattle.thread_steps.specs.Values.{number_of};
 ghost use Rattle.stack_code.specs.declared.instruction.ThreadWork.TheVariants as work;
-ghost use Rattle.stack_code.specs.Steps.{top};
-ghost use Rattle.stack_code.specs.Steps as steps;
+ghost use Rattle.stack_code.specs.layer.Steps.{top};
+ghost use Rattle.stack_code.specs.layer.Steps as steps;
 ghost use Rattle.stack_machine.specs.code.Kept.{AreAllHeld, HasKept};
 ghost use Rattle.stack_machine.specs.code.Turns.{Acts, Rests};
 

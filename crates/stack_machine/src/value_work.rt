@@ -3,17 +3,17 @@
 ghost use Rattle.std.specs.Prelude.{◌≡◌, ◌≤◌, ◌^◌, ◌*ℤ◌, neg_ℤ, pos, unsigned_abs, ℕ, List, IfErr, IfOk, OnOk};
 ghost use Rattle.upc_values.specs.declared.action.Action.{Action};
 ghost use Rattle.upc_values.specs.declared.scalar.Value.{Value};
-ghost use Rattle.shared_pointers.specs.Ranges.{IsThreads};
+ghost use Rattle.shared_pointers.specs.layer.Ranges.{IsThreads};
 ghost use Rattle.thread_steps.specs.Pointers as pointers;
-ghost use Rattle.thread_steps.specs.Ranges.{IsHeld, IsNumber};
+ghost use Rattle.thread_steps.specs.layer.Ranges.{IsHeld, IsNumber};
 ghost use Rattle.thread_steps.specs.States.{Thread};
 ghost use Rattle.thread_steps.specs.Values as values;
 ghost use Rattle.stack_code.specs.Codes.{thread_of};
-ghost use Rattle.stack_code.specs.Kept.{ElementsFit, ValuesFit};
-ghost use Rattle.stack_code.specs.Steps.{At, Spot, made, top, second, third};
+ghost use Rattle.stack_code.specs.layer.Kept.{ElementsFit, ValuesFit};
+ghost use Rattle.stack_code.specs.layer.Steps.{At, Spot, made, top, second, third};
 ghost use Rattle.stack_machine.specs.code.Kept.{AreHeld};
 ghost use Rattle.stack_machine.specs.code.Turns.{Arrived, IsFirm, body_seen, state_seen};
-ghost use Rattle.thread_values.specs.Results.{row_test};
+ghost use Rattle.thread_values.specs.layer.Results.{row_test};
 ghost use Rattle.stack_machine.specs.code.Works as pure;
 
 use crate::progress::Progress;

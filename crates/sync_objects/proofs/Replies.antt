@@ -4,7 +4,7 @@ use Rattle.upc_values.specs.declared.action.Action.TheVariants as act
 use Rattle.upc_values.specs.declared.journal.Entry.{Entry}
 use Rattle.upc_values.specs.Openings.{Opening}
 use Rattle.upc_values.specs.History.{reply}
-use Rattle.sync_objects.specs.Locks.{lock_answer, attempt_answer, unlock_answer, give_up_answer, lock_after}
+use Rattle.sync_objects.specs.layer.Locks.{lock_answer, attempt_answer, unlock_answer, give_up_answer, lock_after}
 
 pub lock-replies : (o : Opening) (es : List Entry) (t l : ℕ) → reply o es t (act.Lock l) ≡ lock_answer t (lock_after o es l)
 lock-replies o es t l = refl

@@ -1,2 +1,1 @@
-pub mod Barrier
-pub mod Locks
+pub mod layer

@@ -2,7 +2,7 @@
 
 ghost use Rattle.std.specs.Prelude.{◌≡◌, ◌<◌, length, slice_get, IfOk, OnErr};
 ghost use Rattle.upc_values.specs.History as history;
-ghost use Rattle.sync_objects.specs.Barrier as said;
+ghost use Rattle.sync_objects.specs.layer.Barrier as said;
 
 use std::alloc::Global;
 use std::marker::Model;
@@ -17,7 +17,7 @@ pub struct Attendance {
 }
 
 impl Model for Attendance {
-    ghost use Rattle.sync_objects.specs.Barrier as said;
+    ghost use Rattle.sync_objects.specs.layer.Barrier as said;
 
     ghost Value = { said.Attendance };
 

@@ -2,9 +2,9 @@
 
 ghost use Rattle.std.specs.Prelude.{◌≡◌, ◌<◌, length, replicate, slice_get, true, Some, IfOk, OnErr};
 ghost use Rattle.upc_values.specs.History as history;
-ghost use Rattle.sync_objects.specs.Barrier as said;
-ghost use Rattle.sync_objects.specs.Barrier.{attendance_of, with_attendance};
-ghost use Rattle.sync_objects.specs.Locks.{told};
+ghost use Rattle.sync_objects.specs.layer.Barrier as said;
+ghost use Rattle.sync_objects.specs.layer.Barrier.{attendance_of, with_attendance};
+ghost use Rattle.sync_objects.specs.layer.Locks.{told};
 
 use crate::attendance::Attendance;
 use block_layout::run_error::BARRIER_MISMATCH;
@@ -21,7 +21,7 @@ pub struct Barrier {
 
 impl Model for Barrier {
     ghost use Rattle.std.specs.Prelude.{List};
-    ghost use Rattle.sync_objects.specs.Barrier.{Attendance};
+    ghost use Rattle.sync_objects.specs.layer.Barrier.{Attendance};
 
     ghost Value = { List Attendance };
 

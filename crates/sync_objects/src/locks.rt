@@ -2,8 +2,8 @@
 
 ghost use Rattle.std.specs.Prelude.{◌≡◌, ◌++◌, [], ◌∷◌, length, Some, IfOk, OnErr, IsSome, IsNone, IsTrue, ◌↔◌};
 ghost use Rattle.std.specs.Prelude.{if◌then◌else◌};
-ghost use Rattle.sync_objects.specs.Locks as said;
-ghost use Rattle.sync_objects.specs.Locks.{IsMade, fresh, lock_of, with_lock, told, told_flag};
+ghost use Rattle.sync_objects.specs.layer.Locks as said;
+ghost use Rattle.sync_objects.specs.layer.Locks.{IsMade, fresh, lock_of, with_lock, told, told_flag};
 
 use block_layout::run_error::{LOCK_AGAIN, LOCK_FREED, LOCK_NOT_HELD};
 use std::alloc::Global;

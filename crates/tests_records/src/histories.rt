@@ -2,7 +2,7 @@
 
 ghost use Rattle.std.specs.Prelude.{◌≡◌, [], ◌∷◌, IfOk};
 ghost use Rattle.block_layout.specs.declared.kind.Kind.TheVariants as kind;
-ghost use Rattle.upc_values.specs.Basic as basic;
+ghost use Rattle.upc_values.specs.layer.Basic as basic;
 
 use memory_history::{Step, World};
 use order_builder::drain;

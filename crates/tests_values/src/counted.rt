@@ -1,7 +1,7 @@
 //! Every element of some hundred arrays, named by steps of one and by one step, against counting.
 
 ghost use Rattle.std.specs.Prelude.{◌≡◌, ◌≤◌, pos};
-ghost use Rattle.shared_pointers.specs.Ranges.{IsTarget, IsThreads};
+ghost use Rattle.shared_pointers.specs.layer.Ranges.{IsTarget, IsThreads};
 
 use block_layout::{ObjectRef, SharedPtr, phase_of, piece_bytes, thread_of};
 use shared_pointers::advance;

@@ -17,7 +17,7 @@ use Rattle.thread_steps.specs.States.{give, skip, know, change, choose, over, fa
 use Rattle.thread_steps.specs.Actions.{ask, answered, answered_from, tick, with_tick, with_notified}
 use Rattle.thread_steps.specs.Accesses.{with_store}
 use Rattle.thread_steps.specs.Blocks.{begin_call, end_call, is_deep, with_live}
-use Rattle.thread_steps.specs.Fronts.{Begins}
+use Rattle.thread_steps.specs.layer.Fronts.{Begins}
 use Rattle.thread_steps.proofs.Depths.{depth, SameDepth, called_depth, returned_depth, not_deep}
 use Rattle.thread_steps.proofs.Kept.{IsBasic, IsAsking, IsKept, Ignores, IsOwn}
 use Rattle.thread_steps.proofs.Kept.{asked_notify_kept, asked_wait_kept, asked_called_kept, asked_tick_kept}

@@ -3,7 +3,7 @@ use Rattle.std.proofs.Common.{◌≡◌, ◌≤◌, List, [], ◌∷◌, ◌++�
 use Rattle.std.proofs.Common.{append_assoc, append-nil}
 use Rattle.std.proofs.lemmas.List.{length-append}
 use Rattle.upc_values.specs.declared.action.Action.{Action}
-use Rattle.thread_steps.specs.Fronts.{Begins}
+use Rattle.thread_steps.specs.layer.Fronts.{Begins}
 
 pub begins_itself : (xs : List Action) → Begins xs xs
 begins_itself xs = ([], sym (append-nil xs))

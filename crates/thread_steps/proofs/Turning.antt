@@ -30,7 +30,7 @@ use Rattle.thread_steps.specs.Actions as a
 use Rattle.thread_steps.specs.Accesses as x
 use Rattle.thread_steps.specs.Blocks.{begin_call, end_call, is_deep, with_live}
 use Rattle.thread_steps.specs.Library as l
-use Rattle.thread_steps.specs.Fronts.{turned, turned_by, IsInTurn}
+use Rattle.thread_steps.specs.layer.Fronts.{turned, turned_by, IsInTurn}
 use Rattle.thread_steps.proofs.Depths.{depth, SameDepth, stored_depth, called_depth, returned_depth, not_deep}
 use Rattle.thread_steps.proofs.Kept.{IsBasic, IsKept, IsOwn, IsPlain}
 use Rattle.thread_steps.proofs.Orderly.{IsOrderly, Turns, library_orderly}

@@ -1,10 +1,9 @@
 pub mod States
 pub mod Values
-pub mod Ranges
 pub mod Actions
 pub mod Accesses
 pub mod Pointers
 pub mod Operators
 pub mod Blocks
 pub mod Library
-pub mod Fronts
+pub mod layer

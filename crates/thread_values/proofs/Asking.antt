@@ -19,8 +19,8 @@ use Rattle.thread_steps.specs.Values.{number}
 use Rattle.thread_steps.specs.Library.{library, called, formed_call, is_formed, is_exit, first_number, private_shapes}
 use Rattle.thread_steps.proofs.Thens.{then_same}
 use Rattle.thread_values.specs.declared.library.LibraryStep.{LibraryStep}
-use Rattle.thread_values.specs.Results.{given_at_once}
-use Rattle.thread_values.specs.Asking.{asks_once, expansion_of}
+use Rattle.thread_values.specs.layer.Results.{given_at_once}
+use Rattle.thread_values.specs.layer.Asking.{asks_once, expansion_of}
 
 -- What a reply gives.
 pub gives : (τ : Thread) (at : Place) (σ : State) (r : Reply) (res : Result Value ℕ)

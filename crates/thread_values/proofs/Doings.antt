@@ -23,7 +23,7 @@ use Rattle.thread_steps.specs.Operators.{operate, apply}
 use Rattle.thread_steps.specs.Pointers.{difference, order, apart, in_row, outside}
 use Rattle.thread_steps.specs.Accesses.{run}
 use Rattle.thread_steps.specs.Library.{library, private_shapes}
-use Rattle.thread_values.specs.Results.{number_value, operated, applied, ordered, row_test, asks_nothing, given_at_once}
+use Rattle.thread_values.specs.layer.Results.{number_value, operated, applied, ordered, row_test, asks_nothing, given_at_once}
 
 -- A number, or a run error, becomes a value, or the same run error.
 given : (at : Place) (r : Result ℤ ℕ) (σ : State)

@@ -13,8 +13,8 @@ use Rattle.upc_values.specs.declared.scalar.Scalar.TheVariants as scalar
 use Rattle.upc_values.specs.declared.scalar.Value.{Value}
 use Rattle.upc_values.specs.declared.scalar.Value.TheVariants as value
 use Rattle.upc_values.specs.Lists.{Each}
-use Rattle.shared_pointers.specs.Ranges.{IsStep}
-use Rattle.thread_steps.specs.Ranges.{IsHeld, IsNumber}
+use Rattle.shared_pointers.specs.layer.Ranges.{IsStep}
+use Rattle.thread_steps.specs.layer.Ranges.{IsHeld, IsNumber}
 use Rattle.thread_steps.specs.Values.{number_of}
 
 pub in_kind-number : (v : ℤ) (kind : Kind) → InKind v kind → IsNumber v

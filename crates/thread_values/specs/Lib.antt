@@ -1,3 +1,2 @@
-pub mod Results
-pub mod Asking
 pub mod code
+pub mod layer

@@ -6,12 +6,12 @@ ghost use Rattle.block_layout.specs.declared.kind.Kind.TheVariants as kind;
 ghost use Rattle.block_layout.specs.declared.kind.Shape.{Shape};
 ghost use Rattle.integers.specs.Integers.{converted};
 ghost use Rattle.thread_steps.specs.Blocks as pure;
-ghost use Rattle.thread_steps.specs.Ranges.{IsHeld, IsNumber};
+ghost use Rattle.thread_steps.specs.layer.Ranges.{IsHeld, IsNumber};
 ghost use Rattle.thread_steps.specs.States.{Thread};
 ghost use Rattle.thread_steps.specs.Values.{number, number_of};
 ghost use Rattle.upc_values.specs.LibraryCalls.{library_call, affinity_size};
 ghost use Rattle.upc_values.specs.Printing as printing;
-ghost use Rattle.thread_values.specs.Results.{asks_nothing, given_at_once};
+ghost use Rattle.thread_values.specs.layer.Results.{asks_nothing, given_at_once};
 ghost use Rattle.thread_values.specs.code.Parts.{IsGiven, is_integer};
 
 use crate::values::{number, number_of};

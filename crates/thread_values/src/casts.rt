@@ -3,11 +3,11 @@
 ghost use Rattle.std.specs.Prelude.{◌≡◌, ℕ, List, IfOk};
 ghost use Rattle.block_layout.specs.declared.kind.Shape.{Shape};
 ghost use Rattle.thread_steps.specs.Operators.{cast_value};
-ghost use Rattle.thread_steps.specs.Ranges.{IsHeld, IsNumber};
+ghost use Rattle.thread_steps.specs.layer.Ranges.{IsHeld, IsNumber};
 ghost use Rattle.thread_steps.specs.States.{Thread};
 ghost use Rattle.thread_steps.specs.Values.{number_of};
 ghost use Rattle.thread_steps.specs.declared.cast.CastTo.TheVariants as to;
-ghost use Rattle.thread_values.specs.Results.{IsCast};
+ghost use Rattle.thread_values.specs.layer.Results.{IsCast};
 
 use crate::values::{number, number_of};
 use block_layout::{LocalPtr, SharedPtr};

@@ -2,9 +2,9 @@
 
 ghost use Rattle.std.specs.Prelude.{◌≡◌, ◌≤◌, ◌&&◌, nat_le, IsTrue, Some, ℕ, List};
 ghost use Rattle.block_layout.specs.Shapes.{IsShape};
-ghost use Rattle.shared_pointers.specs.Ranges.{IsThreads};
+ghost use Rattle.shared_pointers.specs.layer.Ranges.{IsThreads};
 ghost use Rattle.thread_steps.specs.Accesses as pure;
-ghost use Rattle.thread_steps.specs.Ranges.{IsHeldScalar, IsShared};
+ghost use Rattle.thread_steps.specs.layer.Ranges.{IsHeldScalar, IsShared};
 ghost use Rattle.thread_steps.specs.States.{Thread};
 ghost use Rattle.upc_values.specs.Formed as formed;
 ghost use Rattle.upc_values.specs.Lists.{Each};

@@ -4,12 +4,12 @@ ghost use Rattle.std.specs.Prelude.{◌≡◌, ◌*◌, ◌==◌, ℕ, List, [],
 ghost use Rattle.std.specs.Prelude.{slice_get, All, if◌then◌else◌};
 ghost use Rattle.block_layout.specs.declared.kind.Shape.{Shape};
 ghost use Rattle.block_layout.specs.Shapes.{IsShape};
-ghost use Rattle.thread_steps.specs.Ranges.{IsNumber};
+ghost use Rattle.thread_steps.specs.layer.Ranges.{IsNumber};
 ghost use Rattle.thread_steps.specs.Values.{number_of};
 ghost use Rattle.upc_values.specs.Formed as formed;
 ghost use Rattle.upc_values.specs.LibraryCalls as calls;
 ghost use Rattle.upc_values.specs.Lists.{Each};
-ghost use Rattle.thread_values.specs.Asking.{expansion_of, asks_once, DoesSoThere};
+ghost use Rattle.thread_values.specs.layer.Asking.{expansion_of, asks_once, DoesSoThere};
 ghost use Rattle.thread_values.specs.code.Parts.{DoesSo, size_of, both_sizes, two_sizes, one_size};
 
 use block_layout::Shape;

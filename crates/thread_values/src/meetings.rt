@@ -4,7 +4,7 @@ ghost use Rattle.std.specs.Prelude.{◌≡◌, ◌<◌, ◌&&◌, IfOk, is_some,
 ghost use Rattle.thread_steps.specs.Library as pure;
 ghost use Rattle.upc_values.specs.Calls.{call_of, is_size};
 ghost use Rattle.upc_values.specs.LibraryCalls.{meet_number, scalars};
-ghost use Rattle.thread_values.specs.Asking.{asks_once};
+ghost use Rattle.thread_values.specs.layer.Asking.{asks_once};
 ghost use Rattle.thread_values.specs.code.Parts.{is_allocating, is_lock_making};
 
 use block_layout::{Kind, Shape};

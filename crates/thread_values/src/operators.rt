@@ -5,9 +5,9 @@ ghost use Rattle.block_layout.specs.declared.kind.Kind.TheVariants as kind;
 ghost use Rattle.block_layout.specs.declared.kind.Shape.{Shape};
 ghost use Rattle.integers.specs.Integers.{IsPromoted, converted};
 ghost use Rattle.thread_steps.specs.Values.{number_of};
-ghost use Rattle.thread_steps.specs.Ranges.{IsHeld, IsNumber};
-ghost use Rattle.thread_values.specs.Results as results;
-ghost use Rattle.thread_values.specs.Results.{IsRightKind};
+ghost use Rattle.thread_steps.specs.layer.Ranges.{IsHeld, IsNumber};
+ghost use Rattle.thread_values.specs.layer.Results as results;
+ghost use Rattle.thread_values.specs.layer.Results.{IsRightKind};
 
 use crate::values::{number, number_of};
 use block_layout::Kind;

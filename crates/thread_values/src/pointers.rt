@@ -7,15 +7,15 @@ ghost use Rattle.block_layout.specs.Floor.{floor_div};
 ghost use Rattle.block_layout.specs.Places.{InRange, in_range};
 ghost use Rattle.block_layout.specs.declared.kind.Shape.{Shape};
 ghost use Rattle.shared_pointers.specs.Casts.{member_of};
-ghost use Rattle.shared_pointers.specs.Ranges.{IsPointer, IsStep, IsTarget, IsThreads};
+ghost use Rattle.shared_pointers.specs.layer.Ranges.{IsPointer, IsStep, IsTarget, IsThreads};
 ghost use Rattle.shared_pointers.specs.Steps as step;
 ghost use Rattle.thread_steps.specs.Pointers as pure;
-ghost use Rattle.thread_steps.specs.Ranges.{IsHeld, IsHeldScalar};
+ghost use Rattle.thread_steps.specs.layer.Ranges.{IsHeld, IsHeldScalar};
 ghost use Rattle.thread_steps.specs.States.{Thread};
 ghost use Rattle.thread_steps.specs.Values as values;
 ghost use Rattle.upc_values.specs.declared.scalar.Scalar.TheVariants as scalar;
 ghost use Rattle.upc_values.specs.declared.scalar.Value.TheVariants as value;
-ghost use Rattle.thread_values.specs.Results.{number_value, ordered, row_test};
+ghost use Rattle.thread_values.specs.layer.Results.{number_value, ordered, row_test};
 ghost use Rattle.thread_values.specs.code.Parts.{IsNear};
 
 use crate::values::{is_zero, number, truth_value};

@@ -5,10 +5,10 @@ ghost use Rattle.block_layout.specs.declared.kind.Shape.{Shape};
 ghost use Rattle.upc_values.specs.Calls.{call_of};
 ghost use Rattle.upc_values.specs.Formed as formed;
 ghost use Rattle.upc_values.specs.LibraryCalls.{given_by};
-ghost use Rattle.thread_steps.specs.Ranges.{IsHeld, IsHeldScalar};
+ghost use Rattle.thread_steps.specs.layer.Ranges.{IsHeld, IsHeldScalar};
 ghost use Rattle.upc_values.specs.declared.scalar.Scalar.TheVariants as scalar;
-ghost use Rattle.thread_values.specs.Asking.{IsHeldReply};
-ghost use Rattle.thread_values.specs.Results.{given_at_once};
+ghost use Rattle.thread_values.specs.layer.Asking.{IsHeldReply};
+ghost use Rattle.thread_values.specs.layer.Results.{given_at_once};
 ghost use Rattle.thread_values.specs.code.Parts.{done_or};
 
 use crate::cells::is_pointer;

@@ -3,7 +3,7 @@
 ghost use Rattle.std.specs.Prelude.{◌≡◌, ℕ, List};
 ghost use Rattle.block_layout.specs.declared.kind.Shape.{Shape};
 ghost use Rattle.thread_steps.specs.Values as pure;
-ghost use Rattle.thread_steps.specs.Ranges.{IsHeld, IsHeldScalar, IsNumber};
+ghost use Rattle.thread_steps.specs.layer.Ranges.{IsHeld, IsHeldScalar, IsNumber};
 
 use block_layout::{Kind, LocalPtr};
 use upc_values::{Scalar, Value, blank, blank_value, fits_kind, value_fits};

@@ -4,7 +4,7 @@ use Rattle.std.proofs.Common.{Some, None, refl, sym, ap, ◌∙◌, arith}
 use Rattle.std.proofs.lemmas.List.{reverse-append, length-reverse, get_or_at, get_or_append_left}
 use Rattle.typing_rules.specs.Meanings.{Meaning}
 use Rattle.typed_tree.specs.Scopes.{Entry, find_in, found_or}
-use Rattle.typed_tree.specs.ViewEntries.{latest, place_in}
+use Rattle.typed_tree.specs.code.ViewEntries.{latest, place_in}
 
 absent_one : (b : Bool) (n : ℕ) (o : Option ℕ) (m rest other : Meaning) → latest b n o ≡ None →
     (o ≡ None → rest ≡ other) → found_or b m rest ≡ other

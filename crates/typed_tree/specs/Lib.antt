@@ -7,15 +7,10 @@ pub mod LocalObjects
 pub mod Objects
 pub mod Initials
 pub mod Beginnings
-pub mod PrivateOpenings
 pub mod Programs
 pub mod Words
-pub mod Judged
-pub mod TypedNodes
-pub mod ExpressionLaws
-pub mod ViewEntries
-pub mod ViewScopes
-pub mod ViewEnv
 pub mod ViewTree
 pub mod ViewStatements
 pub mod ViewProgram
+pub mod layer
+pub mod code

@@ -3,9 +3,9 @@
 ghost use Rattle.std.specs.Prelude.{◌≡◌, IfOk, OnOk, OnErr};
 ghost use Rattle.upc_types.specs.View.{view};
 ghost use Rattle.typed_tree.specs.Scopes as pure;
-ghost use Rattle.typing_rules.specs.Views.{view_meaning, view_signature};
+ghost use Rattle.typing_rules.specs.layer.Views.{view_meaning, view_signature};
 ghost use Rattle.typing_rules.specs.Meanings as meanings;
-ghost use Rattle.typed_tree.specs.ViewEnv.{view_env, view_counts, view_detached, with_outer};
+ghost use Rattle.typed_tree.specs.layer.ViewEnv.{view_env, view_counts, view_detached, with_outer};
 
 use crate::scope::{Declared, Scope};
 use std::alloc::Global;

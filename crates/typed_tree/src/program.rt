@@ -4,8 +4,8 @@ ghost use Rattle.std.specs.Prelude.{◌≡◌, ◌<◌, ◌≤◌};
 ghost use Rattle.upc_values.specs.Openings.{IsOpening};
 ghost use Rattle.typed_tree.specs.Objects.{most_private_bytes, most_shared_bytes};
 ghost use Rattle.typed_tree.specs.Beginnings.{opening_in, view_beginning};
-ghost use Rattle.typed_tree.specs.PrivateOpenings.{IsPrivateOpening};
-ghost use Rattle.typed_tree.specs.TypedNodes.{MeetsRules};
+ghost use Rattle.typed_tree.specs.layer.PrivateOpenings.{IsPrivateOpening};
+ghost use Rattle.typed_tree.specs.layer.TypedNodes.{MeetsRules};
 ghost use Rattle.typed_tree.specs.Programs as pure;
 ghost use Rattle.typed_tree.specs.Programs.{start_of, view_parts};
 
@@ -41,8 +41,8 @@ impl Program {
     ghost use Rattle.upc_values.specs.Openings.{IsOpening};
     ghost use Rattle.typed_tree.specs.Objects.{most_private_bytes, most_shared_bytes};
     ghost use Rattle.typed_tree.specs.Beginnings.{opening_in, view_beginning};
-    ghost use Rattle.typed_tree.specs.PrivateOpenings.{IsPrivateOpening};
-    ghost use Rattle.typed_tree.specs.TypedNodes.{MeetsRules};
+    ghost use Rattle.typed_tree.specs.layer.PrivateOpenings.{IsPrivateOpening};
+    ghost use Rattle.typed_tree.specs.layer.TypedNodes.{MeetsRules};
     ghost use Rattle.typed_tree.specs.Programs as pure;
     ghost use Rattle.typed_tree.specs.Programs.{start_of, view_parts};
 

@@ -2,7 +2,7 @@
 
 ghost use Rattle.std.specs.Prelude.{◌≡◌, ℕ, nat_eq, OnOk, OnErr};
 ghost use Rattle.std.specs.HashMap.{get};
-ghost use Rattle.typed_tree.specs.ViewEntries.{view_entries, IsIndexed, latest};
+ghost use Rattle.typed_tree.specs.code.ViewEntries.{view_entries, IsIndexed, latest};
 
 use std::alloc::Global;
 use std::collections::HashMap;
@@ -44,8 +44,8 @@ fn note(places: &mut HashMap<u32, usize>, name: u32, place: usize) -> Result<(),
 
 impl Declared {
     ghost use Rattle.std.specs.Prelude.{◌≡◌};
-    ghost use Rattle.typing_rules.specs.Views.{view_meaning};
-    ghost use Rattle.typed_tree.specs.ViewEntries.{view_declared};
+    ghost use Rattle.typing_rules.specs.layer.Views.{view_meaning};
+    ghost use Rattle.typed_tree.specs.code.ViewEntries.{view_declared};
 
     /// What the name stands for.
     pub fn meaning(&self) -> Meaning<'_>
@@ -62,9 +62,9 @@ impl Scope {
     ghost use Rattle.std.specs.Prelude.{◌≡◌, [], ◌∷◌, OnOk, OnErr, IfSome, None};
     ghost use Rattle.typing_rules.specs.Meanings as pure;
     ghost use Rattle.typed_tree.specs.Scopes.{find_in};
-    ghost use Rattle.typing_rules.specs.Views.{view_meaning};
-    ghost use Rattle.typed_tree.specs.ViewEntries.{view_declared};
-    ghost use Rattle.typed_tree.specs.ViewScopes.{view_scope};
+    ghost use Rattle.typing_rules.specs.layer.Views.{view_meaning};
+    ghost use Rattle.typed_tree.specs.code.ViewEntries.{view_declared};
+    ghost use Rattle.typed_tree.specs.code.ViewScopes.{view_scope};
 
     /// A scope without names.
     pub fn new(alloc: Global) -> Scope

@@ -7,7 +7,7 @@ use Rattle.upc_types.specs.Layout.{size}
 use Rattle.upc_types.specs.Cells.{object_shape}
 use Rattle.typed_tree.specs.Tree.{DeclaredObject}
 use Rattle.typed_tree.specs.Objects.{bytes_in}
-use Rattle.typed_tree.specs.PrivateOpenings.{shape_bytes}
+use Rattle.typed_tree.specs.layer.PrivateOpenings.{shape_bytes}
 
 abbrev shape_at : Structs → DeclaredObject → Shape
 shape_at s x = object_shape s (base_of x.ctype)

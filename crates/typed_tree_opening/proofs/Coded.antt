@@ -4,11 +4,11 @@ use Rattle.std.proofs.Common.{List, [], ◌∷◌, ◌++◌, length, get_or, Opt
 use Rattle.std.proofs.lemmas.Bool.{eq-eqb, eqb-true, eqb-false, ltb-true, ltb-false}
 use Rattle.std.proofs.lemmas.List.{length-map, length-append, get_or_append_left, get_or_at, get_or-map}
 use Rattle.block_layout.specs.declared.kind.Shape.{Shape}
-use Rattle.upc_types.specs.Places.{place_below}
+use Rattle.upc_types.specs.layer.Places.{place_below}
 use Rattle.upc_types.proofs.PlacesOfNumbers.{up_to}
 use Rattle.upc_types.proofs.Coded.{skipped}
 use Rattle.typed_tree.specs.Elements.{same_shape, number_among}
-use Rattle.typed_tree_opening.specs.Apart.{code_of, codes_of, AreApart}
+use Rattle.typed_tree_opening.specs.code.Apart.{code_of, codes_of, AreApart}
 use Rattle.typed_tree_opening.proofs.Sound.{shape_is}
 use Rattle.typed_tree_opening.proofs.Numbering.{number_before, number_behind}
 

@@ -21,7 +21,7 @@ use Rattle.typed_tree.specs.Objects.{type_of}
 use Rattle.typed_tree.specs.Allocated.{laid}
 use Rattle.typed_tree.specs.LocalObjects.{objects_in, objects_by, arms_objects, items_objects, switch_objects}
 use Rattle.typed_tree.specs.LocalObjects.{with_layout, types_in}
-use Rattle.typed_tree_opening.specs.LaidObjects.{laid_objects}
+use Rattle.typed_tree_opening.specs.code.LaidObjects.{laid_objects}
 use Rattle.typed_tree_opening.proofs.Opened.{HaveLayouts}
 
 -- ---- types, one by one

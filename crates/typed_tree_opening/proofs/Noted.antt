@@ -7,7 +7,7 @@ use Rattle.upc_types.specs.Types.{CType, Structs}
 use Rattle.upc_types.specs.Cells.{alike, number_of, is_noted}
 use Rattle.upc_types.proofs.Numbers.{most, last}
 use Rattle.typed_tree.specs.Targets.{with_noted}
-use Rattle.typed_tree_opening.specs.Pending.{AreNoted}
+use Rattle.typed_tree_opening.specs.code.Pending.{AreNoted}
 use Rattle.typed_tree_opening.proofs.Pointed.{noted_append}
 
 before_one : (b : Bool) (n m count : ℕ) → (n < count → m ≡ n) → (if b then 0 else n + 1) < suc count →

@@ -14,7 +14,7 @@ use Rattle.typing_rules.specs.Rules.{has_size}
 use Rattle.typed_tree.specs.Objects.{is_shared, is_private, shared_in, private_in, type_of, bytes_in}
 use Rattle.typed_tree.specs.Initials.{shared_from}
 use Rattle.typed_tree.specs.Beginnings.{begun, opening_in}
-use Rattle.typed_tree.specs.PrivateOpenings.{HavePrivateValues}
+use Rattle.typed_tree.specs.layer.PrivateOpenings.{HavePrivateValues}
 use Rattle.typed_tree_opening.proofs.Within.{shapes_of, private_once, private_fit, private_known}
 use Rattle.upc_types.specs.Layout.{size}
 use Rattle.typed_tree_opening.proofs.Shapes.{layout_is}

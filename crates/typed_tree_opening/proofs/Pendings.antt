@@ -7,15 +7,15 @@ use Rattle.std.proofs.lemmas.List.{drop-map, drop_all, get_or-replicate, get_or_
 use Rattle.upc_types.specs.declared.structs.Member as c
 use Rattle.upc_types.specs.View.{view_base, view_member}
 use Rattle.upc_types.specs.Types.{CType, Completed, Structs, members_in}
-use Rattle.upc_types.specs.Kept.{is_ordered}
+use Rattle.upc_types.specs.layer.Kept.{is_ordered}
 use Rattle.upc_types.specs.Cells.{leaf_base}
 use Rattle.upc_types.proofs.Members.{next}
 use Rattle.typed_tree.specs.Targets.{leaf_targets, members_targets, struct_targets, with_noted}
 use Rattle.typed_tree_opening.specs.declared.targets.Pending.{Pending}
 use Rattle.typed_tree_opening.specs.declared.targets.Leaf.{Leaf}
 use Rattle.typed_tree_opening.specs.declared.targets.Leaf.TheVariants.{Inside}
-use Rattle.typed_tree_opening.specs.Pending.{pending_targets, all_pending, leaf_found, with_leaf, with_pending, AreNoted}
-use Rattle.typed_tree_opening.specs.Pending.{AreEnded, IsDone}
+use Rattle.typed_tree_opening.specs.code.Pending.{pending_targets, all_pending, leaf_found, with_leaf, with_pending, AreNoted}
+use Rattle.typed_tree_opening.specs.code.Pending.{AreEnded, IsDone}
 use Rattle.typed_tree_opening.proofs.Pointed.{struct_is}
 use Rattle.typed_tree_opening.proofs.Noted.{still, themselves, unchanged, noted_both}
 

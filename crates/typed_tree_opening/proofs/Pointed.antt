@@ -11,7 +11,7 @@ use Rattle.upc_types.specs.Cells.{leaf_base, noted}
 use Rattle.std.specs.Option.{ForSome}
 use Rattle.upc_types.specs.declared.structs.Member as c
 use Rattle.upc_types.specs.View.{view_base, view_member}
-use Rattle.upc_types.specs.Kept.{IsFine, is_ordered}
+use Rattle.upc_types.specs.layer.Kept.{IsFine, is_ordered}
 use Rattle.upc_types.proofs.Members.{next}
 use Rattle.upc_types.proofs.Steps as steps
 use Rattle.upc_types.proofs.Order.{complete_before, complete_since, base_kept, all_kept, leaf_complete}

@@ -16,7 +16,7 @@ use Rattle.upc_types.specs.Types.{CType, Qualified, Base, Void, Integer, Struct,
 use Rattle.upc_types.specs.Types.{Completed, Structs}
 use Rattle.upc_types.specs.Layout.{base_layout, base_complete, known_in, layout_in, layout_or_none, complete_in}
 use Rattle.upc_types.specs.Cells.{leaf_base, leaf_cells, struct_cells, object_shape}
-use Rattle.upc_types.specs.Kept.{IsFine}
+use Rattle.upc_types.specs.layer.Kept.{IsFine}
 use Rattle.upc_types.proofs.Order.{leaf_complete}
 use Rattle.upc_types.proofs.Within.{leaf_within, object_within}
 use Rattle.typed_tree.specs.Elements.{element_shape, same_shape, number_among, with_shape, with_shapes}

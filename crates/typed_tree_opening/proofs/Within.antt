@@ -27,7 +27,7 @@ use Rattle.upc_values.specs.declared.scalar.Value.{Value}
 use Rattle.upc_values.specs.declared.scalar.Value.TheVariants as value
 use Rattle.typed_tree.specs.Initials.{Setting, scalar_kind, constants_in, part_of, cells_from, cells_in}
 use Rattle.typed_tree.specs.Initials.{private_from, value_in}
-use Rattle.typed_tree.specs.PrivateOpenings.{kind_in, private_cell, fits_cell, is_local, is_known}
+use Rattle.typed_tree.specs.layer.PrivateOpenings.{kind_in, private_cell, fits_cell, is_local, is_known}
 use Rattle.upc_values.specs.Shapes.{value_fits}
 use Rattle.typed_tree_opening.proofs.Starts.{each_grow, scalar_cells}
 use Rattle.typed_tree_opening.proofs.Worth.{is_scalar, value_worth, value_local}

@@ -36,7 +36,7 @@ use Rattle.typed_tree.specs.Initials.{Setting, integer_in, fits, numbered, point
 use Rattle.typed_tree.specs.Initials.{local_pointer_in, value_in}
 use Rattle.block_layout.specs.declared.place.LocalPtr.{LocalPtr}
 use Rattle.block_layout.specs.declared.place.LocalPtr.TheVariants as local
-use Rattle.typed_tree.specs.PrivateOpenings.{is_local}
+use Rattle.typed_tree.specs.layer.PrivateOpenings.{is_local}
 
 -- ---- integers
 

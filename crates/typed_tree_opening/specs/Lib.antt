@@ -1,4 +1,1 @@
-pub mod ViewSettings
-pub mod LaidObjects
-pub mod Pending
-pub mod Apart
+pub mod code

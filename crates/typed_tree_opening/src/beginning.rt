@@ -9,7 +9,7 @@ ghost use Rattle.typed_tree.specs.Beginnings as pure;
 ghost use Rattle.typed_tree.specs.Beginnings.{view_beginning};
 ghost use Rattle.typing_rules.specs.Rules.{has_size};
 ghost use Rattle.typed_tree.specs.Objects.{bytes_in, shared_in, private_in, type_of};
-ghost use Rattle.typed_tree.specs.PrivateOpenings.{HavePrivateValues, shape_bytes};
+ghost use Rattle.typed_tree.specs.layer.PrivateOpenings.{HavePrivateValues, shape_bytes};
 ghost use Rattle.typed_tree.specs.Programs.{checked_of, start_of, without_targets};
 ghost use Rattle.typed_tree.specs.Targets.{with_targets};
 ghost use Rattle.typed_tree.specs.ViewStatements.{view_function, view_object};

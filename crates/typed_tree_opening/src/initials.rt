@@ -2,7 +2,7 @@
 
 ghost use Rattle.std.specs.Prelude.{◌≡◌, ◌++◌, map, OnOk, IfOk};
 ghost use Rattle.typed_tree.specs.Initials as pure;
-ghost use Rattle.typed_tree_opening.specs.ViewSettings.{view_setting};
+ghost use Rattle.typed_tree_opening.specs.code.ViewSettings.{view_setting};
 ghost use Rattle.typed_tree.specs.Objects.{shared_in};
 ghost use Rattle.typed_tree.specs.ViewStatements.{view_initial, view_object};
 

@@ -11,7 +11,7 @@ ghost use Rattle.typed_tree.specs.ViewStatements.{view_last};
 ghost use Rattle.typed_tree.specs.ViewStatements.{view_object, view_statement, view_switch_item, view_switch_items};
 ghost use Rattle.typed_tree.specs.LocalObjects as pure;
 ghost use Rattle.typed_tree.specs.LocalObjects.{with_layout};
-ghost use Rattle.typed_tree_opening.specs.LaidObjects.{laid_objects};
+ghost use Rattle.typed_tree_opening.specs.code.LaidObjects.{laid_objects};
 
 use crate::allocated::push_laid;
 use std::alloc::Global;

@@ -4,9 +4,9 @@ ghost use Rattle.std.specs.Prelude.{◌≡◌, ℕ, nat_eq, ◌<◌, ◌≤◌, 
 ghost use Rattle.std.specs.Prelude.{OnErr, get_or};
 ghost use Rattle.std.specs.BTreeMap.{get};
 ghost use Rattle.std.specs.Ordering.{nat_cmp};
-ghost use Rattle.upc_types.specs.Places.{place_below, IsLinked, IsPlaced};
+ghost use Rattle.upc_types.specs.layer.Places.{place_below, IsLinked, IsPlaced};
 ghost use Rattle.typed_tree.specs.Elements as pure;
-ghost use Rattle.typed_tree_opening.specs.Apart.{code_of, codes_of, AreApart};
+ghost use Rattle.typed_tree_opening.specs.code.Apart.{code_of, codes_of, AreApart};
 
 use crate::elements::same_shape;
 use crate::shape_codes::code_of;

@@ -11,7 +11,7 @@ ghost use Rattle.upc_types.specs.View.{view_base};
 ghost use Rattle.upc_types.specs.ViewStructs.{view_structs};
 ghost use Rattle.typing_rules.specs.Rules.{has_size};
 ghost use Rattle.typed_tree.specs.Initials as pure;
-ghost use Rattle.typed_tree_opening.specs.ViewSettings.{view_setting};
+ghost use Rattle.typed_tree_opening.specs.code.ViewSettings.{view_setting};
 ghost use Rattle.typed_tree.specs.Objects.{private_in};
 ghost use Rattle.typed_tree.specs.ViewStatements.{view_initial, view_object};
 

@@ -1,7 +1,7 @@
 //! Codes of shapes: equal shapes have one code, and others seldom the same.
 
 ghost use Rattle.std.specs.Prelude.{◌≡◌, ◌<◌};
-ghost use Rattle.typed_tree_opening.specs.Apart as pure;
+ghost use Rattle.typed_tree_opening.specs.code.Apart as pure;
 
 use block_layout::{Kind, Shape};
 

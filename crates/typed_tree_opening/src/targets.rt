@@ -10,7 +10,7 @@ ghost use Rattle.typing_rules.specs.Rules.{has_size};
 ghost use Rattle.typed_tree.specs.Objects.{type_of};
 ghost use Rattle.typed_tree.specs.Targets as pure;
 ghost use Rattle.typed_tree.specs.ViewStatements.{view_object};
-ghost use Rattle.typed_tree_opening.specs.Pending.{leaf_found, with_leaf, with_pending, AreEnded, IsDone};
+ghost use Rattle.typed_tree_opening.specs.code.Pending.{leaf_found, with_leaf, with_pending, AreEnded, IsDone};
 
 use std::alloc::Global;
 use typed_tree::Object;

@@ -6,7 +6,7 @@ ghost use Rattle.integers.specs.Integers.{IsInteger};
 ghost use Rattle.upc_types.specs.View.{view_base};
 ghost use Rattle.upc_types.specs.ViewStructs.{view_structs};
 ghost use Rattle.typed_tree.specs.Initials as pure;
-ghost use Rattle.typed_tree_opening.specs.ViewSettings.{view_setting};
+ghost use Rattle.typed_tree_opening.specs.code.ViewSettings.{view_setting};
 
 use crate::setting::Setting;
 use block_layout::{Kind, LocalPtr, ObjectRef, SharedPtr};

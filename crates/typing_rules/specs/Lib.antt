@@ -7,4 +7,4 @@ pub mod Nodes
 pub mod Attributes
 pub mod Rules
 pub mod Faults
-pub mod Views
+pub mod layer

@@ -5,7 +5,7 @@ ghost use Rattle.integers.specs.Integers.{IsInteger};
 ghost use Rattle.upc_types.specs.Cells.{leaf_base};
 ghost use Rattle.upc_types.specs.View.{view, view_base};
 ghost use Rattle.upc_types.specs.ViewStructs.{view_structs};
-ghost use Rattle.typing_rules.specs.Views.{view_target};
+ghost use Rattle.typing_rules.specs.layer.Views.{view_target};
 ghost use Rattle.typing_rules.specs.Values as pure;
 ghost use Rattle.typing_rules.specs.Nodes.{view_attr};
 ghost use Rattle.typing_rules.specs.Attributes as attributes;

@@ -5,7 +5,7 @@ use Rattle.std.specs.Cmp.Lexicographic.{pointwise}
 use Rattle.upc_types.specs.declared.layout.Known.{Known}
 use Rattle.upc_types.specs.Types.{CType, base_of, Member, Completed, Structs, members_in}
 use Rattle.upc_types.specs.Layout.{aligned, base_layout, layout_in, known_in, complete_in, member_layouts, offset_behind}
-use Rattle.upc_types.specs.Named.{one_more, first_named}
+use Rattle.upc_types.specs.layer.Named.{one_more, first_named}
 use Rattle.upc_types.proofs.Places.{absent}
 use Rattle.typing_rules.specs.Attributes.{Found, find_member}
 use Rattle.typing_rules.specs.Rules.{has_name}

@@ -6,7 +6,7 @@ ghost use Rattle.integers.specs.Operators.{unary_kind, binary_kind};
 ghost use Rattle.upc_types.specs.Arithmetic.{usual};
 ghost use Rattle.upc_types.specs.Types.{Pointer, Qualified};
 ghost use Rattle.upc_types.specs.View.{view, view_base};
-ghost use Rattle.typing_rules.specs.Views.{view_meaning, view_use, view_target};
+ghost use Rattle.typing_rules.specs.layer.Views.{view_meaning, view_use, view_target};
 ghost use Rattle.typing_rules.specs.Library as library;
 ghost use Rattle.typing_rules.specs.Values as values;
 ghost use Rattle.typing_rules.specs.Constants as c;

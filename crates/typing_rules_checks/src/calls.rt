@@ -3,7 +3,7 @@
 ghost use Rattle.std.specs.Prelude.{◌≡◌};
 ghost use Rattle.upc_types.specs.View.{view};
 ghost use Rattle.upc_types.specs.ViewStructs.{view_structs};
-ghost use Rattle.typing_rules.specs.Views.{view_meaning, view_use};
+ghost use Rattle.typing_rules.specs.layer.Views.{view_meaning, view_use};
 ghost use Rattle.typing_rules.specs.Library as library;
 ghost use Rattle.typing_rules.specs.Nodes.{view_attr};
 ghost use Rattle.typing_rules.specs.Rules as r;

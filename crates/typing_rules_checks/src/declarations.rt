@@ -4,7 +4,7 @@ ghost use Rattle.std.specs.Prelude.{◌≡◌, ℕ, map, ◌<◌};
 ghost use Rattle.std.specs.List.{list_any};
 ghost use Rattle.upc_types.specs.View.{view, view_base};
 ghost use Rattle.upc_types.specs.ViewStructs.{view_structs};
-ghost use Rattle.typing_rules.specs.Views.{view_formed, view_signature};
+ghost use Rattle.typing_rules.specs.layer.Views.{view_formed, view_signature};
 ghost use Rattle.typing_rules.specs.Constants as c;
 ghost use Rattle.typing_rules.specs.Nodes as n;
 ghost use Rattle.typing_rules.specs.Nodes.{view_attr};

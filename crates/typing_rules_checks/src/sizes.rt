@@ -5,7 +5,7 @@ ghost use Rattle.upc_types.specs.Layout as layouts;
 ghost use Rattle.upc_types.specs.View.{view, view_base};
 ghost use Rattle.upc_types.specs.ViewStructs.{view_structs};
 ghost use Rattle.upc_types.specs.Cells.{leaf_base, leaves};
-ghost use Rattle.typing_rules.specs.Views.{view_formed};
+ghost use Rattle.typing_rules.specs.layer.Views.{view_formed};
 ghost use Rattle.typing_rules.specs.Values as values;
 ghost use Rattle.typing_rules.specs.Nodes as n;
 ghost use Rattle.typing_rules.specs.Nodes.{view_attr};

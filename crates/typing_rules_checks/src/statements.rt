@@ -1,7 +1,7 @@
 //! The lowest typing rule that each node of a statement breaks.
 
 ghost use Rattle.std.specs.Prelude.{◌≡◌, [], ◌∷◌};
-ghost use Rattle.typing_rules.specs.Views.{view_around};
+ghost use Rattle.typing_rules.specs.layer.Views.{view_around};
 ghost use Rattle.typing_rules.specs.Nodes as n;
 ghost use Rattle.typing_rules.specs.Nodes.{view_attr};
 ghost use Rattle.typing_rules.specs.Attributes.{Facts};

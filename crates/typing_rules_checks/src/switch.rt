@@ -8,7 +8,7 @@ ghost use Rattle.typing_rules.specs.Attributes.{Facts};
 ghost use Rattle.typing_rules.specs.Rules as r;
 ghost use Rattle.typing_rules.specs.Rules.{lowest};
 ghost use Rattle.typing_rules.specs.declared.attribute.Constant as constant;
-ghost use Rattle.typing_rules_checks.specs.Labels.{AreValues};
+ghost use Rattle.typing_rules_checks.specs.code.Labels.{AreValues};
 
 use crate::numbers::converted;
 use block_layout::Kind;

@@ -11,8 +11,8 @@ use Rattle.upc_checker_functions.specs.Units.{setting, walk_unit, unit_nodes}
 use Rattle.upc_checker.specs.Limits.{Passed, unit_passed}
 use Rattle.upc_checker.specs.Outcomes.{Accepted, Refused, outcome_by, outcome}
 use Rattle.typed_tree.specs.Programs.{Checked, without_targets}
-use Rattle.upc_checker.specs.Accepted.{IsAccepted}
-use Rattle.upc_checker.specs.Causes.{IsWellTyped, HasCause, breaks_a_rule, passes_a_limit}
+use Rattle.upc_checker.specs.code.Accepted.{IsAccepted}
+use Rattle.upc_checker.specs.code.Causes.{IsWellTyped, HasCause, breaks_a_rule, passes_a_limit}
 
 pub accepted_by : (o : Option Fault) (l : Option Passed) (c x : Checked) → outcome_by o l c ≡ Accepted x → (o ≡ None) × (l ≡ None) × (c ≡ x)
 accepted_by (Some f) l c x h = absurd cc

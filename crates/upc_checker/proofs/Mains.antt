@@ -22,7 +22,7 @@ use Rattle.typing_rules.specs.Faults.{first_fault}
 use Rattle.typed_tree.specs.Scopes.{Setting, Env, State, KnownFunction, begin, spelling, text_or_none, is_taken, is_object, here, was_defined, differs, inside, file, with_function}
 use Rattle.typed_tree.specs.Tree.{Function}
 use Rattle.typed_tree.specs.Programs.{Checked, without_targets}
-use Rattle.typed_tree.specs.Judged.{AtEnd}
+use Rattle.typed_tree.specs.layer.Judged.{AtEnd}
 use Rattle.typed_tree.specs.Words.{main_text, is_main_function}
 use Rattle.upc_checker_scopes.specs.Known.{definition_again}
 use Rattle.upc_checker_scopes.specs.Places.{specs_place}
@@ -31,7 +31,7 @@ use Rattle.upc_checker_statements.specs.Statements.{walk_block}
 use Rattle.upc_checker_functions.specs.Units.{Made, Earlier, earlier, with_definition, with_outer_entry, body_around, defined_in, strict_from, source_place, walk_definition, walk_function, walk_external, walk_externals, walk_unit, setting}
 use Rattle.upc_checker.specs.Limits.{limit_in}
 use Rattle.upc_checker.specs.Outcomes.{Accepted, outcome}
-use Rattle.upc_checker.specs.Mains.{is_named_main, HasOneMain}
+use Rattle.upc_checker.specs.code.Mains.{is_named_main, HasOneMain}
 use Rattle.upc_checker.proofs.Causes.{accepted_by}
 use Rattle.upc_checker.proofs.NumberNodes.{nodes_fit}
 use Rattle.upc_checker.proofs.Passing.{Since, Now, Sooner, Fine, fine_both, none_at, Good, good_then, good_give, good_judge, any_then, any_give, any_to_their_end, any_of}

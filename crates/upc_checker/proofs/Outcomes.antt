@@ -6,12 +6,12 @@ use Rattle.upc_text.specs.declared.faults.Stop.TheVariants as stop
 use Rattle.typed_tree.specs.Scopes.{State}
 use Rattle.typing_rules.specs.Faults.{Fault, first_fault}
 use Rattle.upc_checker_scopes.specs.Walk.{Walked}
-use Rattle.upc_checker_scopes.specs.Ends.{refusal_by, Stops, Comes}
+use Rattle.upc_checker_scopes.specs.layer.Ends.{refusal_by, Stops, Comes}
 use Rattle.upc_checker.specs.Limits.{Passed, limit_by, limit_in}
 use Rattle.upc_checker.specs.Outcomes.{Answers, Outcome, Refused, Accepted, outcome_by, outcome_in}
 use Rattle.typed_tree.specs.Programs.{Checked, without_targets}
 use Rattle.upc_checker_functions.specs.Units.{Made}
-use Rattle.upc_checker.specs.ViewUnits.{KeepsLimits}
+use Rattle.upc_checker.specs.code.ViewUnits.{KeepsLimits}
 
 faulty_by : (o : Option Fault) (l : Option Passed) (x : Checked) (r : Refusal) → refusal_by o ≡ Some r → outcome_by o l x ≡ Refused r
 faulty_by None l x r h = absurd cc

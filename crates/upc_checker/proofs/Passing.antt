@@ -20,7 +20,7 @@ use Rattle.upc_checker_scopes.proofs.Walks.{first_of_two}
 use Rattle.upc_checker_types.specs.Specifiers.{Specified}
 use Rattle.upc_checker_expressions.specs.Expressions.{end_specifiers, to_their_end}
 use Rattle.upc_checker_declarations.specs.Declarations.{declares_function}
-use Rattle.typed_tree.specs.Judged.{Earlier, Before}
+use Rattle.typed_tree.specs.layer.Judged.{Earlier, Before}
 
 -- ---- functions that are known
 

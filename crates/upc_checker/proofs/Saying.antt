@@ -14,12 +14,12 @@ use Rattle.typed_tree.specs.Tree.{ExprKind, place_of, attr_of}
 use Rattle.upc_checker_scopes.specs.Walk.{Walk, give, andthen, judge, finish, update, look, enclosed, facts_in}
 use Rattle.upc_checker_types.specs.Specifiers.{Specified}
 use Rattle.upc_checker_expressions.specs.Expressions.{constantly, end_specifiers, to_their_end}
-use Rattle.affinity_checker.specs.Rules.{refused, where_true}
-use Rattle.upc_checker.specs.Lines.{Line, line_of}
-use Rattle.upc_checker.specs.Lines as l
-use Rattle.upc_checker.specs.TreeNodes as tree
-use Rattle.upc_checker.specs.TreeNodes.{TreeNode, node, node_of}
-use Rattle.upc_checker.specs.Jumps.{is_jump, breaches_at, jump_breaches}
+use Rattle.affinity_checker.specs.layer.Rules.{refused, where_true}
+use Rattle.upc_checker.specs.code.Lines.{Line, line_of}
+use Rattle.upc_checker.specs.code.Lines as l
+use Rattle.upc_checker.specs.code.TreeNodes as tree
+use Rattle.upc_checker.specs.code.TreeNodes.{TreeNode, node, node_of}
+use Rattle.upc_checker.specs.code.Jumps.{is_jump, breaches_at, jump_breaches}
 
 -- The nodes of a walk are these, its jumps break rules so, and P holds of what it makes.
 pub record Says {A : Type 0} (P : A → Type 0) (w : Walk A) (xs : List TreeNode) (js : List Refusal) : Type 0 where

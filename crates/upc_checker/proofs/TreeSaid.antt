@@ -24,9 +24,9 @@ use Rattle.upc_checker_types.specs.Members.{Declared, declare_parameter}
 use Rattle.upc_checker_nodes.specs.Marks.{unary_node, binary_node, assign_node}
 use Rattle.upc_checker_nodes.specs.Parts.{member_of, constant_node}
 use Rattle.upc_checker_expressions.specs.Expressions.{walk, walk_arguments, walk_more, walk_type, walk_specs, walk_spec, walk_quals, walk_qual, walk_layout, walk_pointers, walk_sizes, walk_members, walk_next_members, walk_member, walk_parameters, walk_next_parameters, walk_parameter, walk_array}
-use Rattle.upc_checker.specs.Lines.{line_of}
-use Rattle.upc_checker.specs.Lines as l
-use Rattle.upc_checker.specs.TreeNodes.{node, first_place, nodes, argument_nodes, next_nodes, type_nodes, specs_nodes, spec_nodes, quals_nodes, qual_nodes, layout_nodes, pointer_nodes, size_nodes, member_nodes, next_declarator_nodes, declarator_nodes, parameters_nodes, next_parameter_nodes, parameter_nodes, array_nodes}
+use Rattle.upc_checker.specs.code.Lines.{line_of}
+use Rattle.upc_checker.specs.code.Lines as l
+use Rattle.upc_checker.specs.code.TreeNodes.{node, first_place, nodes, argument_nodes, next_nodes, type_nodes, specs_nodes, spec_nodes, quals_nodes, qual_nodes, layout_nodes, pointer_nodes, size_nodes, member_nodes, next_declarator_nodes, declarator_nodes, parameters_nodes, next_parameter_nodes, parameter_nodes, array_nodes}
 use Rattle.upc_checker.proofs.Saying.{Says, Any, Starts, says_quiet, says_end, says_behind, says_give, says_enclosed, says_update, says_look, says_finish, judge_then, judge_gives, says_constantly, says_to_their_end}
 
 -- ---- the lines of operators

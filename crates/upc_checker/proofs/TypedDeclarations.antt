@@ -22,8 +22,8 @@ use Rattle.upc_checker_scopes.specs.Known.{object_again}
 use Rattle.upc_checker_scopes.specs.Places.{pointers_place}
 use Rattle.upc_checker_types.specs.Specifiers.{Shaped, formed}
 use Rattle.upc_checker_declarations.specs.Declarations.{initial_constant, walk_initial_value, walk_initial_values, element_use, walk_initial, Behind, walk_declared, walk_next_declareds, walk_declared_list, walk_declaration, signature_of}
-use Rattle.typed_tree.specs.Judged.{Meets, Stands}
-use Rattle.typed_tree.specs.TypedNodes.{MeetsExpr, MeetsConstant, MeetsValues, MeetsInitial, MeetsObject, MeetsObjects, in_scope, behind, behind_all}
+use Rattle.typed_tree.specs.layer.Judged.{Meets, Stands}
+use Rattle.typed_tree.specs.layer.TypedNodes.{MeetsExpr, MeetsConstant, MeetsValues, MeetsInitial, MeetsObject, MeetsObjects, in_scope, behind, behind_all}
 use Rattle.upc_checker.proofs.Passing.{Among, Good, good_then, good_give, good_judge, any_judge, any_to_their_end, good_enclosed, good_weaken, good_declares}
 use Rattle.upc_checker.proofs.TypedExpressions.{Whole, program, Fits, good, specs_good, pointers_good, sizes_good, parameters_good, constantly_good, met, with_name, declare_fits, declare_level, next_local, get_last}
 

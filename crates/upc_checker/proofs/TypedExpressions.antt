@@ -48,8 +48,8 @@ use Rattle.upc_checker_nodes.specs.Called.{called_name, called_by, runs_by, targ
 use Rattle.upc_checker_nodes.specs.Marks.{unary_node, unary_kind, binary_node, binary_kind, right_use, assign_node, assign_kind, number_kind}
 use Rattle.upc_checker_nodes.specs.Parts.{member_of, member_kind, constant_node, constant_kind, format_in}
 use Rattle.upc_checker_expressions.specs.Expressions.{constantly, walk, walk_arguments, walk_more, walk_type, walk_specs, walk_spec, walk_quals, walk_qual, walk_layout, walk_pointers, walk_sizes, walk_members, walk_next_members, walk_member, walk_parameters, walk_next_parameters, walk_parameter, walk_array}
-use Rattle.typed_tree.specs.Judged.{IsNumberKind, Meets, Judged, Stands}
-use Rattle.typed_tree.specs.TypedNodes.{MeetsExpr, MeetsKind, MeetsExprs}
+use Rattle.typed_tree.specs.layer.Judged.{IsNumberKind, Meets, Judged, Stands}
+use Rattle.typed_tree.specs.layer.TypedNodes.{MeetsExpr, MeetsKind, MeetsExprs}
 use Rattle.upc_checker_scopes.proofs.SameTypes.{Alike, alike_from}
 use Rattle.upc_checker.proofs.Passing.{Among, Agree, Ends, Good, good_then, any_then, good_give, any_give, good_judge, any_judge, any_to_their_end, good_number, good_finish, good_enclosed, good_refer, good_open, good_close, good_weaken}
 

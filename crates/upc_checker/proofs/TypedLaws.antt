@@ -21,8 +21,8 @@ use Rattle.typing_rules.specs.Meanings as m
 use Rattle.typing_rules.specs.Rules.{Verdict, judge, table, lowest_in, or_above, fits, is_modifiable, target, has_name, base_names, names_member, target_names, rule_10, rule_13, rule_14, rule_19}
 use Rattle.typed_tree.specs.Tree.{attr_of, attrs_of}
 use Rattle.typed_tree.specs.Programs.{Checked}
-use Rattle.typed_tree.specs.Judged.{Earlier, AtEnd, Before, Judged, IsConstant, facts_at, Stands}
-use Rattle.typed_tree.specs.ExpressionLaws.{OperandsFit, AssignedIsModifiable, ObjectIsLvalue, CallFits, MemberInRange, MemberBehindInRange, LayoutsStay, LiteralInRange}
+use Rattle.typed_tree.specs.layer.Judged.{Earlier, AtEnd, Before, Judged, IsConstant, facts_at, Stands}
+use Rattle.typed_tree.specs.layer.ExpressionLaws.{OperandsFit, AssignedIsModifiable, ObjectIsLvalue, CallFits, MemberInRange, MemberBehindInRange, LayoutsStay, LiteralInRange}
 
 first_of : (r : ℕ) (broken : Bool) (rest : Option ℕ) → or_above r broken rest ≡ None → (broken ≡ false) × (rest ≡ None)
 first_of r true rest h = absurd cc

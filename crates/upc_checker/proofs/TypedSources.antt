@@ -35,8 +35,8 @@ use Rattle.upc_checker_functions.specs.Units.{Made, Earlier, earlier, with_defin
 use Rattle.upc_checker.specs.Limits.{limit_in}
 use Rattle.upc_checker.specs.Outcomes.{Accepted, outcome}
 use Rattle.upc_checker.proofs.Causes.{accepted_by}
-use Rattle.typed_tree.specs.Judged.{Meets, Stands, AtEnd}
-use Rattle.typed_tree.specs.TypedNodes.{MeetsObjects, MeetsStatement, MeetsFunction, MeetsRules, in_scope, behind, behind_all}
+use Rattle.typed_tree.specs.layer.Judged.{Meets, Stands, AtEnd}
+use Rattle.typed_tree.specs.layer.TypedNodes.{MeetsObjects, MeetsStatement, MeetsFunction, MeetsRules, in_scope, behind, behind_all}
 use Rattle.upc_checker.proofs.NumberNodes.{nodes_fit}
 use Rattle.upc_checker.proofs.Passing.{Among, Agree, Now, Sooner, among_since, agree_since, Ends, Fine, Good, good_then, good_give, good_judge, any_to_their_end, good_enclosed, good_weaken, any_of}
 use Rattle.upc_checker.proofs.TypedExpressions.{Defined, Whole, program, Fits, Outside, StandsFor, Scoped, specs_good, pointers_good, parameters_good, met, with_name, entry_stands, get_kept, within}

@@ -20,8 +20,8 @@ use Rattle.upc_checker_scopes.specs.Places.{at}
 use Rattle.upc_checker_scopes.specs.Walk.{judge}
 use Rattle.upc_checker_statements.specs.Statements.{in_loop, in_switch, in_forall, strict_behind, synchronises, walk_value, walk_test, Begun, walk_first, walk_affinity, Headed, walk_for_head, walk_forall_head, Labelled, label_value, Armed, deeper, walk_returned, walk_statement, walk_block, walk_items, walk_switch, walk_else_ifs, walk_otherwise}
 use Rattle.upc_checker_nodes.specs.Judged.{tests_of, returns, synchronise}
-use Rattle.typed_tree.specs.Judged.{Meets}
-use Rattle.typed_tree.specs.TypedNodes.{MeetsExpr, MeetsValue, MeetsObjects, MeetsHead, MeetsAffinity, MeetsLabels, MeetsStatement, MeetsLast, MeetsArms, MeetsItems, MeetsSwitch, behind_all, tests_in, cases_in, defaults_in}
+use Rattle.typed_tree.specs.layer.Judged.{Meets}
+use Rattle.typed_tree.specs.layer.TypedNodes.{MeetsExpr, MeetsValue, MeetsObjects, MeetsHead, MeetsAffinity, MeetsLabels, MeetsStatement, MeetsLast, MeetsArms, MeetsItems, MeetsSwitch, behind_all, tests_in, cases_in, defaults_in}
 use Rattle.upc_checker.proofs.Passing.{Ends, Good, good_then, good_give, good_judge, good_enclosed, good_weaken}
 use Rattle.upc_checker.proofs.TypedExpressions.{Whole, program, Fits, good, constantly_good, met, within}
 use Rattle.upc_checker.proofs.TypedDeclarations.{local_declaration_good}

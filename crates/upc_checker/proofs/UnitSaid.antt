@@ -26,12 +26,12 @@ use Rattle.upc_checker_declarations.specs.Declarations.{initial_constant, walk_i
 use Rattle.upc_checker_statements.specs.Statements.{in_loop, in_switch, in_forall, walk_value, walk_test, walk_first, walk_affinity, walk_for_head, walk_forall_head, walk_statement, walk_block, walk_items, walk_switch, walk_else_ifs, walk_otherwise}
 use Rattle.upc_checker_functions.specs.Units.{Made, setting, with_outer_entry, body_around, walk_definition, walk_external, walk_externals, walk_unit, unit_nodes}
 use Rattle.affinity_checker.specs.declared.around.Around as around
-use Rattle.affinity_checker.specs.Rules as pure
-use Rattle.affinity_checker.specs.Rules.{where_true, refused}
-use Rattle.affinity_checker.specs.Breaches.{breaches, in_compound, in_block_items, in_switch_items, in_else_ifs, in_otherwise, in_external, unit_breaches}
-use Rattle.upc_checker.specs.Lines as l
-use Rattle.upc_checker.specs.TreeNodes.{node, node_of, parameters_nodes, value_nodes, values_nodes, initial_nodes, declared_nodes, next_declared_nodes, declared_list_nodes, declaration_nodes, option_nodes, test_nodes, first_nodes, affinity_nodes, for_nodes, forall_nodes, return_nodes, barrier_nodes, statement_nodes, compound_nodes, item_nodes, switch_nodes, else_if_nodes, otherwise_nodes, external_nodes, externals_nodes, tree_nodes}
-use Rattle.upc_checker.specs.Jumps.{jump_breaches}
+use Rattle.affinity_checker.specs.layer.Rules as pure
+use Rattle.affinity_checker.specs.layer.Rules.{where_true, refused}
+use Rattle.affinity_checker.specs.layer.Breaches.{breaches, in_compound, in_block_items, in_switch_items, in_else_ifs, in_otherwise, in_external, unit_breaches}
+use Rattle.upc_checker.specs.code.Lines as l
+use Rattle.upc_checker.specs.code.TreeNodes.{node, node_of, parameters_nodes, value_nodes, values_nodes, initial_nodes, declared_nodes, next_declared_nodes, declared_list_nodes, declaration_nodes, option_nodes, test_nodes, first_nodes, affinity_nodes, for_nodes, forall_nodes, return_nodes, barrier_nodes, statement_nodes, compound_nodes, item_nodes, switch_nodes, else_if_nodes, otherwise_nodes, external_nodes, externals_nodes, tree_nodes}
+use Rattle.upc_checker.specs.code.Jumps.{jump_breaches}
 use Rattle.upc_checker.proofs.Saying.{Says, Any, Starts, says_then, says_quiet, says_last, says_end, says_behind, says_give, says_given, says_made, says_enclosed, says_update, says_look, judge_then, judge_gives, says_constantly, says_to_their_end, says_jump}
 use Rattle.upc_checker.proofs.TreeSaid.{expr_says, specs_say, pointers_say, sizes_say, parameters_say, file_declare}
 

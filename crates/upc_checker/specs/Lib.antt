@@ -1,9 +1,3 @@
 pub mod Limits
 pub mod Outcomes
-pub mod Causes
-pub mod Accepted
-pub mod ViewUnits
-pub mod Lines
-pub mod TreeNodes
-pub mod Jumps
-pub mod Mains
+pub mod code

@@ -3,11 +3,11 @@
 ghost use Rattle.std.specs.Prelude.{◌≡◌, ◌<◌, ◌≤◌, IfOk};
 ghost use Rattle.upc_lexer.specs.Numbers.{NumbersFit};
 ghost use Rattle.upc_tree.specs.Unit.{tokens_of};
-ghost use Rattle.upc_tree.specs.ViewStatement.{view_unit};
+ghost use Rattle.upc_tree.specs.layer.ViewStatement.{view_unit};
 ghost use Rattle.typed_tree.specs.ViewProgram.{view_program};
-ghost use Rattle.upc_checker.specs.Accepted.{IsAccepted};
+ghost use Rattle.upc_checker.specs.code.Accepted.{IsAccepted};
 ghost use Rattle.upc_checker.specs.Outcomes.{Answers, Decides, outcome};
-ghost use Rattle.upc_checker.specs.ViewUnits.{view_checked};
+ghost use Rattle.upc_checker.specs.code.ViewUnits.{view_checked};
 
 use crate::whole::{Checked, check_source};
 use typed_tree_opening::begin;

@@ -5,18 +5,18 @@ ghost use Rattle.upc_text.specs.declared.place.Refusal.{Refusal};
 ghost use Rattle.upc_lexer.specs.Names.{firsts};
 ghost use Rattle.upc_lexer.specs.Numbers.{NumbersFit};
 ghost use Rattle.upc_tree.specs.Unit.{External, tokens_of};
-ghost use Rattle.upc_checker.specs.Causes.{IsWellTyped, HasCause};
+ghost use Rattle.upc_checker.specs.code.Causes.{IsWellTyped, HasCause};
 ghost use Rattle.upc_checker.specs.Outcomes.{Accepted, Refused, outcome};
-ghost use Rattle.typed_tree.specs.ExpressionLaws.{OperandsFit, AssignedIsModifiable, ObjectIsLvalue};
-ghost use Rattle.typed_tree.specs.ExpressionLaws.{CallFits, MemberInRange, MemberBehindInRange};
-ghost use Rattle.typed_tree.specs.ExpressionLaws.{LayoutsStay, LiteralInRange};
-ghost use Rattle.typed_tree.specs.TypedNodes.{MeetsRules};
+ghost use Rattle.typed_tree.specs.layer.ExpressionLaws.{OperandsFit, AssignedIsModifiable, ObjectIsLvalue};
+ghost use Rattle.typed_tree.specs.layer.ExpressionLaws.{CallFits, MemberInRange, MemberBehindInRange};
+ghost use Rattle.typed_tree.specs.layer.ExpressionLaws.{LayoutsStay, LiteralInRange};
+ghost use Rattle.typed_tree.specs.layer.TypedNodes.{MeetsRules};
 ghost use Rattle.typed_tree.specs.Programs.{Checked};
 ghost use Rattle.upc_checker_functions.specs.Units.{unit_nodes};
-ghost use Rattle.affinity_checker.specs.Breaches.{unit_breaches};
-ghost use Rattle.upc_checker.specs.TreeNodes.{tree_nodes, node_of};
-ghost use Rattle.upc_checker.specs.Jumps.{jump_breaches};
-ghost use Rattle.upc_checker.specs.Mains.{HasOneMain};
+ghost use Rattle.affinity_checker.specs.layer.Breaches.{unit_breaches};
+ghost use Rattle.upc_checker.specs.code.TreeNodes.{tree_nodes, node_of};
+ghost use Rattle.upc_checker.specs.code.Jumps.{jump_breaches};
+ghost use Rattle.upc_checker.specs.code.Mains.{HasOneMain};
 
 /// A source that is accepted is well typed.
 pub fn accepted_is_typed()

@@ -4,7 +4,7 @@ ghost use Rattle.std.specs.Prelude.{◌≡◌, map};
 ghost use Rattle.upc_types.specs.ViewStructs.{view_structs};
 ghost use Rattle.typed_tree.specs.ViewStatements.{view_object};
 ghost use Rattle.upc_checker.specs.Limits as pure;
-ghost use Rattle.upc_checker.specs.ViewUnits.{view_passed, view_sort};
+ghost use Rattle.upc_checker.specs.code.ViewUnits.{view_passed, view_sort};
 
 use typed_tree::Object;
 use typing_rules::Home;

@@ -1,12 +1,12 @@
 //! A whole source: what it is, the first rule that is broken, or the first limit that is passed.
 
 ghost use Rattle.std.specs.Prelude.{◌<◌, map};
-ghost use Rattle.upc_tree.specs.ViewStatement as trees;
+ghost use Rattle.upc_tree.specs.layer.ViewStatement as trees;
 ghost use Rattle.upc_types.specs.ViewStructs.{view_structs};
 ghost use Rattle.typed_tree.specs.ViewStatements.{view_object};
 ghost use Rattle.upc_checker.specs.Limits as limits;
 ghost use Rattle.upc_checker.specs.Outcomes.{Answers, outcome};
-ghost use Rattle.upc_checker.specs.ViewUnits.{view_checked, KeepsLimits};
+ghost use Rattle.upc_checker.specs.code.ViewUnits.{view_checked, KeepsLimits};
 
 use crate::limits::limit_in;
 use upc_checker_functions::units::{defined_in, walk_unit};

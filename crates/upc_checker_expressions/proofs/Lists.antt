@@ -9,7 +9,7 @@ use Rattle.typed_tree.specs.Tree as k
 use Rattle.typed_tree.specs.Tree.{Expr, Exprs, exprs_of}
 use Rattle.typed_tree.specs.ViewTree.{view_expr}
 use Rattle.upc_checker_scopes.specs.Walk.{Walked, Walk, give, andthen}
-use Rattle.upc_checker_scopes.specs.Ends.{Stops, Comes, Meets}
+use Rattle.upc_checker_scopes.specs.layer.Ends.{Stops, Comes, Meets}
 use Rattle.upc_checker_types.specs.Specifiers.{Quals, no_quals, both_quals, Specified, nothing_specified, both_specified}
 use Rattle.upc_checker_scopes.proofs.Walks.{Same, same_trans, same_meets, first_of_two, goes, stops, gives}
 

@@ -9,8 +9,8 @@ use Rattle.upc_tree.specs.declared.expression.Pointer.{Pointer}
 use Rattle.upc_tree.specs.declared.expression.NextDeclarator.{NextDeclarator}
 use Rattle.upc_tree.specs.declared.expression.NextParameter.{NextParameter, out-NextParameter}
 use Rattle.upc_tree.specs.declared.expression.Member.{Member as Line, out-Member}
-use Rattle.upc_tree.specs.Lists.{next_exprs_of, dimensions_of, specs_of, quals_of, pointers_of, next_declarators_of, next_parameters_of, members_of}
-use Rattle.upc_tree.specs.View.{view, view_next_expr, view_dimension, view_spec, view_qual, view_pointer, view_next_declarator, view_declarator, view_next_parameter, view_parameter, view_member, view_specs, view_next_declarators}
+use Rattle.upc_tree.specs.layer.Lists.{next_exprs_of, dimensions_of, specs_of, quals_of, pointers_of, next_declarators_of, next_parameters_of, members_of}
+use Rattle.upc_tree.specs.layer.View.{view, view_next_expr, view_dimension, view_spec, view_qual, view_pointer, view_next_declarator, view_declarator, view_next_parameter, view_parameter, view_member, view_specs, view_next_declarators}
 use Rattle.upc_tree.proofs.Rows.{member_is, next_parameter_is}
 use Rattle.std.proofs.lemmas.List.{append-nil}
 use Rattle.upc_tree.specs.declared.span.Span.{Span}
@@ -26,7 +26,7 @@ use Rattle.typed_tree.specs.Tree as k
 use Rattle.typed_tree.specs.Tree.{Expr, Exprs, exprs_of}
 use Rattle.typed_tree.specs.ViewTree.{view_expr}
 use Rattle.upc_checker_scopes.specs.Walk.{Walked, Walk, andthen, give}
-use Rattle.upc_checker_scopes.specs.Ends.{Stops, Comes}
+use Rattle.upc_checker_scopes.specs.layer.Ends.{Stops, Comes}
 use Rattle.upc_checker_types.specs.Specifiers.{Quals, no_quals, both_quals, Specified, nothing_specified, both_specified, Shaped, pointer_to}
 use Rattle.upc_checker_expressions.specs.Expressions.{walk, constantly, walk_more, walk_sizes, walk_specifiers, walk_specs, walk_spec, walk_quals, walk_qual, walk_pointers, walk_next_members, walk_member, walk_next_parameters, walk_parameter, walk_members}
 use Rattle.upc_checker_nodes.specs.Called.{first_use, later_uses}

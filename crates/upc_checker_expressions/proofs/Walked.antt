@@ -20,8 +20,8 @@ use Rattle.typed_tree.specs.Tree.{Expr, Exprs, attrs_of}
 use Rattle.typed_tree.specs.ViewTree.{view_expr}
 use Rattle.upc_checker_scopes.specs.Counts.{ended}
 use Rattle.upc_checker_scopes.specs.Walk.{judge, enclosed, facts_in}
-use Rattle.upc_checker_scopes.specs.Finishes.{Finishes, Refuses}
-use Rattle.upc_checker_scopes.specs.Ends.{Stops, Comes, Meets, boxed}
+use Rattle.upc_checker_scopes.specs.layer.Finishes.{Finishes, Refuses}
+use Rattle.upc_checker_scopes.specs.layer.Ends.{Stops, Comes, Meets, boxed}
 use Rattle.upc_checker_nodes.specs.Marks.{right_use, assign_node, assign_kind}
 use Rattle.upc_checker_types.specs.Specifiers.{Specified, Shaped, specified_type, forms_type, specifiers_form, formed}
 use Rattle.upc_checker_expressions.specs.Expressions.{walk, walk_arguments, walk_more, end_specifiers, walk_type, walk_specifiers, walk_pointers, walk_sizes, walk_members, walk_next_members, walk_member, walk_parameters, walk_parameter, walk_array}

@@ -1,20 +1,20 @@
 //! The walk over expressions (C99 6.5, UPC 6.4).
 
 ghost use Rattle.std.specs.Prelude.{IsTrue, map};
-ghost use Rattle.upc_tree.specs.Lists.{next_exprs_of};
-ghost use Rattle.upc_tree.specs.View.{view, view_arguments, view_next_expr};
+ghost use Rattle.upc_tree.specs.layer.Lists.{next_exprs_of};
+ghost use Rattle.upc_tree.specs.layer.View.{view, view_arguments, view_next_expr};
 ghost use Rattle.typing_rules.specs.Nodes as n;
 ghost use Rattle.typed_tree.specs.Scopes.{State};
 ghost use Rattle.typed_tree.specs.Tree.{exprs_of};
-ghost use Rattle.typed_tree.specs.ViewEnv.{view_env};
+ghost use Rattle.typed_tree.specs.layer.ViewEnv.{view_env};
 ghost use Rattle.typed_tree.specs.ViewTree.{view_expr};
-ghost use Rattle.typing_rules.specs.Views.{view_use};
-ghost use Rattle.upc_checker_scopes.specs.Ends.{Meets, boxed};
+ghost use Rattle.typing_rules.specs.layer.Views.{view_use};
+ghost use Rattle.upc_checker_scopes.specs.layer.Ends.{Meets, boxed};
 ghost use Rattle.upc_checker_expressions.specs.Expressions as pure;
-ghost use Rattle.upc_checker_expressions.specs.Groups.{is_call, is_choice, is_infix, is_leaf, is_postfix, is_prefix};
-ghost use Rattle.upc_checker_expressions.specs.Groups.{is_typed};
-ghost use Rattle.upc_checker_scopes.specs.Views.{state_of, view_setting};
-ghost use Rattle.upc_checker_nodes.specs.ViewUses.{view_uses};
+ghost use Rattle.upc_checker_expressions.specs.code.Groups.{is_call, is_choice, is_infix, is_leaf, is_postfix, is_prefix};
+ghost use Rattle.upc_checker_expressions.specs.code.Groups.{is_typed};
+ghost use Rattle.upc_checker_scopes.specs.layer.Views.{state_of, view_setting};
+ghost use Rattle.upc_checker_nodes.specs.layer.ViewUses.{view_uses};
 
 use crate::types::walk_type;
 use upc_checker_nodes::called::{Uses, called, first_use, later_uses, uses_by};

@@ -1,20 +1,20 @@
 //! The walk over specifiers, declarators and parameters (C99 6.7, UPC 6.5).
 
 ghost use Rattle.std.specs.Prelude.{◌≡◌, ◌<◌, ◌+◌, ◌&&◌, [], drop, length, map};
-ghost use Rattle.upc_tree.specs.Lists.{dimensions_of, members_of, next_declarators_of, next_parameters_of};
-ghost use Rattle.upc_tree.specs.Lists.{pointers_of, quals_of, specs_of};
-ghost use Rattle.upc_tree.specs.View.{view_array, view_declarator, view_dimension, view_layout, view_member};
-ghost use Rattle.upc_tree.specs.View.{view_next_declarator, view_next_parameter, view_parameter, view_parameters};
-ghost use Rattle.upc_tree.specs.View.{view_pointer, view_qual, view_spec, view_type};
+ghost use Rattle.upc_tree.specs.layer.Lists.{dimensions_of, members_of, next_declarators_of, next_parameters_of};
+ghost use Rattle.upc_tree.specs.layer.Lists.{pointers_of, quals_of, specs_of};
+ghost use Rattle.upc_tree.specs.layer.View.{view_array, view_declarator, view_dimension, view_layout, view_member};
+ghost use Rattle.upc_tree.specs.layer.View.{view_next_declarator, view_next_parameter, view_parameter, view_parameters};
+ghost use Rattle.upc_tree.specs.layer.View.{view_pointer, view_qual, view_spec, view_type};
 ghost use Rattle.upc_types.specs.View as types;
-ghost use Rattle.typed_tree.specs.ViewEnv.{view_env};
-ghost use Rattle.typing_rules.specs.Views.{view_formed};
-ghost use Rattle.upc_checker_scopes.specs.Ends.{Meets};
+ghost use Rattle.typed_tree.specs.layer.ViewEnv.{view_env};
+ghost use Rattle.typing_rules.specs.layer.Views.{view_formed};
+ghost use Rattle.upc_checker_scopes.specs.layer.Ends.{Meets};
 ghost use Rattle.upc_checker_expressions.specs.Expressions as pure;
 ghost use Rattle.upc_checker_types.specs.Shapes as shapes;
-ghost use Rattle.upc_checker_scopes.specs.Views.{state_of, view_setting};
-ghost use Rattle.upc_checker_types.specs.ViewShapes.{view_blocks, view_qualifier, view_quals, view_shaped};
-ghost use Rattle.upc_checker_types.specs.ViewShapes.{view_specified, view_specifier, view_specifying};
+ghost use Rattle.upc_checker_scopes.specs.layer.Views.{state_of, view_setting};
+ghost use Rattle.upc_checker_types.specs.layer.ViewShapes.{view_blocks, view_qualifier, view_quals, view_shaped};
+ghost use Rattle.upc_checker_types.specs.layer.ViewShapes.{view_specified, view_specifier, view_specifying};
 
 use crate::expressions::{constantly, walk};
 use typing_rules_checks::declarations::{block, member, member_function, parameter, specifies, star_block};

@@ -5,7 +5,7 @@ use Rattle.upc_tree.specs.Expression.{Parameters, NoParameters, VoidParameters, 
 use Rattle.upc_types.specs.Types.{CType}
 use Rattle.typing_rules.specs.Meanings.{Signature, Function}
 use Rattle.typed_tree.specs.Scopes.{Setting, State, Env, Scope, Outer, NoScope, Within, with_entry}
-use Rattle.typed_tree.specs.ViewEnv.{with_outer}
+use Rattle.typed_tree.specs.layer.ViewEnv.{with_outer}
 use Rattle.upc_checker_scopes.specs.Walk.{andthen, judge}
 use Rattle.upc_checker_types.specs.Members.{Declared, declare_parameter}
 use Rattle.upc_checker_expressions.specs.Expressions.{walk_parameter, walk_next_parameters, walk_parameters}

@@ -1,4 +1,3 @@
 pub mod Units
-pub mod Parts
-pub mod ViewMade
-pub mod ViewEarlier
+pub mod layer
+pub mod code

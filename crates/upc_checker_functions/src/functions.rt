@@ -2,26 +2,26 @@
 
 ghost use Rattle.std.specs.Prelude.{◌≡◌, true, ◌&&◌, ◌∷◌, [], ◌++◌, List, map, OnOk};
 ghost use Rattle.upc_text.specs.declared.place.Place.{Place};
-ghost use Rattle.upc_tree.specs.View as views;
-ghost use Rattle.upc_tree.specs.ViewStatement as trees;
+ghost use Rattle.upc_tree.specs.layer.View as views;
+ghost use Rattle.upc_tree.specs.layer.ViewStatement as trees;
 ghost use Rattle.upc_types.specs.View.{view};
 ghost use Rattle.typing_rules.specs.Meanings as meanings;
 ghost use Rattle.typing_rules.specs.Nodes as n;
-ghost use Rattle.typing_rules.specs.Views.{view_signature};
+ghost use Rattle.typing_rules.specs.layer.Views.{view_signature};
 ghost use Rattle.typed_tree.specs.Scopes as scopes;
 ghost use Rattle.typed_tree.specs.Scopes.{Env as ScopeEnv, Tag as ScopeTag};
 ghost use Rattle.typed_tree.specs.Tree.{DeclaredObject};
-ghost use Rattle.typed_tree.specs.ViewEnv.{view_detached, view_env};
+ghost use Rattle.typed_tree.specs.layer.ViewEnv.{view_detached, view_env};
 ghost use Rattle.typed_tree.specs.ViewStatements.{view_function, view_statement};
-ghost use Rattle.upc_checker_scopes.specs.Ends.{Meets};
-ghost use Rattle.upc_checker_scopes.specs.Views.{state_of, state_with, view_setting};
+ghost use Rattle.upc_checker_scopes.specs.layer.Ends.{Meets};
+ghost use Rattle.upc_checker_scopes.specs.layer.Views.{state_of, state_with, view_setting};
 ghost use Rattle.upc_checker_scopes.specs.Walk.{enclosed as inclosed, judge};
 ghost use Rattle.upc_checker_types.specs.Specifiers as specifiers;
-ghost use Rattle.upc_checker_types.specs.ViewShapes.{view_specified, view_specifying};
+ghost use Rattle.upc_checker_types.specs.layer.ViewShapes.{view_specified, view_specifying};
 ghost use Rattle.upc_checker_expressions.specs.Expressions as walks;
-ghost use Rattle.upc_checker_functions.specs.Parts as parts;
+ghost use Rattle.upc_checker_functions.specs.code.Parts as parts;
 ghost use Rattle.upc_checker_functions.specs.Units as pure;
-ghost use Rattle.upc_checker_functions.specs.ViewEarlier.{view_earlier};
+ghost use Rattle.upc_checker_functions.specs.code.ViewEarlier.{view_earlier};
 
 use upc_checker_expressions::types::{walk_parameters, walk_pointers, walk_specifiers};
 use typing_rules_checks::attributes::value_type;

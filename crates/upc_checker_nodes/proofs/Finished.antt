@@ -14,8 +14,8 @@ use Rattle.typing_rules.specs.Rules.{lowest, or_above, is_loose, has_no_size, mo
 use Rattle.typed_tree.specs.Tree.{ExprKind, Is, exprs_of, attrs_of}
 use Rattle.typed_tree.specs.ViewTree.{attr_seen}
 use Rattle.typed_tree.specs.ViewTree.{view_expr}
-use Rattle.upc_checker_scopes.specs.Finishes.{Refuses, Judges, Finishes}
-use Rattle.upc_checker_nodes.specs.ViewJudged.{JudgesMember}
+use Rattle.upc_checker_scopes.specs.layer.Finishes.{Refuses, Judges, Finishes}
+use Rattle.upc_checker_nodes.specs.code.ViewJudged.{JudgesMember}
 
 -- The lowest rule that a node breaks is answered.
 pub refuses : (φ : Facts) (at : Place) (x : Node) (rule : Option ℕ) (r : Result RustAttr Stop) (e y : Stop) → r ≡ Err y → y ≡ e → rule ≡ lowest φ x → Refuses rule at e → Judges φ at x r

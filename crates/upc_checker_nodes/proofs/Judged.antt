@@ -9,8 +9,8 @@ use Rattle.typed_tree.specs.Tree as k
 use Rattle.typed_tree.specs.ViewStatements.{view_statement}
 use Rattle.typed_tree.specs.Scopes.{Setting, State}
 use Rattle.upc_checker_scopes.specs.Counts.{counted}
-use Rattle.upc_checker_scopes.specs.Ends.{Meets, boxed}
-use Rattle.upc_checker_scopes.specs.Finishes.{Refuses}
+use Rattle.upc_checker_scopes.specs.layer.Ends.{Meets, boxed}
+use Rattle.upc_checker_scopes.specs.layer.Finishes.{Refuses}
 use Rattle.upc_checker_scopes.specs.Walk.{give, andthen, judge, facts_in}
 use Rattle.upc_checker_scopes.proofs.Walks.{stops, goes, judge_goes, judge_stops}
 use Rattle.upc_checker_nodes.specs.Judged.{returns, returned_node}

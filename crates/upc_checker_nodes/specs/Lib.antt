@@ -1,6 +1,6 @@
 pub mod Marks
-pub mod ViewUses
 pub mod Called
 pub mod Parts
-pub mod ViewJudged
 pub mod Judged
+pub mod layer
+pub mod code

@@ -1,11 +1,11 @@
 //! What is called, and how arguments are used.
 
 ghost use Rattle.std.specs.Prelude.{◌≡◌};
-ghost use Rattle.upc_tree.specs.View.{view};
-ghost use Rattle.typed_tree.specs.ViewEnv.{view_env};
-ghost use Rattle.typing_rules.specs.Views.{view_meaning, view_use};
-ghost use Rattle.upc_checker_scopes.specs.Views.{view_setting};
-ghost use Rattle.upc_checker_nodes.specs.ViewUses.{view_uses};
+ghost use Rattle.upc_tree.specs.layer.View.{view};
+ghost use Rattle.typed_tree.specs.layer.ViewEnv.{view_env};
+ghost use Rattle.typing_rules.specs.layer.Views.{view_meaning, view_use};
+ghost use Rattle.upc_checker_scopes.specs.layer.Views.{view_setting};
+ghost use Rattle.upc_checker_nodes.specs.layer.ViewUses.{view_uses};
 ghost use Rattle.upc_checker_nodes.specs.Called as pure;
 
 use typed_tree::Target;

@@ -4,7 +4,7 @@ ghost use Rattle.std.specs.Prelude.{◌≡◌, ℕ, map, drop, Option};
 ghost use Rattle.std.specs.List.{list_any};
 ghost use Rattle.upc_types.specs.View.{view};
 ghost use Rattle.upc_types.specs.ViewStructs.{view_structs};
-ghost use Rattle.typing_rules.specs.Views.{view_meaning, view_use, view_text};
+ghost use Rattle.typing_rules.specs.layer.Views.{view_meaning, view_use, view_text};
 ghost use Rattle.typing_rules.specs.Nodes as n;
 ghost use Rattle.typing_rules.specs.Rules as r;
 ghost use Rattle.typing_rules.specs.Rules.{lowest};

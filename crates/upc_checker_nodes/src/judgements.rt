@@ -1,7 +1,7 @@
 //! Nodes of expressions, judged over their parts: what each is where it meets its rules.
 
 ghost use Rattle.std.specs.Prelude.{◌≡◌, IfOk, map};
-ghost use Rattle.upc_tree.specs.View.{view};
+ghost use Rattle.upc_tree.specs.layer.View.{view};
 ghost use Rattle.typing_rules.specs.Attributes as attributes;
 ghost use Rattle.typing_rules.specs.Attributes.{Facts};
 ghost use Rattle.typing_rules.specs.Nodes as n;
@@ -9,12 +9,12 @@ ghost use Rattle.typing_rules.specs.Nodes.{view_attr};
 ghost use Rattle.typing_rules.specs.Values.{base_target};
 ghost use Rattle.typed_tree.specs.Tree.{exprs_of, attrs_of};
 ghost use Rattle.typed_tree.specs.ViewTree.{view_expr};
-ghost use Rattle.typing_rules.specs.Views.{view_formed, view_meaning, view_use};
+ghost use Rattle.typing_rules.specs.layer.Views.{view_formed, view_meaning, view_use};
 ghost use Rattle.upc_checker_nodes.specs.Called as calls;
 ghost use Rattle.upc_checker_nodes.specs.Parts as walks;
-ghost use Rattle.upc_checker_nodes.specs.ViewJudged.{JudgesMember};
-ghost use Rattle.upc_checker_scopes.specs.Finishes.{Judges};
-ghost use Rattle.upc_checker_scopes.specs.Views.{facts_of, view_setting};
+ghost use Rattle.upc_checker_nodes.specs.code.ViewJudged.{JudgesMember};
+ghost use Rattle.upc_checker_scopes.specs.layer.Finishes.{Judges};
+ghost use Rattle.upc_checker_scopes.specs.layer.Views.{facts_of, view_setting};
 
 use crate::called::runs;
 use crate::parts::{format_in, last_of};

@@ -2,7 +2,7 @@
 
 ghost use Rattle.std.specs.Prelude.{◌≡◌};
 ghost use Rattle.upc_types.specs.View.{view};
-ghost use Rattle.typing_rules.specs.Views.{view_use};
+ghost use Rattle.typing_rules.specs.layer.Views.{view_use};
 ghost use Rattle.upc_checker_nodes.specs.Marks as pure;
 
 use block_layout::Kind;

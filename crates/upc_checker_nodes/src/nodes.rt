@@ -1,7 +1,7 @@
 //! Nodes of expressions that are finished: each meets its rules, and is what it says.
 
 ghost use Rattle.std.specs.Prelude.{◌≡◌, ◌∷◌, IfOk, map};
-ghost use Rattle.upc_tree.specs.View.{view};
+ghost use Rattle.upc_tree.specs.layer.View.{view};
 ghost use Rattle.typing_rules.specs.Attributes.{Facts};
 ghost use Rattle.typing_rules.specs.Nodes as n;
 ghost use Rattle.typing_rules.specs.Nodes.{view_attr};
@@ -9,15 +9,15 @@ ghost use Rattle.upc_types.specs.View as types;
 ghost use Rattle.typed_tree.specs.Scopes as pure;
 ghost use Rattle.typed_tree.specs.Tree as k;
 ghost use Rattle.typed_tree.specs.Tree.{exprs_of, attrs_of};
-ghost use Rattle.typed_tree.specs.ViewEnv.{view_env};
+ghost use Rattle.typed_tree.specs.layer.ViewEnv.{view_env};
 ghost use Rattle.typed_tree.specs.ViewTree.{view_expr};
-ghost use Rattle.typing_rules.specs.Views.{view_formed, view_meaning, view_use};
+ghost use Rattle.typing_rules.specs.layer.Views.{view_formed, view_meaning, view_use};
 ghost use Rattle.upc_checker_nodes.specs.Called as calls;
 ghost use Rattle.upc_checker_scopes.specs.Places as places;
 ghost use Rattle.upc_checker_nodes.specs.Parts as walks;
-ghost use Rattle.upc_checker_scopes.specs.Finishes.{Finishes};
+ghost use Rattle.upc_checker_scopes.specs.layer.Finishes.{Finishes};
 ghost use Rattle.upc_checker_nodes.specs.Marks as marks;
-ghost use Rattle.upc_checker_scopes.specs.Views.{facts_of, view_setting};
+ghost use Rattle.upc_checker_scopes.specs.layer.Views.{facts_of, view_setting};
 
 use crate::called::target_of;
 use crate::judgements::{

@@ -3,7 +3,7 @@
 ghost use Rattle.std.specs.Prelude.{◌≡◌, map};
 ghost use Rattle.typing_rules.specs.Nodes.{view_attr};
 ghost use Rattle.typed_tree.specs.Tree.{exprs_of};
-ghost use Rattle.typing_rules.specs.Views.{view_text};
+ghost use Rattle.typing_rules.specs.layer.Views.{view_text};
 ghost use Rattle.typed_tree.specs.ViewTree.{view_expr};
 ghost use Rattle.upc_checker_nodes.specs.Parts as pure;
 

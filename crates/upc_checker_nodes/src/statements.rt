@@ -11,9 +11,9 @@ ghost use Rattle.typed_tree.specs.Tree.{attr_of};
 ghost use Rattle.typed_tree.specs.ViewStatements.{view_affinity, view_arms, view_head, view_last, view_statement};
 ghost use Rattle.typed_tree.specs.ViewStatements.{view_switch_items, view_value};
 ghost use Rattle.typed_tree.specs.ViewTree.{view_expr};
-ghost use Rattle.typing_rules.specs.Views.{view_around};
+ghost use Rattle.typing_rules.specs.layer.Views.{view_around};
 ghost use Rattle.typed_tree.specs.ViewStatements.{attr_tested};
-ghost use Rattle.upc_checker_scopes.specs.Ends.{Meets, boxed};
+ghost use Rattle.upc_checker_scopes.specs.layer.Ends.{Meets, boxed};
 ghost use Rattle.upc_checker_nodes.specs.Judged as pure;
 ghost use Rattle.upc_checker_scopes.specs.Walk.{andthen, give, judge};
 

@@ -10,8 +10,8 @@ use Rattle.typing_rules.specs.Nodes.{Node, Struct}
 use Rattle.typing_rules.specs.Rules.{lowest, or_above}
 use Rattle.typed_tree.specs.Scopes.{Setting, Env, level_of, State, with_tag, with_members}
 use Rattle.upc_checker_scopes.specs.Walk.{judge, look, facts_in}
-use Rattle.upc_checker_scopes.specs.Finishes.{Refuses}
-use Rattle.upc_checker_scopes.specs.Ends.{Comes, Meets}
+use Rattle.upc_checker_scopes.specs.layer.Finishes.{Refuses}
+use Rattle.upc_checker_scopes.specs.layer.Ends.{Comes, Meets}
 use Rattle.upc_checker_scopes.specs.Known.{tag_seen, tag_number, unless_found, refer, is_complete_struct, members_size, close_struct}
 use Rattle.upc_checker_scopes.proofs.Walks.{goes, stops, looks, updates, judge_goes, judge_stops}
 

@@ -4,7 +4,7 @@ use Rattle.std.specs.List.{list_any}
 use Rattle.std.proofs.lemmas.List.{append-nil}
 use Rattle.std.proofs.lemmas.List.Folds.{list_any-append}
 use Rattle.upc_checker_scopes.specs.Defined.{number_in}
-use Rattle.upc_checker_scopes.specs.ViewDefined.{numbered, first_or}
+use Rattle.upc_checker_scopes.specs.code.ViewDefined.{numbered, first_or}
 
 most_by : (n m : ℕ) (b : Bool) → n ≤ m → (if b then 0 else n + 1) ≤ m + 1
 most_by n m true h = omega arith

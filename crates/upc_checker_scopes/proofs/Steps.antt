@@ -11,8 +11,8 @@ use Rattle.typed_tree.specs.Tree.{ExprKind}
 use Rattle.typed_tree.specs.ViewTree.{view_expr}
 use Rattle.typing_rules.specs.Faults.{first_fault}
 use Rattle.upc_checker_scopes.specs.Walk.{Walked, Walk, andthen, finish, facts_in}
-use Rattle.upc_checker_scopes.specs.Finishes.{Finishes}
-use Rattle.upc_checker_scopes.specs.Ends.{Stops, Comes, Meets, boxed}
+use Rattle.upc_checker_scopes.specs.layer.Finishes.{Finishes}
+use Rattle.upc_checker_scopes.specs.layer.Ends.{Stops, Comes, Meets, boxed}
 use Rattle.upc_checker_scopes.proofs.Walks.{Same, same_meets, goes, stops, finished}
 
 -- `Meets`, under a name that does not compute.

@@ -5,7 +5,7 @@ use Rattle.upc_text.specs.declared.faults.Stop.{Stop}
 use Rattle.typed_tree.specs.Scopes.{State}
 use Rattle.typing_rules.specs.Faults.{Seen, Fault, first_fault, or_later}
 use Rattle.upc_checker_scopes.specs.Walk.{Walked, Walk, give, andthen}
-use Rattle.upc_checker_scopes.specs.Ends.{Stops, Comes, Meets}
+use Rattle.upc_checker_scopes.specs.layer.Ends.{Stops, Comes, Meets}
 use Rattle.upc_checker_scopes.proofs.Walks.{stops, goes, gives, first_of_two, Same, same_trans, same_meets, next_fault}
 
 -- ---- lists

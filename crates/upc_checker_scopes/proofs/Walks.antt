@@ -13,8 +13,8 @@ use Rattle.upc_checker_scopes.specs.Walk.{Walked, Walk, give, andthen, judge, fi
 use Rattle.typed_tree.specs.declared.tree.Expr.{Expr as RustExpr}
 use Rattle.typed_tree.specs.Tree.{ExprKind}
 use Rattle.typed_tree.specs.ViewTree.{view_expr}
-use Rattle.upc_checker_scopes.specs.Finishes.{Refuses, Finishes}
-use Rattle.upc_checker_scopes.specs.Ends.{Stops, Comes, Meets, boxed}
+use Rattle.upc_checker_scopes.specs.layer.Finishes.{Refuses, Finishes}
+use Rattle.upc_checker_scopes.specs.layer.Ends.{Stops, Comes, Meets, boxed}
 
 or_later_again : (x y z : Option Fault) → or_later (or_later x y) z ≡ or_later x (or_later y z)
 or_later_again None y z = refl

@@ -1,13 +1,7 @@
 pub mod Counts
 pub mod Walk
-pub mod Ends
-pub mod Finishes
-pub mod Views
-pub mod ViewTags
-pub mod ViewOwnTags
-pub mod ViewFunctions
-pub mod ViewPlaces
-pub mod ViewDefined
 pub mod Defined
 pub mod Known
 pub mod Places
+pub mod layer
+pub mod code

@@ -2,7 +2,7 @@
 
 ghost use Rattle.std.specs.Prelude.{◌≡◌, ◌<◌, ◌^◌, ℕ, nat_eq, if◌then◌else◌, length, Some, None, OnOk, OnErr};
 ghost use Rattle.std.specs.HashMap.{get};
-ghost use Rattle.upc_checker_scopes.specs.ViewDefined.{IsNumbered, first_or};
+ghost use Rattle.upc_checker_scopes.specs.code.ViewDefined.{IsNumbered, first_or};
 
 use crate::places_of_names::keep;
 use std::alloc::Global;
@@ -34,7 +34,7 @@ impl Defined {
     ghost use Rattle.std.specs.Prelude.{◌≡◌, ◌==◌, [], ◌∷◌, ◌++◌, OnOk};
     ghost use Rattle.std.specs.List.{list_any};
     ghost use Rattle.upc_checker_scopes.specs.Defined.{number_in};
-    ghost use Rattle.upc_checker_scopes.specs.ViewDefined.{numbered};
+    ghost use Rattle.upc_checker_scopes.specs.code.ViewDefined.{numbered};
 
     /// No function.
     pub fn new(alloc: Global) -> Defined

@@ -1,7 +1,7 @@
 //! Where nodes are finished.
 
 ghost use Rattle.std.specs.Prelude.{◌≡◌, None, OnOk, IfErr};
-ghost use Rattle.upc_checker_scopes.specs.Finishes.{Refuses};
+ghost use Rattle.upc_checker_scopes.specs.layer.Finishes.{Refuses};
 
 use upc_text::{Code, Place, Refusal, Stop};
 

@@ -1,7 +1,7 @@
 //! The functions that were declared, found by their names.
 
 ghost use Rattle.std.specs.Prelude.{◌≡◌};
-ghost use Rattle.upc_checker_scopes.specs.ViewFunctions.{names_of, AreNoted};
+ghost use Rattle.upc_checker_scopes.specs.code.ViewFunctions.{names_of, AreNoted};
 
 use crate::places_of_names::{Places, last_place, no_places, note_place, place_before};
 use crate::signatures::same_signature;
@@ -33,8 +33,8 @@ pub struct Functions {
 impl Functions {
     ghost use Rattle.std.specs.Prelude.{◌≡◌, ◌∷◌, [], OnOk, OnErr};
     ghost use Rattle.typed_tree.specs.Scopes as pure;
-    ghost use Rattle.typing_rules.specs.Views.{view_signature};
-    ghost use Rattle.upc_checker_scopes.specs.Views.{view_functions};
+    ghost use Rattle.typing_rules.specs.layer.Views.{view_signature};
+    ghost use Rattle.upc_checker_scopes.specs.layer.Views.{view_functions};
 
     /// No function.
     pub fn new(alloc: Global) -> Functions

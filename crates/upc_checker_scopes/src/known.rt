@@ -4,11 +4,11 @@ ghost use Rattle.std.specs.Prelude.{◌≡◌, [], ◌<◌, List, map, OnOk, OnE
 ghost use Rattle.upc_types.specs.View.{view_member};
 ghost use Rattle.typed_tree.specs.Scopes as pure;
 ghost use Rattle.typed_tree.specs.Scopes.{Tag as ScopeTag};
-ghost use Rattle.typed_tree.specs.ViewEnv.{view_env};
-ghost use Rattle.typing_rules.specs.Views.{view_signature};
+ghost use Rattle.typed_tree.specs.layer.ViewEnv.{view_env};
+ghost use Rattle.typing_rules.specs.layer.Views.{view_signature};
 ghost use Rattle.upc_checker_scopes.specs.Counts as counts;
-ghost use Rattle.upc_checker_scopes.specs.Ends.{Meets};
-ghost use Rattle.upc_checker_scopes.specs.Views.{view_setting, state_of, state_with};
+ghost use Rattle.upc_checker_scopes.specs.layer.Ends.{Meets};
+ghost use Rattle.upc_checker_scopes.specs.layer.Views.{view_setting, state_of, state_with};
 ghost use Rattle.upc_checker_scopes.specs.declared.known.Known as seen;
 ghost use Rattle.upc_checker_scopes.specs.Known as stands;
 

@@ -1,7 +1,7 @@
 //! The tags of a part of the source itself, found by their names.
 
 ghost use Rattle.std.specs.Prelude.{◌≡◌};
-ghost use Rattle.upc_checker_scopes.specs.ViewOwnTags.{names_of};
+ghost use Rattle.upc_checker_scopes.specs.code.ViewOwnTags.{names_of};
 
 use crate::places_of_names::{Places, last_place, no_places, note_place, place_before};
 use std::alloc::Global;
@@ -26,8 +26,8 @@ pub struct OwnTags {
 impl OwnTags {
     ghost use Rattle.std.specs.Prelude.{◌≡◌, ◌∷◌, [], OnOk, OnErr};
     ghost use Rattle.typed_tree.specs.Scopes as pure;
-    ghost use Rattle.upc_checker_scopes.specs.ViewTags.{view_own_tags};
-    ghost use Rattle.upc_checker_scopes.specs.ViewOwnTags.{view_tag};
+    ghost use Rattle.upc_checker_scopes.specs.layer.ViewTags.{view_own_tags};
+    ghost use Rattle.upc_checker_scopes.specs.code.ViewOwnTags.{view_tag};
 
     /// No tag.
     pub fn new(alloc: Global) -> OwnTags

@@ -1,8 +1,8 @@
 //! Where parts of the source begin.
 
 ghost use Rattle.std.specs.Prelude.{◌≡◌, map};
-ghost use Rattle.upc_tree.specs.View.{view_qual, view_spec, view_pointer, view_declarator};
-ghost use Rattle.upc_tree.specs.Lists.{specs_of, pointers_of};
+ghost use Rattle.upc_tree.specs.layer.View.{view_qual, view_spec, view_pointer, view_declarator};
+ghost use Rattle.upc_tree.specs.layer.Lists.{specs_of, pointers_of};
 ghost use Rattle.upc_checker_scopes.specs.Places as pure;
 
 use upc_text::Place;

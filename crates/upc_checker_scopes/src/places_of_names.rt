@@ -3,8 +3,8 @@
 ghost use Rattle.std.specs.Prelude.{◌≡◌, ℕ, nat_eq, ◌<◌, if◌then◌else◌, ◌∷◌, ◌++◌, [], length, get_or, Some, OnOk};
 ghost use Rattle.std.specs.Prelude.{OnErr};
 ghost use Rattle.std.specs.HashMap.{get};
-ghost use Rattle.upc_types.specs.Places.{place_below, IsLinked};
-ghost use Rattle.upc_checker_scopes.specs.ViewPlaces.{IsPlaced};
+ghost use Rattle.upc_types.specs.layer.Places.{place_below, IsLinked};
+ghost use Rattle.upc_checker_scopes.specs.code.ViewPlaces.{IsPlaced};
 
 use std::alloc::Global;
 use std::collections::HashMap;

@@ -1,10 +1,10 @@
 //! What names stand for.
 
 ghost use Rattle.std.specs.Prelude.{◌≡◌};
-ghost use Rattle.upc_checker_scopes.specs.Views.{view_setting};
+ghost use Rattle.upc_checker_scopes.specs.layer.Views.{view_setting};
 ghost use Rattle.typed_tree.specs.Scopes as pure;
-ghost use Rattle.typed_tree.specs.ViewEnv.{view_env};
-ghost use Rattle.typing_rules.specs.Views.{view_meaning};
+ghost use Rattle.typed_tree.specs.layer.ViewEnv.{view_env};
+ghost use Rattle.typing_rules.specs.layer.Views.{view_meaning};
 ghost use Rattle.upc_checker_scopes.specs.Known as walks;
 
 pub use crate::source::Setting;

@@ -5,7 +5,7 @@ ghost use Rattle.upc_types.specs.View.{view, view_base};
 ghost use Rattle.upc_types.specs.Same as same;
 ghost use Rattle.typed_tree.specs.Scopes as pure;
 ghost use Rattle.typing_rules.specs.Values as values;
-ghost use Rattle.typing_rules.specs.Views.{view_signature, view_target};
+ghost use Rattle.typing_rules.specs.layer.Views.{view_signature, view_target};
 
 use std::alloc::Global;
 use typing_rules::Signature;

@@ -2,8 +2,8 @@
 
 ghost use Rattle.std.specs.Prelude.{◌≡◌, ◌∷◌, [], OnOk, OnErr};
 ghost use Rattle.typed_tree.specs.Scopes as pure;
-ghost use Rattle.upc_checker_scopes.specs.ViewOwnTags.{view_tag};
-ghost use Rattle.upc_checker_scopes.specs.ViewTags.{view_tags};
+ghost use Rattle.upc_checker_scopes.specs.code.ViewOwnTags.{view_tag};
+ghost use Rattle.upc_checker_scopes.specs.layer.ViewTags.{view_tags};
 
 use crate::own_tags::{OwnTags, Tag};
 use std::alloc::Global;
@@ -27,7 +27,7 @@ pub enum Around<'o> {
 
 impl<'o> Tags<'o> {
     ghost use Rattle.std.specs.Prelude.{◌≡◌, []};
-    ghost use Rattle.upc_checker_scopes.specs.ViewTags.{view_tags};
+    ghost use Rattle.upc_checker_scopes.specs.layer.ViewTags.{view_tags};
 
     /// No tag.
     pub fn new(alloc: Global) -> Tags<'static>

@@ -30,12 +30,12 @@ use Rattle.typed_tree.specs.ViewTree.{view_expr}
 use Rattle.typed_tree.specs.ViewStatements.{attr_tested}
 use Rattle.typed_tree.specs.Scopes.{Setting, Env, Tag, State, inside}
 use Rattle.upc_checker_scopes.specs.declared.known.Known.{Known}
-use Rattle.upc_checker_scopes.specs.Ends.{Comes, Meets}
+use Rattle.upc_checker_scopes.specs.layer.Ends.{Comes, Meets}
 use Rattle.upc_checker_scopes.specs.Places.{at}
 use Rattle.upc_checker_statements.specs.Statements.{Armed, Labelled, label_value, walk_statement, with_arm, with_case, with_default, with_statement}
-use Rattle.upc_checker_statements.specs.Groups.{is_scoped}
-use Rattle.upc_checker_statements.specs.Parts.{scoped_part}
-use Rattle.upc_checker_scopes.specs.Views.{state_with}
+use Rattle.upc_checker_statements.specs.code.Groups.{is_scoped}
+use Rattle.upc_checker_statements.specs.code.Parts.{scoped_part}
+use Rattle.upc_checker_scopes.specs.layer.Views.{state_with}
 use Rattle.upc_checker_scopes.specs.Walk.{Walked, Walk, give, andthen, enclosed}
 use Rattle.upc_checker_scopes.proofs.Walks.{first_of_two, encloses, Same, same_trans}
 use Rattle.upc_checker_scopes.proofs.Turns.{fault_at_end, IsLeft, behind, behind-append}

@@ -1,3 +1,2 @@
 pub mod Statements
-pub mod Groups
-pub mod Parts
+pub mod code

@@ -2,21 +2,21 @@
 
 ghost use Rattle.std.specs.Prelude.{◌≡◌, ◌+◌, map, IfOk};
 ghost use Rattle.upc_tree.specs.declared.span.Span.{Span};
-ghost use Rattle.upc_tree.specs.View.{view};
-ghost use Rattle.upc_tree.specs.ViewStatement as trees;
+ghost use Rattle.upc_tree.specs.layer.View.{view};
+ghost use Rattle.upc_tree.specs.layer.ViewStatement as trees;
 ghost use Rattle.typing_rules.specs.Attributes.{base};
 ghost use Rattle.typing_rules.specs.Nodes as n;
 ghost use Rattle.typing_rules.specs.Nodes.{view_attr};
 ghost use Rattle.typed_tree.specs.Tree as k;
 ghost use Rattle.typing_rules.specs.Values.{base_kind};
-ghost use Rattle.typed_tree.specs.ViewEnv.{view_env};
+ghost use Rattle.typed_tree.specs.layer.ViewEnv.{view_env};
 ghost use Rattle.typed_tree.specs.ViewStatements.{view_affinity, view_head, view_object, view_switch_item, view_value};
 ghost use Rattle.typed_tree.specs.ViewTree.{view_expr};
-ghost use Rattle.typing_rules.specs.Views.{view_around};
-ghost use Rattle.upc_checker_scopes.specs.Ends.{Meets, boxed};
+ghost use Rattle.typing_rules.specs.layer.Views.{view_around};
+ghost use Rattle.upc_checker_scopes.specs.layer.Ends.{Meets, boxed};
 ghost use Rattle.upc_checker_expressions.specs.Expressions as walks;
 ghost use Rattle.upc_checker_statements.specs.Statements as pure;
-ghost use Rattle.upc_checker_scopes.specs.Views.{state_of, view_setting};
+ghost use Rattle.upc_checker_scopes.specs.layer.Views.{state_of, view_setting};
 ghost use Rattle.upc_checker_scopes.specs.Walk.{andthen};
 
 use upc_checker_declarations::declarations::walk_declaration;

@@ -2,24 +2,24 @@
 
 ghost use Rattle.std.specs.Prelude.{IsTrue, map};
 ghost use Rattle.upc_tree.specs.declared.span.Span.{Span};
-ghost use Rattle.upc_tree.specs.Lists.{block_items_of, else_ifs_of, switch_items_of};
+ghost use Rattle.upc_tree.specs.layer.Lists.{block_items_of, else_ifs_of, switch_items_of};
 ghost use Rattle.upc_tree.specs.Statement as s;
-ghost use Rattle.upc_tree.specs.ViewStatement as trees;
+ghost use Rattle.upc_tree.specs.layer.ViewStatement as trees;
 ghost use Rattle.typing_rules.specs.Attributes.{base};
 ghost use Rattle.typing_rules.specs.Nodes.{view_attr};
 ghost use Rattle.typed_tree.specs.Scopes as scopes;
 ghost use Rattle.typing_rules.specs.Values.{base_kind};
-ghost use Rattle.typed_tree.specs.ViewEnv.{view_env};
+ghost use Rattle.typed_tree.specs.layer.ViewEnv.{view_env};
 ghost use Rattle.typed_tree.specs.ViewStatements.{view_arms, view_items, view_last, view_statement, view_switch_item};
 ghost use Rattle.typed_tree.specs.ViewStatements.{view_switch_items, view_value};
 ghost use Rattle.typed_tree.specs.ViewTree.{view_expr};
-ghost use Rattle.typing_rules.specs.Views.{view_around};
+ghost use Rattle.typing_rules.specs.layer.Views.{view_around};
 ghost use Rattle.typed_tree.specs.ViewStatements.{attr_tested};
-ghost use Rattle.upc_checker_scopes.specs.Ends.{Meets, boxed};
-ghost use Rattle.upc_checker_statements.specs.Groups.{is_if, is_scoped, is_simple};
-ghost use Rattle.upc_checker_statements.specs.Parts as parts;
+ghost use Rattle.upc_checker_scopes.specs.layer.Ends.{Meets, boxed};
+ghost use Rattle.upc_checker_statements.specs.code.Groups.{is_if, is_scoped, is_simple};
+ghost use Rattle.upc_checker_statements.specs.code.Parts as parts;
 ghost use Rattle.upc_checker_statements.specs.Statements as pure;
-ghost use Rattle.upc_checker_scopes.specs.Views.{state_of, view_setting};
+ghost use Rattle.upc_checker_scopes.specs.layer.Views.{state_of, view_setting};
 ghost use Rattle.upc_checker_scopes.specs.Walk as walks;
 ghost use Rattle.upc_checker_scopes.specs.Walk.{andthen, give};
 

@@ -1,5 +1,5 @@
 pub mod Specifiers
-pub mod ViewShapes
-pub mod ViewWords
 pub mod Members
 pub mod Shapes
+pub mod layer
+pub mod code

@@ -4,7 +4,7 @@ use Rattle.std.specs.BTreeMap.{BTreeMap}
 use Rattle.std.specs.List.{list_any}
 use Rattle.std.specs.Cmp.Lexicographic.{pointwise}
 use Rattle.upc_tree.specs.declared.span.Name.{Name}
-use Rattle.upc_types.specs.Named.{at_name}
+use Rattle.upc_types.specs.layer.Named.{at_name}
 use Rattle.upc_types.specs.Types.{CType, Member}
 use Rattle.typed_tree.specs.Scopes.{Env, declare, declare_unnamed}
 use Rattle.upc_checker_types.specs.Shapes.{adjusted}

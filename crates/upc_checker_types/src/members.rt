@@ -2,9 +2,9 @@
 
 ghost use Rattle.std.specs.Prelude.{◌≡◌, ◌||◌, ℕ, nat_eq, is_some, List, [], OnOk, OnErr, map};
 ghost use Rattle.std.specs.Cmp.Lexicographic.{pointwise};
-ghost use Rattle.upc_types.specs.Named.{at_name};
+ghost use Rattle.upc_types.specs.layer.Named.{at_name};
 ghost use Rattle.upc_types.specs.View.{view, view_member};
-ghost use Rattle.typed_tree.specs.ViewEnv.{view_env};
+ghost use Rattle.typed_tree.specs.layer.ViewEnv.{view_env};
 ghost use Rattle.upc_checker_types.specs.Members as pure;
 
 use crate::shaped::adjusted;

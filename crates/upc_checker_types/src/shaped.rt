@@ -2,10 +2,10 @@
 
 ghost use Rattle.std.specs.Prelude.{◌≡◌, ◌≤◌, IfOk, map};
 ghost use Rattle.upc_types.specs.View.{view, view_base};
-ghost use Rattle.typing_rules.specs.Views.{view_formed};
+ghost use Rattle.typing_rules.specs.layer.Views.{view_formed};
 ghost use Rattle.upc_checker_types.specs.Specifiers as pure;
 ghost use Rattle.upc_checker_types.specs.Shapes as walks;
-ghost use Rattle.upc_checker_types.specs.ViewShapes.{view_blocks, view_quals, view_shaped, view_specified};
+ghost use Rattle.upc_checker_types.specs.layer.ViewShapes.{view_blocks, view_quals, view_shaped, view_specified};
 
 use crate::specified::{Blocks, Quals, Specified, quals_fit, specified_base};
 use block_layout::Kind;

@@ -3,9 +3,9 @@
 ghost use Rattle.std.specs.Prelude.{◌≡◌, OnOk};
 ghost use Rattle.upc_checker_types.specs.Specifiers as pure;
 ghost use Rattle.upc_checker_types.specs.Shapes as walks;
-ghost use Rattle.upc_checker_types.specs.ViewShapes.{view_quals, view_qualifier, view_specified, view_specifier};
-ghost use Rattle.upc_checker_types.specs.ViewShapes.{view_specifying};
-ghost use Rattle.upc_checker_types.specs.ViewWords.{view_found};
+ghost use Rattle.upc_checker_types.specs.layer.ViewShapes.{view_quals, view_qualifier, view_specified, view_specifier};
+ghost use Rattle.upc_checker_types.specs.layer.ViewShapes.{view_specifying};
+ghost use Rattle.upc_checker_types.specs.code.ViewWords.{view_found};
 
 use crate::words::{base_of_words, count, no_types};
 use std::alloc::Global;

@@ -3,7 +3,7 @@
 ghost use Rattle.std.specs.Prelude.{◌≡◌, ◌≤◌, ◌==◌, length, map};
 ghost use Rattle.std.specs.List.{list_all};
 ghost use Rattle.upc_checker_types.specs.Specifiers as pure;
-ghost use Rattle.upc_checker_types.specs.ViewWords.{view_row, view_word_type, view_found};
+ghost use Rattle.upc_checker_types.specs.code.ViewWords.{view_row, view_word_type, view_found};
 ghost use Rattle.upc_types.specs.View.{view_base};
 
 use WordType::Integer;

@@ -14,7 +14,7 @@ use Rattle.upc_lexer.specs.Bytes.{is_in_line}
 use Rattle.upc_lexer.specs.Names.{is_same, firsts, insert_name}
 use Rattle.upc_lexer.specs.Places.{place_after}
 use Rattle.upc_lexer.specs.Tokens.{Piece, gap, lexeme, text_of, joined, names_in, token_at, tokens_in, Spells, IsPiece, Cuts, AreTokensOf}
-use Rattle.upc_lexer.specs.Steps.{tokens_of, names_with, Steps, StopsHere, StopsSource, IsCutTo}
+use Rattle.upc_lexer.specs.layer.Steps.{tokens_of, names_with, Steps, StopsHere, StopsSource, IsCutTo}
 use Rattle.upc_lexer.proofs.NameLemmas.{firsts-push, slice_get-append}
 
 pub joined-push : (ps : List Piece) (p : Piece) → joined (ps ++ p ∷ []) ≡ joined ps ++ text_of p

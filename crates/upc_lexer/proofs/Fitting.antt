@@ -9,7 +9,7 @@ use Rattle.upc_lexer.specs.declared.token.TokenKind.TheVariants.{Name, Word, Num
 use Rattle.upc_lexer.specs.declared.token.NumberKind.{NumberKind}
 use Rattle.upc_lexer.specs.Numbers.{IsNumber, greatest, kinds, NumberFits, NumbersFit}
 use Rattle.upc_lexer.specs.Tokens.{Piece, gap, lexeme, Spells, Cuts, tokens_in, AreTokensOf}
-use Rattle.upc_lexer.specs.Steps.{IsCutTo}
+use Rattle.upc_lexer.specs.layer.Steps.{IsCutTo}
 
 -- What is found among the types has the value.
 found : (value : ℕ) (ks : List NumberKind) (kind : NumberKind) → find (λ k. leb value (greatest k)) ks ≡ Some kind → value ≤ greatest kind

@@ -21,8 +21,8 @@ use Rattle.upc_lexer.specs.declared.token.Token.{Token}
 use Rattle.upc_lexer.specs.declared.token.TokenKind.{TokenKind}
 use Rattle.upc_lexer.specs.declared.token.TokenKind.TheVariants.{Name, Word, Number, Character, Str, Punct, Pragma}
 use Rattle.upc_lexer.specs.Names.{insert_name}
-use Rattle.upc_lexer.specs.Steps.{Steps, token_of, names_with}
-use Rattle.upc_lexer.specs.Found.{IsGapless}
+use Rattle.upc_lexer.specs.layer.Steps.{Steps, token_of, names_with}
+use Rattle.upc_lexer.specs.code.Found.{IsGapless}
 use Rattle.upc_lexer.proofs.Lists.{run_passes, run_stops}
 use Rattle.upc_lexer.proofs.OneCut.{longest_once, rest_same}
 use Rattle.upc_lexer.proofs.TokenHeads.{no_token, name_longest, number_longest, character_longest, string_longest, mark_longest, no_character, no_string_here, no_mark}

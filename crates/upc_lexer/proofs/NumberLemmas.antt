@@ -12,7 +12,7 @@ use Rattle.upc_lexer.specs.declared.token.NumberKind.{NumberKind}
 use Rattle.upc_lexer.specs.declared.token.NumberKind.TheVariants.{Int, UInt, Long, ULong}
 use Rattle.upc_lexer.specs.Gaps.{StopsAt}
 use Rattle.upc_lexer.specs.Numbers.{kind_of, kinds_by, greatest, value_in, IsNumber, HasNoType, IsNoConstant, is_digit_in, begins, suffix_of, IsPrefix, IsConstant}
-use Rattle.upc_lexer.specs.NumberParts.{base_of, prefix_length, behind_prefix, digit_count, digits_of, tail_of}
+use Rattle.upc_lexer.specs.code.NumberParts.{base_of, prefix_length, behind_prefix, digit_count, digits_of, tail_of}
 use Rattle.upc_lexer.proofs.Lists.{run_is, run_passes, and_left, and_right}
 
 -- a byte that begins no suffix

@@ -5,9 +5,8 @@ pub mod Words
 pub mod Marks
 pub mod Numbers
 pub mod Strings
-pub mod NumberParts
 pub mod Places
 pub mod Names
 pub mod Tokens
-pub mod Found
-pub mod Steps
+pub mod layer
+pub mod code

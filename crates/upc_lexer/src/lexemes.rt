@@ -3,7 +3,7 @@ ghost use Rattle.std.specs.Prelude.{◌≡◌, ◌<◌, false, true, length, sli
 ghost use Rattle.std.specs.List.{prefix_len};
 ghost use Rattle.upc_lexer.specs.Bytes.{is_letter, is_name_byte, is_number_byte};
 ghost use Rattle.upc_lexer.specs.Tokens.{begins_number, takes_sign, Refuses};
-ghost use Rattle.upc_lexer.specs.Found.{IsGapless, Finds};
+ghost use Rattle.upc_lexer.specs.code.Found.{IsGapless, Finds};
 
 use crate::bytes::{is_digit, is_letter, is_name_byte, is_number_byte};
 use crate::marks::mark_at;

@@ -4,8 +4,8 @@ ghost use Rattle.upc_lexer.specs.Numbers.{NumbersFit};
 ghost use Rattle.upc_lexer.specs.Tokens.{AreTokensOf, RefusedAt};
 ghost use Rattle.upc_lexer.specs.declared.token.Token.{Token as Item};
 ghost use Rattle.upc_text.specs.declared.place.Refusal.{Refusal as Reason};
-ghost use Rattle.upc_lexer.specs.Found.{IsGapless};
-ghost use Rattle.upc_lexer.specs.Steps.{Steps, StopsHere, StopsSource, token_of};
+ghost use Rattle.upc_lexer.specs.code.Found.{IsGapless};
+ghost use Rattle.upc_lexer.specs.layer.Steps.{Steps, StopsHere, StopsSource, token_of};
 
 use crate::gaps::{Gap, gap_at};
 use crate::lexemes::{Found, lexeme_at};

@@ -3,7 +3,7 @@ ghost use Rattle.std.specs.Prelude.{◌≡◌, ◌<◌, ◌^◌, IfOk, IfErr, So
 ghost use Rattle.std.specs.List.{prefix_len};
 ghost use Rattle.upc_lexer.specs.Numbers.{is_digit_in, radix, digit_value, value_in, is_u, is_l, is_ll, suffix_of};
 ghost use Rattle.upc_lexer.specs.Numbers.{kinds, greatest, kind_of, IsNumber, RefusesNumber};
-ghost use Rattle.upc_lexer.specs.NumberParts.{base_of, behind_prefix};
+ghost use Rattle.upc_lexer.specs.code.NumberParts.{base_of, behind_prefix};
 
 use crate::bytes::is_digit;
 use crate::token::NumberKind;

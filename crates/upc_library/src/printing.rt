@@ -4,7 +4,7 @@ ghost use Rattle.std.specs.Prelude.{◌≡◌, ◌++◌, ◌<◌, ◌^◌, ◌&&
 ghost use Rattle.std.specs.Fmt.{sign_text};
 ghost use Rattle.integers.specs.Integers.{IsInteger};
 ghost use Rattle.upc_values.specs.Printing as printing;
-ghost use Rattle.upc_library.specs.Printing.{IsNear, FitsStyle, piece_text, values_behind};
+ghost use Rattle.upc_library.specs.code.Printing.{IsNear, FitsStyle, piece_text, values_behind};
 
 use block_layout::Kind;
 use itoa::Buffer;

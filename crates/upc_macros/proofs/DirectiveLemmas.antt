@@ -12,7 +12,7 @@ use Rattle.std.specs.Cmp.Lexicographic.{pointwise}
 use Rattle.upc_lexer.specs.declared.token.Token.{Token}
 use Rattle.upc_macros.specs.Spelling.{between, spelling, is_spelled, are_alike, last_end}
 use Rattle.std.proofs.lemmas.List.{get_or-take, get_or-drop, take_all}
-use Rattle.upc_macros.specs.Table.{IsNumbered, IsWithin, AreInOrder}
+use Rattle.upc_macros.specs.code.Table.{IsNumbered, IsWithin, AreInOrder}
 use Rattle.upc_macros.specs.Directives.{header_effect, include_effect, macro_name, has_parameters, define_name, define_effect, undefine_effect, access_effect, pragma_effect, effect_of}
 use Rattle.upc_lexer.proofs.Lists.{and_left, and_right}
 use Rattle.std.proofs.Math.Bool.{and-false}

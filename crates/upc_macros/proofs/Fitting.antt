@@ -16,7 +16,7 @@ use Rattle.upc_macros.specs.declared.continuation.Reading.TheVariants.{Blank}
 use Rattle.upc_macros.specs.Continuation.{goes_on}
 use Rattle.upc_macros.specs.declared.table.Body.{Body}
 use Rattle.upc_macros.specs.Expansion.{Item, given, bad, onto, lines_of, is_hash, token_items, text_items, effect_items, macros_after, items}
-use Rattle.upc_macros.specs.Lines.{IsExpandedTo}
+use Rattle.upc_macros.specs.code.Lines.{IsExpandedTo}
 
 fits_append : (xs ys : List Token) → NumbersFit xs → NumbersFit ys → NumbersFit (xs ++ ys)
 fits_append [] ys h i = i

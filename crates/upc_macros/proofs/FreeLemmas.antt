@@ -7,8 +7,8 @@ use Rattle.upc_lexer.specs.declared.token.TokenKind.{TokenKind}
 use Rattle.upc_lexer.specs.declared.token.TokenKind.TheVariants.{Name, Word, Number, Character, Str, Punct, Pragma}
 use Rattle.upc_macros.specs.declared.table.Body.{Body}
 use Rattle.upc_macros.specs.Replacing.{Macros, body_of, without, plain, or_replaced, replaced, defined_count}
-use Rattle.upc_macros.specs.Table.{seen, body_tokens, macro_count}
-use Rattle.upc_macros.specs.Known.{FreeBody, IsFree, Leads}
+use Rattle.upc_macros.specs.code.Table.{seen, body_tokens, macro_count}
+use Rattle.upc_macros.specs.code.Known.{FreeBody, IsFree, Leads}
 use Rattle.upc_macros.proofs.Tables.{found_at, names_some, count_within}
 use Rattle.upc_macros.proofs.WalkLemmas.{replaced_plain, replaced_macro}
 use Rattle.upc_macros.proofs.DepthLemmas.{depth_free}

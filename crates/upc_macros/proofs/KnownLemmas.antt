@@ -16,9 +16,9 @@ use Rattle.upc_macros.specs.declared.known.Gift.{Gift}
 use Rattle.upc_macros.specs.declared.known.Known.{Known}
 use Rattle.upc_macros.specs.Replacing.{replaced, placed}
 use Rattle.upc_macros.specs.Expansion.{Item, given}
-use Rattle.upc_macros.specs.Table.{seen, body_tokens, macro_count, IsNumbered, Takes}
-use Rattle.upc_macros.specs.Walk.{placed_items, put_back, pending, all_back, IsWalk}
-use Rattle.upc_macros.specs.Known.{IsFree, current, gift_of, is_defined, IsGift, AreKnown, IsListening, IsBegun, AreBegun}
+use Rattle.upc_macros.specs.code.Table.{seen, body_tokens, macro_count, IsNumbered, Takes}
+use Rattle.upc_macros.specs.code.Walk.{placed_items, put_back, pending, all_back, IsWalk}
+use Rattle.upc_macros.specs.code.Known.{IsFree, current, gift_of, is_defined, IsGift, AreKnown, IsListening, IsBegun, AreBegun}
 use Rattle.upc_macros.proofs.Tables.{set-back, map-set}
 use Rattle.upc_macros.proofs.WalkLemmas.{next_frame, entered, rest_end}
 use Rattle.upc_macros.proofs.FreeLemmas.{plain_free, body_gives}

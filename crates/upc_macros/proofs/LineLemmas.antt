@@ -18,10 +18,10 @@ use Rattle.upc_macros.specs.Directives.{pragma, define, undefine, effect_of, dir
 use Rattle.upc_macros.specs.declared.continuation.Reading.TheVariants.{Blank}
 use Rattle.upc_macros.specs.Continuation.{goes_on}
 use Rattle.upc_macros.specs.Expansion.{given, is_hash, onto, lines_of, text_items, effect_items, macros_after, items, expansion, first_refusal, IsExpansion, StopsExpansion}
-use Rattle.upc_macros.specs.Table.{seen, body_tokens, AreBodies, Takes, StopsIn}
+use Rattle.upc_macros.specs.code.Table.{seen, body_tokens, AreBodies, Takes, StopsIn}
 use Rattle.upc_macros.specs.declared.directives.Effect.{Effect as Change}
-use Rattle.upc_macros.specs.Effects.{effect_seen}
-use Rattle.upc_macros.specs.Lines.{behind_hash, hash_effect, line_effect, hash_items, line_items, LineDone, LineStops, IsExpandedTo}
+use Rattle.upc_macros.specs.code.Effects.{effect_seen}
+use Rattle.upc_macros.specs.code.Lines.{behind_hash, hash_effect, line_effect, hash_items, line_items, LineDone, LineStops, IsExpandedTo}
 use Rattle.upc_macros.proofs.Tables.{map-set}
 use Rattle.upc_macros.proofs.Refusals.{takes_append, stops_later, stops_before}
 use Rattle.upc_macros.proofs.DirectiveLemmas.{part_first, last_is}

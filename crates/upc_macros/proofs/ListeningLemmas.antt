@@ -10,9 +10,9 @@ use Rattle.upc_lexer.specs.declared.token.TokenKind.TheVariants.{Name}
 use Rattle.upc_macros.specs.declared.table.Body.{Body}
 use Rattle.upc_macros.specs.declared.walk.Frame.{Frame}
 use Rattle.upc_macros.specs.Replacing.{replaced}
-use Rattle.upc_macros.specs.Table.{seen, body_tokens, macro_count}
-use Rattle.upc_macros.specs.Walk.{put_back, all_back}
-use Rattle.upc_macros.specs.Known.{IsFree, Leads, front_of, IsFreeSoFar, IsEntered, AreOuter, IsListening}
+use Rattle.upc_macros.specs.code.Table.{seen, body_tokens, macro_count}
+use Rattle.upc_macros.specs.code.Walk.{put_back, all_back}
+use Rattle.upc_macros.specs.code.Known.{IsFree, Leads, front_of, IsFreeSoFar, IsEntered, AreOuter, IsListening}
 use Rattle.upc_macros.proofs.Tables.{found_at}
 use Rattle.upc_macros.proofs.WalkLemmas.{next_frame, entered}
 use Rattle.upc_macros.proofs.FreeLemmas.{free_more, body_free, leads_twice, leads_in, Passes, LiesIn, same_here}

@@ -5,7 +5,7 @@ use Rattle.upc_lexer.specs.declared.token.Token.{Token}
 use Rattle.upc_lexer.specs.declared.token.TokenKind.{TokenKind}
 use Rattle.upc_lexer.specs.declared.token.TokenKind.TheVariants.{Name, Word, Number, Character, Str, Punct, Pragma}
 use Rattle.upc_lexer.specs.Tokens.{Piece, gap, lexeme, joined, tokens_in, Spells, Cuts, AreTokensOf}
-use Rattle.upc_macros.specs.Table.{IsNumbered, IsWithin, AreInOrder}
+use Rattle.upc_macros.specs.code.Table.{IsNumbered, IsWithin, AreInOrder}
 
 -- from a place on
 abbrev Follows : ℕ → ℕ → ℕ → List Token → Type 0

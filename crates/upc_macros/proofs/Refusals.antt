@@ -6,7 +6,7 @@ use Rattle.upc_text.specs.declared.faults.Stop.{Stop}
 use Rattle.upc_text.specs.declared.faults.Stop.TheVariants.{Refused, Memory}
 use Rattle.upc_lexer.specs.declared.token.Token.{Token}
 use Rattle.upc_macros.specs.Expansion.{Item, given, bad, token_refusal, first_refusal}
-use Rattle.upc_macros.specs.Table.{Takes, StopsIn}
+use Rattle.upc_macros.specs.code.Table.{Takes, StopsIn}
 use Rattle.std.specs.Option.{option_or}
 
 or_first_twice : (a b c : Option Refusal) → option_or a (option_or b c) ≡ option_or (option_or a b) c

@@ -8,8 +8,8 @@ use Rattle.upc_lexer.specs.declared.token.Token.{Token}
 use Rattle.upc_lexer.specs.declared.token.TokenKind.{TokenKind}
 use Rattle.upc_macros.specs.Replacing.{placed}
 use Rattle.upc_macros.specs.Expansion.{given}
-use Rattle.upc_macros.specs.Table.{Takes, StopsIn}
-use Rattle.upc_macros.specs.Walk.{placed_items}
+use Rattle.upc_macros.specs.code.Table.{Takes, StopsIn}
+use Rattle.upc_macros.specs.code.Walk.{placed_items}
 use Rattle.upc_macros.proofs.Refusals.{takes_append, stops_later, stops_before}
 
 -- a token made of the parts of another one

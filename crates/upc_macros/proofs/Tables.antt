@@ -7,7 +7,7 @@ use Rattle.upc_lexer.specs.declared.token.TokenKind.{TokenKind}
 use Rattle.upc_lexer.specs.declared.token.TokenKind.TheVariants.{Name, Word, Number, Character, Str, Punct, Pragma}
 use Rattle.upc_macros.specs.declared.table.Body.{Body}
 use Rattle.upc_macros.specs.Replacing.{body_of, without}
-use Rattle.upc_macros.specs.Table.{body_tokens, seen, IsBody, AreBodies, macro_count, NamesNoMacro}
+use Rattle.upc_macros.specs.code.Table.{body_tokens, seen, IsBody, AreBodies, macro_count, NamesNoMacro}
 
 pub map-set : {A B : Type 0} (f : A → B) (xs : List A) (n : ℕ) (x : A) → map f (set xs n x) ≡ set (map f xs) n (f x)
 map-set f [] n x = refl

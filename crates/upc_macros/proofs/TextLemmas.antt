@@ -12,8 +12,8 @@ use Rattle.upc_lexer.specs.declared.token.TokenKind.TheVariants.{Name}
 use Rattle.upc_macros.specs.declared.table.Body.{Body}
 use Rattle.upc_macros.specs.Replacing.{Macros, plain, replaced}
 use Rattle.upc_macros.specs.Expansion.{Item, bad, is_hash, token_items, text_items, first_refusal}
-use Rattle.upc_macros.specs.Table.{seen, NamesNoMacro, macro_count, Takes, StopsIn}
-use Rattle.upc_macros.specs.Walk.{placed_items, pending}
+use Rattle.upc_macros.specs.code.Table.{seen, NamesNoMacro, macro_count, Takes, StopsIn}
+use Rattle.upc_macros.specs.code.Walk.{placed_items, pending}
 use Rattle.upc_macros.proofs.Tables.{names_none, names_some, seen-taken, taken_count, count_within}
 use Rattle.upc_macros.proofs.Refusals.{takes_append, stops_later, stops_before}
 use Rattle.upc_macros.proofs.WalkLemmas.{entered, replaced_plain, replaced_macro}

@@ -14,8 +14,8 @@ use Rattle.upc_macros.specs.declared.table.Body.{Body}
 use Rattle.upc_macros.specs.declared.walk.Frame.{Frame}
 use Rattle.upc_macros.specs.Replacing.{Macros, body_of, without, plain, replaced, placed}
 use Rattle.upc_macros.specs.Expansion.{Item, given, first_refusal}
-use Rattle.upc_macros.specs.Table.{seen, IsNumbered, AreBodies, body_tokens, macro_count, Takes, StopsIn}
-use Rattle.upc_macros.specs.Walk.{placed_items, rest_of, put_back, pending, all_back, IsFrame, AreFrames, IsWalk}
+use Rattle.upc_macros.specs.code.Table.{seen, IsNumbered, AreBodies, body_tokens, macro_count, Takes, StopsIn}
+use Rattle.upc_macros.specs.code.Walk.{placed_items, rest_of, put_back, pending, all_back, IsFrame, AreFrames, IsWalk}
 use Rattle.upc_macros.proofs.Tables.{set-back, names_some, seen-taken, taken_count, back_count, back_bodies, taken_bodies}
 use Rattle.upc_macros.proofs.Refusals.{first_refusal-append, stops_later, stops_before}
 

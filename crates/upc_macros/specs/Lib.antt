@@ -3,8 +3,4 @@ pub mod Replacing
 pub mod Continuation
 pub mod Directives
 pub mod Expansion
-pub mod Table
-pub mod Walk
-pub mod Effects
-pub mod Lines
-pub mod Known
+pub mod code

@@ -6,9 +6,9 @@ ghost use Rattle.upc_macros.specs.Spelling.{are_alike};
 ghost use Rattle.upc_macros.specs.Directives.{header_effect, include_effect, macro_name, has_parameters};
 ghost use Rattle.upc_macros.specs.Directives.{define_effect, define_name, undefine_effect, access_effect};
 ghost use Rattle.upc_macros.specs.Directives.{pragma_effect, effect_of};
-ghost use Rattle.upc_macros.specs.Effects.{effect_seen, IsChange, IsKeyword};
-ghost use Rattle.upc_macros.specs.Lines.{line_effect};
-ghost use Rattle.upc_macros.specs.Table.{seen, AreInOrder, AreOrdered, AreBodies, IsBody, body_tokens};
+ghost use Rattle.upc_macros.specs.code.Effects.{effect_seen, IsChange, IsKeyword};
+ghost use Rattle.upc_macros.specs.code.Lines.{line_effect};
+ghost use Rattle.upc_macros.specs.code.Table.{seen, AreInOrder, AreOrdered, AreBodies, IsBody, body_tokens};
 
 use crate::continuation::goes_on;
 use crate::spelling::spelling;

@@ -1,7 +1,7 @@
 //! What macros are known to give.
 ghost use Rattle.std.specs.Prelude.{◌≡◌, ◌<◌, Bool, true, false, None, Some, length, replicate, slice_set, IfOk};
-ghost use Rattle.upc_macros.specs.Table.{IsNumbered};
-ghost use Rattle.upc_macros.specs.Known.{gift_of, is_defined};
+ghost use Rattle.upc_macros.specs.code.Table.{IsNumbered};
+ghost use Rattle.upc_macros.specs.code.Known.{gift_of, is_defined};
 
 use std::alloc::Global;
 use upc_lexer::{Token, TokenKind};

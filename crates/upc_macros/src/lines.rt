@@ -6,9 +6,9 @@ ghost use Rattle.upc_lexer.specs.Numbers.{NumbersFit};
 ghost use Rattle.upc_lexer.specs.Tokens.{AreTokensOf};
 ghost use Rattle.upc_lexer.specs.declared.token.Token.{Token as Item};
 ghost use Rattle.upc_macros.specs.Replacing.{Macros, replaced};
-ghost use Rattle.upc_macros.specs.Lines.{line_effect, line_items, LineDone, LineStops};
-ghost use Rattle.upc_macros.specs.Table.{seen, AreInOrder, AreBodies, Takes, StopsIn};
-ghost use Rattle.upc_macros.specs.Known.{AreKnown};
+ghost use Rattle.upc_macros.specs.code.Lines.{line_effect, line_items, LineDone, LineStops};
+ghost use Rattle.upc_macros.specs.code.Table.{seen, AreInOrder, AreBodies, Takes, StopsIn};
+ghost use Rattle.upc_macros.specs.code.Known.{AreKnown};
 
 use crate::directives::{Effect, directive_effect};
 use crate::known::Known;

@@ -2,8 +2,8 @@
 ghost use Rattle.std.specs.Prelude.{◌≡◌, ◌+◌, ◌≤◌, [], ◌∷◌, length, take, drop, IfOk, IfErr, OnOk};
 ghost use Rattle.upc_macros.specs.Replacing.{plain, placed};
 ghost use Rattle.upc_macros.specs.Expansion.{given, profile_of};
-ghost use Rattle.upc_macros.specs.Table.{Takes, StopsIn};
-ghost use Rattle.upc_macros.specs.Walk.{placed_items};
+ghost use Rattle.upc_macros.specs.code.Table.{Takes, StopsIn};
+ghost use Rattle.upc_macros.specs.code.Walk.{placed_items};
 
 use crate::spelling::spelling;
 use std::alloc::Global;

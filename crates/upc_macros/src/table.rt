@@ -1,7 +1,7 @@
 //! The macros that are defined.
 ghost use Rattle.std.specs.Prelude.{◌≡◌, ◌<◌, None, Some, length, slice_get, slice_set, IfSome, IfNone};
 ghost use Rattle.upc_lexer.specs.declared.token.TokenKind.TheVariants as kind;
-ghost use Rattle.upc_macros.specs.Table.{IsNumbered, NamesNoMacro};
+ghost use Rattle.upc_macros.specs.code.Table.{IsNumbered, NamesNoMacro};
 
 use upc_lexer::{Token, TokenKind};
 

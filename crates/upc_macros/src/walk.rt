@@ -2,10 +2,10 @@
 ghost use Rattle.std.specs.Prelude.{◌≡◌, ◌+◌, ◌-◌, ◌<◌, ◌≤◌, if◌then◌else◌, Some, None, [], ◌∷◌, length};
 ghost use Rattle.std.specs.Prelude.{slice_get, slice_set, nat_le, IfOk, IfErr, OnOk};
 ghost use Rattle.upc_macros.specs.Replacing.{plain, replaced};
-ghost use Rattle.upc_macros.specs.Table.{seen, AreInOrder, AreBodies, IsNumbered, IsWithin, Takes, StopsIn};
-ghost use Rattle.upc_macros.specs.Table.{macro_count};
-ghost use Rattle.upc_macros.specs.Walk.{IsFrame, placed_items, pending, put_back};
-ghost use Rattle.upc_macros.specs.Known.{is_defined, AreKnown};
+ghost use Rattle.upc_macros.specs.code.Table.{seen, AreInOrder, AreBodies, IsNumbered, IsWithin, Takes, StopsIn};
+ghost use Rattle.upc_macros.specs.code.Table.{macro_count};
+ghost use Rattle.upc_macros.specs.code.Walk.{IsFrame, placed_items, pending, put_back};
+ghost use Rattle.upc_macros.specs.code.Known.{is_defined, AreKnown};
 
 use crate::known::Known;
 use crate::output::{emit, plain_token, repeat};

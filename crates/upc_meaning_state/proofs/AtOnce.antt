@@ -10,7 +10,7 @@ use Rattle.upc_values.specs.LibraryCalls.{library_call}
 use Rattle.thread_steps.specs.States.{Thread, State, Val, Over, choose, valued}
 use Rattle.thread_steps.specs.Actions.{exit}
 use Rattle.thread_steps.specs.Library.{library, formed_call, is_exit, first_number, private_shapes}
-use Rattle.thread_values.specs.Results.{asks_nothing, given_at_once}
+use Rattle.thread_values.specs.layer.Results.{asks_nothing, given_at_once}
 use Rattle.thread_values.proofs.AtOnce as once
 
 -- What a call gives at once, whatever the shapes, the thread and its private objects are.

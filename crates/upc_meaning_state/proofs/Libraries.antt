@@ -19,8 +19,8 @@ use Rattle.thread_steps.specs.Accesses.{run, expanded}
 use Rattle.thread_steps.specs.Values.{number}
 use Rattle.thread_steps.specs.Library.{library, is_formed}
 use Rattle.thread_values.specs.declared.library.LibraryStep.{LibraryStep}
-use Rattle.thread_values.specs.Results.{asks_nothing, given_at_once}
-use Rattle.thread_values.specs.Asking.{asks_once, expansion_of, DoesSoThere}
+use Rattle.thread_values.specs.layer.Results.{asks_nothing, given_at_once}
+use Rattle.thread_values.specs.layer.Asking.{asks_once, expansion_of, DoesSoThere}
 use Rattle.thread_values.proofs.Asking.{gives}
 use Rattle.thread_values.proofs.Asking as asking
 use Rattle.upc_meaning_state.specs.code.Libraries.{expanded_to, met_then}

@@ -2,10 +2,10 @@
 
 ghost use Rattle.std.specs.Prelude.{◌≡◌, IsTrue, All, IfOk, IfSome, true};
 ghost use Rattle.thread_steps.specs.Library as pure;
-ghost use Rattle.thread_steps.specs.Ranges.{IsNumber};
+ghost use Rattle.thread_steps.specs.layer.Ranges.{IsNumber};
 ghost use Rattle.thread_steps.specs.Values.{number_of};
 ghost use Rattle.upc_values.specs.LibraryCalls.{asks};
-ghost use Rattle.thread_values.specs.Asking.{expansion_of};
+ghost use Rattle.thread_values.specs.layer.Asking.{expansion_of};
 ghost use Rattle.upc_meaning_state.specs.code.Came.{Came, state_seen};
 ghost use Rattle.upc_meaning_state.specs.code.Libraries.{expanded_to, met_then};
 ghost use Rattle.upc_meaning_state.specs.code.Runners.{Fits, thread_seen};

@@ -7,7 +7,7 @@ ghost use Rattle.upc_types.specs.View.{view, view_base};
 ghost use Rattle.typing_rules.specs.Constants as constants;
 ghost use Rattle.thread_steps.specs.Operators as operators;
 ghost use Rattle.thread_steps.specs.Pointers as pointers;
-ghost use Rattle.thread_values.specs.Results.{IsRightKind, number_value, ordered};
+ghost use Rattle.thread_values.specs.layer.Results.{IsRightKind, number_value, ordered};
 ghost use Rattle.source_meaning.specs.Expressions as mean;
 ghost use Rattle.upc_meaning_state.specs.code.Came.{Came, state_seen};
 ghost use Rattle.upc_meaning_state.specs.code.Runners.{Fits, thread_seen};

@@ -3,10 +3,10 @@
 
 ghost use Rattle.std.specs.Prelude.{IsTrue};
 ghost use Rattle.integers.specs.Integers.{IsPromoted};
-ghost use Rattle.shared_pointers.specs.Ranges.{IsStep, IsTarget};
-ghost use Rattle.thread_steps.specs.Ranges.{IsHeld, IsHeldScalar, IsNumber, IsObject, IsShared};
+ghost use Rattle.shared_pointers.specs.layer.Ranges.{IsStep, IsTarget};
+ghost use Rattle.thread_steps.specs.layer.Ranges.{IsHeld, IsHeldScalar, IsNumber, IsObject, IsShared};
 ghost use Rattle.thread_steps.specs.Values as values;
-ghost use Rattle.thread_values.specs.Results.{IsCast};
+ghost use Rattle.thread_values.specs.layer.Results.{IsCast};
 ghost use Rattle.upc_meaning_state.specs.code.Runners.{IsHeldThere};
 
 use crate::runner::Runner;

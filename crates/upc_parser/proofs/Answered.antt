@@ -8,11 +8,11 @@ use Rattle.upc_text.specs.declared.faults.Stop.{Stop}
 use Rattle.upc_text.specs.declared.faults.Stop.TheVariants as s
 use Rattle.upc_tree.specs.declared.unit.Unit as u
 use Rattle.upc_tree.specs.Unit.{External, tokens_of, ProperUnit, IsTree}
-use Rattle.upc_tree.specs.ViewStatement.{view_unit}
+use Rattle.upc_tree.specs.layer.ViewStatement.{view_unit}
 use Rattle.upc_parser_ground.specs.declared.cursor.Fault.{Fault}
 use Rattle.upc_parser_ground.specs.declared.cursor.Fault.TheVariants.{NoTree, TooHigh}
-use Rattle.upc_parser_ground.specs.Outcome.{Outcome}
-use Rattle.upc_parser_statements.specs.Parse.{externals_at, unit_at}
+use Rattle.upc_parser_ground.specs.layer.Outcome.{Outcome}
+use Rattle.upc_parser_statements.specs.layer.Parse.{externals_at, unit_at}
 use Rattle.upc_parser.specs.Answer.{answer, settle, settled_fault, code_of, Ends, Answers, RefusedBy, OnlyRefused}
 use Rattle.upc_parser.proofs.Laws as laws
 

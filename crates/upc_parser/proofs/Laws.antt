@@ -6,9 +6,9 @@ use Rattle.upc_lexer.specs.declared.token.Token.{Token}
 use Rattle.upc_tree.specs.Unit.{External, height_unit, tokens_of, ProperUnit, IsTree}
 use Rattle.upc_parser_ground.specs.declared.cursor.Fault.{Fault}
 use Rattle.upc_parser_ground.specs.declared.cursor.Fault.TheVariants.{NoTree, TooHigh}
-use Rattle.upc_parser_ground.specs.Outcome.{Outcome}
+use Rattle.upc_parser_ground.specs.layer.Outcome.{Outcome}
 use Rattle.upc_parser_ground.proofs.Sequence.{Gets, gets, high}
-use Rattle.upc_parser_statements.specs.Parse.{unit_at}
+use Rattle.upc_parser_statements.specs.layer.Parse.{unit_at}
 use Rattle.upc_parser.specs.Answer.{settle, answer}
 use Rattle.upc_parser_laws.proofs.Low.{low_unit}
 use Rattle.upc_parser_laws.proofs.CompleteUnit.{unit_reads}

@@ -9,11 +9,11 @@ use Rattle.upc_text.specs.declared.faults.Stop.{Stop}
 use Rattle.upc_text.specs.declared.faults.Stop.TheVariants as s
 use Rattle.upc_tree.specs.declared.unit.Unit as u
 use Rattle.upc_tree.specs.Unit.{External, height_limit}
-use Rattle.upc_tree.specs.ViewStatement.{view_unit}
+use Rattle.upc_tree.specs.layer.ViewStatement.{view_unit}
 use Rattle.upc_parser_ground.specs.declared.cursor.Fault.{Fault}
 use Rattle.upc_parser_ground.specs.declared.cursor.Fault.TheVariants.{NoTree, TooHigh}
-use Rattle.upc_parser_ground.specs.Outcome.{Outcome}
-use Rattle.upc_parser_statements.specs.Parse.{unit_at}
+use Rattle.upc_parser_ground.specs.layer.Outcome.{Outcome}
+use Rattle.upc_parser_statements.specs.layer.Parse.{unit_at}
 
 -- Why there is no tree, where no tree of fewer than 256 tokens is too high.
 abbrev pub settled_fault : ℕ → Fault → Fault

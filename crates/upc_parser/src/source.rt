@@ -4,7 +4,7 @@ ghost use Rattle.std.specs.Prelude.{◌≡◌, ◌≤◌, List, length, IfOk};
 ghost use Rattle.upc_text.specs.declared.place.Code.TheVariants as code;
 ghost use Rattle.upc_tree.specs.Unit as tree;
 ghost use Rattle.upc_tree.specs.Unit.{IsTree, ProperUnit};
-ghost use Rattle.upc_tree.specs.ViewStatement.{view_unit};
+ghost use Rattle.upc_tree.specs.layer.ViewStatement.{view_unit};
 ghost use Rattle.upc_parser.specs.Answer.{Answers, RefusedBy, OnlyRefused, IsRefusal, Ends, HasPlace, answer};
 ghost use Rattle.upc_parser.specs.Answer.{settled_fault};
 

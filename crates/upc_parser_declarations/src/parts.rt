@@ -1,10 +1,10 @@
 //! Parts of a source that are no functions (C99 6.9; UPC 6.7).
 
 ghost use Rattle.std.specs.Prelude.{◌<◌};
-ghost use Rattle.upc_tree.specs.View.{view_specs, view_declarator};
-ghost use Rattle.upc_tree.specs.ViewStatement.{view_external};
-ghost use Rattle.upc_parser_ground.specs.Run.{Reads};
-ghost use Rattle.upc_parser_declarations.specs.Parse as spec;
+ghost use Rattle.upc_tree.specs.layer.View.{view_specs, view_declarator};
+ghost use Rattle.upc_tree.specs.layer.ViewStatement.{view_external};
+ghost use Rattle.upc_parser_ground.specs.layer.Run.{Reads};
+ghost use Rattle.upc_parser_declarations.specs.layer.Parse as spec;
 
 use crate::declarations::{initial, next_declareds};
 use crate::heads::pragma;

@@ -1,8 +1,8 @@
 //! Statements and items that hold no statement (C99 6.8, UPC 6.6).
 
-ghost use Rattle.upc_tree.specs.ViewStatement.{view_statement, view_block_item, view_switch_item};
-ghost use Rattle.upc_parser_ground.specs.Run.{Reads, boxed};
-ghost use Rattle.upc_parser_declarations.specs.Parse as spec;
+ghost use Rattle.upc_tree.specs.layer.ViewStatement.{view_statement, view_block_item, view_switch_item};
+ghost use Rattle.upc_parser_ground.specs.layer.Run.{Reads, boxed};
+ghost use Rattle.upc_parser_declarations.specs.layer.Parse as spec;
 
 use crate::declarations::declaration;
 use crate::heads::value;

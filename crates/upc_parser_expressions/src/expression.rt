@@ -3,12 +3,12 @@
 ghost use Rattle.std.specs.Prelude.{◌≡◌, ◌≤◌, ◌<◌, nat_le, length};
 ghost use Rattle.upc_tree.specs.Expression.{height};
 ghost use Rattle.upc_tree.specs.Proper.{level};
-ghost use Rattle.upc_tree.specs.View.{view, view_arguments, view_next_expr, view_next_exprs};
-ghost use Rattle.upc_parser_types.specs.Expression as spec;
-ghost use Rattle.upc_parser_types.specs.Expression.{at_height};
-ghost use Rattle.upc_parser_ground.specs.Outcome.{span_of, string};
-ghost use Rattle.upc_parser_ground.specs.Run.{Reads, boxed, same};
-ghost use Rattle.upc_parser_types.specs.Run.{Nests};
+ghost use Rattle.upc_tree.specs.layer.View.{view, view_arguments, view_next_expr, view_next_exprs};
+ghost use Rattle.upc_parser_types.specs.layer.Expression as spec;
+ghost use Rattle.upc_parser_types.specs.layer.Expression.{at_height};
+ghost use Rattle.upc_parser_ground.specs.layer.Outcome.{span_of, string};
+ghost use Rattle.upc_parser_ground.specs.layer.Run.{Reads, boxed, same};
+ghost use Rattle.upc_parser_types.specs.layer.Run.{Nests};
 
 use std::alloc::Global;
 use upc_parser_ground::boxed;

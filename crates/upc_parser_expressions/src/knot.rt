@@ -1,8 +1,8 @@
 //! The two functions that call each other through the rules.
 
-ghost use Rattle.upc_tree.specs.View.{view, view_spec};
-ghost use Rattle.upc_parser_types.specs.Expression.{at_height};
-ghost use Rattle.upc_parser_ground.specs.Run.{Reads, boxed};
+ghost use Rattle.upc_tree.specs.layer.View.{view, view_spec};
+ghost use Rattle.upc_parser_types.specs.layer.Expression.{at_height};
+ghost use Rattle.upc_parser_ground.specs.layer.Run.{Reads, boxed};
 
 use crate::expression::Expressions;
 use std::alloc::Global;

@@ -1,11 +1,11 @@
 //! Lists and parts of types, each of at most height n.
 
 ghost use Rattle.std.specs.Prelude.{◌<◌};
-ghost use Rattle.upc_tree.specs.View.{view_next_exprs, view_specs, view_pointers, view_dimensions, view_declarator};
-ghost use Rattle.upc_tree.specs.View.{view_parameters};
-ghost use Rattle.upc_parser_types.specs.Expression as spec;
-ghost use Rattle.upc_parser_types.specs.Expression.{at_height};
-ghost use Rattle.upc_parser_ground.specs.Run.{Reads, boxed};
+ghost use Rattle.upc_tree.specs.layer.View.{view_next_exprs, view_specs, view_pointers, view_dimensions, view_declarator};
+ghost use Rattle.upc_tree.specs.layer.View.{view_parameters};
+ghost use Rattle.upc_parser_types.specs.layer.Expression as spec;
+ghost use Rattle.upc_parser_types.specs.layer.Expression.{at_height};
+ghost use Rattle.upc_parser_ground.specs.layer.Run.{Reads, boxed};
 
 use crate::expression::Expressions;
 use crate::knot::{expr, structure};

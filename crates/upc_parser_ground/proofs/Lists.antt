@@ -1,8 +1,8 @@
 -- Lists of items, in both directions.
 use Rattle.std.proofs.Common.{◌≡◌, ℕ, zero, suc, ◌<◌, ◌≤◌, Bool, true, false, List, [], ◌∷◌, length, Ok, refl, sym, ap, ◌∙◌, subst, inl, inr, arith}
 use Rattle.upc_lexer.specs.declared.token.Token.{Token}
-use Rattle.upc_tree.specs.Lists.{spell_all, highest}
-use Rattle.upc_parser_ground.specs.Outcome.{Parser, ◌>>=◌, many, all, listed}
+use Rattle.upc_tree.specs.layer.Lists.{spell_all, highest}
+use Rattle.upc_parser_ground.specs.layer.Outcome.{Parser, ◌>>=◌, many, all, listed}
 use Rattle.upc_parser_ground.proofs.Sequence.{Gets, gets, step, bind_ok, done, ok_is, either, no_both}
 
 abbrev pub AllOf : {X : Type 0} → (X → Type 0) → List X → Type 0

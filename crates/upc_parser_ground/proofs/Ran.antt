@@ -6,8 +6,8 @@ use Rattle.upc_parser_ground.specs.declared.cursor.Tokens.{Tokens}
 use Rattle.upc_parser_ground.specs.declared.cursor.Fault.{Fault}
 use Rattle.upc_parser_ground.specs.declared.cursor.Fail.{Fail}
 use Rattle.upc_parser_ground.specs.declared.cursor.Fail.TheVariants as fail
-use Rattle.upc_parser_ground.specs.Outcome.{Outcome, Parser, ◌>>=◌, many, all, listed}
-use Rattle.upc_parser_ground.specs.Run.{Reads, same, Steps, none, more, Ran}
+use Rattle.upc_parser_ground.specs.layer.Outcome.{Outcome, Parser, ◌>>=◌, many, all, listed}
+use Rattle.upc_parser_ground.specs.layer.Run.{Reads, same, Steps, none, more, Ran}
 
 abbrev with_front : {A : Type 0} → List A → Outcome (List A) → Outcome (List A)
 with_front front o = o >>= λ r. Ok (front ++ r.0, r.1)

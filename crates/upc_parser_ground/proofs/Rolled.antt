@@ -11,7 +11,7 @@ use Rattle.upc_tree.specs.declared.expression.ParameterArray.{ParameterArray}
 use Rattle.upc_tree.specs.declared.expression.TypeName.{roll-TypeName, out-roll-TypeName}
 use Rattle.upc_tree.specs.declared.expression.Member.{roll-Member, out-roll-Member}
 use Rattle.upc_tree.specs.declared.expression.Parameter.{roll-Parameter, out-roll-Parameter}
-use Rattle.upc_tree.specs.View.{view_specs, view_pointers, view_dimensions, view_declarator, view_next_declarators, view_array, view_type, view_member, view_parameter}
+use Rattle.upc_tree.specs.layer.View.{view_specs, view_pointers, view_dimensions, view_declarator, view_next_declarators, view_array, view_type, view_member, view_parameter}
 use Rattle.upc_tree.specs.Expression as t
 use Rattle.upc_tree.proofs.Rows.{type_is, member_is, parameter_is}
 

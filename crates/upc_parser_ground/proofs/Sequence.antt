@@ -13,8 +13,8 @@ use Rattle.upc_tree.specs.declared.span.StringLiteral.{StringLiteral}
 use Rattle.upc_tree.specs.Tokens.{token, punct, word, name_token, string_token}
 use Rattle.upc_parser_ground.specs.declared.cursor.Fault.{Fault}
 use Rattle.upc_parser_ground.specs.declared.cursor.Fault.TheVariants.{NoTree, TooHigh}
-use Rattle.upc_parser_ground.specs.Outcome.{Outcome, ◌>>=◌, span_of, is_punct, is_word, starts, starts_two, expect, expect_punct, expect_word}
-use Rattle.upc_parser_ground.specs.Outcome.{name, name_by, string, string_by}
+use Rattle.upc_parser_ground.specs.layer.Outcome.{Outcome, ◌>>=◌, span_of, is_punct, is_word, starts, starts_two, expect, expect_punct, expect_word}
+use Rattle.upc_parser_ground.specs.layer.Outcome.{name, name_by, string, string_by}
 use Rattle.upc_parser_ground.proofs.TableFacts.{is_punct_is, is_word_is}
 
 -- ---- what is read: the tree, unless it is too high

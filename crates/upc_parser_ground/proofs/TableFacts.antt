@@ -33,8 +33,8 @@ use Rattle.upc_parser_ground.specs.declared.start.QualWord.{QualWord}
 use Rattle.upc_parser_ground.specs.declared.start.QualWord.TheVariants as q
 use Rattle.upc_parser_ground.specs.declared.start.SpecStart.{SpecStart}
 use Rattle.upc_parser_ground.specs.declared.start.SpecStart.TheVariants as spec
-use Rattle.upc_parser_ground.specs.Outcome.{is_punct, is_word}
-use Rattle.upc_parser_ground.specs.Tables.{prefix_of, suffix_of, joint_by, joint_of, joint_level, left_least, qual_of, spec_by, qual_start, spec_start, is_spec, is_qual, takes_spec}
+use Rattle.upc_parser_ground.specs.layer.Outcome.{is_punct, is_word}
+use Rattle.upc_parser_ground.specs.layer.Tables.{prefix_of, suffix_of, joint_by, joint_of, joint_level, left_least, qual_of, spec_by, qual_start, spec_start, is_spec, is_qual, takes_spec}
 
 -- ---- a mark or a word that passes is that one
 

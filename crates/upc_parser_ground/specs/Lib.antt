@@ -1,4 +1,1 @@
-pub mod Outcome
-pub mod Tables
-pub mod Ahead
-pub mod Run
+pub mod layer

@@ -1,8 +1,8 @@
 //! What comes next among the tokens.
 
 ghost use Rattle.std.specs.Prelude.{◌≡◌};
-ghost use Rattle.upc_parser_ground.specs.Outcome.{starts, starts_two};
-ghost use Rattle.upc_parser_ground.specs.Ahead.{passes, shows};
+ghost use Rattle.upc_parser_ground.specs.layer.Outcome.{starts, starts_two};
+ghost use Rattle.upc_parser_ground.specs.layer.Ahead.{passes, shows};
 
 use crate::cursor::{is_punct, is_word};
 use crate::start::{is_qual, is_spec, is_string};

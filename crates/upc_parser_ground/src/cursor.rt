@@ -2,9 +2,9 @@
 
 ghost use Rattle.std.specs.Prelude.{◌≡◌};
 ghost use Rattle.upc_parser_ground.specs.declared.cursor.Fail.TheVariants.{Memory};
-ghost use Rattle.upc_parser_ground.specs.Outcome.{is_punct, is_word, span_of, expect_punct, expect_word};
-ghost use Rattle.upc_parser_ground.specs.Outcome.{name};
-ghost use Rattle.upc_parser_ground.specs.Run.{Reads, same};
+ghost use Rattle.upc_parser_ground.specs.layer.Outcome.{is_punct, is_word, span_of, expect_punct, expect_word};
+ghost use Rattle.upc_parser_ground.specs.layer.Outcome.{name};
+ghost use Rattle.upc_parser_ground.specs.layer.Run.{Reads, same};
 
 use std::alloc::{AllocError, AllocFailed};
 use upc_lexer::{Punct, Token, TokenKind, Word};

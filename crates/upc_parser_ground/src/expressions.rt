@@ -2,10 +2,10 @@
 
 ghost use Rattle.std.specs.Prelude.{◌≡◌, IfOk, Vec};
 ghost use Rattle.upc_tree.specs.Expression as t;
-ghost use Rattle.upc_tree.specs.View.{view, view_arguments, view_next_exprs, view_type, view_spec, view_specs};
-ghost use Rattle.upc_tree.specs.View.{view_layout, view_pointers, view_dimensions, view_members, view_member};
-ghost use Rattle.upc_tree.specs.View.{view_next_declarators, view_declarator, view_parameters, view_parameter};
-ghost use Rattle.upc_tree.specs.View.{view_next_parameter, view_next_parameters, view_array};
+ghost use Rattle.upc_tree.specs.layer.View.{view, view_arguments, view_next_exprs, view_type, view_spec, view_specs};
+ghost use Rattle.upc_tree.specs.layer.View.{view_layout, view_pointers, view_dimensions, view_members, view_member};
+ghost use Rattle.upc_tree.specs.layer.View.{view_next_declarators, view_declarator, view_parameters, view_parameter};
+ghost use Rattle.upc_tree.specs.layer.View.{view_next_parameter, view_next_parameters, view_array};
 
 use crate::boxes::boxed;
 use std::alloc::Global;

@@ -1,7 +1,7 @@
 //! Items one after the other.
 
-ghost use Rattle.upc_parser_ground.specs.Ahead.{shows};
-ghost use Rattle.upc_parser_ground.specs.Run.{Ran};
+ghost use Rattle.upc_parser_ground.specs.layer.Ahead.{shows};
+ghost use Rattle.upc_parser_ground.specs.layer.Run.{Ran};
 
 use crate::ahead::{Ahead, shows};
 use crate::cursor::{Fail, Tokens};

@@ -2,9 +2,9 @@
 
 ghost use Rattle.std.specs.Prelude.{◌≡◌};
 ghost use Rattle.upc_tree.specs.Marks.{binary_level, operand_level};
-ghost use Rattle.upc_parser_ground.specs.Tables.{assign_of, binary_of, other_joint, joint_by, qual_of, type_of};
-ghost use Rattle.upc_parser_ground.specs.Tables.{struct_of, spec_by, prefix_of, suffix_of, joint_of, joint_level};
-ghost use Rattle.upc_parser_ground.specs.Tables.{left_least, qual_start, spec_start, is_qual, is_spec, is_string};
+ghost use Rattle.upc_parser_ground.specs.layer.Tables.{assign_of, binary_of, other_joint, joint_by, qual_of, type_of};
+ghost use Rattle.upc_parser_ground.specs.layer.Tables.{struct_of, spec_by, prefix_of, suffix_of, joint_of, joint_level};
+ghost use Rattle.upc_parser_ground.specs.layer.Tables.{left_least, qual_start, spec_start, is_qual, is_spec, is_string};
 
 use upc_lexer::{Punct, TokenKind, Word};
 use upc_tree::{AssignMark, BinaryMark, MemberMark, PostfixMark, SizeWord, TypeWord, UnaryMark};

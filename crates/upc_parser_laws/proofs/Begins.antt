@@ -15,15 +15,15 @@ use Rattle.upc_tree.specs.Proper.{IsSome, ProperSpecs}
 use Rattle.upc_tree.specs.Declaration.{Declaration, Declares, spell_declaration, spell_declared_list, ProperDeclaration, IsLocal}
 use Rattle.upc_tree.specs.Statement as s
 use Rattle.upc_tree.specs.Statement.{Statement, Compound, Braces, BlockItem, DeclarationItem, StatementItem, BlockItems, NoBlockItems, AndBlockItem, SwitchItem, CaseItem, DefaultItem, SwitchStatement, ElseIfs, NoElseIfs, AndElseIf, Otherwise, NoOtherwise, Else, spell_value, spell_statement, spell_compound, spell_block_items, spell_block_item, spell_switch_item, spell_else_ifs, spell_otherwise, takes_else, takes_else_behind, is_if, KeepsElse, ProperBlockItem, ProperBlockItems}
-use Rattle.upc_parser_ground.specs.Outcome.{is_word, starts}
-use Rattle.upc_parser_ground.specs.Tables.{is_spec}
-use Rattle.upc_parser_ground.specs.Ahead.{is_pragma}
+use Rattle.upc_parser_ground.specs.layer.Outcome.{is_word, starts}
+use Rattle.upc_parser_ground.specs.layer.Tables.{is_spec}
+use Rattle.upc_parser_ground.specs.layer.Ahead.{is_pragma}
 use Rattle.upc_parser_ground.proofs.Sequence.{apart}
 use Rattle.upc_parser_laws.proofs.Stops.{begins, expr_begins}
 use Rattle.upc_parser_laws.proofs.CompleteTypes.{specs_begin}
 use Rattle.upc_parser_statements.specs.declared.start.StatementStart.TheVariants as start
-use Rattle.upc_parser_statements.specs.Tables.{statement_start}
-use Rattle.upc_parser_statements.specs.Parse.{no_brace}
+use Rattle.upc_parser_statements.specs.layer.Tables.{statement_start}
+use Rattle.upc_parser_statements.specs.layer.Parse.{no_brace}
 
 -- ---- tables
 

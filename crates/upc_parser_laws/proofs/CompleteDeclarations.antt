@@ -13,18 +13,18 @@ use Rattle.upc_tree.specs.Expression.{Expr, Declarator, ObjectDeclarator, Functi
 use Rattle.upc_tree.specs.Proper.{open_specs}
 use Rattle.upc_tree.specs.Declaration.{Initial, NoInitial, ValueInitial, ListInitial, Declared, DeclaredAs, NextDeclareds, NoNextDeclareds, AndDeclared, DeclaredList, NoneDeclared, SomeDeclared, Declaration, Declares, spell_initial, spell_declared, spell_next_declareds, spell_declared_list, spell_declaration, height_initial, height_declared, height_next_declareds, height_declared_list, height_declaration, ProperInitial, ProperDeclared, ProperNextDeclareds, ProperDeclaredList, ProperDeclaration, IsLocal}
 use Rattle.upc_tree.specs.Statement.{Test, Tests, First, FirstValue, FirstDeclaration, Affinity, NoAffinity, ContinueAffinity, ValueAffinity, ForHead, ForParts, ForallHead, ForallParts, spell_value, spell_test, spell_first, spell_affinity, spell_for, spell_forall, height_value, height_test, height_first, height_affinity, height_for, height_forall, ProperValue, ProperTest, ProperFirst, ProperAffinity, ProperFor, ProperForall}
-use Rattle.upc_tree.specs.Lists.{next_declareds_of}
+use Rattle.upc_tree.specs.layer.Lists.{next_declareds_of}
 use Rattle.upc_parser_ground.specs.declared.start.Joint.TheVariants as joint
-use Rattle.upc_parser_ground.specs.Outcome.{is_punct, is_word, starts, many}
-use Rattle.upc_parser_ground.specs.Tables.{is_spec}
-use Rattle.upc_parser_ground.specs.Ahead.{is_pragma}
-use Rattle.upc_parser_types.specs.Expression.{at_height}
+use Rattle.upc_parser_ground.specs.layer.Outcome.{is_punct, is_word, starts, many}
+use Rattle.upc_parser_ground.specs.layer.Tables.{is_spec}
+use Rattle.upc_parser_ground.specs.layer.Ahead.{is_pragma}
+use Rattle.upc_parser_types.specs.layer.Expression.{at_height}
 use Rattle.upc_parser_ground.proofs.Sequence.{Gets, gets, high, step, apart}
 use Rattle.upc_parser_ground.proofs.Lists.{Follows, listed_reads}
 use Rattle.upc_parser_laws.proofs.Stops.{Stops, stops_joint, stops_open, begins, expr_begins, expr_no_punct, expr_no_spec, Behind, behind_declarator}
 use Rattle.upc_parser_laws.proofs.CompleteTypes.{Named, stops_next, specs_reads, declarator_reads, next_exprs_reads}
 use Rattle.upc_parser_laws.proofs.CompleteExpressions.{reads}
-use Rattle.upc_parser_statements.specs.Parse.{value_initial, list_initial, initial, declared, next_declared, next_declareds, some_declared, declared_list, declaration, declaration_at, value, controlling, first, first_value, first_declaration, affinity, continue_affinity, value_affinity, for_head, forall_head, pragma, pragmas}
+use Rattle.upc_parser_statements.specs.layer.Parse.{value_initial, list_initial, initial, declared, next_declared, next_declareds, some_declared, declared_list, declaration, declaration_at, value, controlling, first, first_value, first_declaration, affinity, continue_affinity, value_affinity, for_head, forall_head, pragma, pragmas}
 use Rattle.upc_parser_laws.proofs.Listings.{spell_next_declared, height_next_declared, GoodNextDeclared, next_declareds_back, next_declareds_kind}
 use Rattle.upc_parser_laws.proofs.Low.{long_declared}
 use Rattle.upc_parser_laws.proofs.Begins.{local_begins}

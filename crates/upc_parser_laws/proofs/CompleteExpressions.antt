@@ -19,10 +19,10 @@ use Rattle.upc_parser_ground.specs.declared.start.Suffix.{Suffix}
 use Rattle.upc_parser_ground.specs.declared.start.Suffix.TheVariants as suffix
 use Rattle.upc_parser_ground.specs.declared.start.Joint.{Joint}
 use Rattle.upc_parser_ground.specs.declared.start.Joint.TheVariants as joint
-use Rattle.upc_parser_ground.specs.Outcome.{Outcome, Parser, ◌>>=◌, span_of, is_punct, starts, many}
-use Rattle.upc_parser_ground.specs.Tables.{suffix_of, joint_of, joint_level, left_least, is_spec, is_string}
-use Rattle.upc_parser_ground.specs.Outcome.{string}
-use Rattle.upc_parser_types.specs.Expression.{Level, strings, unary, size_type, size_expr, cast, paren, primary, grown, suffixed, postfix, first, joined_comma, conditional, joined, climb, climb_by, expr, level_above, at_height}
+use Rattle.upc_parser_ground.specs.layer.Outcome.{Outcome, Parser, ◌>>=◌, span_of, is_punct, starts, many}
+use Rattle.upc_parser_ground.specs.layer.Tables.{suffix_of, joint_of, joint_level, left_least, is_spec, is_string}
+use Rattle.upc_parser_ground.specs.layer.Outcome.{string}
+use Rattle.upc_parser_types.specs.layer.Expression.{Level, strings, unary, size_type, size_expr, cast, paren, primary, grown, suffixed, postfix, first, joined_comma, conditional, joined, climb, climb_by, expr, level_above, at_height}
 use Rattle.upc_parser_ground.proofs.TableFacts.{is_punct_is, unary_back, size_back, postfix_back, member_back, joint_punct, joint_back, joint_small, binary_small, binary_some, sides}
 use Rattle.upc_parser_ground.proofs.Sequence.{Gets, gets, high, step, cases_le}
 use Rattle.upc_parser_laws.proofs.Low.{long, long_arguments, long_next_exprs, some_height, some_arguments}

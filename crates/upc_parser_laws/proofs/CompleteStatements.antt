@@ -8,13 +8,13 @@ use Rattle.upc_tree.specs.Tokens.{punct, word}
 use Rattle.upc_tree.specs.Expression.{spell}
 use Rattle.upc_tree.specs.Statement as s
 use Rattle.upc_tree.specs.Statement.{Test, Statement, Compound, Braces, BlockItem, DeclarationItem, StatementItem, BlockItems, NoBlockItems, AndBlockItem, SwitchItem, CaseItem, DefaultItem, SwitchStatement, SwitchItems, NoSwitchItems, AndSwitchItem, ElseIfs, NoElseIfs, AndElseIf, Otherwise, NoOtherwise, Else, spell_test, spell_statement, spell_compound, spell_block_items, spell_block_item, spell_switch_items, spell_switch_item, spell_else_ifs, spell_otherwise, height_statement, height_compound, height_block_items, height_block_item, height_switch_items, height_switch_item, height_else_ifs, height_otherwise, takes_else, takes_else_behind, ProperStatement, ProperCompound, ProperBlockItems, ProperBlockItem, ProperSwitchItems, ProperSwitchItem, ProperElseIfs, ProperOtherwise}
-use Rattle.upc_tree.specs.Lists.{spell_all, block_items_of, switch_items_of, else_ifs_of}
-use Rattle.upc_parser_ground.specs.Outcome.{is_word, starts, starts_two}
+use Rattle.upc_tree.specs.layer.Lists.{spell_all, block_items_of, switch_items_of, else_ifs_of}
+use Rattle.upc_parser_ground.specs.layer.Outcome.{is_word, starts, starts_two}
 use Rattle.upc_parser_ground.proofs.Sequence.{Gets, gets, high, got, step, raise, along, not_two}
 use Rattle.upc_parser_ground.proofs.Lists.{Follows, listed_reads}
 use Rattle.upc_parser_laws.proofs.Stops.{begins, expr_begins}
 use Rattle.upc_parser_laws.proofs.CompleteExpressions.{reads}
-use Rattle.upc_parser_statements.specs.Parse.{declaration_item, case_item, default_item, value_statement, return_statement, barrier_statement, break_statement, continue_statement, fence_statement, Statements, statement_item, item, items, switch_statement, switch_item, switch_items, compound, else_if, else_ifs, else_part, otherwise, if_statement, switch, while_statement, do_statement, for_statement, forall_statement, block, statement, level_above, statements_at, no_brace}
+use Rattle.upc_parser_statements.specs.layer.Parse.{declaration_item, case_item, default_item, value_statement, return_statement, barrier_statement, break_statement, continue_statement, fence_statement, Statements, statement_item, item, items, switch_statement, switch_item, switch_items, compound, else_if, else_ifs, else_part, otherwise, if_statement, switch, while_statement, do_statement, for_statement, forall_statement, block, statement, level_above, statements_at, no_brace}
 use Rattle.upc_parser_laws.proofs.Listings.{spell_else_if, height_else_if, GoodElseIf, GoodElseIfs, block_items_back, block_items_kind, switch_items_back, switch_items_kind, else_ifs_back, else_ifs_kind}
 use Rattle.upc_parser_laws.proofs.Low.{long_block_item, long_switch_item, long_else_if}
 use Rattle.upc_parser_laws.proofs.Begins.{barrier_back, begins_value, statement_no_spec, statement_no_case, statement_no_default, local_begins, item_inside, item_no_else, items_no_pragma, switch_item_inside, switch_item_no_else, StopsElse, stops_else, keeps_stops, begins_if}

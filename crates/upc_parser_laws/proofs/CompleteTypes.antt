@@ -9,10 +9,10 @@ use Rattle.upc_tree.specs.declared.span.Name.{Name}
 use Rattle.upc_tree.specs.Tokens.{punct, word, name_token}
 use Rattle.upc_tree.specs.Expression.{Expr, Arguments, NoArguments, SomeArguments, NextExprs, NoNextExprs, AndExpr, TypeName, Typed, Specs, NoSpecs, AndSpec, Spec, WordSpec, QualSpec, TagSpec, StructSpec, Quals, NoQuals, AndQual, Qual, Const, Strict, Relaxed, Shared, Layout, NoLayout, IndefiniteLayout, StarLayout, BlockLayout, Pointers, NoPointers, AndPointer, Dimensions, NoDimensions, AndDimension, Members, NoMembers, AndMember, NextDeclarators, NoNextDeclarators, AndDeclarator, Declarator, ObjectDeclarator, FunctionDeclarator, Parameters, NoParameters, VoidParameters, SomeParameters, Parameter, Parametric, NextParameters, NoNextParameters, AndParameter, ParameterArray, NoArray, UnsizedArray, SizedArray, spell_name, spell, spell_arguments, spell_next_exprs, spell_type, spell_specs, spell_spec, spell_quals, spell_qual, spell_layout, spell_pointers, spell_dimensions, spell_members, spell_next_declarators, spell_declarator, spell_parameters, spell_parameter, spell_next_parameters, spell_array, height, height_arguments, height_next_exprs, height_type, height_specs, height_spec, height_quals, height_qual, height_layout, height_pointers, height_dimensions, height_members, height_next_declarators, height_declarator, height_parameters, height_parameter, height_next_parameters, height_array}
 use Rattle.upc_tree.specs.Proper.{level, IsSome, IsUnsized, open_qual, open_quals, open_spec, open_specs, open_pointers, Proper, ProperArguments, ProperNextExprs, ProperType, ProperSpecs, ProperSpec, ProperQuals, ProperQual, ProperLayout, ProperPointers, ProperDimensions, ProperMembers, ProperNextDeclarators, ProperDeclarator, ProperParameters, ProperParameter, ProperNextParameters, ProperArray}
-use Rattle.upc_tree.specs.Lists.{spell_member, height_member, specs_of, quals_of, pointers_of, dimensions_of, members_of, next_declarators_of, next_parameters_of, next_exprs_of}
-use Rattle.upc_parser_ground.specs.Outcome.{is_punct, starts}
-use Rattle.upc_parser_ground.specs.Tables.{is_spec, is_qual}
-use Rattle.upc_parser_types.specs.Expression.{Level, dimension, dimensions, empty_layout, star_layout, block_layout, layout, qual_by, qual, quals, pointer, pointers, spec, specs, plain_type, type_name, unsized_array, sized_array, array, optional_name, optional_by, parameter, next_parameter, next_parameters, no_parameters, void_parameters, some_parameters, parameters_in, parameters, declarator_by, declarator, next_declarator, next_declarators, member, members, struct_body, structure, next_expr, next_exprs, some_arguments, arguments}
+use Rattle.upc_tree.specs.layer.Lists.{spell_member, height_member, specs_of, quals_of, pointers_of, dimensions_of, members_of, next_declarators_of, next_parameters_of, next_exprs_of}
+use Rattle.upc_parser_ground.specs.layer.Outcome.{is_punct, starts}
+use Rattle.upc_parser_ground.specs.layer.Tables.{is_spec, is_qual}
+use Rattle.upc_parser_types.specs.layer.Expression.{Level, dimension, dimensions, empty_layout, star_layout, block_layout, layout, qual_by, qual, quals, pointer, pointers, spec, specs, plain_type, type_name, unsized_array, sized_array, array, optional_name, optional_by, parameter, next_parameter, next_parameters, no_parameters, void_parameters, some_parameters, parameters_in, parameters, declarator_by, declarator, next_declarator, next_declarators, member, members, struct_body, structure, next_expr, next_exprs, some_arguments, arguments}
 use Rattle.upc_parser_ground.proofs.TableFacts.{type_back}
 use Rattle.upc_parser_ground.proofs.Sequence.{Gets, gets, got, step}
 use Rattle.upc_parser_ground.proofs.Lists.{AllOf, Follows, Kind, listed_reads}

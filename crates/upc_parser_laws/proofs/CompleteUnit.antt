@@ -10,17 +10,17 @@ use Rattle.upc_tree.specs.Proper.{ProperPointers, ProperDeclarator, ProperParame
 use Rattle.upc_tree.specs.Declaration.{Initial, DeclaredAs, NextDeclareds, NoneDeclared, SomeDeclared, Declares, spell_initial, spell_next_declareds, spell_declared_list, height_initial, height_next_declareds, ProperInitial, ProperNextDeclareds}
 use Rattle.upc_tree.specs.Statement.{Compound, Braces, spell_compound, height_compound, ProperCompound}
 use Rattle.upc_tree.specs.Unit.{External, PragmaPart, DeclarationPart, FunctionPart, spell_external, spell_externals, height_external, height_externals, height_unit, tokens_of, ProperExternal, ProperExternals, IsFilled, ProperUnit}
-use Rattle.upc_tree.specs.Lists.{spell_all}
-use Rattle.upc_parser_ground.specs.Outcome.{is_punct, starts}
-use Rattle.upc_parser_ground.specs.Ahead.{is_any}
-use Rattle.upc_parser_types.specs.Expression.{at_height}
+use Rattle.upc_tree.specs.layer.Lists.{spell_all}
+use Rattle.upc_parser_ground.specs.layer.Outcome.{is_punct, starts}
+use Rattle.upc_parser_ground.specs.layer.Ahead.{is_any}
+use Rattle.upc_parser_types.specs.layer.Expression.{at_height}
 use Rattle.upc_parser_ground.proofs.Sequence.{Gets, gets, high, step, raise, along}
 use Rattle.upc_parser_ground.proofs.Lists.{Follows, many_reads}
 use Rattle.upc_parser_laws.proofs.Stops.{stops_open, quiet_name, behind_named, behind_declarator}
 use Rattle.upc_parser_laws.proofs.CompleteTypes.{Freely, specs_reads, pointers_reads, dimensions_reads, parameters_reads, sizes_no_paren, parameters_paren}
 use Rattle.upc_parser_laws.proofs.CompleteExpressions.{reads}
-use Rattle.upc_parser_statements.specs.Parse as parse
-use Rattle.upc_parser_statements.specs.Parse.{none_declared, function_body, behind_name, behind_specs, declaration_or_function, node_at, pragma_part, external_at, all_externals, externals_at, unit_at}
+use Rattle.upc_parser_statements.specs.layer.Parse as parse
+use Rattle.upc_parser_statements.specs.layer.Parse.{none_declared, function_body, behind_name, behind_specs, declaration_or_function, node_at, pragma_part, external_at, all_externals, externals_at, unit_at}
 use Rattle.upc_parser_laws.proofs.Listings.{externals_spelled, externals_highs, externals_goods}
 use Rattle.upc_parser_laws.proofs.Low.{long_external}
 use Rattle.upc_parser_laws.proofs.Begins.{specs_no_pragma}

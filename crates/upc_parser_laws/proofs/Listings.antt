@@ -6,7 +6,7 @@ use Rattle.upc_tree.specs.declared.span.Span.{Span}
 use Rattle.upc_tree.specs.Tokens.{punct}
 use Rattle.upc_tree.specs.Expression.{Expr, NextExprs, NoNextExprs, AndExpr, Specs, NoSpecs, AndSpec, Quals, NoQuals, AndQual, Pointers, NoPointers, AndPointer, Dimensions, NoDimensions, AndDimension, Members, NoMembers, AndMember, NextDeclarators, NoNextDeclarators, AndDeclarator, NextParameters, NoNextParameters, AndParameter, Spec, Qual, Declarator, Parameter, spell, spell_spec, spell_qual, spell_quals, spell_declarator, spell_parameter, spell_next_exprs, spell_specs, spell_pointers, spell_dimensions, spell_members, spell_next_declarators, spell_next_parameters, height, height_spec, height_qual, height_quals, height_declarator, height_parameter, height_next_exprs, height_specs, height_pointers, height_dimensions, height_members, height_next_declarators, height_next_parameters}
 use Rattle.upc_tree.specs.Proper.{level, IsSome, Proper, ProperSpec, ProperQual, ProperDeclarator, ProperParameter, ProperNextExprs, ProperSpecs, ProperQuals, ProperPointers, ProperDimensions, ProperMembers, ProperNextDeclarators, ProperNextParameters}
-use Rattle.upc_tree.specs.Lists.{spell_all, highest, spell_member, height_member, next_exprs_of, specs_of, quals_of, pointers_of, dimensions_of, members_of, next_declarators_of, next_parameters_of}
+use Rattle.upc_tree.specs.layer.Lists.{spell_all, highest, spell_member, height_member, next_exprs_of, specs_of, quals_of, pointers_of, dimensions_of, members_of, next_declarators_of, next_parameters_of}
 use Rattle.upc_parser_ground.proofs.Lists.{AllOf, Kind}
 
 -- ---- items

@@ -12,17 +12,17 @@ use Rattle.upc_tree.specs.Tokens.{token, pragma_token, spell_pragmas}
 use Rattle.upc_tree.specs.Expression.{Expr, spell, spell_next_exprs, spell_specs, spell_declarator}
 use Rattle.upc_tree.specs.Declaration.{Initial, Declared, NextDeclareds, DeclaredList, Declaration, spell_initial, spell_declared, spell_next_declareds, spell_declared_list, spell_declaration, height_initial, height_declared, height_next_declareds, height_declared_list, height_declaration, ProperInitial, ProperDeclared, ProperNextDeclareds, ProperDeclaredList, ProperDeclaration, IsLocal}
 use Rattle.upc_tree.specs.Statement.{Test, First, Affinity, ForHead, ForallHead, spell_value, spell_test, spell_first, spell_affinity, spell_for, spell_forall, height_value, height_test, height_first, height_affinity, height_for, height_forall, ProperValue, ProperTest, ProperFirst, ProperAffinity, ProperFor, ProperForall}
-use Rattle.upc_tree.specs.Lists.{next_declareds_of}
-use Rattle.upc_parser_ground.specs.Outcome.{span_of, is_punct, is_word, starts, starts_two, expect_punct, expect_word, many}
-use Rattle.upc_parser_ground.specs.Tables.{is_spec}
-use Rattle.upc_parser_ground.specs.Ahead.{is_pragma}
-use Rattle.upc_parser_types.specs.Expression.{at_height, next_exprs, specs, declarator}
+use Rattle.upc_tree.specs.layer.Lists.{next_declareds_of}
+use Rattle.upc_parser_ground.specs.layer.Outcome.{span_of, is_punct, is_word, starts, starts_two, expect_punct, expect_word, many}
+use Rattle.upc_parser_ground.specs.layer.Tables.{is_spec}
+use Rattle.upc_parser_ground.specs.layer.Ahead.{is_pragma}
+use Rattle.upc_parser_types.specs.layer.Expression.{at_height, next_exprs, specs, declarator}
 use Rattle.upc_parser_ground.proofs.Sequence.{bind_ok, done, ok_is, either, behind, punct_ok, word_ok}
 use Rattle.upc_parser_ground.proofs.Lists.{Finding, found, listed_finds}
 use Rattle.upc_parser_laws.proofs.CompleteTypes.{Freely}
 use Rattle.upc_parser_laws.proofs.SoundTypes.{next_exprs_finds, declarator_finds, specs_finds}
 use Rattle.upc_parser_laws.proofs.SoundExpressions.{finds}
-use Rattle.upc_parser_statements.specs.Parse.{value_initial, list_initial, initial, declared, next_declared, next_declareds, some_declared, declared_list, declaration, declaration_at, value, controlling, first, first_value, first_declaration, affinity, continue_affinity, value_affinity, for_head, forall_head, pragma, pragma_by, pragmas}
+use Rattle.upc_parser_statements.specs.layer.Parse.{value_initial, list_initial, initial, declared, next_declared, next_declareds, some_declared, declared_list, declaration, declaration_at, value, controlling, first, first_value, first_declaration, affinity, continue_affinity, value_affinity, for_head, forall_head, pragma, pragma_by, pragmas}
 use Rattle.upc_parser_laws.proofs.Listings.{spell_next_declared, height_next_declared, GoodNextDeclared, next_declareds_kind}
 
 abbrev pub GoodLocal : Declaration → Type 0

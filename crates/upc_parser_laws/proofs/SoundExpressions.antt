@@ -18,19 +18,19 @@ use Rattle.upc_parser_ground.specs.declared.start.Suffix.{Suffix}
 use Rattle.upc_parser_ground.specs.declared.start.Suffix.TheVariants as suffix
 use Rattle.upc_parser_ground.specs.declared.start.Joint.{Joint}
 use Rattle.upc_parser_ground.specs.declared.start.Joint.TheVariants as joint
-use Rattle.upc_parser_ground.specs.Outcome.{Parser, span_of, starts, many}
-use Rattle.upc_parser_ground.specs.Tables.{prefix_of, suffix_of, joint_of, joint_level, left_least, is_string}
-use Rattle.upc_parser_ground.specs.Outcome.{string}
-use Rattle.upc_parser_types.specs.Expression.{Level, strings, opens_type, goes_on, unary, size_type, size_expr, cast, paren, primary, primary_by, grown, suffixed, postfix, postfix_by, first, prefix_by, joined_comma, conditional, joined, climb, climb_by, expr, level_above, at_height}
+use Rattle.upc_parser_ground.specs.layer.Outcome.{Parser, span_of, starts, many}
+use Rattle.upc_parser_ground.specs.layer.Tables.{prefix_of, suffix_of, joint_of, joint_level, left_least, is_string}
+use Rattle.upc_parser_ground.specs.layer.Outcome.{string}
+use Rattle.upc_parser_types.specs.layer.Expression.{Level, strings, opens_type, goes_on, unary, size_type, size_expr, cast, paren, primary, primary_by, grown, suffixed, postfix, postfix_by, first, prefix_by, joined_comma, conditional, joined, climb, climb_by, expr, level_above, at_height}
 use Rattle.std.proofs.lemmas.Bool.{leb-true}
 use Rattle.upc_lexer.specs.declared.token.Word.TheVariants as w
 use Rattle.upc_tree.specs.declared.mark.SizeWord.{SizeWord}
 use Rattle.upc_tree.specs.Tokens.{token}
 use Rattle.upc_parser_ground.specs.declared.start.Prefix.{Prefix}
 use Rattle.upc_parser_ground.specs.declared.start.Prefix.TheVariants as prefix
-use Rattle.upc_parser_ground.specs.Outcome.{expect_punct}
-use Rattle.upc_parser_ground.specs.Outcome.{name}
-use Rattle.upc_parser_types.specs.Expression.{next_exprs, type_name, plain_type, size}
+use Rattle.upc_parser_ground.specs.layer.Outcome.{expect_punct}
+use Rattle.upc_parser_ground.specs.layer.Outcome.{name}
+use Rattle.upc_parser_types.specs.layer.Expression.{next_exprs, type_name, plain_type, size}
 use Rattle.upc_parser_ground.proofs.TableFacts.{unary_forth, size_forth, suffix_punct, suffix_forth, joint_punct, joint_forth, binary_small}
 use Rattle.upc_parser_ground.proofs.Sequence.{bind_ok, done, ok_is, if_ok, either, both_true, behind, punct_ok, name_ok, string_ok}
 use Rattle.upc_parser_laws.proofs.SoundTypes.{FoundExpr, Finds, plain_finds, type_finds, next_exprs_finds, arguments_finds, structure_finds}

@@ -11,18 +11,18 @@ use Rattle.upc_tree.specs.Marks.{barrier_word}
 use Rattle.upc_tree.specs.Tokens.{token, word, spell_pragmas}
 use Rattle.upc_tree.specs.Expression.{spell}
 use Rattle.upc_tree.specs.Statement.{Test, Statement, Compound, BlockItem, BlockItems, SwitchItem, SwitchItems, ElseIfs, Otherwise, NoOtherwise, Else, spell_value, spell_test, spell_for, spell_forall, spell_statement, spell_compound, spell_block_items, spell_block_item, spell_switch_items, spell_switch_item, spell_else_ifs, spell_otherwise, height_statement, height_compound, height_block_items, height_block_item, height_switch_items, height_switch_item, height_else_ifs, height_otherwise, takes_else, takes_else_behind, is_if, ProperStatement, ProperCompound, ProperBlockItems, ProperBlockItem, ProperSwitchItems, ProperSwitchItem, ProperElseIfs, ProperOtherwise}
-use Rattle.upc_tree.specs.Lists.{block_items_of, switch_items_of, else_ifs_of}
-use Rattle.upc_parser_ground.specs.Outcome.{span_of, is_word, starts, starts_two, expect_punct, expect_word, all}
-use Rattle.upc_parser_ground.specs.Tables.{is_spec}
-use Rattle.upc_parser_types.specs.Expression.{at_height}
+use Rattle.upc_tree.specs.layer.Lists.{block_items_of, switch_items_of, else_ifs_of}
+use Rattle.upc_parser_ground.specs.layer.Outcome.{span_of, is_word, starts, starts_two, expect_punct, expect_word, all}
+use Rattle.upc_parser_ground.specs.layer.Tables.{is_spec}
+use Rattle.upc_parser_types.specs.layer.Expression.{at_height}
 use Rattle.upc_parser_ground.proofs.Sequence.{bind_ok, done, ok_is, either, behind, punct_ok, word_ok}
 use Rattle.upc_parser_ground.proofs.Lists.{AllOf, Follows, Finding, found, many_ends, FoundList, listed_finds}
 use Rattle.upc_parser_laws.proofs.CompleteTypes.{Freely}
 use Rattle.upc_parser_laws.proofs.SoundExpressions.{finds}
 use Rattle.upc_parser_statements.specs.declared.start.StatementStart.{StatementStart}
 use Rattle.upc_parser_statements.specs.declared.start.StatementStart.TheVariants as start
-use Rattle.upc_parser_statements.specs.Tables.{statement_start}
-use Rattle.upc_parser_statements.specs.Parse.{declaration_at, value, controlling, for_head, forall_head, pragmas, declaration_item, case_item, default_item, value_statement, return_statement, barrier_statement, break_statement, continue_statement, fence_statement, Statements, statement_item, item, items, switch_statement, switch_item, switch_items, compound, else_if, else_ifs, else_part, otherwise, if_statement, switch, while_statement, do_statement, for_statement, forall_statement, block, statement_by, statement, level_above, statements_at, no_brace}
+use Rattle.upc_parser_statements.specs.layer.Tables.{statement_start}
+use Rattle.upc_parser_statements.specs.layer.Parse.{declaration_at, value, controlling, for_head, forall_head, pragmas, declaration_item, case_item, default_item, value_statement, return_statement, barrier_statement, break_statement, continue_statement, fence_statement, Statements, statement_item, item, items, switch_statement, switch_item, switch_items, compound, else_if, else_ifs, else_part, otherwise, if_statement, switch, while_statement, do_statement, for_statement, forall_statement, block, statement_by, statement, level_above, statements_at, no_brace}
 use Rattle.upc_parser_laws.proofs.Listings.{spell_else_if, height_else_if, GoodElseIf, GoodElseIfs, block_items_kind, switch_items_kind, else_ifs_kind, else_ifs_spelled}
 use Rattle.upc_parser_laws.proofs.Low.{long_else_if}
 use Rattle.upc_parser_laws.proofs.Begins.{StopsElse, stops_keeps, begins_if}

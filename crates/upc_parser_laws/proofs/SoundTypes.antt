@@ -11,10 +11,10 @@ use Rattle.upc_tree.specs.Marks.{type_word}
 use Rattle.upc_tree.specs.Tokens.{token, punct, word, name_token}
 use Rattle.upc_tree.specs.Expression.{Expr, Arguments, NextExprs, TypeName, Specs, NoSpecs, AndSpec, Spec, WordSpec, QualSpec, TagSpec, StructSpec, Quals, Qual, Shared, Layout, Pointers, NoPointers, Dimensions, NoDimensions, AndDimension, Members, NextDeclarators, Declarator, Parameters, Parameter, Parametric, NextParameters, NoNextParameters, ParameterArray, NoArray, UnsizedArray, SizedArray, spell_name, spell, spell_arguments, spell_next_exprs, spell_type, spell_specs, spell_spec, spell_quals, spell_qual, spell_layout, spell_pointers, spell_dimensions, spell_members, spell_next_declarators, spell_declarator, spell_parameters, spell_parameter, spell_next_parameters, spell_array, height, height_arguments, height_next_exprs, height_type, height_specs, height_spec, height_quals, height_qual, height_layout, height_pointers, height_dimensions, height_members, height_next_declarators, height_declarator, height_parameters, height_parameter, height_next_parameters, height_array}
 use Rattle.upc_tree.specs.Proper.{level, IsSome, KeepsSizes, IsUnsized, open_qual, open_quals, open_spec, open_specs, open_pointers, Proper, ProperArguments, ProperNextExprs, ProperType, ProperSpecs, ProperSpec, ProperQuals, ProperQual, ProperLayout, ProperPointers, ProperDimensions, ProperMembers, ProperNextDeclarators, ProperDeclarator, ProperParameters, ProperParameter, ProperNextParameters, ProperArray}
-use Rattle.upc_tree.specs.Lists.{spell_member, height_member, specs_of, quals_of, pointers_of, dimensions_of, members_of, next_declarators_of, next_parameters_of, next_exprs_of}
-use Rattle.upc_parser_ground.specs.Outcome.{is_punct, is_word, starts, starts_two, expect_punct, expect_word}
-use Rattle.upc_parser_ground.specs.Tables.{spec_start, is_spec, is_qual}
-use Rattle.upc_parser_types.specs.Expression.{Level, dimension, dimensions, empty_layout, star_layout, star_fills, block_layout, layout, qual_by, qual, quals, pointer, pointers, spec, spec_from, specs, qual_from, struct_by, plain_type, type_name, unsized_array, sized_array, array, optional_name, optional_by, parameter, next_parameter, next_parameters, no_parameters, void_parameters, some_parameters, parameters_in, parameters, declarator_by, declarator, next_declarator, next_declarators, member, members, struct_body, structure, next_expr, next_exprs, some_arguments, arguments}
+use Rattle.upc_tree.specs.layer.Lists.{spell_member, height_member, specs_of, quals_of, pointers_of, dimensions_of, members_of, next_declarators_of, next_parameters_of, next_exprs_of}
+use Rattle.upc_parser_ground.specs.layer.Outcome.{is_punct, is_word, starts, starts_two, expect_punct, expect_word}
+use Rattle.upc_parser_ground.specs.layer.Tables.{spec_start, is_spec, is_qual}
+use Rattle.upc_parser_types.specs.layer.Expression.{Level, dimension, dimensions, empty_layout, star_layout, star_fills, block_layout, layout, qual_by, qual, quals, pointer, pointers, spec, spec_from, specs, qual_from, struct_by, plain_type, type_name, unsized_array, sized_array, array, optional_name, optional_by, parameter, next_parameter, next_parameters, no_parameters, void_parameters, some_parameters, parameters_in, parameters, declarator_by, declarator, next_declarator, next_declarators, member, members, struct_body, structure, next_expr, next_exprs, some_arguments, arguments}
 use Rattle.upc_tree.specs.declared.mark.TypeWord.{TypeWord}
 use Rattle.upc_tree.specs.declared.mark.TypeWord.TheVariants as t
 use Rattle.std.proofs.Common.{inl, inr}
@@ -24,9 +24,9 @@ use Rattle.upc_parser_ground.specs.declared.start.QualWord.TheVariants as q
 use Rattle.upc_parser_ground.specs.declared.start.SpecStart.{SpecStart}
 use Rattle.upc_parser_ground.specs.declared.start.SpecStart.TheVariants as start
 use Rattle.upc_parser_ground.specs.declared.cursor.Fault.TheVariants.{NoTree}
-use Rattle.upc_parser_ground.specs.Outcome.{span_of}
-use Rattle.upc_parser_ground.specs.Tables.{qual_start}
-use Rattle.upc_parser_ground.specs.Outcome.{name}
+use Rattle.upc_parser_ground.specs.layer.Outcome.{span_of}
+use Rattle.upc_parser_ground.specs.layer.Tables.{qual_start}
+use Rattle.upc_parser_ground.specs.layer.Outcome.{name}
 use Rattle.upc_parser_ground.proofs.TableFacts.{qual_word, qual_forth, spec_forth}
 use Rattle.upc_parser_ground.proofs.Sequence.{bind_ok, done, ok_is, if_ok, either, behind, punct_ok, word_ok, name_ok}
 use Rattle.upc_parser_ground.proofs.Lists.{Follows, Finding, found, listed_finds}

@@ -8,16 +8,16 @@ use Rattle.upc_tree.specs.Expression.{Specs, Pointers, Declarator, ObjectDeclara
 use Rattle.upc_tree.specs.Proper.{IsSome, ProperSpecs, ProperPointers, ProperDeclarator, ProperParameters}
 use Rattle.upc_tree.specs.Declaration.{spell_initial, spell_next_declareds}
 use Rattle.upc_tree.specs.Unit.{External, spell_external, spell_externals, height_external, height_unit, ProperExternal, IsFilled, ProperUnit}
-use Rattle.upc_parser_ground.specs.Outcome.{is_punct, starts, expect_punct}
-use Rattle.upc_parser_ground.specs.Ahead.{is_pragma, is_any}
-use Rattle.upc_parser_ground.specs.Outcome.{name}
-use Rattle.upc_parser_types.specs.Expression.{at_height, specs, pointers, dimensions, parameters}
+use Rattle.upc_parser_ground.specs.layer.Outcome.{is_punct, starts, expect_punct}
+use Rattle.upc_parser_ground.specs.layer.Ahead.{is_pragma, is_any}
+use Rattle.upc_parser_ground.specs.layer.Outcome.{name}
+use Rattle.upc_parser_types.specs.layer.Expression.{at_height, specs, pointers, dimensions, parameters}
 use Rattle.upc_parser_ground.proofs.Sequence.{bind_ok, done, either, punct_ok, name_ok}
 use Rattle.upc_parser_ground.proofs.Lists.{Finding, found, many_finds, all_first}
 use Rattle.upc_parser_laws.proofs.CompleteTypes.{Freely}
 use Rattle.upc_parser_laws.proofs.SoundTypes.{specs_finds, pointers_finds, dimensions_finds, parameters_finds}
 use Rattle.upc_parser_laws.proofs.SoundExpressions.{finds}
-use Rattle.upc_parser_statements.specs.Parse.{initial, next_declareds, pragma, none_declared, behind_declarator, function_body, behind_parameters, behind_name, behind_specs, declaration_or_function, node_at, pragma_part, external_at, all_externals, unit_at, statements_at}
+use Rattle.upc_parser_statements.specs.layer.Parse.{initial, next_declareds, pragma, none_declared, behind_declarator, function_body, behind_parameters, behind_name, behind_specs, declaration_or_function, node_at, pragma_part, external_at, all_externals, unit_at, statements_at}
 use Rattle.upc_parser_laws.proofs.Listings.{externals_spelled, externals_highs, externals_good}
 use Rattle.upc_parser_laws.proofs.SoundDeclarations.{initial_finds, next_declareds_finds, pragma_finds}
 use Rattle.upc_parser_laws.proofs.SoundStatements.{finds_statements, above, over}

@@ -8,7 +8,7 @@ use Rattle.upc_tree.specs.Tokens.{punct, word}
 use Rattle.upc_tree.specs.Declaration.{Declared, NextDeclareds, NoNextDeclareds, AndDeclared, spell_declared, spell_next_declareds, height_declared, height_next_declareds, ProperDeclared, ProperNextDeclareds}
 use Rattle.upc_tree.specs.Statement.{Test, Statement, BlockItem, BlockItems, NoBlockItems, AndBlockItem, SwitchItem, SwitchItems, NoSwitchItems, AndSwitchItem, ElseIfs, NoElseIfs, AndElseIf, spell_test, spell_statement, spell_block_items, spell_block_item, spell_switch_items, spell_switch_item, spell_else_ifs, height_test, height_statement, height_block_items, height_block_item, height_switch_items, height_switch_item, height_else_ifs, ProperTest, ProperStatement, ProperBlockItems, ProperBlockItem, ProperSwitchItems, ProperSwitchItem}
 use Rattle.upc_tree.specs.Unit.{External, spell_external, spell_externals, height_external, height_externals, ProperExternal, ProperExternals}
-use Rattle.upc_tree.specs.Lists.{spell_all, highest, next_declareds_of, block_items_of, switch_items_of, else_ifs_of}
+use Rattle.upc_tree.specs.layer.Lists.{spell_all, highest, next_declareds_of, block_items_of, switch_items_of, else_ifs_of}
 use Rattle.upc_parser_ground.proofs.Lists.{AllOf, Kind}
 
 -- ---- items

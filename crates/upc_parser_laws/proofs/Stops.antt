@@ -24,9 +24,9 @@ use Rattle.upc_tree.specs.Proper.{level, IsSome, KeepsSizes, KeepsArray, is_void
 use Rattle.upc_tree.specs.Declaration.{is_static, NoStatic}
 use Rattle.upc_parser_ground.specs.declared.start.Joint.{Joint}
 use Rattle.upc_parser_ground.specs.declared.start.SpecStart.TheVariants as spec
-use Rattle.upc_parser_ground.specs.Outcome.{is_punct, is_word, starts, starts_two}
-use Rattle.upc_parser_ground.specs.Tables.{suffix_of, joint_of, joint_level, is_spec, is_qual, is_string, takes_spec}
-use Rattle.upc_parser_types.specs.Expression.{opens_type}
+use Rattle.upc_parser_ground.specs.layer.Outcome.{is_punct, is_word, starts, starts_two}
+use Rattle.upc_parser_ground.specs.layer.Tables.{suffix_of, joint_of, joint_level, is_spec, is_qual, is_string, takes_spec}
+use Rattle.upc_parser_types.specs.layer.Expression.{opens_type}
 use Rattle.upc_parser_ground.proofs.TableFacts.{is_punct_is, joint_punct, joint_back, joint_small, binary_small, type_back, qual_is_spec}
 use Rattle.upc_parser_ground.proofs.Sequence.{apart, unlike, no_both}
 

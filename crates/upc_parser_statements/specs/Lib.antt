@@ -1,3 +1,2 @@
-pub mod Tables
-pub mod Parse
-pub mod Run
+pub mod layer
+pub mod code

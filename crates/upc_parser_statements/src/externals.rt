@@ -1,10 +1,10 @@
 //! The parts of a source (C99 6.9).
 
 ghost use Rattle.std.specs.Prelude.{◌<◌, map};
-ghost use Rattle.upc_tree.specs.View.{view_specs, view_pointers, view_parameters};
-ghost use Rattle.upc_tree.specs.ViewStatement.{view_external, view_unit};
-ghost use Rattle.upc_parser_ground.specs.Run.{Reads, boxed};
-ghost use Rattle.upc_parser_statements.specs.Parse as spec;
+ghost use Rattle.upc_tree.specs.layer.View.{view_specs, view_pointers, view_parameters};
+ghost use Rattle.upc_tree.specs.layer.ViewStatement.{view_external, view_unit};
+ghost use Rattle.upc_parser_ground.specs.layer.Run.{Reads, boxed};
+ghost use Rattle.upc_parser_statements.specs.layer.Parse as spec;
 
 use crate::knot::compound;
 use upc_parser_declarations::{behind_declarator, none_declared, pragma_part};

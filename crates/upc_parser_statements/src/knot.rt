@@ -1,8 +1,8 @@
 //! The function that calls itself through the rules.
 
-ghost use Rattle.upc_tree.specs.ViewStatement.{view_statement, view_compound};
-ghost use Rattle.upc_parser_ground.specs.Run.{Reads, boxed};
-ghost use Rattle.upc_parser_statements.specs.Parse.{statements_at};
+ghost use Rattle.upc_tree.specs.layer.ViewStatement.{view_statement, view_compound};
+ghost use Rattle.upc_parser_ground.specs.layer.Run.{Reads, boxed};
+ghost use Rattle.upc_parser_statements.specs.layer.Parse.{statements_at};
 
 use crate::statements::Rules;
 use std::alloc::Global;

@@ -1,7 +1,7 @@
 //! What a statement begins with.
 
 ghost use Rattle.std.specs.Prelude.{◌≡◌};
-ghost use Rattle.upc_parser_statements.specs.Tables.{statement_start};
+ghost use Rattle.upc_parser_statements.specs.layer.Tables.{statement_start};
 
 use upc_lexer::{Punct, TokenKind, Word};
 use upc_tree::BarrierWord;

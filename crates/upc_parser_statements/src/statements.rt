@@ -1,14 +1,14 @@
 //! The rules of statements, over a function that parses their parts (C99 6.8, UPC 6.6).
 
 ghost use Rattle.std.specs.Prelude.{◌≤◌};
-ghost use Rattle.upc_tree.specs.ViewStatement.{view_statement, view_compound, view_block_item, view_block_items};
-ghost use Rattle.upc_tree.specs.ViewStatement.{view_switch_item, view_switch_items, view_else_if, view_else_ifs};
-ghost use Rattle.upc_tree.specs.ViewStatement.{view_otherwise};
-ghost use Rattle.upc_parser_ground.specs.Outcome.{span_of};
-ghost use Rattle.upc_parser_ground.specs.Run.{Reads, boxed};
-ghost use Rattle.upc_parser_statements.specs.Parse as spec;
-ghost use Rattle.upc_parser_statements.specs.Parse.{statements_at};
-ghost use Rattle.upc_parser_statements.specs.Run.{Nests};
+ghost use Rattle.upc_tree.specs.layer.ViewStatement.{view_statement, view_compound, view_block_item, view_block_items};
+ghost use Rattle.upc_tree.specs.layer.ViewStatement.{view_switch_item, view_switch_items, view_else_if, view_else_ifs};
+ghost use Rattle.upc_tree.specs.layer.ViewStatement.{view_otherwise};
+ghost use Rattle.upc_parser_ground.specs.layer.Outcome.{span_of};
+ghost use Rattle.upc_parser_ground.specs.layer.Run.{Reads, boxed};
+ghost use Rattle.upc_parser_statements.specs.layer.Parse as spec;
+ghost use Rattle.upc_parser_statements.specs.layer.Parse.{statements_at};
+ghost use Rattle.upc_parser_statements.specs.code.Run.{Nests};
 
 use crate::start::{StatementStart, statement_start};
 use upc_parser_declarations::{

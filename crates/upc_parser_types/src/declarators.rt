@@ -1,13 +1,13 @@
 //! Declarators, parameters and structs (C99 6.7.2.1, 6.7.5).
 
 ghost use Rattle.std.specs.Prelude.{◌≤◌};
-ghost use Rattle.upc_tree.specs.View.{view_spec, view_member, view_members, view_declarator, view_next_declarator};
-ghost use Rattle.upc_tree.specs.View.{view_next_declarators, view_parameters, view_parameter, view_next_parameter};
-ghost use Rattle.upc_tree.specs.View.{view_next_parameters, view_array, view_pointers};
-ghost use Rattle.upc_parser_types.specs.Expression as spec;
-ghost use Rattle.upc_parser_types.specs.Expression.{at_height};
-ghost use Rattle.upc_parser_ground.specs.Run.{Reads, boxed, same};
-ghost use Rattle.upc_parser_types.specs.Run.{Nests};
+ghost use Rattle.upc_tree.specs.layer.View.{view_spec, view_member, view_members, view_declarator, view_next_declarator};
+ghost use Rattle.upc_tree.specs.layer.View.{view_next_declarators, view_parameters, view_parameter, view_next_parameter};
+ghost use Rattle.upc_tree.specs.layer.View.{view_next_parameters, view_array, view_pointers};
+ghost use Rattle.upc_parser_types.specs.layer.Expression as spec;
+ghost use Rattle.upc_parser_types.specs.layer.Expression.{at_height};
+ghost use Rattle.upc_parser_ground.specs.layer.Run.{Reads, boxed, same};
+ghost use Rattle.upc_parser_types.specs.layer.Run.{Nests};
 
 use crate::grammar::Grammar;
 use std::alloc::Global;

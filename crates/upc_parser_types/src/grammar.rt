@@ -1,10 +1,10 @@
 //! The rules of types, over functions that parse their parts.
 
 ghost use Rattle.std.specs.Prelude.{◌≤◌};
-ghost use Rattle.upc_tree.specs.View.{view, view_spec};
-ghost use Rattle.upc_parser_types.specs.Expression.{at_height};
-ghost use Rattle.upc_parser_ground.specs.Run.{Reads, boxed};
-ghost use Rattle.upc_parser_types.specs.Run.{Nests};
+ghost use Rattle.upc_tree.specs.layer.View.{view, view_spec};
+ghost use Rattle.upc_parser_types.specs.layer.Expression.{at_height};
+ghost use Rattle.upc_parser_ground.specs.layer.Run.{Reads, boxed};
+ghost use Rattle.upc_parser_types.specs.layer.Run.{Nests};
 
 use std::alloc::Global;
 use upc_parser_ground::{Fail, Tokens};

@@ -1,13 +1,13 @@
 //! Types (C99 6.7.2, 6.7.3, 6.7.6; UPC 6.5.1).
 
 ghost use Rattle.std.specs.Prelude.{◌≡◌, ◌≤◌};
-ghost use Rattle.upc_tree.specs.View.{view_type, view_spec, view_specs, view_qual, view_quals, view_layout};
-ghost use Rattle.upc_tree.specs.View.{view_pointer, view_pointers, view_dimension, view_dimensions};
-ghost use Rattle.upc_parser_types.specs.Expression as spec;
-ghost use Rattle.upc_parser_types.specs.Expression.{at_height};
-ghost use Rattle.upc_parser_ground.specs.Outcome.{span_of};
-ghost use Rattle.upc_parser_ground.specs.Run.{Reads, boxed};
-ghost use Rattle.upc_parser_types.specs.Run.{Nests};
+ghost use Rattle.upc_tree.specs.layer.View.{view_type, view_spec, view_specs, view_qual, view_quals, view_layout};
+ghost use Rattle.upc_tree.specs.layer.View.{view_pointer, view_pointers, view_dimension, view_dimensions};
+ghost use Rattle.upc_parser_types.specs.layer.Expression as spec;
+ghost use Rattle.upc_parser_types.specs.layer.Expression.{at_height};
+ghost use Rattle.upc_parser_ground.specs.layer.Outcome.{span_of};
+ghost use Rattle.upc_parser_ground.specs.layer.Run.{Reads, boxed};
+ghost use Rattle.upc_parser_types.specs.layer.Run.{Nests};
 
 use crate::grammar::Grammar;
 use std::alloc::Global;

@@ -4,7 +4,7 @@ use Rattle.std.specs.Option.{option_map, option_or}
 use Rattle.std.specs.Str.{bytes_eq}
 use Rattle.std.proofs.lemmas.List.Folds.{find-append}
 use Rattle.std.proofs.lemmas.Slice.Eq.{bytes_eq-Decides}
-use Rattle.upc_text.specs.Memory.{held_under}
+use Rattle.upc_text.specs.code.Memory.{held_under}
 
 -- what comes after a list in which nothing was found
 only_last :

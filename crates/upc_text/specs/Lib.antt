@@ -1,3 +1,2 @@
-pub mod Memory
 pub mod Outside
-pub mod Text
+pub mod code

@@ -3,7 +3,7 @@ ghost use Rattle.std.specs.Prelude.{◌≡◌, ◌<◌, ◌≤◌, ◌↔◌, �
 ghost use Rattle.std.specs.Prelude.{IfOk, OnOk, OnErr, IsErr, IsNone, IfSome};
 ghost use Rattle.std.specs.Option.{option_copied};
 ghost use Rattle.upc_text.specs.Outside.{StandsAt, EndsBy};
-ghost use Rattle.upc_text.specs.Memory.{held_under, one_more, given};
+ghost use Rattle.upc_text.specs.code.Memory.{held_under, one_more, given};
 
 use crate::{Failed, OutOfMemory, Sink, Sources, Text};
 use std::alloc::Global;
@@ -62,7 +62,7 @@ pub struct MemFiles {
 
 impl Model for MemFiles {
     ghost use Rattle.std.specs.Prelude.{◌<◌};
-    ghost use Rattle.upc_text.specs.Memory.{Files};
+    ghost use Rattle.upc_text.specs.code.Memory.{Files};
 
     ghost Value = { Files };
 
@@ -158,7 +158,7 @@ pub struct MemSink {
 
 impl Model for MemSink {
     ghost use Rattle.std.specs.Prelude.{◌<◌};
-    ghost use Rattle.upc_text.specs.Memory.{Output};
+    ghost use Rattle.upc_text.specs.code.Memory.{Output};
 
     ghost Value = { Output };
 

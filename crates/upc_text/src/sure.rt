@@ -2,7 +2,7 @@
 ghost use Rattle.std.specs.Prelude.{◌≡◌, ◌<◌, ◌≤◌, ℕ, List, [], ◌∷◌, ◌++◌, length, take, Some, None, Ok, unwrap_or};
 ghost use Rattle.std.specs.Prelude.{IfOk, OnOk, OnErr, IsNone, IsOkAnd};
 ghost use Rattle.upc_text.specs.Outside.{StandsAt};
-ghost use Rattle.upc_text.specs.Memory.{held_under, given};
+ghost use Rattle.upc_text.specs.code.Memory.{held_under, given};
 
 use crate::memory::{copy_from, held_under, push_file};
 use crate::{Failed, OutOfMemory, Sink, Sources, Text};

@@ -2,7 +2,7 @@
 ghost use Rattle.std.specs.Prelude.{◌≡◌, ◌==◌, ◌↔◌, [], ◌∷◌, ◌++◌, length, nat_eq, IsTrue, OnOk, OnErr, IfOk};
 ghost use Rattle.std.specs.Cmp.Lexicographic.{pointwise, nat_list_eq_equiv};
 ghost use Rattle.std.specs.Cmp.{partial_equiv_from_equiv};
-ghost use Rattle.upc_text.specs.Text.{bytes_of};
+ghost use Rattle.upc_text.specs.code.Text.{bytes_of};
 
 use crate::OutOfMemory;
 use std::alloc::Global;
@@ -70,7 +70,7 @@ pub struct Text {
 
 impl Model for Text {
     ghost use Rattle.std.specs.Prelude.{ℕ, List};
-    ghost use Rattle.upc_text.specs.Text.{bytes_of};
+    ghost use Rattle.upc_text.specs.code.Text.{bytes_of};
 
     ghost Value = { List ℕ };
 

@@ -13,7 +13,7 @@ use Rattle.upc_top.specs.declared.verdict.Verdict.{Verdict}
 use Rattle.upc_top.specs.declared.verdict.Verdict.TheVariants.{Usage, ReadFault, TooLong, Refused, Ran, Recorded, Overlong, Passed, Laid, NoMemory}
 use Rattle.upc_top.specs.Words.{prints, runs}
 use Rattle.upc_top.specs.Verdicts.{RunsAs, ComesFrom}
-use Rattle.upc_top.specs.Records.{IsRecordOf, IsShown}
+use Rattle.upc_top.specs.code.Records.{IsRecordOf, IsShown}
 use Rattle.upc_top.proofs.Agreement.{follows-agrees}
 
 orders-many : (j : Journal) → length (orders_of j).threads ≡ j.threads

@@ -4,7 +4,7 @@ use Rattle.upc_text.specs.declared.place.Code.TheVariants.{Syntax, Limit}
 use Rattle.upc_text.specs.declared.faults.Stop.{Stop}
 use Rattle.upc_text.specs.declared.faults.Stop.TheVariants.{Refused, Memory}
 use Rattle.upc_lexer.specs.declared.token.Token.{Token}
-use Rattle.upc_lexer.specs.Steps.{StopsSource}
+use Rattle.upc_lexer.specs.layer.Steps.{StopsSource}
 use Rattle.upc_lexer.specs.Tokens.{AreTokensOf}
 use Rattle.upc_macros.specs.Expansion.{IsExpansion, StopsExpansion}
 use Rattle.upc_tree.specs.Unit.{External, ProperUnit, IsTree, tokens_of}

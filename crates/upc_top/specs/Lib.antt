@@ -2,4 +2,4 @@ pub mod Words
 pub mod Sources
 pub mod Verdicts
 pub mod Delivery
-pub mod Records
+pub mod code

@@ -4,7 +4,7 @@ ghost use Rattle.std.specs.Prelude.{◌≡◌, ◌≤◌, ℕ, List, length, IfO
 ghost use Rattle.upc_lexer.specs.Numbers.{NumbersFit};
 ghost use Rattle.upc_lexer.specs.declared.token.Token.{Token as Item};
 ghost use Rattle.upc_tree.specs.Unit.{External, tokens_of};
-ghost use Rattle.upc_tree.specs.ViewStatement.{view_unit};
+ghost use Rattle.upc_tree.specs.layer.ViewStatement.{view_unit};
 ghost use Rattle.upc_text.specs.declared.place.Refusal.{Refusal as Reason};
 ghost use Rattle.typed_tree.specs.Programs.{Checked};
 ghost use Rattle.typed_tree.specs.ViewProgram.{view_program};

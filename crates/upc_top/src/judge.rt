@@ -8,7 +8,7 @@ ghost use Rattle.upc_top_words.specs.Values.{Asked, IsAllowed};
 ghost use Rattle.upc_top.specs.Words.{runs};
 ghost use Rattle.upc_top.specs.Sources.{IsAccepted, StopsReading};
 ghost use Rattle.upc_top.specs.Verdicts.{reading, Caused, ComesFrom};
-ghost use Rattle.upc_top.specs.Records.{IsShown};
+ghost use Rattle.upc_top.specs.code.Records.{IsShown};
 
 use crate::front::{pass_source, read_source};
 use crate::record::recorded;

@@ -1,7 +1,7 @@
 //! The record of a run.
 
 ghost use Rattle.upc_values.specs.Consistent.{FollowsBuffers};
-ghost use Rattle.upc_top.specs.Records.{IsRecordOf};
+ghost use Rattle.upc_top.specs.code.Records.{IsRecordOf};
 
 use crate::verdict::Verdict;
 use order_builder::orders;

@@ -28,7 +28,7 @@ use Rattle.clap.proofs.WalkLemmas.{first_value-rows}
 use Rattle.clap.proofs.CallerLemmas.{default_present, present_has_entry, required_present}
 use Rattle.upc_top_words.specs.Line.{upc_app}
 use Rattle.upc_top_words.specs.Values.{number_in, number_of}
-use Rattle.upc_top_words.specs.Given.{IsGiven, IsNumber}
+use Rattle.upc_top_words.specs.code.Given.{IsGiven, IsNumber}
 use Rattle.upc_top_words.proofs.Found.{IsOwn, has_entry, has_value, value_passes}
 
 abbrev rules : List Rule

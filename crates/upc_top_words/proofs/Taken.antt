@@ -6,7 +6,7 @@ use Rattle.clap.specs.Words.{Row, Text, first_of}
 use Rattle.upc_top_words.specs.declared.call.Mode.{Mode}
 use Rattle.upc_top_words.specs.Line.{found_in}
 use Rattle.upc_top_words.specs.Values.{Asked, Asks, AsksNothing, IsAllowed, IsInRange, asked_by, asked_from, mode_in, mode_named, no_mode, not_allowed, number_in, number_of, refused_by_clap, share}
-use Rattle.upc_top_words.specs.Given.{IsGiven, IsNumber}
+use Rattle.upc_top_words.specs.code.Given.{IsGiven, IsNumber}
 
 abbrev IsItems : ℕ → Type 0
 IsItems n = (1 ≤ n) × (n ≤ 8388608)

@@ -9,7 +9,7 @@ ghost use Rattle.clap.specs.declared.parser.matches.ArgMatches.{ArgMatches};
 ghost use Rattle.upc_top_words.specs.Line.{IsTakenByClap, found_in, upc_app};
 ghost use Rattle.upc_top_words.specs.Values.{Asked, Asks, AsksNothing, IsAllowed, IsInRange, IsSampleNumber};
 ghost use Rattle.upc_top_words.specs.Values.{asked_by, mode_in, mode_named, number_in, number_of, view_call};
-ghost use Rattle.upc_top_words.specs.Given.{IsGiven};
+ghost use Rattle.upc_top_words.specs.code.Given.{IsGiven};
 ghost use Rattle.upc_top_words.specs.declared.call.NoCall.TheVariants.{Usage, Memory};
 
 use crate::call::{Call, Mode, NoCall};

@@ -23,8 +23,8 @@ use Rattle.upc_tree.specs.declared.expression.Parameters as r
 use Rattle.upc_tree.specs.declared.expression.Parameters.{Parameters, Row_of-NextParameter, end_of-NextParameter, more_of-NextParameter, items-the_row-NextParameter, items_hidden-the_row-NextParameter-4}
 use Rattle.upc_tree.specs.declared.expression.NextParameter.{NextParameter, NextParameter', outs-NextParameter', out-NextParameter}
 use Rattle.upc_tree.specs.declared.expression.Parameter.{Parameter, Parameter', outs-Parameter', out-Parameter}
-use Rattle.upc_tree.specs.View.{view_arguments, view_members, view_member, view_member_row, view_next_declarator, view_next_declarators, view_declarator_row, view_declarator, view_parameters, view_next_parameter, view_next_parameters, view_parameter_row, view_parameter, view_array, view, view_expr_row, view_next_expr, view_next_exprs, view_spec_row, view_specs, view_qual_row, view_qual, view_spec, view_pointer, view_pointers, view_pointer_row, view_dimension, view_dimensions, view_dimension_row, view_type}
-use Rattle.upc_tree.specs.Lists.{next_exprs_of, specs_of, quals_of, pointers_of, dimensions_of, members_of, next_declarators_of, next_parameters_of}
+use Rattle.upc_tree.specs.layer.View.{view_arguments, view_members, view_member, view_member_row, view_next_declarator, view_next_declarators, view_declarator_row, view_declarator, view_parameters, view_next_parameter, view_next_parameters, view_parameter_row, view_parameter, view_array, view, view_expr_row, view_next_expr, view_next_exprs, view_spec_row, view_specs, view_qual_row, view_qual, view_spec, view_pointer, view_pointers, view_pointer_row, view_dimension, view_dimensions, view_dimension_row, view_type}
+use Rattle.upc_tree.specs.layer.Lists.{next_exprs_of, specs_of, quals_of, pointers_of, dimensions_of, members_of, next_declarators_of, next_parameters_of}
 use Rattle.upc_tree.specs.Expression as t
 
 expr_row : (n : _) (row : Row_of-NextExpr n) → view_expr_row row ≡ next_exprs_of (map view_next_expr (items-the_row-NextExpr n row))

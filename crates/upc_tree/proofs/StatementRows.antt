@@ -11,8 +11,8 @@ use Rattle.upc_tree.specs.declared.statement.Otherwise.{Otherwise}
 use Rattle.upc_tree.specs.declared.statement.Compound.{Compound}
 use Rattle.upc_tree.specs.declared.statement.Test.{Test}
 use Rattle.upc_tree.specs.Statement as p
-use Rattle.upc_tree.specs.Lists.{block_items_of, switch_items_of, else_ifs_of}
-use Rattle.upc_tree.specs.ViewStatement.{view_statement, view_block_row, view_block_item, view_switch_row, view_switch_item, view_switch_items, view_else_if_row, view_else_if, view_else_ifs, view_otherwise, view_test, view_compound}
+use Rattle.upc_tree.specs.layer.Lists.{block_items_of, switch_items_of, else_ifs_of}
+use Rattle.upc_tree.specs.layer.ViewStatement.{view_statement, view_block_row, view_block_item, view_switch_row, view_switch_item, view_switch_items, view_else_if_row, view_else_if, view_else_ifs, view_otherwise, view_test, view_compound}
 
 block_row : (n : _) (row : Row_of-BlockItem n) → view_block_row row ≡ block_items_of (map view_block_item (items-the_row-BlockItem n row))
 block_row n end_of-BlockItem = refl

@@ -5,6 +5,4 @@ pub mod Proper
 pub mod Declaration
 pub mod Statement
 pub mod Unit
-pub mod Lists
-pub mod View
-pub mod ViewStatement
+pub mod layer

@@ -8,12 +8,12 @@ ghost use Rattle.upc_tree.specs.Statement.{height_statement, height_compound, he
 ghost use Rattle.upc_tree.specs.Statement.{height_switch_items, height_switch_item, height_else_ifs};
 ghost use Rattle.upc_tree.specs.Statement.{height_otherwise};
 ghost use Rattle.upc_tree.specs.Unit.{height_external, height_unit};
-ghost use Rattle.upc_tree.specs.Lists.{capped, next_declareds_of, block_items_of, switch_items_of, else_ifs_of};
-ghost use Rattle.upc_tree.specs.ViewStatement.{view_initial, view_declared, view_next_declared, view_declared_list};
-ghost use Rattle.upc_tree.specs.ViewStatement.{view_declaration, view_value, view_first, view_affinity, view_for};
-ghost use Rattle.upc_tree.specs.ViewStatement.{view_forall, view_statement, view_compound, view_block_item};
-ghost use Rattle.upc_tree.specs.ViewStatement.{view_switch_item, view_else_if, view_otherwise, view_function};
-ghost use Rattle.upc_tree.specs.ViewStatement.{view_external, view_unit};
+ghost use Rattle.upc_tree.specs.layer.Lists.{capped, next_declareds_of, block_items_of, switch_items_of, else_ifs_of};
+ghost use Rattle.upc_tree.specs.layer.ViewStatement.{view_initial, view_declared, view_next_declared, view_declared_list};
+ghost use Rattle.upc_tree.specs.layer.ViewStatement.{view_declaration, view_value, view_first, view_affinity, view_for};
+ghost use Rattle.upc_tree.specs.layer.ViewStatement.{view_forall, view_statement, view_compound, view_block_item};
+ghost use Rattle.upc_tree.specs.layer.ViewStatement.{view_switch_item, view_else_if, view_otherwise, view_function};
+ghost use Rattle.upc_tree.specs.layer.ViewStatement.{view_external, view_unit};
 
 use upc_tree::{
     Affinity, BlockItem, Compound, Declaration, Declared, DeclaredList, ElseIf, Expr, External,

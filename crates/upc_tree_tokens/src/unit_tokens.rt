@@ -12,12 +12,12 @@ ghost use Rattle.upc_tree.specs.Statement.{spell_forall, spell_statement, spell_
 ghost use Rattle.upc_tree.specs.Statement.{spell_block_item, spell_switch_items, spell_switch_item, spell_else_ifs};
 ghost use Rattle.upc_tree.specs.Statement.{spell_otherwise};
 ghost use Rattle.upc_tree.specs.Unit.{spell_external, spell_externals, tokens_of};
-ghost use Rattle.upc_tree.specs.Lists.{next_declareds_of, block_items_of, switch_items_of, else_ifs_of};
-ghost use Rattle.upc_tree.specs.ViewStatement.{view_initial, view_declared, view_next_declared, view_declared_list};
-ghost use Rattle.upc_tree.specs.ViewStatement.{view_declaration, view_value, view_test, view_first, view_affinity};
-ghost use Rattle.upc_tree.specs.ViewStatement.{view_for, view_forall, view_statement, view_compound, view_block_item};
-ghost use Rattle.upc_tree.specs.ViewStatement.{view_switch_item, view_else_if, view_otherwise, view_function};
-ghost use Rattle.upc_tree.specs.ViewStatement.{view_external, view_unit};
+ghost use Rattle.upc_tree.specs.layer.Lists.{next_declareds_of, block_items_of, switch_items_of, else_ifs_of};
+ghost use Rattle.upc_tree.specs.layer.ViewStatement.{view_initial, view_declared, view_next_declared, view_declared_list};
+ghost use Rattle.upc_tree.specs.layer.ViewStatement.{view_declaration, view_value, view_test, view_first, view_affinity};
+ghost use Rattle.upc_tree.specs.layer.ViewStatement.{view_for, view_forall, view_statement, view_compound, view_block_item};
+ghost use Rattle.upc_tree.specs.layer.ViewStatement.{view_switch_item, view_else_if, view_otherwise, view_function};
+ghost use Rattle.upc_tree.specs.layer.ViewStatement.{view_external, view_unit};
 
 use crate::{
     Backwards, put_declarator, put_expr, put_next_exprs, put_parameters, put_pointers, put_specs,

@@ -5,9 +5,9 @@ use Rattle.std.proofs.lemmas.List.{length-append, get_or_append_left, get_or_at,
 use Rattle.std.specs.Hash.DefaultHasher as sip
 use Rattle.upc_types.specs.Types.{CType, Qualified}
 use Rattle.upc_types.specs.Cells.{alike, number_of, noted}
-use Rattle.upc_types.specs.TypeCodes.{code_of, with_block, with_base}
-use Rattle.upc_types.specs.Targets.{AreApart, codes_of}
-use Rattle.upc_types.specs.Places.{place_below}
+use Rattle.upc_types.specs.code.TypeCodes.{code_of, with_block, with_base}
+use Rattle.upc_types.specs.code.Targets.{AreApart, codes_of}
+use Rattle.upc_types.specs.layer.Places.{place_below}
 use Rattle.upc_types.proofs.Numbers.{last}
 use Rattle.upc_types.proofs.Equal.{parts, number_same}
 use Rattle.upc_types.proofs.PlacesOfNumbers.{up_to}

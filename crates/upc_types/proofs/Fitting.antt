@@ -6,7 +6,7 @@ use Rattle.upc_types.specs.declared.structs.Member as c
 use Rattle.upc_types.specs.Types.{base_of, Member, Completed}
 use Rattle.upc_types.specs.View.{view_base, view_member}
 use Rattle.upc_types.specs.Layout.{aligned, end_behind, widest, base_layout, base_complete, complete_in, layout_in, most_bytes, members_within, all_complete, member_layouts, struct_layout, offset_behind}
-use Rattle.upc_types.specs.Starts.{starts_behind}
+use Rattle.upc_types.specs.code.Starts.{starts_behind}
 use Rattle.upc_types.proofs.Members.{next, aligned_low, alignment_some, grow, widest_low}
 
 -- Members after some bytes, which have sizes and end within an object.

@@ -7,9 +7,9 @@ use Rattle.upc_types.specs.declared.layout.Known.{Known}
 use Rattle.upc_types.specs.Types.{Member, Completed, members_in}
 use Rattle.upc_types.specs.View.{view_completed, view_member}
 use Rattle.upc_types.specs.Layout.{known_in, complete_in, layout_in, all_complete, member_layouts, struct_layout, members_hold_private, private_in, end_behind}
-use Rattle.upc_types.specs.Kept.{is_ordered}
-use Rattle.upc_types.specs.Starts.{starts_behind}
-use Rattle.upc_types.specs.Made.{IsMade, AreMade}
+use Rattle.upc_types.specs.layer.Kept.{is_ordered}
+use Rattle.upc_types.specs.code.Starts.{starts_behind}
+use Rattle.upc_types.specs.code.Made.{IsMade, AreMade}
 use Rattle.upc_types.proofs.Order.{agrees, layouts_same, none_one, struct_is, complete_before, complete_since, all_kept}
 use Rattle.upc_types.proofs.Places.{placed}
 

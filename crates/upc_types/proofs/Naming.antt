@@ -10,7 +10,7 @@ use Rattle.std.specs.Ordering.{is_eq, nat_cmp, eq_by_cmp}
 use Rattle.upc_types.specs.declared.structs.Member as c
 use Rattle.upc_types.specs.Types.{Member}
 use Rattle.upc_types.specs.View.{view_member}
-use Rattle.upc_types.specs.Named.{one_more, first_named, at_name, first_or}
+use Rattle.upc_types.specs.layer.Named.{one_more, first_named, at_name, first_or}
 
 -- ---- names in a map
 

@@ -8,7 +8,7 @@ use Rattle.upc_types.specs.Types.{CType, Qualified, Base, Void, Integer, Struct,
 use Rattle.upc_types.specs.Layout.{base_layout, base_complete, known_in, layout_in, complete_in, layout_or_none, all_complete, member_layouts, struct_layout, members_hold_private, private_in}
 use Rattle.block_layout.specs.Cells.{copies}
 use Rattle.upc_types.specs.Cells.{leaf_base, leaf_cells, object_cells, member_cells, struct_cells, leaves}
-use Rattle.upc_types.specs.Kept.{is_ordered}
+use Rattle.upc_types.specs.layer.Kept.{is_ordered}
 use Rattle.upc_types.proofs.Places.{placed}
 
 abbrev pub placed_below : Option Known → ℕ → Bool

@@ -6,7 +6,7 @@ use Rattle.upc_types.specs.declared.layout.Known.{Known}
 use Rattle.upc_types.specs.declared.layout.Layout.{Layout}
 use Rattle.upc_types.specs.Types.{Completed, Member, members_in}
 use Rattle.upc_types.specs.Layout.{known_in, private_in, members_hold_private, complete_in, layout_in, all_complete, member_layouts, struct_layout, members_within, most_bytes}
-use Rattle.upc_types.specs.Kept.{IsFine, IsKept}
+use Rattle.upc_types.specs.layer.Kept.{IsFine, IsKept}
 use Rattle.upc_types.proofs.Members.{some_is}
 use Rattle.std.specs.Option.{ForSome}
 

@@ -2,7 +2,7 @@
 use Rattle.std.proofs.Common.{◌≡◌, ℕ, zero, suc, ◌+◌, ◌<◌, ◌≤◌, Bool, true, false, if◌then◌else◌, nat_eq, nat_lt, List, [], ◌∷◌, ◌++◌, length, map, reverse, take, get_or, Option, Some, None, refl, sym, ap, ◌∙◌, arith}
 use Rattle.std.proofs.lemmas.Bool.{eqb-true, ltb-true, ltb-false}
 use Rattle.std.proofs.lemmas.List.{reverse-append, length-append, take_more, take_all, get_or_append_left, get_or_at, get_or-map}
-use Rattle.upc_types.specs.Places.{place_below, IsLinked}
+use Rattle.upc_types.specs.layer.Places.{place_below, IsLinked}
 
 -- How many places there are up to this one.
 abbrev pub up_to : Option ℕ → ℕ

@@ -9,7 +9,7 @@ use Rattle.upc_types.specs.declared.layout.Known.{Known}
 use Rattle.upc_types.specs.declared.layout.Layout.{Layout}
 use Rattle.upc_types.specs.Types.{CType, Qualified, Base, Void, Integer, Struct, Array, Pointer, LockObject, base_of, Member, Completed, members_in}
 use Rattle.upc_types.specs.Layout.{aligned, end_behind, widest, base_layout, base_complete, known_in, layout_in, complete_in, all_complete, member_layouts, most_bytes}
-use Rattle.upc_types.specs.Kept.{IsFine, is_ordered}
+use Rattle.upc_types.specs.layer.Kept.{IsFine, is_ordered}
 use Rattle.upc_types.specs.Cells.{leaf_base, leaves, member_cells, struct_cells}
 use Rattle.upc_types.proofs.Members.{next, aligned_low, alignment_some, grow, widest_low}
 use Rattle.upc_types.proofs.Order.{placed_below, complete_before, complete_since, base_kept, leaf_complete, struct_is}

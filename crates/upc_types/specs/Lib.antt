@@ -2,15 +2,9 @@ pub mod Types
 pub mod Same
 pub mod Layout
 pub mod Cells
-pub mod Kept
 pub mod Arithmetic
 pub mod Conversions
 pub mod View
 pub mod ViewStructs
-pub mod KeptCells
-pub mod TypeCodes
-pub mod Places
-pub mod Targets
-pub mod Named
-pub mod Starts
-pub mod Made
+pub mod layer
+pub mod code

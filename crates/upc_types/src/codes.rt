@@ -1,7 +1,7 @@
 //! Numbers by which targets of pointers are found.
 
 ghost use Rattle.std.specs.Prelude.{◌≡◌};
-ghost use Rattle.upc_types.specs.TypeCodes as pure;
+ghost use Rattle.upc_types.specs.code.TypeCodes as pure;
 ghost use Rattle.upc_types.specs.View.{view, view_base};
 
 use crate::ctype::{Access, Base, CType};

@@ -2,7 +2,7 @@
 
 ghost use Rattle.std.specs.Prelude.{◌≡◌, ◌+◌, ◌<◌, ◌≤◌, max, IfSome};
 ghost use Rattle.upc_types.specs.Layout as pure;
-ghost use Rattle.upc_types.specs.Kept.{IsFine};
+ghost use Rattle.upc_types.specs.layer.Kept.{IsFine};
 ghost use Rattle.upc_types.specs.View.{view_base};
 
 use crate::ctype::Base;

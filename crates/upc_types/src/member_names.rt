@@ -2,7 +2,7 @@
 
 ghost use Rattle.std.specs.Prelude.{◌≡◌, ℕ, nat_eq, if◌then◌else◌, List, Some, None, IfOk, OnOk, map};
 ghost use Rattle.std.specs.Cmp.Lexicographic.{pointwise};
-ghost use Rattle.upc_types.specs.Named.{at_name, first_or, IsNamed};
+ghost use Rattle.upc_types.specs.layer.Named.{at_name, first_or, IsNamed};
 ghost use Rattle.upc_types.specs.View.{view_member};
 
 use crate::structs::Member;

@@ -4,7 +4,7 @@ ghost use Rattle.std.specs.Prelude.{◌≡◌, ℕ, nat_eq, ◌<◌, if◌then�
 ghost use Rattle.std.specs.Prelude.{OnErr};
 ghost use Rattle.std.specs.BTreeMap.{get};
 ghost use Rattle.std.specs.Ordering.{nat_cmp};
-ghost use Rattle.upc_types.specs.Places.{place_below, IsLinked, IsPlaced};
+ghost use Rattle.upc_types.specs.layer.Places.{place_below, IsLinked, IsPlaced};
 
 use std::alloc::Global;
 use std::collections::BTreeMap;

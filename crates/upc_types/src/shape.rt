@@ -6,7 +6,7 @@ ghost use Rattle.block_layout.specs.declared.kind.Kind.{Kind};
 ghost use Rattle.block_layout.specs.Cells.{moved};
 ghost use Rattle.block_layout.specs.Shapes.{IsShape};
 ghost use Rattle.upc_types.specs.Cells as pure;
-ghost use Rattle.upc_types.specs.KeptCells.{AreKept};
+ghost use Rattle.upc_types.specs.code.KeptCells.{AreKept};
 ghost use Rattle.upc_types.specs.Layout.{base_layout, base_complete, layout_in, complete_in, is_complete, size};
 ghost use Rattle.upc_types.specs.Layout.{most_bytes};
 ghost use Rattle.upc_types.specs.View.{view, view_base};

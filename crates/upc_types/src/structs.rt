@@ -3,9 +3,9 @@
 ghost use Rattle.std.specs.Prelude.{◌≡◌, ℕ, ◌<◌, ◌≤◌, None, OnOk, get_or, map, reverse, vec_len};
 ghost use Rattle.upc_types.specs.Cells.{struct_cells};
 ghost use Rattle.upc_types.specs.View.{view, view_completed};
-ghost use Rattle.upc_types.specs.Kept.{IsKept};
-ghost use Rattle.upc_types.specs.KeptCells.{AreHeld};
-ghost use Rattle.upc_types.specs.Made.{AreMade};
+ghost use Rattle.upc_types.specs.layer.Kept.{IsKept};
+ghost use Rattle.upc_types.specs.code.KeptCells.{AreHeld};
+ghost use Rattle.upc_types.specs.code.Made.{AreMade};
 
 use crate::ctype::{Base, CType};
 use crate::layout::{
@@ -91,11 +91,11 @@ impl Structs {
     ghost use Rattle.upc_types.specs.Layout.{base_within, members_within, known_in, base_complete, base_layout};
     ghost use Rattle.upc_types.specs.Layout.{complete_in, layout_in, most_bytes, is_private_target};
     ghost use Rattle.upc_types.specs.Layout.{base_holds_private, members_hold_private, private_in, member_offset};
-    ghost use Rattle.upc_types.specs.Kept.{IsFine};
+    ghost use Rattle.upc_types.specs.layer.Kept.{IsFine};
     ghost use Rattle.upc_types.specs.Layout.{end_behind, member_layouts};
-    ghost use Rattle.upc_types.specs.Made.{IsMade};
-    ghost use Rattle.upc_types.specs.Named.{first_named};
-    ghost use Rattle.upc_types.specs.Starts.{starts_behind};
+    ghost use Rattle.upc_types.specs.code.Made.{IsMade};
+    ghost use Rattle.upc_types.specs.layer.Named.{first_named};
+    ghost use Rattle.upc_types.specs.code.Starts.{starts_behind};
     ghost use Rattle.upc_types.specs.Types as pure;
     ghost use Rattle.upc_types.specs.Types.{with_members, members_of};
     ghost use Rattle.upc_types.specs.View.{view, view_base, view_member};

@@ -2,7 +2,7 @@
 
 ghost use Rattle.std.specs.Prelude.{◌≡◌, ◌≤◌, length, map};
 ghost use Rattle.upc_types.specs.Cells as pure;
-ghost use Rattle.upc_types.specs.Targets.{AreApart, codes_of};
+ghost use Rattle.upc_types.specs.code.Targets.{AreApart, codes_of};
 ghost use Rattle.upc_types.specs.View.{view};
 
 use crate::codes::code_of;

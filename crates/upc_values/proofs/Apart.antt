@@ -12,7 +12,7 @@ use Rattle.upc_values.specs.declared.journal.Entry.{Entry}
 use Rattle.upc_values.specs.Scalars.{same_loc}
 use Rattle.upc_values.specs.Drain.{Commit, commit_of, entries_in, Walk, start, entry_of, oldest_out, with_room, stored, written, or_else, last_written, pending_value, changed, combined, put, looked_up, stepped, walked_from}
 use Rattle.upc_values.proofs.Sameness.{same_loc-true, same_loc-itself}
-use Rattle.upc_values.specs.Apart.{writers, AreApart, PendingApart}
+use Rattle.upc_values.specs.code.Apart.{writers, AreApart, PendingApart}
 use Rattle.upc_values.proofs.Drained.{read-entries}
 
 few : (b : Bool) → cond {A = ℕ} b 1 0 ≤ 1

@@ -27,7 +27,7 @@ use Rattle.block_layout.specs.Lists.{under}
 use Rattle.upc_values.specs.Lists.{Each}
 use Rattle.upc_values.specs.Scalars.{same_loc}
 use Rattle.upc_values.specs.Shapes.{kind_at, cell_in, fits_cell, blank}
-use Rattle.upc_values.specs.Basic.{is_basic, AreBasic}
+use Rattle.upc_values.specs.layer.Basic.{is_basic, AreBasic}
 use Rattle.upc_values.specs.Drain.{written, or_else, last_written}
 use Rattle.block_layout.specs.Cells.{is_private}
 use Rattle.upc_values.specs.Openings.{Opening, IsOpening, IsDeclared, IsSharable, bytes_of, cell_of, is_named, given, blank_in, initial_of, is_initial}

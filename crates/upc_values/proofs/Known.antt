@@ -29,7 +29,7 @@ use Rattle.upc_values.specs.Drain.{entry_of, written, or_else, last_written}
 use Rattle.upc_values.specs.Openings.{Opening, IsOpening, bytes_of, cell_of, is_named, given, blank_in, initial_of, is_initial}
 use Rattle.upc_values.specs.History.{picked, is_meet_of, meets, Lead, leader_from, leader, led, makes, object_of, objects, made, alloc_reply, makes_lock, locks, held, valued, lock_reply, unlock_reply, holder, is_freed, is_given_up, same_target, is_released, allocated, free_reply, led_reply, meet_reply, same_call, notifies, each_thread, agrees_with, marks, all_notified, wait_reply, waits, reply, IsLegalFrom, IsLegal}
 use Rattle.upc_values.specs.Formed.{knows, is_known, is_home, may_alloc, IsWellFormed, AreWellFormedFrom, AreWellFormed}
-use Rattle.upc_values.specs.Known.{gives_known, AreKnown}
+use Rattle.upc_values.specs.layer.Known.{gives_known, AreKnown}
 use Rattle.upc_values.proofs.Beginnings.{picked-append}
 use Rattle.upc_values.proofs.Legality.{formed-push}
 use Rattle.upc_values.proofs.Lists.{each-push, each-grow}

@@ -11,7 +11,7 @@ use Rattle.upc_values.specs.Drain.{or_else, last_written}
 use Rattle.upc_values.specs.Calls.{Other}
 use Rattle.upc_values.specs.Openings.{Opening, initial_of}
 use Rattle.upc_values.specs.History.{picked_from, asked, meets, leader, led, makes, makes_lock, object_of, objects, locks, held}
-use Rattle.upc_values.specs.Basic.{is_basic, AreBasic}
+use Rattle.upc_values.specs.layer.Basic.{is_basic, AreBasic}
 use Rattle.upc_values.proofs.Lists.{each-grow}
 
 -- the action may make an object

@@ -9,7 +9,7 @@ use Rattle.upc_values.specs.declared.journal.Entry.{Entry}
 use Rattle.upc_values.specs.Records.{beats}
 use Rattle.upc_values.specs.Openings.{Opening}
 use Rattle.upc_values.specs.Formed.{IsWellFormed, fits_after}
-use Rattle.upc_values.specs.Known.{HasGiven}
+use Rattle.upc_values.specs.layer.Known.{HasGiven}
 
 -- The outcome of a thread: the actions that were answered, the ticks, and the end (C99 5.1.2.3).
 pub record Outcome : Type 0 where

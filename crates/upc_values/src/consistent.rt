@@ -1,6 +1,6 @@
 //! Laws: the orders of every journal are consistent, and pending writes have different locations.
 
-ghost use Rattle.upc_values.specs.Apart.{PendingApart};
+ghost use Rattle.upc_values.specs.code.Apart.{PendingApart};
 ghost use Rattle.upc_values.specs.Consistent.{AreConsistent};
 
 /// A law (UPC Appendix B): where a journal's history takes each record as its write buffer drains, and is legal from an

@@ -8,7 +8,7 @@ use Rattle.upc_values.specs.Scalars.{same_loc}
 use Rattle.upc_values.proofs.Lists.{each-push}
 use Rattle.upc_values.proofs.Sameness.{same_loc-true, same_loc-other}
 use Rattle.write_buffer.specs.declared.pending.Pending.{Pending}
-use Rattle.write_buffer.specs.Buffer.{last_place, AreDifferent, AreApart}
+use Rattle.write_buffer.specs.layer.Buffer.{last_place, AreDifferent, AreApart}
 use Rattle.write_buffer.proofs.Places.{after-none, is-place}
 
 abbrev locations : List Pending → List Loc

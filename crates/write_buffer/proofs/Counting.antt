@@ -7,7 +7,7 @@ use Rattle.block_layout.specs.declared.place.Loc.{Loc}
 use Rattle.upc_values.specs.Scalars.{same_loc}
 use Rattle.upc_values.proofs.Sameness.{same_loc-true}
 use Rattle.write_buffer.specs.declared.pending.Pending.{Pending}
-use Rattle.write_buffer.specs.Counts.{place_of, counted, IsCounted}
+use Rattle.write_buffer.specs.code.Counts.{place_of, counted, IsCounted}
 
 one-or-none : (b : Bool) → cond {A = ℕ} b 1 0 ≤ 1
 one-or-none true = omega arith

@@ -7,8 +7,8 @@ use Rattle.block_layout.specs.declared.place.Loc.{Loc}
 use Rattle.upc_values.specs.Scalars.{same_loc}
 use Rattle.upc_values.proofs.Sameness.{same_loc-true}
 use Rattle.write_buffer.specs.declared.pending.Pending.{Pending}
-use Rattle.write_buffer.specs.Buffer.{youngest, replaced, after_first, last_place}
-use Rattle.write_buffer.specs.Counts.{place_of, counted, IsCounted}
+use Rattle.write_buffer.specs.layer.Buffer.{youngest, replaced, after_first, last_place}
+use Rattle.write_buffer.specs.code.Counts.{place_of, counted, IsCounted}
 
 last_place-push : (l : Loc) (p : Pending) (ps : List Pending) → last_place l (ps ++ p ∷ []) ≡ cond (same_loc p.loc l) (Some (length ps)) (last_place l ps)
 last_place-push l p [] =

@@ -6,7 +6,7 @@ use Rattle.block_layout.specs.declared.place.Loc.{Loc}
 use Rattle.upc_values.specs.Scalars.{same_loc}
 use Rattle.upc_values.specs.Drain.{last_written, or_else}
 use Rattle.write_buffer.specs.declared.pending.Pending.{Pending}
-use Rattle.write_buffer.specs.Buffer.{youngest, committed}
+use Rattle.write_buffer.specs.layer.Buffer.{youngest, committed}
 
 option_or_assoc : (a b c : Option Pending) → option_or (option_or a b) c ≡ option_or a (option_or b c)
 option_or_assoc (Some x) b c = refl

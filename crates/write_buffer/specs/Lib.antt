@@ -1,2 +1,2 @@
-pub mod Buffer
-pub mod Counts
+pub mod layer
+pub mod code

@@ -5,9 +5,9 @@ ghost use Rattle.std.specs.Prelude.{IfOk, IfSome, IsSome, IsNone, false, option_
 ghost use Rattle.std.specs.Prelude.{slice_index_or};
 ghost use Rattle.write_buffer.specs.declared.pending.Pending.{Pending};
 ghost use Rattle.upc_values.specs.Scalars as scalars;
-ghost use Rattle.write_buffer.specs.Buffer.{youngest, replaced, last_place, AreApart};
-ghost use Rattle.write_buffer.specs.Counts as said;
-ghost use Rattle.write_buffer.specs.Counts.{IsCounted};
+ghost use Rattle.write_buffer.specs.layer.Buffer.{youngest, replaced, last_place, AreApart};
+ghost use Rattle.write_buffer.specs.code.Counts as said;
+ghost use Rattle.write_buffer.specs.code.Counts.{IsCounted};
 
 use crate::pending::Pending;
 use circular_buffer::HeapCircularBuffer;
@@ -29,8 +29,8 @@ pub struct WriteBuffer {
 impl Model for WriteBuffer {
     ghost use Rattle.std.specs.Prelude.{List, length, ◌≤◌, ◌≡◌};
     ghost use Rattle.write_buffer.specs.declared.pending.Pending.{Pending};
-    ghost use Rattle.write_buffer.specs.Buffer.{AreApart};
-    ghost use Rattle.write_buffer.specs.Counts.{IsCounted};
+    ghost use Rattle.write_buffer.specs.layer.Buffer.{AreApart};
+    ghost use Rattle.write_buffer.specs.code.Counts.{IsCounted};
 
     ghost Value = { List Pending };
 

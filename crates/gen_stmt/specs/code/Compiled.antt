@@ -7,7 +7,7 @@ use Rattle.typed_tree.specs.Tree.{Function}
 use Rattle.typed_tree.specs.Beginnings.{Beginning}
 use Rattle.stack_code.specs.declared.instruction.Instr.{Instr}
 use Rattle.stack_code.specs.Codes.{codes_of}
-use Rattle.stack_code.specs.Making.{Making}
+use Rattle.stack_code.specs.layer.Making.{Making}
 use Rattle.gen_expr.specs.Sources.{Source}
 use Rattle.gen_stmt.specs.Programs.{functions_code}
 

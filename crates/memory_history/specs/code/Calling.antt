@@ -3,7 +3,7 @@ use Rattle.std.specs.Prelude.{ℕ, ◌-◌, false, List, [], ◌∷◌, ◌++◌
 use Rattle.upc_values.specs.declared.scalar.Scalar.{Scalar}
 use Rattle.upc_values.specs.declared.action.Reply.{Reply}
 use Rattle.upc_values.specs.declared.action.Reply.TheVariants.{Flag}
-use Rattle.memory_history.specs.MeetsAfter.{LeaderState, MeetsState, leader_at, leading, counted}
+use Rattle.memory_history.specs.code.MeetsAfter.{LeaderState, MeetsState, leader_at, leading, counted}
 
 -- One more call, which has no reply yet.
 abbrev pub begun_call : ℕ → List Scalar → ℕ → MeetsState → MeetsState

@@ -4,7 +4,7 @@ use Rattle.block_layout.specs.declared.place.Loc.{Loc}
 use Rattle.block_layout.specs.declared.place.ObjectRef.{ObjectRef}
 use Rattle.upc_values.specs.declared.scalar.Scalar.{Scalar}
 use Rattle.upc_values.specs.Openings.{Opening, IsOpening, IsDeclared, bytes_of, given}
-use Rattle.shared_heap.specs.Heap.{HeapState, all_objects, all_declared, IsHeap}
+use Rattle.shared_heap.specs.layer.Heap.{HeapState, all_objects, all_declared, IsHeap}
 
 -- A beginning: its opening is valid, its shapes have numbers of 32 bits, and its initial values are found by location.
 pub record IsBegun (o : Opening) (found : List (Loc × Scalar)) : Type 0 where

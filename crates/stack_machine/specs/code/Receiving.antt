@@ -5,7 +5,7 @@ use Rattle.upc_values.specs.declared.scalar.Value.{Value}
 use Rattle.thread_steps.specs.States.{Thread, Doing, ◌>>=◌}
 use Rattle.thread_steps.specs.Blocks.{local_object}
 use Rattle.stack_code.specs.declared.instruction.CellAccess.{CellAccess}
-use Rattle.stack_code.specs.Steps.{kept_in}
+use Rattle.stack_code.specs.layer.Steps.{kept_in}
 
 -- The i-th parameter gets the value of its argument (C99 6.5.2.2).
 unfoldable pub received_one : Thread → Place → ℕ → Option CellAccess → Value → Doing (Unit {0})

@@ -14,8 +14,8 @@ use Rattle.upc_values.specs.Calls.{Call, Allocates, Makes_lock}
 use Rattle.upc_values.specs.declared.library.LibraryCall.{LibraryCall}
 use Rattle.upc_values.specs.LibraryCalls.{library_call}
 use Rattle.thread_values.specs.declared.library.LibraryStep.{LibraryStep}
-use Rattle.thread_values.specs.Results.{given_at_once}
-use Rattle.thread_values.specs.Asking.{expansion_of}
+use Rattle.thread_values.specs.layer.Results.{given_at_once}
+use Rattle.thread_values.specs.layer.Asking.{expansion_of}
 
 -- Whether a value is an integer.
 abbrev pub is_integer : Value → Bool

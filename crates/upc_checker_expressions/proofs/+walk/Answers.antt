@@ -12,8 +12,8 @@ use Rattle.upc_tree.specs.declared.expression.Spec.{Spec}
 use Rattle.upc_tree.specs.declared.expression.Member.{out-Member}
 use Rattle.upc_tree.specs.declared.expression.Parameter.{Parameter as ParameterTree, out-Parameter}
 use Rattle.upc_tree.specs.Expression as tree
-use Rattle.upc_tree.specs.Lists.{members_of, specs_of}
-use Rattle.upc_tree.specs.View.{view, view_arguments, view_array, view_declarator, view_dimensions, view_layout, view_member, view_members, view_next_declarators, view_next_exprs, view_next_parameters, view_parameter, view_parameters, view_pointers, view_qual, view_spec, view_specs, view_type}
+use Rattle.upc_tree.specs.layer.Lists.{members_of, specs_of}
+use Rattle.upc_tree.specs.layer.View.{view, view_arguments, view_array, view_declarator, view_dimensions, view_layout, view_member, view_members, view_next_declarators, view_next_exprs, view_next_parameters, view_parameter, view_parameters, view_pointers, view_qual, view_spec, view_specs, view_type}
 use Rattle.upc_tree.proofs.expression.Dimension.TheLaws as dimension
 use Rattle.upc_tree.proofs.expression.Member.TheLaws as line
 use Rattle.upc_tree.proofs.expression.NextDeclarator.TheLaws as declarator
@@ -29,15 +29,15 @@ use Rattle.typing_rules.specs.Nodes.{view_attr}
 use Rattle.typed_tree.specs.Scopes.{Tag}
 use Rattle.typed_tree.specs.Tree as k
 use Rattle.typed_tree.specs.Tree.{attrs_of, exprs_of}
-use Rattle.typed_tree.specs.ViewEnv.{view_env}
+use Rattle.typed_tree.specs.layer.ViewEnv.{view_env}
 use Rattle.typed_tree.specs.ViewTree.{view_expr}
-use Rattle.typing_rules.specs.Views.{view_formed, view_meaning, view_use}
+use Rattle.typing_rules.specs.layer.Views.{view_formed, view_meaning, view_use}
 use Rattle.upc_checker_types.specs.declared.specified.Blocks.TheVariants as blocks
 use Rattle.upc_checker_types.specs.declared.specified.Qualifier.TheVariants as qualifier
 use Rattle.upc_checker_types.specs.declared.specified.Specifier.TheVariants as specifier
 use Rattle.upc_checker_scopes.specs.Walk.{facts_in}
-use Rattle.upc_checker_scopes.specs.Ends.{boxed}
-use Rattle.upc_checker_scopes.specs.Finishes.{Finishes}
+use Rattle.upc_checker_scopes.specs.layer.Ends.{boxed}
+use Rattle.upc_checker_scopes.specs.layer.Finishes.{Finishes}
 use Rattle.typing_rules.specs.Rules.{lowest}
 use Rattle.upc_checker_nodes.specs.Marks.{right_use}
 use Rattle.upc_checker_types.specs.Specifiers as layout
@@ -48,10 +48,10 @@ use Rattle.upc_checker_nodes.specs.Called.{called, called_name, first_use, runs,
 use Rattle.upc_checker_scopes.specs.Places.{declarator_place, specs_place}
 use Rattle.upc_checker_nodes.specs.Parts.{format_in}
 use Rattle.upc_checker_expressions.specs.Expressions.{constantly, walk, walk_arguments, walk_array, walk_layout, walk_member, walk_parameter, walk_parameters, walk_qual, walk_spec, walk_specifiers, walk_type}
-use Rattle.upc_checker_scopes.specs.Views.{state_of, state_with, view_setting}
-use Rattle.upc_checker_types.specs.ViewShapes.{view_blocks, view_qualifier, view_quals, view_shaped, view_specified, view_specifier, view_specifying}
-use Rattle.upc_checker_scopes.specs.ViewTags.{view_tags}
-use Rattle.upc_checker_nodes.specs.ViewUses.{view_uses}
+use Rattle.upc_checker_scopes.specs.layer.Views.{state_of, state_with, view_setting}
+use Rattle.upc_checker_types.specs.layer.ViewShapes.{view_blocks, view_qualifier, view_quals, view_shaped, view_specified, view_specifier, view_specifying}
+use Rattle.upc_checker_scopes.specs.layer.ViewTags.{view_tags}
+use Rattle.upc_checker_nodes.specs.layer.ViewUses.{view_uses}
 use Rattle.upc_checker_scopes.proofs.Walks.{judge_goes, judge_stops}
 use Rattle.upc_checker_expressions.proofs.Lists.{front}
 use Rattle.upc_checker_scopes.proofs.Steps.{arrives, ends, given, moved, moved_stop, next, of_form, stopped}

@@ -1,15 +1,15 @@
 use Rattle.std.proofs.Common.{[], ◌++◌, map, drop}
-use Rattle.upc_tree.specs.Lists.{dimensions_of, members_of, next_declarators_of, next_exprs_of, next_parameters_of, pointers_of, quals_of, specs_of}
-use Rattle.upc_tree.specs.View.{view_dimension, view_member, view_next_declarator, view_next_expr, view_next_parameter, view_pointer, view_qual, view_spec}
+use Rattle.upc_tree.specs.layer.Lists.{dimensions_of, members_of, next_declarators_of, next_exprs_of, next_parameters_of, pointers_of, quals_of, specs_of}
+use Rattle.upc_tree.specs.layer.View.{view_dimension, view_member, view_next_declarator, view_next_expr, view_next_parameter, view_pointer, view_qual, view_spec}
 use Rattle.upc_types.specs.View as types
-use Rattle.typed_tree.specs.ViewEnv.{view_env}
+use Rattle.typed_tree.specs.layer.ViewEnv.{view_env}
 use Rattle.typed_tree.specs.ViewTree.{view_expr}
 use Rattle.upc_checker_scopes.specs.Walk.{andthen, give}
 use Rattle.upc_checker_types.specs.Specifiers.{both_quals, both_specified}
 use Rattle.upc_checker_expressions.specs.Expressions as pure
-use Rattle.upc_checker_scopes.specs.Views.{state_of, view_setting}
-use Rattle.upc_checker_types.specs.ViewShapes.{view_quals, view_shaped, view_specified, view_specifying}
-use Rattle.upc_checker_nodes.specs.ViewUses.{view_uses}
+use Rattle.upc_checker_scopes.specs.layer.Views.{state_of, view_setting}
+use Rattle.upc_checker_types.specs.layer.ViewShapes.{view_quals, view_shaped, view_specified, view_specifying}
+use Rattle.upc_checker_nodes.specs.layer.ViewUses.{view_uses}
 use Rattle.upc_checker_scopes.proofs.Walks.{Same}
 use Rattle.upc_checker_expressions.proofs.Lists.{front}
 use Rattle.upc_checker_expressions.proofs.+walk.Given as goal

@@ -1,9 +1,9 @@
 -- The thread that runs, seen without where its shapes lie in memory.
 use Rattle.block_layout.specs.Shapes.{IsShape}
-use Rattle.shared_pointers.specs.Ranges.{IsThreads}
+use Rattle.shared_pointers.specs.layer.Ranges.{IsThreads}
 use Rattle.upc_values.specs.Lists.{Each}
 use Rattle.upc_values.specs.declared.scalar.Value.{Value}
-use Rattle.thread_steps.specs.Ranges.{IsHeld}
+use Rattle.thread_steps.specs.layer.Ranges.{IsHeld}
 use Rattle.thread_steps.specs.States.{Thread}
 use Rattle.upc_meaning_state.specs.declared.runner.Runner.{Runner}
 

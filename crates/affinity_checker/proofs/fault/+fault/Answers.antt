@@ -1,10 +1,10 @@
 use Rattle.std.proofs.Common.{ap, ◌∙◌, rules, arith}
 use Rattle.std.proofs.lemmas.Grind.{common_steps}
-use Rattle.upc_tree.specs.ViewStatement.{view_statement}
+use Rattle.upc_tree.specs.layer.ViewStatement.{view_statement}
 use Rattle.upc_tree.specs.Statement.{Statement}
 use Rattle.upc_tree.proofs.StatementRows.{compound_is, if_is, switch_is}
-use Rattle.affinity_checker.specs.Rules.{first}
-use Rattle.affinity_checker.specs.Breaches.{breaches}
+use Rattle.affinity_checker.specs.layer.Rules.{first}
+use Rattle.affinity_checker.specs.layer.Breaches.{breaches}
 use Rattle.affinity_checker.proofs.Firsts.{first_append}
 use Rattle.affinity_checker.proofs.fault.+fault.Goals as goal
 

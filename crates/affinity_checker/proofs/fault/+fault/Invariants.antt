@@ -1,8 +1,8 @@
 use Rattle.std.proofs.Common.{◌≡◌, map, drop}
-use Rattle.upc_tree.specs.Lists.{block_items_of, switch_items_of, else_ifs_of}
-use Rattle.upc_tree.specs.ViewStatement.{view_block_item, view_switch_item, view_else_if}
-use Rattle.affinity_checker.specs.Rules.{first}
-use Rattle.affinity_checker.specs.Breaches.{in_block_items, in_switch_items, in_else_ifs}
+use Rattle.upc_tree.specs.layer.Lists.{block_items_of, switch_items_of, else_ifs_of}
+use Rattle.upc_tree.specs.layer.ViewStatement.{view_block_item, view_switch_item, view_else_if}
+use Rattle.affinity_checker.specs.layer.Rules.{first}
+use Rattle.affinity_checker.specs.layer.Breaches.{in_block_items, in_switch_items, in_else_ifs}
 use Rattle.affinity_checker.proofs.fault.+fault.Given as goal
 
 abbrev pub invariant-else_ifs_fault-loop-part : goal.invariant-else_ifs_fault-loop-part

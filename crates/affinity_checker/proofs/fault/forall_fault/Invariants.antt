@@ -1,7 +1,7 @@
 use Rattle.std.proofs.Common.{◌≡◌, map, drop}
-use Rattle.upc_tree.specs.ViewStatement.{view_external}
-use Rattle.affinity_checker.specs.Rules.{first}
-use Rattle.affinity_checker.specs.Breaches.{unit_breaches}
+use Rattle.upc_tree.specs.layer.ViewStatement.{view_external}
+use Rattle.affinity_checker.specs.layer.Rules.{first}
+use Rattle.affinity_checker.specs.layer.Breaches.{unit_breaches}
 use Rattle.affinity_checker.proofs.fault.forall_fault.Given as goal
 
 abbrev pub invariant-loop-part : goal.invariant-loop-part

@@ -1,6 +1,6 @@
 use Rattle.std.proofs.Common.{◌≡◌, ◌+◌, ◌*◌, ◌≤◌, sym, ap, ◌∙◌, subst, arith}
 use Rattle.std.specs.Arc.{arc_value}
-use Rattle.block_layout.specs.Runs.{Repeated, repeated, run_cells}
+use Rattle.block_layout.specs.code.Runs.{Repeated, repeated, run_cells}
 use Rattle.block_layout.specs.Shapes.{LieUpTo}
 use Rattle.block_layout.proofs.LieBehind.{lie_once, lie_copies, checked_end}
 use Rattle.block_layout.proofs.ends.end_of_run.Goals as goal

@@ -1,5 +1,5 @@
 use Rattle.std.proofs.Common.{take}
-use Rattle.block_layout.specs.Runs.{runs_cells}
+use Rattle.block_layout.specs.code.Runs.{runs_cells}
 use Rattle.block_layout.specs.Shapes.{LieUpTo}
 use Rattle.block_layout.proofs.ends.end_of_runs.Given as goal
 

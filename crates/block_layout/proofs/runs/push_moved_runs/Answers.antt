@@ -1,4 +1,4 @@
-use Rattle.block_layout.specs.Runs.{runs_cells}
+use Rattle.block_layout.specs.code.Runs.{runs_cells}
 use Rattle.block_layout.proofs.RunLists.{moved_more}
 use Rattle.block_layout.proofs.runs.push_moved_runs.Goals as goal
 

@@ -1,6 +1,6 @@
 use Rattle.std.proofs.Common.{◌≡◌, ◌++◌, take}
 use Rattle.block_layout.specs.Moved.{moved}
-use Rattle.block_layout.specs.Runs.{runs_cells}
+use Rattle.block_layout.specs.code.Runs.{runs_cells}
 use Rattle.block_layout.proofs.runs.push_moved_runs.Given as goal
 
 abbrev pub invariant-loop-run : goal.invariant-loop-run

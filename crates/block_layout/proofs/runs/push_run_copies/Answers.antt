@@ -1,6 +1,6 @@
 use Rattle.std.proofs.Common.{◌+◌, ◌*◌, ◌≤◌, ◌++◌, sym, ap, ◌∙◌, append_assoc, arith}
 use Rattle.block_layout.specs.Moved.{moved, copies}
-use Rattle.block_layout.specs.Runs.{runs_cells}
+use Rattle.block_layout.specs.code.Runs.{runs_cells}
 use Rattle.block_layout.proofs.Near.{near_within}
 use Rattle.block_layout.proofs.Within.{copies_step, last_copy}
 use Rattle.block_layout.proofs.runs.push_run_copies.Goals as goal

@@ -1,6 +1,6 @@
 use Rattle.std.proofs.Common.{◌≡◌, ◌++◌}
 use Rattle.block_layout.specs.Moved.{moved, copies}
-use Rattle.block_layout.specs.Runs.{runs_cells}
+use Rattle.block_layout.specs.code.Runs.{runs_cells}
 use Rattle.block_layout.proofs.runs.push_run_copies.Given as goal
 
 abbrev pub invariant-loop-i : goal.invariant-loop-i

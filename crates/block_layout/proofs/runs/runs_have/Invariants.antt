@@ -1,5 +1,5 @@
 use Rattle.std.proofs.Common.{◌≡◌, drop}
-use Rattle.block_layout.specs.Runs.{runs_cells}
+use Rattle.block_layout.specs.code.Runs.{runs_cells}
 use Rattle.block_layout.specs.Shapes.{has_cell}
 use Rattle.block_layout.proofs.runs.runs_have.Given as goal
 

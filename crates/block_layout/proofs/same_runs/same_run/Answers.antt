@@ -1,8 +1,8 @@
 use Rattle.std.proofs.Common.{◌≡◌, length, ap, ◌∙◌, subst, arith}
 use Rattle.std.specs.Arc.{arc_value}
 use Rattle.block_layout.specs.Cells.{same_cells}
-use Rattle.block_layout.specs.Runs.{Repeated, run_cells}
-use Rattle.block_layout.specs.SameRuns.{IsTold}
+use Rattle.block_layout.specs.code.Runs.{Repeated, run_cells}
+use Rattle.block_layout.specs.code.SameRuns.{IsTold}
 use Rattle.block_layout.proofs.Told.{run_told}
 use Rattle.block_layout.proofs.same_runs.same_run.Goals as goal
 

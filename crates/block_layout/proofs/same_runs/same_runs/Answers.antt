@@ -1,6 +1,6 @@
 use Rattle.std.proofs.Common.{◌<◌, length, subst, arith}
-use Rattle.block_layout.specs.Runs.{run_cells}
-use Rattle.block_layout.specs.SameRuns.{IsTold}
+use Rattle.block_layout.specs.code.Runs.{run_cells}
+use Rattle.block_layout.specs.code.SameRuns.{IsTold}
 use Rattle.block_layout.proofs.Told.{told_take, told_differ}
 use Rattle.block_layout.proofs.same_runs.same_runs.Goals as goal
 

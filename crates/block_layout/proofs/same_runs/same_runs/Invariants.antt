@@ -1,5 +1,5 @@
 use Rattle.std.proofs.Common.{◌≡◌, length, take}
-use Rattle.block_layout.specs.Runs.{runs_cells}
+use Rattle.block_layout.specs.code.Runs.{runs_cells}
 use Rattle.block_layout.proofs.same_runs.same_runs.Given as goal
 
 abbrev pub invariant-loop-i : goal.invariant-loop-i

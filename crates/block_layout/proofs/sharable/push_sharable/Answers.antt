@@ -1,6 +1,6 @@
 use Rattle.std.proofs.Common.{rules, ◌≡◌, length, ap, ◌∙◌}
 use Rattle.block_layout.specs.Cells.{sharable}
-use Rattle.block_layout.specs.Runs.{Repeated, runs_cells}
+use Rattle.block_layout.specs.code.Runs.{Repeated, runs_cells}
 use Rattle.block_layout.proofs.SharableCells.{nothing_pushed}
 use Rattle.block_layout.proofs.sharable.push_sharable.Goals as goal
 

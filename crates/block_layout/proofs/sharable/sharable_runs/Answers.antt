@@ -1,6 +1,6 @@
 use Rattle.std.proofs.Common.{◌++◌, sym, ap, ◌∙◌}
 use Rattle.block_layout.specs.Cells.{sharable}
-use Rattle.block_layout.specs.Runs.{run_cells}
+use Rattle.block_layout.specs.code.Runs.{run_cells}
 use Rattle.block_layout.proofs.SharableCells.{sharable_take}
 use Rattle.block_layout.proofs.sharable.sharable_runs.Goals as goal
 

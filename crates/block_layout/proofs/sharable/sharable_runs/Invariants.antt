@@ -1,6 +1,6 @@
 use Rattle.std.proofs.Common.{◌≡◌, take}
 use Rattle.block_layout.specs.Cells.{sharable}
-use Rattle.block_layout.specs.Runs.{runs_cells}
+use Rattle.block_layout.specs.code.Runs.{runs_cells}
 use Rattle.block_layout.proofs.sharable.sharable_runs.Given as goal
 
 abbrev pub invariant-loop-run : goal.invariant-loop-run

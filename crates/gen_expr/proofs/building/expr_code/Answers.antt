@@ -1,6 +1,6 @@
 use Rattle.std.proofs.Common.{◌∙◌, sym}
 use Rattle.typed_tree.specs.ViewTree.{view_expr}
-use Rattle.gen_expr.specs.ViewSource.{view_source}
+use Rattle.gen_expr.specs.layer.ViewSource.{view_source}
 use Rattle.gen_expr.proofs.Appended.{made, appends_meaning}
 use Rattle.gen_expr.proofs.building.expr_code.Goals as goal
 

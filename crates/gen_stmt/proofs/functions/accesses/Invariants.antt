@@ -1,6 +1,6 @@
 use Rattle.std.proofs.Common.{◌≡◌, ◌++◌, map, drop}
 use Rattle.upc_types.specs.View.{view}
-use Rattle.gen_expr.specs.ViewSource.{view_source}
+use Rattle.gen_expr.specs.layer.ViewSource.{view_source}
 use Rattle.gen_stmt.specs.Programs.{parameter_access}
 use Rattle.gen_stmt.proofs.functions.accesses.Given as goal
 

@@ -1,5 +1,5 @@
 use Rattle.std.proofs.Common.{◌∙◌}
-use Rattle.gen_expr.specs.ViewSource.{view_source}
+use Rattle.gen_expr.specs.layer.ViewSource.{view_source}
 use Rattle.gen_stmt.proofs.Steps.{declared_step}
 use Rattle.gen_stmt.proofs.initials.put_declared.Goals as goal
 

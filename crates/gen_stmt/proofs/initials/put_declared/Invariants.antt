@@ -1,6 +1,6 @@
 use Rattle.std.proofs.Common.{◌≡◌, ◌++◌, map, drop}
 use Rattle.typed_tree.specs.ViewStatements.{view_object}
-use Rattle.gen_expr.specs.ViewSource.{view_source}
+use Rattle.gen_expr.specs.layer.ViewSource.{view_source}
 use Rattle.gen_stmt.specs.Codes.{declared_code}
 use Rattle.gen_stmt.proofs.initials.put_declared.Given as goal
 

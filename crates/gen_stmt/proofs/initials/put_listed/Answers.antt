@@ -1,6 +1,6 @@
 use Rattle.std.proofs.Common.{◌∙◌}
 use Rattle.typed_tree.specs.ViewStatements.{view_object}
-use Rattle.gen_expr.specs.ViewSource.{view_source}
+use Rattle.gen_expr.specs.layer.ViewSource.{view_source}
 use Rattle.gen_stmt.proofs.Steps.{listed_step}
 use Rattle.gen_stmt.proofs.initials.put_listed.Goals as goal
 

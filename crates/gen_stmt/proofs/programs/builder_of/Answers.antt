@@ -4,7 +4,7 @@ use Rattle.block_layout.specs.Shapes.{IsShape}
 use Rattle.upc_values.specs.Lists.{Each}
 use Rattle.typed_tree.specs.Beginnings.{view_beginning}
 use Rattle.typed_tree.specs.ViewProgram.{view_program}
-use Rattle.gen_expr.specs.ViewSource.{view_source}
+use Rattle.gen_expr.specs.layer.ViewSource.{view_source}
 use Rattle.source_meaning.proofs.Beginnings.{shapes_fit}
 use Rattle.gen_stmt.proofs.Compiling.{all_made}
 use Rattle.gen_stmt.proofs.programs.builder_of.Goals as goal

@@ -4,12 +4,12 @@ use Rattle.private_store.specs.Beginnings.{IsBeginning}
 use Rattle.typed_tree.specs.Beginnings.{view_beginning}
 use Rattle.typed_tree.specs.ViewProgram.{view_program}
 use Rattle.stack_code.specs.Codes.{Codes}
-use Rattle.stack_code.specs.Depths.{IsDeep, BeginsOnce}
-use Rattle.stack_code.specs.Making.{Making}
+use Rattle.stack_code.specs.layer.Depths.{IsDeep, BeginsOnce}
+use Rattle.stack_code.specs.layer.Making.{Making}
 use Rattle.gen_expr.proofs.Simulation.{expressions_are_meant}
 use Rattle.source_meaning.specs.Laws.{opening_of}
-use Rattle.gen_stmt.specs.Meanings.{MeansProgram}
-use Rattle.gen_stmt.specs.Names.{NamesOnly}
+use Rattle.gen_stmt.specs.layer.Meanings.{MeansProgram}
+use Rattle.gen_stmt.specs.layer.Names.{NamesOnly}
 use Rattle.gen_stmt.specs.Programs.{program_code}
 use Rattle.gen_stmt.proofs.Gathered.{program_begins}
 use Rattle.source_meaning.proofs.Beginnings.{privates_begin}

@@ -1,5 +1,5 @@
 use Rattle.std.proofs.Common.{◌∙◌, ap}
-use Rattle.stack_code.specs.Making.{with_function}
+use Rattle.stack_code.specs.layer.Making.{with_function}
 use Rattle.gen_stmt.proofs.Behind.{on_ok}
 use Rattle.gen_stmt.proofs.Compiling.{ended}
 use Rattle.gen_stmt.proofs.programs.put_code.Goals as goal

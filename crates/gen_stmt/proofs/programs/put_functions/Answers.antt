@@ -1,6 +1,6 @@
 use Rattle.std.proofs.Common.{◌∙◌, ap}
-use Rattle.stack_code.specs.Making.{Making}
-use Rattle.gen_expr.specs.ViewSource.{view_source}
+use Rattle.stack_code.specs.layer.Making.{Making}
+use Rattle.gen_expr.specs.layer.ViewSource.{view_source}
 use Rattle.gen_stmt.proofs.Compiling.{function_step, functions_end}
 use Rattle.gen_stmt.proofs.programs.put_functions.Goals as goal
 

@@ -12,7 +12,7 @@ use Rattle.typed_tree.specs.ViewStatements.{view_statement_kind, view_statement,
 use Rattle.typed_tree.specs.ViewStatements.{view_affinity, view_last}
 use Rattle.typed_tree.specs.ViewStatements.{view_switch_items}
 use Rattle.typed_tree.proofs.StatementRows.{block_is, if_is, switch_is}
-use Rattle.gen_expr.specs.ViewSource.{view_source}
+use Rattle.gen_expr.specs.layer.ViewSource.{view_source}
 use Rattle.gen_stmt.specs.Codes.{kind_code, loop_code, statement_code}
 use Rattle.gen_stmt.specs.code.Views.{view_exits, view_labelled, view_standing}
 use Rattle.gen_stmt.proofs.Steps.{count_back}

@@ -1,6 +1,6 @@
 use Rattle.std.proofs.Common.{ap, get_or, pos, ◌∙◌}
 use Rattle.upc_values.specs.declared.scalar.Scalar.TheVariants.{Int}
-use Rattle.memory_history.specs.Calls.{shared_in, reduced}
+use Rattle.memory_history.specs.code.Calls.{shared_in, reduced}
 use Rattle.memory_history.proofs.Reading.{seven-places}
 use Rattle.memory_history.proofs.calls.read_call.Goals as goal
 

@@ -2,8 +2,8 @@ use Rattle.std.proofs.Common.{◌∙◌, subst}
 use Rattle.std.specs.Option.{option_copied}
 use Rattle.upc_values.specs.Copying.{copied}
 use Rattle.upc_values.specs.Expansion.{each_in_turn}
-use Rattle.plain_calls.specs.Areas.{area_in}
-use Rattle.plain_calls.specs.Run.{Follows}
+use Rattle.plain_calls.specs.code.Areas.{area_in}
+use Rattle.plain_calls.specs.layer.Run.{Follows}
 use Rattle.plain_calls.proofs.memory.copy_all.Goals as goal
 
 pub returns : goal.returns

@@ -1,7 +1,7 @@
 use Rattle.std.proofs.Common.{Err, ◌∙◌}
 use Rattle.std.proofs.lemmas.Result.{err_from_is_err_and}
 use Rattle.upc_values.specs.Copying.{copied}
-use Rattle.plain_calls.specs.Areas.{area_in}
+use Rattle.plain_calls.specs.code.Areas.{area_in}
 use Rattle.plain_calls.proofs.Following.{alike, each-on, each-stops, each-done}
 use Rattle.plain_calls.proofs.memory.copy_cells.Goals as goal
 

@@ -3,7 +3,7 @@ use Rattle.std.proofs.lemmas.Result.{err_from_is_err_and}
 use Rattle.block_layout.specs.declared.kind.Kind.{Kind}
 use Rattle.upc_values.specs.Copying.{written, filled}
 use Rattle.upc_values.specs.Expansion.{Expansion}
-use Rattle.plain_calls.specs.Areas.{area_in}
+use Rattle.plain_calls.specs.code.Areas.{area_in}
 use Rattle.plain_calls.proofs.Following.{alike, each-on, each-stops, each-done}
 use Rattle.plain_calls.proofs.memory.fill_cells.Goals as goal
 

@@ -4,7 +4,7 @@ use Rattle.block_layout.specs.Shapes.{kind_size}
 use Rattle.block_layout.specs.declared.place.SharedPtr.{SharedPtr}
 use Rattle.upc_values.specs.Views.{leaves_piece}
 use Rattle.plain_calls.specs.declared.spot.Spot.{Spot}
-use Rattle.plain_calls.specs.Spots.{pointer_of, IsRoomFor}
+use Rattle.plain_calls.specs.layer.Spots.{pointer_of, IsRoomFor}
 use Rattle.plain_calls.proofs.Ranges.{all-more}
 use Rattle.plain_collectives.proofs.Members.{any-passed}
 use Rattle.plain_collectives.proofs.elements.leave_pieces.Goals as goal

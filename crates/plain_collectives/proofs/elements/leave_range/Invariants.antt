@@ -1,7 +1,7 @@
 use Rattle.std.proofs.Common.{◌≡◌, drop, map}
 use Rattle.std.specs.List.{list_any}
 use Rattle.upc_values.specs.Views.{leaves_range}
-use Rattle.plain_calls.specs.Spots.{pointer_of}
+use Rattle.plain_calls.specs.layer.Spots.{pointer_of}
 use Rattle.plain_collectives.proofs.elements.leave_range.Given as goal
 
 abbrev pub invariant-loop-element : goal.invariant-loop-element

@@ -7,8 +7,8 @@ use mir.Val.{SFits}
 use Rattle.block_layout.specs.declared.place.SharedPtr.{SharedPtr}
 use Rattle.upc_values.specs.Expansion.{Expansion, bind, gathered, Gives}
 use Rattle.upc_values.specs.Expansions.{number_at}
-use Rattle.plain_calls.specs.Run.{run}
-use Rattle.plain_calls.specs.Spots.{pointer_of}
+use Rattle.plain_calls.specs.layer.Run.{run}
+use Rattle.plain_calls.specs.layer.Spots.{pointer_of}
 use Rattle.plain_calls.proofs.Following.{alike}
 use Rattle.plain_collectives.proofs.Behind.{gather-start, gather-on-at, gather-stops-at}
 use Rattle.plain_collectives.proofs.elements.read_numbers.Goals as goal

@@ -1,8 +1,8 @@
 use Rattle.std.proofs.Common.{◌≡◌, [], ◌++◌, drop, map, length}
 use Rattle.upc_values.specs.Expansion.{bind, gathered, Gives}
 use Rattle.upc_values.specs.Expansions.{number_at}
-use Rattle.plain_calls.specs.Run.{run}
-use Rattle.plain_calls.specs.Spots.{pointer_of}
+use Rattle.plain_calls.specs.layer.Run.{run}
+use Rattle.plain_calls.specs.layer.Spots.{pointer_of}
 use Rattle.plain_collectives.proofs.elements.read_numbers.Given as goal
 
 abbrev pub invariant-loop-element : goal.invariant-loop-element

@@ -1,7 +1,7 @@
 use Rattle.std.proofs.Common.{◌≡◌, drop, map}
 use Rattle.std.specs.List.{list_any}
 use Rattle.upc_values.specs.Expansions.{differ}
-use Rattle.plain_collectives.specs.Parts.{part_of}
+use Rattle.plain_collectives.specs.code.Parts.{part_of}
 use Rattle.plain_collectives.proofs.part.any_differs.Given as goal
 
 abbrev pub invariant-loop-part : goal.invariant-loop-part

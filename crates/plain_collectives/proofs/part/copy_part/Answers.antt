@@ -1,6 +1,6 @@
 use Rattle.std.proofs.Common.{Err, ◌∙◌}
 use Rattle.std.proofs.lemmas.Result.{err_from_is_err_and}
-use Rattle.plain_collectives.specs.Parts.{part_of}
+use Rattle.plain_collectives.specs.code.Parts.{part_of}
 use Rattle.plain_calls.proofs.Following.{alike, each-on, each-stops}
 use Rattle.plain_collectives.proofs.Copying.{copy_one}
 use Rattle.plain_collectives.proofs.part.copy_part.Goals as goal

@@ -1,8 +1,8 @@
 use Rattle.std.proofs.Common.{◌≡◌, drop}
 use Rattle.upc_values.specs.Expansion.{each_in_turn}
 use Rattle.upc_values.specs.Expansions.{copied}
-use Rattle.plain_calls.specs.Run.{run}
-use Rattle.plain_collectives.specs.Parts.{part_of}
+use Rattle.plain_calls.specs.layer.Run.{run}
+use Rattle.plain_collectives.specs.code.Parts.{part_of}
 use Rattle.plain_collectives.proofs.Copying.{copy_one}
 use Rattle.plain_collectives.proofs.part.copy_part.Given as goal
 

@@ -3,7 +3,7 @@ use Rattle.std.proofs.lemmas.Result.{err_from_is_err_and}
 use Rattle.upc_values.specs.Expansion.{Expansion}
 use Rattle.upc_values.specs.Expansions.{copied}
 use Rattle.plain_collectives.specs.declared.part.Part.{Part}
-use Rattle.plain_collectives.specs.Parts.{part_of}
+use Rattle.plain_collectives.specs.code.Parts.{part_of}
 use Rattle.plain_calls.proofs.Following.{alike, each-on, each-stops}
 use Rattle.plain_collectives.proofs.part.copy_parts.Goals as goal
 

@@ -2,7 +2,7 @@ use Rattle.std.proofs.Common.{Bool, ◌||◌, subst, take_all, sym, ◌∙◌}
 use Rattle.std.specs.List.{All}
 use Rattle.upc_values.specs.Expansions as said
 use Rattle.upc_values.specs.Views.{leaves_piece}
-use Rattle.plain_collectives.specs.Parts.{part_of, HasRoom}
+use Rattle.plain_collectives.specs.code.Parts.{part_of, HasRoom}
 use Rattle.plain_calls.proofs.Ranges.{all-more}
 use Rattle.plain_collectives.proofs.Members.{any-passed}
 use Rattle.plain_collectives.proofs.part.leave_pieces.Goals as goal

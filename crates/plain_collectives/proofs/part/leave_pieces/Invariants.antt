@@ -1,7 +1,7 @@
 use Rattle.std.proofs.Common.{◌≡◌, ◌||◌, drop, take, map}
 use Rattle.std.specs.List.{list_any, All}
 use Rattle.upc_values.specs.Views.{leaves_piece}
-use Rattle.plain_collectives.specs.Parts.{part_of, HasRoom}
+use Rattle.plain_collectives.specs.code.Parts.{part_of, HasRoom}
 use Rattle.plain_collectives.proofs.part.leave_pieces.Given as goal
 
 abbrev pub invariant-loop-part : goal.invariant-loop-part

@@ -1,8 +1,8 @@
 use Rattle.std.proofs.Common.{sym, subst, ◌∙◌}
 use Rattle.upc_values.specs.Expansion.{Expansion}
 use Rattle.upc_values.specs.Expansions as said
-use Rattle.plain_calls.specs.Run.{Follows}
-use Rattle.plain_collectives.specs.Parts.{part_of}
+use Rattle.plain_calls.specs.layer.Run.{Follows}
+use Rattle.plain_collectives.specs.code.Parts.{part_of}
 use Rattle.plain_calls.proofs.Following.{passes, each-map}
 use Rattle.plain_collectives.proofs.part.move_parts.Goals as goal
 

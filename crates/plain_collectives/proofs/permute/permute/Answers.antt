@@ -8,8 +8,8 @@ use Rattle.upc_values.specs.Expansion.{Expansion, bind, gathered, refused_by}
 use Rattle.upc_values.specs.Expansions as said
 use Rattle.upc_values.specs.History.{each_thread}
 use Rattle.upc_values.specs.Views as views
-use Rattle.plain_calls.specs.Run.{Follows}
-use Rattle.plain_calls.specs.Spots.{pointer_of}
+use Rattle.plain_calls.specs.layer.Run.{Follows}
+use Rattle.plain_calls.specs.layer.Spots.{pointer_of}
 use Rattle.plain_calls.proofs.Following.{passes}
 use Rattle.plain_collectives.proofs.Behind.{passes-so, refuses-so}
 use Rattle.plain_collectives.proofs.permute.permute.Goals as goal

@@ -6,8 +6,8 @@ use Rattle.std.proofs.lemmas.Result.{err_from_is_err_and}
 use Rattle.upc_values.specs.Expansion.{Expansion, gathered, refused_by}
 use Rattle.upc_values.specs.Expansions as said
 use Rattle.upc_values.specs.History.{each_thread}
-use Rattle.plain_calls.specs.Run.{Follows}
-use Rattle.plain_calls.specs.Spots.{pointer_of}
+use Rattle.plain_calls.specs.layer.Run.{Follows}
+use Rattle.plain_calls.specs.layer.Spots.{pointer_of}
 use Rattle.plain_calls.proofs.Following.{goes, stops}
 use Rattle.plain_collectives.proofs.permute.permute_read.Goals as goal
 

@@ -1,7 +1,7 @@
 use Rattle.std.proofs.Common.{ℕ, length, length-append, ap, arith}
 use Rattle.block_layout.specs.declared.place.SharedPtr.{SharedPtr}
 use Rattle.upc_values.specs.Views.{element}
-use Rattle.plain_calls.specs.Spots.{pointer_of}
+use Rattle.plain_calls.specs.layer.Spots.{pointer_of}
 use Rattle.plain_collectives.proofs.Members.{mapped-more}
 use Rattle.plain_collectives.proofs.reduce.operands.Goals as goal
 

@@ -3,8 +3,8 @@ use Rattle.block_layout.specs.declared.place.SharedPtr.{SharedPtr}
 use Rattle.upc_values.specs.Expansion.{Expansion}
 use Rattle.upc_values.specs.Expansions as said
 use Rattle.upc_values.specs.Reductions.{reduction, element_kind}
-use Rattle.plain_calls.specs.Run.{Follows}
-use Rattle.plain_calls.specs.Spots.{pointer_of}
+use Rattle.plain_calls.specs.layer.Run.{Follows}
+use Rattle.plain_calls.specs.layer.Spots.{pointer_of}
 use Rattle.plain_collectives.proofs.Behind.{works-on}
 use Rattle.plain_collectives.proofs.reduce.reduce_all.Goals as goal
 

@@ -1,7 +1,7 @@
 use Rattle.std.proofs.Common.{[], ◌++◌, map}
 use Rattle.upc_values.specs.Expansions as said
 use Rattle.upc_values.specs.Reductions.{reduction, element_kind}
-use Rattle.plain_calls.specs.Spots.{pointer_of}
+use Rattle.plain_calls.specs.layer.Spots.{pointer_of}
 use Rattle.plain_collectives.proofs.CellTests.{cell_tests}
 use Rattle.plain_collectives.proofs.Behind.{goes-past, stops-at}
 use Rattle.plain_collectives.proofs.reduce.reduce_prefix_cells.Goals as goal

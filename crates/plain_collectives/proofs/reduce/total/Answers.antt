@@ -1,7 +1,7 @@
 use Rattle.std.proofs.Common.{Err, ◌∙◌}
 use Rattle.std.proofs.lemmas.Result.{err_from_is_err_and}
-use Rattle.plain_collectives.specs.Reductions.{reduction_in}
-use Rattle.plain_calls.specs.Spots.{pointer_of}
+use Rattle.plain_collectives.specs.code.Reductions.{reduction_in}
+use Rattle.plain_calls.specs.layer.Spots.{pointer_of}
 use Rattle.plain_calls.proofs.Following.{alike}
 use Rattle.plain_collectives.proofs.Totals.{total-on, total-stops, total-end}
 use Rattle.plain_collectives.proofs.reduce.total.Goals as goal

@@ -1,7 +1,7 @@
 use Rattle.std.proofs.Common.{◌≡◌, drop, map}
-use Rattle.plain_collectives.specs.Reductions.{reduction_in}
-use Rattle.plain_calls.specs.Run.{run}
-use Rattle.plain_calls.specs.Spots.{pointer_of}
+use Rattle.plain_collectives.specs.code.Reductions.{reduction_in}
+use Rattle.plain_calls.specs.layer.Run.{run}
+use Rattle.plain_calls.specs.layer.Spots.{pointer_of}
 use Rattle.plain_collectives.proofs.Totals.{total}
 use Rattle.plain_collectives.proofs.reduce.total.Given as goal
 

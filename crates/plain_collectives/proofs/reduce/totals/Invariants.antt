@@ -1,8 +1,8 @@
 use Rattle.std.proofs.Common.{◌≡◌, [], drop, map}
 use Rattle.upc_values.specs.Expansions.{paired}
-use Rattle.plain_collectives.specs.Reductions.{reduction_in}
-use Rattle.plain_calls.specs.Run.{run}
-use Rattle.plain_calls.specs.Spots.{pointer_of}
+use Rattle.plain_collectives.specs.code.Reductions.{reduction_in}
+use Rattle.plain_calls.specs.layer.Run.{run}
+use Rattle.plain_calls.specs.layer.Spots.{pointer_of}
 use Rattle.plain_collectives.proofs.Totals.{totals}
 use Rattle.plain_collectives.proofs.reduce.totals.Given as goal
 

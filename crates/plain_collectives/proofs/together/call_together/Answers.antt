@@ -4,8 +4,8 @@ use Rattle.upc_values.specs.declared.action.Action.TheVariants as act
 use Rattle.upc_values.specs.Calls.{call_of}
 use Rattle.upc_values.specs.Expansion.{Expansion, bind, does}
 use Rattle.upc_values.specs.Expansions as said
-use Rattle.plain_collectives.specs.Calls.{call_in}
-use Rattle.plain_calls.specs.Run.{run, Follows}
+use Rattle.plain_collectives.specs.code.Calls.{call_in}
+use Rattle.plain_calls.specs.layer.Run.{run, Follows}
 use Rattle.plain_calls.proofs.Following.{goes, stops}
 use Rattle.plain_collectives.proofs.Behind.{goes-past, stops-at}
 use Rattle.plain_collectives.proofs.Limits.{limits, done_by, done_by-kept}

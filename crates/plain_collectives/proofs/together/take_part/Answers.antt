@@ -2,8 +2,8 @@ use Rattle.std.proofs.Common.{ℕ, ◌%◌, ◌/◌, ◌==◌, Ok, Err, cond, su
 use Rattle.std.proofs.lemmas.Result.{err_from_is_err_and}
 use Rattle.upc_values.specs.Expansion.{Expansion, bind, nothing, barrier}
 use Rattle.upc_values.specs.Expansions as said
-use Rattle.plain_collectives.specs.Calls.{call_in}
-use Rattle.plain_calls.specs.Run.{Follows}
+use Rattle.plain_collectives.specs.code.Calls.{call_in}
+use Rattle.plain_calls.specs.layer.Run.{Follows}
 use Rattle.plain_calls.proofs.Following.{goes, stops}
 use Rattle.plain_collectives.proofs.together.take_part.Goals as goal
 

@@ -1,7 +1,7 @@
 use Rattle.std.proofs.Common.{sym, subst}
 use Rattle.upc_values.specs.Expansions as said
-use Rattle.plain_collectives.specs.Calls.{call_in}
-use Rattle.plain_calls.specs.Run.{Follows}
+use Rattle.plain_collectives.specs.code.Calls.{call_in}
+use Rattle.plain_calls.specs.layer.Run.{Follows}
 use Rattle.plain_collectives.proofs.together.work.Goals as goal
 
 pub returns-in-Reduces : goal.returns-in-Reduces

@@ -1,7 +1,7 @@
 use Rattle.std.proofs.Common.{ℕ, ◌+◌, ◌*◌}
 use Rattle.upc_values.specs.Calls.{Gather_all}
 use Rattle.upc_values.specs.Expansions as said
-use Rattle.plain_collectives.specs.Parts.{part_of}
+use Rattle.plain_collectives.specs.code.Parts.{part_of}
 use Rattle.plain_collectives.proofs.Members.{mapped-more}
 use Rattle.plain_collectives.proofs.ways.gather_all.Goals as goal
 

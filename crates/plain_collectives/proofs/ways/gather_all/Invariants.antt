@@ -2,7 +2,7 @@ use Rattle.std.proofs.Common.{◌≡◌, ◌+◌, ◌*◌, map}
 use Rattle.std.specs.List.{range_with_len}
 use Rattle.upc_values.specs.Calls.{Gather_all}
 use Rattle.upc_values.specs.Expansions.{goes}
-use Rattle.plain_collectives.specs.Parts.{part_of}
+use Rattle.plain_collectives.specs.code.Parts.{part_of}
 use Rattle.plain_collectives.proofs.ways.gather_all.Given as goal
 
 abbrev pub invariant-loop-i : goal.invariant-loop-i

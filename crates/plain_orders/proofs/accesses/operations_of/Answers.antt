@@ -2,7 +2,7 @@ use Rattle.std.proofs.Common.{◌≡◌, ◌↔◌, List, sym, ap, ◌∙◌, su
 use Rattle.upc_values.specs.Lists.{Has}
 use Rattle.upc_values.specs.Operations.{Operation}
 use Rattle.upc_values.specs.Orders.{IsOf}
-use Rattle.plain_orders.specs.Below.{operations_below}
+use Rattle.plain_orders.specs.code.Below.{operations_below}
 use Rattle.plain_orders.proofs.Below.{all-below}
 use Rattle.plain_orders.proofs.accesses.operations_of.Goals as goal
 

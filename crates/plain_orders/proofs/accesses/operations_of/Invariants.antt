@@ -1,5 +1,5 @@
 use Rattle.std.proofs.Common.{◌≡◌}
-use Rattle.plain_orders.specs.Below.{operations_below}
+use Rattle.plain_orders.specs.code.Below.{operations_below}
 use Rattle.plain_orders.proofs.accesses.operations_of.Given as goal
 
 abbrev pub invariant-loop-thread : goal.invariant-loop-thread

@@ -1,6 +1,6 @@
 use Rattle.std.proofs.Common.{sym, ◌∙◌}
 use Rattle.std.proofs.lemmas.Bool.{false≢true}
-use Rattle.plain_orders.specs.Parts.{initial_by}
+use Rattle.plain_orders.specs.code.Parts.{initial_by}
 use Rattle.plain_orders.proofs.Whole.{orders-from, below-of, each-of}
 use Rattle.plain_orders.proofs.consistent.are_consistent.Goals as goal
 

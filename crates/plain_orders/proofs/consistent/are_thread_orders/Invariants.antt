@@ -1,6 +1,6 @@
 use Rattle.std.proofs.Common.{ℕ, ◌<◌}
-use Rattle.plain_orders.specs.Parts.{initial_by}
-use Rattle.plain_orders.specs.Whole.{order_at, IsThreadOrder}
+use Rattle.plain_orders.specs.code.Parts.{initial_by}
+use Rattle.plain_orders.specs.code.Whole.{order_at, IsThreadOrder}
 use Rattle.plain_orders.proofs.consistent.are_thread_orders.Given as goal
 
 -- those of the threads so far are

@@ -3,9 +3,9 @@ use Rattle.std.proofs.lemmas.Bool.{false≢true}
 use Rattle.upc_values.specs.Lists.{Has}
 use Rattle.upc_values.specs.Operations.{Operation}
 use Rattle.upc_values.specs.Orders.{IsOf}
-use Rattle.plain_orders.specs.Parts.{initial_by}
-use Rattle.plain_orders.specs.Whole.{AreOrdersOf}
-use Rattle.plain_orders.specs.Named.{IsNamed, AreNamed}
+use Rattle.plain_orders.specs.code.Parts.{initial_by}
+use Rattle.plain_orders.specs.code.Whole.{AreOrdersOf}
+use Rattle.plain_orders.specs.code.Named.{IsNamed, AreNamed}
 use Rattle.plain_orders.proofs.Names.{strict-named, threads-named, named-from, named-to}
 use Rattle.plain_orders.proofs.journal.decide.Goals as goal
 

@@ -1,4 +1,4 @@
-use Rattle.plain_orders.specs.Parts.{initial_by}
+use Rattle.plain_orders.specs.code.Parts.{initial_by}
 use Rattle.plain_orders.proofs.OwnOrders.{own-consistent}
 use Rattle.plain_orders.proofs.journal.is_consistent.Goals as goal
 

@@ -1,5 +1,5 @@
 use Rattle.std.proofs.Common.{take}
-use Rattle.plain_orders.specs.Named.{IsNamed}
+use Rattle.plain_orders.specs.code.Named.{IsNamed}
 use Rattle.plain_orders.proofs.named.find_all.Given as goal
 
 abbrev pub invariant-loop-name : goal.invariant-loop-name

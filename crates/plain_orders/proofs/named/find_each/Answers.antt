@@ -1,6 +1,6 @@
 use Rattle.std.proofs.Common.{List, rules}
 use Rattle.upc_values.specs.Operations.{Operation}
-use Rattle.plain_orders.specs.Named.{IsNamed}
+use Rattle.plain_orders.specs.code.Named.{IsNamed}
 use Rattle.plain_orders.proofs.Names.{absent-list}
 use Rattle.plain_orders.proofs.named.find_each.Goals as goal
 

@@ -1,5 +1,5 @@
 use Rattle.std.proofs.Common.{take}
-use Rattle.plain_orders.specs.Named.{AreNamed}
+use Rattle.plain_orders.specs.code.Named.{AreNamed}
 use Rattle.plain_orders.proofs.named.find_each.Given as goal
 
 abbrev pub invariant-loop-names : goal.invariant-loop-names

@@ -1,6 +1,6 @@
 use Rattle.std.proofs.Common.{◌≡◌, true, ◌↔◌, drop}
 use Rattle.upc_values.specs.Lists.{Each, Has}
-use Rattle.plain_orders.specs.Parts as parts
+use Rattle.plain_orders.specs.code.Parts as parts
 use Rattle.plain_orders.proofs.order.has_all.Given as goal
 
 abbrev pub invariant-loop-operation : goal.invariant-loop-operation

@@ -1,5 +1,5 @@
 use Rattle.std.proofs.Common.{◌≡◌, drop}
-use Rattle.plain_orders.specs.Parts.{kind_given}
+use Rattle.plain_orders.specs.code.Parts.{kind_given}
 use Rattle.plain_orders.proofs.reads.kind_of.Given as goal
 
 abbrev pub invariant-loop-cell : goal.invariant-loop-cell

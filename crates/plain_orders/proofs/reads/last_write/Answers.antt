@@ -1,5 +1,5 @@
 use Rattle.std.proofs.Common.{rules, sym, ap, ◌∙◌, arith}
-use Rattle.plain_orders.specs.Parts.{place_of}
+use Rattle.plain_orders.specs.code.Parts.{place_of}
 use Rattle.plain_orders.proofs.Looking.{written, last_write-found, last_write-passed}
 use Rattle.plain_orders.proofs.reads.last_write.Goals as goal
 

@@ -1,6 +1,6 @@
 use Rattle.std.proofs.Common.{◌≡◌, take}
 use Rattle.upc_values.specs.Consistent.{last_write}
-use Rattle.plain_orders.specs.Parts.{place_of}
+use Rattle.plain_orders.specs.code.Parts.{place_of}
 use Rattle.plain_orders.proofs.reads.last_write.Given as goal
 
 -- none of the later ones writes the place

@@ -6,7 +6,7 @@ use Rattle.upc_values.proofs.SoundOrders.{sound-follows}
 use Rattle.typed_tree.specs.ViewProgram.{view_program}
 use Rattle.source_meaning.specs.Laws.{opening_of}
 use Rattle.source_meaning.specs.Threads.{thread_outcome}
-use Rattle.stack_code.specs.Kept.{IsCode}
+use Rattle.stack_code.specs.layer.Kept.{IsCode}
 use Rattle.order_builder.proofs.Satisfying.{sound-consistent}
 use Rattle.program_runs.proofs.ThreadSources.{IsCompiled, openings_agree, code_outcomes}
 use Rattle.program_runs.proofs.run.run_program.Goals as goal

@@ -3,8 +3,8 @@ use Rattle.std.specs.Prelude.{IfSome}
 use Rattle.upc_values.specs.Drain.{emptied}
 use Rattle.upc_values.specs.History.{reply}
 use Rattle.upc_values.specs.Formed.{IsWellFormed, fits_after}
-use Rattle.upc_values.specs.Known.{gives_known}
-use Rattle.memory_history.specs.World.{answer_of}
+use Rattle.upc_values.specs.layer.Known.{gives_known}
+use Rattle.memory_history.specs.layer.World.{answer_of}
 use Rattle.serial_core.specs.Kept.{Holds, Emitted}
 use Rattle.serial_core.proofs.Buffers.{emitted-forwarded, forwarded-answers, emitted-looked, emitted-passed, emitted-empties, found-none, answer-is, holds-emptied, grew-then, grew-performed, asked-grew}
 use Rattle.serial_core.proofs.emit.emit.Goals as goal

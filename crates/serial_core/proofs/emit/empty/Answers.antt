@@ -1,5 +1,5 @@
 use Rattle.std.proofs.Common.{◌++◌, [], ◌∷◌, map, sym, subst, ap, ◌∙◌, append_assoc}
-use Rattle.write_buffer.specs.Buffer.{committed}
+use Rattle.write_buffer.specs.layer.Buffer.{committed}
 use Rattle.serial_core.specs.Kept.{AreFormed}
 use Rattle.serial_core.proofs.Buffers.{grew-then, pending-grow}
 use Rattle.serial_core.proofs.emit.empty.Goals as goal

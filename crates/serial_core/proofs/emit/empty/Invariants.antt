@@ -1,5 +1,5 @@
 use Rattle.std.proofs.Common.{◌≡◌, ◌++◌, length, map}
-use Rattle.write_buffer.specs.Buffer.{committed}
+use Rattle.write_buffer.specs.layer.Buffer.{committed}
 use Rattle.serial_core.specs.Kept.{AreFormed, Grew}
 use Rattle.serial_core.proofs.emit.empty.Given as goal
 

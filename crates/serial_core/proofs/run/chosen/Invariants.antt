@@ -1,5 +1,5 @@
 use Rattle.std.proofs.Common.{◌≡◌, ◌+◌, ◌%◌, take}
-use Rattle.serial_core.specs.Runs.{open_among}
+use Rattle.serial_core.specs.code.Runs.{open_among}
 use Rattle.serial_core.proofs.run.chosen.Given as goal
 
 abbrev pub invariant-loop-at : goal.invariant-loop-at

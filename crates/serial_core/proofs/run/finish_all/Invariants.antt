@@ -2,7 +2,7 @@ use Rattle.std.proofs.Common.{◌≡◌, ℕ, ◌<◌, ◌≤◌, length}
 use Rattle.std.specs.Prelude.{slice_index_or}
 use Rattle.serial_core.specs.declared.task.Task.{Task}
 use Rattle.serial_core.specs.Course.{Grows, ToRest}
-use Rattle.serial_core.specs.Runs.{StaysRunning, AreSame, Rested, GoesAt}
+use Rattle.serial_core.specs.code.Runs.{StaysRunning, AreSame, Rested, GoesAt}
 use Rattle.serial_core.proofs.run.finish_all.Given as goal
 
 abbrev pub invariant-loop-at : goal.invariant-loop-at

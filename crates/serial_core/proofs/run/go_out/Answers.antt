@@ -1,5 +1,5 @@
 use Rattle.std.proofs.Common.{rules, ◌≡◌, false, true, is_some, inl}
-use Rattle.serial_core.specs.Runs.{StopsAt, NoneStops, moment_of}
+use Rattle.serial_core.specs.code.Runs.{StopsAt, NoneStops, moment_of}
 use Rattle.serial_core.proofs.Options.{match-some, match-none}
 use Rattle.serial_core.proofs.Running.{over-halted}
 use Rattle.serial_core.proofs.Standings.{out-halted}

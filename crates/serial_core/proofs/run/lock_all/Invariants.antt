@@ -1,7 +1,7 @@
 use Rattle.std.proofs.Common.{◌≡◌, ℕ, ◌<◌, ◌≤◌, length}
 use Rattle.std.specs.Prelude.{slice_index_or}
 use Rattle.serial_core.specs.declared.task.Task.{Task}
-use Rattle.serial_core.specs.Runs.{locked}
+use Rattle.serial_core.specs.code.Runs.{locked}
 use Rattle.serial_core.proofs.run.lock_all.Given as goal
 
 abbrev pub invariant-loop-at : goal.invariant-loop-at

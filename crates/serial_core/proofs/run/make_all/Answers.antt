@@ -1,7 +1,7 @@
 use Rattle.std.proofs.Common.{◌≡◌, ◌+◌, ◌++◌, [], ◌∷◌, length, refl, sym, subst, ap, ◌∙◌, arith}
 use Rattle.std.proofs.lemmas.List.{length-append}
 use Rattle.upc_values.specs.Lists.{Numbered}
-use Rattle.serial_core.specs.Runs.{IsNew}
+use Rattle.serial_core.specs.code.Runs.{IsNew}
 use Rattle.serial_core.proofs.Lists.{numbered-push}
 use Rattle.serial_core.proofs.Running.{start-of}
 use Rattle.serial_core.proofs.run.make_all.Goals as goal

@@ -1,7 +1,7 @@
 use Rattle.std.proofs.Common.{rules, ◌≡◌, ◌<◌, true, is_some, sym, subst, ap, ◌∙◌, arith, inl, inr, get_or, length}
 use Rattle.std.proofs.lemmas.Bool.{cases_eq, false≢true}
 use Rattle.std.proofs.lemmas.List.{get_or_read}
-use Rattle.serial_core.specs.Runs.{IsAt, Wanting}
+use Rattle.serial_core.specs.code.Runs.{IsAt, Wanting}
 use Rattle.serial_core.proofs.run.none_goes.Goals as goal
 use Rattle.serial_core.proofs.run.none_goes.Goals.{then-is_open+else-not-wanting, else-is_open}
 

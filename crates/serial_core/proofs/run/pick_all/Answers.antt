@@ -1,6 +1,6 @@
 use Rattle.std.proofs.Common.{rules, ◌≡◌, ◌∙◌, true, false, is_some, take, sym, subst, ap, inl, inr}
 use Rattle.serial_core.specs.Course.{AreObeyed}
-use Rattle.serial_core.specs.Runs.{StopsAt, NoneStops, open_among, moment_of}
+use Rattle.serial_core.specs.code.Runs.{StopsAt, NoneStops, open_among, moment_of}
 use Rattle.serial_core.proofs.Options.{match-some}
 use Rattle.serial_core.proofs.Running.{same-trans}
 use Rattle.serial_core.proofs.Standings.{obeyed-more, stopped-of, count-of}

@@ -1,6 +1,6 @@
 use Rattle.std.proofs.Common.{◌≡◌, take}
 use Rattle.serial_core.specs.Course.{AreObeyed}
-use Rattle.serial_core.specs.Runs.{StaysRunning, AreSame, moment_of}
+use Rattle.serial_core.specs.code.Runs.{StaysRunning, AreSame, moment_of}
 use Rattle.serial_core.proofs.run.pick_all.Given as goal
 
 abbrev pub invariant-loop-pick : goal.invariant-loop-pick

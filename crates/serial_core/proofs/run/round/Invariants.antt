@@ -2,7 +2,7 @@ use Rattle.std.proofs.Common.{◌≡◌, ◌<◌, length}
 use Rattle.std.specs.Prelude.{slice_index_or}
 use Rattle.serial_core.specs.declared.task.Task.{Task}
 use Rattle.serial_core.specs.Course.{Grows}
-use Rattle.serial_core.specs.Runs.{StaysRunning, AreSame, IsOpenAt, OthersStay, standing_of}
+use Rattle.serial_core.specs.code.Runs.{StaysRunning, AreSame, IsOpenAt, OthersStay, standing_of}
 use Rattle.serial_core.proofs.Standings.{Going}
 use Rattle.serial_core.proofs.run.round.Given as goal
 

@@ -3,7 +3,7 @@ use Rattle.std.specs.Prelude.{slice_index_or}
 use Rattle.std.proofs.lemmas.Bool.{cases_eq}
 use Rattle.serial_core.specs.declared.task.Task.{Task}
 use Rattle.serial_core.specs.Course.{InRound}
-use Rattle.serial_core.specs.Runs.{Rested, GoesAt, standing_of}
+use Rattle.serial_core.specs.code.Runs.{Rested, GoesAt, standing_of}
 use Rattle.serial_core.proofs.Running.{same-trans, same-refl}
 use Rattle.serial_core.proofs.Standings.{grows-refl, quiet-of, grows-trans, each-of, later-of}
 use Rattle.serial_core.proofs.run.round_all.Goals as goal

@@ -1,5 +1,5 @@
 use Rattle.std.proofs.Common.{rules, ◌≡◌, suc, ◌∙◌, false, true, is_some, refl, inr}
-use Rattle.serial_core.specs.Runs.{StopsAt, NoneStops, moment_of}
+use Rattle.serial_core.specs.code.Runs.{StopsAt, NoneStops, moment_of}
 use Rattle.serial_core.proofs.Options.{match-some, match-none}
 use Rattle.serial_core.proofs.Running.{over-halted, over-locked, over-ended, same-trans, same-refl}
 use Rattle.serial_core.proofs.Standings.{out-halted, out-locked, out-ended}

@@ -1,6 +1,6 @@
 use Rattle.std.proofs.Common.{◌≡◌, ℕ}
 use Rattle.serial_core.specs.Course.{GoesRounds}
-use Rattle.serial_core.specs.Runs.{StaysRunning, AreSame, NoneStops, moment_of}
+use Rattle.serial_core.specs.code.Runs.{StaysRunning, AreSame, NoneStops, moment_of}
 use Rattle.serial_core.proofs.run.rounds.Given as goal
 
 abbrev pub invariant-loop : goal.invariant-loop

@@ -13,10 +13,10 @@ use Rattle.upc_values.specs.Locks.{LocksExclude}
 use Rattle.stack_code.specs.Codes.{Codes}
 use Rattle.serial_core.specs.declared.limits.Limits.{Limits}
 use Rattle.serial_core.specs.declared.task.Task.{Task}
-use Rattle.serial_core.specs.Sources.{Outcomes, HasOutcomes, opening_of}
+use Rattle.serial_core.specs.layer.Sources.{Outcomes, HasOutcomes, opening_of}
 use Rattle.serial_core.specs.Kept.{AreLimits, strand_of}
 use Rattle.serial_core.specs.Course.{Moment, AreOf}
-use Rattle.serial_core.specs.Runs.{IsRunning, IsStart, IsOver, moment_of}
+use Rattle.serial_core.specs.code.Runs.{IsRunning, IsStart, IsOver, moment_of}
 use Rattle.serial_core.proofs.Openings.{kept_opening}
 use Rattle.serial_core.proofs.Running.{limits-of, over-sound, same-trans}
 use Rattle.serial_core.proofs.Standings.{outset-of}

@@ -5,7 +5,7 @@ use Rattle.std.proofs.lemmas.List.{length-append, map-append}
 use Rattle.upc_values.specs.Lists.{Numbered}
 use Rattle.serial_core.specs.declared.task.Task.{Task}
 use Rattle.serial_core.specs.Kept.{strand_of}
-use Rattle.serial_core.specs.Runs.{IsAt}
+use Rattle.serial_core.specs.code.Runs.{IsAt}
 use Rattle.serial_core.proofs.Lists.{numbered-at}
 use Rattle.serial_core.proofs.run.strands_of.Goals as goal
 

@@ -4,9 +4,9 @@ use Rattle.upc_values.specs.declared.journal.Entry.{Entry}
 use Rattle.upc_values.specs.Lists.{Numbered}
 use Rattle.upc_values.specs.Openings.{Opening}
 use Rattle.stack_code.specs.Codes.{Codes}
-use Rattle.serial_core.specs.Sources.{Outcomes}
+use Rattle.serial_core.specs.layer.Sources.{Outcomes}
 use Rattle.serial_core.specs.Kept.{strand_of}
-use Rattle.serial_core.specs.Runs.{IsAt}
+use Rattle.serial_core.specs.code.Runs.{IsAt}
 use Rattle.serial_core.proofs.run.strands_of.Given as goal
 
 abbrev pub invariant-loop-task : goal.invariant-loop-task

@@ -4,7 +4,7 @@ use Rattle.stack_machine.specs.declared.wish.Wish.{Wish}
 use Rattle.serial_core.specs.declared.task.Task.{Task}
 use Rattle.serial_core.specs.Kept.{IsKept, Grew, Adds}
 use Rattle.serial_core.specs.Course.{Steps}
-use Rattle.serial_core.specs.Runs.{IsAt, IsRunning, standing_of}
+use Rattle.serial_core.specs.code.Runs.{IsAt, IsRunning, standing_of}
 use Rattle.serial_core.proofs.Running.{running-set, paused-own}
 use Rattle.serial_core.proofs.Standings.{idle-of, steps-of}
 use Rattle.serial_core.proofs.run.turn.Goals as goal

@@ -1,6 +1,6 @@
 use Rattle.std.proofs.Common.{◌↔◌, drop}
 use Rattle.upc_values.specs.Lists.{Each}
-use Rattle.stack_code.specs.Kept.{IsFitting}
+use Rattle.stack_code.specs.layer.Kept.{IsFitting}
 use Rattle.stack_code.proofs.fitting.are_fitting.Given as goal
 
 abbrev pub invariant-loop-instr : goal.invariant-loop-instr

@@ -1,7 +1,7 @@
 use Rattle.std.proofs.Common.{sym, ap, ◌∙◌, subst, rules}
 use mir.Syntax.{w128}
 use Rattle.std.proofs.Math.Facts.{to_z-of_z}
-use Rattle.shared_pointers.specs.Ranges.{IsStep}
+use Rattle.shared_pointers.specs.layer.Ranges.{IsStep}
 use Rattle.std.specs.Prelude.{pos, neg_ℤ, ◌*ℤ◌}
 use Rattle.thread_steps.specs.Pointers.{advanced}
 use Rattle.stack_code.specs.Codes.{thread_of}

@@ -1,6 +1,6 @@
 use Rattle.std.proofs.Common.{false}
 use Rattle.typed_tree.specs.ViewTree.{view_expr}
-use Rattle.gen_expr.specs.ViewSource.{view_source}
+use Rattle.gen_expr.specs.layer.ViewSource.{view_source}
 use Rattle.tests_code.proofs.OneFunction.{alone_deep, alone_begins, are_made}
 use Rattle.tests_code.proofs.alone.code_alone.Goals as goal
 

@@ -11,8 +11,8 @@ use Rattle.stack_code.specs.declared.instruction.CallWork.TheVariants.{GiveBack}
 use Rattle.stack_code.specs.declared.instruction.Operation.{Operation}
 use Rattle.stack_code.specs.declared.instruction.Operation.TheVariants as work
 use Rattle.stack_code.specs.declared.instruction.Instr.{Instr}
-use Rattle.stack_code.specs.Depths.{IsDeep}
-use Rattle.stack_code.specs.Making.{Making, with_instruction, with_function, with_object, with_initial}
+use Rattle.stack_code.specs.layer.Depths.{IsDeep}
+use Rattle.stack_code.specs.layer.Making.{Making, with_instruction, with_function, with_object, with_initial}
 use Rattle.tests_code.proofs.hand.code_by_hand.Goals as goal
 
 abbrev instr : Operation → Instr

@@ -1,7 +1,7 @@
 use Rattle.std.proofs.Common.{rules, ◌≡◌, ap, sym, ◌∙◌, Some, Ok, unsigned_abs}
 use Rattle.upc_values.specs.declared.scalar.Value.{Value}
 use Rattle.thread_steps.specs.Values.{number_of}
-use Rattle.thread_values.specs.Results.{given_at_once}
+use Rattle.thread_values.specs.layer.Results.{given_at_once}
 use Rattle.thread_values.proofs.Sizes.{affinity-of_others, affinity-read}
 use Rattle.thread_values.proofs.calls.affinity_of.Goals as goal
 

@@ -2,7 +2,7 @@ use Rattle.std.proofs.Common.{ap, ◌∙◌, List}
 use Rattle.upc_values.specs.declared.library.LibraryCall.TheVariants.{AffinitySize}
 use Rattle.upc_values.specs.declared.scalar.Value.{Value}
 use Rattle.upc_values.specs.LibraryCalls.{library_call}
-use Rattle.thread_values.specs.Results.{given_at_once}
+use Rattle.thread_values.specs.layer.Results.{given_at_once}
 use Rattle.thread_values.proofs.Sizes.{three-members}
 use Rattle.thread_values.proofs.calls.affinity_size.Goals as goal
 

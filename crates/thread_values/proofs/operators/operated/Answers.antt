@@ -3,7 +3,7 @@ use Rattle.std.specs.Int.{w128}
 use Rattle.std.proofs.lemmas.Int.{to_z-of_z}
 use Rattle.integers.specs.Operators.{binary_kind}
 use Rattle.upc_values.specs.declared.scalar.Value.{Value}
-use Rattle.thread_steps.specs.Ranges.{IsHeld}
+use Rattle.thread_steps.specs.layer.Ranges.{IsHeld}
 use Rattle.thread_values.proofs.Numbers.{in_kind-number}
 use Rattle.thread_values.proofs.operators.operated.Goals as goal
 

@@ -1,6 +1,6 @@
 use Rattle.std.proofs.Common.{subst}
 use Rattle.upc_values.specs.declared.scalar.Value.{Value}
-use Rattle.thread_steps.specs.Ranges.{IsHeld}
+use Rattle.thread_steps.specs.layer.Ranges.{IsHeld}
 use Rattle.thread_values.proofs.pointers.advanced.Goals as goal
 
 pub returns-in-Local-clause-held : goal.returns-in-Local-clause-held

@@ -9,7 +9,7 @@ use Rattle.typed_tree.specs.Allocated.{allocated_in}
 use Rattle.typed_tree.specs.Beginnings.{Beginning, beginning_of, view_beginning}
 use Rattle.typed_tree.specs.LocalObjects.{types_in}
 use Rattle.typed_tree.specs.Objects.{bytes_in, private_in, shared_in}
-use Rattle.typed_tree.specs.PrivateOpenings.{shape_bytes}
+use Rattle.typed_tree.specs.layer.PrivateOpenings.{shape_bytes}
 use Rattle.typed_tree.specs.Programs.{checked_of, start_of, without_targets}
 use Rattle.typed_tree.specs.ViewStatements.{view_function, view_object}
 use Rattle.typed_tree_opening.proofs.Bytes.{bytes_are}

@@ -5,7 +5,7 @@ use Rattle.upc_types.specs.View.{view}
 use Rattle.upc_types.specs.ViewStructs.{view_structs}
 use Rattle.typed_tree.specs.Beginnings.{Beginning, begun, beginning_of, opening_in, view_beginning}
 use Rattle.typed_tree.specs.Objects.{bytes_in, shared_in, type_of}
-use Rattle.typed_tree.specs.PrivateOpenings.{HavePrivateValues}
+use Rattle.typed_tree.specs.layer.PrivateOpenings.{HavePrivateValues}
 use Rattle.typed_tree.specs.ViewStatements.{view_object}
 use Rattle.typed_tree_opening.proofs.Chosen.{objects_kept, types_kept}
 use Rattle.typed_tree_opening.proofs.Opened.{opening_is, private_values_are, if_ok_grow}

@@ -3,7 +3,7 @@ use Rattle.upc_types.specs.View.{view}
 use Rattle.upc_types.specs.ViewStructs.{view_structs}
 use Rattle.typed_tree.specs.ViewStatements.{view_arms, view_items, view_switch_items}
 use Rattle.typed_tree.specs.LocalObjects.{arms_objects, items_objects, switch_objects}
-use Rattle.typed_tree_opening.specs.LaidObjects.{laid_objects}
+use Rattle.typed_tree_opening.specs.code.LaidObjects.{laid_objects}
 use Rattle.typed_tree_opening.proofs.inside.+types_inside_statements.Given as goal
 
 abbrev pub invariant-push_arms-loop-arm : goal.invariant-push_arms-loop-arm

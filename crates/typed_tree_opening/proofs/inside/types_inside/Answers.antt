@@ -5,7 +5,7 @@ use Rattle.upc_types.specs.ViewStructs.{view_structs}
 use Rattle.typed_tree.specs.declared.tree.Statement.{Statement}
 use Rattle.typed_tree.specs.ViewStatements.{view_function, view_statement}
 use Rattle.typed_tree.specs.LocalObjects.{objects_in, types_in, with_layout}
-use Rattle.typed_tree_opening.specs.LaidObjects.{laid_objects}
+use Rattle.typed_tree_opening.specs.code.LaidObjects.{laid_objects}
 use Rattle.typed_tree_opening.proofs.LaidTypes.{function_step, types_laid}
 use Rattle.typed_tree_opening.proofs.Opened.{HaveLayouts}
 use Rattle.typed_tree_opening.proofs.inside.types_inside.Goals as goal

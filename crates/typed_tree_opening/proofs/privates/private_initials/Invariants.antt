@@ -1,5 +1,5 @@
 use Rattle.std.proofs.Common.{◌≡◌, ◌++◌, ◌≤◌, map, drop}
-use Rattle.typed_tree_opening.specs.ViewSettings.{view_setting}
+use Rattle.typed_tree_opening.specs.code.ViewSettings.{view_setting}
 use Rattle.typed_tree.specs.Initials.{private_from}
 use Rattle.typed_tree.specs.Objects.{private_in}
 use Rattle.typed_tree.specs.ViewStatements.{view_object}

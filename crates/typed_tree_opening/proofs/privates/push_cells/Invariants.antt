@@ -1,7 +1,7 @@
 use Rattle.std.proofs.Common.{◌≡◌, ◌*◌, ◌++◌, drop}
 use Rattle.std.proofs.Math.IntN.{pos}
 use Rattle.block_layout.specs.Shapes.{kind_size}
-use Rattle.typed_tree_opening.specs.ViewSettings.{view_setting}
+use Rattle.typed_tree_opening.specs.code.ViewSettings.{view_setting}
 use Rattle.typed_tree.specs.Initials.{cells_from}
 use Rattle.typed_tree_opening.proofs.privates.push_cells.Given as goal
 

@@ -1,5 +1,5 @@
 use Rattle.std.proofs.Common.{◌≡◌, ◌<◌}
-use Rattle.typed_tree_opening.specs.Apart.{cells_code, code_of}
+use Rattle.typed_tree_opening.specs.code.Apart.{cells_code, code_of}
 use Rattle.typed_tree_opening.proofs.shape_codes.code_of.Given as goal
 
 abbrev pub invariant-loop-cell : goal.invariant-loop-cell

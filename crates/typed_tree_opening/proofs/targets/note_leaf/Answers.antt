@@ -3,7 +3,7 @@ use Rattle.upc_types.specs.Types.{Structs}
 use Rattle.upc_types.specs.View.{view}
 use Rattle.upc_types.specs.ViewStructs.{view_structs}
 use Rattle.typed_tree_opening.specs.declared.targets.Leaf.{Leaf}
-use Rattle.typed_tree_opening.specs.Pending.{with_leaf, with_pending, AreEnded, IsDone}
+use Rattle.typed_tree_opening.specs.code.Pending.{with_leaf, with_pending, AreEnded, IsDone}
 use Rattle.typed_tree_opening.proofs.Pendings.{done_still, done_over, goes_in}
 use Rattle.typed_tree_opening.proofs.targets.note_leaf.Goals as goal
 

@@ -5,7 +5,7 @@ use Rattle.upc_types.specs.View.{view_base}
 use Rattle.upc_types.specs.ViewStructs.{view_structs}
 use Rattle.typed_tree.specs.Targets.{leaf_targets, struct_targets}
 use Rattle.typed_tree_opening.specs.declared.targets.Pending.{Pending}
-use Rattle.typed_tree_opening.specs.Pending.{pending_targets, with_leaf, with_pending, AreEnded}
+use Rattle.typed_tree_opening.specs.code.Pending.{pending_targets, with_leaf, with_pending, AreEnded}
 use Rattle.typed_tree_opening.proofs.Pendings.{over, goes_on, done_more, at_next}
 use Rattle.typed_tree_opening.proofs.targets.note_next.Goals as goal
 

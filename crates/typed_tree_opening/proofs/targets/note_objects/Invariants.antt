@@ -3,7 +3,7 @@ use Rattle.upc_types.specs.ViewStructs.{view_structs}
 use Rattle.typed_tree.specs.Objects.{type_of}
 use Rattle.typed_tree.specs.Targets.{with_targets}
 use Rattle.typed_tree.specs.ViewStatements.{view_object}
-use Rattle.typed_tree_opening.specs.Pending.{IsDone}
+use Rattle.typed_tree_opening.specs.code.Pending.{IsDone}
 use Rattle.typed_tree_opening.proofs.targets.note_objects.Given as goal
 
 abbrev pub invariant-loop-object : goal.invariant-loop-object

@@ -4,7 +4,7 @@ use Rattle.upc_types.specs.Cells.{leaf_base}
 use Rattle.upc_types.specs.View.{view_base}
 use Rattle.upc_types.specs.ViewStructs.{view_structs}
 use Rattle.typed_tree.specs.Targets.{leaf_targets, struct_targets, with_noted}
-use Rattle.typed_tree_opening.specs.Pending.{with_leaf, with_pending}
+use Rattle.typed_tree_opening.specs.code.Pending.{with_leaf, with_pending}
 use Rattle.typed_tree_opening.proofs.targets.note_targets.Goals as goal
 
 pub loop-init : goal.loop-init

@@ -4,7 +4,7 @@ use Rattle.std.proofs.Math.ListN.{get_or-map}
 use Rattle.upc_types.specs.declared.ctype.Access.TheVariants as a
 use Rattle.upc_types.specs.Types.{Qualified, Void, Member, members_of}
 use Rattle.upc_types.specs.Layout.{layout_in, member_layouts, offset_behind}
-use Rattle.upc_types.specs.Named.{first_named}
+use Rattle.upc_types.specs.layer.Named.{first_named}
 use Rattle.upc_types.specs.View.{view_completed, view_member}
 use Rattle.upc_types.specs.ViewStructs.{view_structs}
 use Rattle.upc_types.proofs.Naming.{first_below}

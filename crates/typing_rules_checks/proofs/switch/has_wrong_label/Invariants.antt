@@ -1,6 +1,6 @@
 use Rattle.std.proofs.Common.{◌≡◌, false, drop}
 use Rattle.typing_rules.specs.Rules as r
-use Rattle.typing_rules_checks.specs.Labels.{AreValues}
+use Rattle.typing_rules_checks.specs.code.Labels.{AreValues}
 use Rattle.typing_rules_checks.proofs.switch.has_wrong_label.Given as goal
 
 -- the labels from here on are right, and the set has their values

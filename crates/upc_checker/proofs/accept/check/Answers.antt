@@ -1,5 +1,5 @@
-use Rattle.upc_tree.specs.ViewStatement.{view_unit}
-use Rattle.upc_checker.specs.ViewUnits.{view_checked}
+use Rattle.upc_tree.specs.layer.ViewStatement.{view_unit}
+use Rattle.upc_checker.specs.code.ViewUnits.{view_checked}
 use Rattle.upc_checker.proofs.Causes.{is_accepted}
 use Rattle.upc_checker.proofs.accept.check.Goals as goal
 

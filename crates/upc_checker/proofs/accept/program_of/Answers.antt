@@ -7,8 +7,8 @@ use Rattle.typed_tree.specs.declared.tree.Function.{Function}
 use Rattle.typed_tree.specs.Objects.{bytes_in, private_in, shared_in}
 use Rattle.typed_tree.specs.Programs.{Checked, checked_of, count_of, private_bytes, shared_bytes, start_of}
 use Rattle.typed_tree.specs.ViewStatements.{view_function, view_object}
-use Rattle.upc_checker.specs.ViewUnits.{view_checked}
-use Rattle.typed_tree.specs.TypedNodes.{MeetsRules}
+use Rattle.upc_checker.specs.code.ViewUnits.{view_checked}
+use Rattle.typed_tree.specs.layer.TypedNodes.{MeetsRules}
 use Rattle.upc_checker.proofs.TypedSources.{accepted_meets}
 use Rattle.upc_checker.proofs.Begun.{have_room, parts_same}
 use Rattle.upc_checker.proofs.accept.program_of.Goals as goal

@@ -2,7 +2,7 @@ use Rattle.std.proofs.Common.{◌≡◌, map, drop}
 use Rattle.upc_types.specs.ViewStructs.{view_structs}
 use Rattle.typed_tree.specs.ViewStatements.{view_object}
 use Rattle.upc_checker.specs.Limits as pure
-use Rattle.upc_checker.specs.ViewUnits.{view_sort}
+use Rattle.upc_checker.specs.code.ViewUnits.{view_sort}
 use Rattle.upc_checker.proofs.limits.first_over.Given as goal
 
 -- what is left decides

@@ -2,18 +2,18 @@ use Rattle.std.proofs.Common.{ℕ, List, map, Result, Ok, Err, ap, ◌∙◌, su
 use Rattle.std.proofs.lemmas.Result.{err_from_is_err_and}
 use Rattle.upc_text.specs.declared.faults.Stop.{Stop}
 use Rattle.upc_tree.specs.declared.unit.External.{External}
-use Rattle.upc_tree.specs.ViewStatement.{view_external}
+use Rattle.upc_tree.specs.layer.ViewStatement.{view_external}
 use Rattle.typed_tree.specs.declared.tree.Object.{Object}
 use Rattle.typing_rules.specs.Faults.{first_fault}
 use Rattle.typed_tree.specs.Scopes.{Setting, State, Tag, begin}
-use Rattle.typed_tree.specs.ViewEnv.{view_env}
+use Rattle.typed_tree.specs.layer.ViewEnv.{view_env}
 use Rattle.typed_tree.specs.ViewStatements.{view_object}
-use Rattle.upc_checker_scopes.specs.Ends.{Stops, Comes}
+use Rattle.upc_checker_scopes.specs.layer.Ends.{Stops, Comes}
 use Rattle.upc_checker.specs.Limits.{limit_by}
 use Rattle.upc_checker_functions.specs.Units as pure
-use Rattle.upc_checker_scopes.specs.Views.{state_of, state_with}
-use Rattle.upc_checker_functions.specs.ViewMade.{view_made}
-use Rattle.upc_checker.specs.ViewUnits.{view_checked, KeepsLimits}
+use Rattle.upc_checker_scopes.specs.layer.Views.{state_of, state_with}
+use Rattle.upc_checker_functions.specs.layer.ViewMade.{view_made}
+use Rattle.upc_checker.specs.code.ViewUnits.{view_checked, KeepsLimits}
 use Rattle.upc_checker.proofs.Outcomes.{answers_fault, answers_limit, accepted}
 use Rattle.upc_checker.proofs.whole.check_source.Goals as goal
 

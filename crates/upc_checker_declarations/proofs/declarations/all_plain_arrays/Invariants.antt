@@ -1,6 +1,6 @@
 use Rattle.std.proofs.Common.{◌≡◌, map, drop}
-use Rattle.upc_tree.specs.Lists.{next_declareds_of}
-use Rattle.upc_tree.specs.ViewStatement.{view_next_declared}
+use Rattle.upc_tree.specs.layer.Lists.{next_declareds_of}
+use Rattle.upc_tree.specs.layer.ViewStatement.{view_next_declared}
 use Rattle.upc_checker_declarations.specs.Declarations as pure
 use Rattle.upc_checker_declarations.proofs.declarations.all_plain_arrays.Given as goal
 

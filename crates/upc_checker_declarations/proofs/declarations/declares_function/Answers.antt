@@ -4,12 +4,12 @@ use Rattle.typing_rules.specs.Meanings.{Signature}
 use Rattle.typing_rules.specs.Nodes.{DeclaresFunction}
 use Rattle.typing_rules.specs.Rules.{lowest}
 use Rattle.typed_tree.specs.Scopes.{State, with_function}
-use Rattle.typed_tree.specs.ViewEnv.{view_env}
-use Rattle.typing_rules.specs.Views.{view_signature}
+use Rattle.typed_tree.specs.layer.ViewEnv.{view_env}
+use Rattle.typing_rules.specs.layer.Views.{view_signature}
 use Rattle.upc_checker_scopes.specs.Known as stands
 use Rattle.upc_checker_declarations.specs.Declarations as pure
-use Rattle.upc_checker_scopes.specs.Ends.{Comes}
-use Rattle.upc_checker_scopes.specs.Views.{view_setting, state_with}
+use Rattle.upc_checker_scopes.specs.layer.Ends.{Comes}
+use Rattle.upc_checker_scopes.specs.layer.Views.{view_setting, state_with}
 use Rattle.upc_checker_scopes.specs.Walk.{judge, look, facts_in}
 use Rattle.upc_checker_scopes.proofs.Walks.{goes, stops, looks, updates, judge_goes, judge_stops}
 use Rattle.upc_checker_declarations.proofs.declarations.declares_function.Goals as goal

@@ -1,7 +1,7 @@
 use Rattle.std.proofs.Common.{◌≡◌, ◌≤◌, true, List, [], ◌∷◌, length, map, refl, arith}
 use Rattle.upc_tree.specs.declared.expression.Dimension.{Dimension}
-use Rattle.upc_tree.specs.Lists.{dimensions_of}
-use Rattle.upc_tree.specs.View.{view_dimension}
+use Rattle.upc_tree.specs.layer.Lists.{dimensions_of}
+use Rattle.upc_tree.specs.layer.View.{view_dimension}
 use Rattle.upc_checker_types.specs.Shapes.{has_sizes}
 use Rattle.upc_checker_declarations.proofs.declarations.has_sizes.Goals as goal
 

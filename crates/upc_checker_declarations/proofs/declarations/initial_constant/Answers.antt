@@ -2,7 +2,7 @@ use Rattle.std.proofs.Common.{true, Ok, sym, ◌∙◌}
 use Rattle.std.proofs.lemmas.Result.{err_from_is_err_and}
 use Rattle.typed_tree.specs.ViewTree.{view_expr}
 use Rattle.upc_checker_expressions.specs.Expressions.{constantly}
-use Rattle.upc_checker_scopes.specs.Views.{view_setting}
+use Rattle.upc_checker_scopes.specs.layer.Views.{view_setting}
 use Rattle.upc_checker_scopes.proofs.Walks.{goes, stops, gives}
 use Rattle.upc_checker_declarations.proofs.declarations.initial_constant.Goals as goal
 

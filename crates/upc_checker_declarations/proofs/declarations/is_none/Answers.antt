@@ -1,7 +1,7 @@
 use Rattle.std.proofs.Common.{◌≡◌, ◌≤◌, false, List, [], ◌∷◌, length, map, refl, arith}
 use Rattle.upc_tree.specs.declared.expression.Pointer.{Pointer}
-use Rattle.upc_tree.specs.Lists.{pointers_of}
-use Rattle.upc_tree.specs.View.{view_pointer}
+use Rattle.upc_tree.specs.layer.Lists.{pointers_of}
+use Rattle.upc_tree.specs.layer.View.{view_pointer}
 use Rattle.upc_checker_types.specs.Shapes.{is_none}
 use Rattle.upc_checker_declarations.proofs.declarations.is_none.Goals as goal
 

@@ -1,6 +1,6 @@
 use Rattle.std.proofs.Common.{true, false, ◌&&◌, sym, ap, ◌∙◌}
-use Rattle.upc_tree.specs.Lists.{dimensions_of, pointers_of}
-use Rattle.upc_tree.specs.View.{view_declarator, view_dimension, view_pointer}
+use Rattle.upc_tree.specs.layer.Lists.{dimensions_of, pointers_of}
+use Rattle.upc_tree.specs.layer.View.{view_declarator, view_dimension, view_pointer}
 use Rattle.upc_tree.proofs.Rows.{object_is}
 use Rattle.upc_checker_declarations.specs.Declarations as pure
 use Rattle.upc_checker_types.specs.Shapes.{is_none, has_sizes}

@@ -3,11 +3,11 @@ use Rattle.std.proofs.lemmas.Result.{err_from_is_err_and}
 use Rattle.typing_rules.specs.Nodes.{DeclaresObject}
 use Rattle.typing_rules.specs.Rules.{lowest}
 use Rattle.typed_tree.specs.Scopes.{State, is_file}
-use Rattle.typed_tree.specs.ViewEnv.{view_env}
-use Rattle.typing_rules.specs.Views.{view_formed}
+use Rattle.typed_tree.specs.layer.ViewEnv.{view_env}
+use Rattle.typing_rules.specs.layer.Views.{view_formed}
 use Rattle.upc_checker_scopes.specs.Known as pure
-use Rattle.upc_checker_scopes.specs.Ends.{Comes}
-use Rattle.upc_checker_scopes.specs.Views.{view_setting, state_with}
+use Rattle.upc_checker_scopes.specs.layer.Ends.{Comes}
+use Rattle.upc_checker_scopes.specs.layer.Views.{view_setting, state_with}
 use Rattle.upc_checker_scopes.specs.Walk.{judge, facts_in}
 use Rattle.upc_checker_scopes.proofs.Walks.{judge_goes, judge_stops}
 use Rattle.upc_checker_declarations.proofs.declarations.judge_object.Goals as goal

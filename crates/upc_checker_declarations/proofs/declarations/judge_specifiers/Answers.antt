@@ -3,10 +3,10 @@ use Rattle.std.proofs.lemmas.Result.{err_from_is_err_and}
 use Rattle.typing_rules.specs.Nodes.{Specifies}
 use Rattle.typing_rules.specs.Rules.{lowest}
 use Rattle.typed_tree.specs.Scopes.{State}
-use Rattle.upc_checker_scopes.specs.Ends.{Comes}
+use Rattle.upc_checker_scopes.specs.layer.Ends.{Comes}
 use Rattle.upc_checker_types.specs.Specifiers as pure
-use Rattle.upc_checker_scopes.specs.Views.{view_setting, state_with}
-use Rattle.upc_checker_types.specs.ViewShapes.{view_specified}
+use Rattle.upc_checker_scopes.specs.layer.Views.{view_setting, state_with}
+use Rattle.upc_checker_types.specs.layer.ViewShapes.{view_specified}
 use Rattle.upc_checker_scopes.specs.Walk.{judge, facts_in}
 use Rattle.upc_checker_scopes.proofs.Walks.{judge_goes, judge_stops}
 use Rattle.upc_checker_declarations.proofs.declarations.judge_specifiers.Goals as goal

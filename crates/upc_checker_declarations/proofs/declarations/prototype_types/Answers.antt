@@ -1,16 +1,16 @@
 use Rattle.std.proofs.Common.{List, map, Result, Ok, Err, subst, Vec, Global}
 use Rattle.std.proofs.lemmas.Result.{err_from_is_err_and}
 use Rattle.upc_text.specs.declared.faults.Stop.{Stop}
-use Rattle.upc_tree.specs.View.{view_parameters}
+use Rattle.upc_tree.specs.layer.View.{view_parameters}
 use Rattle.upc_types.specs.declared.ctype.CType.{CType as RustType}
 use Rattle.upc_types.specs.Types.{CType}
 use Rattle.upc_types.specs.View.{view}
 use Rattle.typed_tree.specs.Scopes.{Env, Tag, inside}
-use Rattle.typed_tree.specs.ViewEnv.{view_env}
-use Rattle.upc_checker_scopes.specs.Ends.{Meets}
+use Rattle.typed_tree.specs.layer.ViewEnv.{view_env}
+use Rattle.upc_checker_scopes.specs.layer.Ends.{Meets}
 use Rattle.upc_checker_types.specs.Members.{Declared}
 use Rattle.upc_checker_expressions.specs.Expressions.{walk_parameters}
-use Rattle.upc_checker_scopes.specs.Views.{view_setting, state_of, state_with}
+use Rattle.upc_checker_scopes.specs.layer.Views.{view_setting, state_of, state_with}
 use Rattle.upc_checker_scopes.specs.Walk.{enclosed}
 use Rattle.upc_checker_scopes.proofs.Walks.{goes, stops, gives, encloses}
 use Rattle.upc_checker_declarations.proofs.declarations.prototype_types.Goals as goal

@@ -3,24 +3,24 @@ use Rattle.std.proofs.lemmas.Result.{err_from_is_err_and}
 use Rattle.upc_text.specs.declared.faults.Stop.{Stop}
 use Rattle.upc_text.specs.declared.place.Place.{Place}
 use Rattle.upc_tree.specs.declared.expression.Spec.{Spec}
-use Rattle.upc_tree.specs.Lists.{specs_of}
-use Rattle.upc_tree.specs.View.{view_spec}
-use Rattle.upc_tree.specs.ViewStatement as trees
+use Rattle.upc_tree.specs.layer.Lists.{specs_of}
+use Rattle.upc_tree.specs.layer.View.{view_spec}
+use Rattle.upc_tree.specs.layer.ViewStatement as trees
 use Rattle.typing_rules.specs.Faults.{first_fault}
 use Rattle.typing_rules.specs.Nodes.{Specifies}
 use Rattle.typed_tree.specs.Scopes.{is_file}
-use Rattle.typed_tree.specs.ViewEnv.{view_env}
+use Rattle.typed_tree.specs.layer.ViewEnv.{view_env}
 use Rattle.typed_tree.specs.ViewStatements.{view_object}
 use Rattle.upc_checker_declarations.specs.Declarations as pure
 use Rattle.upc_checker_declarations.specs.Declarations.{Behind}
-use Rattle.upc_checker_scopes.specs.Ends.{Stops, Comes}
+use Rattle.upc_checker_scopes.specs.layer.Ends.{Stops, Comes}
 use Rattle.upc_checker_types.specs.Shapes.{Specifying}
 use Rattle.upc_checker_scopes.specs.Places.{specs_place}
 use Rattle.upc_checker_expressions.specs.Expressions.{walk_specifiers}
 use Rattle.upc_checker_types.specs.Specifiers.{Shaped, specified_type, specifiers_form}
-use Rattle.upc_checker_scopes.specs.Views.{view_setting, state_of, state_with}
-use Rattle.upc_checker_types.specs.ViewShapes.{view_shaped, view_specified}
-use Rattle.upc_checker_scopes.specs.ViewTags.{view_tags}
+use Rattle.upc_checker_scopes.specs.layer.Views.{view_setting, state_of, state_with}
+use Rattle.upc_checker_types.specs.layer.ViewShapes.{view_shaped, view_specified}
+use Rattle.upc_checker_scopes.specs.layer.ViewTags.{view_tags}
 use Rattle.upc_checker_scopes.specs.Walk.{judge}
 use Rattle.upc_checker_scopes.proofs.Walks.{goes, stops, gives}
 use Rattle.upc_checker_declarations.proofs.declarations.walk_declaration.Goals as goal

@@ -3,19 +3,19 @@ use Rattle.std.proofs.lemmas.List.{map-append}
 use Rattle.std.proofs.lemmas.Result.{err_from_is_err_and}
 use Rattle.upc_tree.specs.Declaration.{DeclaredAs}
 use Rattle.upc_tree.specs.Expression.{Declarator, ObjectDeclarator, FunctionDeclarator}
-use Rattle.upc_tree.specs.Lists.{pointers_of, dimensions_of}
-use Rattle.upc_tree.specs.View.{view_declarator, view_pointer, view_dimension, view_parameters}
-use Rattle.upc_tree.specs.ViewStatement as trees
+use Rattle.upc_tree.specs.layer.Lists.{pointers_of, dimensions_of}
+use Rattle.upc_tree.specs.layer.View.{view_declarator, view_pointer, view_dimension, view_parameters}
+use Rattle.upc_tree.specs.layer.ViewStatement as trees
 use Rattle.upc_tree.proofs.Rows.{object_is, function_is}
 use Rattle.typing_rules.specs.Faults.{first_fault}
 use Rattle.typed_tree.specs.Tree.{DeclaredObject}
-use Rattle.typed_tree.specs.ViewEnv.{view_env}
+use Rattle.typed_tree.specs.layer.ViewEnv.{view_env}
 use Rattle.typed_tree.specs.ViewStatements.{view_object}
 use Rattle.upc_checker_declarations.specs.Declarations as pure
 use Rattle.upc_checker_declarations.specs.Declarations.{Behind}
-use Rattle.upc_checker_scopes.specs.Ends.{Stops, Comes, Meets}
-use Rattle.upc_checker_scopes.specs.Views.{view_setting, state_of}
-use Rattle.upc_checker_types.specs.ViewShapes.{view_shaped}
+use Rattle.upc_checker_scopes.specs.layer.Ends.{Stops, Comes, Meets}
+use Rattle.upc_checker_scopes.specs.layer.Views.{view_setting, state_of}
+use Rattle.upc_checker_types.specs.layer.ViewShapes.{view_shaped}
 use Rattle.upc_checker_declarations.proofs.declarations.walk_declared.Goals as goal
 
 pub returns-in_err-object-in-Object : goal.returns-in_err-object-in-Object

@@ -2,17 +2,17 @@ use Rattle.std.proofs.Common.{List, [], map, Result, Ok, Err, subst}
 use Rattle.std.proofs.lemmas.Result.{err_from_is_err_and}
 use Rattle.upc_text.specs.declared.faults.Stop.{Stop}
 use Rattle.upc_tree.specs.declared.declaration.NextDeclared.{NextDeclared}
-use Rattle.upc_tree.specs.Lists.{next_declareds_of}
-use Rattle.upc_tree.specs.ViewStatement.{view_next_declared, view_declared}
+use Rattle.upc_tree.specs.layer.Lists.{next_declareds_of}
+use Rattle.upc_tree.specs.layer.ViewStatement.{view_next_declared, view_declared}
 use Rattle.typed_tree.specs.declared.tree.Object.{Object}
 use Rattle.typing_rules.specs.Faults.{first_fault}
-use Rattle.typed_tree.specs.ViewEnv.{view_env}
+use Rattle.typed_tree.specs.layer.ViewEnv.{view_env}
 use Rattle.typed_tree.specs.ViewStatements.{view_object}
 use Rattle.upc_checker_declarations.specs.Declarations as pure
 use Rattle.upc_checker_declarations.specs.Declarations.{Behind}
-use Rattle.upc_checker_scopes.specs.Ends.{Stops, Comes}
-use Rattle.upc_checker_scopes.specs.Views.{view_setting, state_of}
-use Rattle.upc_checker_types.specs.ViewShapes.{view_shaped}
+use Rattle.upc_checker_scopes.specs.layer.Ends.{Stops, Comes}
+use Rattle.upc_checker_scopes.specs.layer.Views.{view_setting, state_of}
+use Rattle.upc_checker_types.specs.layer.ViewShapes.{view_shaped}
 use Rattle.upc_checker_scopes.proofs.Walks.{goes, stops}
 use Rattle.upc_checker_declarations.proofs.declarations.walk_declared_list.Goals as goal
 

@@ -3,8 +3,8 @@ use Rattle.std.proofs.lemmas.Result.{err_from_is_err_and}
 use Rattle.upc_text.specs.declared.faults.Stop.{Stop}
 use Rattle.upc_tree.specs.declared.expression.NextExpr.{NextExpr}
 use Rattle.upc_tree.specs.Declaration.{ListInitial}
-use Rattle.upc_tree.specs.Lists.{next_exprs_of}
-use Rattle.upc_tree.specs.View.{view, view_next_expr}
+use Rattle.upc_tree.specs.layer.Lists.{next_exprs_of}
+use Rattle.upc_tree.specs.layer.View.{view, view_next_expr}
 use Rattle.upc_types.specs.View as types
 use Rattle.typed_tree.specs.declared.tree.Initial.{Initial as RustInitial}
 use Rattle.typed_tree.specs.declared.tree.Initial.TheVariants as i
@@ -14,12 +14,12 @@ use Rattle.typing_rules.specs.Nodes.{view_attr}
 use Rattle.typing_rules.specs.Rules.{lowest}
 use Rattle.typed_tree.specs.Scopes.{is_file}
 use Rattle.typed_tree.specs.Tree.{Initial, InitialValue, InitialList, exprs_of}
-use Rattle.typed_tree.specs.ViewEnv.{view_env}
+use Rattle.typed_tree.specs.layer.ViewEnv.{view_env}
 use Rattle.typed_tree.specs.ViewStatements.{view_initial}
 use Rattle.typed_tree.specs.ViewTree.{view_expr}
 use Rattle.upc_checker_declarations.specs.Declarations as pure
-use Rattle.upc_checker_scopes.specs.Ends.{Stops, Comes}
-use Rattle.upc_checker_scopes.specs.Views.{view_setting, state_of}
+use Rattle.upc_checker_scopes.specs.layer.Ends.{Stops, Comes}
+use Rattle.upc_checker_scopes.specs.layer.Views.{view_setting, state_of}
 use Rattle.upc_checker_scopes.specs.Walk.{judge, facts_in}
 use Rattle.upc_checker_scopes.proofs.Walks.{goes, stops, gives, judge_goes, judge_stops}
 use Rattle.upc_checker_declarations.proofs.declarations.walk_initial.Goals as goal

@@ -1,8 +1,8 @@
 use Rattle.std.proofs.Common.{Bool, refl, List, map, Result, Ok, Err, sym, ap, ◌∙◌, subst, Vec, Global}
 use Rattle.std.proofs.lemmas.Result.{err_from_is_err_and}
 use Rattle.upc_text.specs.declared.faults.Stop.{Stop}
-use Rattle.upc_tree.specs.Lists.{next_exprs_of}
-use Rattle.upc_tree.specs.View.{view, view_next_expr}
+use Rattle.upc_tree.specs.layer.Lists.{next_exprs_of}
+use Rattle.upc_tree.specs.layer.View.{view, view_next_expr}
 use Rattle.upc_types.specs.Types.{base_of}
 use Rattle.upc_types.specs.View as types
 use Rattle.typed_tree.specs.declared.tree.Expr.{Expr as RustExpr}
@@ -13,12 +13,12 @@ use Rattle.typing_rules.specs.Rules.{lowest}
 use Rattle.typed_tree.specs.Scopes.{is_file}
 use Rattle.typed_tree.specs.Tree.{Initial, InitialList, AndExpr, exprs_of, attrs_of}
 use Rattle.typing_rules.specs.Values.{base_target}
-use Rattle.typed_tree.specs.ViewEnv.{view_env}
+use Rattle.typed_tree.specs.layer.ViewEnv.{view_env}
 use Rattle.typed_tree.specs.ViewTree.{view_expr}
 use Rattle.typed_tree.specs.ViewTree.{attr_seen}
 use Rattle.upc_checker_declarations.specs.Declarations as pure
-use Rattle.upc_checker_scopes.specs.Ends.{Stops, Comes}
-use Rattle.upc_checker_scopes.specs.Views.{view_setting, state_of}
+use Rattle.upc_checker_scopes.specs.layer.Ends.{Stops, Comes}
+use Rattle.upc_checker_scopes.specs.layer.Views.{view_setting, state_of}
 use Rattle.upc_checker_scopes.specs.Walk.{judge, facts_in}
 use Rattle.upc_checker_scopes.proofs.Walks.{goes, stops, judge_goes, judge_stops}
 use Rattle.upc_checker_declarations.proofs.Exprs.{attrs_seen}

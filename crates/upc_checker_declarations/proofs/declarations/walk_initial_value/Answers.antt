@@ -1,16 +1,16 @@
 use Rattle.std.proofs.Common.{Ok, Err}
 use Rattle.std.proofs.lemmas.Result.{err_from_is_err_and}
-use Rattle.upc_tree.specs.View.{view}
+use Rattle.upc_tree.specs.layer.View.{view}
 use Rattle.typed_tree.specs.Scopes.{is_file}
 use Rattle.typed_tree.specs.Tree.{Expr}
-use Rattle.typed_tree.specs.ViewEnv.{view_env}
+use Rattle.typed_tree.specs.layer.ViewEnv.{view_env}
 use Rattle.typed_tree.specs.ViewTree.{view_expr}
-use Rattle.typing_rules.specs.Views.{view_use}
+use Rattle.typing_rules.specs.layer.Views.{view_use}
 use Rattle.upc_checker_declarations.specs.Declarations.{initial_constant}
 use Rattle.upc_checker_expressions.specs.Expressions.{walk}
-use Rattle.upc_checker_scopes.specs.Views.{view_setting, state_of}
+use Rattle.upc_checker_scopes.specs.layer.Views.{view_setting, state_of}
 use Rattle.upc_checker_scopes.proofs.Walks.{goes, stops, gives}
-use Rattle.upc_checker_scopes.specs.Ends.{boxed}
+use Rattle.upc_checker_scopes.specs.layer.Ends.{boxed}
 use Rattle.upc_checker_declarations.proofs.declarations.walk_initial_value.Goals as goal
 
 pub returns-in_err-a : goal.returns-in_err-a

@@ -2,16 +2,16 @@ use Rattle.std.proofs.Common.{◌+◌, List, map, drop, subst, arith, Vec, Globa
 use Rattle.std.proofs.lemmas.List.{drop_all}
 use Rattle.std.proofs.lemmas.Result.{err_from_is_err_and}
 use Rattle.upc_tree.specs.declared.expression.NextExpr.{NextExpr}
-use Rattle.upc_tree.specs.Lists.{next_exprs_of}
-use Rattle.upc_tree.specs.View.{view, view_next_expr}
+use Rattle.upc_tree.specs.layer.Lists.{next_exprs_of}
+use Rattle.upc_tree.specs.layer.View.{view, view_next_expr}
 use Rattle.typed_tree.specs.declared.tree.Expr.{Expr as RustExpr}
 use Rattle.typed_tree.specs.Scopes.{is_file}
 use Rattle.typed_tree.specs.Tree.{Expr, Exprs, NoExprs, AndExpr, exprs_of}
-use Rattle.typed_tree.specs.ViewEnv.{view_env}
+use Rattle.typed_tree.specs.layer.ViewEnv.{view_env}
 use Rattle.typed_tree.specs.ViewTree.{view_expr}
-use Rattle.typing_rules.specs.Views.{view_use}
+use Rattle.typing_rules.specs.layer.Views.{view_use}
 use Rattle.upc_checker_declarations.specs.Declarations as pure
-use Rattle.upc_checker_scopes.specs.Views.{view_setting, state_of}
+use Rattle.upc_checker_scopes.specs.layer.Views.{view_setting, state_of}
 use Rattle.upc_checker_scopes.proofs.Turns.{IsLeft, behind, pushed_behind, list_begins, list_goes, list_stops, list_done}
 use Rattle.upc_checker_declarations.proofs.Exprs.{exprs_behind}
 use Rattle.upc_checker_declarations.proofs.declarations.walk_initial_values.Goals as goal

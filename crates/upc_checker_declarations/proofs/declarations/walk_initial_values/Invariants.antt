@@ -1,13 +1,13 @@
 use Rattle.std.proofs.Common.{map, drop}
-use Rattle.upc_tree.specs.Lists.{next_exprs_of}
-use Rattle.upc_tree.specs.View.{view_next_expr}
+use Rattle.upc_tree.specs.layer.Lists.{next_exprs_of}
+use Rattle.upc_tree.specs.layer.View.{view_next_expr}
 use Rattle.typed_tree.specs.Scopes.{is_file}
 use Rattle.typed_tree.specs.Tree.{AndExpr}
-use Rattle.typed_tree.specs.ViewEnv.{view_env}
+use Rattle.typed_tree.specs.layer.ViewEnv.{view_env}
 use Rattle.typed_tree.specs.ViewTree.{view_expr}
-use Rattle.typing_rules.specs.Views.{view_use}
+use Rattle.typing_rules.specs.layer.Views.{view_use}
 use Rattle.upc_checker_declarations.specs.Declarations as pure
-use Rattle.upc_checker_scopes.specs.Views.{view_setting, state_of}
+use Rattle.upc_checker_scopes.specs.layer.Views.{view_setting, state_of}
 use Rattle.upc_checker_scopes.proofs.Turns.{IsLeft, behind}
 use Rattle.upc_checker_declarations.proofs.declarations.walk_initial_values.Given as goal
 

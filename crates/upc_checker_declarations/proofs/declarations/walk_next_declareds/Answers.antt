@@ -1,14 +1,14 @@
 use Rattle.std.proofs.Common.{◌+◌, List, map, drop, subst}
 use Rattle.std.proofs.lemmas.Result.{err_from_is_err_and}
 use Rattle.upc_tree.specs.declared.declaration.NextDeclared.{NextDeclared}
-use Rattle.upc_tree.specs.Lists.{next_declareds_of}
-use Rattle.upc_tree.specs.ViewStatement.{view_next_declared, view_declared}
-use Rattle.typed_tree.specs.ViewEnv.{view_env}
+use Rattle.upc_tree.specs.layer.Lists.{next_declareds_of}
+use Rattle.upc_tree.specs.layer.ViewStatement.{view_next_declared, view_declared}
+use Rattle.typed_tree.specs.layer.ViewEnv.{view_env}
 use Rattle.typed_tree.specs.ViewStatements.{view_object}
 use Rattle.upc_checker_declarations.specs.Declarations as pure
 use Rattle.upc_checker_declarations.specs.Declarations.{Behind}
-use Rattle.upc_checker_scopes.specs.Views.{view_setting, state_of}
-use Rattle.upc_checker_types.specs.ViewShapes.{view_shaped}
+use Rattle.upc_checker_scopes.specs.layer.Views.{view_setting, state_of}
+use Rattle.upc_checker_types.specs.layer.ViewShapes.{view_shaped}
 use Rattle.upc_checker_scopes.proofs.Walks.{Same}
 use Rattle.upc_checker_scopes.proofs.Turns.{fold_goes, fold_stops}
 use Rattle.upc_checker_declarations.proofs.declarations.walk_next_declareds.Goals as goal

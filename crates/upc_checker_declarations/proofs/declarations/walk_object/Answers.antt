@@ -4,9 +4,9 @@ use Rattle.upc_text.specs.declared.faults.Stop.{Stop}
 use Rattle.upc_text.specs.declared.place.Place.{Place}
 use Rattle.upc_tree.specs.declared.span.Name.{Name}
 use Rattle.upc_tree.specs.Declaration.{Initial}
-use Rattle.upc_tree.specs.Lists.{pointers_of, dimensions_of}
-use Rattle.upc_tree.specs.View.{view_pointer, view_dimension}
-use Rattle.upc_tree.specs.ViewStatement as trees
+use Rattle.upc_tree.specs.layer.Lists.{pointers_of, dimensions_of}
+use Rattle.upc_tree.specs.layer.View.{view_pointer, view_dimension}
+use Rattle.upc_tree.specs.layer.ViewStatement as trees
 use Rattle.upc_types.specs.Types.{CType}
 use Rattle.typing_rules.specs.declared.setting.Home.{Home}
 use Rattle.typed_tree.specs.declared.tree.Object.{Object}
@@ -15,20 +15,20 @@ use Rattle.typing_rules.specs.Nodes as n
 use Rattle.typing_rules.specs.Nodes.{Formed}
 use Rattle.typed_tree.specs.Scopes.{Setting, Env, spelling, is_file, declare, next_home}
 use Rattle.typed_tree.specs.Tree.{DeclaredObject}
-use Rattle.typed_tree.specs.ViewEnv.{view_env}
+use Rattle.typed_tree.specs.layer.ViewEnv.{view_env}
 use Rattle.typed_tree.specs.ViewStatements.{view_initial, view_object}
-use Rattle.typing_rules.specs.Views.{view_formed}
+use Rattle.typing_rules.specs.layer.Views.{view_formed}
 use Rattle.upc_checker_scopes.specs.Known as stands
 use Rattle.upc_checker_declarations.specs.Declarations as pure
 use Rattle.upc_checker_declarations.specs.Declarations.{Behind}
-use Rattle.upc_checker_scopes.specs.Ends.{Stops, Comes, Meets}
+use Rattle.upc_checker_scopes.specs.layer.Ends.{Stops, Comes, Meets}
 use Rattle.upc_checker_scopes.specs.Places.{pointers_place}
 use Rattle.upc_checker_types.specs.Shapes.{has_sizes}
 use Rattle.upc_checker_expressions.specs.Expressions.{walk_pointers, walk_sizes}
 use Rattle.upc_checker_types.specs.Specifiers.{Shaped}
-use Rattle.upc_checker_scopes.specs.Views.{view_setting, state_of, state_with}
-use Rattle.upc_checker_types.specs.ViewShapes.{view_shaped}
-use Rattle.upc_checker_scopes.specs.ViewTags.{view_tags}
+use Rattle.upc_checker_scopes.specs.layer.Views.{view_setting, state_of, state_with}
+use Rattle.upc_checker_types.specs.layer.ViewShapes.{view_shaped}
+use Rattle.upc_checker_scopes.specs.layer.ViewTags.{view_tags}
 use Rattle.upc_checker_scopes.specs.Walk.{Walk, andthen, give, judge}
 use Rattle.upc_checker_scopes.proofs.Walks.{goes, stops}
 use Rattle.upc_checker_declarations.proofs.declarations.walk_object.Goals as goal

@@ -4,27 +4,27 @@ use Rattle.upc_text.specs.declared.faults.Stop.{Stop}
 use Rattle.upc_text.specs.declared.place.Place.{Place}
 use Rattle.upc_tree.specs.declared.span.Name.{Name}
 use Rattle.upc_tree.specs.Declaration.{Initial}
-use Rattle.upc_tree.specs.Lists.{pointers_of}
-use Rattle.upc_tree.specs.View.{view_pointer, view_parameters}
-use Rattle.upc_tree.specs.ViewStatement as trees
+use Rattle.upc_tree.specs.layer.Lists.{pointers_of}
+use Rattle.upc_tree.specs.layer.View.{view_pointer, view_parameters}
+use Rattle.upc_tree.specs.layer.ViewStatement as trees
 use Rattle.upc_types.specs.Types.{CType}
 use Rattle.upc_types.specs.View as types
 use Rattle.typing_rules.specs.Faults.{first_fault}
 use Rattle.typing_rules.specs.Library.{int}
 use Rattle.typing_rules.specs.Meanings.{Signature, Function}
 use Rattle.typed_tree.specs.Scopes.{Setting, Env, inside, with_entry}
-use Rattle.typed_tree.specs.ViewEnv.{view_env}
+use Rattle.typed_tree.specs.layer.ViewEnv.{view_env}
 use Rattle.typed_tree.specs.ViewStatements.{view_initial}
 use Rattle.upc_checker_declarations.specs.Declarations as pure
 use Rattle.upc_checker_declarations.specs.Declarations.{Behind}
-use Rattle.upc_checker_scopes.specs.Ends.{Stops, Comes, Meets}
+use Rattle.upc_checker_scopes.specs.layer.Ends.{Stops, Comes, Meets}
 use Rattle.upc_checker_types.specs.Members.{Declared}
 use Rattle.upc_checker_scopes.specs.Places.{pointers_place}
 use Rattle.upc_checker_expressions.specs.Expressions.{walk_pointers, walk_parameters}
 use Rattle.upc_checker_types.specs.Specifiers.{Shaped}
-use Rattle.upc_checker_scopes.specs.Views.{view_setting, state_of, state_with}
-use Rattle.upc_checker_types.specs.ViewShapes.{view_shaped}
-use Rattle.upc_checker_scopes.specs.ViewTags.{view_tags}
+use Rattle.upc_checker_scopes.specs.layer.Views.{view_setting, state_of, state_with}
+use Rattle.upc_checker_types.specs.layer.ViewShapes.{view_shaped}
+use Rattle.upc_checker_scopes.specs.layer.ViewTags.{view_tags}
 use Rattle.upc_checker_scopes.specs.Walk.{Walk, andthen, give, enclosed}
 use Rattle.upc_checker_scopes.proofs.Walks.{goes, stops}
 use Rattle.upc_checker_scopes.proofs.Turns.{goes_by, stops_by}

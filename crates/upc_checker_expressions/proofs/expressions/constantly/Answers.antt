@@ -5,7 +5,7 @@ use Rattle.typing_rules.specs.Nodes.{view_attr}
 use Rattle.typed_tree.specs.ViewTree.{view_expr}
 use Rattle.upc_checker_scopes.specs.Walk.{facts_in}
 use Rattle.upc_checker_expressions.specs.Expressions.{constantly}
-use Rattle.upc_checker_scopes.specs.Views.{view_setting}
+use Rattle.upc_checker_scopes.specs.layer.Views.{view_setting}
 use Rattle.upc_checker_scopes.proofs.Walks.{judge_goes, judge_stops}
 use Rattle.upc_checker_scopes.proofs.Steps.{next, stopped, given, of_form}
 use Rattle.upc_checker_expressions.proofs.expressions.constantly.Goals as goal

@@ -1,13 +1,13 @@
 use Rattle.std.proofs.Common.{sym, ap, ◌∙◌}
 use Rattle.upc_tree.specs.Expression as t
-use Rattle.upc_tree.specs.View.{view}
-use Rattle.typed_tree.specs.ViewEnv.{view_env}
+use Rattle.upc_tree.specs.layer.View.{view}
+use Rattle.typed_tree.specs.layer.ViewEnv.{view_env}
 use Rattle.typed_tree.specs.ViewTree.{view_expr}
-use Rattle.typing_rules.specs.Views.{view_use}
-use Rattle.upc_checker_scopes.specs.Ends.{boxed}
+use Rattle.typing_rules.specs.layer.Views.{view_use}
+use Rattle.upc_checker_scopes.specs.layer.Ends.{boxed}
 use Rattle.upc_checker_scopes.specs.Walk.{facts_in}
 use Rattle.upc_checker_expressions.specs.Expressions.{walk}
-use Rattle.upc_checker_scopes.specs.Views.{view_setting}
+use Rattle.upc_checker_scopes.specs.layer.Views.{view_setting}
 use Rattle.upc_checker_scopes.proofs.Steps.{of_form, ends}
 use Rattle.upc_checker_expressions.proofs.expressions.walk_leaf.Goals as goal
 

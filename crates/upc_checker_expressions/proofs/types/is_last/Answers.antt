@@ -2,8 +2,8 @@ use Rattle.std.proofs.Common.{◌≡◌, ℕ, ◌+◌, nat_eq, Bool, true, false
 use Rattle.std.proofs.lemmas.Bool.{eqb-true, eq-eqb}
 use Rattle.std.proofs.lemmas.List.{length-drop}
 use Rattle.upc_tree.specs.declared.expression.Pointer.{Pointer}
-use Rattle.upc_tree.specs.Lists.{pointers_of}
-use Rattle.upc_tree.specs.View.{view_pointer}
+use Rattle.upc_tree.specs.layer.Lists.{pointers_of}
+use Rattle.upc_tree.specs.layer.View.{view_pointer}
 use Rattle.upc_checker_types.specs.Shapes.{is_none}
 use Rattle.upc_checker_expressions.proofs.types.is_last.Goals as goal
 

@@ -1,8 +1,8 @@
 use Rattle.std.proofs.Common.{true, ap, ◌∙◌}
 use Rattle.typing_rules.specs.Meanings.{Function, Signature}
 use Rattle.typed_tree.specs.Scopes.{with_entry, with_function}
-use Rattle.typed_tree.specs.ViewEnv.{view_env}
-use Rattle.upc_checker_scopes.specs.Views.{state_with}
+use Rattle.typed_tree.specs.layer.ViewEnv.{view_env}
+use Rattle.upc_checker_scopes.specs.layer.Views.{state_with}
 use Rattle.upc_checker_functions.proofs.functions.declare_definition.Goals as goal
 
 pub returns-clause-known : goal.returns-clause-known

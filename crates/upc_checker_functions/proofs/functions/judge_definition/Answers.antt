@@ -4,11 +4,11 @@ use Rattle.std.proofs.lemmas.List.{length-map}
 use Rattle.upc_types.specs.View.{view}
 use Rattle.typed_tree.specs.Scopes.{State}
 use Rattle.upc_checker_scopes.specs.Counts.{ended, with_more}
-use Rattle.upc_checker_scopes.specs.Ends.{Comes}
+use Rattle.upc_checker_scopes.specs.layer.Ends.{Comes}
 use Rattle.std.proofs.lemmas.Result.{err_from_is_err_and}
 use Rattle.typing_rules.specs.Nodes.{Defines}
-use Rattle.typing_rules.specs.Views.{view_signature}
-use Rattle.upc_checker_scopes.specs.Views.{view_setting, state_with}
+use Rattle.typing_rules.specs.layer.Views.{view_signature}
+use Rattle.upc_checker_scopes.specs.layer.Views.{view_setting, state_with}
 use Rattle.upc_checker_scopes.specs.Walk.{judge, facts_in}
 use Rattle.upc_checker_scopes.proofs.Walks.{judge_goes, judge_stops}
 use Rattle.upc_checker_functions.proofs.functions.judge_definition.Goals as goal

@@ -1,15 +1,15 @@
 use Rattle.std.proofs.Common.{◌≡◌, List, Ok, Err, map, sym, ap, ◌∙◌, subst, Result}
 use Rattle.std.proofs.lemmas.Result.{err_from_is_err_and}
 use Rattle.upc_text.specs.declared.faults.Stop.{Stop}
-use Rattle.upc_tree.specs.View as views
+use Rattle.upc_tree.specs.layer.View as views
 use Rattle.upc_types.specs.View.{view}
 use Rattle.typing_rules.specs.Faults.{first_fault}
 use Rattle.typed_tree.specs.Scopes.{Env, Within, inside}
-use Rattle.typed_tree.specs.ViewEnv.{view_env, with_outer}
+use Rattle.typed_tree.specs.layer.ViewEnv.{view_env, with_outer}
 use Rattle.upc_checker_types.specs.Members.{Declared}
 use Rattle.upc_checker_expressions.specs.Expressions.{walk_parameters}
-use Rattle.upc_checker_scopes.specs.Ends.{Stops, Comes}
-use Rattle.upc_checker_scopes.specs.Views.{view_setting, state_of}
+use Rattle.upc_checker_scopes.specs.layer.Ends.{Stops, Comes}
+use Rattle.upc_checker_scopes.specs.layer.Views.{view_setting, state_of}
 use Rattle.upc_checker_functions.proofs.Outer.{outer_of, parameters_outer, outer_again}
 use Rattle.upc_checker_functions.proofs.functions.own_parameters.Goals as goal
 

@@ -2,27 +2,27 @@ use Rattle.std.proofs.Common.{false, List, [], ◌∷◌, ◌++◌, map, Result,
 use Rattle.std.proofs.lemmas.Result.{err_from_is_err_and}
 use Rattle.upc_text.specs.declared.faults.Stop.{Stop}
 use Rattle.upc_tree.specs.Statement.{Compound}
-use Rattle.upc_tree.specs.ViewStatement as trees
+use Rattle.upc_tree.specs.layer.ViewStatement as trees
 use Rattle.upc_types.specs.Types.{CType}
 use Rattle.typing_rules.specs.declared.setting.Enclosing.TheVariants as enclosing
 use Rattle.typing_rules.specs.Faults.{first_fault}
 use Rattle.typing_rules.specs.Meanings.{Function}
 use Rattle.typing_rules.specs.Nodes as n
 use Rattle.typing_rules.specs.Values.{value_type}
-use Rattle.typing_rules.specs.Views.{view_signature}
+use Rattle.typing_rules.specs.layer.Views.{view_signature}
 use Rattle.typed_tree.specs.Scopes.{spelling, with_entry}
 use Rattle.typed_tree.specs.Tree as k
-use Rattle.typed_tree.specs.ViewEnv.{view_env}
+use Rattle.typed_tree.specs.layer.ViewEnv.{view_env}
 use Rattle.typed_tree.specs.ViewStatements.{view_function, view_statement}
-use Rattle.upc_checker_scopes.specs.Ends.{Stops, Comes}
-use Rattle.upc_checker_scopes.specs.Views.{view_setting, state_of, state_with}
-use Rattle.upc_checker_scopes.specs.ViewTags.{view_tags}
+use Rattle.upc_checker_scopes.specs.layer.Ends.{Stops, Comes}
+use Rattle.upc_checker_scopes.specs.layer.Views.{view_setting, state_of, state_with}
+use Rattle.upc_checker_scopes.specs.layer.ViewTags.{view_tags}
 use Rattle.upc_checker_scopes.specs.Walk.{judge}
 use Rattle.upc_checker_scopes.proofs.Walks.{goes, stops, gives}
 use Rattle.upc_checker_statements.specs.Statements.{walk_block}
 use Rattle.upc_checker_functions.specs.Units as pure
 use Rattle.upc_checker_functions.specs.Units.{Made, body_around}
-use Rattle.upc_checker_functions.specs.ViewEarlier.{view_earlier}
+use Rattle.upc_checker_functions.specs.code.ViewEarlier.{view_earlier}
 use Rattle.upc_checker_functions.proofs.functions.walk_defined.Goals as goal
 
 pub returns-in_err-body : goal.returns-in_err-body

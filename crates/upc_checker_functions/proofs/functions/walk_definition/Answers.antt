@@ -1,24 +1,24 @@
 use Rattle.std.proofs.Common.{◌≡◌, Bool, true, List, map, Result, Ok, Err, sym, ap, ◌∙◌, subst}
 use Rattle.std.proofs.lemmas.Result.{err_from_is_err_and}
 use Rattle.upc_text.specs.declared.faults.Stop.{Stop}
-use Rattle.upc_tree.specs.View as views
-use Rattle.upc_tree.specs.ViewStatement as trees
+use Rattle.upc_tree.specs.layer.View as views
+use Rattle.upc_tree.specs.layer.ViewStatement as trees
 use Rattle.upc_types.specs.View.{view}
 use Rattle.typing_rules.specs.Meanings.{Signature, Function}
 use Rattle.typed_tree.specs.Scopes.{Env, State, Within, inside, with_entry, with_function}
-use Rattle.typed_tree.specs.ViewEnv.{view_env, view_detached}
+use Rattle.typed_tree.specs.layer.ViewEnv.{view_env, view_detached}
 use Rattle.typed_tree.specs.ViewStatements.{view_function}
-use Rattle.upc_checker_scopes.specs.Ends.{Stops, Comes, Meets}
-use Rattle.upc_checker_scopes.specs.Views.{view_setting, state_of, state_with}
-use Rattle.upc_checker_scopes.specs.ViewTags.{view_tags}
+use Rattle.upc_checker_scopes.specs.layer.Ends.{Stops, Comes, Meets}
+use Rattle.upc_checker_scopes.specs.layer.Views.{view_setting, state_of, state_with}
+use Rattle.upc_checker_scopes.specs.layer.ViewTags.{view_tags}
 use Rattle.upc_checker_scopes.specs.Walk.{enclosed, update}
 use Rattle.upc_checker_scopes.proofs.Walks.{goes, stops, looks, updates, encloses}
 use Rattle.upc_checker_types.specs.Members.{Declared}
 use Rattle.upc_checker_expressions.specs.Expressions.{walk_parameters}
-use Rattle.upc_checker_functions.specs.Parts.{body_part, earlier_in}
+use Rattle.upc_checker_functions.specs.code.Parts.{body_part, earlier_in}
 use Rattle.upc_checker_functions.specs.Units as pure
 use Rattle.upc_checker_functions.specs.Units.{Made, Earlier, with_outer_entry}
-use Rattle.upc_checker_functions.specs.ViewEarlier.{view_earlier}
+use Rattle.upc_checker_functions.specs.code.ViewEarlier.{view_earlier}
 use Rattle.upc_checker_functions.proofs.functions.walk_definition.Goals as goal
 
 pub returns-in_err-own : goal.returns-in_err-own

@@ -3,22 +3,22 @@ use Rattle.std.proofs.lemmas.Result.{err_from_is_err_and}
 use Rattle.upc_text.specs.declared.place.Place.{Place}
 use Rattle.upc_tree.specs.declared.expression.Spec.{Spec}
 use Rattle.upc_tree.specs.declared.expression.Pointer.{Pointer}
-use Rattle.upc_tree.specs.Lists.{specs_of, pointers_of}
-use Rattle.upc_tree.specs.View as views
-use Rattle.upc_tree.specs.View.{view_spec, view_pointer}
-use Rattle.upc_tree.specs.ViewStatement as trees
+use Rattle.upc_tree.specs.layer.Lists.{specs_of, pointers_of}
+use Rattle.upc_tree.specs.layer.View as views
+use Rattle.upc_tree.specs.layer.View.{view_spec, view_pointer}
+use Rattle.upc_tree.specs.layer.ViewStatement as trees
 use Rattle.typing_rules.specs.Faults.{first_fault}
-use Rattle.typed_tree.specs.ViewEnv.{view_env}
+use Rattle.typed_tree.specs.layer.ViewEnv.{view_env}
 use Rattle.typed_tree.specs.ViewStatements.{view_function}
-use Rattle.upc_checker_scopes.specs.Ends.{Stops, Comes, Meets}
+use Rattle.upc_checker_scopes.specs.layer.Ends.{Stops, Comes, Meets}
 use Rattle.upc_checker_types.specs.Shapes.{Specifying}
 use Rattle.upc_checker_scopes.specs.Places.{specs_place}
 use Rattle.upc_checker_expressions.specs.Expressions.{walk_specifiers, walk_pointers}
 use Rattle.upc_checker_types.specs.Specifiers.{Shaped, specified_type}
 use Rattle.upc_checker_functions.specs.Units as pure
 use Rattle.upc_checker_functions.specs.Units.{Made}
-use Rattle.upc_checker_scopes.specs.Views.{view_setting, state_of}
-use Rattle.upc_checker_types.specs.ViewShapes.{view_shaped, view_specified}
+use Rattle.upc_checker_scopes.specs.layer.Views.{view_setting, state_of}
+use Rattle.upc_checker_types.specs.layer.ViewShapes.{view_shaped, view_specified}
 use Rattle.upc_checker_scopes.specs.Walk.{enclosed}
 use Rattle.upc_checker_scopes.proofs.Walks.{goes, stops}
 use Rattle.upc_checker_functions.proofs.functions.walk_function.Goals as goal

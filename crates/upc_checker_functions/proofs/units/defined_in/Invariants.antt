@@ -1,5 +1,5 @@
 use Rattle.std.proofs.Common.{◌≡◌, ◌++◌, map, drop}
-use Rattle.upc_tree.specs.ViewStatement.{view_external}
+use Rattle.upc_tree.specs.layer.ViewStatement.{view_external}
 use Rattle.upc_checker_functions.specs.Units as pure
 use Rattle.upc_checker_functions.proofs.units.defined_in.Given as goal
 

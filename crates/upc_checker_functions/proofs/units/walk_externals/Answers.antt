@@ -1,12 +1,12 @@
 use Rattle.std.proofs.Common.{◌+◌, Bool, true, false, List, map, drop, sym, subst}
 use Rattle.std.proofs.lemmas.Result.{err_from_is_err_and}
 use Rattle.upc_tree.specs.declared.unit.External.{External}
-use Rattle.upc_tree.specs.ViewStatement as trees
-use Rattle.typed_tree.specs.ViewEnv.{view_env}
+use Rattle.upc_tree.specs.layer.ViewStatement as trees
+use Rattle.typed_tree.specs.layer.ViewEnv.{view_env}
 use Rattle.upc_checker_functions.specs.Units as pure
 use Rattle.upc_checker_functions.specs.Units.{Made}
-use Rattle.upc_checker_scopes.specs.Views.{view_setting, state_of}
-use Rattle.upc_checker_functions.specs.ViewMade.{view_made}
+use Rattle.upc_checker_scopes.specs.layer.Views.{view_setting, state_of}
+use Rattle.upc_checker_functions.specs.layer.ViewMade.{view_made}
 use Rattle.upc_checker_scopes.proofs.Walks.{Same}
 use Rattle.upc_checker_scopes.proofs.Turns.{fold_goes, fold_stops}
 use Rattle.upc_checker_functions.proofs.units.walk_externals.Goals as goal

@@ -1,9 +1,9 @@
 use Rattle.std.proofs.Common.{false, map, drop}
-use Rattle.upc_tree.specs.ViewStatement.{view_external}
-use Rattle.typed_tree.specs.ViewEnv.{view_env}
+use Rattle.upc_tree.specs.layer.ViewStatement.{view_external}
+use Rattle.typed_tree.specs.layer.ViewEnv.{view_env}
 use Rattle.upc_checker_functions.specs.Units as pure
-use Rattle.upc_checker_scopes.specs.Views.{view_setting, state_of}
-use Rattle.upc_checker_functions.specs.ViewMade.{view_made}
+use Rattle.upc_checker_scopes.specs.layer.Views.{view_setting, state_of}
+use Rattle.upc_checker_functions.specs.layer.ViewMade.{view_made}
 use Rattle.upc_checker_scopes.proofs.Walks.{Same}
 use Rattle.upc_checker_functions.proofs.units.walk_externals.Given as goal
 

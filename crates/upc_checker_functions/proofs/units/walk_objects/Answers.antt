@@ -2,13 +2,13 @@ use Rattle.std.proofs.Common.{◌+◌, List, ◌++◌, map, Result, Ok, sym, ap,
 use Rattle.std.proofs.lemmas.List.{map-append}
 use Rattle.std.proofs.lemmas.Result.{err_from_is_err_and}
 use Rattle.upc_text.specs.declared.faults.Stop.{Stop}
-use Rattle.upc_tree.specs.ViewStatement as trees
+use Rattle.upc_tree.specs.layer.ViewStatement as trees
 use Rattle.typed_tree.specs.Tree.{DeclaredObject}
-use Rattle.typed_tree.specs.ViewEnv.{view_env}
+use Rattle.typed_tree.specs.layer.ViewEnv.{view_env}
 use Rattle.typed_tree.specs.ViewStatements.{view_object}
 use Rattle.upc_checker_declarations.specs.Declarations.{Behind, walk_declaration}
 use Rattle.upc_checker_functions.specs.Units.{Made}
-use Rattle.upc_checker_scopes.specs.Views.{view_setting, state_of}
+use Rattle.upc_checker_scopes.specs.layer.Views.{view_setting, state_of}
 use Rattle.upc_checker_scopes.proofs.Walks.{goes, stops, gives}
 use Rattle.upc_checker_functions.proofs.units.walk_objects.Goals as goal
 

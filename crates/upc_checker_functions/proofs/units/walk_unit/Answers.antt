@@ -3,20 +3,20 @@ use Rattle.std.specs.List.{list_any}
 use Rattle.std.proofs.lemmas.Result.{err_from_is_err_and}
 use Rattle.upc_text.specs.declared.faults.Stop.{Stop}
 use Rattle.upc_text.specs.declared.place.Place.{Place}
-use Rattle.upc_tree.specs.ViewStatement as trees
+use Rattle.upc_tree.specs.layer.ViewStatement as trees
 use Rattle.typed_tree.specs.declared.tree.Object.{Object}
 use Rattle.typed_tree.specs.declared.tree.Function.{Function}
 use Rattle.typing_rules.specs.Faults.{first_fault}
 use Rattle.typing_rules.specs.Nodes.{File}
 use Rattle.typing_rules.specs.Rules.{lowest}
 use Rattle.typed_tree.specs.Scopes.{Env, file}
-use Rattle.typed_tree.specs.ViewEnv.{view_env}
+use Rattle.typed_tree.specs.layer.ViewEnv.{view_env}
 use Rattle.typed_tree.specs.ViewStatements.{view_function, view_object}
-use Rattle.upc_checker_scopes.specs.Ends.{Stops, Comes}
+use Rattle.upc_checker_scopes.specs.layer.Ends.{Stops, Comes}
 use Rattle.upc_checker_functions.specs.Units as pure
 use Rattle.upc_checker_functions.specs.Units.{Made}
-use Rattle.upc_checker_scopes.specs.Views.{view_setting, state_of}
-use Rattle.upc_checker_functions.specs.ViewMade.{view_made}
+use Rattle.upc_checker_scopes.specs.layer.Views.{view_setting, state_of}
+use Rattle.upc_checker_functions.specs.layer.ViewMade.{view_made}
 use Rattle.upc_checker_scopes.specs.Walk.{judge, facts_in}
 use Rattle.upc_checker_scopes.proofs.Walks.{goes, stops, gives, judge_goes, judge_stops}
 use Rattle.upc_checker_functions.proofs.units.walk_unit.Goals as goal

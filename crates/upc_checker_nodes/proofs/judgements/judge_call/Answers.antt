@@ -1,16 +1,16 @@
 use Rattle.std.proofs.Common.{map, ap, ◌∙◌}
 use Rattle.std.proofs.lemmas.Result.{err_from_is_err_and}
-use Rattle.upc_tree.specs.View.{view}
+use Rattle.upc_tree.specs.layer.View.{view}
 use Rattle.typing_rules.specs.Attributes.{Facts}
 use Rattle.typing_rules.specs.Nodes as n
 use Rattle.typing_rules.specs.Nodes.{view_attr}
 use Rattle.typing_rules.specs.Rules.{lowest}
 use Rattle.typed_tree.specs.Tree.{exprs_of, attrs_of}
 use Rattle.typed_tree.specs.ViewTree.{view_expr, attr_seen}
-use Rattle.typing_rules.specs.Views.{view_meaning, view_use, view_text}
+use Rattle.typing_rules.specs.layer.Views.{view_meaning, view_use, view_text}
 use Rattle.upc_checker_nodes.specs.Called as calls
 use Rattle.upc_checker_nodes.specs.Parts as parts
-use Rattle.upc_checker_scopes.specs.Views.{facts_of, view_setting}
+use Rattle.upc_checker_scopes.specs.layer.Views.{facts_of, view_setting}
 use Rattle.upc_checker_nodes.proofs.Finished.{refuses, judges, seen_attrs}
 use Rattle.upc_checker_nodes.proofs.judgements.judge_call.Goals as goal
 

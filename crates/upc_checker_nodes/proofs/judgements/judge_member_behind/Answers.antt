@@ -4,7 +4,7 @@ use Rattle.typing_rules.specs.Attributes.{Facts, base, target_index}
 use Rattle.typing_rules.specs.Values.{base_target}
 use Rattle.typing_rules.specs.Nodes as n
 use Rattle.typing_rules.specs.Nodes.{view_attr}
-use Rattle.upc_checker_scopes.specs.Views.{facts_of}
+use Rattle.upc_checker_scopes.specs.layer.Views.{facts_of}
 use Rattle.upc_checker_nodes.proofs.Finished.{refuses_member}
 use Rattle.upc_checker_nodes.proofs.judgements.judge_member_behind.Goals as goal
 

@@ -3,7 +3,7 @@ use Rattle.std.proofs.lemmas.Result.{err_from_is_err_and}
 use Rattle.typing_rules.specs.Attributes.{Facts}
 use Rattle.typing_rules.specs.Nodes as n
 use Rattle.typing_rules.specs.Nodes.{view_attr}
-use Rattle.upc_checker_scopes.specs.Views.{facts_of}
+use Rattle.upc_checker_scopes.specs.layer.Views.{facts_of}
 use Rattle.upc_checker_nodes.proofs.Finished.{refuses, judges, size_sized}
 use Rattle.upc_checker_nodes.proofs.judgements.judge_size_of.Goals as goal
 

@@ -2,8 +2,8 @@ use Rattle.std.proofs.Common.{sym, ◌∙◌}
 use Rattle.std.proofs.lemmas.Result.{err_from_is_err_and}
 use Rattle.typing_rules.specs.Attributes.{Facts}
 use Rattle.typing_rules.specs.Nodes as n
-use Rattle.typing_rules.specs.Views.{view_formed}
-use Rattle.upc_checker_scopes.specs.Views.{facts_of}
+use Rattle.typing_rules.specs.layer.Views.{view_formed}
+use Rattle.upc_checker_scopes.specs.layer.Views.{facts_of}
 use Rattle.upc_checker_nodes.proofs.Finished.{refuses, judges, type_sized}
 use Rattle.upc_checker_nodes.proofs.judgements.judge_size_of_type.Goals as goal
 

@@ -1,6 +1,6 @@
 use Rattle.std.proofs.Common.{List, map, ap, ◌∙◌, subst, Ok, Err}
 use Rattle.std.proofs.lemmas.Result.{err_from_is_err_and}
-use Rattle.upc_tree.specs.View.{view}
+use Rattle.upc_tree.specs.layer.View.{view}
 use Rattle.typing_rules.specs.Attributes.{Facts}
 use Rattle.typing_rules.specs.Nodes as n
 use Rattle.typing_rules.specs.Nodes.{view_attr}
@@ -8,11 +8,11 @@ use Rattle.typed_tree.specs.declared.tree.Expr.{Expr}
 use Rattle.typed_tree.specs.Tree as k
 use Rattle.typed_tree.specs.Tree.{exprs_of, attrs_of}
 use Rattle.typed_tree.specs.ViewTree.{view_expr}
-use Rattle.typing_rules.specs.Views.{view_meaning, view_use}
+use Rattle.typing_rules.specs.layer.Views.{view_meaning, view_use}
 use Rattle.upc_checker_nodes.specs.Called as calls
 use Rattle.upc_checker_nodes.specs.Parts as parts
-use Rattle.upc_checker_scopes.specs.Finishes.{Judges}
-use Rattle.upc_checker_scopes.specs.Views.{facts_of, view_setting}
+use Rattle.upc_checker_scopes.specs.layer.Finishes.{Judges}
+use Rattle.upc_checker_scopes.specs.layer.Views.{facts_of, view_setting}
 use Rattle.upc_checker_nodes.proofs.Finished.{unbuilt, built}
 use Rattle.upc_checker_nodes.proofs.nodes.finish_call.Goals as goal
 

@@ -7,7 +7,7 @@ use Rattle.typed_tree.specs.Tree as k
 use Rattle.typed_tree.specs.Tree.{exprs_of}
 use Rattle.typed_tree.specs.ViewTree.{view_expr}
 use Rattle.upc_checker_nodes.specs.Parts as parts
-use Rattle.upc_checker_scopes.specs.Finishes.{Judges}
+use Rattle.upc_checker_scopes.specs.layer.Finishes.{Judges}
 use Rattle.upc_checker_nodes.proofs.Finished.{unbuilt, built}
 use Rattle.upc_checker_nodes.proofs.nodes.finish_comma.Goals as goal
 

@@ -1,8 +1,8 @@
 use Rattle.std.proofs.Common.{refl, sym, ap, ◌∙◌, subst, Ok}
 use Rattle.typed_tree.specs.Tree as k
-use Rattle.upc_checker_scopes.specs.Finishes.{Finishes}
+use Rattle.upc_checker_scopes.specs.layer.Finishes.{Finishes}
 use Rattle.upc_checker_nodes.specs.Parts as walks
-use Rattle.upc_checker_scopes.specs.Views.{view_setting}
+use Rattle.upc_checker_scopes.specs.layer.Views.{view_setting}
 use Rattle.upc_checker_nodes.proofs.nodes.finish_constant.Goals as goal
 
 pub returns-in_ok-mythread-in-Mythread : goal.returns-in_ok-mythread-in-Mythread

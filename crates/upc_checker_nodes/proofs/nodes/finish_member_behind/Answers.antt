@@ -7,8 +7,8 @@ use Rattle.typing_rules.specs.Nodes.{view_attr}
 use Rattle.typed_tree.specs.declared.tree.Expr.{Expr}
 use Rattle.typed_tree.specs.Tree as k
 use Rattle.typed_tree.specs.ViewTree.{view_expr}
-use Rattle.upc_checker_nodes.specs.ViewJudged.{JudgesMember}
-use Rattle.upc_checker_scopes.specs.Views.{facts_of}
+use Rattle.upc_checker_nodes.specs.code.ViewJudged.{JudgesMember}
+use Rattle.upc_checker_scopes.specs.layer.Views.{facts_of}
 use Rattle.upc_checker_nodes.proofs.Finished.{unbuilt, built}
 use Rattle.upc_checker_nodes.proofs.nodes.finish_member_behind.Goals as goal
 

@@ -4,13 +4,13 @@ use Rattle.typing_rules.specs.Attributes.{Facts}
 use Rattle.typing_rules.specs.Nodes as n
 use Rattle.typing_rules.specs.Nodes.{view_attr}
 use Rattle.typing_rules.specs.Meanings.{Meaning}
-use Rattle.typing_rules.specs.Views.{view_use}
+use Rattle.typing_rules.specs.layer.Views.{view_use}
 use Rattle.typed_tree.specs.Scopes.{meaning}
 use Rattle.typed_tree.specs.Tree as k
-use Rattle.typed_tree.specs.ViewEnv.{view_env}
+use Rattle.typed_tree.specs.layer.ViewEnv.{view_env}
 use Rattle.upc_checker_nodes.specs.Called as calls
-use Rattle.upc_checker_scopes.specs.Finishes.{Judges}
-use Rattle.upc_checker_scopes.specs.Views.{view_setting}
+use Rattle.upc_checker_scopes.specs.layer.Finishes.{Judges}
+use Rattle.upc_checker_scopes.specs.layer.Views.{view_setting}
 use Rattle.upc_checker_nodes.proofs.Finished.{unbuilt, built}
 use Rattle.upc_checker_nodes.proofs.nodes.finish_name.Goals as goal
 

@@ -6,8 +6,8 @@ use Rattle.typing_rules.specs.Nodes.{view_attr}
 use Rattle.typed_tree.specs.declared.tree.Expr.{Expr}
 use Rattle.typed_tree.specs.Tree as k
 use Rattle.typed_tree.specs.ViewTree.{view_expr}
-use Rattle.upc_checker_scopes.specs.Finishes.{Judges, Finishes}
-use Rattle.upc_checker_scopes.specs.Views.{facts_of}
+use Rattle.upc_checker_scopes.specs.layer.Finishes.{Judges, Finishes}
+use Rattle.upc_checker_scopes.specs.layer.Views.{facts_of}
 use Rattle.upc_checker_nodes.proofs.Finished.{unbuilt, built}
 use Rattle.upc_checker_nodes.proofs.nodes.finish_size_of.Goals as goal
 

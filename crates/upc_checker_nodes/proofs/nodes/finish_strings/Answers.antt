@@ -3,10 +3,10 @@ use Rattle.std.proofs.lemmas.Result.{err_from_is_err_and}
 use Rattle.typing_rules.specs.Attributes.{Facts}
 use Rattle.typing_rules.specs.Nodes as n
 use Rattle.typing_rules.specs.Nodes.{view_attr}
-use Rattle.typing_rules.specs.Views.{view_use}
+use Rattle.typing_rules.specs.layer.Views.{view_use}
 use Rattle.typed_tree.specs.Tree as k
 use Rattle.upc_checker_nodes.specs.Parts as parts
-use Rattle.upc_checker_scopes.specs.Finishes.{Refuses}
+use Rattle.upc_checker_scopes.specs.layer.Finishes.{Refuses}
 use Rattle.upc_checker_nodes.proofs.Finished.{judges, unbuilt, built}
 use Rattle.upc_checker_nodes.proofs.nodes.finish_strings.Goals as goal
 

@@ -1,5 +1,5 @@
 use Rattle.typing_rules.specs.Attributes.{Facts}
-use Rattle.upc_checker_scopes.specs.Views.{facts_of}
+use Rattle.upc_checker_scopes.specs.layer.Views.{facts_of}
 use Rattle.upc_checker_nodes.proofs.nodes.finish_unary.Goals as goal
 
 pub returns-in-AddressOf : goal.returns-in-AddressOf

@@ -3,10 +3,10 @@ use Rattle.std.proofs.lemmas.Result.{err_from_is_err_and}
 use Rattle.typing_rules.specs.Nodes as n
 use Rattle.typed_tree.specs.Tree as k
 use Rattle.typed_tree.specs.ViewStatements.{view_statement}
-use Rattle.typing_rules.specs.Views.{view_around}
+use Rattle.typing_rules.specs.layer.Views.{view_around}
 use Rattle.upc_checker_scopes.specs.Walk.{facts_in}
 use Rattle.upc_checker_nodes.proofs.Judged.{judges, refuses}
-use Rattle.upc_checker_scopes.specs.Ends.{boxed}
+use Rattle.upc_checker_scopes.specs.layer.Ends.{boxed}
 use Rattle.upc_checker_nodes.proofs.statements.finish_break.Goals as goal
 
 pub returns-in_err-judged : goal.returns-in_err-judged

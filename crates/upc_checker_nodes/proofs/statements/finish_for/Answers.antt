@@ -6,7 +6,7 @@ use Rattle.typed_tree.specs.ViewStatements.{view_head, view_statement, view_valu
 use Rattle.upc_checker_nodes.specs.Judged as pure
 use Rattle.upc_checker_scopes.specs.Walk.{facts_in}
 use Rattle.upc_checker_nodes.proofs.Judged.{judges, refuses}
-use Rattle.upc_checker_scopes.specs.Ends.{boxed}
+use Rattle.upc_checker_scopes.specs.layer.Ends.{boxed}
 use Rattle.upc_checker_nodes.proofs.statements.finish_for.Goals as goal
 
 pub returns-in_err-judged : goal.returns-in_err-judged

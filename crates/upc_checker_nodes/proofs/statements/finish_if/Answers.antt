@@ -7,7 +7,7 @@ use Rattle.typed_tree.specs.ViewStatements.{view_arms, view_last, view_statement
 use Rattle.typed_tree.specs.ViewStatements.{attr_tested}
 use Rattle.upc_checker_scopes.specs.Walk.{facts_in}
 use Rattle.upc_checker_nodes.proofs.Judged.{judges, refuses}
-use Rattle.upc_checker_scopes.specs.Ends.{boxed}
+use Rattle.upc_checker_scopes.specs.layer.Ends.{boxed}
 use Rattle.upc_checker_nodes.proofs.statements.finish_if.Goals as goal
 
 pub returns-in_err-judged : goal.returns-in_err-judged

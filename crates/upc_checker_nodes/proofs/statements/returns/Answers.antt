@@ -2,8 +2,8 @@ use Rattle.std.proofs.Common.{Err, Ok, sym, subst}
 use Rattle.std.proofs.lemmas.Result.{err_from_is_err_and}
 use Rattle.typed_tree.specs.Tree as k
 use Rattle.typed_tree.specs.ViewStatements.{view_statement, view_value}
-use Rattle.typing_rules.specs.Views.{view_around}
-use Rattle.upc_checker_scopes.specs.Ends.{Meets, boxed}
+use Rattle.typing_rules.specs.layer.Views.{view_around}
+use Rattle.upc_checker_scopes.specs.layer.Ends.{Meets, boxed}
 use Rattle.upc_checker_scopes.specs.Walk.{Walk, facts_in}
 use Rattle.upc_checker_nodes.specs.Judged.{returned_node}
 use Rattle.upc_checker_nodes.proofs.Judged.{judges_returned, refuses, returns_is}

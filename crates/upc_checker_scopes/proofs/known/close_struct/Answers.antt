@@ -8,9 +8,9 @@ use Rattle.upc_types.specs.ViewStructs.{view_structs}
 use Rattle.typing_rules.specs.Attributes.{Facts}
 use Rattle.typed_tree.specs.Scopes.{State, with_members}
 use Rattle.upc_checker_scopes.specs.Walk.{facts_in}
-use Rattle.upc_checker_scopes.specs.Ends.{Comes}
+use Rattle.upc_checker_scopes.specs.layer.Ends.{Comes}
 use Rattle.upc_checker_scopes.specs.Known.{close_struct, members_size, size_or_more}
-use Rattle.upc_checker_scopes.specs.Views.{view_functions, view_setting, state_with}
+use Rattle.upc_checker_scopes.specs.layer.Views.{view_functions, view_setting, state_with}
 use Rattle.upc_checker_scopes.proofs.Closing.{new_struct, none_some, same_rule, closes, stops_closing}
 use Rattle.upc_checker_scopes.proofs.known.close_struct.Goals as goal
 

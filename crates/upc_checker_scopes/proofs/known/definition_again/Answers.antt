@@ -1,7 +1,7 @@
 use Rattle.std.proofs.Common.{sym, ◌∙◌}
 use Rattle.typed_tree.specs.Scopes.{is_taken, is_object, here, was_defined}
-use Rattle.typed_tree.specs.ViewEnv.{view_env}
-use Rattle.upc_checker_scopes.specs.Views.{view_setting, state_with}
+use Rattle.typed_tree.specs.layer.ViewEnv.{view_env}
+use Rattle.upc_checker_scopes.specs.layer.Views.{view_setting, state_with}
 use Rattle.upc_checker_scopes.proofs.Closing.{third}
 use Rattle.upc_checker_scopes.proofs.known.definition_again.Goals as goal
 use Rattle.upc_checker_scopes.proofs.known.definition_again.Goals.{then-is_taken, else-is_taken}

@@ -1,8 +1,8 @@
 use Rattle.std.proofs.Common.{sym, ◌∙◌}
 use Rattle.typed_tree.specs.Scopes.{is_taken, is_object, here, differs}
-use Rattle.typed_tree.specs.ViewEnv.{view_env}
-use Rattle.typing_rules.specs.Views.{view_signature}
-use Rattle.upc_checker_scopes.specs.Views.{view_setting, state_with}
+use Rattle.typed_tree.specs.layer.ViewEnv.{view_env}
+use Rattle.typing_rules.specs.layer.Views.{view_signature}
+use Rattle.upc_checker_scopes.specs.layer.Views.{view_setting, state_with}
 use Rattle.upc_checker_scopes.proofs.Closing.{third}
 use Rattle.upc_checker_scopes.proofs.known.prototype_again.Goals as goal
 use Rattle.upc_checker_scopes.proofs.known.prototype_again.Goals.{then-is_taken, else-is_taken}

@@ -2,10 +2,10 @@ use Rattle.std.proofs.Common.{◌≡◌, ℕ, List, ◌∷◌, Some, None, sym, 
 use Rattle.upc_types.specs.Types.{Structs}
 use Rattle.upc_types.specs.ViewStructs.{view_structs}
 use Rattle.typed_tree.specs.Scopes.{State, Tag, level_of, with_tag}
-use Rattle.typed_tree.specs.ViewEnv.{view_env}
+use Rattle.typed_tree.specs.layer.ViewEnv.{view_env}
 use Rattle.upc_checker_scopes.specs.Known.{tag_seen}
-use Rattle.upc_checker_scopes.specs.Views.{state_of}
-use Rattle.upc_checker_scopes.specs.ViewTags.{view_tags}
+use Rattle.upc_checker_scopes.specs.layer.Views.{state_of}
+use Rattle.upc_checker_scopes.specs.layer.ViewTags.{view_tags}
 use Rattle.upc_checker_scopes.proofs.Closing.{refers, refers_anew}
 use Rattle.upc_checker_scopes.proofs.known.refer.Goals as goal
 

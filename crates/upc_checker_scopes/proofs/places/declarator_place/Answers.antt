@@ -1,6 +1,6 @@
 use Rattle.std.proofs.Common.{rules, ap, ◌∙◌, arith}
 use Rattle.std.proofs.lemmas.Grind.{common_steps}
-use Rattle.upc_tree.specs.View.{view_declarator}
+use Rattle.upc_tree.specs.layer.View.{view_declarator}
 use Rattle.upc_tree.proofs.Rows.{object_is, function_is}
 use Rattle.upc_checker_scopes.specs.Places as pure
 use Rattle.upc_checker_scopes.proofs.places.declarator_place.Goals as goal

@@ -1,9 +1,9 @@
 use Rattle.std.proofs.Common.{◌≡◌, sym, ap, ◌∙◌}
 use Rattle.typing_rules.specs.Meanings.{Unknown}
 use Rattle.typed_tree.specs.Scopes.{find, in_library, or_library, spelling}
-use Rattle.typed_tree.specs.ViewEnv.{view_env}
-use Rattle.typing_rules.specs.Views.{view_meaning}
-use Rattle.upc_checker_scopes.specs.Views.{view_setting}
+use Rattle.typed_tree.specs.layer.ViewEnv.{view_env}
+use Rattle.typing_rules.specs.layer.Views.{view_meaning}
+use Rattle.upc_checker_scopes.specs.layer.Views.{view_setting}
 use Rattle.upc_checker_scopes.proofs.setting.meaning.Goals as goal
 
 pub returns-in-Unknown : goal.returns-in-Unknown

@@ -1,6 +1,6 @@
 use Rattle.std.proofs.Common.{◌≡◌, sym, ap, ◌∙◌, Some, None}
 use Rattle.typed_tree.specs.Scopes.{find_tag}
-use Rattle.upc_checker_scopes.specs.ViewTags.{view_own_tags, view_around}
+use Rattle.upc_checker_scopes.specs.layer.ViewTags.{view_own_tags, view_around}
 use Rattle.upc_checker_scopes.proofs.OwnTags.{found_own, missed_own}
 use Rattle.upc_checker_scopes.proofs.tags.+find_tag.Goals as goal
 

@@ -1,6 +1,6 @@
 use Rattle.std.proofs.Common.{◌≡◌, sym, ap, ◌∙◌, Some, None}
 use Rattle.typed_tree.specs.Scopes.{tag_here}
-use Rattle.upc_checker_scopes.specs.ViewTags.{view_own_tags, view_around}
+use Rattle.upc_checker_scopes.specs.layer.ViewTags.{view_own_tags, view_around}
 use Rattle.upc_checker_scopes.proofs.OwnTags.{found_here, missed_here}
 use Rattle.upc_checker_scopes.proofs.tags.+tag_here.Goals as goal
 

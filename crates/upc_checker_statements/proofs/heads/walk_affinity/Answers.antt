@@ -1,17 +1,17 @@
 use Rattle.std.proofs.Common.{Result, Ok, Err, refl}
 use Rattle.std.proofs.lemmas.Result.{err_from_is_err_and}
 use Rattle.upc_text.specs.declared.faults.Stop.{Stop}
-use Rattle.upc_tree.specs.View.{view}
+use Rattle.upc_tree.specs.layer.View.{view}
 use Rattle.typed_tree.specs.declared.tree.Affinity.{Affinity}
 use Rattle.typed_tree.specs.declared.tree.Affinity.TheVariants as variant
 use Rattle.typing_rules.specs.Nodes as n
 use Rattle.typing_rules.specs.Nodes.{view_attr}
 use Rattle.typed_tree.specs.Tree as k
-use Rattle.typed_tree.specs.ViewEnv.{view_env}
+use Rattle.typed_tree.specs.layer.ViewEnv.{view_env}
 use Rattle.typed_tree.specs.ViewStatements.{view_affinity}
 use Rattle.typed_tree.specs.ViewTree.{view_expr}
 use Rattle.upc_checker_expressions.specs.Expressions.{walk}
-use Rattle.upc_checker_scopes.specs.Views.{view_setting, state_of}
+use Rattle.upc_checker_scopes.specs.layer.Views.{view_setting, state_of}
 use Rattle.upc_checker_scopes.specs.Walk.{facts_in}
 use Rattle.upc_checker_scopes.proofs.Walks.{goes, stops}
 use Rattle.upc_checker_nodes.proofs.Judged.{judges, refuses}

@@ -1,12 +1,12 @@
 use Rattle.std.proofs.Common.{[], map, Result, None, Ok}
 use Rattle.std.proofs.lemmas.Result.{err_from_is_err_and}
 use Rattle.upc_text.specs.declared.faults.Stop.{Stop}
-use Rattle.upc_tree.specs.ViewStatement as trees
-use Rattle.typed_tree.specs.ViewEnv.{view_env}
+use Rattle.upc_tree.specs.layer.ViewStatement as trees
+use Rattle.typed_tree.specs.layer.ViewEnv.{view_env}
 use Rattle.typed_tree.specs.ViewStatements.{view_object, view_value}
 use Rattle.upc_checker_declarations.specs.Declarations as declarations
 use Rattle.upc_checker_statements.specs.Statements as pure
-use Rattle.upc_checker_scopes.specs.Views.{view_setting, state_of}
+use Rattle.upc_checker_scopes.specs.layer.Views.{view_setting, state_of}
 use Rattle.upc_checker_scopes.proofs.Walks.{goes, stops, gives}
 use Rattle.upc_checker_statements.proofs.heads.walk_first.Goals as goal
 

@@ -1,12 +1,12 @@
 use Rattle.std.proofs.lemmas.Result.{err_from_is_err_and}
-use Rattle.upc_tree.specs.View.{view}
+use Rattle.upc_tree.specs.layer.View.{view}
 use Rattle.typing_rules.specs.declared.attribute.Constant.{Constant}
 use Rattle.typing_rules.specs.Nodes as n
 use Rattle.typed_tree.specs.Tree as k
-use Rattle.typed_tree.specs.ViewEnv.{view_env}
+use Rattle.typed_tree.specs.layer.ViewEnv.{view_env}
 use Rattle.typed_tree.specs.ViewTree.{view_expr}
 use Rattle.upc_checker_expressions.specs.Expressions.{constantly, walk}
-use Rattle.upc_checker_scopes.specs.Views.{view_setting, state_of}
+use Rattle.upc_checker_scopes.specs.layer.Views.{view_setting, state_of}
 use Rattle.upc_checker_scopes.proofs.Walks.{goes, stops}
 use Rattle.upc_checker_statements.proofs.heads.walk_label.Goals as goal
 

@@ -1,13 +1,13 @@
 use Rattle.std.proofs.Common.{Option, Some, Ok}
 use Rattle.std.proofs.lemmas.Result.{err_from_is_err_and}
-use Rattle.upc_tree.specs.View.{view}
+use Rattle.upc_tree.specs.layer.View.{view}
 use Rattle.typing_rules.specs.Nodes as n
 use Rattle.typed_tree.specs.Tree as k
-use Rattle.typed_tree.specs.ViewEnv.{view_env}
+use Rattle.typed_tree.specs.layer.ViewEnv.{view_env}
 use Rattle.typed_tree.specs.ViewStatements.{view_value}
 use Rattle.typed_tree.specs.ViewTree.{view_expr}
 use Rattle.upc_checker_expressions.specs.Expressions.{walk}
-use Rattle.upc_checker_scopes.specs.Views.{view_setting, state_of}
+use Rattle.upc_checker_scopes.specs.layer.Views.{view_setting, state_of}
 use Rattle.upc_checker_scopes.proofs.Walks.{goes, stops, gives}
 use Rattle.upc_checker_statements.proofs.heads.walk_value.Goals as goal
 

@@ -9,10 +9,10 @@ use Rattle.upc_tree.specs.declared.statement.ForHead.{ForHead as ForHeadTree}
 use Rattle.upc_tree.specs.declared.statement.ForallHead.{ForallHead as ForallHeadTree}
 use Rattle.upc_tree.specs.declared.statement.Statement.{Statement as Tree}
 use Rattle.typed_tree.specs.declared.tree.Statement.{Statement}
-use Rattle.upc_checker_scopes.specs.Ends.{Comes, Meets, Stops, boxed}
-use Rattle.upc_tree.specs.Lists.{block_items_of, else_ifs_of, switch_items_of}
-use Rattle.upc_tree.specs.ViewStatement as trees
-use Rattle.upc_tree.specs.View.{view}
+use Rattle.upc_checker_scopes.specs.layer.Ends.{Comes, Meets, Stops, boxed}
+use Rattle.upc_tree.specs.layer.Lists.{block_items_of, else_ifs_of, switch_items_of}
+use Rattle.upc_tree.specs.layer.ViewStatement as trees
+use Rattle.upc_tree.specs.layer.View.{view}
 use Rattle.typing_rules.specs.Faults.{first_fault}
 use Rattle.upc_checker_nodes.specs.declared.statement_parts.Labelled.{Labelled as RustLabelled}
 use Rattle.upc_checker_expressions.specs.Expressions.{constantly, walk}
@@ -27,22 +27,22 @@ use Rattle.typing_rules.specs.Nodes.{view_attr}
 use Rattle.typed_tree.specs.Scopes.{Env, Within, inside}
 use Rattle.typed_tree.specs.Tree as k
 use Rattle.typing_rules.specs.Values.{base_kind}
-use Rattle.typed_tree.specs.ViewEnv.{view_env, with_outer}
+use Rattle.typed_tree.specs.layer.ViewEnv.{view_env, with_outer}
 use Rattle.typed_tree.specs.ViewStatements.{view_affinity, view_arms, view_head, view_item, view_items, view_last, view_object, view_statement, view_switch_items}
 use Rattle.typed_tree.specs.ViewTree.{view_expr}
-use Rattle.typing_rules.specs.Views.{view_around}
+use Rattle.typing_rules.specs.layer.Views.{view_around}
 use Rattle.typed_tree.specs.ViewStatements.{attr_tested}
 use Rattle.upc_checker_declarations.specs.Declarations as declarations
 use Rattle.upc_checker_declarations.specs.Declarations.{Behind}
 use Rattle.upc_checker_statements.specs.Statements as pure
 use Rattle.upc_checker_statements.specs.Statements.{Armed, Headed, Labelled}
-use Rattle.upc_checker_scopes.specs.Views.{view_setting, state_of, state_with}
-use Rattle.upc_checker_scopes.specs.ViewTags.{view_tags}
+use Rattle.upc_checker_scopes.specs.layer.Views.{view_setting, state_of, state_with}
+use Rattle.upc_checker_scopes.specs.layer.ViewTags.{view_tags}
 use Rattle.upc_checker_scopes.specs.Walk.{Walk, andthen, enclosed, give, judge}
 use Rattle.upc_checker_scopes.proofs.Walks.{goes, stops, gives}
 use Rattle.upc_checker_scopes.proofs.Turns.{IsLeft, behind, goes_by, stops_by, list_begins, list_stops, list_done}
 use Rattle.upc_checker_statements.proofs.StatementTurns.{labelled_end, labelled_nothing, left_grouped, left_same, more_of_if, arm_pushed, armed_behind, arms_behind, case_pushed, default_pushed, labelled_behind, statement_pushed, items_behind, left_goes, left_rest, one_more, encloses_part, scoped_is}
-use Rattle.upc_checker_statements.specs.Parts.{scoped_part}
+use Rattle.upc_checker_statements.specs.code.Parts.{scoped_part}
 use denote.Param.Weighed.{most}
 use Rattle.upc_tree.proofs.statement.ElseIf.TheLaws as else_if
 use Rattle.upc_tree.proofs.statement.Statement.TheLaws as statement

@@ -1,17 +1,17 @@
 use Rattle.std.proofs.Common.{map, drop}
-use Rattle.upc_tree.specs.Lists.{block_items_of, else_ifs_of, switch_items_of}
-use Rattle.upc_tree.specs.ViewStatement.{view_block_item, view_else_if, view_switch_item}
+use Rattle.upc_tree.specs.layer.Lists.{block_items_of, else_ifs_of, switch_items_of}
+use Rattle.upc_tree.specs.layer.ViewStatement.{view_block_item, view_else_if, view_switch_item}
 use Rattle.typing_rules.specs.Attributes.{base}
 use Rattle.typing_rules.specs.Nodes.{view_attr}
 use Rattle.typed_tree.specs.Scopes.{Env}
 use Rattle.typing_rules.specs.Values.{base_kind}
-use Rattle.typed_tree.specs.ViewEnv.{view_env}
+use Rattle.typed_tree.specs.layer.ViewEnv.{view_env}
 use Rattle.typed_tree.specs.ViewStatements.{view_item, view_statement}
 use Rattle.typed_tree.specs.ViewTree.{view_expr}
-use Rattle.typing_rules.specs.Views.{view_around}
+use Rattle.typing_rules.specs.layer.Views.{view_around}
 use Rattle.upc_checker_statements.specs.Statements as pure
 use Rattle.upc_checker_statements.specs.Statements.{Armed}
-use Rattle.upc_checker_scopes.specs.Views.{view_setting, state_of}
+use Rattle.upc_checker_scopes.specs.layer.Views.{view_setting, state_of}
 use Rattle.upc_checker_scopes.specs.Walk.{andthen, give}
 use Rattle.upc_checker_scopes.proofs.Turns.{IsLeft, behind}
 use Rattle.upc_checker_statements.proofs.StatementTurns.{armed_behind, labelled_behind}

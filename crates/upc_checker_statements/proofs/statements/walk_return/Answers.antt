@@ -1,12 +1,12 @@
 use Rattle.std.proofs.lemmas.Result.{err_from_is_err_and}
-use Rattle.upc_tree.specs.ViewStatement as trees
+use Rattle.upc_tree.specs.layer.ViewStatement as trees
 use Rattle.typed_tree.specs.Tree as k
-use Rattle.typed_tree.specs.ViewEnv.{view_env}
+use Rattle.typed_tree.specs.layer.ViewEnv.{view_env}
 use Rattle.typed_tree.specs.ViewStatements.{view_statement, view_value}
-use Rattle.typing_rules.specs.Views.{view_around}
+use Rattle.typing_rules.specs.layer.Views.{view_around}
 use Rattle.upc_checker_statements.specs.Statements as pure
-use Rattle.upc_checker_scopes.specs.Ends.{boxed}
-use Rattle.upc_checker_scopes.specs.Views.{view_setting, state_of}
+use Rattle.upc_checker_scopes.specs.layer.Ends.{boxed}
+use Rattle.upc_checker_scopes.specs.layer.Views.{view_setting, state_of}
 use Rattle.upc_checker_scopes.proofs.Walks.{goes, stops}
 use Rattle.upc_checker_statements.proofs.statements.walk_return.Goals as goal
 

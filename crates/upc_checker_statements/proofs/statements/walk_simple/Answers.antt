@@ -1,5 +1,5 @@
 use Rattle.std.proofs.Common.{refl, sym}
-use Rattle.upc_checker_scopes.specs.Views.{view_setting, state_of}
+use Rattle.upc_checker_scopes.specs.layer.Views.{view_setting, state_of}
 use Rattle.upc_checker_statements.proofs.statements.walk_simple.Goals as goal
 
 pub returns-in-Expression : goal.returns-in-Expression

@@ -1,6 +1,6 @@
 use Rattle.std.proofs.Common.{◌≡◌, drop, map}
 use Rattle.upc_checker_types.specs.Specifiers as pure
-use Rattle.upc_checker_types.specs.ViewWords.{view_row}
+use Rattle.upc_checker_types.specs.code.ViewWords.{view_row}
 use Rattle.upc_checker_types.proofs.words.base_among.Given as goal
 
 -- what is left decides

@@ -1,6 +1,6 @@
 use Rattle.std.proofs.Common.{◌-◌, ℕ, List, ◌++◌, length, take, drop, ap, ◌∙◌, subst, arith, length-drop, length-take}
 use Rattle.upc_lexer.specs.Places.{place_after}
-use Rattle.upc_lexer.specs.Steps.{Steps}
+use Rattle.upc_lexer.specs.layer.Steps.{Steps}
 use Rattle.upc_lexer.proofs.Lists.{rest_is}
 use Rattle.upc_lexer.proofs.CutLemmas.{cut_more, column_few}
 use Rattle.upc_lexer.proofs.Fitting.{cut_fits}

@@ -1,5 +1,5 @@
 use Rattle.std.proofs.Common.{◌-◌, length}
-use Rattle.upc_lexer.specs.Steps.{IsCutTo}
+use Rattle.upc_lexer.specs.layer.Steps.{IsCutTo}
 use Rattle.upc_lexer.proofs.lexing.lex.Given as goal
 
 abbrev pub invariant-loop-at : goal.invariant-loop-at

@@ -1,5 +1,5 @@
 use Rattle.std.proofs.Common.{IfOk, subst}
-use Rattle.upc_lexer.specs.Found.{Finds}
+use Rattle.upc_lexer.specs.code.Found.{Finds}
 use Rattle.upc_lexer.specs.declared.lexemes.Found.TheVariants.{Name, Token}
 use Rattle.upc_lexer.proofs.FoundLemmas.{took_name, took_token}
 use Rattle.upc_lexer.proofs.lexing.take_token.Goals as goal

@@ -1,6 +1,6 @@
 use Rattle.std.proofs.Common.{◌≡◌, ◌++◌, length, All}
 use Rattle.upc_values.specs.Printing.{printed}
-use Rattle.upc_library.specs.Printing.{IsNear}
+use Rattle.upc_library.specs.code.Printing.{IsNear}
 use Rattle.upc_library.proofs.printing.print_text.Given as goal
 
 abbrev pub decreases-loop-found : goal.decreases-loop-found

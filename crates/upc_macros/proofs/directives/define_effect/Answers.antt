@@ -1,6 +1,6 @@
 use Rattle.std.proofs.Common.{◌+◌, ◌<◌, Some, None, ◌∙◌, ap, sym, subst, length, get_or, arith}
 use Rattle.upc_macros.specs.Directives.{define_name}
-use Rattle.upc_macros.specs.Table.{seen, IsWithin, body_tokens}
+use Rattle.upc_macros.specs.code.Table.{seen, IsWithin, body_tokens}
 use Rattle.upc_macros.proofs.Tables.{found_at}
 use Rattle.upc_macros.proofs.DirectiveLemmas.{part_first, define_parameters, define_none, define_some, at_index, macro_below}
 use Rattle.upc_macros.proofs.directives.define_effect.Goals as goal

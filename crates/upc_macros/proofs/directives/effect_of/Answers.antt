@@ -1,5 +1,5 @@
 use Rattle.std.proofs.Common.{◌+◌, ◌<◌, length, ◌∙◌, arith}
-use Rattle.upc_macros.specs.Table.{seen}
+use Rattle.upc_macros.specs.code.Table.{seen}
 use Rattle.upc_macros.proofs.DirectiveLemmas.{slice_ordered, part_first, effect_include, effect_define, effect_undef, effect_pragma, effect_none}
 use Rattle.upc_macros.proofs.directives.effect_of.Goals as goal
 

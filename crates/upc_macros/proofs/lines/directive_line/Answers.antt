@@ -1,9 +1,9 @@
 use Rattle.std.proofs.Common.{OnOk, List, Some, None, true, false, length, refl, ap, subst, arith}
 use Rattle.std.proofs.lemmas.Bool.{true≢false}
 use Rattle.upc_macros.specs.declared.directives.Effect.TheVariants.{Pragma, Define, Undefine}
-use Rattle.upc_macros.specs.Effects.{IsChange}
+use Rattle.upc_macros.specs.code.Effects.{IsChange}
 use Rattle.upc_macros.specs.Expansion.{Item}
-use Rattle.upc_macros.specs.Table.{Takes}
+use Rattle.upc_macros.specs.code.Table.{Takes}
 use Rattle.upc_macros.proofs.LineLemmas.{effect_is, pragma_items, define_macros, undefine_macros}
 use Rattle.upc_macros.proofs.Tables.{back_bodies, taken_bodies}
 use Rattle.upc_macros.proofs.KnownLemmas.{forgotten, known_taken}

@@ -7,7 +7,7 @@ use Rattle.upc_lexer.specs.declared.token.Token.{Token}
 use Rattle.upc_lexer.specs.Numbers.{NumbersFit}
 use Rattle.upc_lexer.proofs.Fitting.{numbers_fit}
 use Rattle.upc_macros.specs.Expansion.{lines_of, StopsExpansion}
-use Rattle.upc_macros.specs.Lines.{LineDone, LineStops}
+use Rattle.upc_macros.specs.code.Lines.{LineDone, LineStops}
 use Rattle.upc_macros.proofs.Order.{tokens_in_order}
 use Rattle.upc_macros.proofs.DirectiveLemmas.{rest_is}
 use Rattle.upc_macros.proofs.KnownLemmas.{none_known}

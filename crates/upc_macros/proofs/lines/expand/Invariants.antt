@@ -1,6 +1,6 @@
 use Rattle.std.proofs.Common.{◌-◌, ◌≤◌, length}
-use Rattle.upc_macros.specs.Lines.{IsExpandedTo}
-use Rattle.upc_macros.specs.Known.{AreKnown}
+use Rattle.upc_macros.specs.code.Lines.{IsExpandedTo}
+use Rattle.upc_macros.specs.code.Known.{AreKnown}
 use Rattle.upc_macros.proofs.lines.expand.Given as goal
 
 abbrev pub invariant-loop-at : goal.invariant-loop-at

@@ -1,9 +1,9 @@
 use Rattle.std.proofs.Common.{length, sym, ◌∙◌, subst}
 use Rattle.std.proofs.lemmas.Result.{err_from_is_err_and}
 use Rattle.upc_macros.specs.Replacing.{replaced}
-use Rattle.upc_macros.specs.Table.{seen, Takes, StopsIn}
-use Rattle.upc_macros.specs.Walk.{placed_items}
-use Rattle.upc_macros.specs.Known.{AreKnown}
+use Rattle.upc_macros.specs.code.Table.{seen, Takes, StopsIn}
+use Rattle.upc_macros.specs.code.Walk.{placed_items}
+use Rattle.upc_macros.specs.code.Known.{AreKnown}
 use Rattle.upc_macros.proofs.TextLemmas.{text_more, text_stops, text_hash}
 use Rattle.upc_macros.proofs.lines.text_line.Goals as goal
 

@@ -1,7 +1,7 @@
 use Rattle.std.proofs.Common.{◌≡◌, take}
 use Rattle.upc_macros.specs.Expansion.{text_items}
-use Rattle.upc_macros.specs.Table.{seen, Takes}
-use Rattle.upc_macros.specs.Known.{AreKnown}
+use Rattle.upc_macros.specs.code.Table.{seen, Takes}
+use Rattle.upc_macros.specs.code.Known.{AreKnown}
 use Rattle.upc_macros.proofs.lines.text_line.Given as goal
 
 abbrev pub invariant-loop-token : goal.invariant-loop-token

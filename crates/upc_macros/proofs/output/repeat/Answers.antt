@@ -1,6 +1,6 @@
 use Rattle.std.proofs.Common.{◌+◌, ◌<◌, length, subst, arith}
 use Rattle.std.proofs.lemmas.Result.{err_from_is_err_and}
-use Rattle.upc_macros.specs.Table.{Takes, StopsIn}
+use Rattle.upc_macros.specs.code.Table.{Takes, StopsIn}
 use Rattle.upc_macros.proofs.RepeatLemmas.{one_given, repeat_more, repeat_stops}
 use Rattle.upc_macros.proofs.output.repeat.Goals as goal
 

@@ -1,6 +1,6 @@
 use Rattle.std.proofs.Common.{take, drop}
-use Rattle.upc_macros.specs.Table.{Takes}
-use Rattle.upc_macros.specs.Walk.{placed_items}
+use Rattle.upc_macros.specs.code.Table.{Takes}
+use Rattle.upc_macros.specs.code.Walk.{placed_items}
 use Rattle.upc_macros.proofs.output.repeat.Given as goal
 
 abbrev pub invariant-loop-index : goal.invariant-loop-index

@@ -2,9 +2,9 @@ use Rattle.std.proofs.Common.{[], ◌∷◌, Some, None, OnOk, IfErr, length, se
 use Rattle.std.proofs.lemmas.Option.{slice_get_within}
 use Rattle.std.proofs.lemmas.Result.{on_ok_weaker}
 use Rattle.upc_macros.specs.Expansion.{given}
-use Rattle.upc_macros.specs.Table.{Takes, StopsIn}
-use Rattle.upc_macros.specs.Walk.{placed_items}
-use Rattle.upc_macros.specs.Known.{AreKnown}
+use Rattle.upc_macros.specs.code.Table.{Takes, StopsIn}
+use Rattle.upc_macros.specs.code.Walk.{placed_items}
+use Rattle.upc_macros.specs.code.Known.{AreKnown}
 use Rattle.upc_macros.proofs.Tables.{set-back, taken_bodies}
 use Rattle.upc_macros.proofs.ListeningLemmas.{get_same}
 use Rattle.upc_macros.proofs.KnownLemmas.{known_gift, known_taken}

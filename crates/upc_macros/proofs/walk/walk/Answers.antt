@@ -3,9 +3,9 @@ use Rattle.std.proofs.Math.ListN.{length-set}
 use Rattle.std.specs.Prelude.{reverse}
 use Rattle.std.proofs.lemmas.Result.{err_from_is_err_and}
 use Rattle.upc_macros.specs.Replacing.{placed, plain, replaced}
-use Rattle.upc_macros.specs.Table.{seen, IsNumbered, Takes, StopsIn}
-use Rattle.upc_macros.specs.Walk.{placed_items, pending, put_back, IsWalk}
-use Rattle.upc_macros.specs.Known.{is_defined, IsListening, AreBegun}
+use Rattle.upc_macros.specs.code.Table.{seen, IsNumbered, Takes, StopsIn}
+use Rattle.upc_macros.specs.code.Walk.{placed_items, pending, put_back, IsWalk}
+use Rattle.upc_macros.specs.code.Known.{is_defined, IsListening, AreBegun}
 use Rattle.upc_macros.proofs.Tables.{names_none}
 use Rattle.upc_macros.proofs.WalkLemmas.{next_frame, start, replaced_plain, step_next, work_next, step_enter, work_enter, step_leave, finish, stop_next, one_more, no_fewer, deeper, shallower, reverse-push, name_within}
 use Rattle.upc_macros.proofs.ListeningLemmas.{listen_free, listen_put, listen_enter, listen_leave, listen_start}

@@ -1,7 +1,7 @@
 use Rattle.std.proofs.Common.{◌-◌, ◌≡◌, [], ◌∷◌, length, suc}
 use Rattle.std.specs.Prelude.{reverse}
-use Rattle.upc_macros.specs.Walk.{pending, put_back, IsWalk}
-use Rattle.upc_macros.specs.Known.{AreKnown, IsListening, AreBegun}
+use Rattle.upc_macros.specs.code.Walk.{pending, put_back, IsWalk}
+use Rattle.upc_macros.specs.code.Known.{AreKnown, IsListening, AreBegun}
 use Rattle.upc_macros.proofs.WalkLemmas.{work}
 use Rattle.upc_macros.proofs.walk.walk.Given as goal
 

@@ -1,7 +1,7 @@
 use Rattle.std.proofs.Common.{List, subst, sym}
 use Rattle.block_layout.specs.declared.kind.Shape.{Shape}
 use Rattle.block_layout.specs.Shapes.{IsShape}
-use Rattle.shared_pointers.specs.Ranges.{IsThreads}
+use Rattle.shared_pointers.specs.layer.Ranges.{IsThreads}
 use Rattle.upc_values.specs.Lists.{Each}
 use Rattle.typed_tree.specs.Beginnings.{view_beginning}
 use Rattle.upc_meaning_work.proofs.Programs.{shapes_fit}

@@ -1,5 +1,5 @@
 use Rattle.std.proofs.Common.{rules}
-use Rattle.thread_steps.specs.Ranges.{IsHeld}
+use Rattle.thread_steps.specs.layer.Ranges.{IsHeld}
 use Rattle.upc_meaning_state.proofs.operations.difference_on.Goals as goal
 
 pub difference-requires-clause-later : goal.difference-requires-clause-later

@@ -1,5 +1,5 @@
 use Rattle.std.proofs.Common.{rules}
-use Rattle.thread_steps.specs.Ranges.{IsHeld}
+use Rattle.thread_steps.specs.layer.Ranges.{IsHeld}
 use Rattle.upc_meaning_state.specs.code.Runners.{thread_seen}
 use Rattle.upc_meaning_state.proofs.operations.member_on.Goals as goal
 

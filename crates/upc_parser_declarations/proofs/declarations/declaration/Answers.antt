@@ -1,6 +1,6 @@
 use Rattle.std.proofs.Common.{◌≡◌, ap, arith}
 use Rattle.upc_parser_ground.proofs.Turns.{deeper}
-use Rattle.upc_parser_declarations.specs.Parse.{declaration_at}
+use Rattle.upc_parser_declarations.specs.layer.Parse.{declaration_at}
 use Rattle.upc_parser_declarations.proofs.declarations.declaration.Goals as goal
 
 pub returns-then-height-eq0 : goal.returns-then-height-eq0

@@ -1,10 +1,10 @@
 use Rattle.std.proofs.Common.{rules}
 use Rattle.upc_lexer.specs.declared.token.Punct.TheVariants as p
-use Rattle.upc_tree.specs.Lists.{next_declareds_of}
-use Rattle.upc_tree.specs.ViewStatement.{view_next_declared}
-use Rattle.upc_parser_ground.specs.Outcome.{starts, is_punct}
+use Rattle.upc_tree.specs.layer.Lists.{next_declareds_of}
+use Rattle.upc_tree.specs.layer.ViewStatement.{view_next_declared}
+use Rattle.upc_parser_ground.specs.layer.Outcome.{starts, is_punct}
 use Rattle.upc_parser_ground.proofs.Ran.{ran_listed}
-use Rattle.upc_parser_declarations.specs.Parse.{next_declareds, next_declared}
+use Rattle.upc_parser_declarations.specs.layer.Parse.{next_declareds, next_declared}
 use Rattle.upc_parser_declarations.proofs.declarations.next_declareds.Goals as goal
 
 pub returns : goal.returns

@@ -1,8 +1,8 @@
 use Rattle.std.proofs.Common.{rules}
-use Rattle.upc_parser_ground.specs.Outcome.{starts}
-use Rattle.upc_parser_ground.specs.Ahead.{is_pragma}
+use Rattle.upc_parser_ground.specs.layer.Outcome.{starts}
+use Rattle.upc_parser_ground.specs.layer.Ahead.{is_pragma}
 use Rattle.upc_parser_ground.proofs.Ran.{ran_same}
-use Rattle.upc_parser_declarations.specs.Parse.{pragma, pragmas}
+use Rattle.upc_parser_declarations.specs.layer.Parse.{pragma, pragmas}
 use Rattle.upc_parser_declarations.proofs.heads.pragmas.Goals as goal
 
 pub returns : goal.returns

@@ -1,8 +1,8 @@
 use Rattle.std.proofs.Common.{rules}
-use Rattle.upc_parser_ground.specs.Outcome.{starts}
-use Rattle.upc_parser_ground.specs.Tables.{is_string}
-use Rattle.upc_parser_ground.specs.Outcome.{string}
-use Rattle.upc_parser_types.specs.Expression.{strings}
+use Rattle.upc_parser_ground.specs.layer.Outcome.{starts}
+use Rattle.upc_parser_ground.specs.layer.Tables.{is_string}
+use Rattle.upc_parser_ground.specs.layer.Outcome.{string}
+use Rattle.upc_parser_types.specs.layer.Expression.{strings}
 use Rattle.upc_parser_ground.proofs.Ran.{ran_same}
 use Rattle.upc_parser_expressions.proofs.expression.strings.Goals as goal
 

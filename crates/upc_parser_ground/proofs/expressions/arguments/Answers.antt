@@ -1,4 +1,4 @@
-use Rattle.upc_tree.specs.View.{view_arguments}
+use Rattle.upc_tree.specs.layer.View.{view_arguments}
 use Rattle.upc_tree.proofs.Rows.{filled_is}
 use Rattle.upc_parser_ground.proofs.Seen.{seen}
 use Rattle.upc_parser_ground.proofs.expressions.arguments.Goals as goal

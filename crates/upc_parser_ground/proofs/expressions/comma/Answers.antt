@@ -1,4 +1,4 @@
-use Rattle.upc_tree.specs.View.{view}
+use Rattle.upc_tree.specs.layer.View.{view}
 use Rattle.upc_tree.proofs.Rows.{comma_is}
 use Rattle.upc_parser_ground.proofs.Seen.{seen}
 use Rattle.upc_parser_ground.proofs.expressions.comma.Goals as goal

@@ -1,4 +1,4 @@
-use Rattle.upc_tree.specs.View.{view_declarator}
+use Rattle.upc_tree.specs.layer.View.{view_declarator}
 use Rattle.upc_tree.proofs.Rows.{function_is}
 use Rattle.upc_parser_ground.proofs.Seen.{seen}
 use Rattle.upc_parser_ground.proofs.expressions.function.Goals as goal

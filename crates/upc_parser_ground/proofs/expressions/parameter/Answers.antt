@@ -1,4 +1,4 @@
-use Rattle.upc_tree.specs.View.{view_parameter}
+use Rattle.upc_tree.specs.layer.View.{view_parameter}
 use Rattle.upc_parser_ground.proofs.Seen.{seen}
 use Rattle.upc_parser_ground.proofs.Rolled.{parametric_is}
 use Rattle.upc_parser_ground.proofs.expressions.parameter.Goals as goal

@@ -1,4 +1,4 @@
-use Rattle.upc_tree.specs.View.{view_parameters}
+use Rattle.upc_tree.specs.layer.View.{view_parameters}
 use Rattle.upc_tree.proofs.Rows.{parameters_is}
 use Rattle.upc_parser_ground.proofs.Seen.{seen}
 use Rattle.upc_parser_ground.proofs.expressions.parameters.Goals as goal

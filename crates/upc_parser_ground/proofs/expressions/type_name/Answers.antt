@@ -1,4 +1,4 @@
-use Rattle.upc_tree.specs.View.{view_type}
+use Rattle.upc_tree.specs.layer.View.{view_type}
 use Rattle.upc_parser_ground.proofs.Seen.{seen}
 use Rattle.upc_parser_ground.proofs.Rolled.{typed_is}
 use Rattle.upc_parser_ground.proofs.expressions.type_name.Goals as goal

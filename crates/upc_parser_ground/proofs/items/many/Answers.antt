@@ -1,6 +1,6 @@
 use Rattle.std.proofs.Common.{◌≡◌, ◌∙◌, true, sym, refl, arith}
 use Rattle.std.proofs.lemmas.Result.{err_from_is_err_and}
-use Rattle.upc_parser_ground.specs.Ahead.{shows}
+use Rattle.upc_parser_ground.specs.layer.Ahead.{shows}
 use Rattle.upc_parser_ground.proofs.Ran.{nothing, one_more, fell}
 use Rattle.upc_parser_ground.proofs.items.many.Goals as goal
 

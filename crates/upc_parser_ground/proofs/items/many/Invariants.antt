@@ -1,6 +1,6 @@
 use Rattle.std.proofs.Common.{◌≡◌, length}
-use Rattle.upc_parser_ground.specs.Ahead.{shows}
-use Rattle.upc_parser_ground.specs.Run.{Steps}
+use Rattle.upc_parser_ground.specs.layer.Ahead.{shows}
+use Rattle.upc_parser_ground.specs.layer.Run.{Steps}
 use Rattle.upc_parser_ground.proofs.items.many.Given as goal
 
 abbrev pub invariant-loop-turn : goal.invariant-loop-turn

@@ -1,4 +1,4 @@
-use Rattle.upc_tree.specs.ViewStatement.{view_statement}
+use Rattle.upc_tree.specs.layer.ViewStatement.{view_statement}
 use Rattle.upc_tree.proofs.StatementRows.{if_is}
 use Rattle.upc_parser_ground.proofs.Seen.{seen}
 use Rattle.upc_parser_ground.proofs.statements.if_statement.Goals as goal

@@ -1,6 +1,6 @@
 use Rattle.std.proofs.Common.{◌≡◌, ap, arith}
 use Rattle.upc_parser_ground.proofs.Turns.{deeper}
-use Rattle.upc_parser_statements.specs.Parse.{statements_at}
+use Rattle.upc_parser_statements.specs.layer.Parse.{statements_at}
 use Rattle.upc_parser_statements.proofs.knot.compound.Goals as goal
 
 pub returns-then-height-eq0 : goal.returns-then-height-eq0

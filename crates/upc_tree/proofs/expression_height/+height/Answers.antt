@@ -1,8 +1,8 @@
 use Rattle.std.proofs.Common.{ap, ◌∙◌, rules, arith}
 use Rattle.std.proofs.lemmas.Grind.{common_steps}
 use Rattle.upc_tree.specs.Expression.{height, height_arguments, height_type, height_spec, height_declarator, height_parameters, height_parameter}
-use Rattle.upc_tree.specs.Lists.{height_member}
-use Rattle.upc_tree.specs.View.{view, view_arguments, view_spec, view_declarator, view_parameters}
+use Rattle.upc_tree.specs.layer.Lists.{height_member}
+use Rattle.upc_tree.specs.layer.View.{view, view_arguments, view_spec, view_declarator, view_parameters}
 use Rattle.upc_tree.proofs.Rows.{comma_is, filled_is, type_is, struct_is, member_is, object_is, function_is, parameters_is, parameter_is}
 use Rattle.upc_tree.proofs.expression_height.+height.Goals as goal
 

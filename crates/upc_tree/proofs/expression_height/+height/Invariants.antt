@@ -1,7 +1,7 @@
 use Rattle.std.proofs.Common.{◌≡◌, max, map, drop}
 use Rattle.upc_tree.specs.Expression.{height_next_exprs, height_specs, height_quals, height_pointers, height_dimensions, height_members, height_next_declarators, height_next_parameters}
-use Rattle.upc_tree.specs.Lists.{capped, next_exprs_of, specs_of, quals_of, pointers_of, dimensions_of, members_of, next_declarators_of, next_parameters_of}
-use Rattle.upc_tree.specs.View.{view_next_expr, view_spec, view_qual, view_pointer, view_dimension, view_member, view_next_declarator, view_next_parameter}
+use Rattle.upc_tree.specs.layer.Lists.{capped, next_exprs_of, specs_of, quals_of, pointers_of, dimensions_of, members_of, next_declarators_of, next_parameters_of}
+use Rattle.upc_tree.specs.layer.View.{view_next_expr, view_spec, view_qual, view_pointer, view_dimension, view_member, view_next_declarator, view_next_parameter}
 use Rattle.upc_tree.proofs.expression_height.+height.Given as goal
 
 abbrev pub invariant-declarators_height-loop-part : goal.invariant-declarators_height-loop-part

@@ -1,8 +1,8 @@
 use Rattle.std.proofs.Common.{ap, ◌∙◌, rules, arith}
 use Rattle.std.proofs.lemmas.Grind.{common_steps}
 use Rattle.upc_tree.specs.Expression.{spell, spell_arguments, spell_type, spell_spec, spell_declarator, spell_parameters, spell_parameter}
-use Rattle.upc_tree.specs.Lists.{spell_member}
-use Rattle.upc_tree.specs.View.{view, view_arguments, view_spec, view_declarator, view_parameters}
+use Rattle.upc_tree.specs.layer.Lists.{spell_member}
+use Rattle.upc_tree.specs.layer.View.{view, view_arguments, view_spec, view_declarator, view_parameters}
 use Rattle.upc_tree.proofs.Rows.{comma_is, filled_is, type_is, struct_is, member_is, object_is, function_is, parameters_is, parameter_is}
 use Rattle.upc_tree_tokens.proofs.expressions.+put.Goals as goal
 

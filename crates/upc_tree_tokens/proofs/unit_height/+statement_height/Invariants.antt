@@ -1,7 +1,7 @@
 use Rattle.std.proofs.Common.{◌≡◌, max, map, drop}
 use Rattle.upc_tree.specs.Statement.{height_block_items, height_switch_items, height_else_ifs}
-use Rattle.upc_tree.specs.Lists.{capped, block_items_of, switch_items_of, else_ifs_of}
-use Rattle.upc_tree.specs.ViewStatement.{view_block_item, view_switch_item, view_else_if}
+use Rattle.upc_tree.specs.layer.Lists.{capped, block_items_of, switch_items_of, else_ifs_of}
+use Rattle.upc_tree.specs.layer.ViewStatement.{view_block_item, view_switch_item, view_else_if}
 use Rattle.upc_tree_tokens.proofs.unit_height.+statement_height.Given as goal
 
 abbrev pub invariant-items_height-loop-part : goal.invariant-items_height-loop-part

@@ -1,7 +1,7 @@
 use Rattle.std.proofs.Common.{◌≡◌, max, map, drop}
 use Rattle.upc_tree.specs.Declaration.{height_next_declareds}
-use Rattle.upc_tree.specs.Lists.{capped, next_declareds_of}
-use Rattle.upc_tree.specs.ViewStatement.{view_next_declared}
+use Rattle.upc_tree.specs.layer.Lists.{capped, next_declareds_of}
+use Rattle.upc_tree.specs.layer.ViewStatement.{view_next_declared}
 use Rattle.upc_tree_tokens.proofs.unit_height.next_declareds_height.Given as goal
 
 abbrev pub invariant-loop-part : goal.invariant-loop-part

@@ -1,7 +1,7 @@
 use Rattle.std.proofs.Common.{ap, ◌∙◌, rules, arith}
 use Rattle.std.proofs.lemmas.Grind.{common_steps}
 use Rattle.upc_tree.specs.Statement.{spell_statement}
-use Rattle.upc_tree.specs.ViewStatement.{view_statement}
+use Rattle.upc_tree.specs.layer.ViewStatement.{view_statement}
 use Rattle.upc_tree.proofs.StatementRows.{compound_is, if_is, switch_is}
 use Rattle.upc_tree_tokens.proofs.unit_tokens.+put_statement.Goals as goal
 

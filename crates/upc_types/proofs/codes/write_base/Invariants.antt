@@ -1,5 +1,5 @@
 use Rattle.std.proofs.Common.{◌≡◌}
-use Rattle.upc_types.specs.TypeCodes.{with_base}
+use Rattle.upc_types.specs.code.TypeCodes.{with_base}
 use Rattle.upc_types.specs.View.{view_base}
 use Rattle.upc_types.proofs.codes.write_base.Given as goal
 

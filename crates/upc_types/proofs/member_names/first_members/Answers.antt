@@ -2,7 +2,7 @@ use Rattle.std.proofs.Common.{ℕ, nat_eq, if◌then◌else◌, List, map, take,
 use Rattle.std.proofs.lemmas.List.{take_all}
 use Rattle.std.specs.Cmp.Lexicographic.{pointwise}
 use Rattle.upc_types.specs.View.{view_member}
-use Rattle.upc_types.specs.Named.{first_named, first_or}
+use Rattle.upc_types.specs.layer.Named.{first_named, first_or}
 use Rattle.upc_types.proofs.Naming.{first_step}
 use Rattle.upc_types.proofs.member_names.first_members.Goals as goal
 

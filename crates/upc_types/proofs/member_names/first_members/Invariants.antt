@@ -1,5 +1,5 @@
 use Rattle.std.proofs.Common.{◌≡◌, ℕ, List, map, take}
-use Rattle.upc_types.specs.Named.{at_name, first_named}
+use Rattle.upc_types.specs.layer.Named.{at_name, first_named}
 use Rattle.upc_types.specs.View.{view_member}
 use Rattle.upc_types.proofs.member_names.first_members.Given as goal
 

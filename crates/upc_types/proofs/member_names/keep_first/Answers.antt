@@ -1,6 +1,6 @@
 use Rattle.std.proofs.Common.{nat_eq, if◌then◌else◌, Some, sym, ap, ◌∙◌}
 use Rattle.std.specs.Cmp.Lexicographic.{pointwise}
-use Rattle.upc_types.specs.Named.{at_name}
+use Rattle.upc_types.specs.layer.Named.{at_name}
 use Rattle.upc_types.proofs.Naming.{put, stays, comes}
 use Rattle.upc_types.proofs.member_names.keep_first.Goals as goal
 

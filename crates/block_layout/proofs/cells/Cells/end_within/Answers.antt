@@ -1,6 +1,6 @@
 use Rattle.std.proofs.Common.{◌≤◌, subst, arith}
 use Rattle.std.proofs.lemmas.Bool.{leb-true}
-use Rattle.block_layout.specs.Runs.{runs_cells}
+use Rattle.block_layout.specs.code.Runs.{runs_cells}
 use Rattle.block_layout.specs.Shapes.{CellsWithin}
 use Rattle.block_layout.proofs.Within.{append_within, wider_within}
 use Rattle.block_layout.proofs.cells.Cells.end_within.Goals as goal

@@ -1,7 +1,7 @@
 use Rattle.std.proofs.Common.{sym, ◌∙◌, subst}
 use Rattle.std.proofs.lemmas.Result.{on_ok_weaker}
 use Rattle.block_layout.specs.Moved.{moved}
-use Rattle.block_layout.specs.Runs.{AreNear, runs_cells}
+use Rattle.block_layout.specs.code.Runs.{AreNear, runs_cells}
 use Rattle.block_layout.specs.Shapes.{CellsWithin}
 use Rattle.block_layout.proofs.Within.{within_right}
 use Rattle.block_layout.proofs.RunLists.{part_pushed, runs_near}

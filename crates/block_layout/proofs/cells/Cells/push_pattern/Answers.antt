@@ -1,6 +1,6 @@
 use Rattle.std.proofs.Common.{rules, ◌≡◌, ◌++◌, length, ap, ◌∙◌}
 use Rattle.std.proofs.lemmas.Result.{on_ok_weaker}
-use Rattle.block_layout.specs.Runs.{run_cells}
+use Rattle.block_layout.specs.code.Runs.{run_cells}
 use Rattle.block_layout.proofs.RunLists.{runs_behind, no_copy, no_cell}
 use Rattle.block_layout.proofs.cells.Cells.push_pattern.Goals as goal
 use Rattle.block_layout.proofs.cells.Cells.push_pattern.Goals.{then-count-eq0-via-then-count-eq0, then-count-eq0-via-else-count-eq0+then-is_empty}

@@ -1,6 +1,6 @@
 use Rattle.std.proofs.Common.{◌≡◌, false, ◌&&◌, slice_index_or, sym, ◌∙◌, arith}
 use Rattle.block_layout.specs.declared.kind.Kind.TheVariants.{Char}
-use Rattle.block_layout.specs.Runs.{hits}
+use Rattle.block_layout.specs.code.Runs.{hits}
 use Rattle.block_layout.specs.Shapes.{same_kind}
 use Rattle.block_layout.proofs.Found.{any_next, no_left, no_right, run_has_at, run_has_none}
 use Rattle.block_layout.proofs.run.Run.has.Goals as goal

@@ -1,6 +1,6 @@
 use Rattle.std.proofs.Common.{◌≡◌, ◌&&◌, drop}
 use Rattle.std.specs.List.{list_any}
-use Rattle.block_layout.specs.Runs.{hits}
+use Rattle.block_layout.specs.code.Runs.{hits}
 use Rattle.block_layout.specs.Shapes.{same_kind}
 use Rattle.block_layout.proofs.run.Run.has.Given as goal
 

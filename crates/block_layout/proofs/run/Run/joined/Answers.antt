@@ -1,6 +1,6 @@
 use Rattle.std.proofs.Common.{◌≡◌, ◌+◌, ◌++◌, sym, ap, ◌∙◌, subst}
 use Rattle.std.specs.Arc.{arc_value}
-use Rattle.block_layout.specs.Runs.{Repeated, repeated, run_cells, GoesOn, IsRun}
+use Rattle.block_layout.specs.code.Runs.{Repeated, repeated, run_cells, GoesOn, IsRun}
 use Rattle.block_layout.proofs.Same.{same_exact}
 use Rattle.block_layout.proofs.Joined.{joined_cells, joined_is_run}
 use Rattle.block_layout.proofs.run.Run.joined.Goals as goal

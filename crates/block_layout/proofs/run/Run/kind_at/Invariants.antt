@@ -1,6 +1,6 @@
 use Rattle.std.proofs.Common.{◌≡◌, ◌&&◌, true, drop}
 use Rattle.std.specs.List.{list_any}
-use Rattle.block_layout.specs.Runs.{hits}
+use Rattle.block_layout.specs.code.Runs.{hits}
 use Rattle.block_layout.proofs.run.Run.kind_at.Given as goal
 
 abbrev pub invariant-loop-offset : goal.invariant-loop-offset

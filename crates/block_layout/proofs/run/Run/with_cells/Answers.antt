@@ -1,7 +1,7 @@
 use Rattle.std.proofs.Common.{sym, ap, ◌∙◌}
 use Rattle.std.specs.Arc.{arc_value}
 use Rattle.block_layout.specs.Cells.{sharable}
-use Rattle.block_layout.specs.Runs.{Repeated}
+use Rattle.block_layout.specs.code.Runs.{Repeated}
 use Rattle.block_layout.proofs.SharableCells.{sharable_is_run}
 use Rattle.block_layout.proofs.run.Run.with_cells.Goals as goal
 

@@ -1,6 +1,6 @@
 use Rattle.std.proofs.Common.{sym, subst, ◌∙◌, arith}
-use Rattle.memory_history.specs.MeetsAfter.{called, leader_at}
-use Rattle.memory_history.specs.Acting.{HasLock}
+use Rattle.memory_history.specs.code.MeetsAfter.{called, leader_at}
+use Rattle.memory_history.specs.code.Acting.{HasLock}
 use Rattle.memory_history.proofs.Ending.{done-is, freeing}
 use Rattle.memory_history.proofs.parts.Parts.end_call.Goals as goal
 

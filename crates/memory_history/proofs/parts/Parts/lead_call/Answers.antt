@@ -1,7 +1,7 @@
 use Rattle.std.proofs.Common.{◌≡◌, ap, ◌∙◌}
-use Rattle.memory_history.specs.MeetsAfter.{MeetsState, leading, with_leader}
-use Rattle.memory_history.specs.After.{PartsState}
-use Rattle.memory_history.specs.Acting.{notifies, with_meets, led}
+use Rattle.memory_history.specs.code.MeetsAfter.{MeetsState, leading, with_leader}
+use Rattle.memory_history.specs.code.After.{PartsState}
+use Rattle.memory_history.specs.code.Acting.{notifies, with_meets, led}
 use Rattle.memory_history.specs.code.Calling.{begun_call, settled}
 use Rattle.memory_history.proofs.Ending.{led-meets, settled-begun}
 use Rattle.memory_history.proofs.parts.Parts.lead_call.Goals as goal

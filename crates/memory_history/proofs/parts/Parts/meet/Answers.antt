@@ -1,9 +1,9 @@
 use Rattle.std.proofs.Common.{◌≡◌, ℕ, true, sym, ap, subst, ◌∙◌}
 use Rattle.upc_values.specs.Calls.{call_of}
-use Rattle.memory_history.specs.Calls.{asked_of}
-use Rattle.memory_history.specs.MeetsAfter.{times, is_leading, leader_at, called, leading, with_leader}
-use Rattle.memory_history.specs.After.{PartsState}
-use Rattle.memory_history.specs.Acting.{HasLock, notifies, with_meets, led}
+use Rattle.memory_history.specs.code.Calls.{asked_of}
+use Rattle.memory_history.specs.code.MeetsAfter.{times, is_leading, leader_at, called, leading, with_leader}
+use Rattle.memory_history.specs.code.After.{PartsState}
+use Rattle.memory_history.specs.code.Acting.{HasLock, notifies, with_meets, led}
 use Rattle.memory_history.proofs.Ending.{lent-led}
 use Rattle.memory_history.proofs.parts.Parts.meet.Goals as goal
 

@@ -1,7 +1,7 @@
 use Rattle.std.proofs.Common.{Bool, sym, subst}
 use Rattle.std.specs.Prelude.{◌↔◌, IsTrue}
 use Rattle.upc_values.specs.Formed.{IsWellFormed}
-use Rattle.memory_history.specs.Acting.{may_ask}
+use Rattle.memory_history.specs.code.Acting.{may_ask}
 use Rattle.memory_history.proofs.Worlds.{world-asks}
 use Rattle.memory_history.proofs.world.World.is_well_formed.Goals as goal
 

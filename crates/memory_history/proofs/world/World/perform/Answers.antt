@@ -3,10 +3,10 @@ use Rattle.std.specs.Prelude.{IfSome}
 use Rattle.upc_values.specs.Drain.{entry_of}
 use Rattle.upc_values.specs.History.{reply}
 use Rattle.upc_values.specs.Formed.{IsWellFormed, fits_after}
-use Rattle.upc_values.specs.Known.{gives_known}
+use Rattle.upc_values.specs.layer.Known.{gives_known}
 use Rattle.upc_values.proofs.Known.{lawful-known}
-use Rattle.memory_history.specs.World.{IsWorld}
-use Rattle.memory_history.specs.Acting.{answer, Acted}
+use Rattle.memory_history.specs.layer.World.{IsWorld}
+use Rattle.memory_history.specs.code.Acting.{answer, Acted}
 use Rattle.memory_history.proofs.Fits.{reply-fits}
 use Rattle.memory_history.proofs.Worlds.{world-acts, world-answers, world-acted}
 use Rattle.memory_history.proofs.world.World.perform.Goals as goal

@@ -5,7 +5,7 @@ use Rattle.upc_values.specs.Formed.{AreWellFormed}
 use Rattle.upc_values.specs.Records.{is_stall, is_beat, is_beat_item, last_item}
 use Rattle.upc_values.proofs.Records.{last-push}
 use Rattle.stack_machine.specs.declared.wish.Wish.TheVariants.{Act}
-use Rattle.memory_history.specs.World.{answer_of}
+use Rattle.memory_history.specs.layer.World.{answer_of}
 use Rattle.serial_core.specs.declared.task.Task.{Task}
 use Rattle.serial_core.specs.Kept.{IsKept, Emitted, IsAnswer, Paused}
 use Rattle.serial_core.proofs.Tasks.{kept-asks, kept-did, kept-stall, kept-stay}

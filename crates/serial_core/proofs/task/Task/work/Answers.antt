@@ -1,7 +1,7 @@
 use Rattle.std.proofs.Common.{rules, ◌≡◌, ◌++◌, None, Some, sym, subst}
-use Rattle.stack_machine.specs.Machine.{Answered, listed, told_of}
+use Rattle.stack_machine.specs.layer.Machine.{Answered, listed, told_of}
 use Rattle.serial_core.specs.declared.task.Task.{Task}
-use Rattle.serial_core.specs.Sources.{Follows}
+use Rattle.serial_core.specs.layer.Sources.{Follows}
 use Rattle.serial_core.specs.Kept.{IsKept}
 use Rattle.serial_core.proofs.Tasks.{kept-worked}
 use Rattle.serial_core.proofs.task.Task.work.Goals as goal

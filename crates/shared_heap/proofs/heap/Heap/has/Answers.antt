@@ -1,5 +1,5 @@
 use Rattle.std.proofs.Common.{sym, ap, ◌∙◌, arith}
-use Rattle.shared_heap.specs.Heap.{all_declared}
+use Rattle.shared_heap.specs.layer.Heap.{all_declared}
 use Rattle.shared_heap.proofs.Objects.{is_there, has-zero, has-number}
 use Rattle.shared_heap.proofs.heap.Heap.has.Goals as goal
 

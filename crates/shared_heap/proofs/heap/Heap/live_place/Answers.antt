@@ -1,5 +1,5 @@
 use Rattle.std.proofs.Common.{◌≡◌, ◌<◌, ◌-◌, ◌+◌, ℕ, length, sym, ap, ◌∙◌, arith}
-use Rattle.shared_heap.specs.Heap.{HeapState, is_live_start}
+use Rattle.shared_heap.specs.layer.Heap.{HeapState, is_live_start}
 use Rattle.shared_heap.proofs.Starts.{live-declared, live-none, live-elsewhere, live-over, live-yes}
 use Rattle.shared_heap.proofs.heap.Heap.live_place.Goals as goal
 

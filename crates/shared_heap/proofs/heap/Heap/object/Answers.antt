@@ -1,6 +1,6 @@
 use Rattle.std.proofs.Common.{◌≡◌, ◌==◌, ◌-◌, None, sym, subst, ◌∙◌, arith}
 use Rattle.std.specs.List.{find}
-use Rattle.shared_heap.specs.Heap.{all_objects, all_declared}
+use Rattle.shared_heap.specs.layer.Heap.{all_objects, all_declared}
 use Rattle.shared_heap.proofs.Objects.{find-zero, find-number, found-sizes}
 use Rattle.shared_heap.proofs.heap.Heap.object.Goals as goal
 

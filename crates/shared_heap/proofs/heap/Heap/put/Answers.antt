@@ -1,5 +1,5 @@
 use Rattle.std.proofs.Common.{rules, ◌≡◌, ◌++◌, ◌+◌, [], ◌∷◌, false, sym, subst}
-use Rattle.shared_heap.specs.Heap.{HeapState}
+use Rattle.shared_heap.specs.layer.Heap.{HeapState}
 use Rattle.shared_heap.specs.code.Kept.{IsNext, IsKept}
 use Rattle.shared_heap.proofs.Placed.{kept-made}
 use Rattle.shared_heap.proofs.heap.Heap.put.Goals as goal

@@ -1,5 +1,5 @@
 use Rattle.std.proofs.Common.{◌≡◌, ◌<◌, ◌+◌, Bool, List, length, sym, ap, subst, ◌∙◌}
-use Rattle.shared_heap.specs.Heap.{HeapState, without_object}
+use Rattle.shared_heap.specs.layer.Heap.{HeapState, without_object}
 use Rattle.shared_heap.proofs.Starts.{released-made}
 use Rattle.shared_heap.proofs.heap.Heap.release.Goals as goal
 

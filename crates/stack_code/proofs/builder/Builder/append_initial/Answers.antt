@@ -1,6 +1,6 @@
 use Rattle.std.proofs.Common.{sym, subst}
 use Rattle.upc_values.specs.Lists.{Each}
-use Rattle.stack_code.specs.Kept.{IsKnown}
+use Rattle.stack_code.specs.layer.Kept.{IsKnown}
 use Rattle.stack_code.proofs.Parts.{more_known}
 use Rattle.stack_code.proofs.builder.Builder.append_initial.Goals as goal
 

@@ -1,7 +1,7 @@
 use Rattle.std.proofs.Common.{[], ◌∷◌, drop, refl}
 use Rattle.std.specs.Prelude.{Err}
 use Rattle.thread_steps.specs.Actions.{tick}
-use Rattle.stack_code.specs.Steps.{begun, youngest, further}
+use Rattle.stack_code.specs.layer.Steps.{begun, youngest, further}
 use Rattle.stack_machine.specs.code.Tasks.{spot_at, task_seen}
 use Rattle.stack_machine.specs.code.Turns.{Arrived, state_seen}
 use Rattle.stack_machine.proofs.Arrivals.{err_then, ok_then, firm_then, still}

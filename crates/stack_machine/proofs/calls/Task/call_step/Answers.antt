@@ -2,7 +2,7 @@ use Rattle.std.proofs.Common.{sym, subst}
 use Rattle.std.specs.Prelude.{Err}
 use Rattle.stack_code.specs.declared.instruction.CallWork.{CallWork}
 use Rattle.stack_code.specs.Codes.{thread_of}
-use Rattle.stack_code.specs.Steps.{called, top, rest}
+use Rattle.stack_code.specs.layer.Steps.{called, top, rest}
 use Rattle.stack_machine.specs.code.Tasks.{spot_at, task_seen}
 use Rattle.stack_machine.specs.code.Turns.{Arrived, state_seen}
 use Rattle.stack_machine.proofs.Advancing.{called_on, begun_on, received_on, returned_on, if_ok, if_both, call_inside}

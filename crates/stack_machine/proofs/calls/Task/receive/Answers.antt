@@ -1,7 +1,7 @@
 use Rattle.std.proofs.Common.{List, sym, subst}
 use Rattle.std.specs.Prelude.{Err}
 use Rattle.upc_values.specs.declared.scalar.Value.{Value}
-use Rattle.stack_code.specs.Steps.{received}
+use Rattle.stack_code.specs.layer.Steps.{received}
 use Rattle.stack_machine.specs.code.Kept.{AreHeld}
 use Rattle.stack_machine.specs.code.Turns.{Came, state_seen}
 use Rattle.stack_machine.proofs.Arrivals.{err_then}

@@ -1,7 +1,7 @@
 use Rattle.std.proofs.Common.{◌<◌, List}
 use Rattle.upc_values.specs.declared.action.Reply.{Reply}
-use Rattle.stack_machine.specs.Machine.{listed}
-use Rattle.stack_machine.specs.Standing.{Stands}
+use Rattle.stack_machine.specs.layer.Machine.{listed}
+use Rattle.stack_machine.specs.code.Standing.{Stands}
 use Rattle.stack_machine.specs.code.Ahead.{weight}
 use Rattle.stack_machine.specs.code.Kept.{IsHolding}
 use Rattle.stack_machine.specs.code.Tasks.{task_seen}

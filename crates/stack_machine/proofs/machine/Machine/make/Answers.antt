@@ -1,7 +1,7 @@
 use Rattle.std.proofs.Common.{◌≡◌, ◌∙◌, ap, sym, refl, subst, length, [], arith}
 use Rattle.private_store.specs.Beginnings.{begun}
-use Rattle.stack_machine.specs.Bodies.{Body}
-use Rattle.stack_machine.specs.Standing.{Stands, first_body}
+use Rattle.stack_machine.specs.code.Bodies.{Body}
+use Rattle.stack_machine.specs.code.Standing.{Stands, first_body}
 use Rattle.stack_machine.specs.code.Kept.{IsHolding}
 use Rattle.stack_machine.specs.code.Machines.{IsWhole}
 use Rattle.stack_machine.proofs.Standings.{goes_by_replies}

@@ -1,5 +1,5 @@
 use Rattle.std.proofs.Common.{◌∙◌, sym, refl, subst}
-use Rattle.stack_machine.specs.Machine.{listed, Seen, HasHeard}
+use Rattle.stack_machine.specs.layer.Machine.{listed, Seen, HasHeard}
 use Rattle.stack_machine.specs.declared.wish.Halt.TheVariants.{Asks, Stops}
 use Rattle.stack_machine.specs.code.Tasks.{task_seen}
 use Rattle.stack_machine.proofs.Machines.{standing, asked_so, stopped_so, halts_at, over_told}

@@ -1,5 +1,5 @@
 use Rattle.std.proofs.Common.{◌≡◌, subst}
-use Rattle.stack_machine.specs.Machine.{Seen, HasAsked, HasHeard}
+use Rattle.stack_machine.specs.layer.Machine.{Seen, HasAsked, HasHeard}
 use Rattle.stack_machine.specs.code.Tasks.{task_seen}
 use Rattle.stack_machine.proofs.Machines.{ticks_so}
 use Rattle.stack_machine.proofs.machine.Machine.ticks.Goals as goal

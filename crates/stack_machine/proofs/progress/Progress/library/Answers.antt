@@ -3,7 +3,7 @@ use Rattle.upc_values.specs.declared.scalar.Value.{Value}
 use Rattle.thread_steps.specs.Library.{is_formed}
 use Rattle.thread_steps.specs.States.{Res}
 use Rattle.thread_steps.specs.Values.{number}
-use Rattle.thread_values.specs.Asking.{asks_once}
+use Rattle.thread_values.specs.layer.Asking.{asks_once}
 use Rattle.thread_values.proofs.Asking.{unformed}
 use Rattle.stack_code.specs.Codes.{thread_of}
 use Rattle.stack_machine.specs.code.Turns.{Gave, state_seen}

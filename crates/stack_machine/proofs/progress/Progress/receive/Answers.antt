@@ -1,7 +1,7 @@
 use Rattle.std.proofs.Common.{◌<◌, ◌∙◌, ap, length, sym, subst, arith}
 use Rattle.std.specs.Prelude.{Err}
 use Rattle.std.proofs.lemmas.List.{get_or_default}
-use Rattle.thread_steps.specs.Ranges.{IsHeld}
+use Rattle.thread_steps.specs.layer.Ranges.{IsHeld}
 use Rattle.thread_steps.specs.States.{Res}
 use Rattle.upc_values.proofs.Lists.{each-at}
 use Rattle.stack_machine.specs.declared.progress.Progress.{Progress}

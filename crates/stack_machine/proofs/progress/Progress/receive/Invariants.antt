@@ -2,7 +2,7 @@ use Rattle.std.proofs.Common.{◌≡◌, ℕ, List, drop}
 use Rattle.block_layout.specs.declared.kind.Shape.{Shape}
 use Rattle.upc_values.specs.declared.action.Action.{Action}
 use Rattle.thread_steps.specs.States.{Thread}
-use Rattle.stack_code.specs.Steps.{received}
+use Rattle.stack_code.specs.layer.Steps.{received}
 use Rattle.stack_machine.specs.code.Kept.{AreHeld, HoldsHeld}
 use Rattle.stack_machine.specs.code.Turns.{state_seen}
 use Rattle.stack_machine.proofs.progress.Progress.receive.Given as goal

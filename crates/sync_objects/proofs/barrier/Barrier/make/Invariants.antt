@@ -1,5 +1,5 @@
 use Rattle.std.proofs.Common.{◌≡◌, replicate}
-use Rattle.sync_objects.specs.Barrier.{fresh}
+use Rattle.sync_objects.specs.layer.Barrier.{fresh}
 use Rattle.sync_objects.proofs.barrier.Barrier.make.Given as goal
 
 abbrev pub invariant-loop : goal.invariant-loop

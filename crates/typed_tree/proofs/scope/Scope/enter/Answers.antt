@@ -3,7 +3,7 @@ use Rattle.std.proofs.lemmas.Grind.{common_steps}
 use Rattle.std.proofs.lemmas.List.{reverse-append, map-append, length-reverse, length-map}
 use Rattle.typed_tree.specs.Scopes.{Entry}
 use Rattle.typed_tree.specs.declared.scope.Entry as e
-use Rattle.typed_tree.specs.ViewEntries.{view_entry, view_entries, view_declared, latest, place_in}
+use Rattle.typed_tree.specs.code.ViewEntries.{view_entry, view_entries, view_declared, latest, place_in}
 use Rattle.typed_tree.proofs.scope.Scope.enter.Goals as goal
 
 pub invariant_of-self-2 : goal.invariant_of-self-2

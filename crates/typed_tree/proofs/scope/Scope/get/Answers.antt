@@ -3,7 +3,7 @@ use Rattle.std.proofs.lemmas.List.{reverse-reverse, length-reverse, length-map}
 use Rattle.std.proofs.Math.ListN.{get_or-map}
 use Rattle.typing_rules.specs.Meanings.{Unknown}
 use Rattle.typed_tree.specs.Scopes.{Entry}
-use Rattle.typed_tree.specs.ViewEntries.{view_entry, view_entries, place_in}
+use Rattle.typed_tree.specs.code.ViewEntries.{view_entry, view_entries, place_in}
 use Rattle.typed_tree.proofs.Entries.{placed, absent}
 use Rattle.typed_tree.proofs.scope.Scope.get.Goals as goal
 

@@ -3,9 +3,9 @@ use Rattle.std.proofs.lemmas.Grind.{common_steps}
 use Rattle.std.proofs.lemmas.List.{map-append}
 use Rattle.std.specs.BTreeMap.{get}
 use Rattle.std.specs.Ordering.{nat_cmp}
-use Rattle.upc_types.specs.Places.{place_below}
+use Rattle.upc_types.specs.layer.Places.{place_below}
 use Rattle.upc_types.proofs.PlacesOfNumbers.{linked_more, latest_more}
-use Rattle.typed_tree_opening.specs.Apart.{code_of, codes_of, AreApart}
+use Rattle.typed_tree_opening.specs.code.Apart.{code_of, codes_of, AreApart}
 use Rattle.typed_tree_opening.proofs.Coded.{coded, apart_more}
 use Rattle.typed_tree_opening.proofs.known_shapes.KnownShapes.add.Goals as goal
 

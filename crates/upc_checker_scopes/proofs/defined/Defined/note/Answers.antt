@@ -1,6 +1,6 @@
 use Rattle.std.proofs.Common.{◌≡◌, [], ◌∷◌, ◌++◌, ◌==◌, length, if◌then◌else◌, Some, None, sym, ap, ◌∙◌, arith}
 use Rattle.std.proofs.lemmas.Grind.{common_steps}
-use Rattle.upc_checker_scopes.specs.ViewDefined.{numbered, first_or}
+use Rattle.upc_checker_scopes.specs.code.ViewDefined.{numbered, first_or}
 use Rattle.upc_checker_scopes.proofs.Numbers.{numbered_more}
 use Rattle.upc_checker_scopes.proofs.defined.Defined.note.Goals as goal
 

@@ -3,9 +3,9 @@ use Rattle.std.proofs.lemmas.Bool.{eq-eqb}
 use Rattle.std.proofs.lemmas.List.{length-map}
 use Rattle.std.proofs.Math.ListN.{get_or-map}
 use Rattle.typed_tree.specs.Scopes.{KnownFunction, differs, same_signature}
-use Rattle.typing_rules.specs.Views.{view_signature}
-use Rattle.upc_checker_scopes.specs.ViewFunctions.{view_function, IsNoted}
-use Rattle.upc_types.specs.Places.{place_below}
+use Rattle.typing_rules.specs.layer.Views.{view_signature}
+use Rattle.upc_checker_scopes.specs.code.ViewFunctions.{view_function, IsNoted}
+use Rattle.upc_types.specs.layer.Places.{place_below}
 use Rattle.upc_types.proofs.PlacesOfNumbers.{IsAt, is_at, up_to, begins, goes_back, latest_of, falls, get_or-named}
 use Rattle.upc_checker_scopes.proofs.SameTypes.{differs_through}
 use Rattle.upc_checker_scopes.proofs.functions.Functions.differs.Goals as goal

@@ -1,8 +1,8 @@
 use Rattle.std.proofs.Common.{◌≡◌, map, reverse, take}
 use Rattle.typed_tree.specs.Scopes as pure
-use Rattle.typing_rules.specs.Views.{view_signature}
-use Rattle.upc_checker_scopes.specs.ViewFunctions.{view_function}
-use Rattle.upc_checker_scopes.specs.Views.{view_functions}
+use Rattle.typing_rules.specs.layer.Views.{view_signature}
+use Rattle.upc_checker_scopes.specs.code.ViewFunctions.{view_function}
+use Rattle.upc_checker_scopes.specs.layer.Views.{view_functions}
 use Rattle.upc_types.proofs.PlacesOfNumbers.{IsAt, up_to}
 use Rattle.upc_checker_scopes.proofs.functions.Functions.differs.Given as goal
 

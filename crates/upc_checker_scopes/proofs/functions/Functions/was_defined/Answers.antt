@@ -4,8 +4,8 @@ use Rattle.std.proofs.lemmas.List.{length-map}
 use Rattle.std.proofs.Math.ListN.{get_or-map}
 use Rattle.typed_tree.specs.Scopes.{KnownFunction, was_defined}
 use Rattle.upc_checker_scopes.specs.declared.functions.KnownFunction as f
-use Rattle.upc_checker_scopes.specs.ViewFunctions.{view_function, names_of, IsNoted, AreNoted}
-use Rattle.upc_types.specs.Places.{place_below}
+use Rattle.upc_checker_scopes.specs.code.ViewFunctions.{view_function, names_of, IsNoted, AreNoted}
+use Rattle.upc_types.specs.layer.Places.{place_below}
 use Rattle.upc_types.proofs.PlacesOfNumbers.{IsAt, is_at, up_to, begins, latest_of, get_or-named}
 use Rattle.upc_checker_scopes.proofs.functions.Functions.was_defined.Goals as goal
 

@@ -3,8 +3,8 @@ use Rattle.std.proofs.lemmas.Bool.{eq-eqb}
 use Rattle.std.proofs.lemmas.List.{length-map}
 use Rattle.std.proofs.Math.ListN.{get_or-map}
 use Rattle.typed_tree.specs.Scopes.{Tag, find_tag}
-use Rattle.upc_checker_scopes.specs.ViewOwnTags.{view_tag}
-use Rattle.upc_types.specs.Places.{place_below}
+use Rattle.upc_checker_scopes.specs.code.ViewOwnTags.{view_tag}
+use Rattle.upc_types.specs.layer.Places.{place_below}
 use Rattle.upc_types.proofs.PlacesOfNumbers.{IsAt, is_at, up_to, begins, latest_of, get_or-named}
 use Rattle.upc_checker_scopes.proofs.own_tags.OwnTags.find.Goals as goal
 

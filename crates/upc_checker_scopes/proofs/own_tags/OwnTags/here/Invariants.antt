@@ -1,7 +1,7 @@
 use Rattle.std.proofs.Common.{◌≡◌, map, reverse, take}
 use Rattle.typed_tree.specs.Scopes as pure
-use Rattle.upc_checker_scopes.specs.ViewOwnTags.{view_tag}
-use Rattle.upc_checker_scopes.specs.ViewTags.{view_own_tags}
+use Rattle.upc_checker_scopes.specs.code.ViewOwnTags.{view_tag}
+use Rattle.upc_checker_scopes.specs.layer.ViewTags.{view_own_tags}
 use Rattle.upc_types.proofs.PlacesOfNumbers.{IsAt, up_to}
 use Rattle.upc_checker_scopes.proofs.own_tags.OwnTags.here.Given as goal
 

@@ -1,6 +1,6 @@
 use Rattle.std.proofs.Common.{rules, ◌≡◌, true}
 use Rattle.thread_steps.specs.Library.{is_formed}
-use Rattle.thread_values.specs.Asking.{asks_once}
+use Rattle.thread_values.specs.layer.Asking.{asks_once}
 use Rattle.upc_meaning_state.specs.code.Came.{state_seen}
 use Rattle.upc_meaning_state.specs.code.Runners.{thread_seen}
 use Rattle.upc_meaning_state.proofs.Libraries.{formed, step_does}

@@ -1,5 +1,5 @@
 use Rattle.std.proofs.Common.{◌≡◌, ap, arith}
-use Rattle.upc_parser_types.specs.Expression.{at_height}
+use Rattle.upc_parser_types.specs.layer.Expression.{at_height}
 use Rattle.upc_parser_ground.proofs.Turns.{deeper}
 use Rattle.upc_parser_expressions.proofs.expression.Expressions.arguments.Goals as goal
 

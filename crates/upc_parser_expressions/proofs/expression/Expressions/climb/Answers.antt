@@ -1,7 +1,7 @@
 use Rattle.std.proofs.Common.{rules, arith}
 use Rattle.std.proofs.lemmas.Grind.{common_steps}
-use Rattle.upc_tree.specs.View.{view}
-use Rattle.upc_parser_types.specs.Expression.{climb, at_height}
+use Rattle.upc_tree.specs.layer.View.{view}
+use Rattle.upc_parser_types.specs.layer.Expression.{climb, at_height}
 use Rattle.upc_parser_ground.proofs.Turns.{one_more, no_more}
 use Rattle.upc_parser_expressions.proofs.expression.Expressions.climb.Goals as goal
 

@@ -1,6 +1,6 @@
 use Rattle.std.proofs.Common.{◌≡◌, ◌-◌, length}
-use Rattle.upc_tree.specs.View.{view}
-use Rattle.upc_parser_types.specs.Expression.{postfix, at_height}
+use Rattle.upc_tree.specs.layer.View.{view}
+use Rattle.upc_parser_types.specs.layer.Expression.{postfix, at_height}
 use Rattle.upc_parser_expressions.proofs.expression.Expressions.postfix.Given as goal
 
 abbrev pub invariant-loop-turn : goal.invariant-loop-turn

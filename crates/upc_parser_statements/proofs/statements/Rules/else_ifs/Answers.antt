@@ -1,10 +1,10 @@
 use Rattle.std.proofs.Common.{rules}
 use Rattle.upc_lexer.specs.declared.token.Word.TheVariants as w
-use Rattle.upc_tree.specs.Lists.{else_ifs_of}
-use Rattle.upc_tree.specs.ViewStatement.{view_else_if}
-use Rattle.upc_parser_ground.specs.Outcome.{starts_two, is_word}
+use Rattle.upc_tree.specs.layer.Lists.{else_ifs_of}
+use Rattle.upc_tree.specs.layer.ViewStatement.{view_else_if}
+use Rattle.upc_parser_ground.specs.layer.Outcome.{starts_two, is_word}
 use Rattle.upc_parser_ground.proofs.Ran.{ran_listed}
-use Rattle.upc_parser_statements.specs.Parse.{statements_at, else_ifs, else_if}
+use Rattle.upc_parser_statements.specs.layer.Parse.{statements_at, else_ifs, else_if}
 use Rattle.upc_parser_statements.proofs.statements.Rules.else_ifs.Goals as goal
 
 pub returns : goal.returns

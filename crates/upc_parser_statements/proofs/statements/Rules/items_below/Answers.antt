@@ -1,6 +1,6 @@
 use Rattle.std.proofs.Common.{◌≡◌, ap, arith}
 use Rattle.upc_parser_ground.proofs.Turns.{deeper}
-use Rattle.upc_parser_statements.specs.Parse.{statements_at}
+use Rattle.upc_parser_statements.specs.layer.Parse.{statements_at}
 use Rattle.upc_parser_statements.proofs.statements.Rules.items_below.Goals as goal
 
 pub returns-then-n-eq0 : goal.returns-then-n-eq0

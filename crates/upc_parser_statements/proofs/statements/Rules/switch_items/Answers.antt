@@ -1,9 +1,9 @@
 use Rattle.std.proofs.Common.{rules}
-use Rattle.upc_tree.specs.Lists.{switch_items_of}
-use Rattle.upc_tree.specs.ViewStatement.{view_switch_item}
-use Rattle.upc_parser_ground.specs.Outcome.{starts}
+use Rattle.upc_tree.specs.layer.Lists.{switch_items_of}
+use Rattle.upc_tree.specs.layer.ViewStatement.{view_switch_item}
+use Rattle.upc_parser_ground.specs.layer.Outcome.{starts}
 use Rattle.upc_parser_ground.proofs.Ran.{ran_listed}
-use Rattle.upc_parser_statements.specs.Parse.{statements_at, switch_items, switch_item, no_brace}
+use Rattle.upc_parser_statements.specs.layer.Parse.{statements_at, switch_items, switch_item, no_brace}
 use Rattle.upc_parser_statements.proofs.statements.Rules.switch_items.Goals as goal
 
 pub returns : goal.returns

@@ -1,9 +1,9 @@
 use Rattle.std.proofs.Common.{rules}
 use Rattle.upc_lexer.specs.declared.token.Punct.TheVariants as p
-use Rattle.upc_tree.specs.Lists.{dimensions_of}
-use Rattle.upc_tree.specs.View.{view_dimension}
-use Rattle.upc_parser_ground.specs.Outcome.{starts, is_punct}
-use Rattle.upc_parser_types.specs.Expression.{at_height, dimensions, dimension}
+use Rattle.upc_tree.specs.layer.Lists.{dimensions_of}
+use Rattle.upc_tree.specs.layer.View.{view_dimension}
+use Rattle.upc_parser_ground.specs.layer.Outcome.{starts, is_punct}
+use Rattle.upc_parser_types.specs.layer.Expression.{at_height, dimensions, dimension}
 use Rattle.upc_parser_ground.proofs.Ran.{ran_listed}
 use Rattle.upc_parser_types.proofs.grammar.Grammar.dimensions.Goals as goal
 

@@ -1,9 +1,9 @@
 use Rattle.std.proofs.Common.{false, rules}
-use Rattle.upc_tree.specs.Lists.{members_of}
-use Rattle.upc_tree.specs.View.{view_member}
-use Rattle.upc_parser_ground.specs.Outcome.{starts}
-use Rattle.upc_parser_ground.specs.Tables.{is_spec}
-use Rattle.upc_parser_types.specs.Expression.{at_height, members, member}
+use Rattle.upc_tree.specs.layer.Lists.{members_of}
+use Rattle.upc_tree.specs.layer.View.{view_member}
+use Rattle.upc_parser_ground.specs.layer.Outcome.{starts}
+use Rattle.upc_parser_ground.specs.layer.Tables.{is_spec}
+use Rattle.upc_parser_types.specs.layer.Expression.{at_height, members, member}
 use Rattle.upc_parser_ground.proofs.Ran.{ran_listed}
 use Rattle.upc_parser_types.proofs.grammar.Grammar.members.Goals as goal
 

@@ -1,9 +1,9 @@
 use Rattle.std.proofs.Common.{◌≡◌, ◌∙◌, true, false, sym, refl, rules}
-use Rattle.upc_tree.specs.Lists.{specs_of}
-use Rattle.upc_tree.specs.View.{view_spec}
-use Rattle.upc_parser_ground.specs.Outcome.{starts}
-use Rattle.upc_parser_ground.specs.Tables.{is_spec}
-use Rattle.upc_parser_types.specs.Expression.{at_height, specs, spec}
+use Rattle.upc_tree.specs.layer.Lists.{specs_of}
+use Rattle.upc_tree.specs.layer.View.{view_spec}
+use Rattle.upc_parser_ground.specs.layer.Outcome.{starts}
+use Rattle.upc_parser_ground.specs.layer.Tables.{is_spec}
+use Rattle.upc_parser_types.specs.layer.Expression.{at_height, specs, spec}
 use Rattle.upc_parser_ground.proofs.Ran.{ran_listed}
 use Rattle.upc_parser_types.proofs.grammar.Grammar.specs.Goals as goal
 

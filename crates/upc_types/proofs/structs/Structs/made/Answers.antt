@@ -2,8 +2,8 @@ use Rattle.std.proofs.Common.{List, map, reverse, is_some, ap, ◌∙◌}
 use Rattle.upc_types.specs.declared.structs.Member as rust
 use Rattle.upc_types.specs.View.{view_completed, view_member}
 use Rattle.upc_types.specs.Layout.{members_within, end_behind, layout_in, member_layouts}
-use Rattle.upc_types.specs.Starts.{starts_behind}
-use Rattle.upc_types.specs.Named.{first_named}
+use Rattle.upc_types.specs.code.Starts.{starts_behind}
+use Rattle.upc_types.specs.layer.Named.{first_named}
 use Rattle.upc_types.proofs.structs.Structs.made.Goals as goal
 
 pub spots_of-requires : goal.spots_of-requires

@@ -1,7 +1,7 @@
 use Rattle.std.proofs.Common.{map, reverse, sym, ap, ◌∙◌}
 use Rattle.upc_types.specs.View.{view_completed}
 use Rattle.upc_types.specs.Layout.{known_in}
-use Rattle.upc_types.specs.Named.{first_named}
+use Rattle.upc_types.specs.layer.Named.{first_named}
 use Rattle.upc_types.proofs.Order.{none_one}
 use Rattle.upc_types.proofs.Places.{absent}
 use Rattle.upc_types.proofs.structs.Structs.member_named.Goals as goal

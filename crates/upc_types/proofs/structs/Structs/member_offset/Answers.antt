@@ -2,7 +2,7 @@ use Rattle.std.proofs.Common.{◌≡◌, map, reverse, get_or, ap, ◌∙◌, ar
 use Rattle.upc_types.specs.View.{view, view_completed}
 use Rattle.upc_types.specs.Types.{members_in}
 use Rattle.upc_types.specs.Layout.{layout_in, member_layouts, offset_behind}
-use Rattle.upc_types.specs.Starts.{starts_behind}
+use Rattle.upc_types.specs.code.Starts.{starts_behind}
 use Rattle.upc_types.proofs.Fitting.{offset_is, offset_low}
 use Rattle.upc_types.proofs.Steps.{begun}
 use Rattle.upc_types.proofs.structs.Structs.member_offset.Goals as goal

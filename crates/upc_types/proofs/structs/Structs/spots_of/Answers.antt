@@ -2,7 +2,7 @@ use Rattle.std.proofs.Common.{◌≡◌, ℕ, ◌+◌, ◌≤◌, [], ◌∷◌,
 use Rattle.upc_types.specs.declared.layout.Layout.{Layout}
 use Rattle.upc_types.specs.View.{view_base, view_completed, view_member}
 use Rattle.upc_types.specs.Layout.{aligned, base_layout, end_behind, layout_in, member_layouts, most_bytes}
-use Rattle.upc_types.specs.Starts.{starts_behind}
+use Rattle.upc_types.specs.code.Starts.{starts_behind}
 use Rattle.upc_types.proofs.Fitting.{MembersFrom, from_start, first_at, starts_next, end_next}
 use Rattle.upc_types.proofs.structs.Structs.spots_of.Goals as goal
 

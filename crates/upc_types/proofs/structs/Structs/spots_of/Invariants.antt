@@ -1,7 +1,7 @@
 use Rattle.std.proofs.Common.{◌≡◌, ◌++◌, map, drop, reverse}
 use Rattle.upc_types.specs.View.{view_completed, view_member}
 use Rattle.upc_types.specs.Layout.{end_behind, member_layouts, layout_in}
-use Rattle.upc_types.specs.Starts.{starts_behind}
+use Rattle.upc_types.specs.code.Starts.{starts_behind}
 use Rattle.upc_types.proofs.Fitting.{MembersFrom}
 use Rattle.upc_types.proofs.structs.Structs.spots_of.Given as goal
 

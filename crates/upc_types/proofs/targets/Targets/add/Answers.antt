@@ -3,8 +3,8 @@ use Rattle.std.proofs.lemmas.Grind.{common_steps}
 use Rattle.std.proofs.lemmas.List.{map-append}
 use Rattle.upc_types.specs.View.{view}
 use Rattle.upc_types.specs.Types.{CType}
-use Rattle.upc_types.specs.TypeCodes.{code_of}
-use Rattle.upc_types.specs.Targets.{AreApart, codes_of}
+use Rattle.upc_types.specs.code.TypeCodes.{code_of}
+use Rattle.upc_types.specs.code.Targets.{AreApart, codes_of}
 use Rattle.upc_types.proofs.Coded.{apart_more}
 use Rattle.upc_types.proofs.targets.Targets.add.Goals as goal
 

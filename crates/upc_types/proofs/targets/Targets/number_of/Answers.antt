@@ -5,9 +5,9 @@ use Rattle.std.proofs.lemmas.List.{length-map}
 use Rattle.std.proofs.Math.ListN.{get_or-map}
 use Rattle.upc_types.specs.View.{view}
 use Rattle.upc_types.specs.Cells.{alike}
-use Rattle.upc_types.specs.TypeCodes.{code_of}
-use Rattle.upc_types.specs.Targets.{codes_of}
-use Rattle.upc_types.specs.Places.{place_below}
+use Rattle.upc_types.specs.code.TypeCodes.{code_of}
+use Rattle.upc_types.specs.code.Targets.{codes_of}
+use Rattle.upc_types.specs.layer.Places.{place_below}
 use Rattle.upc_types.proofs.PlacesOfNumbers.{IsAt, is_at, up_to, falls}
 use Rattle.upc_types.proofs.Coded.{unlike_from, unlike_more, number_at, none_alike}
 use Rattle.upc_types.proofs.targets.Targets.number_of.Goals as goal

@@ -2,7 +2,7 @@ use Rattle.std.proofs.Common.{◌≡◌, ℕ, ◌<◌, ◌≤◌, false, map, le
 use Rattle.upc_types.specs.Types.{CType}
 use Rattle.upc_types.specs.View.{view}
 use Rattle.upc_types.specs.Cells.{alike}
-use Rattle.upc_types.specs.TypeCodes.{code_of}
+use Rattle.upc_types.specs.code.TypeCodes.{code_of}
 use Rattle.upc_types.proofs.PlacesOfNumbers.{IsAt, up_to}
 use Rattle.upc_types.proofs.targets.Targets.number_of.Given as goal
 

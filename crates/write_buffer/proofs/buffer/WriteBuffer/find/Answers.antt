@@ -1,6 +1,6 @@
 use Rattle.std.proofs.Common.{◌≡◌, ◌<◌, ◌-◌, get_or, slice_get, true, false, Some, sym, ap, subst, ◌∙◌, arith}
 use Rattle.upc_values.specs.Scalars.{same_loc}
-use Rattle.write_buffer.specs.Counts.{place_of, counted}
+use Rattle.write_buffer.specs.code.Counts.{place_of, counted}
 use Rattle.write_buffer.proofs.Counting.{counted-absent, some-at}
 use Rattle.write_buffer.proofs.Places.{last_place-absent, last_place-found, last_place-passed}
 use Rattle.write_buffer.proofs.buffer.WriteBuffer.find.Goals as goal

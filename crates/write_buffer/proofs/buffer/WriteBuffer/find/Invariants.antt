@@ -1,5 +1,5 @@
 use Rattle.std.proofs.Common.{◌≡◌, take}
-use Rattle.write_buffer.specs.Buffer.{last_place}
+use Rattle.write_buffer.specs.layer.Buffer.{last_place}
 use Rattle.write_buffer.proofs.buffer.WriteBuffer.find.Given as goal
 
 -- none of the younger ones has the location

@@ -1,6 +1,6 @@
 use Rattle.std.proofs.Common.{◌≤◌, [], length, sym, ap, subst, arith}
-use Rattle.write_buffer.specs.Buffer.{AreApart}
-use Rattle.write_buffer.specs.Counts.{IsCounted}
+use Rattle.write_buffer.specs.layer.Buffer.{AreApart}
+use Rattle.write_buffer.specs.code.Counts.{IsCounted}
 use Rattle.write_buffer.proofs.Counting.{is_counted-none}
 use Rattle.write_buffer.proofs.buffer.WriteBuffer.make.Goals as goal
 

@@ -1,8 +1,8 @@
 use Rattle.std.proofs.Common.{◌≡◌, ◌≤◌, ◌<◌, ◌+◌, ◌++◌, [], ◌∷◌, None, length, set, get_or, sym, ap, subst, ◌∙◌, arith}
 use Rattle.std.proofs.lemmas.List.{length-append}
 use Rattle.circular_buffer.specs.Buffer.{keep_last}
-use Rattle.write_buffer.specs.Buffer.{last_place, AreApart}
-use Rattle.write_buffer.specs.Counts.{IsCounted}
+use Rattle.write_buffer.specs.layer.Buffer.{last_place, AreApart}
+use Rattle.write_buffer.specs.code.Counts.{IsCounted}
 use Rattle.write_buffer.proofs.Apart.{apart-push}
 use Rattle.write_buffer.proofs.Counting.{counted-few, is_counted-push, keep-all}
 use Rattle.write_buffer.proofs.buffer.WriteBuffer.put.Goals as goal

@@ -1,6 +1,6 @@
 use Rattle.std.proofs.Common.{◌≡◌, length, set, Some, refl, sym, ap, subst, ◌∙◌, arith}
 use Rattle.std.proofs.lemmas.List.{length-set}
-use Rattle.write_buffer.specs.Buffer.{last_place, replaced}
+use Rattle.write_buffer.specs.layer.Buffer.{last_place, replaced}
 use Rattle.write_buffer.proofs.Places.{is-place, get-none, is_counted-set}
 use Rattle.write_buffer.proofs.Apart.{apart-set}
 use Rattle.write_buffer.proofs.buffer.WriteBuffer.replace.Goals as goal

@@ -1,7 +1,7 @@
 use Rattle.std.proofs.Common.{◌≡◌, true≢false, Some, None, is_some, sym, ap, ◌∙◌}
 use Rattle.std.proofs.lemmas.Bool.{false≢true}
 use Rattle.write_buffer.specs.declared.pending.Pending.{Pending}
-use Rattle.write_buffer.specs.Buffer.{youngest, last_place}
+use Rattle.write_buffer.specs.layer.Buffer.{youngest, last_place}
 use Rattle.write_buffer.proofs.Places.{is-place, none-youngest, youngest-some}
 use Rattle.write_buffer.proofs.buffer.WriteBuffer.store.Goals as goal
 

@@ -1,0 +1,3 @@
+pub mod RunErrors
+pub mod Runs
+pub mod SameRuns

@@ -1,0 +1,16 @@
+-- How many operands the code of an expression leaves.
+use Rattle.std.specs.Prelude.{Bool, [], ◌∷◌, ◌++◌}
+use Rattle.upc_text.specs.declared.place.Place.{Place}
+use Rattle.typed_tree.specs.Tree.{Expr}
+use Rattle.stack_code.specs.declared.instruction.CallWork.TheVariants.{GiveBack}
+use Rattle.stack_code.specs.declared.instruction.Operation.TheVariants as work
+use Rattle.stack_code.specs.layer.Depths.{IsDeep}
+use Rattle.gen_expr.specs.Sources.{Source}
+use Rattle.gen_expr.specs.Codes.{value_code}
+
+-- The operand depths of the code of each expression agree, and it leaves one operand, its value: with an instruction
+-- after it that gives the value back it is a function whose depths agree.
+abbrev pub ExpressionsAreDeep : Type 0
+ExpressionsAreDeep =
+    (ς : Source) (strict : Bool) (e : Expr) (at : Place)
+    → IsDeep (value_code ς strict e ++ (record { place = at; does = work.Call (GiveBack 0) } ∷ []))

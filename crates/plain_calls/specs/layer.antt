@@ -1,0 +1,3 @@
+pub mod Told
+pub mod Run
+pub mod Spots

@@ -1,0 +1,44 @@
+-- What a run takes of the code: which outcomes it has on each thread, and where a thread's machine stands.
+use Rattle.std.specs.Prelude.{ℕ, ◌≡◌, ◌<◌, List}
+use Rattle.upc_values.specs.declared.action.Reply.{Reply}
+use Rattle.upc_values.specs.declared.record.ToldEnd.TheVariants.{OutOfTicks}
+use Rattle.upc_values.specs.Openings.{Opening}
+use Rattle.upc_values.specs.Outcomes.{Outcome, IsMeaning}
+use Rattle.typed_tree.specs.declared.program.Program.{Program}
+use Rattle.typed_tree.specs.Beginnings.{opening_in, view_beginning}
+use Rattle.stack_code.specs.Codes.{Codes}
+use Rattle.stack_code.specs.layer.Outcomes.{CodeMeans}
+use Rattle.stack_machine.specs.layer.Machine.{Seen}
+use Rattle.stack_machine.specs.layer.Machine.{HasHeard}
+use Rattle.serial_core.specs.declared.limits.Limits.{Limits}
+
+-- The outcome of each thread, by its number, on each list of replies.
+abbrev pub Outcomes : Type 0
+Outcomes = ℕ → List Reply → Outcome
+
+-- What a run takes of a thread's outcomes: they keep what every meaning keeps, and where the ticks are spent there were
+-- b of them.
+pub record IsSource (o : Opening) (b : ℕ) (outcome : List Reply → Outcome) : Type 0 where
+  pub means : IsMeaning o outcome
+  pub spends : (rs : List Reply) → (outcome rs).«end» ≡ OutOfTicks → (outcome rs).ticks ≡ b
+
+-- On a thread of the code, with a budget, this is the outcome on each list of replies.
+abbrev pub HasOutcome : Codes → (thread budget : ℕ) → (List Reply → Outcome) → Type 0
+HasOutcome codes thread budget f = (replies : List Reply) → CodeMeans codes thread budget replies (f replies)
+
+-- What a run of a program begins with.
+abbrev pub opening_of : Program → Opening
+opening_of program = opening_in program.threads (view_beginning program.beginning)
+
+-- The code has these outcomes on the threads of a run with these limits, which begins with the opening.
+pub record HasOutcomes (o : Opening) (p : Codes) (l : Limits) (f : Outcomes) : Type 0 where
+  pub threads : o.threads ≡ l.threads
+  pub code : p.threads ≡ l.threads
+  pub means : (t : ℕ) → t < l.threads → HasOutcome p t l.budget (f t)
+  pub sources : (t : ℕ) → t < l.threads → IsSource o l.budget (f t)
+
+-- The machine of a thread of the code, which has these outcomes, has had just these replies, in order.
+pub record Follows (p : Codes) (t b : ℕ) (outcome : List Reply → Outcome) (given : List Reply) (m : Seen)
+    : Type 0 where
+  pub means : HasOutcome p t b outcome
+  pub stands : HasHeard p t b given m

@@ -1,0 +1,7 @@
+pub mod Shorts
+pub mod Steps
+pub mod Outcomes
+pub mod Meets
+pub mod Depths
+pub mod Kept
+pub mod Making

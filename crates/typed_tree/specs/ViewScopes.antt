@@ -1,9 +1,0 @@
--- What contracts see of a scope.
-use Rattle.std.specs.Prelude.{List}
-use Rattle.typed_tree.specs.declared.scope.Scope as s
-use Rattle.typed_tree.specs.Scopes.{Entry}
-use Rattle.typed_tree.specs.ViewEntries.{view_entries}
-
--- The names of a scope of the code, the latest first, seen without where they lie in memory.
-abbrev pub view_scope : s.Scope → List Entry
-view_scope x = view_entries x.entries.items

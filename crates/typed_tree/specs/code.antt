@@ -1,0 +1,2 @@
+pub mod ViewEntries
+pub mod ViewScopes

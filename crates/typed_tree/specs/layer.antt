@@ -1,0 +1,5 @@
+pub mod PrivateOpenings
+pub mod Judged
+pub mod TypedNodes
+pub mod ExpressionLaws
+pub mod ViewEnv

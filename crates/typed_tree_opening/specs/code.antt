@@ -1,0 +1,4 @@
+pub mod ViewSettings
+pub mod LaidObjects
+pub mod Pending
+pub mod Apart

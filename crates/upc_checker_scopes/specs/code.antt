@@ -1,0 +1,4 @@
+pub mod ViewOwnTags
+pub mod ViewFunctions
+pub mod ViewPlaces
+pub mod ViewDefined

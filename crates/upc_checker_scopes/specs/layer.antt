@@ -1,0 +1,4 @@
+pub mod Ends
+pub mod Finishes
+pub mod Views
+pub mod ViewTags

@@ -1,0 +1,5 @@
+pub mod Table
+pub mod Walk
+pub mod Effects
+pub mod Lines
+pub mod Known

@@ -1,0 +1,4 @@
+pub mod Outcome
+pub mod Tables
+pub mod Ahead
+pub mod Run

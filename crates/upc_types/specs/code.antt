@@ -1,0 +1,5 @@
+pub mod KeptCells
+pub mod TypeCodes
+pub mod Targets
+pub mod Starts
+pub mod Made

@@ -1,0 +1,5 @@
+pub mod Chunks
+pub mod Apart
+pub mod Rounds
+pub mod Collective
+pub mod Together
