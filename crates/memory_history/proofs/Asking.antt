@@ -66,7 +66,7 @@ module _ (o : Opening) (es : List Entry) (p : PartsState) (k : IsKept o es) (a :
 
   pub ask-same : (x : Action) → formed.may_ask o es x ≡ said.may_ask p x
   ask-same (act.Read l s) = may_read-answer o es p.heap l s a.heap
-  ask-same (act.Write l v s) =
+  ask-same (act.Write s l v) =
       may_write-answer o es p.heap l v s a.heap ∙ ap (λ b. fits_cell v (cell_at p.heap l) && b) (known-same v)
   ask-same act.Fence = refl
   ask-same act.Beat = refl
@@ -151,7 +151,7 @@ module _ (o : Opening) (es : List Entry) (p : PartsState) (k : IsKept o es) (a :
 
   pub answer-same : (t : ℕ) (x : Action) → t < o.threads → IsWellFormed o es x → reply o es t x ≡ answer t x p
   answer-same t (act.Read l s) b f = ap valued (held-answer o es p.heap l a.heap)
-  answer-same t (act.Write l v s) b f = refl
+  answer-same t (act.Write s l v) b f = refl
   answer-same t act.Fence b f = refl
   answer-same t act.Beat b f = refl
   answer-same t (act.Notify m) b f = refl

@@ -287,9 +287,9 @@ module _ (o : Opening) (es : List Entry) (p : PartsState) (k : IsKept o es) (a :
   -- ---- any action
 
   next-after : (x : Action) (r : Reply) → IsWellFormed o es x → reply o es t x ≡ Some r
-      → ((l : Loc) (v : Scalar) (s : Bool) → x ≡ act.Write l v s → ⊥) → IsAfter o (now x r) (next t x r p)
+      → ((l : Loc) (v : Scalar) (s : Bool) → x ≡ act.Write s l v → ⊥) → IsAfter o (now x r) (next t x r p)
   next-after (act.Read l s) r f e w = quiet-after (act.Read l s) r refl refl refl refl refl
-  next-after (act.Write l v s) r f e w = absurd (w l v s refl)
+  next-after (act.Write s l v) r f e w = absurd (w l v s refl)
   next-after act.Fence r f e w = quiet-after act.Fence r refl refl refl refl refl
   next-after act.Beat r f e w = quiet-after act.Beat r refl refl refl refl refl
   next-after (act.Notify m) r f e w = barrier-after (act.Notify m) r _ (barrier-notify o es t i m r p.barrier b a.barrier) refl refl refl
@@ -308,7 +308,7 @@ module _ (o : Opening) (es : List Entry) (p : PartsState) (k : IsKept o es) (a :
   next-after (act.Exit v) r f e w = quiet-after (act.Exit v) r refl refl refl refl refl
 
   pub acted-after : (x : Action) (r : Reply) (q : PartsState) → IsWellFormed o es x → reply o es t x ≡ Some r → Acted t x r p q → IsAfter o (now x r) q
-  acted-after (act.Write l v s) r q f e c =
-      subst (IsAfter o (now (act.Write l v s) r)) (sym c.1)
-      (heap-after (act.Write l v s) r q.heap (write-push o es t i l v s r p.heap q.heap a.heap c.0) refl refl refl refl)
+  acted-after (act.Write s l v) r q f e c =
+      subst (IsAfter o (now (act.Write s l v) r)) (sym c.1)
+      (heap-after (act.Write s l v) r q.heap (write-push o es t i l v s r p.heap q.heap a.heap c.0) refl refl refl refl)
   acted-after x r q f e c = subst (IsAfter o (now x r)) (sym c) (next-after x r f e (λ l v s z. absurd cc))

@@ -214,7 +214,7 @@ reply-fits o es t (act.Meet c args) r i g f w e =
 reply-fits o es t act.LockMake r i g f w e =
     fit-some o.threads o.shapes act.LockMake (Some (Value (Lock (locks es + 1)))) r
     (lt-ltb 0 (locks es + 1) (omega arith)) e
-reply-fits o es t (act.Write l v s) r i g f w e = fit-some o.threads o.shapes (act.Write l v s) (Some Done) r refl e
+reply-fits o es t (act.Write s l v) r i g f w e = fit-some o.threads o.shapes (act.Write s l v) (Some Done) r refl e
 reply-fits o es t act.Fence r i g f w e = fit-some o.threads o.shapes act.Fence (Some Done) r refl e
 reply-fits o es t act.Beat r i g f w e = fit-some o.threads o.shapes act.Beat (Some Done) r refl e
 reply-fits o es t (act.Notify m) r i g f w e = fit-some o.threads o.shapes (act.Notify m) (Some Done) r refl e

@@ -62,7 +62,7 @@ may_read-answer o es h l s a = ap is_some (cell-answer o es h l a)
 
 pub may_write-answer : (o : Opening) (es : List Entry) (h : HeapState) (l : Loc) (v : Scalar) (s : Bool)
     → HeapAfter o es h
-    → may_ask o es (act.Write l v s) ≡ (fits_cell v (cell_at h l) && is_known o es v)
+    → may_ask o es (act.Write s l v) ≡ (fits_cell v (cell_at h l) && is_known o es v)
 may_write-answer o es h l v s a = ap (λ k. fits_cell v k && is_known o es v) (cell-answer o es h l a)
 
 pub may_free-answer : (o : Opening) (es : List Entry) (h : HeapState) (p : SharedPtr) → HeapAfter o es h

@@ -81,7 +81,7 @@ still-push o es e h a s =
 
 -- neither a write, an allocation, a free nor a collective call
 abbrev pub is_quiet : Action → Bool
-is_quiet (act.Write l v s) = false
+is_quiet (act.Write s l v) = false
 is_quiet (act.Alloc n b h s) = false
 is_quiet (act.Free p) = false
 is_quiet (act.Meet c args) = false
@@ -89,7 +89,7 @@ is_quiet a = true
 
 pub quiet-still : (es : List Entry) (t i : ℕ) (a : Action) (r : Reply) → is_quiet a ≡ true
     → IsStill es (entry_of t i a r)
-quiet-still es t i (act.Write l v s) r h = absurd (false≢true h)
+quiet-still es t i (act.Write s l v) r h = absurd (false≢true h)
 quiet-still es t i (act.Alloc n b m s) r h = absurd (false≢true h)
 quiet-still es t i (act.Free p) r h = absurd (false≢true h)
 quiet-still es t i (act.Meet c args) r h = absurd (false≢true h)
@@ -101,11 +101,11 @@ quiet-still es t i a r h = record {
 
 -- an action that is no write
 abbrev pub is_write : Action → Bool
-is_write (act.Write l v s) = true
+is_write (act.Write s l v) = true
 is_write a = false
 
 written-none : (l : Loc) (a : Action) → is_write a ≡ false → written l a ≡ None
-written-none l (act.Write k v s) h = absurd (false≢true (sym h))
+written-none l (act.Write s k v) h = absurd (false≢true (sym h))
 written-none l a h = refl
 
 -- a refused action, whichever it is
@@ -196,21 +196,21 @@ or_else-saved false v w = refl
 
 pub write-push : (o : Opening) (es : List Entry) (t i : ℕ) (l : Loc) (v : Scalar) (s : Bool) (r : Reply)
     (h k : HeapState) → HeapAfter o es h
-    → IsSaved h l v k → HeapAfter o (es ++ entry_of t i (act.Write l v s) r ∷ []) k
+    → IsSaved h l v k → HeapAfter o (es ++ entry_of t i (act.Write s l v) r ∷ []) k
 write-push o es t i l v s r h k a q =
-    let e = entry_of t i (act.Write l v s) r in
-    let none = idle es e (makes-none (act.Write l v s) (is_none (leader (length (meets t es)) es)) refl) in
+    let e = entry_of t i (act.Write s l v) r in
+    let none = idle es e (makes-none (act.Write s l v) (is_none (leader (length (meets t es)) es)) refl) in
     heap-push o es e h k a q.opening (q.made ∙ sym (ap (λ z. h.made ++ z) none ∙ append-nil h.made))
     (q.released ∙ a.released
     ∙ still-flags es e h.made
-    (λ n. releases-none n (act.Write l v s) (is_none (leader (length (meets t es)) es)) r refl)
+    (λ n. releases-none n (act.Write s l v) (is_none (leader (length (meets t es)) es)) r refl)
     ∙ ap (map (λ x. is_released x.number (es ++ e ∷ []))) (sym q.made))
     (λ n. q.written n ∙ or_else-saved (same_loc l n) v (heap.written h n))
 
 -- ---- a new object
 
 makes-unwritten : (l : Loc) (a : Action) → makes a (asked a) ≡ true → written l a ≡ None
-makes-unwritten l (act.Write k v s) h = absurd (false≢true h)
+makes-unwritten l (act.Write s k v) h = absurd (false≢true h)
 makes-unwritten l a h = refl
 
 -- an entry that makes a new object

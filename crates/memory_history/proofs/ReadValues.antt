@@ -48,7 +48,7 @@ fits-push o es e l (Some v) h =
 
 action-fits : (o : Opening) (es : List Entry) (l : Loc) (a : Action) → IsWellFormed o es a
     → FitsIn (cell_of o (objects o es) l) (written l a)
-action-fits o es l (act.Write m v s) f =
+action-fits o es l (act.Write s m v) f =
     let k = cell_of o (objects o es) l in
     cond_both (same_loc m l) (Some v) None (FitsIn k)
     (λ t. subst (λ z. fits_cell v (cell_of o (objects o es) z) ≡ true) (same_loc-true m l t)
@@ -99,7 +99,7 @@ named-read : (o : Opening) (xs : List ObjectRef) (l : Loc) (p : SharedPtr) → I
     → is_named o.threads xs p ≡ true → is_read o.threads o.shapes (cell_of o xs l) (Shared p) ≡ true
 named-read o xs l p i f n =
     let q = with_objects o xs in
-    let asks : IsWellFormed q [] (act.Write l (Shared p) false) =
+    let asks : IsWellFormed q [] (act.Write false l (Shared p)) =
     and_from (fits_cell (Shared p) (cell_of o (xs ++ []) l)) (is_named o.threads (xs ++ []) p)
     (subst (λ z. fits_cell (Shared p) (cell_of o z l) ≡ true) (sym (append-nil xs)) f)
     (subst (λ z. is_named o.threads z p ≡ true) (sym (append-nil xs)) n) in
@@ -147,7 +147,7 @@ read-fits o es t l s r i g f w e = go (held o es l) refl
 
 -- the value of a write that may be asked for may be read
 pub pending-fits : (o : Opening) (es : List Entry) (l : Loc) (s w : Bool) (v : Scalar) → IsOpening o → IsLegal o es
-    → AreWellFormed o es → IsWellFormed o es (act.Write l v w) → fits_after o es (act.Read l s) (Value v) ≡ true
+    → AreWellFormed o es → IsWellFormed o es (act.Write w l v) → fits_after o es (act.Read l s) (Value v) ≡ true
 pending-fits o es l s w v i g f h =
     let p = and_parts (fits_cell v (cell_of o (objects o es) l)) (is_known o es v) h in
     go v p.0 p.1

@@ -8,4 +8,4 @@ use Rattle.upc_values.specs.Views.{location_behind}
 
 -- one cell is read and written
 abbrev pub copy_one : Part → ℕ × Kind → Expansion (Unit {0})
-copy_one x c = Reads (location_behind x.from c.0) c.1 (λ v. does (act.Write (location_behind x.into c.0) v false))
+copy_one x c = Reads (location_behind x.from c.0) c.1 (λ v. does (act.Write false (location_behind x.into c.0) v))

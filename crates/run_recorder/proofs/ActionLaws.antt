@@ -153,7 +153,7 @@ action_takes = tagged_takes (Is []) action_table handles
 
 action_again : (a : Action) (rest : List Text) → FitsAction a → action_of (action_words a ++ rest) ≡ Some (a, rest)
 action_again (action.Read l s) rest h = then_again strict _ s _ tt ∙ then_again loc _ l rest h
-action_again (action.Write l v s) rest h = then_again strict _ s _ tt ∙ then_again loc _ l _ h.0
+action_again (action.Write s l v) rest h = then_again strict _ s _ tt ∙ then_again loc _ l _ h.0
     ∙ then_again scalar _ v rest h.1
 action_again action.Fence rest h = refl
 action_again action.Beat rest h = refl
@@ -174,7 +174,7 @@ action_again (action.Exit v) rest h = then_again z32 _ v rest h
 
 action_plain : (a : Action) → FitsAction a → EachPasses in_word (action_words a)
 action_plain (action.Read l s) h = (refl, (field_strict.plain s tt, loc.plain l h))
-action_plain (action.Write l v s) h = (refl, (field_strict.plain s tt, (field_loc.plain l h.0, scalar.plain v h.1)))
+action_plain (action.Write s l v) h = (refl, (field_strict.plain s tt, (field_loc.plain l h.0, scalar.plain v h.1)))
 action_plain action.Fence h = (refl, tt)
 action_plain action.Beat h = (refl, tt)
 action_plain (action.Wait m) h = (refl, mark.plain m h)

@@ -107,7 +107,7 @@ item_choice false ws i rest e = did_takes ws i rest e
 
 not_stall : (a : Action) (ws : List Text) → heads (codes "stall") (action_words a ++ ws) ≡ false
 not_stall (action.Read l s) ws = refl
-not_stall (action.Write l v s) ws = refl
+not_stall (action.Write s l v) ws = refl
 not_stall action.Fence ws = refl
 not_stall action.Beat ws = refl
 not_stall (action.Notify m) ws = refl

@@ -13,7 +13,7 @@ use Rattle.run_recorder_text.specs.Words.{Text, action_words, reply_words, item_
 
 some_before : (a : Action) (ws : List Text) → 0 < length (action_words a ++ ws)
 some_before (action.Read l s) ws = omega arith
-some_before (action.Write l v s) ws = omega arith
+some_before (action.Write s l v) ws = omega arith
 some_before action.Fence ws = omega arith
 some_before action.Beat ws = omega arith
 some_before (action.Notify m) ws = omega arith

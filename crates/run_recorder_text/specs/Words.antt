@@ -90,7 +90,7 @@ hex_text (b ∷ bs) = encode_lower (b ∷ bs)
 -- An action is its name and what it asks for.
 abbrev pub action_words : Action → List Text
 action_words (action.Read loc strict) = codes "read" ∷ strict_text strict ∷ loc_text loc ∷ []
-action_words (action.Write loc value strict) =
+action_words (action.Write strict loc value) =
     codes "write" ∷ strict_text strict ∷ loc_text loc ∷ scalar_text value ∷ []
 action_words action.Fence = codes "fence" ∷ []
 action_words action.Beat = codes "beat" ∷ []

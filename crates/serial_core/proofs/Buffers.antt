@@ -36,9 +36,9 @@ use Rattle.write_buffer.proofs.Youngest.{youngest-written}
 
 -- ways
 
-pub stores-is : (a : Action) (l : Loc) (v : Scalar) → way_of a ≡ Stores l v → a ≡ Write l v false
-stores-is (Write k u false) l v h = let p : k ≡ l = cc in let q : u ≡ v = cc in cc
-stores-is (Write k u true) l v h = absurd cc
+pub stores-is : (a : Action) (l : Loc) (v : Scalar) → way_of a ≡ Stores l v → a ≡ Write false l v
+stores-is (Write false k u) l v h = let p : k ≡ l = cc in let q : u ≡ v = cc in cc
+stores-is (Write true k u) l v h = absurd cc
 stores-is (Read k false) l v h = absurd cc
 stores-is (Read k true) l v h = absurd cc
 stores-is a l v h = absurd cc
@@ -46,31 +46,31 @@ stores-is a l v h = absurd cc
 pub looks-is : (a : Action) (l : Loc) → way_of a ≡ Looks l → a ≡ Read l false
 looks-is (Read k false) l h = let p : k ≡ l = cc in cc
 looks-is (Read k true) l h = absurd cc
-looks-is (Write k u false) l h = absurd cc
-looks-is (Write k u true) l h = absurd cc
+looks-is (Write false k u) l h = absurd cc
+looks-is (Write true k u) l h = absurd cc
 looks-is a l h = absurd cc
 
 pub passes-gone : (a : Action) (e : Entry) (w : Walk) → way_of a ≡ Passes → gone e a w ≡ passed e w
 passes-gone (Print x) e w h = refl
 passes-gone (Read k false) e w h = absurd cc
 passes-gone (Read k true) e w h = absurd cc
-passes-gone (Write k u false) e w h = absurd cc
-passes-gone (Write k u true) e w h = absurd cc
+passes-gone (Write false k u) e w h = absurd cc
+passes-gone (Write true k u) e w h = absurd cc
 passes-gone a e w h = absurd cc
 
 passes-reply : (o : Opening) (seen : List Entry) (t : ℕ) (a : Action) → way_of a ≡ Passes → reply o seen t a ≡ Some Done
 passes-reply o seen t (Print x) h = refl
 passes-reply o seen t (Read k false) h = absurd cc
 passes-reply o seen t (Read k true) h = absurd cc
-passes-reply o seen t (Write k u false) h = absurd cc
-passes-reply o seen t (Write k u true) h = absurd cc
+passes-reply o seen t (Write false k u) h = absurd cc
+passes-reply o seen t (Write true k u) h = absurd cc
 passes-reply o seen t a h = absurd cc
 
 pub empties-gone : (a : Action) (e : Entry) (w : Walk) → way_of a ≡ Empties → gone e a w ≡ passed e (emptied w)
 empties-gone (Read k false) e w h = absurd cc
 empties-gone (Read k true) e w h = refl
-empties-gone (Write k u false) e w h = absurd cc
-empties-gone (Write k u true) e w h = refl
+empties-gone (Write false k u) e w h = absurd cc
+empties-gone (Write true k u) e w h = refl
 empties-gone (Print x) e w h = absurd cc
 empties-gone a e w h = refl
 
@@ -78,7 +78,7 @@ empties-gone a e w h = refl
 
 pub pending-grow : (o : Opening) (seen more : List Entry) (ps : List Pending) → AreFormed o seen ps → AreFormed o (seen ++ more) ps
 pending-grow o seen more [] h = tt
-pending-grow o seen more (p ∷ ps) h = (formed-grow o seen more (Write p.loc p.value false) h.0, pending-grow o seen more ps h.1)
+pending-grow o seen more (p ∷ ps) h = (formed-grow o seen more (Write false p.loc p.value) h.0, pending-grow o seen more ps h.1)
 
 pub grew-same : (t : ℕ) (old new : List Entry) → new ≡ old → Grew t old new
 grew-same t old new h = record { more = []; is = h ∙ sym (append-nil old); all_own = tt }
@@ -185,7 +185,7 @@ length-replaced q (p ∷ ps) =
     let h = length-replaced q ps in
     cond_both (is_some (youngest q.loc ps)) (p ∷ replaced q ps) (q ∷ ps) (λ z. length z ≡ length (p ∷ ps)) (λ e. omega arith) (λ e. omega arith)
 
-formed-replaced : (o : Opening) (seen : List Entry) (q : Pending) (ps : List Pending) → IsWellFormed o seen (Write q.loc q.value false)
+formed-replaced : (o : Opening) (seen : List Entry) (q : Pending) (ps : List Pending) → IsWellFormed o seen (Write false q.loc q.value)
     → AreFormed o seen ps → AreFormed o seen (replaced q ps)
 formed-replaced o seen q [] asked h = tt
 formed-replaced o seen q (p ∷ ps) asked h =
@@ -195,11 +195,11 @@ formed-replaced o seen q (p ∷ ps) asked h =
 -- a relaxed write that takes the place of another
 pub holds-combined : (o : Opening) (t n : ℕ) (l : Loc) (v : Scalar) (seen : List Entry) (ps qs : List Pending) (w : Walk)
     → is_some (youngest l ps) ≡ true → qs ≡ replaced (record { index = n; loc = l; value = v }) ps
-    → IsWellFormed o seen (Write l v false) → Holds o t seen ps n w
-    → Holds o t seen qs (n + 1) (gone (entry_of t n (Write l v false) Done) (Write l v false) w)
+    → IsWellFormed o seen (Write false l v) → Holds o t seen ps n w
+    → Holds o t seen qs (n + 1) (gone (entry_of t n (Write false l v) Done) (Write false l v) w)
 holds-combined o t n l v seen ps qs w some is asked k =
     let q : Pending = record { index = n; loc = l; value = v } in
-    let e : Entry = entry_of t n (Write l v false) Done in
+    let e : Entry = entry_of t n (Write false l v) Done in
     let P : Option Scalar → Type 0 = λ f. is_some f ≡ true → Holds o t seen (replaced q ps) (n + 1) (put l e f w) in
     let there : is_some (pending_value l w.pending) ≡ true =
     ap is_some (value-is t l ps w.pending k.inside) ∙ some-value (youngest l ps) ∙ some in
@@ -214,15 +214,15 @@ holds-combined o t n l v seen ps qs w some is asked k =
       }
       | None ↦ λ y. absurd (false≢true y)
     ] in
-    subst (λ z. Holds o t seen z (n + 1) (gone e (Write l v false) w)) (sym is) (go (pending_value l w.pending) there)
+    subst (λ z. Holds o t seen z (n + 1) (gone e (Write false l v) w)) (sym is) (go (pending_value l w.pending) there)
 
 -- a relaxed write where there is room
 pub holds-stored : (o : Opening) (t n : ℕ) (l : Loc) (v : Scalar) (seen : List Entry) (ps qs : List Pending) (w : Walk)
-    → youngest l ps ≡ None → (length ps ≡ 64 → ⊥) → ps ++ record { index = n; loc = l; value = v } ∷ [] ≡ qs → IsWellFormed o seen (Write l v false)
-    → Holds o t seen ps n w → Holds o t seen qs (n + 1) (gone (entry_of t n (Write l v false) Done) (Write l v false) w)
+    → youngest l ps ≡ None → (length ps ≡ 64 → ⊥) → ps ++ record { index = n; loc = l; value = v } ∷ [] ≡ qs → IsWellFormed o seen (Write false l v)
+    → Holds o t seen ps n w → Holds o t seen qs (n + 1) (gone (entry_of t n (Write false l v) Done) (Write false l v) w)
 holds-stored o t n l v seen ps qs w none full is asked k =
     let p : Pending = record { index = n; loc = l; value = v } in
-    let e : Entry = entry_of t n (Write l v false) Done in
+    let e : Entry = entry_of t n (Write false l v) Done in
     let many : length (map (committed t) ps) ≡ length ps = length-map ps (committed t) in
     let many2 : length (map (committed t) ps) ≡ length w.pending = ap length k.inside ∙ entries-many w.pending in
     let room : length ps ≤ 64 = k.room in
@@ -235,24 +235,24 @@ holds-stored o t n l v seen ps qs w none full is asked k =
       room = (let l1 = ap length (sym is) in let l2 = length-append ps (p ∷ []) in omega (arith, l1, l2));
       number = ap (λ m. m + 1) k.number;
       agrees = and_from w.agrees true k.agrees refl;
-      formed = subst (AreFormed o seen) is (each-append (λ q. IsWellFormed o seen (Write q.loc q.value false)) ps (p ∷ []) k.formed (asked, tt));
+      formed = subst (AreFormed o seen) is (each-append (λ q. IsWellFormed o seen (Write false q.loc q.value)) ps (p ∷ []) k.formed (asked, tt));
     }))
 
 -- a relaxed write where the oldest leaves
 pub holds-overflown : (o : Opening) (t n : ℕ) (l : Loc) (v : Scalar) (seen : List Entry) (ps qs : List Pending) (f : Pending) (w : Walk)
-    → youngest l ps ≡ None → length ps ≡ 64 → ps ++ record { index = n; loc = l; value = v } ∷ [] ≡ f ∷ qs → IsWellFormed o seen (Write l v false)
+    → youngest l ps ≡ None → length ps ≡ 64 → ps ++ record { index = n; loc = l; value = v } ∷ [] ≡ f ∷ qs → IsWellFormed o seen (Write false l v)
     → Holds o t seen ps n w
-    → Holds o t (seen ++ committed t f ∷ []) qs (n + 1) (gone (entry_of t n (Write l v false) Done) (Write l v false) w)
+    → Holds o t (seen ++ committed t f ∷ []) qs (n + 1) (gone (entry_of t n (Write false l v) Done) (Write false l v) w)
 holds-overflown o t n l v seen ps qs f w none full is asked k =
     let p : Pending = record { index = n; loc = l; value = v } in
-    let e : Entry = entry_of t n (Write l v false) Done in
+    let e : Entry = entry_of t n (Write false l v) Done in
     let many : length (map (committed t) ps) ≡ length ps = length-map ps (committed t) in
     let many2 : length (map (committed t) ps) ≡ length w.pending = ap length k.inside ∙ entries-many w.pending in
     let all : 64 ≤ length w.pending = omega arith in
     let both : entries_in w.pending ++ e ∷ [] ≡ committed t f ∷ map (committed t) qs =
     ap (λ z. z ++ e ∷ []) (sym k.inside) ∙ sym (map-append (committed t) ps (p ∷ [])) ∙ ap (map (committed t)) is in
     let formed : AreFormed o seen (f ∷ qs) = subst (AreFormed o seen) is
-    (each-append (λ q. IsWellFormed o seen (Write q.loc q.value false)) ps (p ∷ []) k.formed (asked, tt)) in
+    (each-append (λ q. IsWellFormed o seen (Write false q.loc q.value)) ps (p ∷ []) k.formed (asked, tt)) in
     let few : length qs ≤ 64 = (let l1 = ap length is in let l2 = length-append ps (p ∷ []) in omega (arith, l1, l2)) in
     let go : (cs : List Commit) → w.pending ≡ cs → Holds o t (seen ++ committed t f ∷ []) qs (n + 1) (stored e (oldest_out cs w)) =
     λ cs. elim cs as (λ cs. w.pending ≡ cs → Holds o t (seen ++ committed t f ∷ []) qs (n + 1) (stored e (oldest_out cs w))) [
@@ -278,11 +278,11 @@ holds-overflown o t n l v seen ps qs f w none full is asked k =
 pub holds-kept : (o : Opening) (t n : ℕ) (l : Loc) (v : Scalar) (seen : List Entry) (ps qs : List Pending) (w : Walk)
     → (is_some (youngest l ps) ≡ true → qs ≡ replaced (record { index = n; loc = l; value = v }) ps)
     → (youngest l ps ≡ None → ps ++ record { index = n; loc = l; value = v } ∷ [] ≡ qs)
-    → (length ps ≡ 64 → youngest l ps ≡ None → ⊥) → IsWellFormed o seen (Write l v false)
-    → Holds o t seen ps n w → Holds o t seen qs (n + 1) (gone (entry_of t n (Write l v false) Done) (Write l v false) w)
+    → (length ps ≡ 64 → youngest l ps ≡ None → ⊥) → IsWellFormed o seen (Write false l v)
+    → Holds o t seen ps n w → Holds o t seen qs (n + 1) (gone (entry_of t n (Write false l v) Done) (Write false l v) w)
 holds-kept o t n l v seen ps qs w some none full asked k =
     let P : Option Pending → Type 0 =
-    λ f. youngest l ps ≡ f → Holds o t seen qs (n + 1) (gone (entry_of t n (Write l v false) Done) (Write l v false) w) in
+    λ f. youngest l ps ≡ f → Holds o t seen qs (n + 1) (gone (entry_of t n (Write false l v) Done) (Write false l v) w) in
     let go : (f : Option Pending) → P f = λ f. elim f as P [
       | Some p ↦ λ e. holds-combined o t n l v seen ps qs w (ap is_some e) (some (ap is_some e)) asked k
       | None ↦ λ e. holds-stored o t n l v seen ps qs w e (λ many. full many e) (none e) asked k
@@ -308,15 +308,15 @@ value_of : Pending → Scalar
 value_of p = p.value
 
 pub youngest-formed : (o : Opening) (seen : List Entry) (l : Loc) (ps : List Pending) (q : Pending) → AreFormed o seen ps → youngest l ps ≡ Some q
-    → IsWellFormed o seen (Write q.loc q.value false)
+    → IsWellFormed o seen (Write false q.loc q.value)
 youngest-formed o seen l [] q h e = absurd cc
 youngest-formed o seen l (p ∷ ps) q h e =
     let G : Option Pending → Bool → Type 0 = λ f b. youngest l ps ≡ f → option_or f (cond b (Some p) None) ≡ Some q
-    → IsWellFormed o seen (Write q.loc q.value false) in
+    → IsWellFormed o seen (Write false q.loc q.value) in
     let go : (f : Option Pending) (b : Bool) → G f b = λ f b. elim f as (λ f. G f b) [
       | Some g ↦ λ x y. youngest-formed o seen l ps q h.1 (x ∙ y)
       | None ↦ elim b as (λ b. G None b) [
-        | true ↦ λ x y. let same : p ≡ q = cc in subst (λ z. IsWellFormed o seen (Write z.loc z.value false)) same h.0
+        | true ↦ λ x y. let same : p ≡ q = cc in subst (λ z. IsWellFormed o seen (Write false z.loc z.value)) same h.0
         | false ↦ λ x y. absurd cc
       ]
     ] in
@@ -437,8 +437,8 @@ pub forwarded-answers : (o : Opening) (t i : ℕ) (l : Loc) (v : Scalar) (seen :
     → AreWellFormed o seen → AreFormed o seen ps → way_of a ≡ Looks l → hit i v ≡ hits (youngest l ps) → IsAnswer o t seen a (Some (Value v))
 forwarded-answers o t i l v seen ps a valid legal lawful formed h y =
     let f = found-some (youngest l ps) i v y in
-    let asked : IsWellFormed o seen (Write l f.0.value false) =
-    subst (λ k. IsWellFormed o seen (Write k f.0.value false)) (youngest-loc l ps f.0 f.1) (youngest-formed o seen l ps f.0 formed f.1) in
+    let asked : IsWellFormed o seen (Write false l f.0.value) =
+    subst (λ k. IsWellFormed o seen (Write false k f.0.value)) (youngest-loc l ps f.0 f.1) (youngest-formed o seen l ps f.0 formed f.1) in
     subst (λ b. IsAnswer o t seen b (Some (Value v))) (sym (looks-is a l h))
     (subst (λ u. IsAnswer o t seen (Read l false) (Some (Value u))) f.2
     (pending-fits o seen l false false f.0.value valid legal lawful asked, written-known o seen l f.0.value false asked))

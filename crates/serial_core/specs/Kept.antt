@@ -46,14 +46,14 @@ pub record AreLimits (l : Limits) : Type 0 where
 
 -- How an action goes by the write buffer.
 abbrev pub way_of : Action → Way
-way_of (Write l v false) = Stores l v
+way_of (Write false l v) = Stores l v
 way_of (Read l false) = Looks l
 way_of (Print x) = Passes
 way_of a = Empties
 
 -- The pending writes may be asked for after the entries seen.
 abbrev pub AreFormed : Opening → List Entry → List Pending → Type 0
-AreFormed o seen ps = Each (λ p. IsWellFormed o seen (Write p.loc p.value false)) ps
+AreFormed o seen ps = Each (λ p. IsWellFormed o seen (Write false p.loc p.value)) ps
 
 -- The entries of thread t among those seen, its buffer and the number of its next action are those of the walk.
 pub record Holds (o : Opening) (t : ℕ) (seen : List Entry) (pending : List Pending) (next : ℕ) (w : Walk) : Type 0 where

@@ -276,7 +276,7 @@ reduces-one :
     thread_outcome reduces 0 100 (done 5 ++ Value (Int (pos 7)) ∷ done 5)
     ≡ outcome
     (begins ++ act.Meet 11 reduction_with ∷ all_at_once
-    ++ act.Read (at_object 1 0) false ∷ act.Write (at_object 2 0) (Int (pos 7)) false ∷ all_at_once ++ ends) 0
+    ++ act.Read (at_object 1 0) false ∷ act.Write false (at_object 2 0) (Int (pos 7)) ∷ all_at_once ++ ends) 0
     (told.Ended (pos 0))
 unfolding thread_outcome most_calls ask notify wait begin_call end_call open_block close_block
     cast library run meet

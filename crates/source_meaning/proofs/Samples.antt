@@ -109,7 +109,7 @@ abbrev pub at_object : (object thread : ℕ) → Loc
 at_object object thread = record { object = object; thread = thread; offset = 0 }
 
 abbrev writes_one : Action
-writes_one = act.Write (at_object 1 0) (Int (pos 1)) true
+writes_one = act.Write true (at_object 1 0) (Int (pos 1))
 
 writing-wants :
     thread_outcome writing 0 100 (done 5)
@@ -126,7 +126,7 @@ grows = program 1 (shared_object shared_int 1 ∷ []) (main (block [] (gives (gr
 grows-reads :
     thread_outcome grows 0 100 (done 2 ++ Value (Int (pos 7)) ∷ done 3)
     ≡ outcome
-    (begins ++ act.Read (at_object 1 0) false ∷ act.Write (at_object 1 0) (Int (pos 8)) false ∷ ends) 0
+    (begins ++ act.Read (at_object 1 0) false ∷ act.Write false (at_object 1 0) (Int (pos 8)) ∷ ends) 0
     (told.Ended (pos 7))
 unfolding thread_outcome most_calls ask notify wait begin_call end_call open_block close_block
     operate cast load save
@@ -178,7 +178,7 @@ shared_out =
     ∷ [])
 
 abbrev writes : ℤ → Outcome
-writes v = outcome (begins ++ act.Write (at_object 1 0) (Int v) false ∷ ends) 5 (told.Ended (pos 0))
+writes v = outcome (begins ++ act.Write false (at_object 1 0) (Int v) ∷ ends) 5 (told.Ended (pos 0))
 
 turn-of-2 : thread_outcome shared_out 2 100 (done 5) ≡ writes (negsuc 1)
 unfolding thread_outcome most_calls ask notify wait begin_call end_call open_block close_block
@@ -231,7 +231,7 @@ nested = program 2 (shared_object (ints 2) 1 ∷ []) (inner ∷ outer ∷ [])
 
 -- One `c[MYTHREAD]++` that reads this.
 abbrev counts : ℤ → List Action
-counts v = act.Read (at_object 1 0) false ∷ act.Write (at_object 1 0) (Int (v +ℤ pos 1)) false ∷ []
+counts v = act.Read (at_object 1 0) false ∷ act.Write false (at_object 1 0) (Int (v +ℤ pos 1)) ∷ []
 
 abbrev answers : ℤ → List Reply
 answers v = Value (Int v) ∷ Done ∷ []

@@ -273,7 +273,7 @@ module _ (o : Opening) (past : List Reply) (v : IsOpening o) (finds : FindsNamed
   put_goes : (k : Kind) (q : SharedPtr) (n : ℤ) → is_integer k ≡ true → IsCell k q → IsOf k n
       → Goes Nothing (x.number_put o.threads o.shapes me q n)
   put_goes k q n i h e =
-      does_goes (act.Write (location q) (scalar.Int n) false)
+      does_goes (act.Write false (location q) (scalar.Int n))
       (and_from (fits_cell (scalar.Int n) (cell_of o (objects_given o past) (location q))) true
       (subst (λ c. fits_cell (scalar.Int n) c ≡ true) (sym h) (and_from (is_integer k) (in_kind k n) i e)) refl)
       (λ r. refl)

@@ -72,7 +72,7 @@ may_call o past Other = false
 -- An action may be asked for by the names that were given.
 abbrev pub IsWellFormed : Opening → List Reply → Action → Type 0
 IsWellFormed o past (act.Read l s) = is_some (cell_of o (objects_given o past) l) ≡ true
-IsWellFormed o past (act.Write l v s) =
+IsWellFormed o past (act.Write s l v) =
     (fits_cell v (cell_of o (objects_given o past) l) && is_known o past v) ≡ true
 IsWellFormed o past (act.Lock l) = is_lock_given past l ≡ true
 IsWellFormed o past (act.Attempt l) = is_lock_given past l ≡ true

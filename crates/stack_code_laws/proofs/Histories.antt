@@ -137,7 +137,7 @@ module _ (o : Opening) (rs : List Reply) where
   -- What may be asked for names what was given.
   pub names_given : (a : Action) → IsWellFormed o rs a → NamesGiven o rs a
   names_given (act.Read l s) h = object_named l h
-  names_given (act.Write l v s) h =
+  names_given (act.Write s l v) h =
       let q = and_parts (fits_cell v (cell_of o (objects_given o rs) l)) (is_known o rs v) h in
       (object_named l (fits_some v (cell_of o (objects_given o rs) l) q.0), scalar_named v q.1)
   names_given (act.Lock l) h = h
@@ -365,7 +365,7 @@ module _ (o : Opening) (es : List Entry) where
     -- What may be asked for by the names that were given may be asked for after the history.
     pub formed_there : (a : Action) → IsWellFormed o rs a → history.IsWellFormed o es a
     formed_there (act.Read l s) h = subst (λ c. is_some c ≡ true) (cell_there l h) h
-    formed_there (act.Write l w s) h =
+    formed_there (act.Write s l w) h =
         let q = and_parts (fits_cell w (cell_of o (objects_given o rs) l)) (is_known o rs w) h in
         let cell = cell_there l (fits_some w (cell_of o (objects_given o rs) l) q.0) in
         and_from (fits_cell w (cell_of o (objects o es) l)) (history.is_known o es w)
@@ -390,7 +390,7 @@ module _ (o : Opening) (es : List Entry) where
         → history.fits_after o es a r ≡ fits_after o rs a r
     fits_there (act.Read l s) h r =
         ap (λ c. fits o.threads o.shapes c (act.Read l s) r) (sym (cell_there l h))
-    fits_there (act.Write l w s) h r = refl
+    fits_there (act.Write s l w) h r = refl
     fits_there (act.Lock l) h r = refl
     fits_there (act.Attempt l) h r = refl
     fits_there (act.Unlock l) h r = refl

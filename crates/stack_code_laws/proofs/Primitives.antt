@@ -194,12 +194,12 @@ module _ (op : Opening) (past : List Reply) (v : IsOpening op) (finds : FindsNam
     write_asks : (strict : Bool) (at : Loc) (w : Scalar) → (P → cell_of op (objects_given op past) at ≡ Some k)
         → (P → fits_kind w k ≡ true) → (P → IsKnownScalar w) → Asks op past (Unit {0}) P Nothing (x.write τ strict at w)
     write_asks strict at w h f g =
-        then_asks op past Reply (Unit {0}) P (IsAnswer None (act.Write at w strict)) Nothing
-        (a.ask τ None (act.Write at w strict)) (λ r. skip)
-        (ask_asks op past τ None (act.Write at w strict) P
+        then_asks op past Reply (Unit {0}) P (IsAnswer None (act.Write strict at w)) Nothing
+        (a.ask τ None (act.Write strict at w)) (λ r. skip)
+        (ask_asks op past τ None (act.Write strict at w) P
         (λ q. and_from (fits_cell w (cell_of op (objects_given op past) at)) (is_known op past w)
         (subst (λ c. fits_cell w c ≡ true) (sym (h q)) (f q)) (g q)) (λ q r. refl))
-        (λ r. skip_asks op past (P × IsAnswer None (act.Write at w strict) r))
+        (λ r. skip_asks op past (P × IsAnswer None (act.Write strict at w) r))
 
     -- The location that an access reaches is a cell of that kind.
     abbrev IsCell : Loc → Type 0

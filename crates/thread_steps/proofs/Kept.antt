@@ -293,7 +293,7 @@ module _ (τ : Thread) (P : Property) (K : IsKept τ P) (n d : ℕ) where
       → P n d (Unit {0}) (x.save_shared τ kind strict at q v)
   save_shared_kept kind strict at q v =
       first (valued at (x.cell τ kind q)) _ (valued_kept at (x.cell τ kind q)) (λ l.
-      ask_only (act.Write l (kept_scalar kind (scalar_of v)) strict) tt)
+      ask_only (act.Write strict l (kept_scalar kind (scalar_of v))) tt)
 
   pub load_kept : (kind : Kind) (strict : Bool) (at : Place) (q : Value) → P n d Value (x.load τ kind strict at q)
   unfolding x.load

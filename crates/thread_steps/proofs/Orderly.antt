@@ -128,7 +128,7 @@ module _ (flag : Bool) (threads : ℕ) (shapes : List Shape) (private : Option S
   written_orderly : (dst : Area) (cell : ℕ × Kind) (v : Scalar)
       → Orderly flag (Unit {0}) (m.written threads shapes private dst cell v)
   written_orderly Nowhere cell v = nothing_orderly
-  written_orderly (In_shared p) cell v = does_orderly (act.Write (location_behind p cell.0) v false) refl
+  written_orderly (In_shared p) cell v = does_orderly (act.Write false (location_behind p cell.0) v) refl
   written_orderly (In_private object offset) cell v = record { by = refl }
 
   copied_orderly : (dst src : Area) (cell : ℕ × Kind)
@@ -171,7 +171,7 @@ module _ (flag : Bool) (threads : ℕ) (shapes : List Shape) (private : Option S
 
 module _ (threads : ℕ) (shapes : List Shape) (me : ℕ) where
   put_orderly : (p : SharedPtr) (v : ℤ) → Orderly false (Unit {0}) (x.number_put threads shapes me p v)
-  put_orderly p v = does_orderly (act.Write (location p) (scalar.Int v) false) refl
+  put_orderly p v = does_orderly (act.Write false (location p) (scalar.Int v)) refl
 
   number_orderly : (k : Kind) (p : SharedPtr) → Orderly false ℤ (x.number_at threads shapes me k p)
   number_orderly k p = record { by = λ v. refl }
@@ -179,9 +179,9 @@ module _ (threads : ℕ) (shapes : List Shape) (me : ℕ) where
   cell_orderly : (part : Part) (cell : ℕ × Kind)
       → Orderly false (Unit {0})
       (Reads (location_behind part.from cell.0) cell.1
-      (λ v. does (act.Write (location_behind part.into cell.0) v false)))
+      (λ v. does (act.Write false (location_behind part.into cell.0) v)))
   cell_orderly part cell = record {
-    by = λ v. (does_orderly (act.Write (location_behind part.into cell.0) v false)
+    by = λ v. (does_orderly (act.Write false (location_behind part.into cell.0) v)
         refl).by;
   }
 

@@ -47,8 +47,8 @@ pushed xs y b c e h = turned_push (Some false) xs y ∙ ap (λ s. turned s y) e 
 plain_turn : (y : Action) (b : Bool) → IsPlain y → turned (Some b) y ≡ Some b
 plain_turn (act.Read k s) true p = refl
 plain_turn (act.Read k s) false p = refl
-plain_turn (act.Write k v s) true p = refl
-plain_turn (act.Write k v s) false p = refl
+plain_turn (act.Write s k v) true p = refl
+plain_turn (act.Write s k v) false p = refl
 plain_turn act.Fence true p = refl
 plain_turn act.Fence false p = refl
 plain_turn act.Beat b p = absurd p
@@ -159,7 +159,7 @@ module _ (τ : Thread) where
   turns_on b (act.Wait m) c h = subst (λ t. turned (Some t) (act.Wait m) ≡ Some c) (sym h.0) (ap Some (sym h.1))
   turns_on b act.Beat c h = absurd h
   turns_on b (act.Read k s) c h = plain_turn (act.Read k s) b tt ∙ ap Some h
-  turns_on b (act.Write k v s) c h = plain_turn (act.Write k v s) b tt ∙ ap Some h
+  turns_on b (act.Write s k v) c h = plain_turn (act.Write s k v) b tt ∙ ap Some h
   turns_on b act.Fence c h = plain_turn act.Fence b tt ∙ ap Some h
   turns_on b (act.Lock k) c h = plain_turn (act.Lock k) b tt ∙ ap Some h
   turns_on b (act.Attempt k) c h = plain_turn (act.Attempt k) b tt ∙ ap Some h

@@ -62,7 +62,7 @@ module _ (τ : Thread) where
   -- The write of a location, strict or relaxed (UPC 6.5.1.1).
   abbrev pub write : Bool → Loc → Scalar → Doing (Unit {0})
   write strict l v = do
-    ask τ None (act.Write l v strict)
+    ask τ None (act.Write strict l v)
     skip
 
   -- The read of the cell of a kind at a pointer-to-shared, strict or relaxed (C99 6.5, UPC 6.5.1.1).

@@ -41,7 +41,7 @@ some-cond false v = refl
 
 -- an action that writes l writes just the locations that are l
 written-at : (a : Action) (l k : Loc) → is_some (written l a) ≡ true → is_some (written k a) ≡ same_loc l k
-written-at (Write m v s) l k h =
+written-at (Write s m v) l k h =
     let e : m ≡ l = same_loc-true m l (sym (some-cond (same_loc m l) v) ∙ h) in
     some-cond (same_loc m k) v ∙ ap (λ z. same_loc z k) e
 written-at a l k h = absurd (false≢true h)
@@ -77,9 +77,9 @@ fewer-room l w =
     cond_both (nat_lt (length w.pending) 64) w (oldest_out w.pending w) (λ z. pending_writers l z ≤ pending_writers l w) (λ e. omega arith)
     (λ e. fewer-out l w.pending w refl)
 
-apart-stored : (l : Loc) (v : Scalar) (t n : ℕ) (r : Reply) (w : Walk) → pending_value l w.pending ≡ None → Apart w → Apart (stored (entry_of t n (Write l v false) r) (with_room w))
+apart-stored : (l : Loc) (v : Scalar) (t n : ℕ) (r : Reply) (w : Walk) → pending_value l w.pending ≡ None → Apart w → Apart (stored (entry_of t n (Write false l v) r) (with_room w))
 apart-stored l v t n r w none h = λ k.
-    let e : Entry = entry_of t n (Write l v false) r in
+    let e : Entry = entry_of t n (Write false l v) r in
     let push = writers-push k (with_room w).pending (commit_of e) in
     let room = fewer-room k w in
     let old = h k in
@@ -96,10 +96,10 @@ apart-stored l v t n r w none h = λ k.
     ] in
     go (is_some (written k e.action)) refl
 
-apart-put : (l : Loc) (v : Scalar) (t n : ℕ) (r : Reply) (o : Option Scalar) (w : Walk) → pending_value l w.pending ≡ o → Apart w → Apart (put l (entry_of t n (Write l v false) r) o w)
+apart-put : (l : Loc) (v : Scalar) (t n : ℕ) (r : Reply) (o : Option Scalar) (w : Walk) → pending_value l w.pending ≡ o → Apart w → Apart (put l (entry_of t n (Write false l v) r) o w)
 apart-put l v t n r None w q h = apart-stored l v t n r w q h
 apart-put l v t n r (Some u) w q h = λ k.
-    let e : Entry = entry_of t n (Write l v false) r in
+    let e : Entry = entry_of t n (Write false l v) r in
     let own : is_some (written l e.action) ≡ true = some-cond (same_loc l l) v ∙ same_loc-itself l in
     let same = writers-combined k l e own w.pending u q in
     let old = h k in
@@ -114,7 +114,7 @@ apart-none = λ l. omega arith
 
 apart-stepped : (t : ℕ) (w : Walk) (x : Item) → Apart w → Apart (stepped t w x)
 apart-stepped t w Stall h = apart-none
-apart-stepped t w (Did (Write l v false) r) h = apart-put l v t w.next r (pending_value l w.pending) w refl h
+apart-stepped t w (Did (Write false l v) r) h = apart-put l v t w.next r (pending_value l w.pending) w refl h
 apart-stepped t w (Did (Read l false) r) h = apart-looked_up l (entry_of t w.next (Read l false) r) (pending_value l w.pending) w h
 apart-stepped t w (Did (Print x) r) h = h
 apart-stepped t w (Did a r) h = apart-none

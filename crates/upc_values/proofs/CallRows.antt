@@ -198,7 +198,7 @@ int n = Int (pos n)
 abbrev scatter : List Scalar
 scatter = Shared d ∷ Shared s ∷ int 8 ∷ int 0 ∷ []
 
-scatter-third : trace (collective 4 ints 2 6 scatter) (Done ∷ Done ∷ Done ∷ Value (int 5) ∷ Done ∷ Value (int 6) ∷ Done ∷ Done ∷ Done ∷ []) ≡ (act.Meet 6 scatter ∷ act.Notify Absent ∷ act.Wait Absent ∷ act.Read (loc 1 0 16) false ∷ act.Write (loc 2 2 0) (int 5) false ∷ act.Read (loc 1 0 20) false ∷ act.Write (loc 2 2 4) (int 6) false ∷ act.Notify Absent ∷ act.Wait Absent ∷ [], 0)
+scatter-third : trace (collective 4 ints 2 6 scatter) (Done ∷ Done ∷ Done ∷ Value (int 5) ∷ Done ∷ Value (int 6) ∷ Done ∷ Done ∷ Done ∷ []) ≡ (act.Meet 6 scatter ∷ act.Notify Absent ∷ act.Wait Absent ∷ act.Read (loc 1 0 16) false ∷ act.Write false (loc 2 2 0) (int 5) ∷ act.Read (loc 1 0 20) false ∷ act.Write false (loc 2 2 4) (int 6) ∷ act.Notify Absent ∷ act.Wait Absent ∷ [], 0)
 scatter-third = refl
 
 -- &d[2] is on thread 1
@@ -219,7 +219,7 @@ scatter-outside = refl
 abbrev sum : List Scalar
 sum = Shared r ∷ Shared d ∷ int 1 ∷ int 4 ∷ int 2 ∷ int 4 ∷ int 9 ∷ []
 
-sum-first : trace (collective 4 ints 0 11 sum) (Done ∷ Value (int 1) ∷ Value (int 2) ∷ Value (int 3) ∷ Value (int 4) ∷ Done ∷ []) ≡ (act.Meet 11 sum ∷ act.Read (loc 2 0 0) false ∷ act.Read (loc 2 0 4) false ∷ act.Read (loc 2 1 0) false ∷ act.Read (loc 2 1 4) false ∷ act.Write (loc 3 0 0) (int 10) false ∷ [], 0)
+sum-first : trace (collective 4 ints 0 11 sum) (Done ∷ Value (int 1) ∷ Value (int 2) ∷ Value (int 3) ∷ Value (int 4) ∷ Done ∷ []) ≡ (act.Meet 11 sum ∷ act.Read (loc 2 0 0) false ∷ act.Read (loc 2 0 4) false ∷ act.Read (loc 2 1 0) false ∷ act.Read (loc 2 1 4) false ∷ act.Write false (loc 3 0 0) (int 10) ∷ [], 0)
 sum-first = refl
 
 sum-other : trace (collective 4 ints 1 11 sum) (Done ∷ []) ≡ (act.Meet 11 sum ∷ [], 0)
@@ -229,10 +229,10 @@ sum-overflows : trace (collective 4 ints 0 11 sum) (Done ∷ Value (int 21474836
 sum-overflows = refl
 
 -- upc_memcpy of one int of s to d[3], and upc_memset of d[0] with 255
-memcpy-one : trace (copy 4 ints None (shared_area (record d { thread = 1; phase = 0; offset = pos 4 })) (shared_area s) 4) (Value (int 7) ∷ Done ∷ []) ≡ (act.Read (loc 1 0 0) false ∷ act.Write (loc 2 1 4) (int 7) false ∷ [], 0)
+memcpy-one : trace (copy 4 ints None (shared_area (record d { thread = 1; phase = 0; offset = pos 4 })) (shared_area s) 4) (Value (int 7) ∷ Done ∷ []) ≡ (act.Read (loc 1 0 0) false ∷ act.Write false (loc 2 1 4) (int 7) ∷ [], 0)
 memcpy-one = refl
 
-memset-one : trace (set 4 ints None (shared_area d) 255 4) (Done ∷ []) ≡ (act.Write (loc 2 0 0) (Int (negsuc 0)) false ∷ [], 0)
+memset-one : trace (set 4 ints None (shared_area d) 255 4) (Done ∷ []) ≡ (act.Write false (loc 2 0 0) (Int (negsuc 0)) ∷ [], 0)
 memset-one = refl
 
 -- upc_memput from a private object that has ended
@@ -271,7 +271,7 @@ q = start_of (record { number = 3; total = 8; block = 4; home = 0; shape = 0; ba
 abbrev swap : List Scalar
 swap = Shared c ∷ Shared b ∷ Shared q ∷ int 4 ∷ int 9 ∷ []
 
-permute-row : trace (collective 2 ints 0 10 swap) (Done ∷ Value (int 1) ∷ Value (int 0) ∷ Value (int 7) ∷ Done ∷ []) ≡ (act.Meet 10 swap ∷ act.Read (loc 3 0 0) false ∷ act.Read (loc 3 1 0) false ∷ act.Read (loc 1 1 0) false ∷ act.Write (loc 2 0 0) (int 7) false ∷ [], 0)
+permute-row : trace (collective 2 ints 0 10 swap) (Done ∷ Value (int 1) ∷ Value (int 0) ∷ Value (int 7) ∷ Done ∷ []) ≡ (act.Meet 10 swap ∷ act.Read (loc 3 0 0) false ∷ act.Read (loc 3 1 0) false ∷ act.Read (loc 1 1 0) false ∷ act.Write false (loc 2 0 0) (int 7) ∷ [], 0)
 permute-row = refl
 
 permute-twice : trace (collective 2 ints 0 10 swap) (Done ∷ Value (int 1) ∷ Value (int 1) ∷ []) ≡ (act.Meet 10 swap ∷ act.Read (loc 3 0 0) false ∷ act.Read (loc 3 1 0) false ∷ [], 22)
@@ -284,5 +284,5 @@ none = Shared c ∷ Shared b ∷ Shared q ∷ int 0 ∷ int 9 ∷ []
 permute-none : trace (collective 2 ints 0 10 none) (Done ∷ Value (int 1) ∷ Value (int 0) ∷ []) ≡ (act.Meet 10 none ∷ act.Read (loc 3 0 0) false ∷ act.Read (loc 3 1 0) false ∷ [], 0)
 permute-none = refl
 
-prefix-row : trace (collective 2 ints 0 12 (Shared c ∷ Shared b ∷ int 2 ∷ int 3 ∷ int 2 ∷ int 4 ∷ int 9 ∷ [])) (Done ∷ Value (int 2) ∷ Done ∷ Value (int 3) ∷ Done ∷ Value (int 4) ∷ Done ∷ []) ≡ (act.Meet 12 (Shared c ∷ Shared b ∷ int 2 ∷ int 3 ∷ int 2 ∷ int 4 ∷ int 9 ∷ []) ∷ act.Read (loc 1 0 0) false ∷ act.Write (loc 2 0 0) (int 2) false ∷ act.Read (loc 1 0 4) false ∷ act.Write (loc 2 0 4) (int 6) false ∷ act.Read (loc 1 1 0) false ∷ act.Write (loc 2 1 0) (int 24) false ∷ [], 0)
+prefix-row : trace (collective 2 ints 0 12 (Shared c ∷ Shared b ∷ int 2 ∷ int 3 ∷ int 2 ∷ int 4 ∷ int 9 ∷ [])) (Done ∷ Value (int 2) ∷ Done ∷ Value (int 3) ∷ Done ∷ Value (int 4) ∷ Done ∷ []) ≡ (act.Meet 12 (Shared c ∷ Shared b ∷ int 2 ∷ int 3 ∷ int 2 ∷ int 4 ∷ int 9 ∷ []) ∷ act.Read (loc 1 0 0) false ∷ act.Write false (loc 2 0 0) (int 2) ∷ act.Read (loc 1 0 4) false ∷ act.Write false (loc 2 0 4) (int 6) ∷ act.Read (loc 1 1 0) false ∷ act.Write false (loc 2 1 0) (int 24) ∷ [], 0)
 prefix-row = refl

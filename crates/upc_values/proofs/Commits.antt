@@ -93,10 +93,10 @@ none-elsewhere l p (o ∷ os) e h =
     ap (λ z. or_else z (cond (o.write && same_place o.place p) (Some o.value) None)) (none-elsewhere l p os e h.1)
     ∙ ap (λ z. cond (o.write && z) (Some o.value) None) q ∙ and-none o.write o.value
 
-write-right : (initial : Loc → Scalar) (before : List Operation) (t n : ℕ) (l : Loc) (v : Scalar) (a : Action) (r : Reply) → a ≡ Write l v false → r ≡ Done → ReadsLastFrom initial before (accesses_of t n a r) × IsStored a r
+write-right : (initial : Loc → Scalar) (before : List Operation) (t n : ℕ) (l : Loc) (v : Scalar) (a : Action) (r : Reply) → a ≡ Write false l v → r ≡ Done → ReadsLastFrom initial before (accesses_of t n a r) × IsStored a r
 write-right initial before t n l v a r ea er =
     let P : Action → Reply → Type 0 = λ a r. ReadsLastFrom initial before (accesses_of t n a r) × IsStored a r in
-    subst (λ z. P z r) (sym ea) (subst (λ z. P (Write l v false) z) (sym er) ((λ w. absurd (true≢false w), tt), refl))
+    subst (λ z. P z r) (sym ea) (subst (λ z. P (Write false l v) z) (sym er) ((λ w. absurd (true≢false w), tt), refl))
 
 -- a pending commit of a walk that agrees: a relaxed write with reply Done, and what stands for it
 pub record IsSettled (c : Commit) : Type 0 where
@@ -104,9 +104,9 @@ pub record IsSettled (c : Commit) : Type 0 where
   pub done : c.entry.reply ≡ Done
   pub pending : IsPending c
 
-stands-combined : (t n : ℕ) (l : Loc) (v : Scalar) (c : Commit) (u : Scalar) → written l c.entry.action ≡ Some u → IsSettled c → StandsFor (entry_of t n (Write l v false) Done) (c.operations ++ accesses (entry_of t n (Write l v false) Done))
+stands-combined : (t n : ℕ) (l : Loc) (v : Scalar) (c : Commit) (u : Scalar) → written l c.entry.action ≡ Some u → IsSettled c → StandsFor (entry_of t n (Write false l v) Done) (c.operations ++ accesses (entry_of t n (Write false l v) Done))
 stands-combined t n l v c u w s =
-    let new = accesses (entry_of t n (Write l v false) Done) in
+    let new = accesses (entry_of t n (Write false l v) Done) in
     let here : Each (IsHere l) c.operations =
     subst (λ z. Each (IsHere z) c.operations) (same-cell l u c s.pending w) s.pending.here in
     record {
@@ -135,21 +135,21 @@ settled-read l v t n r h c w s =
       pending = read-pending l (entry_of t n (Read l false) r) (relaxed-reads t n l r) c v w s.pending;
     }
 
-settled-write : (l : Loc) (v : Scalar) (t n : ℕ) (r : Reply) → is_done r ≡ true → (c : Commit) (u : Scalar) → written l c.entry.action ≡ Some u → IsSettled c → IsSettled (combined (entry_of t n (Write l v false) r) c)
+settled-write : (l : Loc) (v : Scalar) (t n : ℕ) (r : Reply) → is_done r ≡ true → (c : Commit) (u : Scalar) → written l c.entry.action ≡ Some u → IsSettled c → IsSettled (combined (entry_of t n (Write false l v) r) c)
 settled-write l v t n Done h c u w s =
     record {
       stands = stands-combined t n l v c u w s;
       done = refl;
-      pending = write-pending l v (entry_of t n (Write l v false) Done) refl (relaxed-write t n l v Done) c u w s.pending;
+      pending = write-pending l v (entry_of t n (Write false l v) Done) refl (relaxed-write t n l v Done) c u w s.pending;
     }
 settled-write l v t n (Value k) h c u w s = absurd (false≢true h)
 settled-write l v t n (Flag k) h c u w s = absurd (false≢true h)
 settled-write l v t n (Refused k) h c u w s = absurd (false≢true h)
 
-settled-own : (l : Loc) (v : Scalar) (t n : ℕ) (r : Reply) → is_done r ≡ true → IsSettled (commit_of (entry_of t n (Write l v false) r))
+settled-own : (l : Loc) (v : Scalar) (t n : ℕ) (r : Reply) → is_done r ≡ true → IsSettled (commit_of (entry_of t n (Write false l v) r))
 settled-own l v t n Done h =
     record {
-      stands = stands-own (entry_of t n (Write l v false) Done);
+      stands = stands-own (entry_of t n (Write false l v) Done);
       done = refl;
       pending = record { loc = l; value = v; is = refl; here = relaxed-write t n l v Done };
     }
@@ -203,14 +203,14 @@ sound-looked_up l t n r (Some v) w e a s =
       pending = joined-settled l v t n r (and_parts w.agrees (is_value v r) a).1 w.pending s.pending e;
     }
 
-sound-put : (l : Loc) (v : Scalar) (t n : ℕ) (r : Reply) (o : Option Scalar) (w : Walk) → pending_value l w.pending ≡ o → (put l (entry_of t n (Write l v false) r) o w).agrees ≡ true → Sound w → Sound (put l (entry_of t n (Write l v false) r) o w)
+sound-put : (l : Loc) (v : Scalar) (t n : ℕ) (r : Reply) (o : Option Scalar) (w : Walk) → pending_value l w.pending ≡ o → (put l (entry_of t n (Write false l v) r) o w).agrees ≡ true → Sound w → Sound (put l (entry_of t n (Write false l v) r) o w)
 sound-put l v t n r None w e a s =
     let b = (and_parts (with_room w).agrees (is_done r) a).1 in
     let k = sound-with_room w s in
     record {
       emitted = k.emitted;
       pending =
-          each-append IsSettled (with_room w).pending (commit_of (entry_of t n (Write l v false) r) ∷ []) k.pending
+          each-append IsSettled (with_room w).pending (commit_of (entry_of t n (Write false l v) r) ∷ []) k.pending
           (settled-own l v t n r b, tt);
     }
 sound-put l v t n r (Some u) w e a s =
@@ -218,12 +218,12 @@ sound-put l v t n r (Some u) w e a s =
     record {
       emitted = s.emitted;
       pending =
-          each-changed l (combined (entry_of t n (Write l v false) r)) IsSettled IsSettled (λ c q. q) (settled-write l v t n r b) w.pending u e s.pending;
+          each-changed l (combined (entry_of t n (Write false l v) r)) IsSettled IsSettled (λ c q. q) (settled-write l v t n r b) w.pending u e s.pending;
     }
 
 pub sound-stepped : (t : ℕ) (w : Walk) (x : Item) → (stepped t w x).agrees ≡ true → Sound w → Sound (stepped t w x)
 sound-stepped t w Stall a s = sound-emptied w s
-sound-stepped t w (Did (Write l v false) r) a s = sound-put l v t w.next r (pending_value l w.pending) w refl a s
+sound-stepped t w (Did (Write false l v) r) a s = sound-put l v t w.next r (pending_value l w.pending) w refl a s
 sound-stepped t w (Did (Read l false) r) a s = sound-looked_up l t w.next r (pending_value l w.pending) w refl a s
 sound-stepped t w (Did (Print x) r) a s = sound-passed (entry_of t w.next (Print x) r) w s
 sound-stepped t w (Did x r) a s = sound-passed (entry_of t w.next x r) (emptied w) (sound-emptied w s)
@@ -245,8 +245,8 @@ agrees-put l e (Some v) w a = (and_parts w.agrees (is_done e.reply) a).0
 
 agrees-stepped : (t : ℕ) (w : Walk) (x : Item) → (stepped t w x).agrees ≡ true → w.agrees ≡ true
 agrees-stepped t w Stall a = a
-agrees-stepped t w (Did (Write l v false) r) a =
-    agrees-put l (entry_of t w.next (Write l v false) r) (pending_value l w.pending) w a
+agrees-stepped t w (Did (Write false l v) r) a =
+    agrees-put l (entry_of t w.next (Write false l v) r) (pending_value l w.pending) w a
 agrees-stepped t w (Did (Read l false) r) a =
     agrees-looked_up l (entry_of t w.next (Read l false) r) (pending_value l w.pending) w a
 agrees-stepped t w (Did (Print x) r) a = a

@@ -224,7 +224,7 @@ read-answered o before rest l r None None e f h = cc
 answered : (o : Opening) (before rest : List Entry) (t : ℕ) (a : Action) (r : Reply) → reply o before t a ≡ Some r → IsAnswered (begins o (before ++ rest)) before a r
 answered o before rest t (Read l s) r h =
     read-answered o before rest l r (last_written l before) (initial_of o (objects o before) l) refl refl h
-answered o before rest t (Write l v s) r h = cc
+answered o before rest t (Write s l v) r h = cc
 answered o before rest t a r h = tt
 
 all-answered : (o : Opening) (before es whole : List Entry) → before ++ es ≡ whole → IsLegalFrom o before es → AreAnsweredFrom (begins o whole) before es

@@ -131,7 +131,7 @@ if-held o k false v h = tt
 
 written-held : (o : Opening) (before : List Entry) (l : Loc) (a : Action) → objects o before ≡ o.declared → IsWellFormed o before a → HeldIn o (cell_of o o.declared l) (written l a)
 unfolding HeldIn
-written-held o before l (act.Write m v s) e f =
+written-held o before l (act.Write s m v) e f =
     let p = and_parts (fits_cell v (cell_of o (objects o before) m)) (is_known o before v) f in
     if-held o (cell_of o o.declared l) (same_loc m l) v
     (λ h. (
@@ -260,7 +260,7 @@ lawful-fits o before t (act.Read l s) r i b h c e =
 lawful-fits o before t (act.Wait m) r i b h c e =
     wait-fits o.threads o.shapes None m (all_notified o.threads (waits t before) before)
     (each_thread o.threads (λ u. agrees_with m (slice_get (marks u before) (waits t before)))) r e
-lawful-fits o before t (act.Write l v s) r i b h c e = subst (λ q. fits_after o before (act.Write l v s) q ≡ true) (some-same Done r e) refl
+lawful-fits o before t (act.Write s l v) r i b h c e = subst (λ q. fits_after o before (act.Write s l v) q ≡ true) (some-same Done r e) refl
 lawful-fits o before t act.Fence r i b h c e = subst (λ q. fits_after o before act.Fence q ≡ true) (some-same Done r e) refl
 lawful-fits o before t act.Beat r i b h c e = subst (λ q. fits_after o before act.Beat q ≡ true) (some-same Done r e) refl
 lawful-fits o before t (act.Notify m) r i b h c e = subst (λ q. fits_after o before (act.Notify m) q ≡ true) (some-same Done r e) refl
@@ -276,7 +276,7 @@ lawful-fits o before t (act.Meet n args) r i b h c e = absurd (false≢true c)
 lawful-fits o before t (act.Exit v) r i b h c e = absurd (false≢true c)
 
 -- a pending write's value fits a read of its location
-pub written-fits : (o : Opening) (before : List Entry) (l : Loc) (s w : Bool) (v : Scalar) → IsOpening o → objects o before ≡ o.declared → IsWellFormed o before (act.Write l v w) → fits_after o before (act.Read l s) (Value v) ≡ true
+pub written-fits : (o : Opening) (before : List Entry) (l : Loc) (s w : Bool) (v : Scalar) → IsOpening o → objects o before ≡ o.declared → IsWellFormed o before (act.Write w l v) → fits_after o before (act.Read l s) (Value v) ≡ true
 written-fits o before l s w v i e f =
     let p = and_parts (fits_cell v (cell_of o (objects o before) l)) (is_known o before v) f in
     held-read o (cell_of o (objects o before) l) v i (p.0, known-written o before v e p.1)

@@ -43,7 +43,7 @@ Elsewhere l o = (o.strict ≡ false) × (k : Loc) × (o.place ≡ Cell k) × (sa
 pub record IsPending (c : Commit) : Type 0 where
   pub loc : Loc
   pub value : Scalar
-  pub is : c.entry.action ≡ Write loc value false
+  pub is : c.entry.action ≡ Write false loc value
   pub here : Each (λ o. (o.strict ≡ false) × (o.place ≡ Cell loc)) c.operations
 
 or_none : (a b : Option Scalar) → or_else a b ≡ None → (a ≡ None) × (b ≡ None)
@@ -139,7 +139,7 @@ read-pending l e r c v w p =
           each-append (IsHere p.loc) c.operations (accesses e) p.here (subst (λ z. Each (IsHere z) (accesses e)) (sym (same-cell l v c p w)) r);
     }
 
-pub write-pending : (l : Loc) (u : Scalar) (e : Entry) → e.action ≡ Write l u false → Each (IsHere l) (accesses e) → (c : Commit) (v : Scalar) → written l c.entry.action ≡ Some v → IsPending c → IsPending (combined e c)
+pub write-pending : (l : Loc) (u : Scalar) (e : Entry) → e.action ≡ Write false l u → Each (IsHere l) (accesses e) → (c : Commit) (v : Scalar) → written l c.entry.action ≡ Some v → IsPending c → IsPending (combined e c)
 write-pending l u e a r c v w p =
     record {
       loc = l;
@@ -172,7 +172,7 @@ relaxed-reads t n l Done = tt
 relaxed-reads t n l (Flag b) = tt
 relaxed-reads t n l (Refused c) = tt
 
-pub relaxed-write : (t n : ℕ) (l : Loc) (v : Scalar) (r : Reply) → Each (IsHere l) (accesses_of t n (Write l v false) r)
+pub relaxed-write : (t n : ℕ) (l : Loc) (v : Scalar) (r : Reply) → Each (IsHere l) (accesses_of t n (Write false l v) r)
 relaxed-write t n l v (Value u) = ((refl, refl), tt)
 relaxed-write t n l v Done = ((refl, refl), tt)
 relaxed-write t n l v (Flag b) = ((refl, refl), tt)
@@ -244,12 +244,12 @@ grows-looked_up l t n r w p (Some v) h =
     let e = entry_of t n (Read l false) r in
     grows-changed l (with_read e) (accesses e) (λ c. refl) w p v h (relaxed-reads t n l r) (looked_up l e (Some v) w) refl
 
-grows-put : (l : Loc) (u : Scalar) (t n : ℕ) (r : Reply) (w : Walk) → Each IsPending w.pending → (o : Option Scalar) → pending_value l w.pending ≡ o → Grows (all_ops w) (accesses_of t n (Write l u false) r) (all_ops (put l (entry_of t n (Write l u false) r) o w))
+grows-put : (l : Loc) (u : Scalar) (t n : ℕ) (r : Reply) (w : Walk) → Each IsPending w.pending → (o : Option Scalar) → pending_value l w.pending ≡ o → Grows (all_ops w) (accesses_of t n (Write false l u) r) (all_ops (put l (entry_of t n (Write false l u) r) o w))
 grows-put l u t n r w p None h =
-    subst (λ z. Grows z (accesses_of t n (Write l u false) r) (all_ops (stored (entry_of t n (Write l u false) r) (with_room w))))
-    (ops-with_room w) (grows-stored (entry_of t n (Write l u false) r) (with_room w))
+    subst (λ z. Grows z (accesses_of t n (Write false l u) r) (all_ops (stored (entry_of t n (Write false l u) r) (with_room w))))
+    (ops-with_room w) (grows-stored (entry_of t n (Write false l u) r) (with_room w))
 grows-put l u t n r w p (Some v) h =
-    let e = entry_of t n (Write l u false) r in
+    let e = entry_of t n (Write false l u) r in
     grows-changed l (combined e) (accesses e) (λ c. refl) w p v h (relaxed-write t n l u r) (put l e (Some v) w) refl
 
 -- the accesses of an item that is the next
@@ -265,7 +265,7 @@ grows-strict t w a r =
 pub grows-stepped : (t : ℕ) (w : Walk) (x : Item) → Each IsPending w.pending → Grows (all_ops w) (item_ops t w.next x) (all_ops (stepped t w x))
 grows-stepped t w Stall p =
     record { front = all_ops w; back = []; was = sym (append-nil (all_ops w)); is = ops-emptied w ∙ sym (append-nil (all_ops w)); apart = tt }
-grows-stepped t w (Did (Write l v false) r) p = grows-put l v t w.next r w p (pending_value l w.pending) refl
+grows-stepped t w (Did (Write false l v) r) p = grows-put l v t w.next r w p (pending_value l w.pending) refl
 grows-stepped t w (Did (Read l false) r) p = grows-looked_up l t w.next r w p (pending_value l w.pending) refl
 grows-stepped t w (Did (Print x) r) p =
     grows-passed (entry_of t w.next (Print x) r) w
@@ -287,17 +287,17 @@ pending-looked_up l t n r w p (Some v) h =
     let e = entry_of t n (Read l false) r in
     each-changed l (with_read e) IsPending IsPending (λ c q. q) (read-pending l e (relaxed-reads t n l r)) w.pending v h p
 
-pending-put : (l : Loc) (u : Scalar) (t n : ℕ) (r : Reply) (w : Walk) → Each IsPending w.pending → (o : Option Scalar) → pending_value l w.pending ≡ o → Each IsPending (put l (entry_of t n (Write l u false) r) o w).pending
+pending-put : (l : Loc) (u : Scalar) (t n : ℕ) (r : Reply) (w : Walk) → Each IsPending w.pending → (o : Option Scalar) → pending_value l w.pending ≡ o → Each IsPending (put l (entry_of t n (Write false l u) r) o w).pending
 pending-put l u t n r w p None h =
-    each-append IsPending (with_room w).pending (commit_of (entry_of t n (Write l u false) r) ∷ []) (pending-with_room w p)
+    each-append IsPending (with_room w).pending (commit_of (entry_of t n (Write false l u) r) ∷ []) (pending-with_room w p)
     (record { loc = l; value = u; is = refl; here = relaxed-write t n l u r }, tt)
 pending-put l u t n r w p (Some v) h =
-    let e = entry_of t n (Write l u false) r in
+    let e = entry_of t n (Write false l u) r in
     each-changed l (combined e) IsPending IsPending (λ c q. q) (write-pending l u e refl (relaxed-write t n l u r)) w.pending v h p
 
 pub pending-stepped : (t : ℕ) (w : Walk) (x : Item) → Each IsPending w.pending → Each IsPending (stepped t w x).pending
 pending-stepped t w Stall p = tt
-pending-stepped t w (Did (Write l v false) r) p = pending-put l v t w.next r w p (pending_value l w.pending) refl
+pending-stepped t w (Did (Write false l v) r) p = pending-put l v t w.next r w p (pending_value l w.pending) refl
 pending-stepped t w (Did (Read l false) r) p = pending-looked_up l t w.next r w p (pending_value l w.pending) refl
 pending-stepped t w (Did (Print x) r) p = p
 pending-stepped t w (Did x r) p = tt

@@ -50,7 +50,7 @@ known-grow o before more rs h =
 -- ---- what a location holds
 
 -- the value of a write that may be asked for is known
-pub written-known : (o : Opening) (before : List Entry) (l : Loc) (v : Scalar) (s : Bool) → IsWellFormed o before (act.Write l v s) → is_known o before v ≡ true
+pub written-known : (o : Opening) (before : List Entry) (l : Loc) (v : Scalar) (s : Bool) → IsWellFormed o before (act.Write s l v) → is_known o before v ≡ true
 written-known o before l v s h = (and_parts (fits_cell v (cell_of o (objects o before) l)) (is_known o before v) h).1
 
 abbrev KnownIn : Opening → List Entry → Option Scalar → Type 0
@@ -66,7 +66,7 @@ some-grow o before more (Some v) h = known-stays o before more v h
 some-grow o before more None h = tt
 
 action-known : (o : Opening) (before : List Entry) (l : Loc) (a : Action) → IsWellFormed o before a → KnownIn o before (written l a)
-action-known o before l (act.Write m v s) f =
+action-known o before l (act.Write s m v) f =
     cond_both (same_loc m l) (Some v) None (KnownIn o before) (λ _. written-known o before m v s f) (λ _. tt)
 action-known o before l (act.Read m s) f = tt
 action-known o before l act.Fence f = tt
@@ -283,7 +283,7 @@ reply-known : (o : Opening) (before : List Entry) (t i : ℕ) (a : Action) (r : 
     → gives_known o (before ++ entry_of t i a r ∷ []) r ≡ true
 reply-known o before t i (act.Read l s) r v f all w e =
     valued-known o before (entry_of t i (act.Read l s) r ∷ []) (held o before l) r (held-known o before l v f) e
-reply-known o before t i (act.Write l x s) r v f all w e = from-plain o before t i (act.Write l x s) (Some Done) r tt e
+reply-known o before t i (act.Write s l x) r v f all w e = from-plain o before t i (act.Write s l x) (Some Done) r tt e
 reply-known o before t i act.Fence r v f all w e = from-plain o before t i act.Fence (Some Done) r tt e
 reply-known o before t i act.Beat r v f all w e = from-plain o before t i act.Beat (Some Done) r tt e
 reply-known o before t i (act.Notify m) r v f all w e = from-plain o before t i (act.Notify m) (Some Done) r tt e

@@ -107,7 +107,7 @@ pub unlawful-waits : (o : Opening) (before : List Entry) (t : ℕ) (a : Action) 
 unlawful-waits o before t (asked.Wait m) f h = refl
 unlawful-waits o before t (asked.Lock l) f h = refl
 unlawful-waits o before t (asked.Read l s) f h = absurd (held-some o before l f h)
-unlawful-waits o before t (asked.Write l v s) f h = absurd cc
+unlawful-waits o before t (asked.Write s l v) f h = absurd cc
 unlawful-waits o before t asked.Fence f h = absurd cc
 unlawful-waits o before t asked.Beat f h = absurd cc
 unlawful-waits o before t (asked.Notify m) f h = absurd cc

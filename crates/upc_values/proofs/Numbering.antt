@@ -125,8 +125,8 @@ numbered-strict t w a r s = numbered-passed (entry_of t w.next a r) (emptied w) 
 
 numbered-stepped : (t : ℕ) (w : Walk) (x : Item) → (stepped t w x).agrees ≡ true → Numbered w → Numbered (stepped t w x)
 numbered-stepped t w Stall a s = numbered-emptied w s
-numbered-stepped t w (Did (Write l v false) r) a s =
-    numbered-put l (entry_of t w.next (Write l v false) r) (pending_value l w.pending) w refl s
+numbered-stepped t w (Did (Write false l v) r) a s =
+    numbered-put l (entry_of t w.next (Write false l v) r) (pending_value l w.pending) w refl s
 numbered-stepped t w (Did (Read l false) r) a s =
     numbered-looked_up l (entry_of t w.next (Read l false) r) (pending_value l w.pending) w refl s
 numbered-stepped t w (Did (Print x) r) a s = numbered-passed (entry_of t w.next (Print x) r) w refl s

@@ -70,8 +70,8 @@ named o = (o.thread, o.index)
 -- store buffering: each thread writes one variable and reads the other; both read 0
 abbrev buffering : List (List Item)
 buffering =
-    program (Did (Write (var 1) (int 1) false) Done ∷ Did (Read (var 2) false) (Value (int 0)) ∷ [])
-    ∷ program (Did (Write (var 2) (int 1) false) Done ∷ Did (Read (var 1) false) (Value (int 0)) ∷ []) ∷ []
+    program (Did (Write false (var 1) (int 1)) Done ∷ Did (Read (var 2) false) (Value (int 0)) ∷ [])
+    ∷ program (Did (Write false (var 2) (int 1)) Done ∷ Did (Read (var 1) false) (Value (int 0)) ∷ []) ∷ []
 
 abbrev buffered : List (ℕ × ℕ)
 buffered =
@@ -89,8 +89,8 @@ buffered-order = refl
 -- a forwarded read: thread 0 writes x and reads it, thread 1 writes x; the read stands after its source
 abbrev forwarding : List (List Item)
 forwarding =
-    program (Did (Write (var 1) (int 1) false) Done ∷ Did (Read (var 1) false) (Value (int 1)) ∷ [])
-    ∷ program (Did (Write (var 1) (int 2) false) Done ∷ []) ∷ []
+    program (Did (Write false (var 1) (int 1)) Done ∷ Did (Read (var 1) false) (Value (int 1)) ∷ [])
+    ∷ program (Did (Write false (var 1) (int 2)) Done ∷ []) ∷ []
 
 abbrev forwarded : List (ℕ × ℕ)
 forwarded = (0, 0) ∷ (1, 0) ∷ (0, 1) ∷ (1, 1) ∷ (1, 2) ∷ (1, 3) ∷ (0, 2) ∷ (0, 4) ∷ (0, 5) ∷ (1, 4) ∷ []
@@ -104,7 +104,7 @@ forwarded-order = refl
 -- 65 stores to an array, a read of y, a fence: the first store leaves when the buffer is full
 abbrev stores : ℕ → List Item
 stores ℕ.zero = []
-stores (ℕ.suc n) = stores n ++ Did (Write (record { object = 1; thread = 0; offset = 4 * n }) (int n) false) Done ∷ []
+stores (ℕ.suc n) = stores n ++ Did (Write false (record { object = 1; thread = 0; offset = 4 * n }) (int n)) Done ∷ []
 
 abbrev numbers : ℕ → ℕ → List ℕ
 numbers a ℕ.zero = []
@@ -116,7 +116,7 @@ full-drain = refl
 -- a write takes the place of the pending write of its location, which is no entry; in the orders both stand there
 abbrev combining : List (List Item)
 combining =
-    program (Did (Write (var 1) (int 1) false) Done ∷ Did (Write (var 2) (int 1) false) Done ∷ Did (Write (var 1) (int 2) false) Done ∷ Did Fence Done ∷ [])
+    program (Did (Write false (var 1) (int 1)) Done ∷ Did (Write false (var 2) (int 1)) Done ∷ Did (Write false (var 1) (int 2)) Done ∷ Did Fence Done ∷ [])
     ∷ []
 
 combined-drain : map (λ e. e.index) (drain 0 (slice_index_or combining 0 [])) ≡ 0 ∷ 1 ∷ 4 ∷ 3 ∷ 5 ∷ 6 ∷ 7 ∷ []
@@ -128,7 +128,7 @@ combined-order = refl
 -- 70 stores to one location are one entry
 abbrev stores_to_one : ℕ → List Item
 stores_to_one ℕ.zero = []
-stores_to_one (ℕ.suc n) = stores_to_one n ++ Did (Write (var 1) (int n) false) Done ∷ []
+stores_to_one (ℕ.suc n) = stores_to_one n ++ Did (Write false (var 1) (int n)) Done ∷ []
 
 one-drain : map (λ e. e.index) (drain 0 (program (stores_to_one 70 ++ Did Fence Done ∷ []))) ≡ 0 ∷ 1 ∷ 71 ∷ 72 ∷ 73 ∷ 74 ∷ []
 one-drain = refl
@@ -136,8 +136,8 @@ one-drain = refl
 -- what is not consistent: a forwarded read of another value than its source's
 abbrev forwarding_wrong : List (List Item)
 forwarding_wrong =
-    program (Did (Write (var 1) (int 1) false) Done ∷ Did (Read (var 1) false) (Value (int 2)) ∷ [])
-    ∷ program (Did (Write (var 1) (int 2) false) Done ∷ []) ∷ []
+    program (Did (Write false (var 1) (int 1)) Done ∷ Did (Read (var 1) false) (Value (int 2)) ∷ [])
+    ∷ program (Did (Write false (var 1) (int 2)) Done ∷ []) ∷ []
 
 wrong-value : ReadsLast (λ l. zero) (thread_order (journal forwarding_wrong forwarded) 0) → ⊥
 wrong-value h = let e : int 2 ≡ int 1 = h.1.1.1.1.1.1.1.0 refl in cc
@@ -145,8 +145,8 @@ wrong-value h = let e : int 2 ≡ int 1 = h.1.1.1.1.1.1.1.0 refl in cc
 -- strict accesses in the order of the history above, against program order
 abbrev buffering_strict : List (List Item)
 buffering_strict =
-    program (Did (Write (var 1) (int 1) true) Done ∷ Did (Read (var 2) true) (Value (int 0)) ∷ [])
-    ∷ program (Did (Write (var 2) (int 1) true) Done ∷ Did (Read (var 1) true) (Value (int 0)) ∷ []) ∷ []
+    program (Did (Write true (var 1) (int 1)) Done ∷ Did (Read (var 2) true) (Value (int 0)) ∷ [])
+    ∷ program (Did (Write true (var 2) (int 1)) Done ∷ Did (Read (var 1) true) (Value (int 0)) ∷ []) ∷ []
 
 wrong-order : Pairwise (KeepsProgram 0) (thread_order (journal buffering_strict buffered) 0) → ⊥
 wrong-order h = let e : 7 < 4 = h.1.1.1.1.0.1.0 refl refl refl in omega arith

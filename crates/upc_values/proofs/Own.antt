@@ -136,8 +136,8 @@ number-put l e (Some v) w = refl
 
 number-stepped : (t : ℕ) (w : Walk) (x : Item) → (stepped t w x).next ≡ w.next + size x
 number-stepped t w Stall = omega arith
-number-stepped t w (Did (Write l v false) r) =
-    number-put l (entry_of t w.next (Write l v false) r) (pending_value l w.pending) w
+number-stepped t w (Did (Write false l v) r) =
+    number-put l (entry_of t w.next (Write false l v) r) (pending_value l w.pending) w
 number-stepped t w (Did (Read l false) r) =
     number-looked_up l (entry_of t w.next (Read l false) r) (pending_value l w.pending) w
 number-stepped t w (Did (Print x) r) = refl

@@ -115,7 +115,7 @@ module _ (o : Opening) (before more : List Entry) where
   formed-grow (act.Read l s) h =
       let g = objects-append o before more in
       subst (λ z. is_some (cell_of o z l) ≡ true) (sym g.1) (some-stays o (objects o before) g.0 l h)
-  formed-grow (act.Write l v s) h =
+  formed-grow (act.Write s l v) h =
       let g = objects-append o before more in
       both-stay (fits_cell v (cell_of o (objects o before) l)) (is_known o before v)
       (fits_cell v (cell_of o (objects o (before ++ more)) l)) (is_known o (before ++ more) v)
@@ -148,7 +148,7 @@ module _ (o : Opening) (before more : List Entry) where
         | None ↦ λ e s0. absurd cc
       ] in
       go (cell_of o (objects o before) l) refl h
-  fits-grow (act.Write l v s) r h f = f
+  fits-grow (act.Write s l v) r h f = f
   fits-grow act.Fence r h f = f
   fits-grow act.Beat r h f = f
   fits-grow (act.Notify m) r h f = f

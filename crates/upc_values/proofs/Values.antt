@@ -69,7 +69,7 @@ module _ (initial : Loc → Scalar) where
 
 -- the entry's reply, where it is a write
 abbrev pub IsStored : Action → Reply → Type 0
-IsStored (Write l v s) r = r ≡ Done
+IsStored (Write s l v) r = r ≡ Done
 IsStored a r = Unit {0}
 
 -- an entry whose own accesses are right after these operations
@@ -90,10 +90,10 @@ last_written-append l (x ∷ before) e =
 
 -- what an entry's accesses write
 pub cell-accesses : (l : Loc) (t n : ℕ) (a : Action) (r : Reply) → IsStored a r → last_write (Cell l) (accesses_of t n a r) ≡ written l a
-cell-accesses l t n (Write k v s) (Refused c) h = cc
-cell-accesses l t n (Write k v s) Done h = refl
-cell-accesses l t n (Write k v s) (Value u) h = refl
-cell-accesses l t n (Write k v s) (Flag b) h = refl
+cell-accesses l t n (Write s k v) (Refused c) h = cc
+cell-accesses l t n (Write s k v) Done h = refl
+cell-accesses l t n (Write s k v) (Value u) h = refl
+cell-accesses l t n (Write s k v) (Flag b) h = refl
 cell-accesses l t n (Attempt k) (Flag true) h = refl
 cell-accesses l t n (Attempt k) (Flag false) h = refl
 cell-accesses l t n a (Refused c) h = refl
@@ -129,7 +129,7 @@ sync-reads initial os t n Writes_and_reads_sync k h = (
 -- what consistency needs of a reply: the value of a read, and that a write is done
 abbrev pub IsAnswered : (Loc → Scalar) → List Entry → Action → Reply → Type 0
 IsAnswered initial before (Read l s) r = r ≡ Value (value_or (last_written l before) (initial l))
-IsAnswered initial before (Write l v s) r = r ≡ Done
+IsAnswered initial before (Write s l v) r = r ≡ Done
 IsAnswered initial before a r = Unit {0}
 
 abbrev pub AreAnsweredFrom : (Loc → Scalar) → List Entry → List Entry → Type 0
@@ -144,8 +144,8 @@ right-parts initial before os m t n (Read l s) r h = (
       (λ w. ap (λ z. value_or z (initial l)) (sym (m.cells l)), tt),
   tt,
 )
-right-parts initial before os m t n (Write l v s) r h =
-    (subst (λ z. ReadsLastFrom initial os (accesses_of t n (Write l v s) z)) (sym h) (λ w. absurd (true≢false w), tt), h)
+right-parts initial before os m t n (Write s l v) r h =
+    (subst (λ z. ReadsLastFrom initial os (accesses_of t n (Write s l v) z)) (sym h) (λ w. absurd (true≢false w), tt), h)
 right-parts initial before os m t n (Attempt k) (Flag true) h = (sync-reads initial os t n Reads_sync tt m.sync, tt)
 right-parts initial before os m t n (Attempt k) (Flag false) h = (tt, tt)
 right-parts initial before os m t n a Done h = (sync-reads initial os t n (access a Done) tt m.sync, tt)

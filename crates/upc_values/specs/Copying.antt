@@ -88,7 +88,7 @@ module _ (threads : ℕ) (shapes : List Shape) (private : Option Shape) where
   -- (UPC 7.2.5).
   abbrev pub written : Area → ℕ × Kind → Scalar → Expansion (Unit {0})
   written Nowhere c v = nothing
-  written (In_shared p) c v = does (act.Write (location_behind p c.0) v false)
+  written (In_shared p) c v = does (act.Write false (location_behind p c.0) v)
   written (In_private object offset) c v = Stores (Private object (offset +ℤ pos c.0)) c.1 v nothing
 
   -- The read of a cell of the source, and the write of its value to the destination's cell.

@@ -83,7 +83,7 @@ stored e w = record {
 
 -- What an action writes to the location, if it writes there.
 abbrev pub written : Loc → Action → Option Scalar
-written l (Write k v s) = cond (same_loc k l) (Some v) None
+written l (Write s k v) = cond (same_loc k l) (Some v) None
 written l a = None
 
 -- The first value, where there is one; else the second.
@@ -138,7 +138,7 @@ looked_up l e (Some v) w = record {
 -- One more action: a relaxed write goes into the buffer, a relaxed read looks there first, a Print is emitted alone,
 -- and every other action empties the buffer before it.
 abbrev pub gone : Entry → Action → Walk → Walk
-gone e (Write l v false) w = put l e (pending_value l w.pending) w
+gone e (Write false l v) w = put l e (pending_value l w.pending) w
 gone e (Read l false) w = looked_up l e (pending_value l w.pending) w
 gone e (Print x) w = passed e w
 gone e a w = passed e (emptied w)

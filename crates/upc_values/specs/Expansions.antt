@@ -144,7 +144,7 @@ module _ (threads : ℕ) (shapes : List Shape) (me : ℕ) where
   abbrev pub copied : ℕ → Part → Expansion (Unit {0})
   copied n x =
       each_in_turn
-      (λ c. Reads (location_behind x.from c.0) c.1 (λ v. does (act.Write (location_behind x.into c.0) v false)))
+      (λ c. Reads (location_behind x.from c.0) c.1 (λ v. does (act.Write false (location_behind x.into c.0) v)))
       (cells n x.into)
 
   -- The work of calls 5 to 9: all ranges are tested, then the parts are copied.
@@ -172,7 +172,7 @@ module _ (threads : ℕ) (shapes : List Shape) (me : ℕ) where
 
   -- The write of an integer to an element of a view.
   abbrev pub number_put : SharedPtr → ℤ → Expansion (Unit {0})
-  number_put p v = does (act.Write (location p) (Int v) false)
+  number_put p v = does (act.Write false (location p) (Int v))
 
   -- What is done with the elements of a view, after the test that each is a cell of this kind.
   abbrev pub are_cells : Kind → List SharedPtr → Expansion (Unit {0}) → Expansion (Unit {0})

@@ -68,7 +68,7 @@ may_call o es Other = false
 -- numbers are in their ranges.
 abbrev pub may_ask : Opening → List Entry → Action → Bool
 may_ask o es (act.Read l s) = is_some (cell_of o (objects o es) l)
-may_ask o es (act.Write l v s) = fits_cell v (cell_of o (objects o es) l) && is_known o es v
+may_ask o es (act.Write s l v) = fits_cell v (cell_of o (objects o es) l) && is_known o es v
 may_ask o es act.Fence = true
 may_ask o es act.Beat = true
 may_ask o es (act.Notify m) = true
@@ -133,7 +133,7 @@ fits_call threads shapes c r = false
 -- The reply fits the action, where a read is of a cell of this kind.
 abbrev pub fits : ℕ → List Shape → Option Kind → Action → Reply → Bool
 fits threads shapes k (act.Read l s) (Value v) = is_read threads shapes k v
-fits threads shapes k (act.Write l v s) Done = true
+fits threads shapes k (act.Write s l v) Done = true
 fits threads shapes k act.Fence Done = true
 fits threads shapes k act.Beat Done = true
 fits threads shapes k (act.Notify m) Done = true

@@ -319,7 +319,7 @@ held o es l = or_else (last_written l es) (initial_of o (objects o es) l)
 abbrev pub reply : Opening → List Entry → ℕ → Action → Option Reply
 -- a read gives what its location holds
 reply o before t (act.Read l s) = valued (held o before l)
-reply o before t (act.Write l v s) = Some Done
+reply o before t (act.Write s l v) = Some Done
 reply o before t act.Fence = Some Done
 reply o before t act.Beat = Some Done
 reply o before t (act.Notify m) = Some Done

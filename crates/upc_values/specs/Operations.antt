@@ -25,7 +25,7 @@ abbrev pub access : Action → Reply → Access
 access a (Refused c) = Nothing
 access (Read l s) (Value v) = Reads l s v
 access (Read l s) r = Nothing
-access (Write l v s) r = Writes l s v
+access (Write s l v) r = Writes l s v
 -- a fence is a strict write, then a strict read (UPC 6.6.1, Appendix B)
 access Fence r = Writes_and_reads_sync
 -- a notify is a strict write, a wait a strict read (UPC 6.6.1, Appendix B)

@@ -13,9 +13,10 @@ pub enum Action {
         strict: bool,
     },
     Write {
+        // First, since fields lie in the order of the source: an item takes 144 bytes so, else 160.
+        strict: bool,
         loc: Loc,
         value: Scalar,
-        strict: bool,
     },
     Fence,
     /// One for every 1,024 ticks of a thread.

@@ -58,7 +58,7 @@ may_call p asks.Nothing = false
 -- An action may be asked for.
 abbrev pub may_ask : PartsState → Action → Bool
 may_ask p (act.Read l s) = is_some (cell_at p.heap l)
-may_ask p (act.Write l v s) = fits_cell v (cell_at p.heap l) && is_known p v
+may_ask p (act.Write s l v) = fits_cell v (cell_at p.heap l) && is_known p v
 may_ask p (act.Lock l) = is_lock p l
 may_ask p (act.Attempt l) = is_lock p l
 may_ask p (act.Unlock l) = is_lock p l
@@ -188,5 +188,5 @@ begun o =
 
 -- The second parts are the first after an action with this reply.
 abbrev pub Acted : ℕ → Action → Reply → PartsState → PartsState → Type 0
-Acted t (act.Write l v s) r p q = IsSaved p.heap l v q.heap × (q ≡ with_heap q.heap p)
+Acted t (act.Write s l v) r p q = IsSaved p.heap l v q.heap × (q ≡ with_heap q.heap p)
 Acted t a r p q = q ≡ next t a r p

@@ -69,7 +69,7 @@ FitsHome (Some t) = t ≤ most_u32
 -- The numbers of an action lie in the ranges of their types.
 abbrev pub FitsAction : Action → Type 0
 FitsAction (action.Read loc strict) = FitsLoc loc
-FitsAction (action.Write loc value strict) = FitsLoc loc × FitsScalar value
+FitsAction (action.Write strict loc value) = FitsLoc loc × FitsScalar value
 FitsAction action.Fence = Unit {0}
 FitsAction action.Beat = Unit {0}
 FitsAction (action.Notify m) = FitsMark m

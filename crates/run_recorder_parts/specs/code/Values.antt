@@ -129,7 +129,7 @@ write_of = do
   strict ← field strict_of
   loc ← field loc_of
   value ← field scalar_of
-  give (action.Write loc value strict)
+  give (action.Write strict loc value)
 
 -- An action with a mark.
 abbrev pub marked_of : (Mark → Action) → Reader Action

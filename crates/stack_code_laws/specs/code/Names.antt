@@ -46,7 +46,7 @@ is_given o replies (scalar.Lock l) = (l == 0) || is_lock_given replies l
 -- the lock that it works on, which is not null.
 abbrev pub NamesGiven : Opening → List Reply → Action → Type 0
 NamesGiven o replies (Read l s) = is_object_given o replies l.object ≡ true
-NamesGiven o replies (Write l v s) = (is_object_given o replies l.object ≡ true) × (is_given o replies v ≡ true)
+NamesGiven o replies (Write s l v) = (is_object_given o replies l.object ≡ true) × (is_given o replies v ≡ true)
 NamesGiven o replies (Lock l) = is_lock_given replies l ≡ true
 NamesGiven o replies (Attempt l) = is_lock_given replies l ≡ true
 NamesGiven o replies (Unlock l) = is_lock_given replies l ≡ true

@@ -15,7 +15,7 @@ is_unvalued m = true
 -- The action is a read, a write, a fence, a Beat, a print, or a notify or a wait without a value.
 abbrev pub is_basic : Action → Bool
 is_basic (Read l s) = true
-is_basic (Write l v s) = true
+is_basic (Write s l v) = true
 is_basic Fence = true
 is_basic Beat = true
 is_basic (Notify m) = is_unvalued m

@@ -17,7 +17,7 @@ youngest l (p ∷ ps) = option_or (youngest l ps) (cond (same_loc p.loc l) (Some
 
 -- The entry of thread t that a pending write becomes when it is committed.
 abbrev pub committed : ℕ → Pending → Entry
-committed t p = entry_of t p.index (Write p.loc p.value Bool.false) Done
+committed t p = entry_of t p.index (Write Bool.false p.loc p.value) Done
 
 -- The write stands in the place of the youngest pending write of its location.
 abbrev pub replaced : Pending → List Pending → List Pending

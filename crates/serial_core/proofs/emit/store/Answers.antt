@@ -11,7 +11,7 @@ pub returns-in_ok-commit-clause-holds : goal.returns-in_ok-commit-clause-holds
 returns-in_ok-commit-clause-holds c = λ w k.
     let o = c.args.world.now.0 in let t = c.args.thread in let n = c.args.next in let l = c.args.loc in let v = c.args.value in
     let f = c.in-Some.ensures.full.0 refl in
-    subst (λ h. Holds o t h c.store.new.self (n + 1) (gone (entry_of t n (Write l v false) Done) (Write l v false) w))
+    subst (λ h. Holds o t h c.store.new.self (n + 1) (gone (entry_of t n (Write false l v) Done) (Write false l v) w))
     (sym c.in_ok-commit.ensures.one)
     (holds-overflown o t n l v c.args.world.now.1 c.args.buffer.now c.store.new.self c.in-Some.oldest w f.1 f.0
     (c.in-Some.ensures.moved f.1) c.requires.asked k)
