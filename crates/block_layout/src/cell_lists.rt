@@ -6,7 +6,7 @@ ghost use Rattle.block_layout.specs.Lists.{under};
 ghost use Rattle.block_layout.specs.Shapes.{CellsWithin, has_cell};
 
 use crate::kind::Kind;
-use std::alloc::{AllocError, Global};
+use std::alloc::{AllocError as OutOfMemory, Global};
 
 // Adds these cells, moved on by so many bytes.
 fn push_moved(
@@ -14,7 +14,7 @@ fn push_moved(
     start: u32,
     size: u32,
     part: &[(u32, Kind)],
-) -> Result<(), AllocError>
+) -> Result<(), OutOfMemory>
     requires within { CellsWithin part.now 0 size }
     requires near { start + size ≤ 4294967295 }
     ensures { OnOk result (cells.new.items ≡ cells.old.items ++ pure.moved start part.now) }
@@ -32,7 +32,7 @@ pub(crate) fn push_lists(
     count: u32,
     size: u32,
     part: &[(u32, Kind)],
-) -> Result<(), AllocError>
+) -> Result<(), OutOfMemory>
     requires within { CellsWithin part.now 0 size }
     requires near { start + count * size ≤ 4294967295 }
     ensures { OnOk result (cells.new.items ≡ cells.old.items ++ pure.moved start (pure.copies count size part.now)) }
@@ -86,7 +86,7 @@ pub(crate) fn kind_among(cells: &[(u32, Kind)], place: u32) -> Option<Kind>
 pub(crate) fn sharable_list(
     alloc: Global,
     cells: &[(u32, Kind)],
-) -> Result<Vec<(u32, Kind)>, AllocError>
+) -> Result<Vec<(u32, Kind)>, OutOfMemory>
     ensures { IfOk result (λ list. list.items ≡ pure.sharable cells.now) }
 {
     cells

@@ -17,7 +17,7 @@ use crate::runs::{
 };
 use crate::same_runs::same_runs;
 use crate::sharable::sharable_runs;
-use std::alloc::{AllocError, Global};
+use std::alloc::{AllocError as OutOfMemory, Global};
 use std::marker::Model;
 
 // Where the tail has so many cells, it becomes a run before one more comes.
@@ -80,7 +80,7 @@ impl Cells {
     }
 
     /// The cells as a list.
-    pub fn to_vec(&self, alloc: Global) -> Result<Vec<(u32, Kind)>, AllocError>
+    pub fn to_vec(&self, alloc: Global) -> Result<Vec<(u32, Kind)>, OutOfMemory>
         ensures { IfOk result (λ list. list.items ≡ self.now) }
     {
         let mut list = Vec::with_capacity(alloc, self.tail.len())?;
@@ -91,7 +91,7 @@ impl Cells {
     }
 
     /// The same cells once more.
-    pub fn copy(&self, alloc: Global) -> Result<Cells, AllocError>
+    pub fn copy(&self, alloc: Global) -> Result<Cells, OutOfMemory>
         ensures { IfOk result (λ copy. copy ≡ self.now) }
     {
         Ok(Cells {
@@ -117,7 +117,7 @@ impl Cells {
     }
 
     /// One cell more, after the others.
-    pub fn push(&mut self, place: u32, kind: Kind) -> Result<(), AllocError>
+    pub fn push(&mut self, place: u32, kind: Kind) -> Result<(), OutOfMemory>
         ensures { OnOk result (self.new ≡ self.old ++ (place, kind) ∷ []) }
     {
         if self.tail.len() >= MOST {
@@ -135,7 +135,7 @@ impl Cells {
         count: u32,
         size: u32,
         part: &Cells,
-    ) -> Result<(), AllocError>
+    ) -> Result<(), OutOfMemory>
         requires within { CellsWithin part.now 0 size }
         requires near { start + count * size ≤ 4294967295 }
         ensures { OnOk result (self.new ≡ self.old ++ pure.moved start (pure.copies count size part.now)) }
@@ -152,7 +152,7 @@ impl Cells {
     }
 
     // The cells of one element, after the others.
-    fn push_part(&mut self, start: u32, size: u32, part: &Cells) -> Result<(), AllocError>
+    fn push_part(&mut self, start: u32, size: u32, part: &Cells) -> Result<(), OutOfMemory>
         requires within { CellsWithin part.now 0 size }
         requires near { start + size ≤ 4294967295 }
         ensures { OnOk result (self.new ≡ self.old ++ pure.moved start part.now) }
@@ -169,7 +169,7 @@ impl Cells {
         count: u32,
         size: u32,
         cells: &[(u32, Kind)],
-    ) -> Result<(), AllocError>
+    ) -> Result<(), OutOfMemory>
         requires within { CellsWithin cells.now 0 size }
         requires near { start + count * size ≤ 4294967295 }
         ensures { OnOk result (self.new ≡ self.old ++ pure.moved start (pure.copies count size cells.now)) }
@@ -186,7 +186,7 @@ impl Cells {
     }
 
     // The cells with the tail as a run.
-    fn all_runs(&self) -> Result<Vec<Run>, AllocError>
+    fn all_runs(&self) -> Result<Vec<Run>, OutOfMemory>
         ensures { IfOk result (λ runs. runs_cells runs.items ≡ self.now) }
     {
         let alloc = *self.tail.allocator();
@@ -198,7 +198,7 @@ impl Cells {
 
     /// Those that a shared object can have: pointers to private objects are none (UPC 6.5.1.1).
     #[tactic(auto, using(crate::proofs::SharableCells::sharable_append))]
-    pub fn sharable(&self, alloc: Global) -> Result<Cells, AllocError>
+    pub fn sharable(&self, alloc: Global) -> Result<Cells, OutOfMemory>
         ensures { IfOk result (λ cells. cells ≡ pure.sharable self.now) }
     {
         Ok(Cells {

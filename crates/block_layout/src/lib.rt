@@ -8,6 +8,7 @@ mod element;
 mod ends;
 mod floor;
 mod kind;
+pub mod limits;
 mod piece;
 mod place;
 mod range;

@@ -10,7 +10,7 @@ ghost use Rattle.block_layout.specs.Shapes.{CellsWithin, has_cell};
 
 use crate::cell_lists::same_lists;
 use crate::kind::Kind;
-use std::alloc::{AllocError, Global};
+use std::alloc::{AllocError as OutOfMemory, Global};
 use std::marker::Model;
 use std::sync::Arc;
 
@@ -57,7 +57,7 @@ impl Run {
         count: u32,
         size: u32,
         cells: &[(u32, Kind)],
-    ) -> Result<Run, AllocError>
+    ) -> Result<Run, OutOfMemory>
         requires some { 0 < count }
         requires cell { 0 < length cells.now }
         requires within { CellsWithin cells.now 0 size }
@@ -70,7 +70,7 @@ impl Run {
 
     /// These cells once.
     #[tactic(auto, using(crate::proofs::Near::once_is_run, crate::proofs::Near::once_cells))]
-    pub(crate) fn once(alloc: Global, cells: Vec<(u32, Kind)>) -> Result<Run, AllocError>
+    pub(crate) fn once(alloc: Global, cells: Vec<(u32, Kind)>) -> Result<Run, OutOfMemory>
         requires { 0 < length cells.items }
         ensures { IfOk result (λ run. run_cells run ≡ cells.items) }
     {
@@ -78,7 +78,7 @@ impl Run {
     }
 
     /// The same copies once more.
-    pub(crate) fn copy(&self) -> Result<Run, AllocError>
+    pub(crate) fn copy(&self) -> Result<Run, OutOfMemory>
         ensures { IfOk result (λ run. run ≡ self.now) }
     {
         Ok(Run {
@@ -91,7 +91,7 @@ impl Run {
 
     /// The same copies, so many bytes further.
     #[tactic(auto, using(crate::proofs::Near::moved_start, crate::proofs::Near::moved_is_run, crate::proofs::Near::moved_run_cells))]
-    pub(crate) fn moved(&self, by: u32) -> Result<Run, AllocError>
+    pub(crate) fn moved(&self, by: u32) -> Result<Run, OutOfMemory>
         requires { AreNear (pure.moved by (run_cells self.now)) }
         ensures { IfOk result (λ run. run_cells run ≡ pure.moved by (run_cells self.now)) }
     {
@@ -120,7 +120,7 @@ impl Run {
     }
 
     /// The copies of both as one run, where those of the other go on after these.
-    pub(crate) fn joined(&self, next: &Run) -> Result<Option<Run>, AllocError>
+    pub(crate) fn joined(&self, next: &Run) -> Result<Option<Run>, OutOfMemory>
         ensures { IfOk result (λ joined. IfSome joined (λ run. run_cells run
             ≡ run_cells self.now ++ run_cells next.now)) }
     {

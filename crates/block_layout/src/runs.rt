@@ -8,12 +8,12 @@ ghost use Rattle.block_layout.specs.Shapes.{CellsWithin, has_cell};
 
 use crate::kind::Kind;
 use crate::run::Run;
-use std::alloc::{AllocError, Global};
+use std::alloc::{AllocError as OutOfMemory, Global};
 use std::mem;
 
 // The same runs once more. They share their patterns.
 #[tactic(auto, using(crate::proofs::RunLists::runs_push, crate::proofs::RunLists::runs_take))]
-pub(crate) fn copy_runs(alloc: Global, runs: &[Run]) -> Result<Vec<Run>, AllocError>
+pub(crate) fn copy_runs(alloc: Global, runs: &[Run]) -> Result<Vec<Run>, OutOfMemory>
     ensures { IfOk result (λ copy. runs_cells copy.items ≡ runs_cells runs.now) }
 {
     let mut copy = Vec::with_capacity(alloc, runs.len())?;
@@ -25,7 +25,7 @@ pub(crate) fn copy_runs(alloc: Global, runs: &[Run]) -> Result<Vec<Run>, AllocEr
 
 // Adds a run. Where its copies go on after those of the last one, the last one has them too.
 #[tactic(auto, using(crate::proofs::RunLists::runs_push, crate::proofs::Joined::joined_behind))]
-pub(crate) fn push_run(to: &mut Vec<Run>, run: Run) -> Result<(), AllocError>
+pub(crate) fn push_run(to: &mut Vec<Run>, run: Run) -> Result<(), OutOfMemory>
     ensures { OnOk result (runs_cells to.new.items ≡ runs_cells to.old.items ++ run_cells run) }
 {
     let Some(last) = to.pop() else {
@@ -44,7 +44,7 @@ pub(crate) fn push_run(to: &mut Vec<Run>, run: Run) -> Result<(), AllocError>
 
 // Adds these runs, so many bytes further.
 #[tactic(auto, using(crate::proofs::RunLists::run_near))]
-pub(crate) fn push_moved_runs(to: &mut Vec<Run>, start: u32, runs: &[Run]) -> Result<(), AllocError>
+pub(crate) fn push_moved_runs(to: &mut Vec<Run>, start: u32, runs: &[Run]) -> Result<(), OutOfMemory>
     requires { AreNear (moved start (runs_cells runs.now)) }
     ensures { OnOk result (runs_cells to.new.items ≡ runs_cells to.old.items ++ moved start (runs_cells runs.now)) }
 {
@@ -61,7 +61,7 @@ pub(crate) fn push_run_copies(
     count: u32,
     size: u32,
     runs: &[Run],
-) -> Result<(), AllocError>
+) -> Result<(), OutOfMemory>
     requires within { CellsWithin (runs_cells runs.now) 0 size }
     requires near { start + count * size ≤ 4294967295 }
     ensures { OnOk result (runs_cells to.new.items
@@ -75,7 +75,7 @@ pub(crate) fn push_run_copies(
 
 // Makes the tail a run, where it has a cell.
 #[tactic(auto, using(crate::proofs::RunLists::runs_push))]
-pub(crate) fn seal(runs: &mut Vec<Run>, tail: &mut Vec<(u32, Kind)>) -> Result<(), AllocError>
+pub(crate) fn seal(runs: &mut Vec<Run>, tail: &mut Vec<(u32, Kind)>) -> Result<(), OutOfMemory>
     ensures cells { OnOk result (runs_cells runs.new.items ≡ runs_cells runs.old.items ++ tail.old.items) }
     ensures empty { OnOk result (tail.new.items ≡ []) }
 {

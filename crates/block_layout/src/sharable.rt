@@ -9,7 +9,7 @@ use crate::cell_lists::{same_lists, sharable_list};
 use crate::kind::Kind;
 use crate::run::Run;
 use crate::runs::push_run;
-use std::alloc::{AllocError, Global};
+use std::alloc::{AllocError as OutOfMemory, Global};
 use std::sync::Arc;
 
 // A pattern is looked for in so many runs before it.
@@ -21,7 +21,7 @@ fn shared_pattern(
     alloc: Global,
     runs: &[Run],
     cells: Vec<(u32, Kind)>,
-) -> Result<Arc<Vec<(u32, Kind)>>, AllocError>
+) -> Result<Arc<Vec<(u32, Kind)>>, OutOfMemory>
     ensures { IfOk result (λ pattern. (arc_value pattern).items ≡ cells.items) }
 {
     let last = &runs[runs.len().saturating_sub(NEAR)..];
@@ -35,7 +35,7 @@ fn shared_pattern(
 
 // Adds those cells of a run that a shared object can have.
 #[tactic(auto, using(crate::proofs::RunLists::runs_push, crate::proofs::SharableCells::without_private))]
-fn push_sharable(alloc: Global, to: &mut Vec<Run>, run: &Run) -> Result<(), AllocError>
+fn push_sharable(alloc: Global, to: &mut Vec<Run>, run: &Run) -> Result<(), OutOfMemory>
     ensures { OnOk result (runs_cells to.new.items ≡ runs_cells to.old.items ++ pure.sharable (run_cells run.now)) }
 {
     if !run.has_private() {
@@ -50,7 +50,7 @@ fn push_sharable(alloc: Global, to: &mut Vec<Run>, run: &Run) -> Result<(), Allo
 }
 
 // The cells of runs that a shared object can have.
-pub(crate) fn sharable_runs(alloc: Global, runs: &[Run]) -> Result<Vec<Run>, AllocError>
+pub(crate) fn sharable_runs(alloc: Global, runs: &[Run]) -> Result<Vec<Run>, OutOfMemory>
     ensures { IfOk result (λ list. runs_cells list.items ≡ pure.sharable (runs_cells runs.now)) }
 {
     let mut list = Vec::new(alloc);

@@ -24,7 +24,7 @@ use crate::told::Told;
 use block_layout::run_error::{CELL_TYPE, NULL_ACCESS, OUT_OF_OBJECT, PRIVATE_RANGE};
 use block_layout::{Kind, LocalPtr, Shape, SharedPtr};
 use integers::convert;
-use std::alloc::{AllocError, Global};
+use std::alloc::{AllocError as OutOfMemory, Global};
 use upc_values::{Action, Reply, Scalar};
 
 /// Where a range of bytes begins: nowhere, in a shared object, or in a private one.
@@ -155,7 +155,7 @@ fn cells(
     caller: &Caller<'_>,
     bytes: u64,
     area: &Area,
-) -> Result<Vec<Cell>, AllocError>
+) -> Result<Vec<Cell>, OutOfMemory>
     ensures cells { IfOk result (λ cells. cells.items
         ≡ said.cells caller.now.threads caller.now.shapes.now
         (option_copied caller.now.private) bytes (area_in area.now)) }
@@ -333,7 +333,7 @@ fn differ(
     bytes: u64,
     dst: &Area,
     src: &Area,
-) -> Result<bool, AllocError>
+) -> Result<bool, OutOfMemory>
     ensures { IfOk result (λ b. b ≡ (let is_cut = said.is_cut caller.now.threads
         caller.now.shapes.now (option_copied caller.now.private) bytes
         in let cells = said.cells caller.now.threads caller.now.shapes.now
@@ -409,7 +409,7 @@ pub fn copy(
     src: &Area,
     bytes: u64,
     replies: &[Reply],
-) -> Result<Told, AllocError>
+) -> Result<Told, OutOfMemory>
     ensures { IfOk result (λ t. t ≡ told (said.copy caller.now.threads caller.now.shapes.now
         (option_copied caller.now.private) (area_in dst.now) (area_in src.now) bytes) replies.now) }
 {
@@ -567,7 +567,7 @@ pub fn set(
     byte: u8,
     bytes: u64,
     replies: &[Reply],
-) -> Result<Told, AllocError>
+) -> Result<Told, OutOfMemory>
     ensures { IfOk result (λ t. t ≡ told (said.set caller.now.threads caller.now.shapes.now
         (option_copied caller.now.private) (area_in dst.now) byte bytes) replies.now) }
 {

@@ -10,7 +10,7 @@ ghost use Rattle.plain_calls.specs.layer.Run.{ComesTo, Follows, standing, taken}
 
 use crate::told::{End, Step, Told};
 use block_layout::{Kind, Loc, LocalPtr};
-use std::alloc::{AllocError, AllocFailed, Global};
+use std::alloc::{AllocError as OutOfMemory, AllocFailed, Global};
 use std::marker::Model;
 use upc_values::{Action, Listing, Mark, Reply, Scalar};
 
@@ -24,10 +24,10 @@ pub enum Stop {
     Fails(u8),
 }
 
-impl From<AllocError> for Stop {
+impl From<OutOfMemory> for Stop {
     ghost from_gives = { λ _ e. e ≡ Memory };
 
-    fn from(_e: AllocError) -> Stop {
+    fn from(_e: OutOfMemory) -> Stop {
         Stop::Memory
     }
 }
@@ -140,7 +140,7 @@ impl<'a> Telling<'a> {
     }
 
     /// The steps and the end of a call that ends so.
-    pub fn finish(self, end: Result<(), Stop>) -> Result<Told, AllocError>
+    pub fn finish(self, end: Result<(), Stop>) -> Result<Told, OutOfMemory>
         ensures { (x : Expansion (Unit {0})) (replies : List Reply)
             → Follows x (standing [] replies) end self.entry
             → IfOk result (λ t. t ≡ told x replies) }
@@ -159,7 +159,7 @@ impl<'a> Telling<'a> {
                 steps,
                 end: End::Fails(code),
             }),
-            Err(Stop::Memory) => Err(AllocError),
+            Err(Stop::Memory) => Err(OutOfMemory),
         }
     }
 }

@@ -12,7 +12,7 @@ ghost use Rattle.plain_collectives.specs.code.Parts.{part_of, HasRoom};
 use crate::thread::Thread;
 use block_layout::run_error::{CELL_TYPE, OUT_OF_OBJECT, POINTER_RANGE};
 use plain_calls::{Cell, Spot, Stop, Telling, cells_within, cuts_cell, same_cells, shape_of};
-use std::alloc::{AllocError, Global};
+use std::alloc::{AllocError as OutOfMemory, Global};
 use upc_values::Action;
 
 /// Where bytes are copied to, and where from.
@@ -34,7 +34,7 @@ pub fn cut(thread: &Thread<'_>, bytes: u64, p: &Spot) -> bool
 }
 
 // The cells in so many bytes at the pointer.
-fn cells(alloc: Global, thread: &Thread<'_>, bytes: u64, p: &Spot) -> Result<Vec<Cell>, AllocError>
+fn cells(alloc: Global, thread: &Thread<'_>, bytes: u64, p: &Spot) -> Result<Vec<Cell>, OutOfMemory>
     ensures cells { IfOk result (λ cells. cells.items
         ≡ said.cells thread.now.threads thread.now.shapes.now thread.now.number bytes
         (pointer_of p.now)) }
@@ -49,7 +49,7 @@ fn cells(alloc: Global, thread: &Thread<'_>, bytes: u64, p: &Spot) -> Result<Vec
 }
 
 // Whether cells are cut, or differ in place or kind.
-fn differ(alloc: Global, thread: &Thread<'_>, bytes: u64, part: &Part) -> Result<bool, AllocError>
+fn differ(alloc: Global, thread: &Thread<'_>, bytes: u64, part: &Part) -> Result<bool, OutOfMemory>
     ensures { IfOk result (λ b. b ≡ said.differ thread.now.threads thread.now.shapes.now
         thread.now.number bytes (part_of part.now)) }
 {
@@ -103,7 +103,7 @@ fn any_differs(
     thread: &Thread<'_>,
     bytes: u64,
     parts: &[Part],
-) -> Result<bool, AllocError>
+) -> Result<bool, OutOfMemory>
     ensures { IfOk result (λ b. b ≡ list_any (said.differ thread.now.threads thread.now.shapes.now
         thread.now.number bytes) (map part_of parts.now)) }
 {

@@ -19,14 +19,14 @@ use crate::ways::Ends;
 use block_layout::run_error::{CELL_TYPE, LIBRARY_ARGS, OUT_OF_OBJECT, POINTER_RANGE};
 use block_layout::{Kind, SharedPtr};
 use plain_calls::{Spot, Stop, Telling, byte_at, element, from_phase_0};
-use std::alloc::{AllocError, Global};
+use std::alloc::{AllocError as OutOfMemory, Global};
 
 // The elements of the permutation, one for each thread.
 fn permutation(
     alloc: Global,
     thread: &Thread<'_>,
     perm: &SharedPtr,
-) -> Result<Vec<Spot>, AllocError>
+) -> Result<Vec<Spot>, OutOfMemory>
     ensures elements { IfOk result (λ ps. map pointer_of ps.items
         ≡ said.permutation thread.now.threads thread.now.shapes.now thread.now.number perm.now) }
     ensures many { IfOk result (λ ps. length ps.items ≡ thread.now.threads) }

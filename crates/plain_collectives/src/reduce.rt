@@ -23,7 +23,7 @@ use crate::thread::Thread;
 use block_layout::run_error::{CELL_TYPE, OUT_OF_OBJECT, POINTER_RANGE};
 use block_layout::{Kind, SharedPtr};
 use plain_calls::{Spot, Stop, Telling, element, from_phase_0, spot_at};
-use std::alloc::{AllocError, Global};
+use std::alloc::{AllocError as OutOfMemory, Global};
 
 // With an indefinite block the phase is 0.
 fn with_block(p: &SharedPtr, block: u32) -> SharedPtr
@@ -38,7 +38,7 @@ fn operands(
     thread: &Thread<'_>,
     p: &SharedPtr,
     of: &Operands,
-) -> Result<Vec<Spot>, AllocError>
+) -> Result<Vec<Spot>, OutOfMemory>
     requires { of.now.block ≤ 16777216 }
     ensures elements { IfOk result (λ ps. map pointer_of ps.items
         ≡ said.operands thread.now.threads thread.now.shapes.now thread.now.number p.now

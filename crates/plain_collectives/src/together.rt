@@ -16,7 +16,7 @@ use crate::reduce::{reduce_all, reduce_all_prefixes};
 use crate::thread::Thread;
 use crate::ways::{Ends, parts};
 use plain_calls::{Stop, Telling, Told};
-use std::alloc::{AllocError, Global};
+use std::alloc::{AllocError as OutOfMemory, Global};
 use upc_values::{Action, Listing, Reply, Scalar};
 
 // The bits of a call's flags.
@@ -162,7 +162,7 @@ pub fn collective(
     call: u8,
     args: &[Scalar],
     replies: &[Reply],
-) -> Result<Option<Told>, AllocError>
+) -> Result<Option<Told>, OutOfMemory>
     ensures { IfOk result (λ t. t ≡ if_collective call (told (said.collective thread.now.threads
         thread.now.shapes.now thread.now.number call args.now) replies.now)) }
 {

@@ -12,7 +12,7 @@ use crate::part::Part;
 use crate::thread::Thread;
 use block_layout::SharedPtr;
 use plain_calls::byte_at;
-use std::alloc::{AllocError, Global};
+use std::alloc::{AllocError as OutOfMemory, Global};
 
 /// Where the bytes of a copying call lie: `bytes` of each thread.
 #[derive(Clone, Copy)]
@@ -121,7 +121,7 @@ fn exchanged(thread: &Thread<'_>, ends: &Ends<'_>, i: u32) -> Part
     goes(thread, Way::Exchange, ends, from, into)
 }
 
-fn gather(alloc: Global, thread: &Thread<'_>, ends: &Ends<'_>) -> Result<Vec<Part>, AllocError>
+fn gather(alloc: Global, thread: &Thread<'_>, ends: &Ends<'_>) -> Result<Vec<Part>, OutOfMemory>
     ensures { IfOk result (λ parts. map part_of parts.items
         ≡ said.parts thread.now.threads thread.now.shapes.now thread.now.number calls.Gather
         ends.now.dst.now ends.now.src.now ends.now.bytes) }
@@ -135,7 +135,7 @@ fn gather(alloc: Global, thread: &Thread<'_>, ends: &Ends<'_>) -> Result<Vec<Par
     Ok(parts)
 }
 
-fn gather_all(alloc: Global, thread: &Thread<'_>, ends: &Ends<'_>) -> Result<Vec<Part>, AllocError>
+fn gather_all(alloc: Global, thread: &Thread<'_>, ends: &Ends<'_>) -> Result<Vec<Part>, OutOfMemory>
     ensures { IfOk result (λ parts. map part_of parts.items
         ≡ said.parts thread.now.threads thread.now.shapes.now thread.now.number calls.Gather_all
         ends.now.dst.now ends.now.src.now ends.now.bytes) }
@@ -147,7 +147,7 @@ fn gather_all(alloc: Global, thread: &Thread<'_>, ends: &Ends<'_>) -> Result<Vec
     Ok(parts)
 }
 
-fn exchange(alloc: Global, thread: &Thread<'_>, ends: &Ends<'_>) -> Result<Vec<Part>, AllocError>
+fn exchange(alloc: Global, thread: &Thread<'_>, ends: &Ends<'_>) -> Result<Vec<Part>, OutOfMemory>
     ensures { IfOk result (λ parts. map part_of parts.items
         ≡ said.parts thread.now.threads thread.now.shapes.now thread.now.number calls.Exchange
         ends.now.dst.now ends.now.src.now ends.now.bytes) }
@@ -160,7 +160,7 @@ fn exchange(alloc: Global, thread: &Thread<'_>, ends: &Ends<'_>) -> Result<Vec<P
 }
 
 // The part alone.
-fn one(alloc: Global, part: Part) -> Result<Vec<Part>, AllocError>
+fn one(alloc: Global, part: Part) -> Result<Vec<Part>, OutOfMemory>
     ensures { IfOk result (λ parts. parts.items ≡ part ∷ []) }
 {
     let mut parts = Vec::new(alloc);
@@ -174,7 +174,7 @@ pub fn parts(
     thread: &Thread<'_>,
     way: Way,
     ends: &Ends<'_>,
-) -> Result<Vec<Part>, AllocError>
+) -> Result<Vec<Part>, OutOfMemory>
     ensures { IfOk result (λ parts. map part_of parts.items
         ≡ said.parts thread.now.threads thread.now.shapes.now thread.now.number
         (way_in way) ends.now.dst.now ends.now.src.now ends.now.bytes) }

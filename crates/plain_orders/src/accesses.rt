@@ -9,7 +9,7 @@ ghost use Rattle.plain_orders.specs.code.Below.{operations_below};
 
 use crate::operation::Operation;
 use crate::place::Place;
-use std::alloc::{AllocError, Global};
+use std::alloc::{AllocError as OutOfMemory, Global};
 use upc_values::{Action, Item, Items, Journal, Reply, Scalar};
 
 const ZERO: Scalar = Scalar::Int(0);
@@ -35,7 +35,7 @@ fn push_accesses(
     action: &Action,
     reply: &Reply,
     list: &mut Vec<Operation>,
-) -> Result<(), AllocError>
+) -> Result<(), OutOfMemory>
     ensures { OnOk result (list.new.items ≡ list.old.items
         ++ operations.accesses_of thread index action.now reply.now) }
 {
@@ -68,7 +68,7 @@ fn push_accesses(
 }
 
 // Adds the operations of a thread's items.
-fn push_items(thread: usize, items: &Items, list: &mut Vec<Operation>) -> Result<(), AllocError>
+fn push_items(thread: usize, items: &Items, list: &mut Vec<Operation>) -> Result<(), OutOfMemory>
     ensures { OnOk result (list.new.items ≡ list.old.items ++ operations_from thread 0 items.now) }
 {
     list.reserve(items.len())?;
@@ -87,7 +87,7 @@ fn push_thread(
     journal: &Journal,
     thread: usize,
     list: &mut Vec<Operation>,
-) -> Result<(), AllocError>
+) -> Result<(), OutOfMemory>
     ensures { OnOk result (list.new.items ≡ list.old.items ++ operations_from thread 0 (record_of journal.now thread)) }
 {
     match journal.strands.as_slice().get(thread) {
@@ -97,7 +97,7 @@ fn push_thread(
 }
 
 /// The operations of a journal, those of thread 0 first, each thread's in program order.
-pub fn operations_of(alloc: Global, journal: &Journal) -> Result<Vec<Operation>, AllocError>
+pub fn operations_of(alloc: Global, journal: &Journal) -> Result<Vec<Operation>, OutOfMemory>
     ensures in_order { IfOk result (λ list. list.items ≡ operations_below journal.now journal.now.threads) }
     ensures all { IfOk result (λ list. (o : Operation) → Has list.items o ↔ IsOf journal.now o) }
 {

@@ -9,7 +9,7 @@ use crate::accesses::operations_of;
 use crate::consistent::are_consistent;
 use crate::named::{find_all, find_each};
 use block_layout::{Kind, Loc};
-use std::alloc::{AllocError, Global};
+use std::alloc::{AllocError as OutOfMemory, Global};
 use upc_values::{Journal, Orders, Scalar};
 
 // Whether they do, by the operations with these names.
@@ -19,7 +19,7 @@ fn decide(
     initials: &[(Loc, Scalar)],
     cells: &[(Loc, Kind)],
     orders: &Orders,
-) -> Result<bool, AllocError>
+) -> Result<bool, OutOfMemory>
     ensures { IfOk result (λ b. IsTrue b
         ↔ AreConsistentOrders (initial_by initials.now cells.now) journal.now orders.now) }
 {
@@ -55,7 +55,7 @@ pub fn is_consistent(
     initials: &[(Loc, Scalar)],
     cells: &[(Loc, Kind)],
     orders: &Orders,
-) -> Result<bool, AllocError>
+) -> Result<bool, OutOfMemory>
     ensures decided { IfOk result (λ b. IsTrue b
         ↔ AreConsistentOrders (initial_by initials.now cells.now) journal.now orders.now) }
     ensures own { IfOk result (λ b. 0 < journal.now.threads → AreOwnOrders journal.now orders.now

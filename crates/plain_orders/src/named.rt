@@ -7,7 +7,7 @@ ghost use Rattle.upc_values.specs.Orders.{name_of};
 ghost use Rattle.plain_orders.specs.code.Named.{IsNamed, AreNamed};
 
 use crate::operation::Operation;
-use std::alloc::{AllocError, Global};
+use std::alloc::{AllocError as OutOfMemory, Global};
 use upc_values::{Listing, Op, Order};
 
 // The first operation with the name.
@@ -28,7 +28,7 @@ pub(crate) fn find_all(
     alloc: Global,
     operations: &[Operation],
     names: &[Op],
-) -> Result<Option<Vec<Operation>>, AllocError>
+) -> Result<Option<Vec<Operation>>, OutOfMemory>
     ensures { IfOk result (λ found. MatchOption found
         ((list : List said.Operation) → IsNamed operations.now names.now list → ⊥) (λ list.
         IsNamed operations.now names.now list.items)) }
@@ -48,7 +48,7 @@ pub(crate) fn find_each(
     alloc: Global,
     operations: &[Operation],
     orders: &[Order],
-) -> Result<Option<Vec<Listing<Operation>>>, AllocError>
+) -> Result<Option<Vec<Listing<Operation>>>, OutOfMemory>
     ensures { IfOk result (λ found. MatchOption found
         ((lists : List (List said.Operation)) → AreNamed operations.now orders.now lists → ⊥)
         (λ lists. AreNamed operations.now orders.now lists.items)) }

@@ -10,7 +10,7 @@ ghost use Rattle.write_buffer.specs.layer.Buffer.{committed};
 ghost use Rattle.serial_core.specs.Kept.{way_of, AreFormed, Holds, Grew, Emitted, IsAnswer};
 
 use memory_history::{Step, World};
-use std::alloc::AllocError;
+use std::alloc::AllocError as OutOfMemory;
 use upc_values::{Action, Loc, Reply, Scalar};
 use write_buffer::{Pending, WriteBuffer};
 
@@ -40,7 +40,7 @@ fn way_through(action: &Action) -> Way
 
 // A pending write becomes an entry.
 #[tactic(auto, using(crate::proofs::Buffers::grows))]
-fn commit(thread: u32, world: &mut World, write: Pending) -> Result<(), AllocError>
+fn commit(thread: u32, world: &mut World, write: Pending) -> Result<(), OutOfMemory>
     requires below { thread < world.old.0.threads }
     requires formed { IsWellFormed world.old.0 world.old.1 (Write write.loc write.value false) }
     ensures one { IfOk result (λ _. world.new.1 ≡ world.old.1 ++ committed thread write ∷ []) }
@@ -58,7 +58,7 @@ fn commit(thread: u32, world: &mut World, write: Pending) -> Result<(), AllocErr
 
 /// All pending writes are committed, in order.
 #[tactic(auto, using(crate::proofs::Buffers::grown))]
-pub fn empty(thread: u32, world: &mut World, buffer: &mut WriteBuffer) -> Result<(), AllocError>
+pub fn empty(thread: u32, world: &mut World, buffer: &mut WriteBuffer) -> Result<(), OutOfMemory>
     requires below { thread < world.old.0.threads }
     requires formed { AreFormed world.old.0 world.old.1 buffer.old }
     ensures all { IfOk result (λ _.
@@ -80,7 +80,7 @@ fn store(
     buffer: &mut WriteBuffer,
     loc: Loc,
     value: Scalar,
-) -> Result<(), AllocError>
+) -> Result<(), OutOfMemory>
     requires below { thread < world.old.0.threads }
     requires formed { AreFormed world.old.0 world.old.1 buffer.old }
     requires asked { IsWellFormed world.old.0 world.old.1 (Write loc value false) }
@@ -104,7 +104,7 @@ pub fn emit(
     world: &mut World,
     buffer: &mut WriteBuffer,
     action: &Action,
-) -> Result<Step, AllocError>
+) -> Result<Step, OutOfMemory>
     requires below { thread < world.old.0.threads }
     requires pending { AreFormed world.old.0 world.old.1 buffer.old }
     requires asked { IsWellFormed world.old.0 world.old.1 action.now }

@@ -29,13 +29,13 @@ use crate::task::{Pause, Task};
 use block_layout::ObjectRef;
 use memory_history::World;
 use stack_code::Code;
-use std::alloc::{AllocError, Global};
+use std::alloc::{AllocError as OutOfMemory, Global};
 use std::sync::Wait;
 use typed_tree::{Program, SharedDecl};
 use upc_values::{End, Journal, Listing, Strand, copy_action};
 
 // One task for each thread.
-fn make_all(alloc: Global, code: &Code, limits: Limits) -> Result<Vec<Task>, AllocError>
+fn make_all(alloc: Global, code: &Code, limits: Limits) -> Result<Vec<Task>, OutOfMemory>
     requires limits { AreLimits limits }
     requires code { code.now.threads ≡ limits.threads }
     ensures { IfOk result (λ tasks. (o : Opening) (f : Outcomes) → HasOutcomes o code.now limits f
@@ -55,7 +55,7 @@ fn turn(
     tasks: &mut Vec<Task>,
     world: &mut World,
     at: usize,
-) -> Result<Pause, AllocError>
+) -> Result<Pause, OutOfMemory>
     requires running { GoesOn code.now world.old tasks.old.items }
     requires at { (at < length tasks.old.items) × IsOpenAt tasks.old.items at }
     ensures running { IfOk result (λ _. StaysRunning code.now world.old tasks.old.items world.new tasks.new.items) }
@@ -81,7 +81,7 @@ fn round<R: Wait>(
     tasks: &mut Vec<Task>,
     world: &mut World,
     at: usize,
-) -> Result<(), AllocError>
+) -> Result<(), OutOfMemory>
     requires running { GoesOn code.now world.old tasks.old.items }
     requires at { (at < length tasks.old.items) × IsOpenAt tasks.old.items at }
     ensures running { IfOk result (λ _. StaysRunning code.now world.old tasks.old.items world.new tasks.new.items) }
@@ -119,7 +119,7 @@ fn visit<R: Wait>(
     tasks: &mut Vec<Task>,
     world: &mut World,
     at: usize,
-) -> Result<(), AllocError>
+) -> Result<(), OutOfMemory>
     requires running { GoesOn code.now world.old tasks.old.items }
     requires at { at < length tasks.old.items }
     ensures running { IfOk result (λ _. StaysRunning code.now world.old tasks.old.items world.new tasks.new.items) }
@@ -143,7 +143,7 @@ fn round_all<R: Wait>(
     code: &Code,
     tasks: &mut Vec<Task>,
     world: &mut World,
-) -> Result<(), AllocError>
+) -> Result<(), OutOfMemory>
     requires running { GoesOn code.now world.old tasks.old.items }
     requires quiet { NoneStops tasks.old.items }
     ensures running { IfOk result (λ _. StaysRunning code.now world.old tasks.old.items world.new tasks.new.items) }
@@ -176,7 +176,7 @@ fn finish<R: Wait>(
     tasks: &mut Vec<Task>,
     world: &mut World,
     at: usize,
-) -> Result<(), AllocError>
+) -> Result<(), OutOfMemory>
     requires running { GoesOn code.now world.old tasks.old.items }
     requires at { at < length tasks.old.items }
     ensures running { IfOk result (λ _. StaysRunning code.now world.old tasks.old.items world.new tasks.new.items) }
@@ -200,7 +200,7 @@ fn finish_all<R: Wait>(
     code: &Code,
     tasks: &mut Vec<Task>,
     world: &mut World,
-) -> Result<(), AllocError>
+) -> Result<(), OutOfMemory>
     requires running { GoesOn code.now world.old tasks.old.items }
     requires stopped { (u : ℕ) × StopsAt tasks.old.items u }
     ensures running { IfOk result (λ _. StaysRunning code.now world.old tasks.old.items world.new tasks.new.items) }
@@ -298,7 +298,7 @@ fn halt(task: &mut Task)
 }
 
 // The task is deadlocked, if it has no end.
-fn lock(alloc: Global, task: &mut Task) -> Result<(), AllocError>
+fn lock(alloc: Global, task: &mut Task) -> Result<(), OutOfMemory>
     requires { task.old.«end» ≡ None → CanLock task.old }
     ensures { IfOk result (λ _. task.new ≡ locked task.old) }
 {
@@ -322,7 +322,7 @@ fn halt_all(tasks: &mut Vec<Task>)
     }
 }
 
-fn lock_all(alloc: Global, tasks: &mut Vec<Task>) -> Result<(), AllocError>
+fn lock_all(alloc: Global, tasks: &mut Vec<Task>) -> Result<(), OutOfMemory>
     requires { Numbered (λ _ k. k.«end» ≡ None → CanLock k) tasks.old.items }
     ensures { IfOk result (λ _. AreEach locked tasks.old.items tasks.new.items) }
 {
@@ -339,7 +339,7 @@ fn rounds<R: Wait>(
     code: &Code,
     tasks: &mut Vec<Task>,
     world: &mut World,
-) -> Result<(), AllocError>
+) -> Result<(), OutOfMemory>
     requires running { GoesOn code.now world.old tasks.old.items }
     requires quiet { NoneStops tasks.old.items }
     ensures over { IfOk result (λ _. (f : Outcomes)
@@ -374,7 +374,7 @@ fn go_out<R: Wait>(
     code: &Code,
     tasks: &mut Vec<Task>,
     world: &mut World,
-) -> Result<(), AllocError>
+) -> Result<(), OutOfMemory>
     requires { GoesOn code.now world.old tasks.old.items }
     ensures over { IfOk result (λ _. (f : Outcomes)
         → IsRunning world.old.0 code.now f world.old.1 tasks.old.items
@@ -431,7 +431,7 @@ fn obey(
     tasks: &mut Vec<Task>,
     world: &mut World,
     pick: u32,
-) -> Result<bool, AllocError>
+) -> Result<bool, OutOfMemory>
     requires running { GoesOn code.now world.old tasks.old.items }
     requires quiet { NoneStops tasks.old.items }
     ensures running { IfOk result (λ _. StaysRunning code.now world.old tasks.old.items world.new tasks.new.items) }
@@ -455,7 +455,7 @@ fn pick_all(
     tasks: &mut Vec<Task>,
     world: &mut World,
     picks: &[u32],
-) -> Result<(), AllocError>
+) -> Result<(), OutOfMemory>
     requires { GoesOn code.now world.old tasks.old.items }
     ensures running { IfOk result (λ _. StaysRunning code.now world.old tasks.old.items world.new tasks.new.items) }
     ensures same { IfOk result (λ _. AreSame tasks.old.items tasks.new.items) }
@@ -488,7 +488,7 @@ fn strands_of(tasks: Vec<Task>, mut strands: Vec<Strand>) -> Vec<Strand>
 }
 
 // The declared shared objects, in order.
-fn objects_of(alloc: Global, shared: &[SharedDecl]) -> Result<Vec<ObjectRef>, AllocError>
+fn objects_of(alloc: Global, shared: &[SharedDecl]) -> Result<Vec<ObjectRef>, OutOfMemory>
     ensures { IfOk result (λ xs. xs.items ≡ map (λ x. x.object) shared.now) }
 {
     let mut objects = Vec::new(alloc);
@@ -515,7 +515,7 @@ pub fn run_by<R: Wait>(
     code: &Code,
     limits: Limits,
     picks: &[u32],
-) -> Result<Journal, AllocError>
+) -> Result<Journal, OutOfMemory>
     requires threads { (1 ≤ limits.threads) × (limits.threads ≤ 32) }
     requires budget { (1 ≤ limits.budget) × (limits.budget ≤ 1000000000000) }
     requires actions { (1 ≤ limits.actions) × (limits.threads * limits.actions ≤ 8388608) }

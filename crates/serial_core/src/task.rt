@@ -22,7 +22,7 @@ use crate::limits::Limits;
 use memory_history::{Step, World};
 use stack_code::Code;
 use stack_machine::{Machine, Wish};
-use std::alloc::{AllocError, Global};
+use std::alloc::{AllocError as OutOfMemory, Global};
 use upc_values::{Action, Chunks, End, Item, Items, Reply, Strand};
 use write_buffer::WriteBuffer;
 
@@ -109,7 +109,7 @@ fn own_end(wish: &Wish, full: bool) -> Option<End>
 
 impl Task {
     /// A task that has done nothing.
-    pub fn make(alloc: Global, code: &Code, thread: u32, limits: Limits) -> Result<Task, AllocError>
+    pub fn make(alloc: Global, code: &Code, thread: u32, limits: Limits) -> Result<Task, OutOfMemory>
         requires limits { AreLimits limits }
         requires code { code.now.threads ≡ limits.threads }
         requires thread { thread < limits.threads }
@@ -133,7 +133,7 @@ impl Task {
     }
 
     /// Does the private work up to the next wish, after which the task is ready. A ready task stays as it is.
-    pub fn work(&mut self, code: &Code) -> Result<(), AllocError>
+    pub fn work(&mut self, code: &Code) -> Result<(), OutOfMemory>
         requires { self.old.«end» ≡ None }
         ensures kept { IfOk result (λ _. StaysKept code.now self.old self.new) }
         ensures ready { IfOk result (λ _. is_some self.new.wish ≡ true) }
@@ -150,7 +150,7 @@ impl Task {
     }
 
     // The buffer is emptied, and the task has its end.
-    fn close(&mut self, world: &mut World, end: End) -> Result<Pause, AllocError>
+    fn close(&mut self, world: &mut World, end: End) -> Result<Pause, OutOfMemory>
         requires kept { (p : Codes) × (f : Outcomes) × IsKept world.old.0 p f world.old.1 self.old }
         requires ready { (self.old.«end» ≡ None) × (is_some self.old.wish ≡ true) }
         requires own { (p : Codes) (f : Outcomes) → IsKept world.old.0 p f world.old.1 self.old
@@ -169,7 +169,7 @@ impl Task {
     }
 
     // Does the wanted action, or stalls before it.
-    fn act(&mut self, world: &mut World) -> Result<Pause, AllocError>
+    fn act(&mut self, world: &mut World) -> Result<Pause, OutOfMemory>
         requires kept { (p : Codes) × (f : Outcomes) × IsKept world.old.0 p f world.old.1 self.old }
         requires open { self.old.«end» ≡ None }
         requires wants { (a : Action) × (self.old.wish ≡ Some (Act a)) }
@@ -213,7 +213,7 @@ impl Task {
     }
 
     /// Acts on the wish: at most one new item, and the commits that go with it. The machine is not resumed.
-    pub fn step(&mut self, world: &mut World) -> Result<Pause, AllocError>
+    pub fn step(&mut self, world: &mut World) -> Result<Pause, OutOfMemory>
         requires kept { (p : Codes) × (f : Outcomes) × IsKept world.old.0 p f world.old.1 self.old }
         requires ready { (self.old.«end» ≡ None) × (is_some self.old.wish ≡ true) }
         ensures kept { IfOk result (λ _. Keeps world.old self.old world.new self.new) }

@@ -3,7 +3,7 @@
 ghost use Rattle.std.specs.Prelude.{◌+◌, ◌*◌, ◌≤◌, IsTrue};
 
 use block_layout::{Cells, Kind, Shape};
-use std::alloc::{AllocError, Global};
+use std::alloc::{AllocError as OutOfMemory, Global};
 use std::test::Fail;
 
 // Whether so many elements of a size end below 2^32.
@@ -23,7 +23,7 @@ fn add(
     count: u32,
     size: u32,
     part: &Cells,
-) -> Result<(), AllocError> {
+) -> Result<(), OutOfMemory> {
     if part.lie_within(size) && is_near(start, count, size) {
         cells.push_copies(start, count, size, part)?;
     }
@@ -40,7 +40,7 @@ fn kind_in(shape: &Shape, place: u32) -> Option<Kind> {
 }
 
 // A list with these cells.
-fn of(alloc: Global, list: &[(u32, Kind)]) -> Result<Cells, AllocError> {
+fn of(alloc: Global, list: &[(u32, Kind)]) -> Result<Cells, OutOfMemory> {
     let mut cells = Cells::new(alloc);
     for (place, kind) in list {
         cells.push(*place, *kind)?;
@@ -55,7 +55,7 @@ fn plain(
     count: u32,
     size: u32,
     part: &[(u32, Kind)],
-) -> Result<(), AllocError> {
+) -> Result<(), OutOfMemory> {
     let mut first = start;
     for _ in 0..count {
         for (place, kind) in part {
@@ -90,7 +90,7 @@ const GRIDS: [(u32, u32, u32, u32); 12] = [
 ];
 
 // An element of chars and ints, as cells and as a list.
-fn element(alloc: Global, chars: u32, ints: u32) -> Result<(Cells, Vec<(u32, Kind)>), AllocError> {
+fn element(alloc: Global, chars: u32, ints: u32) -> Result<(Cells, Vec<(u32, Kind)>), OutOfMemory> {
     let one = of(alloc, &[(0, Kind::Char)])?;
     let word = of(alloc, &[(0, Kind::Int)])?;
     let mut cells = Cells::new(alloc);
@@ -109,7 +109,7 @@ fn grid(
     ints: u32,
     columns: u32,
     rows: u32,
-) -> Result<(Cells, Vec<(u32, Kind)>), AllocError> {
+) -> Result<(Cells, Vec<(u32, Kind)>), OutOfMemory> {
     let (part, list) = element(alloc, chars, ints)?;
     let size = chars.wrapping_add(ints.wrapping_mul(4));
     let mut row = Cells::new(alloc);
@@ -126,7 +126,7 @@ fn grid(
 }
 
 // Whether these are the cells of the list, however it is held.
-fn agree(alloc: Global, cells: &Cells, list: &[(u32, Kind)]) -> Result<bool, AllocError> {
+fn agree(alloc: Global, cells: &Cells, list: &[(u32, Kind)]) -> Result<bool, OutOfMemory> {
     let found = cells.to_vec(alloc)?;
     let copy = cells.copy(alloc)?;
     let pushed = of(alloc, list)?;
@@ -215,7 +215,7 @@ fn of_an_array_that_is_large(rt: HostRuntime) -> Result<(), Fail> {
 const COUNTS: [u32; 5] = [0, 1, 80, 100, 300];
 
 // So many elements with pointers to private objects, as many such pointers, and a long.
-fn with_pointers(alloc: Global, count: u32) -> Result<Cells, AllocError> {
+fn with_pointers(alloc: Global, count: u32) -> Result<Cells, OutOfMemory> {
     let part = of(
         alloc,
         &[(0, Kind::Int), (8, Kind::Private(3)), (16, Kind::Char)],
@@ -229,7 +229,7 @@ fn with_pointers(alloc: Global, count: u32) -> Result<Cells, AllocError> {
 }
 
 // Those of them that can be shared.
-fn without_pointers(alloc: Global, count: u32) -> Result<Vec<(u32, Kind)>, AllocError> {
+fn without_pointers(alloc: Global, count: u32) -> Result<Vec<(u32, Kind)>, OutOfMemory> {
     let mut list = Vec::new(alloc);
     plain(&mut list, 0, count, 24, &[(0, Kind::Int), (16, Kind::Char)])?;
     list.push((count.wrapping_mul(32), Kind::Long))?;
@@ -249,7 +249,7 @@ fn those_that_can_be_shared(rt: HostRuntime) -> Result<(), Fail> {
 }
 
 // A list that begins with so many copies of a cell, and goes on with these.
-fn begun(alloc: Global, count: u32, kind: Kind, rest: &[(u32, Kind)]) -> Result<Cells, AllocError> {
+fn begun(alloc: Global, count: u32, kind: Kind, rest: &[(u32, Kind)]) -> Result<Cells, OutOfMemory> {
     let one = of(alloc, &[(0, kind)])?;
     let mut cells = Cells::new(alloc);
     add(&mut cells, 0, count, 8, &one)?;
@@ -299,7 +299,7 @@ fn doubled(
     alloc: Global,
     times: u32,
     between: u32,
-) -> Result<(Cells, Vec<(u32, Kind)>, u32), AllocError> {
+) -> Result<(Cells, Vec<(u32, Kind)>, u32), OutOfMemory> {
     let first = [(0, Kind::Char), (4, Kind::Int), (8, Kind::Short)];
     let char_cell = of(alloc, &[(0, Kind::Char)])?;
     let mut cells = of(alloc, &first)?;

@@ -5,12 +5,12 @@ ghost use Rattle.block_layout.specs.declared.kind.Kind.TheVariants as kind;
 
 use block_layout::{Cells, Kind, LocalPtr, Shape};
 use stack_code::{Builder, CallWork, CellAccess, Code, Instr, ObjectWork, Operation, StackWork};
-use std::alloc::{AllocError, Global};
+use std::alloc::{AllocError as OutOfMemory, Global};
 use upc_text::{OutOfMemory, Place};
 use upc_values::{Scalar, Value};
 
 // The shape of an int.
-fn int_shape(alloc: Global) -> Result<Shape, AllocError>
+fn int_shape(alloc: Global) -> Result<Shape, OutOfMemory>
     ensures { IfOk result (λ shape. shape ≡ record { size = 4; cells = (0, kind.Int) ∷ [] }) }
 {
     let mut cells = Vec::new(alloc);

@@ -7,7 +7,7 @@ use crate::words::{put_mark, put_number, word};
 use gen_stmt::compile;
 use stack_code::Code;
 use stack_machine::{Machine, Wish};
-use std::alloc::{AllocError, Global};
+use std::alloc::{AllocError as OutOfMemory, Global};
 use std::test::Fail;
 use typed_tree::{Expr, Item, Program, StatementKind};
 use upc_text::{OutOfMemory, Stop};
@@ -18,7 +18,7 @@ fn put_access(
     word: &'static str,
     loc: Loc,
     strict: bool,
-) -> Result<(), AllocError> {
+) -> Result<(), OutOfMemory> {
     text.push_str(if strict { "strict" } else { "relaxed" })?;
     text.push_str(word)?;
     write!(
@@ -29,7 +29,7 @@ fn put_access(
 }
 
 // An action in words.
-fn put_action(text: &mut String, action: &Action) -> Result<(), AllocError> {
+fn put_action(text: &mut String, action: &Action) -> Result<(), OutOfMemory> {
     match action {
         Action::Read { loc, strict } => put_access(text, " read", *loc, *strict),
         Action::Write { loc, value, strict } => {
@@ -62,7 +62,7 @@ fn put_action(text: &mut String, action: &Action) -> Result<(), AllocError> {
 }
 
 // Adds how a wish ends the thread, where it does.
-fn put_end(text: &mut String, wish: &Wish) -> Result<(), AllocError> {
+fn put_end(text: &mut String, wish: &Wish) -> Result<(), OutOfMemory> {
     match wish {
         Wish::Act(_) => Ok(()),
         Wish::Ended(value) => write!(text, "ended {value}"),
@@ -80,7 +80,7 @@ enum Told {
     Ends,
 }
 
-fn put_wish(text: &mut String, wish: &Wish) -> Result<Told, AllocError> {
+fn put_wish(text: &mut String, wish: &Wish) -> Result<Told, OutOfMemory> {
     match wish {
         Wish::Act(action) => {
             put_action(text, action)?;
@@ -324,7 +324,7 @@ fn add_words(
     words: &mut Vec<&'static str>,
     code: &Code,
     function: usize,
-) -> Result<(), AllocError> {
+) -> Result<(), OutOfMemory> {
     for place in 0..code.size(function) {
         if let Some(instr) = code.fetch(function, place) {
             let name = word(&instr.does);

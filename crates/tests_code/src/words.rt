@@ -6,7 +6,7 @@ use stack_code::{
     CallWork, CellAccess, Code, Instr, Jump, ObjectWork, Operation, StackWork, ThreadWork,
     ValueWork,
 };
-use std::alloc::{AllocError, Global};
+use std::alloc::{AllocError as OutOfMemory, Global};
 use thread_steps::{CastTo, Elements};
 use upc_values::{Mark, Scalar, Value};
 
@@ -155,12 +155,12 @@ pub fn word(operation: &Operation) -> &'static str {
 }
 
 /// Adds a number after a space.
-pub fn put_number(text: &mut String, number: i128) -> Result<(), AllocError> {
+pub fn put_number(text: &mut String, number: i128) -> Result<(), OutOfMemory> {
     write!(text, " {number}")
 }
 
 /// Adds the mark of a notify or a wait.
-pub fn put_mark(text: &mut String, mark: Mark) -> Result<(), AllocError> {
+pub fn put_mark(text: &mut String, mark: Mark) -> Result<(), OutOfMemory> {
     match mark {
         Mark::Absent => Ok(()),
         Mark::Start => text.push_str(" start"),
@@ -171,7 +171,7 @@ pub fn put_mark(text: &mut String, mark: Mark) -> Result<(), AllocError> {
 
 // A number; a pointer to a shared object by its number, from 1 on, else 0; a pointer to an object of the file by its
 // number, from 0 on.
-fn put_value(text: &mut String, value: Value) -> Result<(), AllocError> {
+fn put_value(text: &mut String, value: Value) -> Result<(), OutOfMemory> {
     match value {
         Value::Scalar(Scalar::Int(number)) => put_number(text, number),
         Value::Scalar(Scalar::Shared(p)) => {
@@ -191,12 +191,12 @@ fn put_value(text: &mut String, value: Value) -> Result<(), AllocError> {
 }
 
 // The block and the size of elements.
-fn put_elements(text: &mut String, elements: Elements) -> Result<(), AllocError> {
+fn put_elements(text: &mut String, elements: Elements) -> Result<(), OutOfMemory> {
     put_number(text, i128::from(elements.block))?;
     put_number(text, i128::from(elements.size))
 }
 
-fn put_value_work(text: &mut String, work: ValueWork) -> Result<(), AllocError> {
+fn put_value_work(text: &mut String, work: ValueWork) -> Result<(), OutOfMemory> {
     match work {
         ValueWork::Operate {
             operator,
@@ -226,12 +226,12 @@ fn put_value_work(text: &mut String, work: ValueWork) -> Result<(), AllocError> 
     }
 }
 
-fn put_access(text: &mut String, access: CellAccess) -> Result<(), AllocError> {
+fn put_access(text: &mut String, access: CellAccess) -> Result<(), OutOfMemory> {
     text.push_str(kind_word(access.kind))?;
     text.push_str(if access.strict { " strict" } else { " relaxed" })
 }
 
-fn put_object_work(text: &mut String, work: &ObjectWork) -> Result<(), AllocError> {
+fn put_object_work(text: &mut String, work: &ObjectWork) -> Result<(), OutOfMemory> {
     match work {
         ObjectWork::Local(number) => put_number(text, i128::from(*number)),
         ObjectWork::Load(access) | ObjectWork::Save(access) => put_access(text, *access),
@@ -246,7 +246,7 @@ fn put_object_work(text: &mut String, work: &ObjectWork) -> Result<(), AllocErro
     }
 }
 
-fn put_jump(text: &mut String, work: Jump) -> Result<(), AllocError> {
+fn put_jump(text: &mut String, work: Jump) -> Result<(), OutOfMemory> {
     match work {
         Jump::GoOn(distance)
         | Jump::SkipIfZero(distance)
@@ -264,7 +264,7 @@ fn put_jump(text: &mut String, work: Jump) -> Result<(), AllocError> {
     }
 }
 
-fn put_call(text: &mut String, work: &CallWork) -> Result<(), AllocError> {
+fn put_call(text: &mut String, work: &CallWork) -> Result<(), OutOfMemory> {
     match work {
         CallWork::CallTo {
             function,
@@ -285,7 +285,7 @@ fn put_call(text: &mut String, work: &CallWork) -> Result<(), AllocError> {
     }
 }
 
-fn put_thread_work(text: &mut String, work: &ThreadWork) -> Result<(), AllocError> {
+fn put_thread_work(text: &mut String, work: &ThreadWork) -> Result<(), OutOfMemory> {
     match work {
         ThreadWork::Notify(mark) | ThreadWork::Wait(mark) => put_mark(text, *mark),
         ThreadWork::Library {
@@ -299,7 +299,7 @@ fn put_thread_work(text: &mut String, work: &ThreadWork) -> Result<(), AllocErro
 }
 
 // Adds an instruction, in a line that begins with its place in the source.
-fn put_line(text: &mut String, instr: &Instr) -> Result<(), AllocError> {
+fn put_line(text: &mut String, instr: &Instr) -> Result<(), OutOfMemory> {
     let at = instr.place;
     write!(text, "{}:{} ", at.line, at.column)?;
     text.push_str(word(&instr.does))?;
@@ -316,7 +316,7 @@ fn put_line(text: &mut String, instr: &Instr) -> Result<(), AllocError> {
 }
 
 /// The instructions of a function, a line each.
-pub fn text_of(alloc: Global, code: &Code, function: usize) -> Result<String, AllocError> {
+pub fn text_of(alloc: Global, code: &Code, function: usize) -> Result<String, OutOfMemory> {
     let mut text = String::new(alloc);
     for place in 0..code.size(function) {
         if let Some(instr) = code.fetch(function, place) {

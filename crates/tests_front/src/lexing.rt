@@ -1,19 +1,19 @@
 //! Constants, escapes, marks, places, names and refusals, from C99 6.4 and the tables of docs/LANGUAGE.md.
 
 use crate::macros::{are_placed, stopped};
-use std::alloc::{AllocError, Global};
+use std::alloc::{AllocError as OutOfMemory, Global};
 use std::test::Fail;
 use upc_lexer::{Token, TokenKind, lex};
 
 // Adds the kind of a token, a number as its value and type.
-fn put_kind(text: &mut String, kind: &TokenKind) -> Result<(), AllocError> {
+fn put_kind(text: &mut String, kind: &TokenKind) -> Result<(), OutOfMemory> {
     match kind {
         TokenKind::Number { value, kind } => write!(text, "{value} {kind:?} "),
         kind => write!(text, "{kind:?} "),
     }
 }
 
-fn kinds(alloc: Global, tokens: &[Token]) -> Result<String, AllocError> {
+fn kinds(alloc: Global, tokens: &[Token]) -> Result<String, OutOfMemory> {
     let mut text = String::new(alloc);
     for token in tokens {
         put_kind(&mut text, &token.kind)?;

@@ -1,5 +1,5 @@
 //! Macros, directives, refused words and the limit, from C99 6.10 and the tables of docs/LANGUAGE.md.
-use std::alloc::{AllocError, Global};
+use std::alloc::{AllocError as OutOfMemory, Global};
 use std::test::Fail;
 use upc_lexer::{Token, TokenKind, lex};
 use upc_macros::expand;
@@ -16,7 +16,7 @@ pub fn expanded(alloc: Global, source: &str) -> Result<Vec<Token>, Stop> {
 }
 
 /// Three texts, one after the other.
-pub fn joined(alloc: Global, first: &str, second: &str, third: &str) -> Result<String, AllocError> {
+pub fn joined(alloc: Global, first: &str, second: &str, third: &str) -> Result<String, OutOfMemory> {
     let mut text = String::from_str(alloc, first)?;
     text.push_str(second)?;
     text.push_str(third)?;
@@ -24,7 +24,7 @@ pub fn joined(alloc: Global, first: &str, second: &str, third: &str) -> Result<S
 }
 
 // Adds a token as it is spelled.
-fn put_token(text: &mut String, source: &str, token: &Token) -> Result<(), AllocError> {
+fn put_token(text: &mut String, source: &str, token: &Token) -> Result<(), OutOfMemory> {
     match &token.kind {
         TokenKind::Pragma(strict) => text.push_str(if *strict { "STRICT" } else { "RELAXED" }),
         TokenKind::Number { value, .. } => write!(text, "{value}"),
@@ -36,7 +36,7 @@ fn put_token(text: &mut String, source: &str, token: &Token) -> Result<(), Alloc
 }
 
 // The tokens as they are spelled, with a blank after each.
-fn spelled(alloc: Global, source: &str, tokens: &[Token]) -> Result<String, AllocError> {
+fn spelled(alloc: Global, source: &str, tokens: &[Token]) -> Result<String, OutOfMemory> {
     let mut text = String::new(alloc);
     for token in tokens {
         put_token(&mut text, source, token)?;
@@ -187,7 +187,7 @@ fn places(rt: HostRuntime) -> Result<(), Fail> {
 }
 
 // Macros by number up to a last one, each for twice the one before, after the definition of the first.
-fn doubling(alloc: Global, first: &str, levels: u32) -> Result<String, AllocError> {
+fn doubling(alloc: Global, first: &str, levels: u32) -> Result<String, OutOfMemory> {
     let mut source = String::from_str(alloc, first)?;
     let mut below = 0u32;
     for level in 1..levels {

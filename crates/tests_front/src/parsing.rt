@@ -1,7 +1,7 @@
 //! Sources for each line of the grammar, near misses, C99's ambiguous places, and the limit on the height of a tree.
 
 use crate::macros::{expanded, joined, stopped};
-use std::alloc::{AllocError, Global};
+use std::alloc::{AllocError as OutOfMemory, Global};
 use std::test::Fail;
 use upc_tree_tokens::{height, tokens_of};
 use upc_lexer::Token;
@@ -305,7 +305,7 @@ fn line_of(e: &Expr) -> &'static str {
 }
 
 /// The line of the grammar of the initial value of a source.
-fn line_in(alloc: Global, text: &str) -> Result<&'static str, AllocError> {
+fn line_in(alloc: Global, text: &str) -> Result<&'static str, OutOfMemory> {
     let source = joined(alloc, "int x = ", text, ";")?;
     let Ok(unit) = tree(alloc, source.as_str()) else {
         return Ok("refused");
@@ -371,7 +371,7 @@ fn joins_left(e: &Expr) -> bool {
 }
 
 /// Whether two operators join so, the first before the second.
-fn first_joins(alloc: Global, first: &str, second: &str) -> Result<Option<bool>, AllocError> {
+fn first_joins(alloc: Global, first: &str, second: &str) -> Result<Option<bool>, OutOfMemory> {
     let begun = joined(alloc, "int x = a ", first, " b ")?;
     let source = joined(alloc, begun.as_str(), second, " c;")?;
     let Ok(unit) = tree(alloc, source.as_str()) else {
@@ -452,7 +452,7 @@ fn body_of(statement: &Statement) -> Option<&Statement> {
 }
 
 /// The arms of the first statement of a body, and of what it governs, where each is an `if`.
-fn arms_in(alloc: Global, body: &str) -> Result<(Option<Arms>, Option<Arms>), AllocError> {
+fn arms_in(alloc: Global, body: &str) -> Result<(Option<Arms>, Option<Arms>), OutOfMemory> {
     let source = joined(alloc, "void f(void){", body, "}")?;
     let Ok(unit) = tree(alloc, source.as_str()) else {
         return Ok((None, None));
@@ -493,7 +493,7 @@ fn each_else_is_the_nearest_ones(rt: HostRuntime) -> Result<(), Fail> {
 }
 
 /// A text, and so many copies of another after it.
-fn repeated(alloc: Global, before: &str, text: &str, count: u32) -> Result<String, AllocError> {
+fn repeated(alloc: Global, before: &str, text: &str, count: u32) -> Result<String, OutOfMemory> {
     let mut source = String::from_str(alloc, before)?;
     for _ in 0..count {
         source.push_str(text)?;

@@ -1,7 +1,7 @@
 //! The texts of printf against a C compiler's: each conversion with each flag and with widths, as gcc and its C library
 //! print them.
 
-use std::alloc::{AllocError, Global};
+use std::alloc::{AllocError as OutOfMemory, Global};
 use upc_library::print_text;
 
 const INTS: [(&str, &str); 40] = [
@@ -189,7 +189,7 @@ const LONGS: [(&str, &str); 30] = [
     ),
 ];
 
-fn prints(alloc: Global, format: &str, args: &[i128], want: &str) -> Result<bool, AllocError> {
+fn prints(alloc: Global, format: &str, args: &[i128], want: &str) -> Result<bool, OutOfMemory> {
     if !args.iter().all(|v| v.unsigned_abs() <= 1 << 66) {
         return Ok(false);
     }
@@ -205,7 +205,7 @@ const TABLES: [([i128; 3], &[(&str, &str)]); 3] = [
 ];
 
 #[test]
-fn prints_numbers_and_bytes(rt: HostRuntime) -> Result<(), AllocError> {
+fn prints_numbers_and_bytes(rt: HostRuntime) -> Result<(), OutOfMemory> {
     for (values, rows) in &TABLES {
         for (format, want) in *rows {
             assert!(rt; prints(rt.alloc(), format, values, want)?, "{format}");
@@ -215,7 +215,7 @@ fn prints_numbers_and_bytes(rt: HostRuntime) -> Result<(), AllocError> {
 }
 
 #[test]
-fn prints_what_is_no_conversion(rt: HostRuntime) -> Result<(), AllocError> {
+fn prints_what_is_no_conversion(rt: HostRuntime) -> Result<(), OutOfMemory> {
     assert!(rt; prints(rt.alloc(), "100%%, or %d%%.\n", &[7], "100%, or 7%.\n")?);
     assert!(rt; prints(rt.alloc(), "", &[], "")?);
     assert!(rt; prints(rt.alloc(), "%d %5d", &[7], "7 ")?);

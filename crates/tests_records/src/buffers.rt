@@ -1,5 +1,5 @@
 //! A full write buffer, and writes that are combined in it.
-use std::alloc::AllocError;
+use std::alloc::AllocError as OutOfMemory;
 use upc_values::{Loc, Scalar};
 use write_buffer::WriteBuffer;
 
@@ -18,7 +18,7 @@ fn value(number: u32) -> Scalar {
 
 // A store of each of 65 locations: only the last hands out a write, the first.
 #[test]
-fn holds_sixty_four(rt: HostRuntime) -> Result<(), AllocError> {
+fn holds_sixty_four(rt: HostRuntime) -> Result<(), OutOfMemory> {
     let mut buffer = WriteBuffer::make(rt.alloc())?;
     for number in 0..65u32 {
         let handed = buffer.store(number, nth(number), value(number));
@@ -43,7 +43,7 @@ fn holds_sixty_four(rt: HostRuntime) -> Result<(), AllocError> {
 
 // A store to a location that is pending takes that one's place, also where 64 are pending.
 #[test]
-fn combines_writes(rt: HostRuntime) -> Result<(), AllocError> {
+fn combines_writes(rt: HostRuntime) -> Result<(), OutOfMemory> {
     let mut buffer = WriteBuffer::make(rt.alloc())?;
     for number in 0..64u32 {
         assert!(rt; buffer.store(number, nth(number), value(number)).is_none());

@@ -9,7 +9,7 @@ use memory_history::{Step, World};
 use order_builder::{drain, global_order, orders, strict_order, thread_order};
 use plain_orders::is_consistent;
 use run_recorder::read_record;
-use std::alloc::{AllocError, Global};
+use std::alloc::{AllocError as OutOfMemory, Global};
 use std::test::Fail;
 use upc_values::{
     Action, Entries, Entry, Items, Journal, Op, Order, Orders, Reply, Scalar, same_action,
@@ -92,7 +92,7 @@ order 1 10\n0.0.w\n1.0.w\n0.1.r\n1.1.r\n1.2.w\n1.3.w\n0.2.w\n0.4.w\n0.5.r\n1.4.r
 ];
 
 /// The one text, and the other after it.
-pub fn joined(alloc: Global, first: &str, second: &str) -> Result<Vec<u8>, AllocError> {
+pub fn joined(alloc: Global, first: &str, second: &str) -> Result<Vec<u8>, OutOfMemory> {
     let mut text = Vec::new(alloc);
     text.extend_from_slice(first.as_bytes())?;
     text.extend_from_slice(second.as_bytes())?;
@@ -132,7 +132,7 @@ fn is_drained(
     thread: u32,
     items: &Items,
     history: &Entries,
-) -> Result<bool, AllocError>
+) -> Result<bool, OutOfMemory>
     ensures agrees { IfOk result (λ is. IsTrue is → (drains.walked thread items.now).agrees ≡ true) }
     ensures drains { IfOk result (λ is. IsTrue is
         → drains.entries_of thread history.now ≡ drains.drain thread items.now) }
@@ -150,7 +150,7 @@ fn are_below(threads: u32, history: &Entries) -> bool
 }
 
 /// Whether the history takes each thread's items so.
-pub fn follows_buffers(alloc: Global, journal: &Journal) -> Result<bool, AllocError>
+pub fn follows_buffers(alloc: Global, journal: &Journal) -> Result<bool, OutOfMemory>
     ensures { IfOk result (λ follows. IsTrue follows → FollowsBuffers journal.now) }
 {
     let strands = journal.strands.as_slice();
@@ -177,7 +177,7 @@ pub fn same_orders(a: &[Order], b: &[Order]) -> bool {
 }
 
 // Whether the orders are those of the journal, as each call answers.
-fn are_orders_of(alloc: Global, journal: &Journal, given: &Orders) -> Result<bool, AllocError>
+fn are_orders_of(alloc: Global, journal: &Journal, given: &Orders) -> Result<bool, OutOfMemory>
     requires { FollowsBuffers journal.now }
 {
     let found = orders(alloc, journal)?;
@@ -257,7 +257,7 @@ fn answer(
     thread: u32,
     index: u32,
     action: &Action,
-) -> Result<Option<Reply>, AllocError> {
+) -> Result<Option<Reply>, OutOfMemory> {
     if thread >= world.threads() || !world.is_well_formed(action) {
         return Ok(None);
     }
@@ -268,7 +268,7 @@ fn answer(
 }
 
 // Whether each entry has the reply that is lawful there, from two variables that begin with 0.
-fn is_legal(alloc: Global, history: &Entries) -> Result<bool, AllocError> {
+fn is_legal(alloc: Global, history: &Entries) -> Result<bool, OutOfMemory> {
     let mut world = zeros(alloc)?;
     for entry in history.iter() {
         if answer(&mut world, entry.thread, entry.index, &entry.action)? != Some(entry.reply) {
@@ -303,7 +303,7 @@ fn access(thread: u32, second: bool) -> Action {
 }
 
 // Whether both threads read 0, where each first writes its own variable and then reads the other's, all strict.
-fn both_read_0(alloc: Global, turns: &[u32]) -> Result<bool, AllocError> {
+fn both_read_0(alloc: Global, turns: &[u32]) -> Result<bool, OutOfMemory> {
     let mut world = zeros(alloc)?;
     let mut both = true;
     for (at, thread) in turns.iter().enumerate() {

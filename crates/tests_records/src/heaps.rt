@@ -4,11 +4,11 @@ ghost use Rattle.std.specs.Prelude.{◌≡◌, [], ◌∷◌, IfOk};
 ghost use Rattle.block_layout.specs.declared.kind.Kind.TheVariants as kind;
 
 use shared_heap::Heap;
-use std::alloc::{AllocError, Global};
+use std::alloc::{AllocError as OutOfMemory, Global};
 use upc_values::{Cells, Kind, Loc, ObjectRef, Scalar, Shape, SharedPtr};
 
 // The shape of a char.
-fn chars(alloc: Global) -> Result<Vec<Shape>, AllocError>
+fn chars(alloc: Global) -> Result<Vec<Shape>, OutOfMemory>
     ensures { IfOk result (λ shapes. shapes.items ≡ record { size = 1; cells = (0, kind.Char) ∷ [] } ∷ []) }
 {
     let mut cells = Vec::new(alloc);
@@ -22,7 +22,7 @@ fn chars(alloc: Global) -> Result<Vec<Shape>, AllocError>
 }
 
 // A heap of two threads and no object.
-fn empty(alloc: Global) -> Result<Heap, AllocError> {
+fn empty(alloc: Global) -> Result<Heap, OutOfMemory> {
     let shapes = chars(alloc)?;
     Heap::make(alloc, &[], &[], shapes.as_slice(), 2)
 }
@@ -35,7 +35,7 @@ fn grow(heap: &mut Heap) -> bool {
 }
 
 // A heap with two objects.
-fn two(alloc: Global) -> Result<Option<Heap>, AllocError> {
+fn two(alloc: Global) -> Result<Option<Heap>, OutOfMemory> {
     let mut heap = empty(alloc)?;
     if grow(&mut heap) && grow(&mut heap) {
         return Ok(Some(heap));
@@ -106,7 +106,7 @@ const BLANK: [Place; 5] = [
 ];
 
 #[test]
-fn saves_across_pages(rt: HostRuntime) -> Result<(), AllocError> {
+fn saves_across_pages(rt: HostRuntime) -> Result<(), OutOfMemory> {
     let Some(mut heap) = two(rt.alloc())? else {
         panic!(rt; "no object");
     };
@@ -136,7 +136,7 @@ const KINDS: [Scalar; 8] = [
 
 // A location holds what was last saved there, of whatever kind, and the one beside it keeps its own.
 #[test]
-fn saves_another_kind(rt: HostRuntime) -> Result<(), AllocError> {
+fn saves_another_kind(rt: HostRuntime) -> Result<(), OutOfMemory> {
     let Some(mut heap) = two(rt.alloc())? else {
         panic!(rt; "no object");
     };

@@ -6,7 +6,7 @@ ghost use Rattle.upc_values.specs.layer.Basic as basic;
 
 use memory_history::{Step, World};
 use order_builder::drain;
-use std::alloc::{AllocError, Global};
+use std::alloc::{AllocError as OutOfMemory, Global};
 use upc_values::{
     Action, Cells, Entries, Item, Items, Kind, Loc, Mark, ObjectRef, Reply, Scalar, Shape,
 };
@@ -44,7 +44,7 @@ fn int(value: i128) -> Reply {
 }
 
 // The shape of an int.
-fn ints(alloc: Global) -> Result<Vec<Shape>, AllocError>
+fn ints(alloc: Global) -> Result<Vec<Shape>, OutOfMemory>
     ensures { IfOk result (λ shapes. shapes.items ≡ record { size = 4; cells = (0, kind.Int) ∷ [] } ∷ []) }
 {
     let mut cells = Vec::new(alloc);
@@ -98,7 +98,7 @@ fn is_basic(action: &Action) -> bool
 }
 
 // Two threads, X and Y, of which Y begins with 5.
-fn two(alloc: Global) -> Result<World, AllocError>
+fn two(alloc: Global) -> Result<World, OutOfMemory>
     ensures { IfOk result (λ w. w.0.threads ≡ 2) }
 {
     let shapes = ints(alloc)?;
@@ -112,7 +112,7 @@ fn two(alloc: Global) -> Result<World, AllocError>
 }
 
 /// Two threads, X and Y, which begin with 0.
-pub fn zeros(alloc: Global) -> Result<World, AllocError>
+pub fn zeros(alloc: Global) -> Result<World, OutOfMemory>
     ensures { IfOk result (λ w. w.0.threads ≡ 2) }
 {
     let shapes = ints(alloc)?;
@@ -157,7 +157,7 @@ fn stepped(
     thread: u32,
     index: u32,
     action: &Action,
-) -> Result<Option<(bool, Step)>, AllocError> {
+) -> Result<Option<(bool, Step)>, OutOfMemory> {
     if !is_basic(action) || !world.is_well_formed(action) || thread >= world.threads() {
         return Ok(None);
     }
@@ -206,7 +206,7 @@ const STEPS: [(u32, u32, Asked, Step); 12] = [
 
 // A wait is legal once both have notified, and a read gives the last write, else the initial value.
 #[test]
-fn world_of_two(rt: HostRuntime) -> Result<(), AllocError> {
+fn world_of_two(rt: HostRuntime) -> Result<(), OutOfMemory> {
     let mut world = two(rt.alloc())?;
     for (thread, index, asked, step) in &STEPS {
         let found = stepped(&mut world, *thread, *index, &action_of(*asked))?;
@@ -238,7 +238,7 @@ fn may_ask(world: &World, action: &Action) -> (bool, bool) {
 }
 
 #[test]
-fn asked_of_a_world(rt: HostRuntime) -> Result<(), AllocError> {
+fn asked_of_a_world(rt: HostRuntime) -> Result<(), OutOfMemory> {
     let world = two(rt.alloc())?;
     for (asked, may) in &ASKED {
         assert!(rt; may_ask(&world, &action_of(*asked)) == (true, *may));
@@ -256,7 +256,7 @@ fn item_of(asked: &Option<Asked>, value: i128) -> Item {
 }
 
 // A record of these.
-fn record(alloc: Global, all: &[Option<Asked>], value: i128) -> Result<Items, AllocError> {
+fn record(alloc: Global, all: &[Option<Asked>], value: i128) -> Result<Items, OutOfMemory> {
     let mut items = Vec::new(alloc);
     for asked in all {
         items.push(item_of(asked, value))?;
@@ -278,7 +278,7 @@ fn are_numbered(entries: &Entries, numbers: &[u32]) -> bool {
 }
 
 // Whether a record emits the entries with these numbers.
-fn emits(alloc: Global, all: &[Option<Asked>], numbers: &[u32]) -> Result<bool, AllocError> {
+fn emits(alloc: Global, all: &[Option<Asked>], numbers: &[u32]) -> Result<bool, OutOfMemory> {
     let items = record(alloc, all, 1)?;
     match drain(alloc, 0, &items)? {
         Some(entries) => Ok(are_numbered(&entries, numbers)),
@@ -332,7 +332,7 @@ const DRAINED: [(&[Option<Asked>], &[u32]); 5] = [
 ];
 
 #[test]
-fn drains_in_order(rt: HostRuntime) -> Result<(), AllocError> {
+fn drains_in_order(rt: HostRuntime) -> Result<(), OutOfMemory> {
     for (all, numbers) in &DRAINED {
         assert!(rt; emits(rt.alloc(), all, numbers)?);
     }

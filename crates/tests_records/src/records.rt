@@ -4,7 +4,7 @@ use crate::by_hand::{follows_buffers, joined, same_entry, same_orders};
 use crate::histories::{read, write};
 use order_builder::orders;
 use run_recorder::{ReadRecord, is_short, read_record, render};
-use std::alloc::{AllocError, Global};
+use std::alloc::{AllocError as OutOfMemory, Global};
 use std::test::Fail;
 use upc_values::{
     Action, End, Entries, Entry, Item, Items, Journal, Listing, Loc, Orders, Reply, Scalar, Strand,
@@ -157,7 +157,7 @@ fn nth(thread: u32, number: u32) -> (Action, Reply) {
     }
 }
 
-fn long_strand(alloc: Global, thread: u32) -> Result<Strand, AllocError> {
+fn long_strand(alloc: Global, thread: u32) -> Result<Strand, OutOfMemory> {
     let mut items = Vec::new(alloc);
     for number in 0..ITEMS {
         let (action, reply) = nth(thread, number);
@@ -170,7 +170,7 @@ fn long_strand(alloc: Global, thread: u32) -> Result<Strand, AllocError> {
     })
 }
 
-fn long_history(alloc: Global) -> Result<Entries, AllocError> {
+fn long_history(alloc: Global) -> Result<Entries, OutOfMemory> {
     let mut history = Vec::new(alloc);
     for at in 0..THREADS * (ITEMS / 4) {
         let thread = at % THREADS;
@@ -186,7 +186,7 @@ fn long_history(alloc: Global) -> Result<Entries, AllocError> {
     Entries::from_vec(alloc, history)
 }
 
-fn long_journal(alloc: Global) -> Result<Journal, AllocError> {
+fn long_journal(alloc: Global) -> Result<Journal, OutOfMemory> {
     let mut strands = Vec::new(alloc);
     for thread in 0..THREADS {
         strands.push(long_strand(alloc, thread)?)?;
@@ -234,7 +234,7 @@ fn same_history(a: &Entries, b: &Entries) -> bool {
     true
 }
 
-fn orders_of(alloc: Global, journal: &Journal) -> Result<Option<Orders>, AllocError> {
+fn orders_of(alloc: Global, journal: &Journal) -> Result<Option<Orders>, OutOfMemory> {
     if follows_buffers(alloc, journal)? {
         Ok(Some(orders(alloc, journal)?))
     } else {

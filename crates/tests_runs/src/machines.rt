@@ -6,7 +6,7 @@ use crate::front::program_of;
 use gen_stmt::compile;
 use stack_code::Code;
 use stack_machine::{Machine, Wish};
-use std::alloc::{AllocError, Global};
+use std::alloc::{AllocError as OutOfMemory, Global};
 use std::test::Fail;
 use upc_text::{OutOfMemory, Stop};
 use upc_values::{Action, Reply, Scalar};
@@ -20,7 +20,7 @@ enum Turn {
 }
 
 // What the memory answers, which has one cell and keeps what is printed.
-fn answer(action: &Action, cell: &mut i128, out: &mut Vec<u8>) -> Result<Reply, AllocError> {
+fn answer(action: &Action, cell: &mut i128, out: &mut Vec<u8>) -> Result<Reply, OutOfMemory> {
     match action {
         Action::Read { .. } => Ok(Reply::Value(Scalar::Int(*cell))),
         Action::Write {

@@ -1,6 +1,6 @@
 //! One of each kind of action, and a small journal.
 
-use std::alloc::{AllocError, Global};
+use std::alloc::{AllocError as OutOfMemory, Global};
 use upc_text::Text;
 use upc_values::{
     Action, Args, End, Entries, Entry, Item, Items, Journal, Listing, Loc, Mark, ObjectRef, Reply,
@@ -29,7 +29,7 @@ const POINTER: SharedPtr = SharedPtr {
 };
 
 // The action of each of 16 kinds, by number, with fields that differ.
-fn kind(alloc: Global, number: u32) -> Result<Action, AllocError> {
+fn kind(alloc: Global, number: u32) -> Result<Action, OutOfMemory> {
     Ok(match number {
         0 => Action::Read {
             loc: X,
@@ -65,13 +65,13 @@ fn kind(alloc: Global, number: u32) -> Result<Action, AllocError> {
     })
 }
 
-fn two_arguments(alloc: Global) -> Result<Args, AllocError> {
+fn two_arguments(alloc: Global) -> Result<Args, OutOfMemory> {
     let list = Vec::from_array(alloc, [Scalar::Shared(POINTER), Scalar::Int(8)])?;
     Ok(Listing::from_vec(list))
 }
 
 // One of each kind.
-fn kinds(alloc: Global) -> Result<Vec<Action>, AllocError> {
+fn kinds(alloc: Global) -> Result<Vec<Action>, OutOfMemory> {
     let mut actions = Vec::new(alloc);
     for number in 0..16 {
         actions.push(kind(alloc, number)?)?;
@@ -80,14 +80,14 @@ fn kinds(alloc: Global) -> Result<Vec<Action>, AllocError> {
 }
 
 // Whether a copy of an action is another one.
-fn copy_is(alloc: Global, action: &Action, other: &Action) -> Result<bool, AllocError> {
+fn copy_is(alloc: Global, action: &Action, other: &Action) -> Result<bool, OutOfMemory> {
     let copy = copy_action(alloc, action)?;
     Ok(same_action(&copy, other))
 }
 
 // A copy of each kind is the same action, and no two kinds are the same.
 #[test]
-fn copies_of_each_kind(rt: HostRuntime) -> Result<(), AllocError> {
+fn copies_of_each_kind(rt: HostRuntime) -> Result<(), OutOfMemory> {
     let actions = kinds(rt.alloc())?;
     assert_eq!(rt; actions.len(), 16);
     for (i, a) in actions.iter().enumerate() {
@@ -112,7 +112,7 @@ fn step(is_beat: bool) -> Action {
 }
 
 // A history of steps, each by its thread, its number there, and whether it is a Beat.
-fn history_of(alloc: Global, steps: &[(u32, u32, bool)]) -> Result<Vec<Entry>, AllocError> {
+fn history_of(alloc: Global, steps: &[(u32, u32, bool)]) -> Result<Vec<Entry>, OutOfMemory> {
     let mut history = Vec::new(alloc);
     for (thread, index, is_beat) in steps {
         history.push(Entry {
@@ -126,7 +126,7 @@ fn history_of(alloc: Global, steps: &[(u32, u32, bool)]) -> Result<Vec<Entry>, A
 }
 
 // A record of Fence, Stall and Beat.
-fn record(alloc: Global) -> Result<Vec<Item>, AllocError> {
+fn record(alloc: Global) -> Result<Vec<Item>, OutOfMemory> {
     let mut items = Vec::new(alloc);
     items.push(Item::Did(Action::Fence, Reply::Done))?;
     items.push(Item::Stall)?;
@@ -135,7 +135,7 @@ fn record(alloc: Global) -> Result<Vec<Item>, AllocError> {
 }
 
 // The journal of one thread with that record, and a history.
-fn journal(alloc: Global, history: Vec<Entry>) -> Result<Journal, AllocError> {
+fn journal(alloc: Global, history: Vec<Entry>) -> Result<Journal, OutOfMemory> {
     let mut strands = Vec::new(alloc);
     strands.push(Strand {
         items: Items::from_vec(alloc, record(alloc)?)?,
@@ -152,7 +152,7 @@ fn journal(alloc: Global, history: Vec<Entry>) -> Result<Journal, AllocError> {
 }
 
 // Whether the journal of one thread with this history agrees.
-fn agrees_with(alloc: Global, steps: &[(u32, u32, bool)]) -> Result<bool, AllocError> {
+fn agrees_with(alloc: Global, steps: &[(u32, u32, bool)]) -> Result<bool, OutOfMemory> {
     let run = journal(alloc, history_of(alloc, steps)?)?;
     Ok(agrees(&run))
 }
@@ -167,7 +167,7 @@ const HISTORIES: [(&[(u32, u32, bool)], bool); 5] = [
 ];
 
 #[test]
-fn agreement(rt: HostRuntime) -> Result<(), AllocError> {
+fn agreement(rt: HostRuntime) -> Result<(), OutOfMemory> {
     for (steps, wanted) in &HISTORIES {
         assert!(rt; agrees_with(rt.alloc(), steps)? == *wanted);
     }

@@ -2,7 +2,7 @@
 
 use plain_calls::{Area, Caller, End, Step, Told, copy, local_area, set, shared_area};
 use plain_collectives::{Thread, collective};
-use std::alloc::{AllocError, Global};
+use std::alloc::{AllocError as OutOfMemory, Global};
 use std::test::Fail;
 use upc_values::{Action, Cells, Kind, LocalPtr, Mark, ObjectRef, Reply, Scalar, Shape, SharedPtr};
 
@@ -90,7 +90,7 @@ fn tells(
     replies: &[Reply],
     rows: &[Row],
     last: Last,
-) -> Result<bool, AllocError> {
+) -> Result<bool, OutOfMemory> {
     match collective(alloc, thread, call, args, replies)? {
         Some(told) => Ok(is_told(&told, rows, last)),
         None => Ok(false),
@@ -106,7 +106,7 @@ fn begins(
     replies: &[Reply],
     (rows, count): (&[Row], usize),
     last: Last,
-) -> Result<bool, AllocError> {
+) -> Result<bool, OutOfMemory> {
     if count > rows.len() {
         return Ok(false);
     }
@@ -120,7 +120,7 @@ fn tells_nothing(
     call: u8,
     args: &[Scalar],
     replies: &[Reply],
-) -> Result<bool, AllocError> {
+) -> Result<bool, OutOfMemory> {
     Ok(collective(alloc, thread, call, args, replies)?.is_none())
 }
 
@@ -132,7 +132,7 @@ fn copies_so(
     replies: &[Reply],
     rows: &[Row],
     last: Last,
-) -> Result<bool, AllocError> {
+) -> Result<bool, OutOfMemory> {
     let told = copy(alloc, caller, dst, src, bytes, replies)?;
     Ok(is_told(&told, rows, last))
 }
@@ -145,13 +145,13 @@ fn fills_so(
     replies: &[Reply],
     rows: &[Row],
     last: Last,
-) -> Result<bool, AllocError> {
+) -> Result<bool, OutOfMemory> {
     let told = set(alloc, caller, dst, byte, bytes, replies)?;
     Ok(is_told(&told, rows, last))
 }
 
 // The shapes of elements of these sizes, each of one cell.
-fn shapes_of(alloc: Global, elements: &[(u32, Kind)]) -> Result<Vec<Shape>, AllocError> {
+fn shapes_of(alloc: Global, elements: &[(u32, Kind)]) -> Result<Vec<Shape>, OutOfMemory> {
     let mut list = Vec::new(alloc);
     for (size, kind) in elements {
         let cells = Vec::from_array(alloc, [(0, *kind)])?;
@@ -782,7 +782,7 @@ fn copies_an_int(
     dst: &Area,
     src: &Area,
     (first, second): (Row, Row),
-) -> Result<bool, AllocError> {
+) -> Result<bool, OutOfMemory> {
     let replies = [value(7), Reply::Done];
     let whole = copies_so(
         alloc,
@@ -803,7 +803,7 @@ fn copies_not(
     caller: &Caller<'_>,
     (dst, src, bytes): (&Area, &Area, u64),
     code: u8,
-) -> Result<bool, AllocError> {
+) -> Result<bool, OutOfMemory> {
     let replies = [value(7), Reply::Done];
     copies_so(
         alloc,
@@ -821,7 +821,7 @@ fn fills_not(
     caller: &Caller<'_>,
     (dst, bytes): (&Area, u64),
     code: u8,
-) -> Result<bool, AllocError> {
+) -> Result<bool, OutOfMemory> {
     fills_so(alloc, caller, (dst, 0, bytes), &[], &[], Last::Fails(code))
 }
 

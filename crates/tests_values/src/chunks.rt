@@ -1,10 +1,10 @@
 //! Lists in chunks, to the third chunk.
 
-use std::alloc::{AllocError, Global};
+use std::alloc::{AllocError as OutOfMemory, Global};
 use upc_values::{Chunked, Chunks};
 
 // The numbers below this one.
-fn below(alloc: Global, count: u32) -> Result<Chunks<u32>, AllocError> {
+fn below(alloc: Global, count: u32) -> Result<Chunks<u32>, OutOfMemory> {
     let mut list = Chunks::new(alloc);
     for number in 0..count {
         list.reserve()?;
@@ -29,7 +29,7 @@ fn is_in_order(list: &Chunked<u32>) -> bool {
 const COUNTS: [u32; 6] = [0, 1, 4_095, 4_096, 4_097, 8_193];
 
 #[test]
-fn members_by_number(rt: HostRuntime) -> Result<(), AllocError> {
+fn members_by_number(rt: HostRuntime) -> Result<(), OutOfMemory> {
     for count in COUNTS {
         let list = below(rt.alloc(), count)?;
         assert_eq!(rt; list.len(), count as usize);
@@ -47,7 +47,7 @@ fn members_by_number(rt: HostRuntime) -> Result<(), AllocError> {
 }
 
 #[test]
-fn members_in_order(rt: HostRuntime) -> Result<(), AllocError> {
+fn members_in_order(rt: HostRuntime) -> Result<(), OutOfMemory> {
     for count in COUNTS {
         let list = Chunked::from_chunks(below(rt.alloc(), count)?);
         assert!(rt; is_in_order(&list), "{count}");
@@ -57,7 +57,7 @@ fn members_in_order(rt: HostRuntime) -> Result<(), AllocError> {
 }
 
 #[test]
-fn a_list_of_a_vector(rt: HostRuntime) -> Result<(), AllocError> {
+fn a_list_of_a_vector(rt: HostRuntime) -> Result<(), OutOfMemory> {
     let list = Chunked::from_vec(rt.alloc(), Vec::from_array(rt.alloc(), [0, 1, 2])?)?;
     assert!(rt; is_in_order(&list));
     assert!(rt; !list.is_empty());

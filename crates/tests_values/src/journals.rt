@@ -2,7 +2,7 @@
 
 use crate::plain::{Name, Operation, global_order, is_consistent, is_legal, thread_order};
 use block_layout::Loc;
-use std::alloc::{AllocError, Global};
+use std::alloc::{AllocError as OutOfMemory, Global};
 use std::test::Fail;
 use upc_values::{Action, Item, Mark, Reply, Scalar};
 
@@ -36,7 +36,7 @@ pub fn read_of(object: u32, value: Scalar, strict: bool) -> Item {
 }
 
 /// What each thread does before `main`.
-pub fn begin(alloc: Global) -> Result<Vec<Item>, AllocError> {
+pub fn begin(alloc: Global) -> Result<Vec<Item>, OutOfMemory> {
     let mut items = Vec::new(alloc);
     items.push(Item::Did(Action::Notify(Mark::Start), Reply::Done))?;
     items.push(Item::Did(Action::Wait(Mark::Start), Reply::Done))?;
@@ -44,7 +44,7 @@ pub fn begin(alloc: Global) -> Result<Vec<Item>, AllocError> {
 }
 
 /// What each thread does after `main`.
-pub fn finish(items: &mut Vec<Item>) -> Result<(), AllocError> {
+pub fn finish(items: &mut Vec<Item>) -> Result<(), OutOfMemory> {
     items.push(Item::Did(Action::Notify(Mark::Finish), Reply::Done))?;
     items.push(Item::Did(Action::Wait(Mark::Finish), Reply::Done))?;
     Ok(())
@@ -55,7 +55,7 @@ pub fn buffering(
     alloc: Global,
     strict: bool,
     reads: [i128; 2],
-) -> Result<Vec<Vec<Item>>, AllocError> {
+) -> Result<Vec<Vec<Item>>, OutOfMemory> {
     let mut records = Vec::new(alloc);
     for (own, other, value) in [(1, 2, reads[0]), (2, 1, reads[1])] {
         let mut items = begin(alloc)?;
@@ -68,7 +68,7 @@ pub fn buffering(
 }
 
 /// Thread 0 writes 1 to a variable and reads it, thread 1 writes 2 to it.
-pub fn forwarding(alloc: Global, value: i128) -> Result<Vec<Vec<Item>>, AllocError> {
+pub fn forwarding(alloc: Global, value: i128) -> Result<Vec<Vec<Item>>, OutOfMemory> {
     let mut first = begin(alloc)?;
     first.push(write(1, 1, false))?;
     first.push(read(1, value, false))?;
@@ -82,7 +82,7 @@ pub fn forwarding(alloc: Global, value: i128) -> Result<Vec<Vec<Item>>, AllocErr
     Ok(records)
 }
 
-fn names(alloc: Global, list: &[(usize, usize)]) -> Result<Vec<Name>, AllocError> {
+fn names(alloc: Global, list: &[(usize, usize)]) -> Result<Vec<Name>, OutOfMemory> {
     let mut names = Vec::new(alloc);
     for (thread, index) in list {
         names.push(Name {
@@ -94,7 +94,7 @@ fn names(alloc: Global, list: &[(usize, usize)]) -> Result<Vec<Name>, AllocError
 }
 
 /// The names of operations.
-fn names_of(alloc: Global, order: &[Operation]) -> Result<Vec<Name>, AllocError> {
+fn names_of(alloc: Global, order: &[Operation]) -> Result<Vec<Name>, OutOfMemory> {
     let mut names = Vec::new(alloc);
     for o in order {
         names.push(o.name)?;
@@ -107,7 +107,7 @@ fn first_order(
     alloc: Global,
     small: Small,
     list: &[(usize, usize)],
-) -> Result<Vec<Name>, AllocError> {
+) -> Result<Vec<Name>, OutOfMemory> {
     let history = names(alloc, list)?;
     let records = records_of(alloc, small)?;
     let order = global_order(alloc, records.as_slice(), history.as_slice())?;
@@ -116,7 +116,7 @@ fn first_order(
 }
 
 /// Twelve entries, six of each thread: bit k of the mask is the thread of entry k.
-fn merged(alloc: Global, mask: u32) -> Result<Vec<Name>, AllocError> {
+fn merged(alloc: Global, mask: u32) -> Result<Vec<Name>, OutOfMemory> {
     let mut firsts = 0..6;
     let mut seconds = 0..6;
     let mut history = Vec::new(alloc);
@@ -137,7 +137,7 @@ fn merged(alloc: Global, mask: u32) -> Result<Vec<Name>, AllocError> {
 }
 
 /// How many of the histories that take these records of six items as they stand are legal.
-pub fn legal_histories(alloc: Global, records: &[Vec<Item>]) -> Result<u32, AllocError> {
+pub fn legal_histories(alloc: Global, records: &[Vec<Item>]) -> Result<u32, OutOfMemory> {
     let mut found: u32 = 0;
     for mask in 0..4096 {
         let history = merged(alloc, mask)?;
@@ -201,7 +201,7 @@ enum Small {
     Forwarding(i128),
 }
 
-fn records_of(alloc: Global, small: Small) -> Result<Vec<Vec<Item>>, AllocError> {
+fn records_of(alloc: Global, small: Small) -> Result<Vec<Vec<Item>>, OutOfMemory> {
     match small {
         Small::Relaxed(reads) => buffering(alloc, false, reads),
         Small::Strict(reads) => buffering(alloc, true, reads),
@@ -214,7 +214,7 @@ fn judged(
     alloc: Global,
     small: Small,
     list: &[(usize, usize)],
-) -> Result<(bool, bool), AllocError> {
+) -> Result<(bool, bool), OutOfMemory> {
     let history = names(alloc, list)?;
     let records = records_of(alloc, small)?;
     let legal = is_legal(alloc, records.as_slice(), history.as_slice())?;

@@ -5,7 +5,7 @@ use crate::journals::{
 };
 use block_layout::{Kind, SharedPtr};
 use plain_orders::{is_consistent, operations_of};
-use std::alloc::{AllocError, Global};
+use std::alloc::{AllocError as OutOfMemory, Global};
 use std::test::Fail;
 use upc_values::{
     Action, End, Entries, Item, Items, Journal, Listing, Mark, Op, Order, Orders, Reply, Scalar,
@@ -15,7 +15,7 @@ use upc_values::{
 // The name of an operation: its thread, the number of its action there, and whether it writes or reads.
 type Named = (u32, u32, char);
 
-fn strand(alloc: Global, items: Vec<Item>) -> Result<Strand, AllocError> {
+fn strand(alloc: Global, items: Vec<Item>) -> Result<Strand, OutOfMemory> {
     Ok(Strand {
         items: Items::from_vec(alloc, items)?,
         ticks: 0,
@@ -24,7 +24,7 @@ fn strand(alloc: Global, items: Vec<Item>) -> Result<Strand, AllocError> {
 }
 
 // The journal of two threads with these records, without its history.
-fn journal_of(alloc: Global, records: Vec<Vec<Item>>) -> Result<Journal, AllocError> {
+fn journal_of(alloc: Global, records: Vec<Vec<Item>>) -> Result<Journal, OutOfMemory> {
     let mut strands = Vec::new(alloc);
     for items in records {
         strands.push(strand(alloc, items)?)?;
@@ -47,7 +47,7 @@ fn op(name: &Named) -> Op {
     }
 }
 
-fn order(alloc: Global, names: &[Named]) -> Result<Order, AllocError> {
+fn order(alloc: Global, names: &[Named]) -> Result<Order, OutOfMemory> {
     let mut list = Vec::new(alloc);
     for name in names {
         list.push(op(name))?;
@@ -60,7 +60,7 @@ fn orders(
     strict: &[Named],
     first: &[Named],
     second: &[Named],
-) -> Result<Orders, AllocError> {
+) -> Result<Orders, OutOfMemory> {
     let mut threads = Vec::new(alloc);
     threads.push(order(alloc, first)?)?;
     threads.push(order(alloc, second)?)?;
@@ -162,7 +162,7 @@ fn buffered_so(
     begins: i128,
     strict: &[Named],
     second: &[Named],
-) -> Result<bool, AllocError> {
+) -> Result<bool, OutOfMemory> {
     let journal = journal_of(alloc, buffering(alloc, false, reads)?)?;
     let orders = orders(alloc, strict, &FIRST, second)?;
     let initials = [(variable(1), Scalar::Int(begins))];
@@ -234,7 +234,7 @@ const SECOND_FORWARDED: [Named; 10] = [
 ];
 
 // Whether these orders are consistent where thread 0 reads a value.
-fn forwarded_so(alloc: Global, value: i128) -> Result<bool, AllocError> {
+fn forwarded_so(alloc: Global, value: i128) -> Result<bool, OutOfMemory> {
     let journal = journal_of(alloc, forwarding(alloc, value)?)?;
     let orders = orders(
         alloc,
@@ -278,7 +278,7 @@ const READING: [Named; 9] = [
 ];
 
 // The journal in which thread 0 reads a value of variable 1.
-fn reading(alloc: Global, value: Scalar) -> Result<Journal, AllocError> {
+fn reading(alloc: Global, value: Scalar) -> Result<Journal, OutOfMemory> {
     let mut first = begin(alloc)?;
     first.push(read_of(1, value, false))?;
     finish(&mut first)?;
@@ -291,7 +291,7 @@ fn reading(alloc: Global, value: Scalar) -> Result<Journal, AllocError> {
 }
 
 // Whether a cell of a kind may be read so.
-fn begins_so(alloc: Global, kind: Kind, value: Scalar) -> Result<bool, AllocError> {
+fn begins_so(alloc: Global, kind: Kind, value: Scalar) -> Result<bool, OutOfMemory> {
     let journal = reading(alloc, value)?;
     let orders = orders(alloc, &BARRIERS, &READING, &BARRIERS)?;
     is_consistent(alloc, &journal, &[], &[(variable(1), kind)], &orders)
@@ -320,7 +320,7 @@ fn cells_begin_blank(rt: HostRuntime) -> Result<(), Fail> {
 }
 
 // The order in which bit k of the mask is the thread of the k-th of twelve operations, six of each thread.
-fn merged(alloc: Global, mask: u32) -> Result<Vec<Named>, AllocError> {
+fn merged(alloc: Global, mask: u32) -> Result<Vec<Named>, OutOfMemory> {
     let mut firsts = 0..6;
     let mut seconds = 0..6;
     let mut list = Vec::new(alloc);
@@ -342,7 +342,7 @@ fn merged(alloc: Global, mask: u32) -> Result<Vec<Named>, AllocError> {
 }
 
 // Whether the order by a mask, of all twelve strict operations, is consistent.
-fn is_order_by(alloc: Global, journal: &Journal, mask: u32) -> Result<bool, AllocError> {
+fn is_order_by(alloc: Global, journal: &Journal, mask: u32) -> Result<bool, OutOfMemory> {
     let list = merged(alloc, mask)?;
     let names = list.as_slice();
     let orders = orders(alloc, names, names, names)?;
@@ -350,7 +350,7 @@ fn is_order_by(alloc: Global, journal: &Journal, mask: u32) -> Result<bool, Allo
 }
 
 // How many of the orders of all twelve strict operations are consistent.
-fn consistent_orders(alloc: Global, journal: &Journal) -> Result<u32, AllocError> {
+fn consistent_orders(alloc: Global, journal: &Journal) -> Result<u32, OutOfMemory> {
     let mut found: u32 = 0;
     for mask in 0..4096 {
         if is_order_by(alloc, journal, mask)? {
@@ -361,7 +361,7 @@ fn consistent_orders(alloc: Global, journal: &Journal) -> Result<u32, AllocError
 }
 
 // How many histories of strict variables with these reads are legal, and how many orders are consistent.
-fn counts(alloc: Global, reads: [i128; 2]) -> Result<(u32, u32), AllocError> {
+fn counts(alloc: Global, reads: [i128; 2]) -> Result<(u32, u32), OutOfMemory> {
     let records = buffering(alloc, true, reads)?;
     let legal = legal_histories(alloc, records.as_slice())?;
     let journal = journal_of(alloc, records)?;
@@ -403,7 +403,7 @@ fn item(number: u32) -> Item {
 }
 
 // The journal of one thread with these ten items.
-fn one_of_each(alloc: Global) -> Result<Journal, AllocError> {
+fn one_of_each(alloc: Global) -> Result<Journal, OutOfMemory> {
     let mut items = Vec::new(alloc);
     for number in 0..10 {
         items.push(item(number))?;

@@ -2,7 +2,7 @@
 //! which none is a Stall, and the names of the history's entries.
 
 use block_layout::Loc;
-use std::alloc::{AllocError, Global};
+use std::alloc::{AllocError as OutOfMemory, Global};
 use upc_values::{Action, Item, Reply, Scalar};
 
 /// An action: its thread, and its number there.
@@ -128,7 +128,7 @@ pub fn is_legal(
     alloc: Global,
     records: &[Vec<Item>],
     history: &[Name],
-) -> Result<bool, AllocError> {
+) -> Result<bool, OutOfMemory> {
     let mut before = Vec::new(alloc);
     for name in history {
         if !is_lawful(records, before.as_slice(), *name) {
@@ -156,7 +156,7 @@ fn make_operation(
 }
 
 /// Adds the operations of an item.
-fn push_own(name: Name, item: &Item, order: &mut Vec<Operation>) -> Result<(), AllocError> {
+fn push_own(name: Name, item: &Item, order: &mut Vec<Operation>) -> Result<(), OutOfMemory> {
     let zero = Scalar::Int(0);
     match item {
         Item::Did(_, Reply::Refused(_)) => {}
@@ -220,7 +220,7 @@ fn push_forwarded(
     history: &[Name],
     source: Name,
     order: &mut Vec<Operation>,
-) -> Result<(), AllocError> {
+) -> Result<(), OutOfMemory> {
     if let Some(items) = records.get(source.thread) {
         for (index, item) in items.iter().enumerate() {
             let name = Name {
@@ -240,7 +240,7 @@ pub fn global_order(
     alloc: Global,
     records: &[Vec<Item>],
     history: &[Name],
-) -> Result<Vec<Operation>, AllocError> {
+) -> Result<Vec<Operation>, OutOfMemory> {
     let mut order = Vec::new(alloc);
     for name in history {
         if let Some(item) = item_at(records, *name) {
@@ -256,7 +256,7 @@ pub fn thread_order(
     alloc: Global,
     order: &[Operation],
     thread: usize,
-) -> Result<Vec<Operation>, AllocError> {
+) -> Result<Vec<Operation>, OutOfMemory> {
     let mut shown = Vec::new(alloc);
     for o in order {
         if o.name.thread == thread || o.write || o.strict {
@@ -297,7 +297,7 @@ fn value_before(before: &[Operation], place: Option<Loc>) -> Scalar {
 }
 
 /// Each read of the order has the value of the last write before it.
-fn reads_last(alloc: Global, order: &[Operation]) -> Result<bool, AllocError> {
+fn reads_last(alloc: Global, order: &[Operation]) -> Result<bool, OutOfMemory> {
     let mut before: Vec<Operation> = Vec::new(alloc);
     for o in order {
         if !o.write && value_before(before.as_slice(), o.place) != o.value {
@@ -310,7 +310,7 @@ fn reads_last(alloc: Global, order: &[Operation]) -> Result<bool, AllocError> {
 
 /// No two operations of a thread that conflict stand against program order. With the strict operations in the order of
 /// the history, no order then stands against the strict order.
-fn is_in_order(alloc: Global, order: &[Operation]) -> Result<bool, AllocError> {
+fn is_in_order(alloc: Global, order: &[Operation]) -> Result<bool, OutOfMemory> {
     let mut before: Vec<Operation> = Vec::new(alloc);
     for o in order {
         for first in before.iter() {
@@ -328,7 +328,7 @@ pub fn is_consistent(
     alloc: Global,
     records: &[Vec<Item>],
     history: &[Name],
-) -> Result<bool, AllocError> {
+) -> Result<bool, OutOfMemory> {
     let order = global_order(alloc, records, history)?;
     if !is_in_order(alloc, order.as_slice())? {
         return Ok(false);

@@ -3,7 +3,7 @@ ghost use Rattle.std.specs.Prelude.{IsTrue};
 ghost use Rattle.integers.specs.Integers.{IsInteger};
 
 use block_layout::{Kind, Shape};
-use std::alloc::{AllocError, Global};
+use std::alloc::{AllocError as OutOfMemory, Global};
 use std::rc::Rc;
 use std::test::Fail;
 use upc_text::Text;
@@ -30,11 +30,11 @@ fn shared(base: Base, block: u32) -> CType {
     }
 }
 
-fn pointer(alloc: Global, target: CType) -> Result<CType, AllocError> {
+fn pointer(alloc: Global, target: CType) -> Result<CType, OutOfMemory> {
     Ok(plain(Base::Pointer(Rc::new(alloc, target)?)))
 }
 
-fn array(alloc: Global, element: CType, count: u32) -> Result<CType, AllocError> {
+fn array(alloc: Global, element: CType, count: u32) -> Result<CType, OutOfMemory> {
     Ok(plain(Base::Array(Rc::new(alloc, element)?, count)))
 }
 
@@ -56,7 +56,7 @@ enum Sample {
     Pointer(bool, Option<u32>, Access),
 }
 
-fn type_of(alloc: Global, which: Sample) -> Result<CType, AllocError> {
+fn type_of(alloc: Global, which: Sample) -> Result<CType, OutOfMemory> {
     match which {
         Sample::Void => Ok(plain(Base::Void)),
         Sample::Of(kind) => Ok(plain(Base::Integer(kind))),
@@ -73,7 +73,7 @@ fn type_of(alloc: Global, which: Sample) -> Result<CType, AllocError> {
 }
 
 // A char [5][3].
-fn grid(alloc: Global) -> Result<CType, AllocError> {
+fn grid(alloc: Global) -> Result<CType, OutOfMemory> {
     let row = array(alloc, plain(Base::Integer(Kind::Char)), 3)?;
     array(alloc, row, 5)
 }
@@ -84,7 +84,7 @@ fn int_pointer(
     constant: bool,
     shared: Option<u32>,
     access: Access,
-) -> Result<CType, AllocError> {
+) -> Result<CType, OutOfMemory> {
     pointer(alloc, int_with(constant, shared, access))
 }
 
@@ -200,7 +200,7 @@ fn converts_so(
     from: Sample,
     into: Sample,
     zero: bool,
-) -> Result<(bool, bool), AllocError> {
+) -> Result<(bool, bool), OutOfMemory> {
     let from = type_of(alloc, from)?;
     let into = type_of(alloc, into)?;
     Ok(converts(&from, &into, zero))
@@ -504,7 +504,7 @@ fn numbers_of_pointers(rt: HostRuntime) -> Result<(), Fail> {
 }
 
 // Whether a copy of a type is the same type.
-fn is_copied(t: &CType) -> Result<bool, AllocError> {
+fn is_copied(t: &CType) -> Result<bool, OutOfMemory> {
     let copy = copy_type(t)?;
     Ok(same_type(&copy, t))
 }
@@ -520,7 +520,7 @@ fn a_long_chain_of_pointers(rt: HostRuntime) -> Result<(), Fail> {
 }
 
 // A pointer to void, to shared void and to a lock, and the first two structs.
-fn pointing(alloc: Global, number: u32) -> Result<CType, AllocError> {
+fn pointing(alloc: Global, number: u32) -> Result<CType, OutOfMemory> {
     match number {
         0 => pointer(alloc, plain(Base::Void)),
         1 => pointer(alloc, shared(Base::Void, 1)),

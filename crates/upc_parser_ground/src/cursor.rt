@@ -6,7 +6,7 @@ ghost use Rattle.upc_parser_ground.specs.layer.Outcome.{is_punct, is_word, span_
 ghost use Rattle.upc_parser_ground.specs.layer.Outcome.{name};
 ghost use Rattle.upc_parser_ground.specs.layer.Run.{Reads, same};
 
-use std::alloc::{AllocError, AllocFailed};
+use std::alloc::{AllocError as OutOfMemory, AllocFailed};
 use upc_lexer::{Punct, Token, TokenKind, Word};
 use upc_tree::{Name, Span};
 
@@ -31,10 +31,10 @@ pub enum Fail {
     Fault(Fault),
 }
 
-impl From<AllocError> for Fail {
+impl From<OutOfMemory> for Fail {
     ghost from_gives = { λ _ e. e ≡ Memory };
 
-    fn from(_e: AllocError) -> Fail {
+    fn from(_e: OutOfMemory) -> Fail {
         Fail::Memory
     }
 }

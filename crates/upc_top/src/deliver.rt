@@ -12,10 +12,10 @@ use run_recorder_text::render;
 use upc_top_output::layout::layout_text;
 use upc_top_output::status::status_of;
 use upc_top_output::text::{output_text, refusal_text, run_text};
-use std::alloc::{AllocError, Global};
+use std::alloc::{AllocError as OutOfMemory, Global};
 use upc_text::{Sink, put_all};
 
-fn text_for(alloc: Global, verdict: &Verdict) -> Result<Vec<u8>, AllocError>
+fn text_for(alloc: Global, verdict: &Verdict) -> Result<Vec<u8>, OutOfMemory>
     requires { IsWritable verdict.now }
     ensures { IfOk result (λ text. text.items ≡ text_of verdict.now) }
 {
@@ -28,7 +28,7 @@ fn text_for(alloc: Global, verdict: &Verdict) -> Result<Vec<u8>, AllocError>
     }
 }
 
-fn line_for(alloc: Global, verdict: &Verdict) -> Result<Vec<u8>, AllocError>
+fn line_for(alloc: Global, verdict: &Verdict) -> Result<Vec<u8>, OutOfMemory>
     requires { IfSome (journal_of verdict.now) (λ j. length j.strands < 2 ^ 32) }
     ensures { IfOk result (λ line. line.items ≡ line_of verdict.now) }
 {

@@ -9,11 +9,11 @@ ghost use Rattle.upc_top_output.specs.Layout.{IsSmall, layout, layout_line, piec
 
 use crate::text::{add, add_number};
 use block_layout::{ObjectRef, piece_bytes};
-use std::alloc::{AllocError, Global};
+use std::alloc::{AllocError as OutOfMemory, Global};
 use typed_tree::{Program, SharedDecl};
 
 // A word and a number.
-fn add_field(text: &mut Vec<u8>, word: &[u8], number: u32) -> Result<(), AllocError>
+fn add_field(text: &mut Vec<u8>, word: &[u8], number: u32) -> Result<(), OutOfMemory>
     ensures { IfOk result (λ _. text.new.items ≡ text.old.items ++ pure.field word.now number) }
 {
     add(text, word)?;
@@ -21,7 +21,7 @@ fn add_field(text: &mut Vec<u8>, word: &[u8], number: u32) -> Result<(), AllocEr
 }
 
 // The bytes that each thread has of an object, each after a blank.
-fn pieces(alloc: Global, threads: u32, object: &ObjectRef) -> Result<Vec<u8>, AllocError>
+fn pieces(alloc: Global, threads: u32, object: &ObjectRef) -> Result<Vec<u8>, OutOfMemory>
     requires { IsSmall object.now }
     ensures { IfOk result (λ text. text.items ≡ pieces_text threads object.now) }
 {
@@ -33,7 +33,7 @@ fn pieces(alloc: Global, threads: u32, object: &ObjectRef) -> Result<Vec<u8>, Al
 }
 
 // The line of an object.
-fn line(alloc: Global, threads: u32, declared: &SharedDecl) -> Result<Vec<u8>, AllocError>
+fn line(alloc: Global, threads: u32, declared: &SharedDecl) -> Result<Vec<u8>, OutOfMemory>
     requires { IsSmall declared.now.object }
     ensures { IfOk result (λ text. text.items ≡ layout_line threads declared.now) }
 {
@@ -51,7 +51,7 @@ fn line(alloc: Global, threads: u32, declared: &SharedDecl) -> Result<Vec<u8>, A
 }
 
 // The lines of these objects.
-fn lines(alloc: Global, threads: u32, objects: &[SharedDecl]) -> Result<Vec<u8>, AllocError>
+fn lines(alloc: Global, threads: u32, objects: &[SharedDecl]) -> Result<Vec<u8>, OutOfMemory>
     requires { Numbered (λ _ x. IsSmall x.object) objects.now }
     ensures { IfOk result (λ text. text.items ≡ flat_map (layout_line threads) objects.now) }
 {
@@ -63,7 +63,7 @@ fn lines(alloc: Global, threads: u32, objects: &[SharedDecl]) -> Result<Vec<u8>,
 }
 
 /// A line for each shared object of a program, in order of declaration.
-pub fn layout_text(alloc: Global, program: &Program) -> Result<Vec<u8>, AllocError>
+pub fn layout_text(alloc: Global, program: &Program) -> Result<Vec<u8>, OutOfMemory>
     ensures { IfOk result (λ text. text.items ≡ layout (view_program program.now)) }
 {
     lines(alloc, program.threads(), program.shared_objects())

@@ -5,12 +5,12 @@ ghost use Rattle.upc_top_output.specs.Output.{output, place_text, code_text, ref
 
 use crate::status::{all_ended, first_stop};
 use itoa::Buffer;
-use std::alloc::{AllocError, Global};
+use std::alloc::{AllocError as OutOfMemory, Global};
 use upc_text::{Code, Place, Refusal};
 use upc_values::{Action, End, Entries, Journal};
 
 /// The texts of all Prints, in the order of the history.
-pub fn output_text(alloc: Global, history: &Entries) -> Result<Vec<u8>, AllocError>
+pub fn output_text(alloc: Global, history: &Entries) -> Result<Vec<u8>, OutOfMemory>
     ensures { IfOk result (λ text. text.items ≡ output history.now) }
 {
     let mut text = Vec::new(alloc);
@@ -23,7 +23,7 @@ pub fn output_text(alloc: Global, history: &Entries) -> Result<Vec<u8>, AllocErr
 }
 
 /// Appends a text to a line.
-pub fn add(line: &mut Vec<u8>, text: &[u8]) -> Result<(), AllocError>
+pub fn add(line: &mut Vec<u8>, text: &[u8]) -> Result<(), OutOfMemory>
     ensures { IfOk result (λ _. line.new.items ≡ line.old.items ++ text.now) }
 {
     line.extend_from_slice(text)?;
@@ -31,14 +31,14 @@ pub fn add(line: &mut Vec<u8>, text: &[u8]) -> Result<(), AllocError>
 }
 
 /// Appends a number to a line, in decimal.
-pub fn add_number(line: &mut Vec<u8>, number: u32) -> Result<(), AllocError>
+pub fn add_number(line: &mut Vec<u8>, number: u32) -> Result<(), OutOfMemory>
     ensures { IfOk result (λ _. line.new.items ≡ line.old.items ++ decimal number) }
 {
     let mut buffer = Buffer::new();
     add(line, buffer.format(number).as_bytes())
 }
 
-fn place(alloc: Global, place: Place) -> Result<Vec<u8>, AllocError>
+fn place(alloc: Global, place: Place) -> Result<Vec<u8>, OutOfMemory>
     ensures { IfOk result (λ text. text.items ≡ place_text place) }
 {
     let mut text = Vec::new(alloc);
@@ -49,7 +49,7 @@ fn place(alloc: Global, place: Place) -> Result<Vec<u8>, AllocError>
 }
 
 // A word, a blank, and a number.
-fn numbered(alloc: Global, word: &[u8], number: u8) -> Result<Vec<u8>, AllocError>
+fn numbered(alloc: Global, word: &[u8], number: u8) -> Result<Vec<u8>, OutOfMemory>
     ensures { IfOk result (λ text. text.items ≡ word.now ++ decimal number) }
 {
     let mut text = Vec::from_slice(alloc, word)?;
@@ -57,7 +57,7 @@ fn numbered(alloc: Global, word: &[u8], number: u8) -> Result<Vec<u8>, AllocErro
     Ok(text)
 }
 
-fn code(alloc: Global, code: Code) -> Result<Vec<u8>, AllocError>
+fn code(alloc: Global, code: Code) -> Result<Vec<u8>, OutOfMemory>
     ensures { IfOk result (λ text. text.items ≡ code_text code) }
 {
     match code {
@@ -71,7 +71,7 @@ fn code(alloc: Global, code: Code) -> Result<Vec<u8>, AllocError>
 }
 
 /// The line of a refused source.
-pub fn refusal_text(alloc: Global, refusal: Refusal) -> Result<Vec<u8>, AllocError>
+pub fn refusal_text(alloc: Global, refusal: Refusal) -> Result<Vec<u8>, OutOfMemory>
     ensures { IfOk result (λ line. line.items ≡ refusal_line refusal) }
 {
     let mut line = Vec::from_slice(alloc, b"upc: refused at ")?;
@@ -83,7 +83,7 @@ pub fn refusal_text(alloc: Global, refusal: Refusal) -> Result<Vec<u8>, AllocErr
 }
 
 // The line of a run error.
-fn fault(alloc: Global, thread: u32, error: u8, at: Place) -> Result<Vec<u8>, AllocError>
+fn fault(alloc: Global, thread: u32, error: u8, at: Place) -> Result<Vec<u8>, OutOfMemory>
     ensures { IfOk result (λ line. line.items
         ≡ codes "upc: run error E" ++ decimal error ++ codes " at " ++ place_text at
         ++ codes " on thread " ++ decimal thread ++ codes "\n") }
@@ -98,7 +98,7 @@ fn fault(alloc: Global, thread: u32, error: u8, at: Place) -> Result<Vec<u8>, Al
 }
 
 // A line that ends with the number of a thread.
-fn on_thread(alloc: Global, words: &[u8], thread: u32) -> Result<Vec<u8>, AllocError>
+fn on_thread(alloc: Global, words: &[u8], thread: u32) -> Result<Vec<u8>, OutOfMemory>
     ensures { IfOk result (λ line. line.items ≡ words.now ++ decimal thread ++ codes "\n") }
 {
     let mut line = Vec::from_slice(alloc, words)?;
@@ -107,7 +107,7 @@ fn on_thread(alloc: Global, words: &[u8], thread: u32) -> Result<Vec<u8>, AllocE
     Ok(line)
 }
 
-fn stop_text(alloc: Global, thread: u32, end: &End) -> Result<Vec<u8>, AllocError>
+fn stop_text(alloc: Global, thread: u32, end: &End) -> Result<Vec<u8>, OutOfMemory>
     ensures { IfOk result (λ line. line.items ≡ stop_line thread «end».now) }
 {
     match end {
@@ -119,7 +119,7 @@ fn stop_text(alloc: Global, thread: u32, end: &End) -> Result<Vec<u8>, AllocErro
 }
 
 /// The line of a run's status.
-pub fn run_text(alloc: Global, journal: &Journal) -> Result<Vec<u8>, AllocError>
+pub fn run_text(alloc: Global, journal: &Journal) -> Result<Vec<u8>, OutOfMemory>
     requires { length journal.now.strands < 2 ^ 32 }
     ensures { IfOk result (λ line. line.items ≡ run_line journal.now) }
 {

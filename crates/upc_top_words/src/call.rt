@@ -3,7 +3,7 @@
 ghost use Rattle.std.specs.Prelude.{◌≡◌};
 ghost use Rattle.upc_top_words.specs.declared.call.NoCall.TheVariants.{Memory};
 
-use std::alloc::AllocError;
+use std::alloc::AllocError as OutOfMemory;
 
 /// What is to be done with a source.
 #[derive(Clone, Copy, PartialEq, Eq, Debug)]
@@ -43,10 +43,10 @@ pub enum NoCall {
     Memory,
 }
 
-impl From<AllocError> for NoCall {
+impl From<OutOfMemory> for NoCall {
     ghost from_gives = { λ _ e. e ≡ Memory };
 
-    fn from(_error: AllocError) -> NoCall {
+    fn from(_error: OutOfMemory) -> NoCall {
         NoCall::Memory
     }
 }

@@ -7,7 +7,7 @@ ghost use Rattle.upc_top_words.specs.Line.{threads_rule, budget_rule, actions_ru
 
 use clap::builder::ValueParser;
 use clap::{Arg, ArgAction, Command};
-use std::alloc::{AllocError, Global};
+use std::alloc::{AllocError as OutOfMemory, Global};
 
 // A word that has to be there, known by its place.
 fn word<'a>(alloc: Global, id: &'a str) -> Arg<'a>
@@ -59,7 +59,7 @@ fn bare<'a>(alloc: Global) -> Command<'a>
         .disable_version_flag(true)
 }
 
-fn with<'a>(command: Command<'a>, arg: Arg<'a>) -> Result<Command<'a>, AllocError>
+fn with<'a>(command: Command<'a>, arg: Arg<'a>) -> Result<Command<'a>, OutOfMemory>
     requires { arg.global ≡ false }
     ensures { IfOk result (λ c. app_of c ≡ with_rule (app_of command.entry) (rule_of arg.entry)) }
 {
@@ -67,7 +67,7 @@ fn with<'a>(command: Command<'a>, arg: Arg<'a>) -> Result<Command<'a>, AllocErro
 }
 
 /// `upc MODE -T n [--budget n] [--actions n] FILE`.
-pub(crate) fn command<'a>(alloc: Global) -> Result<Command<'a>, AllocError>
+pub(crate) fn command<'a>(alloc: Global) -> Result<Command<'a>, OutOfMemory>
     ensures { IfOk result (λ c. app_of c ≡ upc_app) }
 {
     let line = with(bare(alloc), word(alloc, "MODE"))?;

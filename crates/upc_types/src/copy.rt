@@ -4,10 +4,10 @@ ghost use Rattle.std.specs.Prelude.{◌≡◌, IfOk};
 ghost use Rattle.upc_types.specs.View.{view, view_base};
 
 use crate::ctype::{Base, CType};
-use std::alloc::AllocError;
+use std::alloc::AllocError as OutOfMemory;
 
 /// A copy of a type. It takes no memory, and is refused only where a target has as many owners as can be counted.
-pub fn copy_type(t: &CType) -> Result<CType, AllocError>
+pub fn copy_type(t: &CType) -> Result<CType, OutOfMemory>
     ensures { IfOk result (λ x. view x ≡ view t.now) }
 {
     Ok(CType {
@@ -19,7 +19,7 @@ pub fn copy_type(t: &CType) -> Result<CType, AllocError>
 }
 
 /// A copy of a type without its qualifiers.
-pub fn copy_base(base: &Base) -> Result<Base, AllocError>
+pub fn copy_base(base: &Base) -> Result<Base, OutOfMemory>
     ensures { IfOk result (λ x. view_base x ≡ view_base base.now) }
 {
     Ok(match base {

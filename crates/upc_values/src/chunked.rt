@@ -5,7 +5,7 @@ ghost use Rattle.std.specs.Map.Iter.{ShowsInOrder, deref};
 
 use crate::chunks::Chunks;
 use crate::members::Members;
-use std::alloc::{AllocError, Global};
+use std::alloc::{AllocError as OutOfMemory, Global};
 use std::marker::Model;
 
 /// A list in chunks inside a record. Contracts see the list of its members.
@@ -40,7 +40,7 @@ impl<T> Chunked<T> {
     }
 
     /// The list of these members, each moved into its chunk.
-    pub fn from_vec(alloc: Global, members: Vec<T>) -> Result<Self, AllocError>
+    pub fn from_vec(alloc: Global, members: Vec<T>) -> Result<Self, OutOfMemory>
     where
         T: Drop,
         ensures { IfOk result (λ l. l ≡ members.items) }

@@ -5,7 +5,7 @@ ghost use Rattle.std.specs.Prelude.{option_copied};
 ghost use Rattle.std.specs.Map.Iter.{ShowsInOrder, deref};
 
 use crate::members::Members;
-use std::alloc::{AllocError, Global};
+use std::alloc::{AllocError as OutOfMemory, Global};
 use std::marker::Model;
 use std::mem::replace;
 
@@ -85,7 +85,7 @@ impl<T> Chunks<T> {
     }
 
     /// Takes room for one more member. No member is moved.
-    pub fn reserve(&mut self) -> Result<(), AllocError>
+    pub fn reserve(&mut self) -> Result<(), OutOfMemory>
     where
         T: Drop,
         ensures items { self.new.items ≡ self.old.items }
@@ -95,7 +95,7 @@ impl<T> Chunks<T> {
             return Ok(());
         }
         if self.full.len() >= 1 << 50 {
-            return Err(AllocError);
+            return Err(OutOfMemory);
         }
         let alloc = *self.last.allocator();
         self.full.reserve(1)?;

@@ -6,7 +6,7 @@ use crate::action::Action;
 use crate::listing::Listing;
 use crate::scalar::Scalar;
 use block_layout::Shape;
-use std::alloc::{AllocError, Global};
+use std::alloc::{AllocError as OutOfMemory, Global};
 use upc_text::Text;
 
 /// An equal scalar. It takes no memory.
@@ -17,7 +17,7 @@ pub fn copy_scalar(v: &Scalar) -> Scalar
 }
 
 /// An equal action.
-pub fn copy_action(alloc: Global, a: &Action) -> Result<Action, AllocError>
+pub fn copy_action(alloc: Global, a: &Action) -> Result<Action, OutOfMemory>
     ensures { IfOk result (λ b. b ≡ a.now) }
 {
     Ok(match a {
@@ -60,14 +60,14 @@ pub fn copy_action(alloc: Global, a: &Action) -> Result<Action, AllocError>
     })
 }
 
-fn copy_args(alloc: Global, args: &Listing<Scalar>) -> Result<Listing<Scalar>, AllocError>
+fn copy_args(alloc: Global, args: &Listing<Scalar>) -> Result<Listing<Scalar>, OutOfMemory>
     ensures { IfOk result (λ b. b ≡ args.now) }
 {
     Ok(Listing::from_vec(args.as_slice().to_vec(alloc)?))
 }
 
 /// An equal shape.
-pub fn copy_shape(alloc: Global, shape: &Shape) -> Result<Shape, AllocError>
+pub fn copy_shape(alloc: Global, shape: &Shape) -> Result<Shape, OutOfMemory>
     ensures { IfOk result (λ s. s ≡ shape.now) }
 {
     Ok(Shape {

@@ -11,7 +11,7 @@ ghost use Rattle.write_buffer.specs.code.Counts.{IsCounted};
 
 use crate::pending::Pending;
 use circular_buffer::HeapCircularBuffer;
-use std::alloc::{AllocError, Global};
+use std::alloc::{AllocError as OutOfMemory, Global};
 use std::marker::Model;
 use upc_values::{Loc, Scalar};
 
@@ -58,7 +58,7 @@ fn no_counts() -> [u8; 256]
 
 impl WriteBuffer {
     /// An empty buffer with all its places. No later call takes memory.
-    pub fn make(alloc: Global) -> Result<WriteBuffer, AllocError>
+    pub fn make(alloc: Global) -> Result<WriteBuffer, OutOfMemory>
         ensures { IfOk result (λ buffer. buffer ≡ []) }
     {
         Ok(WriteBuffer {
