@@ -5,7 +5,7 @@ ghost use Rattle.block_layout.specs.declared.kind.Kind.TheVariants as kind;
 
 use block_layout::{Cells, Kind, LocalPtr, Shape};
 use stack_code::{Builder, CallWork, CellAccess, Code, Instr, ObjectWork, Operation, StackWork};
-use std::alloc::{AllocError as OutOfMemory, Global};
+use std::alloc::Global;
 use upc_text::{OutOfMemory, Place};
 use upc_values::{Scalar, Value};
 

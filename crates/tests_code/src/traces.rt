@@ -7,7 +7,7 @@ use crate::words::{put_mark, put_number, word};
 use gen_stmt::compile;
 use stack_code::Code;
 use stack_machine::{Machine, Wish};
-use std::alloc::{AllocError as OutOfMemory, Global};
+use std::alloc::Global;
 use std::test::Fail;
 use typed_tree::{Expr, Item, Program, StatementKind};
 use upc_text::{OutOfMemory, Stop};

@@ -6,7 +6,7 @@ use crate::front::program_of;
 use gen_stmt::compile;
 use stack_code::Code;
 use stack_machine::{Machine, Wish};
-use std::alloc::{AllocError as OutOfMemory, Global};
+use std::alloc::Global;
 use std::test::Fail;
 use upc_text::{OutOfMemory, Stop};
 use upc_values::{Action, Reply, Scalar};
