@@ -1,5 +1,5 @@
-//! Which typing rule a node breaks first, by what its children are; conversions, and the values of constants.
-//! What each expression is to the node above it, by what its parts are: type, form, constant value.
+//! Which typing rule a node breaks first, by what its children are; what each expression is to the node above it (type,
+//! form, constant value), and conversions.
 #![tactic(auto)]
 
 mod addresses;

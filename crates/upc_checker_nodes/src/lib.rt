@@ -1,6 +1,4 @@
-//! The tree with its types, from its parts, and which rules the nodes with lists of parts break.
-//! Nodes of expressions that are finished: each meets its rules, and is what it says.
-//! Statements that are finished: each is judged after its parts, and put into the tree.
+//! Nodes that are finished: the tree with its types from its parts, each node judged after its parts.
 #![tactic(auto)]
 
 mod format;

@@ -1,7 +1,5 @@
-//! What a thread does at each item of an expression.
-//! What a thread does at the items of a call: its arguments, the body of a function, and the way back.
-//! What a thread does at blocks, at the heads of loops and at the initial values of objects.
-//! What a thread does at each item of a statement: of a jump, a barrier, an `if`, a loop or a switch.
+//! What a thread does at each item of its work: of an expression, of a call, of a block or an initial value, and of a
+//! statement.
 #![tactic(auto)]
 
 mod bodies;

@@ -1,5 +1,4 @@
-//! The tokens of expressions and types, written from the last to the first.
-//! Walks over syntax trees: the tokens of a tree, and its height.
+//! The tokens of a tree, written from the last to the first, and its height.
 #![tactic(auto)]
 
 mod backwards;
