@@ -14,7 +14,7 @@ use upc_parser_expressions::{declarator, expr, next_exprs, specs};
 use upc_lexer::Punct;
 use upc_tree::{Declaration, Declared, DeclaredList, Initial, NextDeclared};
 
-#[tactic(auto, unfolding(crate::specs::Parse::value_initial))]
+#[tactic(auto, unfolding(crate::specs::layer::Parse::value_initial))]
 fn value_initial(alloc: Global, tokens: &mut Tokens<'_>, n: u32) -> Result<Box<Initial>, Fail>
     requires { n < 4294967295 }
     ensures { Reads (boxed view_initial) (spec.value_initial n tokens.old.rest.now) result tokens.new.rest.now }
@@ -24,7 +24,7 @@ fn value_initial(alloc: Global, tokens: &mut Tokens<'_>, n: u32) -> Result<Box<I
     Ok(boxed(alloc, Initial::Value { equal, value })?)
 }
 
-#[tactic(auto, unfolding(crate::specs::Parse::list_initial))]
+#[tactic(auto, unfolding(crate::specs::layer::Parse::list_initial))]
 fn list_initial(alloc: Global, tokens: &mut Tokens<'_>, n: u32) -> Result<Box<Initial>, Fail>
     requires { n < 4294967295 }
     ensures { Reads (boxed view_initial) (spec.list_initial n tokens.old.rest.now) result tokens.new.rest.now }
@@ -47,7 +47,7 @@ fn list_initial(alloc: Global, tokens: &mut Tokens<'_>, n: u32) -> Result<Box<In
 }
 
 /// An initialiser, if there is one.
-#[tactic(auto, unfolding(crate::specs::Parse::initial))]
+#[tactic(auto, unfolding(crate::specs::layer::Parse::initial))]
 pub fn initial(alloc: Global, tokens: &mut Tokens<'_>, n: u32) -> Result<Box<Initial>, Fail>
     requires { n < 4294967295 }
     ensures { Reads (boxed view_initial) (spec.initial n tokens.old.rest.now) result tokens.new.rest.now }
@@ -65,7 +65,7 @@ pub fn initial(alloc: Global, tokens: &mut Tokens<'_>, n: u32) -> Result<Box<Ini
     value_initial(alloc, tokens, n)
 }
 
-#[tactic(auto, unfolding(crate::specs::Parse::declared))]
+#[tactic(auto, unfolding(crate::specs::layer::Parse::declared))]
 fn declared(alloc: Global, tokens: &mut Tokens<'_>, n: u32) -> Result<Box<Declared>, Fail>
     requires { n < 4294967295 }
     ensures { Reads (boxed view_declared) (spec.declared n tokens.old.rest.now) result tokens.new.rest.now }
@@ -75,7 +75,7 @@ fn declared(alloc: Global, tokens: &mut Tokens<'_>, n: u32) -> Result<Box<Declar
     Ok(declared_as(alloc, declarator, initial)?)
 }
 
-#[tactic(auto, unfolding(crate::specs::Parse::next_declared))]
+#[tactic(auto, unfolding(crate::specs::layer::Parse::next_declared))]
 fn next_declared(alloc: Global, tokens: &mut Tokens<'_>, n: u32) -> Result<NextDeclared, Fail>
     requires { n < 4294967295 }
     ensures { Reads view_next_declared (spec.next_declared n tokens.old.rest.now) result tokens.new.rest.now }
@@ -102,7 +102,7 @@ pub fn next_declareds(
     )
 }
 
-#[tactic(auto, unfolding(crate::specs::Parse::some_declared))]
+#[tactic(auto, unfolding(crate::specs::layer::Parse::some_declared))]
 fn some_declared(
     alloc: Global,
     tokens: &mut Tokens<'_>,
@@ -130,7 +130,7 @@ fn declared_list(
     some_declared(alloc, tokens, n)
 }
 
-#[tactic(auto, unfolding(crate::specs::Parse::declaration))]
+#[tactic(auto, unfolding(crate::specs::layer::Parse::declaration))]
 fn whole_declaration(
     alloc: Global,
     tokens: &mut Tokens<'_>,

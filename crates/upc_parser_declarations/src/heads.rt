@@ -15,7 +15,7 @@ use upc_lexer::{Punct, TokenKind, Word};
 use upc_tree::{Affinity, Expr, First, ForHead, ForallHead, Pragma, Test};
 
 /// An expression, unless what ends it comes next.
-#[tactic(auto, unfolding(crate::specs::Parse::value))]
+#[tactic(auto, unfolding(crate::specs::layer::Parse::value))]
 pub fn value(
     alloc: Global,
     tokens: &mut Tokens<'_>,
@@ -32,7 +32,7 @@ pub fn value(
 }
 
 /// An expression in parentheses.
-#[tactic(auto, unfolding(crate::specs::Parse::controlling))]
+#[tactic(auto, unfolding(crate::specs::layer::Parse::controlling))]
 pub fn test(alloc: Global, tokens: &mut Tokens<'_>, n: u32) -> Result<Box<Test>, Fail>
     ensures { Reads (boxed view_test) (spec.controlling n tokens.old.rest.now) result tokens.new.rest.now }
 {
@@ -42,7 +42,7 @@ pub fn test(alloc: Global, tokens: &mut Tokens<'_>, n: u32) -> Result<Box<Test>,
     Ok(boxed(alloc, Test { open, value, close })?)
 }
 
-#[tactic(auto, unfolding(crate::specs::Parse::first_value))]
+#[tactic(auto, unfolding(crate::specs::layer::Parse::first_value))]
 fn first_value(alloc: Global, tokens: &mut Tokens<'_>, n: u32) -> Result<Box<First>, Fail>
     ensures { Reads (boxed view_first) (spec.first_value n tokens.old.rest.now) result tokens.new.rest.now }
 {
@@ -51,7 +51,7 @@ fn first_value(alloc: Global, tokens: &mut Tokens<'_>, n: u32) -> Result<Box<Fir
     Ok(boxed(alloc, First::Expression { value, semicolon })?)
 }
 
-#[tactic(auto, unfolding(crate::specs::Parse::first_declaration))]
+#[tactic(auto, unfolding(crate::specs::layer::Parse::first_declaration))]
 fn first_declaration(alloc: Global, tokens: &mut Tokens<'_>, n: u32) -> Result<Box<First>, Fail>
     ensures { Reads (boxed view_first) (spec.first_declaration n tokens.old.rest.now) result tokens.new.rest.now }
 {
@@ -68,7 +68,7 @@ fn first(alloc: Global, tokens: &mut Tokens<'_>, n: u32) -> Result<Box<First>, F
     first_value(alloc, tokens, n)
 }
 
-#[tactic(auto, unfolding(crate::specs::Parse::continue_affinity))]
+#[tactic(auto, unfolding(crate::specs::layer::Parse::continue_affinity))]
 fn continue_affinity(alloc: Global, tokens: &mut Tokens<'_>) -> Result<Box<Affinity>, Fail>
     ensures { Reads (boxed view_affinity) (spec.continue_affinity tokens.old.rest.now) result tokens.new.rest.now }
 {
@@ -76,7 +76,7 @@ fn continue_affinity(alloc: Global, tokens: &mut Tokens<'_>) -> Result<Box<Affin
     Ok(boxed(alloc, Affinity::Continue(word))?)
 }
 
-#[tactic(auto, unfolding(crate::specs::Parse::value_affinity))]
+#[tactic(auto, unfolding(crate::specs::layer::Parse::value_affinity))]
 fn value_affinity(alloc: Global, tokens: &mut Tokens<'_>, n: u32) -> Result<Box<Affinity>, Fail>
     ensures { Reads (boxed view_affinity) (spec.value_affinity n tokens.old.rest.now) result tokens.new.rest.now }
 {
@@ -97,7 +97,7 @@ fn affinity(alloc: Global, tokens: &mut Tokens<'_>, n: u32) -> Result<Box<Affini
 }
 
 /// The parentheses of a `for`.
-#[tactic(auto, unfolding(crate::specs::Parse::for_head))]
+#[tactic(auto, unfolding(crate::specs::layer::Parse::for_head))]
 pub fn for_head(alloc: Global, tokens: &mut Tokens<'_>, n: u32) -> Result<Box<ForHead>, Fail>
     ensures { Reads (boxed view_for) (spec.for_head n tokens.old.rest.now) result tokens.new.rest.now }
 {
@@ -121,7 +121,7 @@ pub fn for_head(alloc: Global, tokens: &mut Tokens<'_>, n: u32) -> Result<Box<Fo
 }
 
 /// The parentheses of a `upc_forall`.
-#[tactic(auto, unfolding(crate::specs::Parse::forall_head))]
+#[tactic(auto, unfolding(crate::specs::layer::Parse::forall_head))]
 pub fn forall_head(alloc: Global, tokens: &mut Tokens<'_>, n: u32) -> Result<Box<ForallHead>, Fail>
     ensures { Reads (boxed view_forall) (spec.forall_head n tokens.old.rest.now) result tokens.new.rest.now }
 {

@@ -15,7 +15,7 @@ use upc_lexer::Punct;
 use upc_tree::{Declarator, External, Spec};
 
 /// What stands after the specifiers of a declaration that declares no name.
-#[tactic(auto, unfolding(crate::specs::Parse::none_declared))]
+#[tactic(auto, unfolding(crate::specs::layer::Parse::none_declared))]
 pub fn none_declared(
     alloc: Global,
     tokens: &mut Tokens<'_>,
@@ -30,7 +30,7 @@ pub fn none_declared(
 }
 
 /// What stands after the first declarator of a declaration.
-#[tactic(auto, unfolding(crate::specs::Parse::behind_declarator))]
+#[tactic(auto, unfolding(crate::specs::layer::Parse::behind_declarator))]
 pub fn behind_declarator(
     alloc: Global,
     tokens: &mut Tokens<'_>,
@@ -52,7 +52,7 @@ pub fn behind_declarator(
 }
 
 /// A pragma between the parts of a source.
-#[tactic(auto, unfolding(crate::specs::Parse::pragma_part))]
+#[tactic(auto, unfolding(crate::specs::layer::Parse::pragma_part))]
 pub fn pragma_part(tokens: &mut Tokens<'_>) -> Result<External, Fail>
     ensures { Reads view_external (spec.pragma_part tokens.old.rest.now) result tokens.new.rest.now }
 {

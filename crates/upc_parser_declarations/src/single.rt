@@ -14,7 +14,7 @@ use upc_lexer::{Punct, Word};
 use upc_tree::{BarrierWord, BlockItem, Span, Statement, SwitchItem};
 
 /// A `break`, after its word.
-#[tactic(auto, unfolding(crate::specs::Parse::break_statement))]
+#[tactic(auto, unfolding(crate::specs::layer::Parse::break_statement))]
 pub fn break_statement(
     alloc: Global,
     tokens: &mut Tokens<'_>,
@@ -27,7 +27,7 @@ pub fn break_statement(
 }
 
 /// A `continue`, after its word.
-#[tactic(auto, unfolding(crate::specs::Parse::continue_statement))]
+#[tactic(auto, unfolding(crate::specs::layer::Parse::continue_statement))]
 pub fn continue_statement(
     alloc: Global,
     tokens: &mut Tokens<'_>,
@@ -41,7 +41,7 @@ pub fn continue_statement(
 }
 
 /// A `upc_fence`, after its word.
-#[tactic(auto, unfolding(crate::specs::Parse::fence_statement))]
+#[tactic(auto, unfolding(crate::specs::layer::Parse::fence_statement))]
 pub fn fence_statement(
     alloc: Global,
     tokens: &mut Tokens<'_>,
@@ -54,7 +54,7 @@ pub fn fence_statement(
 }
 
 /// An expression as a statement, or an empty statement.
-#[tactic(auto, unfolding(crate::specs::Parse::value_statement))]
+#[tactic(auto, unfolding(crate::specs::layer::Parse::value_statement))]
 pub fn value_statement(
     alloc: Global,
     tokens: &mut Tokens<'_>,
@@ -68,7 +68,7 @@ pub fn value_statement(
 }
 
 /// A `return`, after its word.
-#[tactic(auto, unfolding(crate::specs::Parse::return_statement))]
+#[tactic(auto, unfolding(crate::specs::layer::Parse::return_statement))]
 pub fn return_statement(
     alloc: Global,
     tokens: &mut Tokens<'_>,
@@ -91,7 +91,7 @@ pub fn return_statement(
 }
 
 /// A `upc_notify`, `upc_wait` or `upc_barrier`, after its word.
-#[tactic(auto, unfolding(crate::specs::Parse::barrier_statement))]
+#[tactic(auto, unfolding(crate::specs::layer::Parse::barrier_statement))]
 pub fn barrier_statement(
     alloc: Global,
     tokens: &mut Tokens<'_>,
@@ -116,7 +116,7 @@ pub fn barrier_statement(
 }
 
 /// A declaration as an item of a compound statement.
-#[tactic(auto, unfolding(crate::specs::Parse::declaration_item))]
+#[tactic(auto, unfolding(crate::specs::layer::Parse::declaration_item))]
 pub fn declaration_item(alloc: Global, tokens: &mut Tokens<'_>, n: u32) -> Result<BlockItem, Fail>
     ensures { Reads view_block_item (spec.declaration_item n tokens.old.rest.now) result tokens.new.rest.now }
 {
@@ -125,7 +125,7 @@ pub fn declaration_item(alloc: Global, tokens: &mut Tokens<'_>, n: u32) -> Resul
 }
 
 /// A `case` with its value and colon.
-#[tactic(auto, unfolding(crate::specs::Parse::case_item))]
+#[tactic(auto, unfolding(crate::specs::layer::Parse::case_item))]
 pub fn case_item(alloc: Global, tokens: &mut Tokens<'_>, n: u32) -> Result<SwitchItem, Fail>
     ensures { Reads view_switch_item (spec.case_item n tokens.old.rest.now) result tokens.new.rest.now }
 {
@@ -136,7 +136,7 @@ pub fn case_item(alloc: Global, tokens: &mut Tokens<'_>, n: u32) -> Result<Switc
 }
 
 /// A `default` with its colon.
-#[tactic(auto, unfolding(crate::specs::Parse::default_item))]
+#[tactic(auto, unfolding(crate::specs::layer::Parse::default_item))]
 pub fn default_item(tokens: &mut Tokens<'_>) -> Result<SwitchItem, Fail>
     ensures { Reads view_switch_item (spec.default_item tokens.old.rest.now) result tokens.new.rest.now }
 {

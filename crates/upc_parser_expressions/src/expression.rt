@@ -101,7 +101,7 @@ impl<
     F: Fn(Global, &mut Tokens<'_>, u32, u8) -> Result<Box<Expr>, Fail>,
     G: Fn(Global, &mut Tokens<'_>, u32) -> Result<Spec, Fail>,
 > Expressions<F, G> {
-    #[tactic(auto, unfolding(upc_parser_types::specs::Expression::next_expr))]
+    #[tactic(auto, unfolding(upc_parser_types::specs::layer::Expression::next_expr))]
     fn next_expr(&self, tokens: &mut Tokens<'_>, n: u32) -> Result<NextExpr, Fail>
         requires within { n ≤ self.now.types.below }
         requires nests { Nests self.now.types.below (F.pre self.now.types.expr) (F.post self.now.types.expr)
@@ -127,7 +127,7 @@ impl<
         )
     }
 
-    #[tactic(auto, unfolding(upc_parser_types::specs::Expression::some_arguments))]
+    #[tactic(auto, unfolding(upc_parser_types::specs::layer::Expression::some_arguments))]
     fn some_arguments(&self, tokens: &mut Tokens<'_>, n: u32) -> Result<Box<Arguments>, Fail>
         requires within { n ≤ self.now.types.below }
         requires nests { Nests self.now.types.below (F.pre self.now.types.expr) (F.post self.now.types.expr)
@@ -141,7 +141,7 @@ impl<
         Ok(arguments(self.types.alloc, first, more, right)?)
     }
 
-    #[tactic(auto, unfolding(upc_parser_types::specs::Expression::arguments))]
+    #[tactic(auto, unfolding(upc_parser_types::specs::layer::Expression::arguments))]
     fn whole_arguments(&self, tokens: &mut Tokens<'_>, n: u32) -> Result<Box<Arguments>, Fail>
         requires within { n ≤ self.now.types.below }
         requires nests { Nests self.now.types.below (F.pre self.now.types.expr) (F.post self.now.types.expr)
@@ -169,7 +169,7 @@ impl<
         self.whole_arguments(tokens, n - 1)
     }
 
-    #[tactic(auto, unfolding(upc_parser_types::specs::Expression::unary))]
+    #[tactic(auto, unfolding(upc_parser_types::specs::layer::Expression::unary))]
     fn unary(
         &self,
         tokens: &mut Tokens<'_>,
@@ -186,7 +186,7 @@ impl<
         Ok(unary(self.types.alloc, mark, at, operand)?)
     }
 
-    #[tactic(auto, unfolding(upc_parser_types::specs::Expression::size_type))]
+    #[tactic(auto, unfolding(upc_parser_types::specs::layer::Expression::size_type))]
     fn size_type(
         &self,
         tokens: &mut Tokens<'_>,
@@ -206,7 +206,7 @@ impl<
         Ok(size_of_type(self.types.alloc, word, at, left, operand, right)?)
     }
 
-    #[tactic(auto, unfolding(upc_parser_types::specs::Expression::size_expr))]
+    #[tactic(auto, unfolding(upc_parser_types::specs::layer::Expression::size_expr))]
     fn size_expr(
         &self,
         tokens: &mut Tokens<'_>,
@@ -242,7 +242,7 @@ impl<
         self.size_expr(tokens, n, word, at)
     }
 
-    #[tactic(auto, unfolding(upc_parser_types::specs::Expression::cast))]
+    #[tactic(auto, unfolding(upc_parser_types::specs::layer::Expression::cast))]
     fn cast(&self, tokens: &mut Tokens<'_>, n: u32) -> Result<Box<Expr>, Fail>
         requires within { n ≤ self.now.types.below }
         requires nests { Nests self.now.types.below (F.pre self.now.types.expr) (F.post self.now.types.expr)
@@ -256,7 +256,7 @@ impl<
         Ok(cast(self.types.alloc, left, target, right, operand)?)
     }
 
-    #[tactic(auto, unfolding(upc_parser_types::specs::Expression::paren))]
+    #[tactic(auto, unfolding(upc_parser_types::specs::layer::Expression::paren))]
     fn paren(&self, tokens: &mut Tokens<'_>, n: u32, left: Span) -> Result<Box<Expr>, Fail>
         requires within { n ≤ self.now.types.below }
         requires nests { Nests self.now.types.below (F.pre self.now.types.expr) (F.post self.now.types.expr)
@@ -467,7 +467,7 @@ impl<
         Ok(base)
     }
 
-    #[tactic(auto, unfolding(upc_parser_types::specs::Expression::primary))]
+    #[tactic(auto, unfolding(upc_parser_types::specs::layer::Expression::primary))]
     fn primary<'a>(
         &self,
         tokens: &mut Tokens<'a>,
@@ -484,7 +484,7 @@ impl<
         self.postfix(tokens, n, base)
     }
 
-    #[tactic(auto, unfolding(upc_parser_types::specs::Expression::first))]
+    #[tactic(auto, unfolding(upc_parser_types::specs::layer::Expression::first))]
     fn first(&self, tokens: &mut Tokens<'_>, n: u32, least: u8) -> Result<Box<Expr>, Fail>
         requires within { n ≤ self.now.types.below }
         requires nests { Nests self.now.types.below (F.pre self.now.types.expr) (F.post self.now.types.expr)
@@ -516,7 +516,7 @@ impl<
         }
     }
 
-    #[tactic(auto, unfolding(upc_parser_types::specs::Expression::joined_comma))]
+    #[tactic(auto, unfolding(upc_parser_types::specs::layer::Expression::joined_comma))]
     fn joined_comma(
         &self,
         tokens: &mut Tokens<'_>,
@@ -536,7 +536,7 @@ impl<
         Ok(comma(self.types.alloc, left, more)?)
     }
 
-    #[tactic(auto, unfolding(upc_parser_types::specs::Expression::conditional))]
+    #[tactic(auto, unfolding(upc_parser_types::specs::layer::Expression::conditional))]
     fn conditional(
         &self,
         tokens: &mut Tokens<'_>,
@@ -664,7 +664,7 @@ impl<
         Ok(left)
     }
 
-    #[tactic(auto, unfolding(upc_parser_types::specs::Expression::expr))]
+    #[tactic(auto, unfolding(upc_parser_types::specs::layer::Expression::expr))]
     pub fn whole(&self, tokens: &mut Tokens<'_>, n: u32, least: u8) -> Result<Box<Expr>, Fail>
         requires within { n ≤ self.now.types.below }
         requires nests { Nests self.now.types.below (F.pre self.now.types.expr) (F.post self.now.types.expr)

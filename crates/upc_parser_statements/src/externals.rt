@@ -16,7 +16,7 @@ use upc_parser_expressions::{dimensions, parameters, pointers, specs};
 use upc_lexer::Punct;
 use upc_tree::{External, Function, Name, Parameters, Pointer, Spec, Unit};
 
-#[tactic(auto, unfolding(crate::specs::Parse::function_body))]
+#[tactic(auto, unfolding(crate::specs::layer::Parse::function_body))]
 fn function_body(
     alloc: Global,
     tokens: &mut Tokens<'_>,
@@ -61,7 +61,7 @@ fn behind_parameters(
     behind_declarator(alloc, tokens, n, specs, declarator)
 }
 
-#[tactic(auto, unfolding(crate::specs::Parse::behind_name))]
+#[tactic(auto, unfolding(crate::specs::layer::Parse::behind_name))]
 fn behind_name(
     alloc: Global,
     tokens: &mut Tokens<'_>,
@@ -83,7 +83,7 @@ fn behind_name(
     behind_declarator(alloc, tokens, n, specs, declarator)
 }
 
-#[tactic(auto, unfolding(crate::specs::Parse::behind_specs))]
+#[tactic(auto, unfolding(crate::specs::layer::Parse::behind_specs))]
 fn behind_specs(
     alloc: Global,
     tokens: &mut Tokens<'_>,
@@ -99,7 +99,7 @@ fn behind_specs(
     behind_name(alloc, tokens, n, specs, pointers, name)
 }
 
-#[tactic(auto, unfolding(crate::specs::Parse::declaration_or_function))]
+#[tactic(auto, unfolding(crate::specs::layer::Parse::declaration_or_function))]
 fn declaration_or_function(alloc: Global, tokens: &mut Tokens<'_>, n: u32) -> Result<External, Fail>
     requires { n < 4294967295 }
     ensures { Reads view_external (spec.declaration_or_function n tokens.old.rest.now) result tokens.new.rest.now }

@@ -47,7 +47,7 @@ impl<H: Fn(Global, &mut Tokens<'_>, u32) -> Result<Box<Statement>, Fail>> Rules<
         (self.statement)(self.alloc, tokens, n)
     }
 
-    #[tactic(auto, unfolding(crate::specs::Parse::statement_item))]
+    #[tactic(auto, unfolding(crate::specs::layer::Parse::statement_item))]
     fn statement_item(&self, tokens: &mut Tokens<'_>, n: u32) -> Result<BlockItem, Fail>
         requires within { n ≤ self.now.below }
         requires nests { Nests self.now.below (H.pre self.now.statement) (H.post self.now.statement) }
@@ -95,7 +95,7 @@ impl<H: Fn(Global, &mut Tokens<'_>, u32) -> Result<Box<Statement>, Fail>> Rules<
         self.items(tokens, n - 1)
     }
 
-    #[tactic(auto, unfolding(crate::specs::Parse::switch_statement))]
+    #[tactic(auto, unfolding(crate::specs::layer::Parse::switch_statement))]
     fn switch_statement(&self, tokens: &mut Tokens<'_>, n: u32) -> Result<SwitchItem, Fail>
         requires within { n ≤ self.now.below }
         requires nests { Nests self.now.below (H.pre self.now.statement) (H.post self.now.statement) }
@@ -148,7 +148,7 @@ impl<H: Fn(Global, &mut Tokens<'_>, u32) -> Result<Box<Statement>, Fail>> Rules<
         self.switch_items(tokens, n - 1)
     }
 
-    #[tactic(auto, unfolding(crate::specs::Parse::compound))]
+    #[tactic(auto, unfolding(crate::specs::layer::Parse::compound))]
     pub fn compound(&self, tokens: &mut Tokens<'_>, n: u32) -> Result<Box<Compound>, Fail>
         requires within { n ≤ self.now.below }
         requires nests { Nests self.now.below (H.pre self.now.statement) (H.post self.now.statement) }
@@ -170,7 +170,7 @@ impl<H: Fn(Global, &mut Tokens<'_>, u32) -> Result<Box<Statement>, Fail>> Rules<
         )?)
     }
 
-    #[tactic(auto, unfolding(crate::specs::Parse::else_if))]
+    #[tactic(auto, unfolding(crate::specs::layer::Parse::else_if))]
     fn else_if(&self, tokens: &mut Tokens<'_>, n: u32) -> Result<ElseIf, Fail>
         requires within { n ≤ self.now.below }
         requires nests { Nests self.now.below (H.pre self.now.statement) (H.post self.now.statement) }
@@ -202,7 +202,7 @@ impl<H: Fn(Global, &mut Tokens<'_>, u32) -> Result<Box<Statement>, Fail>> Rules<
         )
     }
 
-    #[tactic(auto, unfolding(crate::specs::Parse::else_part))]
+    #[tactic(auto, unfolding(crate::specs::layer::Parse::else_part))]
     fn else_part(&self, tokens: &mut Tokens<'_>, n: u32) -> Result<Otherwise, Fail>
         requires within { n ≤ self.now.below }
         requires nests { Nests self.now.below (H.pre self.now.statement) (H.post self.now.statement) }
@@ -226,7 +226,7 @@ impl<H: Fn(Global, &mut Tokens<'_>, u32) -> Result<Box<Statement>, Fail>> Rules<
         Ok(Otherwise::Absent)
     }
 
-    #[tactic(auto, unfolding(crate::specs::Parse::if_statement))]
+    #[tactic(auto, unfolding(crate::specs::layer::Parse::if_statement))]
     fn if_statement(
         &self,
         tokens: &mut Tokens<'_>,
@@ -245,7 +245,7 @@ impl<H: Fn(Global, &mut Tokens<'_>, u32) -> Result<Box<Statement>, Fail>> Rules<
         Ok(if_statement(self.alloc, word, test, body, more, otherwise)?)
     }
 
-    #[tactic(auto, unfolding(crate::specs::Parse::switch))]
+    #[tactic(auto, unfolding(crate::specs::layer::Parse::switch))]
     fn switch(&self, tokens: &mut Tokens<'_>, n: u32, word: Span) -> Result<Box<Statement>, Fail>
         requires within { n ≤ self.now.below }
         requires nests { Nests self.now.below (H.pre self.now.statement) (H.post self.now.statement) }
@@ -259,7 +259,7 @@ impl<H: Fn(Global, &mut Tokens<'_>, u32) -> Result<Box<Statement>, Fail>> Rules<
         Ok(switch(self.alloc, word, test, left, body, right)?)
     }
 
-    #[tactic(auto, unfolding(crate::specs::Parse::while_statement))]
+    #[tactic(auto, unfolding(crate::specs::layer::Parse::while_statement))]
     fn while_statement(
         &self,
         tokens: &mut Tokens<'_>,
@@ -276,7 +276,7 @@ impl<H: Fn(Global, &mut Tokens<'_>, u32) -> Result<Box<Statement>, Fail>> Rules<
         Ok(while_statement(self.alloc, word, test, body)?)
     }
 
-    #[tactic(auto, unfolding(crate::specs::Parse::do_statement))]
+    #[tactic(auto, unfolding(crate::specs::layer::Parse::do_statement))]
     fn do_statement(
         &self,
         tokens: &mut Tokens<'_>,
@@ -295,7 +295,7 @@ impl<H: Fn(Global, &mut Tokens<'_>, u32) -> Result<Box<Statement>, Fail>> Rules<
         Ok(do_statement(self.alloc, word, body, until, test, semicolon)?)
     }
 
-    #[tactic(auto, unfolding(crate::specs::Parse::for_statement))]
+    #[tactic(auto, unfolding(crate::specs::layer::Parse::for_statement))]
     fn for_statement(
         &self,
         tokens: &mut Tokens<'_>,
@@ -312,7 +312,7 @@ impl<H: Fn(Global, &mut Tokens<'_>, u32) -> Result<Box<Statement>, Fail>> Rules<
         Ok(for_statement(self.alloc, word, head, body)?)
     }
 
-    #[tactic(auto, unfolding(crate::specs::Parse::forall_statement))]
+    #[tactic(auto, unfolding(crate::specs::layer::Parse::forall_statement))]
     fn forall_statement(
         &self,
         tokens: &mut Tokens<'_>,
@@ -329,7 +329,7 @@ impl<H: Fn(Global, &mut Tokens<'_>, u32) -> Result<Box<Statement>, Fail>> Rules<
         Ok(forall_statement(self.alloc, word, head, body)?)
     }
 
-    #[tactic(auto, unfolding(crate::specs::Parse::block))]
+    #[tactic(auto, unfolding(crate::specs::layer::Parse::block))]
     fn block_statement(&self, tokens: &mut Tokens<'_>, n: u32) -> Result<Box<Statement>, Fail>
         requires within { n ≤ self.now.below }
         requires nests { Nests self.now.below (H.pre self.now.statement) (H.post self.now.statement) }
@@ -370,7 +370,7 @@ impl<H: Fn(Global, &mut Tokens<'_>, u32) -> Result<Box<Statement>, Fail>> Rules<
     }
 
     /// A statement of height n + 1 at most.
-    #[tactic(auto, unfolding(crate::specs::Parse::statement))]
+    #[tactic(auto, unfolding(crate::specs::layer::Parse::statement))]
     pub fn whole(&self, tokens: &mut Tokens<'_>, n: u32) -> Result<Box<Statement>, Fail>
         requires within { n ≤ self.now.below }
         requires nests { Nests self.now.below (H.pre self.now.statement) (H.post self.now.statement) }

@@ -47,7 +47,7 @@ impl<
     F: Fn(Global, &mut Tokens<'_>, u32, u8) -> Result<Box<Expr>, Fail>,
     G: Fn(Global, &mut Tokens<'_>, u32) -> Result<Spec, Fail>,
 > Grammar<F, G> {
-    #[tactic(auto, unfolding(crate::specs::Expression::unsized_array))]
+    #[tactic(auto, unfolding(crate::specs::layer::Expression::unsized_array))]
     fn unsized_array(&self, tokens: &mut Tokens<'_>, n: u32) -> Result<ParameterArray, Fail>
         requires within { n ≤ self.now.below }
         requires nests { Nests self.now.below (F.pre self.now.expr) (F.post self.now.expr)
@@ -59,7 +59,7 @@ impl<
         Ok(ParameterArray::Unsized { open, close })
     }
 
-    #[tactic(auto, unfolding(crate::specs::Expression::sized_array))]
+    #[tactic(auto, unfolding(crate::specs::layer::Expression::sized_array))]
     fn sized_array(&self, tokens: &mut Tokens<'_>, n: u32) -> Result<ParameterArray, Fail>
         requires within { n ≤ self.now.below }
         requires nests { Nests self.now.below (F.pre self.now.expr) (F.post self.now.expr)
@@ -70,7 +70,7 @@ impl<
         Ok(sized_array(size))
     }
 
-    #[tactic(auto, unfolding(crate::specs::Expression::array))]
+    #[tactic(auto, unfolding(crate::specs::layer::Expression::array))]
     fn array(&self, tokens: &mut Tokens<'_>, n: u32) -> Result<ParameterArray, Fail>
         requires within { n ≤ self.now.below }
         requires nests { Nests self.now.below (F.pre self.now.expr) (F.post self.now.expr)
@@ -90,7 +90,7 @@ impl<
         self.sized_array(tokens, n)
     }
 
-    #[tactic(auto, unfolding(crate::specs::Expression::parameter))]
+    #[tactic(auto, unfolding(crate::specs::layer::Expression::parameter))]
     fn parameter(&self, tokens: &mut Tokens<'_>, n: u32) -> Result<Box<Parameter>, Fail>
         requires within { n ≤ self.now.below }
         requires nests { Nests self.now.below (F.pre self.now.expr) (F.post self.now.expr)
@@ -105,7 +105,7 @@ impl<
         Ok(parameter(self.alloc, specs, pointers, name, array)?)
     }
 
-    #[tactic(auto, unfolding(crate::specs::Expression::next_parameter))]
+    #[tactic(auto, unfolding(crate::specs::layer::Expression::next_parameter))]
     fn next_parameter(&self, tokens: &mut Tokens<'_>, n: u32) -> Result<NextParameter, Fail>
         requires within { n ≤ self.now.below }
         requires nests { Nests self.now.below (F.pre self.now.expr) (F.post self.now.expr)
@@ -133,7 +133,7 @@ impl<
         )
     }
 
-    #[tactic(auto, unfolding(crate::specs::Expression::no_parameters))]
+    #[tactic(auto, unfolding(crate::specs::layer::Expression::no_parameters))]
     fn no_parameters(
         &self,
         tokens: &mut Tokens<'_>,
@@ -150,7 +150,7 @@ impl<
         Ok(boxed(self.alloc, Parameters::Empty { open: left, close })?)
     }
 
-    #[tactic(auto, unfolding(crate::specs::Expression::void_parameters))]
+    #[tactic(auto, unfolding(crate::specs::layer::Expression::void_parameters))]
     fn void_parameters(
         &self,
         tokens: &mut Tokens<'_>,
@@ -175,7 +175,7 @@ impl<
         )?)
     }
 
-    #[tactic(auto, unfolding(crate::specs::Expression::some_parameters))]
+    #[tactic(auto, unfolding(crate::specs::layer::Expression::some_parameters))]
     fn some_parameters(
         &self,
         tokens: &mut Tokens<'_>,
@@ -194,7 +194,7 @@ impl<
         Ok(parameters(self.alloc, left, first, more, right)?)
     }
 
-    #[tactic(auto, unfolding(crate::specs::Expression::parameters_in))]
+    #[tactic(auto, unfolding(crate::specs::layer::Expression::parameters_in))]
     fn parameters_in(
         &self,
         tokens: &mut Tokens<'_>,
@@ -221,7 +221,7 @@ impl<
     }
 
     /// The parameters of a function, in their parentheses.
-    #[tactic(auto, unfolding(crate::specs::Expression::parameters))]
+    #[tactic(auto, unfolding(crate::specs::layer::Expression::parameters))]
     pub fn parameters(&self, tokens: &mut Tokens<'_>, n: u32) -> Result<Box<Parameters>, Fail>
         requires within { n ≤ self.now.below }
         requires nests { Nests self.now.below (F.pre self.now.expr) (F.post self.now.expr)
@@ -233,7 +233,7 @@ impl<
         self.parameters_in(tokens, n, left)
     }
 
-    #[tactic(auto, unfolding(crate::specs::Expression::declarator_by))]
+    #[tactic(auto, unfolding(crate::specs::layer::Expression::declarator_by))]
     fn declarator_by(
         &self,
         tokens: &mut Tokens<'_>,
@@ -256,7 +256,7 @@ impl<
     }
 
     /// A declarator.
-    #[tactic(auto, unfolding(crate::specs::Expression::declarator))]
+    #[tactic(auto, unfolding(crate::specs::layer::Expression::declarator))]
     pub fn declarator(&self, tokens: &mut Tokens<'_>, n: u32) -> Result<Box<Declarator>, Fail>
         requires within { n ≤ self.now.below }
         requires nests { Nests self.now.below (F.pre self.now.expr) (F.post self.now.expr)
@@ -269,7 +269,7 @@ impl<
         self.declarator_by(tokens, n, stars, named)
     }
 
-    #[tactic(auto, unfolding(crate::specs::Expression::next_declarator))]
+    #[tactic(auto, unfolding(crate::specs::layer::Expression::next_declarator))]
     fn next_declarator(&self, tokens: &mut Tokens<'_>, n: u32) -> Result<NextDeclarator, Fail>
         requires within { n ≤ self.now.below }
         requires nests { Nests self.now.below (F.pre self.now.expr) (F.post self.now.expr)
@@ -297,7 +297,7 @@ impl<
         )
     }
 
-    #[tactic(auto, unfolding(crate::specs::Expression::member))]
+    #[tactic(auto, unfolding(crate::specs::layer::Expression::member))]
     fn member(&self, tokens: &mut Tokens<'_>, n: u32) -> Result<Member, Fail>
         requires within { n ≤ self.now.below }
         requires nests { Nests self.now.below (F.pre self.now.expr) (F.post self.now.expr)
@@ -325,7 +325,7 @@ impl<
         )
     }
 
-    #[tactic(auto, unfolding(crate::specs::Expression::struct_body))]
+    #[tactic(auto, unfolding(crate::specs::layer::Expression::struct_body))]
     fn struct_body(
         &self,
         tokens: &mut Tokens<'_>,
@@ -346,7 +346,7 @@ impl<
     }
 
     /// A struct, with its members or without them.
-    #[tactic(auto, unfolding(crate::specs::Expression::structure))]
+    #[tactic(auto, unfolding(crate::specs::layer::Expression::structure))]
     pub fn whole_structure(&self, tokens: &mut Tokens<'_>, n: u32) -> Result<Spec, Fail>
         requires within { n ≤ self.now.below }
         requires nests { Nests self.now.below (F.pre self.now.expr) (F.post self.now.expr)

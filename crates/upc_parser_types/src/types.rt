@@ -34,7 +34,7 @@ impl<
     G: Fn(Global, &mut Tokens<'_>, u32) -> Result<Spec, Fail>,
 > Grammar<F, G> {
     /// A size in brackets.
-    #[tactic(auto, unfolding(crate::specs::Expression::dimension))]
+    #[tactic(auto, unfolding(crate::specs::layer::Expression::dimension))]
     pub fn dimension(&self, tokens: &mut Tokens<'_>, n: u32) -> Result<Dimension, Fail>
         requires within { n ≤ self.now.below }
         requires nests { Nests self.now.below (F.pre self.now.expr) (F.post self.now.expr)
@@ -62,7 +62,7 @@ impl<
         )
     }
 
-    #[tactic(auto, unfolding(crate::specs::Expression::empty_layout))]
+    #[tactic(auto, unfolding(crate::specs::layer::Expression::empty_layout))]
     fn empty_layout(&self, tokens: &mut Tokens<'_>, n: u32) -> Result<Box<Layout>, Fail>
         requires within { n ≤ self.now.below }
         requires nests { Nests self.now.below (F.pre self.now.expr) (F.post self.now.expr)
@@ -75,7 +75,7 @@ impl<
         Ok(boxed(self.alloc, Layout::Indefinite { open, close })?)
     }
 
-    #[tactic(auto, unfolding(crate::specs::Expression::star_layout))]
+    #[tactic(auto, unfolding(crate::specs::layer::Expression::star_layout))]
     fn star_layout(&self, tokens: &mut Tokens<'_>, n: u32) -> Result<Box<Layout>, Fail>
         requires within { n ≤ self.now.below }
         requires nests { Nests self.now.below (F.pre self.now.expr) (F.post self.now.expr)
@@ -89,7 +89,7 @@ impl<
         Ok(boxed(self.alloc, Layout::Star { open, star, close })?)
     }
 
-    #[tactic(auto, unfolding(crate::specs::Expression::block_layout))]
+    #[tactic(auto, unfolding(crate::specs::layer::Expression::block_layout))]
     fn block_layout(&self, tokens: &mut Tokens<'_>, n: u32) -> Result<Box<Layout>, Fail>
         requires within { n ≤ self.now.below }
         requires nests { Nests self.now.below (F.pre self.now.expr) (F.post self.now.expr)
@@ -101,7 +101,7 @@ impl<
         Ok(boxed(self.alloc, block_layout(size))?)
     }
 
-    #[tactic(auto, unfolding(crate::specs::Expression::layout))]
+    #[tactic(auto, unfolding(crate::specs::layer::Expression::layout))]
     fn layout(&self, tokens: &mut Tokens<'_>, n: u32) -> Result<Box<Layout>, Fail>
         requires within { n ≤ self.now.below }
         requires nests { Nests self.now.below (F.pre self.now.expr) (F.post self.now.expr)
@@ -124,7 +124,7 @@ impl<
         self.block_layout(tokens, n)
     }
 
-    #[tactic(auto, unfolding(crate::specs::Expression::qual_by))]
+    #[tactic(auto, unfolding(crate::specs::layer::Expression::qual_by))]
     fn qual_by(
         &self,
         tokens: &mut Tokens<'_>,
@@ -149,7 +149,7 @@ impl<
         }
     }
 
-    #[tactic(auto, unfolding(crate::specs::Expression::qual))]
+    #[tactic(auto, unfolding(crate::specs::layer::Expression::qual))]
     fn qual(&self, tokens: &mut Tokens<'_>, n: u32) -> Result<Qual, Fail>
         requires within { n ≤ self.now.below }
         requires nests { Nests self.now.below (F.pre self.now.expr) (F.post self.now.expr)
@@ -182,7 +182,7 @@ impl<
         )
     }
 
-    #[tactic(auto, unfolding(crate::specs::Expression::pointer))]
+    #[tactic(auto, unfolding(crate::specs::layer::Expression::pointer))]
     fn pointer(&self, tokens: &mut Tokens<'_>, n: u32) -> Result<Pointer, Fail>
         requires within { n ≤ self.now.below }
         requires nests { Nests self.now.below (F.pre self.now.expr) (F.post self.now.expr)
@@ -209,7 +209,7 @@ impl<
         )
     }
 
-    #[tactic(auto, unfolding(crate::specs::Expression::spec))]
+    #[tactic(auto, unfolding(crate::specs::layer::Expression::spec))]
     fn spec(&self, tokens: &mut Tokens<'_>, n: u32) -> Result<Spec, Fail>
         requires within { n ≤ self.now.below }
         requires nests { Nests self.now.below (F.pre self.now.expr) (F.post self.now.expr)
@@ -256,7 +256,7 @@ impl<
     }
 
     /// A type name without sizes.
-    #[tactic(auto, unfolding(crate::specs::Expression::plain_type))]
+    #[tactic(auto, unfolding(crate::specs::layer::Expression::plain_type))]
     pub fn plain_type(&self, tokens: &mut Tokens<'_>, n: u32) -> Result<Box<TypeName>, Fail>
         requires within { n ≤ self.now.below }
         requires nests { Nests self.now.below (F.pre self.now.expr) (F.post self.now.expr)
@@ -270,7 +270,7 @@ impl<
     }
 
     /// A type name.
-    #[tactic(auto, unfolding(crate::specs::Expression::type_name))]
+    #[tactic(auto, unfolding(crate::specs::layer::Expression::type_name))]
     pub fn type_name(&self, tokens: &mut Tokens<'_>, n: u32) -> Result<Box<TypeName>, Fail>
         requires within { n ≤ self.now.below }
         requires nests { Nests self.now.below (F.pre self.now.expr) (F.post self.now.expr)
