@@ -21,7 +21,7 @@ use crate::put::put;
 use crate::source::Source;
 use meaning_types::{conversion, parameter_conversion, promotion, target_of};
 use typed_tree_opening::{element_shape, number_among};
-use typing_rules_checks::calls::{call_parameters, is_allocation};
+use typing_rules::calls::{call_parameters, is_allocation};
 use stack_code::{CallWork, Instr, Operation, ThreadWork};
 use std::alloc::Global;
 use thread_steps::CastTo;

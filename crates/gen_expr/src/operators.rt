@@ -13,7 +13,7 @@ use crate::source::Source;
 use block_layout::Kind;
 use meaning_types::{elements_of, integer_of, leaves_of, target_of};
 use integers::{BinOp, UnOp};
-use typing_rules_checks::constants::working_kind;
+use typing_rules::constants::working_kind;
 use stack_code::{Instr, StackWork, ValueWork};
 use upc_text::{OutOfMemory, Place};
 use upc_types::{CType, promoted, usual};

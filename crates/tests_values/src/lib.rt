@@ -1,4 +1,4 @@
-//! Tests of places, values and types.
+//! Tests of places, cells, values and types.
 #![tactic(auto)]
 
 #[cfg(test)]
@@ -7,6 +7,8 @@ mod actions;
 mod arithmetic_rows;
 #[cfg(test)]
 mod calls;
+#[cfg(test)]
+mod cells;
 #[cfg(test)]
 mod chunks;
 #[cfg(test)]

@@ -13,7 +13,7 @@ ghost use Rattle.typed_tree.specs.ViewStatements.{view_switch_item, view_switch_
 ghost use Rattle.typed_tree.specs.Allocated as pure;
 ghost use Rattle.typing_rules.specs.Rules.{has_size};
 
-use typing_rules_checks::calls::is_allocation;
+use typing_rules::calls::is_allocation;
 use std::alloc::Global;
 use typed_tree::{
     Affinity, Arm, Expr, ExprKind, Function, Head, Initial, Item, Object, Statement, StatementKind,

@@ -10,7 +10,7 @@ use crate::objects::{is_shared, next};
 use crate::setting::Setting;
 use crate::values::{scalar_kind, value_in};
 use block_layout::{Kind, Loc};
-use typing_rules_checks::declarations::constant_of;
+use typing_rules::constants::constant_of;
 use std::alloc::Global;
 use typed_tree::{Initial, Object};
 use upc_text::OutOfMemory;

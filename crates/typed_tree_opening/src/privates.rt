@@ -19,7 +19,7 @@ use crate::objects::is_private;
 use crate::setting::Setting;
 use crate::values::{scalar_kind, value_in};
 use block_layout::{Kind, LocalPtr, Shape};
-use typing_rules_checks::declarations::constant_of;
+use typing_rules::constants::constant_of;
 use std::alloc::Global;
 use typed_tree::{Expr, Initial, Object};
 use typing_rules::Constant;

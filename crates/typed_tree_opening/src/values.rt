@@ -10,7 +10,7 @@ ghost use Rattle.typed_tree_opening.specs.code.ViewSettings.{view_setting};
 
 use crate::setting::Setting;
 use block_layout::{Kind, LocalPtr, ObjectRef, SharedPtr};
-use typing_rules_checks::constants::cast_constant;
+use typing_rules::constants::cast_constant;
 use typed_tree::SharedDecl;
 use typing_rules::{Constant, Static};
 use upc_types::{Base, Structs};

@@ -2,6 +2,8 @@
 #![tactic(auto)]
 
 mod attribute;
+pub mod calls;
+pub mod constants;
 pub mod format;
 pub mod laws;
 mod library;

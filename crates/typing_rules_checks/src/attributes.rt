@@ -19,14 +19,13 @@ ghost use Rattle.typing_rules.specs.Attributes.{Facts, attr};
 use crate::addresses::ALONE;
 use block_layout::Kind;
 use integers::{BinOp, UnOp};
-use crate::calls::is_allocation;
 use crate::constants::{
-    and_constant, binary_constant, cast_constant, choice_constant, or_constant, unary_constant,
-    working_kind,
+    and_constant, binary_constant, choice_constant, or_constant, unary_constant,
 };
-use crate::declarations::{address_in, constant_of};
 use std::alloc::Global;
 use std::rc::Rc;
+use typing_rules::calls::is_allocation;
+use typing_rules::constants::{address_in, cast_constant, constant_of, working_kind};
 use typing_rules::names::constant_value;
 use typing_rules::types::{base_kind, kind_of, target_of};
 use typing_rules::{Attr, Constant, Element, Form, Home, Meaning, Static, Use};

@@ -7,24 +7,11 @@ ghost use Rattle.upc_types.specs.Arithmetic as arithmetic;
 ghost use Rattle.typing_rules.specs.Constants as pure;
 ghost use Rattle.typing_rules.specs.Constants.{IsKindValue, IsWithin};
 
-use crate::numbers::converted;
 use block_layout::Kind;
 use integers::{BinOp, UnOp, binary, unary};
 use typing_rules::Constant;
+use typing_rules::constants::{cast_constant, converted, working_kind};
 use upc_types::{promoted, usual};
-
-/// The kind at which a binary operator works.
-pub fn working_kind(op: BinOp, a: Kind, b: Kind) -> Kind
-    requires left { IsInteger a }
-    requires right { IsInteger b }
-    ensures value { result ≡ pure.working_kind op a b }
-    ensures promoted { IsPromoted result }
-{
-    match op {
-        BinOp::ShiftLeft | BinOp::ShiftRight => promoted(a),
-        _ => usual(a, b),
-    }
-}
 
 fn right_kind(op: BinOp, a: Kind, b: Kind) -> Kind
     requires left { IsInteger a }
@@ -96,19 +83,6 @@ pub fn unary_constant(op: UnOp, a: Kind, x: Constant) -> Constant
 {
     match x {
         Constant::Known(v) => unary_known(op, a, v),
-        Constant::Undefined => Constant::Undefined,
-        _ => Constant::Variable,
-    }
-}
-
-/// A constant, converted to an integer kind (C99 6.3.1.3).
-pub fn cast_constant(kind: Kind, x: Constant) -> Constant
-    requires { IsInteger kind }
-    ensures value { result ≡ pure.cast_constant kind x }
-    ensures within { IsWithin result }
-{
-    match x {
-        Constant::Known(v) => Constant::Known(converted(kind, v)),
         Constant::Undefined => Constant::Undefined,
         _ => Constant::Variable,
     }

@@ -8,15 +8,15 @@ ghost use Rattle.typing_rules.specs.layer.Views.{view_formed, view_signature};
 ghost use Rattle.typing_rules.specs.Constants as c;
 ghost use Rattle.typing_rules.specs.Nodes as n;
 ghost use Rattle.typing_rules.specs.Nodes.{view_attr};
-ghost use Rattle.typing_rules.specs.Attributes as attributes;
 ghost use Rattle.typing_rules.specs.Attributes.{Facts};
 ghost use Rattle.typing_rules.specs.Rules as r;
 ghost use Rattle.typing_rules.specs.Rules.{lowest};
 
 use crate::conversion::converts;
 use crate::rules::has_no_size;
+use typing_rules::constants::constant_of;
 use typing_rules::types::{is_array, is_lock, is_nested, is_no_object, is_shared, is_struct, leaf};
-use typing_rules::{Attr, Constant, Element, Form, Formed, Signature, SizeOperator};
+use typing_rules::{Attr, Constant, Formed, Signature, SizeOperator};
 use upc_types::{Base, CType, Structs};
 
 /// The specifiers of a declaration or of members.
@@ -51,38 +51,6 @@ pub fn star_block(declares: bool) -> Option<u8>
     ensures { (φ : Facts) → result ≡ lowest φ (n.StarBlock declares) }
 {
     if declares { None } else { Some(5) }
-}
-
-/// The address that an expression names.
-pub fn address_in(form: Form) -> Constant
-    ensures value { result ≡ attributes.address_in form }
-    ensures within { c.NamesWithin form → c.IsWithin result }
-{
-    match form {
-        Form::Lvalue(address) => address,
-        _ => Constant::Variable,
-    }
-}
-
-fn first_element(count: u32, address: Constant) -> Constant
-    ensures value { result ≡ c.first_element count address }
-    ensures within { c.IsWithin address → c.IsWithin result }
-{
-    match address {
-        Constant::Address(place, _) => Constant::Address(place, Element { index: 0, count }),
-        other => other,
-    }
-}
-
-/// The constant that an expression's value is.
-pub fn constant_of(a: &Attr) -> Constant
-    ensures value { result ≡ attributes.constant_of (view_attr a.now) }
-    ensures within { c.IsWithin result }
-{
-    match &a.ctype.base {
-        Base::Array(_, count) => first_element(*count, address_in(a.form)),
-        _ => a.constant,
-    }
 }
 
 fn is_undefined(k: Constant) -> bool

@@ -3,7 +3,6 @@
 #![tactic(auto)]
 
 mod addresses;
-mod numbers;
 pub mod attributes;
 pub mod calls;
 pub mod constants;

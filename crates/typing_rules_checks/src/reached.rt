@@ -14,9 +14,9 @@ ghost use Rattle.typing_rules.specs.Attributes.{attr};
 
 use crate::addresses::member_address;
 use crate::attributes::int_value;
-use crate::declarations::{address_in, constant_of};
 use std::alloc::Global;
 use std::rc::Rc;
+use typing_rules::constants::{address_in, constant_of};
 use typing_rules::types::target_of;
 use typing_rules::{Attr, Constant, Form};
 use upc_text::OutOfMemory;

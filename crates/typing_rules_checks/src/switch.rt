@@ -10,25 +10,13 @@ ghost use Rattle.typing_rules.specs.Rules.{lowest};
 ghost use Rattle.typing_rules.specs.declared.attribute.Constant as constant;
 ghost use Rattle.typing_rules_checks.specs.code.Labels.{AreValues};
 
-use crate::numbers::converted;
 use block_layout::Kind;
 use std::alloc::Global;
 use std::collections::BTreeSet;
+use typing_rules::constants::label_kind;
 use typing_rules::types::{counts, gives_void, kind_of};
 use typing_rules::{Attr, Constant};
 use upc_text::OutOfMemory;
-use upc_types::promoted;
-
-/// The value with which a `switch` of this kind compares (C99 6.8.4.2).
-pub fn label_kind(kind: Option<Kind>, v: i128) -> i128
-    requires { IfSome kind IsInteger }
-    ensures { result ≡ r.label_kind kind v }
-{
-    match kind {
-        Some(kind) => converted(promoted(kind), v),
-        None => v,
-    }
-}
 
 // Whether a label is no integer constant, or has a value of the later ones, among which its own is from here on.
 fn is_wrong(

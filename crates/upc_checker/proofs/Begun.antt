@@ -16,12 +16,12 @@ use Rattle.typed_tree.specs.Objects as o
 use Rattle.typed_tree.specs.Objects.{bytes_in, private_in, shared_in, is_shared}
 use Rattle.upc_tree.specs.Unit.{External}
 use Rattle.typed_tree.specs.Scopes.{begin}
-use Rattle.upc_checker_functions.specs.Units.{setting, walk_unit}
+use Rattle.upc_checker.specs.Units.{setting, walk_unit}
 use Rattle.upc_checker.specs.Outcomes.{Accepted, outcome}
 use Rattle.typed_tree.specs.Programs.{Checked, checked_of, count_of, without_targets}
 use Rattle.upc_checker.specs.code.Accepted.{IsAccepted}
 use Rattle.upc_checker.proofs.Causes.{accepted}
-use Rattle.upc_checker_functions.proofs.UnitsBring.{unit_counts}
+use Rattle.upc_checker.proofs.UnitsBring.{unit_counts}
 use Rattle.upc_checker.specs.Limits.{left_by, left_behind, is_over, room_in, first_over, is_private, Passed, passed_or, limit_by}
 
 -- ---- a limit that is not passed

@@ -7,7 +7,7 @@ use Rattle.upc_tree.specs.Unit.{External, tokens_of}
 use Rattle.typed_tree.specs.Scopes.{begin}
 use Rattle.typing_rules.specs.Faults.{Fault, first_fault}
 use Rattle.typing_rules.proofs.FirstFault.{all_meet, is_first}
-use Rattle.upc_checker_functions.specs.Units.{setting, walk_unit, unit_nodes}
+use Rattle.upc_checker.specs.Units.{setting, walk_unit, unit_nodes}
 use Rattle.upc_checker.specs.Limits.{Passed, unit_passed}
 use Rattle.upc_checker.specs.Outcomes.{Accepted, Refused, outcome_by, outcome}
 use Rattle.typed_tree.specs.Programs.{Checked, without_targets}

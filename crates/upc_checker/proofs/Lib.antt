@@ -1,3 +1,5 @@
+pub mod Outer
+pub mod UnitsBring
 pub mod Outcomes
 pub mod Causes
 pub mod Begun

@@ -28,7 +28,7 @@ use Rattle.upc_checker_scopes.specs.Known.{definition_again}
 use Rattle.upc_checker_scopes.specs.Places.{specs_place}
 use Rattle.upc_checker_scopes.specs.Walk.{Walk, give, andthen, judge, update, look, enclosed, facts_in}
 use Rattle.upc_checker_statements.specs.Statements.{walk_block}
-use Rattle.upc_checker_functions.specs.Units.{Made, Earlier, earlier, with_definition, with_outer_entry, body_around, defined_in, strict_from, source_place, walk_definition, walk_function, walk_external, walk_externals, walk_unit, setting}
+use Rattle.upc_checker.specs.Units.{Made, Earlier, earlier, with_definition, with_outer_entry, body_around, defined_in, strict_from, source_place, walk_definition, walk_function, walk_external, walk_externals, walk_unit, setting}
 use Rattle.upc_checker.specs.Limits.{limit_in}
 use Rattle.upc_checker.specs.Outcomes.{Accepted, outcome}
 use Rattle.upc_checker.specs.code.Mains.{is_named_main, HasOneMain}

@@ -25,7 +25,7 @@ use Rattle.typing_rules.specs.Nodes.{Node}
 use Rattle.typing_rules.specs.Faults.{Seen}
 use Rattle.upc_checker_nodes.specs.Marks.{number_kind}
 use Rattle.upc_checker_scopes.specs.Places.{at, specs_place}
-use Rattle.upc_checker_functions.specs.Units.{unit_nodes}
+use Rattle.upc_checker.specs.Units.{unit_nodes}
 use Rattle.upc_checker.specs.code.Lines as l
 use Rattle.upc_checker.specs.code.Lines.{Line, line_of}
 use Rattle.upc_checker.specs.code.TreeNodes.{TreeNode, node, node_of, to_their_end, nodes, argument_nodes, next_nodes, type_nodes, specs_nodes, spec_nodes, quals_nodes, qual_nodes, layout_nodes, pointer_nodes, size_nodes, member_nodes, next_declarator_nodes, declarator_nodes, parameters_nodes, next_parameter_nodes, parameter_nodes, array_nodes, value_nodes, values_nodes, initial_nodes, declared_nodes, next_declared_nodes, declared_list_nodes, declaration_nodes, option_nodes, test_nodes, first_nodes, affinity_nodes, for_nodes, forall_nodes, return_nodes, barrier_nodes, statement_nodes, compound_nodes, item_nodes, switch_nodes, else_if_nodes, otherwise_nodes, external_nodes, externals_nodes, tree_nodes}

@@ -10,7 +10,7 @@ use Rattle.upc_checker_scopes.specs.layer.Ends.{refusal_by, Stops, Comes}
 use Rattle.upc_checker.specs.Limits.{Passed, limit_by, limit_in}
 use Rattle.upc_checker.specs.Outcomes.{Answers, Outcome, Refused, Accepted, outcome_by, outcome_in}
 use Rattle.typed_tree.specs.Programs.{Checked, without_targets}
-use Rattle.upc_checker_functions.specs.Units.{Made}
+use Rattle.upc_checker.specs.Units.{Made}
 use Rattle.upc_checker.specs.code.ViewUnits.{KeepsLimits}
 
 faulty_by : (o : Option Fault) (l : Option Passed) (x : Checked) (r : Refusal) → refusal_by o ≡ Some r → outcome_by o l x ≡ Refused r

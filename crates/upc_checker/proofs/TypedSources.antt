@@ -31,7 +31,7 @@ use Rattle.upc_checker_scopes.specs.Walk.{Walk, give, andthen, judge, update, lo
 use Rattle.upc_checker_types.specs.Members.{Declared}
 use Rattle.upc_checker_declarations.specs.Declarations.{Behind, walk_declaration}
 use Rattle.upc_checker_statements.specs.Statements.{walk_block}
-use Rattle.upc_checker_functions.specs.Units.{Made, Earlier, earlier, with_definition, with_outer_entry, body_around, defined_in, is_main_function, walk_definition, walk_function, walk_externals, walk_unit, setting}
+use Rattle.upc_checker.specs.Units.{Made, Earlier, earlier, with_definition, with_outer_entry, body_around, defined_in, is_main_function, walk_definition, walk_function, walk_externals, walk_unit, setting}
 use Rattle.upc_checker.specs.Limits.{limit_in}
 use Rattle.upc_checker.specs.Outcomes.{Accepted, outcome}
 use Rattle.upc_checker.proofs.Causes.{accepted_by}

@@ -24,7 +24,7 @@ use Rattle.upc_checker_scopes.specs.Places.{at, specs_place}
 use Rattle.upc_checker_types.specs.Specifiers.{Shaped}
 use Rattle.upc_checker_declarations.specs.Declarations.{initial_constant, walk_initial_value, walk_initial_values, walk_initial, Behind, walk_declared, walk_next_declareds, walk_declared_list, walk_declaration}
 use Rattle.upc_checker_statements.specs.Statements.{in_loop, in_switch, in_forall, walk_value, walk_test, walk_first, walk_affinity, walk_for_head, walk_forall_head, walk_statement, walk_block, walk_items, walk_switch, walk_else_ifs, walk_otherwise}
-use Rattle.upc_checker_functions.specs.Units.{Made, setting, with_outer_entry, body_around, walk_definition, walk_external, walk_externals, walk_unit, unit_nodes}
+use Rattle.upc_checker.specs.Units.{Made, setting, with_outer_entry, body_around, walk_definition, walk_external, walk_externals, walk_unit, unit_nodes}
 use Rattle.affinity_checker.specs.declared.around.Around as around
 use Rattle.affinity_checker.specs.layer.Rules as pure
 use Rattle.affinity_checker.specs.layer.Rules.{where_true, refused}

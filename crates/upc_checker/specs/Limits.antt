@@ -11,7 +11,7 @@ use Rattle.typing_rules.specs.declared.setting.Home.TheVariants.{Shared}
 use Rattle.typed_tree.specs.Scopes.{begin}
 use Rattle.typed_tree.specs.Tree.{DeclaredObject}
 use Rattle.upc_checker_scopes.specs.Walk.{Walked}
-use Rattle.upc_checker_functions.specs.Units.{Made, setting, walk_unit}
+use Rattle.upc_checker.specs.Units.{Made, setting, walk_unit}
 use Rattle.typed_tree.specs.Objects.{is_shared}
 
 -- Whether an object of the file is not shared (UPC 6.5.1.1).

@@ -9,7 +9,7 @@ use Rattle.typed_tree.specs.Scopes.{begin}
 use Rattle.typing_rules.specs.Faults.{Fault, first_fault}
 use Rattle.typed_tree.specs.Programs.{Checked, without_targets}
 use Rattle.upc_checker_scopes.specs.Walk.{Walked}
-use Rattle.upc_checker_functions.specs.Units.{Made, setting, walk_unit}
+use Rattle.upc_checker.specs.Units.{Made, setting, walk_unit}
 use Rattle.upc_checker.specs.Limits.{Passed, limit_in}
 
 -- The outcome of a check: a refusal with its place and its code, or what the source declares and defines, with types.

@@ -1,3 +1,6 @@
+pub mod Parts
+pub mod ViewEarlier
+pub mod ViewMade
 pub mod Causes
 pub mod Accepted
 pub mod ViewUnits

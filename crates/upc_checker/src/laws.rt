@@ -12,7 +12,7 @@ ghost use Rattle.typed_tree.specs.layer.ExpressionLaws.{CallFits, MemberInRange,
 ghost use Rattle.typed_tree.specs.layer.ExpressionLaws.{LayoutsStay, LiteralInRange};
 ghost use Rattle.typed_tree.specs.layer.TypedNodes.{MeetsRules};
 ghost use Rattle.typed_tree.specs.Programs.{Checked};
-ghost use Rattle.upc_checker_functions.specs.Units.{unit_nodes};
+ghost use Rattle.upc_checker.specs.Units.{unit_nodes};
 ghost use Rattle.affinity_checker.specs.layer.Breaches.{unit_breaches};
 ghost use Rattle.upc_checker.specs.code.TreeNodes.{tree_nodes, node_of};
 ghost use Rattle.upc_checker.specs.code.Jumps.{jump_breaches};

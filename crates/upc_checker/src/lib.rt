@@ -2,8 +2,10 @@
 #![tactic(auto)]
 
 mod accept;
+mod functions;
 pub mod laws;
 mod limits;
+mod units;
 mod whole;
 
 pub use accept::{accepts, check};

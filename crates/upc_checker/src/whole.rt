@@ -9,7 +9,7 @@ ghost use Rattle.upc_checker.specs.Outcomes.{Answers, outcome};
 ghost use Rattle.upc_checker.specs.code.ViewUnits.{view_checked, KeepsLimits};
 
 use crate::limits::limit_in;
-use upc_checker_functions::units::{defined_in, walk_unit};
+use crate::units::{defined_in, walk_unit};
 use std::alloc::Global;
 use typed_tree::env::file;
 use typed_tree::{Function, Object};

@@ -11,8 +11,9 @@ ghost use Rattle.typing_rules.specs.Rules.{lowest};
 ghost use Rattle.typed_tree.specs.ViewTree.{attr_seen};
 
 use crate::format::prints;
+use typing_rules::calls::call_parameters;
 use typing_rules_checks::calls::{
-    allocates_private, allocates_well, call_parameters, can_be_called, is_printf, no_function,
+    allocates_private, allocates_well, can_be_called, is_printf, no_function,
 };
 use typing_rules_checks::conversion::{converts, takes};
 use typed_tree::Expr;

@@ -22,7 +22,7 @@ ghost use Rattle.upc_checker_scopes.specs.Walk.{andthen};
 use upc_checker_declarations::declarations::walk_declaration;
 use upc_checker_expressions::expressions::{constantly, walk};
 use typing_rules_checks::statements as rules;
-use typing_rules_checks::switch::label_kind;
+use typing_rules::constants::label_kind;
 use upc_checker_nodes::statement_parts::Headed;
 use std::alloc::Global;
 use typed_tree::env::Env;

@@ -17,7 +17,7 @@ use crate::progress::{Progress, Step};
 use crate::setting::Setting;
 use meaning_types::target_of;
 use typed_tree_opening::{element_shape, number_among};
-use typing_rules_checks::calls::is_allocation;
+use typing_rules::calls::is_allocation;
 use std::alloc::Global;
 use typed_tree::{Expr, ExprKind};
 use upc_text::{OutOfMemory, Text};

@@ -20,7 +20,7 @@ use crate::setting::Setting;
 use block_layout::Kind;
 use meaning_types::{elements_of, integer_of, leaves_of, target_of};
 use integers::{BinOp, UnOp};
-use typing_rules_checks::constants::working_kind;
+use typing_rules::constants::working_kind;
 use thread_values::{
     advanced, applied, cast, difference, in_row, is_zero, member_behind, number_of, operated,
     order, same, truth_value,

@@ -13,7 +13,7 @@ ghost use Rattle.upc_meaning_work.specs.layer.Items as item;
 ghost use Rattle.upc_meaning_work.specs.layer.ViewItems.{casts_of};
 ghost use Rattle.upc_meaning_work.specs.layer.Evaluations.{seen};
 
-use typing_rules_checks::calls::call_parameters;
+use typing_rules::calls::call_parameters;
 use upc_meaning_work::{Evaluation, Parameters, Work};
 use upc_meaning_state::{Setting, is_printf};
 use typed_tree::{Expr, Target};

@@ -16,7 +16,7 @@ ghost use Rattle.upc_meaning_work.specs.layer.Evaluations.{seen};
 
 use block_layout::Kind;
 use meaning_types::integer_of;
-use typing_rules_checks::switch::label_kind;
+use typing_rules::constants::label_kind;
 use thread_values::number_of;
 use upc_meaning_work::{Evaluation, Flow, Standing, Work};
 use upc_meaning_state::Setting;

@@ -5,7 +5,7 @@ use Rattle.upc_text.specs.declared.place.Code.TheVariants.{Typing, Limit}
 use Rattle.upc_tree.specs.Unit.{External}
 use Rattle.typed_tree.specs.Scopes.{begin}
 use Rattle.typing_rules.specs.Faults.{Fault, AllMeet, IsFirst}
-use Rattle.upc_checker_functions.specs.Units.{setting, walk_unit, unit_nodes, typed_unit}
+use Rattle.upc_checker.specs.Units.{setting, walk_unit, unit_nodes, typed_unit}
 use Rattle.upc_checker.specs.Limits.{Passed, unit_passed}
 use Rattle.typed_tree.specs.Programs.{Checked, without_targets}
 

@@ -29,7 +29,7 @@ use Rattle.upc_tree.specs.Unit.{External, PragmaPart, DeclarationPart, FunctionP
 use Rattle.typing_rules.specs.Faults.{Seen}
 use Rattle.upc_checker_nodes.specs.Marks.{number_kind}
 use Rattle.upc_checker_scopes.specs.Places.{at, name_at, pointers_place, specs_place}
-use Rattle.upc_checker_functions.specs.Units.{source_place}
+use Rattle.upc_checker.specs.Units.{source_place}
 use Rattle.upc_checker.specs.code.Lines as l
 use Rattle.upc_checker.specs.code.Lines.{Line, line_of}
 

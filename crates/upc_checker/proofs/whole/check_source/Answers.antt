@@ -10,9 +10,9 @@ use Rattle.typed_tree.specs.layer.ViewEnv.{view_env}
 use Rattle.typed_tree.specs.ViewStatements.{view_object}
 use Rattle.upc_checker_scopes.specs.layer.Ends.{Stops, Comes}
 use Rattle.upc_checker.specs.Limits.{limit_by}
-use Rattle.upc_checker_functions.specs.Units as pure
+use Rattle.upc_checker.specs.Units as pure
 use Rattle.upc_checker_scopes.specs.layer.Views.{state_of, state_with}
-use Rattle.upc_checker_functions.specs.layer.ViewMade.{view_made}
+use Rattle.upc_checker.specs.code.ViewMade.{view_made}
 use Rattle.upc_checker.specs.code.ViewUnits.{view_checked, KeepsLimits}
 use Rattle.upc_checker.proofs.Outcomes.{answers_fault, answers_limit, accepted}
 use Rattle.upc_checker.proofs.whole.check_source.Goals as goal

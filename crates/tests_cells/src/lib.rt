@@ -1,5 +1,0 @@
-//! Tests of the cells of elements.
-#![tactic(auto)]
-
-#[cfg(test)]
-mod cells;
