@@ -69,8 +69,8 @@ pub fn unary(op: UnOp, kind: Kind, a: i128) -> Result<i128, u8>
     }
 }
 
-// The int 1 or 0.
-fn truth(holds: bool) -> i128
+/// The int 1 or 0.
+pub fn truth(holds: bool) -> i128
     ensures value { result ≡ truth holds }
     ensures range { InKind result Kind.Int }
 {
