@@ -3,7 +3,6 @@
 ghost use Rattle.std.specs.Prelude.{◌≡◌, IfOk};
 ghost use Rattle.upc_types.specs.View.{view, view_base};
 ghost use Rattle.typed_tree.specs.ViewTree.{view_expr};
-ghost use Rattle.typing_rules.specs.Library as library;
 ghost use Rattle.source_meaning.specs.Expressions as mean;
 ghost use Rattle.upc_meaning_state.specs.code.Came.{Came, state_seen};
 ghost use Rattle.upc_meaning_state.specs.code.Operations as pure;
@@ -12,7 +11,6 @@ ghost use Rattle.upc_meaning_state.specs.code.Settings.{running_seen};
 
 use crate::progress::{Progress, Step};
 use crate::setting::Setting;
-use block_layout::Kind;
 use meaning_types::{
     cell_kind, conversion, integer_of, is_strict, member_offset, target_of, target_offset,
 };
@@ -20,8 +18,9 @@ use integers::BinOp;
 use thread_values::number_of;
 use thread_steps::CastTo;
 use typed_tree::{Expr, ExprKind, StepOperator};
+use typing_rules::types::int_type;
 use upc_text::{OutOfMemory, Place};
-use upc_types::{Access, Base, CType};
+use upc_types::{Base, CType};
 use upc_values::{Scalar, Value};
 
 // How many elements an array has.
@@ -62,18 +61,6 @@ fn step_value(setting: Setting<'_>, op: StepOperator, old: Value, new: Value) ->
     match op {
         StepOperator::IncrementFirst | StepOperator::DecrementFirst => new,
         StepOperator::IncrementAfter | StepOperator::DecrementAfter => old,
-    }
-}
-
-// The type int.
-fn int() -> CType
-    ensures { view result ≡ library.int }
-{
-    CType {
-        base: Base::Integer(Kind::Int),
-        constant: false,
-        shared: None,
-        access: Access::Unsaid,
     }
 }
 
@@ -214,7 +201,7 @@ impl<'r> Progress<'r> {
         };
         let one = Value::Scalar(Scalar::Int(1));
         let op_of = step_operator(setting, op);
-        let sum = match self.binary(setting, place, op_of, t, &int(), &old, &one)? {
+        let sum = match self.binary(setting, place, op_of, t, &int_type(), &old, &one)? {
             Step::Ends(end) => return Ok(Step::Ends(end)),
             Step::Gives(w) => w,
         };
