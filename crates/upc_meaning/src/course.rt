@@ -18,6 +18,7 @@ ghost use Rattle.upc_meaning_work.specs.code.Evaluations.{Went, seen};
 
 use crate::threads;
 use upc_meaning_steps::functions;
+use meaning_types::is_main;
 use private_store::{MOST_CALLS, Store};
 use std::alloc::Global;
 use thread_values::int_of;
@@ -32,12 +33,6 @@ use upc_values::{Actions, Listing, Mark, Reply, Scalar, ToldEnd, Value};
 pub struct Told {
     pub actions: Actions,
     pub end: ToldEnd,
-}
-
-fn is_main(function: &Function) -> bool
-    ensures { result ≡ mean.is_main (view_function function.now) }
-{
-    function.name.as_slice() == b"main".as_slice()
 }
 
 // The function main, if there is one.

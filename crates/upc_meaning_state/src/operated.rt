@@ -1,7 +1,7 @@
 //! Operators of expressions whose operands have their values (C99 6.5, UPC 6.4).
 
 ghost use Rattle.std.specs.Prelude.{◌≡◌, IfOk};
-ghost use Rattle.upc_types.specs.View.{view, view_base};
+ghost use Rattle.upc_types.specs.View.{view};
 ghost use Rattle.typed_tree.specs.ViewTree.{view_expr};
 ghost use Rattle.source_meaning.specs.Expressions as mean;
 ghost use Rattle.upc_meaning_state.specs.code.Came.{Came, state_seen};
@@ -12,7 +12,8 @@ ghost use Rattle.upc_meaning_state.specs.code.Settings.{running_seen};
 use crate::progress::{Progress, Step};
 use crate::setting::Setting;
 use meaning_types::{
-    cell_kind, conversion, integer_of, is_strict, member_offset, target_of, target_offset,
+    cell_kind, conversion, dimension, integer_of, is_strict, member_offset, target_of,
+    target_offset,
 };
 use integers::BinOp;
 use thread_values::number_of;
@@ -20,29 +21,8 @@ use thread_steps::CastTo;
 use typed_tree::{Expr, ExprKind, StepOperator};
 use typing_rules::types::int_type;
 use upc_text::{OutOfMemory, Place};
-use upc_types::{Base, CType};
+use upc_types::CType;
 use upc_values::{Scalar, Value};
-
-// How many elements an array has.
-fn count_in(base: &Base) -> Option<u32>
-    ensures { result ≡ mean.count_in (view_base base.now) }
-{
-    match base {
-        Base::Array(_, count) => Some(*count),
-        _ => None,
-    }
-}
-
-// The dimension that a further subscript of an array of arrays has to lie in.
-fn dimension(e: &Expr) -> Option<u32>
-    ensures { result ≡ mean.dimension (view_expr e.now) }
-{
-    match &e.kind {
-        ExprKind::Paren(a) => dimension(a),
-        ExprKind::Subscript(_, _) => count_in(&e.attr.ctype.base),
-        _ => None,
-    }
-}
 
 // The operator of `++` and `--`.
 fn step_operator(setting: Setting<'_>, op: StepOperator) -> BinOp

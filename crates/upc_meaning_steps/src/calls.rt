@@ -13,9 +13,10 @@ ghost use Rattle.upc_meaning_work.specs.code.Items as item;
 ghost use Rattle.upc_meaning_work.specs.code.ViewItems.{casts_of};
 ghost use Rattle.upc_meaning_work.specs.code.Evaluations.{seen};
 
+use meaning_types::is_printf;
 use typing_rules_checks::calls::call_parameters;
 use upc_meaning_work::{Evaluation, Parameters, Work};
-use upc_meaning_state::{Setting, is_printf};
+use upc_meaning_state::Setting;
 use typed_tree::{Expr, Target};
 use upc_text::OutOfMemory;
 use upc_types::CType;
