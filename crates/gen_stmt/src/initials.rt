@@ -8,8 +8,8 @@ ghost use Rattle.gen_expr.specs.layer.ViewSource.{view_source};
 ghost use Rattle.gen_stmt.specs.Codes as pure;
 
 use crate::values::{put_aside, put_converted};
-use meaning_types::element_type;
 use gen_expr::{Source, put_advance, put_kept, put_object, put_push, put_stack};
+use meaning_types::element_type;
 use stack_code::{Instr, StackWork};
 use typed_tree::{Expr, Head, Initial, Object};
 use upc_text::OutOfMemory;

@@ -10,9 +10,9 @@ ghost use Rattle.typed_tree_opening.specs.code.ViewSettings.{view_setting};
 
 use crate::setting::Setting;
 use block_layout::{Kind, LocalPtr, ObjectRef, SharedPtr};
-use typing_rules_checks::constants::cast_constant;
 use typed_tree::numbered;
 use typing_rules::{Constant, Static};
+use typing_rules_checks::constants::cast_constant;
 use upc_types::{Base, Structs};
 use upc_values::{Scalar, Value};
 

@@ -32,29 +32,31 @@ ghost use Rattle.upc_checker_types.specs.Specifiers as specifiers;
 ghost use Rattle.upc_checker_types.specs.layer.ViewShapes.{view_shaped, view_specified, view_specifying};
 ghost use Rattle.upc_checker_scopes.specs.Walk.{andthen, enclosed, give, judge};
 
-use upc_checker_expressions::expressions::{constantly, walk};
-use upc_checker_expressions::types::{walk_parameters, walk_pointers, walk_sizes, walk_specifiers};
-use upc_checker_nodes::nodes::joined;
-use typing_rules_checks::declarations::{declares_object, initial_value, specifies};
-use upc_checker_nodes::lists::initial_list;
-use upc_checker_types::shaped::{Shaped, copy_shaped, formed, specified_type};
-use upc_checker_types::specified::{Specified, Specifying, specifiers_form};
 use typed_tree::env::{Env, declare, enter_function, inside, is_file, next_home};
 use typed_tree::{Expr, Initial, Object};
 use typing_rules::types::int_type;
 use typing_rules::{Formed, Signature, Use};
+use typing_rules_checks::declarations::{declares_object, initial_value, specifies};
+use upc_checker_expressions::expressions::{constantly, walk};
+use upc_checker_expressions::types::{walk_parameters, walk_pointers, walk_sizes, walk_specifiers};
+use upc_checker_nodes::lists::initial_list;
+use upc_checker_nodes::nodes::joined;
+use upc_checker_scopes::finish::judged;
+use upc_checker_scopes::known::{
+    Known, note_end, note_function, note_more, object_again, prototype_again,
+};
+use upc_checker_scopes::places::{pointers_place, specs_place};
+use upc_checker_scopes::setting::{Setting, spelling};
+use upc_checker_scopes::signatures::copy_signature;
+use upc_checker_scopes::tags::{Tags, enclosed};
+use upc_checker_types::shaped::{Shaped, copy_shaped, formed, specified_type};
+use upc_checker_types::specified::{Specified, Specifying, specifiers_form};
 use upc_text::{Place, Stop, Text};
 use upc_tree::{
     Declaration, Declarator, Declared, DeclaredList, Dimension, Name, NextDeclared, NextExpr,
     Parameters, Pointer,
 };
 use upc_types::{Base, CType, copy_type};
-use upc_checker_scopes::finish::judged;
-use upc_checker_scopes::known::{Known, note_end, note_function, note_more, object_again, prototype_again};
-use upc_checker_scopes::places::{pointers_place, specs_place};
-use upc_checker_scopes::setting::{Setting, spelling};
-use upc_checker_scopes::signatures::copy_signature;
-use upc_checker_scopes::tags::{Tags, enclosed};
 
 // ---- initialisers (C99 6.7.8)
 

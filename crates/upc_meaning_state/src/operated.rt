@@ -11,13 +11,13 @@ ghost use Rattle.upc_meaning_state.specs.code.Settings.{running_seen};
 
 use crate::progress::{Progress, Step};
 use crate::setting::Setting;
+use integers::BinOp;
 use meaning_types::{
     cell_kind, conversion, dimension, integer_of, is_strict, member_offset, target_of,
     target_offset,
 };
-use integers::BinOp;
-use thread_values::number_of;
 use thread_steps::CastTo;
+use thread_values::number_of;
 use typed_tree::{Expr, ExprKind, StepOperator};
 use typing_rules::types::int_type;
 use upc_text::{OutOfMemory, Place};

@@ -12,8 +12,8 @@ ghost use Rattle.source_meaning.specs.Statements.{shapes_of, objects_in};
 ghost use Rattle.upc_meaning_state.specs.code.Settings.{running_seen};
 
 use crate::setting::Setting;
-use meaning_types::shape_of;
 use block_layout::Shape;
+use meaning_types::shape_of;
 use std::alloc::Global;
 use typed_tree::{Item, Object};
 use upc_text::OutOfMemory;

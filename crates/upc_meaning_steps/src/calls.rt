@@ -14,10 +14,10 @@ ghost use Rattle.upc_meaning_work.specs.code.ViewItems.{casts_of};
 ghost use Rattle.upc_meaning_work.specs.code.Evaluations.{seen};
 
 use meaning_types::is_printf;
-use typing_rules_checks::calls::call_parameters;
-use upc_meaning_work::{Evaluation, Parameters, Work};
-use upc_meaning_state::Setting;
 use typed_tree::{Expr, Target};
+use typing_rules_checks::calls::call_parameters;
+use upc_meaning_state::Setting;
+use upc_meaning_work::{Evaluation, Parameters, Work};
 use upc_text::OutOfMemory;
 use upc_types::CType;
 use upc_values::{LibraryCall, Scalar, Value};

@@ -17,9 +17,9 @@ ghost use Rattle.upc_meaning_work.specs.code.Evaluations.{Went, seen};
 ghost use Rattle.upc_meaning_steps.specs.code.Entries.{BlockWent, HeadWent};
 
 use meaning_types::{conversion, element_type};
-use upc_meaning_work::{Evaluation, Flow, Standing, Work, with_objects, with_strict};
-use upc_meaning_state::{Setting, Shapes, Step};
 use typed_tree::{Expr, Head, Initial, Item, Object, StatementKind};
+use upc_meaning_state::{Setting, Shapes, Step};
+use upc_meaning_work::{Evaluation, Flow, Standing, Work, with_objects, with_strict};
 use upc_text::{OutOfMemory, Place};
 use upc_types::CType;
 

@@ -16,12 +16,12 @@ ghost use Rattle.upc_meaning_work.specs.code.Evaluations.{Went, seen};
 
 use crate::calls;
 use meaning_types::{conversion, inner_place, known_or_zero};
-use thread_values::{is_zero, truth_value};
-use upc_meaning_work::{Evaluation, Work};
-use upc_meaning_state::{Setting, Step};
 use thread_steps::CastTo;
+use thread_values::{is_zero, truth_value};
 use typed_tree::{Expr, ExprKind};
 use typing_rules::Attr;
+use upc_meaning_state::{Setting, Step};
+use upc_meaning_work::{Evaluation, Work};
 use upc_text::{OutOfMemory, Place};
 use upc_types::CType;
 use upc_values::Value;

@@ -15,11 +15,11 @@ ghost use Rattle.upc_meaning_work.specs.code.Evaluations.{seen};
 
 use block_layout::Kind;
 use meaning_types::integer_of;
-use typing_rules_checks::switch::label_kind;
 use thread_values::number_of;
-use upc_meaning_work::{Evaluation, Flow, Standing, Work};
-use upc_meaning_state::Setting;
 use typed_tree::{Expr, SwitchItem};
+use typing_rules_checks::switch::label_kind;
+use upc_meaning_state::Setting;
+use upc_meaning_work::{Evaluation, Flow, Standing, Work};
 use upc_text::{OutOfMemory, Place};
 use upc_values::is_integer;
 
