@@ -3,21 +3,20 @@
 ghost use Rattle.std.specs.Prelude.{◌≡◌, ◌++◌, OnOk};
 ghost use Rattle.upc_types.specs.View.{view};
 ghost use Rattle.typing_rules.specs.Nodes.{view_attr};
-ghost use Rattle.typing_rules.specs.Library as library;
 ghost use Rattle.gen_expr.specs.Codes as pure;
 ghost use Rattle.gen_expr.specs.layer.ViewSource.{view_source};
 
 use crate::operators::{put_advance, put_binary};
 use crate::put::{put_cast, put_load, put_push, put_save, put_stack, put_value};
 use crate::source::Source;
-use block_layout::Kind;
-use meaning_types::{cell_kind, conversion, is_strict};
 use integers::BinOp;
+use meaning_types::{cell_kind, conversion, is_strict};
 use stack_code::{Instr, StackWork, ValueWork};
 use typed_tree::StepOperator;
+use typing_rules::types::int_type;
 use typing_rules::{Attr, Form};
 use upc_text::{OutOfMemory, Place};
-use upc_types::{Access, Base, CType};
+use upc_types::CType;
 use upc_values::{Scalar, Value};
 
 /// Appends the code of the value of the object of a type at the place on top.
@@ -115,18 +114,6 @@ fn put_cast_kept(
     put_kept(code, source, strict, place, t)
 }
 
-// The type int.
-fn int() -> CType
-    ensures { view result ≡ library.int }
-{
-    CType {
-        base: Base::Integer(Kind::Int),
-        constant: false,
-        shared: None,
-        access: Access::Unsaid,
-    }
-}
-
 fn put_first_step(
     code: &mut Vec<Instr>,
     source: Source<'_>,
@@ -141,7 +128,7 @@ fn put_first_step(
     put_stack(code, place, StackWork::Copy)?;
     put_held(code, source, strict, place, t)?;
     put_push(code, place, Value::Scalar(Scalar::Int(1)))?;
-    put_binary(code, source, place, operator, t, &int())?;
+    put_binary(code, source, place, operator, t, &int_type())?;
     put_cast_kept(code, source, strict, place, t)
 }
 
@@ -161,7 +148,7 @@ fn put_after_step(
     put_stack(code, place, StackWork::Swap)?;
     put_stack(code, place, StackWork::Over)?;
     put_push(code, place, Value::Scalar(Scalar::Int(1)))?;
-    put_binary(code, source, place, operator, t, &int())?;
+    put_binary(code, source, place, operator, t, &int_type())?;
     put_cast_kept(code, source, strict, place, t)?;
     put_stack(code, place, StackWork::Pop)
 }

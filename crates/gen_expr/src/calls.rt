@@ -19,23 +19,16 @@ ghost use Rattle.gen_expr.specs.layer.ViewSource.{view_source};
 
 use crate::put::put;
 use crate::source::Source;
-use meaning_types::{conversion, parameter_conversion, promotion, target_of};
-use typed_tree_opening::{element_shape, number_among};
-use typing_rules::calls::{call_parameters, is_allocation};
+use meaning_types::{conversion, format_of, parameter_conversion, promotion, target_of};
 use stack_code::{CallWork, Instr, Operation, ThreadWork};
 use std::alloc::Global;
 use thread_steps::CastTo;
-use typed_tree::{Expr, ExprKind};
-use upc_text::{OutOfMemory, Place, Text};
+use typed_tree::Expr;
+use typed_tree_opening::{element_shape, number_among};
+use typing_rules::calls::{call_parameters, is_allocation};
+use upc_text::{OutOfMemory, Place};
 use upc_types::CType;
 use upc_values::LibraryCall;
-
-/// Whether a call is a printf.
-pub(crate) fn is_printf(call: LibraryCall) -> bool
-    ensures { result ≡ mean.is_printf call }
-{
-    matches!(call, LibraryCall::Printf)
-}
 
 /// The types of the parameters of a function of the source.
 fn parameters_of<'p>(source: Source<'p>, number: u32) -> &'p [CType]
@@ -189,17 +182,6 @@ pub(crate) fn put_library(
         arguments,
     };
     put(code, place, Operation::Thread(work))
-}
-
-// The format of a printf, which is its first argument.
-fn format_of(alloc: Global, e: &Expr) -> Result<Text, OutOfMemory>
-    ensures { IfOk result (λ format. format ≡ mean.format_of (view_expr e.now)) }
-{
-    match &e.kind {
-        ExprKind::Format(bytes) => Ok(bytes.copy(alloc)?),
-        ExprKind::Paren(a) => format_of(alloc, a),
-        _ => Ok(Text::new(alloc)),
-    }
 }
 
 /// Appends a printf, after so many arguments.

@@ -15,14 +15,17 @@ ghost use Rattle.gen_expr.specs.code.Calls.{function_call_code, library_call_cod
 use crate::access::{put_compound, put_kept, put_step, put_subscript, put_value_in};
 use crate::branches::{constant_part, put_branches};
 use crate::calls::{
-    call_casts, count, is_printf, library_casts, promotions, put_call_to, put_library, put_print,
+    call_casts, count, library_casts, promotions, put_call_to, put_library, put_print,
 };
 use crate::objects::put_object;
 use crate::operators::{put_binary, put_unary};
-use crate::places::{dimension, inner_place, put_constant, put_nothing};
+use crate::places::{put_constant, put_nothing};
 use crate::put::{put_cast, put_stack, put_value};
 use crate::source::Source;
-use meaning_types::{conversion, integer_of, member_offset, target_of, target_offset};
+use meaning_types::{
+    conversion, dimension, inner_place, integer_of, is_printf, member_offset, target_of,
+    target_offset,
+};
 use stack_code::{Instr, StackWork, ValueWork};
 use std::alloc::Global;
 use thread_steps::CastTo;

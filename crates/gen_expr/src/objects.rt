@@ -1,7 +1,6 @@
 //! Where named objects lie (C99 6.2.4, UPC 6.5.1).
 
 ghost use Rattle.std.specs.Prelude.{◌≡◌, ◌++◌, OnOk};
-ghost use Rattle.typed_tree.specs.Initials as initials;
 ghost use Rattle.source_meaning.specs.Running as running;
 ghost use Rattle.gen_expr.specs.Sources.{running_of};
 ghost use Rattle.gen_expr.specs.Codes as pure;
@@ -9,23 +8,12 @@ ghost use Rattle.gen_expr.specs.layer.ViewSource.{view_source};
 
 use crate::put::{put, put_push};
 use crate::source::Source;
-use block_layout::{LocalPtr, ObjectRef, SharedPtr};
+use block_layout::{LocalPtr, SharedPtr};
 use stack_code::{Instr, ObjectWork, Operation};
-use typed_tree::SharedDecl;
+use typed_tree::numbered;
 use typing_rules::Home;
 use upc_text::{OutOfMemory, Place};
 use upc_values::{Scalar, Value};
-
-// The shared object with this number, from 1 on.
-fn numbered(shared: &[SharedDecl], number: u32) -> Option<ObjectRef>
-    ensures { result ≡ initials.numbered shared.now number }
-{
-    if number == 0 {
-        return None;
-    }
-    let declared = shared.get(number as usize - 1)?;
-    Some(declared.object)
-}
 
 // Where a declared shared object begins, by its number (UPC 6.5.1.1).
 fn shared_object(source: Source<'_>, number: u32) -> Value

@@ -11,17 +11,12 @@ ghost use Rattle.gen_stmt.specs.code.Parts as parts;
 use crate::exits::sum;
 use crate::put::{put_act, put_operation};
 use gen_expr::Source;
+use meaning_types::is_main;
 use stack_code::{CallWork, Instr, Operation, ThreadWork};
 use std::alloc::Global;
 use typed_tree::Function;
 use upc_text::{OutOfMemory, Place};
 use upc_values::Mark;
-
-fn is_main(function: &Function) -> bool
-    ensures { result ≡ threads.is_main (view_function function.now) }
-{
-    function.name.as_slice() == b"main".as_slice()
-}
 
 // The place of main.
 #[tactic(auto, using(crate::proofs::Mains::first_main))]

@@ -1,32 +1,19 @@
 //! The code of initialisers (C99 6.7.8).
 
 ghost use Rattle.std.specs.Prelude.{◌≡◌, ◌++◌, map, OnOk};
-ghost use Rattle.upc_types.specs.Types.{base_of};
-ghost use Rattle.upc_types.specs.View.{view};
 ghost use Rattle.typed_tree.specs.Tree.{exprs_of, AndExpr, InitialValue, NoExprs};
 ghost use Rattle.typed_tree.specs.ViewTree.{view_expr};
 ghost use Rattle.typed_tree.specs.ViewStatements.{view_head, view_initial, view_object};
-ghost use Rattle.source_meaning.specs.Statements.{element_type};
 ghost use Rattle.gen_expr.specs.layer.ViewSource.{view_source};
 ghost use Rattle.gen_stmt.specs.Codes as pure;
 
 use crate::values::{put_aside, put_converted};
 use gen_expr::{Source, put_advance, put_kept, put_object, put_push, put_stack};
+use meaning_types::element_type;
 use stack_code::{Instr, StackWork};
 use typed_tree::{Expr, Head, Initial, Object};
 use upc_text::OutOfMemory;
-use upc_types::{Base, CType};
 use upc_values::{Scalar, Value};
-
-// The type of the elements of an array.
-fn element_type(t: &CType) -> &CType
-    ensures { view result.now ≡ element_type (base_of (view t.now)) (view t.now) }
-{
-    match &t.base {
-        Base::Array(element, _) => element,
-        _ => t,
-    }
-}
 
 // One element of an array.
 fn put_element(

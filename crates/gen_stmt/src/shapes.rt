@@ -11,25 +11,13 @@ ghost use Rattle.gen_expr.specs.Sources.{running_of};
 ghost use Rattle.gen_expr.specs.layer.ViewSource.{view_source};
 
 use crate::exits::sum;
-use block_layout::{Cells, Shape};
+use block_layout::Shape;
 use gen_expr::Source;
+use meaning_types::shape_of;
 use std::alloc::Global;
 use typed_tree::{Item, Object};
 use upc_text::OutOfMemory;
-use upc_types::{CType, Structs, object_shape};
-
-// The cells of an object.
-fn shape_of(alloc: Global, structs: &Structs, t: &CType) -> Result<Shape, OutOfMemory>
-    ensures { IfOk result (λ s. s ≡ pure.shape_of (view_structs structs.now) (view t.now)) }
-{
-    match structs.layout_of(&t.base) {
-        Some(_) => object_shape(alloc, t, structs),
-        None => Ok(Shape {
-            size: 1,
-            cells: Cells::from_vec(Vec::new(alloc)),
-        }),
-    }
-}
+use upc_types::{CType, Structs};
 
 fn push_shape(
     shapes: &mut Vec<Shape>,

@@ -9,7 +9,7 @@ use Rattle.block_layout.specs.declared.kind.Kind.TheVariants.{Int}
 use Rattle.block_layout.specs.declared.run_error.TheConstants.{SIGNED_OVERFLOW, ZERO_DIVISOR, SHIFT_RANGE}
 use Rattle.integers.specs.declared.operator.BinOp.{BinOp}
 use Rattle.integers.specs.declared.operator.BinOp.TheVariants.{Multiply, Divide, Remainder, Add, Subtract, ShiftLeft}
-use Rattle.integers.specs.declared.operator.BinOp.TheVariants.{ShiftRight, Less, Greater, LessOrEqual, GreaterOrEqual}
+use Rattle.integers.specs.declared.operator.BinOp.TheVariants.{ShiftRight, Less, Greater, LessEqual, GreaterEqual}
 use Rattle.integers.specs.declared.operator.BinOp.TheVariants.{Equal, NotEqual, BitAnd, BitXor, BitOr}
 use Rattle.integers.specs.declared.operator.UnOp.{UnOp}
 use Rattle.integers.specs.declared.operator.UnOp.TheVariants.{Plus, Minus, Complement, Not}
@@ -60,8 +60,8 @@ binary_of ShiftLeft kind a b = left_shift_of kind a b
 binary_of ShiftRight kind a b = right_shift_of kind a b
 binary_of Less kind a b = Ok (truth (int_lt a b))
 binary_of Greater kind a b = Ok (truth (int_lt b a))
-binary_of LessOrEqual kind a b = Ok (truth (int_le a b))
-binary_of GreaterOrEqual kind a b = Ok (truth (int_le b a))
+binary_of LessEqual kind a b = Ok (truth (int_le a b))
+binary_of GreaterEqual kind a b = Ok (truth (int_le b a))
 binary_of Equal kind a b = Ok (truth (int_eq a b))
 binary_of NotEqual kind a b = Ok (truth (not (int_eq a b)))
 binary_of BitAnd kind a b = Ok (converted kind (pos (bit_and (bits_of kind a) (bits_of kind b))))
@@ -85,8 +85,8 @@ RightFits op kind b = InKind b kind
 abbrev pub binary_kind : BinOp → Kind → Kind
 binary_kind Less kind = Int
 binary_kind Greater kind = Int
-binary_kind LessOrEqual kind = Int
-binary_kind GreaterOrEqual kind = Int
+binary_kind LessEqual kind = Int
+binary_kind GreaterEqual kind = Int
 binary_kind Equal kind = Int
 binary_kind NotEqual kind = Int
 binary_kind op kind = kind

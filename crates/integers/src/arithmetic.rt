@@ -40,8 +40,8 @@ pub fn binary(op: BinOp, kind: Kind, a: i128, b: i128) -> Result<i128, u8>
         BinOp::ShiftRight => shift_right(kind, a, b),
         BinOp::Less => Ok(truth(a < b)),
         BinOp::Greater => Ok(truth(a > b)),
-        BinOp::LessOrEqual => Ok(truth(a <= b)),
-        BinOp::GreaterOrEqual => Ok(truth(a >= b)),
+        BinOp::LessEqual => Ok(truth(a <= b)),
+        BinOp::GreaterEqual => Ok(truth(a >= b)),
         BinOp::Equal => Ok(truth(a == b)),
         BinOp::NotEqual => Ok(truth(a != b)),
         BinOp::BitAnd => Ok(wrap(i128::from(bits(kind, a) & bits(kind, b)), kind)),
@@ -69,8 +69,8 @@ pub fn unary(op: UnOp, kind: Kind, a: i128) -> Result<i128, u8>
     }
 }
 
-// The int 1 or 0.
-fn truth(holds: bool) -> i128
+/// The int 1 or 0.
+pub fn truth(holds: bool) -> i128
     ensures value { result ≡ truth holds }
     ensures range { InKind result Kind.Int }
 {

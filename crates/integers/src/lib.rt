@@ -5,6 +5,6 @@ mod arithmetic;
 mod integer;
 mod operator;
 
-pub use arithmetic::{binary, unary};
+pub use arithmetic::{binary, truth, unary};
 pub use integer::{convert, lies_in};
 pub use operator::{BinOp, UnOp};

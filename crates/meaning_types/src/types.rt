@@ -2,9 +2,11 @@
 
 ghost use Rattle.std.specs.Prelude.{◌≡◌, IfSome};
 ghost use Rattle.integers.specs.Integers.{IsInteger};
+ghost use Rattle.upc_types.specs.Types.{base_of};
 ghost use Rattle.upc_types.specs.View.{view};
 ghost use Rattle.upc_types.specs.ViewStructs.{view_structs};
 ghost use Rattle.typing_rules.specs.layer.Views.{view_target};
+ghost use Rattle.source_meaning.specs.Statements as statements;
 ghost use Rattle.source_meaning.specs.Types as pure;
 
 use block_layout::Kind;
@@ -50,5 +52,15 @@ pub fn cell_kind(structs: &Structs, t: &CType) -> Option<Kind>
         Base::Integer(kind) => Some(*kind),
         Base::Pointer(target) => Some(structs.pointer_kind(target)),
         _ => None,
+    }
+}
+
+/// The type of the elements of an array.
+pub fn element_type(t: &CType) -> &CType
+    ensures { view result.now ≡ statements.element_type (base_of (view t.now)) (view t.now) }
+{
+    match &t.base {
+        Base::Array(element, _) => element,
+        _ => t,
     }
 }

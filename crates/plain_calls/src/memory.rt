@@ -25,7 +25,7 @@ use block_layout::run_error::{CELL_TYPE, NULL_ACCESS, OUT_OF_OBJECT, PRIVATE_RAN
 use block_layout::{Kind, LocalPtr, Shape, SharedPtr};
 use integers::convert;
 use std::alloc::{AllocError as OutOfMemory, Global};
-use upc_values::{Action, Reply, Scalar};
+use upc_values::{Action, Reply, Scalar, is_integer};
 
 /// Where a range of bytes begins: nowhere, in a shared object, or in a private one.
 #[derive(Clone, Copy)]
@@ -416,13 +416,6 @@ pub fn copy(
     let mut telling = Telling::begin(alloc, replies);
     let end = copy_bytes(alloc, &mut telling, caller, bytes, dst, src);
     telling.finish(end)
-}
-
-// Whether a kind is of integers.
-fn is_integer(kind: Kind) -> bool
-    ensures { result ≡ shapes.is_integer kind }
-{
-    !matches!(kind, Kind::Shared(_, _) | Kind::Lock | Kind::Private(_))
 }
 
 // The number whose every byte is 1.

@@ -4,14 +4,14 @@ ghost use Rattle.std.specs.Prelude.{◌≡◌, ◌≢◌, ◌≤◌, ◌<◌, �
 ghost use Rattle.std.specs.Prelude.{FitsSigned, Ok};
 ghost use mir.Syntax.{w128};
 ghost use Rattle.integers.specs.Integers.{is_signed, values, converted, brought, IsInteger, IsPromoted};
-ghost use Rattle.integers.specs.Operators.{bits_of, truth};
+ghost use Rattle.integers.specs.Operators.{bits_of};
 ghost use Rattle.upc_values.specs.Reductions as said;
 ghost use Rattle.plain_collectives.specs.code.Reductions.{reduction_in};
 
 use crate::reduction::Reduction;
 use block_layout::Kind;
 use block_layout::run_error::SIGNED_OVERFLOW;
-use integers::{convert, lies_in};
+use integers::{convert, lies_in, truth};
 
 // The kind after promotion (C99 6.3.1.1).
 fn promoted(kind: Kind) -> Kind
@@ -119,13 +119,6 @@ fn bits(kind: Kind, v: i128) -> u64
     ensures { result ≡ bits_of kind v }
 {
     v.rem_euclid(values_of(kind)) as u64
-}
-
-// The int 1 or 0.
-fn truth(holds: bool) -> i128
-    ensures { result ≡ truth holds }
-{
-    if holds { 1 } else { 0 }
 }
 
 // What an operator gives at two numbers of a promoted kind (C99 6.5).

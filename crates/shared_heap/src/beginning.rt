@@ -12,7 +12,7 @@ use block_layout::piece_bytes;
 use std::alloc::Global;
 use std::marker::Model;
 use upc_text::OutOfMemory;
-use upc_values::{Kind, Loc, ObjectRef, Scalar, Shape, copy_shape};
+use upc_values::{Kind, Loc, ObjectRef, Scalar, Shape, copy_shapes};
 
 /// What a run begins with: the number of threads, the declared shared objects, the initial values of some of their
 /// cells, and the shapes of elements. Contracts see the opening, which is a valid one.
@@ -46,16 +46,6 @@ impl Model for Beginning {
           shapes = b.shapes.items;
         }
         b.firsts };
-}
-
-fn copy_shapes(alloc: Global, shapes: &[Shape]) -> Result<Vec<Shape>, OutOfMemory>
-    ensures { IfOk result (λ copies. copies.items ≡ shapes.now) }
-{
-    let mut copies = Vec::new(alloc);
-    for shape in shapes {
-        copies.push(copy_shape(alloc, shape)?)?;
-    }
-    Ok(copies)
 }
 
 // The initial values, to be found by location. The last ones are saved first.

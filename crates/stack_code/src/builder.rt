@@ -18,7 +18,7 @@ use block_layout::{LocalPtr, Shape};
 use std::alloc::Global;
 use std::marker::Model;
 use upc_text::OutOfMemory;
-use upc_values::{Value, copy_shape};
+use upc_values::{Value, copy_shapes};
 
 /// Code that is being made, function by function. Once a call has answered want of memory, each later one does.
 #[derive(Drop)]
@@ -53,16 +53,6 @@ impl Model for Builder {
       current = b.current.items;
       failed = b.failed;
     } };
-}
-
-fn copy_shapes(alloc: Global, shapes: &[Shape]) -> Result<Vec<Shape>, OutOfMemory>
-    ensures { IfOk result (λ copies. copies.items ≡ shapes.now) }
-{
-    let mut copies = Vec::new(alloc);
-    for shape in shapes {
-        copies.push(copy_shape(alloc, shape)?)?;
-    }
-    Ok(copies)
 }
 
 impl Builder {

@@ -3,7 +3,7 @@
 ghost use Rattle.std.specs.Prelude.{◌↔◌, IsTrue, length};
 ghost use Rattle.block_layout.specs.declared.kind.Shape.{Shape};
 ghost use Rattle.block_layout.specs.Shapes.{IsShape};
-ghost use Rattle.integers.specs.Integers.{IsInteger, IsPromoted};
+ghost use Rattle.integers.specs.Integers.{IsPromoted};
 ghost use Rattle.shared_pointers.specs.layer.Ranges.{IsTarget};
 ghost use Rattle.thread_steps.specs.layer.Ranges.{IsNumber, IsObject, IsShared};
 ghost use Rattle.upc_values.specs.Lists.{Each};
@@ -14,7 +14,7 @@ use crate::instruction::{Instr, ObjectWork, Operation, StackWork, ValueWork};
 use block_layout::{Kind, LocalPtr, ObjectRef, Shape, is_in_range};
 use integers::BinOp;
 use thread_steps::{CastTo, Elements};
-use upc_values::{Scalar, Value};
+use upc_values::{Scalar, Value, is_integer};
 
 /// The most bytes of an object, elements of a block, and elements of one step.
 const MOST: u32 = 16_777_216;
@@ -23,12 +23,6 @@ fn is_number(v: i128) -> bool
     ensures { IsTrue result ↔ IsNumber v }
 {
     v >= -9_223_372_036_854_775_808 && v < 18_446_744_073_709_551_616
-}
-
-fn is_integer(kind: Kind) -> bool
-    ensures { IsTrue result ↔ IsInteger kind }
-{
-    !matches!(kind, Kind::Shared(_, _) | Kind::Lock | Kind::Private(_))
 }
 
 fn is_promoted(kind: Kind) -> bool

@@ -1,6 +1,6 @@
 //! What a thread does among the others.
 
-ghost use Rattle.std.specs.Prelude.{◌≡◌, ◌<◌, IfSome, OnOk};
+ghost use Rattle.std.specs.Prelude.{◌≡◌, ◌<◌, OnOk};
 ghost use Rattle.upc_values.specs.declared.action.Action.{Action};
 ghost use Rattle.upc_values.specs.declared.scalar.Value.{Value};
 ghost use Rattle.thread_steps.specs.Library as library;
@@ -18,10 +18,10 @@ use crate::stacks::Operands;
 use crate::wish::Halt;
 use stack_code::{Code, ThreadWork};
 use thread_values::{
-    has_turn, int_of, library_value, number_of, printed, printed_count, truth_value,
+    first_int, has_turn, int_of, library_value, printed, printed_count, truth_value,
 };
 use upc_text::{Place, Text};
-use upc_values::{Action, LibraryCall, Mark, Reply, Value};
+use upc_values::{Action, LibraryCall, Mark, Reply};
 
 // The value of a notify or a wait, which lies on the stack.
 fn mark_on(operands: &Operands) -> Mark
@@ -215,28 +215,6 @@ fn mine(
             operands.push(truth_value(is_mine))?;
             Ok(())
         }
-    }
-}
-
-// The first argument as a number, 0 where there is none.
-fn first_number(arguments: &[Value]) -> i128
-    ensures { result ≡ library.first_number arguments.now }
-{
-    match arguments.first() {
-        None => 0,
-        Some(v) => number_of(v),
-    }
-}
-
-// The first argument, where it is an int. What is none cannot come of checked code.
-fn first_int(arguments: &[Value]) -> Option<i32>
-    ensures { IfSome result (λ v. v ≡ library.first_number arguments.now) }
-{
-    let v = first_number(arguments);
-    if v < -2_147_483_648 || v > 2_147_483_647 {
-        None
-    } else {
-        Some(v as i32)
     }
 }
 

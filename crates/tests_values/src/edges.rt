@@ -31,7 +31,7 @@ const BINARY: [(BinOp, Kind, i128, i128, Answer); 17] = [
         31,
         Ok(2_147_483_648),
     ),
-    (BinOp::GreaterOrEqual, Kind::UInt, UINT_MAX, 0, Ok(1)),
+    (BinOp::GreaterEqual, Kind::UInt, UINT_MAX, 0, Ok(1)),
 ];
 
 // An operator, the kind of its operand, the operand, and what it gives.

@@ -410,8 +410,8 @@ const UNARY: [(UnOp, Kind, i128, Answer); 72] = [
 const COMPARING: [BinOp; 6] = [
     BinOp::Less,
     BinOp::Greater,
-    BinOp::LessOrEqual,
-    BinOp::GreaterOrEqual,
+    BinOp::LessEqual,
+    BinOp::GreaterEqual,
     BinOp::Equal,
     BinOp::NotEqual,
 ];
@@ -551,8 +551,8 @@ const MIXED: [(BinOp, Kind, i128, i128, Answer); 52] = [
     (BinOp::Equal, Kind::Int, -1, 255, Ok(0)),
     (BinOp::NotEqual, Kind::Int, -1, 65_535, Ok(1)),
     (BinOp::Less, Kind::Int, -1, 0, Ok(1)),
-    (BinOp::GreaterOrEqual, Kind::UInt, -1, 0, Ok(1)),
-    (BinOp::LessOrEqual, Kind::ULong, 65_535, 0, Ok(0)),
+    (BinOp::GreaterEqual, Kind::UInt, -1, 0, Ok(1)),
+    (BinOp::LessEqual, Kind::ULong, 65_535, 0, Ok(0)),
     (BinOp::Add, Kind::Int, -128, -128, Ok(-256)),
     (BinOp::Add, Kind::Int, 255, 1, Ok(256)),
     (BinOp::Add, Kind::Int, 65_535, 1, Ok(65_536)),

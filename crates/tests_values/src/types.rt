@@ -1,6 +1,4 @@
 //! Sizes, shapes, kinds and conversions from the tables of docs/LANGUAGE.md.
-ghost use Rattle.std.specs.Prelude.{IsTrue};
-ghost use Rattle.integers.specs.Integers.{IsInteger};
 
 use block_layout::{Kind, Shape};
 use std::alloc::{AllocError as OutOfMemory, Global};
@@ -11,6 +9,7 @@ use upc_types::{
     Access, Base, CType, Layout, Member, Structs, assignable, castable, copy_type, object_shape,
     same_type, shape_of, takes_allocation, to_shared_void, to_void_pointer, usual,
 };
+use upc_values::is_integer;
 
 fn plain(base: Base) -> CType {
     CType {
@@ -118,12 +117,6 @@ const USUAL: [[Kind; 8]; 8] = [
     [L, L, L, L, L, L, L, M],
     [M, M, M, M, M, M, M, M],
 ];
-
-fn is_integer(kind: Kind) -> bool
-    ensures { IsTrue result → IsInteger kind }
-{
-    !matches!(kind, Kind::Shared(_, _) | Kind::Lock | Kind::Private(_))
-}
 
 fn usual_of(a: Kind, b: Kind) -> Option<Kind> {
     if is_integer(a) && is_integer(b) {

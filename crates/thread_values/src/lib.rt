@@ -19,4 +19,4 @@ pub use meetings::{is_collective, is_formed};
 pub use operators::{applied, int_of, operated};
 pub use pointers::{advanced, difference, in_row, member_behind, order, same};
 pub use replies::{reply_fits, reply_value};
-pub use values::{is_zero, kept, kept_scalar, number_of, scalar_of, truth_value};
+pub use values::{first_int, is_zero, kept, kept_scalar, number_of, scalar_of, truth_value};

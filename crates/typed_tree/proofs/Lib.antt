@@ -1,3 +1,4 @@
 pub mod Entries
 pub mod Built
 pub mod StatementRows
+mod SharedNumbers

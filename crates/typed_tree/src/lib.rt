@@ -3,11 +3,13 @@
 
 mod beginning;
 pub mod env;
+mod numbers;
 mod program;
 pub mod scope;
 mod tree;
 
 pub use beginning::{Beginning, SharedDecl};
+pub use numbers::numbered;
 pub use program::Program;
 pub use tree::{
     Affinity, Arm, Expr, ExprKind, Function, Head, Initial, Item, Object, Statement, StatementKind,

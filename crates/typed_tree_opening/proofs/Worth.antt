@@ -1,14 +1,12 @@
 -- What constants give cells fits them, and names what there is.
 use Rattle.std.proofs.Common.{◌≡◌, ℕ, zero, suc, ◌-◌, ◌<◌, Bool, true, false, ◌==◌, ◌&&◌, ◌||◌, nat_lt, int_le}
 use Rattle.std.proofs.Common.{int_lt, if◌then◌else◌, List, [], ◌∷◌, map, Option, Some, None, refl, sym, ap, ◌∙◌}
-use Rattle.std.proofs.Common.{subst, arith, length, slice_index_or}
+use Rattle.std.proofs.Common.{subst, arith}
 use Rattle.std.proofs.Math.IntN.{ℤ, pos, ◌+ℤ◌, ◌-ℤ◌}
 use Rattle.std.specs.List.{slice_get, list_any}
 use Rattle.std.proofs.lemmas.Int.{ints}
 use Rattle.std.proofs.lemmas.Nat.{pow_pos}
 use Rattle.std.proofs.lemmas.Bool.{and_parts, and_from, or_left, or_right}
-use Rattle.std.specs.Option.{option_map}
-use Rattle.std.proofs.lemmas.Option.{slice_get-map, slice_get-get_or}
 use Rattle.block_layout.specs.declared.kind.Kind.{Kind}
 use Rattle.block_layout.specs.declared.kind.Kind.TheVariants.{Char, UChar, Short, UShort, Int, UInt, Long, ULong}
 use Rattle.block_layout.specs.declared.kind.Kind.TheVariants.{Shared, Lock, Private}
@@ -114,15 +112,6 @@ numbered_any : (xs : List SharedDecl) (n : ℕ) (x : ObjectRef) → numbered xs 
     list_any (same_object x) (map object_of xs) ≡ true
 numbered_any xs zero x h = absurd cc
 numbered_any xs (suc n) x h = any_at (map object_of xs) n x h
-
--- The object with a number, by its place in the list.
-pub numbered_at : (xs : List SharedDecl) (n : ℕ) (x : SharedDecl) → 0 < n → n - 1 < length xs → x
-    ≡ slice_index_or xs (n - 1) x → numbered xs n ≡ Some x.object
-numbered_at xs zero x some h e = absurd (omega (arith, some))
-numbered_at xs (suc n) x some h e =
-    let k : suc n - 1 ≡ n = omega arith in
-    let found : slice_get xs (suc n - 1) ≡ Some x = slice_get-get_or xs (suc n - 1) x h ∙ ap Some (sym e) in
-    slice_get-map object_of xs n ∙ ap (option_map object_of) (ap (slice_get xs) (sym k) ∙ found)
 
 null_named : (threads : ℕ) (os : List ObjectRef) → is_named threads os null ≡ true
 null_named threads os = refl

@@ -15,18 +15,7 @@ ghost use Rattle.typed_tree_opening.specs.code.Pending.{leaf_found, with_leaf, w
 use std::alloc::Global;
 use typed_tree::Object;
 use upc_text::OutOfMemory;
-use upc_types::{Base, CType, Structs, copy_type};
-
-/// The type of the leaf elements of an object.
-pub(crate) fn leaf_of(base: &Base) -> &Base
-    ensures { view_base result.now ≡ leaf_base (view_base base.now) }
-{
-    let mut leaf = base;
-    while let Base::Array(element, _) = leaf {
-        leaf = &element.base;
-    }
-    leaf
-}
+use upc_types::{Base, CType, Structs, copy_type, is_marked, leaf_of};
 
 /// A struct of whose members those from one on are still to come.
 #[derive(Clone, Copy)]
@@ -52,16 +41,6 @@ fn leaf_in(base: &Base) -> Result<Leaf, OutOfMemory>
         Base::Pointer(target) => Ok(Leaf::Target(copy_type(target)?)),
         Base::Struct(number) => Ok(Leaf::Inside(*number)),
         Base::Void | Base::Integer(_) | Base::Array(_, _) | Base::LockObject => Ok(Leaf::Plain),
-    }
-}
-
-// Whether a struct is done.
-fn is_done(done: &[bool], number: u32) -> bool
-    ensures { result ≡ get_or done.now number false }
-{
-    match done.get(number as usize) {
-        Some(marked) => *marked,
-        None => false,
     }
 }
 
@@ -93,7 +72,7 @@ fn note_leaf(
             structs.note(&target)?;
         }
         Leaf::Inside(number) => {
-            if !is_done(done, number) {
+            if !is_marked(done, number) {
                 pending.push(Pending { number, member: 0 })?;
             }
         }

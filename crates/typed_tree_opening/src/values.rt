@@ -10,8 +10,8 @@ ghost use Rattle.typed_tree_opening.specs.code.ViewSettings.{view_setting};
 
 use crate::setting::Setting;
 use block_layout::{Kind, LocalPtr, ObjectRef, SharedPtr};
+use typed_tree::numbered;
 use typing_rules::constants::cast_constant;
-use typed_tree::SharedDecl;
 use typing_rules::{Constant, Static};
 use upc_types::{Base, Structs};
 use upc_values::{Scalar, Value};
@@ -50,17 +50,6 @@ fn fitting(threads: u32, block: u32, p: SharedPtr) -> SharedPtr
     } else {
         SharedPtr::NULL
     }
-}
-
-// The shared object with this number.
-fn numbered(shared: &[SharedDecl], number: u32) -> Option<ObjectRef>
-    ensures { result ≡ pure.numbered shared.now number }
-{
-    if number == 0 {
-        return None;
-    }
-    let declared = shared.get(number as usize - 1)?;
-    Some(declared.object)
 }
 
 fn pointer_into(

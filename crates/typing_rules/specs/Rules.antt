@@ -7,8 +7,8 @@ use Rattle.std.specs.Ordering.{int_eq}
 use Rattle.std.specs.Cmp.Lexicographic.{pointwise}
 use Rattle.block_layout.specs.declared.kind.Kind.{Kind}
 use Rattle.integers.specs.declared.operator.BinOp.{BinOp}
-use Rattle.integers.specs.declared.operator.BinOp.TheVariants.{Add, Subtract, Less, Greater, LessOrEqual}
-use Rattle.integers.specs.declared.operator.BinOp.TheVariants.{GreaterOrEqual, Equal, NotEqual}
+use Rattle.integers.specs.declared.operator.BinOp.TheVariants.{Add, Subtract, Less, Greater, LessEqual}
+use Rattle.integers.specs.declared.operator.BinOp.TheVariants.{GreaterEqual, Equal, NotEqual}
 use Rattle.integers.specs.declared.operator.UnOp.{UnOp}
 use Rattle.integers.specs.declared.operator.UnOp.TheVariants.{Not}
 use Rattle.integers.specs.Integers.{converted}
@@ -349,8 +349,8 @@ fits Add a b = adds a b
 fits Subtract a b = subtracts a b
 fits Less a b = orders a b
 fits Greater a b = orders a b
-fits LessOrEqual a b = orders a b
-fits GreaterOrEqual a b = orders a b
+fits LessEqual a b = orders a b
+fits GreaterEqual a b = orders a b
 fits Equal a b = equates a b
 fits NotEqual a b = equates a b
 fits op a b = counts a && counts b
@@ -371,8 +371,8 @@ moves op = false
 abbrev pub is_order : BinOp → Bool
 is_order Less = true
 is_order Greater = true
-is_order LessOrEqual = true
-is_order GreaterOrEqual = true
+is_order LessEqual = true
+is_order GreaterEqual = true
 is_order op = false
 
 -- The operator is `-`, an equality or an order, which take two pointers only with like targets (C99 6.5.6, 6.5.8,

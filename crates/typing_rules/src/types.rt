@@ -6,6 +6,7 @@ ghost use Rattle.upc_types.specs.Cells.{leaf_base};
 ghost use Rattle.upc_types.specs.View.{view, view_base};
 ghost use Rattle.upc_types.specs.ViewStructs.{view_structs};
 ghost use Rattle.typing_rules.specs.layer.Views.{view_target};
+ghost use Rattle.typing_rules.specs.Library.{int};
 ghost use Rattle.typing_rules.specs.Values as pure;
 ghost use Rattle.typing_rules.specs.Nodes.{view_attr};
 ghost use Rattle.typing_rules.specs.Attributes as attributes;
@@ -14,7 +15,19 @@ ghost use Rattle.typing_rules.specs.Rules as rules;
 
 use crate::attribute::{Attr, Constant, Form};
 use block_layout::Kind;
-use upc_types::{Base, CType, Structs, same_base, same_block, same_type};
+use upc_types::{Access, Base, CType, Structs, same_base, same_block, same_type};
+
+/// The type int, without qualifiers (C99 6.2.5).
+pub fn int_type() -> CType
+    ensures { view result ≡ int }
+{
+    CType {
+        base: Base::Integer(Kind::Int),
+        constant: false,
+        shared: None,
+        access: Access::Unsaid,
+    }
+}
 
 pub fn is_void_type(t: &CType) -> bool
     ensures { result ≡ pure.is_void (view t.now) }

@@ -7,8 +7,8 @@ use Rattle.block_layout.specs.declared.kind.Kind.TheVariants.{Char, UChar, Short
 use Rattle.block_layout.specs.declared.kind.Kind.TheVariants.{Shared, Lock, Private}
 use Rattle.integers.specs.declared.operator.BinOp.{BinOp}
 use Rattle.integers.specs.declared.operator.BinOp.TheVariants.{Multiply, Divide, Remainder, Add, Subtract, ShiftLeft}
-use Rattle.integers.specs.declared.operator.BinOp.TheVariants.{ShiftRight, Less, Greater, LessOrEqual}
-use Rattle.integers.specs.declared.operator.BinOp.TheVariants.{GreaterOrEqual, Equal, NotEqual, BitAnd, BitXor}
+use Rattle.integers.specs.declared.operator.BinOp.TheVariants.{ShiftRight, Less, Greater, LessEqual}
+use Rattle.integers.specs.declared.operator.BinOp.TheVariants.{GreaterEqual, Equal, NotEqual, BitAnd, BitXor}
 use Rattle.integers.specs.declared.operator.BinOp.TheVariants.{BitOr}
 use Rattle.integers.specs.Integers.{InKind}
 use Rattle.integers.specs.Operators.{RightFits}
@@ -40,8 +40,8 @@ right_fits ShiftLeft a b v h = count_fits v (promoted b) h
 right_fits ShiftRight a b v h = count_fits v (promoted b) h
 right_fits Less a b v h = h
 right_fits Greater a b v h = h
-right_fits LessOrEqual a b v h = h
-right_fits GreaterOrEqual a b v h = h
+right_fits LessEqual a b v h = h
+right_fits GreaterEqual a b v h = h
 right_fits Equal a b v h = h
 right_fits NotEqual a b v h = h
 right_fits BitAnd a b v h = h

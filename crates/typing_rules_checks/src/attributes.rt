@@ -447,8 +447,8 @@ fn binary_kind(op: BinOp, kind: Kind) -> Kind
     match op {
         BinOp::Less
         | BinOp::Greater
-        | BinOp::LessOrEqual
-        | BinOp::GreaterOrEqual
+        | BinOp::LessEqual
+        | BinOp::GreaterEqual
         | BinOp::Equal
         | BinOp::NotEqual => Kind::Int,
         _ => kind,

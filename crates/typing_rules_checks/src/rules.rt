@@ -206,7 +206,7 @@ fn fits(op: BinOp, a: &Attr, b: &Attr) -> bool
     match op {
         BinOp::Add => adds(a, b),
         BinOp::Subtract => subtracts(a, b),
-        BinOp::Less | BinOp::Greater | BinOp::LessOrEqual | BinOp::GreaterOrEqual => orders(a, b),
+        BinOp::Less | BinOp::Greater | BinOp::LessEqual | BinOp::GreaterEqual => orders(a, b),
         BinOp::Equal | BinOp::NotEqual => equates(a, b),
         _ => counts(a) && counts(b),
     }
@@ -229,7 +229,7 @@ fn is_order(op: BinOp) -> bool
 {
     matches!(
         op,
-        BinOp::Less | BinOp::Greater | BinOp::LessOrEqual | BinOp::GreaterOrEqual
+        BinOp::Less | BinOp::Greater | BinOp::LessEqual | BinOp::GreaterEqual
     )
 }
 
@@ -243,8 +243,8 @@ fn compares(op: BinOp) -> bool
             | BinOp::NotEqual
             | BinOp::Less
             | BinOp::Greater
-            | BinOp::LessOrEqual
-            | BinOp::GreaterOrEqual
+            | BinOp::LessEqual
+            | BinOp::GreaterEqual
     )
 }
 

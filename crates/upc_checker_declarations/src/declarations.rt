@@ -10,7 +10,6 @@ ghost use Rattle.upc_tree.specs.layer.ViewStatement.{view_next_declared};
 ghost use Rattle.upc_tree.specs.Declaration as d;
 ghost use Rattle.upc_tree.specs.Expression as e;
 ghost use Rattle.upc_types.specs.View as types;
-ghost use Rattle.typing_rules.specs.Library.{int};
 ghost use Rattle.typing_rules.specs.Nodes as n;
 ghost use Rattle.typed_tree.specs.Scopes as scopes;
 ghost use Rattle.typed_tree.specs.Scopes.{State, Tag as ScopeTag};
@@ -33,29 +32,31 @@ ghost use Rattle.upc_checker_types.specs.Specifiers as specifiers;
 ghost use Rattle.upc_checker_types.specs.layer.ViewShapes.{view_shaped, view_specified, view_specifying};
 ghost use Rattle.upc_checker_scopes.specs.Walk.{andthen, enclosed, give, judge};
 
-use block_layout::Kind;
-use upc_checker_expressions::expressions::{constantly, walk};
-use upc_checker_expressions::types::{walk_parameters, walk_pointers, walk_sizes, walk_specifiers};
-use upc_checker_nodes::nodes::joined;
-use typing_rules_checks::declarations::{declares_object, initial_value, specifies};
-use upc_checker_nodes::lists::initial_list;
-use upc_checker_types::shaped::{Shaped, copy_shaped, formed, specified_type};
-use upc_checker_types::specified::{Specified, Specifying, specifiers_form};
 use typed_tree::env::{Env, declare, enter_function, inside, is_file, next_home};
 use typed_tree::{Expr, Initial, Object};
+use typing_rules::types::int_type;
 use typing_rules::{Formed, Signature, Use};
+use typing_rules_checks::declarations::{declares_object, initial_value, specifies};
+use upc_checker_expressions::expressions::{constantly, walk};
+use upc_checker_expressions::types::{walk_parameters, walk_pointers, walk_sizes, walk_specifiers};
+use upc_checker_nodes::lists::initial_list;
+use upc_checker_nodes::nodes::joined;
+use upc_checker_scopes::finish::judged;
+use upc_checker_scopes::known::{
+    Known, note_end, note_function, note_more, object_again, prototype_again,
+};
+use upc_checker_scopes::places::{pointers_place, specs_place};
+use upc_checker_scopes::setting::{Setting, spelling};
+use upc_checker_scopes::signatures::copy_signature;
+use upc_checker_scopes::tags::{Tags, enclosed};
+use upc_checker_types::shaped::{Shaped, copy_shaped, formed, specified_type};
+use upc_checker_types::specified::{Specified, Specifying, specifiers_form};
 use upc_text::{Place, Stop, Text};
 use upc_tree::{
     Declaration, Declarator, Declared, DeclaredList, Dimension, Name, NextDeclared, NextExpr,
     Parameters, Pointer,
 };
-use upc_types::{Access, Base, CType, copy_type};
-use upc_checker_scopes::finish::judged;
-use upc_checker_scopes::known::{Known, note_end, note_function, note_more, object_again, prototype_again};
-use upc_checker_scopes::places::{pointers_place, specs_place};
-use upc_checker_scopes::setting::{Setting, spelling};
-use upc_checker_scopes::signatures::copy_signature;
-use upc_checker_scopes::tags::{Tags, enclosed};
+use upc_types::{Base, CType, copy_type};
 
 // ---- initialisers (C99 6.7.8)
 
@@ -220,18 +221,6 @@ fn prototype_types(
     let mut inner = enclosed(setting.alloc, tags);
     let all = walk_parameters(parameters, setting, &mut scope, &mut inner, known)?;
     Ok(all)
-}
-
-// The type int.
-fn int_type() -> CType
-    ensures { types.view result ≡ int }
-{
-    CType {
-        base: Base::Integer(Kind::Int),
-        constant: false,
-        shared: None,
-        access: Access::Unsaid,
-    }
 }
 
 // A prototype: a function is declared. It has no initialiser.

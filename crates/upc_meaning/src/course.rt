@@ -17,13 +17,14 @@ ghost use Rattle.upc_meaning_work.specs.layer.ViewItems.{view_work};
 ghost use Rattle.upc_meaning_work.specs.layer.Evaluations.{Went, seen};
 
 use crate::threads;
-use upc_meaning_steps::functions;
+use meaning_types::is_main;
 use private_store::{MOST_CALLS, Store};
 use std::alloc::Global;
 use thread_values::int_of;
-use upc_meaning_work::{Evaluation, Flow, Values, Work, Works};
-use upc_meaning_state::{Progress, Runner, Setting, Step, is_numeric};
 use typed_tree::{Function, Program};
+use upc_meaning_state::{Progress, Runner, Setting, Step, is_numeric};
+use upc_meaning_steps::functions;
+use upc_meaning_work::{Evaluation, Flow, Values, Work, Works};
 use upc_text::{OutOfMemory, Place};
 use upc_values::{Actions, Listing, Mark, Reply, Scalar, ToldEnd, Value};
 
@@ -32,12 +33,6 @@ use upc_values::{Actions, Listing, Mark, Reply, Scalar, ToldEnd, Value};
 pub struct Told {
     pub actions: Actions,
     pub end: ToldEnd,
-}
-
-fn is_main(function: &Function) -> bool
-    ensures { result ≡ mean.is_main (view_function function.now) }
-{
-    function.name.as_slice() == b"main".as_slice()
 }
 
 // The function main, if there is one.

@@ -15,32 +15,14 @@ ghost use Rattle.upc_meaning_state.specs.layer.Settings.{running_seen};
 
 use crate::progress::{Progress, Step};
 use crate::setting::Setting;
-use meaning_types::target_of;
+use meaning_types::{format_of, is_printf, target_of};
+use std::alloc::Global;
+use typed_tree::Expr;
 use typed_tree_opening::{element_shape, number_among};
 use typing_rules::calls::is_allocation;
-use std::alloc::Global;
-use typed_tree::{Expr, ExprKind};
 use upc_text::{OutOfMemory, Text};
 use upc_types::CType;
 use upc_values::{LibraryCall, Value};
-
-/// Whether a call is printf.
-pub fn is_printf(call: LibraryCall) -> bool
-    ensures { result ≡ mean.is_printf call }
-{
-    matches!(call, LibraryCall::Printf)
-}
-
-// The format of a printf.
-fn format_of(alloc: Global, e: &Expr) -> Result<Text, OutOfMemory>
-    ensures { IfOk result (λ format. format ≡ mean.format_of (view_expr e.now)) }
-{
-    match &e.kind {
-        ExprKind::Format(bytes) => Ok(bytes.copy(alloc)?),
-        ExprKind::Paren(a) => format_of(alloc, a),
-        _ => Ok(Text::new(alloc)),
-    }
-}
 
 // The format of a printf with these arguments: the first one.
 fn format_first(alloc: Global, args: &[Expr]) -> Result<Text, OutOfMemory>

@@ -16,7 +16,6 @@ mod runner;
 mod setting;
 mod shapes;
 
-pub use called::is_printf;
 pub use progress::{Progress, Step};
 pub use ranges::is_numeric;
 pub use runner::Runner;

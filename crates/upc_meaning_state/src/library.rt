@@ -1,6 +1,6 @@
 //! Calls of the library whose arguments have their values (C99 7.19.6.3; UPC 7.2, 7.3).
 
-ghost use Rattle.std.specs.Prelude.{◌≡◌, IsTrue, All, IfOk, IfSome, true};
+ghost use Rattle.std.specs.Prelude.{◌≡◌, IsTrue, All, IfOk, true};
 ghost use Rattle.thread_steps.specs.Library as pure;
 ghost use Rattle.thread_steps.specs.layer.Ranges.{IsNumber};
 ghost use Rattle.thread_steps.specs.Values.{number_of};
@@ -15,7 +15,7 @@ use crate::ranges::is_numeric;
 use crate::runner::Runner;
 use block_layout::SharedPtr;
 use thread_values::{
-    LibraryStep, is_collective, is_formed, library_step, library_value, number_of, printed,
+    LibraryStep, first_int, is_collective, is_formed, library_step, library_value, printed,
     printed_count, reply_value,
 };
 use upc_text::{OutOfMemory, Place};
@@ -25,28 +25,6 @@ fn are_numeric(args: &[Value]) -> bool
     ensures { IsTrue result → All (λ v. IsNumber (number_of v)) args.now }
 {
     args.iter().all(is_numeric)
-}
-
-// The first argument as a number, 0 where there is none.
-fn first_number(args: &[Value]) -> i128
-    ensures { result ≡ pure.first_number args.now }
-{
-    match args.first() {
-        None => 0,
-        Some(v) => number_of(v),
-    }
-}
-
-// The first argument, where it is an int. What is none cannot come of a typed program.
-fn first_int(args: &[Value]) -> Option<i32>
-    ensures { IfSome result (λ v. v ≡ pure.first_number args.now) }
-{
-    let v = first_number(args);
-    if v < -2_147_483_648 || v > 2_147_483_647 {
-        None
-    } else {
-        Some(v as i32)
-    }
 }
 
 fn is_exit(call: LibraryCall) -> bool

@@ -2,7 +2,6 @@
 
 ghost use Rattle.std.specs.Prelude.{◌≡◌, IfOk};
 ghost use Rattle.typing_rules.specs.Nodes.{view_attr};
-ghost use Rattle.typed_tree.specs.Initials as initials;
 ghost use Rattle.source_meaning.specs.Expressions as mean;
 ghost use Rattle.source_meaning.specs.Running as running;
 ghost use Rattle.upc_meaning_state.specs.layer.Came.{Came, state_seen};
@@ -11,23 +10,12 @@ ghost use Rattle.upc_meaning_state.specs.layer.Settings.{running_seen};
 
 use crate::progress::{Progress, Step};
 use crate::setting::Setting;
-use block_layout::{LocalPtr, ObjectRef, SharedPtr};
+use block_layout::{LocalPtr, SharedPtr};
 use thread_values::pointer_to;
-use typed_tree::SharedDecl;
+use typed_tree::numbered;
 use typing_rules::{Attr, Form, Home};
 use upc_text::{OutOfMemory, Place};
 use upc_values::{Scalar, Value};
-
-// The shared object with this number, from 1 on.
-fn numbered(shared: &[SharedDecl], number: u32) -> Option<ObjectRef>
-    ensures { result ≡ initials.numbered shared.now number }
-{
-    if number == 0 {
-        return None;
-    }
-    let declared = shared.get(number as usize - 1)?;
-    Some(declared.object)
-}
 
 // Where a declared shared object begins, by its number (UPC 6.5.1.1).
 fn shared_object(setting: Setting<'_>, number: u32) -> Value

@@ -1,9 +1,8 @@
 //! Operators of expressions whose operands have their values (C99 6.5, UPC 6.4).
 
 ghost use Rattle.std.specs.Prelude.{◌≡◌, IfOk};
-ghost use Rattle.upc_types.specs.View.{view, view_base};
+ghost use Rattle.upc_types.specs.View.{view};
 ghost use Rattle.typed_tree.specs.ViewTree.{view_expr};
-ghost use Rattle.typing_rules.specs.Library as library;
 ghost use Rattle.source_meaning.specs.Expressions as mean;
 ghost use Rattle.upc_meaning_state.specs.layer.Came.{Came, state_seen};
 ghost use Rattle.upc_meaning_state.specs.layer.Operations as pure;
@@ -12,38 +11,18 @@ ghost use Rattle.upc_meaning_state.specs.layer.Settings.{running_seen};
 
 use crate::progress::{Progress, Step};
 use crate::setting::Setting;
-use block_layout::Kind;
-use meaning_types::{
-    cell_kind, conversion, integer_of, is_strict, member_offset, target_of, target_offset,
-};
 use integers::BinOp;
-use thread_values::number_of;
+use meaning_types::{
+    cell_kind, conversion, dimension, integer_of, is_strict, member_offset, target_of,
+    target_offset,
+};
 use thread_steps::CastTo;
+use thread_values::number_of;
 use typed_tree::{Expr, ExprKind, StepOperator};
+use typing_rules::types::int_type;
 use upc_text::{OutOfMemory, Place};
-use upc_types::{Access, Base, CType};
+use upc_types::CType;
 use upc_values::{Scalar, Value};
-
-// How many elements an array has.
-fn count_in(base: &Base) -> Option<u32>
-    ensures { result ≡ mean.count_in (view_base base.now) }
-{
-    match base {
-        Base::Array(_, count) => Some(*count),
-        _ => None,
-    }
-}
-
-// The dimension that a further subscript of an array of arrays has to lie in.
-fn dimension(e: &Expr) -> Option<u32>
-    ensures { result ≡ mean.dimension (view_expr e.now) }
-{
-    match &e.kind {
-        ExprKind::Paren(a) => dimension(a),
-        ExprKind::Subscript(_, _) => count_in(&e.attr.ctype.base),
-        _ => None,
-    }
-}
 
 // The operator of `++` and `--`.
 fn step_operator(setting: Setting<'_>, op: StepOperator) -> BinOp
@@ -62,18 +41,6 @@ fn step_value(setting: Setting<'_>, op: StepOperator, old: Value, new: Value) ->
     match op {
         StepOperator::IncrementFirst | StepOperator::DecrementFirst => new,
         StepOperator::IncrementAfter | StepOperator::DecrementAfter => old,
-    }
-}
-
-// The type int.
-fn int() -> CType
-    ensures { view result ≡ library.int }
-{
-    CType {
-        base: Base::Integer(Kind::Int),
-        constant: false,
-        shared: None,
-        access: Access::Unsaid,
     }
 }
 
@@ -214,7 +181,7 @@ impl<'r> Progress<'r> {
         };
         let one = Value::Scalar(Scalar::Int(1));
         let op_of = step_operator(setting, op);
-        let sum = match self.binary(setting, place, op_of, t, &int(), &old, &one)? {
+        let sum = match self.binary(setting, place, op_of, t, &int_type(), &old, &one)? {
             Step::Ends(end) => return Ok(Step::Ends(end)),
             Step::Gives(w) => w,
         };

@@ -1,6 +1,6 @@
 //! The cells of the objects of a block.
 
-ghost use Rattle.std.specs.Prelude.{◌≡◌, ◌++◌, ◌∷◌, [], map, IfOk, OnOk};
+ghost use Rattle.std.specs.Prelude.{◌≡◌, ◌++◌, ◌∷◌, [], map, OnOk};
 ghost use Rattle.block_layout.specs.Shapes.{IsShape};
 ghost use Rattle.upc_types.specs.View.{view};
 ghost use Rattle.upc_types.specs.ViewStructs.{view_structs};
@@ -12,30 +12,17 @@ ghost use Rattle.source_meaning.specs.Statements.{shapes_of, objects_in};
 ghost use Rattle.upc_meaning_state.specs.layer.Settings.{running_seen};
 
 use crate::setting::Setting;
-use block_layout::{Cells, Shape};
+use block_layout::Shape;
+use meaning_types::shape_of;
 use std::alloc::Global;
 use typed_tree::{Item, Object};
 use upc_text::OutOfMemory;
-use upc_types::{CType, Structs, object_shape};
+use upc_types::CType;
 
 /// Shapes of objects.
 #[derive(Drop)]
 pub struct Shapes {
     pub items: Vec<Shape>,
-}
-
-// The cells of an object.
-fn shape_of(alloc: Global, structs: &Structs, t: &CType) -> Result<Shape, OutOfMemory>
-    ensures value { IfOk result (λ s. s ≡ pure.shape_of (view_structs structs.now) (view t.now)) }
-    ensures shape { IfOk result IsShape }
-{
-    match structs.layout_of(&t.base) {
-        Some(_) => object_shape(alloc, t, structs),
-        None => Ok(Shape {
-            size: 1,
-            cells: Cells::from_vec(Vec::new(alloc)),
-        }),
-    }
 }
 
 impl Shapes {

@@ -13,10 +13,11 @@ ghost use Rattle.upc_meaning_work.specs.layer.Items as item;
 ghost use Rattle.upc_meaning_work.specs.layer.ViewItems.{casts_of};
 ghost use Rattle.upc_meaning_work.specs.layer.Evaluations.{seen};
 
-use typing_rules::calls::call_parameters;
-use upc_meaning_work::{Evaluation, Parameters, Work};
-use upc_meaning_state::{Setting, is_printf};
+use meaning_types::is_printf;
 use typed_tree::{Expr, Target};
+use typing_rules::calls::call_parameters;
+use upc_meaning_state::Setting;
+use upc_meaning_work::{Evaluation, Parameters, Work};
 use upc_text::OutOfMemory;
 use upc_types::CType;
 use upc_values::{LibraryCall, Scalar, Value};

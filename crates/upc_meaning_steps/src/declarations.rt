@@ -2,7 +2,6 @@
 
 ghost use Rattle.std.specs.Prelude.{◌≡◌, ◌∷◌, [], IfOk, OnOk, map};
 ghost use Rattle.upc_types.specs.View.{view};
-ghost use Rattle.upc_types.specs.Types.{base_of};
 ghost use Rattle.typed_tree.specs.Tree as tree;
 ghost use Rattle.typed_tree.specs.Tree.{AndExpr, Stands, exprs_of};
 ghost use Rattle.typed_tree.specs.ViewTree.{view_expr};
@@ -17,22 +16,12 @@ ghost use Rattle.upc_meaning_work.specs.layer.ViewItems.{view_standing};
 ghost use Rattle.upc_meaning_work.specs.layer.Evaluations.{Went, seen};
 ghost use Rattle.upc_meaning_steps.specs.code.Entries.{BlockWent, HeadWent};
 
-use meaning_types::conversion;
-use upc_meaning_work::{Evaluation, Flow, Standing, Work, with_objects, with_strict};
-use upc_meaning_state::{Setting, Shapes, Step};
+use meaning_types::{conversion, element_type};
 use typed_tree::{Expr, Head, Initial, Item, Object, StatementKind};
+use upc_meaning_state::{Setting, Shapes, Step};
+use upc_meaning_work::{Evaluation, Flow, Standing, Work, with_objects, with_strict};
 use upc_text::{OutOfMemory, Place};
-use upc_types::{Base, CType};
-
-// The type of the elements of an array.
-fn element_type(t: &CType) -> &CType
-    ensures { view result.now ≡ mean.element_type (base_of (view t.now)) (view t.now) }
-{
-    match &t.base {
-        Base::Array(element, _) => element,
-        _ => t,
-    }
-}
+use upc_types::CType;
 
 // A block is entered where there is room for its objects.
 fn enter_block<'p>(

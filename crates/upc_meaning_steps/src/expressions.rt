@@ -3,11 +3,9 @@
 ghost use Rattle.std.specs.Prelude.{◌≡◌, ◌∷◌, [], IsTrue, IfOk, OnOk, map};
 ghost use Rattle.upc_types.specs.View.{view};
 ghost use Rattle.typing_rules.specs.Nodes.{view_attr};
-ghost use Rattle.typed_tree.specs.Initials as initials;
 ghost use Rattle.typed_tree.specs.Tree as tree;
 ghost use Rattle.typed_tree.specs.Tree.{exprs_of};
 ghost use Rattle.typed_tree.specs.ViewTree.{view_expr, view_kind};
-ghost use Rattle.source_meaning.specs.Expressions as mean;
 ghost use Rattle.source_meaning.specs.Types as types;
 ghost use Rattle.upc_meaning_state.specs.layer.Runners.{Fits};
 ghost use Rattle.upc_meaning_state.specs.layer.Settings.{running_seen};
@@ -17,36 +15,16 @@ ghost use Rattle.upc_meaning_work.specs.layer.Left.{decides, is_unary, takes_two
 ghost use Rattle.upc_meaning_work.specs.layer.Evaluations.{Went, seen};
 
 use crate::calls;
-use meaning_types::conversion;
-use thread_values::{is_zero, truth_value};
-use upc_meaning_work::{Evaluation, Work};
-use upc_meaning_state::{Setting, Step};
+use meaning_types::{conversion, inner_place, known_or_zero};
 use thread_steps::CastTo;
+use thread_values::{is_zero, truth_value};
 use typed_tree::{Expr, ExprKind};
-use typing_rules::{Attr, Constant};
+use typing_rules::Attr;
+use upc_meaning_state::{Setting, Step};
+use upc_meaning_work::{Evaluation, Work};
 use upc_text::{OutOfMemory, Place};
 use upc_types::CType;
 use upc_values::Value;
-
-// Where an expression begins inside its parentheses.
-fn inner_place(e: &Expr) -> Place
-    ensures { result ≡ mean.inner_place (view_expr e.now) }
-{
-    match &e.kind {
-        ExprKind::Paren(a) => inner_place(a),
-        _ => e.place,
-    }
-}
-
-// The integer that is known of a constant, else 0.
-fn known_or_zero(constant: Constant) -> i128
-    ensures { result ≡ initials.known_or_zero constant }
-{
-    match constant {
-        Constant::Known(v) => v,
-        _ => 0,
-    }
-}
 
 /// The value of an expression.
 #[tactic(auto, using(upc_meaning_work::proofs::Arms::arms))]

@@ -1,7 +1,6 @@
 //! Switches, item by item (C99 6.8.4.2).
 
-ghost use Rattle.std.specs.Prelude.{◌≡◌, IfOk, IsTrue, MatchOption, OnOk, Some, None};
-ghost use Rattle.integers.specs.Integers.{IsInteger};
+ghost use Rattle.std.specs.Prelude.{◌≡◌, IfOk, MatchOption, OnOk, Some, None};
 ghost use Rattle.typing_rules.specs.Rules as rules;
 ghost use Rattle.typed_tree.specs.Tree as tree;
 ghost use Rattle.typed_tree.specs.Tree.{Stands};
@@ -16,19 +15,13 @@ ghost use Rattle.upc_meaning_work.specs.layer.Evaluations.{seen};
 
 use block_layout::Kind;
 use meaning_types::integer_of;
-use typing_rules::constants::label_kind;
 use thread_values::number_of;
-use upc_meaning_work::{Evaluation, Flow, Standing, Work};
-use upc_meaning_state::Setting;
 use typed_tree::{Expr, SwitchItem};
+use typing_rules::constants::label_kind;
+use upc_meaning_state::Setting;
+use upc_meaning_work::{Evaluation, Flow, Standing, Work};
 use upc_text::{OutOfMemory, Place};
-
-// Whether a kind is one of integers.
-fn is_integer(kind: Kind) -> bool
-    ensures { IsTrue result → IsInteger kind }
-{
-    !matches!(kind, Kind::Shared(_, _) | Kind::Lock | Kind::Private(_))
-}
+use upc_values::is_integer;
 
 // The value with which a switch of this kind compares.
 fn compared(kind: Option<Kind>, v: i128) -> Result<i128, OutOfMemory>

@@ -23,7 +23,7 @@ pub use copy::{copy_base, copy_type};
 pub use ctype::{Access, Base, CType};
 pub use layout::Layout;
 pub use same::{same_base, same_block, same_type};
-pub use shape::{object_shape, shape_of};
+pub use shape::{is_marked, leaf_of, object_shape, shape_of};
 pub use size::{size_of, takes_allocation};
 pub use structs::{Completed, Member, Structs};
 pub use targets::alike;

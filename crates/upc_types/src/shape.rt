@@ -260,11 +260,11 @@ fn kept_among(kept: &[KeptCells], number: u32) -> Option<&Cells>
     None
 }
 
-// Whether a struct is marked by its number.
-fn is_marked(wanted: &[bool], number: u32) -> bool
-    ensures { result ≡ get_or wanted.now number false }
+/// Whether a struct is marked by its number.
+pub fn is_marked(marks: &[bool], number: u32) -> bool
+    ensures { result ≡ get_or marks.now number false }
 {
-    match wanted.get(number as usize) {
+    match marks.get(number as usize) {
         Some(marked) => *marked,
         None => false,
     }
@@ -280,7 +280,7 @@ fn one_cell(alloc: Global, kind: Kind) -> Result<Cells, OutOfMemory>
 }
 
 /// The type of the leaf elements of an object.
-pub(crate) fn leaf_of(base: &Base) -> &Base
+pub fn leaf_of(base: &Base) -> &Base
     ensures { view_base result.now ≡ pure.leaf_base (view_base base.now) }
 {
     let mut leaf = base;

@@ -75,3 +75,14 @@ pub fn copy_shape(alloc: Global, shape: &Shape) -> Result<Shape, OutOfMemory>
         cells: shape.cells.copy(alloc)?,
     })
 }
+
+/// Equal shapes.
+pub fn copy_shapes(alloc: Global, shapes: &[Shape]) -> Result<Vec<Shape>, OutOfMemory>
+    ensures { IfOk result (λ copies. copies.items ≡ shapes.now) }
+{
+    let mut copies = Vec::new(alloc);
+    for shape in shapes {
+        copies.push(copy_shape(alloc, shape)?)?;
+    }
+    Ok(copies)
+}

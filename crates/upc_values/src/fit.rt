@@ -1,14 +1,17 @@
 //! Which values fit a cell.
 
-ghost use Rattle.std.specs.Prelude.{◌≡◌, true};
+ghost use Rattle.std.specs.Prelude.{◌≡◌, ◌↔◌, true, IsTrue};
+ghost use Rattle.integers.specs.Integers.{IsInteger};
 ghost use Rattle.upc_values.specs.Shapes as shapes;
 
 use crate::scalar::{Scalar, Value};
 use block_layout::{Kind, LocalPtr, SharedPtr};
 use integers::lies_in;
 
-fn is_integer(kind: Kind) -> bool
-    ensures { result ≡ shapes.is_integer kind }
+/// Whether a kind is of integers (C99 6.2.5).
+pub fn is_integer(kind: Kind) -> bool
+    ensures value { result ≡ shapes.is_integer kind }
+    ensures integer { IsTrue result ↔ IsInteger kind }
 {
     !matches!(kind, Kind::Shared(_, _) | Kind::Lock | Kind::Private(_))
 }

@@ -9,7 +9,7 @@ loop-cell-preserved c =
     let holds : ℕ × Kind → Bool = λ x. not (is_integer x.1) in
     let P : ℕ × Kind → Type 0 = λ x. is_integer x.1 ≡ true in
     let i = c.loop-cell.cell-index in
-    let integer = sym c.is_integer.ensures ∙ c.if-not-is_integer.false in
+    let integer = sym c.is_integer.ensures.value ∙ c.if-not-is_integer.false in
     record {
       value = any-next holds c.args.cells.now i _ _ c.loop-cell-test.true (ap not integer) c.loop-cell.invariant.value;
       inside = all-more P c.args.cells.now i _ c.loop-cell-test.true c.loop-cell.invariant.inside integer;

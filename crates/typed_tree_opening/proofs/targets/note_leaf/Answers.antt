@@ -29,17 +29,17 @@ returns-in_ok-push-in-Inside-clause-ended c =
     c.in_ok-push-in-Inside.ensures.items
     (subst (λ (leaf : Leaf). AreEnded (with_leaf s leaf) ps) c.in-Inside.is c.requires.ended)).ended
 
-pub returns-else-not-is_done-clause-noted : goal.returns-else-not-is_done-clause-noted
-returns-else-not-is_done-clause-noted c =
+pub returns-else-not-is_marked-clause-noted : goal.returns-else-not-is_marked-clause-noted
+returns-else-not-is_marked-clause-noted c =
     let s = view_structs c.args.structs.now in
     sym (ap (λ (x : Structs). with_pending x c.args.pending.now.items)
     (ap (with_leaf s) c.in-Inside.is
-    ∙ done_over s c.args.done.now c.in-Inside.number c.requires.done c.if-not-is_done.ensures))
+    ∙ done_over s c.args.done.now c.in-Inside.number c.requires.done c.if-not-is_marked.ensures))
 
-pub returns-else-not-is_done-clause-ended : goal.returns-else-not-is_done-clause-ended
-returns-else-not-is_done-clause-ended c =
+pub returns-else-not-is_marked-clause-ended : goal.returns-else-not-is_marked-clause-ended
+returns-else-not-is_marked-clause-ended c =
     let s = view_structs c.args.structs.now in
     subst (λ (x : Structs). AreEnded x c.args.pending.now.items)
     (ap (with_leaf s) c.in-Inside.is
-    ∙ done_over s c.args.done.now c.in-Inside.number c.requires.done c.if-not-is_done.ensures)
+    ∙ done_over s c.args.done.now c.in-Inside.number c.requires.done c.if-not-is_marked.ensures)
     c.requires.ended

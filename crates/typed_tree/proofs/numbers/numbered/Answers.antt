@@ -1,6 +1,6 @@
 use Rattle.std.proofs.Common.{◌<◌, sym, arith}
-use Rattle.typed_tree_opening.proofs.Worth.{numbered_at}
-use Rattle.gen_expr.proofs.objects.numbered.Goals as goal
+use Rattle.typed_tree.proofs.SharedNumbers.{numbered_at}
+use Rattle.typed_tree.proofs.numbers.numbered.Goals as goal
 
 pub returns : goal.returns
 returns c =

@@ -1,5 +1,5 @@
 use Rattle.std.proofs.Common.{◌≡◌, take}
-use Rattle.stack_code.proofs.builder.copy_shapes.Given as goal
+use Rattle.upc_values.proofs.copy.copy_shapes.Given as goal
 
 abbrev pub invariant-loop-shape : goal.invariant-loop-shape
 invariant-loop-shape l = l.copies.items ≡ take l.shape-index l.shapes
