@@ -44,7 +44,11 @@ pub(crate) fn push_run(to: &mut Vec<Run>, run: Run) -> Result<(), OutOfMemory>
 
 // Adds these runs, so many bytes further.
 #[tactic(auto, using(crate::proofs::RunLists::run_near))]
-pub(crate) fn push_moved_runs(to: &mut Vec<Run>, start: u32, runs: &[Run]) -> Result<(), OutOfMemory>
+pub(crate) fn push_moved_runs(
+    to: &mut Vec<Run>,
+    start: u32,
+    runs: &[Run],
+) -> Result<(), OutOfMemory>
     requires { AreNear (moved start (runs_cells runs.now)) }
     ensures { OnOk result (runs_cells to.new.items ≡ runs_cells to.old.items ++ moved start (runs_cells runs.now)) }
 {

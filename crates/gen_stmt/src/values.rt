@@ -8,8 +8,8 @@ ghost use Rattle.gen_expr.specs.Codes.{value_code};
 ghost use Rattle.gen_expr.specs.layer.ViewSource.{view_source};
 ghost use Rattle.gen_stmt.specs.Codes as pure;
 
-use meaning_types::conversion;
 use gen_expr::{Source, put_cast, put_push, put_stack, put_value_code};
+use meaning_types::conversion;
 use stack_code::{Instr, StackWork};
 use std::alloc::Global;
 use typed_tree::Expr;

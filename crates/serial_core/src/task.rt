@@ -109,7 +109,12 @@ fn own_end(wish: &Wish, full: bool) -> Option<End>
 
 impl Task {
     /// A task that has done nothing.
-    pub fn make(alloc: Global, code: &Code, thread: u32, limits: Limits) -> Result<Task, OutOfMemory>
+    pub fn make(
+        alloc: Global,
+        code: &Code,
+        thread: u32,
+        limits: Limits,
+    ) -> Result<Task, OutOfMemory>
         requires limits { AreLimits limits }
         requires code { code.now.threads ≡ limits.threads }
         requires thread { thread < limits.threads }

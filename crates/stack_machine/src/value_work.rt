@@ -20,10 +20,10 @@ use crate::progress::Progress;
 use crate::stacks::Operands;
 use crate::wish::Halt;
 use stack_code::{Code, ValueWork};
+use thread_steps::Elements;
 use thread_values::{
     advanced, applied, cast, difference, in_row, member_behind, number_of, operated, order, same,
 };
-use thread_steps::Elements;
 use upc_text::Place;
 use upc_values::Value;
 

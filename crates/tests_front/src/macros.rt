@@ -16,7 +16,12 @@ pub fn expanded(alloc: Global, source: &str) -> Result<Vec<Token>, Stop> {
 }
 
 /// Three texts, one after the other.
-pub fn joined(alloc: Global, first: &str, second: &str, third: &str) -> Result<String, OutOfMemory> {
+pub fn joined(
+    alloc: Global,
+    first: &str,
+    second: &str,
+    third: &str,
+) -> Result<String, OutOfMemory> {
     let mut text = String::from_str(alloc, first)?;
     text.push_str(second)?;
     text.push_str(third)?;

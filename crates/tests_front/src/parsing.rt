@@ -3,11 +3,11 @@
 use crate::macros::{expanded, joined, stopped};
 use std::alloc::{AllocError as OutOfMemory, Global};
 use std::test::Fail;
-use upc_tree_tokens::{height, tokens_of};
 use upc_lexer::Token;
 use upc_parser::parse;
 use upc_text::Stop;
 use upc_tree::{BinaryMark, BlockItem, Expr, External, Initial, Otherwise, Statement, Unit};
+use upc_tree_tokens::{height, tokens_of};
 
 fn tree(alloc: Global, source: &str) -> Result<Unit, Stop> {
     let tokens = expanded(alloc, source)?;

@@ -249,7 +249,12 @@ fn those_that_can_be_shared(rt: HostRuntime) -> Result<(), Fail> {
 }
 
 // A list that begins with so many copies of a cell, and goes on with these.
-fn begun(alloc: Global, count: u32, kind: Kind, rest: &[(u32, Kind)]) -> Result<Cells, OutOfMemory> {
+fn begun(
+    alloc: Global,
+    count: u32,
+    kind: Kind,
+    rest: &[(u32, Kind)],
+) -> Result<Cells, OutOfMemory> {
     let one = of(alloc, &[(0, kind)])?;
     let mut cells = Cells::new(alloc);
     add(&mut cells, 0, count, 8, &one)?;

@@ -13,12 +13,12 @@ ghost use Rattle.typed_tree.specs.ViewStatements.{view_switch_item, view_switch_
 ghost use Rattle.typed_tree.specs.Allocated as pure;
 ghost use Rattle.typing_rules.specs.Rules.{has_size};
 
-use typing_rules::calls::is_allocation;
 use std::alloc::Global;
 use typed_tree::{
     Affinity, Arm, Expr, ExprKind, Function, Head, Initial, Item, Object, Statement, StatementKind,
     SwitchItem, Target,
 };
+use typing_rules::calls::is_allocation;
 use upc_text::OutOfMemory;
 use upc_types::{Base, CType, Structs, copy_type};
 

@@ -10,9 +10,9 @@ use crate::objects::{is_shared, next};
 use crate::setting::Setting;
 use crate::values::{scalar_kind, value_in};
 use block_layout::{Kind, Loc};
-use typing_rules::constants::constant_of;
 use std::alloc::Global;
 use typed_tree::{Initial, Object};
+use typing_rules::constants::constant_of;
 use upc_text::OutOfMemory;
 use upc_values::{Scalar, Value};
 

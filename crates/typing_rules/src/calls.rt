@@ -3,8 +3,8 @@
 ghost use Rattle.std.specs.Prelude.{◌≡◌};
 ghost use Rattle.typing_rules.specs.Library as library;
 
-use LibraryParameter::{Int, LockPointer, NoFunction, PrivatePointer, SharedPointer, Size};
 use crate::library::LibraryParameter;
+use LibraryParameter::{Int, LockPointer, NoFunction, PrivatePointer, SharedPointer, Size};
 use upc_values::LibraryCall;
 
 /// What a call of the library takes. The arguments of printf are judged by its format.

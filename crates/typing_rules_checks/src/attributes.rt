@@ -17,11 +17,11 @@ ghost use Rattle.typing_rules.specs.Attributes as pure;
 ghost use Rattle.typing_rules.specs.Attributes.{Facts, attr};
 
 use crate::addresses::ALONE;
-use block_layout::Kind;
-use integers::{BinOp, UnOp};
 use crate::constants::{
     and_constant, binary_constant, choice_constant, or_constant, unary_constant,
 };
+use block_layout::Kind;
+use integers::{BinOp, UnOp};
 use std::alloc::Global;
 use std::rc::Rc;
 use typing_rules::calls::is_allocation;

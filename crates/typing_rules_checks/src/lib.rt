@@ -15,4 +15,3 @@ pub mod rules;
 pub mod sizes;
 pub mod statements;
 pub mod switch;
-

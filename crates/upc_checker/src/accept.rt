@@ -10,9 +10,9 @@ ghost use Rattle.upc_checker.specs.Outcomes.{Answers, Decides, outcome};
 ghost use Rattle.upc_checker.specs.code.ViewUnits.{view_checked};
 
 use crate::whole::{Checked, check_source};
-use typed_tree_opening::begin;
 use std::alloc::Global;
 use typed_tree::Program;
+use typed_tree_opening::begin;
 use upc_lexer::Names;
 use upc_text::{OutOfMemory, Stop};
 use upc_tree::Unit;

@@ -23,25 +23,27 @@ ghost use Rattle.upc_checker.specs.code.Parts as parts;
 ghost use Rattle.upc_checker.specs.Units as pure;
 ghost use Rattle.upc_checker.specs.code.ViewEarlier.{view_earlier};
 
-use upc_checker_expressions::types::{walk_parameters, walk_pointers, walk_specifiers};
-use typing_rules_checks::attributes::value_type;
-use typing_rules_checks::declarations;
-use upc_checker_statements::statements::walk_block;
 use std::alloc::Global;
-use upc_checker_types::shaped::specified_type;
-use upc_checker_types::specified::{Specified, Specifying, specifiers_form};
 use typed_tree::env::{Detached, Env, alone, enter_function, inside, within};
 use typed_tree::{Function, Statement};
 use typing_rules::{Around, Enclosing, Signature};
-use upc_text::{OutOfMemory, Place, Stop, Text};
-use upc_tree::Parameters;
-use upc_types::CType;
+use typing_rules_checks::attributes::value_type;
+use typing_rules_checks::declarations;
+use upc_checker_expressions::types::{walk_parameters, walk_pointers, walk_specifiers};
 use upc_checker_scopes::finish::judged;
-use upc_checker_scopes::known::{Known, definition_again, differs, note_end, note_function, note_more};
+use upc_checker_scopes::known::{
+    Known, definition_again, differs, note_end, note_function, note_more,
+};
 use upc_checker_scopes::places::specs_place;
 use upc_checker_scopes::setting::{Setting, spelling};
 use upc_checker_scopes::signatures::copy_signature;
 use upc_checker_scopes::tags::{Tags, enclosed};
+use upc_checker_statements::statements::walk_block;
+use upc_checker_types::shaped::specified_type;
+use upc_checker_types::specified::{Specified, Specifying, specifiers_form};
+use upc_text::{OutOfMemory, Place, Stop, Text};
+use upc_tree::Parameters;
+use upc_types::CType;
 
 fn in_definition(at: Place) -> Specifying
     ensures { view_specifying result ≡ pure.in_definition at }

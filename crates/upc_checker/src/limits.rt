@@ -8,9 +8,9 @@ ghost use Rattle.upc_checker.specs.code.ViewUnits.{view_passed, view_sort};
 
 use typed_tree::Object;
 use typing_rules::Home;
+use upc_checker_scopes::known::Known;
 use upc_text::Place;
 use upc_types::{Layout, Structs};
-use upc_checker_scopes::known::Known;
 
 /// Objects of the file that are not shared, or those that are.
 #[derive(Clone, Copy)]

@@ -24,20 +24,20 @@ ghost use Rattle.upc_checker_scopes.specs.Walk.{enclosed as inclosed, judge};
 
 use crate::functions::walk_function;
 use block_layout::Kind;
-use upc_checker_declarations::declarations::walk_declaration;
-use typing_rules_checks::declarations;
 use std::alloc::Global;
 use typed_tree::env::Env;
 use typed_tree::{Function, Object};
-use upc_text::{OutOfMemory, Place, Stop};
-use upc_tree::{Declaration, External};
-use upc_types::{Base, CType};
+use typing_rules_checks::declarations;
+use upc_checker_declarations::declarations::walk_declaration;
 use upc_checker_scopes::defined::Defined;
 use upc_checker_scopes::finish::judged;
 use upc_checker_scopes::known::Known;
 use upc_checker_scopes::places::specs_place;
 use upc_checker_scopes::setting::Setting;
 use upc_checker_scopes::tags::Tags;
+use upc_text::{OutOfMemory, Place, Stop};
+use upc_tree::{Declaration, External};
+use upc_types::{Base, CType};
 
 // ---- what the source defines
 

@@ -13,13 +13,13 @@ use crate::units::{defined_in, walk_unit};
 use std::alloc::Global;
 use typed_tree::env::file;
 use typed_tree::{Function, Object};
+use upc_checker_scopes::known::{Known, nothing_known};
+use upc_checker_scopes::setting::Setting;
+use upc_checker_scopes::tags::Tags;
 use upc_lexer::Names;
 use upc_text::{Code, Refusal, Stop};
 use upc_tree::Unit;
 use upc_types::Structs;
-use upc_checker_scopes::known::{Known, nothing_known};
-use upc_checker_scopes::setting::Setting;
-use upc_checker_scopes::tags::Tags;
 
 /// A source that is accepted: the number of threads, the structs, the objects of the file in order, and the functions
 /// by number.

@@ -17,6 +17,10 @@ ghost use Rattle.upc_checker_scopes.specs.layer.Views.{state_of, view_setting};
 ghost use Rattle.upc_checker_nodes.specs.layer.ViewUses.{view_uses};
 
 use crate::types::walk_type;
+use typed_tree::Expr;
+use typed_tree::env::Env;
+use typing_rules::{Constant, Use};
+use typing_rules_checks::declarations;
 use upc_checker_nodes::called::{Uses, called, first_use, later_uses, uses_by};
 use upc_checker_nodes::marks::right_use;
 use upc_checker_nodes::nodes::{
@@ -25,16 +29,12 @@ use upc_checker_nodes::nodes::{
     finish_size_of, finish_size_of_type, finish_strings, finish_subscript, finish_unary, joined,
     paren,
 };
-use typing_rules_checks::declarations;
-use typed_tree::Expr;
-use typed_tree::env::Env;
-use typing_rules::{Constant, Use};
-use upc_text::Stop;
-use upc_tree::{Arguments, NextExpr};
 use upc_checker_scopes::finish::judged;
 use upc_checker_scopes::known::Known;
 use upc_checker_scopes::setting::Setting;
 use upc_checker_scopes::tags::Tags;
+use upc_text::Stop;
+use upc_tree::{Arguments, NextExpr};
 
 /// An expression at a place where a constant is asked for: what it is as a constant.
 pub fn constantly(setting: Setting<'_>, a: &Expr) -> Result<Constant, Stop>

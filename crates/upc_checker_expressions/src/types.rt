@@ -17,7 +17,16 @@ ghost use Rattle.upc_checker_types.specs.layer.ViewShapes.{view_blocks, view_qua
 ghost use Rattle.upc_checker_types.specs.layer.ViewShapes.{view_specified, view_specifier, view_specifying};
 
 use crate::expressions::{constantly, walk};
-use typing_rules_checks::declarations::{block, member, member_function, parameter, specifies, star_block};
+use typed_tree::env::{Env, inside};
+use typing_rules::{Constant, Formed, Use};
+use typing_rules_checks::declarations::{
+    block, member, member_function, parameter, specifies, star_block,
+};
+use upc_checker_scopes::finish::judged;
+use upc_checker_scopes::known::{Known, close_struct, is_again, note_end, open_struct, refer};
+use upc_checker_scopes::places::{declarator_place, specs_place};
+use upc_checker_scopes::setting::{Setting, spelling};
+use upc_checker_scopes::tags::{Tags, enclosed};
 use upc_checker_types::members::{
     Members, add_member, add_parameter, all_members, has_member, no_members,
 };
@@ -28,19 +37,12 @@ use upc_checker_types::specified::{
     Blocks, Qualifier, Quals, Specified, Specifier, Specifying, add_qual, add_specifier,
     block_size, forms_type, in_type, no_quals, nothing_specified, specifiers_form,
 };
-use typed_tree::env::{Env, inside};
-use typing_rules::{Constant, Formed, Use};
 use upc_text::{Place, Stop};
 use upc_tree::{
     Declarator, Dimension, Layout, NextDeclarator, NextParameter, Parameter, ParameterArray,
     Parameters, Pointer, Qual, Spec, TypeName,
 };
 use upc_types::{CType, Member};
-use upc_checker_scopes::finish::judged;
-use upc_checker_scopes::known::{Known, close_struct, is_again, note_end, open_struct, refer};
-use upc_checker_scopes::places::{declarator_place, specs_place};
-use upc_checker_scopes::setting::{Setting, spelling};
-use upc_checker_scopes::tags::{Tags, enclosed};
 
 /// A type name, which is refused there.
 #[cycle(walk)]

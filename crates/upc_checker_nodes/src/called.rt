@@ -11,9 +11,9 @@ ghost use Rattle.upc_checker_nodes.specs.Called as pure;
 use typed_tree::Target;
 use typed_tree::env::Env;
 use typing_rules::{LibraryCall, Meaning, Use};
+use upc_checker_scopes::setting::{Setting, is_main, meaning};
 use upc_tree::{Expr, Name};
 use upc_types::CType;
-use upc_checker_scopes::setting::{Setting, is_main, meaning};
 
 /// How the arguments of a call are used: each converts into the type of its parameter, or the first is a format, or
 /// none has a use of its own.

@@ -11,14 +11,14 @@ ghost use Rattle.typing_rules.specs.Rules.{lowest};
 ghost use Rattle.typed_tree.specs.ViewTree.{attr_seen};
 
 use crate::format::prints;
+use typed_tree::Expr;
 use typing_rules::calls::call_parameters;
+use typing_rules::types::gives_void;
+use typing_rules::{LibraryParameter, Meaning, Use};
 use typing_rules_checks::calls::{
     allocates_private, allocates_well, can_be_called, is_printf, no_function,
 };
 use typing_rules_checks::conversion::{converts, takes};
-use typed_tree::Expr;
-use typing_rules::types::gives_void;
-use typing_rules::{LibraryParameter, Meaning, Use};
 use upc_types::{CType, Structs};
 use upc_values::LibraryCall;
 

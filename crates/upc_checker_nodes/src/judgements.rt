@@ -17,19 +17,18 @@ ghost use Rattle.upc_checker_scopes.specs.layer.Finishes.{Judges};
 ghost use Rattle.upc_checker_scopes.specs.layer.Views.{facts_of, view_setting};
 
 use crate::called::runs;
+use crate::calls;
 use crate::parts::{format_in, last_of};
 use integers::{BinOp, UnOp};
-use typing_rules_checks::reached::MemberNode;
-use typing_rules_checks::{attributes, elements, members, reached, sizes};
-use typing_rules_checks::{declarations, rules};
 use std::alloc::Global;
-use crate::calls;
 use typed_tree::Expr;
 use typing_rules::{Attr, Formed, Meaning, SizeOperator, Use};
-use upc_text::{Place, Stop};
+use typing_rules_checks::reached::MemberNode;
+use typing_rules_checks::{attributes, declarations, elements, members, reached, rules, sizes};
 use upc_checker_scopes::finish::judged;
 use upc_checker_scopes::known::Known;
 use upc_checker_scopes::setting::Setting;
+use upc_text::{Place, Stop};
 
 /// A name that stands for this and is used so.
 pub(crate) fn judge_name(how: Use<'_>, means: Meaning<'_>, at: Place) -> Result<Attr, Stop>

@@ -10,10 +10,10 @@ ghost use Rattle.typing_rules.specs.Attributes.{Facts};
 ghost use Rattle.typing_rules.specs.Rules as r;
 ghost use Rattle.typing_rules.specs.Rules.{lowest};
 
-use typing_rules_checks::conversion::converts;
-use typing_rules_checks::declarations::{is_list_type, is_variable};
 use typed_tree::{Arm, Expr};
 use typing_rules::types::{gives_void, is_scalar};
+use typing_rules_checks::conversion::converts;
+use typing_rules_checks::declarations::{is_list_type, is_variable};
 use upc_types::{Base, CType};
 
 fn any_void(arms: &[Arm]) -> bool

@@ -19,6 +19,7 @@ ghost use Rattle.upc_checker_scopes.specs.layer.Finishes.{Finishes};
 ghost use Rattle.upc_checker_nodes.specs.Marks as marks;
 ghost use Rattle.upc_checker_scopes.specs.layer.Views.{facts_of, view_setting};
 
+use crate::build;
 use crate::called::target_of;
 use crate::judgements::{
     judge_address, judge_and, judge_call, judge_cast, judge_comma, judge_compound,
@@ -28,13 +29,14 @@ use crate::judgements::{
 };
 use crate::marks::{number_kind, postfix_operator, size_operator};
 use integers::{BinOp, UnOp};
-use typing_rules_checks::attributes;
-use typing_rules_checks::rules;
 use std::alloc::Global;
-use crate::build;
 use typed_tree::env::Env;
 use typed_tree::{Expr, StepOperator, Target};
 use typing_rules::{Attr, Formed, Meaning, Use};
+use typing_rules_checks::{attributes, rules};
+use upc_checker_scopes::finish::judged;
+use upc_checker_scopes::known::Known;
+use upc_checker_scopes::setting::{Setting, meaning, spelling};
 use upc_lexer::NumberKind;
 use upc_text::{OutOfMemory, Place, Stop, Text};
 use upc_tree::{
@@ -42,9 +44,6 @@ use upc_tree::{
     UnaryMark,
 };
 use upc_types::CType;
-use upc_checker_scopes::finish::judged;
-use upc_checker_scopes::known::Known;
-use upc_checker_scopes::setting::{Setting, meaning, spelling};
 
 /// Expressions in a list, with one in front of them.
 pub fn joined(first: Box<Expr>, more: Vec<Expr>) -> Result<Vec<Expr>, OutOfMemory>

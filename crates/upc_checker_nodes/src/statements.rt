@@ -17,16 +17,16 @@ ghost use Rattle.upc_checker_scopes.specs.layer.Ends.{Meets, boxed};
 ghost use Rattle.upc_checker_nodes.specs.Judged as pure;
 ghost use Rattle.upc_checker_scopes.specs.Walk.{andthen, give, judge};
 
-use crate::statement_parts::{Headed, Labelled};
-use typing_rules_checks::statements as rules;
-use typing_rules_checks::switch::switch;
-use std::alloc::Global;
 use crate::build_statements as build;
 use crate::lists::tests;
+use crate::statement_parts::{Headed, Labelled};
+use std::alloc::Global;
 use typed_tree::{Arm, Expr, Head, Statement, Synchronises};
 use typing_rules::Around;
-use upc_text::{Place, Stop};
+use typing_rules_checks::statements as rules;
+use typing_rules_checks::switch::switch;
 use upc_checker_scopes::finish::judged;
+use upc_text::{Place, Stop};
 
 /// An `if` with its arms, after which their conditions are judged (C99 6.8.4.1).
 pub fn finish_if(

@@ -19,21 +19,21 @@ ghost use Rattle.upc_checker_statements.specs.Statements as pure;
 ghost use Rattle.upc_checker_scopes.specs.layer.Views.{state_of, view_setting};
 ghost use Rattle.upc_checker_scopes.specs.Walk.{andthen};
 
-use upc_checker_declarations::declarations::walk_declaration;
-use upc_checker_expressions::expressions::{constantly, walk};
-use typing_rules_checks::statements as rules;
-use typing_rules::constants::label_kind;
-use upc_checker_nodes::statement_parts::Headed;
 use std::alloc::Global;
 use typed_tree::env::Env;
 use typed_tree::{Affinity, Expr, Head, Object, SwitchItem, Synchronises};
+use typing_rules::constants::label_kind;
 use typing_rules::{Around, Attr, Constant, Enclosing, Use, kind_of};
-use upc_text::{OutOfMemory, Place, Stop};
-use upc_tree::{BarrierWord, First, ForHead, ForallHead, Pragma, Span, Test};
+use typing_rules_checks::statements as rules;
+use upc_checker_declarations::declarations::walk_declaration;
+use upc_checker_expressions::expressions::{constantly, walk};
+use upc_checker_nodes::statement_parts::Headed;
 use upc_checker_scopes::finish::judged;
 use upc_checker_scopes::known::Known;
 use upc_checker_scopes::setting::Setting;
 use upc_checker_scopes::tags::Tags;
+use upc_text::{OutOfMemory, Place, Stop};
+use upc_tree::{BarrierWord, First, ForHead, ForallHead, Pragma, Span, Test};
 
 // ---- what stands around
 

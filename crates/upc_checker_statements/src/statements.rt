@@ -28,23 +28,23 @@ use crate::heads::{
     synchronises, walk_for_head, walk_forall_head, walk_label, walk_returned, walk_test,
     walk_value,
 };
+use typed_tree::env::{Env, alone, inside, within};
+use typed_tree::{Arm, Item, Statement, SwitchItem};
+use typing_rules::{Around, Attr};
 use upc_checker_declarations::declarations::walk_declaration;
+use upc_checker_nodes::build_statements as build;
+use upc_checker_nodes::statement_parts::Labelled;
 use upc_checker_nodes::statements::{
     finish_break, finish_continue, finish_do_while, finish_for, finish_forall, finish_if,
     finish_switch, finish_while, returns, synchronise,
 };
-use upc_checker_nodes::statement_parts::Labelled;
-use upc_checker_nodes::build_statements as build;
-use typed_tree::env::{Env, alone, inside, within};
-use typed_tree::{Arm, Item, Statement, SwitchItem};
-use typing_rules::{Around, Attr};
+use upc_checker_scopes::known::Known;
+use upc_checker_scopes::setting::Setting;
+use upc_checker_scopes::tags::{Tags, enclosed};
 use upc_text::Stop;
 use upc_tree::{
     BarrierWord, BlockItem, Compound, ElseIf, ForHead, ForallHead, Otherwise, Span, Test,
 };
-use upc_checker_scopes::known::Known;
-use upc_checker_scopes::setting::Setting;
-use upc_checker_scopes::tags::{Tags, enclosed};
 
 /// What is the same for the whole source, what a jump or a return stands in, and whether accesses are strict there.
 #[derive(Clone, Copy)]

@@ -9,10 +9,10 @@ ghost use Rattle.upc_checker_types.specs.layer.ViewShapes.{view_blocks, view_qua
 
 use crate::specified::{Blocks, Quals, Specified, quals_fit, specified_base};
 use block_layout::Kind;
-use typing_rules_checks::attributes::value_type;
 use std::alloc::Global;
 use std::rc::Rc;
 use typing_rules::{Constant, Formed};
+use typing_rules_checks::attributes::value_type;
 use upc_text::OutOfMemory;
 use upc_types::{Access, Base, CType, copy_type};
 

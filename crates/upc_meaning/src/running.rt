@@ -9,11 +9,11 @@ ghost use Rattle.upc_meaning_work.specs.layer.Items as item;
 ghost use Rattle.upc_meaning_work.specs.layer.ViewItems.{view_standing};
 ghost use Rattle.upc_meaning_work.specs.layer.Evaluations.{Went, seen};
 
+use typed_tree::{Statement, StatementKind};
+use upc_meaning_state::{Setting, Step};
 use upc_meaning_steps::declarations::{block, headed};
 use upc_meaning_steps::{statements, switches};
 use upc_meaning_work::{Evaluation, Standing, Work};
-use upc_meaning_state::{Setting, Step};
-use typed_tree::{Statement, StatementKind};
 use upc_text::OutOfMemory;
 
 // A loop without a head.

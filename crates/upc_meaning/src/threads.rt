@@ -9,12 +9,11 @@ ghost use Rattle.upc_meaning_work.specs.layer.ViewItems.{view_work};
 ghost use Rattle.upc_meaning_work.specs.layer.Evaluations.{Went, seen};
 
 use crate::running;
-use upc_meaning_steps::{arguments, functions};
-use upc_meaning_steps::declarations;
-use upc_meaning_steps::expressions;
-use upc_meaning_steps::{loops, statements, switches};
-use upc_meaning_work::{Evaluation, Work};
 use upc_meaning_state::{Setting, Step};
+use upc_meaning_steps::{
+    arguments, declarations, expressions, functions, loops, statements, switches,
+};
+use upc_meaning_work::{Evaluation, Work};
 use upc_text::{OutOfMemory, Place};
 use upc_values::Mark;
 

@@ -18,14 +18,14 @@ use crate::ranges::{is_cast, is_held, is_numeric, is_step, is_target};
 use crate::runner::Runner;
 use crate::setting::Setting;
 use block_layout::Kind;
-use meaning_types::{elements_of, integer_of, leaves_of, target_of};
 use integers::{BinOp, UnOp};
-use typing_rules::constants::working_kind;
+use meaning_types::{elements_of, integer_of, leaves_of, target_of};
+use thread_steps::{CastTo, Elements};
 use thread_values::{
     advanced, applied, cast, difference, in_row, is_zero, member_behind, number_of, operated,
     order, same, truth_value,
 };
-use thread_steps::{CastTo, Elements};
+use typing_rules::constants::working_kind;
 use upc_text::{OutOfMemory, Place};
 use upc_types::{CType, promoted, usual};
 use upc_values::{Scalar, ToldEnd, Value};

@@ -11,8 +11,8 @@ ghost use Rattle.upc_meaning_state.specs.layer.Runners.{IsHeldThere};
 
 use crate::runner::Runner;
 use block_layout::{Kind, LocalPtr, ObjectRef, is_in_range};
-use thread_values::number_of;
 use thread_steps::{CastTo, Elements};
+use thread_values::number_of;
 use upc_values::{Scalar, Value};
 
 // The most bytes of an object and of a block.

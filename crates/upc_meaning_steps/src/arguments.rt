@@ -13,10 +13,10 @@ ghost use Rattle.upc_meaning_work.specs.layer.Evaluations.{Went, seen};
 
 use crate::calling;
 use meaning_types::{conversion, parameter_conversion, promotion};
-use upc_meaning_work::{Evaluation, Parameters, Work};
-use upc_meaning_state::{Setting, Step};
 use thread_steps::CastTo;
 use typed_tree::Expr;
+use upc_meaning_state::{Setting, Step};
+use upc_meaning_work::{Evaluation, Parameters, Work};
 use upc_text::OutOfMemory;
 use upc_values::Value;
 

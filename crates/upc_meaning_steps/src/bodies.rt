@@ -13,9 +13,9 @@ ghost use Rattle.upc_meaning_work.specs.layer.Seen.{entered};
 ghost use Rattle.upc_meaning_work.specs.layer.ViewItems.{view_standing};
 ghost use Rattle.upc_meaning_work.specs.layer.Evaluations.{Went, seen};
 
-use upc_meaning_work::{Evaluation, Flow, Standing, Work};
-use upc_meaning_state::{Setting, Step};
 use typed_tree::{Function, Item, Statement, StatementKind};
+use upc_meaning_state::{Setting, Step};
+use upc_meaning_work::{Evaluation, Flow, Standing, Work};
 use upc_text::OutOfMemory;
 use upc_values::Value;
 

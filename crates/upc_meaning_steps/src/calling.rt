@@ -11,9 +11,9 @@ ghost use Rattle.upc_meaning_work.specs.layer.Seen.{called_with, calls};
 ghost use Rattle.upc_meaning_work.specs.layer.Evaluations.{Went, seen};
 
 use crate::functions;
-use upc_meaning_work::Evaluation;
-use upc_meaning_state::{Setting, Step};
 use typed_tree::{Expr, ExprKind, Target};
+use upc_meaning_state::{Setting, Step};
+use upc_meaning_work::Evaluation;
 use upc_text::OutOfMemory;
 use upc_values::{LibraryCall, Value};
 

@@ -15,9 +15,9 @@ ghost use Rattle.upc_meaning_work.specs.layer.Evaluations.{Went, seen};
 
 use crate::bodies;
 use meaning_types::cell_kind;
-use upc_meaning_work::{Evaluation, Flow, Work};
-use upc_meaning_state::{Setting, Step};
 use typed_tree::Function;
+use upc_meaning_state::{Setting, Step};
+use upc_meaning_work::{Evaluation, Flow, Work};
 use upc_text::{OutOfMemory, Place};
 use upc_types::CType;
 use upc_values::{Scalar, Value, blank_value};

@@ -2,14 +2,13 @@
 //! statement.
 #![tactic(auto)]
 
+pub mod arguments;
 mod bodies;
 mod calling;
 mod calls;
-pub mod arguments;
 pub mod declarations;
 pub mod expressions;
 pub mod functions;
 pub mod loops;
 pub mod statements;
 pub mod switches;
-

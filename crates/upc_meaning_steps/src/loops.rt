@@ -15,9 +15,9 @@ ghost use Rattle.upc_meaning_work.specs.layer.ViewItems.{flow_seen, view_standin
 ghost use Rattle.upc_meaning_work.specs.layer.Evaluations.{Went, seen};
 
 use thread_values::is_zero;
-use upc_meaning_work::{Evaluation, Flow, Standing, Work, with_objects};
-use upc_meaning_state::{Setting, Step};
 use typed_tree::{Affinity, Expr, Head, Item, Statement, StatementKind, SwitchItem};
+use upc_meaning_state::{Setting, Step};
+use upc_meaning_work::{Evaluation, Flow, Standing, Work, with_objects};
 use upc_text::{OutOfMemory, Place};
 
 // Whether a statement was left at its end.

@@ -13,9 +13,9 @@ ghost use Rattle.upc_meaning_work.specs.layer.Evaluations.{Went, seen};
 
 use meaning_types::conversion;
 use thread_values::{int_of, is_zero};
-use upc_meaning_work::{Evaluation, Flow, Standing, Work};
-use upc_meaning_state::{Setting, Step, is_numeric};
 use typed_tree::{Arm, Expr, Statement, Synchronises};
+use upc_meaning_state::{Setting, Step, is_numeric};
+use upc_meaning_work::{Evaluation, Flow, Standing, Work};
 use upc_text::{OutOfMemory, Place};
 use upc_values::{Mark, Scalar, Value};
 

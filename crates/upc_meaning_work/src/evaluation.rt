@@ -13,8 +13,8 @@ use crate::flow::Flow;
 use crate::standing::Standing;
 use crate::values::Values;
 use crate::works::{Work, Works};
-use upc_meaning_state::Progress;
 use typed_tree::Expr;
+use upc_meaning_state::Progress;
 use upc_text::OutOfMemory;
 use upc_values::{Scalar, Value};
 

@@ -8,10 +8,10 @@ ghost use Rattle.upc_tree.specs.layer.ViewStatement.{view_unit};
 ghost use Rattle.upc_parser.specs.Answer.{Answers, RefusedBy, OnlyRefused, IsRefusal, Ends, HasPlace, answer};
 ghost use Rattle.upc_parser.specs.Answer.{settled_fault};
 
-use upc_parser_statements::unit;
 use std::alloc::Global;
-use upc_parser_ground::{Fail, Fault, Tokens};
 use upc_lexer::Token;
+use upc_parser_ground::{Fail, Fault, Tokens};
+use upc_parser_statements::unit;
 use upc_text::{Code, Place, Refusal, Stop};
 use upc_tree::Unit;
 

@@ -7,11 +7,12 @@ ghost use Rattle.upc_parser_ground.specs.layer.Run.{Reads, boxed};
 ghost use Rattle.upc_parser_declarations.specs.layer.Parse as spec;
 
 use std::alloc::Global;
-use upc_parser_ground::boxed;
-use upc_parser_ground::statements::{declared_as, declares, some_list};
-use upc_parser_ground::{Ahead, Fail, Fault, Sign, Tokens, expect_punct, many, starts, starts_two};
-use upc_parser_expressions::{declarator, expr, next_exprs, specs};
 use upc_lexer::Punct;
+use upc_parser_expressions::{declarator, expr, next_exprs, specs};
+use upc_parser_ground::statements::{declared_as, declares, some_list};
+use upc_parser_ground::{
+    Ahead, Fail, Fault, Sign, Tokens, boxed, expect_punct, many, starts, starts_two,
+};
 use upc_tree::{Declaration, Declared, DeclaredList, Initial, NextDeclared};
 
 #[tactic(auto, unfolding(crate::specs::layer::Parse::value_initial))]

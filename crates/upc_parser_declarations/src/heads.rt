@@ -6,12 +6,11 @@ ghost use Rattle.upc_parser_declarations.specs.layer.Parse as spec;
 
 use crate::declarations::declaration;
 use std::alloc::Global;
-use upc_parser_ground::boxed;
-use upc_parser_ground::{
-    Ahead, Fail, Fault, Sign, Tokens, expect_punct, expect_word, many, span_of, starts,
-};
-use upc_parser_expressions::expr;
 use upc_lexer::{Punct, TokenKind, Word};
+use upc_parser_expressions::expr;
+use upc_parser_ground::{
+    Ahead, Fail, Fault, Sign, Tokens, boxed, expect_punct, expect_word, many, span_of, starts,
+};
 use upc_tree::{Affinity, Expr, First, ForHead, ForallHead, Pragma, Test};
 
 /// An expression, unless what ends it comes next.

@@ -9,9 +9,9 @@ ghost use Rattle.upc_parser_declarations.specs.layer.Parse as spec;
 use crate::declarations::{initial, next_declareds};
 use crate::heads::pragma;
 use std::alloc::Global;
+use upc_lexer::Punct;
 use upc_parser_ground::statements::{declared_as, declares, some_list};
 use upc_parser_ground::{Fail, Tokens, expect_punct};
-use upc_lexer::Punct;
 use upc_tree::{Declarator, External, Spec};
 
 /// What stands after the specifiers of a declaration that declares no name.

@@ -7,10 +7,9 @@ ghost use Rattle.upc_parser_declarations.specs.layer.Parse as spec;
 use crate::declarations::declaration;
 use crate::heads::value;
 use std::alloc::Global;
-use upc_parser_ground::boxed;
-use upc_parser_ground::{Fail, Tokens, expect_punct, expect_word};
-use upc_parser_expressions::expr;
 use upc_lexer::{Punct, Word};
+use upc_parser_expressions::expr;
+use upc_parser_ground::{Fail, Tokens, boxed, expect_punct, expect_word};
 use upc_tree::{BarrierWord, BlockItem, Span, Statement, SwitchItem};
 
 /// A `break`, after its word.

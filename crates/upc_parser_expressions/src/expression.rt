@@ -11,17 +11,17 @@ ghost use Rattle.upc_parser_ground.specs.layer.Run.{Reads, boxed, same};
 ghost use Rattle.upc_parser_types.specs.layer.Run.{Nests};
 
 use std::alloc::Global;
-use upc_parser_ground::boxed;
+use upc_lexer::{Punct, Token, TokenKind, Word};
 use upc_parser_ground::expressions::{
     arguments, assign, binary, call, cast, character, comma, conditional, constant, member_of,
     named, number, paren, size_of_expr, size_of_type, step, string_literals, subscript, unary,
 };
 use upc_parser_ground::{
-    Ahead, Fail, Fault, Joint, Prefix, Sign, Suffix, Tokens, expect_punct, joint_level, joint_of,
-    left_least, many, name, operand_level, prefix_of, span_of, starts, starts_two, suffix_of,
+    Ahead, Fail, Fault, Joint, Prefix, Sign, Suffix, Tokens, boxed, expect_punct, joint_level,
+    joint_of, left_least, many, name, operand_level, prefix_of, span_of, starts, starts_two,
+    suffix_of,
 };
 use upc_parser_types::Grammar;
-use upc_lexer::{Punct, Token, TokenKind, Word};
 use upc_text::Text;
 use upc_tree::{
     Arguments, AssignMark, BinaryMark, ConstantWord, Expr, MemberMark, Name, NextExpr, PostfixMark,

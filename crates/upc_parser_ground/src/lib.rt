@@ -6,16 +6,16 @@
 mod ahead;
 mod boxes;
 mod cursor;
+pub mod expressions;
 mod items;
 mod start;
-pub mod expressions;
 pub mod statements;
 
 pub use ahead::{Ahead, Sign, starts, starts_two};
+pub use boxes::boxed;
 pub use cursor::{Fail, Fault, Tokens, expect_punct, expect_word, name, span_of};
 pub use items::many;
 pub use start::{
     Joint, Prefix, QualWord, SpecStart, Suffix, joint_level, joint_of, left_least, operand_level,
     prefix_of, qual_start, spec_start, suffix_of,
 };
-pub use boxes::boxed;

@@ -7,13 +7,12 @@ ghost use Rattle.upc_parser_ground.specs.layer.Run.{Reads, boxed};
 ghost use Rattle.upc_parser_statements.specs.layer.Parse as spec;
 
 use crate::knot::compound;
-use upc_parser_declarations::{behind_declarator, none_declared, pragma_part};
 use std::alloc::Global;
-use upc_parser_ground::boxed;
-use upc_parser_ground::expressions::{function, object};
-use upc_parser_ground::{Ahead, Fail, Fault, Sign, Tokens, many, name, starts};
-use upc_parser_expressions::{dimensions, parameters, pointers, specs};
 use upc_lexer::Punct;
+use upc_parser_declarations::{behind_declarator, none_declared, pragma_part};
+use upc_parser_expressions::{dimensions, parameters, pointers, specs};
+use upc_parser_ground::expressions::{function, object};
+use upc_parser_ground::{Ahead, Fail, Fault, Sign, Tokens, boxed, many, name, starts};
 use upc_tree::{External, Function, Name, Parameters, Pointer, Spec, Unit};
 
 #[tactic(auto, unfolding(crate::specs::layer::Parse::function_body))]

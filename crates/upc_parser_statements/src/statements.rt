@@ -11,20 +11,19 @@ ghost use Rattle.upc_parser_statements.specs.layer.Parse.{statements_at};
 ghost use Rattle.upc_parser_statements.specs.code.Run.{Nests};
 
 use crate::start::{StatementStart, statement_start};
+use std::alloc::Global;
+use upc_lexer::{Punct, Token, Word};
 use upc_parser_declarations::{
     barrier_statement, break_statement, case_item, continue_statement, declaration_item,
     default_item, fence_statement, for_head, forall_head, pragmas, return_statement, test,
     value_statement,
 };
-use std::alloc::Global;
-use upc_parser_ground::boxed;
 use upc_parser_ground::statements::{
     block, do_statement, for_statement, forall_statement, if_statement, switch, while_statement,
 };
 use upc_parser_ground::{
-    Ahead, Fail, Fault, Sign, Tokens, expect_punct, expect_word, many, span_of, starts,
+    Ahead, Fail, Fault, Sign, Tokens, boxed, expect_punct, expect_word, many, span_of, starts,
 };
-use upc_lexer::{Punct, Token, Word};
 use upc_tree::{BlockItem, Compound, ElseIf, Otherwise, Span, Statement, SwitchItem};
 
 /// The rules, as methods: statements one level down are parsed by the function, which calls back through it.

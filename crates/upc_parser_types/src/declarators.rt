@@ -11,15 +11,14 @@ ghost use Rattle.upc_parser_types.specs.layer.Run.{Nests};
 
 use crate::grammar::Grammar;
 use std::alloc::Global;
-use upc_parser_ground::boxed;
+use upc_lexer::{Punct, TokenKind, Word};
 use upc_parser_ground::expressions::{
     function, member, next_parameter, object, parameter, parameters, sized_array, struct_spec,
 };
 use upc_parser_ground::{
-    Ahead, Fail, Fault, Sign, Tokens, expect_punct, expect_word, many, name, span_of, starts,
-    starts_two,
+    Ahead, Fail, Fault, Sign, Tokens, boxed, expect_punct, expect_word, many, name, span_of,
+    starts, starts_two,
 };
-use upc_lexer::{Punct, TokenKind, Word};
 use upc_tree::{
     Declarator, Expr, Member, Name, NextDeclarator, NextParameter, Parameter, ParameterArray,
     Parameters, Pointer, Span, Spec,

@@ -11,13 +11,12 @@ ghost use Rattle.upc_parser_types.specs.layer.Run.{Nests};
 
 use crate::grammar::Grammar;
 use std::alloc::Global;
-use upc_parser_ground::boxed;
+use upc_lexer::{Punct, Token};
 use upc_parser_ground::expressions::{block_layout, type_name};
 use upc_parser_ground::{
-    Ahead, Fail, Fault, QualWord, Sign, SpecStart, Tokens, expect_punct, many, qual_start, span_of,
-    spec_start, starts, starts_two,
+    Ahead, Fail, Fault, QualWord, Sign, SpecStart, Tokens, boxed, expect_punct, many, qual_start,
+    span_of, spec_start, starts, starts_two,
 };
-use upc_lexer::{Punct, Token};
 use upc_tree::{Dimension, Expr, Layout, Pointer, Qual, Span, Spec, TypeName};
 
 fn star_fills(rest: &[Token]) -> bool
