@@ -4,7 +4,7 @@
 use Rattle.std.specs.Prelude.{if◌then◌else◌, List, [], ◌∷◌, ◌++◌, Option, Some, None}
 use Rattle.upc_types.specs.Types.{CType, base_of, Structs}
 use Rattle.typed_tree.specs.declared.tree.Target.{Target}
-use Rattle.typed_tree.specs.declared.tree.Target.TheVariants as c
+use Rattle.typed_tree.specs.declared.tree.Target.TheVariants as targets
 use Rattle.typing_rules.specs.Library.{is_allocation}
 use Rattle.typing_rules.specs.Nodes.{Attr}
 use Rattle.typing_rules.specs.Values.{base_target}
@@ -33,8 +33,8 @@ laid_target s (Some t) = laid s t
 -- The element type that a call with a value of this type allocates; a call of any other function allocates none
 -- (UPC 7.2.2).
 abbrev pub allocated_call : Structs → CType → Target → List CType
-allocated_call s t (c.Function number) = []
-allocated_call s t (c.Library call) = if is_allocation call then laid_target s (base_target (base_of t)) else []
+allocated_call s t (targets.Function number) = []
+allocated_call s t (targets.Library call) = if is_allocation call then laid_target s (base_target (base_of t)) else []
 
 -- ---- expressions
 

@@ -3,7 +3,7 @@
 use Rattle.std.specs.Prelude.{ℕ, zero, suc, ℤ, pos, ◌+◌, nat_lt, ◌==◌, Bool, ◌&&◌, ◌||◌, if◌then◌else◌, List, []}
 use Rattle.std.specs.Prelude.{◌∷◌, ◌++◌, map, take, Option, Some, None, slice_get}
 use Rattle.block_layout.specs.declared.kind.Kind.{Kind}
-use Rattle.block_layout.specs.declared.kind.Kind.TheVariants as k
+use Rattle.block_layout.specs.declared.kind.Kind.TheVariants as kinds
 use Rattle.block_layout.specs.declared.place.Loc.{Loc}
 use Rattle.block_layout.specs.declared.place.LocalPtr.{LocalPtr}
 use Rattle.block_layout.specs.declared.place.ObjectRef.{ObjectRef}
@@ -83,9 +83,9 @@ local_pointer_in σ c = local.Null
 -- The value with which an object of this kind begins by a constant: a converted integer, or a pointer to an object of
 -- the file; a lock pointer is null (C99 6.7.8).
 abbrev pub value_in : Setting → Kind → Constant → Value
-value_in σ (k.Shared n block) c = value.Scalar (scalar.Shared (shared_pointer_in σ block c))
-value_in σ (k.Private n) c = value.Local (local_pointer_in σ c)
-value_in σ k.Lock c = value.Scalar (scalar.Lock 0)
+value_in σ (kinds.Shared n block) c = value.Scalar (scalar.Shared (shared_pointer_in σ block c))
+value_in σ (kinds.Private n) c = value.Local (local_pointer_in σ c)
+value_in σ kinds.Lock c = value.Scalar (scalar.Lock 0)
 value_in σ kind c = value.Scalar (scalar.Int (integer_in kind c))
 
 -- ---- initialisers

@@ -4,9 +4,9 @@ use Rattle.std.specs.Prelude.{ℕ, ◌+◌, List, [], ◌∷◌, length, map, Ve
 use Rattle.std.specs.declared.alloc.Global.{Global}
 use Rattle.upc_types.specs.Types.{Structs}
 use Rattle.upc_types.specs.ViewStructs.{view_structs}
-use Rattle.typed_tree.specs.declared.beginning.Beginning as b
-use Rattle.typed_tree.specs.declared.tree.Object as o
-use Rattle.typed_tree.specs.declared.tree.Function as f
+use Rattle.typed_tree.specs.declared.beginning.Beginning as beginning_type
+use Rattle.typed_tree.specs.declared.tree.Object as object
+use Rattle.typed_tree.specs.declared.tree.Function as function
 use Rattle.typed_tree.specs.Tree.{DeclaredObject, Function}
 use Rattle.typed_tree.specs.LocalObjects.{objects_in, types_in}
 use Rattle.typed_tree.specs.Objects.{shared_in, private_in, bytes_in}
@@ -64,7 +64,7 @@ most_declared = 65535
 -- ---- what contracts see
 
 -- The record of a program of the code with these parts, seen without where they lie in memory.
-abbrev pub view_parts : ℕ → Vec o.Object Global → Vec f.Function Global → b.Beginning → Checked
+abbrev pub view_parts : ℕ → Vec object.Object Global → Vec function.Function Global → beginning_type.Beginning → Checked
 view_parts threads objects functions beginning =
     checked_of threads (view_structs beginning.structs) (map view_object objects.items)
     (map view_function functions.items)

@@ -9,12 +9,12 @@ use Rattle.upc_types.specs.Types.{CType, Base, Integer, base_of}
 use Rattle.typing_rules.specs.declared.setting.Enclosing.TheVariants as enclosing
 use Rattle.typing_rules.specs.declared.attribute.Constant.{Constant}
 use Rattle.typing_rules.specs.declared.attribute.Constant.TheVariants.{Known}
-use Rattle.typing_rules.specs.Meanings as m
+use Rattle.typing_rules.specs.Meanings as meanings
 use Rattle.typing_rules.specs.Meanings.{Meaning}
-use Rattle.typing_rules.specs.Nodes as n
+use Rattle.typing_rules.specs.Nodes as nodes
 use Rattle.typing_rules.specs.Nodes.{Attr, Use, Around}
 use Rattle.typing_rules.specs.Rules.{label_kind}
-use Rattle.typed_tree.specs.Tree as k
+use Rattle.typed_tree.specs.Tree as typed_nodes
 use Rattle.typed_tree.specs.Tree.{ExprKind, Exprs, Function, attr_of}
 
 -- ---- uses of expressions
@@ -22,13 +22,13 @@ use Rattle.typed_tree.specs.Tree.{ExprKind, Exprs, Function, attr_of}
 -- How the arguments of a call are used, where more than their values is taken: those of a function of the source are
 -- converted into the types of its parameters, and the first of a printf is its format (C99 6.5.2.2, 7.19.6.3).
 abbrev pub uses_by : Meaning → List Use
-uses_by (m.Function signature) = map n.Into signature.parameters
-uses_by (m.Library Printf) = n.Prints ∷ []
+uses_by (meanings.Function signature) = map nodes.Into signature.parameters
+uses_by (meanings.Library Printf) = nodes.Prints ∷ []
 uses_by meaning = []
 
 -- How the first of some expressions is used; where nothing is said of it, its value is taken.
 abbrev pub first_use : List Use → Use
-first_use [] = n.Plain
+first_use [] = nodes.Plain
 first_use (u ∷ us) = u
 
 -- How the expressions after the first are used.
@@ -38,8 +38,8 @@ later_uses (u ∷ us) = us
 
 -- How a value of an initialiser list is used: it is converted into the type of an element, if there is one (C99 6.7.8).
 abbrev pub element_use : Option CType → Use
-element_use None = n.Plain
-element_use (Some t) = n.Into t
+element_use None = nodes.Plain
+element_use (Some t) = nodes.Into t
 
 -- ---- parts of expressions
 
@@ -47,25 +47,25 @@ element_use (Some t) = n.Into t
 abbrev mutual
   -- The text of an expression where it is a string, in parentheses or not; another expression has none (C99 6.4.5,
   -- 6.5.1).
-  pub text_in : k.Expr → Option (List ℕ)
-  text_in (k.Is place attr kind) = text_of kind
+  pub text_in : typed_nodes.Expr → Option (List ℕ)
+  text_in (typed_nodes.Is place attr kind) = text_of kind
 
   -- The text of what an expression consists of where that is a string, in parentheses or not; else there is none
   -- (C99 6.4.5, 6.5.1).
   pub text_of : ExprKind → Option (List ℕ)
-  text_of (k.Format bytes) = Some bytes
-  text_of (k.Paren a) = text_in a
+  text_of (typed_nodes.Format bytes) = Some bytes
+  text_of (typed_nodes.Paren a) = text_in a
   text_of x = None
 
 -- The format among the arguments of a call: the text of the first, where that is a string (C99 7.19.6.3).
 abbrev pub format_in : Exprs → Option (List ℕ)
-format_in k.NoExprs = None
-format_in (k.AndExpr a more) = text_in a
+format_in typed_nodes.NoExprs = None
+format_in (typed_nodes.AndExpr a more) = text_in a
 
 -- What the last of these expressions is to the node above it, of which there is at least one (C99 6.5.17).
-abbrev pub last_of : k.Expr → Exprs → Attr
-last_of x k.NoExprs = attr_of x
-last_of x (k.AndExpr y more) = last_of y more
+abbrev pub last_of : typed_nodes.Expr → Exprs → Attr
+last_of x typed_nodes.NoExprs = attr_of x
+last_of x (typed_nodes.AndExpr y more) = last_of y more
 
 -- ---- what stands around a statement
 
@@ -83,7 +83,7 @@ abbrev pub in_forall : Around → Around
 in_forall c = record { result = c.result; breaks = enclosing.Forall; loops = true; forall = true }
 
 -- What a condition is to its statement, where there is one.
-abbrev pub tests_of : Option k.Expr → List Attr
+abbrev pub tests_of : Option typed_nodes.Expr → List Attr
 tests_of None = []
 tests_of (Some a) = attr_of a ∷ []
 

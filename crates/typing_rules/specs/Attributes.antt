@@ -26,12 +26,12 @@ use Rattle.upc_values.specs.declared.library.LibraryCall.{LibraryCall}
 use Rattle.typing_rules.specs.Library.{plain, int, constant_value, call_result, is_allocation}
 use Rattle.typing_rules.specs.Values.{value_base, value_type, plainly, base_kind, base_target}
 use Rattle.typing_rules.specs.Values.{base_struct}
-use Rattle.typing_rules.specs.Meanings as m
+use Rattle.typing_rules.specs.Meanings as meanings
 use Rattle.typing_rules.specs.Meanings.{Meaning}
 use Rattle.typing_rules.specs.Constants.{working_kind, on_known, binary_constant, unary_constant, cast_constant}
 use Rattle.typing_rules.specs.Constants.{and_constant, or_constant, choice_constant, ranged, address_plus, alone}
 use Rattle.typing_rules.specs.Constants.{member_place, cast_address, block_or_none, first_element, lost_behind}
-use Rattle.typing_rules.specs.Nodes as n
+use Rattle.typing_rules.specs.Nodes as nodes
 use Rattle.typing_rules.specs.Nodes.{Attr, Use, Node}
 use Rattle.upc_types.specs.Cells.{leaf_base, leaves}
 
@@ -81,11 +81,11 @@ home_address (home.Local object) = Variable
 -- What a name is as an expression: an object is an lvalue, a function is what can be called, and a named constant of
 -- the library is an int (C99 6.5.1, UPC 7.3).
 abbrev pub named : Meaning → Attr
-named m.Unknown = value int
-named (m.Object t place) = record { ctype = t; form = Lvalue (home_address place); constant = Variable }
-named (m.Function signature) = record { ctype = int; form = Callable; constant = Variable }
-named (m.Library call) = record { ctype = int; form = Callable; constant = Variable }
-named (m.Named c) = known kind.Int (pos (constant_value c))
+named meanings.Unknown = value int
+named (meanings.Object t place) = record { ctype = t; form = Lvalue (home_address place); constant = Variable }
+named (meanings.Function signature) = record { ctype = int; form = Callable; constant = Variable }
+named (meanings.Library call) = record { ctype = int; form = Callable; constant = Variable }
+named (meanings.Named c) = known kind.Int (pos (constant_value c))
 
 -- ---- what pointers lead to (C99 6.5.2.1, 6.5.3.2)
 
@@ -186,7 +186,7 @@ member_behind structs (Some t) address name = member_at t address (member_named 
 
 -- The type of an allocation call's result: that into which the node above converts it (UPC 7.2.2).
 abbrev pub allocated : Use → CType
-allocated (n.Into t) = value_type t
+allocated (nodes.Into t) = value_type t
 allocated how = int
 
 -- The type of what a call of the library gives: for an allocation that into which it is converted, for any other call
@@ -196,8 +196,8 @@ library_given how call = if is_allocation call then allocated how else call_resu
 
 -- The type of what a call gives, without qualifiers of its own (C99 6.5.2.2).
 abbrev pub given : Use → Meaning → CType
-given how (m.Function signature) = value_type signature.result
-given how (m.Library call) = library_given how call
+given how (meanings.Function signature) = value_type signature.result
+given how (meanings.Library call) = library_given how call
 given how meaning = int
 
 -- ---- sizes (C99 6.5.3.4, UPC 6.4.1)
@@ -303,30 +303,30 @@ choice_attr test a b j k t = other_choice a b t
 
 -- What a node is to the node above it; where it breaks a rule, that is never asked (C99 6.5, 6.6; UPC 6.4).
 abbrev pub attr : Facts → Node → Attr
-attr φ (n.Name how meaning) = named meaning
-attr φ (n.Number k v) = known k (pos v)
-attr φ (n.Character v) = known kind.Int (pos v)
-attr φ (n.Strings how) = record { ctype = int; form = Text; constant = Variable }
-attr φ n.Mythread = value int
-attr φ (n.Threads threads) = known kind.Int (pos threads)
-attr φ n.MaxBlockSize = known kind.Int (pos 16777216)
-attr φ (n.Subscript how a i) = object_at (base_target (base a)) (element_address φ a i (base_target (base a)))
-attr φ (n.Call how meaning runs format args) = value (given how meaning)
-attr φ (n.MemberOf a name) = member_at a.ctype (address_in a.form) (member_named φ.structs a.ctype name)
-attr φ (n.MemberBehind a name) = member_behind φ.structs (base_target (base a)) (constant_of a) name
-attr φ (n.Step a) = value (value_type a.ctype)
-attr φ (n.Address a) = record { ctype = plainly (Pointer a.ctype); form = Value; constant = address_in a.form }
-attr φ (n.Dereference a) = object_at (base_target (base a)) (constant_of a)
-attr φ (n.Unary o a) = unary_attr o (base_kind (base a)) a.constant
-attr φ (n.SizeOf o a) = size_attr φ o a.ctype
-attr φ (n.SizeOfType o t) = size_attr φ o t.ctype
-attr φ (n.Cast t a) = cast_attr (value_type t.ctype) a
-attr φ (n.Binary o a b) = binary_attr φ o a b
-attr φ (n.And a b) = constant kind.Int (and_constant a.constant b.constant)
-attr φ (n.Or a b) = constant kind.Int (or_constant a.constant b.constant)
-attr φ (n.Assign a b) = value (value_type a.ctype)
-attr φ (n.Compound o a b) = value (value_type a.ctype)
-attr φ (n.Conditional test a b) =
+attr φ (nodes.Name how meaning) = named meaning
+attr φ (nodes.Number k v) = known k (pos v)
+attr φ (nodes.Character v) = known kind.Int (pos v)
+attr φ (nodes.Strings how) = record { ctype = int; form = Text; constant = Variable }
+attr φ nodes.Mythread = value int
+attr φ (nodes.Threads threads) = known kind.Int (pos threads)
+attr φ nodes.MaxBlockSize = known kind.Int (pos 16777216)
+attr φ (nodes.Subscript how a i) = object_at (base_target (base a)) (element_address φ a i (base_target (base a)))
+attr φ (nodes.Call how meaning runs format args) = value (given how meaning)
+attr φ (nodes.MemberOf a name) = member_at a.ctype (address_in a.form) (member_named φ.structs a.ctype name)
+attr φ (nodes.MemberBehind a name) = member_behind φ.structs (base_target (base a)) (constant_of a) name
+attr φ (nodes.Step a) = value (value_type a.ctype)
+attr φ (nodes.Address a) = record { ctype = plainly (Pointer a.ctype); form = Value; constant = address_in a.form }
+attr φ (nodes.Dereference a) = object_at (base_target (base a)) (constant_of a)
+attr φ (nodes.Unary o a) = unary_attr o (base_kind (base a)) a.constant
+attr φ (nodes.SizeOf o a) = size_attr φ o a.ctype
+attr φ (nodes.SizeOfType o t) = size_attr φ o t.ctype
+attr φ (nodes.Cast t a) = cast_attr (value_type t.ctype) a
+attr φ (nodes.Binary o a b) = binary_attr φ o a b
+attr φ (nodes.And a b) = constant kind.Int (and_constant a.constant b.constant)
+attr φ (nodes.Or a b) = constant kind.Int (or_constant a.constant b.constant)
+attr φ (nodes.Assign a b) = value (value_type a.ctype)
+attr φ (nodes.Compound o a b) = value (value_type a.ctype)
+attr φ (nodes.Conditional test a b) =
     choice_attr test.constant a b (base_kind (base a)) (base_kind (base b)) (base_target (base a))
-attr φ (n.Comma last) = value (value_type last.ctype)
+attr φ (nodes.Comma last) = value (value_type last.ctype)
 attr φ x = value int

@@ -2,7 +2,7 @@
 use Rattle.std.specs.Prelude.{ℕ, nat_le, ◌==◌, Bool, true, false, ◌&&◌, ◌||◌, not, if◌then◌else◌, List, [], ◌∷◌}
 use Rattle.std.specs.Prelude.{Option, Some, None}
 use Rattle.block_layout.specs.declared.kind.Kind.{Kind}
-use Rattle.block_layout.specs.declared.kind.Kind.TheVariants as k
+use Rattle.block_layout.specs.declared.kind.Kind.TheVariants as kinds
 use Rattle.upc_types.specs.Types.{Base}
 use Rattle.upc_types.specs.Arithmetic.{promoted}
 use Rattle.typing_rules.specs.declared.format.Awaits.{Awaits}
@@ -64,10 +64,10 @@ conversions s (b ∷ bs) = go_on (step s b) (λ state. conversions state bs)
 -- A value of this promoted kind fits a conversion: int or unsigned int one of an int, long or unsigned long one of a
 -- long (C99 7.19.6.1).
 abbrev pub is_printed_kind : Printed → Kind → Bool
-is_printed_kind AnInt k.Int = true
-is_printed_kind AnInt k.UInt = true
-is_printed_kind ALong k.Long = true
-is_printed_kind ALong k.ULong = true
+is_printed_kind AnInt kinds.Int = true
+is_printed_kind AnInt kinds.UInt = true
+is_printed_kind ALong kinds.Long = true
+is_printed_kind ALong kinds.ULong = true
 is_printed_kind p kind = false
 
 -- A value of this kind fits a conversion after promotion; what is no integer fits none (C99 6.3.1.1, 7.19.6.1).

@@ -3,11 +3,11 @@ use Rattle.std.specs.Prelude.{ℕ, Bool, true, false, List, [], ◌∷◌, ◌++
 use Rattle.std.specs.Prelude.{if◌then◌else◌}
 use Rattle.std.specs.Cmp.Lexicographic.{pointwise}
 use Rattle.block_layout.specs.declared.kind.Kind.{Kind}
-use Rattle.block_layout.specs.declared.kind.Kind.TheVariants as k
+use Rattle.block_layout.specs.declared.kind.Kind.TheVariants as kinds
 use Rattle.upc_types.specs.Types.{CType, Qualified, Void, Integer, Pointer, LockObject}
 use Rattle.upc_types.specs.declared.ctype.Access.TheVariants.{Unsaid}
 use Rattle.upc_values.specs.declared.library.ElementKind.{ElementKind}
-use Rattle.upc_values.specs.declared.library.ElementKind.TheVariants as e
+use Rattle.upc_values.specs.declared.library.ElementKind.TheVariants as element_kind
 use Rattle.upc_values.specs.declared.library.LibraryCall.{LibraryCall}
 use Rattle.upc_values.specs.declared.library.LibraryCall.TheVariants.{Printf, ThreadOf, PhaseOf, AddressField}
 use Rattle.upc_values.specs.declared.library.LibraryCall.TheVariants.{AffinitySize, GlobalAlloc, AllAlloc, Alloc}
@@ -18,21 +18,21 @@ use Rattle.upc_values.specs.declared.library.LibraryCall.TheVariants.{GlobalExit
 use Rattle.upc_values.specs.declared.library.LibraryCall.TheVariants.{GatherAll, Exchange, Permute, Reduce}
 use Rattle.upc_values.specs.declared.library.LibraryCall.TheVariants.{PrefixReduce}
 use Rattle.typing_rules.specs.declared.library.LibraryConstant.{LibraryConstant}
-use Rattle.typing_rules.specs.declared.library.LibraryConstant.TheVariants as c
+use Rattle.typing_rules.specs.declared.library.LibraryConstant.TheVariants as library_constant
 use Rattle.typing_rules.specs.declared.library.LibraryParameter.{LibraryParameter}
 use Rattle.typing_rules.specs.declared.library.LibraryParameter.TheVariants.{SharedPointer, PrivatePointer}
 use Rattle.typing_rules.specs.declared.library.LibraryParameter.TheVariants.{LockPointer, Size, Int, NoFunction}
 
 -- The letters that stand for an element type in the names of the reductions (UPC 7.3).
 abbrev pub letters : ElementKind → List ℕ
-letters e.Char = codes "C"
-letters e.UnsignedChar = codes "UC"
-letters e.Short = codes "S"
-letters e.UnsignedShort = codes "US"
-letters e.Int = codes "I"
-letters e.UnsignedInt = codes "UI"
-letters e.Long = codes "L"
-letters e.UnsignedLong = codes "UL"
+letters element_kind.Char = codes "C"
+letters element_kind.UnsignedChar = codes "UC"
+letters element_kind.Short = codes "S"
+letters element_kind.UnsignedShort = codes "US"
+letters element_kind.Int = codes "I"
+letters element_kind.UnsignedInt = codes "UI"
+letters element_kind.Long = codes "L"
+letters element_kind.UnsignedLong = codes "UL"
 
 -- How each call of the library is spelled (C99 7.19.6.3; UPC 7.2, 7.3).
 abbrev pub call_name : LibraryCall → List ℕ
@@ -69,44 +69,45 @@ call_name (PrefixReduce kind) = codes "upc_all_prefix_reduce" ++ letters kind
 
 -- How each named constant of the library is spelled (UPC 7.3).
 abbrev pub constant_name : LibraryConstant → List ℕ
-constant_name c.Add = codes "UPC_ADD"
-constant_name c.Multiply = codes "UPC_MULT"
-constant_name c.BitAnd = codes "UPC_AND"
-constant_name c.BitOr = codes "UPC_OR"
-constant_name c.BitXor = codes "UPC_XOR"
-constant_name c.LogicalAnd = codes "UPC_LOGAND"
-constant_name c.LogicalOr = codes "UPC_LOGOR"
-constant_name c.Least = codes "UPC_MIN"
-constant_name c.Greatest = codes "UPC_MAX"
-constant_name c.InNoSync = codes "UPC_IN_NOSYNC"
-constant_name c.InMySync = codes "UPC_IN_MYSYNC"
-constant_name c.InAllSync = codes "UPC_IN_ALLSYNC"
-constant_name c.OutNoSync = codes "UPC_OUT_NOSYNC"
-constant_name c.OutMySync = codes "UPC_OUT_MYSYNC"
-constant_name c.OutAllSync = codes "UPC_OUT_ALLSYNC"
+constant_name library_constant.Add = codes "UPC_ADD"
+constant_name library_constant.Multiply = codes "UPC_MULT"
+constant_name library_constant.BitAnd = codes "UPC_AND"
+constant_name library_constant.BitOr = codes "UPC_OR"
+constant_name library_constant.BitXor = codes "UPC_XOR"
+constant_name library_constant.LogicalAnd = codes "UPC_LOGAND"
+constant_name library_constant.LogicalOr = codes "UPC_LOGOR"
+constant_name library_constant.Least = codes "UPC_MIN"
+constant_name library_constant.Greatest = codes "UPC_MAX"
+constant_name library_constant.InNoSync = codes "UPC_IN_NOSYNC"
+constant_name library_constant.InMySync = codes "UPC_IN_MYSYNC"
+constant_name library_constant.InAllSync = codes "UPC_IN_ALLSYNC"
+constant_name library_constant.OutNoSync = codes "UPC_OUT_NOSYNC"
+constant_name library_constant.OutMySync = codes "UPC_OUT_MYSYNC"
+constant_name library_constant.OutAllSync = codes "UPC_OUT_ALLSYNC"
 
 -- The value of each named constant of the library, an int (UPC 7.3).
 abbrev pub constant_value : LibraryConstant → ℕ
-constant_value c.Add = 1
-constant_value c.Multiply = 2
-constant_value c.BitAnd = 4
-constant_value c.BitOr = 8
-constant_value c.BitXor = 16
-constant_value c.LogicalAnd = 32
-constant_value c.LogicalOr = 64
-constant_value c.Least = 128
-constant_value c.Greatest = 256
-constant_value c.InNoSync = 1
-constant_value c.InMySync = 2
-constant_value c.InAllSync = 4
-constant_value c.OutNoSync = 8
-constant_value c.OutMySync = 16
-constant_value c.OutAllSync = 32
+constant_value library_constant.Add = 1
+constant_value library_constant.Multiply = 2
+constant_value library_constant.BitAnd = 4
+constant_value library_constant.BitOr = 8
+constant_value library_constant.BitXor = 16
+constant_value library_constant.LogicalAnd = 32
+constant_value library_constant.LogicalOr = 64
+constant_value library_constant.Least = 128
+constant_value library_constant.Greatest = 256
+constant_value library_constant.InNoSync = 1
+constant_value library_constant.InMySync = 2
+constant_value library_constant.InAllSync = 4
+constant_value library_constant.OutNoSync = 8
+constant_value library_constant.OutMySync = 16
+constant_value library_constant.OutAllSync = 32
 
 -- All element types that reductions have (UPC 7.3).
 abbrev pub element_kinds : List ElementKind
 element_kinds =
-    e.Char ∷ e.UnsignedChar ∷ e.Short ∷ e.UnsignedShort ∷ e.Int ∷ e.UnsignedInt ∷ e.Long ∷ e.UnsignedLong ∷ []
+    element_kind.Char ∷ element_kind.UnsignedChar ∷ element_kind.Short ∷ element_kind.UnsignedShort ∷ element_kind.Int
+    ∷ element_kind.UnsignedInt ∷ element_kind.Long ∷ element_kind.UnsignedLong ∷ []
 
 -- All calls of the library (C99 7.19.6.3; UPC 7.2, 7.3).
 abbrev pub calls : List LibraryCall
@@ -119,8 +120,11 @@ calls =
 -- All named constants of the library (UPC 7.3).
 abbrev pub constants : List LibraryConstant
 constants =
-    c.Add ∷ c.Multiply ∷ c.BitAnd ∷ c.BitOr ∷ c.BitXor ∷ c.LogicalAnd ∷ c.LogicalOr ∷ c.Least ∷ c.Greatest ∷
-    c.InNoSync ∷ c.InMySync ∷ c.InAllSync ∷ c.OutNoSync ∷ c.OutMySync ∷ c.OutAllSync ∷ []
+    library_constant.Add ∷ library_constant.Multiply ∷ library_constant.BitAnd ∷ library_constant.BitOr ∷
+    library_constant.BitXor ∷ library_constant.LogicalAnd ∷ library_constant.LogicalOr ∷ library_constant.Least ∷
+    library_constant.Greatest ∷
+    library_constant.InNoSync ∷ library_constant.InMySync ∷ library_constant.InAllSync ∷ library_constant.OutNoSync ∷
+    library_constant.OutMySync ∷ library_constant.OutAllSync ∷ []
 
 -- The first of these things whose name is this text.
 abbrev pub spelled : {A : Type 0} → (A → List ℕ) → List A → List ℕ → Option A
@@ -143,7 +147,7 @@ plain kind = Qualified (Integer kind) false None Unsaid
 
 -- The type int, without qualifiers (C99 6.2.5).
 abbrev pub int : CType
-int = plain k.Int
+int = plain kinds.Int
 
 -- The type void, without qualifiers (C99 6.2.5).
 abbrev pub void : CType
@@ -151,7 +155,7 @@ void = Qualified Void false None Unsaid
 
 -- The type `size_t`, which is unsigned long (C99 7.17).
 abbrev pub size_type : CType
-size_type = plain k.ULong
+size_type = plain kinds.ULong
 
 -- The type `upc_lock_t *` of lock pointers (UPC 7.2.4).
 abbrev pub lock_pointer : CType

@@ -9,7 +9,7 @@ use Rattle.typing_rules.specs.declared.setting.SizeOperator.{SizeOperator}
 use Rattle.typing_rules.specs.declared.setting.Enclosing.{Enclosing}
 use Rattle.typing_rules.specs.declared.attribute.Constant.{Constant}
 use Rattle.typing_rules.specs.declared.attribute.Form.{Form}
-use Rattle.typing_rules.specs.declared.attribute.Attr as r
+use Rattle.typing_rules.specs.declared.attribute.Attr as attr
 use Rattle.typing_rules.specs.Meanings.{Meaning, Signature}
 
 -- What an expression is to the node above it: its type, its form, and its value where it is constant.
@@ -19,7 +19,7 @@ pub record Attr : Type 0 where
   pub constant : Constant
 
 -- What an expression is to the node above it, seen without where its type lies in memory.
-abbrev pub view_attr : r.Attr → Attr
+abbrev pub view_attr : attr.Attr → Attr
 view_attr a = record { ctype = types.view a.ctype; form = a.form; constant = a.constant }
 
 -- What the node above does with an expression, seen through parentheses: it calls it, takes an element of it, takes its

@@ -26,7 +26,7 @@ use Rattle.typing_rules.specs.declared.setting.Enclosing.TheVariants as around
 use Rattle.upc_values.specs.declared.library.LibraryCall.{LibraryCall}
 use Rattle.upc_values.specs.declared.library.LibraryCall.TheVariants.{Printf}
 use Rattle.typing_rules.specs.declared.library.LibraryParameter.{LibraryParameter}
-use Rattle.typing_rules.specs.declared.library.LibraryParameter.TheVariants as p
+use Rattle.typing_rules.specs.declared.library.LibraryParameter.TheVariants as library_parameter
 use Rattle.typing_rules.specs.declared.attribute.Constant.{Constant}
 use Rattle.typing_rules.specs.declared.attribute.Constant.TheVariants.{Known}
 use Rattle.typing_rules.specs.declared.attribute.Form.{Form}
@@ -35,7 +35,7 @@ use Rattle.typing_rules.specs.Library.{call_parameters, is_allocation}
 use Rattle.typing_rules.specs.Values.{value_type, plainly, is_void, is_array, is_struct, is_lock, is_shared, present}
 use Rattle.typing_rules.specs.Values.{base_kind, base_target, is_nested, is_no_object, equal_targets}
 use Rattle.typing_rules.specs.Meanings.{Meaning, Unknown, Object, Function, Library, Signature}
-use Rattle.typing_rules.specs.Constants as c
+use Rattle.typing_rules.specs.Constants as constants
 use Rattle.typing_rules.specs.Format.{prints}
 use Rattle.typing_rules.specs.Attributes.{Facts, base, constant_of}
 use Rattle.typing_rules.specs.Nodes.{Attr, Use, Called, Indexed, Measured, Prints, Into, Formed, Node, Name, Strings}
@@ -75,7 +75,7 @@ gives_void a = is_void a.ctype
 
 -- The value is the constant 0 (C99 6.3.2.3).
 abbrev pub is_zero : Attr → Bool
-is_zero a = c.is_zero a.constant
+is_zero a = constants.is_zero a.constant
 
 -- The value converts into the type without a cast (C99 6.5.16.1, UPC 6.4.3).
 abbrev pub converts : Attr → CType → Bool
@@ -207,12 +207,12 @@ target_leads_to_lock (Some t) = leads_to_lock t
 -- A parameter of the library takes the argument (UPC 7.2, 7.3). Whether the function of a reduction is the constant 0
 -- is judged elsewhere.
 abbrev pub takes : LibraryParameter → Attr → Bool
-takes p.SharedPointer a = to_shared_void (base a) (is_zero a)
-takes p.PrivatePointer a = to_void_pointer (base a) (is_zero a)
-takes p.LockPointer a = target_leads_to_lock (target a) || is_zero a && counts a
-takes p.Size a = counts a
-takes p.Int a = counts a
-takes p.NoFunction a = not (gives_void a)
+takes library_parameter.SharedPointer a = to_shared_void (base a) (is_zero a)
+takes library_parameter.PrivatePointer a = to_void_pointer (base a) (is_zero a)
+takes library_parameter.LockPointer a = target_leads_to_lock (target a) || is_zero a && counts a
+takes library_parameter.Size a = counts a
+takes library_parameter.Int a = counts a
+takes library_parameter.NoFunction a = not (gives_void a)
 
 -- Each argument converts into the type of its parameter; those that are too many are judged elsewhere (C99 6.5.2.2).
 abbrev pub all_convert : List Attr → List CType → Bool
@@ -236,7 +236,7 @@ first_taken (a ∷ args) x = takes x a
 
 -- An argument that stands for the function of a reduction is the constant 0 (UPC 7.3).
 abbrev pub no_function : LibraryParameter → Attr → Bool
-no_function p.NoFunction a = is_zero a
+no_function library_parameter.NoFunction a = is_zero a
 no_function x a = true
 
 -- Each argument that stands for the function of a reduction is the constant 0 (UPC 7.3).
@@ -477,7 +477,7 @@ base_count b = 0
 
 -- The value is no constant (C99 6.6).
 abbrev pub is_variable : Attr → Bool
-is_variable a = not (c.is_constant (constant_of a))
+is_variable a = not (constants.is_constant (constant_of a))
 
 -- Each value converts into this type (C99 6.7.8).
 abbrev pub all_fit : CType → List Attr → Bool
@@ -777,7 +777,7 @@ rule_31 x = false
 
 -- An expression at a place where a constant is asked for has a value that is undefined in C99 (C99 6.5, 6.6).
 abbrev pub rule_32 : Node → Bool
-rule_32 (Constantly a) = c.is_undefined (constant_of a)
+rule_32 (Constantly a) = constants.is_undefined (constant_of a)
 rule_32 x = false
 
 -- ---- the table

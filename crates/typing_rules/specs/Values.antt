@@ -1,7 +1,7 @@
 -- The types of values, and tests on types (C99 6.2.5, 6.3.2.1).
 use Rattle.std.specs.Prelude.{ℕ, Bool, true, false, ◌&&◌, ◌||◌, Option, Some, None}
 use Rattle.block_layout.specs.declared.kind.Kind.{Kind}
-use Rattle.block_layout.specs.declared.kind.Kind.TheVariants as k
+use Rattle.block_layout.specs.declared.kind.Kind.TheVariants as kinds
 use Rattle.upc_types.specs.declared.ctype.Access.TheVariants.{Unsaid}
 use Rattle.upc_types.specs.Types.{CType, Qualified, Base, Integer, Struct, Array, Pointer, base_of, block_of}
 use Rattle.upc_types.specs.Same as same
@@ -57,9 +57,9 @@ is_shared t = present (block_of t)
 
 -- The kind itself, where it is one of integers (C99 6.2.5).
 abbrev pub integer_kind : Kind → Option Kind
-integer_kind (k.Shared n b) = None
-integer_kind k.Lock = None
-integer_kind (k.Private n) = None
+integer_kind (kinds.Shared n b) = None
+integer_kind kinds.Lock = None
+integer_kind (kinds.Private n) = None
 integer_kind kind = Some kind
 
 -- The kind of an integer type, seen without its qualifiers (C99 6.2.5).

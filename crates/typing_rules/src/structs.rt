@@ -1,13 +1,13 @@
 //! Structs that are complete.
 
 ghost use Rattle.std.specs.Prelude.{◌≡◌};
-ghost use Rattle.typing_rules.specs.Nodes as n;
+ghost use Rattle.typing_rules.specs.Nodes as node;
 ghost use Rattle.typing_rules.specs.Attributes.{Facts};
 ghost use Rattle.typing_rules.specs.Rules.{lowest};
 
 /// The members of a struct, by their number and their bytes.
 pub fn struct_members(again: bool, members: usize, bytes: u64) -> Option<u8>
-    ensures { (φ : Facts) → result ≡ lowest φ (n.Struct again members bytes) }
+    ensures { (φ : Facts) → result ≡ lowest φ (node.Struct again members bytes) }
 {
     if again {
         Some(2)

@@ -3,7 +3,7 @@
 ghost use Rattle.std.specs.Prelude.{◌≡◌, ◌*◌, ◌<◌, ◌≤◌, ◌^◌, IfSome, pos, ◌+ℤ◌, ◌*ℤ◌, unsigned_abs};
 ghost use Rattle.block_layout.specs.Places.{in_range, offset_at};
 ghost use Rattle.shared_pointers.specs.Steps.{element_in_row, row_offset, moved, moved_by_blocks};
-ghost use Rattle.typing_rules.specs.Constants as c;
+ghost use Rattle.typing_rules.specs.Constants as constants;
 ghost use Rattle.typing_rules.specs.Constants.{IsWithin};
 ghost use Rattle.typing_rules.specs.Attributes as attributes;
 
@@ -28,7 +28,7 @@ fn lies_in_range(offset: i128) -> bool
 }
 
 fn private_at(element: Element, object: u32, offset: i128) -> Constant
-    ensures value { result ≡ c.ranged element (Static.Private object offset) }
+    ensures value { result ≡ constants.ranged element (Static.Private object offset) }
     ensures within { IsWithin result }
 {
     if !lies_in_range(offset) {
@@ -42,7 +42,7 @@ fn private_at(element: Element, object: u32, offset: i128) -> Constant
 }
 
 fn shared_at(element: Element, object: u32, spot: Spot) -> Constant
-    ensures value { result ≡ c.ranged element (Static.Shared object spot.thread spot.phase spot.offset) }
+    ensures value { result ≡ constants.ranged element (Static.Shared object spot.thread spot.phase spot.offset) }
     ensures within { IsWithin result }
 {
     if !lies_in_range(spot.offset) {
@@ -58,7 +58,7 @@ fn shared_at(element: Element, object: u32, spot: Spot) -> Constant
 }
 
 fn pointer_into(object: u32, thread: u32, phase: u32, offset: i64) -> SharedPtr
-    ensures { result ≡ c.pointer_into object thread phase offset }
+    ensures { result ≡ constants.pointer_into object thread phase offset }
 {
     SharedPtr {
         object: ObjectRef {
@@ -159,7 +159,7 @@ fn moved(p: &SharedPtr, i: i128, block: u32, size: u32, threads: u32) -> Spot
 
 /// The block, 0 where it is indefinite or there is none.
 pub(crate) fn block_or_none(block: Option<u32>) -> u32
-    ensures { result ≡ c.block_or_none block }
+    ensures { result ≡ constants.block_or_none block }
 {
     match block {
         Some(block) => block,
@@ -178,7 +178,7 @@ fn place_plus(
 ) -> Constant
     requires some_thread { 0 < threads }
     requires step { unsigned_abs i ≤ 2 ^ 90 }
-    ensures value { result ≡ c.ranged element (c.stepped threads block size p i) }
+    ensures value { result ≡ constants.ranged element (constants.stepped threads block size p i) }
     ensures within { IsWithin result }
 {
     match p {
@@ -204,7 +204,7 @@ fn place_plus(
 // The element so many places after another, where it lies in their array or right after its end.
 fn element_behind(e: Element, i: i128) -> Option<Element>
     requires { unsigned_abs i ≤ 2 ^ 64 }
-    ensures value { result ≡ c.element_behind e i }
+    ensures value { result ≡ constants.element_behind e i }
     ensures near { IfSome result (λ behind. unsigned_abs i ≤ 2 ^ 32) }
 {
     let at = i128::from(e.index) + i;
@@ -221,7 +221,7 @@ fn element_behind(e: Element, i: i128) -> Option<Element>
 
 /// What a step from an address gives that leads to no place (C99 6.5.6).
 pub(crate) fn lost_behind(address: Constant) -> Constant
-    ensures value { result ≡ c.lost_behind address }
+    ensures value { result ≡ constants.lost_behind address }
     ensures within { IsWithin result }
 {
     match address {
@@ -241,7 +241,7 @@ pub(crate) fn address_plus(
 ) -> Constant
     requires some_thread { 0 < threads }
     requires near { unsigned_abs i ≤ 2 ^ 64 }
-    ensures value { result ≡ c.address_plus threads block size leaves address i }
+    ensures value { result ≡ constants.address_plus threads block size leaves address i }
     ensures within { IsWithin result }
 {
     match address {

@@ -9,9 +9,9 @@ ghost use Rattle.upc_types.specs.View.{view, view_base};
 ghost use Rattle.typing_rules.specs.layer.Views.{view_meaning, view_use, view_target};
 ghost use Rattle.typing_rules.specs.Library as library;
 ghost use Rattle.typing_rules.specs.Values as values;
-ghost use Rattle.typing_rules.specs.Constants as c;
+ghost use Rattle.typing_rules.specs.Constants as known;
 ghost use Rattle.typing_rules.specs.Constants.{IsWithin};
-ghost use Rattle.typing_rules.specs.Nodes as n;
+ghost use Rattle.typing_rules.specs.Nodes as nodes;
 ghost use Rattle.typing_rules.specs.Nodes.{view_attr};
 ghost use Rattle.typing_rules.specs.Attributes as pure;
 ghost use Rattle.typing_rules.specs.Attributes.{Facts, attr};
@@ -94,30 +94,30 @@ pub fn copy(a: &Attr) -> Result<Attr, OutOfMemory>
 
 /// `++`, `--`, an assignment or a comma expression, from the operand whose type it has.
 pub fn value_of(a: &Attr) -> Result<Attr, OutOfMemory>
-    ensures step { IfOk result (λ x. (φ : Facts) → view_attr x ≡ attr φ (n.Step (view_attr a.now))) }
-    ensures assign { IfOk result (λ x. (φ : Facts) (b : n.Attr) → view_attr x ≡ attr φ (n.Assign (view_attr a.now) b)) }
-    ensures comma { IfOk result (λ x. (φ : Facts) → view_attr x ≡ attr φ (n.Comma (view_attr a.now))) }
+    ensures step { IfOk result (λ x. (φ : Facts) → view_attr x ≡ attr φ (nodes.Step (view_attr a.now))) }
+    ensures assign { IfOk result (λ x. (φ : Facts) (b : nodes.Attr) → view_attr x ≡ attr φ (nodes.Assign (view_attr a.now) b)) }
+    ensures comma { IfOk result (λ x. (φ : Facts) → view_attr x ≡ attr φ (nodes.Comma (view_attr a.now))) }
 {
     Ok(value(value_type(&a.ctype)?))
 }
 
 /// A number of this kind.
 pub fn number(kind: Kind, v: u64) -> Attr
-    ensures { (φ : Facts) → view_attr result ≡ attr φ (n.Number kind v) }
+    ensures { (φ : Facts) → view_attr result ≡ attr φ (nodes.Number kind v) }
 {
     constant(kind, Constant::Known(i128::from(v)))
 }
 
 /// A character.
 pub fn character(v: u8) -> Attr
-    ensures { (φ : Facts) → view_attr result ≡ attr φ (n.Character v) }
+    ensures { (φ : Facts) → view_attr result ≡ attr φ (nodes.Character v) }
 {
     constant(Kind::Int, Constant::Known(i128::from(v)))
 }
 
 /// A string.
 pub fn strings() -> Attr
-    ensures { (φ : Facts) (how : n.Use) → view_attr result ≡ attr φ (n.Strings how) }
+    ensures { (φ : Facts) (how : nodes.Use) → view_attr result ≡ attr φ (nodes.Strings how) }
 {
     Attr {
         ctype: plainly(Base::Integer(Kind::Int)),
@@ -134,21 +134,21 @@ pub(crate) fn int_value() -> Attr
 
 /// `MYTHREAD`.
 pub fn mythread() -> Attr
-    ensures { (φ : Facts) → view_attr result ≡ attr φ n.Mythread }
+    ensures { (φ : Facts) → view_attr result ≡ attr φ nodes.Mythread }
 {
     int_value()
 }
 
 /// `THREADS`.
 pub fn threads(threads: u32) -> Attr
-    ensures { (φ : Facts) → view_attr result ≡ attr φ (n.Threads threads) }
+    ensures { (φ : Facts) → view_attr result ≡ attr φ (nodes.Threads threads) }
 {
     constant(Kind::Int, Constant::Known(i128::from(threads)))
 }
 
 /// `UPC_MAX_BLOCK_SIZE`.
 pub fn max_block_size() -> Attr
-    ensures { (φ : Facts) → view_attr result ≡ attr φ n.MaxBlockSize }
+    ensures { (φ : Facts) → view_attr result ≡ attr φ nodes.MaxBlockSize }
 {
     constant(Kind::Int, Constant::Known(16_777_216))
 }
@@ -164,7 +164,7 @@ fn unary_kind(op: UnOp, kind: Kind) -> Kind
 
 /// `+a`, `-a`, `~a` and `!a`.
 pub fn unary(op: UnOp, a: &Attr) -> Attr
-    ensures { (φ : Facts) → view_attr result ≡ attr φ (n.Unary op (view_attr a.now)) }
+    ensures { (φ : Facts) → view_attr result ≡ attr φ (nodes.Unary op (view_attr a.now)) }
 {
     match kind_of(a) {
         Some(kind) => constant(
@@ -177,21 +177,21 @@ pub fn unary(op: UnOp, a: &Attr) -> Attr
 
 /// `a && b`.
 pub fn and(a: &Attr, b: &Attr) -> Attr
-    ensures { (φ : Facts) → view_attr result ≡ attr φ (n.And (view_attr a.now) (view_attr b.now)) }
+    ensures { (φ : Facts) → view_attr result ≡ attr φ (nodes.And (view_attr a.now) (view_attr b.now)) }
 {
     constant(Kind::Int, and_constant(a.constant, b.constant))
 }
 
 /// `a || b`.
 pub fn or(a: &Attr, b: &Attr) -> Attr
-    ensures { (φ : Facts) → view_attr result ≡ attr φ (n.Or (view_attr a.now) (view_attr b.now)) }
+    ensures { (φ : Facts) → view_attr result ≡ attr φ (nodes.Or (view_attr a.now) (view_attr b.now)) }
 {
     constant(Kind::Int, or_constant(a.constant, b.constant))
 }
 
 /// `&a`.
 pub fn address(alloc: Global, a: &Attr) -> Result<Attr, OutOfMemory>
-    ensures { IfOk result (λ x. (φ : Facts) → view_attr x ≡ attr φ (n.Address (view_attr a.now))) }
+    ensures { IfOk result (λ x. (φ : Facts) → view_attr x ≡ attr φ (nodes.Address (view_attr a.now))) }
 {
     let target = copy_type(&a.ctype)?;
     Ok(Attr {
@@ -217,7 +217,7 @@ pub(crate) fn object_at(target: Option<&CType>, address: Constant) -> Result<Att
 
 /// `*a`.
 pub fn dereference(a: &Attr) -> Result<Attr, OutOfMemory>
-    ensures { IfOk result (λ x. (φ : Facts) → view_attr x ≡ attr φ (n.Dereference (view_attr a.now))) }
+    ensures { IfOk result (λ x. (φ : Facts) → view_attr x ≡ attr φ (nodes.Dereference (view_attr a.now))) }
 {
     object_at(target_of(a), constant_of(a))
 }
@@ -253,8 +253,8 @@ fn callable() -> Attr
 
 /// A name.
 pub fn name(meaning: Meaning<'_>) -> Result<Attr, OutOfMemory>
-    ensures { IfOk result (λ x. (φ : Facts) (how : n.Use) → view_attr x
-        ≡ attr φ (n.Name how (view_meaning meaning.entry))) }
+    ensures { IfOk result (λ x. (φ : Facts) (how : nodes.Use) → view_attr x
+        ≡ attr φ (nodes.Name how (view_meaning meaning.entry))) }
 {
     match meaning {
         Meaning::Unknown => Ok(int_value()),
@@ -335,14 +335,14 @@ fn given(alloc: Global, how: Use<'_>, meaning: Meaning<'_>) -> Result<CType, Out
 /// A call of what a name stands for, used so.
 pub fn call(alloc: Global, how: Use<'_>, meaning: Meaning<'_>) -> Result<Attr, OutOfMemory>
     ensures { IfOk result
-        (λ x. (φ : Facts) (runs : Bool) (format : Option (List ℕ)) (args : List n.Attr) →
-        view_attr x ≡ attr φ (n.Call (view_use how.entry) (view_meaning meaning.entry) runs format args)) }
+        (λ x. (φ : Facts) (runs : Bool) (format : Option (List ℕ)) (args : List nodes.Attr) →
+        view_attr x ≡ attr φ (nodes.Call (view_use how.entry) (view_meaning meaning.entry) runs format args)) }
 {
     Ok(value(given(alloc, how, meaning)?))
 }
 
 fn cast_place(from: Option<u32>, into: Option<u32>, element: Element, p: Static) -> Constant
-    ensures value { result ≡ c.cast_place from into element p }
+    ensures value { result ≡ known.cast_place from into element p }
     ensures within { IsWithin result }
 {
     match (p, from, into) {
@@ -372,7 +372,7 @@ fn cast_place(from: Option<u32>, into: Option<u32>, element: Element, p: Static)
 }
 
 fn cast_address(from: Option<u32>, into: Option<u32>, x: Constant) -> Constant
-    ensures value { result ≡ c.cast_address from into x }
+    ensures value { result ≡ known.cast_address from into x }
     ensures within { IsWithin result }
 {
     match x {
@@ -473,7 +473,7 @@ pub fn arithmetic(op: BinOp, a: &Attr, b: &Attr) -> Attr
 fn integer_choice(j: Kind, k: Kind, test: Constant, a: Constant, b: Constant) -> Attr
     requires left { IsInteger j }
     requires right { IsInteger k }
-    ensures { view_attr result ≡ pure.constant (usual j k) (c.choice_constant (usual j k) test a b) }
+    ensures { view_attr result ≡ pure.constant (usual j k) (known.choice_constant (usual j k) test a b) }
 {
     let kind = usual(j, k);
     constant(kind, choice_constant(kind, test, a, b))
@@ -498,7 +498,7 @@ fn other_choice(a: &Attr, b: &Attr) -> Result<Attr, OutOfMemory>
 /// `test ? a : b`.
 pub fn conditional(test: &Attr, a: &Attr, b: &Attr) -> Result<Attr, OutOfMemory>
     ensures { IfOk result (λ x. (φ : Facts) → view_attr x
-        ≡ attr φ (n.Conditional (view_attr test.now) (view_attr a.now) (view_attr b.now))) }
+        ≡ attr φ (nodes.Conditional (view_attr test.now) (view_attr a.now) (view_attr b.now))) }
 {
     match (kind_of(a), kind_of(b)) {
         (Some(j), Some(k)) => Ok(integer_choice(j, k, test.constant, a.constant, b.constant)),

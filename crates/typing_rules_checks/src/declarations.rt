@@ -5,8 +5,8 @@ ghost use Rattle.std.specs.List.{list_any};
 ghost use Rattle.upc_types.specs.View.{view, view_base};
 ghost use Rattle.upc_types.specs.ViewStructs.{view_structs};
 ghost use Rattle.typing_rules.specs.layer.Views.{view_formed, view_signature};
-ghost use Rattle.typing_rules.specs.Constants as c;
-ghost use Rattle.typing_rules.specs.Nodes as n;
+ghost use Rattle.typing_rules.specs.Constants as known;
+ghost use Rattle.typing_rules.specs.Nodes as nodes;
 ghost use Rattle.typing_rules.specs.Nodes.{view_attr};
 ghost use Rattle.typing_rules.specs.Attributes.{Facts};
 ghost use Rattle.typing_rules.specs.Rules as r;
@@ -21,7 +21,7 @@ use upc_types::{Base, CType, Structs};
 
 /// The specifiers of a declaration or of members.
 pub fn specifies(forms: bool) -> Option<u8>
-    ensures { (φ : Facts) → result ≡ lowest φ (n.Specifies forms) }
+    ensures { (φ : Facts) → result ≡ lowest φ (nodes.Specifies forms) }
 {
     if forms { None } else { Some(4) }
 }
@@ -37,7 +37,7 @@ fn is_block_size(k: Constant) -> bool
 
 /// The brackets of a layout.
 pub fn block(a: &Attr) -> Option<u8>
-    ensures { (φ : Facts) → result ≡ lowest φ (n.Block (view_attr a.now)) }
+    ensures { (φ : Facts) → result ≡ lowest φ (nodes.Block (view_attr a.now)) }
 {
     if is_block_size(a.constant) {
         None
@@ -48,20 +48,20 @@ pub fn block(a: &Attr) -> Option<u8>
 
 /// `[*]`, where it may stand or not.
 pub fn star_block(declares: bool) -> Option<u8>
-    ensures { (φ : Facts) → result ≡ lowest φ (n.StarBlock declares) }
+    ensures { (φ : Facts) → result ≡ lowest φ (nodes.StarBlock declares) }
 {
     if declares { None } else { Some(5) }
 }
 
 fn is_undefined(k: Constant) -> bool
-    ensures { result ≡ c.is_undefined k }
+    ensures { result ≡ known.is_undefined k }
 {
     matches!(k, Constant::Undefined)
 }
 
 /// An expression where a constant is asked for.
 pub fn constantly(a: &Attr) -> Option<u8>
-    ensures { (φ : Facts) → result ≡ lowest φ (n.Constantly (view_attr a.now)) }
+    ensures { (φ : Facts) → result ≡ lowest φ (nodes.Constantly (view_attr a.now)) }
 {
     if is_undefined(constant_of(a)) {
         Some(32)
@@ -114,7 +114,7 @@ pub fn lacks_members(structs: &Structs, t: &CType) -> bool
 
 /// A member of a struct that is a function with this result.
 pub fn member_function(forms: bool, t: &CType) -> Option<u8>
-    ensures { (φ : Facts) → result ≡ lowest φ (n.MemberFunction forms (view t.now)) }
+    ensures { (φ : Facts) → result ≡ lowest φ (nodes.MemberFunction forms (view t.now)) }
 {
     if !forms || is_lock(t) {
         Some(4)
@@ -127,7 +127,7 @@ pub fn member_function(forms: bool, t: &CType) -> Option<u8>
 
 /// The file, with its function main or without it.
 pub fn file(main: bool) -> Option<u8>
-    ensures { (φ : Facts) → result ≡ lowest φ (n.File main) }
+    ensures { (φ : Facts) → result ≡ lowest φ (nodes.File main) }
 {
     if main { None } else { Some(3) }
 }
@@ -151,7 +151,7 @@ fn passes_struct(s: &Signature) -> bool
 
 /// A function that is declared.
 pub fn declares_function(again: bool, forms: bool, s: &Signature) -> Option<u8>
-    ensures { (φ : Facts) → result ≡ lowest φ (n.DeclaresFunction again forms (view_signature s.now)) }
+    ensures { (φ : Facts) → result ≡ lowest φ (nodes.DeclaresFunction again forms (view_signature s.now)) }
 {
     if again {
         Some(2)
@@ -168,7 +168,7 @@ pub fn declares_function(again: bool, forms: bool, s: &Signature) -> Option<u8>
 
 /// A function that is defined.
 pub fn defines(again: bool, differs: bool, forms: bool, s: &Signature) -> Option<u8>
-    ensures { (φ : Facts) → result ≡ lowest φ (n.Defines again differs forms (view_signature s.now)) }
+    ensures { (φ : Facts) → result ≡ lowest φ (nodes.Defines again differs forms (view_signature s.now)) }
 {
     if again {
         Some(2)
@@ -208,7 +208,7 @@ fn has_wrong_sizes(structs: &Structs, t: &Formed) -> bool
 pub fn size_of_type(structs: &Structs, op: SizeOperator, t: &Formed) -> Option<u8>
     ensures { (threads : ℕ) → result
         ≡ lowest (record { structs = view_structs structs.now; threads = threads })
-        (n.SizeOfType op (view_formed t.now)) }
+        (nodes.SizeOfType op (view_formed t.now)) }
 {
     if !t.forms || is_lock_leaf(&t.ctype) {
         Some(4)
@@ -238,7 +238,7 @@ fn is_lock_leaf(t: &CType) -> bool
 pub fn member(structs: &Structs, again: bool, t: &Formed) -> Option<u8>
     ensures { (threads : ℕ) → result
         ≡ lowest (record { structs = view_structs structs.now; threads = threads })
-        (n.Member again (view_formed t.now)) }
+        (nodes.Member again (view_formed t.now)) }
 {
     if !t.forms || declares_nothing(&t.ctype) {
         Some(4)
@@ -257,7 +257,7 @@ pub fn member(structs: &Structs, again: bool, t: &Formed) -> Option<u8>
 pub fn declares_object(structs: &Structs, again: bool, file: bool, t: &Formed) -> Option<u8>
     ensures { (threads : ℕ) → result
         ≡ lowest (record { structs = view_structs structs.now; threads = threads })
-        (n.DeclaresObject again file (view_formed t.now)) }
+        (nodes.DeclaresObject again file (view_formed t.now)) }
 {
     if again {
         Some(2)
@@ -278,7 +278,7 @@ pub fn declares_object(structs: &Structs, again: bool, file: bool, t: &Formed) -
 pub fn parameter(structs: &Structs, again: bool, t: &Formed) -> Option<u8>
     ensures { (threads : ℕ) → result
         ≡ lowest (record { structs = view_structs structs.now; threads = threads })
-        (n.Parameter again (view_formed t.now)) }
+        (nodes.Parameter again (view_formed t.now)) }
 {
     if again {
         Some(2)
@@ -311,7 +311,7 @@ pub fn is_variable(a: &Attr) -> bool
 
 /// An initialiser without braces, of an object or of what is none.
 pub fn initial_value(file: bool, object: bool, t: &CType, a: &Attr) -> Option<u8>
-    ensures { (φ : Facts) → result ≡ lowest φ (n.InitialValue file object (view t.now) (view_attr a.now)) }
+    ensures { (φ : Facts) → result ≡ lowest φ (nodes.InitialValue file object (view t.now) (view_attr a.now)) }
 {
     if object && ((file && is_variable(a)) || is_array(t) || is_struct(t)) {
         Some(9)

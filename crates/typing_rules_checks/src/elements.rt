@@ -4,9 +4,9 @@ ghost use Rattle.std.specs.Prelude.{◌≡◌, ◌<◌, ◌≤◌, ◌^◌, IfOk
 ghost use Rattle.upc_types.specs.Types as types;
 ghost use Rattle.upc_types.specs.View.{view};
 ghost use Rattle.upc_types.specs.ViewStructs.{view_structs};
-ghost use Rattle.typing_rules.specs.Constants as c;
+ghost use Rattle.typing_rules.specs.Constants as known;
 ghost use Rattle.typing_rules.specs.Constants.{IsWithin};
-ghost use Rattle.typing_rules.specs.Nodes as n;
+ghost use Rattle.typing_rules.specs.Nodes as node;
 ghost use Rattle.typing_rules.specs.Nodes.{view_attr};
 ghost use Rattle.typing_rules.specs.Attributes as pure;
 ghost use Rattle.typing_rules.specs.Attributes.{attr};
@@ -49,7 +49,7 @@ fn address_behind(
 fn indexed(structs: &Structs, threads: u32, t: &CType, address: Constant, i: Constant) -> Constant
     requires some_thread { 0 < threads }
     requires sized { rules.has_size (view_structs structs.now) (view t.now) ≡ true }
-    requires near { IfSome (c.number_of i) (λ v. unsigned_abs v ≤ 2 ^ 64) }
+    requires near { IfSome (known.number_of i) (λ v. unsigned_abs v ≤ 2 ^ 64) }
     ensures value { result
         ≡ pure.indexed (record { structs = view_structs structs.now; threads = threads })
         (view t.now) address i }
@@ -66,9 +66,9 @@ fn indexed(structs: &Structs, threads: u32, t: &CType, address: Constant, i: Con
 pub fn subscript(structs: &Structs, threads: u32, a: &Attr, i: &Attr) -> Result<Attr, OutOfMemory>
     requires some_thread { 0 < threads }
     requires sized { rules.is_loose (view_structs structs.now) (view_attr a.now) ≡ false }
-    ensures { IfOk result (λ x. (how : n.Use) → view_attr x
+    ensures { IfOk result (λ x. (how : node.Use) → view_attr x
         ≡ attr (record { structs = view_structs structs.now; threads = threads })
-        (n.Subscript how (view_attr a.now) (view_attr i.now))) }
+        (node.Subscript how (view_attr a.now) (view_attr i.now))) }
 {
     match target_of(a) {
         Some(t) => {
@@ -90,7 +90,7 @@ fn pointer(
 ) -> Result<Attr, OutOfMemory>
     requires some_thread { 0 < threads }
     requires sized { rules.has_size (view_structs structs.now) (view t.now) ≡ true }
-    requires near { IfSome (c.number_of steps) (λ v. unsigned_abs v ≤ 2 ^ 64) }
+    requires near { IfSome (known.number_of steps) (λ v. unsigned_abs v ≤ 2 ^ 64) }
     ensures { IfOk result (λ x. view_attr x
         ≡ pure.pointer_attr (record { structs = view_structs structs.now; threads = threads })
         (view t.now) address steps) }
@@ -116,7 +116,7 @@ fn sum(
     requires right { rules.is_loose (view_structs structs.now) (view_attr b.now) ≡ false }
     ensures { IfOk result (λ x. view_attr x
         ≡ attr (record { structs = view_structs structs.now; threads = threads })
-        (n.Binary BinOp.Add (view_attr a.now) (view_attr b.now))) }
+        (node.Binary BinOp.Add (view_attr a.now) (view_attr b.now))) }
 {
     match (target_of(a), target_of(b)) {
         (Some(t), _) => pointer(alloc, structs, threads, t, constant_of(a), b.constant),
@@ -128,7 +128,7 @@ fn sum(
 fn negated(x: Constant) -> Constant
     requires { IsWithin x }
     ensures value { result ≡ pure.negated x }
-    ensures near { IfSome (c.number_of result) (λ v. unsigned_abs v ≤ 2 ^ 64) }
+    ensures near { IfSome (known.number_of result) (λ v. unsigned_abs v ≤ 2 ^ 64) }
 {
     match x {
         Constant::Known(v) => Constant::Known(-v),
@@ -149,7 +149,7 @@ fn difference(
         (view_attr a.now) (view_attr b.now) ≡ false }
     ensures { IfOk result (λ x. view_attr x
         ≡ attr (record { structs = view_structs structs.now; threads = threads })
-        (n.Binary BinOp.Subtract (view_attr a.now) (view_attr b.now))) }
+        (node.Binary BinOp.Subtract (view_attr a.now) (view_attr b.now))) }
 {
     match (target_of(a), target_of(b)) {
         (Some(_), Some(_)) => Ok(value(plainly(Base::Integer(Kind::Long)))),
@@ -180,7 +180,7 @@ pub fn binary(
     requires sized { rules.moves_loosely (view_structs structs.now) op (view_attr a.now) (view_attr b.now) ≡ false }
     ensures { IfOk result (λ x. view_attr x
         ≡ attr (record { structs = view_structs structs.now; threads = threads })
-        (n.Binary op (view_attr a.now) (view_attr b.now))) }
+        (node.Binary op (view_attr a.now) (view_attr b.now))) }
 {
     match op {
         BinOp::Add => sum(alloc, structs, threads, a, b),

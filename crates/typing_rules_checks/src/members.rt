@@ -4,9 +4,9 @@ ghost use Rattle.std.specs.Prelude.{◌≡◌, ℕ};
 ghost use Rattle.upc_types.specs.View.{view};
 ghost use Rattle.upc_types.specs.ViewStructs.{view_structs};
 ghost use Rattle.typing_rules.specs.layer.Views.{view_target};
-ghost use Rattle.typing_rules.specs.Nodes as n;
+ghost use Rattle.typing_rules.specs.Nodes as node;
 ghost use Rattle.typing_rules.specs.Nodes.{view_attr};
-ghost use Rattle.typing_rules.specs.Rules as r;
+ghost use Rattle.typing_rules.specs.Rules as rules;
 ghost use Rattle.typing_rules.specs.Rules.{lowest};
 
 use typing_rules::Attr;
@@ -14,7 +14,7 @@ use typing_rules::types::{gives_void, target_of};
 use upc_types::{Base, CType, Structs};
 
 fn names_member(structs: &Structs, t: &CType, name: &[u8]) -> bool
-    ensures { result ≡ r.names_member (view_structs structs.now) (view t.now) name.now }
+    ensures { result ≡ rules.names_member (view_structs structs.now) (view t.now) name.now }
 {
     match &t.base {
         Base::Struct(number) => structs.member_named(*number, name).is_some(),
@@ -23,7 +23,7 @@ fn names_member(structs: &Structs, t: &CType, name: &[u8]) -> bool
 }
 
 fn target_names(structs: &Structs, target: Option<&CType>, name: &[u8]) -> bool
-    ensures { result ≡ r.target_names (view_structs structs.now) (view_target target.entry) name.now }
+    ensures { result ≡ rules.target_names (view_structs structs.now) (view_target target.entry) name.now }
 {
     match target {
         Some(t) => names_member(structs, t, name),
@@ -35,7 +35,7 @@ fn target_names(structs: &Structs, target: Option<&CType>, name: &[u8]) -> bool
 pub fn member_of(structs: &Structs, a: &Attr, name: &[u8]) -> Option<u8>
     ensures { (threads : ℕ) → result
         ≡ lowest (record { structs = view_structs structs.now; threads = threads })
-        (n.MemberOf (view_attr a.now) name.now) }
+        (node.MemberOf (view_attr a.now) name.now) }
 {
     if gives_void(a) {
         Some(14)
@@ -50,7 +50,7 @@ pub fn member_of(structs: &Structs, a: &Attr, name: &[u8]) -> Option<u8>
 pub fn member_behind(structs: &Structs, a: &Attr, name: &[u8]) -> Option<u8>
     ensures { (threads : ℕ) → result
         ≡ lowest (record { structs = view_structs structs.now; threads = threads })
-        (n.MemberBehind (view_attr a.now) name.now) }
+        (node.MemberBehind (view_attr a.now) name.now) }
 {
     if gives_void(a) {
         Some(14)

@@ -7,7 +7,7 @@ ghost use Rattle.upc_types.specs.ViewStructs.{view_structs};
 ghost use Rattle.typing_rules.specs.layer.Views.{view_target};
 ghost use Rattle.typing_rules_checks.specs.code.ViewFound.{view_found};
 ghost use Rattle.typing_rules.specs.Values.{base_target};
-ghost use Rattle.typing_rules.specs.Nodes as n;
+ghost use Rattle.typing_rules.specs.Nodes as node;
 ghost use Rattle.typing_rules.specs.Nodes.{view_attr};
 ghost use Rattle.typing_rules.specs.Attributes as pure;
 ghost use Rattle.typing_rules.specs.Attributes.{attr};
@@ -155,7 +155,7 @@ pub fn member_of(
 ) -> Result<MemberNode, OutOfMemory>
     ensures attr { IfOk result (λ x. (threads : ℕ) → view_attr x.attr
         ≡ attr (record { structs = view_structs structs.now; threads = threads })
-        (n.MemberOf (view_attr a.now) name.now)) }
+        (node.MemberOf (view_attr a.now) name.now)) }
     ensures index { IfOk result (λ x. x.index
         ≡ pure.found_index (pure.member_named (view_structs structs.now) (view a.now.ctype) name.now)) }
 {
@@ -192,7 +192,7 @@ pub fn member_behind(
 ) -> Result<MemberNode, OutOfMemory>
     ensures attr { IfOk result (λ x. (threads : ℕ) → view_attr x.attr
         ≡ attr (record { structs = view_structs structs.now; threads = threads })
-        (n.MemberBehind (view_attr a.now) name.now)) }
+        (node.MemberBehind (view_attr a.now) name.now)) }
     ensures index { IfOk result (λ x. x.index
         ≡ pure.target_index (view_structs structs.now) (base_target (pure.base (view_attr a.now))) name.now) }
 {

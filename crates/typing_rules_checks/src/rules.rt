@@ -4,10 +4,10 @@ ghost use Rattle.std.specs.Prelude.{◌≡◌, ℕ, Option};
 ghost use Rattle.upc_types.specs.View.{view};
 ghost use Rattle.upc_types.specs.ViewStructs.{view_structs};
 ghost use Rattle.typing_rules.specs.layer.Views.{view_meaning, view_use, view_formed};
-ghost use Rattle.typing_rules.specs.Nodes as n;
+ghost use Rattle.typing_rules.specs.Nodes as nodes;
 ghost use Rattle.typing_rules.specs.Nodes.{view_attr};
 ghost use Rattle.typing_rules.specs.Attributes.{Facts};
-ghost use Rattle.typing_rules.specs.Rules as r;
+ghost use Rattle.typing_rules.specs.Rules as rules;
 ghost use Rattle.typing_rules.specs.Rules.{lowest};
 
 use crate::conversion::{casts, converts};
@@ -21,20 +21,20 @@ use typing_rules::{Attr, Formed, Meaning, SizeOperator, Use};
 use upc_types::{CType, Structs};
 
 fn takes_rows(how: Use<'_>) -> bool
-    ensures { result ≡ r.takes_rows (view_use how.entry) }
+    ensures { result ≡ rules.takes_rows (view_use how.entry) }
 {
     matches!(how, Use::Indexed | Use::Measured)
 }
 
 fn is_called(how: Use<'_>) -> bool
-    ensures { result ≡ r.is_called (view_use how.entry) }
+    ensures { result ≡ rules.is_called (view_use how.entry) }
 {
     matches!(how, Use::Called)
 }
 
 /// A name that is used so.
 pub fn name(how: Use<'_>, meaning: Meaning<'_>) -> Option<u8>
-    ensures { (φ : Facts) → result ≡ lowest φ (n.Name (view_use how.entry) (view_meaning meaning.entry)) }
+    ensures { (φ : Facts) → result ≡ lowest φ (nodes.Name (view_use how.entry) (view_meaning meaning.entry)) }
 {
     match meaning {
         Meaning::Unknown => Some(1),
@@ -54,7 +54,7 @@ pub fn name(how: Use<'_>, meaning: Meaning<'_>) -> Option<u8>
 
 /// A string that is used so.
 pub fn strings(how: Use<'_>) -> Option<u8>
-    ensures { (φ : Facts) → result ≡ lowest φ (n.Strings (view_use how.entry)) }
+    ensures { (φ : Facts) → result ≡ lowest φ (nodes.Strings (view_use how.entry)) }
 {
     match how {
         Use::Prints => None,
@@ -66,7 +66,7 @@ pub fn strings(how: Use<'_>) -> Option<u8>
 pub fn subscript(structs: &Structs, how: Use<'_>, a: &Attr, i: &Attr) -> Option<u8>
     ensures { (threads : ℕ) → result
         ≡ lowest (record { structs = view_structs structs.now; threads = threads })
-        (n.Subscript (view_use how.entry) (view_attr a.now) (view_attr i.now)) }
+        (nodes.Subscript (view_use how.entry) (view_attr a.now) (view_attr i.now)) }
 {
     if gives_void(a) || gives_void(i) || (points(a) && !counts(i)) {
         Some(14)
@@ -82,7 +82,7 @@ pub fn subscript(structs: &Structs, how: Use<'_>, a: &Attr, i: &Attr) -> Option<
 /// `++` and `--`.
 pub fn step(structs: &Structs, a: &Attr) -> Option<u8>
     ensures { (threads : ℕ) → result
-        ≡ lowest (record { structs = view_structs structs.now; threads = threads }) (n.Step (view_attr a.now)) }
+        ≡ lowest (record { structs = view_structs structs.now; threads = threads }) (nodes.Step (view_attr a.now)) }
 {
     if !is_modifiable(a) {
         Some(13)
@@ -97,7 +97,7 @@ pub fn step(structs: &Structs, a: &Attr) -> Option<u8>
 
 /// `&a`.
 pub fn address(a: &Attr) -> Option<u8>
-    ensures { (φ : Facts) → result ≡ lowest φ (n.Address (view_attr a.now)) }
+    ensures { (φ : Facts) → result ≡ lowest φ (nodes.Address (view_attr a.now)) }
 {
     if gives_void(a) {
         Some(14)
@@ -110,7 +110,7 @@ pub fn address(a: &Attr) -> Option<u8>
 
 /// `*a`.
 pub fn dereference(a: &Attr) -> Option<u8>
-    ensures { (φ : Facts) → result ≡ lowest φ (n.Dereference (view_attr a.now)) }
+    ensures { (φ : Facts) → result ≡ lowest φ (nodes.Dereference (view_attr a.now)) }
 {
     if gives_void(a) || leads_nowhere(a) {
         Some(14)
@@ -122,7 +122,7 @@ pub fn dereference(a: &Attr) -> Option<u8>
 }
 
 fn fits_unary(op: UnOp, a: &Attr) -> bool
-    ensures { result ≡ r.fits_unary op (view_attr a.now) }
+    ensures { result ≡ rules.fits_unary op (view_attr a.now) }
 {
     match op {
         UnOp::Not => is_scalar(a),
@@ -132,19 +132,19 @@ fn fits_unary(op: UnOp, a: &Attr) -> bool
 
 /// `+a`, `-a`, `~a` and `!a`.
 pub fn unary(op: UnOp, a: &Attr) -> Option<u8>
-    ensures { (φ : Facts) → result ≡ lowest φ (n.Unary op (view_attr a.now)) }
+    ensures { (φ : Facts) → result ≡ lowest φ (nodes.Unary op (view_attr a.now)) }
 {
     if fits_unary(op, a) { None } else { Some(14) }
 }
 
 fn is_plain_size(op: SizeOperator) -> bool
-    ensures { result ≡ r.is_plain_size op }
+    ensures { result ≡ rules.is_plain_size op }
 {
     matches!(op, SizeOperator::Bytes)
 }
 
 pub(crate) fn has_no_size(structs: &Structs, op: SizeOperator, t: &CType) -> bool
-    ensures { result ≡ r.has_no_size (view_structs structs.now) op (view t.now) }
+    ensures { result ≡ rules.has_no_size (view_structs structs.now) op (view t.now) }
 {
     structs.layout_of(&t.base).is_none() || !(is_plain_size(op) || is_shared(t))
 }
@@ -152,7 +152,7 @@ pub(crate) fn has_no_size(structs: &Structs, op: SizeOperator, t: &CType) -> boo
 /// A size operator on an expression.
 pub fn size_of(structs: &Structs, op: SizeOperator, a: &Attr) -> Option<u8>
     ensures { (threads : ℕ) → result
-        ≡ lowest (record { structs = view_structs structs.now; threads = threads }) (n.SizeOf op (view_attr a.now)) }
+        ≡ lowest (record { structs = view_structs structs.now; threads = threads }) (nodes.SizeOf op (view_attr a.now)) }
 {
     if has_no_size(structs, op, &a.ctype) {
         Some(21)
@@ -163,7 +163,7 @@ pub fn size_of(structs: &Structs, op: SizeOperator, a: &Attr) -> Option<u8>
 
 /// A cast.
 pub fn cast(t: &Formed, a: &Attr) -> Option<u8>
-    ensures { (φ : Facts) → result ≡ lowest φ (n.Cast (view_formed t.now) (view_attr a.now)) }
+    ensures { (φ : Facts) → result ≡ lowest φ (nodes.Cast (view_formed t.now) (view_attr a.now)) }
 {
     if !t.forms || is_lock(&t.ctype) {
         Some(4)
@@ -177,31 +177,31 @@ pub fn cast(t: &Formed, a: &Attr) -> Option<u8>
 }
 
 fn adds(a: &Attr, b: &Attr) -> bool
-    ensures { result ≡ r.adds (view_attr a.now) (view_attr b.now) }
+    ensures { result ≡ rules.adds (view_attr a.now) (view_attr b.now) }
 {
     (counts(a) || points(a)) && (counts(b) || points(b)) && !(points(a) && points(b))
 }
 
 fn subtracts(a: &Attr, b: &Attr) -> bool
-    ensures { result ≡ r.subtracts (view_attr a.now) (view_attr b.now) }
+    ensures { result ≡ rules.subtracts (view_attr a.now) (view_attr b.now) }
 {
     (counts(a) && counts(b)) || (points(a) && is_scalar(b))
 }
 
 fn orders(a: &Attr, b: &Attr) -> bool
-    ensures { result ≡ r.orders (view_attr a.now) (view_attr b.now) }
+    ensures { result ≡ rules.orders (view_attr a.now) (view_attr b.now) }
 {
     (counts(a) && counts(b)) || (points(a) && points(b))
 }
 
 fn equates(a: &Attr, b: &Attr) -> bool
-    ensures { result ≡ r.equates (view_attr a.now) (view_attr b.now) }
+    ensures { result ≡ rules.equates (view_attr a.now) (view_attr b.now) }
 {
     orders(a, b) || (points(a) && is_zero(b)) || (is_zero(a) && points(b))
 }
 
 fn fits(op: BinOp, a: &Attr, b: &Attr) -> bool
-    ensures { result ≡ r.fits op (view_attr a.now) (view_attr b.now) }
+    ensures { result ≡ rules.fits op (view_attr a.now) (view_attr b.now) }
 {
     match op {
         BinOp::Add => adds(a, b),
@@ -213,19 +213,19 @@ fn fits(op: BinOp, a: &Attr, b: &Attr) -> bool
 }
 
 fn moves(op: BinOp) -> bool
-    ensures { result ≡ r.moves op }
+    ensures { result ≡ rules.moves op }
 {
     matches!(op, BinOp::Add | BinOp::Subtract)
 }
 
 fn is_difference(op: BinOp) -> bool
-    ensures { result ≡ r.is_difference op }
+    ensures { result ≡ rules.is_difference op }
 {
     matches!(op, BinOp::Subtract)
 }
 
 fn is_order(op: BinOp) -> bool
-    ensures { result ≡ r.is_order op }
+    ensures { result ≡ rules.is_order op }
 {
     matches!(
         op,
@@ -234,7 +234,7 @@ fn is_order(op: BinOp) -> bool
 }
 
 fn compares(op: BinOp) -> bool
-    ensures { result ≡ r.compares op }
+    ensures { result ≡ rules.compares op }
 {
     matches!(
         op,
@@ -249,7 +249,7 @@ fn compares(op: BinOp) -> bool
 }
 
 fn moves_loosely(structs: &Structs, op: BinOp, a: &Attr, b: &Attr) -> bool
-    ensures { result ≡ r.moves_loosely (view_structs structs.now) op (view_attr a.now) (view_attr b.now) }
+    ensures { result ≡ rules.moves_loosely (view_structs structs.now) op (view_attr a.now) (view_attr b.now) }
 {
     moves(op)
         && (is_loose(structs, a) || is_loose(structs, b))
@@ -257,7 +257,7 @@ fn moves_loosely(structs: &Structs, op: BinOp, a: &Attr, b: &Attr) -> bool
 }
 
 fn mismatches(op: BinOp, a: &Attr, b: &Attr) -> bool
-    ensures { result ≡ r.mismatches op (view_attr a.now) (view_attr b.now) }
+    ensures { result ≡ rules.mismatches op (view_attr a.now) (view_attr b.now) }
 {
     (compares(op) && targets_differ(a, b))
         || ((is_order(op) || is_difference(op)) && are_locks(a, b))
@@ -267,7 +267,7 @@ fn mismatches(op: BinOp, a: &Attr, b: &Attr) -> bool
 pub fn binary(structs: &Structs, op: BinOp, a: &Attr, b: &Attr) -> Option<u8>
     ensures { (threads : ℕ) → result
         ≡ lowest (record { structs = view_structs structs.now; threads = threads })
-        (n.Binary op (view_attr a.now) (view_attr b.now)) }
+        (nodes.Binary op (view_attr a.now) (view_attr b.now)) }
 {
     if !fits(op, a, b) {
         Some(14)
@@ -282,8 +282,8 @@ pub fn binary(structs: &Structs, op: BinOp, a: &Attr, b: &Attr) -> Option<u8>
 
 /// `a && b` and `a || b`.
 pub fn logical(a: &Attr, b: &Attr) -> Option<u8>
-    ensures and { (φ : Facts) → result ≡ lowest φ (n.And (view_attr a.now) (view_attr b.now)) }
-    ensures or { (φ : Facts) → result ≡ lowest φ (n.Or (view_attr a.now) (view_attr b.now)) }
+    ensures and { (φ : Facts) → result ≡ lowest φ (nodes.And (view_attr a.now) (view_attr b.now)) }
+    ensures or { (φ : Facts) → result ≡ lowest φ (nodes.Or (view_attr a.now) (view_attr b.now)) }
 {
     if is_scalar(a) && is_scalar(b) {
         None
@@ -294,7 +294,7 @@ pub fn logical(a: &Attr, b: &Attr) -> Option<u8>
 
 /// `a = b`.
 pub fn assign(a: &Attr, b: &Attr) -> Option<u8>
-    ensures { (φ : Facts) → result ≡ lowest φ (n.Assign (view_attr a.now) (view_attr b.now)) }
+    ensures { (φ : Facts) → result ≡ lowest φ (nodes.Assign (view_attr a.now) (view_attr b.now)) }
 {
     if gives_void(b) || (!(is_array(&a.ctype) || is_struct(&a.ctype)) && !converts(b, &a.ctype)) {
         Some(12)
@@ -306,7 +306,7 @@ pub fn assign(a: &Attr, b: &Attr) -> Option<u8>
 }
 
 fn fits_compound(op: BinOp, a: &Attr, b: &Attr) -> bool
-    ensures { result ≡ r.fits_compound op (view_attr a.now) (view_attr b.now) }
+    ensures { result ≡ rules.fits_compound op (view_attr a.now) (view_attr b.now) }
 {
     match op {
         BinOp::Add | BinOp::Subtract => is_scalar(a) && counts(b),
@@ -318,7 +318,7 @@ fn fits_compound(op: BinOp, a: &Attr, b: &Attr) -> bool
 pub fn compound(structs: &Structs, op: BinOp, a: &Attr, b: &Attr) -> Option<u8>
     ensures { (threads : ℕ) → result
         ≡ lowest (record { structs = view_structs structs.now; threads = threads })
-        (n.Compound op (view_attr a.now) (view_attr b.now)) }
+        (nodes.Compound op (view_attr a.now) (view_attr b.now)) }
 {
     if !is_modifiable(a) {
         Some(13)
@@ -332,7 +332,7 @@ pub fn compound(structs: &Structs, op: BinOp, a: &Attr, b: &Attr) -> Option<u8>
 }
 
 fn chooses(a: &Attr, b: &Attr) -> bool
-    ensures { result ≡ r.chooses (view_attr a.now) (view_attr b.now) }
+    ensures { result ≡ rules.chooses (view_attr a.now) (view_attr b.now) }
 {
     (counts(a) && counts(b))
         || (gives_void(a) && gives_void(b))
@@ -343,7 +343,7 @@ fn chooses(a: &Attr, b: &Attr) -> bool
 
 /// `test ? a : b`.
 pub fn conditional(test: &Attr, a: &Attr, b: &Attr) -> Option<u8>
-    ensures { (φ : Facts) → result ≡ lowest φ (n.Conditional (view_attr test.now) (view_attr a.now) (view_attr b.now)) }
+    ensures { (φ : Facts) → result ≡ lowest φ (nodes.Conditional (view_attr test.now) (view_attr a.now) (view_attr b.now)) }
 {
     if is_scalar(test) && chooses(a, b) {
         None
@@ -354,7 +354,7 @@ pub fn conditional(test: &Attr, a: &Attr, b: &Attr) -> Option<u8>
 
 /// A list of expressions, by its last one.
 pub fn comma(last: &Attr) -> Option<u8>
-    ensures { (φ : Facts) → result ≡ lowest φ (n.Comma (view_attr last.now)) }
+    ensures { (φ : Facts) → result ≡ lowest φ (nodes.Comma (view_attr last.now)) }
 {
     if is_struct(&last.ctype) {
         Some(14)

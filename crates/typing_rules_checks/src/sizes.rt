@@ -7,7 +7,7 @@ ghost use Rattle.upc_types.specs.ViewStructs.{view_structs};
 ghost use Rattle.upc_types.specs.Cells.{leaf_base, leaves};
 ghost use Rattle.typing_rules.specs.layer.Views.{view_formed};
 ghost use Rattle.typing_rules.specs.Values as values;
-ghost use Rattle.typing_rules.specs.Nodes as n;
+ghost use Rattle.typing_rules.specs.Nodes as node;
 ghost use Rattle.typing_rules.specs.Nodes.{view_attr};
 ghost use Rattle.typing_rules.specs.Attributes as pure;
 ghost use Rattle.typing_rules.specs.Attributes.{attr};
@@ -103,7 +103,7 @@ pub fn size_of(structs: &Structs, threads: u32, op: SizeOperator, a: &Attr) -> A
     requires some_thread { 0 < threads }
     requires sized { rules.has_no_size (view_structs structs.now) op (view a.now.ctype) ≡ false }
     ensures { view_attr result
-        ≡ attr (record { structs = view_structs structs.now; threads = threads }) (n.SizeOf op (view_attr a.now)) }
+        ≡ attr (record { structs = view_structs structs.now; threads = threads }) (node.SizeOf op (view_attr a.now)) }
 {
     let bytes = measured(structs, threads, op, &a.ctype);
     constant(Kind::ULong, Constant::Known(i128::from(bytes)))
@@ -115,7 +115,7 @@ pub fn size_of_type(structs: &Structs, threads: u32, op: SizeOperator, t: &Forme
     requires sized { rules.has_no_size (view_structs structs.now) op (view t.now.ctype) ≡ false }
     ensures { view_attr result
         ≡ attr (record { structs = view_structs structs.now; threads = threads })
-        (n.SizeOfType op (view_formed t.now)) }
+        (node.SizeOfType op (view_formed t.now)) }
 {
     let bytes = measured(structs, threads, op, &t.ctype);
     constant(Kind::ULong, Constant::Known(i128::from(bytes)))

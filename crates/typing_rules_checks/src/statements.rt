@@ -2,10 +2,10 @@
 
 ghost use Rattle.std.specs.Prelude.{◌≡◌, [], ◌∷◌};
 ghost use Rattle.typing_rules.specs.layer.Views.{view_around};
-ghost use Rattle.typing_rules.specs.Nodes as n;
+ghost use Rattle.typing_rules.specs.Nodes as nodes;
 ghost use Rattle.typing_rules.specs.Nodes.{view_attr};
 ghost use Rattle.typing_rules.specs.Attributes.{Facts};
-ghost use Rattle.typing_rules.specs.Rules as r;
+ghost use Rattle.typing_rules.specs.Rules as rules;
 ghost use Rattle.typing_rules.specs.Rules.{lowest};
 
 use crate::conversion::converts;
@@ -14,7 +14,7 @@ use typing_rules::{Around, Attr, Enclosing};
 
 /// The condition of a loop.
 pub fn test(a: &Attr) -> Option<u8>
-    ensures { (φ : Facts) → result ≡ lowest φ (n.Tests (view_attr a.now ∷ [])) }
+    ensures { (φ : Facts) → result ≡ lowest φ (nodes.Tests (view_attr a.now ∷ [])) }
 {
     if gives_void(a) {
         Some(14)
@@ -27,7 +27,7 @@ pub fn test(a: &Attr) -> Option<u8>
 
 /// An affinity.
 pub fn affinity(a: &Attr) -> Option<u8>
-    ensures { (φ : Facts) → result ≡ lowest φ (n.Affinity (view_attr a.now)) }
+    ensures { (φ : Facts) → result ≡ lowest φ (nodes.Affinity (view_attr a.now)) }
 {
     if gives_void(a) {
         Some(14)
@@ -39,20 +39,20 @@ pub fn affinity(a: &Attr) -> Option<u8>
 }
 
 fn jumps_nowhere(breaks: Enclosing) -> bool
-    ensures { result ≡ r.jumps_nowhere breaks }
+    ensures { result ≡ rules.jumps_nowhere breaks }
 {
     matches!(breaks, Enclosing::Nothing)
 }
 
 fn leaves_forall(breaks: Enclosing) -> bool
-    ensures { result ≡ r.leaves_forall breaks }
+    ensures { result ≡ rules.leaves_forall breaks }
 {
     matches!(breaks, Enclosing::Forall)
 }
 
 /// `break`.
 pub fn breaks(around: Around<'_>) -> Option<u8>
-    ensures { (φ : Facts) → result ≡ lowest φ (n.Break (view_around around.entry)) }
+    ensures { (φ : Facts) → result ≡ lowest φ (nodes.Break (view_around around.entry)) }
 {
     if jumps_nowhere(around.breaks) {
         Some(23)
@@ -65,14 +65,14 @@ pub fn breaks(around: Around<'_>) -> Option<u8>
 
 /// `continue`.
 pub fn continues(around: Around<'_>) -> Option<u8>
-    ensures { (φ : Facts) → result ≡ lowest φ (n.Continue (view_around around.entry)) }
+    ensures { (φ : Facts) → result ≡ lowest φ (nodes.Continue (view_around around.entry)) }
 {
     if around.loops { None } else { Some(23) }
 }
 
 /// `return` with a value.
 pub fn returns(around: Around<'_>, a: &Attr) -> Option<u8>
-    ensures { (φ : Facts) → result ≡ lowest φ (n.Returns (view_around around.entry) (view_attr a.now)) }
+    ensures { (φ : Facts) → result ≡ lowest φ (nodes.Returns (view_around around.entry) (view_attr a.now)) }
 {
     if !is_void_type(around.result) && !converts(a, around.result) {
         Some(12)
@@ -87,7 +87,7 @@ pub fn returns(around: Around<'_>, a: &Attr) -> Option<u8>
 
 /// `return` without a value.
 pub fn returns_nothing(around: Around<'_>) -> Option<u8>
-    ensures { (φ : Facts) → result ≡ lowest φ (n.ReturnsNothing (view_around around.entry)) }
+    ensures { (φ : Facts) → result ≡ lowest φ (nodes.ReturnsNothing (view_around around.entry)) }
 {
     if around.forall {
         Some(24)
@@ -100,7 +100,7 @@ pub fn returns_nothing(around: Around<'_>) -> Option<u8>
 
 /// The value of a notify, a wait or a barrier.
 pub fn barrier(a: &Attr) -> Option<u8>
-    ensures { (φ : Facts) → result ≡ lowest φ (n.Barrier (view_attr a.now)) }
+    ensures { (φ : Facts) → result ≡ lowest φ (nodes.Barrier (view_attr a.now)) }
 {
     if gives_void(a) {
         Some(14)

@@ -2,10 +2,10 @@
 
 ghost use Rattle.std.specs.Prelude.{◌≡◌, ◌∷◌, false, List, IfSome, IfOk};
 ghost use Rattle.integers.specs.Integers.{IsInteger};
-ghost use Rattle.typing_rules.specs.Nodes as n;
+ghost use Rattle.typing_rules.specs.Nodes as node;
 ghost use Rattle.typing_rules.specs.Nodes.{view_attr};
 ghost use Rattle.typing_rules.specs.Attributes.{Facts};
-ghost use Rattle.typing_rules.specs.Rules as r;
+ghost use Rattle.typing_rules.specs.Rules as rules;
 ghost use Rattle.typing_rules.specs.Rules.{lowest};
 ghost use Rattle.typing_rules.specs.declared.attribute.Constant as constant;
 ghost use Rattle.typing_rules_checks.specs.code.Labels.{AreValues};
@@ -26,7 +26,7 @@ fn is_wrong(
 ) -> Result<bool, OutOfMemory>
     requires { IfSome kind IsInteger }
     ensures { IfOk result (λ wrong. (later : List constant.Constant) → AreValues kind later values.old →
-        (wrong ≡ r.is_wrong_label kind label later)
+        (wrong ≡ rules.is_wrong_label kind label later)
         × (wrong ≡ false → AreValues kind (label ∷ later) values.new)) }
 {
     match label {
@@ -44,7 +44,7 @@ fn has_wrong_label(
     labels: &[Constant],
 ) -> Result<bool, OutOfMemory>
     requires { IfSome kind IsInteger }
-    ensures { IfOk result (λ wrong. wrong ≡ r.has_wrong_label kind labels.now) }
+    ensures { IfOk result (λ wrong. wrong ≡ rules.has_wrong_label kind labels.now) }
 {
     let mut values = BTreeSet::new(alloc);
     for at in (0..labels.len()).rev() {
@@ -62,7 +62,7 @@ pub fn switch(
     labels: &[Constant],
     defaults: usize,
 ) -> Result<Option<u8>, OutOfMemory>
-    ensures { IfOk result (λ rule. (φ : Facts) → rule ≡ lowest φ (n.Switch (view_attr a.now) labels.now defaults)) }
+    ensures { IfOk result (λ rule. (φ : Facts) → rule ≡ lowest φ (node.Switch (view_attr a.now) labels.now defaults)) }
 {
     if gives_void(a) {
         return Ok(Some(14));

@@ -10,12 +10,12 @@ use Rattle.upc_tree.specs.Unit.{External, PragmaPart, DeclarationPart, FunctionP
 use Rattle.upc_types.specs.Types.{CType}
 use Rattle.typing_rules.specs.declared.setting.Enclosing.TheVariants as enclosing
 use Rattle.typing_rules.specs.Values.{value_type}
-use Rattle.typing_rules.specs.Meanings as m
+use Rattle.typing_rules.specs.Meanings as meaning
 use Rattle.typing_rules.specs.Meanings.{Signature}
 use Rattle.typed_tree.specs.Scopes.{Setting, Env, file, spelling, inside, with_entry, Scope, Within, NoScope, begin}
 use Rattle.typed_tree.specs.Scopes.{with_function, differs}
 use Rattle.typing_rules.specs.Faults.{Seen}
-use Rattle.typing_rules.specs.Nodes as n
+use Rattle.typing_rules.specs.Nodes as rule_node
 use Rattle.typing_rules.specs.Nodes.{Around}
 use Rattle.typed_tree.specs.Tree.{DeclaredObject, Function, Statement}
 use Rattle.upc_checker_scopes.specs.Walk.{Walk, give, andthen, judge, update, look, enclosed}
@@ -77,7 +77,7 @@ in_definition at = record { at = at; star = false; static = true; alone = false 
 -- What a source has declared and defined, with one function more (C99 6.9.1).
 abbrev pub with_definition : Setting → Made → Place → ℕ → Signature → Statement → Made
 with_definition ξ before place name signature body = record {
-  scope = with_entry name (m.Function signature) before.scope;
+  scope = with_entry name (meaning.Function signature) before.scope;
   objects = before.objects;
   functions =
       before.functions ++ (record {
@@ -93,7 +93,7 @@ with_definition ξ before place name signature body = record {
 -- (C99 6.2.1, 6.9.1).
 abbrev pub with_outer_entry : ℕ → Signature → Env → Env
 with_outer_entry name signature (Scope level top counts (Within Γ)) =
-    Scope level top counts (Within (with_entry name (m.Function signature) Γ))
+    Scope level top counts (Within (with_entry name (meaning.Function signature) Γ))
 with_outer_entry name signature (Scope level top counts NoScope) = Scope level top counts NoScope
 
 -- The walk over a definition after its specifiers and stars, of which it is given whether they form a type: its
@@ -105,7 +105,7 @@ walk_definition ξ strict before place forms result name parameters body =
     andthen (earlier ξ before.scope name.number signature) (λ was.
     andthen (update (with_function name.number signature true)) (λ u.
     andthen (walk_block ξ (with_outer_entry name.number signature ps.scope) (body_around result) strict body) (λ x.
-    andthen (judge ξ place (n.Defines was.again was.differs forms signature)) (λ v.
+    andthen (judge ξ place (rule_node.Defines was.again was.differs forms signature)) (λ v.
     give (with_definition ξ before place name.number signature x))))))
 
 -- The walk over a definition, from its specifiers on (C99 6.9.1).
@@ -148,7 +148,7 @@ setting names threads unit = record { names = names; threads = threads; defined 
 abbrev pub walk_unit : Setting → List External → Walk Made
 walk_unit ξ unit =
     andthen (walk_externals ξ false (record { scope = file; objects = []; functions = [] }) unit) (λ made.
-    andthen (judge ξ (source_place unit) (n.File (list_any is_main_function made.functions))) (λ u. give made))
+    andthen (judge ξ (source_place unit) (rule_node.File (list_any is_main_function made.functions))) (λ u. give made))
 
 -- All nodes of a source, in the order in which they are finished (C99 6.5 to 6.9).
 abbrev pub unit_nodes : List (List ℕ) → ℕ → List External → List Seen

@@ -6,7 +6,7 @@ ghost use Rattle.upc_tree.specs.layer.View as views;
 ghost use Rattle.upc_tree.specs.layer.ViewStatement as trees;
 ghost use Rattle.upc_types.specs.View.{view};
 ghost use Rattle.typing_rules.specs.Meanings as meanings;
-ghost use Rattle.typing_rules.specs.Nodes as n;
+ghost use Rattle.typing_rules.specs.Nodes as nodes;
 ghost use Rattle.typing_rules.specs.layer.Views.{view_signature};
 ghost use Rattle.typed_tree.specs.Scopes as scopes;
 ghost use Rattle.typed_tree.specs.Scopes.{Env as ScopeEnv, Tag as ScopeTag};
@@ -91,7 +91,7 @@ fn judge_definition(
     known: &mut Known,
 ) -> Result<(), Stop>
     ensures { (tags : List ScopeTag) → Meets (λ u. tt {0}) (judge (view_setting setting.entry) at
-        (n.Defines was.again was.differs forms (view_signature signature.now)) (state_with tags
+        (nodes.Defines was.again was.differs forms (view_signature signature.now)) (state_with tags
         known.old)) (state_with tags known.new) result }
 {
     judged(

@@ -5,12 +5,12 @@ ghost use Rattle.std.specs.List.{list_any};
 ghost use Rattle.upc_text.specs.declared.place.Place.{Place};
 ghost use Rattle.upc_tree.specs.layer.ViewStatement as trees;
 ghost use Rattle.upc_types.specs.View.{view, view_base};
-ghost use Rattle.typing_rules.specs.Nodes as n;
+ghost use Rattle.typing_rules.specs.Nodes as node;
 ghost use Rattle.typed_tree.specs.Scopes as scopes;
 ghost use Rattle.typed_tree.specs.Scopes.{Tag as ScopeTag};
-ghost use Rattle.typed_tree.specs.Tree as f;
+ghost use Rattle.typed_tree.specs.Tree as typed;
 ghost use Rattle.typed_tree.specs.Tree.{DeclaredObject};
-ghost use Rattle.upc_tree.specs.Unit as x;
+ghost use Rattle.upc_tree.specs.Unit as units;
 ghost use Rattle.upc_checker.specs.code.ViewMade.{view_made};
 ghost use Rattle.typed_tree.specs.layer.ViewEnv.{view_env};
 ghost use Rattle.typed_tree.specs.ViewStatements.{view_function, view_object};
@@ -86,7 +86,7 @@ fn walk_objects(
     tags: &mut Tags<'_>,
     known: &mut Known,
 ) -> Result<(), Stop>
-    ensures { (strict : Bool) (functions : List f.Function) → Meets (λ u. record {
+    ensures { (strict : Bool) (functions : List typed.Function) → Meets (λ u. record {
       scope = view_env
           env.new;
       objects = map view_object objects.new.items;
@@ -96,7 +96,7 @@ fn walk_objects(
           scope = view_env env.old;
           objects = map view_object objects.old.items;
           functions = functions;
-        }) (x.DeclarationPart
+        }) (units.DeclarationPart
         (trees.view_declaration declaration.now)) (state_of tags.old known.old)) (state_of tags.new
         known.new) result }
 {

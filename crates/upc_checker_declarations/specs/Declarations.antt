@@ -3,19 +3,19 @@ use Rattle.std.specs.Prelude.{ℕ, Bool, true, false, ◌&&◌, List, [], ◌∷
 use Rattle.upc_text.specs.declared.place.Place.{Place}
 use Rattle.upc_tree.specs.Expression.{Expr, NextExprs, NoNextExprs, AndExpr, Declarator, ObjectDeclarator}
 use Rattle.upc_tree.specs.Expression.{FunctionDeclarator}
-use Rattle.upc_tree.specs.Declaration as d
+use Rattle.upc_tree.specs.Declaration as declaration_tree
 use Rattle.upc_tree.specs.Declaration.{Declaration, Declares, DeclaredList, NoneDeclared, SomeDeclared, NextDeclareds}
 use Rattle.upc_tree.specs.Declaration.{NoNextDeclareds, AndDeclared, DeclaredAs}
 use Rattle.upc_types.specs.Types.{CType, base_of}
 use Rattle.typing_rules.specs.Library.{int}
 use Rattle.typing_rules.specs.Values.{base_target}
-use Rattle.typing_rules.specs.Meanings as m
+use Rattle.typing_rules.specs.Meanings as meaning
 use Rattle.typing_rules.specs.Meanings.{Signature}
 use Rattle.typed_tree.specs.Scopes.{Setting, Env, spelling, is_file, inside, with_entry, declare, next_home}
 use Rattle.typed_tree.specs.Scopes.{with_function}
-use Rattle.typing_rules.specs.Nodes as n
+use Rattle.typing_rules.specs.Nodes as nodes
 use Rattle.typing_rules.specs.Nodes.{Use}
-use Rattle.typed_tree.specs.Tree as k
+use Rattle.typed_tree.specs.Tree as typed
 use Rattle.typed_tree.specs.Tree.{Exprs, attr_of, attrs_of, DeclaredObject}
 use Rattle.upc_checker_scopes.specs.Walk.{Walk, give, andthen, judge, update, look, enclosed}
 use Rattle.upc_checker_types.specs.Specifiers.{specifiers_form, specified_type, Shaped, formed}
@@ -36,7 +36,7 @@ is_plain_array (ObjectDeclarator pointers name sizes) = is_none pointers && has_
 is_plain_array (FunctionDeclarator stars name parameters) = false
 
 -- The declarator without its initialiser (C99 6.7).
-abbrev pub declarator_of : d.Declared → Declarator
+abbrev pub declarator_of : declaration_tree.Declared → Declarator
 declarator_of (DeclaredAs declarator i) = declarator
 
 -- Each further declarator is an array without a star.
@@ -65,40 +65,40 @@ signature_of result ps = record { result = result.ctype; parameters = ps.types }
 abbrev pub declares_function : Setting → Env → Place → ℕ → Bool → Signature → Walk (Unit {0})
 declares_function ξ Γ place name forms signature =
     andthen (look (λ s. prototype_again ξ Γ s name signature)) (λ again.
-    andthen (judge ξ place (n.DeclaresFunction again forms signature)) (λ u. update (with_function name signature
+    andthen (judge ξ place (nodes.DeclaresFunction again forms signature)) (λ u. update (with_function name signature
     false)))
 
 -- ---- initialisers (C99 6.7.8)
 
 -- An initialiser of a file-scope object is judged as a constant, and no other is (C99 6.7.8).
-abbrev pub initial_constant : Setting → Bool → k.Expr → Walk (Unit {0})
+abbrev pub initial_constant : Setting → Bool → typed.Expr → Walk (Unit {0})
 initial_constant ξ true a = andthen (constantly ξ a) (λ c. give (tt {0}))
 initial_constant ξ false a = give (tt {0})
 
 -- The walk over one initial value that is used so; at file scope it is judged as a constant (C99 6.7.8).
-abbrev pub walk_initial_value : Setting → Env → Bool → Use → Expr → Walk k.Expr
+abbrev pub walk_initial_value : Setting → Env → Bool → Use → Expr → Walk typed.Expr
 walk_initial_value ξ Γ file how value =
     andthen (walk ξ Γ how value) (λ a. andthen (initial_constant ξ file a) (λ u. give a))
 
 -- The walk over the further values of a list of initial values, in order (C99 6.7.8).
 abbrev pub walk_initial_values : Setting → Env → Bool → Use → NextExprs → Walk Exprs
-walk_initial_values ξ Γ file how NoNextExprs = give k.NoExprs
+walk_initial_values ξ Γ file how NoNextExprs = give typed.NoExprs
 walk_initial_values ξ Γ file how (AndExpr comma value more) =
     andthen (walk_initial_value ξ Γ file how value) (λ x. andthen (walk_initial_values ξ Γ file how more) (λ xs.
-    give (k.AndExpr x xs)))
+    give (typed.AndExpr x xs)))
 
 -- The walk over the initialiser, if any, of what a declarator declares: an object of this type, or a function, which
 -- may have none (C99 6.7.8).
-abbrev pub walk_initial : Setting → Env → Place → Bool → CType → d.Initial → Walk k.Initial
-walk_initial ξ Γ place object t d.NoInitial = give k.NoInitial
-walk_initial ξ Γ place object t (d.ValueInitial equal value) =
-    andthen (walk_initial_value ξ Γ (is_file Γ) (n.Into t) value) (λ a.
-    andthen (judge ξ place (n.InitialValue (is_file Γ) object t (attr_of a))) (λ u. give (k.InitialValue a)))
-walk_initial ξ Γ place object t (d.ListInitial equal left first more right) =
+abbrev pub walk_initial : Setting → Env → Place → Bool → CType → declaration_tree.Initial → Walk typed.Initial
+walk_initial ξ Γ place object t declaration_tree.NoInitial = give typed.NoInitial
+walk_initial ξ Γ place object t (declaration_tree.ValueInitial equal value) =
+    andthen (walk_initial_value ξ Γ (is_file Γ) (nodes.Into t) value) (λ a.
+    andthen (judge ξ place (nodes.InitialValue (is_file Γ) object t (attr_of a))) (λ u. give (typed.InitialValue a)))
+walk_initial ξ Γ place object t (declaration_tree.ListInitial equal left first more right) =
     andthen (walk_initial_value ξ Γ (is_file Γ) (element_use (base_target (base_of t))) first) (λ x.
     andthen (walk_initial_values ξ Γ (is_file Γ) (element_use (base_target (base_of t))) more) (λ xs.
-    andthen (judge ξ place (n.InitialList (is_file Γ) object t (attrs_of (k.AndExpr x xs)))) (λ u.
-    give (k.InitialList (k.AndExpr x xs)))))
+    andthen (judge ξ place (nodes.InitialList (is_file Γ) object t (attrs_of (typed.AndExpr x xs)))) (λ u.
+    give (typed.InitialList (typed.AndExpr x xs)))))
 
 -- ---- declarations
 
@@ -109,7 +109,7 @@ pub record Behind : Type 0 where
 
 -- What declarators leave with one object more: the scope after it, and the object with its home by the scope before it
 -- (C99 6.2.1, 6.7).
-abbrev pub with_object : Behind → Env → Place → List ℕ → CType → Env → k.Initial → Behind
+abbrev pub with_object : Behind → Env → Place → List ℕ → CType → Env → typed.Initial → Behind
 with_object before Γ place name t behind initial = record {
   scope = behind;
   objects =
@@ -117,14 +117,14 @@ with_object before Γ place name t behind initial = record {
 }
 
 -- The walk over a declarator with its initialiser, in which what it declares is in scope already (C99 6.2.1, 6.7.5).
-abbrev pub walk_declared : Setting → Place → Shaped → Behind → d.Declared → Walk Behind
+abbrev pub walk_declared : Setting → Place → Shaped → Behind → declaration_tree.Declared → Walk Behind
 walk_declared ξ place t before (DeclaredAs (ObjectDeclarator pointers name sizes) initial) =
     let Γ = before.scope in
     andthen (walk_pointers ξ Γ (has_sizes sizes) t pointers) (λ p. andthen (walk_sizes ξ Γ sizes) (λ ns.
     let f = formed ξ.threads p ns in
     let at = pointers_place pointers name in
     let behind = declare name.number f.ctype Γ in
-    andthen (judge ξ at (n.DeclaresObject (object_again ξ Γ name) (is_file Γ) f)) (λ u.
+    andthen (judge ξ at (nodes.DeclaresObject (object_again ξ Γ name) (is_file Γ) f)) (λ u.
     andthen (walk_initial ξ behind at true f.ctype initial) (λ i.
     give (with_object before Γ place (spelling ξ name.number) f.ctype behind i)))))
 walk_declared ξ place t before (DeclaredAs (FunctionDeclarator pointers name parameters) initial) =
@@ -133,7 +133,7 @@ walk_declared ξ place t before (DeclaredAs (FunctionDeclarator pointers name pa
     andthen (enclosed (walk_parameters ξ (inside Γ) parameters)) (λ ps.
     let signature = signature_of p ps in
     let at = pointers_place pointers name in
-    let behind = with_entry name.number (m.Function signature) Γ in
+    let behind = with_entry name.number (meaning.Function signature) Γ in
     andthen (declares_function ξ Γ at name.number p.forms signature) (λ u.
     andthen (walk_initial ξ behind at false int initial) (λ i.
     give (record { scope = behind; objects = before.objects })))))
@@ -165,4 +165,4 @@ walk_declaration ξ Γ (Declares specs list semicolon) =
           Γ;
       objects = [];
     }) list) (λ b.
-    andthen (judge ξ (specs_place specs) (n.Specifies (specifiers_form (is_file Γ) p))) (λ u. give b)))
+    andthen (judge ξ (specs_place specs) (nodes.Specifies (specifiers_form (is_file Γ) p))) (λ u. give b)))

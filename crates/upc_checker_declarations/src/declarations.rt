@@ -8,12 +8,12 @@ ghost use Rattle.upc_tree.specs.layer.View.{view_pointer};
 ghost use Rattle.upc_tree.specs.layer.ViewStatement as trees;
 ghost use Rattle.upc_tree.specs.layer.ViewStatement.{view_next_declared};
 ghost use Rattle.upc_tree.specs.Declaration as d;
-ghost use Rattle.upc_tree.specs.Expression as e;
+ghost use Rattle.upc_tree.specs.Expression as expression_tree;
 ghost use Rattle.upc_types.specs.View as types;
-ghost use Rattle.typing_rules.specs.Nodes as n;
+ghost use Rattle.typing_rules.specs.Nodes as node;
 ghost use Rattle.typed_tree.specs.Scopes as scopes;
 ghost use Rattle.typed_tree.specs.Scopes.{State, Tag as ScopeTag};
-ghost use Rattle.typed_tree.specs.Tree as k;
+ghost use Rattle.typed_tree.specs.Tree as typed;
 ghost use Rattle.typed_tree.specs.Tree.{exprs_of, DeclaredObject};
 ghost use Rattle.typing_rules.specs.Values.{base_target};
 ghost use Rattle.upc_types.specs.Types.{base_of};
@@ -132,7 +132,7 @@ fn walk_initial_list(
     tags: &mut Tags<'_>,
     known: &mut Known,
 ) -> Result<Vec<Expr>, Stop>
-    ensures { (equal left right : Span) → Meets (λ xs. k.InitialList (exprs_of (map view_expr
+    ensures { (equal left right : Span) → Meets (λ xs. typed.InitialList (exprs_of (map view_expr
         xs.items))) (pure.walk_initial (view_setting setting.entry) (view_env env.now) place object
         (types.view t.now) (d.ListInitial equal left (view first.now) (next_exprs_of (map
         view_next_expr more.now)) right) (state_of tags.old known.old)) (state_of tags.new
@@ -241,7 +241,7 @@ fn walk_prototype(
       objects = objects;
     }) (pure.walk_declared (view_setting setting.entry)
         place (view_shaped t.now) (record { scope = view_env env.old; objects = objects })
-        (d.DeclaredAs (e.FunctionDeclarator (pointers_of (map view_pointer pointers.now)) name
+        (d.DeclaredAs (expression_tree.FunctionDeclarator (pointers_of (map view_pointer pointers.now)) name
         (view_parameters parameters.now)) (trees.view_initial initial.now)) (state_of tags.old
         known.old)) (state_of tags.new known.new) result }
 {
@@ -271,7 +271,7 @@ fn judge_object(
     known: &mut Known,
 ) -> Result<(), Stop>
     ensures { (tags : List ScopeTag) → Meets (λ u. tt {0}) (judge (view_setting setting.entry) at
-        (n.DeclaresObject (stands.object_again (view_setting setting.entry) (view_env env.now) name)
+        (node.DeclaresObject (stands.object_again (view_setting setting.entry) (view_env env.now) name)
         (scopes.is_file (view_env env.now)) (view_formed f.now)) (state_with tags known.old))
         (state_with tags known.new) result }
 {
@@ -320,7 +320,7 @@ fn walk_object(
           scope = view_env env.old;
           objects =
               objects;
-        }) (d.DeclaredAs (e.ObjectDeclarator (pointers_of (map view_pointer pointers.now))
+        }) (d.DeclaredAs (expression_tree.ObjectDeclarator (pointers_of (map view_pointer pointers.now))
         name (dimensions_of (map view_dimension sizes.now))) (trees.view_initial initial.now))
         (state_of tags.old known.old)) (state_of tags.new known.new) result }
 {
@@ -514,7 +514,7 @@ fn judge_specifiers(
     known: &mut Known,
 ) -> Result<(), Stop>
     ensures { (tags : List ScopeTag) → Meets (λ u. tt {0}) (judge (view_setting setting.entry) at
-        (n.Specifies (specifiers.specifiers_form file (view_specified found.now))) (state_with tags
+        (node.Specifies (specifiers.specifiers_form file (view_specified found.now))) (state_with tags
         known.old)) (state_with tags known.new) result }
 {
     judged(specifies(specifiers_form(file, found)), at)?;

@@ -17,13 +17,19 @@ use Rattle.upc_text.specs.declared.place.Place.{Place}
 use Rattle.upc_types.specs.Types.{Member}
 use Rattle.typing_rules.specs.declared.attribute.Constant.{Constant as Value}
 use Rattle.typed_tree.specs.Scopes.{Setting, spelling, Env, meaning, inside}
-use Rattle.typing_rules.specs.Nodes as n
+use Rattle.typing_rules.specs.Nodes as rule_node
 use Rattle.typing_rules.specs.Nodes.{Use, Formed}
-use Rattle.typed_tree.specs.Tree as k
+use Rattle.typed_tree.specs.Tree as typed
 use Rattle.typed_tree.specs.Tree.{Exprs, attr_of, attrs_of, place_of}
 use Rattle.upc_checker_scopes.specs.Walk.{Walk, give, andthen, judge, finish, enclosed, facts_in}
-use Rattle.upc_checker_types.specs.Specifiers as s
-use Rattle.upc_checker_types.specs.Specifiers.{Specified, nothing_specified, both_specified, forms_type, specifiers_form}
+use Rattle.upc_checker_types.specs.Specifiers as specifiers_spec
+use Rattle.upc_checker_types.specs.Specifiers.{
+  Specified,
+  nothing_specified,
+  both_specified,
+  forms_type,
+  specifiers_form,
+}
 use Rattle.upc_checker_types.specs.Specifiers.{specified_type, Shaped, pointer_to, no_quals, both_quals, formed}
 use Rattle.upc_checker_nodes.specs.Marks.{number_kind, size_operator, unary_node, unary_kind, postfix_operator}
 use Rattle.upc_checker_nodes.specs.Marks.{binary_node, binary_kind, right_use, assign_node, assign_kind}
@@ -38,14 +44,14 @@ use Rattle.upc_checker_scopes.specs.Known.{refer, close_struct, open_struct, is_
 -- ---- parts
 
 -- An expression is judged where a constant is asked for, and its constant is given (C99 6.6).
-abbrev pub constantly : Setting → k.Expr → Walk Value
-constantly ξ a = andthen (judge ξ (place_of a) (n.Constantly (attr_of a))) (λ u. give (attr_of a).constant)
+abbrev pub constantly : Setting → typed.Expr → Walk Value
+constantly ξ a = andthen (judge ξ (place_of a) (rule_node.Constantly (attr_of a))) (λ u. give (attr_of a).constant)
 
 -- Specifiers end: those that form no type, or whose qualifiers do not go together, break rule 4 there, before any rule
 -- that asks for their type. The declaration that they stand in goes on, so nothing is counted yet (C99 6.7.2).
 unfoldable pub end_specifiers : Setting → Place → Specified → Walk (Unit {0})
 end_specifiers ξ at p s = record {
-  seen = record { at = at; facts = facts_in ξ s; node = n.Specifies (forms_type p) } ∷ [];
+  seen = record { at = at; facts = facts_in ξ s; node = rule_node.Specifies (forms_type p) } ∷ [];
   state = s;
   value = tt {0};
 }
@@ -60,68 +66,75 @@ to_their_end ξ at specifiers = andthen specifiers (λ p. andthen (end_specifier
 -- UPC 6.4, 6.5).
 abbrev mutual
   -- The walk over an expression that is used so (C99 6.5, UPC 6.4).
-  pub walk : Setting → Env → Use → Expr → Walk k.Expr
+  pub walk : Setting → Env → Use → Expr → Walk typed.Expr
   walk ξ Γ how (Named name) =
-      finish ξ (name_at name) (n.Name how (meaning ξ Γ name.number)) (λ φ. name_kind ξ (meaning ξ Γ name.number)
+      finish ξ (name_at name) (rule_node.Name how (meaning ξ Γ name.number)) (λ φ. name_kind ξ (meaning ξ Γ name.number)
       name.number)
-  walk ξ Γ how (Number value kind span) = finish ξ (at span) (n.Number (number_kind kind) value) (λ φ. k.Literal)
-  walk ξ Γ how (Character value span) = finish ξ (at span) (n.Character value) (λ φ. k.Literal)
-  walk ξ Γ how (Strings first more) = finish ξ (at first.span) (n.Strings how) (λ φ. k.Format (joined (first ∷ more)))
+  walk ξ Γ how (Number value kind span) = finish ξ (at span) (rule_node.Number (number_kind kind) value)
+      (λ φ. typed.Literal)
+  walk ξ Γ how (Character value span) = finish ξ (at span) (rule_node.Character value) (λ φ. typed.Literal)
+  walk ξ Γ how (Strings first more) = finish ξ (at first.span) (rule_node.Strings how)
+      (λ φ. typed.Format (joined (first ∷ more)))
   walk ξ Γ how (Constant word span) = finish ξ (at span) (constant_node ξ word) (λ φ. constant_kind word)
   walk ξ Γ how (Paren left inner right) =
-      andthen (walk ξ Γ how inner) (λ a. give (k.Is (at left) (attr_of a) (k.Paren a)))
+      andthen (walk ξ Γ how inner) (λ a. give (typed.Is (at left) (attr_of a) (typed.Paren a)))
   walk ξ Γ how (Subscript a left i right) =
-      andthen (walk ξ Γ n.Indexed a) (λ x. andthen (walk ξ Γ n.Plain i) (λ y.
-      finish ξ (place_of x) (n.Subscript how (attr_of x) (attr_of y)) (λ φ. k.Subscript x y)))
+      andthen (walk ξ Γ rule_node.Indexed a) (λ x. andthen (walk ξ Γ rule_node.Plain i) (λ y.
+      finish ξ (place_of x) (rule_node.Subscript how (attr_of x) (attr_of y)) (λ φ. typed.Subscript x y)))
   walk ξ Γ how (Call callee left arguments) =
-      andthen (walk ξ Γ n.Called callee) (λ f.
+      andthen (walk ξ Γ rule_node.Called callee) (λ f.
       andthen (walk_arguments ξ Γ (uses_by (called ξ Γ callee)) arguments) (λ xs.
-      finish ξ (place_of f) (n.Call how (called ξ Γ callee) (runs ξ callee) (format_in xs) (attrs_of xs)) (λ φ. k.Call
+      finish ξ (place_of f) (rule_node.Call how (called ξ Γ callee) (runs ξ callee) (format_in xs) (attrs_of xs))
+      (λ φ. typed.Call
       (target_of ξ Γ callee) xs)))
   walk ξ Γ how (MemberOf a mark dot name) =
-      andthen (walk ξ Γ n.Plain a) (λ x.
+      andthen (walk ξ Γ rule_node.Plain a) (λ x.
       finish ξ (place_of x) (member_of mark (attr_of x) (spelling ξ name.number)) (member_kind mark x (spelling ξ
       name.number)))
   walk ξ Γ how (Postfix a mark span) =
-      andthen (walk ξ Γ n.Plain a) (λ x.
-      finish ξ (place_of x) (n.Step (attr_of x)) (λ φ. k.Step (postfix_operator mark) x))
+      andthen (walk ξ Γ rule_node.Plain a) (λ x.
+      finish ξ (place_of x) (rule_node.Step (attr_of x)) (λ φ. typed.Step (postfix_operator mark) x))
   walk ξ Γ how (Unary mark span a) =
-      andthen (walk ξ Γ n.Plain a) (λ x. finish ξ (at span) (unary_node mark (attr_of x)) (λ φ. unary_kind mark x))
+      andthen (walk ξ Γ rule_node.Plain a) (λ x. finish ξ (at span) (unary_node mark (attr_of x))
+      (λ φ. unary_kind mark x))
   walk ξ Γ how (SizeOfExpr word span a) =
-      andthen (walk ξ Γ n.Measured a) (λ x.
-      finish ξ (at span) (n.SizeOf (size_operator word) (attr_of x)) (λ φ. k.SizeOf (size_operator word) x))
+      andthen (walk ξ Γ rule_node.Measured a) (λ x.
+      finish ξ (at span) (rule_node.SizeOf (size_operator word) (attr_of x)) (λ φ. typed.SizeOf (size_operator word) x))
   walk ξ Γ how (SizeOfType word span left type right) =
       andthen (walk_type ξ Γ (at span) type) (λ t.
-      finish ξ (at span) (n.SizeOfType (size_operator word) t) (λ φ. k.SizeOfType (size_operator word) t.ctype))
+      finish ξ (at span) (rule_node.SizeOfType (size_operator word) t)
+      (λ φ. typed.SizeOfType (size_operator word) t.ctype))
   walk ξ Γ how (Cast left type right a) =
-      andthen (walk_type ξ Γ (at left) type) (λ t. andthen (walk ξ Γ (n.Into t.ctype) a) (λ x.
-      finish ξ (at left) (n.Cast t (attr_of x)) (λ φ. k.Cast x)))
+      andthen (walk_type ξ Γ (at left) type) (λ t. andthen (walk ξ Γ (rule_node.Into t.ctype) a) (λ x.
+      finish ξ (at left) (rule_node.Cast t (attr_of x)) (λ φ. typed.Cast x)))
   walk ξ Γ how (Binary a mark span b) =
-      andthen (walk ξ Γ n.Plain a) (λ x. andthen (walk ξ Γ n.Plain b) (λ y.
+      andthen (walk ξ Γ rule_node.Plain a) (λ x. andthen (walk ξ Γ rule_node.Plain b) (λ y.
       finish ξ (place_of x) (binary_node mark (attr_of x) (attr_of y)) (λ φ. binary_kind mark x y)))
   walk ξ Γ how (Assign a mark span b) =
-      andthen (walk ξ Γ n.Plain a) (λ x. andthen (walk ξ Γ (right_use mark (attr_of x).ctype) b) (λ y.
+      andthen (walk ξ Γ rule_node.Plain a) (λ x. andthen (walk ξ Γ (right_use mark (attr_of x).ctype) b) (λ y.
       finish ξ (place_of x) (assign_node mark (attr_of x) (attr_of y)) (λ φ. assign_kind mark x y)))
   walk ξ Γ how (Conditional test question a colon b) =
-      andthen (walk ξ Γ n.Plain test) (λ t. andthen (walk ξ Γ n.Plain a) (λ x. andthen (walk ξ Γ n.Plain b) (λ y.
-      finish ξ (place_of t) (n.Conditional (attr_of t) (attr_of x) (attr_of y)) (λ φ. k.Conditional t x y))))
+      andthen (walk ξ Γ rule_node.Plain test) (λ t. andthen (walk ξ Γ rule_node.Plain a)
+      (λ x. andthen (walk ξ Γ rule_node.Plain b) (λ y.
+      finish ξ (place_of t) (rule_node.Conditional (attr_of t) (attr_of x) (attr_of y))
+      (λ φ. typed.Conditional t x y))))
   walk ξ Γ how (Comma first more) =
-      andthen (walk ξ Γ n.Plain first) (λ x. andthen (walk_more ξ Γ [] more) (λ xs.
-      finish ξ (place_of x) (n.Comma (last_of x xs)) (λ φ. k.Comma (k.AndExpr x xs))))
+      andthen (walk ξ Γ rule_node.Plain first) (λ x. andthen (walk_more ξ Γ [] more) (λ xs.
+      finish ξ (place_of x) (rule_node.Comma (last_of x xs)) (λ φ. typed.Comma (typed.AndExpr x xs))))
 
   -- The walk over the arguments of a call, each with its use (C99 6.5.2.2).
   pub walk_arguments : Setting → Env → List Use → Arguments → Walk Exprs
-  walk_arguments ξ Γ uses (NoArguments right) = give k.NoExprs
+  walk_arguments ξ Γ uses (NoArguments right) = give typed.NoExprs
   walk_arguments ξ Γ uses (SomeArguments first more right) =
       andthen (walk ξ Γ (first_use uses) first) (λ x. andthen (walk_more ξ Γ (later_uses uses) more) (λ xs.
-      give (k.AndExpr x xs)))
+      give (typed.AndExpr x xs)))
 
   -- The walk over the further expressions of a list, each with its use; one without a use of its own is plain.
   pub walk_more : Setting → Env → List Use → NextExprs → Walk Exprs
-  walk_more ξ Γ uses NoNextExprs = give k.NoExprs
+  walk_more ξ Γ uses NoNextExprs = give typed.NoExprs
   walk_more ξ Γ uses (AndExpr comma value more) =
       andthen (walk ξ Γ (first_use uses) value) (λ x. andthen (walk_more ξ Γ (later_uses uses) more) (λ xs.
-      give (k.AndExpr x xs)))
+      give (typed.AndExpr x xs)))
 
   -- The walk over a type name, whose breaks stand at this place (C99 6.7.6).
   pub walk_type : Setting → Env → Place → TypeName → Walk Formed
@@ -150,13 +163,13 @@ abbrev mutual
       give (record { words = []; structs = number ∷ []; quals = no_quals }))))
 
   -- The walk over the qualifiers of a pointer, in order (C99 6.7.3, 6.7.5.1).
-  pub walk_quals : Setting → Env → Bool → Quals → Walk s.Quals
+  pub walk_quals : Setting → Env → Bool → Quals → Walk specifiers_spec.Quals
   walk_quals ξ Γ star NoQuals = give no_quals
   walk_quals ξ Γ star (AndQual qual more) =
       andthen (walk_qual ξ Γ star qual) (λ p. andthen (walk_quals ξ Γ star more) (λ q. give (both_quals p q)))
 
   -- The walk over one qualifier, whose layout may be `[*]` or not (C99 6.7.3, UPC 6.5.1).
-  pub walk_qual : Setting → Env → Bool → Qual → Walk s.Quals
+  pub walk_qual : Setting → Env → Bool → Qual → Walk specifiers_spec.Quals
   walk_qual ξ Γ star (Const word) = give (record { constant = true; layouts = []; strict = false; relaxed = false })
   walk_qual ξ Γ star (Strict word) = give (record { constant = false; layouts = []; strict = true; relaxed = false })
   walk_qual ξ Γ star (Relaxed word) = give (record { constant = false; layouts = []; strict = false; relaxed = true })
@@ -165,13 +178,14 @@ abbrev mutual
       give (record { constant = false; layouts = l ∷ []; strict = false; relaxed = false }))
 
   -- The walk over a layout: without one the block size is 1, and empty brackets are indefinite (UPC 6.5.1.1).
-  pub walk_layout : Setting → Env → Bool → Layout → Walk s.Layout
-  walk_layout ξ Γ star NoLayout = give (s.Blocks 1)
-  walk_layout ξ Γ star (IndefiniteLayout left right) = give (s.Blocks 0)
-  walk_layout ξ Γ star (StarLayout left mark right) = andthen (judge ξ (at left) (n.StarBlock star)) (λ u. give s.Star)
+  pub walk_layout : Setting → Env → Bool → Layout → Walk specifiers_spec.Layout
+  walk_layout ξ Γ star NoLayout = give (specifiers_spec.Blocks 1)
+  walk_layout ξ Γ star (IndefiniteLayout left right) = give (specifiers_spec.Blocks 0)
+  walk_layout ξ Γ star (StarLayout left mark right) = andthen (judge ξ (at left) (rule_node.StarBlock star))
+      (λ u. give specifiers_spec.Star)
   walk_layout ξ Γ star (BlockLayout left size right) =
-      andthen (walk ξ Γ n.Plain size) (λ a. andthen (constantly ξ a) (λ c.
-      andthen (judge ξ (at left) (n.Block (attr_of a))) (λ u. give (s.Blocks (block_size c)))))
+      andthen (walk ξ Γ rule_node.Plain size) (λ a. andthen (constantly ξ a) (λ c.
+      andthen (judge ξ (at left) (rule_node.Block (attr_of a))) (λ u. give (specifiers_spec.Blocks (block_size c)))))
 
   -- The walk over stars from left to right, each of which makes a pointer; `[*]` may stand after the last one where
   -- sizes follow (C99 6.7.5.1, UPC 6.5.1.1).
@@ -184,7 +198,7 @@ abbrev mutual
   pub walk_sizes : Setting → Env → Dimensions → Walk (List Value)
   walk_sizes ξ Γ NoDimensions = give []
   walk_sizes ξ Γ (AndDimension left size right more) =
-      andthen (walk ξ Γ n.Plain size) (λ a. andthen (constantly ξ a) (λ c.
+      andthen (walk ξ Γ rule_node.Plain size) (λ a. andthen (constantly ξ a) (λ c.
       andthen (walk_sizes ξ Γ more) (λ cs. give (c ∷ cs))))
 
   -- The walk over the members of a struct, which come after those that it has already (C99 6.7.2.1).
@@ -194,7 +208,8 @@ abbrev mutual
       andthen (to_their_end ξ (specs_place specs) (walk_specs ξ Γ (in_type (specs_place specs)) specs)) (λ p.
       andthen (walk_member ξ Γ (specified_type p) before first) (λ ms.
       andthen (walk_next_members ξ Γ (specified_type p) ms next) (λ all.
-      andthen (judge ξ (specs_place specs) (n.Specifies (specifiers_form false p))) (λ u. walk_members ξ Γ all more))))
+      andthen (judge ξ (specs_place specs) (rule_node.Specifies (specifiers_form false p)))
+      (λ u. walk_members ξ Γ all more))))
 
   -- The walk over the further declarators of members that share their specifiers (C99 6.7.2.1).
   pub walk_next_members : Setting → Env → Shaped → List Member → NextDeclarators → Walk (List Member)
@@ -206,13 +221,14 @@ abbrev mutual
   pub walk_member : Setting → Env → Shaped → List Member → Declarator → Walk (List Member)
   walk_member ξ Γ t before (ObjectDeclarator pointers name sizes) =
       andthen (walk_pointers ξ Γ false t pointers) (λ p. andthen (walk_sizes ξ Γ sizes) (λ ns.
-      andthen (judge ξ (pointers_place pointers name) (n.Member (has_member before (spelling ξ name.number)) (formed
+      andthen (judge ξ (pointers_place pointers name) (rule_node.Member (has_member before (spelling ξ name.number))
+      (formed
       ξ.threads p ns))) (λ u.
       give (with_member before (spelling ξ name.number) (formed ξ.threads p ns).ctype))))
   walk_member ξ Γ t before (FunctionDeclarator pointers name parameters) =
       andthen (walk_pointers ξ Γ false t pointers) (λ p.
       andthen (enclosed (walk_parameters ξ (inside Γ) parameters)) (λ ps.
-      andthen (judge ξ (pointers_place pointers name) (n.MemberFunction p.forms p.ctype)) (λ u.
+      andthen (judge ξ (pointers_place pointers name) (rule_node.MemberFunction p.forms p.ctype)) (λ u.
       give before)))
 
   -- The walk over the parameters of a function, in the scope that they have for themselves (C99 6.2.1, 6.7.5.3).
@@ -234,7 +250,7 @@ abbrev mutual
       andthen (to_their_end ξ (specs_place specs) (walk_specs ξ before.scope (in_type (specs_place specs)) specs)) (λ p.
       andthen (walk_pointers ξ before.scope false (specified_type p) pointers) (λ t.
       andthen (walk_array ξ before.scope (named_type (specifiers_form false p) t) array) (λ f.
-      andthen (judge ξ (specs_place specs) (n.Parameter (is_again ξ before.scope name) f)) (λ u.
+      andthen (judge ξ (specs_place specs) (rule_node.Parameter (is_again ξ before.scope name) f)) (λ u.
       give (with_parameter before name f.ctype)))))
 
   -- The walk over the brackets of a parameter, if it has some, with a size or without (C99 6.7.5.3).
@@ -242,7 +258,8 @@ abbrev mutual
   walk_array ξ Γ t NoArray = give (formed ξ.threads t [])
   walk_array ξ Γ t (UnsizedArray left right) = give (parameter_array ξ.threads t None)
   walk_array ξ Γ t (SizedArray left size right) =
-      andthen (walk ξ Γ n.Plain size) (λ a. andthen (constantly ξ a) (λ c. give (parameter_array ξ.threads t (Some c))))
+      andthen (walk ξ Γ rule_node.Plain size) (λ a. andthen (constantly ξ a)
+      (λ c. give (parameter_array ξ.threads t (Some c))))
 
 -- The walk over the specifiers of a declaration, with their end (C99 6.7).
 abbrev pub walk_specifiers : Setting → Env → Specifying → Specs → Walk Specified

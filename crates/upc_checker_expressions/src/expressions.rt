@@ -3,7 +3,7 @@
 ghost use Rattle.std.specs.Prelude.{IsTrue, map};
 ghost use Rattle.upc_tree.specs.layer.Lists.{next_exprs_of};
 ghost use Rattle.upc_tree.specs.layer.View.{view, view_arguments, view_next_expr};
-ghost use Rattle.typing_rules.specs.Nodes as n;
+ghost use Rattle.typing_rules.specs.Nodes as node;
 ghost use Rattle.typed_tree.specs.Scopes.{State};
 ghost use Rattle.typed_tree.specs.Tree.{exprs_of};
 ghost use Rattle.typed_tree.specs.layer.ViewEnv.{view_env};
@@ -197,7 +197,7 @@ fn walk_prefix(
     known: &mut Known,
 ) -> Result<Box<Expr>, Stop>
     requires { IsTrue (is_prefix (view e.now)) }
-    ensures { (how : n.Use) → Meets (boxed view_expr) (pure.walk (view_setting setting.entry)
+    ensures { (how : node.Use) → Meets (boxed view_expr) (pure.walk (view_setting setting.entry)
         (view_env env.now) how (view e.now) (state_of tags.old known.old)) (state_of tags.new
         known.new) result }
 {
@@ -224,7 +224,7 @@ fn walk_typed(
     known: &mut Known,
 ) -> Result<Box<Expr>, Stop>
     requires { IsTrue (is_typed (view e.now)) }
-    ensures { (how : n.Use) → Meets (boxed view_expr) (pure.walk (view_setting setting.entry)
+    ensures { (how : node.Use) → Meets (boxed view_expr) (pure.walk (view_setting setting.entry)
         (view_env env.now) how (view e.now) (state_of tags.old known.old)) (state_of tags.new
         known.new) result }
 {
@@ -262,7 +262,7 @@ fn walk_choice(
     known: &mut Known,
 ) -> Result<Box<Expr>, Stop>
     requires { IsTrue (is_choice (view e.now)) }
-    ensures { (how : n.Use) → Meets (boxed view_expr) (pure.walk (view_setting setting.entry)
+    ensures { (how : node.Use) → Meets (boxed view_expr) (pure.walk (view_setting setting.entry)
         (view_env env.now) how (view e.now) (state_of tags.old known.old)) (state_of tags.new
         known.new) result }
 {
@@ -292,7 +292,7 @@ fn walk_infix(
     known: &mut Known,
 ) -> Result<Box<Expr>, Stop>
     requires { IsTrue (is_infix (view e.now)) }
-    ensures { (how : n.Use) → Meets (boxed view_expr) (pure.walk (view_setting setting.entry)
+    ensures { (how : node.Use) → Meets (boxed view_expr) (pure.walk (view_setting setting.entry)
         (view_env env.now) how (view e.now) (state_of tags.old known.old)) (state_of tags.new
         known.new) result }
 {

@@ -6,12 +6,12 @@ use Rattle.upc_tree.specs.Expression.{Expr, Named, Paren}
 use Rattle.upc_values.specs.declared.library.LibraryCall.TheVariants.{Printf}
 use Rattle.typed_tree.specs.declared.tree.Target.{Target}
 use Rattle.typed_tree.specs.declared.tree.Target.TheVariants as target
-use Rattle.typing_rules.specs.Meanings as m
+use Rattle.typing_rules.specs.Meanings as meanings
 use Rattle.typing_rules.specs.Meanings.{Meaning}
 use Rattle.typed_tree.specs.Scopes.{Setting, Env, meaning}
-use Rattle.typing_rules.specs.Nodes as n
+use Rattle.typing_rules.specs.Nodes as node
 use Rattle.typing_rules.specs.Nodes.{Use}
-use Rattle.typed_tree.specs.Tree as k
+use Rattle.typed_tree.specs.Tree as typed
 use Rattle.typed_tree.specs.Tree.{ExprKind}
 use Rattle.upc_checker_scopes.specs.Defined.{number_in}
 use Rattle.upc_checker_scopes.specs.Known.{is_main}
@@ -25,7 +25,7 @@ called_name x = None
 
 -- What the name that is called stands for; without a name it is unknown.
 abbrev pub called_by : Setting → Env → Option Name → Meaning
-called_by ξ Γ None = m.Unknown
+called_by ξ Γ None = meanings.Unknown
 called_by ξ Γ (Some name) = meaning ξ Γ name.number
 
 -- What the called expression stands for (C99 6.5.2.2).
@@ -44,7 +44,7 @@ runs ξ callee = runs_by ξ (called_name callee)
 -- Which function is called, by what its name stands for: that of the library, else that of the source with this name,
 -- by its number; without a name it counts as function 0, and rule 10 refuses the call.
 abbrev pub target_by : Setting → Meaning → Option Name → Target
-target_by ξ (m.Library call) name = target.Library call
+target_by ξ (meanings.Library call) name = target.Library call
 target_by ξ meaning None = target.Function 0
 target_by ξ meaning (Some name) = target.Function (number_in ξ.defined name.number)
 
@@ -55,7 +55,7 @@ target_of ξ Γ callee = target_by ξ (called ξ Γ callee) (called_name callee)
 -- What a name is as an expression, by what it stands for: an object with its home, a function of the source or of the
 -- library, or else a constant (C99 6.5.1).
 abbrev pub name_kind : Setting → Meaning → ℕ → ExprKind
-name_kind ξ (m.Object t home) name = k.Object home
-name_kind ξ (m.Function signature) name = k.Callee (target.Function (number_in ξ.defined name))
-name_kind ξ (m.Library call) name = k.Callee (target.Library call)
-name_kind ξ meaning name = k.Literal
+name_kind ξ (meanings.Object t home) name = typed.Object home
+name_kind ξ (meanings.Function signature) name = typed.Callee (target.Function (number_in ξ.defined name))
+name_kind ξ (meanings.Library call) name = typed.Callee (target.Library call)
+name_kind ξ meaning name = typed.Literal

@@ -3,7 +3,7 @@
 ghost use Rattle.std.specs.Prelude.{◌≡◌, IfOk, map};
 ghost use Rattle.upc_types.specs.View.{view};
 ghost use Rattle.typing_rules.specs.Nodes.{view_attr};
-ghost use Rattle.typed_tree.specs.Tree as k;
+ghost use Rattle.typed_tree.specs.Tree as typed;
 ghost use Rattle.typed_tree.specs.Tree.{Is, exprs_of};
 ghost use Rattle.typed_tree.specs.ViewTree.{view_expr, view_kind};
 
@@ -23,21 +23,21 @@ fn node(alloc: Global, place: Place, attr: Attr, kind: ExprKind) -> Result<Box<E
 
 /// A number, a character or a named constant.
 pub fn literal(alloc: Global, place: Place, attr: Attr) -> Result<Box<Expr>, OutOfMemory>
-    ensures { IfOk result (λ e. view_expr e.value ≡ Is place (view_attr attr) k.Literal) }
+    ensures { IfOk result (λ e. view_expr e.value ≡ Is place (view_attr attr) typed.Literal) }
 {
     node(alloc, place, attr, ExprKind::Literal)
 }
 
 /// `MYTHREAD`.
 pub fn mythread(alloc: Global, place: Place, attr: Attr) -> Result<Box<Expr>, OutOfMemory>
-    ensures { IfOk result (λ e. view_expr e.value ≡ Is place (view_attr attr) k.Mythread) }
+    ensures { IfOk result (λ e. view_expr e.value ≡ Is place (view_attr attr) typed.Mythread) }
 {
     node(alloc, place, attr, ExprKind::Mythread)
 }
 
 /// The name of an object.
 pub fn object(alloc: Global, place: Place, attr: Attr, home: Home) -> Result<Box<Expr>, OutOfMemory>
-    ensures { IfOk result (λ e. view_expr e.value ≡ Is place (view_attr attr) (k.Object home)) }
+    ensures { IfOk result (λ e. view_expr e.value ≡ Is place (view_attr attr) (typed.Object home)) }
 {
     node(alloc, place, attr, ExprKind::Object(home))
 }
@@ -49,14 +49,14 @@ pub fn callee(
     attr: Attr,
     target: Target,
 ) -> Result<Box<Expr>, OutOfMemory>
-    ensures { IfOk result (λ e. view_expr e.value ≡ Is place (view_attr attr) (k.Callee target)) }
+    ensures { IfOk result (λ e. view_expr e.value ≡ Is place (view_attr attr) (typed.Callee target)) }
 {
     node(alloc, place, attr, ExprKind::Callee(target))
 }
 
 /// The format of a printf.
 pub fn format(alloc: Global, place: Place, attr: Attr, text: Text) -> Result<Box<Expr>, OutOfMemory>
-    ensures { IfOk result (λ e. view_expr e.value ≡ Is place (view_attr attr) (k.Format text)) }
+    ensures { IfOk result (λ e. view_expr e.value ≡ Is place (view_attr attr) (typed.Format text)) }
 {
     node(alloc, place, attr, ExprKind::Format(text))
 }
@@ -68,7 +68,7 @@ pub fn paren(
     attr: Attr,
     a: Box<Expr>,
 ) -> Result<Box<Expr>, OutOfMemory>
-    ensures { IfOk result (λ e. view_expr e.value ≡ Is place (view_attr attr) (k.Paren (view_expr a.value))) }
+    ensures { IfOk result (λ e. view_expr e.value ≡ Is place (view_attr attr) (typed.Paren (view_expr a.value))) }
 {
     node(alloc, place, attr, ExprKind::Paren(a))
 }
@@ -82,7 +82,7 @@ pub fn subscript(
     i: Box<Expr>,
 ) -> Result<Box<Expr>, OutOfMemory>
     ensures { IfOk result (λ e. view_expr e.value
-        ≡ Is place (view_attr attr) (k.Subscript (view_expr a.value) (view_expr i.value))) }
+        ≡ Is place (view_attr attr) (typed.Subscript (view_expr a.value) (view_expr i.value))) }
 {
     node(alloc, place, attr, ExprKind::Subscript(a, i))
 }
@@ -96,7 +96,7 @@ pub fn call(
     args: Vec<Expr>,
 ) -> Result<Box<Expr>, OutOfMemory>
     ensures { IfOk result (λ e. view_expr e.value
-        ≡ Is place (view_attr attr) (k.Call target (exprs_of (map view_expr args.items)))) }
+        ≡ Is place (view_attr attr) (typed.Call target (exprs_of (map view_expr args.items)))) }
 {
     node(alloc, place, attr, ExprKind::Call(target, args))
 }
@@ -110,7 +110,7 @@ pub fn member(
     index: u32,
 ) -> Result<Box<Expr>, OutOfMemory>
     ensures { IfOk result (λ e. view_expr e.value
-        ≡ Is place (view_attr attr) (k.Member (view_expr a.value) index)) }
+        ≡ Is place (view_attr attr) (typed.Member (view_expr a.value) index)) }
 {
     node(alloc, place, attr, ExprKind::Member(a, index))
 }
@@ -124,7 +124,7 @@ pub fn member_behind(
     index: u32,
 ) -> Result<Box<Expr>, OutOfMemory>
     ensures { IfOk result (λ e. view_expr e.value
-        ≡ Is place (view_attr attr) (k.MemberBehind (view_expr a.value) index)) }
+        ≡ Is place (view_attr attr) (typed.MemberBehind (view_expr a.value) index)) }
 {
     node(alloc, place, attr, ExprKind::MemberBehind(a, index))
 }
@@ -138,7 +138,7 @@ pub fn step(
     a: Box<Expr>,
 ) -> Result<Box<Expr>, OutOfMemory>
     ensures { IfOk result (λ e. view_expr e.value
-        ≡ Is place (view_attr attr) (k.Step op (view_expr a.value))) }
+        ≡ Is place (view_attr attr) (typed.Step op (view_expr a.value))) }
 {
     node(alloc, place, attr, ExprKind::Step(op, a))
 }
@@ -151,7 +151,7 @@ pub fn address(
     a: Box<Expr>,
 ) -> Result<Box<Expr>, OutOfMemory>
     ensures { IfOk result (λ e. view_expr e.value
-        ≡ Is place (view_attr attr) (k.Address (view_expr a.value))) }
+        ≡ Is place (view_attr attr) (typed.Address (view_expr a.value))) }
 {
     node(alloc, place, attr, ExprKind::Address(a))
 }
@@ -164,7 +164,7 @@ pub fn dereference(
     a: Box<Expr>,
 ) -> Result<Box<Expr>, OutOfMemory>
     ensures { IfOk result (λ e. view_expr e.value
-        ≡ Is place (view_attr attr) (k.Dereference (view_expr a.value))) }
+        ≡ Is place (view_attr attr) (typed.Dereference (view_expr a.value))) }
 {
     node(alloc, place, attr, ExprKind::Dereference(a))
 }
@@ -178,7 +178,7 @@ pub fn unary(
     a: Box<Expr>,
 ) -> Result<Box<Expr>, OutOfMemory>
     ensures { IfOk result (λ e. view_expr e.value
-        ≡ Is place (view_attr attr) (k.Unary op (view_expr a.value))) }
+        ≡ Is place (view_attr attr) (typed.Unary op (view_expr a.value))) }
 {
     node(alloc, place, attr, ExprKind::Unary(op, a))
 }
@@ -192,7 +192,7 @@ pub fn size_of(
     a: Box<Expr>,
 ) -> Result<Box<Expr>, OutOfMemory>
     ensures { IfOk result (λ e. view_expr e.value
-        ≡ Is place (view_attr attr) (k.SizeOf op (view_expr a.value))) }
+        ≡ Is place (view_attr attr) (typed.SizeOf op (view_expr a.value))) }
 {
     node(alloc, place, attr, ExprKind::SizeOf(op, a))
 }
@@ -206,14 +206,14 @@ pub fn size_of_type(
     t: Box<CType>,
 ) -> Result<Box<Expr>, OutOfMemory>
     ensures { IfOk result (λ e. view_expr e.value
-        ≡ Is place (view_attr attr) (k.SizeOfType op (view t.value))) }
+        ≡ Is place (view_attr attr) (typed.SizeOfType op (view t.value))) }
 {
     node(alloc, place, attr, ExprKind::SizeOfType(op, t))
 }
 
 /// A cast.
 pub fn cast(alloc: Global, place: Place, attr: Attr, a: Box<Expr>) -> Result<Box<Expr>, OutOfMemory>
-    ensures { IfOk result (λ e. view_expr e.value ≡ Is place (view_attr attr) (k.Cast (view_expr a.value))) }
+    ensures { IfOk result (λ e. view_expr e.value ≡ Is place (view_attr attr) (typed.Cast (view_expr a.value))) }
 {
     node(alloc, place, attr, ExprKind::Cast(a))
 }
@@ -228,7 +228,7 @@ pub fn binary(
     b: Box<Expr>,
 ) -> Result<Box<Expr>, OutOfMemory>
     ensures { IfOk result (λ e. view_expr e.value
-        ≡ Is place (view_attr attr) (k.Binary op (view_expr a.value) (view_expr b.value))) }
+        ≡ Is place (view_attr attr) (typed.Binary op (view_expr a.value) (view_expr b.value))) }
 {
     node(alloc, place, attr, ExprKind::Binary(op, a, b))
 }
@@ -242,7 +242,7 @@ pub fn and(
     b: Box<Expr>,
 ) -> Result<Box<Expr>, OutOfMemory>
     ensures { IfOk result (λ e. view_expr e.value
-        ≡ Is place (view_attr attr) (k.And (view_expr a.value) (view_expr b.value))) }
+        ≡ Is place (view_attr attr) (typed.And (view_expr a.value) (view_expr b.value))) }
 {
     node(alloc, place, attr, ExprKind::And(a, b))
 }
@@ -256,7 +256,7 @@ pub fn or(
     b: Box<Expr>,
 ) -> Result<Box<Expr>, OutOfMemory>
     ensures { IfOk result (λ e. view_expr e.value
-        ≡ Is place (view_attr attr) (k.Or (view_expr a.value) (view_expr b.value))) }
+        ≡ Is place (view_attr attr) (typed.Or (view_expr a.value) (view_expr b.value))) }
 {
     node(alloc, place, attr, ExprKind::Or(a, b))
 }
@@ -270,7 +270,7 @@ pub fn assign(
     b: Box<Expr>,
 ) -> Result<Box<Expr>, OutOfMemory>
     ensures { IfOk result (λ e. view_expr e.value
-        ≡ Is place (view_attr attr) (k.Assign (view_expr a.value) (view_expr b.value))) }
+        ≡ Is place (view_attr attr) (typed.Assign (view_expr a.value) (view_expr b.value))) }
 {
     node(alloc, place, attr, ExprKind::Assign(a, b))
 }
@@ -285,7 +285,7 @@ pub fn compound(
     b: Box<Expr>,
 ) -> Result<Box<Expr>, OutOfMemory>
     ensures { IfOk result (λ e. view_expr e.value
-        ≡ Is place (view_attr attr) (k.Compound op (view_expr a.value) (view_expr b.value))) }
+        ≡ Is place (view_attr attr) (typed.Compound op (view_expr a.value) (view_expr b.value))) }
 {
     node(alloc, place, attr, ExprKind::Compound(op, a, b))
 }
@@ -300,7 +300,7 @@ pub fn conditional(
     b: Box<Expr>,
 ) -> Result<Box<Expr>, OutOfMemory>
     ensures { IfOk result (λ e. view_expr e.value
-        ≡ Is place (view_attr attr) (k.Conditional (view_expr test.value) (view_expr a.value) (view_expr b.value))) }
+        ≡ Is place (view_attr attr) (typed.Conditional (view_expr test.value) (view_expr a.value) (view_expr b.value))) }
 {
     node(alloc, place, attr, ExprKind::Conditional(test, a, b))
 }
@@ -313,7 +313,7 @@ pub fn comma(
     parts: Vec<Expr>,
 ) -> Result<Box<Expr>, OutOfMemory>
     ensures { IfOk result (λ e. view_expr e.value
-        ≡ Is place (view_attr attr) (k.Comma (exprs_of (map view_expr parts.items)))) }
+        ≡ Is place (view_attr attr) (typed.Comma (exprs_of (map view_expr parts.items)))) }
 {
     node(alloc, place, attr, ExprKind::Comma(parts))
 }

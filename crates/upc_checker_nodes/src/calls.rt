@@ -5,8 +5,8 @@ ghost use Rattle.std.specs.List.{list_any};
 ghost use Rattle.upc_types.specs.View.{view};
 ghost use Rattle.upc_types.specs.ViewStructs.{view_structs};
 ghost use Rattle.typing_rules.specs.layer.Views.{view_meaning, view_use, view_text};
-ghost use Rattle.typing_rules.specs.Nodes as n;
-ghost use Rattle.typing_rules.specs.Rules as r;
+ghost use Rattle.typing_rules.specs.Nodes as node;
+ghost use Rattle.typing_rules.specs.Rules as rules;
 ghost use Rattle.typing_rules.specs.Rules.{lowest};
 ghost use Rattle.typed_tree.specs.ViewTree.{attr_seen};
 
@@ -23,7 +23,7 @@ use upc_types::{CType, Structs};
 use upc_values::LibraryCall;
 
 fn any_void(args: &[Expr]) -> bool
-    ensures { result ≡ list_any r.gives_void (map attr_seen args.now) }
+    ensures { result ≡ list_any rules.gives_void (map attr_seen args.now) }
 {
     for x in args {
         if gives_void(&x.attr) {
@@ -35,7 +35,7 @@ fn any_void(args: &[Expr]) -> bool
 
 // Whether there is no argument of this number, or it converts into the type.
 fn one_converts(args: &[Expr], i: usize, t: &CType) -> bool
-    ensures { result ≡ r.first_converts (map attr_seen (drop i args.now)) (view t.now) }
+    ensures { result ≡ rules.first_converts (map attr_seen (drop i args.now)) (view t.now) }
 {
     match args.get(i) {
         Some(x) => converts(&x.attr, t),
@@ -44,7 +44,7 @@ fn one_converts(args: &[Expr], i: usize, t: &CType) -> bool
 }
 
 fn all_convert(args: &[Expr], types: &[CType]) -> bool
-    ensures { result ≡ r.all_convert (map attr_seen args.now) (map view types.now) }
+    ensures { result ≡ rules.all_convert (map attr_seen args.now) (map view types.now) }
 {
     for i in 0..types.len() {
         if !one_converts(args, i, &types[i]) {
@@ -55,7 +55,7 @@ fn all_convert(args: &[Expr], types: &[CType]) -> bool
 }
 
 fn one_taken(args: &[Expr], i: usize, x: LibraryParameter) -> bool
-    ensures { result ≡ r.first_taken (map attr_seen (drop i args.now)) x }
+    ensures { result ≡ rules.first_taken (map attr_seen (drop i args.now)) x }
 {
     match args.get(i) {
         Some(a) => takes(x, &a.attr),
@@ -64,7 +64,7 @@ fn one_taken(args: &[Expr], i: usize, x: LibraryParameter) -> bool
 }
 
 fn all_taken(args: &[Expr], parameters: &[LibraryParameter]) -> bool
-    ensures { result ≡ r.all_taken (map attr_seen args.now) parameters.now }
+    ensures { result ≡ rules.all_taken (map attr_seen args.now) parameters.now }
 {
     for i in 0..parameters.len() {
         if !one_taken(args, i, parameters[i]) {
@@ -75,7 +75,7 @@ fn all_taken(args: &[Expr], parameters: &[LibraryParameter]) -> bool
 }
 
 fn one_is_no_function(args: &[Expr], i: usize, x: LibraryParameter) -> bool
-    ensures { result ≡ r.first_is_no_function (map attr_seen (drop i args.now)) x }
+    ensures { result ≡ rules.first_is_no_function (map attr_seen (drop i args.now)) x }
 {
     match args.get(i) {
         Some(a) => no_function(x, &a.attr),
@@ -84,7 +84,7 @@ fn one_is_no_function(args: &[Expr], i: usize, x: LibraryParameter) -> bool
 }
 
 fn no_functions(args: &[Expr], parameters: &[LibraryParameter]) -> bool
-    ensures { result ≡ r.no_functions (map attr_seen args.now) parameters.now }
+    ensures { result ≡ rules.no_functions (map attr_seen args.now) parameters.now }
 {
     for i in 0..parameters.len() {
         if !one_is_no_function(args, i, parameters[i]) {
@@ -95,7 +95,7 @@ fn no_functions(args: &[Expr], parameters: &[LibraryParameter]) -> bool
 }
 
 fn library_passes(call: LibraryCall, args: &[Expr]) -> bool
-    ensures { result ≡ r.library_passes call (map attr_seen args.now) }
+    ensures { result ≡ rules.library_passes call (map attr_seen args.now) }
 {
     match call {
         LibraryCall::Printf => !any_void(args),
@@ -104,7 +104,7 @@ fn library_passes(call: LibraryCall, args: &[Expr]) -> bool
 }
 
 fn passes(meaning: Meaning<'_>, args: &[Expr]) -> bool
-    ensures { result ≡ r.passes (view_meaning meaning.entry) (map attr_seen args.now) }
+    ensures { result ≡ rules.passes (view_meaning meaning.entry) (map attr_seen args.now) }
 {
     match meaning {
         Meaning::Function(s) => all_convert(args, s.parameters.as_slice()),
@@ -114,7 +114,7 @@ fn passes(meaning: Meaning<'_>, args: &[Expr]) -> bool
 }
 
 fn format_fits(format: Option<&[u8]>, args: &[Expr]) -> bool
-    ensures { result ≡ r.format_fits (view_text format.entry) (map attr_seen args.now) }
+    ensures { result ≡ rules.format_fits (view_text format.entry) (map attr_seen args.now) }
 {
     match format {
         Some(format) => args.is_empty() || prints(format, &args[1..]),
@@ -123,7 +123,7 @@ fn format_fits(format: Option<&[u8]>, args: &[Expr]) -> bool
 }
 
 fn printf_fits(meaning: Meaning<'_>, format: Option<&[u8]>, args: &[Expr]) -> bool
-    ensures { result ≡ r.printf_fits (view_meaning meaning.entry) (view_text format.entry) (map attr_seen args.now) }
+    ensures { result ≡ rules.printf_fits (view_meaning meaning.entry) (view_text format.entry) (map attr_seen args.now) }
 {
     match meaning {
         Meaning::Library(call) => !is_printf(call) || format_fits(format, args),
@@ -132,7 +132,7 @@ fn printf_fits(meaning: Meaning<'_>, format: Option<&[u8]>, args: &[Expr]) -> bo
 }
 
 fn reduces_well(meaning: Meaning<'_>, args: &[Expr]) -> bool
-    ensures { result ≡ r.reduces_well (view_meaning meaning.entry) (map attr_seen args.now) }
+    ensures { result ≡ rules.reduces_well (view_meaning meaning.entry) (map attr_seen args.now) }
 {
     match meaning {
         Meaning::Library(call) => no_functions(args, call_parameters(call)),
@@ -152,7 +152,7 @@ pub fn call(
 ) -> Option<u8>
     ensures { (threads : ℕ) → result
         ≡ lowest (record { structs = view_structs structs.now; threads = threads })
-        (n.Call (view_use how.entry) (view_meaning meaning.entry) runs (view_text format.entry)
+        (node.Call (view_use how.entry) (view_meaning meaning.entry) runs (view_text format.entry)
         (map attr_seen args.now)) }
 {
     if allocates_private(structs, how, meaning) {

@@ -4,7 +4,7 @@ ghost use Rattle.std.specs.Prelude.{◌≡◌, IfOk, map};
 ghost use Rattle.upc_tree.specs.layer.View.{view};
 ghost use Rattle.typing_rules.specs.Attributes as attributes;
 ghost use Rattle.typing_rules.specs.Attributes.{Facts};
-ghost use Rattle.typing_rules.specs.Nodes as n;
+ghost use Rattle.typing_rules.specs.Nodes as node;
 ghost use Rattle.typing_rules.specs.Nodes.{view_attr};
 ghost use Rattle.typing_rules.specs.Values.{base_target};
 ghost use Rattle.typed_tree.specs.Tree.{exprs_of, attrs_of};
@@ -32,7 +32,7 @@ use upc_text::{Place, Stop};
 
 /// A name that stands for this and is used so.
 pub(crate) fn judge_name(how: Use<'_>, means: Meaning<'_>, at: Place) -> Result<Attr, Stop>
-    ensures { (φ : Facts) → Judges φ at (n.Name (view_use how.entry) (view_meaning means.entry))
+    ensures { (φ : Facts) → Judges φ at (node.Name (view_use how.entry) (view_meaning means.entry))
         result }
 {
     judged(rules::name(how, means), at)?;
@@ -50,7 +50,7 @@ pub(crate) fn judge_call(
     at: Place,
     args: &[Expr],
 ) -> Result<Attr, Stop>
-    ensures { Judges (facts_of setting.entry known.now) at (n.Call (view_use how.entry)
+    ensures { Judges (facts_of setting.entry known.now) at (node.Call (view_use how.entry)
         (view_meaning means.entry) (calls.runs (view_setting setting.entry) (view callee.now))
         (walks.format_in (exprs_of (map view_expr args.now))) (attrs_of (exprs_of (map view_expr
         args.now)))) result }
@@ -69,7 +69,7 @@ pub(crate) fn judge_member_of(
     a: &Expr,
     name: &[u8],
 ) -> Result<MemberNode, Stop>
-    ensures { JudgesMember (facts_of setting.entry known.now) a.now.place (n.MemberOf (view_attr
+    ensures { JudgesMember (facts_of setting.entry known.now) a.now.place (node.MemberOf (view_attr
         a.now.attr) name.now) (attributes.found_index (attributes.member_named (facts_of
         setting.entry known.now).structs (view_attr a.now.attr).ctype name.now)) result }
 {
@@ -85,7 +85,7 @@ pub(crate) fn judge_member_behind(
     a: &Expr,
     name: &[u8],
 ) -> Result<MemberNode, Stop>
-    ensures { JudgesMember (facts_of setting.entry known.now) a.now.place (n.MemberBehind (view_attr
+    ensures { JudgesMember (facts_of setting.entry known.now) a.now.place (node.MemberBehind (view_attr
         a.now.attr) name.now) (attributes.target_index (facts_of setting.entry known.now).structs
         (base_target (attributes.base (view_attr a.now.attr))) name.now) result }
 {
@@ -105,7 +105,7 @@ pub(crate) fn judge_size_of(
     at: Place,
     a: &Expr,
 ) -> Result<Attr, Stop>
-    ensures { Judges (facts_of setting.entry known.now) at (n.SizeOf op (view_attr a.now.attr))
+    ensures { Judges (facts_of setting.entry known.now) at (node.SizeOf op (view_attr a.now.attr))
         result }
 {
     judged(rules::size_of(&known.structs, op, &a.attr), at)?;
@@ -121,7 +121,7 @@ pub(crate) fn judge_size_of_type(
     at: Place,
     t: &Formed,
 ) -> Result<Attr, Stop>
-    ensures { Judges (facts_of setting.entry known.now) at (n.SizeOfType op (view_formed t.now))
+    ensures { Judges (facts_of setting.entry known.now) at (node.SizeOfType op (view_formed t.now))
         result }
 {
     judged(declarations::size_of_type(&known.structs, op, t), at)?;
@@ -131,7 +131,7 @@ pub(crate) fn judge_size_of_type(
 
 /// A comma expression, which is what its last part is.
 pub(crate) fn judge_comma(first: &Expr, more: &[Expr]) -> Result<Attr, Stop>
-    ensures { (φ : Facts) → Judges φ first.now.place (n.Comma (walks.last_of (view_expr first.now)
+    ensures { (φ : Facts) → Judges φ first.now.place (node.Comma (walks.last_of (view_expr first.now)
         (exprs_of (map view_expr more.now)))) result }
 {
     let last = last_of(first, more);
@@ -148,7 +148,7 @@ pub(crate) fn judge_subscript(
     a: &Expr,
     i: &Expr,
 ) -> Result<Attr, Stop>
-    ensures { Judges (facts_of setting.entry known.now) a.now.place (n.Subscript (view_use
+    ensures { Judges (facts_of setting.entry known.now) a.now.place (node.Subscript (view_use
         how.entry) (view_attr a.now.attr) (view_attr i.now.attr)) result }
 {
     judged(
@@ -166,7 +166,7 @@ pub(crate) fn judge_step(
     at: Place,
     a: &Expr,
 ) -> Result<Attr, Stop>
-    ensures { Judges (facts_of setting.entry known.now) at (n.Step (view_attr a.now.attr)) result }
+    ensures { Judges (facts_of setting.entry known.now) at (node.Step (view_attr a.now.attr)) result }
 {
     judged(rules::step(&known.structs, &a.attr), at)?;
     let attr = attributes::value_of(&a.attr)?;
@@ -175,7 +175,7 @@ pub(crate) fn judge_step(
 
 /// `&a`.
 pub(crate) fn judge_address(alloc: Global, at: Place, a: &Expr) -> Result<Attr, Stop>
-    ensures { (φ : Facts) → Judges φ at (n.Address (view_attr a.now.attr)) result }
+    ensures { (φ : Facts) → Judges φ at (node.Address (view_attr a.now.attr)) result }
 {
     judged(rules::address(&a.attr), at)?;
     let attr = attributes::address(alloc, &a.attr)?;
@@ -184,7 +184,7 @@ pub(crate) fn judge_address(alloc: Global, at: Place, a: &Expr) -> Result<Attr, 
 
 /// `*a`.
 pub(crate) fn judge_dereference(at: Place, a: &Expr) -> Result<Attr, Stop>
-    ensures { (φ : Facts) → Judges φ at (n.Dereference (view_attr a.now.attr)) result }
+    ensures { (φ : Facts) → Judges φ at (node.Dereference (view_attr a.now.attr)) result }
 {
     judged(rules::dereference(&a.attr), at)?;
     let attr = attributes::dereference(&a.attr)?;
@@ -193,7 +193,7 @@ pub(crate) fn judge_dereference(at: Place, a: &Expr) -> Result<Attr, Stop>
 
 /// `+a`, `-a`, `~a` or `!a`.
 pub(crate) fn judge_operator(op: UnOp, at: Place, a: &Expr) -> Result<Attr, Stop>
-    ensures { (φ : Facts) → Judges φ at (n.Unary op (view_attr a.now.attr)) result }
+    ensures { (φ : Facts) → Judges φ at (node.Unary op (view_attr a.now.attr)) result }
 {
     judged(rules::unary(op, &a.attr), at)?;
     let attr = attributes::unary(op, &a.attr);
@@ -202,7 +202,7 @@ pub(crate) fn judge_operator(op: UnOp, at: Place, a: &Expr) -> Result<Attr, Stop
 
 /// A cast to this type.
 pub(crate) fn judge_cast(at: Place, t: &Formed, a: &Expr) -> Result<Attr, Stop>
-    ensures { (φ : Facts) → Judges φ at (n.Cast (view_formed t.now) (view_attr a.now.attr)) result }
+    ensures { (φ : Facts) → Judges φ at (node.Cast (view_formed t.now) (view_attr a.now.attr)) result }
 {
     judged(rules::cast(t, &a.attr), at)?;
     let attr = attributes::cast(&t.ctype, &a.attr)?;
@@ -217,7 +217,7 @@ pub(crate) fn judge_operation(
     a: &Expr,
     b: &Expr,
 ) -> Result<Attr, Stop>
-    ensures { Judges (facts_of setting.entry known.now) a.now.place (n.Binary op (view_attr
+    ensures { Judges (facts_of setting.entry known.now) a.now.place (node.Binary op (view_attr
         a.now.attr) (view_attr b.now.attr)) result }
 {
     judged(rules::binary(&known.structs, op, &a.attr, &b.attr), a.place)?;
@@ -234,7 +234,7 @@ pub(crate) fn judge_operation(
 
 /// `a && b`.
 pub(crate) fn judge_and(a: &Expr, b: &Expr) -> Result<Attr, Stop>
-    ensures { (φ : Facts) → Judges φ a.now.place (n.And (view_attr a.now.attr) (view_attr
+    ensures { (φ : Facts) → Judges φ a.now.place (node.And (view_attr a.now.attr) (view_attr
         b.now.attr)) result }
 {
     judged(rules::logical(&a.attr, &b.attr), a.place)?;
@@ -244,7 +244,7 @@ pub(crate) fn judge_and(a: &Expr, b: &Expr) -> Result<Attr, Stop>
 
 /// `a || b`.
 pub(crate) fn judge_or(a: &Expr, b: &Expr) -> Result<Attr, Stop>
-    ensures { (φ : Facts) → Judges φ a.now.place (n.Or (view_attr a.now.attr) (view_attr
+    ensures { (φ : Facts) → Judges φ a.now.place (node.Or (view_attr a.now.attr) (view_attr
         b.now.attr)) result }
 {
     judged(rules::logical(&a.attr, &b.attr), a.place)?;
@@ -254,7 +254,7 @@ pub(crate) fn judge_or(a: &Expr, b: &Expr) -> Result<Attr, Stop>
 
 /// `a = b`.
 pub(crate) fn judge_plain_assign(a: &Expr, b: &Expr) -> Result<Attr, Stop>
-    ensures { (φ : Facts) → Judges φ a.now.place (n.Assign (view_attr a.now.attr) (view_attr
+    ensures { (φ : Facts) → Judges φ a.now.place (node.Assign (view_attr a.now.attr) (view_attr
         b.now.attr)) result }
 {
     judged(rules::assign(&a.attr, &b.attr), a.place)?;
@@ -270,7 +270,7 @@ pub(crate) fn judge_compound(
     a: &Expr,
     b: &Expr,
 ) -> Result<Attr, Stop>
-    ensures { Judges (facts_of setting.entry known.now) a.now.place (n.Compound op (view_attr
+    ensures { Judges (facts_of setting.entry known.now) a.now.place (node.Compound op (view_attr
         a.now.attr) (view_attr b.now.attr)) result }
 {
     judged(
@@ -283,7 +283,7 @@ pub(crate) fn judge_compound(
 
 /// A choice.
 pub(crate) fn judge_conditional(test: &Expr, a: &Expr, b: &Expr) -> Result<Attr, Stop>
-    ensures { (φ : Facts) → Judges φ test.now.place (n.Conditional (view_attr test.now.attr)
+    ensures { (φ : Facts) → Judges φ test.now.place (node.Conditional (view_attr test.now.attr)
         (view_attr a.now.attr) (view_attr b.now.attr)) result }
 {
     judged(rules::conditional(&test.attr, &a.attr, &b.attr), test.place)?;

@@ -3,11 +3,11 @@
 ghost use Rattle.std.specs.Prelude.{◌≡◌, ◌∷◌, IfOk, map};
 ghost use Rattle.upc_tree.specs.layer.View.{view};
 ghost use Rattle.typing_rules.specs.Attributes.{Facts};
-ghost use Rattle.typing_rules.specs.Nodes as n;
+ghost use Rattle.typing_rules.specs.Nodes as node;
 ghost use Rattle.typing_rules.specs.Nodes.{view_attr};
 ghost use Rattle.upc_types.specs.View as types;
 ghost use Rattle.typed_tree.specs.Scopes as pure;
-ghost use Rattle.typed_tree.specs.Tree as k;
+ghost use Rattle.typed_tree.specs.Tree as typed;
 ghost use Rattle.typed_tree.specs.Tree.{exprs_of, attrs_of};
 ghost use Rattle.typed_tree.specs.layer.ViewEnv.{view_env};
 ghost use Rattle.typed_tree.specs.ViewTree.{view_expr};
@@ -57,7 +57,7 @@ pub fn joined(first: Box<Expr>, more: Vec<Expr>) -> Result<Vec<Expr>, OutOfMemor
 
 /// An expression in parentheses, which begin there.
 pub fn paren(alloc: Global, at: Place, inner: Box<Expr>) -> Result<Box<Expr>, OutOfMemory>
-    ensures { IfOk result (λ e. view_expr e.value ≡ k.Is at (view_attr inner.value.attr) (k.Paren
+    ensures { IfOk result (λ e. view_expr e.value ≡ typed.Is at (view_attr inner.value.attr) (typed.Paren
         (view_expr inner.value))) }
 {
     let attr = attributes::copy(&inner.attr)?;
@@ -74,7 +74,7 @@ fn named(
     at: Place,
     attr: Attr,
 ) -> Result<Box<Expr>, OutOfMemory>
-    ensures { IfOk result (λ e. view_expr e.value ≡ k.Is at (view_attr attr) (calls.name_kind
+    ensures { IfOk result (λ e. view_expr e.value ≡ typed.Is at (view_attr attr) (calls.name_kind
         (view_setting setting.entry) (view_meaning means.entry) name)) }
 {
     let alloc = setting.alloc;
@@ -96,7 +96,7 @@ pub fn finish_name(
     how: Use<'_>,
     name: Name,
 ) -> Result<Box<Expr>, Stop>
-    ensures { (φ : Facts) → Finishes φ (places.name_at name) (n.Name (view_use how.entry)
+    ensures { (φ : Facts) → Finishes φ (places.name_at name) (node.Name (view_use how.entry)
         (pure.meaning (view_setting setting.entry) (view_env env.now) name.number)) (calls.name_kind
         (view_setting setting.entry) (pure.meaning (view_setting setting.entry) (view_env env.now)
         name.number) name.number) result }
@@ -114,7 +114,7 @@ pub fn finish_number(
     kind: NumberKind,
     at: Place,
 ) -> Result<Box<Expr>, Stop>
-    ensures { (φ : Facts) → Finishes φ at (n.Number (marks.number_kind kind) value) (k.Literal)
+    ensures { (φ : Facts) → Finishes φ at (node.Number (marks.number_kind kind) value) (typed.Literal)
         result }
 {
     let attr = attributes::number(number_kind(kind), value);
@@ -123,7 +123,7 @@ pub fn finish_number(
 
 /// A character.
 pub fn finish_character(alloc: Global, value: u8, at: Place) -> Result<Box<Expr>, Stop>
-    ensures { (φ : Facts) → Finishes φ at (n.Character value) (k.Literal) result }
+    ensures { (φ : Facts) → Finishes φ at (node.Character value) (typed.Literal) result }
 {
     Ok(build::literal(alloc, at, attributes::character(value))?)
 }
@@ -150,8 +150,8 @@ pub fn finish_strings(
     first: &StringLiteral,
     more: &[StringLiteral],
 ) -> Result<Box<Expr>, Stop>
-    ensures { (φ : Facts) → Finishes φ (places.at first.now.span) (n.Strings (view_use how.entry))
-        (k.Format (walks.joined (first.now ∷ more.now))) result }
+    ensures { (φ : Facts) → Finishes φ (places.at first.now.span) (node.Strings (view_use how.entry))
+        (typed.Format (walks.joined (first.now ∷ more.now))) result }
 {
     let at = first.span.place;
     judged(rules::strings(how), at)?;
@@ -188,8 +188,8 @@ pub fn finish_subscript(
     a: Box<Expr>,
     i: Box<Expr>,
 ) -> Result<Box<Expr>, Stop>
-    ensures { Finishes (facts_of setting.entry known.now) a.value.place (n.Subscript (view_use
-        how.entry) (view_attr a.value.attr) (view_attr i.value.attr)) (k.Subscript (view_expr
+    ensures { Finishes (facts_of setting.entry known.now) a.value.place (node.Subscript (view_use
+        how.entry) (view_attr a.value.attr) (view_attr i.value.attr)) (typed.Subscript (view_expr
         a.value) (view_expr i.value)) result }
 {
     let at = a.place;
@@ -207,10 +207,10 @@ pub fn finish_call(
     at: Place,
     args: Vec<Expr>,
 ) -> Result<Box<Expr>, Stop>
-    ensures { Finishes (facts_of setting.entry known.now) at (n.Call (view_use how.entry)
+    ensures { Finishes (facts_of setting.entry known.now) at (node.Call (view_use how.entry)
         (view_meaning means.entry) (calls.runs (view_setting setting.entry) (view callee.now))
         (walks.format_in (exprs_of (map view_expr args.items))) (attrs_of (exprs_of (map view_expr
-        args.items)))) (k.Call (calls.target_by (view_setting setting.entry) (view_meaning
+        args.items)))) (typed.Call (calls.target_by (view_setting setting.entry) (view_meaning
         means.entry) (calls.called_name (view callee.now))) (exprs_of (map view_expr args.items)))
         result }
 {
@@ -226,7 +226,7 @@ fn finish_member_of(
     a: Box<Expr>,
     name: &[u8],
 ) -> Result<Box<Expr>, Stop>
-    ensures { Finishes (facts_of setting.entry known.now) a.value.place (n.MemberOf (view_attr
+    ensures { Finishes (facts_of setting.entry known.now) a.value.place (node.MemberOf (view_attr
         a.value.attr) name.now) (walks.member_kind MemberMark.Dot (view_expr a.value) name.now
         (facts_of setting.entry known.now)) result }
 {
@@ -242,7 +242,7 @@ fn finish_member_behind(
     a: Box<Expr>,
     name: &[u8],
 ) -> Result<Box<Expr>, Stop>
-    ensures { Finishes (facts_of setting.entry known.now) a.value.place (n.MemberBehind (view_attr
+    ensures { Finishes (facts_of setting.entry known.now) a.value.place (node.MemberBehind (view_attr
         a.value.attr) name.now) (walks.member_kind MemberMark.Arrow (view_expr a.value) name.now
         (facts_of setting.entry known.now)) result }
 {
@@ -279,8 +279,8 @@ fn finish_step(
     at: Place,
     a: Box<Expr>,
 ) -> Result<Box<Expr>, Stop>
-    ensures { Finishes (facts_of setting.entry known.now) at (n.Step (view_attr a.value.attr))
-        (k.Step op (view_expr a.value)) result }
+    ensures { Finishes (facts_of setting.entry known.now) at (node.Step (view_attr a.value.attr))
+        (typed.Step op (view_expr a.value)) result }
 {
     let attr = judge_step(setting, known, at, &a)?;
     Ok(build::step(setting.alloc, at, attr, op, a)?)
@@ -293,8 +293,8 @@ pub fn finish_postfix(
     mark: PostfixMark,
     a: Box<Expr>,
 ) -> Result<Box<Expr>, Stop>
-    ensures { Finishes (facts_of setting.entry known.now) a.value.place (n.Step (view_attr
-        a.value.attr)) (k.Step (marks.postfix_operator mark) (view_expr a.value)) result }
+    ensures { Finishes (facts_of setting.entry known.now) a.value.place (node.Step (view_attr
+        a.value.attr)) (typed.Step (marks.postfix_operator mark) (view_expr a.value)) result }
 {
     let at = a.place;
     finish_step(setting, known, postfix_operator(mark), at, a)
@@ -304,7 +304,7 @@ pub fn finish_postfix(
 
 // `&a`.
 fn finish_address(alloc: Global, at: Place, a: Box<Expr>) -> Result<Box<Expr>, Stop>
-    ensures { (φ : Facts) → Finishes φ at (n.Address (view_attr a.value.attr)) (k.Address (view_expr
+    ensures { (φ : Facts) → Finishes φ at (node.Address (view_attr a.value.attr)) (typed.Address (view_expr
         a.value)) result }
 {
     let attr = judge_address(alloc, at, &a)?;
@@ -313,7 +313,7 @@ fn finish_address(alloc: Global, at: Place, a: Box<Expr>) -> Result<Box<Expr>, S
 
 // `*a`.
 fn finish_dereference(alloc: Global, at: Place, a: Box<Expr>) -> Result<Box<Expr>, Stop>
-    ensures { (φ : Facts) → Finishes φ at (n.Dereference (view_attr a.value.attr)) (k.Dereference
+    ensures { (φ : Facts) → Finishes φ at (node.Dereference (view_attr a.value.attr)) (typed.Dereference
         (view_expr a.value)) result }
 {
     let attr = judge_dereference(at, &a)?;
@@ -322,7 +322,7 @@ fn finish_dereference(alloc: Global, at: Place, a: Box<Expr>) -> Result<Box<Expr
 
 // `+a`, `-a`, `~a` and `!a`.
 fn finish_operator(alloc: Global, op: UnOp, at: Place, a: Box<Expr>) -> Result<Box<Expr>, Stop>
-    ensures { (φ : Facts) → Finishes φ at (n.Unary op (view_attr a.value.attr)) (k.Unary op
+    ensures { (φ : Facts) → Finishes φ at (node.Unary op (view_attr a.value.attr)) (typed.Unary op
         (view_expr a.value)) result }
 {
     let attr = judge_operator(op, at, &a)?;
@@ -360,8 +360,8 @@ pub fn finish_size_of(
     at: Place,
     a: Box<Expr>,
 ) -> Result<Box<Expr>, Stop>
-    ensures { Finishes (facts_of setting.entry known.now) at (n.SizeOf (marks.size_operator word)
-        (view_attr a.value.attr)) (k.SizeOf (marks.size_operator word) (view_expr a.value)) result }
+    ensures { Finishes (facts_of setting.entry known.now) at (node.SizeOf (marks.size_operator word)
+        (view_attr a.value.attr)) (typed.SizeOf (marks.size_operator word) (view_expr a.value)) result }
 {
     let op = size_operator(word);
     let attr = judge_size_of(setting, known, op, at, &a)?;
@@ -376,8 +376,8 @@ pub fn finish_size_of_type(
     at: Place,
     t: Formed,
 ) -> Result<Box<Expr>, Stop>
-    ensures { Finishes (facts_of setting.entry known.now) at (n.SizeOfType (marks.size_operator
-        word) (view_formed t)) (k.SizeOfType (marks.size_operator word) (view_formed t).ctype)
+    ensures { Finishes (facts_of setting.entry known.now) at (node.SizeOfType (marks.size_operator
+        word) (view_formed t)) (typed.SizeOfType (marks.size_operator word) (view_formed t).ctype)
         result }
 {
     let op = size_operator(word);
@@ -395,8 +395,8 @@ fn boxed(alloc: Global, t: CType) -> Result<Box<CType>, OutOfMemory>
 
 /// A cast.
 pub fn finish_cast(alloc: Global, at: Place, t: &Formed, a: Box<Expr>) -> Result<Box<Expr>, Stop>
-    ensures { (φ : Facts) → Finishes φ at (n.Cast (view_formed t.now) (view_attr a.value.attr))
-        (k.Cast (view_expr a.value)) result }
+    ensures { (φ : Facts) → Finishes φ at (node.Cast (view_formed t.now) (view_attr a.value.attr))
+        (typed.Cast (view_expr a.value)) result }
 {
     let attr = judge_cast(at, t, &a)?;
     Ok(build::cast(alloc, at, attr, a)?)
@@ -412,8 +412,8 @@ fn finish_operation(
     a: Box<Expr>,
     b: Box<Expr>,
 ) -> Result<Box<Expr>, Stop>
-    ensures { Finishes (facts_of setting.entry known.now) a.value.place (n.Binary op (view_attr
-        a.value.attr) (view_attr b.value.attr)) (k.Binary op (view_expr a.value) (view_expr
+    ensures { Finishes (facts_of setting.entry known.now) a.value.place (node.Binary op (view_attr
+        a.value.attr) (view_attr b.value.attr)) (typed.Binary op (view_expr a.value) (view_expr
         b.value)) result }
 {
     let at = a.place;
@@ -423,8 +423,8 @@ fn finish_operation(
 
 // `a && b`.
 fn finish_and(alloc: Global, a: Box<Expr>, b: Box<Expr>) -> Result<Box<Expr>, Stop>
-    ensures { (φ : Facts) → Finishes φ a.value.place (n.And (view_attr a.value.attr) (view_attr
-        b.value.attr)) (k.And (view_expr a.value) (view_expr b.value)) result }
+    ensures { (φ : Facts) → Finishes φ a.value.place (node.And (view_attr a.value.attr) (view_attr
+        b.value.attr)) (typed.And (view_expr a.value) (view_expr b.value)) result }
 {
     let at = a.place;
     let attr = judge_and(&a, &b)?;
@@ -433,8 +433,8 @@ fn finish_and(alloc: Global, a: Box<Expr>, b: Box<Expr>) -> Result<Box<Expr>, St
 
 // `a || b`.
 fn finish_or(alloc: Global, a: Box<Expr>, b: Box<Expr>) -> Result<Box<Expr>, Stop>
-    ensures { (φ : Facts) → Finishes φ a.value.place (n.Or (view_attr a.value.attr) (view_attr
-        b.value.attr)) (k.Or (view_expr a.value) (view_expr b.value)) result }
+    ensures { (φ : Facts) → Finishes φ a.value.place (node.Or (view_attr a.value.attr) (view_attr
+        b.value.attr)) (typed.Or (view_expr a.value) (view_expr b.value)) result }
 {
     let at = a.place;
     let attr = judge_or(&a, &b)?;
@@ -477,8 +477,8 @@ pub fn finish_binary(
 
 // `a = b`.
 fn finish_plain_assign(alloc: Global, a: Box<Expr>, b: Box<Expr>) -> Result<Box<Expr>, Stop>
-    ensures { (φ : Facts) → Finishes φ a.value.place (n.Assign (view_attr a.value.attr) (view_attr
-        b.value.attr)) (k.Assign (view_expr a.value) (view_expr b.value)) result }
+    ensures { (φ : Facts) → Finishes φ a.value.place (node.Assign (view_attr a.value.attr) (view_attr
+        b.value.attr)) (typed.Assign (view_expr a.value) (view_expr b.value)) result }
 {
     let at = a.place;
     let attr = judge_plain_assign(&a, &b)?;
@@ -493,8 +493,8 @@ fn finish_compound(
     a: Box<Expr>,
     b: Box<Expr>,
 ) -> Result<Box<Expr>, Stop>
-    ensures { Finishes (facts_of setting.entry known.now) a.value.place (n.Compound op (view_attr
-        a.value.attr) (view_attr b.value.attr)) (k.Compound op (view_expr a.value) (view_expr
+    ensures { Finishes (facts_of setting.entry known.now) a.value.place (node.Compound op (view_attr
+        a.value.attr) (view_attr b.value.attr)) (typed.Compound op (view_expr a.value) (view_expr
         b.value)) result }
 {
     let at = a.place;
@@ -536,8 +536,8 @@ pub fn finish_conditional(
     a: Box<Expr>,
     b: Box<Expr>,
 ) -> Result<Box<Expr>, Stop>
-    ensures { (φ : Facts) → Finishes φ test.value.place (n.Conditional (view_attr test.value.attr)
-        (view_attr a.value.attr) (view_attr b.value.attr)) (k.Conditional (view_expr test.value)
+    ensures { (φ : Facts) → Finishes φ test.value.place (node.Conditional (view_attr test.value.attr)
+        (view_attr a.value.attr) (view_attr b.value.attr)) (typed.Conditional (view_expr test.value)
         (view_expr a.value) (view_expr b.value)) result }
 {
     let at = test.place;
@@ -547,8 +547,8 @@ pub fn finish_conditional(
 
 /// A comma expression.
 pub fn finish_comma(alloc: Global, first: Box<Expr>, more: Vec<Expr>) -> Result<Box<Expr>, Stop>
-    ensures { (φ : Facts) → Finishes φ first.value.place (n.Comma (walks.last_of (view_expr
-        first.value) (exprs_of (map view_expr more.items)))) (k.Comma (k.AndExpr (view_expr
+    ensures { (φ : Facts) → Finishes φ first.value.place (node.Comma (walks.last_of (view_expr
+        first.value) (exprs_of (map view_expr more.items)))) (typed.Comma (typed.AndExpr (view_expr
         first.value) (exprs_of (map view_expr more.items)))) result }
 {
     let at = first.place;

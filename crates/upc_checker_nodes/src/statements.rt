@@ -2,11 +2,11 @@
 
 ghost use Rattle.std.specs.Prelude.{◌≡◌, ◌∷◌, [], map, Some};
 ghost use Rattle.typing_rules.specs.Attributes.{Facts};
-ghost use Rattle.typing_rules.specs.Nodes as n;
+ghost use Rattle.typing_rules.specs.Nodes as node;
 ghost use Rattle.typing_rules.specs.Rules.{lowest};
 ghost use Rattle.typed_tree.specs.Scopes as scopes;
 ghost use Rattle.typed_tree.specs.Scopes.{State};
-ghost use Rattle.typed_tree.specs.Tree as k;
+ghost use Rattle.typed_tree.specs.Tree as typed;
 ghost use Rattle.typed_tree.specs.Tree.{attr_of};
 ghost use Rattle.typed_tree.specs.ViewStatements.{view_affinity, view_arms, view_head, view_last, view_statement};
 ghost use Rattle.typed_tree.specs.ViewStatements.{view_switch_items, view_value};
@@ -36,7 +36,7 @@ pub fn finish_if(
     last: Option<Box<Statement>>,
 ) -> Result<Box<Statement>, Stop>
     ensures { (ξ : scopes.Setting) (s : State) → Meets (boxed view_statement) (andthen (judge ξ at
-        (n.Tests (map attr_tested arms.items))) (λ u. give (k.Stands at (k.If (view_arms arms.items)
+        (node.Tests (map attr_tested arms.items))) (λ u. give (typed.Stands at (typed.If (view_arms arms.items)
         (view_last last)))) s) s result }
 {
     judged(tests(arms.as_slice()), at)?;
@@ -52,8 +52,8 @@ pub fn finish_switch(
     labelled: Labelled,
 ) -> Result<Box<Statement>, Stop>
     ensures { (ξ : scopes.Setting) (s : State) → Meets (boxed view_statement) (andthen (judge ξ at
-        (n.Switch (attr_of (view_expr a.value)) labelled.labels.items labelled.defaults)) (λ u. give
-        (k.Stands at (k.Switch (view_expr a.value) (view_switch_items labelled.items.items)))) s) s
+        (node.Switch (attr_of (view_expr a.value)) labelled.labels.items labelled.defaults)) (λ u. give
+        (typed.Stands at (typed.Switch (view_expr a.value) (view_switch_items labelled.items.items)))) s) s
         result }
 {
     let labels = labelled.labels.as_slice();
@@ -71,7 +71,7 @@ pub fn finish_while(
     body: Box<Statement>,
 ) -> Result<Box<Statement>, Stop>
     ensures { (ξ : scopes.Setting) (s : State) → Meets (boxed view_statement) (andthen (judge ξ at
-        (n.Tests (attr_of (view_expr test.value) ∷ []))) (λ u. give (k.Stands at (k.While (view_expr
+        (node.Tests (attr_of (view_expr test.value) ∷ []))) (λ u. give (typed.Stands at (typed.While (view_expr
         test.value) (view_statement body.value)))) s) s result }
 {
     judged(rules::test(&test.attr), at)?;
@@ -87,7 +87,7 @@ pub fn finish_do_while(
     test: Box<Expr>,
 ) -> Result<Box<Statement>, Stop>
     ensures { (ξ : scopes.Setting) (s : State) → Meets (boxed view_statement) (andthen (judge ξ at
-        (n.Tests (attr_of (view_expr test.value) ∷ []))) (λ u. give (k.Stands at (k.DoWhile
+        (node.Tests (attr_of (view_expr test.value) ∷ []))) (λ u. give (typed.Stands at (typed.DoWhile
         (view_statement body.value) (view_expr test.value)))) s) s result }
 {
     judged(rules::test(&test.attr), at)?;
@@ -97,7 +97,7 @@ pub fn finish_do_while(
 
 // The condition of a loop, where it has one.
 fn head_test(test: &Option<Box<Expr>>) -> Option<u8>
-    ensures { (φ : Facts) → result ≡ lowest φ (n.Tests (pure.tests_of (view_value test.now))) }
+    ensures { (φ : Facts) → result ≡ lowest φ (node.Tests (pure.tests_of (view_value test.now))) }
 {
     match test {
         None => None,
@@ -113,7 +113,7 @@ pub fn finish_for(
     body: Box<Statement>,
 ) -> Result<Box<Statement>, Stop>
     ensures { (ξ : scopes.Setting) (s : State) → Meets (boxed view_statement) (andthen (judge ξ at
-        (n.Tests (pure.tests_of (view_value head.value.test)))) (λ u. give (k.Stands at (k.For
+        (node.Tests (pure.tests_of (view_value head.value.test)))) (λ u. give (typed.Stands at (typed.For
         (view_head head.value) (view_statement body.value)))) s) s result }
 {
     judged(head_test(&head.test), at)?;
@@ -129,8 +129,8 @@ pub fn finish_forall(
     body: Box<Statement>,
 ) -> Result<Box<Statement>, Stop>
     ensures { (ξ : scopes.Setting) (s : State) → Meets (boxed view_statement) (andthen (judge ξ at
-        (n.Tests (pure.tests_of (view_value headed.head.value.test)))) (λ u. give (k.Stands at
-        (k.Forall (view_head headed.head.value) (view_affinity headed.affinity) (view_statement
+        (node.Tests (pure.tests_of (view_value headed.head.value.test)))) (λ u. give (typed.Stands at
+        (typed.Forall (view_head headed.head.value) (view_affinity headed.affinity) (view_statement
         body.value)))) s) s result }
 {
     judged(head_test(&headed.head.test), at)?;
@@ -141,7 +141,7 @@ pub fn finish_forall(
 /// A `break` (C99 6.8.6.3; UPC 6.6.2).
 pub fn finish_break(alloc: Global, around: Around<'_>, at: Place) -> Result<Box<Statement>, Stop>
     ensures { (ξ : scopes.Setting) (s : State) → Meets (boxed view_statement) (andthen (judge ξ at
-        (n.Break (view_around around.entry))) (λ u. give (k.Stands at k.Break)) s) s result }
+        (node.Break (view_around around.entry))) (λ u. give (typed.Stands at typed.Break)) s) s result }
 {
     judged(rules::breaks(around), at)?;
     let x = build::leave(alloc, at)?;
@@ -151,7 +151,7 @@ pub fn finish_break(alloc: Global, around: Around<'_>, at: Place) -> Result<Box<
 /// A `continue` (C99 6.8.6.2; UPC 6.6.2).
 pub fn finish_continue(alloc: Global, around: Around<'_>, at: Place) -> Result<Box<Statement>, Stop>
     ensures { (ξ : scopes.Setting) (s : State) → Meets (boxed view_statement) (andthen (judge ξ at
-        (n.Continue (view_around around.entry))) (λ u. give (k.Stands at k.Continue)) s) s result }
+        (node.Continue (view_around around.entry))) (λ u. give (typed.Stands at typed.Continue)) s) s result }
 {
     judged(rules::continues(around), at)?;
     let x = build::repeat(alloc, at)?;

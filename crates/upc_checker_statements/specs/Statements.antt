@@ -3,11 +3,11 @@ use Rattle.std.specs.Prelude.{ℕ, ◌+◌, ℤ, pos, Bool, true, List, [], ◌�
 use Rattle.upc_text.specs.declared.place.Place.{Place}
 use Rattle.block_layout.specs.declared.kind.Kind.{Kind}
 use Rattle.upc_tree.specs.declared.mark.BarrierWord.{BarrierWord}
-use Rattle.upc_tree.specs.declared.mark.BarrierWord.TheVariants as w
+use Rattle.upc_tree.specs.declared.mark.BarrierWord.TheVariants as barrier_word
 use Rattle.upc_tree.specs.declared.span.Span.{Span}
 use Rattle.upc_tree.specs.declared.span.Pragma.{Pragma}
 use Rattle.upc_tree.specs.Expression.{Expr}
-use Rattle.upc_tree.specs.Statement as s
+use Rattle.upc_tree.specs.Statement as statement_tree
 use Rattle.upc_tree.specs.Statement.{Statement, Compound, Braces, BlockItems, NoBlockItems, AndBlockItem}
 use Rattle.upc_tree.specs.Statement.{DeclarationItem, StatementItem, SwitchItems, NoSwitchItems, AndSwitchItem}
 use Rattle.upc_tree.specs.Statement.{CaseItem, DefaultItem, SwitchStatement, ElseIfs, NoElseIfs, AndElseIf, Otherwise}
@@ -16,16 +16,16 @@ use Rattle.upc_tree.specs.Statement.{NoAffinity, ContinueAffinity, ValueAffinity
 use Rattle.upc_tree.specs.Statement.{ForallParts}
 use Rattle.typing_rules.specs.declared.setting.Enclosing.TheVariants as enclosing
 use Rattle.typed_tree.specs.declared.tree.Synchronises.{Synchronises}
-use Rattle.typed_tree.specs.declared.tree.Synchronises.TheVariants as y
+use Rattle.typed_tree.specs.declared.tree.Synchronises.TheVariants as synchronises_variant
 use Rattle.typing_rules.specs.declared.attribute.Constant.{Constant}
 use Rattle.typing_rules.specs.declared.attribute.Constant.TheVariants.{Known}
 use Rattle.typing_rules.specs.Values.{base_kind}
 use Rattle.typed_tree.specs.Scopes.{Setting, Env, Scope, Within, inside, level_of, counts_of}
 use Rattle.typing_rules.specs.Attributes.{base}
 use Rattle.typing_rules.specs.Rules.{label_kind}
-use Rattle.typing_rules.specs.Nodes as n
+use Rattle.typing_rules.specs.Nodes as node
 use Rattle.typing_rules.specs.Nodes.{Attr, Around}
-use Rattle.typed_tree.specs.Tree as k
+use Rattle.typed_tree.specs.Tree as typed
 use Rattle.typed_tree.specs.Tree.{attr_of, place_of, DeclaredObject}
 use Rattle.upc_checker_scopes.specs.Walk.{Walk, give, andthen, judge, enclosed}
 use Rattle.upc_checker_scopes.specs.Places.{at}
@@ -43,20 +43,20 @@ strict_behind before (p ∷ ps) = strict_behind p.strict ps
 
 -- Which barrier statement each word begins (UPC 6.6.1).
 abbrev pub synchronises : BarrierWord → Synchronises
-synchronises w.Notify = y.Notify
-synchronises w.Wait = y.Wait
-synchronises w.Barrier = y.Barrier
+synchronises barrier_word.Notify = synchronises_variant.Notify
+synchronises barrier_word.Wait = synchronises_variant.Wait
+synchronises barrier_word.Barrier = synchronises_variant.Barrier
 
 -- ---- expressions of statements
 
 -- The walk over the expression of a statement, if it has one (C99 6.8.3).
-abbrev pub walk_value : Setting → Env → Option Expr → Walk (Option k.Expr)
+abbrev pub walk_value : Setting → Env → Option Expr → Walk (Option typed.Expr)
 walk_value ξ Γ None = give None
-walk_value ξ Γ (Some e) = andthen (walk ξ Γ n.Plain e) (λ a. give (Some a))
+walk_value ξ Γ (Some e) = andthen (walk ξ Γ node.Plain e) (λ a. give (Some a))
 
 -- The walk over the controlling expression of a statement, in its parentheses (C99 6.8.4, 6.8.5).
-abbrev pub walk_test : Setting → Env → Test → Walk k.Expr
-walk_test ξ Γ (Tests left value right) = walk ξ Γ n.Plain value
+abbrev pub walk_test : Setting → Env → Test → Walk typed.Expr
+walk_test ξ Γ (Tests left value right) = walk ξ Γ node.Plain value
 
 -- ---- the heads of loops
 
@@ -65,7 +65,7 @@ walk_test ξ Γ (Tests left value right) = walk ξ Γ n.Plain value
 pub record Begun : Type 0 where
   pub scope : Env
   pub objects : List DeclaredObject
-  pub first : Option k.Expr
+  pub first : Option typed.Expr
 
 -- The walk over the first part of a loop's head: an expression, a declaration, or nothing (C99 6.8.5.3).
 abbrev pub walk_first : Setting → Env → First → Walk Begun
@@ -76,30 +76,30 @@ walk_first ξ Γ (FirstDeclaration declaration) =
     give (record { scope = b.scope; objects = b.objects; first = None }))
 
 -- The head of a loop, of its first part, its test and what it does last in each turn (C99 6.8.5.3).
-abbrev pub head_of : Begun → Option k.Expr → Option k.Expr → k.Head
+abbrev pub head_of : Begun → Option typed.Expr → Option typed.Expr → typed.Head
 head_of b test step = record { objects = b.objects; first = b.first; test = test; step = step }
 
 -- The walk over the affinity of a `upc_forall`, which is judged at its expression; without one, or with `continue`,
 -- each thread takes every turn (UPC 6.6.2).
-abbrev pub walk_affinity : Setting → Env → Affinity → Walk k.Affinity
-walk_affinity ξ Γ NoAffinity = give k.Everyone
-walk_affinity ξ Γ (ContinueAffinity word) = give k.Everyone
+abbrev pub walk_affinity : Setting → Env → Affinity → Walk typed.Affinity
+walk_affinity ξ Γ NoAffinity = give typed.Everyone
+walk_affinity ξ Γ (ContinueAffinity word) = give typed.Everyone
 walk_affinity ξ Γ (ValueAffinity value) =
-    andthen (walk ξ Γ n.Plain value) (λ a. andthen (judge ξ (place_of a) (n.Affinity (attr_of a))) (λ u.
-    give (k.AtValue a)))
+    andthen (walk ξ Γ node.Plain value) (λ a. andthen (judge ξ (place_of a) (node.Affinity (attr_of a))) (λ u.
+    give (typed.AtValue a)))
 
 -- The head of a loop with the scope after it, and with the affinity, which a `for` has not (C99 6.8.5.3, UPC 6.6.2).
 pub record Headed : Type 0 where
   pub scope : Env
-  pub head : k.Head
-  pub affinity : k.Affinity
+  pub head : typed.Head
+  pub affinity : typed.Affinity
 
 -- The walk over the head of a `for`: what its first part declares is in scope in the others (C99 6.8.5.3).
 abbrev pub walk_for_head : Setting → Env → ForHead → Walk Headed
 walk_for_head ξ Γ (ForParts left first test test_end step right) =
     andthen (walk_first ξ Γ first) (λ b. andthen (walk_value ξ b.scope test) (λ t.
     andthen (walk_value ξ b.scope step) (λ p.
-    give (record { scope = b.scope; head = head_of b t p; affinity = k.Everyone }))))
+    give (record { scope = b.scope; head = head_of b t p; affinity = typed.Everyone }))))
 
 -- The walk over the head of a `upc_forall`: what its first part declares is in scope in the others, of which the
 -- affinity is the last (UPC 6.6.2).
@@ -114,7 +114,7 @@ walk_forall_head ξ Γ (ForallParts left first test test_end step step_end affin
 
 -- The body of a switch: its parts, the constants of its labels, and how often `default` stands there (C99 6.8.4.2).
 pub record Labelled : Type 0 where
-  pub items : k.SwitchItems
+  pub items : typed.SwitchItems
   pub labels : List Constant
   pub defaults : ℕ
 
@@ -122,28 +122,28 @@ pub record Labelled : Type 0 where
 -- (C99 6.8.4.2).
 abbrev pub with_case : Option Kind → Constant → Labelled → Labelled
 with_case kind c x =
-    record { items = k.AndCase (label_value kind c) x.items; labels = c ∷ x.labels; defaults = x.defaults }
+    record { items = typed.AndCase (label_value kind c) x.items; labels = c ∷ x.labels; defaults = x.defaults }
 
 -- The body of a switch with one more `default` before it (C99 6.8.4.2).
 abbrev pub with_default : Labelled → Labelled
-with_default x = record { items = k.AndDefault x.items; labels = x.labels; defaults = x.defaults + 1 }
+with_default x = record { items = typed.AndDefault x.items; labels = x.labels; defaults = x.defaults + 1 }
 
 -- The body of a switch with one more statement before it (C99 6.8.4.2).
-abbrev pub with_statement : k.Statement → Labelled → Labelled
-with_statement s x = record { items = k.AndSwitchStatement s x.items; labels = x.labels; defaults = x.defaults }
+abbrev pub with_statement : typed.Statement → Labelled → Labelled
+with_statement s x = record { items = typed.AndSwitchStatement s x.items; labels = x.labels; defaults = x.defaults }
 
 -- ---- statements
 
 -- The further arms of an `if`, with the conditions that are judged at the statement, and the scope of the part after
 -- the last `else` (C99 6.8.4.1).
 pub record Armed : Type 0 where
-  pub arms : k.Arms
+  pub arms : typed.Arms
   pub tests : List Attr
   pub scope : Env
 
 -- The further arms of an `if` with one more before them (C99 6.8.4.1).
-abbrev pub with_arm : k.Expr → k.Statement → Armed → Armed
-with_arm test body x = record { arms = k.AndArm test body x.arms; tests = attr_of test ∷ x.tests; scope = x.scope }
+abbrev pub with_arm : typed.Expr → typed.Statement → Armed → Armed
+with_arm test body x = record { arms = typed.AndArm test body x.arms; tests = attr_of test ∷ x.tests; scope = x.scope }
 
 -- A scope one level inside Δ, which is that of a condition inside Γ: a condition may declare a tag, but no name, so
 -- names are sought in Γ next (C99 6.2.1, 6.8.4).
@@ -152,12 +152,12 @@ deeper Γ Δ = Scope (level_of Δ + 1) [] (counts_of Δ) (Within Γ)
 
 -- The walk over the expression of a `return`, if it has one, which converts into the result of its function
 -- (C99 6.8.6.4).
-abbrev pub walk_returned : Setting → Env → Around → Option Expr → Walk (Option k.Expr)
+abbrev pub walk_returned : Setting → Env → Around → Option Expr → Walk (Option typed.Expr)
 walk_returned ξ Γ c None = give None
-walk_returned ξ Γ c (Some e) = andthen (walk ξ Γ (n.Into c.result) e) (λ a. give (Some a))
+walk_returned ξ Γ c (Some e) = andthen (walk ξ Γ (node.Into c.result) e) (λ a. give (Some a))
 
 -- The place of an expression statement: that of its expression, or of its semicolon where it has none (C99 6.8.3).
-abbrev pub statement_place : Option k.Expr → Span → Place
+abbrev pub statement_place : Option typed.Expr → Span → Place
 statement_place None semicolon = at semicolon
 statement_place (Some a) semicolon = place_of a
 
@@ -165,73 +165,76 @@ statement_place (Some a) semicolon = place_of a
 abbrev mutual
   -- The walk over a statement: those that choose and those that repeat are blocks, and so are their parts (C99 6.8.4,
   -- 6.8.5).
-  pub walk_statement : Setting → Env → Around → Bool → Statement → Walk k.Statement
-  walk_statement ξ Γ c strict (s.Block compound) = walk_block ξ (inside Γ) c strict compound
-  walk_statement ξ Γ c strict (s.Value value semicolon) =
-      andthen (walk_value ξ Γ value) (λ a. give (k.Stands (statement_place a semicolon) (k.Value a)))
-  walk_statement ξ Γ c strict (s.If word test body more last) =
+  pub walk_statement : Setting → Env → Around → Bool → Statement → Walk typed.Statement
+  walk_statement ξ Γ c strict (statement_tree.Block compound) = walk_block ξ (inside Γ) c strict compound
+  walk_statement ξ Γ c strict (statement_tree.Value value semicolon) =
+      andthen (walk_value ξ Γ value) (λ a. give (typed.Stands (statement_place a semicolon) (typed.Value a)))
+  walk_statement ξ Γ c strict (statement_tree.If word test body more last) =
       enclosed (andthen (walk_test ξ (inside Γ) test) (λ a.
       andthen (enclosed (walk_statement ξ (inside (inside Γ)) c strict body)) (λ b.
       andthen (walk_else_ifs ξ (inside Γ) (inside (inside Γ)) c strict more) (λ x.
       andthen (walk_otherwise ξ x.scope c strict last) (λ o.
-      andthen (judge ξ (at word) (n.Tests (attr_of a ∷ x.tests))) (λ u.
-      give (k.Stands (at word) (k.If (k.AndArm a b x.arms) o))))))))
-  walk_statement ξ Γ c strict (s.Switch word test left items right) =
+      andthen (judge ξ (at word) (node.Tests (attr_of a ∷ x.tests))) (λ u.
+      give (typed.Stands (at word) (typed.If (typed.AndArm a b x.arms) o))))))))
+  walk_statement ξ Γ c strict (statement_tree.Switch word test left items right) =
       enclosed (andthen (walk_test ξ (inside Γ) test) (λ a.
       andthen (enclosed (walk_switch ξ (inside (inside Γ)) (in_switch c) strict (base_kind (base (attr_of a)))
       items)) (λ x.
-      andthen (judge ξ (at word) (n.Switch (attr_of a) x.labels x.defaults)) (λ u.
-      give (k.Stands (at word) (k.Switch a x.items))))))
-  walk_statement ξ Γ c strict (s.While word test body) =
+      andthen (judge ξ (at word) (node.Switch (attr_of a) x.labels x.defaults)) (λ u.
+      give (typed.Stands (at word) (typed.Switch a x.items))))))
+  walk_statement ξ Γ c strict (statement_tree.While word test body) =
       enclosed (andthen (walk_test ξ (inside Γ) test) (λ a.
       andthen (enclosed (walk_statement ξ (inside (inside Γ)) (in_loop c) strict body)) (λ b.
-      andthen (judge ξ (at word) (n.Tests (attr_of a ∷ []))) (λ u. give (k.Stands (at word) (k.While a b))))))
-  walk_statement ξ Γ c strict (s.DoWhile word body until test semicolon) =
+      andthen (judge ξ (at word) (node.Tests (attr_of a ∷ [])))
+      (λ u. give (typed.Stands (at word) (typed.While a b))))))
+  walk_statement ξ Γ c strict (statement_tree.DoWhile word body until test semicolon) =
       enclosed (andthen (enclosed (walk_statement ξ (inside (inside Γ)) (in_loop c) strict body)) (λ b.
       andthen (walk_test ξ (inside Γ) test) (λ a.
-      andthen (judge ξ (at word) (n.Tests (attr_of a ∷ []))) (λ u. give (k.Stands (at word) (k.DoWhile b a))))))
-  walk_statement ξ Γ c strict (s.For word head body) =
+      andthen (judge ξ (at word) (node.Tests (attr_of a ∷ [])))
+      (λ u. give (typed.Stands (at word) (typed.DoWhile b a))))))
+  walk_statement ξ Γ c strict (statement_tree.For word head body) =
       enclosed (andthen (walk_for_head ξ (inside Γ) head) (λ h.
       andthen (enclosed (walk_statement ξ (inside h.scope) (in_loop c) strict body)) (λ b.
-      andthen (judge ξ (at word) (n.Tests (tests_of h.head.test))) (λ u. give (k.Stands (at word) (k.For h.head b))))))
-  walk_statement ξ Γ c strict (s.Forall word head body) =
+      andthen (judge ξ (at word) (node.Tests (tests_of h.head.test)))
+      (λ u. give (typed.Stands (at word) (typed.For h.head b))))))
+  walk_statement ξ Γ c strict (statement_tree.Forall word head body) =
       enclosed (andthen (walk_forall_head ξ (inside Γ) head) (λ h.
       andthen (enclosed (walk_statement ξ (inside h.scope) (in_forall c) strict body)) (λ b.
-      andthen (judge ξ (at word) (n.Tests (tests_of h.head.test))) (λ u.
-      give (k.Stands (at word) (k.Forall h.head h.affinity b))))))
-  walk_statement ξ Γ c strict (s.Break word semicolon) =
-      andthen (judge ξ (at word) (n.Break c)) (λ u. give (k.Stands (at word) k.Break))
-  walk_statement ξ Γ c strict (s.Continue word semicolon) =
-      andthen (judge ξ (at word) (n.Continue c)) (λ u. give (k.Stands (at word) k.Continue))
-  walk_statement ξ Γ c strict (s.Return word value semicolon) =
+      andthen (judge ξ (at word) (node.Tests (tests_of h.head.test))) (λ u.
+      give (typed.Stands (at word) (typed.Forall h.head h.affinity b))))))
+  walk_statement ξ Γ c strict (statement_tree.Break word semicolon) =
+      andthen (judge ξ (at word) (node.Break c)) (λ u. give (typed.Stands (at word) typed.Break))
+  walk_statement ξ Γ c strict (statement_tree.Continue word semicolon) =
+      andthen (judge ξ (at word) (node.Continue c)) (λ u. give (typed.Stands (at word) typed.Continue))
+  walk_statement ξ Γ c strict (statement_tree.Return word value semicolon) =
       andthen (walk_returned ξ Γ c value) (λ a. returns ξ c (at word) a)
-  walk_statement ξ Γ c strict (s.Barrier kind word value semicolon) =
+  walk_statement ξ Γ c strict (statement_tree.Barrier kind word value semicolon) =
       andthen (walk_value ξ Γ value) (λ a. synchronise ξ (at word) (synchronises kind) a)
-  walk_statement ξ Γ c strict (s.Fence word semicolon) = give (k.Stands (at word) k.Fence)
+  walk_statement ξ Γ c strict (statement_tree.Fence word semicolon) = give (typed.Stands (at word) typed.Fence)
 
   -- The walk over a compound statement, in a scope that is there already: that of a function's body has the parameters
   -- (C99 6.8.2, 6.9.1).
-  pub walk_block : Setting → Env → Around → Bool → Compound → Walk k.Statement
+  pub walk_block : Setting → Env → Around → Bool → Compound → Walk typed.Statement
   walk_block ξ Γ c strict (Braces left pragmas items right) =
       enclosed (andthen (walk_items ξ Γ c (strict_behind strict pragmas) items) (λ xs.
-      give (k.Stands (at left) (k.Block (strict_behind strict pragmas) xs))))
+      give (typed.Stands (at left) (typed.Block (strict_behind strict pragmas) xs))))
 
   -- The walk over the parts of a block, in order; a declaration is in scope after itself (C99 6.2.1, 6.8.2).
-  pub walk_items : Setting → Env → Around → Bool → BlockItems → Walk k.Items
-  walk_items ξ Γ c strict NoBlockItems = give k.NoItems
+  pub walk_items : Setting → Env → Around → Bool → BlockItems → Walk typed.Items
+  walk_items ξ Γ c strict NoBlockItems = give typed.NoItems
   walk_items ξ Γ c strict (AndBlockItem (DeclarationItem declaration) more) =
       andthen (walk_declaration ξ Γ declaration) (λ b. andthen (walk_items ξ b.scope c strict more) (λ xs.
-      give (k.AndObjects b.objects xs)))
+      give (typed.AndObjects b.objects xs)))
   walk_items ξ Γ c strict (AndBlockItem (StatementItem statement) more) =
       andthen (walk_statement ξ Γ c strict statement) (λ x. andthen (walk_items ξ Γ c strict more) (λ xs.
-      give (k.AndStatement x xs)))
+      give (typed.AndStatement x xs)))
 
   -- The walk over the body of a switch on a value of this kind: its labels, its `default` and its statements
   -- (C99 6.8.1, 6.8.4.2).
   pub walk_switch : Setting → Env → Around → Bool → Option Kind → SwitchItems → Walk Labelled
-  walk_switch ξ Γ c strict kind NoSwitchItems = give (record { items = k.NoSwitchItems; labels = []; defaults = 0 })
+  walk_switch ξ Γ c strict kind NoSwitchItems = give (record { items = typed.NoSwitchItems; labels = []; defaults = 0 })
   walk_switch ξ Γ c strict kind (AndSwitchItem (CaseItem word value colon) more) =
-      andthen (walk ξ Γ n.Plain value) (λ a. andthen (constantly ξ a) (λ l.
+      andthen (walk ξ Γ node.Plain value) (λ a. andthen (constantly ξ a) (λ l.
       andthen (walk_switch ξ Γ c strict kind more) (λ x. give (with_case kind l x))))
   walk_switch ξ Γ c strict kind (AndSwitchItem (DefaultItem word colon) more) =
       andthen (walk_switch ξ Γ c strict kind more) (λ x. give (with_default x))
@@ -242,13 +245,13 @@ abbrev mutual
   -- The walk over the further arms of an `if` with the scope Γ. The part after an `else` is a block, here Δ: the
   -- condition of the next arm stands in it, and so do all later arms (C99 6.8.4).
   pub walk_else_ifs : Setting → Env → Env → Around → Bool → ElseIfs → Walk Armed
-  walk_else_ifs ξ Γ Δ c strict NoElseIfs = give (record { arms = k.NoArms; tests = []; scope = Δ })
+  walk_else_ifs ξ Γ Δ c strict NoElseIfs = give (record { arms = typed.NoArms; tests = []; scope = Δ })
   walk_else_ifs ξ Γ Δ c strict (AndElseIf other word test body more) =
       andthen (walk_test ξ Δ test) (λ a. andthen (enclosed (walk_statement ξ (inside Δ) c strict body)) (λ b.
       andthen (walk_else_ifs ξ Γ (deeper Γ Δ) c strict more) (λ x. give (with_arm a b x))))
 
   -- The walk over the part after the last `else`, if there is one (C99 6.8.4.1).
-  pub walk_otherwise : Setting → Env → Around → Bool → Otherwise → Walk k.StatementOption
-  walk_otherwise ξ Δ c strict NoOtherwise = give k.NoStatement
+  pub walk_otherwise : Setting → Env → Around → Bool → Otherwise → Walk typed.StatementOption
+  walk_otherwise ξ Δ c strict NoOtherwise = give typed.NoStatement
   walk_otherwise ξ Δ c strict (Else word body) =
-      andthen (enclosed (walk_statement ξ Δ c strict body)) (λ b. give (k.TheStatement b))
+      andthen (enclosed (walk_statement ξ Δ c strict body)) (λ b. give (typed.TheStatement b))

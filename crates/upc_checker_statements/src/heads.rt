@@ -5,9 +5,9 @@ ghost use Rattle.upc_tree.specs.declared.span.Span.{Span};
 ghost use Rattle.upc_tree.specs.layer.View.{view};
 ghost use Rattle.upc_tree.specs.layer.ViewStatement as trees;
 ghost use Rattle.typing_rules.specs.Attributes.{base};
-ghost use Rattle.typing_rules.specs.Nodes as n;
+ghost use Rattle.typing_rules.specs.Nodes as node;
 ghost use Rattle.typing_rules.specs.Nodes.{view_attr};
-ghost use Rattle.typed_tree.specs.Tree as k;
+ghost use Rattle.typed_tree.specs.Tree as typed;
 ghost use Rattle.typing_rules.specs.Values.{base_kind};
 ghost use Rattle.typed_tree.specs.layer.ViewEnv.{view_env};
 ghost use Rattle.typed_tree.specs.ViewStatements.{view_affinity, view_head, view_object, view_switch_item, view_value};
@@ -254,7 +254,7 @@ pub(crate) fn walk_for_head(
       scope = view_env env.new;
       head = view_head h.value;
       affinity =
-          k.Everyone;
+          typed.Everyone;
     }) (pure.walk_for_head (view_setting setting.entry) (view_env env.old)
         (trees.view_for head.now) (state_of tags.old known.old)) (state_of tags.new known.new)
         result }
@@ -304,7 +304,7 @@ fn label_value(a: &Attr, label: Constant) -> i128
 
 /// A label, with the value that it compares with.
 pub(crate) fn case_item(a: &Attr, label: Constant) -> SwitchItem
-    ensures { (more : k.SwitchItems) → view_switch_item result more ≡ k.AndCase (pure.label_value
+    ensures { (more : typed.SwitchItems) → view_switch_item result more ≡ typed.AndCase (pure.label_value
         (base_kind (base (view_attr a.now))) label) more }
 {
     SwitchItem::Case(label_value(a, label))
@@ -318,7 +318,7 @@ pub(crate) fn walk_label(
     known: &mut Known,
 ) -> Result<Constant, Stop>
     ensures { Meets (λ l. l) (andthen (walks.walk (view_setting setting.entry) (view_env env.now)
-        n.Plain (view value.now)) (λ a. walks.constantly (view_setting setting.entry) a) (state_of
+        node.Plain (view value.now)) (λ a. walks.constantly (view_setting setting.entry) a) (state_of
         tags.old known.old)) (state_of tags.new known.new) result }
 {
     let a = walk(value, Use::Plain, setting, env, tags, known)?;

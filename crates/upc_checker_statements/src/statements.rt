@@ -3,7 +3,7 @@
 ghost use Rattle.std.specs.Prelude.{IsTrue, map};
 ghost use Rattle.upc_tree.specs.declared.span.Span.{Span};
 ghost use Rattle.upc_tree.specs.layer.Lists.{block_items_of, else_ifs_of, switch_items_of};
-ghost use Rattle.upc_tree.specs.Statement as s;
+ghost use Rattle.upc_tree.specs.Statement as statement_tree;
 ghost use Rattle.upc_tree.specs.layer.ViewStatement as trees;
 ghost use Rattle.typing_rules.specs.Attributes.{base};
 ghost use Rattle.typing_rules.specs.Nodes.{view_attr};
@@ -65,7 +65,7 @@ fn walk_expression(
     known: &mut Known,
 ) -> Result<Box<Statement>, Stop>
     ensures { Meets (boxed view_statement) (pure.walk_statement (view_setting here.entry.setting)
-        (view_env env.now) (view_around here.entry.around) here.entry.strict (s.Value
+        (view_env env.now) (view_around here.entry.around) here.entry.strict (statement_tree.Value
         (trees.view_value value.now) semicolon) (state_of tags.old known.old)) (state_of tags.new
         known.new) result }
 {
@@ -84,7 +84,7 @@ fn walk_return(
 ) -> Result<Box<Statement>, Stop>
     ensures { (semicolon : Span) → Meets (boxed view_statement) (pure.walk_statement (view_setting
         here.entry.setting) (view_env env.now) (view_around here.entry.around) here.entry.strict
-        (s.Return word (trees.view_value value.now) semicolon) (state_of tags.old known.old))
+        (statement_tree.Return word (trees.view_value value.now) semicolon) (state_of tags.old known.old))
         (state_of tags.new known.new) result }
 {
     let a = walk_returned(value, here.around, here.setting, env, tags, known)?;
@@ -102,7 +102,7 @@ fn walk_barrier(
 ) -> Result<Box<Statement>, Stop>
     ensures { (semicolon : Span) → Meets (boxed view_statement) (pure.walk_statement (view_setting
         here.entry.setting) (view_env env.now) (view_around here.entry.around) here.entry.strict
-        (s.Barrier word at (trees.view_value value.now) semicolon) (state_of tags.old known.old))
+        (statement_tree.Barrier word at (trees.view_value value.now) semicolon) (state_of tags.old known.old))
         (state_of tags.new known.new) result }
 {
     let a = walk_value(value, here.setting, env, tags, known)?;

@@ -3,13 +3,13 @@ use Rattle.std.specs.Prelude.{ℕ, ◌+◌, ◌-◌, ◌*◌, ◌/◌, min, nat_
 use Rattle.std.specs.Prelude.{if◌then◌else◌, List, [], ◌∷◌, ◌++◌, length, Option, Some, None, pos, int_le}
 use Rattle.std.specs.Prelude.{unsigned_abs}
 use Rattle.std.specs.List.{list_all}
-use Rattle.block_layout.specs.declared.kind.Kind.TheVariants as k
+use Rattle.block_layout.specs.declared.kind.Kind.TheVariants as kinds
 use Rattle.upc_tree.specs.declared.mark.TypeWord.{TypeWord}
 use Rattle.upc_tree.specs.declared.mark.TypeWord.TheVariants.{Static, Void, Char, Short, Int, Long, Signed, Unsigned}
 use Rattle.upc_tree.specs.declared.mark.TypeWord.TheVariants.{SizeT, PtrdiffT, LockT, OpT, FlagT}
 use Rattle.upc_types.specs.declared.ctype.Access.{Access}
-use Rattle.upc_types.specs.declared.ctype.Access.TheVariants as a
-use Rattle.upc_types.specs.Types as t
+use Rattle.upc_types.specs.declared.ctype.Access.TheVariants as access
+use Rattle.upc_types.specs.Types as types_spec
 use Rattle.upc_types.specs.Types.{CType, Qualified, Base}
 use Rattle.typing_rules.specs.declared.attribute.Constant.{Constant}
 use Rattle.typing_rules.specs.declared.attribute.Constant.TheVariants.{Known}
@@ -30,38 +30,38 @@ row words base = record { words = words; base = base }
 -- (C99 6.7.2, 7.17; UPC 7).
 abbrev pub rows : List Row
 rows =
-    row (Void ∷ []) t.Void ∷
-    row (Char ∷ []) (t.Integer k.Char) ∷
-    row (Signed ∷ Char ∷ []) (t.Integer k.Char) ∷
-    row (Unsigned ∷ Char ∷ []) (t.Integer k.UChar) ∷
-    row (Short ∷ []) (t.Integer k.Short) ∷
-    row (Signed ∷ Short ∷ []) (t.Integer k.Short) ∷
-    row (Short ∷ Int ∷ []) (t.Integer k.Short) ∷
-    row (Signed ∷ Short ∷ Int ∷ []) (t.Integer k.Short) ∷
-    row (Unsigned ∷ Short ∷ []) (t.Integer k.UShort) ∷
-    row (Unsigned ∷ Short ∷ Int ∷ []) (t.Integer k.UShort) ∷
-    row (Int ∷ []) (t.Integer k.Int) ∷
-    row (Signed ∷ []) (t.Integer k.Int) ∷
-    row (Signed ∷ Int ∷ []) (t.Integer k.Int) ∷
-    row (Unsigned ∷ []) (t.Integer k.UInt) ∷
-    row (Unsigned ∷ Int ∷ []) (t.Integer k.UInt) ∷
-    row (Long ∷ []) (t.Integer k.Long) ∷
-    row (Signed ∷ Long ∷ []) (t.Integer k.Long) ∷
-    row (Long ∷ Int ∷ []) (t.Integer k.Long) ∷
-    row (Signed ∷ Long ∷ Int ∷ []) (t.Integer k.Long) ∷
-    row (Unsigned ∷ Long ∷ []) (t.Integer k.ULong) ∷
-    row (Unsigned ∷ Long ∷ Int ∷ []) (t.Integer k.ULong) ∷
-    row (Long ∷ Long ∷ []) (t.Integer k.Long) ∷
-    row (Signed ∷ Long ∷ Long ∷ []) (t.Integer k.Long) ∷
-    row (Long ∷ Long ∷ Int ∷ []) (t.Integer k.Long) ∷
-    row (Signed ∷ Long ∷ Long ∷ Int ∷ []) (t.Integer k.Long) ∷
-    row (Unsigned ∷ Long ∷ Long ∷ []) (t.Integer k.ULong) ∷
-    row (Unsigned ∷ Long ∷ Long ∷ Int ∷ []) (t.Integer k.ULong) ∷
-    row (SizeT ∷ []) (t.Integer k.ULong) ∷
-    row (PtrdiffT ∷ []) (t.Integer k.Long) ∷
-    row (LockT ∷ []) t.LockObject ∷
-    row (OpT ∷ []) (t.Integer k.Int) ∷
-    row (FlagT ∷ []) (t.Integer k.Int) ∷ []
+    row (Void ∷ []) types_spec.Void ∷
+    row (Char ∷ []) (types_spec.Integer kinds.Char) ∷
+    row (Signed ∷ Char ∷ []) (types_spec.Integer kinds.Char) ∷
+    row (Unsigned ∷ Char ∷ []) (types_spec.Integer kinds.UChar) ∷
+    row (Short ∷ []) (types_spec.Integer kinds.Short) ∷
+    row (Signed ∷ Short ∷ []) (types_spec.Integer kinds.Short) ∷
+    row (Short ∷ Int ∷ []) (types_spec.Integer kinds.Short) ∷
+    row (Signed ∷ Short ∷ Int ∷ []) (types_spec.Integer kinds.Short) ∷
+    row (Unsigned ∷ Short ∷ []) (types_spec.Integer kinds.UShort) ∷
+    row (Unsigned ∷ Short ∷ Int ∷ []) (types_spec.Integer kinds.UShort) ∷
+    row (Int ∷ []) (types_spec.Integer kinds.Int) ∷
+    row (Signed ∷ []) (types_spec.Integer kinds.Int) ∷
+    row (Signed ∷ Int ∷ []) (types_spec.Integer kinds.Int) ∷
+    row (Unsigned ∷ []) (types_spec.Integer kinds.UInt) ∷
+    row (Unsigned ∷ Int ∷ []) (types_spec.Integer kinds.UInt) ∷
+    row (Long ∷ []) (types_spec.Integer kinds.Long) ∷
+    row (Signed ∷ Long ∷ []) (types_spec.Integer kinds.Long) ∷
+    row (Long ∷ Int ∷ []) (types_spec.Integer kinds.Long) ∷
+    row (Signed ∷ Long ∷ Int ∷ []) (types_spec.Integer kinds.Long) ∷
+    row (Unsigned ∷ Long ∷ []) (types_spec.Integer kinds.ULong) ∷
+    row (Unsigned ∷ Long ∷ Int ∷ []) (types_spec.Integer kinds.ULong) ∷
+    row (Long ∷ Long ∷ []) (types_spec.Integer kinds.Long) ∷
+    row (Signed ∷ Long ∷ Long ∷ []) (types_spec.Integer kinds.Long) ∷
+    row (Long ∷ Long ∷ Int ∷ []) (types_spec.Integer kinds.Long) ∷
+    row (Signed ∷ Long ∷ Long ∷ Int ∷ []) (types_spec.Integer kinds.Long) ∷
+    row (Unsigned ∷ Long ∷ Long ∷ []) (types_spec.Integer kinds.ULong) ∷
+    row (Unsigned ∷ Long ∷ Long ∷ Int ∷ []) (types_spec.Integer kinds.ULong) ∷
+    row (SizeT ∷ []) (types_spec.Integer kinds.ULong) ∷
+    row (PtrdiffT ∷ []) (types_spec.Integer kinds.Long) ∷
+    row (LockT ∷ []) types_spec.LockObject ∷
+    row (OpT ∷ []) (types_spec.Integer kinds.Int) ∷
+    row (FlagT ∷ []) (types_spec.Integer kinds.Int) ∷ []
 
 -- The two words are the same.
 abbrev pub is_word : TypeWord → TypeWord → Bool
@@ -151,9 +151,9 @@ first_star ls = false
 -- Whether a type says strict, relaxed or neither; where both stand, which rule 4 refuses, it counts as strict
 -- (UPC 6.5.1).
 abbrev pub access_by : Bool → Bool → Access
-access_by true relaxed = a.Strict
-access_by false true = a.Relaxed
-access_by false false = a.Unsaid
+access_by true relaxed = access.Strict
+access_by false true = access.Relaxed
+access_by false false = access.Unsaid
 
 -- The type with this base and these qualifiers (C99 6.7.3, UPC 6.5.1).
 abbrev pub qualify : Base → Quals → CType
@@ -184,7 +184,7 @@ no_types words = list_all (λ w. count w words == 0) type_words
 -- struct where no word forms types (C99 6.7.2).
 abbrev pub base_of_parts : List TypeWord → List ℕ → Option Base
 base_of_parts words [] = base_among rows words
-base_of_parts words (number ∷ []) = if no_types words then Some (t.Struct number) else None
+base_of_parts words (number ∷ []) = if no_types words then Some (types_spec.Struct number) else None
 base_of_parts words more = None
 
 -- The type that specifiers form without their qualifiers, if they form one (C99 6.7.2).
@@ -194,7 +194,7 @@ specified_base s = base_of_parts s.words s.structs
 -- The type that specifiers form, or int where they form none: such specifiers are refused, and the walk goes on with
 -- int.
 abbrev pub base_or_int : Option Base → Base
-base_or_int None = t.Integer k.Int
+base_or_int None = types_spec.Integer kinds.Int
 base_or_int (Some b) = b
 
 -- There is a type.
@@ -232,7 +232,12 @@ specified_type s = record {
 -- A pointer to the type so far, with qualifiers of its own (C99 6.7.5.1).
 abbrev pub pointer_to : Shaped → Quals → Shaped
 pointer_to s q =
-    record { forms = s.forms && quals_fit q; ctype = qualify (t.Pointer s.ctype) q; star = first_star q.layouts }
+    record {
+      forms = s.forms && quals_fit q;
+      ctype = qualify (types_spec.Pointer s.ctype) q;
+      star = first_star
+          q.layouts;
+    }
 
 -- The number of elements that a size gives: its value, 1 where it is no constant of at least 1, and 16,777,217 where it
 -- is more than an object can have.
@@ -248,7 +253,7 @@ all_elements (c ∷ cs) = min (elements c * all_elements cs) 16777217
 
 -- An array of so many elements of a type, which has the qualifiers of its elements (C99 6.7.3).
 abbrev pub array_of : CType → ℕ → CType
-array_of (Qualified b c s x) n = Qualified (t.Array (Qualified b c s x) n) c s x
+array_of (Qualified b c s x) n = Qualified (types_spec.Array (Qualified b c s x) n) c s x
 
 -- The array with these sizes, outermost first, of elements of this type (C99 6.7.5.2).
 abbrev pub arrays_of : CType → List Constant → CType

@@ -3,11 +3,11 @@ use Rattle.std.specs.Prelude.{◌≡◌, ℕ, nat_lt, if◌then◌else◌, List,
 use Rattle.upc_lexer.specs.declared.token.Token.{Token}
 use Rattle.upc_text.specs.declared.place.Place.{Place}
 use Rattle.upc_text.specs.declared.place.Code.{Code}
-use Rattle.upc_text.specs.declared.place.Code.TheVariants as c
+use Rattle.upc_text.specs.declared.place.Code.TheVariants as code_variant
 use Rattle.upc_text.specs.declared.place.Refusal.{Refusal}
 use Rattle.upc_text.specs.declared.faults.Stop.{Stop}
-use Rattle.upc_text.specs.declared.faults.Stop.TheVariants as s
-use Rattle.upc_tree.specs.declared.unit.Unit as u
+use Rattle.upc_text.specs.declared.faults.Stop.TheVariants as stop
+use Rattle.upc_tree.specs.declared.unit.Unit as units
 use Rattle.upc_tree.specs.Unit.{External, height_limit}
 use Rattle.upc_tree.specs.layer.ViewStatement.{view_unit}
 use Rattle.upc_parser_ground.specs.declared.cursor.Fault.{Fault}
@@ -32,8 +32,8 @@ answer tokens = settle (length tokens) (unit_at height_limit tokens)
 
 -- The code of a refusal: syntax where no tree has the tokens, and limit 3 where each such tree is too high.
 abbrev pub code_of : Fault → Code
-code_of NoTree = c.Syntax
-code_of TooHigh = c.Limit 3
+code_of NoTree = code_variant.Syntax
+code_of TooHigh = code_variant.Limit 3
 
 -- The place of one of the tokens.
 abbrev pub Among : List Token → Place → Type 0
@@ -51,27 +51,28 @@ pub record IsRefusal (tokens : List Token) (fault : Fault) (r : Refusal) : Type 
   pub place : HasPlace tokens r.place
 
 -- The parser ends with this outcome: with its tree, or with a refusal for its cause, unless memory runs out.
-abbrev pub Ends : List Token → Result u.Unit Stop → Result (List External) Fault → Type 0
+abbrev pub Ends : List Token → Result units.Unit Stop → Result (List External) Fault → Type 0
 Ends tokens (Ok x) o = o ≡ Ok (view_unit x)
-Ends tokens (Err s.Memory) o = Unit {0}
-Ends tokens (Err (s.Refused r)) o = (f : Fault) × (o ≡ Err f) × IsRefusal tokens f r
+Ends tokens (Err stop.Memory) o = Unit {0}
+Ends tokens (Err (stop.Refused r)) o = (f : Fault) × (o ≡ Err f) × IsRefusal tokens f r
 
 -- ---- what `parse` promises
 
 -- This tree is the answer, unless memory runs out.
-abbrev pub Answers : List External → Result u.Unit Stop → Type 0
+abbrev pub Answers : List External → Result units.Unit Stop → Type 0
 Answers u (Ok x) = view_unit x ≡ u
-Answers u (Err s.Memory) = Unit {0}
-Answers u (Err (s.Refused r)) = ⊥
+Answers u (Err stop.Memory) = Unit {0}
+Answers u (Err (stop.Refused r)) = ⊥
 
 -- The tokens are refused with this code.
-abbrev pub RefusedBy : Code → Result u.Unit Stop → Type 0
+abbrev pub RefusedBy : Code → Result units.Unit Stop → Type 0
 RefusedBy code (Ok x) = ⊥
-RefusedBy code (Err s.Memory) = ⊥
-RefusedBy code (Err (s.Refused r)) = r.code ≡ code
+RefusedBy code (Err stop.Memory) = ⊥
+RefusedBy code (Err (stop.Refused r)) = r.code ≡ code
 
 -- A refusal is one of the syntax or of the height, at the place of a token, or at 1:1 where there is none.
-abbrev pub OnlyRefused : List Token → Result u.Unit Stop → Type 0
+abbrev pub OnlyRefused : List Token → Result units.Unit Stop → Type 0
 OnlyRefused tokens (Ok x) = Unit {0}
-OnlyRefused tokens (Err s.Memory) = Unit {0}
-OnlyRefused tokens (Err (s.Refused r)) = ((r.code ≡ c.Syntax) ⊎ (r.code ≡ c.Limit 3)) × HasPlace tokens r.place
+OnlyRefused tokens (Err stop.Memory) = Unit {0}
+OnlyRefused tokens (Err (stop.Refused r)) = ((r.code ≡ code_variant.Syntax) ⊎ (r.code ≡ code_variant.Limit 3))
+    × HasPlace tokens r.place

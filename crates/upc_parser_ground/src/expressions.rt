@@ -1,7 +1,7 @@
 //! Expressions and types from their parts.
 
 ghost use Rattle.std.specs.Prelude.{◌≡◌, IfOk, Vec};
-ghost use Rattle.upc_tree.specs.Expression as t;
+ghost use Rattle.upc_tree.specs.Expression as expressions;
 ghost use Rattle.upc_tree.specs.layer.View.{view, view_arguments, view_next_exprs, view_type, view_spec, view_specs};
 ghost use Rattle.upc_tree.specs.layer.View.{view_layout, view_pointers, view_dimensions, view_members, view_member};
 ghost use Rattle.upc_tree.specs.layer.View.{view_next_declarators, view_declarator, view_parameters, view_parameter};
@@ -19,7 +19,7 @@ use upc_tree::{
 
 /// A name, as an expression.
 pub fn named(alloc: Global, name: Name) -> Result<Box<Expr>, OutOfMemory>
-    ensures { IfOk result (λ made. view made.value ≡ t.Named name) }
+    ensures { IfOk result (λ made. view made.value ≡ expressions.Named name) }
 {
     boxed(alloc, Expr::Name(name))
 }
@@ -31,21 +31,21 @@ pub fn number(
     kind: NumberKind,
     span: Span,
 ) -> Result<Box<Expr>, OutOfMemory>
-    ensures { IfOk result (λ made. view made.value ≡ t.Number value kind span) }
+    ensures { IfOk result (λ made. view made.value ≡ expressions.Number value kind span) }
 {
     boxed(alloc, Expr::Number { value, kind, span })
 }
 
 /// A character constant, by its value.
 pub fn character(alloc: Global, value: u8, span: Span) -> Result<Box<Expr>, OutOfMemory>
-    ensures { IfOk result (λ made. view made.value ≡ t.Character value span) }
+    ensures { IfOk result (λ made. view made.value ≡ expressions.Character value span) }
 {
     boxed(alloc, Expr::Character { value, span })
 }
 
 /// MYTHREAD, THREADS or UPC_MAX_BLOCK_SIZE.
 pub fn constant(alloc: Global, word: ConstantWord, span: Span) -> Result<Box<Expr>, OutOfMemory>
-    ensures { IfOk result (λ made. view made.value ≡ t.Constant word span) }
+    ensures { IfOk result (λ made. view made.value ≡ expressions.Constant word span) }
 {
     boxed(alloc, Expr::Constant { word, span })
 }
@@ -56,7 +56,7 @@ pub fn string_literals(
     first: StringLiteral,
     more: Vec<StringLiteral>,
 ) -> Result<Box<Expr>, OutOfMemory>
-    ensures { IfOk result (λ made. view made.value ≡ t.Strings first more.items) }
+    ensures { IfOk result (λ made. view made.value ≡ expressions.Strings first more.items) }
 {
     boxed(alloc, Expr::Strings { first, more })
 }
@@ -68,7 +68,7 @@ pub fn paren(
     inner: Box<Expr>,
     right: Span,
 ) -> Result<Box<Expr>, OutOfMemory>
-    ensures { IfOk result (λ made. view made.value ≡ t.Paren left (view inner.value) right) }
+    ensures { IfOk result (λ made. view made.value ≡ expressions.Paren left (view inner.value) right) }
 {
     boxed(
         alloc,
@@ -88,7 +88,7 @@ pub fn subscript(
     index: Box<Expr>,
     right: Span,
 ) -> Result<Box<Expr>, OutOfMemory>
-    ensures { IfOk result (λ made. view made.value ≡ t.Subscript (view base.value) left (view index.value) right) }
+    ensures { IfOk result (λ made. view made.value ≡ expressions.Subscript (view base.value) left (view index.value) right) }
 {
     boxed(
         alloc,
@@ -108,7 +108,7 @@ pub fn call(
     left: Span,
     arguments: Box<Arguments>,
 ) -> Result<Box<Expr>, OutOfMemory>
-    ensures { IfOk result (λ made. view made.value ≡ t.Call (view callee.value) left (view_arguments arguments.value)) }
+    ensures { IfOk result (λ made. view made.value ≡ expressions.Call (view callee.value) left (view_arguments arguments.value)) }
 {
     boxed(
         alloc,
@@ -128,7 +128,7 @@ pub fn member_of(
     at: Span,
     member: Name,
 ) -> Result<Box<Expr>, OutOfMemory>
-    ensures { IfOk result (λ made. view made.value ≡ t.MemberOf (view base.value) mark at member) }
+    ensures { IfOk result (λ made. view made.value ≡ expressions.MemberOf (view base.value) mark at member) }
 {
     boxed(
         alloc,
@@ -148,7 +148,7 @@ pub fn step(
     mark: PostfixMark,
     at: Span,
 ) -> Result<Box<Expr>, OutOfMemory>
-    ensures { IfOk result (λ made. view made.value ≡ t.Postfix (view base.value) mark at) }
+    ensures { IfOk result (λ made. view made.value ≡ expressions.Postfix (view base.value) mark at) }
 {
     boxed(alloc, Expr::Postfix { base, mark, at })
 }
@@ -160,7 +160,7 @@ pub fn unary(
     at: Span,
     operand: Box<Expr>,
 ) -> Result<Box<Expr>, OutOfMemory>
-    ensures { IfOk result (λ made. view made.value ≡ t.Unary mark at (view operand.value)) }
+    ensures { IfOk result (λ made. view made.value ≡ expressions.Unary mark at (view operand.value)) }
 {
     boxed(alloc, Expr::Unary { mark, at, operand })
 }
@@ -172,7 +172,7 @@ pub fn size_of_expr(
     at: Span,
     operand: Box<Expr>,
 ) -> Result<Box<Expr>, OutOfMemory>
-    ensures { IfOk result (λ made. view made.value ≡ t.SizeOfExpr word at (view operand.value)) }
+    ensures { IfOk result (λ made. view made.value ≡ expressions.SizeOfExpr word at (view operand.value)) }
 {
     boxed(alloc, Expr::SizeOfExpr { word, at, operand })
 }
@@ -186,7 +186,7 @@ pub fn size_of_type(
     operand: Box<TypeName>,
     right: Span,
 ) -> Result<Box<Expr>, OutOfMemory>
-    ensures { IfOk result (λ made. view made.value ≡ t.SizeOfType word at left (view_type operand.value) right) }
+    ensures { IfOk result (λ made. view made.value ≡ expressions.SizeOfType word at left (view_type operand.value) right) }
 {
     boxed(
         alloc,
@@ -208,7 +208,7 @@ pub fn cast(
     right: Span,
     operand: Box<Expr>,
 ) -> Result<Box<Expr>, OutOfMemory>
-    ensures { IfOk result (λ made. view made.value ≡ t.Cast left (view_type target.value) right (view operand.value)) }
+    ensures { IfOk result (λ made. view made.value ≡ expressions.Cast left (view_type target.value) right (view operand.value)) }
 {
     boxed(
         alloc,
@@ -229,7 +229,7 @@ pub fn binary(
     at: Span,
     right: Box<Expr>,
 ) -> Result<Box<Expr>, OutOfMemory>
-    ensures { IfOk result (λ made. view made.value ≡ t.Binary (view left.value) mark at (view right.value)) }
+    ensures { IfOk result (λ made. view made.value ≡ expressions.Binary (view left.value) mark at (view right.value)) }
 {
     boxed(
         alloc,
@@ -250,7 +250,7 @@ pub fn assign(
     at: Span,
     right: Box<Expr>,
 ) -> Result<Box<Expr>, OutOfMemory>
-    ensures { IfOk result (λ made. view made.value ≡ t.Assign (view left.value) mark at (view right.value)) }
+    ensures { IfOk result (λ made. view made.value ≡ expressions.Assign (view left.value) mark at (view right.value)) }
 {
     boxed(
         alloc,
@@ -272,7 +272,7 @@ pub fn conditional(
     colon: Span,
     other: Box<Expr>,
 ) -> Result<Box<Expr>, OutOfMemory>
-    ensures { IfOk result (λ made. view made.value ≡ t.Conditional (view test.value) question
+    ensures { IfOk result (λ made. view made.value ≡ expressions.Conditional (view test.value) question
         (view chosen.value) colon (view other.value)) }
 {
     boxed(
@@ -289,7 +289,7 @@ pub fn conditional(
 
 /// Expressions with commas between them.
 pub fn comma(alloc: Global, first: Box<Expr>, more: Vec<NextExpr>) -> Result<Box<Expr>, OutOfMemory>
-    ensures { IfOk result (λ made. view made.value ≡ t.Comma (view first.value) (view_next_exprs more)) }
+    ensures { IfOk result (λ made. view made.value ≡ expressions.Comma (view first.value) (view_next_exprs more)) }
 {
     boxed(alloc, Expr::Comma { first, more })
 }
@@ -301,7 +301,7 @@ pub fn arguments(
     more: Vec<NextExpr>,
     right: Span,
 ) -> Result<Box<Arguments>, OutOfMemory>
-    ensures { IfOk result (λ made. view_arguments made.value ≡ t.SomeArguments (view first.value)
+    ensures { IfOk result (λ made. view_arguments made.value ≡ expressions.SomeArguments (view first.value)
         (view_next_exprs more) right) }
 {
     boxed(
@@ -321,7 +321,7 @@ pub fn type_name(
     pointers: Vec<Pointer>,
     sizes: Vec<Dimension>,
 ) -> Result<Box<TypeName>, OutOfMemory>
-    ensures { IfOk result (λ made. view_type made.value ≡ t.Typed (view_specs specs)
+    ensures { IfOk result (λ made. view_type made.value ≡ expressions.Typed (view_specs specs)
         (view_pointers pointers) (view_dimensions sizes)) }
 {
     boxed(
@@ -336,7 +336,7 @@ pub fn type_name(
 
 /// A struct with its members, as a specifier.
 pub fn struct_spec(word: Span, tag: Name, left: Span, members: Vec<Member>, right: Span) -> Spec
-    ensures { view_spec result ≡ t.StructSpec word tag left (view_members members) right }
+    ensures { view_spec result ≡ expressions.StructSpec word tag left (view_members members) right }
 {
     Spec::Struct {
         word,
@@ -349,7 +349,7 @@ pub fn struct_spec(word: Span, tag: Name, left: Span, members: Vec<Member>, righ
 
 /// A block size in brackets, after `shared`.
 pub fn block_layout(size: Dimension) -> Layout
-    ensures { view_layout result ≡ t.BlockLayout size.open (view size.size.value) size.close }
+    ensures { view_layout result ≡ expressions.BlockLayout size.open (view size.size.value) size.close }
 {
     Layout::Block {
         open: size.open,
@@ -360,7 +360,7 @@ pub fn block_layout(size: Dimension) -> Layout
 
 /// A size in brackets, after the name of a parameter.
 pub fn sized_array(size: Dimension) -> ParameterArray
-    ensures { view_array result ≡ t.SizedArray size.open (view size.size.value) size.close }
+    ensures { view_array result ≡ expressions.SizedArray size.open (view size.size.value) size.close }
 {
     ParameterArray::Sized {
         open: size.open,
@@ -398,7 +398,7 @@ pub fn object(
     name: Name,
     sizes: Vec<Dimension>,
 ) -> Result<Box<Declarator>, OutOfMemory>
-    ensures { IfOk result (λ made. view_declarator made.value ≡ t.ObjectDeclarator
+    ensures { IfOk result (λ made. view_declarator made.value ≡ expressions.ObjectDeclarator
         (view_pointers pointers) name (view_dimensions sizes)) }
 {
     boxed(
@@ -418,7 +418,7 @@ pub fn function(
     name: Name,
     parameters: Box<Parameters>,
 ) -> Result<Box<Declarator>, OutOfMemory>
-    ensures { IfOk result (λ made. view_declarator made.value ≡ t.FunctionDeclarator
+    ensures { IfOk result (λ made. view_declarator made.value ≡ expressions.FunctionDeclarator
         (view_pointers pointers) name (view_parameters parameters.value)) }
 {
     boxed(
@@ -439,7 +439,7 @@ pub fn parameters(
     more: Vec<NextParameter>,
     right: Span,
 ) -> Result<Box<Parameters>, OutOfMemory>
-    ensures { IfOk result (λ made. view_parameters made.value ≡ t.SomeParameters left
+    ensures { IfOk result (λ made. view_parameters made.value ≡ expressions.SomeParameters left
         (view_parameter first.value) (view_next_parameters more) right) }
 {
     boxed(
@@ -461,7 +461,7 @@ pub fn parameter(
     name: Option<Name>,
     array: ParameterArray,
 ) -> Result<Box<Parameter>, OutOfMemory>
-    ensures { IfOk result (λ made. view_parameter made.value ≡ t.Parametric (view_specs specs)
+    ensures { IfOk result (λ made. view_parameter made.value ≡ expressions.Parametric (view_specs specs)
         (view_pointers pointers) name (view_array array)) }
 {
     boxed(

@@ -1,8 +1,8 @@
 //! Declarations and statements from their parts.
 
 ghost use Rattle.std.specs.Prelude.{◌≡◌, IfOk};
-ghost use Rattle.upc_tree.specs.Declaration as d;
-ghost use Rattle.upc_tree.specs.Statement as t;
+ghost use Rattle.upc_tree.specs.Declaration as declarations;
+ghost use Rattle.upc_tree.specs.Statement as statement_tree;
 ghost use Rattle.upc_tree.specs.layer.View.{view_declarator, view_specs};
 ghost use Rattle.upc_tree.specs.layer.ViewStatement.{view_initial, view_declared, view_next_declareds, view_declared_list};
 ghost use Rattle.upc_tree.specs.layer.ViewStatement.{view_declaration, view_statement, view_compound, view_test, view_for};
@@ -22,7 +22,7 @@ pub fn declared_as(
     declarator: Box<Declarator>,
     initial: Box<Initial>,
 ) -> Result<Box<Declared>, OutOfMemory>
-    ensures { IfOk result (λ made. view_declared made.value ≡ d.DeclaredAs
+    ensures { IfOk result (λ made. view_declared made.value ≡ declarations.DeclaredAs
         (view_declarator declarator.value) (view_initial initial.value)) }
 {
     boxed(
@@ -40,7 +40,7 @@ pub fn some_list(
     first: Box<Declared>,
     more: Vec<NextDeclared>,
 ) -> Result<Option<Box<DeclaredList>>, OutOfMemory>
-    ensures { IfOk result (λ made. view_declared_list made ≡ d.SomeDeclared
+    ensures { IfOk result (λ made. view_declared_list made ≡ declarations.SomeDeclared
         (view_declared first.value) (view_next_declareds more)) }
 {
     Ok(Some(boxed(alloc, DeclaredList { first, more })?))
@@ -53,7 +53,7 @@ pub fn declares(
     declared: Option<Box<DeclaredList>>,
     semicolon: Span,
 ) -> Result<Box<Declaration>, OutOfMemory>
-    ensures { IfOk result (λ made. view_declaration made.value ≡ d.Declares (view_specs specs)
+    ensures { IfOk result (λ made. view_declaration made.value ≡ declarations.Declares (view_specs specs)
         (view_declared_list declared) semicolon) }
 {
     boxed(
@@ -68,7 +68,7 @@ pub fn declares(
 
 /// A compound statement.
 pub fn block(alloc: Global, compound: Box<Compound>) -> Result<Box<Statement>, OutOfMemory>
-    ensures { IfOk result (λ made. view_statement made.value ≡ t.Block (view_compound compound.value)) }
+    ensures { IfOk result (λ made. view_statement made.value ≡ statement_tree.Block (view_compound compound.value)) }
 {
     boxed(alloc, Statement::Compound(compound))
 }
@@ -82,7 +82,7 @@ pub fn if_statement(
     more: Vec<ElseIf>,
     otherwise: Otherwise,
 ) -> Result<Box<Statement>, OutOfMemory>
-    ensures { IfOk result (λ made. view_statement made.value ≡ t.If word (view_test test.value)
+    ensures { IfOk result (λ made. view_statement made.value ≡ statement_tree.If word (view_test test.value)
         (view_statement body.value) (view_else_ifs more) (view_otherwise otherwise)) }
 {
     boxed(
@@ -106,7 +106,7 @@ pub fn switch(
     body: Vec<SwitchItem>,
     right: Span,
 ) -> Result<Box<Statement>, OutOfMemory>
-    ensures { IfOk result (λ made. view_statement made.value ≡ t.Switch word (view_test test.value)
+    ensures { IfOk result (λ made. view_statement made.value ≡ statement_tree.Switch word (view_test test.value)
         left (view_switch_items body) right) }
 {
     boxed(
@@ -128,7 +128,7 @@ pub fn while_statement(
     test: Box<Test>,
     body: Box<Statement>,
 ) -> Result<Box<Statement>, OutOfMemory>
-    ensures { IfOk result (λ made. view_statement made.value ≡ t.While word (view_test test.value)
+    ensures { IfOk result (λ made. view_statement made.value ≡ statement_tree.While word (view_test test.value)
         (view_statement body.value)) }
 {
     boxed(alloc, Statement::While { word, test, body })
@@ -143,7 +143,7 @@ pub fn do_statement(
     test: Box<Test>,
     semicolon: Span,
 ) -> Result<Box<Statement>, OutOfMemory>
-    ensures { IfOk result (λ made. view_statement made.value ≡ t.DoWhile word
+    ensures { IfOk result (λ made. view_statement made.value ≡ statement_tree.DoWhile word
         (view_statement body.value) until (view_test test.value) semicolon) }
 {
     boxed(
@@ -165,7 +165,7 @@ pub fn for_statement(
     head: Box<ForHead>,
     body: Box<Statement>,
 ) -> Result<Box<Statement>, OutOfMemory>
-    ensures { IfOk result (λ made. view_statement made.value ≡ t.For word (view_for head.value)
+    ensures { IfOk result (λ made. view_statement made.value ≡ statement_tree.For word (view_for head.value)
         (view_statement body.value)) }
 {
     boxed(alloc, Statement::For { word, head, body })
@@ -178,7 +178,7 @@ pub fn forall_statement(
     head: Box<ForallHead>,
     body: Box<Statement>,
 ) -> Result<Box<Statement>, OutOfMemory>
-    ensures { IfOk result (λ made. view_statement made.value ≡ t.Forall word
+    ensures { IfOk result (λ made. view_statement made.value ≡ statement_tree.Forall word
         (view_forall head.value) (view_statement body.value)) }
 {
     boxed(alloc, Statement::Forall { word, head, body })

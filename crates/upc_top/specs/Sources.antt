@@ -11,7 +11,7 @@ use Rattle.upc_lexer.specs.Tokens.{AreTokensOf, RefusedAt}
 use Rattle.upc_macros.specs.Expansion.{IsExpansion, StopsExpansion}
 use Rattle.upc_tree.specs.Unit.{External, ProperUnit, IsTree, tokens_of}
 use Rattle.upc_parser.specs.Answer.{HasPlace}
-use Rattle.upc_checker.specs.Outcomes as o
+use Rattle.upc_checker.specs.Outcomes as outcomes
 use Rattle.upc_checker.specs.Outcomes.{outcome}
 use Rattle.typed_tree.specs.Programs.{Checked}
 use Rattle.upc_top_words.specs.declared.call.Mode.{Mode}
@@ -36,7 +36,7 @@ pub record IsRead (bytes : List ℕ) (names : List (List ℕ)) (tree : List Exte
 pub record IsTyped (threads : ℕ) (bytes : List ℕ) (names : List (List ℕ)) (tree : List External)
     (checked : Checked) : Type 0 where
   pub read : IsRead bytes names tree
-  pub typed : outcome names threads tree ≡ o.Accepted checked
+  pub typed : outcome names threads tree ≡ outcomes.Accepted checked
 
 -- The source is accepted on so many threads, as this program with its types.
 pub record IsAccepted (threads : ℕ) (bytes : List ℕ) (checked : Checked) : Type 0 where
@@ -74,7 +74,7 @@ pub data IsRefused (threads : ℕ) (bytes : List ℕ) (r : Refusal) : Type 0 whe
       → HasNoTree expanded r.code → HasPlace expanded r.place → IsRefused threads bytes r
   -- The tree breaks a typing rule, or passes a limit.
   no_typing : (names : List (List ℕ)) (tree : List External) → IsRead bytes names tree
-      → outcome names threads tree ≡ o.Refused r → IsRefused threads bytes r
+      → outcome names threads tree ≡ outcomes.Refused r → IsRefused threads bytes r
 
 -- The source is accepted, but does not run today, for which the answer is `profile 0` at 1:1.
 pub record IsOutside (threads : ℕ) (bytes : List ℕ) (r : Refusal) : Type 0 where

@@ -1,8 +1,8 @@
 -- Declarations: their trees, their tokens, their heights, and which are proper.
 use Rattle.std.specs.Prelude.{◌≡◌, ℕ, ◌+◌, ◌≤◌, max, Bool, true, false, List, ◌∷◌}
 use Rattle.upc_lexer.specs.declared.token.Token.{Token}
-use Rattle.upc_lexer.specs.declared.token.Punct.TheVariants as p
-use Rattle.upc_tree.specs.declared.mark.TypeWord.TheVariants as t
+use Rattle.upc_lexer.specs.declared.token.Punct.TheVariants as puncts
+use Rattle.upc_tree.specs.declared.mark.TypeWord.TheVariants as type_word
 use Rattle.upc_tree.specs.declared.span.Span.{Span}
 use Rattle.upc_tree.specs.Tokens.{punct}
 use Rattle.upc_tree.specs.Expression.{Expr, NextExprs, Specs, NoSpecs, AndSpec, Spec, WordSpec, Declarator, spell}
@@ -39,9 +39,10 @@ pub data Declaration : Type 0 where
 -- The tokens of an initialiser, and what follows them (C99 6.7.8).
 abbrev pub spell_initial : Initial → List Token → List Token
 spell_initial NoInitial rest = rest
-spell_initial (ValueInitial equal value) rest = punct p.Equal equal ∷ spell value rest
+spell_initial (ValueInitial equal value) rest = punct puncts.Equal equal ∷ spell value rest
 spell_initial (ListInitial equal left first more right) rest =
-    punct p.Equal equal ∷ punct p.LBrace left ∷ spell first (spell_next_exprs more (punct p.RBrace right ∷ rest))
+    punct puncts.Equal equal ∷ punct puncts.LBrace left ∷ spell first
+    (spell_next_exprs more (punct puncts.RBrace right ∷ rest))
 
 -- The tokens of a declarator with its initialiser, and what follows them (C99 6.7).
 abbrev pub spell_declared : Declared → List Token → List Token
@@ -51,7 +52,7 @@ spell_declared (DeclaredAs declarator initial) rest = spell_declarator declarato
 abbrev pub spell_next_declareds : NextDeclareds → List Token → List Token
 spell_next_declareds NoNextDeclareds rest = rest
 spell_next_declareds (AndDeclared comma declared more) rest =
-    punct p.Comma comma ∷ spell_declared declared (spell_next_declareds more rest)
+    punct puncts.Comma comma ∷ spell_declared declared (spell_next_declareds more rest)
 
 -- The tokens of all declarators of a declaration, and what follows them (C99 6.7).
 abbrev pub spell_declared_list : DeclaredList → List Token → List Token
@@ -61,7 +62,7 @@ spell_declared_list (SomeDeclared first more) rest = spell_declared first (spell
 -- The tokens of a declaration with its semicolon, and what follows them (C99 6.7).
 abbrev pub spell_declaration : Declaration → List Token → List Token
 spell_declaration (Declares specs declared semicolon) rest =
-    spell_specs specs (spell_declared_list declared (punct p.Semicolon semicolon ∷ rest))
+    spell_specs specs (spell_declared_list declared (punct puncts.Semicolon semicolon ∷ rest))
 
 -- ---- the height of a tree: what a declaration declares belongs to it directly
 
@@ -117,7 +118,7 @@ ProperDeclaration (Declares specs declared semicolon) = IsSome specs × ProperSp
 
 -- Whether a specifier is `static` (C99 6.7.1).
 abbrev pub is_static : Spec → Bool
-is_static (WordSpec t.Static span) = true
+is_static (WordSpec type_word.Static span) = true
 is_static _ = false
 
 -- None of the specifiers is `static` (C99 6.7.1).

@@ -3,10 +3,10 @@
 -- token.
 use Rattle.std.specs.Prelude.{ℕ, ◌+◌, max, List, ◌∷◌, Option, Some, None}
 use Rattle.upc_lexer.specs.declared.token.Token.{Token}
-use Rattle.upc_lexer.specs.declared.token.TokenKind.TheVariants as k
+use Rattle.upc_lexer.specs.declared.token.TokenKind.TheVariants as token_kind
 use Rattle.upc_lexer.specs.declared.token.NumberKind.{NumberKind}
-use Rattle.upc_lexer.specs.declared.token.Punct.TheVariants as p
-use Rattle.upc_lexer.specs.declared.token.Word.TheVariants as w
+use Rattle.upc_lexer.specs.declared.token.Punct.TheVariants as puncts
+use Rattle.upc_lexer.specs.declared.token.Word.TheVariants as words
 use Rattle.upc_tree.specs.declared.mark.UnaryMark.{UnaryMark}
 use Rattle.upc_tree.specs.declared.mark.PostfixMark.{PostfixMark}
 use Rattle.upc_tree.specs.declared.mark.MemberMark.{MemberMark}
@@ -148,38 +148,38 @@ abbrev mutual
   -- The tokens of an expression, and what follows them (C99 6.5).
   pub spell : Expr → List Token → List Token
   spell (Named name) rest = name_token name ∷ rest
-  spell (Number value kind span) rest = token (k.Number value kind) span ∷ rest
-  spell (Character value span) rest = token (k.Character value) span ∷ rest
+  spell (Number value kind span) rest = token (token_kind.Number value kind) span ∷ rest
+  spell (Character value span) rest = token (token_kind.Character value) span ∷ rest
   spell (Strings first more) rest = string_token first ∷ spell_strings more rest
   spell (Constant c span) rest = word (constant_word c) span ∷ rest
-  spell (Paren left inner right) rest = punct p.LParen left ∷ spell inner (punct p.RParen right ∷ rest)
+  spell (Paren left inner right) rest = punct puncts.LParen left ∷ spell inner (punct puncts.RParen right ∷ rest)
   spell (Subscript base left index right) rest =
-      spell base (punct p.LBracket left ∷ spell index (punct p.RBracket right ∷ rest))
-  spell (Call callee left arguments) rest = spell callee (punct p.LParen left ∷ spell_arguments arguments rest)
+      spell base (punct puncts.LBracket left ∷ spell index (punct puncts.RBracket right ∷ rest))
+  spell (Call callee left arguments) rest = spell callee (punct puncts.LParen left ∷ spell_arguments arguments rest)
   spell (MemberOf base mark at member) rest = spell base (punct (member_punct mark) at ∷ name_token member ∷ rest)
   spell (Postfix base mark at) rest = spell base (punct (postfix_punct mark) at ∷ rest)
   spell (Unary mark at operand) rest = punct (unary_punct mark) at ∷ spell operand rest
   spell (SizeOfExpr s at operand) rest = word (size_word s) at ∷ spell operand rest
   spell (SizeOfType s at left operand right) rest =
-      word (size_word s) at ∷ punct p.LParen left ∷ spell_type operand (punct p.RParen right ∷ rest)
+      word (size_word s) at ∷ punct puncts.LParen left ∷ spell_type operand (punct puncts.RParen right ∷ rest)
   spell (Cast left target right operand) rest =
-      punct p.LParen left ∷ spell_type target (punct p.RParen right ∷ spell operand rest)
+      punct puncts.LParen left ∷ spell_type target (punct puncts.RParen right ∷ spell operand rest)
   spell (Binary a mark at b) rest = spell a (punct (binary_punct mark) at ∷ spell b rest)
   spell (Assign a mark at b) rest = spell a (punct (assign_punct mark) at ∷ spell b rest)
   spell (Conditional test question chosen colon other) rest =
-      spell test (punct p.Question question ∷ spell chosen (punct p.Colon colon ∷ spell other rest))
+      spell test (punct puncts.Question question ∷ spell chosen (punct puncts.Colon colon ∷ spell other rest))
   spell (Comma first more) rest = spell first (spell_next_exprs more rest)
 
   -- The tokens of the arguments of a call with the parenthesis after them, and what follows them (C99 6.5.2.2).
   pub spell_arguments : Arguments → List Token → List Token
-  spell_arguments (NoArguments right) rest = punct p.RParen right ∷ rest
+  spell_arguments (NoArguments right) rest = punct puncts.RParen right ∷ rest
   spell_arguments (SomeArguments first more right) rest =
-      spell first (spell_next_exprs more (punct p.RParen right ∷ rest))
+      spell first (spell_next_exprs more (punct puncts.RParen right ∷ rest))
 
   -- The tokens of further expressions, each after its comma, and what follows them (C99 6.5.2.2, 6.5.17, 6.7.8).
   pub spell_next_exprs : NextExprs → List Token → List Token
   spell_next_exprs NoNextExprs rest = rest
-  spell_next_exprs (AndExpr comma value more) rest = punct p.Comma comma ∷ spell value (spell_next_exprs more rest)
+  spell_next_exprs (AndExpr comma value more) rest = punct puncts.Comma comma ∷ spell value (spell_next_exprs more rest)
 
   -- The tokens of a type name, and what follows them (C99 6.7.6).
   pub spell_type : TypeName → List Token → List Token
@@ -195,9 +195,10 @@ abbrev mutual
   pub spell_spec : Spec → List Token → List Token
   spell_spec (WordSpec t span) rest = word (type_word t) span ∷ rest
   spell_spec (QualSpec qual) rest = spell_qual qual rest
-  spell_spec (TagSpec at tag) rest = word w.Struct at ∷ name_token tag ∷ rest
+  spell_spec (TagSpec at tag) rest = word words.Struct at ∷ name_token tag ∷ rest
   spell_spec (StructSpec at tag left members right) rest =
-      word w.Struct at ∷ name_token tag ∷ punct p.LBrace left ∷ spell_members members (punct p.RBrace right ∷ rest)
+      word words.Struct at ∷ name_token tag ∷ punct puncts.LBrace left ∷ spell_members members
+      (punct puncts.RBrace right ∷ rest)
 
   -- The tokens of the qualifiers after a star, and what follows them (C99 6.7.5.1).
   pub spell_quals : Quals → List Token → List Token
@@ -206,42 +207,44 @@ abbrev mutual
 
   -- The tokens of one qualifier, and what follows them (C99 6.7.3, UPC 6.5.1).
   pub spell_qual : Qual → List Token → List Token
-  spell_qual (Const at) rest = word w.Const at ∷ rest
-  spell_qual (Strict at) rest = word w.Strict at ∷ rest
-  spell_qual (Relaxed at) rest = word w.Relaxed at ∷ rest
-  spell_qual (Shared at layout) rest = word w.Shared at ∷ spell_layout layout rest
+  spell_qual (Const at) rest = word words.Const at ∷ rest
+  spell_qual (Strict at) rest = word words.Strict at ∷ rest
+  spell_qual (Relaxed at) rest = word words.Relaxed at ∷ rest
+  spell_qual (Shared at layout) rest = word words.Shared at ∷ spell_layout layout rest
 
   -- The tokens of the layout of a `shared`, and what follows them (UPC 6.5.1.1).
   pub spell_layout : Layout → List Token → List Token
   spell_layout NoLayout rest = rest
-  spell_layout (IndefiniteLayout left right) rest = punct p.LBracket left ∷ punct p.RBracket right ∷ rest
+  spell_layout (IndefiniteLayout left right) rest = punct puncts.LBracket left ∷ punct puncts.RBracket right ∷ rest
   spell_layout (StarLayout left star right) rest =
-      punct p.LBracket left ∷ punct p.Star star ∷ punct p.RBracket right ∷ rest
-  spell_layout (BlockLayout left size right) rest = punct p.LBracket left ∷ spell size (punct p.RBracket right ∷ rest)
+      punct puncts.LBracket left ∷ punct puncts.Star star ∷ punct puncts.RBracket right ∷ rest
+  spell_layout (BlockLayout left size right) rest = punct puncts.LBracket left ∷ spell size
+      (punct puncts.RBracket right ∷ rest)
 
   -- The tokens of stars with their qualifiers, and what follows them (C99 6.7.5.1).
   pub spell_pointers : Pointers → List Token → List Token
   spell_pointers NoPointers rest = rest
-  spell_pointers (AndPointer star quals more) rest = punct p.Star star ∷ spell_quals quals (spell_pointers more rest)
+  spell_pointers (AndPointer star quals more) rest = punct puncts.Star star ∷ spell_quals quals
+      (spell_pointers more rest)
 
   -- The tokens of sizes in brackets, and what follows them (C99 6.7.5.2).
   pub spell_dimensions : Dimensions → List Token → List Token
   spell_dimensions NoDimensions rest = rest
   spell_dimensions (AndDimension left size right more) rest =
-      punct p.LBracket left ∷ spell size (punct p.RBracket right ∷ spell_dimensions more rest)
+      punct puncts.LBracket left ∷ spell size (punct puncts.RBracket right ∷ spell_dimensions more rest)
 
   -- The tokens of the declarations of members, and what follows them (C99 6.7.2.1).
   pub spell_members : Members → List Token → List Token
   spell_members NoMembers rest = rest
   spell_members (AndMember specs first next semicolon more) rest =
       spell_specs specs (spell_declarator first
-      (spell_next_declarators next (punct p.Semicolon semicolon ∷ spell_members more rest)))
+      (spell_next_declarators next (punct puncts.Semicolon semicolon ∷ spell_members more rest)))
 
   -- The tokens of further declarators, each after its comma, and what follows them (C99 6.7.2.1).
   pub spell_next_declarators : NextDeclarators → List Token → List Token
   spell_next_declarators NoNextDeclarators rest = rest
   spell_next_declarators (AndDeclarator comma declarator more) rest =
-      punct p.Comma comma ∷ spell_declarator declarator (spell_next_declarators more rest)
+      punct puncts.Comma comma ∷ spell_declarator declarator (spell_next_declarators more rest)
 
   -- The tokens of a declarator, and what follows them (C99 6.7.5).
   pub spell_declarator : Declarator → List Token → List Token
@@ -252,11 +255,11 @@ abbrev mutual
 
   -- The tokens of the parameters of a function with their parentheses, and what follows them (C99 6.7.5.3).
   pub spell_parameters : Parameters → List Token → List Token
-  spell_parameters (NoParameters left right) rest = punct p.LParen left ∷ punct p.RParen right ∷ rest
+  spell_parameters (NoParameters left right) rest = punct puncts.LParen left ∷ punct puncts.RParen right ∷ rest
   spell_parameters (VoidParameters left at right) rest =
-      punct p.LParen left ∷ word w.Void at ∷ punct p.RParen right ∷ rest
+      punct puncts.LParen left ∷ word words.Void at ∷ punct puncts.RParen right ∷ rest
   spell_parameters (SomeParameters left first more right) rest =
-      punct p.LParen left ∷ spell_parameter first (spell_next_parameters more (punct p.RParen right ∷ rest))
+      punct puncts.LParen left ∷ spell_parameter first (spell_next_parameters more (punct puncts.RParen right ∷ rest))
 
   -- The tokens of one parameter, and what follows them (C99 6.7.5.3).
   pub spell_parameter : Parameter → List Token → List Token
@@ -267,13 +270,14 @@ abbrev mutual
   pub spell_next_parameters : NextParameters → List Token → List Token
   spell_next_parameters NoNextParameters rest = rest
   spell_next_parameters (AndParameter comma parameter more) rest =
-      punct p.Comma comma ∷ spell_parameter parameter (spell_next_parameters more rest)
+      punct puncts.Comma comma ∷ spell_parameter parameter (spell_next_parameters more rest)
 
   -- The tokens of the brackets of a parameter, and what follows them (C99 6.7.5.3).
   pub spell_array : ParameterArray → List Token → List Token
   spell_array NoArray rest = rest
-  spell_array (UnsizedArray left right) rest = punct p.LBracket left ∷ punct p.RBracket right ∷ rest
-  spell_array (SizedArray left size right) rest = punct p.LBracket left ∷ spell size (punct p.RBracket right ∷ rest)
+  spell_array (UnsizedArray left right) rest = punct puncts.LBracket left ∷ punct puncts.RBracket right ∷ rest
+  spell_array (SizedArray left size right) rest = punct puncts.LBracket left ∷ spell size
+      (punct puncts.RBracket right ∷ rest)
 
 -- ---- the height of a tree
 -- A node is one higher than the highest of its parts. The arguments of a call are a part with a level of their own,

@@ -1,7 +1,7 @@
 -- Which trees of expressions and types are proper: precedence and joining are respected, and a layout follows
 -- `shared` wherever a bracket does.
 use Rattle.std.specs.Prelude.{◌≡◌, ℕ, ◌+◌, ◌≤◌, Bool, true, false, Option, Some, None}
-use Rattle.upc_tree.specs.declared.mark.TypeWord.TheVariants as t
+use Rattle.upc_tree.specs.declared.mark.TypeWord.TheVariants as type_word
 use Rattle.upc_tree.specs.declared.span.Name.{Name}
 use Rattle.upc_tree.specs.Marks.{binary_level, operand_level}
 use Rattle.upc_tree.specs.Expression.{Expr, Named, Number, Character, Strings, Constant, Paren, Subscript, Call}
@@ -100,7 +100,7 @@ IsUnsized (Typed _ _ sizes) = IsEmpty sizes
 
 -- Whether parameters are a single `void` without a name, which is the empty list of parameters (C99 6.7.5.3).
 abbrev pub is_void : Parameter → NextParameters → Bool
-is_void (Parametric (AndSpec (WordSpec t.Void span) NoSpecs) NoPointers None NoArray) NoNextParameters = true
+is_void (Parametric (AndSpec (WordSpec type_word.Void span) NoSpecs) NoPointers None NoArray) NoNextParameters = true
 is_void _ _ = false
 
 -- Which expressions and types are proper, with their parts (C99 6.5, 6.7; UPC 6.4, 6.5).

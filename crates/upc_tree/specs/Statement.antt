@@ -1,8 +1,8 @@
 -- Statements: their trees, their tokens, their heights, and which are proper.
 use Rattle.std.specs.Prelude.{◌≡◌, ℕ, ◌+◌, ◌≤◌, max, Bool, true, false, List, ◌∷◌, Option, Some, None}
 use Rattle.upc_lexer.specs.declared.token.Token.{Token}
-use Rattle.upc_lexer.specs.declared.token.Punct.TheVariants as p
-use Rattle.upc_lexer.specs.declared.token.Word.TheVariants as w
+use Rattle.upc_lexer.specs.declared.token.Punct.TheVariants as puncts
+use Rattle.upc_lexer.specs.declared.token.Word.TheVariants as words
 use Rattle.upc_tree.specs.declared.mark.BarrierWord.{BarrierWord}
 use Rattle.upc_tree.specs.declared.span.Span.{Span}
 use Rattle.upc_tree.specs.declared.span.Pragma.{Pragma}
@@ -98,59 +98,61 @@ spell_value (Some value) rest = spell value rest
 
 -- The tokens of a controlling expression with its parentheses, and what follows them (C99 6.8.4, 6.8.5).
 abbrev pub spell_test : Test → List Token → List Token
-spell_test (Tests left value right) rest = punct p.LParen left ∷ spell value (punct p.RParen right ∷ rest)
+spell_test (Tests left value right) rest = punct puncts.LParen left ∷ spell value (punct puncts.RParen right ∷ rest)
 
 -- The tokens of the first part of a `for` or a `upc_forall` with its semicolon, and what follows them (C99 6.8.5.3,
 -- UPC 6.6.2).
 abbrev pub spell_first : First → List Token → List Token
-spell_first (FirstValue value semicolon) rest = spell_value value (punct p.Semicolon semicolon ∷ rest)
+spell_first (FirstValue value semicolon) rest = spell_value value (punct puncts.Semicolon semicolon ∷ rest)
 spell_first (FirstDeclaration declaration) rest = spell_declaration declaration rest
 
 -- The tokens of an affinity, and what follows them (UPC 6.6.2).
 abbrev pub spell_affinity : Affinity → List Token → List Token
 spell_affinity NoAffinity rest = rest
-spell_affinity (ContinueAffinity at) rest = word w.Continue at ∷ rest
+spell_affinity (ContinueAffinity at) rest = word words.Continue at ∷ rest
 spell_affinity (ValueAffinity value) rest = spell value rest
 
 -- The tokens of the parentheses of a `for`, and what follows them (C99 6.8.5.3).
 abbrev pub spell_for : ForHead → List Token → List Token
 spell_for (ForParts left first test test_end step right) rest =
-    punct p.LParen left ∷ spell_first first (spell_value test (punct p.Semicolon test_end
-    ∷ spell_value step (punct p.RParen right ∷ rest)))
+    punct puncts.LParen left ∷ spell_first first (spell_value test (punct puncts.Semicolon test_end
+    ∷ spell_value step (punct puncts.RParen right ∷ rest)))
 
 -- The tokens of the parentheses of a `upc_forall`, and what follows them (UPC 6.6.2).
 abbrev pub spell_forall : ForallHead → List Token → List Token
 spell_forall (ForallParts left first test test_end step step_end affinity right) rest =
-    punct p.LParen left ∷ spell_first first (spell_value test (punct p.Semicolon test_end
-    ∷ spell_value step (punct p.Semicolon step_end ∷ spell_affinity affinity (punct p.RParen right ∷ rest))))
+    punct puncts.LParen left ∷ spell_first first (spell_value test (punct puncts.Semicolon test_end
+    ∷ spell_value step (punct puncts.Semicolon step_end ∷ spell_affinity affinity (punct puncts.RParen right ∷ rest))))
 
 -- The tokens of statements and their parts, and what follows them (C99 6.8, UPC 6.6).
 abbrev mutual
   -- The tokens of a statement, and what follows them (C99 6.8, UPC 6.6).
   pub spell_statement : Statement → List Token → List Token
   spell_statement (Block compound) rest = spell_compound compound rest
-  spell_statement (Value value semicolon) rest = spell_value value (punct p.Semicolon semicolon ∷ rest)
+  spell_statement (Value value semicolon) rest = spell_value value (punct puncts.Semicolon semicolon ∷ rest)
   spell_statement (If at test body more last) rest =
-      word w.If at ∷ spell_test test (spell_statement body (spell_else_ifs more (spell_otherwise last rest)))
+      word words.If at ∷ spell_test test (spell_statement body (spell_else_ifs more (spell_otherwise last rest)))
   spell_statement (Switch at test left body right) rest =
-      word w.Switch at ∷ spell_test test (punct p.LBrace left ∷ spell_switch_items body (punct p.RBrace right ∷ rest))
-  spell_statement (While at test body) rest = word w.While at ∷ spell_test test (spell_statement body rest)
+      word words.Switch at ∷ spell_test test (punct puncts.LBrace left ∷ spell_switch_items body
+      (punct puncts.RBrace right ∷ rest))
+  spell_statement (While at test body) rest = word words.While at ∷ spell_test test (spell_statement body rest)
   spell_statement (DoWhile at body until test semicolon) rest =
-      word w.Do at ∷ spell_statement body (word w.While until ∷ spell_test test (punct p.Semicolon semicolon ∷ rest))
-  spell_statement (For at head body) rest = word w.For at ∷ spell_for head (spell_statement body rest)
-  spell_statement (Forall at head body) rest = word w.UpcForall at ∷ spell_forall head (spell_statement body rest)
-  spell_statement (Break at semicolon) rest = word w.Break at ∷ punct p.Semicolon semicolon ∷ rest
-  spell_statement (Continue at semicolon) rest = word w.Continue at ∷ punct p.Semicolon semicolon ∷ rest
+      word words.Do at ∷ spell_statement body (word words.While until ∷ spell_test test
+      (punct puncts.Semicolon semicolon ∷ rest))
+  spell_statement (For at head body) rest = word words.For at ∷ spell_for head (spell_statement body rest)
+  spell_statement (Forall at head body) rest = word words.UpcForall at ∷ spell_forall head (spell_statement body rest)
+  spell_statement (Break at semicolon) rest = word words.Break at ∷ punct puncts.Semicolon semicolon ∷ rest
+  spell_statement (Continue at semicolon) rest = word words.Continue at ∷ punct puncts.Semicolon semicolon ∷ rest
   spell_statement (Return at value semicolon) rest =
-      word w.Return at ∷ spell_value value (punct p.Semicolon semicolon ∷ rest)
+      word words.Return at ∷ spell_value value (punct puncts.Semicolon semicolon ∷ rest)
   spell_statement (Barrier kind at value semicolon) rest =
-      word (barrier_word kind) at ∷ spell_value value (punct p.Semicolon semicolon ∷ rest)
-  spell_statement (Fence at semicolon) rest = word w.UpcFence at ∷ punct p.Semicolon semicolon ∷ rest
+      word (barrier_word kind) at ∷ spell_value value (punct puncts.Semicolon semicolon ∷ rest)
+  spell_statement (Fence at semicolon) rest = word words.UpcFence at ∷ punct puncts.Semicolon semicolon ∷ rest
 
   -- The tokens of a compound statement with its pragmas, and what follows them (C99 6.8.2, UPC 6.7).
   pub spell_compound : Compound → List Token → List Token
   spell_compound (Braces left pragmas items right) rest =
-      punct p.LBrace left ∷ spell_pragmas pragmas (spell_block_items items (punct p.RBrace right ∷ rest))
+      punct puncts.LBrace left ∷ spell_pragmas pragmas (spell_block_items items (punct puncts.RBrace right ∷ rest))
 
   -- The tokens of the declarations and statements of a block, and what follows them (C99 6.8.2).
   pub spell_block_items : BlockItems → List Token → List Token
@@ -169,20 +171,20 @@ abbrev mutual
 
   -- The tokens of one label or statement of a `switch`, and what follows them (C99 6.8.1, 6.8.4.2).
   pub spell_switch_item : SwitchItem → List Token → List Token
-  spell_switch_item (CaseItem at value colon) rest = word w.Case at ∷ spell value (punct p.Colon colon ∷ rest)
-  spell_switch_item (DefaultItem at colon) rest = word w.Default at ∷ punct p.Colon colon ∷ rest
+  spell_switch_item (CaseItem at value colon) rest = word words.Case at ∷ spell value (punct puncts.Colon colon ∷ rest)
+  spell_switch_item (DefaultItem at colon) rest = word words.Default at ∷ punct puncts.Colon colon ∷ rest
   spell_switch_item (SwitchStatement statement) rest = spell_statement statement rest
 
   -- The tokens of the further arms of an `if`, and what follows them (C99 6.8.4.1).
   pub spell_else_ifs : ElseIfs → List Token → List Token
   spell_else_ifs NoElseIfs rest = rest
   spell_else_ifs (AndElseIf other at test body more) rest =
-      word w.Else other ∷ word w.If at ∷ spell_test test (spell_statement body (spell_else_ifs more rest))
+      word words.Else other ∷ word words.If at ∷ spell_test test (spell_statement body (spell_else_ifs more rest))
 
   -- The tokens of the last arm of an `if`, and what follows them (C99 6.8.4.1).
   pub spell_otherwise : Otherwise → List Token → List Token
   spell_otherwise NoOtherwise rest = rest
-  spell_otherwise (Else at body) rest = word w.Else at ∷ spell_statement body rest
+  spell_otherwise (Else at body) rest = word words.Else at ∷ spell_statement body rest
 
 -- ---- the height of a tree
 -- A node is one higher than the highest of its parts. The list of a compound statement or of the body of a `switch`

@@ -1,7 +1,7 @@
 //! The tokens of expressions and types.
 
 ghost use Rattle.std.specs.Prelude.{◌≡◌, ◌∷◌, map, OnOk};
-ghost use Rattle.upc_lexer.specs.declared.token.Punct.TheVariants as p;
+ghost use Rattle.upc_lexer.specs.declared.token.Punct.TheVariants as puncts;
 ghost use Rattle.upc_tree.specs.Marks.{unary_punct, postfix_punct, member_punct, binary_punct, assign_punct};
 ghost use Rattle.upc_tree.specs.Marks.{size_word, constant_word, type_word};
 ghost use Rattle.upc_tree.specs.Tokens.{punct, word, name_token, string_token, spell_strings};
@@ -294,7 +294,7 @@ fn put_sized(out: &mut Backwards, size: Word, at: Span, e: &Expr) -> Result<(), 
 // An expression in parentheses.
 #[cycle(put)]
 fn put_paren(out: &mut Backwards, left: Span, e: &Expr, right: Span) -> Result<(), OutOfMemory>
-    ensures { OnOk result (out.new ≡ punct p.LParen left ∷ spell (view e.now) (punct p.RParen right ∷ out.old)) }
+    ensures { OnOk result (out.new ≡ punct puncts.LParen left ∷ spell (view e.now) (punct puncts.RParen right ∷ out.old)) }
 {
     out.put_punct(Punct::RParen, right)?;
     put_prefixed(out, Punct::LParen, left, e)
@@ -323,8 +323,8 @@ fn put_enclosed_type(
     name: &TypeName,
     right: Span,
 ) -> Result<(), OutOfMemory>
-    ensures { OnOk result (out.new ≡ punct p.LParen left ∷ spell_type (view_type name.now)
-        (punct p.RParen right ∷ out.old)) }
+    ensures { OnOk result (out.new ≡ punct puncts.LParen left ∷ spell_type (view_type name.now)
+        (punct puncts.RParen right ∷ out.old)) }
 {
     out.put_punct(Punct::RParen, right)?;
     put_type(out, name)?;
@@ -341,8 +341,8 @@ fn put_sized_type(
     name: &TypeName,
     right: Span,
 ) -> Result<(), OutOfMemory>
-    ensures { OnOk result (out.new ≡ word size at ∷ punct p.LParen left ∷ spell_type
-        (view_type name.now) (punct p.RParen right ∷ out.old)) }
+    ensures { OnOk result (out.new ≡ word size at ∷ punct puncts.LParen left ∷ spell_type
+        (view_type name.now) (punct puncts.RParen right ∷ out.old)) }
 {
     put_enclosed_type(out, left, name, right)?;
     out.put_word(size, at)

@@ -1,10 +1,10 @@
 //! The tokens of a tree.
 
 ghost use Rattle.std.specs.Prelude.{◌≡◌, ◌∷◌, map, OnOk, IfOk};
-ghost use Rattle.upc_lexer.specs.declared.token.Punct.TheVariants as p;
+ghost use Rattle.upc_lexer.specs.declared.token.Punct.TheVariants as puncts;
 ghost use Rattle.upc_tree.specs.Marks.{barrier_word};
 ghost use Rattle.upc_tree.specs.Tokens.{punct, word, spell_pragmas};
-ghost use Rattle.upc_tree.specs.Statement as t;
+ghost use Rattle.upc_tree.specs.Statement as statements;
 ghost use Rattle.upc_tree.specs.Declaration.{spell_initial, spell_declared, spell_next_declareds};
 ghost use Rattle.upc_tree.specs.Declaration.{spell_declared_list, spell_declaration};
 ghost use Rattle.upc_tree.specs.Statement.{spell_value, spell_test, spell_first, spell_affinity, spell_for};
@@ -184,7 +184,7 @@ fn put_ended(
     value: &Option<Box<Expr>>,
     semicolon: Span,
 ) -> Result<(), OutOfMemory>
-    ensures { OnOk result (out.new ≡ spell_value (view_value value.now) (punct p.Semicolon semicolon ∷ out.old)) }
+    ensures { OnOk result (out.new ≡ spell_value (view_value value.now) (punct puncts.Semicolon semicolon ∷ out.old)) }
 {
     out.put_punct(Punct::Semicolon, semicolon)?;
     put_value(out, value)
@@ -192,7 +192,7 @@ fn put_ended(
 
 // A word with its semicolon.
 fn put_word(out: &mut Backwards, kind: Word, at: Span, semicolon: Span) -> Result<(), OutOfMemory>
-    ensures { OnOk result (out.new ≡ word kind at ∷ punct p.Semicolon semicolon ∷ out.old) }
+    ensures { OnOk result (out.new ≡ word kind at ∷ punct puncts.Semicolon semicolon ∷ out.old) }
 {
     out.put_punct(Punct::Semicolon, semicolon)?;
     out.put_word(kind, at)
@@ -207,7 +207,7 @@ fn put_value_behind(
     semicolon: Span,
 ) -> Result<(), OutOfMemory>
     ensures { OnOk result (out.new ≡ word kind at ∷ spell_value (view_value value.now)
-        (punct p.Semicolon semicolon ∷ out.old)) }
+        (punct puncts.Semicolon semicolon ∷ out.old)) }
 {
     put_ended(out, value, semicolon)?;
     out.put_word(kind, at)
@@ -304,7 +304,7 @@ fn put_switch(
     body: &[SwitchItem],
     right: Span,
 ) -> Result<(), OutOfMemory>
-    ensures { OnOk result (out.new ≡ spell_statement (t.Switch at (view_test test.now) left
+    ensures { OnOk result (out.new ≡ spell_statement (statements.Switch at (view_test test.now) left
         (switch_items_of (map view_switch_item body.now)) right) out.old) }
 {
     out.put_punct(Punct::RBrace, right)?;
@@ -323,7 +323,7 @@ fn put_do_while(
     test: &Test,
     semicolon: Span,
 ) -> Result<(), OutOfMemory>
-    ensures { OnOk result (out.new ≡ spell_statement (t.DoWhile at (view_statement body.now) until
+    ensures { OnOk result (out.new ≡ spell_statement (statements.DoWhile at (view_statement body.now) until
         (view_test test.now) semicolon) out.old) }
 {
     out.put_punct(Punct::Semicolon, semicolon)?;
@@ -340,7 +340,7 @@ fn put_for_statement(
     head: &ForHead,
     body: &Statement,
 ) -> Result<(), OutOfMemory>
-    ensures { OnOk result (out.new ≡ spell_statement (t.For at (view_for head.now) (view_statement body.now)) out.old) }
+    ensures { OnOk result (out.new ≡ spell_statement (statements.For at (view_for head.now) (view_statement body.now)) out.old) }
 {
     put_statement(out, body)?;
     put_for(out, head)?;
@@ -355,7 +355,7 @@ fn put_forall_statement(
     head: &ForallHead,
     body: &Statement,
 ) -> Result<(), OutOfMemory>
-    ensures { OnOk result (out.new ≡ spell_statement (t.Forall at (view_forall head.now)
+    ensures { OnOk result (out.new ≡ spell_statement (statements.Forall at (view_forall head.now)
         (view_statement body.now)) out.old) }
 {
     put_statement(out, body)?;

@@ -2,7 +2,7 @@
 use Rattle.std.specs.Prelude.{◌≡◌, ◌<◌, ◌↔◌, true, ℕ, ◌+◌, ◌*◌, nat_lt, ◌==◌, Bool, ◌&&◌, if◌then◌else◌}
 use Rattle.std.specs.Prelude.{List, [], ◌∷◌, ◌++◌, length, Option, Some, None}
 use Rattle.block_layout.specs.declared.kind.Kind.{Kind}
-use Rattle.block_layout.specs.declared.kind.Kind.TheVariants as k
+use Rattle.block_layout.specs.declared.kind.Kind.TheVariants as kinds
 use Rattle.block_layout.specs.declared.kind.Shape.{Shape}
 use Rattle.block_layout.specs.Cells.{moved, copies}
 use Rattle.upc_types.specs.declared.layout.Layout.{Layout}
@@ -37,9 +37,9 @@ noted targets t = if is_noted targets t then targets else targets ++ (t ∷ [])
 
 -- The kind of the cell of a pointer whose target has this base and this block, and whose type has this number.
 abbrev pub kind_to : Base → Option ℕ → ℕ → Kind
-kind_to LockObject block number = k.Lock
-kind_to b (Some block) number = k.Shared number block
-kind_to b None number = k.Private number
+kind_to LockObject block number = kinds.Lock
+kind_to b (Some block) number = kinds.Shared number block
+kind_to b None number = kinds.Private number
 
 -- The kind of the cell of a pointer to this target: a lock pointer, or a pointer to a shared or a private object with
 -- the number of its type (UPC 6.5.1.1, 7.2.4).

@@ -2,7 +2,7 @@
 use Rattle.std.specs.Prelude.{ℕ, Bool, true, false, ◌==◌, ◌&&◌, Option, Some, None}
 use Rattle.block_layout.specs.Shapes.{same_kind}
 use Rattle.upc_types.specs.declared.ctype.Access.{Access}
-use Rattle.upc_types.specs.declared.ctype.Access.TheVariants as a
+use Rattle.upc_types.specs.declared.ctype.Access.TheVariants as access
 use Rattle.upc_types.specs.Types.{CType, Qualified, Base, Void, Integer, Struct, Array, Pointer, LockObject}
 
 -- Whether two truth values are equal.
@@ -13,9 +13,9 @@ same_bool x y = false
 
 -- Whether two types both say strict, both relaxed, or both neither (UPC 6.5.1.1).
 abbrev pub same_access : Access → Access → Bool
-same_access a.Unsaid a.Unsaid = true
-same_access a.Strict a.Strict = true
-same_access a.Relaxed a.Relaxed = true
+same_access access.Unsaid access.Unsaid = true
+same_access access.Strict access.Strict = true
+same_access access.Relaxed access.Relaxed = true
 same_access x y = false
 
 -- Whether two types are both shared with one block size, or neither is shared (UPC 6.5.1.1).

@@ -10,7 +10,7 @@ use Rattle.upc_values.specs.declared.library.LibraryCall.{LibraryCall}
 use Rattle.upc_values.specs.declared.library.LibraryCall.TheVariants as call
 use Rattle.upc_values.specs.declared.scalar.Scalar.TheVariants.{Shared}
 use Rattle.upc_values.specs.Scalars.{zero}
-use Rattle.upc_values.specs.Expansion as e
+use Rattle.upc_values.specs.Expansion as expansion
 use Rattle.upc_values.specs.Expansion.{Expansion}
 use Rattle.upc_values.specs.LibraryCalls.{library_call, asks}
 use Rattle.thread_steps.specs.layer.Ranges.{IsHeldScalar}
@@ -19,9 +19,9 @@ use Rattle.thread_values.specs.declared.library.LibraryStep.TheVariants.{Nothing
 
 -- The library call that a step stands for: one that gives a value, fails, or asks for one action.
 abbrev pub expansion_of : LibraryStep → Expansion Scalar
-expansion_of Nothing = e.Gives zero
-expansion_of Null = e.Gives (Shared null)
-expansion_of (Fails code) = e.Fails code
+expansion_of Nothing = expansion.Gives zero
+expansion_of Null = expansion.Gives (Shared null)
+expansion_of (Fails code) = expansion.Fails code
 expansion_of (Asks action) = asks action
 
 -- The call of the library asks for one action at most (UPC 7.2.2, 7.2.4).

@@ -4,23 +4,23 @@ use Rattle.std.specs.Prelude.{None}
 use Rattle.std.specs.HashMap.{get, HashMap}
 use Rattle.upc_types.specs.View.{view}
 use Rattle.typed_tree.specs.declared.scope.Declared.{Declared}
-use Rattle.typed_tree.specs.declared.scope.Declared.TheVariants as d
-use Rattle.typed_tree.specs.declared.scope.Entry as e
-use Rattle.typing_rules.specs.Meanings as m
+use Rattle.typed_tree.specs.declared.scope.Declared.TheVariants as declared_variant
+use Rattle.typed_tree.specs.declared.scope.Entry as entries
+use Rattle.typing_rules.specs.Meanings as meaning
 use Rattle.typed_tree.specs.Scopes.{Entry}
 use Rattle.typing_rules.specs.layer.Views.{view_signature}
 
 -- What a declaration of the code makes of a name, seen without where it lies in memory.
-abbrev pub view_declared : Declared → m.Meaning
-view_declared (d.Object t home) = m.Object (view t) home
-view_declared (d.Function signature) = m.Function (view_signature signature)
+abbrev pub view_declared : Declared → meaning.Meaning
+view_declared (declared_variant.Object t home) = meaning.Object (view t) home
+view_declared (declared_variant.Function signature) = meaning.Function (view_signature signature)
 
 -- A name that is declared in a scope of the code, with what it stands for, seen without where it lies in memory.
-abbrev pub view_entry : e.Entry → Entry
+abbrev pub view_entry : entries.Entry → Entry
 view_entry x = record { name = x.name; means = view_declared x.means }
 
 -- The names that are declared in a scope of the code, the latest first, seen without where they lie in memory.
-abbrev pub view_entries : List e.Entry → List Entry
+abbrev pub view_entries : List entries.Entry → List Entry
 view_entries xs = reverse (map view_entry xs)
 
 -- The place of an entry where it is of the name that is looked for, else that of an older one, if there is one.

@@ -8,8 +8,8 @@ use Rattle.upc_types.specs.Layout.{complete_in}
 use Rattle.typing_rules.specs.declared.setting.Home.{Home}
 use Rattle.typing_rules.specs.declared.setting.Home.TheVariants.{Private, Shared, Local}
 use Rattle.typing_rules.specs.Attributes.{Facts, attr}
-use Rattle.typing_rules.specs.Meanings as m
-use Rattle.typing_rules.specs.Nodes as n
+use Rattle.typing_rules.specs.Meanings as meaning
+use Rattle.typing_rules.specs.Nodes as rule_node
 use Rattle.typing_rules.specs.Nodes.{Attr, Node}
 use Rattle.typing_rules.specs.Rules.{lowest}
 use Rattle.typed_tree.specs.Objects.{type_of, private_in, shared_in}
@@ -55,11 +55,11 @@ IsNumberKind other = ⊥
 -- The nodes of numbers, characters and named constants, which are all one kind of expression in the tree (C99 6.4.4,
 -- UPC 6.3). A number is in the range of its kind.
 abbrev pub IsConstant : Checked → Node → Type 0
-IsConstant p (n.Name how (m.Named c)) = Unit {0}
-IsConstant p (n.Number number value) = IsNumberKind number × InKind (pos value) number
-IsConstant p (n.Character value) = Unit {0}
-IsConstant p (n.Threads threads) = threads ≡ p.threads
-IsConstant p n.MaxBlockSize = Unit {0}
+IsConstant p (rule_node.Name how (meaning.Named c)) = Unit {0}
+IsConstant p (rule_node.Number number value) = IsNumberKind number × InKind (pos value) number
+IsConstant p (rule_node.Character value) = Unit {0}
+IsConstant p (rule_node.Threads threads) = threads ≡ p.threads
+IsConstant p rule_node.MaxBlockSize = Unit {0}
 IsConstant p x = ⊥
 
 -- An object of this type is in scope at this home: of the file by number, or of the function, whose objects in scope

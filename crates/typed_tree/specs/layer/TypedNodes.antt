@@ -14,12 +14,12 @@ use Rattle.typing_rules.specs.declared.setting.Enclosing.TheVariants as enclosin
 use Rattle.typing_rules.specs.declared.attribute.Constant.{Constant}
 use Rattle.typing_rules.specs.Values.{value_type, base_kind, base_target}
 use Rattle.typing_rules.specs.Attributes.{base, member_named, found_index, target_index}
-use Rattle.typing_rules.specs.Meanings as m
+use Rattle.typing_rules.specs.Meanings as meaning
 use Rattle.typing_rules.specs.Meanings.{Meaning, Signature}
-use Rattle.typing_rules.specs.Nodes as n
+use Rattle.typing_rules.specs.Nodes as rule_node
 use Rattle.typing_rules.specs.Nodes.{Attr, Use, Formed, Around}
 use Rattle.typed_tree.specs.declared.tree.Target.TheVariants as target
-use Rattle.typed_tree.specs.Tree as k
+use Rattle.typed_tree.specs.Tree as typed
 use Rattle.typed_tree.specs.Tree.{Expr, ExprKind, Exprs, attr_of, attrs_of, Initial, DeclaredObject, Affinity, Head}
 use Rattle.typed_tree.specs.Tree.{Statement, StatementKind, StatementOption, Arms, Items, SwitchItems, Function}
 use Rattle.typed_tree.specs.Programs.{Checked}
@@ -42,94 +42,105 @@ abbrev mutual
   -- The nodes of an expression that is used so meet their rules, where objects of these types are in scope in the
   -- function.
   pub MeetsExpr : Checked → List CType → Use → Expr → Type 0
-  MeetsExpr p locals how (k.Is at attr kind) = MeetsKind p locals how attr kind
+  MeetsExpr p locals how (typed.Is at attr kind) = MeetsKind p locals how attr kind
 
   -- The nodes of what an expression consists of meet their rules, and the expression is what its own node says.
   pub MeetsKind : Checked → List CType → Use → Attr → ExprKind → Type 0
-  MeetsKind p locals how attr k.Literal = (x : n.Node) × IsConstant p x × Judged p x attr
-  MeetsKind p locals how attr k.Mythread = Judged p n.Mythread attr
-  MeetsKind p locals how attr (k.Object home) =
-      (t : CType) × Stands p locals home t × Judged p (n.Name how (m.Object t home)) attr
-  MeetsKind p locals how attr (k.Callee called) = ⊥
-  MeetsKind p locals how attr (k.Format bytes) = Judged p (n.Strings how) attr
-  MeetsKind p locals how attr (k.Paren a) = (attr ≡ attr_of a) × MeetsExpr p locals how a
-  MeetsKind p locals how attr (k.Subscript a i) =
-      Judged p (n.Subscript how (attr_of a) (attr_of i)) attr × MeetsExpr p locals n.Indexed a
-      × MeetsExpr p locals n.Plain i
-  MeetsKind p locals how attr (k.Call (target.Function number) args) =
-      (s : Signature) × Declares p number s × Judged p (n.Call how (m.Function s) true None (attrs_of args)) attr
-      × MeetsExprs p locals (uses_by (m.Function s)) args
-  MeetsKind p locals how attr (k.Call (target.Library call) args) =
-      Judged p (n.Call how (m.Library call) true (format_in args) (attrs_of args)) attr
-      × MeetsExprs p locals (uses_by (m.Library call)) args
-  MeetsKind p locals how attr (k.Member a index) =
-      (structs : Structs) × (name : List ℕ) × JudgedAt p structs (n.MemberOf (attr_of a) name) attr
-      × (index ≡ found_index (member_named structs (attr_of a).ctype name)) × MeetsExpr p locals n.Plain a
-  MeetsKind p locals how attr (k.MemberBehind a index) =
-      (structs : Structs) × (name : List ℕ) × JudgedAt p structs (n.MemberBehind (attr_of a) name) attr
-      × (index ≡ target_index structs (base_target (base (attr_of a))) name) × MeetsExpr p locals n.Plain a
-  MeetsKind p locals how attr (k.Step op a) = Judged p (n.Step (attr_of a)) attr × MeetsExpr p locals n.Plain a
-  MeetsKind p locals how attr (k.Address a) = Judged p (n.Address (attr_of a)) attr × MeetsExpr p locals n.Plain a
-  MeetsKind p locals how attr (k.Dereference a) =
-      Judged p (n.Dereference (attr_of a)) attr × MeetsExpr p locals n.Plain a
-  MeetsKind p locals how attr (k.Unary op a) = Judged p (n.Unary op (attr_of a)) attr × MeetsExpr p locals n.Plain a
-  MeetsKind p locals how attr (k.SizeOf op a) =
-      Judged p (n.SizeOf op (attr_of a)) attr × MeetsExpr p locals n.Measured a
-  MeetsKind p locals how attr (k.SizeOfType op t) =
-      (named : Formed) × (named.ctype ≡ t) × Judged p (n.SizeOfType op named) attr
-  MeetsKind p locals how attr (k.Cast a) =
-      (named : Formed) × Judged p (n.Cast named (attr_of a)) attr × MeetsExpr p locals (n.Into named.ctype) a
-  MeetsKind p locals how attr (k.Binary op a b) =
-      Judged p (n.Binary op (attr_of a) (attr_of b)) attr × MeetsExpr p locals n.Plain a × MeetsExpr p locals n.Plain b
-  MeetsKind p locals how attr (k.And a b) =
-      Judged p (n.And (attr_of a) (attr_of b)) attr × MeetsExpr p locals n.Plain a × MeetsExpr p locals n.Plain b
-  MeetsKind p locals how attr (k.Or a b) =
-      Judged p (n.Or (attr_of a) (attr_of b)) attr × MeetsExpr p locals n.Plain a × MeetsExpr p locals n.Plain b
-  MeetsKind p locals how attr (k.Assign a b) =
-      Judged p (n.Assign (attr_of a) (attr_of b)) attr × MeetsExpr p locals n.Plain a
-      × MeetsExpr p locals (n.Into (attr_of a).ctype) b
-  MeetsKind p locals how attr (k.Compound op a b) =
-      Judged p (n.Compound op (attr_of a) (attr_of b)) attr × MeetsExpr p locals n.Plain a
-      × MeetsExpr p locals n.Plain b
-  MeetsKind p locals how attr (k.Conditional test a b) =
-      Judged p (n.Conditional (attr_of test) (attr_of a) (attr_of b)) attr × MeetsExpr p locals n.Plain test
-      × MeetsExpr p locals n.Plain a × MeetsExpr p locals n.Plain b
-  MeetsKind p locals how attr (k.Comma k.NoExprs) = ⊥
-  MeetsKind p locals how attr (k.Comma (k.AndExpr a more)) =
-      Judged p (n.Comma (last_of a more)) attr × MeetsExpr p locals n.Plain a × MeetsExprs p locals [] more
+  MeetsKind p locals how attr typed.Literal = (x : rule_node.Node) × IsConstant p x × Judged p x attr
+  MeetsKind p locals how attr typed.Mythread = Judged p rule_node.Mythread attr
+  MeetsKind p locals how attr (typed.Object home) =
+      (t : CType) × Stands p locals home t × Judged p (rule_node.Name how (meaning.Object t home)) attr
+  MeetsKind p locals how attr (typed.Callee called) = ⊥
+  MeetsKind p locals how attr (typed.Format bytes) = Judged p (rule_node.Strings how) attr
+  MeetsKind p locals how attr (typed.Paren a) = (attr ≡ attr_of a) × MeetsExpr p locals how a
+  MeetsKind p locals how attr (typed.Subscript a i) =
+      Judged p (rule_node.Subscript how (attr_of a) (attr_of i)) attr × MeetsExpr p locals rule_node.Indexed a
+      × MeetsExpr p locals rule_node.Plain i
+  MeetsKind p locals how attr (typed.Call (target.Function number) args) =
+      (s : Signature) × Declares p number s × Judged p (rule_node.Call how (meaning.Function s) true None
+      (attrs_of args)) attr
+      × MeetsExprs p locals (uses_by (meaning.Function s)) args
+  MeetsKind p locals how attr (typed.Call (target.Library call) args) =
+      Judged p (rule_node.Call how (meaning.Library call) true (format_in args) (attrs_of args)) attr
+      × MeetsExprs p locals (uses_by (meaning.Library call)) args
+  MeetsKind p locals how attr (typed.Member a index) =
+      (structs : Structs) × (name : List ℕ) × JudgedAt p structs (rule_node.MemberOf (attr_of a) name) attr
+      × (index ≡ found_index (member_named structs (attr_of a).ctype name)) × MeetsExpr p locals rule_node.Plain a
+  MeetsKind p locals how attr (typed.MemberBehind a index) =
+      (structs : Structs) × (name : List ℕ) × JudgedAt p structs (rule_node.MemberBehind (attr_of a) name) attr
+      × (index ≡ target_index structs (base_target (base (attr_of a))) name) × MeetsExpr p locals rule_node.Plain a
+  MeetsKind p locals how attr (typed.Step op a) = Judged p (rule_node.Step (attr_of a)) attr
+      × MeetsExpr p locals rule_node.Plain a
+  MeetsKind p locals how attr (typed.Address a) = Judged p (rule_node.Address (attr_of a)) attr
+      × MeetsExpr p locals rule_node.Plain a
+  MeetsKind p locals how attr (typed.Dereference a) =
+      Judged p (rule_node.Dereference (attr_of a)) attr × MeetsExpr p locals rule_node.Plain a
+  MeetsKind p locals how attr (typed.Unary op a) = Judged p (rule_node.Unary op (attr_of a)) attr
+      × MeetsExpr p locals rule_node.Plain a
+  MeetsKind p locals how attr (typed.SizeOf op a) =
+      Judged p (rule_node.SizeOf op (attr_of a)) attr × MeetsExpr p locals rule_node.Measured a
+  MeetsKind p locals how attr (typed.SizeOfType op t) =
+      (named : Formed) × (named.ctype ≡ t) × Judged p (rule_node.SizeOfType op named) attr
+  MeetsKind p locals how attr (typed.Cast a) =
+      (named : Formed) × Judged p (rule_node.Cast named (attr_of a)) attr
+      × MeetsExpr p locals (rule_node.Into named.ctype) a
+  MeetsKind p locals how attr (typed.Binary op a b) =
+      Judged p (rule_node.Binary op (attr_of a) (attr_of b)) attr × MeetsExpr p locals rule_node.Plain a
+      × MeetsExpr p locals rule_node.Plain b
+  MeetsKind p locals how attr (typed.And a b) =
+      Judged p (rule_node.And (attr_of a) (attr_of b)) attr × MeetsExpr p locals rule_node.Plain a
+      × MeetsExpr p locals rule_node.Plain b
+  MeetsKind p locals how attr (typed.Or a b) =
+      Judged p (rule_node.Or (attr_of a) (attr_of b)) attr × MeetsExpr p locals rule_node.Plain a
+      × MeetsExpr p locals rule_node.Plain b
+  MeetsKind p locals how attr (typed.Assign a b) =
+      Judged p (rule_node.Assign (attr_of a) (attr_of b)) attr × MeetsExpr p locals rule_node.Plain a
+      × MeetsExpr p locals (rule_node.Into (attr_of a).ctype) b
+  MeetsKind p locals how attr (typed.Compound op a b) =
+      Judged p (rule_node.Compound op (attr_of a) (attr_of b)) attr × MeetsExpr p locals rule_node.Plain a
+      × MeetsExpr p locals rule_node.Plain b
+  MeetsKind p locals how attr (typed.Conditional test a b) =
+      Judged p (rule_node.Conditional (attr_of test) (attr_of a) (attr_of b)) attr
+      × MeetsExpr p locals rule_node.Plain test
+      × MeetsExpr p locals rule_node.Plain a × MeetsExpr p locals rule_node.Plain b
+  MeetsKind p locals how attr (typed.Comma typed.NoExprs) = ⊥
+  MeetsKind p locals how attr (typed.Comma (typed.AndExpr a more)) =
+      Judged p (rule_node.Comma (last_of a more)) attr × MeetsExpr p locals rule_node.Plain a
+      × MeetsExprs p locals [] more
 
   -- The nodes of some expressions, each of which is used so, meet their rules.
   pub MeetsExprs : Checked → List CType → List Use → Exprs → Type 0
-  MeetsExprs p locals uses k.NoExprs = Unit {0}
-  MeetsExprs p locals uses (k.AndExpr a more) =
+  MeetsExprs p locals uses typed.NoExprs = Unit {0}
+  MeetsExprs p locals uses (typed.AndExpr a more) =
       MeetsExpr p locals (first_use uses) a × MeetsExprs p locals (later_uses uses) more
 
 -- The nodes of an expression whose value is taken meet their rules, where there is such an expression.
 abbrev pub MeetsValue : Checked → List CType → Option Expr → Type 0
 MeetsValue p locals None = Unit {0}
-MeetsValue p locals (Some a) = MeetsExpr p locals n.Plain a
+MeetsValue p locals (Some a) = MeetsExpr p locals rule_node.Plain a
 
 -- ---- declared objects
 
 -- An initialiser at file scope is a constant expression (C99 6.7.8).
 abbrev pub MeetsConstant : Checked → Bool → Expr → Type 0
-MeetsConstant p true a = Meets p (n.Constantly (attr_of a))
+MeetsConstant p true a = Meets p (rule_node.Constantly (attr_of a))
 MeetsConstant p false a = Unit {0}
 
 -- The nodes of the values of an initialiser list, each of which is used so, meet their rules, and at file scope the
 -- values are constant expressions (C99 6.7.8).
 abbrev pub MeetsValues : Checked → List CType → Bool → Use → Exprs → Type 0
-MeetsValues p locals file how k.NoExprs = Unit {0}
-MeetsValues p locals file how (k.AndExpr a more) =
+MeetsValues p locals file how typed.NoExprs = Unit {0}
+MeetsValues p locals file how (typed.AndExpr a more) =
     MeetsExpr p locals how a × MeetsConstant p file a × MeetsValues p locals file how more
 
 -- The initialiser of an object of this type, at file scope or in a function, meets the rules (C99 6.7.8).
 abbrev pub MeetsInitial : Checked → List CType → Bool → CType → Initial → Type 0
-MeetsInitial p locals file t k.NoInitial = Unit {0}
-MeetsInitial p locals file t (k.InitialValue a) =
-    Meets p (n.InitialValue file true t (attr_of a)) × MeetsExpr p locals (n.Into t) a × MeetsConstant p file a
-MeetsInitial p locals file t (k.InitialList values) =
-    Meets p (n.InitialList file true t (attrs_of values))
+MeetsInitial p locals file t typed.NoInitial = Unit {0}
+MeetsInitial p locals file t (typed.InitialValue a) =
+    Meets p (rule_node.InitialValue file true t (attr_of a)) × MeetsExpr p locals (rule_node.Into t) a
+    × MeetsConstant p file a
+MeetsInitial p locals file t (typed.InitialList values) =
+    Meets p (rule_node.InitialList file true t (attrs_of values))
     × MeetsValues p locals file (element_use (base_target (base_of t))) values
 
 -- The types of the objects in scope in the function after one more object of this type that lies there; one of the file
@@ -151,7 +162,7 @@ behind_all locals (x ∷ xs) = behind_all (behind locals x) xs
 pub record MeetsObject (p : Checked) (locals : List CType) (file : Bool) (x : DeclaredObject) : Type 0 where
   pub stands : Stands p (behind locals x) x.home x.ctype
   pub declared : (again : Bool) × (formed : Formed) × (formed.ctype ≡ x.ctype)
-      × Meets p (n.DeclaresObject again file formed)
+      × Meets p (rule_node.DeclaresObject again file formed)
   pub initial : MeetsInitial p (behind locals x) file x.ctype x.initial
 
 -- Declared objects meet their rules, each in scope for those after it (C99 6.2.1).
@@ -167,98 +178,102 @@ abbrev pub MeetsHead : Checked → List CType → Head → Type 0
 MeetsHead p locals head =
     MeetsObjects p locals false head.objects × MeetsValue p (behind_all locals head.objects) head.first
     × MeetsValue p (behind_all locals head.objects) head.test × MeetsValue p (behind_all locals head.objects) head.step
-    × Meets p (n.Tests (tests_of head.test))
+    × Meets p (rule_node.Tests (tests_of head.test))
 
 -- The affinity of a upc_forall meets its rules (UPC 6.6.2).
 abbrev pub MeetsAffinity : Checked → List CType → Affinity → Type 0
-MeetsAffinity p locals k.Everyone = Unit {0}
-MeetsAffinity p locals (k.AtValue a) = Meets p (n.Affinity (attr_of a)) × MeetsExpr p locals n.Plain a
+MeetsAffinity p locals typed.Everyone = Unit {0}
+MeetsAffinity p locals (typed.AtValue a) = Meets p (rule_node.Affinity (attr_of a))
+    × MeetsExpr p locals rule_node.Plain a
 
 -- What the conditions of an `if` are to it, in order (C99 6.8.4.1).
 abbrev pub tests_in : Arms → List Attr
-tests_in k.NoArms = []
-tests_in (k.AndArm test body more) = attr_of test ∷ tests_in more
+tests_in typed.NoArms = []
+tests_in (typed.AndArm test body more) = attr_of test ∷ tests_in more
 
 -- The values with which the `case` labels of a `switch` compare, in order (C99 6.8.4.2).
 abbrev pub cases_in : SwitchItems → List ℤ
-cases_in k.NoSwitchItems = []
-cases_in (k.AndCase value more) = value ∷ cases_in more
-cases_in (k.AndDefault more) = cases_in more
-cases_in (k.AndSwitchStatement s more) = cases_in more
+cases_in typed.NoSwitchItems = []
+cases_in (typed.AndCase value more) = value ∷ cases_in more
+cases_in (typed.AndDefault more) = cases_in more
+cases_in (typed.AndSwitchStatement s more) = cases_in more
 
 -- How often `default` stands in a `switch` (C99 6.8.4.2).
 abbrev pub defaults_in : SwitchItems → ℕ
-defaults_in k.NoSwitchItems = 0
-defaults_in (k.AndCase value more) = defaults_in more
-defaults_in (k.AndDefault more) = defaults_in more + 1
-defaults_in (k.AndSwitchStatement s more) = defaults_in more
+defaults_in typed.NoSwitchItems = 0
+defaults_in (typed.AndCase value more) = defaults_in more
+defaults_in (typed.AndDefault more) = defaults_in more + 1
+defaults_in (typed.AndSwitchStatement s more) = defaults_in more
 
 -- The labels of a `switch` on this value meet their rules; its cases have the values of labels in its kind
 -- (C99 6.8.4.2).
 pub record MeetsLabels (p : Checked) (a : Attr) (items : SwitchItems) : Type 0 where
   pub labels : List Constant
   pub values : cases_in items ≡ map (label_value (base_kind (base a))) labels
-  pub rules : Meets p (n.Switch a labels (defaults_in items))
+  pub rules : Meets p (rule_node.Switch a labels (defaults_in items))
 
 -- The nodes of statements meet their rules (C99 6.8, UPC 6.6).
 abbrev mutual
   -- The nodes of a statement with this around it meet their rules, where objects of these types are in scope in the
   -- function (C99 6.8, UPC 6.6).
   pub MeetsStatement : Checked → Around → List CType → Statement → Type 0
-  MeetsStatement p c locals (k.Stands at kind) = MeetsBy p c locals kind
+  MeetsStatement p c locals (typed.Stands at kind) = MeetsBy p c locals kind
 
   -- The nodes of what a statement consists of meet their rules.
   pub MeetsBy : Checked → Around → List CType → StatementKind → Type 0
-  MeetsBy p c locals (k.Block strict items) = MeetsItems p c locals items
-  MeetsBy p c locals (k.Value value) = MeetsValue p locals value
-  MeetsBy p c locals (k.If arms last) =
-      Meets p (n.Tests (tests_in arms)) × MeetsArms p c locals arms × MeetsLast p c locals last
-  MeetsBy p c locals (k.Switch value items) =
-      MeetsExpr p locals n.Plain value × MeetsLabels p (attr_of value) items × MeetsSwitch p (in_switch c) locals items
-  MeetsBy p c locals (k.While test body) =
-      Meets p (n.Tests (attr_of test ∷ [])) × MeetsExpr p locals n.Plain test
+  MeetsBy p c locals (typed.Block strict items) = MeetsItems p c locals items
+  MeetsBy p c locals (typed.Value value) = MeetsValue p locals value
+  MeetsBy p c locals (typed.If arms last) =
+      Meets p (rule_node.Tests (tests_in arms)) × MeetsArms p c locals arms × MeetsLast p c locals last
+  MeetsBy p c locals (typed.Switch value items) =
+      MeetsExpr p locals rule_node.Plain value × MeetsLabels p (attr_of value) items
+      × MeetsSwitch p (in_switch c) locals items
+  MeetsBy p c locals (typed.While test body) =
+      Meets p (rule_node.Tests (attr_of test ∷ [])) × MeetsExpr p locals rule_node.Plain test
       × MeetsStatement p (in_loop c) locals body
-  MeetsBy p c locals (k.DoWhile body test) =
-      Meets p (n.Tests (attr_of test ∷ [])) × MeetsExpr p locals n.Plain test
+  MeetsBy p c locals (typed.DoWhile body test) =
+      Meets p (rule_node.Tests (attr_of test ∷ [])) × MeetsExpr p locals rule_node.Plain test
       × MeetsStatement p (in_loop c) locals body
-  MeetsBy p c locals (k.For head body) =
+  MeetsBy p c locals (typed.For head body) =
       MeetsHead p locals head × MeetsStatement p (in_loop c) (behind_all locals head.objects) body
-  MeetsBy p c locals (k.Forall head affinity body) =
+  MeetsBy p c locals (typed.Forall head affinity body) =
       MeetsHead p locals head × MeetsAffinity p (behind_all locals head.objects) affinity
       × MeetsStatement p (in_forall c) (behind_all locals head.objects) body
-  MeetsBy p c locals k.Break = Meets p (n.Break c)
-  MeetsBy p c locals k.Continue = Meets p (n.Continue c)
-  MeetsBy p c locals (k.Return None) = Meets p (n.ReturnsNothing c)
-  MeetsBy p c locals (k.Return (Some a)) = Meets p (n.Returns c (attr_of a)) × MeetsExpr p locals (n.Into c.result) a
-  MeetsBy p c locals (k.Synchronise how None) = Unit {0}
-  MeetsBy p c locals (k.Synchronise how (Some a)) = Meets p (n.Barrier (attr_of a)) × MeetsExpr p locals n.Plain a
-  MeetsBy p c locals k.Fence = Unit {0}
+  MeetsBy p c locals typed.Break = Meets p (rule_node.Break c)
+  MeetsBy p c locals typed.Continue = Meets p (rule_node.Continue c)
+  MeetsBy p c locals (typed.Return None) = Meets p (rule_node.ReturnsNothing c)
+  MeetsBy p c locals (typed.Return (Some a)) = Meets p (rule_node.Returns c (attr_of a))
+      × MeetsExpr p locals (rule_node.Into c.result) a
+  MeetsBy p c locals (typed.Synchronise how None) = Unit {0}
+  MeetsBy p c locals (typed.Synchronise how (Some a)) = Meets p (rule_node.Barrier (attr_of a))
+      × MeetsExpr p locals rule_node.Plain a
+  MeetsBy p c locals typed.Fence = Unit {0}
 
   -- The nodes of the statement after the last `else` meet their rules, where there is such a statement (C99 6.8.4.1).
   pub MeetsLast : Checked → Around → List CType → StatementOption → Type 0
-  MeetsLast p c locals k.NoStatement = Unit {0}
-  MeetsLast p c locals (k.TheStatement s) = MeetsStatement p c locals s
+  MeetsLast p c locals typed.NoStatement = Unit {0}
+  MeetsLast p c locals (typed.TheStatement s) = MeetsStatement p c locals s
 
   -- The nodes in the arms of an `if` meet their rules (C99 6.8.4.1).
   pub MeetsArms : Checked → Around → List CType → Arms → Type 0
-  MeetsArms p c locals k.NoArms = Unit {0}
-  MeetsArms p c locals (k.AndArm test body more) =
-      MeetsExpr p locals n.Plain test × MeetsStatement p c locals body × MeetsArms p c locals more
+  MeetsArms p c locals typed.NoArms = Unit {0}
+  MeetsArms p c locals (typed.AndArm test body more) =
+      MeetsExpr p locals rule_node.Plain test × MeetsStatement p c locals body × MeetsArms p c locals more
 
   -- The nodes in the parts of a block meet their rules; what a declaration declares is in scope in the parts after it
   -- (C99 6.2.1, 6.8.2).
   pub MeetsItems : Checked → Around → List CType → Items → Type 0
-  MeetsItems p c locals k.NoItems = Unit {0}
-  MeetsItems p c locals (k.AndObjects objects more) =
+  MeetsItems p c locals typed.NoItems = Unit {0}
+  MeetsItems p c locals (typed.AndObjects objects more) =
       MeetsObjects p locals false objects × MeetsItems p c (behind_all locals objects) more
-  MeetsItems p c locals (k.AndStatement s more) = MeetsStatement p c locals s × MeetsItems p c locals more
+  MeetsItems p c locals (typed.AndStatement s more) = MeetsStatement p c locals s × MeetsItems p c locals more
 
   -- The nodes of the statements in the body of a `switch` meet their rules (C99 6.8.4.2).
   pub MeetsSwitch : Checked → Around → List CType → SwitchItems → Type 0
-  MeetsSwitch p c locals k.NoSwitchItems = Unit {0}
-  MeetsSwitch p c locals (k.AndCase value more) = MeetsSwitch p c locals more
-  MeetsSwitch p c locals (k.AndDefault more) = MeetsSwitch p c locals more
-  MeetsSwitch p c locals (k.AndSwitchStatement s more) = MeetsStatement p c locals s × MeetsSwitch p c locals more
+  MeetsSwitch p c locals typed.NoSwitchItems = Unit {0}
+  MeetsSwitch p c locals (typed.AndCase value more) = MeetsSwitch p c locals more
+  MeetsSwitch p c locals (typed.AndDefault more) = MeetsSwitch p c locals more
+  MeetsSwitch p c locals (typed.AndSwitchStatement s more) = MeetsStatement p c locals s × MeetsSwitch p c locals more
 
 -- ---- the whole program
 
@@ -271,10 +286,10 @@ around result = record { result = result; breaks = enclosing.Nothing; loops = fa
 pub record MeetsFunction (p : Checked) (f : Function) : Type 0 where
   pub body : MeetsStatement p (around f.result) f.parameters f.body
   pub defined : (again differs forms : Bool) × (s : Signature) × (s.parameters ≡ f.parameters)
-      × (value_type s.result ≡ f.result) × Meets p (n.Defines again differs forms s)
+      × (value_type s.result ≡ f.result) × Meets p (rule_node.Defines again differs forms s)
 
 -- Every node of a program meets its rules; the file has a function main without parameters that gives an int.
 pub record MeetsRules (p : Checked) : Type 0 where
   pub objects : MeetsObjects p [] true p.objects
   pub functions : Each (MeetsFunction p) p.functions
-  pub file : Meets p (n.File (list_any is_main_function p.functions))
+  pub file : Meets p (rule_node.File (list_any is_main_function p.functions))

@@ -5,15 +5,15 @@ use Rattle.upc_text.specs.declared.place.Refusal.{Refusal}
 use Rattle.typing_rules.specs.Rules.{rule_23, rule_24}
 use Rattle.typing_rules.specs.Faults.{Seen}
 use Rattle.affinity_checker.specs.layer.Rules.{refused, where_true}
-use Rattle.upc_checker.specs.code.Lines as l
+use Rattle.upc_checker.specs.code.Lines as lines
 use Rattle.upc_checker.specs.code.Lines.{Line, line_of}
 
 -- Whether a line of the grammar is a `break`, a `continue` or a `return` (C99 6.8.6).
 abbrev pub is_jump : Line → Bool
-is_jump l.Break = true
-is_jump l.Continue = true
-is_jump l.Returns = true
-is_jump l.ReturnsNothing = true
+is_jump lines.Break = true
+is_jump lines.Continue = true
+is_jump lines.Returns = true
+is_jump lines.ReturnsNothing = true
 is_jump line = false
 
 -- Those of the rules 23 and 24 that a node breaks, at its place (C99 6.8.6, UPC 6.6.2).

@@ -4,7 +4,7 @@ use Rattle.upc_text.specs.declared.place.Place.{Place}
 use Rattle.upc_tree.specs.declared.span.Name.{Name}
 use Rattle.upc_tree.specs.Statement.{Compound}
 use Rattle.typing_rules.specs.Meanings.{Signature}
-use Rattle.typing_rules.specs.Nodes as n
+use Rattle.typing_rules.specs.Nodes as nodes
 use Rattle.typed_tree.specs.Scopes.{Setting, Env, State, differs}
 use Rattle.upc_checker_scopes.specs.Known.{definition_again}
 use Rattle.upc_checker_scopes.specs.Walk.{Walk, give, andthen, judge}
@@ -20,5 +20,5 @@ earlier_in ξ Γ s name signature =
 abbrev pub body_part : Setting → Bool → Made → Place → Bool → Name → Signature → Earlier → Compound → Env → Walk Made
 body_part ξ strict before place forms name signature was body Γ =
     andthen (walk_block ξ Γ (body_around signature.result) strict body) (λ x.
-    andthen (judge ξ place (n.Defines was.again was.differs forms signature)) (λ v.
+    andthen (judge ξ place (nodes.Defines was.again was.differs forms signature)) (λ v.
     give (with_definition ξ before place name.number signature x)))

@@ -15,10 +15,10 @@ use Rattle.upc_tree.specs.Expression.{AndDeclarator, Declarator, ObjectDeclarato
 use Rattle.upc_tree.specs.Expression.{NoParameters, VoidParameters, SomeParameters, Parameter, Parametric}
 use Rattle.upc_tree.specs.Expression.{NextParameters, NoNextParameters, AndParameter, ParameterArray, NoArray}
 use Rattle.upc_tree.specs.Expression.{UnsizedArray, SizedArray}
-use Rattle.upc_tree.specs.Declaration as d
+use Rattle.upc_tree.specs.Declaration as declaration_tree
 use Rattle.upc_tree.specs.Declaration.{Declaration, Declares, DeclaredList, NoneDeclared, SomeDeclared, NextDeclareds}
 use Rattle.upc_tree.specs.Declaration.{NoNextDeclareds, AndDeclared, DeclaredAs}
-use Rattle.upc_tree.specs.Statement as s
+use Rattle.upc_tree.specs.Statement as statement_tree
 use Rattle.upc_tree.specs.Statement.{Statement, Compound, Braces, BlockItems, NoBlockItems, AndBlockItem}
 use Rattle.upc_tree.specs.Statement.{DeclarationItem, StatementItem, SwitchItems, NoSwitchItems, AndSwitchItem}
 use Rattle.upc_tree.specs.Statement.{CaseItem, DefaultItem, SwitchStatement, ElseIfs, NoElseIfs, AndElseIf, Otherwise}
@@ -30,7 +30,7 @@ use Rattle.typing_rules.specs.Faults.{Seen}
 use Rattle.upc_checker_nodes.specs.Marks.{number_kind}
 use Rattle.upc_checker_scopes.specs.Places.{at, name_at, pointers_place, specs_place}
 use Rattle.upc_checker.specs.Units.{source_place}
-use Rattle.upc_checker.specs.code.Lines as l
+use Rattle.upc_checker.specs.code.Lines as lines_spec
 use Rattle.upc_checker.specs.code.Lines.{Line, line_of}
 
 -- An instance of a line of the grammar, and its place.
@@ -45,7 +45,7 @@ node place line = record { at = place; line = line } ∷ []
 -- The nodes of specifiers with their own node after them, which comes before the nodes of what follows the specifiers
 -- (C99 6.7.2).
 abbrev pub to_their_end : Place → List TreeNode → List TreeNode
-to_their_end place specifiers = specifiers ++ node place l.Specifies
+to_their_end place specifiers = specifiers ++ node place lines_spec.Specifies
 
 -- ---- expressions and types (C99 6.5, 6.7; UPC 6.4, 6.5)
 
@@ -74,26 +74,26 @@ first_place (Comma first more) = first_place first
 abbrev mutual
   -- The nodes of an expression, of which parentheses are none of their own (C99 6.5).
   pub nodes : Expr → List TreeNode
-  nodes (Named name) = node (name_at name) l.Name
-  nodes (Number value kind span) = node (at span) (l.Number (number_kind kind) value)
-  nodes (Character value span) = node (at span) l.Character
-  nodes (Strings first more) = node (at first.span) l.Strings
-  nodes (Constant word span) = node (at span) l.Constant
+  nodes (Named name) = node (name_at name) lines_spec.Name
+  nodes (Number value kind span) = node (at span) (lines_spec.Number (number_kind kind) value)
+  nodes (Character value span) = node (at span) lines_spec.Character
+  nodes (Strings first more) = node (at first.span) lines_spec.Strings
+  nodes (Constant word span) = node (at span) lines_spec.Constant
   nodes (Paren left inner right) = nodes inner
-  nodes (Subscript a left i right) = nodes a ++ (nodes i ++ node (first_place a) l.Subscript)
+  nodes (Subscript a left i right) = nodes a ++ (nodes i ++ node (first_place a) lines_spec.Subscript)
   nodes (Call callee left arguments) =
-      nodes callee ++ (argument_nodes arguments ++ node (first_place callee) l.Call)
-  nodes (MemberOf a mark dot name) = nodes a ++ node (first_place a) l.MemberOf
-  nodes (Postfix a mark span) = nodes a ++ node (first_place a) l.Unary
-  nodes (Unary mark span a) = nodes a ++ node (at span) l.Unary
-  nodes (SizeOfExpr word span a) = nodes a ++ node (at span) l.SizeOf
-  nodes (SizeOfType word span left type right) = type_nodes (at span) type ++ node (at span) l.SizeOfType
-  nodes (Cast left type right a) = type_nodes (at left) type ++ (nodes a ++ node (at left) l.Cast)
-  nodes (Binary a mark span b) = nodes a ++ (nodes b ++ node (first_place a) l.Binary)
-  nodes (Assign a mark span b) = nodes a ++ (nodes b ++ node (first_place a) l.Assign)
+      nodes callee ++ (argument_nodes arguments ++ node (first_place callee) lines_spec.Call)
+  nodes (MemberOf a mark dot name) = nodes a ++ node (first_place a) lines_spec.MemberOf
+  nodes (Postfix a mark span) = nodes a ++ node (first_place a) lines_spec.Unary
+  nodes (Unary mark span a) = nodes a ++ node (at span) lines_spec.Unary
+  nodes (SizeOfExpr word span a) = nodes a ++ node (at span) lines_spec.SizeOf
+  nodes (SizeOfType word span left type right) = type_nodes (at span) type ++ node (at span) lines_spec.SizeOfType
+  nodes (Cast left type right a) = type_nodes (at left) type ++ (nodes a ++ node (at left) lines_spec.Cast)
+  nodes (Binary a mark span b) = nodes a ++ (nodes b ++ node (first_place a) lines_spec.Binary)
+  nodes (Assign a mark span b) = nodes a ++ (nodes b ++ node (first_place a) lines_spec.Assign)
   nodes (Conditional test question a colon b) =
-      nodes test ++ (nodes a ++ (nodes b ++ node (first_place test) l.Conditional))
-  nodes (Comma first more) = nodes first ++ (next_nodes more ++ node (first_place first) l.Comma)
+      nodes test ++ (nodes a ++ (nodes b ++ node (first_place test) lines_spec.Conditional))
+  nodes (Comma first more) = nodes first ++ (next_nodes more ++ node (first_place first) lines_spec.Comma)
 
   -- The nodes of the arguments of a call (C99 6.5.2.2).
   pub argument_nodes : Arguments → List TreeNode
@@ -120,7 +120,7 @@ abbrev mutual
   spec_nodes (WordSpec word span) = []
   spec_nodes (QualSpec qual) = qual_nodes qual
   spec_nodes (TagSpec word tag) = []
-  spec_nodes (StructSpec word tag left members right) = member_nodes members ++ node (at word) l.Struct
+  spec_nodes (StructSpec word tag left members right) = member_nodes members ++ node (at word) lines_spec.Struct
 
   -- The nodes of the qualifiers after a star (C99 6.7.5.1).
   pub quals_nodes : Quals → List TreeNode
@@ -138,9 +138,9 @@ abbrev mutual
   pub layout_nodes : Layout → List TreeNode
   layout_nodes NoLayout = []
   layout_nodes (IndefiniteLayout left right) = []
-  layout_nodes (StarLayout left mark right) = node (at left) l.StarBlock
+  layout_nodes (StarLayout left mark right) = node (at left) lines_spec.StarBlock
   layout_nodes (BlockLayout left size right) =
-      nodes size ++ (node (first_place size) l.Constantly ++ node (at left) l.Block)
+      nodes size ++ (node (first_place size) lines_spec.Constantly ++ node (at left) lines_spec.Block)
 
   -- The nodes of stars, which are those of their qualifiers (C99 6.7.5.1).
   pub pointer_nodes : Pointers → List TreeNode
@@ -151,7 +151,7 @@ abbrev mutual
   pub size_nodes : Dimensions → List TreeNode
   size_nodes NoDimensions = []
   size_nodes (AndDimension left size right more) =
-      nodes size ++ (node (first_place size) l.Constantly ++ size_nodes more)
+      nodes size ++ (node (first_place size) lines_spec.Constantly ++ size_nodes more)
 
   -- The nodes of the declarations of members, each with a node of its specifiers' line after its declarators
   -- (C99 6.7.2.1).
@@ -159,7 +159,7 @@ abbrev mutual
   member_nodes NoMembers = []
   member_nodes (AndMember specs first next semicolon more) =
       to_their_end (specs_place specs) (specs_nodes specs) ++ (declarator_nodes first ++ (next_declarator_nodes next ++
-      (node (specs_place specs) l.Specifies ++ member_nodes more)))
+      (node (specs_place specs) lines_spec.Specifies ++ member_nodes more)))
 
   -- The nodes of further declarators of members (C99 6.7.2.1).
   pub next_declarator_nodes : NextDeclarators → List TreeNode
@@ -170,9 +170,10 @@ abbrev mutual
   -- The nodes of the declarator of a member (C99 6.7.2.1, 6.7.5).
   pub declarator_nodes : Declarator → List TreeNode
   declarator_nodes (ObjectDeclarator pointers name sizes) =
-      pointer_nodes pointers ++ (size_nodes sizes ++ node (pointers_place pointers name) l.Member)
+      pointer_nodes pointers ++ (size_nodes sizes ++ node (pointers_place pointers name) lines_spec.Member)
   declarator_nodes (FunctionDeclarator pointers name parameters) =
-      pointer_nodes pointers ++ (parameters_nodes parameters ++ node (pointers_place pointers name) l.MemberFunction)
+      pointer_nodes pointers ++ (parameters_nodes parameters ++ node
+      (pointers_place pointers name) lines_spec.MemberFunction)
 
   -- The nodes of the parameters of a function (C99 6.7.5.3).
   pub parameters_nodes : Parameters → List TreeNode
@@ -189,19 +190,19 @@ abbrev mutual
   pub parameter_nodes : Parameter → List TreeNode
   parameter_nodes (Parametric specs pointers name array) =
       to_their_end (specs_place specs) (specs_nodes specs) ++ (pointer_nodes pointers ++ (array_nodes array ++
-      node (specs_place specs) l.Parameter))
+      node (specs_place specs) lines_spec.Parameter))
 
   -- The nodes of the brackets of a parameter, whose size is a constant expression (C99 6.7.5.3).
   pub array_nodes : ParameterArray → List TreeNode
   array_nodes NoArray = []
   array_nodes (UnsizedArray left right) = []
-  array_nodes (SizedArray left size right) = nodes size ++ node (first_place size) l.Constantly
+  array_nodes (SizedArray left size right) = nodes size ++ node (first_place size) lines_spec.Constantly
 
 -- ---- declarations (C99 6.7); `file` is whether they stand at file scope
 
 -- The nodes of a value of an initialiser, which at file scope is a constant expression too (C99 6.6, 6.7.8).
 abbrev pub value_nodes : Bool → Expr → List TreeNode
-value_nodes true value = nodes value ++ node (first_place value) l.Constantly
+value_nodes true value = nodes value ++ node (first_place value) lines_spec.Constantly
 value_nodes false value = nodes value
 
 -- The nodes of further values of an initialiser (C99 6.7.8).
@@ -210,22 +211,24 @@ values_nodes file NoNextExprs = []
 values_nodes file (AndExpr comma value more) = value_nodes file value ++ values_nodes file more
 
 -- The nodes of an initialiser, of which its own stands at its declarator and comes after its values (C99 6.7.8).
-abbrev pub initial_nodes : Bool → Place → d.Initial → List TreeNode
-initial_nodes file place d.NoInitial = []
-initial_nodes file place (d.ValueInitial equal value) = value_nodes file value ++ node place l.InitialValue
-initial_nodes file place (d.ListInitial equal left first more right) =
-    value_nodes file first ++ (values_nodes file more ++ node place l.InitialList)
+abbrev pub initial_nodes : Bool → Place → declaration_tree.Initial → List TreeNode
+initial_nodes file place declaration_tree.NoInitial = []
+initial_nodes file place (declaration_tree.ValueInitial equal value) = value_nodes file value ++ node place
+    lines_spec.InitialValue
+initial_nodes file place (declaration_tree.ListInitial equal left first more right) =
+    value_nodes file first ++ (values_nodes file more ++ node place lines_spec.InitialList)
 
 -- The nodes of a declarator with its initialiser, in which what is declared is in scope, so that the declarator's own
 -- node comes before (C99 6.2.1, 6.7).
-abbrev pub declared_nodes : Bool → d.Declared → List TreeNode
+abbrev pub declared_nodes : Bool → declaration_tree.Declared → List TreeNode
 declared_nodes file (DeclaredAs (ObjectDeclarator pointers name sizes) initial) =
     let place = pointers_place pointers name in
-    pointer_nodes pointers ++ (size_nodes sizes ++ (node place l.DeclaresObject ++ initial_nodes file place initial))
+    pointer_nodes pointers ++ (size_nodes sizes ++ (node place lines_spec.DeclaresObject ++ initial_nodes file place
+    initial))
 declared_nodes file (DeclaredAs (FunctionDeclarator pointers name parameters) initial) =
     let place = pointers_place pointers name in
     pointer_nodes pointers ++ (parameters_nodes parameters ++
-    (node place l.DeclaresFunction ++ initial_nodes file place initial))
+    (node place lines_spec.DeclaresFunction ++ initial_nodes file place initial))
 
 -- The nodes of further declarators with their initialisers (C99 6.7).
 abbrev pub next_declared_nodes : Bool → NextDeclareds → List TreeNode
@@ -241,7 +244,7 @@ declared_list_nodes file (SomeDeclared first more) = declared_nodes file first +
 abbrev pub declaration_nodes : Bool → Declaration → List TreeNode
 declaration_nodes file (Declares specs list semicolon) =
     to_their_end (specs_place specs) (specs_nodes specs) ++ (declared_list_nodes file list ++
-    node (specs_place specs) l.Specifies)
+    node (specs_place specs) lines_spec.Specifies)
 
 -- ---- statements (C99 6.8, UPC 6.6)
 
@@ -263,7 +266,7 @@ first_nodes (FirstDeclaration declaration) = declaration_nodes false declaration
 abbrev pub affinity_nodes : Affinity → List TreeNode
 affinity_nodes NoAffinity = []
 affinity_nodes (ContinueAffinity word) = []
-affinity_nodes (ValueAffinity value) = nodes value ++ node (first_place value) l.Affinity
+affinity_nodes (ValueAffinity value) = nodes value ++ node (first_place value) lines_spec.Affinity
 
 -- The nodes of the parentheses of a `for` (C99 6.8.5.3).
 abbrev pub for_nodes : ForHead → List TreeNode
@@ -277,37 +280,40 @@ forall_nodes (ForallParts left first test test_end step step_end affinity right)
 
 -- The nodes of a `return`, of which its own comes after its value (C99 6.8.6.4).
 abbrev pub return_nodes : Place → Option Expr → List TreeNode
-return_nodes place None = node place l.ReturnsNothing
-return_nodes place (Some e) = nodes e ++ node place l.Returns
+return_nodes place None = node place lines_spec.ReturnsNothing
+return_nodes place (Some e) = nodes e ++ node place lines_spec.Returns
 
 -- The nodes of a notify, a wait or a barrier: with a value its own comes after those of the value, and without one
 -- there are none (UPC 6.6.1).
 abbrev pub barrier_nodes : Place → Option Expr → List TreeNode
 barrier_nodes place None = []
-barrier_nodes place (Some e) = nodes e ++ node place l.Barrier
+barrier_nodes place (Some e) = nodes e ++ node place lines_spec.Barrier
 
 -- The nodes of statements and their parts (C99 6.8, UPC 6.6).
 abbrev mutual
   -- The nodes of a statement, where the conditions of an `if` with all its arms are judged at its end. An expression, a
   -- block and a fence are no nodes of their own, nor is a barrier without a value (C99 6.8, UPC 6.6).
   pub statement_nodes : Statement → List TreeNode
-  statement_nodes (s.Block compound) = compound_nodes compound
-  statement_nodes (s.Value value semicolon) = option_nodes value
-  statement_nodes (s.If word test body more last) =
+  statement_nodes (statement_tree.Block compound) = compound_nodes compound
+  statement_nodes (statement_tree.Value value semicolon) = option_nodes value
+  statement_nodes (statement_tree.If word test body more last) =
       test_nodes test ++ (statement_nodes body ++ (else_if_nodes more ++ (otherwise_nodes last ++
-      node (at word) l.Tests)))
-  statement_nodes (s.Switch word test left items right) =
-      test_nodes test ++ (switch_nodes items ++ node (at word) l.Switch)
-  statement_nodes (s.While word test body) = test_nodes test ++ (statement_nodes body ++ node (at word) l.Tests)
-  statement_nodes (s.DoWhile word body until test semicolon) =
-      statement_nodes body ++ (test_nodes test ++ node (at word) l.Tests)
-  statement_nodes (s.For word head body) = for_nodes head ++ (statement_nodes body ++ node (at word) l.Tests)
-  statement_nodes (s.Forall word head body) = forall_nodes head ++ (statement_nodes body ++ node (at word) l.Tests)
-  statement_nodes (s.Break word semicolon) = node (at word) l.Break
-  statement_nodes (s.Continue word semicolon) = node (at word) l.Continue
-  statement_nodes (s.Return word value semicolon) = return_nodes (at word) value
-  statement_nodes (s.Barrier kind word value semicolon) = barrier_nodes (at word) value
-  statement_nodes (s.Fence word semicolon) = []
+      node (at word) lines_spec.Tests)))
+  statement_nodes (statement_tree.Switch word test left items right) =
+      test_nodes test ++ (switch_nodes items ++ node (at word) lines_spec.Switch)
+  statement_nodes (statement_tree.While word test body) = test_nodes test ++
+      (statement_nodes body ++ node (at word) lines_spec.Tests)
+  statement_nodes (statement_tree.DoWhile word body until test semicolon) =
+      statement_nodes body ++ (test_nodes test ++ node (at word) lines_spec.Tests)
+  statement_nodes (statement_tree.For word head body) = for_nodes head ++
+      (statement_nodes body ++ node (at word) lines_spec.Tests)
+  statement_nodes (statement_tree.Forall word head body) = forall_nodes head ++
+      (statement_nodes body ++ node (at word) lines_spec.Tests)
+  statement_nodes (statement_tree.Break word semicolon) = node (at word) lines_spec.Break
+  statement_nodes (statement_tree.Continue word semicolon) = node (at word) lines_spec.Continue
+  statement_nodes (statement_tree.Return word value semicolon) = return_nodes (at word) value
+  statement_nodes (statement_tree.Barrier kind word value semicolon) = barrier_nodes (at word) value
+  statement_nodes (statement_tree.Fence word semicolon) = []
 
   -- The nodes of a compound statement (C99 6.8.2).
   pub compound_nodes : Compound → List TreeNode
@@ -324,7 +330,7 @@ abbrev mutual
   pub switch_nodes : SwitchItems → List TreeNode
   switch_nodes NoSwitchItems = []
   switch_nodes (AndSwitchItem (CaseItem word value colon) more) =
-      nodes value ++ (node (first_place value) l.Constantly ++ switch_nodes more)
+      nodes value ++ (node (first_place value) lines_spec.Constantly ++ switch_nodes more)
   switch_nodes (AndSwitchItem (DefaultItem word colon) more) = switch_nodes more
   switch_nodes (AndSwitchItem (SwitchStatement statement) more) = statement_nodes statement ++ switch_nodes more
 
@@ -347,7 +353,7 @@ external_nodes (PragmaPart pragma) = []
 external_nodes (DeclarationPart declaration) = declaration_nodes true declaration
 external_nodes (FunctionPart specs pointers name parameters body) =
     to_their_end (specs_place specs) (specs_nodes specs) ++ (pointer_nodes pointers ++ (parameters_nodes parameters ++
-    (compound_nodes body ++ node (specs_place specs) l.Defines)))
+    (compound_nodes body ++ node (specs_place specs) lines_spec.Defines)))
 
 -- The nodes of the parts of a source (C99 6.9).
 abbrev pub externals_nodes : List External → List TreeNode
@@ -356,7 +362,7 @@ externals_nodes (x ∷ xs) = external_nodes x ++ externals_nodes xs
 
 -- All nodes of a source, of which the file itself is the last (C99 6.9).
 abbrev pub tree_nodes : List External → List TreeNode
-tree_nodes unit = externals_nodes unit ++ node (source_place unit) l.File
+tree_nodes unit = externals_nodes unit ++ node (source_place unit) lines_spec.File
 
 -- A node of a walk as an instance of its line of the grammar.
 abbrev pub node_of : Seen → TreeNode

@@ -7,9 +7,9 @@ use Rattle.upc_types.specs.ViewStructs.{view_structs}
 use Rattle.typing_rules.specs.declared.setting.Home.{Home}
 use Rattle.typed_tree.specs.ViewStatements.{view_object, view_function}
 use Rattle.upc_checker.specs.declared.limits.Sort.{Sort}
-use Rattle.upc_checker.specs.declared.limits.Sort.TheVariants as s
-use Rattle.upc_checker.specs.declared.limits.Passed as p
-use Rattle.upc_checker.specs.declared.whole.Checked as c
+use Rattle.upc_checker.specs.declared.limits.Sort.TheVariants as sort_variant
+use Rattle.upc_checker.specs.declared.limits.Passed as passed_type
+use Rattle.upc_checker.specs.declared.whole.Checked as checked
 use Rattle.upc_checker.specs.Limits.{Passed, is_private}
 use Rattle.typed_tree.specs.Programs.{Checked}
 use Rattle.typed_tree.specs.Programs.{checked_of}
@@ -17,16 +17,16 @@ use Rattle.typed_tree.specs.Objects.{is_shared}
 
 -- Whether an object of the file is of a sort: private, or shared.
 abbrev pub view_sort : Sort → Home → Bool
-view_sort s.Private home = is_private home
-view_sort s.Shared home = is_shared home
+view_sort sort_variant.Private home = is_private home
+view_sort sort_variant.Shared home = is_shared home
 
 -- The limit that is passed, or none, that the code holds.
-abbrev pub view_passed : Option p.Passed → Option Passed
+abbrev pub view_passed : Option passed_type.Passed → Option Passed
 view_passed None = None
 view_passed (Some x) = Some (record { limit = x.limit; at = x.place })
 
 -- What a source declares and defines, with types, as the code holds it.
-abbrev pub view_checked : c.Checked → Checked
+abbrev pub view_checked : checked.Checked → Checked
 view_checked x =
     checked_of x.threads (view_structs x.structs) (map view_object x.objects.items) (map view_function
     x.functions.items)

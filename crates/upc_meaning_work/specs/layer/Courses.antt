@@ -2,7 +2,7 @@
 use Rattle.std.specs.Prelude.{ℕ, suc, ℤ, false, List, [], ◌∷◌, Option, Some, None}
 use Rattle.std.specs.Borrow.{Bor}
 use Rattle.upc_values.specs.declared.action.Reply.{Reply}
-use Rattle.typed_tree.specs.declared.tree.Function as f
+use Rattle.typed_tree.specs.declared.tree.Function as function_type
 use Rattle.typed_tree.specs.Tree.{Function}
 use Rattle.typed_tree.specs.Beginnings.{Beginning}
 use Rattle.typed_tree.specs.Programs.{Checked}
@@ -18,7 +18,7 @@ use Rattle.upc_meaning_work.specs.layer.Seen.{Seen}
 use Rattle.upc_meaning_work.specs.layer.Left.{left}
 
 -- The function main, if there is one, seen without where it lies in memory.
-abbrev pub view_main : Option (Bor f.Function) → Option Function
+abbrev pub view_main : Option (Bor function_type.Function) → Option Function
 view_main None = None
 view_main (Some main) = Some (view_function main.now)
 

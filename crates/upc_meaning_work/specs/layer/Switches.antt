@@ -1,7 +1,7 @@
 -- The labels of a switch (C99 6.8.4.2).
 use Rattle.std.specs.Prelude.{ℤ, Bool, true, false, if◌then◌else◌, Option, Some, None}
 use Rattle.std.specs.Ordering.{int_eq}
-use Rattle.typed_tree.specs.declared.tree.SwitchItem as w
+use Rattle.typed_tree.specs.declared.tree.SwitchItem as switch_item
 use Rattle.typed_tree.specs.declared.tree.SwitchItem.{SwitchItem}
 use Rattle.typed_tree.specs.Tree.{SwitchItems, NoSwitchItems, AndCase, AndDefault, AndSwitchStatement}
 
@@ -27,6 +27,6 @@ selected v items = or_else (behind_label (Some v) items) (behind_label None item
 
 -- A part of a switch is the label with this value, or `default` where no value is given (C99 6.8.1).
 abbrev pub is_label : Option ℤ → SwitchItem → Bool
-is_label (Some v) (w.Case u) = int_eq v u
-is_label None w.Default = true
+is_label (Some v) (switch_item.Case u) = int_eq v u
+is_label None switch_item.Default = true
 is_label label item = false

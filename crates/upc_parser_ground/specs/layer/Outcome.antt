@@ -2,7 +2,7 @@
 use Rattle.std.specs.Prelude.{ℕ, zero, suc, Bool, false, ◌&&◌, if◌then◌else◌, List, [], ◌∷◌, length, Result, Ok, Err}
 use Rattle.upc_lexer.specs.declared.token.Token.{Token}
 use Rattle.upc_lexer.specs.declared.token.TokenKind.{TokenKind}
-use Rattle.upc_lexer.specs.declared.token.TokenKind.TheVariants as k
+use Rattle.upc_lexer.specs.declared.token.TokenKind.TheVariants as token_kind
 use Rattle.upc_lexer.specs.declared.token.Punct.{Punct}
 use Rattle.upc_lexer.specs.contracts.token.Punct as punct
 use Rattle.upc_lexer.specs.declared.token.Word.{Word}
@@ -34,12 +34,12 @@ span_of x = record { start = x.start; end = x.end; place = x.place }
 
 -- Whether a token is this mark (C99 6.4.6).
 abbrev pub is_punct : Punct → TokenKind → Bool
-is_punct mark (k.Punct other) = sameb punct.the_type other mark
+is_punct mark (token_kind.Punct other) = sameb punct.the_type other mark
 is_punct mark _ = false
 
 -- Whether a token is this word (C99 6.4.1, UPC 6.2).
 abbrev pub is_word : Word → TokenKind → Bool
-is_word w (k.Word other) = sameb word.the_type other w
+is_word w (token_kind.Word other) = sameb word.the_type other w
 is_word w _ = false
 
 -- Whether there is a first token that passes the test.
@@ -67,7 +67,7 @@ expect_word w = expect (is_word w)
 
 -- The parser of a name whose token has been taken (C99 6.4.2).
 abbrev pub name_by : TokenKind → Span → Parser Name
-name_by (k.Name number) span ts = Ok (record { number = number; span = span }, ts)
+name_by (token_kind.Name number) span ts = Ok (record { number = number; span = span }, ts)
 name_by _ span ts = Err NoTree
 
 -- The parser of a name (C99 6.4.2).
@@ -77,7 +77,7 @@ name (x ∷ ts) = name_by x.kind (span_of x) ts
 
 -- The parser of a string literal whose token has been taken (C99 6.4.5).
 abbrev pub string_by : TokenKind → Span → Parser StringLiteral
-string_by (k.Str bytes) span ts = Ok (record { bytes = bytes; span = span }, ts)
+string_by (token_kind.Str bytes) span ts = Ok (record { bytes = bytes; span = span }, ts)
 string_by _ span ts = Err NoTree
 
 -- The parser of a string literal (C99 6.4.5).

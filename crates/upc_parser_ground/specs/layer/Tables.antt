@@ -1,21 +1,21 @@
 -- What each token is to an expression or a type.
 use Rattle.std.specs.Prelude.{ℕ, Bool, true, false, not, Option, Some, None}
 use Rattle.upc_lexer.specs.declared.token.TokenKind.{TokenKind}
-use Rattle.upc_lexer.specs.declared.token.TokenKind.TheVariants as k
+use Rattle.upc_lexer.specs.declared.token.TokenKind.TheVariants as tokens
 use Rattle.upc_lexer.specs.declared.token.Punct.{Punct}
-use Rattle.upc_lexer.specs.declared.token.Punct.TheVariants as p
+use Rattle.upc_lexer.specs.declared.token.Punct.TheVariants as punct
 use Rattle.upc_lexer.specs.declared.token.Word.{Word}
-use Rattle.upc_lexer.specs.declared.token.Word.TheVariants as w
-use Rattle.upc_tree.specs.declared.mark.UnaryMark.TheVariants as u
-use Rattle.upc_tree.specs.declared.mark.PostfixMark.TheVariants as f
-use Rattle.upc_tree.specs.declared.mark.MemberMark.TheVariants as m
+use Rattle.upc_lexer.specs.declared.token.Word.TheVariants as words
+use Rattle.upc_tree.specs.declared.mark.UnaryMark.TheVariants as unary_mark
+use Rattle.upc_tree.specs.declared.mark.PostfixMark.TheVariants as postfix_mark
+use Rattle.upc_tree.specs.declared.mark.MemberMark.TheVariants as member_mark
 use Rattle.upc_tree.specs.declared.mark.BinaryMark.{BinaryMark}
-use Rattle.upc_tree.specs.declared.mark.BinaryMark.TheVariants as b
+use Rattle.upc_tree.specs.declared.mark.BinaryMark.TheVariants as binary_mark
 use Rattle.upc_tree.specs.declared.mark.AssignMark.{AssignMark}
-use Rattle.upc_tree.specs.declared.mark.AssignMark.TheVariants as a
-use Rattle.upc_tree.specs.declared.mark.SizeWord.TheVariants as s
+use Rattle.upc_tree.specs.declared.mark.AssignMark.TheVariants as assign_mark
+use Rattle.upc_tree.specs.declared.mark.SizeWord.TheVariants as size_word
 use Rattle.upc_tree.specs.declared.mark.TypeWord.{TypeWord}
-use Rattle.upc_tree.specs.declared.mark.TypeWord.TheVariants as t
+use Rattle.upc_tree.specs.declared.mark.TypeWord.TheVariants as type_word
 use Rattle.upc_tree.specs.Marks.{binary_level}
 use Rattle.upc_parser_ground.specs.declared.start.Prefix.{Prefix}
 use Rattle.upc_parser_ground.specs.declared.start.Prefix.TheVariants as prefix
@@ -30,71 +30,71 @@ use Rattle.upc_parser_ground.specs.declared.start.SpecStart.TheVariants as spec
 
 -- What an expression begins with, by its first token: an operator, a size operator, or something else (C99 6.5.3).
 abbrev pub prefix_of : TokenKind → Prefix
-prefix_of (k.Punct p.Ampersand) = prefix.Unary u.AddressOf
-prefix_of (k.Punct p.Star) = prefix.Unary u.Dereference
-prefix_of (k.Punct p.Plus) = prefix.Unary u.Plus
-prefix_of (k.Punct p.Minus) = prefix.Unary u.Minus
-prefix_of (k.Punct p.Tilde) = prefix.Unary u.Complement
-prefix_of (k.Punct p.Exclamation) = prefix.Unary u.Not
-prefix_of (k.Punct p.PlusPlus) = prefix.Unary u.Increment
-prefix_of (k.Punct p.MinusMinus) = prefix.Unary u.Decrement
-prefix_of (k.Word w.Sizeof) = prefix.Size s.Sizeof
-prefix_of (k.Word w.UpcLocalsizeof) = prefix.Size s.Localsizeof
-prefix_of (k.Word w.UpcBlocksizeof) = prefix.Size s.Blocksizeof
-prefix_of (k.Word w.UpcElemsizeof) = prefix.Size s.Elemsizeof
+prefix_of (tokens.Punct punct.Ampersand) = prefix.Unary unary_mark.AddressOf
+prefix_of (tokens.Punct punct.Star) = prefix.Unary unary_mark.Dereference
+prefix_of (tokens.Punct punct.Plus) = prefix.Unary unary_mark.Plus
+prefix_of (tokens.Punct punct.Minus) = prefix.Unary unary_mark.Minus
+prefix_of (tokens.Punct punct.Tilde) = prefix.Unary unary_mark.Complement
+prefix_of (tokens.Punct punct.Exclamation) = prefix.Unary unary_mark.Not
+prefix_of (tokens.Punct punct.PlusPlus) = prefix.Unary unary_mark.Increment
+prefix_of (tokens.Punct punct.MinusMinus) = prefix.Unary unary_mark.Decrement
+prefix_of (tokens.Word words.Sizeof) = prefix.Size size_word.Sizeof
+prefix_of (tokens.Word words.UpcLocalsizeof) = prefix.Size size_word.Localsizeof
+prefix_of (tokens.Word words.UpcBlocksizeof) = prefix.Size size_word.Blocksizeof
+prefix_of (tokens.Word words.UpcElemsizeof) = prefix.Size size_word.Elemsizeof
 prefix_of _ = prefix.Other
 
 -- What goes on with an expression directly after it, by the next token (C99 6.5.2).
 abbrev pub suffix_of : TokenKind → Option Suffix
-suffix_of (k.Punct p.LBracket) = Some suffix.Subscript
-suffix_of (k.Punct p.LParen) = Some suffix.Call
-suffix_of (k.Punct p.Dot) = Some (suffix.Member m.Dot)
-suffix_of (k.Punct p.Arrow) = Some (suffix.Member m.Arrow)
-suffix_of (k.Punct p.PlusPlus) = Some (suffix.Step f.Increment)
-suffix_of (k.Punct p.MinusMinus) = Some (suffix.Step f.Decrement)
+suffix_of (tokens.Punct punct.LBracket) = Some suffix.Subscript
+suffix_of (tokens.Punct punct.LParen) = Some suffix.Call
+suffix_of (tokens.Punct punct.Dot) = Some (suffix.Member member_mark.Dot)
+suffix_of (tokens.Punct punct.Arrow) = Some (suffix.Member member_mark.Arrow)
+suffix_of (tokens.Punct punct.PlusPlus) = Some (suffix.Step postfix_mark.Increment)
+suffix_of (tokens.Punct punct.MinusMinus) = Some (suffix.Step postfix_mark.Decrement)
 suffix_of _ = None
 
 -- The assignment operator that a mark is, where it is one (C99 6.5.16).
 abbrev pub assign_of : Punct → Option AssignMark
-assign_of p.Equal = Some a.Assign
-assign_of p.StarEqual = Some a.Multiply
-assign_of p.SlashEqual = Some a.Divide
-assign_of p.PercentEqual = Some a.Remainder
-assign_of p.PlusEqual = Some a.Add
-assign_of p.MinusEqual = Some a.Subtract
-assign_of p.ShiftLeftEqual = Some a.ShiftLeft
-assign_of p.ShiftRightEqual = Some a.ShiftRight
-assign_of p.AmpersandEqual = Some a.BitAnd
-assign_of p.CaretEqual = Some a.BitXor
-assign_of p.BarEqual = Some a.BitOr
+assign_of punct.Equal = Some assign_mark.Assign
+assign_of punct.StarEqual = Some assign_mark.Multiply
+assign_of punct.SlashEqual = Some assign_mark.Divide
+assign_of punct.PercentEqual = Some assign_mark.Remainder
+assign_of punct.PlusEqual = Some assign_mark.Add
+assign_of punct.MinusEqual = Some assign_mark.Subtract
+assign_of punct.ShiftLeftEqual = Some assign_mark.ShiftLeft
+assign_of punct.ShiftRightEqual = Some assign_mark.ShiftRight
+assign_of punct.AmpersandEqual = Some assign_mark.BitAnd
+assign_of punct.CaretEqual = Some assign_mark.BitXor
+assign_of punct.BarEqual = Some assign_mark.BitOr
 assign_of _ = None
 
 -- The operator between two operands that a mark is, where it is one (C99 6.5.5 to 6.5.14).
 abbrev pub binary_of : Punct → Option BinaryMark
-binary_of p.Star = Some b.Multiply
-binary_of p.Slash = Some b.Divide
-binary_of p.Percent = Some b.Remainder
-binary_of p.Plus = Some b.Add
-binary_of p.Minus = Some b.Subtract
-binary_of p.ShiftLeft = Some b.ShiftLeft
-binary_of p.ShiftRight = Some b.ShiftRight
-binary_of p.Less = Some b.Less
-binary_of p.Greater = Some b.Greater
-binary_of p.LessEqual = Some b.LessEqual
-binary_of p.GreaterEqual = Some b.GreaterEqual
-binary_of p.EqualEqual = Some b.Equal
-binary_of p.NotEqual = Some b.NotEqual
-binary_of p.Ampersand = Some b.BitAnd
-binary_of p.Caret = Some b.BitXor
-binary_of p.Bar = Some b.BitOr
-binary_of p.AndAnd = Some b.And
-binary_of p.OrOr = Some b.Or
+binary_of punct.Star = Some binary_mark.Multiply
+binary_of punct.Slash = Some binary_mark.Divide
+binary_of punct.Percent = Some binary_mark.Remainder
+binary_of punct.Plus = Some binary_mark.Add
+binary_of punct.Minus = Some binary_mark.Subtract
+binary_of punct.ShiftLeft = Some binary_mark.ShiftLeft
+binary_of punct.ShiftRight = Some binary_mark.ShiftRight
+binary_of punct.Less = Some binary_mark.Less
+binary_of punct.Greater = Some binary_mark.Greater
+binary_of punct.LessEqual = Some binary_mark.LessEqual
+binary_of punct.GreaterEqual = Some binary_mark.GreaterEqual
+binary_of punct.EqualEqual = Some binary_mark.Equal
+binary_of punct.NotEqual = Some binary_mark.NotEqual
+binary_of punct.Ampersand = Some binary_mark.BitAnd
+binary_of punct.Caret = Some binary_mark.BitXor
+binary_of punct.Bar = Some binary_mark.BitOr
+binary_of punct.AndAnd = Some binary_mark.And
+binary_of punct.OrOr = Some binary_mark.Or
 binary_of _ = None
 
 -- The comma or the question mark that a mark is, where it is one (C99 6.5.15, 6.5.17).
 abbrev pub other_joint : Punct → Option Joint
-other_joint p.Comma = Some joint.Comma
-other_joint p.Question = Some joint.Question
+other_joint punct.Comma = Some joint.Comma
+other_joint punct.Question = Some joint.Question
 other_joint _ = None
 
 -- An assignment operator where there is one, else an operator between two operands, else another joint.
@@ -109,7 +109,7 @@ joint_by mark = first_joint (assign_of mark) (binary_of mark) (other_joint mark)
 
 -- How a token joins an expression to a further one, where it does (C99 6.5.5 to 6.5.17).
 abbrev pub joint_of : TokenKind → Option Joint
-joint_of (k.Punct mark) = joint_by mark
+joint_of (tokens.Punct mark) = joint_by mark
 joint_of _ = None
 
 -- How tightly the expression is joined that a joint makes (C99 6.5).
@@ -128,37 +128,37 @@ left_least (joint.Binary mark) = binary_level mark
 
 -- The qualifier that a word is, where it is one (C99 6.7.3, UPC 6.5.1).
 abbrev pub qual_of : Word → Option QualWord
-qual_of w.Const = Some qual.Const
-qual_of w.Strict = Some qual.Strict
-qual_of w.Relaxed = Some qual.Relaxed
-qual_of w.Shared = Some qual.Shared
+qual_of words.Const = Some qual.Const
+qual_of words.Strict = Some qual.Strict
+qual_of words.Relaxed = Some qual.Relaxed
+qual_of words.Shared = Some qual.Shared
 qual_of _ = None
 
 -- The qualifier that a token begins, where it begins one (C99 6.7.3, UPC 6.5.1).
 abbrev pub qual_start : TokenKind → Option QualWord
-qual_start (k.Word w) = qual_of w
+qual_start (tokens.Word w) = qual_of w
 qual_start _ = None
 
 -- The specifier that a word is by itself, where it is one and no qualifier (C99 6.7.1, 6.7.2; UPC 7).
 abbrev pub type_of : Word → Option TypeWord
-type_of w.Static = Some t.Static
-type_of w.Void = Some t.Void
-type_of w.Char = Some t.Char
-type_of w.Short = Some t.Short
-type_of w.Int = Some t.Int
-type_of w.Long = Some t.Long
-type_of w.Signed = Some t.Signed
-type_of w.Unsigned = Some t.Unsigned
-type_of w.SizeT = Some t.SizeT
-type_of w.PtrdiffT = Some t.PtrdiffT
-type_of w.UpcLockT = Some t.LockT
-type_of w.UpcOpT = Some t.OpT
-type_of w.UpcFlagT = Some t.FlagT
+type_of words.Static = Some type_word.Static
+type_of words.Void = Some type_word.Void
+type_of words.Char = Some type_word.Char
+type_of words.Short = Some type_word.Short
+type_of words.Int = Some type_word.Int
+type_of words.Long = Some type_word.Long
+type_of words.Signed = Some type_word.Signed
+type_of words.Unsigned = Some type_word.Unsigned
+type_of words.SizeT = Some type_word.SizeT
+type_of words.PtrdiffT = Some type_word.PtrdiffT
+type_of words.UpcLockT = Some type_word.LockT
+type_of words.UpcOpT = Some type_word.OpT
+type_of words.UpcFlagT = Some type_word.FlagT
 type_of _ = None
 
 -- The specifier of a struct, where a word begins one (C99 6.7.2.1).
 abbrev pub struct_of : Word → Option SpecStart
-struct_of w.Struct = Some spec.Struct
+struct_of words.Struct = Some spec.Struct
 struct_of _ = None
 
 -- A specifier that is a word where there is one, else a qualifier, else another beginning.
@@ -173,7 +173,7 @@ spec_by word = first_spec (type_of word) (qual_of word) (struct_of word)
 
 -- The specifier or qualifier that a token begins, where it begins one (C99 6.7).
 abbrev pub spec_start : TokenKind → Option SpecStart
-spec_start (k.Word word) = spec_by word
+spec_start (tokens.Word word) = spec_by word
 spec_start _ = None
 
 -- Whether there is something.
@@ -188,7 +188,7 @@ is_qual kind = is_some (qual_start kind)
 -- Whether what begins a specifier or qualifier goes on with a list of them, which takes no `static` at block scope.
 abbrev pub takes_spec : Bool → Option SpecStart → Bool
 takes_spec local None = false
-takes_spec local (Some (spec.Type t.Static)) = not local
+takes_spec local (Some (spec.Type type_word.Static)) = not local
 takes_spec local (Some _) = true
 
 -- Whether a token goes on with a list of specifiers and qualifiers, which takes no `static` at block scope (C99 6.7).
@@ -197,5 +197,5 @@ is_spec local kind = takes_spec local (spec_start kind)
 
 -- Whether a token is a string literal (C99 6.4.5).
 abbrev pub is_string : TokenKind → Bool
-is_string (k.Str bytes) = true
+is_string (tokens.Str bytes) = true
 is_string _ = false

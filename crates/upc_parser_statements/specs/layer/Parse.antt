@@ -2,20 +2,29 @@
 use Rattle.std.specs.Prelude.{ℕ, zero, suc, Bool, true, false, not, if◌then◌else◌, List, [], ◌∷◌, Ok, Err}
 use Rattle.upc_lexer.specs.declared.token.Token.{Token}
 use Rattle.upc_lexer.specs.declared.token.TokenKind.{TokenKind}
-use Rattle.upc_lexer.specs.declared.token.Punct.TheVariants as p
-use Rattle.upc_lexer.specs.declared.token.Word.TheVariants as w
+use Rattle.upc_lexer.specs.declared.token.Punct.TheVariants as punct
+use Rattle.upc_lexer.specs.declared.token.Word.TheVariants as words
 use Rattle.upc_tree.specs.declared.span.Span.{Span}
 use Rattle.upc_tree.specs.declared.span.Name.{Name}
-use Rattle.upc_tree.specs.Expression as t
+use Rattle.upc_tree.specs.Expression as expressions
 use Rattle.upc_tree.specs.Expression.{Specs, Pointers, Parameters}
-use Rattle.upc_tree.specs.Statement as s
+use Rattle.upc_tree.specs.Statement as statement_tree
 use Rattle.upc_tree.specs.Statement.{Test, Statement, Compound, BlockItem, BlockItems, SwitchItem, SwitchItems}
 use Rattle.upc_tree.specs.Statement.{ElseIfs, Otherwise}
-use Rattle.upc_tree.specs.Unit as q
+use Rattle.upc_tree.specs.Unit as units
 use Rattle.upc_tree.specs.Unit.{External}
 use Rattle.upc_tree.specs.layer.Lists.{block_items_of, switch_items_of, else_ifs_of}
 use Rattle.upc_parser_ground.specs.declared.cursor.Fault.TheVariants.{NoTree, TooHigh}
-use Rattle.upc_parser_ground.specs.layer.Outcome.{Parser, ◌>>=◌, span_of, is_punct, is_word, starts, starts_two, expect_punct}
+use Rattle.upc_parser_ground.specs.layer.Outcome.{
+  Parser,
+  ◌>>=◌,
+  span_of,
+  is_punct,
+  is_word,
+  starts,
+  starts_two,
+  expect_punct,
+}
 use Rattle.upc_parser_ground.specs.layer.Outcome.{expect_word, name, all, listed}
 use Rattle.upc_parser_ground.specs.layer.Tables.{is_spec}
 use Rattle.upc_parser_ground.specs.layer.Ahead.{is_pragma, is_any}
@@ -23,19 +32,44 @@ use Rattle.upc_parser_types.specs.layer.Expression.{at_height, specs, pointers, 
 use Rattle.upc_parser_statements.specs.declared.start.StatementStart.{StatementStart}
 use Rattle.upc_parser_statements.specs.declared.start.StatementStart.TheVariants as start
 use Rattle.upc_parser_statements.specs.layer.Tables.{statement_start}
-unfoldable pub use Rattle.upc_parser_declarations.specs.layer.Parse.{value_initial, list_initial, initial, declared, next_declared}
-unfoldable pub use Rattle.upc_parser_declarations.specs.layer.Parse.{next_declareds, some_declared, declaration, declaration_at}
+unfoldable pub use Rattle.upc_parser_declarations.specs.layer.Parse.{
+  value_initial,
+  list_initial,
+  initial,
+  declared,
+  next_declared,
+}
+unfoldable pub use Rattle.upc_parser_declarations.specs.layer.Parse.{
+  next_declareds,
+  some_declared,
+  declaration,
+  declaration_at,
+}
 unfoldable pub use Rattle.upc_parser_declarations.specs.layer.Parse.{continue_affinity, value, controlling, first_value}
-unfoldable pub use Rattle.upc_parser_declarations.specs.layer.Parse.{first_declaration, value_affinity, for_head, forall_head}
-unfoldable pub use Rattle.upc_parser_declarations.specs.layer.Parse.{pragmas, declaration_item, case_item, value_statement}
+unfoldable pub use Rattle.upc_parser_declarations.specs.layer.Parse.{
+  first_declaration,
+  value_affinity,
+  for_head,
+  forall_head,
+}
+unfoldable pub use Rattle.upc_parser_declarations.specs.layer.Parse.{
+  pragmas,
+  declaration_item,
+  case_item,
+  value_statement,
+}
 unfoldable pub use Rattle.upc_parser_declarations.specs.layer.Parse.{return_statement, barrier_statement, default_item}
-unfoldable pub use Rattle.upc_parser_declarations.specs.layer.Parse.{break_statement, continue_statement, fence_statement}
+unfoldable pub use Rattle.upc_parser_declarations.specs.layer.Parse.{
+  break_statement,
+  continue_statement,
+  fence_statement,
+}
 unfoldable pub use Rattle.upc_parser_declarations.specs.layer.Parse.{none_declared, behind_declarator, pragma_part}
 pub use Rattle.upc_parser_declarations.specs.layer.Parse.{declared_list, first, affinity, pragma_by, pragma}
 
 -- Whether a token is any but a closing brace.
 abbrev pub no_brace : TokenKind → Bool
-no_brace kind = not (is_punct p.RBrace kind)
+no_brace kind = not (is_punct punct.RBrace kind)
 
 -- ---- the parsers of statements one level down
 
@@ -63,7 +97,7 @@ module _ (n : ℕ) (below : Statements) where
 
   -- The parser of a statement of a block (C99 6.8.2).
   unfoldable pub statement_item : Parser BlockItem
-  statement_item ts = below.statement ts >>= λ x. Ok (s.StatementItem x.0, x.1)
+  statement_item ts = below.statement ts >>= λ x. Ok (statement_tree.StatementItem x.0, x.1)
 
   -- The parser of a declaration or a statement of a block (C99 6.8.2).
   abbrev pub item : Parser BlockItem
@@ -75,13 +109,13 @@ module _ (n : ℕ) (below : Statements) where
 
   -- The parser of a statement of a `switch` (C99 6.8.4.2).
   unfoldable pub switch_statement : Parser SwitchItem
-  switch_statement ts = below.statement ts >>= λ x. Ok (s.SwitchStatement x.0, x.1)
+  switch_statement ts = below.statement ts >>= λ x. Ok (statement_tree.SwitchStatement x.0, x.1)
 
   -- The parser of a label or a statement of a `switch` (C99 6.8.1, 6.8.4.2).
   abbrev pub switch_item : Parser SwitchItem
   switch_item ts =
-      if starts (is_word w.Case) ts then case_item n ts
-      else if starts (is_word w.Default) ts then default_item ts
+      if starts (is_word words.Case) ts then case_item n ts
+      else if starts (is_word words.Default) ts then default_item ts
       else switch_statement ts
 
   -- The parser of the labels and statements of a `switch` (C99 6.8.1, 6.8.4.2).
@@ -93,35 +127,35 @@ module _ (n : ℕ) (below : Statements) where
   -- The parser of a compound statement with its pragmas (C99 6.8.2, UPC 6.7).
   unfoldable pub compound : Parser Compound
   compound ts = do
-    o ← expect_punct p.LBrace ts
+    o ← expect_punct punct.LBrace ts
     g ← pragmas o.1
     b ← below.items g.1
-    c ← expect_punct p.RBrace b.1
-    Ok (s.Braces o.0 g.0 b.0 c.0, c.1)
+    c ← expect_punct punct.RBrace b.1
+    Ok (statement_tree.Braces o.0 g.0 b.0 c.0, c.1)
 
   -- The parser of a further arm of an `if` (C99 6.8.4.1).
   unfoldable pub else_if : Parser (Span × Span × Test × Statement)
   else_if ts = do
-    e ← expect_word w.Else ts
-    a ← expect_word w.If e.1
+    e ← expect_word words.Else ts
+    a ← expect_word words.If e.1
     h ← controlling n a.1
     b ← below.statement h.1
     Ok ((e.0, a.0, h.0, b.0), b.1)
 
   -- The parser of the further arms of an `if` (C99 6.8.4.1).
   unfoldable pub else_ifs : Parser ElseIfs
-  else_ifs ts = listed else_ifs_of (starts_two (is_word w.Else) (is_word w.If)) else_if ts
+  else_ifs ts = listed else_ifs_of (starts_two (is_word words.Else) (is_word words.If)) else_if ts
 
   -- The parser of the last arm of an `if`, from its `else` on (C99 6.8.4.1).
   unfoldable pub else_part : Parser Otherwise
   else_part ts = do
-    e ← expect_word w.Else ts
+    e ← expect_word words.Else ts
     b ← below.statement e.1
-    Ok (s.Else e.0 b.0, b.1)
+    Ok (statement_tree.Else e.0 b.0, b.1)
 
   -- The parser of the last arm of an `if`, which may be absent (C99 6.8.4.1).
   abbrev pub otherwise : Parser Otherwise
-  otherwise ts = if starts (is_word w.Else) ts then else_part ts else Ok (s.NoOtherwise, ts)
+  otherwise ts = if starts (is_word words.Else) ts then else_part ts else Ok (statement_tree.NoOtherwise, ts)
 
   -- The parser of an `if`, after its word (C99 6.8.4.1).
   unfoldable pub if_statement : Span → Parser Statement
@@ -130,50 +164,50 @@ module _ (n : ℕ) (below : Statements) where
     b ← below.statement h.1
     m ← else_ifs b.1
     o ← otherwise m.1
-    Ok (s.If at h.0 b.0 m.0 o.0, o.1)
+    Ok (statement_tree.If at h.0 b.0 m.0 o.0, o.1)
 
   -- The parser of a `switch`, after its word (C99 6.8.4.2).
   unfoldable pub switch : Span → Parser Statement
   switch at ts = do
     h ← controlling n ts
-    o ← expect_punct p.LBrace h.1
+    o ← expect_punct punct.LBrace h.1
     b ← below.switch_items o.1
-    c ← expect_punct p.RBrace b.1
-    Ok (s.Switch at h.0 o.0 b.0 c.0, c.1)
+    c ← expect_punct punct.RBrace b.1
+    Ok (statement_tree.Switch at h.0 o.0 b.0 c.0, c.1)
 
   -- The parser of a `while`, after its word (C99 6.8.5.1).
   unfoldable pub while_statement : Span → Parser Statement
   while_statement at ts = do
     h ← controlling n ts
     b ← below.statement h.1
-    Ok (s.While at h.0 b.0, b.1)
+    Ok (statement_tree.While at h.0 b.0, b.1)
 
   -- The parser of a `do`, after its word (C99 6.8.5.2).
   unfoldable pub do_statement : Span → Parser Statement
   do_statement at ts = do
     b ← below.statement ts
-    u ← expect_word w.While b.1
+    u ← expect_word words.While b.1
     h ← controlling n u.1
-    c ← expect_punct p.Semicolon h.1
-    Ok (s.DoWhile at b.0 u.0 h.0 c.0, c.1)
+    c ← expect_punct punct.Semicolon h.1
+    Ok (statement_tree.DoWhile at b.0 u.0 h.0 c.0, c.1)
 
   -- The parser of a `for`, after its word (C99 6.8.5.3).
   unfoldable pub for_statement : Span → Parser Statement
   for_statement at ts = do
     h ← for_head n ts
     b ← below.statement h.1
-    Ok (s.For at h.0 b.0, b.1)
+    Ok (statement_tree.For at h.0 b.0, b.1)
 
   -- The parser of a `upc_forall`, after its word (UPC 6.6.2).
   unfoldable pub forall_statement : Span → Parser Statement
   forall_statement at ts = do
     h ← forall_head n ts
     b ← below.statement h.1
-    Ok (s.Forall at h.0 b.0, b.1)
+    Ok (statement_tree.Forall at h.0 b.0, b.1)
 
   -- The parser of a compound statement as a statement (C99 6.8.2).
   unfoldable pub block : Parser Statement
-  block ts = compound ts >>= λ c. Ok (s.Block c.0, c.1)
+  block ts = compound ts >>= λ c. Ok (statement_tree.Block c.0, c.1)
 
   -- The parser of a statement that begins with a word, after this word (C99 6.8, UPC 6.6).
   abbrev pub statement_from : StatementStart → Span → Parser Statement
@@ -216,20 +250,20 @@ statements_at (suc n) = level_above n (statements_at n)
 module _ (n : ℕ) where
   -- The parser of the body of a function, after its parameters (C99 6.9.1).
   unfoldable pub function_body : Specs → Pointers → Name → Parameters → Parser External
-  function_body s stars x r ts = (statements_at n).compound ts >>= λ b. Ok (q.FunctionPart s stars x r b.0, b.1)
+  function_body s stars x r ts = (statements_at n).compound ts >>= λ b. Ok (units.FunctionPart s stars x r b.0, b.1)
 
   -- The parser of a definition or a declaration of a function, after its parameters (C99 6.7, 6.9.1).
   abbrev pub behind_parameters : Specs → Pointers → Name → Parameters → Parser External
   behind_parameters s stars x r ts =
-      if starts (is_punct p.LBrace) ts then function_body s stars x r ts
-      else behind_declarator n s (t.FunctionDeclarator stars x r) ts
+      if starts (is_punct punct.LBrace) ts then function_body s stars x r ts
+      else behind_declarator n s (expressions.FunctionDeclarator stars x r) ts
 
   -- The parser of a declaration or a definition of a function, after the name in its first declarator (C99 6.7, 6.9.1).
   unfoldable pub behind_name : Specs → Pointers → Name → Parser External
   behind_name s stars x ts =
-      if starts (is_punct p.LParen) ts
+      if starts (is_punct punct.LParen) ts
       then (parameters (at_height n) ts >>= λ r. behind_parameters s stars x r.0 r.1)
-      else (dimensions (at_height n) ts >>= λ m. behind_declarator n s (t.ObjectDeclarator stars x m.0) m.1)
+      else (dimensions (at_height n) ts >>= λ m. behind_declarator n s (expressions.ObjectDeclarator stars x m.0) m.1)
 
   -- The parser of a declaration or a definition of a function, after its specifiers (C99 6.7, 6.9.1).
   unfoldable pub behind_specs : Specs → Parser External
@@ -241,7 +275,7 @@ module _ (n : ℕ) where
   -- The parser of a declaration of the file or a definition of a function (C99 6.9).
   unfoldable pub declaration_or_function : Parser External
   declaration_or_function ts =
-      specs (at_height n) false ts >>= λ s. if starts (is_punct p.Semicolon) s.1 then none_declared s.0 s.1
+      specs (at_height n) false ts >>= λ s. if starts (is_punct punct.Semicolon) s.1 then none_declared s.0 s.1
       else behind_specs s.0 s.1
 
 -- The parser of a declaration of the file or a definition of a function of at most this height (C99 6.9).

@@ -2,7 +2,7 @@
 use Rattle.std.specs.Prelude.{ℕ, max, min, List, [], ◌∷◌}
 use Rattle.upc_lexer.specs.declared.token.Token.{Token}
 use Rattle.upc_tree.specs.declared.span.Span.{Span}
-use Rattle.upc_lexer.specs.declared.token.Punct.TheVariants as p
+use Rattle.upc_lexer.specs.declared.token.Punct.TheVariants as puncts
 use Rattle.upc_tree.specs.Tokens.{punct}
 use Rattle.upc_tree.specs.Expression.{spell_specs, spell_declarator, spell_next_declarators, height_specs}
 use Rattle.upc_tree.specs.Expression.{height_declarator, height_next_declarators, Expr, NextExprs, NoNextExprs}
@@ -87,7 +87,8 @@ else_ifs_of (x ∷ xs) = AndElseIf x.0 x.1 x.2 x.3 (else_ifs_of xs)
 
 -- The tokens of one declaration of members, and what follows them (C99 6.7.2.1).
 abbrev pub spell_member : Specs × Declarator × NextDeclarators × Span → List Token → List Token
-spell_member x rest = spell_specs x.0 (spell_declarator x.1 (spell_next_declarators x.2 (punct p.Semicolon x.3 ∷ rest)))
+spell_member x rest = spell_specs x.0 (spell_declarator x.1 (spell_next_declarators x.2
+    (punct puncts.Semicolon x.3 ∷ rest)))
 
 -- The greatest height of a part of one declaration of members.
 abbrev pub height_member : Specs × Declarator × NextDeclarators × Span → ℕ

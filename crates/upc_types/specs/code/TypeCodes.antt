@@ -6,9 +6,9 @@ use Rattle.std.specs.Hash as fed
 use Rattle.std.specs.Hash.DefaultHasher as sip
 use Rattle.std.specs.declared.hash.DefaultHasher.{DefaultHasher}
 use Rattle.block_layout.specs.declared.kind.Kind.{Kind}
-use Rattle.block_layout.specs.declared.kind.Kind.TheVariants as k
+use Rattle.block_layout.specs.declared.kind.Kind.TheVariants as kinds
 use Rattle.upc_types.specs.declared.ctype.Access.{Access}
-use Rattle.upc_types.specs.declared.ctype.Access.TheVariants as a
+use Rattle.upc_types.specs.declared.ctype.Access.TheVariants as accesses
 use Rattle.upc_types.specs.Types.{CType, Qualified, Base, Void, Integer, Struct, Array, Pointer, LockObject}
 
 -- The state of the hash function after one more number.
@@ -17,20 +17,20 @@ written s n = fold sip.write s (fed.u64 n)
 
 -- The number that stands for strict, relaxed or neither in the code of a type.
 abbrev pub access_number : Access → ℕ
-access_number a.Unsaid = 0
-access_number a.Strict = 1
-access_number a.Relaxed = 2
+access_number accesses.Unsaid = 0
+access_number accesses.Strict = 1
+access_number accesses.Relaxed = 2
 
 -- The number that stands for an integer kind in the code of a type, 0 for another kind.
 abbrev pub kind_number : Kind → ℕ
-kind_number k.Char = 1
-kind_number k.UChar = 2
-kind_number k.Short = 3
-kind_number k.UShort = 4
-kind_number k.Int = 5
-kind_number k.UInt = 6
-kind_number k.Long = 7
-kind_number k.ULong = 8
+kind_number kinds.Char = 1
+kind_number kinds.UChar = 2
+kind_number kinds.Short = 3
+kind_number kinds.UShort = 4
+kind_number kinds.Int = 5
+kind_number kinds.UInt = 6
+kind_number kinds.Long = 7
+kind_number kinds.ULong = 8
 kind_number kind = 0
 
 -- The state of the hash function after the block size of a type, or after the mark of one that is not shared.
