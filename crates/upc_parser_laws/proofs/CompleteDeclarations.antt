@@ -25,8 +25,8 @@ use Rattle.upc_parser_laws.proofs.Stops.{Stops, stops_joint, stops_open, begins,
 use Rattle.upc_parser_laws.proofs.CompleteTypes.{Named, stops_next, specs_reads, declarator_reads, next_exprs_reads}
 use Rattle.upc_parser_laws.proofs.CompleteExpressions.{reads}
 use Rattle.upc_parser_statements.specs.layer.Parse.{value_initial, list_initial, initial, declared, next_declared, next_declareds, some_declared, declared_list, declaration, declaration_at, value, controlling, first, first_value, first_declaration, affinity, continue_affinity, value_affinity, for_head, forall_head, pragma, pragmas}
-use Rattle.upc_parser_laws.proofs.Listings.{spell_next_declared, height_next_declared, GoodNextDeclared, next_declareds_back, next_declareds_kind}
-use Rattle.upc_parser_laws.proofs.Low.{long_declared}
+use Rattle.upc_parser_laws.proofs.StatementListings.{spell_next_declared, height_next_declared, GoodNextDeclared, next_declareds_back, next_declareds_kind}
+use Rattle.upc_parser_laws.proofs.StatementLow.{long_declared}
 use Rattle.upc_parser_laws.proofs.Begins.{local_begins}
 
 -- ---- what follows a part of a declaration: a comma or a semicolon

@@ -15,8 +15,8 @@ use Rattle.upc_parser_ground.proofs.Lists.{Follows, listed_reads}
 use Rattle.upc_parser_laws.proofs.Stops.{begins, expr_begins}
 use Rattle.upc_parser_laws.proofs.CompleteExpressions.{reads}
 use Rattle.upc_parser_statements.specs.layer.Parse.{declaration_item, case_item, default_item, value_statement, return_statement, barrier_statement, break_statement, continue_statement, fence_statement, Statements, statement_item, item, items, switch_statement, switch_item, switch_items, compound, else_if, else_ifs, else_part, otherwise, if_statement, switch, while_statement, do_statement, for_statement, forall_statement, block, statement, level_above, statements_at, no_brace}
-use Rattle.upc_parser_laws.proofs.Listings.{spell_else_if, height_else_if, GoodElseIf, GoodElseIfs, block_items_back, block_items_kind, switch_items_back, switch_items_kind, else_ifs_back, else_ifs_kind}
-use Rattle.upc_parser_laws.proofs.Low.{long_block_item, long_switch_item, long_else_if}
+use Rattle.upc_parser_laws.proofs.StatementListings.{spell_else_if, height_else_if, GoodElseIf, GoodElseIfs, block_items_back, block_items_kind, switch_items_back, switch_items_kind, else_ifs_back, else_ifs_kind}
+use Rattle.upc_parser_laws.proofs.StatementLow.{long_block_item, long_switch_item, long_else_if}
 use Rattle.upc_parser_laws.proofs.Begins.{barrier_back, begins_value, statement_no_spec, statement_no_case, statement_no_default, local_begins, item_inside, item_no_else, items_no_pragma, switch_item_inside, switch_item_no_else, StopsElse, stops_else, keeps_stops, begins_if}
 use Rattle.upc_parser_laws.proofs.CompleteDeclarations.{declaration_reads, value_reads, test_reads, for_reads, forall_reads, pragmas_reads}
 

@@ -21,8 +21,8 @@ use Rattle.upc_parser_laws.proofs.CompleteTypes.{Freely, specs_reads, pointers_r
 use Rattle.upc_parser_laws.proofs.CompleteExpressions.{reads}
 use Rattle.upc_parser_statements.specs.layer.Parse as parse
 use Rattle.upc_parser_statements.specs.layer.Parse.{none_declared, function_body, behind_name, behind_specs, declaration_or_function, node_at, pragma_part, external_at, all_externals, externals_at, unit_at}
-use Rattle.upc_parser_laws.proofs.Listings.{externals_spelled, externals_highs, externals_goods}
-use Rattle.upc_parser_laws.proofs.Low.{long_external}
+use Rattle.upc_parser_laws.proofs.StatementListings.{externals_spelled, externals_highs, externals_goods}
+use Rattle.upc_parser_laws.proofs.StatementLow.{long_external}
 use Rattle.upc_parser_laws.proofs.Begins.{specs_no_pragma}
 use Rattle.upc_parser_laws.proofs.CompleteDeclarations.{parted_next, named_initial, initial_no_brace, declarator_no_semicolon, initial_reads, next_declareds_reads}
 use Rattle.upc_parser_laws.proofs.CompleteStatements.{reads_statements}

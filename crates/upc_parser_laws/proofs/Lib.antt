@@ -5,6 +5,8 @@ pub mod Low
 pub mod SoundExpressions
 pub mod SoundTypes
 pub mod Stops
+pub mod StatementListings
+pub mod StatementLow
 pub mod Begins
 pub mod CompleteDeclarations
 pub mod CompleteStatements

@@ -23,7 +23,7 @@ use Rattle.upc_parser_laws.proofs.CompleteTypes.{Freely}
 use Rattle.upc_parser_laws.proofs.SoundTypes.{next_exprs_finds, declarator_finds, specs_finds}
 use Rattle.upc_parser_laws.proofs.SoundExpressions.{finds}
 use Rattle.upc_parser_statements.specs.layer.Parse.{value_initial, list_initial, initial, declared, next_declared, next_declareds, some_declared, declared_list, declaration, declaration_at, value, controlling, first, first_value, first_declaration, affinity, continue_affinity, value_affinity, for_head, forall_head, pragma, pragma_by, pragmas}
-use Rattle.upc_parser_laws.proofs.Listings.{spell_next_declared, height_next_declared, GoodNextDeclared, next_declareds_kind}
+use Rattle.upc_parser_laws.proofs.StatementListings.{spell_next_declared, height_next_declared, GoodNextDeclared, next_declareds_kind}
 
 abbrev pub GoodLocal : Declaration → Type 0
 GoodLocal u = IsLocal u × ProperDeclaration u

@@ -23,8 +23,8 @@ use Rattle.upc_parser_statements.specs.declared.start.StatementStart.{StatementS
 use Rattle.upc_parser_statements.specs.declared.start.StatementStart.TheVariants as start
 use Rattle.upc_parser_statements.specs.layer.Tables.{statement_start}
 use Rattle.upc_parser_statements.specs.layer.Parse.{declaration_at, value, controlling, for_head, forall_head, pragmas, declaration_item, case_item, default_item, value_statement, return_statement, barrier_statement, break_statement, continue_statement, fence_statement, Statements, statement_item, item, items, switch_statement, switch_item, switch_items, compound, else_if, else_ifs, else_part, otherwise, if_statement, switch, while_statement, do_statement, for_statement, forall_statement, block, statement_by, statement, level_above, statements_at, no_brace}
-use Rattle.upc_parser_laws.proofs.Listings.{spell_else_if, height_else_if, GoodElseIf, GoodElseIfs, block_items_kind, switch_items_kind, else_ifs_kind, else_ifs_spelled}
-use Rattle.upc_parser_laws.proofs.Low.{long_else_if}
+use Rattle.upc_parser_laws.proofs.StatementListings.{spell_else_if, height_else_if, GoodElseIf, GoodElseIfs, block_items_kind, switch_items_kind, else_ifs_kind, else_ifs_spelled}
+use Rattle.upc_parser_laws.proofs.StatementLow.{long_else_if}
 use Rattle.upc_parser_laws.proofs.Begins.{StopsElse, stops_keeps, begins_if}
 use Rattle.upc_parser_laws.proofs.CompleteStatements.{FollowElseIf}
 use Rattle.upc_parser_laws.proofs.SoundDeclarations.{declaration_finds, value_finds, test_finds, for_finds, forall_finds, pragmas_finds}
