@@ -95,7 +95,8 @@ pub fn copy(a: &Attr) -> Result<Attr, OutOfMemory>
 /// `++`, `--`, an assignment or a comma expression, from the operand whose type it has.
 pub fn value_of(a: &Attr) -> Result<Attr, OutOfMemory>
     ensures step { IfOk result (λ x. (φ : Facts) → view_attr x ≡ attr φ (nodes.Step (view_attr a.now))) }
-    ensures assign { IfOk result (λ x. (φ : Facts) (b : nodes.Attr) → view_attr x ≡ attr φ (nodes.Assign (view_attr a.now) b)) }
+    ensures assign { IfOk result (λ x. (φ : Facts) (b : nodes.Attr)
+        → view_attr x ≡ attr φ (nodes.Assign (view_attr a.now) b)) }
     ensures comma { IfOk result (λ x. (φ : Facts) → view_attr x ≡ attr φ (nodes.Comma (view_attr a.now))) }
 {
     Ok(value(value_type(&a.ctype)?))

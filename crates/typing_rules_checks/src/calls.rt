@@ -62,7 +62,8 @@ fn is_allocated_at(structs: &Structs, how: Use<'_>) -> bool
 
 /// Whether an allocation is converted into a pointer to shared elements.
 pub fn allocates_well(structs: &Structs, how: Use<'_>, meaning: Meaning<'_>) -> bool
-    ensures { result ≡ rules.allocates_well (view_structs structs.now) (view_use how.entry) (view_meaning meaning.entry) }
+    ensures { result ≡ rules.allocates_well (view_structs structs.now) (view_use how.entry)
+        (view_meaning meaning.entry) }
 {
     match meaning {
         Meaning::Library(call) => !is_allocation(call) || is_allocated_at(structs, how),

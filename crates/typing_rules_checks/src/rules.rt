@@ -152,7 +152,8 @@ pub(crate) fn has_no_size(structs: &Structs, op: SizeOperator, t: &CType) -> boo
 /// A size operator on an expression.
 pub fn size_of(structs: &Structs, op: SizeOperator, a: &Attr) -> Option<u8>
     ensures { (threads : ℕ) → result
-        ≡ lowest (record { structs = view_structs structs.now; threads = threads }) (nodes.SizeOf op (view_attr a.now)) }
+        ≡ lowest (record { structs = view_structs structs.now; threads = threads })
+        (nodes.SizeOf op (view_attr a.now)) }
 {
     if has_no_size(structs, op, &a.ctype) {
         Some(21)
@@ -343,7 +344,8 @@ fn chooses(a: &Attr, b: &Attr) -> bool
 
 /// `test ? a : b`.
 pub fn conditional(test: &Attr, a: &Attr, b: &Attr) -> Option<u8>
-    ensures { (φ : Facts) → result ≡ lowest φ (nodes.Conditional (view_attr test.now) (view_attr a.now) (view_attr b.now)) }
+    ensures { (φ : Facts) → result
+        ≡ lowest φ (nodes.Conditional (view_attr test.now) (view_attr a.now) (view_attr b.now)) }
 {
     if is_scalar(test) && chooses(a, b) {
         None

@@ -300,7 +300,8 @@ pub fn conditional(
     b: Box<Expr>,
 ) -> Result<Box<Expr>, OutOfMemory>
     ensures { IfOk result (λ e. view_expr e.value
-        ≡ Is place (view_attr attr) (typed.Conditional (view_expr test.value) (view_expr a.value) (view_expr b.value))) }
+        ≡ Is place (view_attr attr)
+        (typed.Conditional (view_expr test.value) (view_expr a.value) (view_expr b.value))) }
 {
     node(alloc, place, attr, ExprKind::Conditional(test, a, b))
 }

@@ -123,7 +123,8 @@ fn format_fits(format: Option<&[u8]>, args: &[Expr]) -> bool
 }
 
 fn printf_fits(meaning: Meaning<'_>, format: Option<&[u8]>, args: &[Expr]) -> bool
-    ensures { result ≡ rules.printf_fits (view_meaning meaning.entry) (view_text format.entry) (map attr_seen args.now) }
+    ensures { result ≡ rules.printf_fits (view_meaning meaning.entry) (view_text format.entry)
+        (map attr_seen args.now) }
 {
     match meaning {
         Meaning::Library(call) => !is_printf(call) || format_fits(format, args),

@@ -88,7 +88,8 @@ pub fn subscript(
     index: Box<Expr>,
     right: Span,
 ) -> Result<Box<Expr>, OutOfMemory>
-    ensures { IfOk result (λ made. view made.value ≡ expressions.Subscript (view base.value) left (view index.value) right) }
+    ensures { IfOk result (λ made. view made.value
+        ≡ expressions.Subscript (view base.value) left (view index.value) right) }
 {
     boxed(
         alloc,
@@ -108,7 +109,8 @@ pub fn call(
     left: Span,
     arguments: Box<Arguments>,
 ) -> Result<Box<Expr>, OutOfMemory>
-    ensures { IfOk result (λ made. view made.value ≡ expressions.Call (view callee.value) left (view_arguments arguments.value)) }
+    ensures { IfOk result (λ made. view made.value
+        ≡ expressions.Call (view callee.value) left (view_arguments arguments.value)) }
 {
     boxed(
         alloc,
@@ -186,7 +188,8 @@ pub fn size_of_type(
     operand: Box<TypeName>,
     right: Span,
 ) -> Result<Box<Expr>, OutOfMemory>
-    ensures { IfOk result (λ made. view made.value ≡ expressions.SizeOfType word at left (view_type operand.value) right) }
+    ensures { IfOk result (λ made. view made.value
+        ≡ expressions.SizeOfType word at left (view_type operand.value) right) }
 {
     boxed(
         alloc,
@@ -208,7 +211,8 @@ pub fn cast(
     right: Span,
     operand: Box<Expr>,
 ) -> Result<Box<Expr>, OutOfMemory>
-    ensures { IfOk result (λ made. view made.value ≡ expressions.Cast left (view_type target.value) right (view operand.value)) }
+    ensures { IfOk result (λ made. view made.value
+        ≡ expressions.Cast left (view_type target.value) right (view operand.value)) }
 {
     boxed(
         alloc,

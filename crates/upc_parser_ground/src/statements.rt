@@ -4,8 +4,10 @@ ghost use Rattle.std.specs.Prelude.{◌≡◌, IfOk};
 ghost use Rattle.upc_tree.specs.Declaration as declarations;
 ghost use Rattle.upc_tree.specs.Statement as statement_tree;
 ghost use Rattle.upc_tree.specs.layer.View.{view_declarator, view_specs};
-ghost use Rattle.upc_tree.specs.layer.ViewStatement.{view_initial, view_declared, view_next_declareds, view_declared_list};
-ghost use Rattle.upc_tree.specs.layer.ViewStatement.{view_declaration, view_statement, view_compound, view_test, view_for};
+ghost use Rattle.upc_tree.specs.layer.ViewStatement.{view_initial, view_declared};
+ghost use Rattle.upc_tree.specs.layer.ViewStatement.{view_next_declareds, view_declared_list};
+ghost use Rattle.upc_tree.specs.layer.ViewStatement.{view_declaration, view_statement};
+ghost use Rattle.upc_tree.specs.layer.ViewStatement.{view_compound, view_test, view_for};
 ghost use Rattle.upc_tree.specs.layer.ViewStatement.{view_forall, view_switch_items, view_else_ifs, view_otherwise};
 
 use crate::boxes::boxed;

@@ -10,10 +10,12 @@ ghost use Rattle.upc_tree.specs.Expression.{spell_spec, spell_quals, spell_qual,
 ghost use Rattle.upc_tree.specs.Expression.{spell_dimensions, spell_members, spell_next_declarators};
 ghost use Rattle.upc_tree.specs.Expression.{spell_declarator, spell_parameters, spell_parameter};
 ghost use Rattle.upc_tree.specs.Expression.{spell_next_parameters, spell_array, spell_name};
-ghost use Rattle.upc_tree.specs.layer.Lists.{spell_member, next_exprs_of, specs_of, quals_of, pointers_of, dimensions_of};
+ghost use Rattle.upc_tree.specs.layer.Lists.{spell_member, next_exprs_of, specs_of};
+ghost use Rattle.upc_tree.specs.layer.Lists.{quals_of, pointers_of, dimensions_of};
 ghost use Rattle.upc_tree.specs.layer.Lists.{members_of, next_declarators_of, next_parameters_of};
 ghost use Rattle.upc_tree.specs.layer.View.{view, view_arguments, view_next_expr, view_type, view_spec, view_qual};
-ghost use Rattle.upc_tree.specs.layer.View.{view_layout, view_pointer, view_dimension, view_member, view_next_declarator};
+ghost use Rattle.upc_tree.specs.layer.View.{view_layout, view_pointer};
+ghost use Rattle.upc_tree.specs.layer.View.{view_dimension, view_member, view_next_declarator};
 ghost use Rattle.upc_tree.specs.layer.View.{view_declarator, view_parameters, view_parameter, view_next_parameter};
 ghost use Rattle.upc_tree.specs.layer.View.{view_array};
 
@@ -294,7 +296,8 @@ fn put_sized(out: &mut Backwards, size: Word, at: Span, e: &Expr) -> Result<(), 
 // An expression in parentheses.
 #[cycle(put)]
 fn put_paren(out: &mut Backwards, left: Span, e: &Expr, right: Span) -> Result<(), OutOfMemory>
-    ensures { OnOk result (out.new ≡ punct puncts.LParen left ∷ spell (view e.now) (punct puncts.RParen right ∷ out.old)) }
+    ensures { OnOk result (out.new ≡ punct puncts.LParen left ∷ spell (view e.now)
+        (punct puncts.RParen right ∷ out.old)) }
 {
     out.put_punct(Punct::RParen, right)?;
     put_prefixed(out, Punct::LParen, left, e)

@@ -13,9 +13,12 @@ ghost use Rattle.upc_tree.specs.Statement.{spell_block_item, spell_switch_items,
 ghost use Rattle.upc_tree.specs.Statement.{spell_otherwise};
 ghost use Rattle.upc_tree.specs.Unit.{spell_external, spell_externals, tokens_of};
 ghost use Rattle.upc_tree.specs.layer.Lists.{next_declareds_of, block_items_of, switch_items_of, else_ifs_of};
-ghost use Rattle.upc_tree.specs.layer.ViewStatement.{view_initial, view_declared, view_next_declared, view_declared_list};
-ghost use Rattle.upc_tree.specs.layer.ViewStatement.{view_declaration, view_value, view_test, view_first, view_affinity};
-ghost use Rattle.upc_tree.specs.layer.ViewStatement.{view_for, view_forall, view_statement, view_compound, view_block_item};
+ghost use Rattle.upc_tree.specs.layer.ViewStatement.{view_initial, view_declared};
+ghost use Rattle.upc_tree.specs.layer.ViewStatement.{view_next_declared, view_declared_list};
+ghost use Rattle.upc_tree.specs.layer.ViewStatement.{view_declaration, view_value};
+ghost use Rattle.upc_tree.specs.layer.ViewStatement.{view_test, view_first, view_affinity};
+ghost use Rattle.upc_tree.specs.layer.ViewStatement.{view_for, view_forall};
+ghost use Rattle.upc_tree.specs.layer.ViewStatement.{view_statement, view_compound, view_block_item};
 ghost use Rattle.upc_tree.specs.layer.ViewStatement.{view_switch_item, view_else_if, view_otherwise, view_function};
 ghost use Rattle.upc_tree.specs.layer.ViewStatement.{view_external, view_unit};
 
@@ -340,7 +343,8 @@ fn put_for_statement(
     head: &ForHead,
     body: &Statement,
 ) -> Result<(), OutOfMemory>
-    ensures { OnOk result (out.new ≡ spell_statement (statements.For at (view_for head.now) (view_statement body.now)) out.old) }
+    ensures { OnOk result (out.new ≡ spell_statement (statements.For at (view_for head.now) (view_statement body.now))
+        out.old) }
 {
     put_statement(out, body)?;
     put_for(out, head)?;
