@@ -38,10 +38,6 @@ abbrev pub start_of : Checked → Beginning
 start_of x =
     beginning_of x.threads x.structs x.objects (allocated_in x.structs x.functions) (types_in x.structs x.functions)
 
--- The structs of a program, where each pointer in an object has a type with a number.
-abbrev pub numbered_structs : Checked → Structs
-numbered_structs x = (start_of x).structs
-
 -- ---- how much there is of it (docs/LANGUAGE.md, "Limits")
 
 -- The bytes that the private objects of the file have in all (limit 4).

@@ -231,10 +231,6 @@ with_members number members s = record s {
   };
 }
 
--- What is known after a block: the tags in scope are those that were in scope before it (C99 6.2.1).
-abbrev pub with_tags_of : State → State → State
-with_tags_of outer s = record s { tags = outer.tags }
-
 -- What is known after one more declaration of a function, which may be its definition (C99 6.7, 6.9.1).
 abbrev pub with_function : ℕ → Signature → Bool → State → State
 with_function name signature is_defined s =

@@ -227,11 +227,6 @@ abbrev pub member_place : ℕ → Static → Static
 member_place bytes (Private object offset) = Private object (offset +ℤ pos bytes)
 member_place bytes (Shared object thread phase offset) = Shared object thread 0 (offset +ℤ pos bytes)
 
--- The place to which a constant leads, where it is an address (C99 6.6).
-abbrev pub place_in : Constant → Option Static
-place_in (Address p e) = Some p
-place_in c = None
-
 -- The address of a place after a cast: to another block it has phase 0, and from shared to private it is not known
 -- before the run (UPC 6.4.3).
 abbrev pub cast_place : Option ℕ → Option ℕ → Element → Static → Constant

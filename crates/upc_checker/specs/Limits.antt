@@ -58,21 +58,6 @@ abbrev pub passed_or : ℕ → Option Place → Option Passed → Option Passed
 passed_or n None later = later
 passed_or n (Some place) later = Some (record { limit = n; at = place })
 
--- The first of the limits 4 and 5 that is passed: private objects of the file have more than 1,048,576 bytes, or shared
--- objects more than 16,777,216 (C99 5.2.4.1).
-abbrev pub bytes_passed : Structs → List DeclaredObject → Option Passed
-bytes_passed structs objects =
-    passed_or 4 (first_over structs is_private 1048576 objects)
-    (passed_or 5 (first_over structs is_shared 16777216 objects) None)
-
--- The first of the limits 4 and 5 that a source passes (C99 5.2.4.1).
-abbrev pub unit_bytes_passed : List (List ℕ) → ℕ → List External → Option Passed
-unit_bytes_passed names threads unit =
-    let made = walk_unit (setting names threads unit) unit begin in
-    bytes_passed made.state.structs made.value.objects
-
--- ---- how many there are
-
 -- The first limit that is passed: 4 by more than 1,048,576 bytes of private objects of the file, 5 by more than
 -- 16,777,216 bytes of shared objects, 7 by more than 65,535 structs, objects, parameters of definitions and functions
 -- in all (C99 5.2.4.1).
@@ -89,10 +74,3 @@ limit_in w = limit_by w.state.structs w.state.above w.value.objects
 -- The first of the limits 4, 5 and 7 that a source passes (C99 5.2.4.1).
 abbrev pub unit_passed : List (List ℕ) → ℕ → List External → Option Passed
 unit_passed names threads unit = limit_in (walk_unit (setting names threads unit) unit begin)
-
--- The first declaration of a source up to whose end there are more than so many structs, objects, parameters of
--- definitions and functions in all (C99 5.2.4.1).
-abbrev pub first_above : ℕ → List (List ℕ) → ℕ → List External → Option Place
-first_above most names threads unit =
-    let ξ = setting names threads unit in
-    (walk_unit (record ξ { most = most }) unit begin).state.above

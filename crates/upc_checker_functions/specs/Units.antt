@@ -1,22 +1,20 @@
 -- The walk over a whole source (C99 6.9).
-use Rattle.std.specs.Prelude.{ℕ, nat_eq, Bool, true, false, ◌&&◌, List, [], ◌∷◌, ◌++◌, Option}
+use Rattle.std.specs.Prelude.{ℕ, Bool, true, false, ◌&&◌, List, [], ◌∷◌, ◌++◌}
 use Rattle.std.specs.List.{list_any}
-use Rattle.std.specs.Cmp.Lexicographic.{pointwise}
 use Rattle.upc_text.specs.declared.place.Place.{Place}
-use Rattle.block_layout.specs.declared.kind.Kind.TheVariants as kind
 use Rattle.upc_tree.specs.declared.span.Name.{Name}
 use Rattle.upc_tree.specs.Expression.{Specs, Pointers, Parameters}
 use Rattle.upc_tree.specs.Declaration.{Declares}
 use Rattle.upc_tree.specs.Statement.{Compound}
 use Rattle.upc_tree.specs.Unit.{External, PragmaPart, DeclarationPart, FunctionPart}
-use Rattle.upc_types.specs.Types.{CType, Base, Integer, base_of}
+use Rattle.upc_types.specs.Types.{CType}
 use Rattle.typing_rules.specs.declared.setting.Enclosing.TheVariants as enclosing
 use Rattle.typing_rules.specs.Values.{value_type}
 use Rattle.typing_rules.specs.Meanings as m
 use Rattle.typing_rules.specs.Meanings.{Signature}
 use Rattle.typed_tree.specs.Scopes.{Setting, Env, file, spelling, inside, with_entry, Scope, Within, NoScope, begin}
 use Rattle.typed_tree.specs.Scopes.{with_function, differs}
-use Rattle.typing_rules.specs.Faults.{Seen, Fault, first_fault}
+use Rattle.typing_rules.specs.Faults.{Seen}
 use Rattle.typing_rules.specs.Nodes as n
 use Rattle.typing_rules.specs.Nodes.{Around}
 use Rattle.typed_tree.specs.Tree.{DeclaredObject, Function, Statement}
@@ -159,7 +157,3 @@ unit_nodes names threads unit = (walk_unit (setting names threads unit) unit beg
 -- What a source declares and defines, with types (C99 6.9).
 abbrev pub typed_unit : List (List ℕ) → ℕ → List External → Made
 typed_unit names threads unit = (walk_unit (setting names threads unit) unit begin).value
-
--- The first node of a source that breaks a typing rule, with its lowest one, if there is such a node.
-abbrev pub unit_fault : List (List ℕ) → ℕ → List External → Option Fault
-unit_fault names threads unit = first_fault (unit_nodes names threads unit)

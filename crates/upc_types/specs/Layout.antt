@@ -147,10 +147,6 @@ holds_private structs t = base_holds_private (private_in structs.completed) (bas
 abbrev pub size : Structs → CType → ℕ
 size structs t = (base_layout (layout_in structs.completed) (base_of t)).size
 
--- The alignment of a type in bytes.
-abbrev pub alignment : Structs → CType → ℕ
-alignment structs t = (base_layout (layout_in structs.completed) (base_of t)).align
-
 -- The most bytes that an object may have (typing rule 6).
 abbrev pub most_bytes : ℕ
 most_bytes = 16777216

@@ -28,14 +28,6 @@ there at operands calls = At at [] operands calls
 abbrev pub value_at : Spot → List Value → List Spot → Value → State → Conf
 value_at at operands calls v = there at (v ∷ operands) calls
 
--- A spot with some values on top of these operands.
-abbrev pub values_at : Spot → List Value → List Spot → List Value → State → Conf
-values_at at operands calls vs = there at (piled vs operands) calls
-
--- A spot with these operands, whatever value was given.
-abbrev pub place_at : {A : Type 0} → Spot → List Value → List Spot → A → State → Conf
-place_at at operands calls _ = there at operands calls
-
 module _ (τ : Thread) (functions : List (List Instr)) where
   -- Some instructions lead from c to d.
   pub record Leads (c d : Conf) : Type 0 where
