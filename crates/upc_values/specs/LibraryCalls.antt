@@ -1,6 +1,6 @@
--- What each call of the library does on the calling thread, and the value that it gives (C99 7.19.6.3, UPC 7.2, 7.3).
+-- What each call of the library does on the calling thread, and the value that it gives (UPC 7.2, 7.3).
 use Rattle.std.specs.Prelude.{ℕ, ◌*◌, ◌==◌, nat_le, ℤ, pos, ◌+ℤ◌, unsigned_abs, not, ◌&&◌, ◌||◌, if◌then◌else◌, List}
-use Rattle.std.specs.Prelude.{[], ◌∷◌, length, Option, Some, None, slice_get}
+use Rattle.std.specs.Prelude.{[], ◌∷◌, Option, Some, None, slice_get}
 use Rattle.std.specs.List.{filter_map}
 use Rattle.block_layout.specs.declared.place.ObjectRef.{ObjectRef}
 use Rattle.block_layout.specs.declared.place.SharedPtr.{SharedPtr}
@@ -25,9 +25,8 @@ use Rattle.upc_values.specs.declared.library.LibraryCall.{LibraryCall}
 use Rattle.upc_values.specs.declared.library.LibraryCall.TheVariants as call
 use Rattle.upc_values.specs.Scalars.{zero}
 use Rattle.upc_values.specs.Formed.{is_whole}
-use Rattle.upc_values.specs.Expansion.{Expansion, Gives, Fails, Asks, bind, does, refused_by}
+use Rattle.upc_values.specs.Expansion.{Expansion, Gives, Fails, Asks, bind, refused_by}
 use Rattle.upc_values.specs.Copying.{Area, Nowhere, In_private, shared_area, local_area, copy, set}
-use Rattle.upc_values.specs.Printing.{printed}
 use Rattle.upc_values.specs.Expansions.{is_large, collective}
 
 -- A number as a call gives it where its result is an int.
@@ -109,10 +108,6 @@ lock_free l = if l == 0 then Gives zero else asks (act.LockFree l)
 -- What upc_all_lock_free does: all threads meet, on null too (UPC 7.2.4).
 abbrev pub all_lock_free : ℕ → Expansion Scalar
 all_lock_free l = asks (act.Meet 4 (Lock l ∷ []))
-
--- What printf does: one Print of its text, whose number of bytes it gives (C99 7.19.6.3).
-abbrev pub printf : (format : List ℕ) → List ℤ → Expansion Scalar
-printf format vs = bind (does (act.Print (printed format vs))) (λ u. Gives (as_int (pos (length (printed format vs)))))
 
 -- Where a value leads as a pointer; what is no pointer leads nowhere.
 abbrev pub area_of : Value → Area

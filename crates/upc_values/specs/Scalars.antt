@@ -1,5 +1,5 @@
 -- When locations and scalars are the same, and the value that a cell begins with.
-use Rattle.std.specs.Prelude.{ℤ, pos, negsuc, int_le, ◌==◌, Bool, false, ◌&&◌, Option, Some, None}
+use Rattle.std.specs.Prelude.{pos, ◌==◌, Bool, false, ◌&&◌, Option, Some, None}
 use Rattle.std.specs.Ordering.{int_eq}
 use Rattle.block_layout.specs.declared.place.Loc.{Loc}
 use Rattle.block_layout.specs.Pointers.{same_pointer}
@@ -16,10 +16,6 @@ same_scalar (Int a) (Int b) = int_eq a b
 same_scalar (Shared p) (Shared q) = same_pointer p q
 same_scalar (Lock a) (Lock b) = a == b
 same_scalar v w = false
-
--- The number lies in the range of int, from -2^31 to 2^31 - 1 (C99 6.2.5).
-abbrev pub is_int : ℤ → Bool
-is_int v = int_le (negsuc 2147483647) v && int_le v (pos 2147483647)
 
 -- The 0 with which an object without an initialiser begins (C99 6.7.8).
 abbrev pub zero : Scalar
