@@ -11,10 +11,11 @@ use Rattle.run_recorder_text.specs.Words.{hex_text, action_words}
 use Rattle.run_recorder_parts.specs.layer.Bounds.{most_u8, most_u32, most_u64, most_i32}
 use Rattle.run_recorder.specs.code.Ranges.{IsWithin, FitsLoc, FitsPointer}
 use Rattle.run_recorder.specs.code.Ranges.{FitsScalar, FitsMark, FitsHome, FitsAction}
-use Rattle.run_recorder_parts.specs.code.Readers.{Reader, give, field, many, each, number_of, int_of}
-use Rattle.run_recorder_parts.specs.code.Values.{word32, word64, signed32, loc_of, pointer_of, scalar_of, mark_of, home_of}
-use Rattle.run_recorder_parts.specs.code.Values.{strict_of, hex_of, read_of, write_of, marked_of, locked_of, alloc_of}
-use Rattle.run_recorder_parts.specs.code.Values.{free_of, meet_of, print_of, exit_of, action_table, action_of}
+use Rattle.run_recorder_parts.specs.layer.Readers.{Reader, give, field, many, each, number_of, int_of}
+use Rattle.run_recorder_parts.specs.layer.Values.{word32, word64, signed32, loc_of, pointer_of, scalar_of}
+use Rattle.run_recorder_parts.specs.layer.Values.{mark_of, home_of}
+use Rattle.run_recorder_parts.specs.layer.Values.{strict_of, hex_of, read_of, write_of, marked_of, locked_of, alloc_of}
+use Rattle.run_recorder_parts.specs.layer.Values.{free_of, meet_of, print_of, exit_of, action_table, action_of}
 use Rattle.run_recorder_parts.proofs.Bytes.{in_word, EachPasses, in_word_digits}
 use Rattle.run_recorder.proofs.Forms.{IsRule, rule_field, then_takes, give_takes, then_again, Handles, tagged_takes}
 use Rattle.run_recorder.proofs.Forms.{AreAll, rule_each}

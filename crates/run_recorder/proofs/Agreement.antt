@@ -11,7 +11,7 @@ use Rattle.upc_values.specs.declared.action.Reply.{Reply}
 use Rattle.upc_values.specs.declared.record.Item.{Item}
 use Rattle.upc_values.specs.declared.journal.Strand.{Strand}
 use Rattle.run_recorder_parts.specs.declared.names.Name.{Name}
-use Rattle.run_recorder_parts.specs.code.Readers.{bind}
+use Rattle.run_recorder_parts.specs.layer.Readers.{bind}
 use Rattle.run_recorder.specs.code.Finding.{did_at, entry_name, entry_by, entry_of, entries_of}
 use Rattle.upc_values.proofs.Lists.{each-at}
 use Rattle.run_recorder.proofs.Forms.{some, some_is, bind_some}

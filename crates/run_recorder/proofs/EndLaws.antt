@@ -5,9 +5,10 @@ use Rattle.upc_values.specs.declared.record.End.TheVariants as end
 use Rattle.upc_text.specs.declared.place.Place.{Place}
 use Rattle.run_recorder_text.specs.Words.{Text, place_text, end_words}
 use Rattle.run_recorder.specs.code.Ranges.{FitsPlace, FitsEnd}
-use Rattle.run_recorder_parts.specs.code.Readers.{Reader, give, field}
-use Rattle.run_recorder_parts.specs.code.Values.{place_parts_of, place_of, valued_of, fault_of, deadlocked_of, end_table}
-use Rattle.run_recorder_parts.specs.code.Values.{end_of}
+use Rattle.run_recorder_parts.specs.layer.Readers.{Reader, give, field}
+use Rattle.run_recorder_parts.specs.layer.Values.{place_parts_of, place_of, valued_of, fault_of}
+use Rattle.run_recorder_parts.specs.layer.Values.{deadlocked_of, end_table}
+use Rattle.run_recorder_parts.specs.layer.Values.{end_of}
 use Rattle.run_recorder_parts.proofs.Bytes.{in_word, in_part, EachPasses, part_word, part_no_colon}
 use Rattle.run_recorder.proofs.Forms.{IsRule, rule_field, then_takes, give_takes, then_again, Handles, tagged_takes}
 use Rattle.run_recorder.proofs.Forms.{field_whole}

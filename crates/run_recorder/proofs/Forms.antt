@@ -10,8 +10,9 @@ use Rattle.std.proofs.lemmas.Slice.Eq.{bytes_eq-Decides}
 use Rattle.upc_values.specs.Lists.{Each}
 use Rattle.run_recorder_text.specs.Words.{Text}
 use Rattle.run_recorder_text.specs.Lines.{numbered_lines}
-use Rattle.run_recorder_parts.specs.code.Readers.{bind, Reader, give, ◌>>=◌, field, many, each, choose, tagged, constant}
-use Rattle.run_recorder_parts.specs.code.Readers.{expect, check, ended, whole, strip}
+use Rattle.run_recorder_parts.specs.layer.Readers.{bind, Reader, give, ◌>>=◌, field, many, each, choose}
+use Rattle.run_recorder_parts.specs.layer.Readers.{tagged, constant}
+use Rattle.run_recorder_parts.specs.layer.Readers.{expect, check, ended, whole, strip}
 use Rattle.run_recorder_parts.proofs.Bytes.{Passes, Passes-append, EachPasses, EachPasses-weaker, EachPasses-append}
 use Rattle.run_recorder_parts.proofs.Bytes.{join_passes, split_join}
 

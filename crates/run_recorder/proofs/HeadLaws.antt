@@ -5,8 +5,8 @@ use Rattle.run_recorder_text.specs.Words.{Text}
 use Rattle.run_recorder_text.specs.Lines.{limits_line, rule_line, head_lines}
 use Rattle.run_recorder_parts.specs.declared.head.Head.{Head}
 use Rattle.run_recorder_parts.specs.declared.limits.Limits.{Limits}
-use Rattle.run_recorder_parts.specs.code.Readers.{Reader, expect}
-use Rattle.run_recorder_parts.specs.code.Lines.{old_head_of, combining_head_of, head_table, head_of}
+use Rattle.run_recorder_parts.specs.layer.Readers.{Reader, expect}
+use Rattle.run_recorder_parts.specs.layer.Lines.{old_head_of, combining_head_of, head_table, head_of}
 use Rattle.run_recorder_parts.proofs.Bytes.{in_line, EachPasses}
 use Rattle.run_recorder.proofs.Forms.{IsRule, then_takes, give_takes, then_again, Handles, tagged_takes, rule_expect}
 use Rattle.run_recorder.proofs.ActionLaws.{◌&◌}

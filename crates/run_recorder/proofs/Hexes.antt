@@ -10,8 +10,8 @@ use Rattle.hex.specs.Hex.{IsBytes, decode_of, encode_lower, encode_with, lower_d
 use Rattle.hex.specs.declared.error.FromHexError.{FromHexError}
 use Rattle.hex.proofs.HexLemmas.{decode_of-encode_lower, decode_of-ok, length-encode_with}
 use Rattle.run_recorder_text.specs.Words.{Text, hex_text}
-use Rattle.run_recorder_parts.specs.code.Readers.{begins}
-use Rattle.run_recorder_parts.specs.code.Values.{spelled_by, pairs_of, hex_of}
+use Rattle.run_recorder_parts.specs.layer.Readers.{begins}
+use Rattle.run_recorder_parts.specs.layer.Values.{spelled_by, pairs_of, hex_of}
 use Rattle.run_recorder_parts.proofs.Bytes.{both, and_true, in_word, Passes, begins_not}
 use Rattle.run_recorder.proofs.Forms.{guard_some, IsField}
 use Rattle.run_recorder.proofs.WordLaws.{if_takes, if_not, constant_case}

@@ -11,9 +11,9 @@ use Rattle.upc_values.specs.declared.record.Item.TheVariants as item
 use Rattle.run_recorder_text.specs.Words.{Text, with_blanks, flag_text, action_words, reply_words, item_words}
 use Rattle.run_recorder_text.specs.Lines.{item_line}
 use Rattle.run_recorder.specs.code.Ranges.{FitsReply, FitsItem}
-use Rattle.run_recorder_parts.specs.code.Readers.{Reader, give, field, expect, whole, begins}
-use Rattle.run_recorder_parts.specs.code.Values.{flag_of, value_of, flag_reply_of, refused_of, reply_table, reply_of}
-use Rattle.run_recorder_parts.specs.code.Values.{did_of, stall_of, heads, item_words_of, item_of}
+use Rattle.run_recorder_parts.specs.layer.Readers.{Reader, give, field, expect, whole, begins}
+use Rattle.run_recorder_parts.specs.layer.Values.{flag_of, value_of, flag_reply_of, refused_of, reply_table, reply_of}
+use Rattle.run_recorder_parts.specs.layer.Values.{did_of, stall_of, heads, item_words_of, item_of}
 use Rattle.run_recorder_parts.proofs.Bytes.{in_line, in_word, Passes, EachPasses, EachPasses-append, word_line}
 use Rattle.run_recorder_parts.proofs.Bytes.{word_no_blank}
 use Rattle.run_recorder.proofs.Forms.{some, IsField, IsRule, rule_field, then_takes, give_takes, then_again, Handles}

@@ -10,9 +10,9 @@ use Rattle.run_recorder_text.specs.Words.{Text, loc_text, object_parts, pointer_
 use Rattle.run_recorder_parts.specs.layer.Bounds.{most_u32, most_i64, most_i128}
 use Rattle.run_recorder.specs.code.Ranges.{IsWithin, FitsLoc, FitsObject, FitsPointer}
 use Rattle.run_recorder.specs.code.Ranges.{FitsScalar}
-use Rattle.run_recorder_parts.specs.code.Readers.{field, begins, number_of, int_of}
-use Rattle.run_recorder_parts.specs.code.Values.{word32, loc_parts_of, loc_of, object_parts_of, pointer_parts_of}
-use Rattle.run_recorder_parts.specs.code.Values.{pointer_of, lock_number_of, scalar_of}
+use Rattle.run_recorder_parts.specs.layer.Readers.{field, begins, number_of, int_of}
+use Rattle.run_recorder_parts.specs.layer.Values.{word32, loc_parts_of, loc_of, object_parts_of, pointer_parts_of}
+use Rattle.run_recorder_parts.specs.layer.Values.{pointer_of, lock_number_of, scalar_of}
 use Rattle.run_recorder_parts.proofs.Bytes.{in_word, in_part, Passes, decimal_passes, EachPasses, EachPasses-append}
 use Rattle.run_recorder_parts.proofs.Bytes.{in_part_digits, in_word_digits, part_word, part_no_dot, part_no_colon}
 use Rattle.run_recorder.proofs.Forms.{IsField, IsRule, rule_field, then_takes, give_takes, then_again, field_whole}

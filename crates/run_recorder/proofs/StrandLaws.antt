@@ -8,9 +8,9 @@ use Rattle.run_recorder_text.specs.Words.{Text, end_words}
 use Rattle.run_recorder_text.specs.Lines.{limits_line, thread_line, item_line, strand_lines, numbered_lines}
 use Rattle.run_recorder_parts.specs.layer.Bounds.{most_u32, most_u64}
 use Rattle.run_recorder.specs.code.Ranges.{FitsItem, FitsEnd, FitsStrand}
-use Rattle.run_recorder_parts.specs.code.Readers.{field, many, each, expect}
-use Rattle.run_recorder_parts.specs.code.Values.{item_of}
-use Rattle.run_recorder_parts.specs.code.Lines.{header_words_of, header_of, strand_of, limits_words_of, limits_of}
+use Rattle.run_recorder_parts.specs.layer.Readers.{field, many, each, expect}
+use Rattle.run_recorder_parts.specs.layer.Values.{item_of}
+use Rattle.run_recorder_parts.specs.layer.Lines.{header_words_of, header_of, strand_of, limits_words_of, limits_of}
 use Rattle.run_recorder_parts.proofs.Bytes.{in_line, in_word, Passes, EachPasses}
 use Rattle.run_recorder.proofs.Forms.{IsRule, rule_field, then_takes, give_takes, then_again, AreMany, rule_many}
 use Rattle.run_recorder.proofs.Forms.{AreAll, rule_each, rule_expect, check_takes, check_again}

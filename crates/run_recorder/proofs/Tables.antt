@@ -19,7 +19,7 @@ use Rattle.upc_values.specs.declared.action.Reply.{Reply}
 use Rattle.upc_values.specs.declared.record.Item.{Item}
 use Rattle.upc_values.specs.declared.journal.Strand.{Strand}
 use Rattle.run_recorder_parts.specs.declared.names.Name.{Name}
-use Rattle.run_recorder_parts.specs.code.Readers.{bind, Fails}
+use Rattle.run_recorder_parts.specs.layer.Readers.{bind, Fails}
 use Rattle.run_recorder.specs.code.Finding.{did_at, entry_of, entries_of, did_of_item, did_in, IsTable, after}
 use Rattle.run_recorder.specs.code.Finding.{AreTables}
 use Rattle.run_recorder.proofs.Forms.{some_is}

@@ -23,8 +23,8 @@ use Rattle.run_recorder_text.specs.Short.{is_short, item_count}
 use Rattle.run_recorder_parts.specs.layer.Bounds.{most_u32}
 use Rattle.run_recorder.specs.code.Ranges.{FitsStrand, FitsEntry, FitsOp, FitsOrder}
 use Rattle.run_recorder.specs.code.Recorded.{IsRecordable, IsTextOf}
-use Rattle.run_recorder_parts.specs.code.Readers.{Reader, ◌>>=◌, each, expect, guarded, lift}
-use Rattle.run_recorder_parts.specs.code.Lines.{name_of, op_of, section_of}
+use Rattle.run_recorder_parts.specs.layer.Readers.{Reader, ◌>>=◌, each, expect, guarded, lift}
+use Rattle.run_recorder_parts.specs.layer.Lines.{name_of, op_of, section_of}
 use Rattle.run_recorder.specs.code.Finding.{entry_name, entries_of}
 use Rattle.run_recorder.specs.code.Whole.{VersionedRun, journal_of, run_of_lines, run_of}
 use Rattle.run_recorder_parts.proofs.Bytes.{both, in_line, EachPasses, EachPasses-append, line_no_end}

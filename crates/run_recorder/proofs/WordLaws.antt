@@ -10,8 +10,8 @@ use Rattle.upc_values.specs.declared.scalar.Mark.TheVariants as mark
 use Rattle.run_recorder_text.specs.Words.{Text, mark_text, home_text, strict_text}
 use Rattle.run_recorder_parts.specs.layer.Bounds.{most_u32, most_i32}
 use Rattle.run_recorder.specs.code.Ranges.{IsWithin, FitsMark, FitsHome}
-use Rattle.run_recorder_parts.specs.code.Readers.{bind, constant, begins, number_of, negative, int_of}
-use Rattle.run_recorder_parts.specs.code.Values.{mark_of, home_of, strict_of}
+use Rattle.run_recorder_parts.specs.layer.Readers.{bind, constant, begins, number_of, negative, int_of}
+use Rattle.run_recorder_parts.specs.layer.Values.{mark_of, home_of, strict_of}
 use Rattle.run_recorder_parts.proofs.Bytes.{and_true, in_word, Passes, LetsDigits, decimal_passes, begins_not}
 use Rattle.run_recorder_parts.proofs.Bytes.{is_digit_byte, is_int_byte, digits_are, ints_are, in_word_digits}
 use Rattle.run_recorder.proofs.Forms.{some_is, bind_some, IsField, constant_takes}

@@ -3,7 +3,7 @@
 ghost use Rattle.std.specs.Prelude.{◌≡◌, IfOk, OnOk};
 ghost use Rattle.run_recorder.specs.code.Finding.{AreTables, IsTable, after, did_at, did_of_item};
 ghost use Rattle.run_recorder.specs.code.Finding.{entries_of, entry_of, entry_by};
-ghost use Rattle.run_recorder_parts.specs.code.Readers.{Gives, same};
+ghost use Rattle.run_recorder_parts.specs.layer.Readers.{Gives, same};
 
 use run_recorder_parts::{Fail, Name};
 use std::alloc::Global;

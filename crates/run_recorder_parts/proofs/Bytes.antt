@@ -11,7 +11,7 @@ use Rattle.std.proofs.lemmas.List.Folds.{list_all-append}
 use Rattle.std.proofs.lemmas.Str.Parse.{digit_from_value}
 use Rattle.upc_values.specs.Lists.{Each}
 use Rattle.run_recorder_text.specs.Words.{Text}
-use Rattle.run_recorder_parts.specs.code.Readers.{begins}
+use Rattle.run_recorder_parts.specs.layer.Readers.{begins}
 
 pub both : (a b : Bool) → a && b ≡ true → (a ≡ true) × (b ≡ true)
 both true b e = (refl, e)

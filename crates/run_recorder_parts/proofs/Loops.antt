@@ -4,7 +4,7 @@ use Rattle.std.proofs.Common.{arith, append_assoc}
 use Rattle.run_recorder_parts.specs.declared.fail.Fail.{Fail}
 use Rattle.run_recorder_parts.specs.declared.fail.Fail.TheVariants.{Bad, Memory}
 use Rattle.run_recorder_text.specs.Words.{Text}
-use Rattle.run_recorder_parts.specs.code.Readers.{bind, Fails, Reader, many}
+use Rattle.run_recorder_parts.specs.layer.Readers.{bind, Fails, Reader, many}
 
 -- What was read before, and what is still read.
 abbrev pub with_front : {A : Type 0} → List A → Option (List A × List Text) → Option (List A × List Text)

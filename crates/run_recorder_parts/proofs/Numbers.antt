@@ -7,7 +7,7 @@ use Rattle.std.specs.Str.Parse.{ParsesUnsigned, digits_value}
 use Rattle.std.proofs.lemmas.Fmt.{decimal_is_IsNumeral_wide, parse-decimal_wide}
 use Rattle.std.proofs.lemmas.Slice.Eq.{bytes_eq-Decides}
 use Rattle.run_recorder_text.specs.Words.{Text}
-use Rattle.run_recorder_parts.specs.code.Readers.{number_of}
+use Rattle.run_recorder_parts.specs.layer.Readers.{number_of}
 use Rattle.run_recorder_parts.proofs.Bytes.{both, and_true}
 
 abbrev pub value : Text → ℕ

@@ -1,1 +1,4 @@
 pub mod Bounds
+pub mod Lines
+pub mod Readers
+pub mod Values

@@ -1,8 +1,8 @@
 //! Actions, from words.
 
 ghost use Rattle.std.specs.Prelude.{◌≡◌};
-ghost use Rattle.run_recorder_parts.specs.code.Readers.{Reads, same, texts};
-ghost use Rattle.run_recorder_parts.specs.code.Values as reader;
+ghost use Rattle.run_recorder_parts.specs.layer.Readers.{Reads, same, texts};
+ghost use Rattle.run_recorder_parts.specs.layer.Values as reader;
 
 use crate::composed::{loc, pointer, scalar};
 use crate::fail::Fail;

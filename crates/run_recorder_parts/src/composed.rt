@@ -1,8 +1,8 @@
 //! One word that is made of parts.
 
 ghost use Rattle.std.specs.Prelude.{◌≡◌, codes};
-ghost use Rattle.run_recorder_parts.specs.code.Readers.{Gives, Reads, same, strip, texts};
-ghost use Rattle.run_recorder_parts.specs.code.Values as reader;
+ghost use Rattle.run_recorder_parts.specs.layer.Readers.{Gives, Reads, same, strip, texts};
+ghost use Rattle.run_recorder_parts.specs.layer.Values as reader;
 
 use crate::fail::Fail;
 use crate::fields::{int64, int128, number32, starts};
@@ -132,8 +132,8 @@ pub fn scalar(alloc: Global, word: &[u8]) -> Result<Scalar, Fail>
 }
 
 impl Part for Scalar {
-    ghost use Rattle.run_recorder_parts.specs.code.Readers.{each};
-    ghost use Rattle.run_recorder_parts.specs.code.Values.{scalar_of};
+    ghost use Rattle.run_recorder_parts.specs.layer.Readers.{each};
+    ghost use Rattle.run_recorder_parts.specs.layer.Values.{scalar_of};
 
     ghost of = { each scalar_of };
 

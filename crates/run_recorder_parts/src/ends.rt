@@ -1,8 +1,8 @@
 //! Ends, from words.
 
 ghost use Rattle.std.specs.Prelude.{◌≡◌};
-ghost use Rattle.run_recorder_parts.specs.code.Readers.{Gives, Reads, same, texts};
-ghost use Rattle.run_recorder_parts.specs.code.Values as reader;
+ghost use Rattle.run_recorder_parts.specs.layer.Readers.{Gives, Reads, same, texts};
+ghost use Rattle.run_recorder_parts.specs.layer.Values as reader;
 
 use crate::actions::action;
 use crate::fail::Fail;

@@ -2,8 +2,8 @@
 
 ghost use Rattle.std.specs.Prelude.{◌≡◌, ◌<◌, ◌^◌, ◌≤◌};
 ghost use Rattle.run_recorder_parts.specs.layer.Bounds.{most_u8, most_u32, most_u64, most_i32, most_i64, most_i128};
-ghost use Rattle.run_recorder_parts.specs.code.Readers.{Gives, begins, int_of, negative, number_of, same};
-ghost use Rattle.run_recorder_parts.specs.code.Values.{hex_of, home_of, mark_of, pairs_of, strict_of};
+ghost use Rattle.run_recorder_parts.specs.layer.Readers.{Gives, begins, int_of, negative, number_of, same};
+ghost use Rattle.run_recorder_parts.specs.layer.Values.{hex_of, home_of, mark_of, pairs_of, strict_of};
 
 use crate::fail::Fail;
 use crate::parts::is;

@@ -1,8 +1,8 @@
 //! The first lines of a text.
 
 ghost use Rattle.std.specs.Prelude.{◌≡◌};
-ghost use Rattle.run_recorder_parts.specs.code.Lines as reader;
-ghost use Rattle.run_recorder_parts.specs.code.Readers.{Reads, same, texts};
+ghost use Rattle.run_recorder_parts.specs.layer.Lines as reader;
+ghost use Rattle.run_recorder_parts.specs.layer.Readers.{Reads, same, texts};
 
 use crate::fail::Fail;
 use crate::limits::{Limits, read_limits};

@@ -1,8 +1,8 @@
 //! Replies and items, from words.
 
 ghost use Rattle.std.specs.Prelude.{◌≡◌};
-ghost use Rattle.run_recorder_parts.specs.code.Readers.{Gives, Reads, same, texts};
-ghost use Rattle.run_recorder_parts.specs.code.Values as reader;
+ghost use Rattle.run_recorder_parts.specs.layer.Readers.{Gives, Reads, same, texts};
+ghost use Rattle.run_recorder_parts.specs.layer.Values as reader;
 
 use crate::actions::action;
 use crate::composed::scalar;
@@ -122,8 +122,8 @@ fn item(alloc: Global, line: &[u8]) -> Result<Item, Fail>
 }
 
 impl Part for Item {
-    ghost use Rattle.run_recorder_parts.specs.code.Readers.{each};
-    ghost use Rattle.run_recorder_parts.specs.code.Values.{item_of};
+    ghost use Rattle.run_recorder_parts.specs.layer.Readers.{each};
+    ghost use Rattle.run_recorder_parts.specs.layer.Values.{item_of};
 
     ghost of = { each item_of };
 

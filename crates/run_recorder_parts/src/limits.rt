@@ -1,8 +1,8 @@
 //! The second line.
 
 ghost use Rattle.std.specs.Prelude.{◌≡◌};
-ghost use Rattle.run_recorder_parts.specs.code.Lines as reader;
-ghost use Rattle.run_recorder_parts.specs.code.Readers.{Gives, Reads, same, texts};
+ghost use Rattle.run_recorder_parts.specs.layer.Lines as reader;
+ghost use Rattle.run_recorder_parts.specs.layer.Readers.{Gives, Reads, same, texts};
 
 use crate::fail::Fail;
 use crate::fields::{number32, number64};

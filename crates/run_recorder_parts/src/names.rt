@@ -1,9 +1,9 @@
 //! The names of entries and of operations, from their lines, and sections of them.
 
 ghost use Rattle.std.specs.Prelude.{◌≡◌};
-ghost use Rattle.run_recorder_parts.specs.code.Lines as reader;
-ghost use Rattle.run_recorder_parts.specs.code.Readers as part;
-ghost use Rattle.run_recorder_parts.specs.code.Readers.{Gives, Reads, same, texts};
+ghost use Rattle.run_recorder_parts.specs.layer.Lines as reader;
+ghost use Rattle.run_recorder_parts.specs.layer.Readers as part;
+ghost use Rattle.run_recorder_parts.specs.layer.Readers.{Gives, Reads, same, texts};
 
 use crate::fail::Fail;
 use crate::fields::{number32, number64, starts};
@@ -42,8 +42,8 @@ fn entry_name(alloc: Global, line: &[u8]) -> Result<Name, Fail>
 }
 
 impl Part for Name {
-    ghost use Rattle.run_recorder_parts.specs.code.Lines.{name_of};
-    ghost use Rattle.run_recorder_parts.specs.code.Readers.{each};
+    ghost use Rattle.run_recorder_parts.specs.layer.Lines.{name_of};
+    ghost use Rattle.run_recorder_parts.specs.layer.Readers.{each};
 
     ghost of = { each name_of };
 
@@ -94,8 +94,8 @@ fn op(alloc: Global, line: &[u8]) -> Result<Op, Fail>
 }
 
 impl Part for Op {
-    ghost use Rattle.run_recorder_parts.specs.code.Lines.{op_of};
-    ghost use Rattle.run_recorder_parts.specs.code.Readers.{each};
+    ghost use Rattle.run_recorder_parts.specs.layer.Lines.{op_of};
+    ghost use Rattle.run_recorder_parts.specs.layer.Readers.{each};
 
     ghost of = { each op_of };
 
@@ -164,7 +164,7 @@ fn order_header(alloc: Global, line: &[u8]) -> Result<(u32, u64), Fail>
 }
 
 impl Part for Listing<Op> {
-    ghost use Rattle.run_recorder_parts.specs.code.Lines.{order_of};
+    ghost use Rattle.run_recorder_parts.specs.layer.Lines.{order_of};
 
     ghost of = { order_of };
 

@@ -3,8 +3,8 @@
 ghost use Rattle.std.specs.Prelude.{◌≡◌, ◌==◌, IfOk, length};
 ghost use Rattle.std.specs.List.{slice_split};
 ghost use Rattle.std.specs.Str.{bytes_eq};
-ghost use Rattle.run_recorder_parts.specs.code.Readers as reader;
-ghost use Rattle.run_recorder_parts.specs.code.Readers.{Reads, next, same, texts};
+ghost use Rattle.run_recorder_parts.specs.layer.Readers as reader;
+ghost use Rattle.run_recorder_parts.specs.layer.Readers.{Reads, next, same, texts};
 
 use crate::fail::Fail;
 use std::alloc::Global;

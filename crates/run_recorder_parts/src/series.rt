@@ -1,8 +1,8 @@
 //! Parts of one kind, one after the other.
 
 ghost use Rattle.std.specs.Prelude.{◌≡◌};
-ghost use Rattle.run_recorder_parts.specs.code.Readers as reader;
-ghost use Rattle.run_recorder_parts.specs.code.Readers.{Reads, same, texts};
+ghost use Rattle.run_recorder_parts.specs.layer.Readers as reader;
+ghost use Rattle.run_recorder_parts.specs.layer.Readers.{Reads, same, texts};
 
 use crate::fail::Fail;
 use crate::parts::Parts;

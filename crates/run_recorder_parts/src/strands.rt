@@ -1,8 +1,8 @@
 //! Threads, from their lines.
 
 ghost use Rattle.std.specs.Prelude.{◌≡◌};
-ghost use Rattle.run_recorder_parts.specs.code.Lines as reader;
-ghost use Rattle.run_recorder_parts.specs.code.Readers.{Gives, Reads, same, texts};
+ghost use Rattle.run_recorder_parts.specs.layer.Lines as reader;
+ghost use Rattle.run_recorder_parts.specs.layer.Readers.{Gives, Reads, same, texts};
 
 use crate::ends::end;
 use crate::fail::Fail;
@@ -54,7 +54,7 @@ fn read_header(alloc: Global, line: &[u8]) -> Result<Header, Fail>
 }
 
 impl Part for Strand {
-    ghost use Rattle.run_recorder_parts.specs.code.Lines.{strand_of};
+    ghost use Rattle.run_recorder_parts.specs.layer.Lines.{strand_of};
 
     ghost of = { strand_of };
 

@@ -5,10 +5,10 @@ use Rattle.typed_tree.specs.Tree.{StatementKind, Stands}
 use Rattle.source_meaning.specs.Running.{Running}
 use Rattle.source_meaning.specs.Statements.{Standing}
 use Rattle.upc_meaning_state.specs.declared.progress.Step.{Step}
-use Rattle.upc_meaning_work.specs.code.Seen.{Seen, with_item}
-use Rattle.upc_meaning_work.specs.code.Items.{Run}
+use Rattle.upc_meaning_work.specs.layer.Seen.{Seen, with_item}
+use Rattle.upc_meaning_work.specs.layer.Items.{Run}
 use Rattle.upc_meaning_work.specs.declared.evaluation.Evaluation.{Evaluation}
-use Rattle.upc_meaning_work.specs.code.Evaluations.{Went}
+use Rattle.upc_meaning_work.specs.layer.Evaluations.{Went}
 
 pub went_as : {E : Type 0} (ρ : Running) (κ : Standing) (s : Seen) (at : Place) (k n : StatementKind) → k ≡ n
     → (m : Evaluation) (r : Result (Step (Unit {0})) E)

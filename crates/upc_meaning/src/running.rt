@@ -2,12 +2,12 @@
 
 ghost use Rattle.std.specs.Prelude.{◌≡◌, IfOk, OnOk};
 ghost use Rattle.typed_tree.specs.ViewStatements as views;
-ghost use Rattle.upc_meaning_state.specs.code.Runners.{Fits};
-ghost use Rattle.upc_meaning_state.specs.code.Settings.{running_seen};
-ghost use Rattle.upc_meaning_work.specs.code.Seen.{meant, with_item};
-ghost use Rattle.upc_meaning_work.specs.code.Items as item;
-ghost use Rattle.upc_meaning_work.specs.code.ViewItems.{view_standing};
-ghost use Rattle.upc_meaning_work.specs.code.Evaluations.{Went, seen};
+ghost use Rattle.upc_meaning_state.specs.layer.Runners.{Fits};
+ghost use Rattle.upc_meaning_state.specs.layer.Settings.{running_seen};
+ghost use Rattle.upc_meaning_work.specs.layer.Seen.{meant, with_item};
+ghost use Rattle.upc_meaning_work.specs.layer.Items as item;
+ghost use Rattle.upc_meaning_work.specs.layer.ViewItems.{view_standing};
+ghost use Rattle.upc_meaning_work.specs.layer.Evaluations.{Went, seen};
 
 use upc_meaning_steps::declarations::{block, headed};
 use upc_meaning_steps::{statements, switches};

@@ -23,7 +23,7 @@ use Rattle.thread_values.specs.layer.Results.{asks_nothing, given_at_once}
 use Rattle.thread_values.specs.layer.Asking.{asks_once, expansion_of, DoesSoThere}
 use Rattle.thread_values.proofs.Asking.{gives}
 use Rattle.thread_values.proofs.Asking as asking
-use Rattle.upc_meaning_state.specs.code.Libraries.{expanded_to, met_then}
+use Rattle.upc_meaning_state.specs.layer.Libraries.{expanded_to, met_then}
 
 -- ---- one action
 

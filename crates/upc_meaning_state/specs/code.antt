@@ -1,7 +1,1 @@
-pub mod Barriers
-pub mod Came
 pub mod Fitting
-pub mod Libraries
-pub mod Operations
-pub mod Runners
-pub mod Settings

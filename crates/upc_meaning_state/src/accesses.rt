@@ -3,8 +3,8 @@
 ghost use Rattle.std.specs.Prelude.{◌≡◌, IfOk};
 ghost use Rattle.private_store.specs.Cells.{IsPrivate};
 ghost use Rattle.thread_steps.specs.Accesses as pure;
-ghost use Rattle.upc_meaning_state.specs.code.Came.{Came, state_seen};
-ghost use Rattle.upc_meaning_state.specs.code.Runners.{Fits, thread_seen};
+ghost use Rattle.upc_meaning_state.specs.layer.Came.{Came, state_seen};
+ghost use Rattle.upc_meaning_state.specs.layer.Runners.{Fits, thread_seen};
 
 use crate::progress::{Progress, Step};
 use crate::ranges::is_held_scalar;

@@ -2,10 +2,10 @@
 
 ghost use Rattle.std.specs.Prelude.{IfOk};
 ghost use Rattle.source_meaning.specs.Statements as mean;
-ghost use Rattle.upc_meaning_state.specs.code.Barriers.{passed};
-ghost use Rattle.upc_meaning_state.specs.code.Came.{Came, state_seen};
-ghost use Rattle.upc_meaning_state.specs.code.Runners.{thread_seen};
-ghost use Rattle.upc_meaning_state.specs.code.Settings.{running_seen};
+ghost use Rattle.upc_meaning_state.specs.layer.Barriers.{passed};
+ghost use Rattle.upc_meaning_state.specs.layer.Came.{Came, state_seen};
+ghost use Rattle.upc_meaning_state.specs.layer.Runners.{thread_seen};
+ghost use Rattle.upc_meaning_state.specs.layer.Settings.{running_seen};
 
 use crate::progress::{Progress, Step};
 use crate::runner::Runner;
@@ -38,7 +38,7 @@ impl<'r> Progress<'r> {
     }
 
     /// The barrier before main, or after it.
-    #[tactic(auto, unfolding(crate::specs::code::Barriers::passed))]
+    #[tactic(auto, unfolding(crate::specs::layer::Barriers::passed))]
     pub fn pass(
         &mut self,
         runner: Runner<'_>,

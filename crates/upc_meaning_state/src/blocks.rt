@@ -3,7 +3,7 @@
 ghost use Rattle.std.specs.Prelude.{◌≡◌, OnOk};
 ghost use Rattle.thread_steps.specs.Blocks as blocks;
 ghost use Rattle.thread_steps.specs.States.{Val};
-ghost use Rattle.upc_meaning_state.specs.code.Came.{state_seen};
+ghost use Rattle.upc_meaning_state.specs.layer.Came.{state_seen};
 
 use crate::progress::Progress;
 use upc_text::OutOfMemory;

@@ -6,9 +6,9 @@ ghost use Rattle.typed_tree.specs.ViewStatements as views;
 ghost use Rattle.typed_tree.specs.ViewStatements.{view_function};
 ghost use Rattle.thread_steps.specs.Blocks as blocks;
 ghost use Rattle.source_meaning.specs.Threads as mean;
-ghost use Rattle.upc_meaning_state.specs.code.Came.{Came, state_seen};
-ghost use Rattle.upc_meaning_state.specs.code.Runners.{Fits};
-ghost use Rattle.upc_meaning_state.specs.code.Settings.{running_seen};
+ghost use Rattle.upc_meaning_state.specs.layer.Came.{Came, state_seen};
+ghost use Rattle.upc_meaning_state.specs.layer.Runners.{Fits};
+ghost use Rattle.upc_meaning_state.specs.layer.Settings.{running_seen};
 
 use crate::progress::{Progress, Step};
 use crate::setting::Setting;

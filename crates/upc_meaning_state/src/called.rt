@@ -8,10 +8,10 @@ ghost use Rattle.typed_tree.specs.Elements as elements;
 ghost use Rattle.typed_tree.specs.Tree.{exprs_of};
 ghost use Rattle.typed_tree.specs.ViewTree.{view_expr};
 ghost use Rattle.source_meaning.specs.Expressions as mean;
-ghost use Rattle.upc_meaning_state.specs.code.Came.{Came, state_seen};
-ghost use Rattle.upc_meaning_state.specs.code.Libraries.{format_first, library_called};
-ghost use Rattle.upc_meaning_state.specs.code.Runners.{Fits};
-ghost use Rattle.upc_meaning_state.specs.code.Settings.{running_seen};
+ghost use Rattle.upc_meaning_state.specs.layer.Came.{Came, state_seen};
+ghost use Rattle.upc_meaning_state.specs.layer.Libraries.{format_first, library_called};
+ghost use Rattle.upc_meaning_state.specs.layer.Runners.{Fits};
+ghost use Rattle.upc_meaning_state.specs.layer.Settings.{running_seen};
 
 use crate::progress::{Progress, Step};
 use crate::setting::Setting;

@@ -6,9 +6,9 @@ ghost use Rattle.thread_steps.specs.layer.Ranges.{IsNumber};
 ghost use Rattle.thread_steps.specs.Values.{number_of};
 ghost use Rattle.upc_values.specs.LibraryCalls.{asks};
 ghost use Rattle.thread_values.specs.layer.Asking.{expansion_of};
-ghost use Rattle.upc_meaning_state.specs.code.Came.{Came, state_seen};
-ghost use Rattle.upc_meaning_state.specs.code.Libraries.{expanded_to, met_then};
-ghost use Rattle.upc_meaning_state.specs.code.Runners.{Fits, thread_seen};
+ghost use Rattle.upc_meaning_state.specs.layer.Came.{Came, state_seen};
+ghost use Rattle.upc_meaning_state.specs.layer.Libraries.{expanded_to, met_then};
+ghost use Rattle.upc_meaning_state.specs.layer.Runners.{Fits, thread_seen};
 
 use crate::progress::{Progress, Step};
 use crate::ranges::is_numeric;

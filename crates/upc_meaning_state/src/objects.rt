@@ -5,9 +5,9 @@ ghost use Rattle.typing_rules.specs.Nodes.{view_attr};
 ghost use Rattle.typed_tree.specs.Initials as initials;
 ghost use Rattle.source_meaning.specs.Expressions as mean;
 ghost use Rattle.source_meaning.specs.Running as running;
-ghost use Rattle.upc_meaning_state.specs.code.Came.{Came, state_seen};
-ghost use Rattle.upc_meaning_state.specs.code.Runners.{Fits};
-ghost use Rattle.upc_meaning_state.specs.code.Settings.{running_seen};
+ghost use Rattle.upc_meaning_state.specs.layer.Came.{Came, state_seen};
+ghost use Rattle.upc_meaning_state.specs.layer.Runners.{Fits};
+ghost use Rattle.upc_meaning_state.specs.layer.Settings.{running_seen};
 
 use crate::progress::{Progress, Step};
 use crate::setting::Setting;

@@ -9,9 +9,9 @@ ghost use Rattle.thread_steps.specs.Operators as operators;
 ghost use Rattle.thread_steps.specs.Pointers as pointers;
 ghost use Rattle.thread_values.specs.layer.Results.{IsRightKind, number_value, ordered};
 ghost use Rattle.source_meaning.specs.Expressions as mean;
-ghost use Rattle.upc_meaning_state.specs.code.Came.{Came, state_seen};
-ghost use Rattle.upc_meaning_state.specs.code.Runners.{Fits, thread_seen};
-ghost use Rattle.upc_meaning_state.specs.code.Settings.{running_seen};
+ghost use Rattle.upc_meaning_state.specs.layer.Came.{Came, state_seen};
+ghost use Rattle.upc_meaning_state.specs.layer.Runners.{Fits, thread_seen};
+ghost use Rattle.upc_meaning_state.specs.layer.Settings.{running_seen};
 
 use crate::progress::{Progress, Step};
 use crate::ranges::{is_cast, is_held, is_numeric, is_step, is_target};

@@ -7,8 +7,8 @@ ghost use Rattle.upc_values.specs.Lists.{Each};
 ghost use Rattle.upc_values.specs.Formed as formed;
 ghost use Rattle.thread_steps.specs.Actions as pure;
 ghost use Rattle.thread_steps.specs.Blocks as blocks;
-ghost use Rattle.upc_meaning_state.specs.code.Came.{Came, state_seen};
-ghost use Rattle.upc_meaning_state.specs.code.Runners.{thread_seen};
+ghost use Rattle.upc_meaning_state.specs.layer.Came.{Came, state_seen};
+ghost use Rattle.upc_meaning_state.specs.layer.Runners.{thread_seen};
 
 use crate::runner::Runner;
 use block_layout::run_error::{BARRIER_IN_FORALL, PHASE_ORDER};

@@ -7,7 +7,7 @@ ghost use Rattle.shared_pointers.specs.layer.Ranges.{IsStep, IsTarget};
 ghost use Rattle.thread_steps.specs.layer.Ranges.{IsHeld, IsHeldScalar, IsNumber, IsObject, IsShared};
 ghost use Rattle.thread_steps.specs.Values as values;
 ghost use Rattle.thread_values.specs.layer.Results.{IsCast};
-ghost use Rattle.upc_meaning_state.specs.code.Runners.{IsHeldThere};
+ghost use Rattle.upc_meaning_state.specs.layer.Runners.{IsHeldThere};
 
 use crate::runner::Runner;
 use block_layout::{Kind, LocalPtr, ObjectRef, is_in_range};

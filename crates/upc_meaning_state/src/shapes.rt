@@ -9,7 +9,7 @@ ghost use Rattle.typed_tree.specs.Tree.{NoItems};
 ghost use Rattle.typed_tree.specs.ViewStatements.{view_item, view_items, view_object};
 ghost use Rattle.source_meaning.specs.Types as pure;
 ghost use Rattle.source_meaning.specs.Statements.{shapes_of, objects_in};
-ghost use Rattle.upc_meaning_state.specs.code.Settings.{running_seen};
+ghost use Rattle.upc_meaning_state.specs.layer.Settings.{running_seen};
 
 use crate::setting::Setting;
 use block_layout::{Cells, Shape};

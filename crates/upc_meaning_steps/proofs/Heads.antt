@@ -7,13 +7,13 @@ use Rattle.source_meaning.specs.Running.{Running}
 use Rattle.source_meaning.specs.Statements.{Standing, with_strict, shapes_of, objects_in}
 use Rattle.upc_meaning_state.specs.declared.progress.Step.{Step}
 use Rattle.upc_meaning_state.specs.declared.progress.Step.TheVariants.{Gives, Ends}
-use Rattle.upc_meaning_state.specs.code.Came.{state_seen}
-use Rattle.upc_meaning_work.specs.code.Items.{Run, Parts, Leave}
-use Rattle.upc_meaning_work.specs.code.Seen.{Seen, with_item}
+use Rattle.upc_meaning_state.specs.layer.Came.{state_seen}
+use Rattle.upc_meaning_work.specs.layer.Items.{Run, Parts, Leave}
+use Rattle.upc_meaning_work.specs.layer.Seen.{Seen, with_item}
 use Rattle.upc_meaning_work.proofs.Declaring.{for_goes, for_ends, forall_goes, forall_ends}
 use Rattle.upc_meaning_work.proofs.Stating.{block_goes, block_ends}
 use Rattle.upc_meaning_work.specs.declared.evaluation.Evaluation.{Evaluation}
-use Rattle.upc_meaning_work.specs.code.Evaluations.{seen, Went}
+use Rattle.upc_meaning_work.specs.layer.Evaluations.{seen, Went}
 use Rattle.upc_meaning_steps.specs.code.Entries.{BlockWent, HeadWent}
 
 -- How a block went, by how its entry went.

@@ -4,12 +4,12 @@ ghost use Rattle.std.specs.Prelude.{◌≡◌, ◌∷◌, [], MatchOption, IfOk,
 ghost use Rattle.typed_tree.specs.Tree as tree;
 ghost use Rattle.typed_tree.specs.Tree.{Exprs, exprs_of};
 ghost use Rattle.typed_tree.specs.ViewTree.{view_expr};
-ghost use Rattle.upc_meaning_state.specs.code.Runners.{Fits};
-ghost use Rattle.upc_meaning_state.specs.code.Settings.{running_seen};
-ghost use Rattle.upc_meaning_work.specs.code.Seen.{more_works, with_item};
-ghost use Rattle.upc_meaning_work.specs.code.Items as item;
-ghost use Rattle.upc_meaning_work.specs.code.ViewItems.{casts_of, view_work};
-ghost use Rattle.upc_meaning_work.specs.code.Evaluations.{Went, seen};
+ghost use Rattle.upc_meaning_state.specs.layer.Runners.{Fits};
+ghost use Rattle.upc_meaning_state.specs.layer.Settings.{running_seen};
+ghost use Rattle.upc_meaning_work.specs.layer.Seen.{more_works, with_item};
+ghost use Rattle.upc_meaning_work.specs.layer.Items as item;
+ghost use Rattle.upc_meaning_work.specs.layer.ViewItems.{casts_of, view_work};
+ghost use Rattle.upc_meaning_work.specs.layer.Evaluations.{Went, seen};
 
 use crate::calling;
 use meaning_types::{conversion, parameter_conversion, promotion};

@@ -6,12 +6,12 @@ ghost use Rattle.typed_tree.specs.Tree.{Stands};
 ghost use Rattle.typed_tree.specs.ViewStatements as views;
 ghost use Rattle.typed_tree.specs.ViewStatements.{view_function};
 ghost use Rattle.source_meaning.specs.Threads as mean;
-ghost use Rattle.upc_meaning_state.specs.code.Runners.{Fits};
-ghost use Rattle.upc_meaning_state.specs.code.Settings.{running_seen};
-ghost use Rattle.upc_meaning_work.specs.code.Bodies.{is_block};
-ghost use Rattle.upc_meaning_work.specs.code.Seen.{entered};
-ghost use Rattle.upc_meaning_work.specs.code.ViewItems.{view_standing};
-ghost use Rattle.upc_meaning_work.specs.code.Evaluations.{Went, seen};
+ghost use Rattle.upc_meaning_state.specs.layer.Runners.{Fits};
+ghost use Rattle.upc_meaning_state.specs.layer.Settings.{running_seen};
+ghost use Rattle.upc_meaning_work.specs.layer.Bodies.{is_block};
+ghost use Rattle.upc_meaning_work.specs.layer.Seen.{entered};
+ghost use Rattle.upc_meaning_work.specs.layer.ViewItems.{view_standing};
+ghost use Rattle.upc_meaning_work.specs.layer.Evaluations.{Went, seen};
 
 use upc_meaning_work::{Evaluation, Flow, Standing, Work};
 use upc_meaning_state::{Setting, Step};

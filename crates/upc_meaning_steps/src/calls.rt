@@ -7,11 +7,11 @@ ghost use Rattle.typed_tree.specs.Tree.{exprs_of};
 ghost use Rattle.typed_tree.specs.ViewTree.{view_expr, view_kind};
 ghost use Rattle.typed_tree.specs.declared.tree.Target.TheVariants as target;
 ghost use Rattle.source_meaning.specs.Running as running;
-ghost use Rattle.upc_meaning_state.specs.code.Settings.{running_seen};
-ghost use Rattle.upc_meaning_work.specs.code.Seen.{meant, more_works, with_item};
-ghost use Rattle.upc_meaning_work.specs.code.Items as item;
-ghost use Rattle.upc_meaning_work.specs.code.ViewItems.{casts_of};
-ghost use Rattle.upc_meaning_work.specs.code.Evaluations.{seen};
+ghost use Rattle.upc_meaning_state.specs.layer.Settings.{running_seen};
+ghost use Rattle.upc_meaning_work.specs.layer.Seen.{meant, more_works, with_item};
+ghost use Rattle.upc_meaning_work.specs.layer.Items as item;
+ghost use Rattle.upc_meaning_work.specs.layer.ViewItems.{casts_of};
+ghost use Rattle.upc_meaning_work.specs.layer.Evaluations.{seen};
 
 use typing_rules_checks::calls::call_parameters;
 use upc_meaning_work::{Evaluation, Parameters, Work};

@@ -9,12 +9,12 @@ ghost use Rattle.typed_tree.specs.ViewTree.{view_expr};
 ghost use Rattle.typed_tree.specs.ViewStatements as views;
 ghost use Rattle.source_meaning.specs.Statements as mean;
 ghost use Rattle.source_meaning.specs.Types as types;
-ghost use Rattle.upc_meaning_state.specs.code.Runners.{Fits};
-ghost use Rattle.upc_meaning_state.specs.code.Settings.{running_seen};
-ghost use Rattle.upc_meaning_work.specs.code.Seen.{headed, meant, more_works, with_item};
-ghost use Rattle.upc_meaning_work.specs.code.Items as item;
-ghost use Rattle.upc_meaning_work.specs.code.ViewItems.{view_standing};
-ghost use Rattle.upc_meaning_work.specs.code.Evaluations.{Went, seen};
+ghost use Rattle.upc_meaning_state.specs.layer.Runners.{Fits};
+ghost use Rattle.upc_meaning_state.specs.layer.Settings.{running_seen};
+ghost use Rattle.upc_meaning_work.specs.layer.Seen.{headed, meant, more_works, with_item};
+ghost use Rattle.upc_meaning_work.specs.layer.Items as item;
+ghost use Rattle.upc_meaning_work.specs.layer.ViewItems.{view_standing};
+ghost use Rattle.upc_meaning_work.specs.layer.Evaluations.{Went, seen};
 ghost use Rattle.upc_meaning_steps.specs.code.Entries.{BlockWent, HeadWent};
 
 use meaning_types::conversion;

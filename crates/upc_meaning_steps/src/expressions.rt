@@ -9,12 +9,12 @@ ghost use Rattle.typed_tree.specs.Tree.{exprs_of};
 ghost use Rattle.typed_tree.specs.ViewTree.{view_expr, view_kind};
 ghost use Rattle.source_meaning.specs.Expressions as mean;
 ghost use Rattle.source_meaning.specs.Types as types;
-ghost use Rattle.upc_meaning_state.specs.code.Runners.{Fits};
-ghost use Rattle.upc_meaning_state.specs.code.Settings.{running_seen};
-ghost use Rattle.upc_meaning_work.specs.code.Seen.{meant, more_works, with_item};
-ghost use Rattle.upc_meaning_work.specs.code.Items as item;
-ghost use Rattle.upc_meaning_work.specs.code.Left.{decides, is_unary, takes_two};
-ghost use Rattle.upc_meaning_work.specs.code.Evaluations.{Went, seen};
+ghost use Rattle.upc_meaning_state.specs.layer.Runners.{Fits};
+ghost use Rattle.upc_meaning_state.specs.layer.Settings.{running_seen};
+ghost use Rattle.upc_meaning_work.specs.layer.Seen.{meant, more_works, with_item};
+ghost use Rattle.upc_meaning_work.specs.layer.Items as item;
+ghost use Rattle.upc_meaning_work.specs.layer.Left.{decides, is_unary, takes_two};
+ghost use Rattle.upc_meaning_work.specs.layer.Evaluations.{Went, seen};
 
 use crate::calls;
 use meaning_types::conversion;
@@ -66,7 +66,7 @@ pub fn value<'p>(
 }
 
 /// The value of the object at a place, where an expression names one.
-#[tactic(auto, unfolding(upc_meaning_work::specs::code::Seen::with_item, upc_meaning_work::specs::code::Seen::meant))]
+#[tactic(auto, unfolding(upc_meaning_work::specs::layer::Seen::with_item, upc_meaning_work::specs::layer::Seen::meant))]
 pub fn hold<'p>(
     evaluation: &mut Evaluation<'p>,
     setting: Setting<'p>,
@@ -228,7 +228,7 @@ fn comma<'p>(
 }
 
 /// The operator of an expression whose operands have their values.
-#[tactic(auto, unfolding(upc_meaning_work::specs::code::Seen::with_item, upc_meaning_work::specs::code::Seen::meant))]
+#[tactic(auto, unfolding(upc_meaning_work::specs::layer::Seen::with_item, upc_meaning_work::specs::layer::Seen::meant))]
 pub fn operate<'p>(
     evaluation: &mut Evaluation<'p>,
     setting: Setting<'p>,
@@ -307,7 +307,7 @@ pub fn branch<'p>(
 }
 
 /// 1 for a value that is not 0, else 0.
-#[tactic(auto, unfolding(upc_meaning_work::specs::code::Seen::with_item, upc_meaning_work::specs::code::Seen::meant))]
+#[tactic(auto, unfolding(upc_meaning_work::specs::layer::Seen::with_item, upc_meaning_work::specs::layer::Seen::meant))]
 pub fn truth<'p>(evaluation: &mut Evaluation<'p>, setting: Setting<'p>) -> Result<(), OutOfMemory>
     ensures { OnOk result (with_item (running_seen setting.entry) item.Truth (seen evaluation.old)
         ≡ meant (running_seen setting.entry) (seen evaluation.new)) }
@@ -317,7 +317,7 @@ pub fn truth<'p>(evaluation: &mut Evaluation<'p>, setting: Setting<'p>) -> Resul
 }
 
 /// A value, converted.
-#[tactic(auto, unfolding(upc_meaning_work::specs::code::Seen::with_item, upc_meaning_work::specs::code::Seen::meant))]
+#[tactic(auto, unfolding(upc_meaning_work::specs::layer::Seen::with_item, upc_meaning_work::specs::layer::Seen::meant))]
 pub fn convert<'p>(
     evaluation: &mut Evaluation<'p>,
     setting: Setting<'p>,

@@ -6,12 +6,12 @@ ghost use Rattle.upc_types.specs.ViewStructs.{view_structs};
 ghost use Rattle.typed_tree.specs.ViewStatements.{view_function};
 ghost use Rattle.source_meaning.specs.Threads as mean;
 ghost use Rattle.source_meaning.specs.Types as types;
-ghost use Rattle.upc_meaning_state.specs.code.Runners.{Fits};
-ghost use Rattle.upc_meaning_state.specs.code.Settings.{running_seen};
-ghost use Rattle.upc_meaning_work.specs.code.Seen.{entered, entering, inside, meant, with_item};
-ghost use Rattle.upc_meaning_work.specs.code.Items as item;
-ghost use Rattle.upc_meaning_work.specs.code.ViewItems.{flow_seen};
-ghost use Rattle.upc_meaning_work.specs.code.Evaluations.{Went, seen};
+ghost use Rattle.upc_meaning_state.specs.layer.Runners.{Fits};
+ghost use Rattle.upc_meaning_state.specs.layer.Settings.{running_seen};
+ghost use Rattle.upc_meaning_work.specs.layer.Seen.{entered, entering, inside, meant, with_item};
+ghost use Rattle.upc_meaning_work.specs.layer.Items as item;
+ghost use Rattle.upc_meaning_work.specs.layer.ViewItems.{flow_seen};
+ghost use Rattle.upc_meaning_work.specs.layer.Evaluations.{Went, seen};
 
 use crate::bodies;
 use meaning_types::cell_kind;

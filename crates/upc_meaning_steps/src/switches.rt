@@ -7,12 +7,12 @@ ghost use Rattle.typed_tree.specs.Tree as tree;
 ghost use Rattle.typed_tree.specs.Tree.{Stands};
 ghost use Rattle.typed_tree.specs.ViewTree.{view_expr};
 ghost use Rattle.typed_tree.specs.ViewStatements as views;
-ghost use Rattle.upc_meaning_state.specs.code.Settings.{running_seen};
-ghost use Rattle.upc_meaning_work.specs.code.Seen.{meant, with_item};
-ghost use Rattle.upc_meaning_work.specs.code.Items as item;
-ghost use Rattle.upc_meaning_work.specs.code.Switches.{behind_label, is_label, selected};
-ghost use Rattle.upc_meaning_work.specs.code.ViewItems.{view_standing};
-ghost use Rattle.upc_meaning_work.specs.code.Evaluations.{seen};
+ghost use Rattle.upc_meaning_state.specs.layer.Settings.{running_seen};
+ghost use Rattle.upc_meaning_work.specs.layer.Seen.{meant, with_item};
+ghost use Rattle.upc_meaning_work.specs.layer.Items as item;
+ghost use Rattle.upc_meaning_work.specs.layer.Switches.{behind_label, is_label, selected};
+ghost use Rattle.upc_meaning_work.specs.layer.ViewItems.{view_standing};
+ghost use Rattle.upc_meaning_work.specs.layer.Evaluations.{seen};
 
 use block_layout::Kind;
 use meaning_types::integer_of;

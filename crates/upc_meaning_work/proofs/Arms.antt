@@ -26,11 +26,11 @@ use Rattle.source_meaning.specs.Types.{conversion}
 use Rattle.source_meaning.specs.Threads.{called}
 use Rattle.typing_rules.specs.Library.{int}
 use Rattle.thread_steps.specs.Operators.{cast}
-use Rattle.upc_meaning_state.specs.code.Operations.{operated, step}
+use Rattle.upc_meaning_state.specs.layer.Operations.{operated, step}
 use Rattle.upc_meaning_state.proofs.Thens.{then_one, then_two, then_cast, then_same, put_last}
-use Rattle.upc_meaning_work.specs.code.Seen.{Seen, meant, with_item, more_works, more_values, popped}
-use Rattle.upc_meaning_work.specs.code.Items.{Value, Address, Hold, Operate, Branch, Last}
-use Rattle.upc_meaning_work.specs.code.Left.{branched, left}
+use Rattle.upc_meaning_work.specs.layer.Seen.{Seen, meant, with_item, more_works, more_values, popped}
+use Rattle.upc_meaning_work.specs.layer.Items.{Value, Address, Hold, Operate, Branch, Last}
+use Rattle.upc_meaning_work.specs.layer.Left.{branched, left}
 use Rattle.upc_meaning_work.specs.code.Stacks.{second, rest, top}
 
 module _ (ρ : Running) (strict : Bool) (at : Place) (attr : Attr) (s t : Seen) where

@@ -20,11 +20,11 @@ use Rattle.source_meaning.specs.Types.{conversion, conversions, parameter_conver
 use Rattle.source_meaning.specs.Expressions.{Calls, value, type_of, types_of, truth_after, converted_to, arguments}
 use Rattle.source_meaning.specs.Expressions.{is_printf, format_of, printed, allocated_shape}
 use Rattle.source_meaning.specs.Threads.{called}
-use Rattle.upc_meaning_state.specs.code.Libraries.{format_first}
+use Rattle.upc_meaning_state.specs.layer.Libraries.{format_first}
 use Rattle.upc_meaning_state.proofs.Thens.{then_one, then_same}
-use Rattle.upc_meaning_work.specs.code.Seen.{Seen, meant, with_item, calls, more_works, more_values, popped}
-use Rattle.upc_meaning_work.specs.code.Items.{Value, Address, Branch, Truth, Convert, Arguments, Last}
-use Rattle.upc_meaning_work.specs.code.Left.{called_so, left}
+use Rattle.upc_meaning_work.specs.layer.Seen.{Seen, meant, with_item, calls, more_works, more_values, popped}
+use Rattle.upc_meaning_work.specs.layer.Items.{Value, Address, Branch, Truth, Convert, Arguments, Last}
+use Rattle.upc_meaning_work.specs.layer.Left.{called_so, left}
 use Rattle.upc_meaning_work.specs.code.Stacks.{top, rest, youngest}
 use Rattle.upc_meaning_work.proofs.Arguing.{youngest_more}
 

@@ -10,9 +10,10 @@ use Rattle.typed_tree.specs.Tree as tree
 use Rattle.typed_tree.specs.Tree.{Expr, Is, Exprs}
 use Rattle.thread_steps.specs.States.{State, Res, Val, Over, bind}
 use Rattle.source_meaning.specs.Running.{Running}
-use Rattle.upc_meaning_state.specs.code.Libraries.{library_called}
-use Rattle.upc_meaning_work.specs.code.Seen.{Seen, meant, calls, called_with, entering, more_values, with_state, without}
-use Rattle.upc_meaning_work.specs.code.Left.{left}
+use Rattle.upc_meaning_state.specs.layer.Libraries.{library_called}
+use Rattle.upc_meaning_work.specs.layer.Seen.{Seen, meant, calls, called_with, entering, more_values}
+use Rattle.upc_meaning_work.specs.layer.Seen.{with_state, without}
+use Rattle.upc_meaning_work.specs.layer.Left.{left}
 use Rattle.upc_meaning_work.specs.code.Stacks.{youngest}
 
 module _ (ρ : Running) (s t : Seen) where

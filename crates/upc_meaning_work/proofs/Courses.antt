@@ -20,12 +20,12 @@ use Rattle.source_meaning.specs.Types.{cell_kind}
 use Rattle.source_meaning.specs.Expressions.{no_value}
 use Rattle.source_meaning.specs.Threads.{blank_of, main_on, main_place, most_calls, outcome_of, told}
 use Rattle.source_meaning.proofs.Mains.{main_found, main_behind, main_nowhere}
-use Rattle.upc_meaning_state.specs.code.Barriers.{passed}
+use Rattle.upc_meaning_state.specs.layer.Barriers.{passed}
 use Rattle.upc_meaning_state.proofs.Thens.{then_one}
-use Rattle.upc_meaning_work.specs.code.Courses.{comes_to, fresh, main_comes_to, main_entered}
-use Rattle.upc_meaning_work.specs.code.Seen.{Seen, meant, with_item, entered, inside, more_works, popped, with_state}
-use Rattle.upc_meaning_work.specs.code.Items.{Item, Drop, End}
-use Rattle.upc_meaning_work.specs.code.Left.{left}
+use Rattle.upc_meaning_work.specs.layer.Courses.{comes_to, fresh, main_comes_to, main_entered}
+use Rattle.upc_meaning_work.specs.layer.Seen.{Seen, meant, with_item, entered, inside, more_works, popped, with_state}
+use Rattle.upc_meaning_work.specs.layer.Items.{Item, Drop, End}
+use Rattle.upc_meaning_work.specs.layer.Left.{left}
 use Rattle.upc_meaning_work.specs.code.Stacks.{top}
 use Rattle.upc_meaning_work.proofs.Enters.{begun, begun_none, begun_some}
 

@@ -24,10 +24,10 @@ use Rattle.source_meaning.specs.Statements.{initialised, listed, element_type, s
 use Rattle.source_meaning.specs.Threads.{called}
 use Rattle.thread_steps.proofs.Thens.{then_same}
 use Rattle.upc_meaning_state.proofs.Thens.{then_one}
-use Rattle.upc_meaning_work.specs.code.Seen.{Seen, meant, with_item, aside_items, headed}
-use Rattle.upc_meaning_work.specs.code.Seen.{more_works, more_values, popped, with_state}
-use Rattle.upc_meaning_work.specs.code.Items.{Value, Convert, Run, Leave, Turn, Declare, Listed, Keep}
-use Rattle.upc_meaning_work.specs.code.Left.{left, turned}
+use Rattle.upc_meaning_work.specs.layer.Seen.{Seen, meant, with_item, aside_items, headed}
+use Rattle.upc_meaning_work.specs.layer.Seen.{more_works, more_values, popped, with_state}
+use Rattle.upc_meaning_work.specs.layer.Items.{Value, Convert, Run, Leave, Turn, Declare, Listed, Keep}
+use Rattle.upc_meaning_work.specs.layer.Left.{left, turned}
 use Rattle.upc_meaning_work.specs.code.Stacks.{top, rest, second}
 
 module _ {B C D E : Type 0} (h : B → Doing C) (d : C → Doing D) (g : D → Doing E) where

@@ -21,10 +21,10 @@ use Rattle.source_meaning.specs.Expressions.{no_value}
 use Rattle.source_meaning.specs.Statements.{Flow, Next, run_items}
 use Rattle.source_meaning.specs.Threads.{called, function, body, given_by, blank_of, in_body, shapes_in, received}
 use Rattle.upc_meaning_state.proofs.Thens.{then_one, then_same}
-use Rattle.upc_meaning_work.specs.code.Seen.{Seen, meant, with_item, calls, entering, entered, inside, outside}
-use Rattle.upc_meaning_work.specs.code.Seen.{more_works, with_flow, with_state, without}
-use Rattle.upc_meaning_work.specs.code.Items.{Parts, Leave, Return}
-use Rattle.upc_meaning_work.specs.code.Left.{left}
+use Rattle.upc_meaning_work.specs.layer.Seen.{Seen, meant, with_item, calls, entering, entered, inside, outside}
+use Rattle.upc_meaning_work.specs.layer.Seen.{more_works, with_flow, with_state, without}
+use Rattle.upc_meaning_work.specs.layer.Items.{Parts, Leave, Return}
+use Rattle.upc_meaning_work.specs.layer.Left.{left}
 use Rattle.upc_meaning_work.specs.code.Stacks.{youngest}
 
 -- The function with a number, and where there is none.

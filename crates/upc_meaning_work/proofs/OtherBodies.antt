@@ -8,10 +8,10 @@ use Rattle.source_meaning.specs.Running.{Running}
 use Rattle.source_meaning.specs.Expressions.{Calls}
 use Rattle.source_meaning.specs.Statements.{run}
 use Rattle.source_meaning.specs.Threads.{called, body, in_body}
-use Rattle.upc_meaning_work.specs.code.Bodies.{is_block}
-use Rattle.upc_meaning_work.specs.code.Seen.{Seen, meant, entered, more_works}
-use Rattle.upc_meaning_work.specs.code.Items.{Run}
-use Rattle.upc_meaning_work.specs.code.Left.{left}
+use Rattle.upc_meaning_work.specs.layer.Bodies.{is_block}
+use Rattle.upc_meaning_work.specs.layer.Seen.{Seen, meant, entered, more_works}
+use Rattle.upc_meaning_work.specs.layer.Items.{Run}
+use Rattle.upc_meaning_work.specs.layer.Left.{left}
 
 module _ (ρ : Running) (call : Calls) (f : Function) (vs : List Given) where
   other_in : (b : Statement) → is_block b ≡ false → body ρ call f vs b ≡ run ρ call (in_body ρ f false) b

@@ -13,7 +13,7 @@ use Rattle.thread_steps.specs.States.{State}
 use Rattle.source_meaning.specs.Running.{Running}
 use Rattle.source_meaning.specs.Threads.{main_of, outcome_of, thread_outcome, told}
 pub use Rattle.source_meaning.proofs.Beginnings.{shapes_fit, privates_begin}
-use Rattle.upc_meaning_work.specs.code.Courses.{comes_to, running_with, state_with}
+use Rattle.upc_meaning_work.specs.layer.Courses.{comes_to, running_with, state_with}
 
 module _ (x : Checked) (b : Beginning) (thread budget : ℕ) (replies : List Reply) (e : ToldEnd) (τ : State) where
   -- The thread has this outcome where the program begins with this.

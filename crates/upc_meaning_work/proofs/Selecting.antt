@@ -18,11 +18,11 @@ use Rattle.source_meaning.specs.Expressions.{Calls, type_of, value}
 use Rattle.source_meaning.specs.Statements.{Flow, Next, Does, Standing, caught, run_switch, from_case, from_default}
 use Rattle.source_meaning.specs.Threads.{called}
 use Rattle.upc_meaning_state.proofs.Thens.{then_one, then_same}
-use Rattle.upc_meaning_work.specs.code.Seen.{Seen, meant, with_item, more_works, popped, with_flow}
-use Rattle.upc_meaning_work.specs.code.Items.{Value, Run, Cases, Select, Caught}
-use Rattle.upc_meaning_work.specs.code.Left.{left}
+use Rattle.upc_meaning_work.specs.layer.Seen.{Seen, meant, with_item, more_works, popped, with_flow}
+use Rattle.upc_meaning_work.specs.layer.Items.{Value, Run, Cases, Select, Caught}
+use Rattle.upc_meaning_work.specs.layer.Left.{left}
 use Rattle.upc_meaning_work.specs.code.Stacks.{top, rest}
-use Rattle.upc_meaning_work.specs.code.Switches.{behind_label, is_label, or_else, selected}
+use Rattle.upc_meaning_work.specs.layer.Switches.{behind_label, is_label, or_else, selected}
 
 -- ---- labels
 

@@ -26,11 +26,11 @@ use Rattle.source_meaning.specs.Statements.{Flow, Next, Broke, Again, Gave, Stan
 use Rattle.source_meaning.specs.Statements.{synchronised, run, run_last, run_arms, run_items, shapes_of, objects_in}
 use Rattle.source_meaning.specs.Threads.{called}
 use Rattle.upc_meaning_state.proofs.Thens.{then_one, then_same, cast_in}
-use Rattle.upc_meaning_work.specs.code.Seen.{Seen, meant, with_item, armed, aside_items, more_works}
-use Rattle.upc_meaning_work.specs.code.Seen.{popped, with_flow, with_state}
-use Rattle.upc_meaning_work.specs.code.Items.{Item, Value, Convert, Run, Parts, Caught, Leave}
-use Rattle.upc_meaning_work.specs.code.Items.{Arm, Give, Mark}
-use Rattle.upc_meaning_work.specs.code.Left.{left}
+use Rattle.upc_meaning_work.specs.layer.Seen.{Seen, meant, with_item, armed, aside_items, more_works}
+use Rattle.upc_meaning_work.specs.layer.Seen.{popped, with_flow, with_state}
+use Rattle.upc_meaning_work.specs.layer.Items.{Item, Value, Convert, Run, Parts, Caught, Leave}
+use Rattle.upc_meaning_work.specs.layer.Items.{Arm, Give, Mark}
+use Rattle.upc_meaning_work.specs.layer.Left.{left}
 use Rattle.upc_meaning_work.specs.code.Stacks.{top, rest}
 
 module _ (ρ : Running) (κ : Standing) (s t : Seen) where

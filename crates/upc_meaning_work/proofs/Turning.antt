@@ -23,11 +23,11 @@ use Rattle.source_meaning.specs.Statements.{turn_on, finished, around, tested, a
 use Rattle.source_meaning.specs.Statements.{run, run_items, run_switch, controlling}
 use Rattle.source_meaning.specs.Threads.{called}
 use Rattle.upc_meaning_state.proofs.Thens.{then_one, then_same}
-use Rattle.upc_meaning_work.specs.code.Seen.{Seen, meant, with_item, bodied, controlled, aside_items, with_test}
-use Rattle.upc_meaning_work.specs.code.Seen.{more_works, more_values, popped, with_flow, with_state, is_next}
-use Rattle.upc_meaning_work.specs.code.Items.{Item, Value, Run, Parts, Cases, Turn, Test, Around, Mine, Guard}
-use Rattle.upc_meaning_work.specs.code.Items.{Finished, Release, Declare}
-use Rattle.upc_meaning_work.specs.code.Left.{left, body_of, turned, test_in, step_in}
+use Rattle.upc_meaning_work.specs.layer.Seen.{Seen, meant, with_item, bodied, controlled, aside_items, with_test}
+use Rattle.upc_meaning_work.specs.layer.Seen.{more_works, more_values, popped, with_flow, with_state, is_next}
+use Rattle.upc_meaning_work.specs.layer.Items.{Item, Value, Run, Parts, Cases, Turn, Test, Around, Mine, Guard}
+use Rattle.upc_meaning_work.specs.layer.Items.{Finished, Release, Declare}
+use Rattle.upc_meaning_work.specs.layer.Left.{left, body_of, turned, test_in, step_in}
 use Rattle.upc_meaning_work.specs.code.Stacks.{top, rest}
 
 -- A statement that was left at its end.

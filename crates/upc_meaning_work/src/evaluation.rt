@@ -4,10 +4,10 @@ ghost use Rattle.std.specs.Prelude.{◌≡◌, ◌∷◌, [], OnOk};
 ghost use Rattle.typed_tree.specs.ViewStatements.{view_value};
 ghost use Rattle.thread_steps.specs.Values.{number};
 ghost use Rattle.source_meaning.specs.Statements as mean;
-ghost use Rattle.upc_meaning_work.specs.code.Evaluations.{seen};
-ghost use Rattle.upc_meaning_work.specs.code.Seen.{aside_items, more_values, more_works, popped, with_flow};
+ghost use Rattle.upc_meaning_work.specs.layer.Evaluations.{seen};
+ghost use Rattle.upc_meaning_work.specs.layer.Seen.{aside_items, more_values, more_works, popped, with_flow};
 ghost use Rattle.upc_meaning_work.specs.code.Stacks.{top};
-ghost use Rattle.upc_meaning_work.specs.code.ViewItems.{flow_seen, view_standing, view_work};
+ghost use Rattle.upc_meaning_work.specs.layer.ViewItems.{flow_seen, view_standing, view_work};
 
 use crate::flow::Flow;
 use crate::standing::Standing;

@@ -3,7 +3,7 @@
 ghost use Rattle.std.specs.Prelude.{◌≡◌, IfOk, map};
 ghost use Rattle.typed_tree.specs.ViewStatements.{view_object};
 ghost use Rattle.source_meaning.specs.Statements as pure;
-ghost use Rattle.upc_meaning_work.specs.code.ViewItems.{view_standing};
+ghost use Rattle.upc_meaning_work.specs.layer.ViewItems.{view_standing};
 
 use typed_tree::Object;
 use upc_text::OutOfMemory;

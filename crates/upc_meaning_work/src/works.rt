@@ -1,7 +1,7 @@
 //! What is left to do.
 
 ghost use Rattle.std.specs.Prelude.{◌≡◌, ◌∷◌, [], OnOk, MatchOption};
-ghost use Rattle.upc_meaning_work.specs.code.ViewItems.{listed, view_work};
+ghost use Rattle.upc_meaning_work.specs.layer.ViewItems.{listed, view_work};
 
 use crate::flow::Flow;
 use crate::standing::Standing;

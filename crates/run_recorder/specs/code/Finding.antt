@@ -8,7 +8,7 @@ use Rattle.upc_values.specs.declared.record.Item.TheVariants.{Did, Stall}
 use Rattle.upc_values.specs.declared.journal.Entry.{Entry}
 use Rattle.upc_values.specs.declared.journal.Strand.{Strand}
 use Rattle.run_recorder_parts.specs.declared.names.Name.{Name}
-use Rattle.run_recorder_parts.specs.code.Readers.{bind}
+use Rattle.run_recorder_parts.specs.layer.Readers.{bind}
 
 -- Action n of a record, stalls not counted, with its reply.
 abbrev pub did_at : List Item → ℕ → Option (Action × Reply)

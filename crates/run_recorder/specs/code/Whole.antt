@@ -9,8 +9,8 @@ use Rattle.run_recorder_text.specs.Words.{Text}
 use Rattle.run_recorder_text.specs.Short.{is_short}
 use Rattle.run_recorder_parts.specs.declared.head.Head.{Head}
 use Rattle.run_recorder_parts.specs.declared.limits.Limits.{Limits}
-use Rattle.run_recorder_parts.specs.code.Readers.{Reader, ◌>>=◌, many, each, expect, lift, guarded, whole}
-use Rattle.run_recorder_parts.specs.code.Lines.{head_of, strand_of, section_of, name_of, op_of, order_of}
+use Rattle.run_recorder_parts.specs.layer.Readers.{Reader, ◌>>=◌, many, each, expect, lift, guarded, whole}
+use Rattle.run_recorder_parts.specs.layer.Lines.{head_of, strand_of, section_of, name_of, op_of, order_of}
 use Rattle.run_recorder.specs.code.Finding.{entries_of}
 
 -- The journal of these numbers, strands and entries.

@@ -9,11 +9,11 @@ use Rattle.source_meaning.specs.Running.{Running}
 use Rattle.source_meaning.specs.Statements as pure
 use Rattle.upc_meaning_state.specs.declared.progress.Step.{Step}
 use Rattle.upc_meaning_state.specs.declared.progress.Step.TheVariants.{Gives, Ends}
-use Rattle.upc_meaning_state.specs.code.Came.{state_seen}
+use Rattle.upc_meaning_state.specs.layer.Came.{state_seen}
 use Rattle.upc_meaning_work.specs.declared.evaluation.Evaluation.{Evaluation}
-use Rattle.upc_meaning_work.specs.code.Evaluations.{seen}
-use Rattle.upc_meaning_work.specs.code.Items.{Item}
-use Rattle.upc_meaning_work.specs.code.Seen.{Seen, headed, more_works, with_flow, with_state}
+use Rattle.upc_meaning_work.specs.layer.Evaluations.{seen}
+use Rattle.upc_meaning_work.specs.layer.Items.{Item}
+use Rattle.upc_meaning_work.specs.layer.Seen.{Seen, headed, more_works, with_flow, with_state}
 
 -- The block of a loop was entered, and what its head leaves is to be done inside it, or the thread has ended there
 -- (C99 6.8.5.3).

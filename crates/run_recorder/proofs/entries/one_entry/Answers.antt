@@ -1,7 +1,7 @@
 use Rattle.std.proofs.Common.{sym, subst, ap, refl, length, Option}
 use Rattle.std.proofs.lemmas.Option.{slice_get_past, slice_get_read}
 use Rattle.upc_values.specs.declared.journal.Strand.{Strand}
-use Rattle.run_recorder_parts.specs.code.Readers.{bind, Gives, same}
+use Rattle.run_recorder_parts.specs.layer.Readers.{bind, Gives, same}
 use Rattle.run_recorder.specs.code.Finding.{IsTable, did_at, entry_by}
 use Rattle.run_recorder.proofs.Tables.{tables_at, tables_none}
 use Rattle.run_recorder.proofs.entries.one_entry.Goals as goal

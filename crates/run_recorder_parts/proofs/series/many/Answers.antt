@@ -1,5 +1,5 @@
 use Rattle.std.proofs.lemmas.Result.{err_from_is_err_and}
-use Rattle.run_recorder_parts.specs.code.Readers.{many, texts}
+use Rattle.run_recorder_parts.specs.layer.Readers.{many, texts}
 use Rattle.run_recorder_parts.proofs.Loops.{ends, goes_on}
 use Rattle.run_recorder_parts.proofs.series.many.Goals as goal
 

@@ -1,5 +1,5 @@
 use Rattle.std.proofs.Common.{◌≡◌, ◌-◌}
-use Rattle.run_recorder_parts.specs.code.Readers.{many, texts}
+use Rattle.run_recorder_parts.specs.layer.Readers.{many, texts}
 use Rattle.run_recorder_parts.proofs.Loops.{with_front}
 use Rattle.run_recorder_parts.proofs.series.many.Given as goal
 

@@ -1,13 +1,13 @@
 use Rattle.std.proofs.Common.{◌≡◌, ◌-◌, ◌∷◌, [], refl, rules}
 use Rattle.thread_steps.specs.Blocks.{begin_call}
 use Rattle.thread_steps.specs.States.{Val}
-use Rattle.upc_meaning_state.specs.code.Came.{state_seen}
-use Rattle.upc_meaning_state.specs.code.Settings.{running_seen}
-use Rattle.upc_meaning_work.specs.code.Courses.{view_main}
-use Rattle.upc_meaning_work.specs.code.Seen.{more_works, with_state}
-use Rattle.upc_meaning_work.specs.code.Items.{End}
+use Rattle.upc_meaning_state.specs.layer.Came.{state_seen}
+use Rattle.upc_meaning_state.specs.layer.Settings.{running_seen}
+use Rattle.upc_meaning_work.specs.layer.Courses.{view_main}
+use Rattle.upc_meaning_work.specs.layer.Seen.{more_works, with_state}
+use Rattle.upc_meaning_work.specs.layer.Items.{End}
 use Rattle.upc_meaning_work.proofs.Courses.{main_goes, main_refused}
-use Rattle.upc_meaning_work.specs.code.Evaluations.{seen}
+use Rattle.upc_meaning_work.specs.layer.Evaluations.{seen}
 use Rattle.upc_meaning.proofs.course.call_main.Goals as goal
 
 pub returns-in-Ends : goal.returns-in-Ends

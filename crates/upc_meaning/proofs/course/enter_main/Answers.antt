@@ -1,9 +1,9 @@
 use Rattle.std.proofs.Common.{◌-◌, ap}
 use Rattle.typed_tree.specs.ViewStatements.{view_function}
-use Rattle.upc_meaning_state.specs.code.Settings.{running_seen}
-use Rattle.upc_meaning_work.specs.code.Courses.{view_main}
+use Rattle.upc_meaning_state.specs.layer.Settings.{running_seen}
+use Rattle.upc_meaning_work.specs.layer.Courses.{view_main}
 use Rattle.upc_meaning_work.proofs.Courses.{main_begins, main_missing}
-use Rattle.upc_meaning_work.specs.code.Evaluations.{seen}
+use Rattle.upc_meaning_work.specs.layer.Evaluations.{seen}
 use Rattle.upc_meaning.proofs.course.enter_main.Goals as goal
 
 pub returns-in_ok-push_return-in-None : goal.returns-in_ok-push_return-in-None

@@ -1,5 +1,5 @@
 use Rattle.std.proofs.Common.{refl}
-use Rattle.upc_meaning_state.specs.code.Runners.{thread_seen}
+use Rattle.upc_meaning_state.specs.layer.Runners.{thread_seen}
 use Rattle.upc_meaning_state.proofs.accesses.cell_at.Goals as goal
 
 pub returns : goal.returns

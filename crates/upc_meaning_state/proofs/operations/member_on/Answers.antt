@@ -1,6 +1,6 @@
 use Rattle.std.proofs.Common.{rules}
 use Rattle.thread_steps.specs.layer.Ranges.{IsHeld}
-use Rattle.upc_meaning_state.specs.code.Runners.{thread_seen}
+use Rattle.upc_meaning_state.specs.layer.Runners.{thread_seen}
 use Rattle.upc_meaning_state.proofs.operations.member_on.Goals as goal
 
 pub member_behind-requires : goal.member_behind-requires

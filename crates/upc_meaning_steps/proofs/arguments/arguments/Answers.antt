@@ -2,10 +2,10 @@ use Rattle.std.proofs.Common.{◌≡◌, ◌+◌, refl, ap, ◌∙◌, map}
 use Rattle.std.proofs.lemmas.List.{nil_from_length}
 use Rattle.typed_tree.specs.Tree.{NoExprs, AndExpr, exprs_of}
 use Rattle.typed_tree.specs.ViewTree.{view_expr}
-use Rattle.upc_meaning_state.specs.code.Settings.{running_seen}
-use Rattle.upc_meaning_work.specs.code.ViewItems.{casts_of}
+use Rattle.upc_meaning_state.specs.layer.Settings.{running_seen}
+use Rattle.upc_meaning_work.specs.layer.ViewItems.{casts_of}
 use Rattle.upc_meaning_work.proofs.Branches.{no_more, argument_goes}
-use Rattle.upc_meaning_work.specs.code.Evaluations.{seen}
+use Rattle.upc_meaning_work.specs.layer.Evaluations.{seen}
 use Rattle.upc_meaning_steps.proofs.arguments.arguments.Goals as goal
 
 pub returns-in_default : goal.returns-in_default

@@ -6,13 +6,13 @@ use Rattle.typed_tree.specs.Tree.{Stands, Block}
 use Rattle.typed_tree.specs.ViewStatements.{view_function, view_items}
 use Rattle.source_meaning.specs.Statements.{Next, Standing}
 use Rattle.source_meaning.specs.Threads.{received}
-use Rattle.upc_meaning_state.specs.code.Came.{state_seen}
-use Rattle.upc_meaning_state.specs.code.Settings.{running_seen}
-use Rattle.upc_meaning_work.specs.code.Seen.{more_works, with_flow, with_state}
-use Rattle.upc_meaning_work.specs.code.Items.{Parts, Leave}
-use Rattle.upc_meaning_work.specs.code.ViewItems.{view_standing}
+use Rattle.upc_meaning_state.specs.layer.Came.{state_seen}
+use Rattle.upc_meaning_state.specs.layer.Settings.{running_seen}
+use Rattle.upc_meaning_work.specs.layer.Seen.{more_works, with_flow, with_state}
+use Rattle.upc_meaning_work.specs.layer.Items.{Parts, Leave}
+use Rattle.upc_meaning_work.specs.layer.ViewItems.{view_standing}
 use Rattle.upc_meaning_work.proofs.Enters.{body_goes, body_refused, body_stops}
-use Rattle.upc_meaning_work.specs.code.Evaluations.{seen}
+use Rattle.upc_meaning_work.specs.layer.Evaluations.{seen}
 use Rattle.upc_meaning_steps.proofs.bodies.block_body.Goals as goal
 
 pub returns-in-Ends : goal.returns-in-Ends

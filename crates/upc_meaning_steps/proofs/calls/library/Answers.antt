@@ -5,9 +5,9 @@ use Rattle.typed_tree.specs.declared.tree.Target.TheVariants.{Library}
 use Rattle.typed_tree.specs.Tree.{Call, exprs_of}
 use Rattle.typed_tree.specs.ViewTree.{view_expr, view_kind}
 use Rattle.source_meaning.specs.Expressions.{is_printf}
-use Rattle.upc_meaning_state.specs.code.Settings.{running_seen}
+use Rattle.upc_meaning_state.specs.layer.Settings.{running_seen}
 use Rattle.upc_meaning_work.proofs.Branches.{printf_none}
-use Rattle.upc_meaning_work.specs.code.Evaluations.{seen}
+use Rattle.upc_meaning_work.specs.layer.Evaluations.{seen}
 use Rattle.upc_meaning_steps.proofs.calls.library.Goals as goal
 
 pub returns-in_ok-push_value-in-None : goal.returns-in_ok-push_value-in-None

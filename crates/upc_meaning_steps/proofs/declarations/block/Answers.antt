@@ -1,7 +1,7 @@
 use Rattle.typed_tree.specs.ViewStatements.{view_items}
-use Rattle.upc_meaning_state.specs.code.Settings.{running_seen}
-use Rattle.upc_meaning_work.specs.code.ViewItems.{view_standing}
-use Rattle.upc_meaning_work.specs.code.Evaluations.{seen}
+use Rattle.upc_meaning_state.specs.layer.Settings.{running_seen}
+use Rattle.upc_meaning_work.specs.layer.ViewItems.{view_standing}
+use Rattle.upc_meaning_work.specs.layer.Evaluations.{seen}
 use Rattle.upc_meaning_steps.proofs.Heads.{block_enters}
 use Rattle.upc_meaning_steps.proofs.declarations.block.Goals as goal
 

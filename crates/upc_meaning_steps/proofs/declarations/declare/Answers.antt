@@ -1,7 +1,7 @@
-use Rattle.upc_meaning_state.specs.code.Settings.{running_seen}
-use Rattle.upc_meaning_work.specs.code.ViewItems.{view_standing}
+use Rattle.upc_meaning_state.specs.layer.Settings.{running_seen}
+use Rattle.upc_meaning_work.specs.layer.ViewItems.{view_standing}
 use Rattle.upc_meaning_work.proofs.Declaring.{declare_end}
-use Rattle.upc_meaning_work.specs.code.Evaluations.{seen}
+use Rattle.upc_meaning_work.specs.layer.Evaluations.{seen}
 use Rattle.upc_meaning_steps.proofs.declarations.declare.Goals as goal
 
 pub returns-in-None : goal.returns-in-None

@@ -5,12 +5,12 @@ use Rattle.typed_tree.specs.ViewTree.{view_expr}
 use Rattle.typed_tree.specs.ViewStatements.{view_initial, view_object}
 use Rattle.source_meaning.specs.Types.{conversion}
 use Rattle.source_meaning.specs.Expressions.{type_of}
-use Rattle.upc_meaning_state.specs.code.Settings.{running_seen}
-use Rattle.upc_meaning_work.specs.code.Seen.{more_works}
-use Rattle.upc_meaning_work.specs.code.Items.{Value, Convert, Keep, Declare}
-use Rattle.upc_meaning_work.specs.code.ViewItems.{view_standing}
+use Rattle.upc_meaning_state.specs.layer.Settings.{running_seen}
+use Rattle.upc_meaning_work.specs.layer.Seen.{more_works}
+use Rattle.upc_meaning_work.specs.layer.Items.{Value, Convert, Keep, Declare}
+use Rattle.upc_meaning_work.specs.layer.ViewItems.{view_standing}
 use Rattle.upc_meaning_work.proofs.Declaring.{declare_value}
-use Rattle.upc_meaning_work.specs.code.Evaluations.{seen}
+use Rattle.upc_meaning_work.specs.layer.Evaluations.{seen}
 use Rattle.upc_meaning_steps.proofs.declarations.declare_one.Goals as goal
 
 pub returns-in_ok-push_initial-in-Value : goal.returns-in_ok-push_initial-in-Value

@@ -8,13 +8,13 @@ use Rattle.typed_tree.specs.ViewTree.{view_expr}
 use Rattle.typed_tree.specs.ViewStatements.{view_object}
 use Rattle.source_meaning.specs.Types.{conversion}
 use Rattle.source_meaning.specs.Expressions.{behind, type_of}
-use Rattle.upc_meaning_state.specs.code.Came.{state_seen}
-use Rattle.upc_meaning_state.specs.code.Settings.{running_seen}
-use Rattle.upc_meaning_work.specs.code.Seen.{more_works}
-use Rattle.upc_meaning_work.specs.code.Items.{Value, Convert, Keep, Listed}
-use Rattle.upc_meaning_work.specs.code.ViewItems.{view_standing}
+use Rattle.upc_meaning_state.specs.layer.Came.{state_seen}
+use Rattle.upc_meaning_state.specs.layer.Settings.{running_seen}
+use Rattle.upc_meaning_work.specs.layer.Seen.{more_works}
+use Rattle.upc_meaning_work.specs.layer.Items.{Value, Convert, Keep, Listed}
+use Rattle.upc_meaning_work.specs.layer.ViewItems.{view_standing}
 use Rattle.upc_meaning_work.proofs.Declaring.{listed_goes, listed_ends}
-use Rattle.upc_meaning_work.specs.code.Evaluations.{seen}
+use Rattle.upc_meaning_work.specs.layer.Evaluations.{seen}
 use Rattle.upc_meaning_steps.proofs.declarations.list_one.Goals as goal
 
 pub returns-in-Ends : goal.returns-in-Ends

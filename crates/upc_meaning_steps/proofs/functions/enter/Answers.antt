@@ -1,9 +1,9 @@
 use Rattle.std.proofs.Common.{◌≢◌, ◌-◌, refl, arith}
 use Rattle.typed_tree.specs.ViewStatements.{view_function}
-use Rattle.upc_meaning_state.specs.code.Came.{state_seen}
-use Rattle.upc_meaning_state.specs.code.Settings.{running_seen}
+use Rattle.upc_meaning_state.specs.layer.Came.{state_seen}
+use Rattle.upc_meaning_state.specs.layer.Settings.{running_seen}
 use Rattle.upc_meaning_work.proofs.Enters.{call_begins, call_of_none, function_at, no_function}
-use Rattle.upc_meaning_work.specs.code.Evaluations.{seen}
+use Rattle.upc_meaning_work.specs.layer.Evaluations.{seen}
 use Rattle.upc_meaning_steps.proofs.functions.enter.Goals as goal
 
 pub returns-in_ok-push_return-in-None : goal.returns-in_ok-push_return-in-None

@@ -1,9 +1,9 @@
 use Rattle.std.proofs.Common.{◌≡◌, true, arith}
-use Rattle.upc_meaning_state.specs.code.Settings.{running_seen}
-use Rattle.upc_meaning_work.specs.code.Seen.{is_next}
-use Rattle.upc_meaning_work.specs.code.ViewItems.{flow_seen, view_standing}
+use Rattle.upc_meaning_state.specs.layer.Settings.{running_seen}
+use Rattle.upc_meaning_work.specs.layer.Seen.{is_next}
+use Rattle.upc_meaning_work.specs.layer.ViewItems.{flow_seen, view_standing}
 use Rattle.upc_meaning_work.proofs.Turning.{cases_end}
-use Rattle.upc_meaning_work.specs.code.Evaluations.{seen}
+use Rattle.upc_meaning_work.specs.layer.Evaluations.{seen}
 use Rattle.upc_meaning_steps.proofs.loops.cases.Goals as goal
 
 pub returns-in-None : goal.returns-in-None

@@ -1,7 +1,7 @@
-use Rattle.upc_meaning_state.specs.code.Came.{state_seen}
-use Rattle.upc_meaning_state.specs.code.Settings.{running_seen}
+use Rattle.upc_meaning_state.specs.layer.Came.{state_seen}
+use Rattle.upc_meaning_state.specs.layer.Settings.{running_seen}
 use Rattle.upc_meaning_work.proofs.Turning.{mine_goes, mine_ends}
-use Rattle.upc_meaning_work.specs.code.Evaluations.{seen}
+use Rattle.upc_meaning_work.specs.layer.Evaluations.{seen}
 use Rattle.upc_meaning_steps.proofs.loops.mine.Goals as goal
 
 pub returns-in-Ends : goal.returns-in-Ends

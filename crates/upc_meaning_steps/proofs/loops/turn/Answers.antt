@@ -1,12 +1,12 @@
 use Rattle.std.proofs.Common.{◌≢◌, ◌-◌, refl, ap, ◌∙◌, arith}
 use Rattle.typed_tree.specs.ViewStatements.{view_statement_kind}
-use Rattle.upc_meaning_state.specs.code.Came.{state_seen}
-use Rattle.upc_meaning_state.specs.code.Settings.{running_seen}
-use Rattle.upc_meaning_work.specs.code.Seen.{with_test}
-use Rattle.upc_meaning_work.specs.code.Left.{test_in}
-use Rattle.upc_meaning_work.specs.code.ViewItems.{view_standing}
+use Rattle.upc_meaning_state.specs.layer.Came.{state_seen}
+use Rattle.upc_meaning_state.specs.layer.Settings.{running_seen}
+use Rattle.upc_meaning_work.specs.layer.Seen.{with_test}
+use Rattle.upc_meaning_work.specs.layer.Left.{test_in}
+use Rattle.upc_meaning_work.specs.layer.ViewItems.{view_standing}
 use Rattle.upc_meaning_work.proofs.Turning.{turn_goes}
-use Rattle.upc_meaning_work.specs.code.Evaluations.{seen}
+use Rattle.upc_meaning_work.specs.layer.Evaluations.{seen}
 use Rattle.upc_meaning_steps.proofs.loops.turn.Goals as goal
 
 pub returns-in_ok-push_test-in-Gives : goal.returns-in_ok-push_test-in-Gives

@@ -1,9 +1,9 @@
 use Rattle.std.proofs.Common.{ap}
 use Rattle.typed_tree.specs.ViewStatements.{view_last}
-use Rattle.upc_meaning_state.specs.code.Settings.{running_seen}
-use Rattle.upc_meaning_work.specs.code.ViewItems.{view_standing}
+use Rattle.upc_meaning_state.specs.layer.Settings.{running_seen}
+use Rattle.upc_meaning_work.specs.layer.ViewItems.{view_standing}
 use Rattle.upc_meaning_work.proofs.Stating.{arms_end}
-use Rattle.upc_meaning_work.specs.code.Evaluations.{seen}
+use Rattle.upc_meaning_work.specs.layer.Evaluations.{seen}
 use Rattle.upc_meaning_steps.proofs.statements.arms.Goals as goal
 
 pub returns-in-None-last : goal.returns-in-None-last

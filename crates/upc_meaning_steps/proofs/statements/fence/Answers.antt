@@ -1,8 +1,8 @@
-use Rattle.upc_meaning_state.specs.code.Came.{state_seen}
-use Rattle.upc_meaning_state.specs.code.Settings.{running_seen}
-use Rattle.upc_meaning_work.specs.code.ViewItems.{view_standing}
+use Rattle.upc_meaning_state.specs.layer.Came.{state_seen}
+use Rattle.upc_meaning_state.specs.layer.Settings.{running_seen}
+use Rattle.upc_meaning_work.specs.layer.ViewItems.{view_standing}
 use Rattle.upc_meaning_work.proofs.Stating.{fence_goes}
-use Rattle.upc_meaning_work.specs.code.Evaluations.{seen}
+use Rattle.upc_meaning_work.specs.layer.Evaluations.{seen}
 use Rattle.upc_meaning_steps.proofs.statements.fence.Goals as goal
 
 pub returns-in-Gives : goal.returns-in-Gives

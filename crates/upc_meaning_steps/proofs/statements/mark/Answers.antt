@@ -2,10 +2,10 @@ use Rattle.std.proofs.Common.{rules, ◌∙◌}
 use Rattle.std.proofs.lemmas.Int.{to_z-of_z}
 use mir.Syntax.{w32}
 use mir.Val.{SFits, of_z, to_z}
-use Rattle.upc_meaning_state.specs.code.Came.{state_seen}
-use Rattle.upc_meaning_state.specs.code.Settings.{running_seen}
+use Rattle.upc_meaning_state.specs.layer.Came.{state_seen}
+use Rattle.upc_meaning_state.specs.layer.Settings.{running_seen}
 use Rattle.upc_meaning_work.proofs.Stating.{mark_goes, mark_ends}
-use Rattle.upc_meaning_work.specs.code.Evaluations.{seen}
+use Rattle.upc_meaning_work.specs.layer.Evaluations.{seen}
 use Rattle.upc_meaning_steps.proofs.statements.mark.Goals as goal
 
 pub returns-in-Ends : goal.returns-in-Ends

@@ -1,6 +1,6 @@
 use Rattle.std.proofs.Common.{◌≡◌, length}
 use Rattle.typed_tree.specs.ViewStatements.{view_switch_items}
-use Rattle.upc_meaning_work.specs.code.Switches.{behind_label}
+use Rattle.upc_meaning_work.specs.layer.Switches.{behind_label}
 use Rattle.upc_meaning_steps.proofs.switches.behind_label.Given as goal
 
 abbrev pub decreases-loop-item : goal.decreases-loop-item

@@ -4,12 +4,12 @@ use mir.Syntax.{w128}
 use mir.Val.{SFits, of_z, to_z}
 use Rattle.typing_rules.specs.Rules.{label_kind}
 use Rattle.typed_tree.specs.ViewStatements.{view_switch_items}
-use Rattle.upc_meaning_state.specs.code.Settings.{running_seen}
-use Rattle.upc_meaning_work.specs.code.Seen.{more_works}
-use Rattle.upc_meaning_work.specs.code.Items.{Cases}
-use Rattle.upc_meaning_work.specs.code.ViewItems.{view_standing}
+use Rattle.upc_meaning_state.specs.layer.Settings.{running_seen}
+use Rattle.upc_meaning_work.specs.layer.Seen.{more_works}
+use Rattle.upc_meaning_work.specs.layer.Items.{Cases}
+use Rattle.upc_meaning_work.specs.layer.ViewItems.{view_standing}
 use Rattle.upc_meaning_work.proofs.Selecting.{select_goes, select_none}
-use Rattle.upc_meaning_work.specs.code.Evaluations.{seen}
+use Rattle.upc_meaning_work.specs.layer.Evaluations.{seen}
 use Rattle.upc_meaning_steps.proofs.switches.select.Goals as goal
 
 pub returns-in-None : goal.returns-in-None

@@ -1,5 +1,5 @@
-use Rattle.upc_meaning_state.specs.code.Came.{state_seen}
-use Rattle.upc_meaning_state.specs.code.Runners.{thread_seen}
+use Rattle.upc_meaning_state.specs.layer.Came.{state_seen}
+use Rattle.upc_meaning_state.specs.layer.Runners.{thread_seen}
 use Rattle.upc_meaning_state.proofs.AtOnce.{fails_at_once, gives_at_once}
 use Rattle.upc_meaning_state.proofs.progress.Progress.library.Goals as goal
 

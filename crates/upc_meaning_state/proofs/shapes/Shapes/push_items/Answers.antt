@@ -1,5 +1,5 @@
 use Rattle.std.proofs.Common.{◌∙◌}
-use Rattle.upc_meaning_state.specs.code.Settings.{running_seen}
+use Rattle.upc_meaning_state.specs.layer.Settings.{running_seen}
 use Rattle.source_meaning.proofs.Rows.{item_step}
 use Rattle.upc_meaning_state.proofs.shapes.Shapes.push_items.Goals as goal
 

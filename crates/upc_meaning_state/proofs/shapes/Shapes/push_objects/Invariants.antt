@@ -1,7 +1,7 @@
 use Rattle.std.proofs.Common.{◌≡◌, ◌++◌, map, drop}
 use Rattle.typed_tree.specs.ViewStatements.{view_object}
 use Rattle.source_meaning.specs.Statements.{shapes_of}
-use Rattle.upc_meaning_state.specs.code.Settings.{running_seen}
+use Rattle.upc_meaning_state.specs.layer.Settings.{running_seen}
 use Rattle.block_layout.specs.Shapes.{IsShape}
 use Rattle.upc_values.specs.Lists.{Each}
 use Rattle.upc_meaning_state.proofs.shapes.Shapes.push_objects.Given as goal

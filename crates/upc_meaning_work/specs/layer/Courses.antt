@@ -14,8 +14,8 @@ use Rattle.thread_steps.specs.Blocks.{end_call}
 use Rattle.source_meaning.specs.Running.{Running}
 use Rattle.source_meaning.specs.Statements as pure
 use Rattle.source_meaning.specs.Threads.{called, course_from, function, main_on}
-use Rattle.upc_meaning_work.specs.code.Seen.{Seen}
-use Rattle.upc_meaning_work.specs.code.Left.{left}
+use Rattle.upc_meaning_work.specs.layer.Seen.{Seen}
+use Rattle.upc_meaning_work.specs.layer.Left.{left}
 
 -- The function main, if there is one, seen without where it lies in memory.
 abbrev pub view_main : Option (Bor f.Function) → Option Function

@@ -8,9 +8,9 @@ use Rattle.run_recorder_parts.specs.declared.strands.Header.{Header}
 use Rattle.run_recorder_parts.specs.declared.limits.Limits.{Limits}
 use Rattle.run_recorder_parts.specs.declared.head.Head.{Head}
 use Rattle.run_recorder_parts.specs.declared.names.Name.{Name}
-use Rattle.run_recorder_parts.specs.code.Readers.{Reader, ◌>>=◌, give, field, many, each, tagged, constant, expect}
-use Rattle.run_recorder_parts.specs.code.Readers.{check, whole, begins}
-use Rattle.run_recorder_parts.specs.code.Values.{word32, word64, item_of, end_of}
+use Rattle.run_recorder_parts.specs.layer.Readers.{Reader, ◌>>=◌, give, field, many, each, tagged, constant, expect}
+use Rattle.run_recorder_parts.specs.layer.Readers.{check, whole, begins}
+use Rattle.run_recorder_parts.specs.layer.Values.{word32, word64, item_of, end_of}
 
 -- The words of a thread's first line.
 abbrev pub header_words_of : Reader Header

@@ -4,7 +4,7 @@ use Rattle.upc_types.specs.ViewStructs.{view_structs}
 use Rattle.typed_tree.specs.ViewStatements.{view_function}
 use Rattle.source_meaning.specs.Running.{Running}
 use Rattle.upc_meaning_state.specs.declared.setting.Setting.{Setting}
-use Rattle.upc_meaning_state.specs.code.Runners.{thread_seen}
+use Rattle.upc_meaning_state.specs.layer.Runners.{thread_seen}
 
 -- The program as a thread runs it, seen without where it lies in memory.
 abbrev pub running_seen : Setting → Running

@@ -4,9 +4,9 @@ use Rattle.thread_steps.specs.States.{Res, Over}
 use Rattle.source_meaning.specs.Running.{Running}
 use Rattle.upc_meaning_state.specs.declared.progress.Step.{Step}
 use Rattle.upc_meaning_state.specs.declared.progress.Step.TheVariants.{Gives, Ends}
-use Rattle.upc_meaning_state.specs.code.Came.{state_seen}
-use Rattle.upc_meaning_work.specs.code.Seen.{Seen, meant}
-use Rattle.upc_meaning_work.specs.code.ViewItems.{flow_seen, listed}
+use Rattle.upc_meaning_state.specs.layer.Came.{state_seen}
+use Rattle.upc_meaning_work.specs.layer.Seen.{Seen, meant}
+use Rattle.upc_meaning_work.specs.layer.ViewItems.{flow_seen, listed}
 use Rattle.upc_meaning_work.specs.declared.evaluation.Evaluation.{Evaluation}
 
 -- An evaluation, seen without where it lies in memory.

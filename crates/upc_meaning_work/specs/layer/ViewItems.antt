@@ -18,8 +18,8 @@ use Rattle.upc_meaning_work.specs.declared.works.Parameters.TheVariants as p
 use Rattle.upc_meaning_work.specs.declared.works.Work.{Work}
 use Rattle.upc_meaning_work.specs.declared.works.Work.TheVariants as w
 use Rattle.upc_meaning_work.specs.declared.works.Works.{Works}
-use Rattle.upc_meaning_work.specs.code.Items as i
-use Rattle.upc_meaning_work.specs.code.Items.{Item}
+use Rattle.upc_meaning_work.specs.layer.Items as i
+use Rattle.upc_meaning_work.specs.layer.Items.{Item}
 
 -- The conversions of these arguments into what the code says that their call takes (C99 6.5.2.2).
 abbrev pub casts_of : Parameters → Exprs → List CastTo

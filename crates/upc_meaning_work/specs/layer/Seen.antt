@@ -9,8 +9,8 @@ use Rattle.thread_steps.specs.States.{State, Res, ◌>>=◌}
 use Rattle.source_meaning.specs.Running.{Running}
 use Rattle.source_meaning.specs.Statements as pure
 use Rattle.source_meaning.specs.Threads.{called, body}
-use Rattle.upc_meaning_work.specs.code.Items.{Item, Value, Drop, Leave, Turn, Declare, Return}
-use Rattle.upc_meaning_work.specs.code.Left.{body_of, called_so, does, left}
+use Rattle.upc_meaning_work.specs.layer.Items.{Item, Value, Drop, Leave, Turn, Declare, Return}
+use Rattle.upc_meaning_work.specs.layer.Left.{body_of, called_so, does, left}
 use Rattle.upc_meaning_work.specs.code.Stacks.{rest, youngest}
 
 -- What is left to do, the values, how the last statement was left, the calls that may still become active, and the

@@ -27,13 +27,13 @@ use Rattle.source_meaning.specs.Statements.{around, controlling, synchronised, a
 use Rattle.source_meaning.specs.Statements.{listed, declared, run, run_last, run_arms, run_items, run_switch}
 use Rattle.source_meaning.specs.Statements.{from_case, from_default}
 use Rattle.source_meaning.specs.Threads.{called, given_by}
-use Rattle.upc_meaning_state.specs.code.Libraries.{library_called}
-use Rattle.upc_meaning_state.specs.code.Operations.{operated}
+use Rattle.upc_meaning_state.specs.layer.Libraries.{library_called}
+use Rattle.upc_meaning_state.specs.layer.Operations.{operated}
 use Rattle.upc_meaning_work.specs.code.Stacks.{top, rest, second, below, youngest}
-use Rattle.upc_meaning_work.specs.code.Items.{Item, Value, Address, Hold, Operate, Branch, Truth, Convert, Arguments}
-use Rattle.upc_meaning_work.specs.code.Items.{Last, Drop, Run, Parts, Cases, Select, Caught, Leave, Turn, Test, Around}
-use Rattle.upc_meaning_work.specs.code.Items.{Mine, Guard}
-use Rattle.upc_meaning_work.specs.code.Items.{Finished, Release, Arm, Declare, Listed, Keep, Give, Mark, Return, End}
+use Rattle.upc_meaning_work.specs.layer.Items.{Item, Value, Address, Hold, Operate, Branch, Truth, Convert, Arguments}
+use Rattle.upc_meaning_work.specs.layer.Items.{Last, Drop, Run, Parts, Cases, Select, Caught, Leave, Turn, Test, Around}
+use Rattle.upc_meaning_work.specs.layer.Items.{Mine, Guard}
+use Rattle.upc_meaning_work.specs.layer.Items.{Finished, Release, Arm, Declare, Listed, Keep, Give, Mark, Return, End}
 
 -- What follows, by how many calls may still become active, how the last statement was left, and the values.
 abbrev pub Going : Type 0
