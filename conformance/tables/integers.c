@@ -12,7 +12,7 @@ enum {
 };
 static const char *const names[] = {
   "Multiply", "Divide", "Remainder", "Add", "Subtract", "ShiftLeft", "ShiftRight",
-  "Less", "Greater", "LessOrEqual", "GreaterOrEqual", "Equal", "NotEqual",
+  "Less", "Greater", "LessEqual", "GreaterEqual", "Equal", "NotEqual",
   "BitAnd", "BitXor", "BitOr"
 };
 
