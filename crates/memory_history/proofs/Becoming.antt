@@ -7,6 +7,7 @@ use Rattle.block_layout.specs.declared.run_error.TheConstants.{BAD_FREE, SHARED_
 use Rattle.block_layout.specs.Pointers.{null, is_null}
 use Rattle.upc_values.specs.declared.scalar.Scalar.{Scalar}
 use Rattle.upc_values.specs.declared.scalar.Scalar.TheVariants.{Shared}
+use Rattle.upc_values.specs.declared.scalar.Mark.{Mark}
 use Rattle.upc_values.specs.declared.action.Action.{Action}
 use Rattle.upc_values.specs.declared.action.Action.TheVariants as act
 use Rattle.upc_values.specs.declared.action.Reply.{Reply}
@@ -21,7 +22,7 @@ use Rattle.upc_values.specs.Formed as formed
 use Rattle.upc_values.specs.Formed.{IsWellFormed}
 use Rattle.sync_objects.specs.declared.locks.LockState.{LockState}
 use Rattle.sync_objects.specs.layer.Locks.{with_lock, as_given_up, as_freed}
-use Rattle.sync_objects.specs.layer.Barrier.{Attendance}
+use Rattle.sync_objects.specs.declared.attendance.Attendance.{Attendance}
 use Rattle.shared_heap.specs.layer.Heap.{HeapState, all_objects, new_object, with_object, without_object, grow_answer, release_answer, is_live_start}
 use Rattle.memory_history.specs.declared.calls.Asked.TheVariants as asks
 use Rattle.memory_history.specs.code.Calls.{asked_of}
@@ -36,7 +37,7 @@ use Rattle.memory_history.proofs.HeapReplies.{may_lead_alloc}
 use Rattle.memory_history.proofs.HeapSteps.{IsStill, still-push, is_quiet, quiet-still, refused-still, follow-still, is_heap_call, lead-still, lead_null-still, lead_free_null-still, write-push, alloc-push, lead_alloc-push, free-push, lead_free-push}
 use Rattle.memory_history.proofs.LockSteps.{locks-other, lock-taken, attempt-taken, lock-let_go, lock-given_up, lock-made}
 use Rattle.memory_history.proofs.MeetLocks.{meet-locks}
-use Rattle.memory_history.proofs.Attending.{barrier-other, barrier-notify, barrier-wait, notifies-attended}
+use Rattle.memory_history.proofs.Attending.{barrier-other, barrier-notify, barrier-wait, wait-ready, turn-ready, notifies-attended}
 use Rattle.memory_history.proofs.Meeting.{no_leader, has_leader, meets-other, meets-met}
 use Rattle.memory_history.proofs.Asking.{answer-same}
 
@@ -287,28 +288,33 @@ module _ (o : Opening) (es : List Entry) (p : PartsState) (k : IsKept o es) (a :
   -- ---- any action
 
   next-after : (x : Action) (r : Reply) → IsWellFormed o es x → reply o es t x ≡ Some r
-      → ((l : Loc) (v : Scalar) (s : Bool) → x ≡ act.Write s l v → ⊥) → IsAfter o (now x r) (next t x r p)
-  next-after (act.Read l s) r f e w = quiet-after (act.Read l s) r refl refl refl refl refl
-  next-after (act.Write s l v) r f e w = absurd (w l v s refl)
-  next-after act.Fence r f e w = quiet-after act.Fence r refl refl refl refl refl
-  next-after act.Beat r f e w = quiet-after act.Beat r refl refl refl refl refl
-  next-after (act.Notify m) r f e w = barrier-after (act.Notify m) r _ (barrier-notify o es t i m r p.barrier b a.barrier) refl refl refl
-  next-after (act.Wait m) r f e w = barrier-after (act.Wait m) r _ (barrier-wait o es t i m r p.barrier b a.barrier) refl refl refl
-  next-after (act.Lock l) r f e w = lock-after l r f
-  next-after (act.Attempt l) r f e w = attempt-after l r f
-  next-after (act.Unlock l) r f e w = unlock-after l r f
-  next-after act.LockMake r f e w = locks-after act.LockMake r _ (lock-made o es p.locks a.locks t i 0 r k.formed) refl refl refl refl
-  next-after (act.LockFree l) r f e w = free_lock-after l r f
-  next-after (act.Alloc n c h s) r f e w =
+      → ((l : Loc) (v : Scalar) (s : Bool) → x ≡ act.Write s l v → ⊥) → ((m : Mark) → x ≡ act.Notify m → ⊥)
+      → IsAfter o (now x r) (next t x r p)
+  next-after (act.Read l s) r f e w n = quiet-after (act.Read l s) r refl refl refl refl refl
+  next-after (act.Write s l v) r f e w n = absurd (w l v s refl)
+  next-after act.Fence r f e w n = quiet-after act.Fence r refl refl refl refl refl
+  next-after act.Beat r f e w n = quiet-after act.Beat r refl refl refl refl refl
+  next-after (act.Notify m) r f e w n = absurd (n m refl)
+  next-after (act.Wait m) r f e w n = barrier-after (act.Wait m) r _ (barrier-wait o es t i m r p.barrier b (wait-ready o es t m r e) a.barrier) refl refl refl
+  next-after (act.Lock l) r f e w n = lock-after l r f
+  next-after (act.Attempt l) r f e w n = attempt-after l r f
+  next-after (act.Unlock l) r f e w n = unlock-after l r f
+  next-after act.LockMake r f e w n = locks-after act.LockMake r _ (lock-made o es p.locks a.locks t i 0 r k.formed) refl refl refl refl
+  next-after (act.LockFree l) r f e w n = free_lock-after l r f
+  next-after (act.Alloc n c h s) r f e w n =
       alloc-after n c h s r f (some-same _ _ (sym (answer-same o es p k a t (act.Alloc n c h s) b f) ∙ e))
-  next-after (act.Free y) r f e w = free-after y r (some-same _ _ (sym (answer-same o es p k a t (act.Free y) b f) ∙ e))
-  next-after (act.Meet c args) r f e w =
+  next-after (act.Free y) r f e w n = free-after y r (some-same _ _ (sym (answer-same o es p k a t (act.Free y) b f) ∙ e))
+  next-after (act.Meet c args) r f e w n =
       meet-after c args r f (some-same _ _ (sym (answer-same o es p k a t (act.Meet c args) b f) ∙ e))
-  next-after (act.Print y) r f e w = quiet-after (act.Print y) r refl refl refl refl refl
-  next-after (act.Exit v) r f e w = quiet-after (act.Exit v) r refl refl refl refl refl
+  next-after (act.Print y) r f e w n = quiet-after (act.Print y) r refl refl refl refl refl
+  next-after (act.Exit v) r f e w n = quiet-after (act.Exit v) r refl refl refl refl refl
 
   pub acted-after : (x : Action) (r : Reply) (q : PartsState) → IsWellFormed o es x → reply o es t x ≡ Some r → Acted t x r p q → IsAfter o (now x r) q
   acted-after (act.Write s l v) r q f e c =
       subst (IsAfter o (now (act.Write s l v) r)) (sym c.1)
       (heap-after (act.Write s l v) r q.heap (write-push o es t i l v s r p.heap q.heap a.heap c.0) refl refl refl refl)
-  acted-after x r q f e c = subst (IsAfter o (now x r)) (sym c) (next-after x r f e (λ l v s z. absurd cc))
+  acted-after (act.Notify m) r q f e c =
+      let ready = turn-ready o es p.barrier a.barrier t b c.0 in
+      subst (IsAfter o (now (act.Notify m) r)) (sym c.1)
+      (barrier-after (act.Notify m) r _ (barrier-notify o es t i m r p.barrier b ready a.barrier) refl refl refl)
+  acted-after x r q f e c = subst (IsAfter o (now x r)) (sym c) (next-after x r f e (λ l v s z. absurd cc) (λ m z. absurd cc))

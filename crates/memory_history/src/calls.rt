@@ -9,6 +9,22 @@ use block_layout::{Kind, SharedPtr};
 use integers::lies_in;
 use upc_values::Scalar;
 
+/// The collective calls of the library, by the numbers that stand for them in a Meet (UPC 7.2.2, 7.2.4, 7.3).
+enum Collective {
+    AllAlloc = 1,
+    AllLockAlloc = 2,
+    AllFree = 3,
+    AllLockFree = 4,
+    Broadcast = 5,
+    Scatter = 6,
+    Gather = 7,
+    GatherAll = 8,
+    Exchange = 9,
+    Permute = 10,
+    Reduce = 11,
+    PrefixReduce = 12,
+}
+
 /// What a collective call asks for, by its number and arguments (UPC 7.2, 7.3).
 #[derive(Clone, Copy)]
 pub enum Asked {
@@ -76,7 +92,11 @@ fn is_kind(value: Scalar) -> bool
 fn is_way(call: u8) -> bool
     ensures { result ≡ is_some (way_of call) }
 {
-    matches!(call, 5 | 6 | 7 | 8 | 9)
+    call == Collective::Broadcast as u8
+        || call == Collective::Scatter as u8
+        || call == Collective::Gather as u8
+        || call == Collective::GatherAll as u8
+        || call == Collective::Exchange as u8
 }
 
 // What was read, if anything was.
@@ -94,8 +114,8 @@ fn one(call: u8, value: Scalar) -> Asked
     ensures { result ≡ asked_of (call_of call (value ∷ [])) }
 {
     match value {
-        Scalar::Shared(p) if call == 3 => Asked::Frees(p),
-        Scalar::Lock(l) if call == 4 => Asked::FreesLock(l),
+        Scalar::Shared(p) if call == Collective::AllFree as u8 => Asked::Frees(p),
+        Scalar::Lock(l) if call == Collective::AllLockFree as u8 => Asked::FreesLock(l),
         _ => Asked::Nothing,
     }
 }
@@ -107,7 +127,7 @@ fn three(call: u8, nblocks: Scalar, nbytes: Scalar, shape: Scalar) -> Option<Ask
     let nblocks = as_size(nblocks)?;
     let nbytes = as_size(nbytes)?;
     let shape = as_size(shape)?;
-    if call != 1 {
+    if call != Collective::AllAlloc as u8 {
         return None;
     }
     Some(Asked::Allocates {
@@ -146,7 +166,7 @@ fn five(
     let src = as_shared(src)?;
     let perm = as_shared(perm)?;
     as_size(bytes)?;
-    if is_int(flags) && call == 10 {
+    if is_int(flags) && call == Collective::Permute as u8 {
         Some(Asked::UsesThree(dst, src, perm))
     } else {
         None
@@ -170,7 +190,7 @@ fn seven(call: u8, dst: Scalar, src: Scalar, numbers: bool) -> Option<Asked>
 {
     let dst = as_shared(dst)?;
     let src = as_shared(src)?;
-    if numbers && (call == 11 || call == 12) {
+    if numbers && (call == Collective::Reduce as u8 || call == Collective::PrefixReduce as u8) {
         Some(Asked::Uses(dst, src))
     } else {
         None
@@ -184,7 +204,7 @@ pub fn read_call(call: u8, args: &[Scalar]) -> Asked
 {
     match *args {
         [] => {
-            if call == 2 {
+            if call == Collective::AllLockAlloc as u8 {
                 Asked::MakesLock
             } else {
                 Asked::Nothing

@@ -71,8 +71,8 @@ impl World {
     }
 
     /// Acts on the history: the lawful reply, with one entry appended, or `Disabled` where there is none, as may be
-    /// for a Lock or a Wait only. It reads no older entry. After want of memory, which also comes where there would be
-    /// 2^62 entries, the history is as it was.
+    /// for a Lock or a Wait only. It reads no older entry. After want of memory, the history is as it was; it also comes
+    /// where there would be 2^62 entries, and to a thread that notifies and has not waited since it last did.
     pub fn perform(&mut self, thread: u32, index: u32, action: &Action) -> Result<Step, OutOfMemory>
         requires below { thread < self.old.0.threads }
         requires formed { IsWellFormed self.old.0 self.old.1 action.now }

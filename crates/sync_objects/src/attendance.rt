@@ -1,27 +1,19 @@
 //! What a thread has done at the barrier (UPC 6.6.1).
 
-ghost use Rattle.std.specs.Prelude.{◌≡◌, ◌<◌, length, slice_get, IfOk, OnErr};
+ghost use Rattle.std.specs.Prelude.{◌≡◌, ◌<◌, true};
 ghost use Rattle.upc_values.specs.History as history;
 ghost use Rattle.sync_objects.specs.layer.Barrier as said;
 
-use std::alloc::Global;
-use std::marker::Model;
-use upc_text::OutOfMemory;
 use upc_values::Mark;
 
-/// What a thread has done: the values of its notifies, in order, and how often it has waited. Contracts see both.
-#[derive(Drop)]
+/// What a thread has done: how often it has notified and waited, and the values of its last two notifies. As no thread
+/// is more than one round ahead of another, no older value is asked for.
+#[derive(Clone, Copy)]
 pub struct Attendance {
-    marks: Vec<Mark>,
-    waits: usize,
-}
-
-impl Model for Attendance {
-    ghost use Rattle.sync_objects.specs.layer.Barrier as said;
-
-    ghost Value = { said.Attendance };
-
-    ghost view = { λ a. record { marks = a.marks.items; waits = a.waits } };
+    pub notifies: usize,
+    pub waits: usize,
+    pub last: Mark,
+    pub older: Mark,
 }
 
 // Whether the values of a wait and a notify agree.
@@ -42,53 +34,62 @@ fn agree(mark: Mark, other: Mark) -> bool
 
 impl Attendance {
     // A thread that has neither notified nor waited.
-    pub(crate) fn fresh(alloc: Global) -> Attendance
+    pub(crate) fn fresh() -> Attendance
         ensures { result ≡ said.fresh }
     {
         Attendance {
-            marks: Vec::new(alloc),
+            notifies: 0,
             waits: 0,
+            last: Mark::Absent,
+            older: Mark::Absent,
         }
     }
 
-    // How often the thread has notified.
-    pub(crate) fn notifies(&self) -> usize
-        ensures { result ≡ length self.now.marks }
+    // Whether the thread may notify: it has waited as often as it has notified.
+    pub(crate) fn is_turn(&self) -> bool
+        ensures { result ≡ said.is_turn self.now }
     {
-        self.marks.len()
+        self.notifies <= self.waits && self.notifies < usize::MAX
     }
 
-    // How often the thread has waited.
-    pub(crate) fn waits(&self) -> usize
-        ensures { result ≡ self.now.waits }
+    // The thread, whose turn it is, notifies once more.
+    pub(crate) fn notify(&mut self, mark: Mark)
+        requires { said.is_turn self.old ≡ true }
+        ensures { self.new ≡ said.notified mark self.old }
     {
-        self.waits
-    }
-
-    // The thread notifies once more.
-    pub(crate) fn notify(&mut self, mark: Mark) -> Result<(), OutOfMemory>
-        ensures notified { IfOk result (λ _. self.new ≡ said.notified mark self.old) }
-        ensures kept { OnErr result (self.new ≡ self.old) }
-    {
-        self.marks.push(mark)?;
-        Ok(())
+        self.notifies += 1;
+        self.older = self.last;
+        self.last = mark;
     }
 
     // The thread, which has notified more often than it has waited, waits once more.
     pub(crate) fn wait(&mut self)
-        requires { self.old.waits < length self.old.marks }
+        requires { self.old.waits < self.old.notifies }
         ensures { self.new ≡ said.waited self.old }
     {
-        let _within = self.marks.len();
         self.waits += 1;
     }
 
-    // Whether the value agrees with that of the thread's notify of this round, from 0, if there is one.
-    pub(crate) fn agrees(&self, round: usize, mark: Mark) -> bool
-        ensures { result ≡ history.agrees_with mark (slice_get self.now.marks round) }
+    // The value of the thread's notify of this round, from 0, if it is one of its last two.
+    fn mark_in(&self, round: usize) -> Option<Mark>
+        ensures { result ≡ said.mark_in round self.now }
     {
-        match self.marks.get(round) {
-            Some(other) => agree(mark, *other),
+        if round >= self.notifies {
+            return None;
+        }
+        match self.notifies - round {
+            1 => Some(self.last),
+            2 => Some(self.older),
+            _ => None,
+        }
+    }
+
+    // Whether the value agrees with that of the thread's notify of this round, from 0, if it is one of its last two.
+    pub(crate) fn agrees(&self, round: usize, mark: Mark) -> bool
+        ensures { result ≡ history.agrees_with mark (said.mark_in round self.now) }
+    {
+        match self.mark_in(round) {
+            Some(other) => agree(mark, other),
             None => true,
         }
     }

@@ -1,7 +1,6 @@
 //! The barrier of a run (UPC 6.6.1).
 
-ghost use Rattle.std.specs.Prelude.{◌≡◌, ◌<◌, length, replicate, slice_get, true, Some, IfOk, OnErr};
-ghost use Rattle.upc_values.specs.History as history;
+ghost use Rattle.std.specs.Prelude.{◌≡◌, ◌<◌, length, replicate, true, Some, IfOk, OnErr};
 ghost use Rattle.sync_objects.specs.layer.Barrier as said;
 ghost use Rattle.sync_objects.specs.layer.Barrier.{attendance_of, with_attendance};
 ghost use Rattle.sync_objects.specs.layer.Locks.{told};
@@ -21,7 +20,7 @@ pub struct Barrier {
 
 impl Model for Barrier {
     ghost use Rattle.std.specs.Prelude.{List};
-    ghost use Rattle.sync_objects.specs.layer.Barrier.{Attendance};
+    ghost use Rattle.sync_objects.specs.declared.attendance.Attendance.{Attendance};
 
     ghost Value = { List Attendance };
 
@@ -34,7 +33,7 @@ fn have_notified(attendances: &[Attendance], round: usize) -> bool
 {
     attendances
         .iter()
-        .all(|attendance| round < attendance.notifies())
+        .all(|attendance| round < attendance.notifies)
 }
 
 // Whether the value agrees with those of all in the round.
@@ -53,7 +52,7 @@ impl Barrier {
     {
         let mut attendances = Vec::new(alloc);
         for _ in 0..threads {
-            attendances.push(Attendance::fresh(alloc))?;
+            attendances.push(Attendance::fresh())?;
         }
         Ok(Barrier { attendances })
     }
@@ -61,20 +60,26 @@ impl Barrier {
     /// How often the thread has notified.
     pub fn notifies(&self, thread: u32) -> usize
         requires { thread < length self.now }
-        ensures { result ≡ length (attendance_of thread self.now).marks }
+        ensures { result ≡ (attendance_of thread self.now).notifies }
     {
-        self.attendances[thread as usize].notifies()
+        self.attendances[thread as usize].notifies
     }
 
-    /// The thread notifies its next round, with this value. Where there is no memory, the barrier stays as it was.
-    pub fn notify(&mut self, thread: u32, mark: Mark) -> Result<(), OutOfMemory>
-        requires { thread < length self.old }
-        ensures notified { IfOk result (λ _. self.new ≡ with_attendance thread (said.notified mark) self.old) }
-        ensures kept { OnErr result (self.new ≡ self.old) }
+    /// Whether the thread may notify its next round: it has waited in the one before.
+    pub fn may_notify(&self, thread: u32) -> bool
+        requires { thread < length self.now }
+        ensures { result ≡ said.may_notify thread self.now }
     {
-        let attendance = &mut self.attendances[thread as usize];
-        attendance.notify(mark)?;
-        Ok(())
+        self.attendances[thread as usize].is_turn()
+    }
+
+    /// The thread notifies its next round, with this value. It has waited in the one before. It takes no memory.
+    pub fn notify(&mut self, thread: u32, mark: Mark)
+        requires below { thread < length self.old }
+        requires turn { said.may_notify thread self.old ≡ true }
+        ensures notified { self.new ≡ with_attendance thread (said.notified mark) self.old }
+    {
+        self.attendances[thread as usize].notify(mark);
     }
 
     /// Whether the thread may pass its next round: all threads have notified it.
@@ -82,7 +87,7 @@ impl Barrier {
         requires { thread < length self.now }
         ensures { result ≡ said.may_pass thread self.now }
     {
-        let round = self.attendances[thread as usize].waits();
+        let round = self.attendances[thread as usize].waits;
         have_notified(self.attendances.as_slice(), round)
     }
 
@@ -91,25 +96,34 @@ impl Barrier {
         requires { thread < length self.now }
         ensures { result ≡ said.all_agree (attendance_of thread self.now).waits mark self.now }
     {
-        let round = self.attendances[thread as usize].waits();
+        let round = self.attendances[thread as usize].waits;
         all_agree(self.attendances.as_slice(), round, mark)
     }
 
     /// The thread waits, in its next round, which all threads have notified. The error: its value differs from
-    /// another's of the round; then it has waited all the same.
+    /// another's of the round; then the barrier stays as it was. It takes no memory.
     pub fn pass(&mut self, thread: u32, mark: Mark) -> Result<(), u8>
         requires below { thread < length self.old }
         requires ready { said.may_pass thread self.old ≡ true }
         ensures answer { said.wait_answer thread mark self.old ≡ Some (told result) }
-        ensures waited { self.new ≡ with_attendance thread said.waited self.old }
+        ensures waited { IfOk result (λ _. self.new ≡ with_attendance thread said.waited self.old) }
+        ensures kept { OnErr result (self.new ≡ self.old) }
     {
-        let agrees = self.agrees(thread, mark);
-        let attendance = &mut self.attendances[thread as usize];
-        attendance.wait();
-        if agrees {
+        if self.agrees(thread, mark) {
+            self.pass_over(thread);
             Ok(())
         } else {
             Err(BARRIER_MISMATCH)
         }
+    }
+
+    /// The thread leaves its next round, which all threads have notified, whatever its value is. A history counts a
+    /// wait that was refused, too.
+    pub fn pass_over(&mut self, thread: u32)
+        requires below { thread < length self.old }
+        requires ready { said.may_pass thread self.old ≡ true }
+        ensures waited { self.new ≡ with_attendance thread said.waited self.old }
+    {
+        self.attendances[thread as usize].wait();
     }
 }

@@ -18,7 +18,8 @@ use Rattle.sync_objects.specs.declared.locks.LockState.{LockState}
 use Rattle.sync_objects.specs.layer.Locks as lock
 use Rattle.sync_objects.specs.layer.Locks.{IsMade, lock_of, with_lock}
 use Rattle.sync_objects.specs.layer.Barrier as barrier
-use Rattle.sync_objects.specs.layer.Barrier.{Attendance, attendance_of, with_attendance}
+use Rattle.sync_objects.specs.declared.attendance.Attendance.{Attendance}
+use Rattle.sync_objects.specs.layer.Barrier.{attendance_of, with_attendance}
 use Rattle.shared_heap.specs.layer.Heap as heap
 use Rattle.shared_heap.specs.layer.Heap.{HeapState, all_objects, cell_at, content, IsSaved}
 use Rattle.memory_history.specs.declared.calls.Asked.{Asked}
@@ -95,7 +96,7 @@ led_answer p a = Done
 
 -- How often a thread has notified.
 abbrev pub notifies : ℕ → PartsState → ℕ
-notifies t p = length (attendance_of t p.barrier).marks
+notifies t p = (attendance_of t p.barrier).notifies
 
 -- The answer to a collective call.
 abbrev pub meet_answer : ℕ → ℕ → List Scalar → PartsState → Reply
@@ -186,7 +187,8 @@ begun o =
       meets = record { counts = replicate o.threads 0; leaders = [] };
     }
 
--- The second parts are the first after an action with this reply.
+-- The second parts are the first after an action with this reply; a thread notifies where it may.
 abbrev pub Acted : ℕ → Action → Reply → PartsState → PartsState → Type 0
 Acted t (act.Write s l v) r p q = IsSaved p.heap l v q.heap × (q ≡ with_heap q.heap p)
+Acted t (act.Notify m) r p q = (barrier.may_notify t p.barrier ≡ true) × (q ≡ next t (act.Notify m) r p)
 Acted t a r p q = q ≡ next t a r p

@@ -3,7 +3,7 @@ use Rattle.std.specs.Prelude.{List}
 use Rattle.upc_values.specs.declared.journal.Entry.{Entry}
 use Rattle.upc_values.specs.Openings.{Opening}
 use Rattle.sync_objects.specs.declared.locks.LockState.{LockState}
-use Rattle.sync_objects.specs.layer.Barrier.{Attendance}
+use Rattle.sync_objects.specs.declared.attendance.Attendance.{Attendance}
 use Rattle.shared_heap.specs.layer.Heap.{HeapState}
 use Rattle.memory_history.specs.code.HeapAfter.{HeapAfter}
 use Rattle.memory_history.specs.code.LocksAfter.{LocksAfter}
