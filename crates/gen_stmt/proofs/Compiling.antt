@@ -18,7 +18,8 @@ use Rattle.stack_code.specs.Codes.{Codes}
 use Rattle.stack_code.specs.layer.Making.{Making, empty, with_function, with_instructions, with_object}
 use Rattle.gen_expr.specs.Sources.{Source}
 use Rattle.gen_stmt.specs.Programs.{entry_code, function_code, program_code}
-use Rattle.gen_stmt.specs.code.Compiled.{made, source_with, with_functions, with_objects, with_initials}
+use Rattle.gen_expr.specs.layer.ViewSource.{source_with}
+use Rattle.gen_stmt.specs.code.Compiled.{made, with_functions, with_objects, with_initials}
 
 -- ---- what is added
 

@@ -1,3 +1,2 @@
 pub mod Pushes
-pub mod Names
 pub mod Meanings

@@ -6,10 +6,10 @@ ghost use Rattle.typed_tree.specs.ViewStatements.{view_function};
 ghost use Rattle.gen_expr.specs.layer.ViewSource.{view_source};
 ghost use Rattle.gen_stmt.specs.Programs as pure;
 ghost use Rattle.gen_stmt.specs.layer.Meanings.{MeansProgram};
-ghost use Rattle.gen_stmt.specs.layer.Names.{NamesOnly};
+ghost use Rattle.stack_code.specs.layer.Names.{NamesOnly};
 ghost use Rattle.source_meaning.specs.Laws.{opening_of};
 ghost use Rattle.typed_tree.specs.Beginnings.{view_beginning};
-ghost use Rattle.gen_stmt.specs.code.Compiled.{made, source_with, with_functions, with_initials, with_objects};
+ghost use Rattle.gen_stmt.specs.code.Compiled.{made, with_functions, with_initials, with_objects};
 
 use crate::entry::entry_of;
 use crate::functions::function_of;
@@ -79,25 +79,12 @@ fn put_initials(builder: &mut Builder, initials: &[(LocalPtr, Value)]) -> Result
     Ok(())
 }
 
-// What the code of a program is made from.
-fn source_in(program: &Program) -> Source<'_>
-    ensures { view_source result ≡ source_with (view_program program.now).functions
-        (view_beginning program.now.beginning) }
-{
-    Source {
-        functions: program.functions(),
-        structs: program.structs(),
-        shared: program.shared_objects(),
-        shapes: program.shapes(),
-    }
-}
-
 // All of the code of a program.
 fn builder_of(alloc: Global, program: &Program) -> Result<Builder, OutOfMemory>
     ensures { IfOk result (λ b. b ≡ made program.now.threads (view_program program.now).functions
         (view_beginning program.now.beginning)) }
 {
-    let source = source_in(program);
+    let source = Source::of(program);
     let mut builder = Builder::make(alloc, program.threads(), program.shapes())?;
     let entry = entry_of(alloc, source)?;
     put_code(&mut builder, entry)?;

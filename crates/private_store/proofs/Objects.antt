@@ -67,6 +67,13 @@ blanks_fit (c ∷ cells) = (blank_fits c.1, blanks_fit cells)
 pub blank_filled : (shape : Shape) → IsShape shape → IsFilled shape (map (λ c. blank_value c.1) shape.cells)
 blank_filled shape is = record { is_shape = is; fit = blanks_fit shape.cells }
 
+-- A new object, with a copy of a shape, its cells and what they begin with.
+pub made_filled : (shape copy : Shape) (cells : Cells) (held : List Held) → IsShape shape → copy ≡ shape
+    → cells ≡ shape.cells → held_values held ≡ map (λ c. blank_value c.1) cells
+    → IsFilled copy (held_values held) × (cells ≡ copy.cells)
+made_filled shape copy cells held is same all blank =
+    rw (same, blank, all) (blank_filled shape is, refl)
+
 -- ---- values in memory
 
 -- as many places in memory as cells

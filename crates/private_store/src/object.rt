@@ -17,13 +17,14 @@ use block_layout::{Kind, Shape};
 use std::alloc::Global;
 use std::marker::Model;
 use upc_text::OutOfMemory;
-use upc_values::{Value, blank_value};
+use upc_values::{Value, blank_value, copy_shape};
 
 /// A live object. Contracts see its number, its shape and the value of each cell.
 #[derive(Drop)]
 pub(crate) struct Object {
     number: u64,
-    size: u32,
+    shape: Shape,
+    // The cells of the shape one by one.
     cells: Vec<(u32, Kind)>,
     held: Vec<Held>,
 }
@@ -32,16 +33,17 @@ impl Model for Object {
     ghost use Rattle.private_store.specs.Live.{Thing};
     ghost use Rattle.private_store.specs.code.Held.{held_values};
     ghost use Rattle.private_store.specs.code.Kept.{IsFilled};
+    ghost use Rattle.std.specs.Prelude.{◌≡◌};
 
     ghost Value = { Thing };
 
     ghost view = { λ o. record {
       number = o.number;
-      shape = record { size = o.size; cells = o.cells.items };
+      shape = o.shape;
       values = held_values o.held.items;
     } };
 
-    ghost invariant = { λ o. IsFilled (record { size = o.size; cells = o.cells.items }) (held_values o.held.items) };
+    ghost invariant = { λ o. IsFilled o.shape (held_values o.held.items) × (o.cells.items ≡ o.shape.cells) };
 }
 
 // What these cells begin with.
@@ -65,7 +67,7 @@ impl Object {
         let held = blanks(alloc, cells.as_slice())?;
         Ok(Object {
             number,
-            size: shape.size,
+            shape: copy_shape(alloc, shape)?,
             cells,
             held,
         })
@@ -79,11 +81,19 @@ impl Object {
         self.number
     }
 
-    /// Its size in bytes.
-    pub(crate) fn size(&self) -> u32
-        ensures { result ≡ self.now.shape.size }
+    /// Its shape.
+    pub(crate) fn shape(&self) -> &Shape
+        ensures { result.now ≡ self.now.shape }
     {
-        self.size
+        &self.shape
+    }
+
+    // The cells of its shape.
+    #[inline(always)]
+    fn cells(&self) -> &[(u32, Kind)]
+        ensures { result.now ≡ self.now.shape.cells }
+    {
+        self.cells.as_slice()
     }
 
     /// The place of the cell that an access reaches, or the code of the run error.
@@ -92,9 +102,9 @@ impl Object {
     pub(crate) fn place(&self, offset: i64, kind: Kind) -> Result<usize, u8>
         ensures { IsPlace self.now offset kind result }
     {
-        match byte_at(offset, kind.size(), self.size) {
+        match byte_at(offset, kind.size(), self.shape.size) {
             None => Err(PRIVATE_RANGE),
-            Some(byte) => match cell_place(self.cells.as_slice(), byte, kind) {
+            Some(byte) => match cell_place(self.cells(), byte, kind) {
                 None => Err(CELL_TYPE),
                 Some(place) => Ok(place),
             },

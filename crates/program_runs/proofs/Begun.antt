@@ -1,5 +1,5 @@
 -- What a program keeps says what its opening is.
-use Rattle.std.proofs.Common.{◌≡◌, ℕ, ap, subst}
+use Rattle.std.proofs.Common.{◌≡◌, ℕ, ap}
 use Rattle.std.specs.Coded.{coded_list, coded×}
 use Rattle.std.proofs.Math.Logic.{∥∥₁_elim}
 use base.Stored.{Coded-set}
@@ -7,9 +7,7 @@ use Rattle.block_layout.specs.contracts.kind.Shape as shape_row
 use Rattle.block_layout.specs.contracts.place.Loc as loc_row
 use Rattle.block_layout.specs.contracts.place.ObjectRef as object_row
 use Rattle.upc_values.specs.contracts.scalar.Scalar as scalar_row
-use Rattle.upc_values.specs.Openings.{IsOpening}
 use Rattle.typed_tree.specs.Beginnings.{Beginning, opening_in}
-use Rattle.serial_core.proofs.Openings.{kept_opening}
 
 module _ (threads : ℕ) (b begun : Beginning) (begins : ∥ b ≡ begun ∥₁) where
   -- A program begins with what its parts say.
@@ -25,6 +23,3 @@ module _ (threads : ℕ) (b begun : Beginning) (begins : ∥ b ≡ begun ∥₁)
       ∥∥₁_elim begins (Coded-set (coded_list shape_row.the_row.coded) b.shapes begun.shapes)
       (λ e. ap (λ (x : Beginning). x.shapes) e) in
       λ i. record { threads = threads; declared = declared i; initials = initials i; shapes = shapes i }
-
-  pub begun_opening : ∥ IsOpening (opening_in threads b) ∥₁ → IsOpening (opening_in threads begun)
-  begun_opening h = subst IsOpening same_opening (kept_opening (opening_in threads b) h)

@@ -1,4 +1,3 @@
 pub mod Spots
-pub mod Naming
 pub mod Begun
 pub mod ThreadSources

@@ -12,9 +12,10 @@ ghost use Rattle.upc_values.specs.Sound.{IsSound};
 ghost use Rattle.upc_values.specs.Waits.{WaitsFollow};
 ghost use Rattle.upc_values.specs.Locks.{LocksExclude};
 ghost use Rattle.stack_code.specs.Codes.{Codes};
+ghost use Rattle.stack_code_laws.specs.layer.Asking.{IsCodeFor};
 ghost use Rattle.stack_machine.specs.declared.wish.Wish.{Wish};
 ghost use Rattle.serial_core.specs.declared.task.Task.{Task};
-ghost use Rattle.serial_core.specs.layer.Sources.{Outcomes, HasOutcomes, opening_of};
+ghost use Rattle.serial_core.specs.layer.Sources.{Outcomes, GivesOutcomes, HasOutcomes, opening_of};
 ghost use Rattle.serial_core.specs.Kept.{AreLimits, IsKept, Paused, Adds, strand_of};
 ghost use Rattle.serial_core.specs.Course as course;
 ghost use Rattle.serial_core.specs.Course.{Grows, Steps, TakesPart, InRound, ToRest};
@@ -498,7 +499,8 @@ fn objects_of(alloc: Global, shared: &[SharedDecl]) -> Result<Vec<ObjectRef>, Ou
     Ok(objects)
 }
 
-/// Runs the code of a program on one thread of the machine, in an order that the picks choose. Each pick is taken
+/// Runs code on one thread of the machine, in an order that the picks choose; the code has the program's threads and
+/// shapes and names no shared object but the program's declared ones. Each pick is taken
 /// modulo the number of threads without an end, and chooses among them by number; the chosen one is given one step.
 /// Once an end ends the run, or where all threads have ended, the other picks are passed over. Then rounds go by number
 /// of thread: in each, every thread without an end goes on to a Beat, a Stall or its end.
@@ -519,10 +521,9 @@ pub fn run_by<R: Wait>(
     requires threads { (1 ≤ limits.threads) × (limits.threads ≤ 32) }
     requires budget { (1 ≤ limits.budget) × (limits.budget ≤ 1000000000000) }
     requires actions { (1 ≤ limits.actions) × (limits.threads * limits.actions ≤ 8388608) }
-    requires same { (program.now.threads ≡ limits.threads) × (code.now.threads ≡ limits.threads) }
-    requires outcomes { (f : Outcomes) × HasOutcomes (opening_of program.now) code.now limits f }
-    ensures sound { IfOk result (λ j. (f : ℕ → Outcomes)
-        → HasOutcomes (opening_of program.now) code.now limits (f limits.budget)
+    requires same { program.now.threads ≡ limits.threads }
+    requires fits { IsCodeFor (opening_of program.now) code.now }
+    ensures sound { IfOk result (λ j. (f : ℕ → Outcomes) → GivesOutcomes code.now limits (f limits.budget)
         → IsSound (opening_of program.now) f j) }
     ensures limits { IfOk result (λ j. (j.threads ≡ limits.threads) × (j.budget ≡ limits.budget)
         × (j.actions ≡ limits.actions)) }
@@ -531,6 +532,7 @@ pub fn run_by<R: Wait>(
     ensures spent { IfOk result (λ j. AreSpent limits.budget j.strands) }
     ensures course { IfOk result (λ j. IsCourse picks.now j) }
 {
+    code.keep();
     let declared = objects_of(alloc, program.shared_objects())?;
     let mut world = World::make(
         alloc,

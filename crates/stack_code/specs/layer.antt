@@ -5,3 +5,4 @@ pub mod Meets
 pub mod Depths
 pub mod Kept
 pub mod Making
+pub mod Names

@@ -15,7 +15,7 @@ use Rattle.upc_values.specs.Formed as history
 use Rattle.upc_values.specs.layer.Known.{HasGiven}
 use Rattle.thread_steps.specs.States.{Thread, State, Res, Val, Over, Unfinished}
 use Rattle.thread_steps.specs.layer.Fronts.{Begins}
-use Rattle.thread_steps.proofs.Fronts.{begins_itself, begins_on, all_of}
+use Rattle.thread_steps.proofs.Fronts.{begins_itself, begins_on, all_of, none_left}
 use Rattle.thread_steps.proofs.Following.{total, plus, Later}
 use Rattle.stack_code.specs.declared.instruction.Instr.{Instr}
 use Rattle.stack_code.specs.Codes.{Codes, thread_of}
@@ -301,6 +301,21 @@ module _ (o : Opening) (codes : Codes) (thread budget : ℕ) (f : List Reply →
         let all = is_wanted.heard in
         let heard : length (f rs).actions ≡ length rs = omega arith in
         (m.0 ∙ ap Misfit heard, m.1)
+
+-- On no reply the thread does nothing.
+pub begins_empty : (o : Opening) (codes : Codes) (thread budget : ℕ) (f : List Reply → Outcome)
+    → IsThreadOf o codes thread budget f → (f []).actions ≡ []
+begins_empty o codes thread budget f h =
+    let first = beginning codes [] in
+    let n = count_of o codes thread budget f h [] in
+    let grow =
+    steps_grow o [] h.opening (finds_named o [] h.opening tt [] tt) thread budget (one o codes thread budget f h)
+    codes.functions h.declared.pushed n first in
+    let end = steps (runner o thread budget) codes.functions n first in
+    let acts = ended_actions end (f []) (ended o codes thread budget f h []) in
+    let all = grow.1 in
+    let many = ap length acts in
+    none_left (f []).actions (omega arith)
 
 pub asks_well : (o : Opening) (codes : Codes) (thread budget : ℕ) (f : List Reply → Outcome)
     → IsThreadOf o codes thread budget f → AsksWell o f

@@ -11,4 +11,10 @@ pub mod Collectives
 pub mod Calls
 pub mod Instructions
 pub mod Asking
+pub mod Walks
 pub mod Turns
+pub mod Beats
+pub mod Weights
+pub mod Endings
+pub mod Meanings
+pub mod Naming

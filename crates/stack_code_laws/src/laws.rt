@@ -1,12 +1,14 @@
 //! What holds of every code that names nothing but what an opening declares.
 
-ghost use Rattle.std.specs.Prelude.{ℕ, List};
+ghost use Rattle.std.specs.Prelude.{ℕ, ◌≤◌, List};
 ghost use Rattle.upc_values.specs.declared.action.Reply.{Reply};
-ghost use Rattle.upc_values.specs.Outcomes.{Outcome};
+ghost use Rattle.upc_values.specs.Outcomes.{Outcome, IsMeaning};
 ghost use Rattle.upc_values.specs.Openings.{Opening};
 ghost use Rattle.stack_code.specs.Codes.{Codes};
+ghost use Rattle.stack_code.specs.layer.Kept.{IsCode};
 ghost use Rattle.stack_code.specs.layer.Outcomes.{CodeMeans};
 ghost use Rattle.stack_code_laws.specs.layer.Asking.{IsThreadOf, AsksWell};
+ghost use Rattle.stack_code_laws.specs.layer.Endings.{IsWithinBudget};
 ghost use Rattle.stack_code_laws.specs.code.Turns.{TakesTurns};
 
 /// Whatever a thread of code wants may be asked for after each history that may have given its replies, and with a
@@ -21,4 +23,24 @@ pub fn code_asks_well()
 pub fn code_takes_turns()
     ensures { (codes : Codes) (thread budget : ℕ) (replies : List Reply) (outcome : Outcome)
         → CodeMeans codes thread budget replies outcome → TakesTurns outcome }
+{}
+
+/// Every thread of every code, with a budget of at least one tick, comes to an end, whatever it is answered: every way
+/// back to an instruction passes a tick.
+pub fn code_has_outcomes()
+    ensures { (codes : Codes) (thread budget : ℕ) (replies : List Reply) → IsCode codes → 1 ≤ budget
+        → (outcome : Outcome) × CodeMeans codes thread budget replies outcome }
+{}
+
+/// No thread of code, with a budget of at least one tick, counts more ticks than its budget.
+pub fn code_keeps_budgets()
+    ensures { (codes : Codes) (thread budget : ℕ) (replies : List Reply) (outcome : Outcome) → 1 ≤ budget
+        → CodeMeans codes thread budget replies outcome → IsWithinBudget budget outcome }
+{}
+
+/// What a thread of code does keeps what every meaning of a source keeps, where the code names nothing but what the
+/// opening declares.
+pub fn code_is_a_meaning()
+    ensures { (o : Opening) (codes : Codes) (thread budget : ℕ) (f : List Reply → Outcome)
+        → IsThreadOf o codes thread budget f → IsMeaning o f }
 {}

@@ -1,20 +1,10 @@
 //! The code of an expression alone.
 
-use gen_expr::{Source, expr_code};
+use gen_expr::expr_code;
 use stack_code::{Builder, CallWork, Code, Instr, Operation};
 use std::alloc::Global;
 use typed_tree::{Expr, Program};
 use upc_text::OutOfMemory;
-
-// What code of a program is made from.
-fn source_of(program: &Program) -> Source<'_> {
-    Source {
-        functions: program.functions(),
-        structs: program.structs(),
-        shared: program.shared_objects(),
-        shapes: program.shapes(),
-    }
-}
 
 /// Code whose first function gives the value of an expression of a program, for the threads and with the shapes of the
 /// whole code of the program.
@@ -24,9 +14,8 @@ pub fn code_alone(
     program: &Program,
     e: &Expr,
 ) -> Result<Code, OutOfMemory> {
-    let source = source_of(program);
     let mut builder = Builder::make(alloc, whole.threads(), whole.shapes())?;
-    expr_code(&mut builder, source, false, e)?;
+    expr_code(program, false, e, &mut builder)?;
     builder.append(Instr {
         place: e.place,
         does: Operation::Call(CallWork::GiveBack(0)),

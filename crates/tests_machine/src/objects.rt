@@ -20,6 +20,22 @@ fn int_at(store: &Store, object: u64, offset: i64) -> Result<i128, u8> {
     }
 }
 
+// The size of a live object.
+fn size_of(store: &Store, object: u64) -> Option<u32> {
+    match store.shape(object) {
+        Some(shape) => Some(shape.size),
+        None => None,
+    }
+}
+
+// Whether a cell of a kind begins at a byte of a live object.
+fn has_cell(store: &Store, object: u64, byte: u32, kind: Kind) -> bool {
+    match store.shape(object) {
+        Some(shape) => shape.cells.has(byte, kind),
+        None => false,
+    }
+}
+
 // Whether an access of a kind is refused with a code.
 fn is_refused(store: &Store, object: u64, offset: i64, kind: Kind, code: u8) -> bool {
     let p = LocalPtr::Private { object, offset };
@@ -80,12 +96,26 @@ fn objects_end_with_block_and_call(rt: HostRuntime) -> Result<(), Fail> {
     let mut store = Store::make(alloc, &[], &[])?;
     store.push_call()?;
     assert_eq!(rt; enter_row(&mut store, alloc, 0, Kind::Int, 1)?, Ok(0));
-    assert_eq!(rt; store.size(0), Some(4));
+    assert_eq!(rt; size_of(&store, 0), Some(4));
     store.leave();
     assert_eq!(rt; int_at(&store, 0, 0), Err(PRIVATE_RANGE));
     assert_eq!(rt; enter_row(&mut store, alloc, 0, Kind::Int, 1)?, Ok(1));
     store.pop_call();
-    assert_eq!(rt; store.size(1), None);
+    assert_eq!(rt; size_of(&store, 1), None);
+    Ok(())
+}
+
+#[test]
+fn objects_have_their_shapes(rt: HostRuntime) -> Result<(), Fail> {
+    let alloc = rt.alloc();
+    let mut store = Store::make(alloc, &[], &[])?;
+    assert_eq!(rt; store.enter(0, &[two_ints(alloc)?]), Ok(0));
+    assert_eq!(rt; size_of(&store, 0), Some(8));
+    assert!(rt; has_cell(&store, 0, 4, Kind::Int));
+    assert!(rt; !has_cell(&store, 0, 4, Kind::UInt));
+    assert!(rt; !has_cell(&store, 0, 2, Kind::Int));
+    store.leave();
+    assert_eq!(rt; size_of(&store, 0), None);
     Ok(())
 }
 

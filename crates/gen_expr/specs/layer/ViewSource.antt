@@ -1,6 +1,8 @@
 -- What contracts see of what code is made from.
-use Rattle.std.specs.Prelude.{map}
+use Rattle.std.specs.Prelude.{List, map}
 use Rattle.upc_types.specs.ViewStructs.{view_structs}
+use Rattle.typed_tree.specs.Beginnings.{Beginning}
+use Rattle.typed_tree.specs.Tree.{Function}
 use Rattle.typed_tree.specs.ViewStatements.{view_function}
 use Rattle.gen_expr.specs.declared.source.Source as sources
 use Rattle.gen_expr.specs.Sources.{Source}
@@ -13,3 +15,8 @@ view_source x = record {
   shared = x.shared.now;
   shapes = x.shapes.now;
 }
+
+-- What the code of these functions is made from, in a program with this beginning.
+abbrev pub source_with : List Function → Beginning → Source
+source_with functions b =
+    record { functions = functions; structs = b.structs; shared = b.shared_objects; shapes = b.shapes }

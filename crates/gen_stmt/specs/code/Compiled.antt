@@ -8,7 +8,7 @@ use Rattle.typed_tree.specs.Beginnings.{Beginning}
 use Rattle.stack_code.specs.declared.instruction.Instr.{Instr}
 use Rattle.stack_code.specs.Codes.{codes_of}
 use Rattle.stack_code.specs.layer.Making.{Making}
-use Rattle.gen_expr.specs.Sources.{Source}
+use Rattle.gen_expr.specs.layer.ViewSource.{source_with}
 use Rattle.gen_stmt.specs.Programs.{functions_code}
 
 -- Code that is being made, with these functions after those that are ended.
@@ -23,11 +23,6 @@ with_objects shapes m = record m { codes = record m.codes { private_shapes = m.c
 abbrev pub with_initials : List (LocalPtr × Value) → Making → Making
 with_initials initials m =
     record m { codes = record m.codes { private_initials = m.codes.private_initials ++ initials } }
-
--- What the code of these functions is made from, in a program with this beginning.
-abbrev pub source_with : List Function → Beginning → Source
-source_with functions b =
-    record { functions = functions; structs = b.structs; shared = b.shared_objects; shapes = b.shapes }
 
 -- All of the code, for so many threads, of a program with these functions and this beginning: no function is being
 -- made, and nothing has failed.

@@ -9,22 +9,9 @@ use Rattle.upc_values.specs.Shapes.{blank_value}
 use Rattle.typed_tree.specs.Programs.{Checked}
 use Rattle.thread_steps.specs.Values.{number}
 use Rattle.source_meaning.specs.Running.{shared_object}
-use Rattle.stack_code.specs.declared.instruction.StackWork.{StackWork}
-use Rattle.stack_code.specs.declared.instruction.StackWork.TheVariants.{Push}
-use Rattle.stack_code.specs.declared.instruction.Operation.{Operation}
-use Rattle.stack_code.specs.declared.instruction.Operation.TheVariants as work
+use Rattle.stack_code.specs.layer.Names.{Pushes}
 use Rattle.gen_expr.specs.Sources.{Source, running_of}
 use Rattle.gen_stmt.specs.Programs.{source, program_code}
-
--- P holds of the value that work on the stack pushes, if it pushes one.
-abbrev pub PushedBy : (Value → Type 0) → StackWork → Type 0
-PushedBy P (Push v) = P v
-PushedBy P w = Unit {0}
-
--- P holds of the value that an operation pushes, if it pushes one.
-abbrev pub Pushes : (Value → Type 0) → Operation → Type 0
-Pushes P (work.Stack w) = PushedBy P w
-Pushes P w = Unit {0}
 
 -- What the code of a program may push: an integer, where a private object of the file or a declared shared object
 -- begins, and 0 or null.

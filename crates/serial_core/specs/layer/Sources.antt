@@ -30,11 +30,16 @@ HasOutcome codes thread budget f = (replies : List Reply) → CodeMeans codes th
 abbrev pub opening_of : Program → Opening
 opening_of program = opening_in program.threads (view_beginning program.beginning)
 
--- The code has these outcomes on the threads of a run with these limits, which begins with the opening.
+-- The code has these outcomes on the threads of a run with these limits.
+abbrev pub GivesOutcomes : Codes → Limits → Outcomes → Type 0
+GivesOutcomes p l f = (t : ℕ) → t < l.threads → HasOutcome p t l.budget (f t)
+
+-- The code has these outcomes on the threads of a run with these limits, which begins with the opening; they keep what
+-- a run takes of them.
 pub record HasOutcomes (o : Opening) (p : Codes) (l : Limits) (f : Outcomes) : Type 0 where
   pub threads : o.threads ≡ l.threads
   pub code : p.threads ≡ l.threads
-  pub means : (t : ℕ) → t < l.threads → HasOutcome p t l.budget (f t)
+  pub means : GivesOutcomes p l f
   pub sources : (t : ℕ) → t < l.threads → IsSource o l.budget (f t)
 
 -- The machine of a thread of the code, which has these outcomes, has had just these replies, in order.

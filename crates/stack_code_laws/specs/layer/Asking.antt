@@ -24,6 +24,7 @@ use Rattle.stack_code.specs.declared.instruction.Operation.TheVariants as work
 use Rattle.stack_code.specs.declared.instruction.Instr.{Instr}
 use Rattle.stack_code.specs.Codes.{Codes}
 use Rattle.stack_code.specs.layer.Kept.{IsCode}
+use Rattle.stack_code.specs.layer.Names.{NamesOnly}
 use Rattle.stack_code.specs.layer.Outcomes.{CodeMeans}
 use Rattle.stack_code_laws.specs.code.Names.{NamesGiven}
 
@@ -57,6 +58,13 @@ NamesKnown o w = Unit {0}
 -- An instruction that pushes no value, or one that is known before any action.
 abbrev pub IsDeclaredIn : Opening → Instr → Type 0
 IsDeclaredIn o i = NamesKnown o i.does
+
+-- Code for what an opening begins with: it has the opening's threads and shapes, and names no shared object but the
+-- declared ones.
+pub record IsCodeFor (o : Opening) (codes : Codes) : Type 0 where
+  pub threads : codes.threads ≡ o.threads
+  pub shapes : codes.shapes ≡ o.shapes
+  pub names : NamesOnly o.declared codes
 
 -- Code that names nothing but what an opening declares.
 pub record NamesDeclared (o : Opening) (codes : Codes) : Type 0 where

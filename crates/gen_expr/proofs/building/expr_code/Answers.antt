@@ -1,15 +1,23 @@
-use Rattle.std.proofs.Common.{◌∙◌, sym}
+use Rattle.std.proofs.Common.{◌∙◌, sym, subst}
+use Rattle.typed_tree.specs.Beginnings.{view_beginning}
+use Rattle.typed_tree.specs.ViewProgram.{view_program}
 use Rattle.typed_tree.specs.ViewTree.{view_expr}
+use Rattle.gen_expr.specs.Sources.{Source}
+use Rattle.gen_expr.specs.layer.Meanings.{AppendsMeaning}
 use Rattle.gen_expr.specs.layer.ViewSource.{view_source}
 use Rattle.gen_expr.proofs.Appended.{made, appends_meaning}
 use Rattle.gen_expr.proofs.building.expr_code.Goals as goal
 
 pub returns-clause-means : goal.returns-clause-means
 returns-clause-means c =
-    let ς = view_source c.args.source in
+    let ς = view_source c.of-source.result in
     let e = view_expr c.args.e.now in
-    appends_meaning ς c.args.strict e c.append_all.result c.put_value_code.new.code.items c.args.into.now
+    subst
+    (λ (s : Source). OnOk c.append_all.result (AppendsMeaning s c.args.strict e c.args.into.now c.append_all.new.self))
+    c.of-source.ensures
+    (appends_meaning ς c.args.strict e
+    c.append_all.result c.put_value_code.new.code.items c.args.into.now
     c.append_all.new.self
     (made ς c.args.strict e c.put_value_code.result c.new-code.result.items c.put_value_code.new.code.items
     (sym c.is_err.ensures.value ∙ c.if-is_err.false) c.new-code.ensures.items c.put_value_code.ensures)
-    c.append_all.ensures.done
+    c.append_all.ensures.done)

@@ -19,9 +19,9 @@ pub returns : goal.returns
 returns c =
     let p = c.args.program.now in
     let b = view_beginning p.beginning in
-    all_made p.threads (view_program p).functions b (view_source c.source_in-source.result) c.shapes.result.now
+    all_made p.threads (view_program p).functions b (view_source c.of-source.result) c.shapes.result.now
     c.private_shapes.result.now c.private_initials.result.now c.threads.result c.in_ok-entry.entry.items
     c.in_ok-builder.builder c.put_code.new.builder c.put_functions.new.builder c.put_objects.new.builder
     c.put_initials.new.builder c.threads.ensures c.shapes.ensures c.private_shapes.ensures c.private_initials.ensures
-    c.source_in-source.ensures c.in_ok-entry.ensures c.in_ok-builder.ensures c.in_ok-put_code.ensures
+    c.of-source.ensures c.in_ok-entry.ensures c.in_ok-builder.ensures c.in_ok-put_code.ensures
     c.in_ok-put_functions.ensures c.in_ok-put_objects.ensures c.in_ok-put_initials.ensures

@@ -9,7 +9,7 @@ use Rattle.stack_code.specs.layer.Making.{Making}
 use Rattle.gen_expr.proofs.Simulation.{expressions_are_meant}
 use Rattle.source_meaning.specs.Laws.{opening_of}
 use Rattle.gen_stmt.specs.layer.Meanings.{MeansProgram}
-use Rattle.gen_stmt.specs.layer.Names.{NamesOnly}
+use Rattle.stack_code.specs.layer.Names.{NamesOnly}
 use Rattle.gen_stmt.specs.Programs.{program_code}
 use Rattle.gen_stmt.proofs.Gathered.{program_begins}
 use Rattle.source_meaning.proofs.Beginnings.{privates_begin}

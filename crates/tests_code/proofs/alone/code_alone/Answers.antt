@@ -1,12 +1,15 @@
 use Rattle.std.proofs.Common.{false}
+use Rattle.typed_tree.specs.Beginnings.{view_beginning}
+use Rattle.typed_tree.specs.ViewProgram.{view_program}
 use Rattle.typed_tree.specs.ViewTree.{view_expr}
-use Rattle.gen_expr.specs.layer.ViewSource.{view_source}
+use Rattle.gen_expr.specs.layer.ViewSource.{source_with}
 use Rattle.tests_code.proofs.OneFunction.{alone_deep, alone_begins, are_made}
 use Rattle.tests_code.proofs.alone.code_alone.Goals as goal
 
 pub finish-requires-clause-depths : goal.finish-requires-clause-depths
 finish-requires-clause-depths c =
-    let ς = view_source c.source_of-source.result in
+    let p = c.args.program.now in
+    let ς = source_with (view_program p).functions (view_beginning p.beginning) in
     let e = view_expr c.args.e.now in
     let at = c.args.e.now.place in
     alone_deep ς false e at c.threads.result c.shapes.result.now _
@@ -16,7 +19,8 @@ finish-requires-clause-depths c =
 
 pub finish-requires-clause-begins : goal.finish-requires-clause-begins
 finish-requires-clause-begins c =
-    let ς = view_source c.source_of-source.result in
+    let p = c.args.program.now in
+    let ς = source_with (view_program p).functions (view_beginning p.beginning) in
     let e = view_expr c.args.e.now in
     let at = c.args.e.now.place in
     alone_begins ς false e at c.threads.result c.shapes.result.now _

@@ -4,4 +4,6 @@ use Rattle.private_store.proofs.object.Object.place.Goals as goal
 
 pub cell_place-requires : goal.cell_place-requires
 cell_place-requires c =
-    subst Rise (sym c.as_slice.ensures.value) (rise_within c.self.inside.cells.items 0 c.self.inside.size c.self.invariant.is_shape.1)
+    let o = c.self.inside in
+    subst Rise (sym (rw (← c.self.view_is) at c.cells.ensures))
+    (rise_within o.shape.cells 0 o.shape.size c.self.invariant.0.is_shape.1)

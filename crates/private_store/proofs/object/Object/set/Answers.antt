@@ -10,19 +10,23 @@ use Rattle.private_store.proofs.object.Object.set.Goals as goal
 pub index_mut-requires : goal.index_mut-requires
 index_mut-requires c =
     let o = c.self.inside in
-    let s : Shape = record { size = o.size; cells = o.cells.items } in
-    let in_place = stands s o.held.items c.args.place c.args.kind c.self.invariant (rw (← c.self.view_is) at c.requires.there) in
+    let s : Shape = o.shape in
+    let in_place = stands s o.held.items c.args.place c.args.kind c.self.invariant.0 (rw (← c.self.view_is) at c.requires.there) in
     omega arith
 
 pub invariant_of-self : goal.invariant_of-self
 invariant_of-self c =
     let o = c.self.inside in
-    let s : Shape = record { size = o.size; cells = o.cells.items } in
-    filled_set s o.held.items c.args.place c.args.kind c.put.new.self c.args.v c.self.invariant (rw (← c.self.view_is) at c.requires.there) c.put.ensures c.requires.fits
+    let s : Shape = o.shape in
+    (
+      filled_set s o.held.items c.args.place c.args.kind c.put.new.self c.args.v c.self.invariant.0
+          (rw (← c.self.view_is) at c.requires.there) c.put.ensures c.requires.fits,
+      c.self.invariant.1,
+    )
 
 pub returns : goal.returns
 returns c =
     let o = c.self.inside in
-    let s : Shape = record { size = o.size; cells = o.cells.items } in
+    let s : Shape = o.shape in
     let seen : List Value → Thing = λ vs. record { number = o.number; shape = s; values = vs } in
     rw (← c.self.view_is) (ap seen (map-set held_value o.held.items c.args.place c.put.new.self ∙ ap (λ v. set (held_values o.held.items) c.args.place v) c.put.ensures))

@@ -1,4 +1,4 @@
--- Which shared objects code names.
+-- What code pushes, and which shared objects it names.
 use Rattle.std.specs.Prelude.{◌≡◌, Bool, true, ◌||◌, List}
 use Rattle.std.specs.List.{list_any}
 use Rattle.block_layout.specs.declared.place.LocalPtr.TheVariants as local
@@ -8,8 +8,21 @@ use Rattle.upc_values.specs.declared.scalar.Scalar.TheVariants.{Shared}
 use Rattle.upc_values.specs.declared.scalar.Value.{Value}
 use Rattle.upc_values.specs.declared.scalar.Value.TheVariants as value
 use Rattle.upc_values.specs.Lists.{Each}
+use Rattle.stack_code.specs.declared.instruction.StackWork.{StackWork}
+use Rattle.stack_code.specs.declared.instruction.StackWork.TheVariants.{Push}
+use Rattle.stack_code.specs.declared.instruction.Operation.{Operation}
+use Rattle.stack_code.specs.declared.instruction.Operation.TheVariants as work
 use Rattle.stack_code.specs.Codes.{Codes}
-use Rattle.gen_stmt.specs.layer.Pushes.{Pushes}
+
+-- P holds of the value that work on the stack pushes, if it pushes one.
+abbrev pub PushedBy : (Value → Type 0) → StackWork → Type 0
+PushedBy P (Push v) = P v
+PushedBy P w = Unit {0}
+
+-- P holds of the value that an operation pushes, if it pushes one.
+abbrev pub Pushes : (Value → Type 0) → Operation → Type 0
+Pushes P (work.Stack w) = PushedBy P w
+Pushes P w = Unit {0}
 
 -- Whether a value names no shared object but these: where it leads into shared space it is null, or leads into one of
 -- them.
