@@ -44,7 +44,7 @@ use Rattle.gen_stmt.specs.Ways.{Ways, all_past, all_inner, in_loop, in_switch, i
 use Rattle.gen_stmt.specs.Codes as stmt
 use Rattle.gen_stmt.specs.Programs.{body_code, function_code, source, program_code}
 use Rattle.stack_code.specs.layer.Names.{PushedBy, Pushes}
-use Rattle.gen_stmt.specs.layer.Pushes.{IsPushed, integer, private, shared, blank, PushesOnly}
+use Rattle.gen_stmt.specs.code.Pushes.{IsPushed, integer, private, shared, blank, PushesOnly}
 
 -- Whether an instruction is none that begins a function without a tick, and P holds of what it pushes.
 abbrev Fine : (Value → Type 0) → Operation → Type 0

@@ -34,7 +34,7 @@ use Rattle.stack_code.specs.declared.instruction.Operation.{Operation}
 use Rattle.stack_code.specs.declared.instruction.Operation.TheVariants as work
 use Rattle.gen_stmt.specs.Programs.{source, program_code}
 use Rattle.stack_code.specs.layer.Names.{PushedBy, Pushes}
-use Rattle.gen_stmt.specs.layer.Pushes.{IsPushed, integer, private, shared, blank}
+use Rattle.gen_stmt.specs.code.Pushes.{IsPushed, integer, private, shared, blank}
 use Rattle.stack_code.specs.layer.Names.{NamesAmong, NamesOnly}
 use Rattle.source_meaning.proofs.Beginnings.{each_prop}
 use Rattle.gen_stmt.proofs.Gathered.{program_pushes}

@@ -4,7 +4,7 @@ ghost use Rattle.typed_tree.specs.Programs.{Checked};
 ghost use Rattle.upc_values.specs.Lists.{Each};
 ghost use Rattle.stack_code.specs.layer.Depths.{BeginsOnce, IsDeep};
 ghost use Rattle.gen_stmt.specs.Programs.{program_code};
-ghost use Rattle.gen_stmt.specs.layer.Pushes.{PushesOnly};
+ghost use Rattle.gen_stmt.specs.code.Pushes.{PushesOnly};
 ghost use Rattle.gen_stmt.specs.layer.Meanings.{MeansProgram};
 
 /// The code of a program means what the program means: each of its threads has the same outcome, whatever it is

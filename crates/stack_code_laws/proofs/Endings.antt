@@ -20,7 +20,7 @@ use Rattle.stack_code.specs.layer.Depths.{BeginsOnce}
 use Rattle.stack_code.specs.layer.Kept.{IsCode}
 use Rattle.stack_code.specs.layer.Steps.{Spot, Conf, At, Halt, step, steps}
 use Rattle.stack_code.specs.layer.Outcomes.{CodeMeans, HasEnded, told_by, initial_state, beginning}
-use Rattle.stack_code_laws.specs.layer.Endings.{IsWithinBudget}
+use Rattle.stack_code_laws.specs.code.Endings.{IsWithinBudget}
 use Rattle.stack_code_laws.proofs.Walks.{On, IsRule, Leads, Stands, step_leads, steps_stand}
 use Rattle.stack_code_laws.proofs.Weights.{ahead, ticks_or_less}
 

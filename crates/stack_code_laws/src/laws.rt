@@ -8,7 +8,7 @@ ghost use Rattle.stack_code.specs.Codes.{Codes};
 ghost use Rattle.stack_code.specs.layer.Kept.{IsCode};
 ghost use Rattle.stack_code.specs.layer.Outcomes.{CodeMeans};
 ghost use Rattle.stack_code_laws.specs.layer.Asking.{IsThreadOf, AsksWell};
-ghost use Rattle.stack_code_laws.specs.layer.Endings.{IsWithinBudget};
+ghost use Rattle.stack_code_laws.specs.code.Endings.{IsWithinBudget};
 ghost use Rattle.stack_code_laws.specs.code.Turns.{TakesTurns};
 
 /// Whatever a thread of code wants may be asked for after each history that may have given its replies, and with a
