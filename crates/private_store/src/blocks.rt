@@ -34,7 +34,10 @@ fn bytes_among(objects: &[Object]) -> usize
     requires { bytes_of objects.now ≤ 1048576 }
     ensures { result ≡ bytes_of objects.now }
 {
-    objects.iter().map(|object| object.shape().size as usize).sum()
+    objects
+        .iter()
+        .map(|object| object.shape().size as usize)
+        .sum()
 }
 
 /// Ends all objects but the first `kept`, and answers how many bytes they had.

@@ -49,8 +49,7 @@ impl<'a, R: Files> HostFiles<'a, R> {
         ensures bound { IfOk result (λ n. n ≤ length buf.new) }
         ensures faults { self.new.faults ≡ self.old.faults }
     {
-        let stands =
-            matches!(&self.opened, Some(opened) if opened.name == name && opened.at == at);
+        let stands = matches!(&self.opened, Some(opened) if opened.name == name && opened.at == at);
         if !stands {
             let name = self.word(name)?;
             let mut file = fs::open(self.rt, name)?;

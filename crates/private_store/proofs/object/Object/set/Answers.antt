@@ -17,8 +17,7 @@ index_mut-requires c =
 pub invariant_of-self : goal.invariant_of-self
 invariant_of-self c =
     let o = c.self.inside in
-    let s : Shape = o.shape in
-    (
+    let s : Shape = o.shape in (
       filled_set s o.held.items c.args.place c.args.kind c.put.new.self c.args.v c.self.invariant.0
           (rw (← c.self.view_is) at c.requires.there) c.put.ensures c.requires.fits,
       c.self.invariant.1,
