@@ -63,11 +63,12 @@ impl Object {
         requires { IsShape shape.now }
         ensures { IfOk result (λ o. o ≡ blank_thing number shape.now) }
     {
+        let copy = copy_shape(alloc, shape)?;
         let cells = shape.cells.to_vec(alloc)?;
         let held = blanks(alloc, cells.as_slice())?;
         Ok(Object {
             number,
-            shape: copy_shape(alloc, shape)?,
+            shape: copy,
             cells,
             held,
         })
