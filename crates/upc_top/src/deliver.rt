@@ -9,11 +9,11 @@ ghost use Rattle.upc_top.specs.Delivery.{writing, Delivered, Delivers};
 use crate::done::Done;
 use crate::verdict::Verdict;
 use run_recorder_text::render;
+use std::alloc::{AllocError as OutOfMemory, Global};
+use upc_text::{Sink, put_all};
 use upc_top_output::layout::layout_text;
 use upc_top_output::status::status_of;
 use upc_top_output::text::{output_text, refusal_text, run_text};
-use std::alloc::{AllocError as OutOfMemory, Global};
-use upc_text::{Sink, put_all};
 
 fn text_for(alloc: Global, verdict: &Verdict) -> Result<Vec<u8>, OutOfMemory>
     requires { IsWritable verdict.now }

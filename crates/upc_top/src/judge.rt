@@ -15,13 +15,13 @@ use crate::front::{pass_source, read_source};
 use crate::record::recorded;
 use crate::source::source_of;
 use crate::verdict::Verdict;
-use upc_top_words::{Call, Mode, NoCall, read_words};
 use program_runs::run_program;
 use serial_core::Limits;
 use std::alloc::Global;
 use std::sync::Wait;
 use typed_tree::Program;
 use upc_text::{ReadEnd, Sources, Stop};
+use upc_top_words::{Call, Mode, NoCall, read_words};
 use upc_values::Journal;
 
 // The verdict on a run: its record where that was asked for, else what it prints.

@@ -5,10 +5,10 @@ ghost use Rattle.upc_top_words.specs.declared.call.Mode.TheVariants.{Sample};
 ghost use Rattle.upc_top_words.specs.Values.{IsAllowed, view_call};
 ghost use Rattle.upc_top.specs.Verdicts.{reading, IsSource, NoSource};
 
-use upc_top_words::{Call, Mode, sample_number};
 use std::alloc::Global;
 use upc_sample::sample;
 use upc_text::{ReadEnd, Sources, read_all};
+use upc_top_words::{Call, Mode, sample_number};
 
 /// The source that the words ask for: made in mode `sample`, in every other mode the bytes of the file.
 pub fn source_of<S: Sources>(
