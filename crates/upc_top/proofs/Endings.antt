@@ -18,11 +18,16 @@ use Rattle.upc_top_output.specs.Layout.{layout}
 use Rattle.upc_top.specs.Sources.{IsAccepted, IsRunnable, IsRefusedIn, not_accepted, not_runnable}
 use Rattle.upc_top.proofs.Readings.{never_both, never_outside, same_checked}
 use Rattle.upc_top.specs.Verdicts.{Reading, IsSample, IsSource, Holds, Taken, Caused, CameTo, ComesFrom, FailedToRead, IsTooLong, status_for, text_of, journal_of, orders_in, without_memory, IsWritable}
-use Rattle.upc_top.specs.Delivery.{Writing, Gained, Delivered, Delivered.Whole, Delivered.Out_broke, Delivered.Err_broke, Delivers, Answered, RefusesOtherWords, RefusesLongFiles, Succeeds, IsThere, IsToldWhole, HasRun, HasRecorded, IsOverlong, HasWritten, IsDone, IsComplete}
+use Rattle.upc_top.specs.Delivery.{Writing, Gained, Delivered, Delivered.Whole, Delivered.Out_broke, Delivered.Err_broke, Delivers, Answered, RefusesOtherWords, RefusesLongFiles, SampleReadsNoFile, Succeeds, IsThere, IsToldWhole, HasRun, HasRecorded, IsOverlong, HasWritten, IsDone, IsComplete}
 
 -- words that are taken ask for one thing
 same-asked : (words : List (List ℕ)) (a b : Asked) → Asks words a → Asks words b → b ≡ a
 same-asked words a b h k = one_asked words b a k h
+
+-- where the mode of what was taken says that nothing is read, no file is read in mode `sample`
+pub no_file_read : {S : Type 0} (words : List (List ℕ)) (a : Asked) (before after : S) → Asks words a
+    → (a.mode ≡ Sample → after ≡ before) → SampleReadsNoFile words before after
+no_file_read words a before after h f b k e = f (ap (λ (x : Asked). x.mode) (same-asked words b a k h) ∙ e)
 
 whole-is : (told : Option (List ℕ)) (bytes given : List ℕ) → told ≡ Some bytes → IsWhole told given → given ≡ bytes
 whole-is told bytes given e h = let P : Option (List ℕ) → Type 0 = λ o. IsWhole o given in subst P e h

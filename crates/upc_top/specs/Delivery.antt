@@ -82,6 +82,10 @@ RefusesLongFiles words reading done =
     (a : Asked) (bytes : List ℕ) → Asks words a → (a.mode ≡ Sample → ⊥) → reading.told a.file ≡ Some bytes
     → 1048576 < length bytes → (done.status ≡ 110) ⊎ (done.status ≡ 102) ⊎ (done.status ≡ 103) ⊎ (done.status ≡ 104)
 
+-- In mode `sample` no file is read: after the call the sources are what they were before it.
+abbrev pub SampleReadsNoFile : {S : Type 0} → List (List ℕ) → S → S → Type 0
+SampleReadsNoFile words before after = (a : Asked) → Asks words a → a.mode ≡ Sample → after ≡ before
+
 -- The file's bytes are known and no more than a source may have, and no read of it failed.
 pub record IsToldWhole (reading : Reading) (file bytes : List ℕ) : Type 0 where
   pub told : reading.told file ≡ Some bytes

@@ -8,6 +8,7 @@ ghost use Rattle.upc_top_words.specs.Values.{Asked, IsAllowed};
 ghost use Rattle.upc_top.specs.Words.{runs};
 ghost use Rattle.upc_top.specs.Sources.{IsAccepted, StopsReading};
 ghost use Rattle.upc_top.specs.Verdicts.{reading, Caused, ComesFrom};
+ghost use Rattle.upc_top.specs.Delivery.{SampleReadsNoFile};
 ghost use Rattle.upc_top.specs.code.Records.{IsShown};
 
 use crate::front::{pass_source, read_source};
@@ -95,10 +96,12 @@ fn come_to<R: Wait>(rt: &R, alloc: Global, call: &Call<'_>, bytes: &[u8]) -> Ver
 }
 
 /// The verdict on the words and the file.
+#[tactic(auto, using(crate::proofs::Endings::no_file_read))]
 pub fn judge<R: Wait, S: Sources>(rt: &R, alloc: Global, words: &[String], files: &mut S) -> Verdict
-    ensures { Caused (map string_bytes words.now)
+    ensures caused { Caused (map string_bytes words.now)
         (reading (S.bytes_of files.old) (S.faults files.old) (S.faults files.new))
         result }
+    ensures sample { SampleReadsNoFile (map string_bytes words.now) files.old files.new }
 {
     let call = match read_words(alloc, words) {
         Ok(call) => call,

@@ -1,6 +1,7 @@
 //! The source that the words ask for.
 
-ghost use Rattle.std.specs.Prelude.{◌≤◌, length, IfOk, IfErr};
+ghost use Rattle.std.specs.Prelude.{◌≡◌, ◌≤◌, length, IfOk, IfErr};
+ghost use Rattle.upc_top_words.specs.declared.call.Mode.TheVariants.{Sample};
 ghost use Rattle.upc_top_words.specs.Values.{IsAllowed, view_call};
 ghost use Rattle.upc_top.specs.Verdicts.{reading, IsSource, NoSource};
 
@@ -22,6 +23,7 @@ pub fn source_of<S: Sources>(
     ensures none { IfErr result (NoSource
         (reading (S.bytes_of files.old) (S.faults files.old) (S.faults files.new))
         (view_call call.now)) }
+    ensures sample { call.now.mode ≡ Sample → files.new ≡ files.old }
 {
     match call.mode {
         Mode::Sample => {

@@ -3,6 +3,7 @@
 ghost use Rattle.std.specs.Prelude.{map, string_bytes};
 ghost use Rattle.upc_top.specs.Verdicts.{reading};
 ghost use Rattle.upc_top.specs.Delivery.{writing, Answered, RefusesOtherWords, RefusesLongFiles, IsComplete};
+ghost use Rattle.upc_top.specs.Delivery.{SampleReadsNoFile};
 
 use crate::deliver::deliver;
 use crate::done::Done;
@@ -39,6 +40,8 @@ pub fn upc_main<R: Wait, S: Sources, O: Sink, E: Sink, G: Gate>(
     ensures long { RefusesLongFiles (map string_bytes words.now)
         (reading (S.bytes_of files.old) (S.faults files.old) (S.faults files.new))
         result }
+    // In mode `sample` no file is read.
+    ensures sample { SampleReadsNoFile (map string_bytes words.now) files.old files.new }
     // Where nothing fails, an accepted source is run, recorded, passed or laid out.
     ensures complete { IsComplete (map string_bytes words.now)
         (reading (S.bytes_of files.old) (S.faults files.old) (S.faults files.new))

@@ -5,7 +5,7 @@ use Rattle.upc_top.proofs.Endings.{answered, writable, complete, other-words, lo
 use Rattle.upc_top.proofs.top.upc_main.Goals as goal
 
 pub deliver-requires-clause-writable : goal.deliver-requires-clause-writable
-deliver-requires-clause-writable g c = writable _ _ c.judge-verdict.result c.judge-verdict.ensures
+deliver-requires-clause-writable g c = writable _ _ c.judge-verdict.result c.judge-verdict.ensures.caused
 
 pub returns-clause-answered : goal.returns-clause-answered
 returns-clause-answered g c =
@@ -13,7 +13,7 @@ returns-clause-answered g c =
     let r = (reading (g.S.Sources.bytes_of c.args.files.now) (g.S.Sources.faults c.args.files.now) (g.S.Sources.faults c.judge-verdict.new.files)) in
     let o = (writing (g.O.Sink.taken c.args.out.now) (g.O.Sink.taken c.deliver.new.out) (g.O.Sink.faults c.args.out.now) (g.O.Sink.faults c.deliver.new.out)) in
     let e = (writing (g.E.Sink.taken c.args.err.now) (g.E.Sink.taken c.deliver.new.err) (g.E.Sink.faults c.args.err.now) (g.E.Sink.faults c.deliver.new.err)) in
-    let a : Answered ws r o e c.deliver.result = answered ws r o e c.deliver.result c.judge-verdict.result c.judge-verdict.ensures c.deliver.ensures.delivers in
+    let a : Answered ws r o e c.deliver.result = answered ws r o e c.deliver.result c.judge-verdict.result c.judge-verdict.ensures.caused c.deliver.ensures.delivers in
     a
 
 pub returns-clause-words : goal.returns-clause-words
@@ -22,7 +22,7 @@ returns-clause-words g c =
     let r = (reading (g.S.Sources.bytes_of c.args.files.now) (g.S.Sources.faults c.args.files.now) (g.S.Sources.faults c.judge-verdict.new.files)) in
     let o = (writing (g.O.Sink.taken c.args.out.now) (g.O.Sink.taken c.deliver.new.out) (g.O.Sink.faults c.args.out.now) (g.O.Sink.faults c.deliver.new.out)) in
     let e = (writing (g.E.Sink.taken c.args.err.now) (g.E.Sink.taken c.deliver.new.err) (g.E.Sink.faults c.args.err.now) (g.E.Sink.faults c.deliver.new.err)) in
-    let a : Answered ws r o e c.deliver.result = answered ws r o e c.deliver.result c.judge-verdict.result c.judge-verdict.ensures c.deliver.ensures.delivers in
+    let a : Answered ws r o e c.deliver.result = answered ws r o e c.deliver.result c.judge-verdict.result c.judge-verdict.ensures.caused c.deliver.ensures.delivers in
     other-words ws r o e c.deliver.result a
 
 pub returns-clause-long : goal.returns-clause-long
@@ -31,7 +31,7 @@ returns-clause-long g c =
     let r = (reading (g.S.Sources.bytes_of c.args.files.now) (g.S.Sources.faults c.args.files.now) (g.S.Sources.faults c.judge-verdict.new.files)) in
     let o = (writing (g.O.Sink.taken c.args.out.now) (g.O.Sink.taken c.deliver.new.out) (g.O.Sink.faults c.args.out.now) (g.O.Sink.faults c.deliver.new.out)) in
     let e = (writing (g.E.Sink.taken c.args.err.now) (g.E.Sink.taken c.deliver.new.err) (g.E.Sink.faults c.args.err.now) (g.E.Sink.faults c.deliver.new.err)) in
-    let a : Answered ws r o e c.deliver.result = answered ws r o e c.deliver.result c.judge-verdict.result c.judge-verdict.ensures c.deliver.ensures.delivers in
+    let a : Answered ws r o e c.deliver.result = answered ws r o e c.deliver.result c.judge-verdict.result c.judge-verdict.ensures.caused c.deliver.ensures.delivers in
     long-files ws r o e c.deliver.result a
 
 pub returns-clause-complete : goal.returns-clause-complete
@@ -40,5 +40,5 @@ returns-clause-complete g c =
     let r = (reading (g.S.Sources.bytes_of c.args.files.now) (g.S.Sources.faults c.args.files.now) (g.S.Sources.faults c.judge-verdict.new.files)) in
     let o = (writing (g.O.Sink.taken c.args.out.now) (g.O.Sink.taken c.deliver.new.out) (g.O.Sink.faults c.args.out.now) (g.O.Sink.faults c.deliver.new.out)) in
     let e = (writing (g.E.Sink.taken c.args.err.now) (g.E.Sink.taken c.deliver.new.err) (g.E.Sink.faults c.args.err.now) (g.E.Sink.faults c.deliver.new.err)) in
-    let a : Answered ws r o e c.deliver.result = answered ws r o e c.deliver.result c.judge-verdict.result c.judge-verdict.ensures c.deliver.ensures.delivers in
+    let a : Answered ws r o e c.deliver.result = answered ws r o e c.deliver.result c.judge-verdict.result c.judge-verdict.ensures.caused c.deliver.ensures.delivers in
     complete ws r o e c.deliver.result a
