@@ -6,29 +6,42 @@ use std::fs::{self, Files};
 use std::io::{self, Read, Seek, SeekFrom, Write};
 use upc_text::{Failed, Sink, Sources};
 
-// An open file, its name, and the place of its next byte.
+// An open file, the word that names it, and the place of its next byte.
 #[derive(Drop)]
-struct Opened<F> {
-    name: String,
+struct Opened<'a, F> {
+    name: &'a str,
     file: F,
     at: u64,
 }
 
-/// Files by name. The last one stays open from read to read.
+/// The files that words name; a read of any other name fails. The last file stays open from read to read. No read takes
+/// memory.
 #[derive(Drop)]
 pub struct HostFiles<'a, R: Files> {
     rt: &'a R,
-    opened: Option<Opened<R::File>>,
+    words: &'a [String],
+    opened: Option<Opened<'a, R::File>>,
     faults: u64,
 }
 
-impl<'a, R: Files + AllocGlobal> HostFiles<'a, R> {
-    pub fn new(rt: &'a R) -> Self {
+impl<'a, R: Files> HostFiles<'a, R> {
+    pub fn new(rt: &'a R, words: &'a [String]) -> Self {
         HostFiles {
             rt,
+            words,
             opened: None,
             faults: 0,
         }
+    }
+
+    // The word that is this name.
+    fn word(&self, name: &str) -> io::Result<&'a str> {
+        for word in self.words {
+            if word.as_str() == name {
+                return Ok(word.as_str());
+            }
+        }
+        Err(io::Error::from(io::ErrorKind::NotFound))
     }
 
     // Reads on from a place of the file of that name.
@@ -36,14 +49,13 @@ impl<'a, R: Files + AllocGlobal> HostFiles<'a, R> {
         ensures bound { IfOk result (λ n. n ≤ length buf.new) }
         ensures faults { self.new.faults ≡ self.old.faults }
     {
-        let stands =
-            matches!(&self.opened, Some(opened) if opened.name.as_str() == name && opened.at == at);
+        let stands = matches!(&self.opened, Some(opened) if opened.name == name && opened.at == at);
         if !stands {
+            let name = self.word(name)?;
             let mut file = fs::open(self.rt, name)?;
             if at > 0 {
                 file.seek(SeekFrom::Start(at))?;
             }
-            let name = String::from_str(self.rt.alloc(), name)?;
             self.opened = Some(Opened { name, file, at });
         }
         match &mut self.opened {
@@ -57,7 +69,7 @@ impl<'a, R: Files + AllocGlobal> HostFiles<'a, R> {
     }
 }
 
-impl<R: Files + AllocGlobal> Sources for HostFiles<'_, R> {
+impl<R: Files> Sources for HostFiles<'_, R> {
     ghost bytes_of = { λ _ _. None };
 
     ghost faults = { λ s _. s.faults };

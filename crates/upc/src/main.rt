@@ -5,9 +5,9 @@ mod host;
 
 use host::{HostFiles, HostSink};
 use std::env::{self, Env};
-use std::io;
+use std::io::{self, ErrorKind};
 use std::process::ExitCode;
-use upc_text::OpenGate;
+use upc_text::{OpenGate, Sink, put_all};
 use upc_top::upc_main;
 
 // The words after the program's name.
@@ -19,12 +19,26 @@ fn words<R: Env + AllocGlobal>(rt: &R) -> io::Result<Vec<String>> {
     Ok(words)
 }
 
+// The status where memory was wanting for the words, with its line.
+fn without_memory<E: Sink>(err: &mut E) -> u8 {
+    match put_all(err, b"upc: no memory\n") {
+        Ok(()) => 104,
+        Err(_) => 103,
+    }
+}
+
 fn main(rt: HostRuntime) -> ExitCode {
-    // Words that are no text are refused as no words are.
-    let words = words(&rt).unwrap_or(Vec::new(rt.alloc()));
-    let mut files = HostFiles::new(&rt);
     let mut out = HostSink::new(rt.stdout());
     let mut err = HostSink::new(rt.stderr());
+    let words = match words(&rt) {
+        Ok(words) => words,
+        Err(error) if error.kind() == ErrorKind::OutOfMemory => {
+            return ExitCode::from(without_memory(&mut err));
+        }
+        // Words that are no text are refused as no words are.
+        Err(_) => Vec::new(rt.alloc()),
+    };
+    let mut files = HostFiles::new(&rt, words.as_slice());
     let done = upc_main(
         &rt,
         rt.alloc(),
