@@ -18,7 +18,7 @@ use Rattle.typing_rules.specs.Faults.{Seen}
 use Rattle.typing_rules.specs.Nodes as rule_node
 use Rattle.typing_rules.specs.Nodes.{Around}
 use Rattle.typed_tree.specs.Tree.{DeclaredObject, Function, Statement}
-use Rattle.upc_checker_scopes.specs.Walk.{Walk, give, andthen, judge, update, look, enclosed}
+use Rattle.upc_checker_scopes.specs.Walk.{Walk, give, ◌>>=◌, ◌>>◌, judge, update, look, enclosed}
 use Rattle.upc_checker_types.specs.Specifiers.{specifiers_form, specified_type}
 use Rattle.upc_checker_scopes.specs.Places.{no_place, specs_place}
 use Rattle.upc_checker_types.specs.Shapes.{Specifying}
@@ -99,28 +99,28 @@ with_outer_entry name signature (Scope level top counts NoScope) = Scope level t
 -- The walk over a definition after its specifiers and stars, of which it is given whether they form a type: its
 -- parameters, its body, and its own node (C99 6.9.1).
 abbrev pub walk_definition : Setting → Bool → Made → Place → Bool → CType → Name → Parameters → Compound → Walk Made
-walk_definition ξ strict before place forms result name parameters body =
-    andthen (walk_parameters ξ (inside before.scope) parameters) (λ ps.
-    let signature : Signature = record { result = result; parameters = ps.types } in
-    andthen (earlier ξ before.scope name.number signature) (λ was.
-    andthen (update (with_function name.number signature true)) (λ u.
-    andthen (walk_block ξ (with_outer_entry name.number signature ps.scope) (body_around result) strict body) (λ x.
-    andthen (judge ξ place (rule_node.Defines was.again was.differs forms signature)) (λ v.
-    give (with_definition ξ before place name.number signature x))))))
+walk_definition ξ strict before place forms result name parameters body = do
+  ps ← walk_parameters ξ (inside before.scope) parameters
+  let signature : Signature = record { result = result; parameters = ps.types }
+  was ← earlier ξ before.scope name.number signature
+  update (with_function name.number signature true)
+  x ← walk_block ξ (with_outer_entry name.number signature ps.scope) (body_around result) strict body
+  judge ξ place (rule_node.Defines was.again was.differs forms signature)
+  give (with_definition ξ before place name.number signature x)
 
 -- The walk over a definition, from its specifiers on (C99 6.9.1).
 abbrev pub walk_function : Setting → Bool → Made → Place → Specs → Pointers → Name → Parameters → Compound → Walk Made
-walk_function ξ strict before place specs pointers name parameters body =
-    andthen (walk_specifiers ξ before.scope (in_definition place) specs) (λ p.
-    andthen (walk_pointers ξ before.scope false (specified_type p) pointers) (λ t.
-    enclosed (walk_definition ξ strict before place (specifiers_form true p && t.forms) t.ctype name parameters body)))
+walk_function ξ strict before place specs pointers name parameters body = do
+  p ← walk_specifiers ξ before.scope (in_definition place) specs
+  t ← walk_pointers ξ before.scope false (specified_type p) pointers
+  enclosed (walk_definition ξ strict before place (specifiers_form true p && t.forms) t.ctype name parameters body)
 
 -- The walk over a pragma, a declaration or a definition at file scope (C99 6.9, UPC 6.7).
 abbrev pub walk_external : Setting → Bool → Made → External → Walk Made
 walk_external ξ strict before (PragmaPart pragma) = give before
-walk_external ξ strict before (DeclarationPart declaration) =
-    andthen (walk_declaration ξ before.scope declaration) (λ b.
-    give (record { scope = b.scope; objects = before.objects ++ b.objects; functions = before.functions }))
+walk_external ξ strict before (DeclarationPart declaration) = do
+  b ← walk_declaration ξ before.scope declaration
+  give (record { scope = b.scope; objects = before.objects ++ b.objects; functions = before.functions })
 walk_external ξ strict before (FunctionPart specs pointers name parameters body) =
     walk_function ξ strict before (specs_place specs) specs pointers name parameters body
 
@@ -133,8 +133,9 @@ strict_from before x = before
 -- The walk over the parts of a source in order, where accesses are strict or not before the first (C99 6.9, UPC 6.7).
 abbrev pub walk_externals : Setting → Bool → Made → List External → Walk Made
 walk_externals ξ strict before [] = give before
-walk_externals ξ strict before (x ∷ xs) =
-    andthen (walk_external ξ strict before x) (λ b. walk_externals ξ (strict_from strict x) b xs)
+walk_externals ξ strict before (x ∷ xs) = do
+  b ← walk_external ξ strict before x
+  walk_externals ξ (strict_from strict x) b xs
 
 -- ---- the whole source
 
@@ -146,9 +147,10 @@ setting names threads unit = record { names = names; threads = threads; defined 
 -- The walk over a whole source: at its start relaxed is in force, and the file itself is the last node (C99 6.9,
 -- UPC 6.7).
 abbrev pub walk_unit : Setting → List External → Walk Made
-walk_unit ξ unit =
-    andthen (walk_externals ξ false (record { scope = file; objects = []; functions = [] }) unit) (λ made.
-    andthen (judge ξ (source_place unit) (rule_node.File (list_any is_main_function made.functions))) (λ u. give made))
+walk_unit ξ unit = do
+  made ← walk_externals ξ false (record { scope = file; objects = []; functions = [] }) unit
+  judge ξ (source_place unit) (rule_node.File (list_any is_main_function made.functions))
+  give made
 
 -- All nodes of a source, in the order in which they are finished (C99 6.5 to 6.9).
 abbrev pub unit_nodes : List (List ℕ) → ℕ → List External → List Seen

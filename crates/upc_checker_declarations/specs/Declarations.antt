@@ -17,7 +17,7 @@ use Rattle.typing_rules.specs.Nodes as nodes
 use Rattle.typing_rules.specs.Nodes.{Use}
 use Rattle.typed_tree.specs.Tree as typed
 use Rattle.typed_tree.specs.Tree.{Exprs, attr_of, attrs_of, DeclaredObject}
-use Rattle.upc_checker_scopes.specs.Walk.{Walk, give, andthen, judge, update, look, enclosed}
+use Rattle.upc_checker_scopes.specs.Walk.{Walk, give, ◌>>=◌, ◌>>◌, judge, update, look, enclosed}
 use Rattle.upc_checker_types.specs.Specifiers.{specifiers_form, specified_type, Shaped, formed}
 use Rattle.upc_checker_scopes.specs.Places.{specs_place, pointers_place}
 use Rattle.upc_checker_types.specs.Shapes.{has_sizes, is_none, Specifying}
@@ -63,42 +63,48 @@ signature_of result ps = record { result = result.ctype; parameters = ps.types }
 
 -- The walk over the node of a prototype, after which its function is known as declared (C99 6.7.5.3).
 abbrev pub declares_function : Setting → Env → Place → ℕ → Bool → Signature → Walk (Unit {0})
-declares_function ξ Γ place name forms signature =
-    andthen (look (λ s. prototype_again ξ Γ s name signature)) (λ again.
-    andthen (judge ξ place (nodes.DeclaresFunction again forms signature)) (λ u. update (with_function name signature
-    false)))
+declares_function ξ Γ place name forms signature = do
+  again ← look (λ s. prototype_again ξ Γ s name signature)
+  judge ξ place (nodes.DeclaresFunction again forms signature)
+  update (with_function name signature false)
 
 -- ---- initialisers (C99 6.7.8)
 
 -- An initialiser of a file-scope object is judged as a constant, and no other is (C99 6.7.8).
 abbrev pub initial_constant : Setting → Bool → typed.Expr → Walk (Unit {0})
-initial_constant ξ true a = andthen (constantly ξ a) (λ c. give (tt {0}))
+initial_constant ξ true a = do
+  constantly ξ a
+  give (tt {0})
 initial_constant ξ false a = give (tt {0})
 
 -- The walk over one initial value that is used so; at file scope it is judged as a constant (C99 6.7.8).
 abbrev pub walk_initial_value : Setting → Env → Bool → Use → Expr → Walk typed.Expr
-walk_initial_value ξ Γ file how value =
-    andthen (walk ξ Γ how value) (λ a. andthen (initial_constant ξ file a) (λ u. give a))
+walk_initial_value ξ Γ file how value = do
+  a ← walk ξ Γ how value
+  initial_constant ξ file a
+  give a
 
 -- The walk over the further values of a list of initial values, in order (C99 6.7.8).
 abbrev pub walk_initial_values : Setting → Env → Bool → Use → NextExprs → Walk Exprs
 walk_initial_values ξ Γ file how NoNextExprs = give typed.NoExprs
-walk_initial_values ξ Γ file how (AndExpr comma value more) =
-    andthen (walk_initial_value ξ Γ file how value) (λ x. andthen (walk_initial_values ξ Γ file how more) (λ xs.
-    give (typed.AndExpr x xs)))
+walk_initial_values ξ Γ file how (AndExpr comma value more) = do
+  x ← walk_initial_value ξ Γ file how value
+  xs ← walk_initial_values ξ Γ file how more
+  give (typed.AndExpr x xs)
 
 -- The walk over the initialiser, if any, of what a declarator declares: an object of this type, or a function, which
 -- may have none (C99 6.7.8).
 abbrev pub walk_initial : Setting → Env → Place → Bool → CType → declaration_tree.Initial → Walk typed.Initial
 walk_initial ξ Γ place object t declaration_tree.NoInitial = give typed.NoInitial
-walk_initial ξ Γ place object t (declaration_tree.ValueInitial equal value) =
-    andthen (walk_initial_value ξ Γ (is_file Γ) (nodes.Into t) value) (λ a.
-    andthen (judge ξ place (nodes.InitialValue (is_file Γ) object t (attr_of a))) (λ u. give (typed.InitialValue a)))
-walk_initial ξ Γ place object t (declaration_tree.ListInitial equal left first more right) =
-    andthen (walk_initial_value ξ Γ (is_file Γ) (element_use (base_target (base_of t))) first) (λ x.
-    andthen (walk_initial_values ξ Γ (is_file Γ) (element_use (base_target (base_of t))) more) (λ xs.
-    andthen (judge ξ place (nodes.InitialList (is_file Γ) object t (attrs_of (typed.AndExpr x xs)))) (λ u.
-    give (typed.InitialList (typed.AndExpr x xs)))))
+walk_initial ξ Γ place object t (declaration_tree.ValueInitial equal value) = do
+  a ← walk_initial_value ξ Γ (is_file Γ) (nodes.Into t) value
+  judge ξ place (nodes.InitialValue (is_file Γ) object t (attr_of a))
+  give (typed.InitialValue a)
+walk_initial ξ Γ place object t (declaration_tree.ListInitial equal left first more right) = do
+  x ← walk_initial_value ξ Γ (is_file Γ) (element_use (base_target (base_of t))) first
+  xs ← walk_initial_values ξ Γ (is_file Γ) (element_use (base_target (base_of t))) more
+  judge ξ place (nodes.InitialList (is_file Γ) object t (attrs_of (typed.AndExpr x xs)))
+  give (typed.InitialList (typed.AndExpr x xs))
 
 -- ---- declarations
 
@@ -118,37 +124,40 @@ with_object before Γ place name t behind initial = record {
 
 -- The walk over a declarator with its initialiser, in which what it declares is in scope already (C99 6.2.1, 6.7.5).
 abbrev pub walk_declared : Setting → Place → Shaped → Behind → declaration_tree.Declared → Walk Behind
-walk_declared ξ place t before (DeclaredAs (ObjectDeclarator pointers name sizes) initial) =
-    let Γ = before.scope in
-    andthen (walk_pointers ξ Γ (has_sizes sizes) t pointers) (λ p. andthen (walk_sizes ξ Γ sizes) (λ ns.
-    let f = formed ξ.threads p ns in
-    let at = pointers_place pointers name in
-    let behind = declare name.number f.ctype Γ in
-    andthen (judge ξ at (nodes.DeclaresObject (object_again ξ Γ name) (is_file Γ) f)) (λ u.
-    andthen (walk_initial ξ behind at true f.ctype initial) (λ i.
-    give (with_object before Γ place (spelling ξ name.number) f.ctype behind i)))))
-walk_declared ξ place t before (DeclaredAs (FunctionDeclarator pointers name parameters) initial) =
-    let Γ = before.scope in
-    andthen (walk_pointers ξ Γ false t pointers) (λ p.
-    andthen (enclosed (walk_parameters ξ (inside Γ) parameters)) (λ ps.
-    let signature = signature_of p ps in
-    let at = pointers_place pointers name in
-    let behind = with_entry name.number (meaning.Function signature) Γ in
-    andthen (declares_function ξ Γ at name.number p.forms signature) (λ u.
-    andthen (walk_initial ξ behind at false int initial) (λ i.
-    give (record { scope = behind; objects = before.objects })))))
+walk_declared ξ place t before (DeclaredAs (ObjectDeclarator pointers name sizes) initial) = do
+  let Γ = before.scope
+  p ← walk_pointers ξ Γ (has_sizes sizes) t pointers
+  ns ← walk_sizes ξ Γ sizes
+  let f = formed ξ.threads p ns
+  let at = pointers_place pointers name
+  let behind = declare name.number f.ctype Γ
+  judge ξ at (nodes.DeclaresObject (object_again ξ Γ name) (is_file Γ) f)
+  i ← walk_initial ξ behind at true f.ctype initial
+  give (with_object before Γ place (spelling ξ name.number) f.ctype behind i)
+walk_declared ξ place t before (DeclaredAs (FunctionDeclarator pointers name parameters) initial) = do
+  let Γ = before.scope
+  p ← walk_pointers ξ Γ false t pointers
+  ps ← enclosed (walk_parameters ξ (inside Γ) parameters)
+  let signature = signature_of p ps
+  let at = pointers_place pointers name
+  let behind = with_entry name.number (meaning.Function signature) Γ
+  declares_function ξ Γ at name.number p.forms signature
+  walk_initial ξ behind at false int initial
+  give (record { scope = behind; objects = before.objects })
 
 -- The walk over the further declarators of a declaration, each in scope in those after it (C99 6.2.1, 6.7).
 abbrev pub walk_next_declareds : Setting → Place → Shaped → Behind → NextDeclareds → Walk Behind
 walk_next_declareds ξ place t before NoNextDeclareds = give before
-walk_next_declareds ξ place t before (AndDeclared comma x more) =
-    andthen (walk_declared ξ place t before x) (λ b. walk_next_declareds ξ place t b more)
+walk_next_declareds ξ place t before (AndDeclared comma x more) = do
+  b ← walk_declared ξ place t before x
+  walk_next_declareds ξ place t b more
 
 -- The walk over all declarators of a declaration, in order (C99 6.7).
 abbrev pub walk_declared_list : Setting → Place → Shaped → Behind → DeclaredList → Walk Behind
 walk_declared_list ξ place t before NoneDeclared = give before
-walk_declared_list ξ place t before (SomeDeclared first more) =
-    andthen (walk_declared ξ place t before first) (λ b. walk_next_declareds ξ place t b more)
+walk_declared_list ξ place t before (SomeDeclared first more) = do
+  b ← walk_declared ξ place t before first
+  walk_next_declareds ξ place t b more
 
 -- What stands around the specifiers of a declaration: `[*]` may stand there where they declare arrays alone, and
 -- `static` at file scope (C99 6.7.1, UPC 6.5.1.1).
@@ -158,11 +167,8 @@ specifying at Γ list = record { at = at; star = declares_arrays list; static = 
 -- The walk over a declaration: its specifiers form a type before its declarators, and what else they break is judged
 -- after its initialisers (C99 6.7).
 abbrev pub walk_declaration : Setting → Env → Declaration → Walk Behind
-walk_declaration ξ Γ (Declares specs list semicolon) =
-    andthen (walk_specifiers ξ Γ (specifying (specs_place specs) Γ list) specs) (λ p.
-    andthen (walk_declared_list ξ (specs_place specs) (specified_type p) (record {
-      scope =
-          Γ;
-      objects = [];
-    }) list) (λ b.
-    andthen (judge ξ (specs_place specs) (nodes.Specifies (specifiers_form (is_file Γ) p))) (λ u. give b)))
+walk_declaration ξ Γ (Declares specs list semicolon) = do
+  p ← walk_specifiers ξ Γ (specifying (specs_place specs) Γ list) specs
+  b ← walk_declared_list ξ (specs_place specs) (specified_type p) (record { scope = Γ; objects = []; }) list
+  judge ξ (specs_place specs) (nodes.Specifies (specifiers_form (is_file Γ) p))
+  give b

@@ -10,7 +10,7 @@ use Rattle.upc_types.specs.Layout.{members_within, complete_in}
 use Rattle.typed_tree.specs.Scopes.{Setting, spelling, Env, is_taken, is_known, here, level_of, State, find_tag}
 use Rattle.typed_tree.specs.Scopes.{tag_here, with_tag, with_members, is_object, differs, was_defined}
 use Rattle.typing_rules.specs.Nodes as nodes
-use Rattle.upc_checker_scopes.specs.Walk.{Walk, andthen, judge, update, look}
+use Rattle.upc_checker_scopes.specs.Walk.{Walk, ◌>>=◌, ◌>>◌, judge, update, look}
 use Rattle.typing_rules.specs.Meanings.{Signature}
 pub use Rattle.typed_tree.specs.Words.{main_text}
 
@@ -64,10 +64,10 @@ members_size s members = size_or_more (members_within s.structs.completed member
 -- The walk over the end of a definition of a struct: its node is finished, and the struct has these members
 -- (C99 6.7.2.1).
 abbrev pub close_struct : Setting → Place → ℕ → List Member → Walk (Unit {0})
-close_struct ξ place number members =
-    andthen (look (λ s. s)) (λ s.
-    andthen (judge ξ place (nodes.Struct (is_complete_struct s number) (length members) (members_size s members))) (λ u.
-    update (with_members number members)))
+close_struct ξ place number members = do
+  s ← look (λ s. s)
+  judge ξ place (nodes.Struct (is_complete_struct s number) (length members) (members_size s members))
+  update (with_members number members)
 
 -- Whether a declaration declares its name again, if it has one: the name is one of the library, or is declared in the
 -- scope itself (C99 6.7).

@@ -32,6 +32,16 @@ andthen w go s =
     let y = go x.value x.state in
     record { seen = x.seen ++ y.seen; state = y.state; value = y.value }
 
+-- In `x ← w` the value of the walk w is called x, and what stands below is the walk over what comes after it.
+infixl 10 ◌>>=◌
+abbrev pub ◌>>=◌ : {A B : Type 0} → Walk A → (A → Walk B) → Walk B
+w >>= go = andthen w go
+
+-- One walk, and then another, whatever value the first has made.
+infixl 10 ◌>>◌
+abbrev pub ◌>>◌ : {A B : Type 0} → Walk A → Walk B → Walk B
+w >> v = andthen w (λ u. v)
+
 -- What nodes may look at: the structs that are known, and the number of threads.
 abbrev pub facts_in : Setting → State → Facts
 facts_in ξ s = record { structs = s.structs; threads = ξ.threads }

@@ -27,7 +27,7 @@ use Rattle.typing_rules.specs.Nodes as node
 use Rattle.typing_rules.specs.Nodes.{Attr, Around}
 use Rattle.typed_tree.specs.Tree as typed
 use Rattle.typed_tree.specs.Tree.{attr_of, place_of, DeclaredObject}
-use Rattle.upc_checker_scopes.specs.Walk.{Walk, give, andthen, judge, enclosed}
+use Rattle.upc_checker_scopes.specs.Walk.{Walk, give, ◌>>=◌, ◌>>◌, judge, enclosed}
 use Rattle.upc_checker_scopes.specs.Places.{at}
 use Rattle.upc_checker_expressions.specs.Expressions.{walk, constantly}
 use Rattle.upc_checker_declarations.specs.Declarations.{walk_declaration}
@@ -52,7 +52,9 @@ synchronises barrier_word.Barrier = synchronises_variant.Barrier
 -- The walk over the expression of a statement, if it has one (C99 6.8.3).
 abbrev pub walk_value : Setting → Env → Option Expr → Walk (Option typed.Expr)
 walk_value ξ Γ None = give None
-walk_value ξ Γ (Some e) = andthen (walk ξ Γ node.Plain e) (λ a. give (Some a))
+walk_value ξ Γ (Some e) = do
+  a ← walk ξ Γ node.Plain e
+  give (Some a)
 
 -- The walk over the controlling expression of a statement, in its parentheses (C99 6.8.4, 6.8.5).
 abbrev pub walk_test : Setting → Env → Test → Walk typed.Expr
@@ -69,11 +71,12 @@ pub record Begun : Type 0 where
 
 -- The walk over the first part of a loop's head: an expression, a declaration, or nothing (C99 6.8.5.3).
 abbrev pub walk_first : Setting → Env → First → Walk Begun
-walk_first ξ Γ (FirstValue value semicolon) =
-    andthen (walk_value ξ Γ value) (λ a. give (record { scope = Γ; objects = []; first = a }))
-walk_first ξ Γ (FirstDeclaration declaration) =
-    andthen (walk_declaration ξ Γ declaration) (λ b.
-    give (record { scope = b.scope; objects = b.objects; first = None }))
+walk_first ξ Γ (FirstValue value semicolon) = do
+  a ← walk_value ξ Γ value
+  give (record { scope = Γ; objects = []; first = a })
+walk_first ξ Γ (FirstDeclaration declaration) = do
+  b ← walk_declaration ξ Γ declaration
+  give (record { scope = b.scope; objects = b.objects; first = None })
 
 -- The head of a loop, of its first part, its test and what it does last in each turn (C99 6.8.5.3).
 abbrev pub head_of : Begun → Option typed.Expr → Option typed.Expr → typed.Head
@@ -84,9 +87,10 @@ head_of b test step = record { objects = b.objects; first = b.first; test = test
 abbrev pub walk_affinity : Setting → Env → Affinity → Walk typed.Affinity
 walk_affinity ξ Γ NoAffinity = give typed.Everyone
 walk_affinity ξ Γ (ContinueAffinity word) = give typed.Everyone
-walk_affinity ξ Γ (ValueAffinity value) =
-    andthen (walk ξ Γ node.Plain value) (λ a. andthen (judge ξ (place_of a) (node.Affinity (attr_of a))) (λ u.
-    give (typed.AtValue a)))
+walk_affinity ξ Γ (ValueAffinity value) = do
+  a ← walk ξ Γ node.Plain value
+  judge ξ (place_of a) (node.Affinity (attr_of a))
+  give (typed.AtValue a)
 
 -- The head of a loop with the scope after it, and with the affinity, which a `for` has not (C99 6.8.5.3, UPC 6.6.2).
 pub record Headed : Type 0 where
@@ -96,19 +100,21 @@ pub record Headed : Type 0 where
 
 -- The walk over the head of a `for`: what its first part declares is in scope in the others (C99 6.8.5.3).
 abbrev pub walk_for_head : Setting → Env → ForHead → Walk Headed
-walk_for_head ξ Γ (ForParts left first test test_end step right) =
-    andthen (walk_first ξ Γ first) (λ b. andthen (walk_value ξ b.scope test) (λ t.
-    andthen (walk_value ξ b.scope step) (λ p.
-    give (record { scope = b.scope; head = head_of b t p; affinity = typed.Everyone }))))
+walk_for_head ξ Γ (ForParts left first test test_end step right) = do
+  b ← walk_first ξ Γ first
+  t ← walk_value ξ b.scope test
+  p ← walk_value ξ b.scope step
+  give (record { scope = b.scope; head = head_of b t p; affinity = typed.Everyone })
 
 -- The walk over the head of a `upc_forall`: what its first part declares is in scope in the others, of which the
 -- affinity is the last (UPC 6.6.2).
 abbrev pub walk_forall_head : Setting → Env → ForallHead → Walk Headed
-walk_forall_head ξ Γ (ForallParts left first test test_end step step_end affinity right) =
-    andthen (walk_first ξ Γ first) (λ b. andthen (walk_value ξ b.scope test) (λ t.
-    andthen (walk_value ξ b.scope step) (λ p.
-    andthen (walk_affinity ξ b.scope affinity) (λ a.
-    give (record { scope = b.scope; head = head_of b t p; affinity = a })))))
+walk_forall_head ξ Γ (ForallParts left first test test_end step step_end affinity right) = do
+  b ← walk_first ξ Γ first
+  t ← walk_value ξ b.scope test
+  p ← walk_value ξ b.scope step
+  a ← walk_affinity ξ b.scope affinity
+  give (record { scope = b.scope; head = head_of b t p; affinity = a })
 
 -- ---- switch
 
@@ -154,7 +160,9 @@ deeper Γ Δ = Scope (level_of Δ + 1) [] (counts_of Δ) (Within Γ)
 -- (C99 6.8.6.4).
 abbrev pub walk_returned : Setting → Env → Around → Option Expr → Walk (Option typed.Expr)
 walk_returned ξ Γ c None = give None
-walk_returned ξ Γ c (Some e) = andthen (walk ξ Γ (node.Into c.result) e) (λ a. give (Some a))
+walk_returned ξ Γ c (Some e) = do
+  a ← walk ξ Γ (node.Into c.result) e
+  give (Some a)
 
 -- The place of an expression statement: that of its expression, or of its semicolon where it has none (C99 6.8.3).
 abbrev pub statement_place : Option typed.Expr → Span → Place
@@ -167,91 +175,104 @@ abbrev mutual
   -- 6.8.5).
   pub walk_statement : Setting → Env → Around → Bool → Statement → Walk typed.Statement
   walk_statement ξ Γ c strict (statement_tree.Block compound) = walk_block ξ (inside Γ) c strict compound
-  walk_statement ξ Γ c strict (statement_tree.Value value semicolon) =
-      andthen (walk_value ξ Γ value) (λ a. give (typed.Stands (statement_place a semicolon) (typed.Value a)))
-  walk_statement ξ Γ c strict (statement_tree.If word test body more last) =
-      enclosed (andthen (walk_test ξ (inside Γ) test) (λ a.
-      andthen (enclosed (walk_statement ξ (inside (inside Γ)) c strict body)) (λ b.
-      andthen (walk_else_ifs ξ (inside Γ) (inside (inside Γ)) c strict more) (λ x.
-      andthen (walk_otherwise ξ x.scope c strict last) (λ o.
-      andthen (judge ξ (at word) (node.Tests (attr_of a ∷ x.tests))) (λ u.
-      give (typed.Stands (at word) (typed.If (typed.AndArm a b x.arms) o))))))))
-  walk_statement ξ Γ c strict (statement_tree.Switch word test left items right) =
-      enclosed (andthen (walk_test ξ (inside Γ) test) (λ a.
-      andthen (enclosed (walk_switch ξ (inside (inside Γ)) (in_switch c) strict (base_kind (base (attr_of a)))
-      items)) (λ x.
-      andthen (judge ξ (at word) (node.Switch (attr_of a) x.labels x.defaults)) (λ u.
-      give (typed.Stands (at word) (typed.Switch a x.items))))))
-  walk_statement ξ Γ c strict (statement_tree.While word test body) =
-      enclosed (andthen (walk_test ξ (inside Γ) test) (λ a.
-      andthen (enclosed (walk_statement ξ (inside (inside Γ)) (in_loop c) strict body)) (λ b.
-      andthen (judge ξ (at word) (node.Tests (attr_of a ∷ [])))
-      (λ u. give (typed.Stands (at word) (typed.While a b))))))
-  walk_statement ξ Γ c strict (statement_tree.DoWhile word body until test semicolon) =
-      enclosed (andthen (enclosed (walk_statement ξ (inside (inside Γ)) (in_loop c) strict body)) (λ b.
-      andthen (walk_test ξ (inside Γ) test) (λ a.
-      andthen (judge ξ (at word) (node.Tests (attr_of a ∷ [])))
-      (λ u. give (typed.Stands (at word) (typed.DoWhile b a))))))
-  walk_statement ξ Γ c strict (statement_tree.For word head body) =
-      enclosed (andthen (walk_for_head ξ (inside Γ) head) (λ h.
-      andthen (enclosed (walk_statement ξ (inside h.scope) (in_loop c) strict body)) (λ b.
-      andthen (judge ξ (at word) (node.Tests (tests_of h.head.test)))
-      (λ u. give (typed.Stands (at word) (typed.For h.head b))))))
-  walk_statement ξ Γ c strict (statement_tree.Forall word head body) =
-      enclosed (andthen (walk_forall_head ξ (inside Γ) head) (λ h.
-      andthen (enclosed (walk_statement ξ (inside h.scope) (in_forall c) strict body)) (λ b.
-      andthen (judge ξ (at word) (node.Tests (tests_of h.head.test))) (λ u.
-      give (typed.Stands (at word) (typed.Forall h.head h.affinity b))))))
-  walk_statement ξ Γ c strict (statement_tree.Break word semicolon) =
-      andthen (judge ξ (at word) (node.Break c)) (λ u. give (typed.Stands (at word) typed.Break))
-  walk_statement ξ Γ c strict (statement_tree.Continue word semicolon) =
-      andthen (judge ξ (at word) (node.Continue c)) (λ u. give (typed.Stands (at word) typed.Continue))
-  walk_statement ξ Γ c strict (statement_tree.Return word value semicolon) =
-      andthen (walk_returned ξ Γ c value) (λ a. returns ξ c (at word) a)
-  walk_statement ξ Γ c strict (statement_tree.Barrier kind word value semicolon) =
-      andthen (walk_value ξ Γ value) (λ a. synchronise ξ (at word) (synchronises kind) a)
+  walk_statement ξ Γ c strict (statement_tree.Value value semicolon) = do
+    a ← walk_value ξ Γ value
+    give (typed.Stands (statement_place a semicolon) (typed.Value a))
+  walk_statement ξ Γ c strict (statement_tree.If word test body more last) = enclosed (do
+    a ← walk_test ξ (inside Γ) test
+    b ← enclosed (walk_statement ξ (inside (inside Γ)) c strict body)
+    x ← walk_else_ifs ξ (inside Γ) (inside (inside Γ)) c strict more
+    o ← walk_otherwise ξ x.scope c strict last
+    judge ξ (at word) (node.Tests (attr_of a ∷ x.tests))
+    give (typed.Stands (at word) (typed.If (typed.AndArm a b x.arms) o)))
+  walk_statement ξ Γ c strict (statement_tree.Switch word test left items right) = enclosed (do
+    a ← walk_test ξ (inside Γ) test
+    x ← enclosed (walk_switch ξ (inside (inside Γ)) (in_switch c) strict (base_kind (base (attr_of a))) items)
+    judge ξ (at word) (node.Switch (attr_of a) x.labels x.defaults)
+    give (typed.Stands (at word) (typed.Switch a x.items)))
+  walk_statement ξ Γ c strict (statement_tree.While word test body) = enclosed (do
+    a ← walk_test ξ (inside Γ) test
+    b ← enclosed (walk_statement ξ (inside (inside Γ)) (in_loop c) strict body)
+    judge ξ (at word) (node.Tests (attr_of a ∷ []))
+    give (typed.Stands (at word) (typed.While a b)))
+  walk_statement ξ Γ c strict (statement_tree.DoWhile word body until test semicolon) = enclosed (do
+    b ← enclosed (walk_statement ξ (inside (inside Γ)) (in_loop c) strict body)
+    a ← walk_test ξ (inside Γ) test
+    judge ξ (at word) (node.Tests (attr_of a ∷ []))
+    give (typed.Stands (at word) (typed.DoWhile b a)))
+  walk_statement ξ Γ c strict (statement_tree.For word head body) = enclosed (do
+    h ← walk_for_head ξ (inside Γ) head
+    b ← enclosed (walk_statement ξ (inside h.scope) (in_loop c) strict body)
+    judge ξ (at word) (node.Tests (tests_of h.head.test))
+    give (typed.Stands (at word) (typed.For h.head b)))
+  walk_statement ξ Γ c strict (statement_tree.Forall word head body) = enclosed (do
+    h ← walk_forall_head ξ (inside Γ) head
+    b ← enclosed (walk_statement ξ (inside h.scope) (in_forall c) strict body)
+    judge ξ (at word) (node.Tests (tests_of h.head.test))
+    give (typed.Stands (at word) (typed.Forall h.head h.affinity b)))
+  walk_statement ξ Γ c strict (statement_tree.Break word semicolon) = do
+    judge ξ (at word) (node.Break c)
+    give (typed.Stands (at word) typed.Break)
+  walk_statement ξ Γ c strict (statement_tree.Continue word semicolon) = do
+    judge ξ (at word) (node.Continue c)
+    give (typed.Stands (at word) typed.Continue)
+  walk_statement ξ Γ c strict (statement_tree.Return word value semicolon) = do
+    a ← walk_returned ξ Γ c value
+    returns ξ c (at word) a
+  walk_statement ξ Γ c strict (statement_tree.Barrier kind word value semicolon) = do
+    a ← walk_value ξ Γ value
+    synchronise ξ (at word) (synchronises kind) a
   walk_statement ξ Γ c strict (statement_tree.Fence word semicolon) = give (typed.Stands (at word) typed.Fence)
 
   -- The walk over a compound statement, in a scope that is there already: that of a function's body has the parameters
   -- (C99 6.8.2, 6.9.1).
   pub walk_block : Setting → Env → Around → Bool → Compound → Walk typed.Statement
-  walk_block ξ Γ c strict (Braces left pragmas items right) =
-      enclosed (andthen (walk_items ξ Γ c (strict_behind strict pragmas) items) (λ xs.
-      give (typed.Stands (at left) (typed.Block (strict_behind strict pragmas) xs))))
+  walk_block ξ Γ c strict (Braces left pragmas items right) = enclosed (do
+    xs ← walk_items ξ Γ c (strict_behind strict pragmas) items
+    give (typed.Stands (at left) (typed.Block (strict_behind strict pragmas) xs)))
 
   -- The walk over the parts of a block, in order; a declaration is in scope after itself (C99 6.2.1, 6.8.2).
   pub walk_items : Setting → Env → Around → Bool → BlockItems → Walk typed.Items
   walk_items ξ Γ c strict NoBlockItems = give typed.NoItems
-  walk_items ξ Γ c strict (AndBlockItem (DeclarationItem declaration) more) =
-      andthen (walk_declaration ξ Γ declaration) (λ b. andthen (walk_items ξ b.scope c strict more) (λ xs.
-      give (typed.AndObjects b.objects xs)))
-  walk_items ξ Γ c strict (AndBlockItem (StatementItem statement) more) =
-      andthen (walk_statement ξ Γ c strict statement) (λ x. andthen (walk_items ξ Γ c strict more) (λ xs.
-      give (typed.AndStatement x xs)))
+  walk_items ξ Γ c strict (AndBlockItem (DeclarationItem declaration) more) = do
+    b ← walk_declaration ξ Γ declaration
+    xs ← walk_items ξ b.scope c strict more
+    give (typed.AndObjects b.objects xs)
+  walk_items ξ Γ c strict (AndBlockItem (StatementItem statement) more) = do
+    x ← walk_statement ξ Γ c strict statement
+    xs ← walk_items ξ Γ c strict more
+    give (typed.AndStatement x xs)
 
   -- The walk over the body of a switch on a value of this kind: its labels, its `default` and its statements
   -- (C99 6.8.1, 6.8.4.2).
   pub walk_switch : Setting → Env → Around → Bool → Option Kind → SwitchItems → Walk Labelled
   walk_switch ξ Γ c strict kind NoSwitchItems = give (record { items = typed.NoSwitchItems; labels = []; defaults = 0 })
-  walk_switch ξ Γ c strict kind (AndSwitchItem (CaseItem word value colon) more) =
-      andthen (walk ξ Γ node.Plain value) (λ a. andthen (constantly ξ a) (λ l.
-      andthen (walk_switch ξ Γ c strict kind more) (λ x. give (with_case kind l x))))
-  walk_switch ξ Γ c strict kind (AndSwitchItem (DefaultItem word colon) more) =
-      andthen (walk_switch ξ Γ c strict kind more) (λ x. give (with_default x))
-  walk_switch ξ Γ c strict kind (AndSwitchItem (SwitchStatement statement) more) =
-      andthen (walk_statement ξ Γ c strict statement) (λ y. andthen (walk_switch ξ Γ c strict kind more) (λ x.
-      give (with_statement y x)))
+  walk_switch ξ Γ c strict kind (AndSwitchItem (CaseItem word value colon) more) = do
+    a ← walk ξ Γ node.Plain value
+    l ← constantly ξ a
+    x ← walk_switch ξ Γ c strict kind more
+    give (with_case kind l x)
+  walk_switch ξ Γ c strict kind (AndSwitchItem (DefaultItem word colon) more) = do
+    x ← walk_switch ξ Γ c strict kind more
+    give (with_default x)
+  walk_switch ξ Γ c strict kind (AndSwitchItem (SwitchStatement statement) more) = do
+    y ← walk_statement ξ Γ c strict statement
+    x ← walk_switch ξ Γ c strict kind more
+    give (with_statement y x)
 
   -- The walk over the further arms of an `if` with the scope Γ. The part after an `else` is a block, here Δ: the
   -- condition of the next arm stands in it, and so do all later arms (C99 6.8.4).
   pub walk_else_ifs : Setting → Env → Env → Around → Bool → ElseIfs → Walk Armed
   walk_else_ifs ξ Γ Δ c strict NoElseIfs = give (record { arms = typed.NoArms; tests = []; scope = Δ })
-  walk_else_ifs ξ Γ Δ c strict (AndElseIf other word test body more) =
-      andthen (walk_test ξ Δ test) (λ a. andthen (enclosed (walk_statement ξ (inside Δ) c strict body)) (λ b.
-      andthen (walk_else_ifs ξ Γ (deeper Γ Δ) c strict more) (λ x. give (with_arm a b x))))
+  walk_else_ifs ξ Γ Δ c strict (AndElseIf other word test body more) = do
+    a ← walk_test ξ Δ test
+    b ← enclosed (walk_statement ξ (inside Δ) c strict body)
+    x ← walk_else_ifs ξ Γ (deeper Γ Δ) c strict more
+    give (with_arm a b x)
 
   -- The walk over the part after the last `else`, if there is one (C99 6.8.4.1).
   pub walk_otherwise : Setting → Env → Around → Bool → Otherwise → Walk typed.StatementOption
   walk_otherwise ξ Δ c strict NoOtherwise = give typed.NoStatement
-  walk_otherwise ξ Δ c strict (Else word body) =
-      andthen (enclosed (walk_statement ξ Δ c strict body)) (λ b. give (typed.TheStatement b))
+  walk_otherwise ξ Δ c strict (Else word body) = do
+    b ← enclosed (walk_statement ξ Δ c strict body)
+    give (typed.TheStatement b)
