@@ -169,6 +169,6 @@ specifying at Γ list = record { at = at; star = declares_arrays list; static = 
 abbrev pub walk_declaration : Setting → Env → Declaration → Walk Behind
 walk_declaration ξ Γ (Declares specs list semicolon) = do
   p ← walk_specifiers ξ Γ (specifying (specs_place specs) Γ list) specs
-  b ← walk_declared_list ξ (specs_place specs) (specified_type p) (record { scope = Γ; objects = []; }) list
+  b ← walk_declared_list ξ (specs_place specs) (specified_type p) (record { scope = Γ; objects = [] }) list
   judge ξ (specs_place specs) (nodes.Specifies (specifiers_form (is_file Γ) p))
   give b
