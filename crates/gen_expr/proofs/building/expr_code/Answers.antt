@@ -1,4 +1,7 @@
-use Rattle.std.proofs.Common.{◌∙◌, OnOk, sym, subst}
+use Rattle.std.proofs.Common.{◌≡◌, ◌∙◌, OnOk, List, sym, subst}
+use Rattle.stack_code.specs.declared.instruction.Instr.{Instr}
+use Rattle.stack_code.specs.layer.Making.{with_instructions}
+use Rattle.gen_expr.specs.Codes as pure
 use Rattle.typed_tree.specs.Beginnings.{view_beginning}
 use Rattle.typed_tree.specs.ViewProgram.{view_program}
 use Rattle.typed_tree.specs.ViewTree.{view_expr}
@@ -21,3 +24,18 @@ returns-clause-means c =
     (made ς c.args.strict e c.put_value_code.result c.new-code.result.items c.put_value_code.new.code.items
     (sym c.is_err.ensures.value ∙ c.if-is_err.false) c.new-code.ensures.items c.put_value_code.ensures)
     c.append_all.ensures.done)
+
+pub returns-clause-done : goal.returns-clause-done
+returns-clause-done c =
+    let ς = view_source c.of-source.result in
+    let e = view_expr c.args.e.now in
+    let is : c.put_value_code.new.code.items ≡ pure.value_code ς c.args.strict e =
+    made ς c.args.strict e c.put_value_code.result c.new-code.result.items c.put_value_code.new.code.items
+    (sym c.is_err.ensures.value ∙ c.if-is_err.false) c.new-code.ensures.items c.put_value_code.ensures in
+    subst
+    (λ (s : Source). OnOk c.append_all.result
+    (c.append_all.new.self ≡ with_instructions (pure.value_code s c.args.strict e) c.args.into.now))
+    c.of-source.ensures
+    (subst
+    (λ (xs : List Instr). OnOk c.append_all.result (c.append_all.new.self ≡ with_instructions xs c.args.into.now))
+    is c.append_all.ensures.done)
