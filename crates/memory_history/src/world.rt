@@ -72,8 +72,8 @@ impl World {
     }
 
     /// Acts on the history: the lawful reply, with one entry appended, or `Disabled` where there is none, as may be
-    /// for a Lock or a Wait only. A thread notifies only where it has waited since it last did. It reads no older entry.
-    /// After want of memory, which also comes where there would be 2^62 entries, the history is as it was.
+    /// for a Lock or a Wait only. A thread notifies only where it has waited since it last did. It reads no older
+    /// entry. After want of memory, which also comes where there would be 2^62 entries, the history is as it was.
     pub fn perform(&mut self, thread: u32, index: u32, action: &Action) -> Result<Step, OutOfMemory>
         requires below { thread < self.old.0.threads }
         requires formed { IsWellFormed self.old.0 self.old.1 action.now }
@@ -114,8 +114,8 @@ impl World {
         self.parts.may_ask(action)
     }
 
-    /// Whether the action keeps the thread's notifies and waits in turn: it is no notify, or the thread has waited since it
-    /// last notified. It takes no memory.
+    /// Whether the action keeps the thread's notifies and waits in turn: it is no notify, or the thread has waited
+    /// since it last notified. It takes no memory.
     pub fn takes_turn(&self, thread: u32, action: &Action) -> bool
         requires { thread < self.now.0.threads }
         ensures { result ≡ takes_turn self.now.1 thread action.now }

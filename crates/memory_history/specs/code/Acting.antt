@@ -26,7 +26,8 @@ use Rattle.memory_history.specs.declared.calls.Asked.{Asked}
 use Rattle.memory_history.specs.declared.calls.Asked.TheVariants as asks
 use Rattle.memory_history.specs.code.Calls.{asked_of}
 use Rattle.memory_history.specs.code.LocksAfter.{given_up_by}
-use Rattle.memory_history.specs.code.MeetsAfter.{MeetsState, times, is_leading, leader_at, called, joined_answer, met_with}
+use Rattle.memory_history.specs.code.MeetsAfter.{MeetsState, times, is_leading, leader_at, called, joined_answer}
+use Rattle.memory_history.specs.code.MeetsAfter.{met_with}
 use Rattle.memory_history.specs.code.After.{PartsState}
 
 -- ---- what may be asked for
@@ -78,9 +79,9 @@ abbrev pub has_turn : ℕ → Action → PartsState → Bool
 has_turn t (act.Notify m) p = barrier.may_notify t p.barrier
 has_turn t a p = true
 
--- A thread may act: it may ask for the action, and has its turn; it is one of those that attend at the barrier and meet,
--- and it has met in no more calls than there are; in the next one at most 32 threads have met, and a lock that it gives
--- up is made.
+-- A thread may act: it may ask for the action, and has its turn; it is one of those that attend at the barrier and
+-- meet, and it has met in no more calls than there are; in the next one at most 32 threads have met, and a lock that it
+-- gives up is made.
 pub record MayAct (t : ℕ) (a : Action) (p : PartsState) : Type 0 where
   pub asked : may_ask p a ≡ true
   pub turn : has_turn t a p ≡ true

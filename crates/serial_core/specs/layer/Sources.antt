@@ -18,8 +18,8 @@ use Rattle.serial_core.specs.declared.limits.Limits.{Limits}
 abbrev pub Outcomes : Type 0
 Outcomes = ℕ → List Reply → Outcome
 
--- What a run takes of a thread's outcomes: they keep what every meaning keeps; notifies and waits alternate in what it did
--- with what it wants; and where the ticks are spent there were b of them.
+-- What a run takes of a thread's outcomes: they keep what every meaning keeps; notifies and waits alternate in what the
+-- thread did with what it wants; and where the ticks are spent there were b of them.
 pub record IsSource (o : Opening) (b : ℕ) (outcome : List Reply → Outcome) : Type 0 where
   pub means : IsMeaning o outcome
   pub turns : (rs : List Reply) (a : Action) → (outcome rs).«end» ≡ Wants a → IsInTurn ((outcome rs).actions ++ a ∷ [])
