@@ -290,24 +290,24 @@ module _ (o : Opening) (es : List Entry) (p : PartsState) (k : IsKept o es) (a :
   next-after : (x : Action) (r : Reply) → IsWellFormed o es x → reply o es t x ≡ Some r
       → ((l : Loc) (v : Scalar) (s : Bool) → x ≡ act.Write s l v → ⊥) → ((m : Mark) → x ≡ act.Notify m → ⊥)
       → IsAfter o (now x r) (next t x r p)
-  next-after (act.Read l s) r f e w n = quiet-after (act.Read l s) r refl refl refl refl refl
-  next-after (act.Write s l v) r f e w n = absurd (w l v s refl)
-  next-after act.Fence r f e w n = quiet-after act.Fence r refl refl refl refl refl
-  next-after act.Beat r f e w n = quiet-after act.Beat r refl refl refl refl refl
-  next-after (act.Notify m) r f e w n = absurd (n m refl)
-  next-after (act.Wait m) r f e w n = barrier-after (act.Wait m) r _ (barrier-wait o es t i m r p.barrier b (wait-ready o es t m r e) a.barrier) refl refl refl
-  next-after (act.Lock l) r f e w n = lock-after l r f
-  next-after (act.Attempt l) r f e w n = attempt-after l r f
-  next-after (act.Unlock l) r f e w n = unlock-after l r f
-  next-after act.LockMake r f e w n = locks-after act.LockMake r _ (lock-made o es p.locks a.locks t i 0 r k.formed) refl refl refl refl
-  next-after (act.LockFree l) r f e w n = free_lock-after l r f
-  next-after (act.Alloc n c h s) r f e w n =
+  next-after (act.Read l s) r f e w q = quiet-after (act.Read l s) r refl refl refl refl refl
+  next-after (act.Write s l v) r f e w q = absurd (w l v s refl)
+  next-after act.Fence r f e w q = quiet-after act.Fence r refl refl refl refl refl
+  next-after act.Beat r f e w q = quiet-after act.Beat r refl refl refl refl refl
+  next-after (act.Notify m) r f e w q = absurd (q m refl)
+  next-after (act.Wait m) r f e w q = barrier-after (act.Wait m) r _ (barrier-wait o es t i m r p.barrier b (wait-ready o es t m r e) a.barrier) refl refl refl
+  next-after (act.Lock l) r f e w q = lock-after l r f
+  next-after (act.Attempt l) r f e w q = attempt-after l r f
+  next-after (act.Unlock l) r f e w q = unlock-after l r f
+  next-after act.LockMake r f e w q = locks-after act.LockMake r _ (lock-made o es p.locks a.locks t i 0 r k.formed) refl refl refl refl
+  next-after (act.LockFree l) r f e w q = free_lock-after l r f
+  next-after (act.Alloc n c h s) r f e w q =
       alloc-after n c h s r f (some-same _ _ (sym (answer-same o es p k a t (act.Alloc n c h s) b f) ∙ e))
-  next-after (act.Free y) r f e w n = free-after y r (some-same _ _ (sym (answer-same o es p k a t (act.Free y) b f) ∙ e))
-  next-after (act.Meet c args) r f e w n =
+  next-after (act.Free y) r f e w q = free-after y r (some-same _ _ (sym (answer-same o es p k a t (act.Free y) b f) ∙ e))
+  next-after (act.Meet c args) r f e w q =
       meet-after c args r f (some-same _ _ (sym (answer-same o es p k a t (act.Meet c args) b f) ∙ e))
-  next-after (act.Print y) r f e w n = quiet-after (act.Print y) r refl refl refl refl refl
-  next-after (act.Exit v) r f e w n = quiet-after (act.Exit v) r refl refl refl refl refl
+  next-after (act.Print y) r f e w q = quiet-after (act.Print y) r refl refl refl refl refl
+  next-after (act.Exit v) r f e w q = quiet-after (act.Exit v) r refl refl refl refl refl
 
   pub acted-after : (x : Action) (r : Reply) (q : PartsState) → IsWellFormed o es x → reply o es t x ≡ Some r → Acted t x r p q → IsAfter o (now x r) q
   acted-after (act.Write s l v) r q f e c =
