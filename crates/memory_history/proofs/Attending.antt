@@ -129,14 +129,17 @@ same-waits u es e w =
     waits-push u es e ∙ ap (λ b. waits u es + cond ((e.thread == u) && b) 1 0) w ∙ added (e.thread == u) (waits u es)
 
 -- what an entry adds to a count
-zero-adds : (b c : Bool) → c ≡ false → cond (b && c) 1 0 ≡ 0
-zero-adds true c h = ap (λ z. cond z 1 0) h
+abbrev counted : Bool → ℕ
+counted b = cond b 1 0
+
+zero-adds : (b c : Bool) → c ≡ false → counted (b && c) ≡ 0
+zero-adds true c h = ap counted h
 zero-adds false c h = refl
 
-other-adds : (t u : ℕ) (b : Bool) → t ≢ u → cond ((t == u) && b) 1 0 ≡ 0
-other-adds t u b ne = ap (λ c. cond (c && b) 1 0) (ne_eqb t u ne)
+other-adds : (t u : ℕ) (b : Bool) → t ≢ u → counted ((t == u) && b) ≡ 0
+other-adds t u b ne = ap (λ c. counted (c && b)) (ne_eqb t u ne)
 
-one-adds : (b : Bool) → cond b 1 0 ≤ 1
+one-adds : (b : Bool) → counted b ≤ 1
 one-adds true = omega arith
 one-adds false = omega arith
 

@@ -290,26 +290,26 @@ module _ (o : Opening) (es : List Entry) (p : PartsState) (k : IsKept o es) (a :
   next-after : (x : Action) (r : Reply) → IsWellFormed o es x → reply o es t x ≡ Some r
       → ((l : Loc) (v : Scalar) (s : Bool) → x ≡ act.Write s l v → ⊥) → takes_turn es t x ≡ true
       → IsAfter o (now x r) (next t x r p)
-  next-after (act.Read l s) r f e w n = quiet-after (act.Read l s) r refl refl refl refl refl
-  next-after (act.Write s l v) r f e w n = absurd (w l v s refl)
-  next-after act.Fence r f e w n = quiet-after act.Fence r refl refl refl refl refl
-  next-after act.Beat r f e w n = quiet-after act.Beat r refl refl refl refl refl
-  next-after (act.Notify m) r f e w n =
+  next-after (act.Read l s) r f e w u = quiet-after (act.Read l s) r refl refl refl refl refl
+  next-after (act.Write s l v) r f e w u = absurd (w l v s refl)
+  next-after act.Fence r f e w u = quiet-after act.Fence r refl refl refl refl refl
+  next-after act.Beat r f e w u = quiet-after act.Beat r refl refl refl refl refl
+  next-after (act.Notify m) r f e w u =
       barrier-after (act.Notify m) r _
-      (barrier-notify o es t i m r p.barrier b (leb-true (history.notifies t es) (history.waits t es) n) a.barrier) refl refl refl
-  next-after (act.Wait m) r f e w n = barrier-after (act.Wait m) r _ (barrier-wait o es t i m r p.barrier b (wait-ready o es t m r e) a.barrier) refl refl refl
-  next-after (act.Lock l) r f e w n = lock-after l r f
-  next-after (act.Attempt l) r f e w n = attempt-after l r f
-  next-after (act.Unlock l) r f e w n = unlock-after l r f
-  next-after act.LockMake r f e w n = locks-after act.LockMake r _ (lock-made o es p.locks a.locks t i 0 r k.formed) refl refl refl refl
-  next-after (act.LockFree l) r f e w n = free_lock-after l r f
-  next-after (act.Alloc n c h s) r f e w n =
+      (barrier-notify o es t i m r p.barrier b (leb-true (history.notifies t es) (history.waits t es) u) a.barrier) refl refl refl
+  next-after (act.Wait m) r f e w u = barrier-after (act.Wait m) r _ (barrier-wait o es t i m r p.barrier b (wait-ready o es t m r e) a.barrier) refl refl refl
+  next-after (act.Lock l) r f e w u = lock-after l r f
+  next-after (act.Attempt l) r f e w u = attempt-after l r f
+  next-after (act.Unlock l) r f e w u = unlock-after l r f
+  next-after act.LockMake r f e w u = locks-after act.LockMake r _ (lock-made o es p.locks a.locks t i 0 r k.formed) refl refl refl refl
+  next-after (act.LockFree l) r f e w u = free_lock-after l r f
+  next-after (act.Alloc n c h s) r f e w u =
       alloc-after n c h s r f (some-same _ _ (sym (answer-same o es p k a t (act.Alloc n c h s) b f) ∙ e))
-  next-after (act.Free y) r f e w n = free-after y r (some-same _ _ (sym (answer-same o es p k a t (act.Free y) b f) ∙ e))
-  next-after (act.Meet c args) r f e w n =
+  next-after (act.Free y) r f e w u = free-after y r (some-same _ _ (sym (answer-same o es p k a t (act.Free y) b f) ∙ e))
+  next-after (act.Meet c args) r f e w u =
       meet-after c args r f (some-same _ _ (sym (answer-same o es p k a t (act.Meet c args) b f) ∙ e))
-  next-after (act.Print y) r f e w n = quiet-after (act.Print y) r refl refl refl refl refl
-  next-after (act.Exit v) r f e w n = quiet-after (act.Exit v) r refl refl refl refl refl
+  next-after (act.Print y) r f e w u = quiet-after (act.Print y) r refl refl refl refl refl
+  next-after (act.Exit v) r f e w u = quiet-after (act.Exit v) r refl refl refl refl refl
 
   pub acted-after : (x : Action) (r : Reply) (q : PartsState) → IsWellFormed o es x → takes_turn es t x ≡ true → reply o es t x ≡ Some r
       → Acted t x r p q → IsAfter o (now x r) q

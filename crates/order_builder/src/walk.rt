@@ -12,13 +12,11 @@ use crate::accesses::names_of;
 use crate::entry::{EntryRef, KeptCommit};
 use crate::names::{Named, Names};
 use crate::written::{is_done, is_value, written};
+use block_layout::limits;
 use std::alloc::Global;
 use std::collections::VecDeque;
 use upc_text::OutOfMemory;
 use upc_values::{Action, Item, Loc, Scalar};
-
-// How many writes may be pending.
-const PLACES: usize = 64;
 
 /// A walk over a thread's items: the number of the next action, what was emitted, the pending relaxed writes, oldest
 /// first, and whether each relaxed write is Done and each read of a pending write has had its value.
@@ -126,7 +124,7 @@ impl<'a> Walk<'a> {
     fn make_room(&mut self) -> Result<(), OutOfMemory>
         ensures { OnOk result (IsAfter drain.with_room self.old self.new) }
     {
-        if self.pending.len() >= PLACES {
+        if self.pending.len() >= limits::PENDING_WRITES as usize {
             self.release()?;
         }
         Ok(())

@@ -120,7 +120,7 @@ fn copy_cell(telling: &mut Telling<'_>, bytes: u64, part: &Part, cell: Cell) -> 
     requires room { HasRoom bytes part.now }
     requires inside { cell.0 < bytes }
     ensures { Follows (Reads (views.location_behind (pointer_of part.now.from) cell.0) cell.1 (λ v.
-        does (Action.Write (views.location_behind (pointer_of part.now.into) cell.0) v false)))
+        does (Action.Write false (views.location_behind (pointer_of part.now.into) cell.0) v)))
         telling.old result telling.new }
 {
     let value = telling.read(part.from.location_behind(bytes, cell.0), cell.1)?;

@@ -22,7 +22,7 @@ fn read(out: &mut Vec<u8>, at: &Loc, is_strict: bool) -> Result<(), OutOfMemory>
 
 fn write(out: &mut Vec<u8>, at: &Loc, value: &Scalar, is_strict: bool) -> Result<(), OutOfMemory>
     ensures { OnOk result (out.new.items
-        ≡ out.old.items ++ with_blanks (action_words (Action.Write at.now value.now is_strict))) }
+        ≡ out.old.items ++ with_blanks (action_words (Action.Write is_strict at.now value.now))) }
 {
     put(out, "write ")?;
     strict(out, is_strict)?;

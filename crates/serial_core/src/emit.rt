@@ -43,7 +43,7 @@ fn way_through(action: &Action) -> Way
 #[tactic(auto, using(crate::proofs::Buffers::grows))]
 fn commit(thread: u32, world: &mut World, write: Pending) -> Result<(), OutOfMemory>
     requires below { thread < world.old.0.threads }
-    requires formed { IsWellFormed world.old.0 world.old.1 (Write write.loc write.value false) }
+    requires formed { IsWellFormed world.old.0 world.old.1 (Write false write.loc write.value) }
     ensures one { IfOk result (λ _. world.new.1 ≡ world.old.1 ++ committed thread write ∷ []) }
     ensures grew { Grew thread world.old.1 world.new.1 }
     ensures opening { world.new.0 ≡ world.old.0 }
@@ -84,10 +84,10 @@ fn store(
 ) -> Result<(), OutOfMemory>
     requires below { thread < world.old.0.threads }
     requires formed { AreFormed world.old.0 world.old.1 buffer.old }
-    requires asked { IsWellFormed world.old.0 world.old.1 (Write loc value false) }
+    requires asked { IsWellFormed world.old.0 world.old.1 (Write false loc value) }
     ensures holds { IfOk result (λ _. (w : Walk)
         → Holds world.old.0 thread world.old.1 buffer.old next w
-        → Emitted world.old.0 thread world.new.1 buffer.new next (Write loc value false) (Some Done) w) }
+        → Emitted world.old.0 thread world.new.1 buffer.new next (Write false loc value) (Some Done) w) }
     ensures grew { Grew thread world.old.1 world.new.1 }
     ensures opening { world.new.0 ≡ world.old.0 }
 {

@@ -6,6 +6,7 @@ ghost use Rattle.typed_tree.specs.ViewStatements.{view_object};
 ghost use Rattle.upc_checker.specs.Limits as pure;
 ghost use Rattle.upc_checker.specs.code.ViewUnits.{view_passed, view_sort};
 
+use block_layout::limits;
 use typed_tree::Object;
 use typing_rules::Home;
 use upc_checker_scopes::known::Known;
@@ -85,8 +86,13 @@ pub(crate) fn limit_in(known: &Known, objects: &[Object]) -> Option<Passed>
     ensures { view_passed result ≡ pure.limit_by (view_structs known.now.structs) known.now.above
         (map view_object objects.now) }
 {
-    let privates = first_over(&known.structs, Sort::Private, 1_048_576, objects);
-    let shareds = first_over(&known.structs, Sort::Shared, 16_777_216, objects);
+    let privates = first_over(
+        &known.structs,
+        Sort::Private,
+        limits::PRIVATE_BYTES,
+        objects,
+    );
+    let shareds = first_over(&known.structs, Sort::Shared, limits::SHARED_BYTES, objects);
     passed_or(
         4,
         privates,

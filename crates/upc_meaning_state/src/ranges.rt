@@ -10,13 +10,10 @@ ghost use Rattle.thread_values.specs.layer.Results.{IsCast};
 ghost use Rattle.upc_meaning_state.specs.layer.Runners.{IsHeldThere};
 
 use crate::runner::Runner;
-use block_layout::{Kind, LocalPtr, ObjectRef, is_in_range};
+use block_layout::{Kind, LocalPtr, ObjectRef, is_in_range, limits};
 use thread_steps::{CastTo, Elements};
 use thread_values::number_of;
 use upc_values::{Scalar, Value};
-
-// The most bytes of an object and of a block.
-const MOST_BYTES: u32 = 16_777_216;
 
 const LEAST_NUMBER: i128 = -0x8000_0000_0000_0000;
 
@@ -51,7 +48,9 @@ fn is_object(runner: Runner<'_>, object: &ObjectRef) -> bool
     if object.number == 0 || object.shape as usize >= runner.shapes.len() {
         return false;
     }
-    object.home < runner.threads && object.total <= MOST_BYTES && object.block <= MOST_BYTES
+    object.home < runner.threads
+        && object.total <= limits::SHARED_BYTES
+        && object.block <= limits::SHARED_BYTES
 }
 
 fn is_shared(runner: Runner<'_>, object: &ObjectRef, thread: u32, offset: i64) -> bool
@@ -99,7 +98,9 @@ pub(crate) fn is_held(runner: Runner<'_>, v: &Value) -> bool
 pub(crate) fn is_target(elements: &Elements) -> bool
     ensures { IsTrue result → IsTarget elements.now.block elements.now.size }
 {
-    elements.block <= MOST_BYTES && 0 < elements.size && elements.size <= MOST_BYTES
+    elements.block <= limits::SHARED_BYTES
+        && 0 < elements.size
+        && elements.size <= limits::SHARED_BYTES
 }
 
 /// Whether a conversion into an integer names an integer kind.

@@ -10,13 +10,14 @@ ghost use Rattle.write_buffer.specs.code.Counts as said;
 ghost use Rattle.write_buffer.specs.code.Counts.{IsCounted};
 
 use crate::pending::Pending;
+use block_layout::limits;
 use circular_buffer::HeapCircularBuffer;
 use std::alloc::{AllocError as OutOfMemory, Global};
 use std::marker::Model;
 use upc_values::{Loc, Scalar};
 
 /// How many writes may be pending.
-pub const PLACES: usize = 64;
+pub const PLACES: usize = limits::PENDING_WRITES as usize;
 
 /// The pending writes of a thread, oldest first, and at 256 places how many of them are counted there. Contracts see
 /// the list.

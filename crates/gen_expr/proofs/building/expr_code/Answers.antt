@@ -1,4 +1,4 @@
-use Rattle.std.proofs.Common.{◌∙◌, sym, subst}
+use Rattle.std.proofs.Common.{◌∙◌, OnOk, sym, subst}
 use Rattle.typed_tree.specs.Beginnings.{view_beginning}
 use Rattle.typed_tree.specs.ViewProgram.{view_program}
 use Rattle.typed_tree.specs.ViewTree.{view_expr}
