@@ -118,10 +118,11 @@ module _ (test : Action → Bool) (no_write : (s : Bool) (l : Loc) (v : Scalar) 
       cond_both (nat_lt (length w.pending) 64) w (oldest_out w.pending w) (Emits n) (λ _. h) (λ _. emits-oldest n w w.pending refl h)
 
   emits-stored : (n : ℕ) (e : Entry) (w : Walk) → IsPlain e → Emits n w → Emits n (stored e w)
-  emits-stored n e w p h =
-      (h.0,
-      subst (Each IsPlain) (sym (map-append (λ c. c.entry) w.pending (commit_of e ∷ [])))
-      (each-append IsPlain (entries_in w.pending) (e ∷ []) h.1 (p, tt)))
+  emits-stored n e w p h = (
+    h.0,
+    subst (Each IsPlain) (sym (map-append (λ c. c.entry) w.pending (commit_of e ∷ [])))
+        (each-append IsPlain (entries_in w.pending) (e ∷ []) h.1 (p, tt)),
+  )
 
   plain-changed : (l : Loc) (e : Entry) (cs : List Commit) → IsPlain e → Each IsPlain (entries_in cs)
       → Each IsPlain (entries_in (changed l (combined e) cs))
@@ -137,7 +138,7 @@ module _ (test : Action → Bool) (no_write : (s : Bool) (l : Loc) (v : Scalar) 
   emits-passed : (n : ℕ) (e : Entry) (w : Walk) → Emits n w → Emits (n + cond (test e.action) 1 0) (passed e w)
   emits-passed n e w h = (
     ap (many test) (map-append (λ c. c.entry) w.emitted (commit_of e ∷ [])) ∙ many-append test (entries_in w.emitted) (e ∷ [])
-    ∙ ap (λ k. k + many test (e ∷ [])) h.0 ∙ ap (λ k. n + k) (many-one test e),
+        ∙ ap (λ k. k + many test (e ∷ [])) h.0 ∙ ap (λ k. n + k) (many-one test e),
     h.1,
   )
 
