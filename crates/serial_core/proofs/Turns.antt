@@ -34,7 +34,7 @@ use Rattle.serial_core.proofs.Buffers.{committed-own}
 
 -- ---- how many entries have an action that passes a test
 
-many : (Action → Bool) → List Entry → ℕ
+abbrev many : (Action → Bool) → List Entry → ℕ
 many test es = length (filter (λ e. test e.action) es)
 
 many-append : (test : Action → Bool) (xs ys : List Entry) → many test (xs ++ ys) ≡ many test xs + many test ys
@@ -72,7 +72,7 @@ waits-many t es =
 
 -- ---- how many of some actions pass it
 
-tally : (Action → Bool) → List Action → ℕ
+abbrev tally : (Action → Bool) → List Action → ℕ
 tally test [] = 0
 tally test (a ∷ acts) = cond (test a) 1 0 + tally test acts
 
