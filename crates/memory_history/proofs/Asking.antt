@@ -20,12 +20,13 @@ use Rattle.memory_history.specs.code.Calls.{asked_of}
 use Rattle.memory_history.specs.code.MeetsAfter.{LeaderState, times, is_leading, leader_at, nobody, called, joined_answer}
 use Rattle.memory_history.specs.code.After.{PartsState, IsAfter}
 use Rattle.memory_history.specs.layer.World.{IsKept}
+use Rattle.memory_history.specs.layer.Turns.{takes_turn}
 use Rattle.memory_history.specs.code.Acting as said
 use Rattle.memory_history.specs.code.Acting.{MayAct, HasLock, answer, led_answer, meet_answer}
 use Rattle.memory_history.proofs.HeapReplies.{knows-answer, may_read-answer, may_write-answer, may_alloc-answer, held-answer, alloc-reply, led_alloc-answer, free-reply, led_free-answer}
 use Rattle.memory_history.proofs.LockSteps.{asked-made, lock-answers, attempt-answers, unlock-answers, give_up-answers, lock_make-answers}
 use Rattle.memory_history.proofs.MeetLocks.{makes_lock-answers, frees_lock-answers, leader-made}
-use Rattle.memory_history.proofs.Attending.{notifies-attended, wait-replies}
+use Rattle.memory_history.proofs.Attending.{notifies-attended, turn-answers, wait-replies}
 use Rattle.memory_history.proofs.Meeting.{joined-within, leading-replies, joined-replies}
 use Rattle.memory_history.proofs.Leaders.{done_below-most}
 
@@ -110,9 +111,15 @@ module _ (o : Opening) (es : List Entry) (p : PartsState) (k : IsKept o es) (a :
     | inr other ↦ let lt = joined-within o es p.meets a.meets t b other in omega arith
   ]
 
-  pub may-act : (t : ℕ) (x : Action) → t < o.threads → IsWellFormed o es x → MayAct t x p
-  may-act t x b f = record {
+  -- whether it is the thread's turn
+  pub turn-same : (t : ℕ) (x : Action) → t < o.threads → takes_turn es t x ≡ said.has_turn t x p
+  turn-same t (act.Notify m) b = turn-answers o es p.barrier a.barrier t b k.short
+  turn-same t x b = refl
+
+  pub may-act : (t : ℕ) (x : Action) → t < o.threads → IsWellFormed o es x → takes_turn es t x ≡ true → MayAct t x p
+  may-act t x b f u = record {
     asked = sym (ask-same x) ∙ f;
+    turn = sym (turn-same t x b) ∙ u;
     attends = (let n = a.barrier.count in omega arith);
     counted = (let n = a.meets.count in omega arith);
     led = few-times t b;

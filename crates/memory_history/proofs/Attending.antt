@@ -1,11 +1,12 @@
 -- The barrier after one more entry, and its answer to a wait.
-use Rattle.std.proofs.Common.{◌≡◌, ◌≢◌, ℕ, ◌+◌, ◌<◌, ◌≤◌, ◌==◌, nat_lt, nat_le, Bool, true, false, cond, ◌&&◌, inl, inr, List, [], ◌∷◌, ◌++◌, length, set, take, replicate, Some, None, slice_get, refl, sym, ap, subst, ◌∙◌, append-nil, arith, add-zero, eq-eqb, ne_eqb, length-append, length-set}
+use Rattle.std.proofs.Common.{◌≡◌, ◌≢◌, ℕ, ◌+◌, ◌^◌, ◌<◌, ◌≤◌, ◌==◌, nat_lt, nat_le, Bool, true, false, cond, ◌&&◌, inl, inr, List, [], ◌∷◌, ◌++◌, length, set, take, replicate, Some, None, slice_get, refl, sym, ap, subst, ◌∙◌, append-nil, arith, add-zero, eq-eqb, lt-ltb, ne_eqb, length-append, length-set}
 use Rattle.std.specs.List.{list_all, filter_map, cons_option, fold}
-use mathlib.Core.Bool.{and_comm}
-use Rattle.std.proofs.lemmas.Bool.{cases_eq, false≢true, and_parts, leb-true}
+use mathlib.Core.Bool.{and_comm, and-true}
+use Rattle.std.proofs.lemmas.Bool.{cases_eq, false≢true}
 use Rattle.std.proofs.lemmas.List.{take_all, get_or-set_same, get_or-set_other, get_or-replicate, length-replicate}
 use Rattle.std.proofs.lemmas.List.Folds.{list_all_more}
 use Rattle.std.proofs.lemmas.List.Recursion.{is_count_by}
+use Rattle.std.proofs.lemmas.List.Sums.{count_by-le-length}
 use Rattle.block_layout.specs.declared.run_error.TheConstants.{BARRIER_MISMATCH}
 use Rattle.upc_values.specs.declared.scalar.Mark.{Mark}
 use Rattle.upc_values.specs.declared.scalar.Mark.TheVariants.{Absent}
@@ -128,14 +129,17 @@ same-waits u es e w =
     waits-push u es e ∙ ap (λ b. waits u es + cond ((e.thread == u) && b) 1 0) w ∙ added (e.thread == u) (waits u es)
 
 -- what an entry adds to a count
-zero-adds : (b c : Bool) → c ≡ false → cond (b && c) 1 0 ≡ 0
-zero-adds true c h = ap (λ z. cond z 1 0) h
+abbrev counted : Bool → ℕ
+counted b = cond b 1 0
+
+zero-adds : (b c : Bool) → c ≡ false → counted (b && c) ≡ 0
+zero-adds true c h = ap counted h
 zero-adds false c h = refl
 
-other-adds : (t u : ℕ) (b : Bool) → t ≢ u → cond ((t == u) && b) 1 0 ≡ 0
-other-adds t u b ne = ap (λ c. cond (c && b) 1 0) (ne_eqb t u ne)
+other-adds : (t u : ℕ) (b : Bool) → t ≢ u → counted ((t == u) && b) ≡ 0
+other-adds t u b ne = ap (λ c. counted (c && b)) (ne_eqb t u ne)
 
-one-adds : (b : Bool) → cond b 1 0 ≤ 1
+one-adds : (b : Bool) → counted b ≤ 1
 one-adds true = omega arith
 one-adds false = omega arith
 
@@ -267,9 +271,6 @@ answers-same : (b x y : Bool) (q r : Reply) → (b ≡ true → x ≡ y) → con
 answers-same true x y q r h = ap (λ z. Some (cond z q r)) (h refl)
 answers-same false x y q r h = refl
 
-le-both : (x y z w : ℕ) → x ≡ y → y ≤ z → z ≡ w → x ≤ w
-le-both x y z w p h q = omega arith
-
 near : (x y z w p : ℕ) → x ≤ y + 1 → y ≤ z → z ≤ w + 1 → p ≡ w → x ≤ p + 2
 near x y z w p f g h q = omega arith
 
@@ -277,13 +278,16 @@ module _ (o : Opening) (es : List Entry) (bs : List Attendance) (h : BarrierAfte
   pub notifies-attended : (u : ℕ) → u < o.threads → notifies u es ≡ (attendance_of u bs).notifies
   notifies-attended u b = sym (notified-count u es) ∙ sym (ap (λ a. a.notifies) (h.each u b))
 
-  -- a thread that may notify has waited as often as it has notified
-  pub turn-ready : (t : ℕ) → t < o.threads → may_notify t bs ≡ true → notifies t es ≤ waits t es
-  turn-ready t b may =
+  -- the barrier says whether a thread has waited as often as it has notified
+  pub turn-answers : (t : ℕ) → t < o.threads → length es < 2 ^ 62 → nat_le (notifies t es) (waits t es) ≡ may_notify t bs
+  turn-answers t b short =
       let a = attendance_of t bs in
-      le-both _ _ _ _ (notifies-attended t b)
-      (leb-true a.notifies a.waits (and_parts (nat_le a.notifies a.waits) (nat_lt a.notifies 18446744073709551615) may).0)
-      (ap (λ x. x.waits) (h.each t b))
+      let all : notifies t es ≤ length es = count_by-le-length (λ e. (e.thread == t) && is_notify e.action) es in
+      let few : notifies t es < 18446744073709551615 = omega arith in
+      sym (and-true (nat_le (notifies t es) (waits t es)))
+      ∙ ap (λ c. nat_le (notifies t es) (waits t es) && c) (sym (lt-ltb (notifies t es) 18446744073709551615 few))
+      ∙ ap (λ n. nat_le (notifies t es) n && nat_lt (notifies t es) 18446744073709551615) (sym (ap (λ x. x.waits) (h.each t b)))
+      ∙ ap (λ n. nat_le n a.waits && nat_lt n 18446744073709551615) (notifies-attended t b)
 
   notified-same : (p : ℕ) → history.all_notified o.threads p es ≡ all_notified p bs
   notified-same p =

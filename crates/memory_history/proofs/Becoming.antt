@@ -1,13 +1,12 @@
 -- The parts that have acted stand as the history leaves them after one more entry.
 use Rattle.std.proofs.Common.{◌≡◌, ℕ, ◌+◌, ◌*◌, ◌<◌, ◌==◌, nat_lt, nat_le, Bool, true, false, cond, List, [], ◌∷◌, ◌++◌, length, Option, Some, None, refl, sym, ap, subst, ◌∙◌, ltb-true}
-use Rattle.std.proofs.lemmas.Bool.{and_parts, cond_both}
+use Rattle.std.proofs.lemmas.Bool.{and_parts, cond_both, leb-true}
 use Rattle.block_layout.specs.declared.place.Loc.{Loc}
 use Rattle.block_layout.specs.declared.place.SharedPtr.{SharedPtr}
 use Rattle.block_layout.specs.declared.run_error.TheConstants.{BAD_FREE, SHARED_SPACE}
 use Rattle.block_layout.specs.Pointers.{null, is_null}
 use Rattle.upc_values.specs.declared.scalar.Scalar.{Scalar}
 use Rattle.upc_values.specs.declared.scalar.Scalar.TheVariants.{Shared}
-use Rattle.upc_values.specs.declared.scalar.Mark.{Mark}
 use Rattle.upc_values.specs.declared.action.Action.{Action}
 use Rattle.upc_values.specs.declared.action.Action.TheVariants as act
 use Rattle.upc_values.specs.declared.action.Reply.{Reply}
@@ -32,12 +31,13 @@ use Rattle.memory_history.specs.code.BarrierAfter.{BarrierAfter}
 use Rattle.memory_history.specs.code.MeetsAfter.{MeetsState, MeetsAfter, times, is_leading, leader_at, called, met_with, joined_answer}
 use Rattle.memory_history.specs.code.After.{PartsState, IsAfter}
 use Rattle.memory_history.specs.layer.World.{IsKept}
+use Rattle.memory_history.specs.layer.Turns.{takes_turn}
 use Rattle.memory_history.specs.code.Acting.{with_heap, with_locks, with_barrier, with_meets, led_answer, meet_answer, notifies, led, met_by_all, ended, met, next, Acted}
 use Rattle.memory_history.proofs.HeapReplies.{may_lead_alloc}
 use Rattle.memory_history.proofs.HeapSteps.{IsStill, still-push, is_quiet, quiet-still, refused-still, follow-still, is_heap_call, lead-still, lead_null-still, lead_free_null-still, write-push, alloc-push, lead_alloc-push, free-push, lead_free-push}
 use Rattle.memory_history.proofs.LockSteps.{locks-other, lock-taken, attempt-taken, lock-let_go, lock-given_up, lock-made}
 use Rattle.memory_history.proofs.MeetLocks.{meet-locks}
-use Rattle.memory_history.proofs.Attending.{barrier-other, barrier-notify, barrier-wait, wait-ready, turn-ready, notifies-attended}
+use Rattle.memory_history.proofs.Attending.{barrier-other, barrier-notify, barrier-wait, wait-ready, notifies-attended}
 use Rattle.memory_history.proofs.Meeting.{no_leader, has_leader, meets-other, meets-met}
 use Rattle.memory_history.proofs.Asking.{answer-same}
 
@@ -288,33 +288,32 @@ module _ (o : Opening) (es : List Entry) (p : PartsState) (k : IsKept o es) (a :
   -- ---- any action
 
   next-after : (x : Action) (r : Reply) → IsWellFormed o es x → reply o es t x ≡ Some r
-      → ((l : Loc) (v : Scalar) (s : Bool) → x ≡ act.Write s l v → ⊥) → ((m : Mark) → x ≡ act.Notify m → ⊥)
+      → ((l : Loc) (v : Scalar) (s : Bool) → x ≡ act.Write s l v → ⊥) → takes_turn es t x ≡ true
       → IsAfter o (now x r) (next t x r p)
-  next-after (act.Read l s) r f e w n = quiet-after (act.Read l s) r refl refl refl refl refl
-  next-after (act.Write s l v) r f e w n = absurd (w l v s refl)
-  next-after act.Fence r f e w n = quiet-after act.Fence r refl refl refl refl refl
-  next-after act.Beat r f e w n = quiet-after act.Beat r refl refl refl refl refl
-  next-after (act.Notify m) r f e w n = absurd (n m refl)
-  next-after (act.Wait m) r f e w n = barrier-after (act.Wait m) r _ (barrier-wait o es t i m r p.barrier b (wait-ready o es t m r e) a.barrier) refl refl refl
-  next-after (act.Lock l) r f e w n = lock-after l r f
-  next-after (act.Attempt l) r f e w n = attempt-after l r f
-  next-after (act.Unlock l) r f e w n = unlock-after l r f
-  next-after act.LockMake r f e w n = locks-after act.LockMake r _ (lock-made o es p.locks a.locks t i 0 r k.formed) refl refl refl refl
-  next-after (act.LockFree l) r f e w n = free_lock-after l r f
-  next-after (act.Alloc n c h s) r f e w n =
+  next-after (act.Read l s) r f e w u = quiet-after (act.Read l s) r refl refl refl refl refl
+  next-after (act.Write s l v) r f e w u = absurd (w l v s refl)
+  next-after act.Fence r f e w u = quiet-after act.Fence r refl refl refl refl refl
+  next-after act.Beat r f e w u = quiet-after act.Beat r refl refl refl refl refl
+  next-after (act.Notify m) r f e w u =
+      barrier-after (act.Notify m) r _
+      (barrier-notify o es t i m r p.barrier b (leb-true (history.notifies t es) (history.waits t es) u) a.barrier) refl refl refl
+  next-after (act.Wait m) r f e w u = barrier-after (act.Wait m) r _ (barrier-wait o es t i m r p.barrier b (wait-ready o es t m r e) a.barrier) refl refl refl
+  next-after (act.Lock l) r f e w u = lock-after l r f
+  next-after (act.Attempt l) r f e w u = attempt-after l r f
+  next-after (act.Unlock l) r f e w u = unlock-after l r f
+  next-after act.LockMake r f e w u = locks-after act.LockMake r _ (lock-made o es p.locks a.locks t i 0 r k.formed) refl refl refl refl
+  next-after (act.LockFree l) r f e w u = free_lock-after l r f
+  next-after (act.Alloc n c h s) r f e w u =
       alloc-after n c h s r f (some-same _ _ (sym (answer-same o es p k a t (act.Alloc n c h s) b f) ∙ e))
-  next-after (act.Free y) r f e w n = free-after y r (some-same _ _ (sym (answer-same o es p k a t (act.Free y) b f) ∙ e))
-  next-after (act.Meet c args) r f e w n =
+  next-after (act.Free y) r f e w u = free-after y r (some-same _ _ (sym (answer-same o es p k a t (act.Free y) b f) ∙ e))
+  next-after (act.Meet c args) r f e w u =
       meet-after c args r f (some-same _ _ (sym (answer-same o es p k a t (act.Meet c args) b f) ∙ e))
-  next-after (act.Print y) r f e w n = quiet-after (act.Print y) r refl refl refl refl refl
-  next-after (act.Exit v) r f e w n = quiet-after (act.Exit v) r refl refl refl refl refl
+  next-after (act.Print y) r f e w u = quiet-after (act.Print y) r refl refl refl refl refl
+  next-after (act.Exit v) r f e w u = quiet-after (act.Exit v) r refl refl refl refl refl
 
-  pub acted-after : (x : Action) (r : Reply) (q : PartsState) → IsWellFormed o es x → reply o es t x ≡ Some r → Acted t x r p q → IsAfter o (now x r) q
-  acted-after (act.Write s l v) r q f e c =
+  pub acted-after : (x : Action) (r : Reply) (q : PartsState) → IsWellFormed o es x → takes_turn es t x ≡ true → reply o es t x ≡ Some r
+      → Acted t x r p q → IsAfter o (now x r) q
+  acted-after (act.Write s l v) r q f u e c =
       subst (IsAfter o (now (act.Write s l v) r)) (sym c.1)
       (heap-after (act.Write s l v) r q.heap (write-push o es t i l v s r p.heap q.heap a.heap c.0) refl refl refl refl)
-  acted-after (act.Notify m) r q f e c =
-      let ready = turn-ready o es p.barrier a.barrier t b c.0 in
-      subst (IsAfter o (now (act.Notify m) r)) (sym c.1)
-      (barrier-after (act.Notify m) r _ (barrier-notify o es t i m r p.barrier b ready a.barrier) refl refl refl)
-  acted-after x r q f e c = subst (IsAfter o (now x r)) (sym c) (next-after x r f e (λ l v s z. absurd cc) (λ m z. absurd cc))
+  acted-after x r q f u e c = subst (IsAfter o (now x r)) (sym c) (next-after x r f e (λ l v s z. absurd cc) u)

@@ -16,9 +16,10 @@ use Rattle.upc_values.proofs.Legality.{unlawful-waits}
 use Rattle.sync_objects.specs.layer.Barrier as barrier
 use Rattle.memory_history.specs.code.After.{PartsState, IsAfter}
 use Rattle.memory_history.specs.layer.World.{IsKept, IsWorld}
+use Rattle.memory_history.specs.layer.Turns.{takes_turn}
 use Rattle.memory_history.specs.code.Acting.{begun, answer, may_ask, MayAct, Acted}
 use Rattle.memory_history.proofs.More.{kept-push}
-use Rattle.memory_history.proofs.Asking.{ask-same, may-act, answer-same}
+use Rattle.memory_history.proofs.Asking.{ask-same, turn-same, may-act, answer-same}
 use Rattle.memory_history.proofs.Becoming.{acted-after}
 use Rattle.memory_history.proofs.HeapSteps.{heap-none}
 use Rattle.memory_history.proofs.LockSteps.{locks-begin}
@@ -32,27 +33,39 @@ world-begun o v = record {
   after = record { heap = heap-none o; locks = locks-begin o; barrier = barrier-begins o; meets = meets-begin o };
 }
 
+-- what is no notify is never out of turn
+pub other-turns : (es : List Entry) (t : ℕ) (x : Action) → ((m : Mark) → x ≡ act.Notify m → ⊥) → true ≡ takes_turn es t x
+other-turns es t (act.Notify m) n = absurd (n m refl)
+other-turns es t x n = refl
+
 module _ (p : PartsState) (es : List Entry) (w : IsWorld p es) where
   pub world-asks : (x : Action) → IsTrue (may_ask p x) ↔ IsWellFormed p.heap.opening es x
   world-asks x =
       let e = ask-same p.heap.opening es p w.kept w.after x in
       (λ h. e ∙ h, λ f. sym e ∙ f)
 
-  pub world-acts : (t : ℕ) (x : Action) → t < p.heap.opening.threads → IsWellFormed p.heap.opening es x → MayAct t x p
-  world-acts t x b f = may-act p.heap.opening es p w.kept w.after t x b f
+  pub world-acts : (t : ℕ) (x : Action) → t < p.heap.opening.threads → IsWellFormed p.heap.opening es x → takes_turn es t x ≡ true
+      → MayAct t x p
+  world-acts t x b f u = may-act p.heap.opening es p w.kept w.after t x b f u
+
+  pub world-attends : (t : ℕ) → t < p.heap.opening.threads → t < length p.barrier
+  world-attends t b = let n = w.after.barrier.count in omega arith
+
+  pub world-turns : (t : ℕ) (m : Mark) → t < p.heap.opening.threads → barrier.may_notify t p.barrier ≡ takes_turn es t (act.Notify m)
+  world-turns t m b = sym (turn-same p.heap.opening es p w.kept w.after t (act.Notify m) b)
 
   pub world-answers : (t : ℕ) (x : Action) → t < p.heap.opening.threads → IsWellFormed p.heap.opening es x
       → reply p.heap.opening es t x ≡ answer t x p
   world-answers t x b f = answer-same p.heap.opening es p w.kept w.after t x b f
 
   pub world-acted : (t i : ℕ) (x : Action) (r : Reply) (q : PartsState) → t < p.heap.opening.threads → IsWellFormed p.heap.opening es x
-      → answer t x p ≡ Some r → Acted t x r p q → length es + 1 < 2 ^ 62
+      → takes_turn es t x ≡ true → answer t x p ≡ Some r → Acted t x r p q → length es + 1 < 2 ^ 62
       → (q.heap.opening ≡ p.heap.opening) × IsWorld q (es ++ entry_of t i x r ∷ [])
-  world-acted t i x r q b f e c s =
+  world-acted t i x r q b f u e c s =
       let o : Opening = p.heap.opening in
       let now = es ++ entry_of t i x r ∷ [] in
       let lawful : reply o es t x ≡ Some r = world-answers t x b f ∙ e in
-      let a : IsAfter o now q = acted-after o es p w.kept w.after t i b x r q f lawful c in
+      let a : IsAfter o now q = acted-after o es p w.kept w.after t i b x r q f u lawful c in
       let k : IsKept o now = kept-push o es t i x r w.kept b f lawful s in (
         a.heap.begun,
         record {

@@ -1,6 +1,6 @@
 //! Notifies and waits at the barrier (UPC 6.6.1).
 
-ghost use Rattle.std.specs.Prelude.{◌≡◌, ◌<◌, length, true, None, IfOk, IfSome, OnErr};
+ghost use Rattle.std.specs.Prelude.{◌≡◌, ◌<◌, length, true, None, IfSome};
 ghost use Rattle.upc_values.specs.declared.action.Action.TheVariants as act;
 ghost use Rattle.upc_values.specs.declared.action.Reply.TheVariants.{Done};
 ghost use Rattle.sync_objects.specs.layer.Barrier.{may_notify, may_pass};
@@ -8,24 +8,26 @@ ghost use Rattle.memory_history.specs.code.Acting as said;
 ghost use Rattle.memory_history.specs.code.Acting.{next};
 
 use crate::parts::Parts;
-use upc_text::OutOfMemory;
 use upc_values::{Mark, Reply};
 
 impl Parts {
-    // The thread notifies. It takes no memory; a thread that has not waited since it last notified is turned away as
-    // for want of memory, and nothing changes.
-    pub(crate) fn notify(&mut self, thread: u32, mark: Mark) -> Result<Reply, OutOfMemory>
-        requires { thread < length self.old.barrier }
-        ensures answer { IfOk result (λ r. r ≡ Done) }
-        ensures turn { IfOk result (λ _. may_notify thread self.old.barrier ≡ true) }
-        ensures notified { IfOk result (λ r. self.new ≡ next thread (act.Notify mark) r self.old) }
-        ensures kept { OnErr result (self.new ≡ self.old) }
+    // Whether the thread may notify: it has waited since it last did.
+    pub(crate) fn may_notify(&self, thread: u32) -> bool
+        requires { thread < length self.now.barrier }
+        ensures { result ≡ may_notify thread self.now.barrier }
     {
-        if !self.barrier.may_notify(thread) {
-            return Err(OutOfMemory);
-        }
+        self.barrier.may_notify(thread)
+    }
+
+    // The thread, which has waited since it last notified, notifies. It takes no memory.
+    pub(crate) fn notify(&mut self, thread: u32, mark: Mark) -> Reply
+        requires below { thread < length self.old.barrier }
+        requires turn { may_notify thread self.old.barrier ≡ true }
+        ensures answer { result ≡ Done }
+        ensures notified { self.new ≡ next thread (act.Notify mark) result self.old }
+    {
         self.barrier.notify(thread, mark);
-        Ok(Reply::Done)
+        Reply::Done
     }
 
     // Whether the thread may pass its next round.

@@ -84,7 +84,7 @@ impl Parts {
                 self.heap.save(*loc, *value)?;
                 Ok(Some(Reply::Done))
             }
-            Action::Notify(mark) => Ok(Some(self.notify(thread, *mark)?)),
+            Action::Notify(mark) => Ok(Some(self.notify(thread, *mark))),
             Action::Wait(mark) => Ok(self.wait(thread, *mark)),
             Action::Lock(lock) => Ok(self.lock(thread, *lock)),
             Action::Attempt(lock) => Ok(Some(self.attempt(thread, *lock))),

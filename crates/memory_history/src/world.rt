@@ -10,6 +10,7 @@ ghost use Rattle.upc_values.specs.Waits.{WaitsFollow};
 ghost use Rattle.upc_values.specs.Locks.{LocksExclude};
 ghost use Rattle.upc_values.specs.Strands.{may_wait};
 ghost use Rattle.memory_history.specs.layer.World.{answer_of, performed};
+ghost use Rattle.memory_history.specs.layer.Turns.{takes_turn};
 
 use crate::parts::Parts;
 use crate::step::Step;
@@ -71,11 +72,12 @@ impl World {
     }
 
     /// Acts on the history: the lawful reply, with one entry appended, or `Disabled` where there is none, as may be
-    /// for a Lock or a Wait only. It reads no older entry. After want of memory, the history is as it was; it also comes
-    /// where there would be 2^62 entries, and to a thread that notifies and has not waited since it last did.
+    /// for a Lock or a Wait only. A thread notifies only where it has waited since it last did. It reads no older
+    /// entry. After want of memory, which also comes where there would be 2^62 entries, the history is as it was.
     pub fn perform(&mut self, thread: u32, index: u32, action: &Action) -> Result<Step, OutOfMemory>
         requires below { thread < self.old.0.threads }
         requires formed { IsWellFormed self.old.0 self.old.1 action.now }
+        requires turns { takes_turn self.old.1 thread action.now ≡ true }
         ensures reply { IfOk result (λ s. answer_of s ≡ history.reply self.old.0 self.old.1 thread action.now) }
         ensures fits { IfOk result (λ s. IfSome (answer_of s) (λ r.
             fits_after self.old.0 self.old.1 action.now r ≡ true)) }
@@ -110,6 +112,18 @@ impl World {
         ensures { IsTrue result ↔ IsWellFormed self.now.0 self.now.1 action.now }
     {
         self.parts.may_ask(action)
+    }
+
+    /// Whether the action keeps the thread's notifies and waits in turn: it is no notify, or the thread has waited
+    /// since it last notified. It takes no memory.
+    pub fn takes_turn(&self, thread: u32, action: &Action) -> bool
+        requires { thread < self.now.0.threads }
+        ensures { result ≡ takes_turn self.now.1 thread action.now }
+    {
+        match action {
+            Action::Notify(_) => self.parts.may_notify(thread),
+            _ => true,
+        }
     }
 
     /// Whether an action has a lawful reply now. It takes no memory.

@@ -115,7 +115,7 @@ some-value None = refl
 
 -- all pending are committed
 
-committed-own : (t : ℕ) (ps : List Pending) → AllOf t (map (committed t) ps)
+pub committed-own : (t : ℕ) (ps : List Pending) → AllOf t (map (committed t) ps)
 committed-own t [] = tt
 committed-own t (p ∷ ps) = (refl, committed-own t ps)
 

@@ -1,12 +1,20 @@
 -- What a run takes of code for its opening: the code has outcomes, and they keep what every meaning keeps.
-use Rattle.std.proofs.Common.{◌≡◌, ℕ, ◌<◌, ◌≤◌, sym, subst, ◌∙◌}
+use Rattle.std.proofs.Common.{◌≡◌, ℕ, ◌<◌, ◌≤◌, List, [], ◌∷◌, ◌++◌, sym, ap, subst, ◌∙◌}
+use Rattle.upc_values.specs.declared.action.Action.{Action}
+use Rattle.upc_values.specs.declared.action.Reply.{Reply}
+use Rattle.upc_values.specs.declared.record.ToldEnd.{ToldEnd}
+use Rattle.upc_values.specs.declared.record.ToldEnd.TheVariants.{Wants}
 use Rattle.upc_values.specs.Openings.{Opening, IsOpening}
+use Rattle.upc_values.specs.Outcomes.{Outcome}
+use Rattle.thread_steps.specs.layer.Fronts.{IsInTurn}
 use Rattle.stack_code.specs.Codes.{Codes}
 use Rattle.stack_code.specs.layer.Kept.{IsCode}
+use Rattle.stack_code.specs.layer.Outcomes.{CodeMeans}
 use Rattle.stack_code_laws.specs.layer.Asking.{IsCodeFor, IsThreadOf}
 use Rattle.stack_code_laws.proofs.Naming.{names_declared}
 use Rattle.stack_code_laws.proofs.Endings.{has_outcome, is_within_budget}
 use Rattle.stack_code_laws.proofs.Meanings.{is_meaning}
+use Rattle.stack_code_laws.proofs.Turns.{takes_turns}
 use Rattle.serial_core.specs.declared.limits.Limits.{Limits}
 use Rattle.serial_core.specs.layer.Sources.{Outcomes, IsSource, GivesOutcomes, HasOutcomes}
 
@@ -23,9 +31,19 @@ module _ (o : Opening) (p : Codes) (l : Limits) (opens : IsOpening o) (code : Is
       means = gives t lt;
     }
 
+    -- What the thread wants keeps its notifies and waits in turn.
+    wants_in_turn : (t : ℕ) → t < l.threads → (rs : List Reply) (a : Action) → (f t rs).«end» ≡ Wants a
+        → IsInTurn ((f t rs).actions ++ a ∷ [])
+    wants_in_turn t lt rs a e =
+        let ending : ToldEnd → Outcome =
+        λ z. record { actions = (f t rs).actions; ticks = (f t rs).ticks; «end» = z } in
+        takes_turns p t l.budget rs (ending (Wants a))
+        (subst (CodeMeans p t l.budget rs) (ap ending e) (gives t lt rs))
+
     is_source : (t : ℕ) → t < l.threads → IsSource o l.budget (f t)
     is_source t lt = record {
       means = is_meaning o p t l.budget (f t) (is_thread t lt);
+      turns = wants_in_turn t lt;
       spends = λ rs e. (is_within_budget p t l.budget rs (f t rs) some (gives t lt rs)).spent e;
     }
 

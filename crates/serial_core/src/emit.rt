@@ -6,6 +6,7 @@ ghost use Rattle.upc_values.specs.declared.action.Reply.TheVariants.{Done};
 ghost use Rattle.upc_values.specs.Drain.{Walk};
 ghost use Rattle.upc_values.specs.Formed.{IsWellFormed};
 ghost use Rattle.memory_history.specs.layer.World.{answer_of};
+ghost use Rattle.memory_history.specs.layer.Turns.{takes_turn};
 ghost use Rattle.write_buffer.specs.layer.Buffer.{committed};
 ghost use Rattle.serial_core.specs.Kept.{way_of, AreFormed, Holds, Grew, Emitted, IsAnswer};
 
@@ -108,6 +109,7 @@ pub fn emit(
     requires below { thread < world.old.0.threads }
     requires pending { AreFormed world.old.0 world.old.1 buffer.old }
     requires asked { IsWellFormed world.old.0 world.old.1 action.now }
+    requires turns { takes_turn world.old.1 thread action.now ≡ true }
     ensures holds { IfOk result (λ s. (w : Walk)
         → Holds world.old.0 thread world.old.1 buffer.old next w
         → Emitted world.old.0 thread world.new.1 buffer.new next action.now (answer_of s) w) }

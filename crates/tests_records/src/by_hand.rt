@@ -261,6 +261,9 @@ fn answer(
     if thread >= world.threads() || !world.is_well_formed(action) {
         return Ok(None);
     }
+    if !world.takes_turn(thread, action) {
+        return Ok(None);
+    }
     match world.perform(thread, index, action)? {
         Step::Done(reply) => Ok(Some(reply)),
         Step::Disabled => Ok(None),

@@ -161,6 +161,9 @@ fn stepped(
     if !is_basic(action) || !world.is_well_formed(action) || thread >= world.threads() {
         return Ok(None);
     }
+    if !world.takes_turn(thread, action) {
+        return Ok(None);
+    }
     let legal = world.is_legal(thread, action);
     let step = world.perform(thread, index, action)?;
     Ok(Some((legal, step)))

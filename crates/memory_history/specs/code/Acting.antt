@@ -26,7 +26,8 @@ use Rattle.memory_history.specs.declared.calls.Asked.{Asked}
 use Rattle.memory_history.specs.declared.calls.Asked.TheVariants as asks
 use Rattle.memory_history.specs.code.Calls.{asked_of}
 use Rattle.memory_history.specs.code.LocksAfter.{given_up_by}
-use Rattle.memory_history.specs.code.MeetsAfter.{MeetsState, times, is_leading, leader_at, called, joined_answer, met_with}
+use Rattle.memory_history.specs.code.MeetsAfter.{MeetsState, times, is_leading, leader_at, called, joined_answer}
+use Rattle.memory_history.specs.code.MeetsAfter.{met_with}
 use Rattle.memory_history.specs.code.After.{PartsState}
 
 -- ---- what may be asked for
@@ -73,10 +74,17 @@ may_ask p a = true
 abbrev pub HasLock : Call → Reply → PartsState → Type 0
 HasLock c r p = (l : ℕ) → given_up_by c r ≡ Some l → IsMade l p.locks
 
--- A thread may act: it may ask for the action, it is one of those that attend at the barrier and meet, and it has met
--- in no more calls than there are; in the next one at most 32 threads have met, and a lock that it gives up is made.
+-- A thread may do the action in its turn: it notifies only where it has waited since it last did.
+abbrev pub has_turn : ℕ → Action → PartsState → Bool
+has_turn t (act.Notify m) p = barrier.may_notify t p.barrier
+has_turn t a p = true
+
+-- A thread may act: it may ask for the action, and has its turn; it is one of those that attend at the barrier and
+-- meet, and it has met in no more calls than there are; in the next one at most 32 threads have met, and a lock that it
+-- gives up is made.
 pub record MayAct (t : ℕ) (a : Action) (p : PartsState) : Type 0 where
   pub asked : may_ask p a ≡ true
+  pub turn : has_turn t a p ≡ true
   pub attends : t < length p.barrier
   pub counted : t < length p.meets.counts
   pub led : times t p.meets ≤ length p.meets.leaders
@@ -187,8 +195,7 @@ begun o =
       meets = record { counts = replicate o.threads 0; leaders = [] };
     }
 
--- The second parts are the first after an action with this reply; a thread notifies where it may.
+-- The second parts are the first after an action with this reply.
 abbrev pub Acted : ℕ → Action → Reply → PartsState → PartsState → Type 0
 Acted t (act.Write s l v) r p q = IsSaved p.heap l v q.heap × (q ≡ with_heap q.heap p)
-Acted t (act.Notify m) r p q = (barrier.may_notify t p.barrier ≡ true) × (q ≡ next t (act.Notify m) r p)
 Acted t a r p q = q ≡ next t a r p

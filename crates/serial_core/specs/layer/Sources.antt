@@ -1,9 +1,11 @@
 -- What a run takes of the code: which outcomes it has on each thread, and where a thread's machine stands.
-use Rattle.std.specs.Prelude.{ℕ, ◌≡◌, ◌<◌, List}
+use Rattle.std.specs.Prelude.{ℕ, ◌≡◌, ◌<◌, List, [], ◌∷◌, ◌++◌}
+use Rattle.upc_values.specs.declared.action.Action.{Action}
 use Rattle.upc_values.specs.declared.action.Reply.{Reply}
-use Rattle.upc_values.specs.declared.record.ToldEnd.TheVariants.{OutOfTicks}
+use Rattle.upc_values.specs.declared.record.ToldEnd.TheVariants.{Wants, OutOfTicks}
 use Rattle.upc_values.specs.Openings.{Opening}
 use Rattle.upc_values.specs.Outcomes.{Outcome, IsMeaning}
+use Rattle.thread_steps.specs.layer.Fronts.{IsInTurn}
 use Rattle.typed_tree.specs.declared.program.Program.{Program}
 use Rattle.typed_tree.specs.Beginnings.{opening_in, view_beginning}
 use Rattle.stack_code.specs.Codes.{Codes}
@@ -16,10 +18,11 @@ use Rattle.serial_core.specs.declared.limits.Limits.{Limits}
 abbrev pub Outcomes : Type 0
 Outcomes = ℕ → List Reply → Outcome
 
--- What a run takes of a thread's outcomes: they keep what every meaning keeps, and where the ticks are spent there were
--- b of them.
+-- What a run takes of a thread's outcomes: they keep what every meaning keeps; notifies and waits alternate in what the
+-- thread did with what it wants; and where the ticks are spent there were b of them.
 pub record IsSource (o : Opening) (b : ℕ) (outcome : List Reply → Outcome) : Type 0 where
   pub means : IsMeaning o outcome
+  pub turns : (rs : List Reply) (a : Action) → (outcome rs).«end» ≡ Wants a → IsInTurn ((outcome rs).actions ++ a ∷ [])
   pub spends : (rs : List Reply) → (outcome rs).«end» ≡ OutOfTicks → (outcome rs).ticks ≡ b
 
 -- On a thread of the code, with a budget, this is the outcome on each list of replies.

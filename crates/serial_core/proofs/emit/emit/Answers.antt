@@ -5,8 +5,10 @@ use Rattle.upc_values.specs.History.{reply}
 use Rattle.upc_values.specs.Formed.{IsWellFormed, fits_after}
 use Rattle.upc_values.specs.layer.Known.{gives_known}
 use Rattle.memory_history.specs.layer.World.{answer_of}
+use Rattle.memory_history.specs.layer.Turns.{takes_turn}
 use Rattle.serial_core.specs.Kept.{Holds, Emitted}
 use Rattle.serial_core.proofs.Buffers.{emitted-forwarded, forwarded-answers, emitted-looked, emitted-passed, emitted-empties, found-none, answer-is, holds-emptied, grew-then, grew-performed, asked-grew}
+use Rattle.serial_core.proofs.Turns.{turn-committed}
 use Rattle.serial_core.proofs.emit.emit.Goals as goal
 
 pub returns-in-Some-clause-holds : goal.returns-in-Some-clause-holds
@@ -64,6 +66,12 @@ perform-requires-in-Empties-clause-formed c =
     let f = c.in_ok-empty-in-Empties.ensures in let mid = c.empty.new.world.1 in let a = c.args.action.now in
     subst (λ o. IsWellFormed o mid a) (sym f.opening)
     (asked-grew c.args.world.now.0 c.args.thread c.args.world.now.1 mid a c.requires.asked f.grew)
+
+pub perform-requires-in-Empties-clause-turns : goal.perform-requires-in-Empties-clause-turns
+perform-requires-in-Empties-clause-turns c =
+    let t = c.args.thread in let a = c.args.action.now in
+    subst (λ l. takes_turn l t a ≡ true) (sym c.in_ok-empty-in-Empties.ensures.all.1)
+    (turn-committed t a c.args.world.now.1 c.args.buffer.now ∙ c.requires.turns)
 
 pub returns-in_ok-step-in-Passes-clause-holds : goal.returns-in_ok-step-in-Passes-clause-holds
 returns-in_ok-step-in-Passes-clause-holds c = λ w k.

@@ -2,7 +2,7 @@ use Rattle.std.proofs.Common.{◌<◌, is_some, sym, ap, subst, ◌∙◌}
 use Rattle.upc_values.specs.declared.action.Action.TheVariants as act
 use Rattle.upc_values.specs.History.{reply}
 use Rattle.upc_values.specs.Formed.{IsWellFormed}
-use Rattle.memory_history.proofs.Worlds.{world-acts, wait-legal, lock-legal, other-legal}
+use Rattle.memory_history.proofs.Worlds.{world-asks, world-attends, wait-legal, lock-legal, other-legal}
 use Rattle.memory_history.proofs.world.World.is_legal.Goals as goal
 
 pub may_pass-requires : goal.may_pass-requires
@@ -12,9 +12,7 @@ may_pass-requires c =
     let es = c.self.inside.entries.items in
     let now = c.args.self.now in
     let b : t < p.heap.opening.threads = subst (λ w. t < w.0.threads) (sym c.self.view_is) c.requires.below in
-    let f : IsWellFormed p.heap.opening es c.args.action.now =
-    subst (λ w. IsWellFormed w.0 w.1 c.args.action.now) (sym c.self.view_is) c.requires.formed in
-    (world-acts p es c.self.invariant t c.args.action.now b f).attends
+    world-attends p es c.self.invariant t b
 
 pub returns-in-Wait : goal.returns-in-Wait
 returns-in-Wait c =
@@ -40,7 +38,7 @@ would_wait-requires c =
     let f : IsWellFormed p.heap.opening es c.args.action.now =
     subst (λ w. IsWellFormed w.0 w.1 c.args.action.now) (sym c.self.view_is) c.requires.formed in
     let g : IsWellFormed p.heap.opening es (act.Lock c.in-Lock.lock) = subst (IsWellFormed p.heap.opening es) c.in-Lock.is f in
-    (world-acts p es c.self.invariant t (act.Lock c.in-Lock.lock) b g).asked
+    (world-asks p es c.self.invariant (act.Lock c.in-Lock.lock)).1 g
 
 pub returns-in-Lock : goal.returns-in-Lock
 returns-in-Lock c =

@@ -6,6 +6,7 @@ use Rattle.upc_values.specs.Formed.{IsWellFormed, fits_after}
 use Rattle.upc_values.specs.layer.Known.{gives_known}
 use Rattle.upc_values.proofs.Known.{lawful-known}
 use Rattle.memory_history.specs.layer.World.{IsWorld}
+use Rattle.memory_history.specs.layer.Turns.{takes_turn}
 use Rattle.memory_history.specs.code.Acting.{answer, Acted}
 use Rattle.memory_history.proofs.Fits.{reply-fits}
 use Rattle.memory_history.proofs.Worlds.{world-acts, world-answers, world-acted}
@@ -19,7 +20,8 @@ act-requires c =
     let es = c.self.inside.entries.items in
     let b : t < p.heap.opening.threads = subst (λ w. t < w.0.threads) (sym c.self.view_is) c.requires.below in
     let f : IsWellFormed p.heap.opening es x = subst (λ w. IsWellFormed w.0 w.1 x) (sym c.self.view_is) c.requires.formed in
-    world-acts p es c.self.invariant t x b f
+    let u : takes_turn es t x ≡ true = subst (λ w. takes_turn w.1 t x ≡ true) (sym c.self.view_is) c.requires.turns in
+    world-acts p es c.self.invariant t x b f u
 
 pub returns-in_default-clause-reply : goal.returns-in_default-clause-reply
 returns-in_default-clause-reply c =
@@ -40,13 +42,14 @@ invariant_of-self-2 c =
     let es = c.self.inside.entries.items in
     let b : t < p.heap.opening.threads = subst (λ w. t < w.0.threads) (sym c.self.view_is) c.requires.below in
     let f : IsWellFormed p.heap.opening es x = subst (λ w. IsWellFormed w.0 w.1 x) (sym c.self.view_is) c.requires.formed in
+    let u : takes_turn es t x ≡ true = subst (λ w. takes_turn w.1 t x ≡ true) (sym c.self.view_is) c.requires.turns in
     let r = c.in-Some.reply in
     let q = c.act.new.self in
     let answered : answer t x p ≡ Some r = sym c.in_ok-reply.ensures.answer ∙ c.in-Some.is in
     let acted : Acted t x r p q = subst (λ o. IfSome o (λ z. Acted t x z p q)) c.in-Some.is c.in_ok-reply.ensures.acted in
     let short : length es + 1 < 2 ^ 62 = search rules in
     let pushed : c.push_reserved.new.self.items ≡ es ++ entry_of t c.args.index x r ∷ [] = search rules in
-    subst (IsWorld q) (sym pushed) (world-acted p es c.self.invariant t c.args.index x r q b f answered acted short).1
+    subst (IsWorld q) (sym pushed) (world-acted p es c.self.invariant t c.args.index x r q b f u answered acted short).1
 
 pub returns-clause-reply : goal.returns-clause-reply
 returns-clause-reply c =
@@ -85,6 +88,7 @@ returns-clause-known c =
     let es = c.self.inside.entries.items in
     let b : t < p.heap.opening.threads = subst (λ w. t < w.0.threads) (sym c.self.view_is) c.requires.below in
     let f : IsWellFormed p.heap.opening es x = subst (λ w. IsWellFormed w.0 w.1 x) (sym c.self.view_is) c.requires.formed in
+    let u : takes_turn es t x ≡ true = subst (λ w. takes_turn w.1 t x ≡ true) (sym c.self.view_is) c.requires.turns in
     let r = c.in-Some.reply in
     let q = c.act.new.self in
     let answered : answer t x p ≡ Some r = sym c.in_ok-reply.ensures.answer ∙ c.in-Some.is in
@@ -93,7 +97,7 @@ returns-clause-known c =
     let short : length es + 1 < 2 ^ 62 = search rules in
     let pushed : c.push_reserved.new.self.items ≡ es ++ entry_of t c.args.index x r ∷ [] = search rules in
     let k = c.self.invariant.kept in
-    let same = (world-acted p es c.self.invariant t c.args.index x r q b f answered acted short).0 in
+    let same = (world-acted p es c.self.invariant t c.args.index x r q b f u answered acted short).0 in
     subst (λ o. gives_known o c.push_reserved.new.self.items r ≡ true) (sym same)
     (subst (λ l. gives_known p.heap.opening l r ≡ true) (sym pushed)
     (lawful-known p.heap.opening es t c.args.index x r k.opening k.legal k.formed f lawful))
@@ -106,9 +110,10 @@ returns-clause-opening c =
     let es = c.self.inside.entries.items in
     let b : t < p.heap.opening.threads = subst (λ w. t < w.0.threads) (sym c.self.view_is) c.requires.below in
     let f : IsWellFormed p.heap.opening es x = subst (λ w. IsWellFormed w.0 w.1 x) (sym c.self.view_is) c.requires.formed in
+    let u : takes_turn es t x ≡ true = subst (λ w. takes_turn w.1 t x ≡ true) (sym c.self.view_is) c.requires.turns in
     let r = c.in-Some.reply in
     let q = c.act.new.self in
     let answered : answer t x p ≡ Some r = sym c.in_ok-reply.ensures.answer ∙ c.in-Some.is in
     let acted : Acted t x r p q = subst (λ o. IfSome o (λ z. Acted t x z p q)) c.in-Some.is c.in_ok-reply.ensures.acted in
     let short : length es + 1 < 2 ^ 62 = search rules in
-    (world-acted p es c.self.invariant t c.args.index x r q b f answered acted short).0 ∙ ap (λ w. w.0) c.self.view_is
+    (world-acted p es c.self.invariant t c.args.index x r q b f u answered acted short).0 ∙ ap (λ w. w.0) c.self.view_is

@@ -9,6 +9,7 @@ use Rattle.memory_history.specs.layer.World.{answer_of}
 use Rattle.serial_core.specs.declared.task.Task.{Task}
 use Rattle.serial_core.specs.Kept.{IsKept, Emitted, IsAnswer, Paused}
 use Rattle.serial_core.proofs.Tasks.{kept-asks, kept-did, kept-stall, kept-stay}
+use Rattle.serial_core.proofs.Turns.{kept-turns}
 use Rattle.serial_core.proofs.task.Task.act.Goals as goal
 use Rattle.serial_core.proofs.task.Task.act.Goals.{then-is_beat, else-is_beat}
 
@@ -16,6 +17,11 @@ pub emit-requires-clause-asked : goal.emit-requires-clause-asked
 emit-requires-clause-asked c =
     let k = c.args.self.now in let h = c.requires.kept in
     kept-asks c.args.world.now.0 h.0 h.1 c.args.world.now.1 k c.in-Some-Act.action c.keeps.ensures.legal c.keeps.ensures.formed h.2 (search rules)
+
+pub emit-requires-clause-turns : goal.emit-requires-clause-turns
+emit-requires-clause-turns c =
+    let k = c.args.self.now in let h = c.requires.kept in
+    kept-turns c.args.world.now.0 h.0 h.1 c.args.world.now.1 k c.in-Some-Act.action h.2 c.requires.«open» (search rules)
 
 pub returns-after-is_beat-clause-kept : goal.returns-after-is_beat-clause-kept
 returns-after-is_beat-clause-kept c = λ p f h.
