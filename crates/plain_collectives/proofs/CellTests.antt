@@ -10,7 +10,7 @@ use Rattle.upc_values.specs.Views.{leaves_range, leaves_piece, is_cell}
 
 abbrev pub cell_tests : ℕ → List Shape → Kind → List SharedPtr → List (Bool × ℕ)
 cell_tests threads shapes k ps =
-    (list_any (leaves_range 1) ps, POINTER_RANGE)
+    (list_any (leaves_range (kind_size k)) ps, POINTER_RANGE)
     ∷ (list_any (leaves_piece threads (kind_size k)) ps, OUT_OF_OBJECT)
     ∷ (list_any (λ p. not (is_cell shapes k p)) ps, CELL_TYPE)
     ∷ []

@@ -16,12 +16,12 @@ use plain_calls::{Spot, Stop, Telling, kind_at, shape_of};
 use std::alloc::Global;
 use upc_values::{Action, Listing, Scalar};
 
-/// Whether the offset of one of the elements leaves its range.
-pub fn leave_range(elements: &[Spot]) -> bool
-    ensures { result ≡ list_any (views.leaves_range 1) (map pointer_of elements.now) }
+/// Whether one of the elements, as a cell of this kind, has its first or its last byte at an offset out of range.
+pub fn leave_range(kind: Kind, elements: &[Spot]) -> bool
+    ensures { result ≡ list_any (views.leaves_range (kind_size kind)) (map pointer_of elements.now) }
 {
     for element in elements {
-        if element.leaves_range(1) {
+        if element.leaves_range(u64::from(kind.size())) {
             return true;
         }
     }

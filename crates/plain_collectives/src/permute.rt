@@ -89,10 +89,10 @@ fn own_block(thread: &Thread<'_>, ends: &Ends<'_>) -> Spot
 
 // Whether an offset of the permutation, or of the thread's block, leaves its range.
 fn leaves_range(elements: &[Spot], own: &Spot, bytes: u32) -> bool
-    ensures { result ≡ (list_any (views.leaves_range 1) (map pointer_of elements.now)
+    ensures { result ≡ (list_any (views.leaves_range 4) (map pointer_of elements.now)
         || (not (bytes == 0) && views.leaves_range bytes (pointer_of own.now))) }
 {
-    leave_range(elements) || bytes != 0 && own.leaves_range(u64::from(bytes))
+    leave_range(Kind::Int, elements) || bytes != 0 && own.leaves_range(u64::from(bytes))
 }
 
 // Whether the permutation or the thread's block leaves the piece of its thread.

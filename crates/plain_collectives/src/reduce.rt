@@ -195,10 +195,10 @@ fn reduce_prefixes(
 
 // Whether the offset of one of the elements leaves its range.
 #[tactic(auto, using(crate::proofs::Truths::any_of_both))]
-fn range_is_left(a: &[Spot], b: &[Spot]) -> bool
-    ensures { result ≡ list_any (views.leaves_range 1) (map pointer_of a.now ++ map pointer_of b.now) }
+fn range_is_left(kind: Kind, a: &[Spot], b: &[Spot]) -> bool
+    ensures { result ≡ list_any (views.leaves_range (kind_size kind)) (map pointer_of a.now ++ map pointer_of b.now) }
 {
-    leave_range(a) || leave_range(b)
+    leave_range(kind, a) || leave_range(kind, b)
 }
 
 // Whether one of them leaves the piece of its thread.
@@ -245,7 +245,7 @@ fn reduce_by(
 fn test_cells(thread: &Thread<'_>, of: &Operands, a: &[Spot], b: &[Spot]) -> Option<u8>
     ensures value { result ≡ refusal_in (let kind = reductions.element_kind of.now.kind
         in (
-          list_any (views.leaves_range 1) (map pointer_of a.now
+          list_any (views.leaves_range (kind_size kind)) (map pointer_of a.now
               ++ map pointer_of b.now),
           POINTER_RANGE,
         )
@@ -263,7 +263,7 @@ fn test_cells(thread: &Thread<'_>, of: &Operands, a: &[Spot], b: &[Spot]) -> Opt
     ensures second { result ≡ None → All (λ p. IsRoomFor 1 p.offset) b.now }
 {
     let kind = element_kind(of.kind);
-    if range_is_left(a, b) {
+    if range_is_left(kind, a, b) {
         return Some(POINTER_RANGE);
     }
     if piece_is_left(thread, kind, a, b) {

@@ -227,7 +227,7 @@ module _ (o : Opening) (past : List Reply) (v : IsOpening o) (finds : FindsNamed
   abbrev IsCell : Kind → SharedPtr → Type 0
   IsCell k q = cell_of o (objects_given o past) (location q) ≡ Some k
 
-  cell_there : (k : Kind) (q : SharedPtr) → IsNear q → leaves_range 1 q ≡ false
+  cell_there : (k : Kind) (q : SharedPtr) → IsNear q → leaves_range (kind_size k) q ≡ false
       → leaves_piece o.threads (kind_size k) q ≡ false → is_cell o.shapes k q ≡ true → IsCell k q
   cell_there k q h range room there =
       let byte = unsigned_abs q.offset in
@@ -235,10 +235,10 @@ module _ (o : Opening) (past : List Reply) (v : IsOpening o) (finds : FindsNamed
       let found = is_kind_some k (kind_at (shape_at o.shapes q) byte) there in
       subst
       (λ n. cell_of o (objects_given o past) (record { object = q.object.number; thread = q.thread; offset = n }) ≡ Some k) same
-      (cell_behind o past v finds q (kind_size k) 0 k (named q h (begins_in 1 q range)) room (some_bytes k)
+      (cell_behind o past v finds q (kind_size k) 0 k (named q h (begins_in (kind_size k) q range)) room (some_bytes k)
       (subst (λ n. kind_at (shape_at o.shapes q) n ≡ Some k) (sym same) found))
 
-  cells_there : (k : Kind) (qs : List SharedPtr) → Each IsNear qs → Each (λ q. leaves_range 1 q ≡ false) qs
+  cells_there : (k : Kind) (qs : List SharedPtr) → Each IsNear qs → Each (λ q. leaves_range (kind_size k) q ≡ false) qs
       → Each (λ q. leaves_piece o.threads (kind_size k) q ≡ false) qs
       → Each (λ q. not (is_cell o.shapes k q) ≡ false) qs → Each (IsCell k) qs
   cells_there k [] h range room there = tt
@@ -251,13 +251,13 @@ module _ (o : Opening) (past : List Reply) (v : IsOpening o) (finds : FindsNamed
       → (Each (IsCell k) qs → Goes Nothing e) → Goes Nothing (x.are_cells o.threads o.shapes me k qs e)
   are_cells_goes k qs e h f =
       let tests : List (Bool × ℕ) =
-      (list_any (leaves_range 1) qs, POINTER_RANGE)
+      (list_any (leaves_range (kind_size k)) qs, POINTER_RANGE)
       ∷ (list_any (leaves_piece o.threads (kind_size k)) qs, OUT_OF_OBJECT)
       ∷ (list_any (λ q. not (is_cell o.shapes k q)) qs, CELL_TYPE)
       ∷ [] in
       m.refused_goes o past v finds me budget Nothing tests e (λ t.
       f
-      (cells_there k qs h (none_of (leaves_range 1) qs t.0) (none_of (leaves_piece o.threads (kind_size k)) qs t.1.0)
+      (cells_there k qs h (none_of (leaves_range (kind_size k)) qs t.0) (none_of (leaves_piece o.threads (kind_size k)) qs t.1.0)
       (none_of (λ q. not (is_cell o.shapes k q)) qs t.1.1.0)))
 
   -- ---- reads and writes of numbers
@@ -430,7 +430,7 @@ module _ (o : Opening) (past : List Reply) (v : IsOpening o) (finds : FindsNamed
       each_of IsNear (λ i. element (from_phase_0 perm) 1 4 o.threads i) (x.all_threads o.threads o.shapes me) (λ i.
       element_near (from_phase_0 perm) 1 4 i hp) in
       let tests : List (Bool × ℕ) =
-      (list_any (leaves_range 1) qs || (some && leaves_range n own), POINTER_RANGE)
+      (list_any (leaves_range 4) qs || (some && leaves_range n own), POINTER_RANGE)
       ∷ (list_any (leaves_piece o.threads 4) qs || (some && leaves_piece o.threads n own), OUT_OF_OBJECT)
       ∷ (list_any (λ q. not (is_cell o.shapes kind.Int q)) qs || (some && x.cut o.threads o.shapes me n own), CELL_TYPE)
       ∷ [] in
@@ -441,14 +441,14 @@ module _ (o : Opening) (past : List Reply) (v : IsOpening o) (finds : FindsNamed
       λ ns. refused_by ((not (is_permutation ns), LIBRARY_ARGS) ∷ []) (copy ns) in
       let all : Expansion (List ℤ) = gathered (x.number_at o.threads o.shapes me kind.Int) qs in
       m.refused_goes o past v finds me budget Nothing tests (bind all chosen) (λ t.
-      let range = neither (list_any (leaves_range 1) qs) (some && leaves_range n own) t.0 in
+      let range = neither (list_any (leaves_range 4) qs) (some && leaves_range n own) t.0 in
       let room = neither (list_any (leaves_piece o.threads 4) qs) (some && leaves_piece o.threads n own) t.1.0 in
       let cells =
       neither (list_any (λ q. not (is_cell o.shapes kind.Int q)) qs) (some && x.cut o.threads o.shapes me n own) t.1.1.0
       in
       m.bind_goes o past v finds me budget {A = List ℤ} {B = Unit {0}} AnyOf Nothing all chosen
       (gathered_goes qs
-      (cells_there kind.Int qs near (none_of (leaves_range 1) qs range.0)
+      (cells_there kind.Int qs near (none_of (leaves_range 4) qs range.0)
       (none_of (leaves_piece o.threads 4) qs room.0)
       (none_of (λ q. not (is_cell o.shapes kind.Int q)) qs cells.0))) (λ ns c.
       m.refused_goes o past v finds me budget Nothing ((not (is_permutation ns), LIBRARY_ARGS) ∷ []) (copy ns) (λ z.

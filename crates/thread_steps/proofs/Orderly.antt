@@ -210,7 +210,7 @@ module _ (threads : ℕ) (shapes : List Shape) (me : ℕ) where
       → Orderly false (Unit {0}) (x.are_cells threads shapes me k ps e)
   cells_orderly k ps e h =
       refused_by_orderly
-      ((list_any (leaves_range 1) ps, POINTER_RANGE)
+      ((list_any (leaves_range (kind_size k)) ps, POINTER_RANGE)
       ∷ (list_any (x.outside threads shapes me (kind_size k)) ps, OUT_OF_OBJECT)
       ∷ (list_any (λ p. not (is_cell shapes k p)) ps, CELL_TYPE)
       ∷ [])
@@ -234,7 +234,7 @@ module _ (threads : ℕ) (shapes : List Shape) (me : ℕ) where
       let chosen : List ℤ → Expansion (Unit {0}) = λ vs. refused_by
       ((not (each_thread threads (λ t. x.is_at threads shapes me t vs)), LIBRARY_ARGS) ∷ []) (go vs) in
       refused_by_orderly
-      ((list_any (leaves_range 1) ps || (some && leaves_range n own), POINTER_RANGE)
+      ((list_any (leaves_range 4) ps || (some && leaves_range n own), POINTER_RANGE)
       ∷ (list_any (x.outside threads shapes me 4) ps || (some && x.outside threads shapes me n own), OUT_OF_OBJECT)
       ∷ (list_any (λ p. not (is_cell shapes kind.Int p)) ps || (some && x.cut threads shapes me n own), CELL_TYPE)
       ∷ [])

@@ -31,5 +31,4 @@ mod OrderRows
 mod CallRows
 mod LibraryRows
 mod PrintingRows
-mod RoundRows
 mod NumberRows

@@ -178,7 +178,7 @@ module _ (threads : ℕ) (shapes : List Shape) (me : ℕ) where
   abbrev pub are_cells : Kind → List SharedPtr → Expansion (Unit {0}) → Expansion (Unit {0})
   are_cells k ps go =
       refused_by
-      ((list_any (leaves_range 1) ps, POINTER_RANGE)
+      ((list_any (leaves_range (kind_size k)) ps, POINTER_RANGE)
       ∷ (list_any (outside (kind_size k)) ps, OUT_OF_OBJECT)
       ∷ (list_any (λ p. not (is_cell shapes k p)) ps, CELL_TYPE)
       ∷ [])
@@ -207,7 +207,7 @@ module _ (threads : ℕ) (shapes : List Shape) (me : ℕ) where
       let some = not (n == 0) in
       let go : List ℤ → Expansion (Unit {0}) = λ vs. some_bytes n (move n (chosen dst src n vs ∷ [])) in
       refused_by
-      ((list_any (leaves_range 1) ps || (some && leaves_range n own), POINTER_RANGE)
+      ((list_any (leaves_range 4) ps || (some && leaves_range n own), POINTER_RANGE)
       ∷ (list_any (outside 4) ps || (some && outside n own), OUT_OF_OBJECT)
       ∷ (list_any (λ p. not (is_cell shapes kind.Int p)) ps || (some && cut n own), CELL_TYPE)
       ∷ [])

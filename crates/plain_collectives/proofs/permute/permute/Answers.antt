@@ -25,7 +25,7 @@ returns c =
     let ps_is : map pointer_of c.as_slice-elements.result.now ≡ ps = ap (map pointer_of) c.as_slice-elements.ensures.value ∙ c.in_ok-permutation.ensures.elements in
     let at_both : (F : List SharedPtr → SharedPtr → Bool) → F (map pointer_of c.as_slice-elements.result.now) (pointer_of c.own_block-own.result) ≡ false → F ps own ≡ false =
     λ F e. subst (λ o. F ps o ≡ false) c.own_block-own.ensures (subst (λ q. F q (pointer_of c.own_block-own.result) ≡ false) ps_is e) in
-    let range : List SharedPtr → SharedPtr → Bool = λ q o. list_any (views.leaves_range 1) q || (some && views.leaves_range n o) in
+    let range : List SharedPtr → SharedPtr → Bool = λ q o. list_any (views.leaves_range 4) q || (some && views.leaves_range n o) in
     let piece : List SharedPtr → SharedPtr → Bool = λ q o. list_any (views.leaves_piece t.threads 4) q || (some && views.leaves_piece t.threads n o) in
     let cells : List SharedPtr → SharedPtr → Bool = λ q o. list_any (λ p. not (views.is_cell t.shapes.now Int p)) q || (some && said.cut t.threads t.shapes.now t.number n o) in
     let go : List ℤ → Expansion (Unit {0}) = λ vs. refused_by ((not (each_thread t.threads (λ u. said.is_at 0 [] 0 u vs)), LIBRARY_ARGS) ∷ []) (said.some_bytes t.threads t.shapes.now t.number n (said.move t.threads t.shapes.now t.number n (said.chosen t.threads t.shapes.now t.number ends.dst.now ends.src.now n vs ∷ []))) in
@@ -45,7 +45,7 @@ returns-then-lacks_cells c =
     let ps_is : map pointer_of c.as_slice-elements.result.now ≡ ps = ap (map pointer_of) c.as_slice-elements.ensures.value ∙ c.in_ok-permutation.ensures.elements in
     let at_both : (b : Bool) (F : List SharedPtr → SharedPtr → Bool) → F (map pointer_of c.as_slice-elements.result.now) (pointer_of c.own_block-own.result) ≡ b → F ps own ≡ b =
     λ b F e. subst (λ o. F ps o ≡ b) c.own_block-own.ensures (subst (λ q. F q (pointer_of c.own_block-own.result) ≡ b) ps_is e) in
-    let range : List SharedPtr → SharedPtr → Bool = λ q o. list_any (views.leaves_range 1) q || (some && views.leaves_range n o) in
+    let range : List SharedPtr → SharedPtr → Bool = λ q o. list_any (views.leaves_range 4) q || (some && views.leaves_range n o) in
     let piece : List SharedPtr → SharedPtr → Bool = λ q o. list_any (views.leaves_piece t.threads 4) q || (some && views.leaves_piece t.threads n o) in
     let cells : List SharedPtr → SharedPtr → Bool = λ q o. list_any (λ p. not (views.is_cell t.shapes.now Int p)) q || (some && said.cut t.threads t.shapes.now t.number n o) in
     passes-so _ _ _ _ _ (at_both false range (sym c.leaves_range.ensures ∙ c.if-leaves_range.false))

@@ -16,7 +16,7 @@ use Rattle.upc_values.specs.declared.journal.Journal.{Journal}
 use Rattle.upc_values.specs.Outcomes.{Outcome}
 use Rattle.upc_values.specs.Drain.{entry_of}
 use Rattle.upc_values.specs.Openings.{Opening}
-use Rattle.upc_values.specs.code.Rounds.{StandsAtStall, RestsAfterEach, GoesByRounds}
+use Rattle.serial_core.specs.code.Rounds.{StandsAtStall, RestsAfterEach, GoesByRounds}
 
 -- Two threads with nothing to do but the barriers before and after main.
 abbrev opening : Opening
