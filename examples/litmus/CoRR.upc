@@ -5,7 +5,7 @@
      stand in program order, and (1, 0) is allowed: first the new value, and then the old one.
    - Strict, by UPC: all but (1, 0).
    - By the write buffer: all but (1, 0). Both reads are made in order from one history, in which the write stands once.
-   - By the order of the rounds: (0, 0). Thread 1 reads before thread 0 begins. */
+     The command may give each of these. */
 #include <upc_relaxed.h>
 #include <stdio.h>
 

@@ -6,9 +6,7 @@
      order of its own, in which the other threads' relaxed writes may stand anywhere.
    - Strict, by UPC: all but (1, 0; 1, 0). All threads see strict accesses in one order.
    - By the write buffer: all but (1, 0; 1, 0). There is one history, and a thread's reads are made in order; only the
-     thread that wrote sees its own write sooner than the others do.
-   - By the order of the rounds: (1, 1; 0, 0). Thread 3 is the last at the barrier before main, so it goes on at once
-     and reads before any write; in the next round threads 0, 1 and 2 follow. */
+     thread that wrote sees its own write sooner than the others do. The command may give each of these. */
 #include <upc_relaxed.h>
 #include <stdio.h>
 

@@ -5,8 +5,7 @@
      its own read: each thread's order may set the other's write first.
    - Strict, by UPC: all but (1, 1). The access that stands first of all is a read, and it gives 0.
    - By the write buffer: all but (1, 1). A read is made at once and a write never before its turn, so the first read
-     comes before both writes.
-   - By the order of the rounds: (1, 0). Thread 1 reads before thread 0 begins, and thread 0 after all of thread 1. */
+     comes before both writes. The command may give each of these. */
 #include <upc_relaxed.h>
 #include <stdio.h>
 

@@ -6,8 +6,7 @@
      one thread finds 1 after the barrier and the other 2.
    - Strict, by UPC: all but (1, 2). It is enough that both accesses to y are strict.
    - By the write buffer: all but (1, 2). Where y is seen, x stands in the history already, and thread 1's
-     write follows.
-   - By the order of the rounds: (0, 2). All of thread 1 stands before all of thread 0. */
+     write follows. The command may give each of these. */
 #include <upc_relaxed.h>
 #include <stdio.h>
 

@@ -4,8 +4,9 @@
    - Relaxed, by UPC: (0, 0), (0, 1), (1, 0), (1, 1). A thread's write and its read are of two variables, so no thread's
      order need keep them in program order.
    - Strict, by UPC: all but (0, 0). The four accesses stand in one order; the read that stands last gives 1.
-   - By the write buffer: all four. For (0, 0) both writes still wait while both threads read.
-   - By the order of the rounds: (1, 0). Thread 1 comes to the barrier first, and there its buffer is emptied. */
+   - By the write buffer: all but (1, 1). For (0, 0) both writes still wait while both threads read. For (1, 1) each
+     write would have to leave its buffer before the other thread's read, and a write waits here until its thread comes
+     to the barrier, after its own read. The command may give each of these. */
 #include <upc_relaxed.h>
 #include <stdio.h>
 
