@@ -185,19 +185,22 @@ module _ (o : Opening) (past : List Reply) (v : IsGround o) (R : Kind → Loc �
 
   -- The object of a pointer is one of those given, and its thread one of the run's.
   abbrev IsNear : SharedPtr → Type 0
-  IsNear q = (list_any (same_object q.object) (objects_given o.declared past) ≡ true) × (nat_lt q.thread o.threads ≡ true)
+  IsNear q =
+      (list_any (same_object q.object) (objects_given o.declared past) ≡ true) × (nat_lt q.thread o.threads ≡ true)
 
   known_near : (q : SharedPtr) → knows o past q ≡ true → is_null q ≡ false → IsNear q
   known_near q h e =
       let all = pointer_names o past q h e in
       let first =
-      and_parts (list_any (same_object q.object) (objects_given o.declared past)) (nat_lt q.thread o.threads && in_range q.offset) all
+      and_parts (list_any (same_object q.object) (objects_given o.declared past))
+      (nat_lt q.thread o.threads && in_range q.offset) all
       in
       (first.0, (and_parts (nat_lt q.thread o.threads) (in_range q.offset) first.1).0)
 
   named : (q : SharedPtr) → IsNear q → in_range q.offset ≡ true → names o past q.object q.thread q.offset ≡ true
   named q h e =
-      and_from (list_any (same_object q.object) (objects_given o.declared past)) (nat_lt q.thread o.threads && in_range q.offset) h.0
+      and_from (list_any (same_object q.object) (objects_given o.declared past))
+      (nat_lt q.thread o.threads && in_range q.offset) h.0
       (and_from (nat_lt q.thread o.threads) (in_range q.offset) h.1 e)
 
   element_near : (q : SharedPtr) (block size i : ℕ) → IsNear q → IsNear (element q block size o.threads i)
@@ -256,7 +259,8 @@ module _ (o : Opening) (past : List Reply) (v : IsGround o) (R : Kind → Loc �
       ∷ [] in
       m.refused_goes o past v R me budget Nothing tests e (λ t.
       f
-      (cells_there k qs h (none_of (leaves_range (kind_size k)) qs t.0) (none_of (leaves_piece o.threads (kind_size k)) qs t.1.0)
+      (cells_there k qs h (none_of (leaves_range (kind_size k)) qs t.0)
+      (none_of (leaves_piece o.threads (kind_size k)) qs t.1.0)
       (none_of (λ q. not (is_cell o.shapes k q)) qs t.1.1.0)))
 
   -- ---- reads and writes of numbers

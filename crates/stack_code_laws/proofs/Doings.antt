@@ -83,8 +83,8 @@ module _ (o : Opening) (past : List Reply) (R : Kind → Loc → Type 0) where
     pub store : IsFilled o past σ.store
     pub replies : AreHeard o past σ.replies
 
-  -- An action that may be asked for is wanted; with a reply that fits it, a read by the kind of its cell, it is done, and
-  -- with another one the thread ends.
+  -- An action that may be asked for is wanted; with a reply that fits it, a read by the kind of its cell, it is done,
+  -- and with another one the thread ends.
   pub record IsAsked (A : Type 0) (a : Action) (υ : State) (later : Later A) : Type 0 where
     pub none : υ.replies ≡ []
     pub kind : Option Kind
@@ -110,8 +110,8 @@ module _ (o : Opening) (past : List Reply) (R : Kind → Loc → Type 0) where
     pub grows : (σ : State) → Grown σ (m σ)
     pub by : P → (σ : State) → IsGood σ → Comes V (m σ) (λ x xs. m (plus σ x xs))
 
-  comes_wider : {A : Type 0} (V W : A → Type 0) → ((v : A) → V v → W v) → (r : Res A) (later : Later A) → Comes V r later
-      → Comes W r later
+  comes_wider : {A : Type 0} (V W : A → Type 0) → ((v : A) → V v → W v) → (r : Res A) (later : Later A)
+      → Comes V r later → Comes W r later
   comes_wider V W f (Val v υ) later c = (f v c.0, c.1, c.2)
   comes_wider V W f (Over e υ) later c = c
   comes_wider V W f Unfinished later c = c
@@ -140,7 +140,8 @@ module _ (o : Opening) (past : List Reply) (R : Kind → Loc → Type 0) where
     misses_then actions (Over e υ) h = h
     misses_then actions Unfinished h = absurd h
 
-    end_then : (e : ToldEnd) (υ : State) (later : Later A) → EndsWell e υ later → EndsWell e υ (λ x xs. bind (later x xs) f)
+    end_then : (e : ToldEnd) (υ : State) (later : Later A) → EndsWell e υ later
+        → EndsWell e υ (λ x xs. bind (later x xs) f)
     end_then (Wants a) υ later h = record {
       none = h.none;
       kind = h.kind;
@@ -199,7 +200,8 @@ module _ (o : Opening) (past : List Reply) (R : Kind → Loc → Type 0) where
   }
 
   -- A change of the state that leaves actions and replies as they are.
-  pub change_asks : (P : Type 0) (f : State → State) → ((σ : State) → IsFilled o past σ.store → IsFilled o past (f σ).store)
+  pub change_asks : (P : Type 0) (f : State → State)
+      → ((σ : State) → IsFilled o past σ.store → IsFilled o past (f σ).store)
       → ((σ : State) → (f σ).actions ≡ σ.actions) → ((σ : State) → (f σ).replies ≡ σ.replies)
       → ((σ : State) (x : Reply) (xs : List Reply) → f (plus σ x xs) ≡ plus (f σ) x xs)
       → Asks (Unit {0}) P Nothing (change f)

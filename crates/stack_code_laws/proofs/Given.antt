@@ -1,5 +1,6 @@
 -- What may be asked for by the names that replies gave.
-use Rattle.std.proofs.Common.{◌≡◌, ℕ, ◌<◌, ◌*◌, ◌==◌, nat_lt, ℤ, Bool, true, false, ◌&&◌, ◌||◌, List, Option, Some, None}
+use Rattle.std.proofs.Common.{◌≡◌, ℕ, ◌<◌, ◌*◌, ◌==◌, nat_lt, ℤ, Bool, true, false, ◌&&◌, ◌||◌, List, Option, Some}
+use Rattle.std.proofs.Common.{None}
 use Rattle.std.proofs.Common.{is_some, slice_get}
 use Rattle.std.specs.List.{list_any}
 use Rattle.block_layout.specs.declared.kind.Kind.{Kind}

@@ -29,7 +29,8 @@ use Rattle.upc_values.specs.Formed as history
 use Rattle.upc_values.specs.Formed.{fits, is_lock}
 use Rattle.upc_values.specs.layer.Known as replies
 use Rattle.upc_values.proofs.Membership.{each-weaker}
-use Rattle.stack_code_laws.specs.code.Names.{object_in, lock_in, objects_given, is_object_given, is_lock_given, is_given}
+use Rattle.stack_code_laws.specs.code.Names.{object_in, lock_in, objects_given, is_object_given, is_lock_given}
+use Rattle.stack_code_laws.specs.code.Names.{is_given}
 use Rattle.stack_code_laws.specs.code.Names.{NamesGiven}
 use Rattle.stack_code_laws.proofs.Given.{names, knows, is_known, may_call, IsCellThere, ReadsWell, IsWellFormed}
 use Rattle.stack_code_laws.proofs.ObjectNumbers.{objects_numbered, object_found}
@@ -72,11 +73,14 @@ module _ (o : Opening) (rs : List Reply) (R : Kind → Loc → Type 0) where
   read_named l None h = absurd h
 
   pointer_named : (b : Bool) (p : SharedPtr)
-      → (b || (list_any (same_object p.object) (objects_given o.declared rs) && (nat_lt p.thread o.threads && in_range p.offset)))
+      → (b
+      || (list_any (same_object p.object) (objects_given o.declared rs)
+      && (nat_lt p.thread o.threads && in_range p.offset)))
       ≡ true → (b || list_any (same_object p.object) (objects_given o.declared rs)) ≡ true
   pointer_named true p h = refl
   pointer_named false p h =
-      (and_parts (list_any (same_object p.object) (objects_given o.declared rs)) (nat_lt p.thread o.threads && in_range p.offset)
+      (and_parts (list_any (same_object p.object) (objects_given o.declared rs))
+      (nat_lt p.thread o.threads && in_range p.offset)
       h).0
 
   scalar_named : (v : Scalar) → is_known o rs v ≡ true → is_given o.declared rs v ≡ true

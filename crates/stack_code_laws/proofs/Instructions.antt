@@ -39,7 +39,8 @@ use Rattle.stack_code.specs.declared.instruction.Operation.{Operation}
 use Rattle.stack_code.specs.declared.instruction.Operation.TheVariants as work
 use Rattle.stack_code.specs.declared.instruction.Instr.{Instr}
 use Rattle.stack_code.specs.Codes.{function_at, instructions_of}
-use Rattle.stack_code.specs.layer.Steps.{Spot, Conf, At, Halt, further, back, conf_of, top, rest, second, third, below_two}
+use Rattle.stack_code.specs.layer.Steps.{Spot, Conf, At, Halt, further, back, conf_of, top, rest, second}
+use Rattle.stack_code.specs.layer.Steps.{third, below_two}
 use Rattle.stack_code.specs.layer.Steps.{youngest, gives, leaves, pick, close_blocks, given_back, begun, stacked, made}
 use Rattle.stack_code.specs.layer.Steps.{placed}
 use Rattle.stack_code.specs.layer.Steps.{acted, jumped, kept_in, received, called, worked, act, step}
@@ -159,8 +160,8 @@ module _ (o : Opening) (past : List Reply) (R : Kind → Loc → Type 0) where
         subst (λ k. Asks o past R Point P (Stands o past) k) same
         (then_asks o past R A Point P V (Stands o past) m (λ v υ. res_of (go v υ)) hm hgo)
 
-  module _ (P : Type 0) (there : Spot) (given operands : List Value) (calls : List Spot) (hg : P → AllKnown o past given)
-      (ho : P → AllKnown o past operands) where
+  module _ (P : Type 0) (there : Spot) (given operands : List Value) (calls : List Spot)
+      (hg : P → AllKnown o past given) (ho : P → AllKnown o past operands) where
     gives_asks : (m : Doing Value) → Asks o past R Value P (Known o past) m
         → Going P (gives m operands (λ vs. At there given vs calls))
     gives_asks m hm =
@@ -223,7 +224,8 @@ module _ (o : Opening) (past : List Reply) (v : IsGround o) (R : Kind → Loc �
     made_asks : (w : ValueWork) (at : Place) (there : Spot)
         → Going o past R Before (made τ w at operands (λ vs. At there given vs calls))
     made_asks (Operate operator left right) at there =
-        gives_asks o past R Before there given (below_two operands) calls (λ h. h.0) (λ h. below_known o past operands h.1) _
+        gives_asks o past R Before there given (below_two operands) calls (λ h. h.0)
+        (λ h. below_known o past operands h.1) _
         (p.operate_asks o past v R me budget Before at operator left right (second operands) (top operands))
     made_asks (Apply operator kind) at there =
         gives_asks o past R Before there given (rest operands) calls (λ h. h.0) (λ h. rest_known o past operands h.1) _
@@ -232,10 +234,12 @@ module _ (o : Opening) (past : List Reply) (v : IsGround o) (R : Kind → Loc �
         gives_asks o past R Before there given (rest operands) calls (λ h. h.0) (λ h. rest_known o past operands h.1) _
         (p.cast_asks o past v R me budget Before at into (top operands) (λ h. top_known o past operands h.1))
     made_asks (Advance ε count) at there =
-        gives_asks o past R Before there given (below_two operands) calls (λ h. h.0) (λ h. below_known o past operands h.1) _
+        gives_asks o past R Before there given (below_two operands) calls (λ h. h.0)
+        (λ h. below_known o past operands h.1) _
         (p.advance_asks o past v R me budget Before at ε (second operands) _ (λ h. second_known o past operands h.1))
     made_asks (Retreat ε count) at there =
-        gives_asks o past R Before there given (below_two operands) calls (λ h. h.0) (λ h. below_known o past operands h.1) _
+        gives_asks o past R Before there given (below_two operands) calls (λ h. h.0)
+        (λ h. below_known o past operands h.1) _
         (p.advance_asks o past v R me budget Before at ε (second operands) _ (λ h. second_known o past operands h.1))
     made_asks (InRow count) at there =
         leaves_asks o past R Before there given (top operands ∷ below_two (rest operands)) calls (λ h. h.0)
@@ -245,13 +249,16 @@ module _ (o : Opening) (past : List Reply) (v : IsGround o) (R : Kind → Loc �
         gives_asks o past R Before there given (rest operands) calls (λ h. h.0) (λ h. rest_known o past operands h.1) _
         (p.member_asks o past v R me budget Before at offset (top operands) (λ h. top_known o past operands h.1))
     made_asks (Difference ε) at there =
-        gives_asks o past R Before there given (below_two operands) calls (λ h. h.0) (λ h. below_known o past operands h.1) _
+        gives_asks o past R Before there given (below_two operands) calls (λ h. h.0)
+        (λ h. below_known o past operands h.1) _
         (p.difference_asks o past v R me budget Before at ε (second operands) (top operands))
     made_asks (Order operator ε) at there =
-        gives_asks o past R Before there given (below_two operands) calls (λ h. h.0) (λ h. below_known o past operands h.1) _
+        gives_asks o past R Before there given (below_two operands) calls (λ h. h.0)
+        (λ h. below_known o past operands h.1) _
         (p.order_asks o past v R me budget Before at operator ε (second operands) (top operands))
     made_asks Same at there =
-        gives_asks o past R Before there given (below_two operands) calls (λ h. h.0) (λ h. below_known o past operands h.1) _
+        gives_asks o past R Before there given (below_two operands) calls (λ h. h.0)
+        (λ h. below_known o past operands h.1) _
         (p.same_asks o past v R me budget Before at (second operands) (top operands))
 
     placed_asks : (w : ObjectWork) (at : Place) (there : Spot) → ((k : Kind) (l : Loc) → LoadsKind w k → R k l)
@@ -303,12 +310,14 @@ module _ (o : Opening) (past : List Reply) (v : IsGround o) (R : Kind → Loc �
         gives_asks o past R Before there given (rest operands) calls (λ h. h.0) (λ h. rest_known o past operands h.1) _
         (p.mine_asks o past v R me budget Before at (top operands))
     acted_asks (Library call shape n) at there r =
-        gives_asks o past R Before there given (drop n operands) calls (λ h. h.0) (λ h. dropped_known o past n operands h.1) _
+        gives_asks o past R Before there given (drop n operands) calls (λ h. h.0)
+        (λ h. dropped_known o past n operands h.1) _
         (p.library_asks o past v R me budget call shape at (youngest n operands) r Before
         (λ h f. call_goes o past v R me budget one call shape (youngest n operands) f
         (youngest_known o past n operands h.1)))
     acted_asks (Print format n) at there r =
-        gives_asks o past R Before there given (drop n operands) calls (λ h. h.0) (λ h. dropped_known o past n operands h.1) _
+        gives_asks o past R Before there given (drop n operands) calls (λ h. h.0)
+        (λ h. dropped_known o past n operands h.1) _
         (p.print_asks o past v R me budget Before _ (youngest n operands))
 
     jumped_asks : (j : Jump) (here : Spot)
@@ -350,10 +359,12 @@ module _ (o : Opening) (past : List Reply) (v : IsGround o) (R : Kind → Loc �
       at_asks o past R (P × Unit {0}) at [] (y ∷ operands) calls (λ q. tt) (λ q. (h q.0, g q.0)))
 
   begun_asks : (P : Type 0) (f : ℕ) (at : Place) (given operands : List Value) (calls : List Spot)
-      → (P → AllKnown o past given) → (P → AllKnown o past operands) → Going o past R P (begun f at given operands calls)
+      → (P → AllKnown o past given) → (P → AllKnown o past operands)
+      → Going o past R P (begun f at given operands calls)
   begun_asks P f at given operands calls h g =
       conf_asks o past R (Unit {0}) P Nothing (begin_call at) _ (p.begin_asks o past v R me budget P at) (λ u.
-      at_asks o past R (P × Unit {0}) (record { function = f; place = 0 }) given operands calls (λ q. h q.0) (λ q. g q.0))
+      at_asks o past R (P × Unit {0}) (record { function = f; place = 0 }) given operands calls (λ q. h q.0)
+      (λ q. g q.0))
 
   module _ (given operands : List Value) (calls : List Spot) where
     called_asks : (w : CallWork) (at : Place) (here : Spot)

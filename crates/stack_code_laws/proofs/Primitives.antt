@@ -86,7 +86,8 @@ module _ (op : Opening) (past : List Reply) (v : IsGround op) (R : Kind → Loc 
         → Asks op past R (Unit {0}) P Nothing (a.ask τ None action >> skip)
     only_asks action formed =
         then_asks op past R Reply (Unit {0}) P (IsAnswer None action) Nothing (a.ask τ None action) (λ r. skip)
-        (ask_asks op past R me budget None action P (λ q. formed)) (λ r. skip_asks op past R (P × IsAnswer None action r))
+        (ask_asks op past R me budget None action P (λ q. formed)) (λ r.
+        skip_asks op past R (P × IsAnswer None action r))
 
     unless_asks : (at : Place) (r : Reply) → Asks op past R (Unit {0}) P Nothing (a.unless_refused at r)
     unless_asks at reply.Done = skip_asks op past R P
@@ -190,7 +191,8 @@ module _ (op : Opening) (past : List Reply) (v : IsGround op) (R : Kind → Loc 
         (λ q. answer_is k at strict r q.1))
 
     write_asks : (strict : Bool) (at : Loc) (w : Scalar) → (P → IsCellThere op past at k)
-        → (P → fits_kind w k ≡ true) → (P → IsKnownScalar w) → Asks op past R (Unit {0}) P Nothing (x.write τ strict at w)
+        → (P → fits_kind w k ≡ true) → (P → IsKnownScalar w)
+        → Asks op past R (Unit {0}) P Nothing (x.write τ strict at w)
     write_asks strict at w h f g =
         then_asks op past R Reply (Unit {0}) P (IsAnswer None (act.Write strict at w)) Nothing
         (a.ask τ None (act.Write strict at w)) (λ r. skip)
@@ -214,7 +216,8 @@ module _ (op : Opening) (past : List Reply) (v : IsGround op) (R : Kind → Loc 
       → (P → knows op past ptr ≡ true) → ((there : Loc) → R k there)
       → Asks op past R Value P IsKnown (x.load_shared τ k strict at ptr)
   load_shared_asks P k strict at ptr h g =
-      then_asks op past R Loc Value P (IsCell P k) IsKnown (valued at (x.cell τ k ptr)) _ (located P k at ptr h) (λ there.
+      then_asks op past R Loc Value P (IsCell P k) IsKnown (valued at (x.cell τ k ptr)) _
+      (located P k at ptr h) (λ there.
       then_asks op past R Scalar Value (P × IsCell P k there) (IsCellScalar k) IsKnown (x.read τ k strict there) _
       (read_asks (P × IsCell P k there) k strict there (λ q. q.1) (λ q. g there)) (λ w.
       give_asks op past R Value ((P × IsCell P k there) × IsCellScalar k w) IsKnown (value.Scalar w) (λ q. q.1.known)))
@@ -304,9 +307,11 @@ module _ (op : Opening) (past : List Reply) (v : IsGround op) (R : Kind → Loc 
     advance_asks ε w i h =
         value_asks (p.advanced τ ε i w) (λ q. advanced_known op past v.least me budget ε i w (h q))
 
-    pub member_asks : (offset : ℕ) (w : Value) → (P → IsKnown w) → Asks op past R Value P IsKnown (p.member τ offset at w)
+    pub member_asks : (offset : ℕ) (w : Value) → (P → IsKnown w)
+        → Asks op past R Value P IsKnown (p.member τ offset at w)
     unfolding p.member
-    member_asks offset w h = value_asks (p.member_behind τ offset w) (λ q. member_known op past me budget offset w (h q))
+    member_asks offset w h =
+        value_asks (p.member_behind τ offset w) (λ q. member_known op past me budget offset w (h q))
 
     pub difference_asks : (ε : Elements) (w y : Value) → Asks op past R Value P IsKnown (p.difference τ ε at w y)
     unfolding p.difference
@@ -330,7 +335,8 @@ module _ (op : Opening) (past : List Reply) (v : IsGround op) (R : Kind → Loc 
 
     pub in_row_asks : (count : ℕ) (w : Value) (i : ℤ) → Asks op past R (Unit {0}) P Nothing (p.in_row count at w i)
     in_row_asks count w i =
-        choose_asks op past R (Unit {0}) P Nothing (int_le (pos 0) i && int_lt i (pos count)) skip (fault (p.outside w) at)
+        choose_asks op past R (Unit {0}) P Nothing (int_le (pos 0) i && int_lt i (pos count)) skip
+        (fault (p.outside w) at)
         (skip_asks op past R P) (fault_asks op past R (Unit {0}) P Nothing (p.outside w) at)
 
     pub operate_asks : (operator : BinOp) (left right : Kind) (w y : Value)

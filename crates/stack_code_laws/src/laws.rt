@@ -21,10 +21,10 @@ pub fn code_asks_well()
         → IsThreadOf o codes thread budget f → AsksWell o f }
 {}
 
-/// Whatever a thread of code was answered, fitting or not, what it wants names nothing but what its code names or one of
-/// these replies gave, leads to a cell of such an object, in a read to one of the very kind that the instruction reads
-/// there, and has its pointers and numbers in range. A further reply that fits it, a read by that kind, is taken, and
-/// any other one ends the thread.
+/// Whatever a thread of code was answered, fitting or not, what it wants names nothing but what its code names or one
+/// of these replies gave, leads to a cell of such an object, in a read to one of the very kind that the instruction
+/// reads there, and has its pointers and numbers in range. A further reply that fits it, a read by that kind, is taken,
+/// and any other one ends the thread.
 pub fn code_asks_rightly()
     ensures { (named : List ObjectRef) (codes : Codes) (thread budget : ℕ) (f : List Reply → Outcome)
         → IsThreadNaming named codes thread budget f → AsksRightly named codes thread budget f }

@@ -45,7 +45,8 @@ is_given named replies (scalar.Lock l) = (l == 0) || is_lock_given replies l
 -- the lock that it works on, which is not null.
 abbrev pub NamesGiven : (named : List ObjectRef) → List Reply → Action → Type 0
 NamesGiven named replies (Read l s) = is_object_given named replies l.object ≡ true
-NamesGiven named replies (Write s l v) = (is_object_given named replies l.object ≡ true) × (is_given named replies v ≡ true)
+NamesGiven named replies (Write s l v) =
+    (is_object_given named replies l.object ≡ true) × (is_given named replies v ≡ true)
 NamesGiven named replies (Lock l) = is_lock_given replies l ≡ true
 NamesGiven named replies (Attempt l) = is_lock_given replies l ≡ true
 NamesGiven named replies (Unlock l) = is_lock_given replies l ≡ true

@@ -139,8 +139,8 @@ pub record IsAllocation (shapes : List Shape) (nblocks nbytes shape : ℕ) : Typ
   pub some : nblocks * nbytes ≢ 0
   pub whole : is_whole (slice_get shapes shape) nbytes ≡ true
 
--- A collective call is one of the calls 1 to 12, with arguments of its parameters' types, each in the range of its type;
--- in an allocation the shape is one of the program, and what has a byte is of whole elements (UPC 7.2.2, 7.3).
+-- A collective call is one of the calls 1 to 12, with arguments of its parameters' types, each in the range of its
+-- type; in an allocation the shape is one of the program, and what has a byte is of whole elements (UPC 7.2.2, 7.3).
 abbrev pub IsCallOf : List Shape → Call → Type 0
 IsCallOf shapes Other = ⊥
 IsCallOf shapes (Allocates n b s) =
