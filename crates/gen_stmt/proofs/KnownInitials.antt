@@ -1,6 +1,6 @@
 -- The initial values of a program's private objects are values that code may name.
 use Rattle.std.proofs.Common.{◌≡◌, ℕ, zero, suc, ◌+◌, ◌<◌, ◌≤◌, ◌==◌, ◌^◌, nat_lt, ℤ, Bool, true, false, ◌&&◌, ◌||◌}
-use Rattle.std.proofs.Common.{inl, inr, List, [], ◌∷◌, length, get_or, Option, Some, None, refl, sym, ap, subst, arith}
+use Rattle.std.proofs.Common.{inl, inr, List, [], ◌∷◌, length, drop, get_or, Option, Some, None, refl, sym, ap, subst, arith}
 use Rattle.std.specs.Prelude.{slice_get}
 use Rattle.std.specs.List.{list_any}
 use Rattle.std.proofs.lemmas.Bool.{and_parts, false≢true, eqb-true, ltb-true, or_cases}
@@ -27,11 +27,14 @@ use Rattle.upc_values.specs.declared.scalar.Value.TheVariants as value
 use Rattle.upc_values.specs.Lists.{Each}
 use Rattle.upc_values.specs.Openings.{Opening, IsOpening, IsDeclared, bytes_of}
 use Rattle.upc_values.specs.Shapes.{is_integer, fits_kind}
+use Rattle.upc_values.proofs.Lists.{each-at}
 use Rattle.thread_steps.specs.layer.Ranges.{IsNumber, IsObject, IsShared}
 use Rattle.typed_tree.specs.Beginnings.{Beginning, opening_in}
 use Rattle.typed_tree.specs.layer.PrivateOpenings.{IsPrivateOpening, is_known, fits_cell, private_cell}
 use Rattle.source_meaning.proofs.Beginnings.{each_prop}
 use Rattle.stack_code.specs.layer.Kept.{IsKnown}
+use Rattle.stack_code.specs.layer.Making.{Making}
+use Rattle.gen_stmt.specs.code.Compiled.{with_initials}
 
 -- ---- numbers
 
@@ -165,3 +168,29 @@ initials_known threads b v h =
     (λ x. Bool-set _ _) b.private_initials)
     (λ p. p.values.fit) in
     all_known threads b (declared_objects threads b v) n b.private_shapes b.private_initials known fit
+
+-- ---- while they are appended
+
+-- Code that is being made may name the value that is appended next.
+pub next_known : (before now : Making) (xs : List (LocalPtr × Value)) (i : ℕ) (d : LocalPtr × Value)
+    → with_initials (drop i xs) now ≡ with_initials xs before
+    → Each (λ x. IsKnown before.codes.threads before.codes.shapes x.1) xs → i < length xs
+    → IsKnown now.codes.threads now.codes.shapes (get_or xs i d).1
+next_known before now xs i d e h lt =
+    let threads = ap (λ (m : Making). m.codes.threads) e in
+    let shapes = ap (λ (m : Making). m.codes.shapes) e in
+    subst (λ (n : ℕ). IsKnown n now.codes.shapes (get_or xs i d).1) (sym threads)
+    (subst (λ (ss : List Shape). IsKnown before.codes.threads ss (get_or xs i d).1) (sym shapes)
+    (each-at (λ (x : LocalPtr × Value). IsKnown before.codes.threads before.codes.shapes x.1) xs i d h lt))
+
+-- Code that is being made for a program's threads, with its shapes, may name the initial values of its private objects.
+pub initials_there : (threads : ℕ) (b : Beginning) (m : Making) (xs : List (LocalPtr × Value))
+    → m.codes.threads ≡ threads → m.codes.shapes ≡ b.shapes → xs ≡ b.private_initials
+    → ∥ IsOpening (opening_in threads b) ∥₁ → ∥ IsPrivateOpening threads b ∥₁
+    → Each (λ x. IsKnown m.codes.threads m.codes.shapes x.1) xs
+initials_there threads b m xs t s e v h =
+    subst (λ (n : ℕ). Each (λ (x : LocalPtr × Value). IsKnown n m.codes.shapes x.1) xs) (sym t)
+    (subst (λ (ss : List Shape). Each (λ (x : LocalPtr × Value). IsKnown threads ss x.1) xs) (sym s)
+    (subst (λ (ys : List (LocalPtr × Value)). Each (λ (x : LocalPtr × Value). IsKnown threads b.shapes x.1) ys)
+    (sym e)
+    (initials_known threads b v h)))
