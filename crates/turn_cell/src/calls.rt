@@ -2,8 +2,8 @@
 ghost use Rattle.std.specs.Prelude.{◌≡◌, ◌*◌, ◌^◌, ◌<◌, ◌≤◌, ◌++◌, List, [], ◌∷◌, length, Some, IfOk, vec_capacity};
 ghost use mathlib.Core.List.{IsPrefix};
 ghost use Rattle.turn_cell.specs.layer.Members.{Every, of, longer, added_to};
-ghost use Rattle.turn_cell.specs.layer.Seats.{cell_of, id_of, number_of, own_of, seen_of, opening_of, started, seats_of};
-ghost use Rattle.turn_cell.specs.layer.Seats.{IsFree, HasTurn, IsSame, AreNew, AreFree, HasAll};
+ghost use Rattle.turn_cell.specs.layer.Seats.{cell_of, id_of, number_of, own_of, seen_of, opening_of, started};
+ghost use Rattle.turn_cell.specs.layer.Seats.{seats_of, IsFree, HasTurn, IsSame, AreNew, AreFree, HasAll};
 ghost use Rattle.turn_cell.specs.code.Rule.{starting, collect};
 ghost use Rattle.turn_cell.specs.declared.seat.Seat.{Seat};
 
@@ -82,8 +82,8 @@ impl<W: Kept + Drop> TurnCell<W> {
         shared.load::<Meet>(&mut seat.place, 0);
     }
 
-    /// Waits for the turn, and hands over the world. Its list has fewer than 2^62 members, begins with what the seat had
-    /// seen, and has no further member of the seat's number. Then the seat has seen the whole list.
+    /// Waits for the turn, and hands over the world. Its list has fewer than 2^62 members, begins with what the seat
+    /// had seen, and has no further member of the seat's number. Then the seat has seen the whole list.
     pub fn enter<R: Wait>(&self, rt: &R, seat: &mut Seat<W>) -> Turn<W>
         requires cell { cell_of seat.old ≡ id_of self.now }
         requires free { IsFree W.number seat.old }
@@ -139,8 +139,8 @@ impl<W: Kept + Drop> TurnCell<W> {
         shared.wake_one(0);
     }
 
-    /// Ends the cell, and gives the world back. It takes all seats, at least one, in the order of their numbers. The list
-    /// begins with what each seat had seen, and has of each number just what that seat added, in order, each once.
+    /// Ends the cell, and gives the world back. It takes all seats, at least one, in the order of their numbers. The
+    /// list begins with what each seat had seen, and has of each number just what that seat added, in order, each once.
     pub fn close(self, seats: Vec<Seat<W>>) -> W
         requires seats { AreFree W.number (id_of self) 0 seats.items × (length seats.items ≡ seats_of self)
             × (0 < length seats.items) }

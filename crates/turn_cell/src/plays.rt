@@ -1,5 +1,6 @@
 //! The rule, and what each step on the table tells.
-ghost use Rattle.turn_cell.specs.code.Rule.{Turned, starting, entered, left, met, joined, spent, note, without_first, first_alone};
+ghost use Rattle.turn_cell.specs.code.Rule.{Turned, starting, entered, left, met, joined, spent, note};
+ghost use Rattle.turn_cell.specs.code.Rule.{without_first, first_alone};
 
 use crate::kept::Kept;
 use crate::view::{Begun, View};

@@ -1,6 +1,6 @@
 -- The rule of the turn cell, and what each step on its table tells.
--- The word is twice the length of the list, and 1 more while a seat holds the turn. The slot has the world while no seat
--- holds the turn.
+-- The word is twice the length of the list, and 1 more while a seat holds the turn. The slot has the world while no
+-- seat holds the turn.
 use Rattle.std.specs.Prelude.{◌≡◌, ◌≢◌, ℕ, zero, suc, ◌+◌, ◌*◌, ◌^◌, ◌<◌, Bool, true, false, List, [], ◌∷◌, ◌++◌}
 use Rattle.std.specs.Prelude.{map, length, Option, Some, None, take, drop}
 use mathlib.Core.Option.{some}
