@@ -8,7 +8,7 @@ use Rattle.turn_cell.specs.layer.Members.{Every, longer, added_to}
 use Rattle.upc_values.specs.declared.journal.Entry.{Entry}
 use Rattle.upc_values.specs.Drain.{drain, entries_of, walked}
 use Rattle.upc_values.specs.Openings.{Opening, IsOpening}
-use Rattle.upc_values.specs.History.{IsLegal}
+use Rattle.upc_values.specs.History.{IsLegal, EachBelow}
 use Rattle.upc_values.specs.Formed.{AreWellFormed}
 use Rattle.upc_values.proofs.Walks.{entries_of-append}
 use Rattle.stack_code.specs.Codes.{Codes}
@@ -95,9 +95,10 @@ pub err-both : {X E : Type 0} (r : Result X E) (P Q : Type 0) → OnErr r P → 
 err-both (Ok x) P Q h k = tt
 err-both (Err e) P Q h k = (h, k)
 
-pub lawful-of : (m o : Opening) (es : List Entry) → m ≡ o → IsOpening m → IsLegal m es → AreWellFormed m es → IsLawful o es
-lawful-of m o es same opening legal formed =
-    subst (λ z. IsLawful z es) same (record { opening = opening; legal = legal; formed = formed })
+pub lawful-of : (m o : Opening) (es : List Entry) → m ≡ o → IsOpening m → IsLegal m es → AreWellFormed m es
+    → EachBelow m.threads es → IsLawful o es
+lawful-of m o es same opening legal formed below =
+    subst (λ z. IsLawful z es) same (record { opening = opening; legal = legal; formed = formed; below = below })
 
 -- what holds of both lists holds of the longer
 pub longer-holds : (P : List Entry → Type 0) (xs ys : List Entry) → P xs → P ys → P (longer xs ys)
