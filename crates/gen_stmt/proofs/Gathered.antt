@@ -1,6 +1,8 @@
--- What code pushes: integers, places of objects of the file, and 0 or null; and no code but the entry begins a function
--- without a tick.
-use Rattle.std.proofs.Common.{ℕ, ◌+◌, Bool, false, List, [], ◌∷◌, ◌++◌, length, map, Option, Some, None, refl, arith}
+-- What code pushes: integers, places of objects of the file, and 0 or null; no code but the entry begins a function
+-- without a tick; and no block begins after more objects in scope than the program declares.
+use Rattle.std.proofs.Common.{ℕ, ◌+◌, ◌≤◌, Bool, false, List, [], ◌∷◌, ◌++◌, length, map, Option, Some, None, refl}
+use Rattle.std.proofs.Common.{arith}
+use Rattle.std.proofs.lemmas.List.{length-append}
 use Rattle.std.specs.Prelude.{ℤ, pos}
 use Rattle.upc_text.specs.declared.place.Place.{Place}
 use Rattle.block_layout.specs.declared.kind.Kind.{Kind}
@@ -23,7 +25,9 @@ use Rattle.typed_tree.specs.Tree.{StatementOption, NoStatement, TheStatement, Ar
 use Rattle.typed_tree.specs.Tree.{AndObjects, AndStatement, SwitchItems, NoSwitchItems, AndCase, AndDefault}
 use Rattle.typed_tree.specs.Tree.{AndSwitchStatement, Function}
 use Rattle.typed_tree.specs.Tree as tree
-use Rattle.typed_tree.specs.Programs.{Checked}
+use Rattle.typed_tree.specs.LocalObjects.{objects_in, objects_by, last_objects, arms_objects, items_objects}
+use Rattle.typed_tree.specs.LocalObjects.{switch_objects}
+use Rattle.typed_tree.specs.Programs.{Checked, count_in, count_of}
 use Rattle.thread_steps.specs.Values.{number}
 use Rattle.source_meaning.specs.Types.{integer_of, cell_kind}
 use Rattle.source_meaning.specs.Running.{shared_object}
@@ -45,12 +49,15 @@ use Rattle.gen_stmt.specs.Codes as stmt
 use Rattle.gen_stmt.specs.Programs.{body_code, function_code, source, program_code}
 use Rattle.stack_code.specs.layer.Names.{PushedBy, Pushes}
 use Rattle.gen_stmt.specs.code.Pushes.{IsPushed, integer, private, shared, blank, PushesOnly}
+use Rattle.gen_stmt.specs.code.Enters.{EntersWithin, OnObject, EntersFew}
 
--- Whether an instruction is none that begins a function without a tick, and P holds of what it pushes.
-abbrev Fine : (Value → Type 0) → Operation → Type 0
-Fine P (work.Stack w) = PushedBy P w
-Fine P (work.Call w) = BeginsNone w
-Fine P w = Unit {0}
+-- Whether an instruction is none that begins a function without a tick, nor one that begins a block after more than so
+-- many objects in scope, and P holds of what it pushes.
+abbrev Fine : (Value → Type 0) → (most : ℕ) → Operation → Type 0
+Fine P most (work.Stack w) = PushedBy P w
+Fine P most (work.Call w) = BeginsNone w
+Fine P most (work.Object w) = EntersWithin most w
+Fine P most w = Unit {0}
 
 -- P holds of all that code may push.
 record HoldsOf (ς : Source) (P : Value → Type 0) : Type 1 where
@@ -59,26 +66,26 @@ record HoldsOf (ς : Source) (P : Value → Type 0) : Type 1 where
   pub shared : (n : ℕ) → P (shared_object (running_of ς) n)
   pub blank : (kind : Kind) → P (blank_value kind)
 
-module _ (ς : Source) (P : Value → Type 0) (p : HoldsOf ς P) where
-  -- P holds of what each of these instructions pushes, and none begins a function without a tick.
+module _ (ς : Source) (P : Value → Type 0) (p : HoldsOf ς P) (most : ℕ) where
+  -- Each of these instructions is so.
   abbrev Holds : List Instr → Type 0
-  Holds is = Each (λ i. Fine P i.does) is
+  Holds is = Each (λ i. Fine P most i.does) is
 
   -- One part after another.
   both : (a b : List Instr) → Holds a → Holds b → Holds (a ++ b)
-  both a b x y = each-append (λ i. Fine P i.does) a b x y
+  both a b x y = each-append (λ i. Fine P most i.does) a b x y
 
   -- One instruction after a part.
-  behind : (a : List Instr) (i : Instr) → Holds a → Fine P i.does → Holds (a ++ i ∷ [])
+  behind : (a : List Instr) (i : Instr) → Holds a → Fine P most i.does → Holds (a ++ i ∷ [])
   behind a i x y = both a (i ∷ []) x (y, tt)
 
   -- ---- expressions
 
-  no_push : (at : Place) (w : StackWork) → PushesNone w → Fine P (expr.stacks at w).does
+  no_push : (at : Place) (w : StackWork) → PushesNone w → Fine P most (expr.stacks at w).does
   no_push at (stack.Push v) h = absurd h
   no_push at w h = tt
 
-  forms : HoldsOfForms ς (λ i. Fine P i.does)
+  forms : HoldsOfForms ς (λ i. Fine P most i.does)
   forms = record {
     numbers = λ at v. p.integer v;
     private_objects = λ at n. p.private n;
@@ -95,7 +102,7 @@ module _ (ς : Source) (P : Value → Type 0) (p : HoldsOf ς P) where
   }
 
   value_hold : (strict : Bool) (e : Expr) → Holds (expr.value_code ς strict e)
-  value_hold strict e = value_gathers ς (λ i. Fine P i.does) forms strict e
+  value_hold strict e = value_gathers ς (λ i. Fine P most i.does) forms strict e
 
   object_hold : (at : Place) (h : Home) → Holds (expr.object_code ς at h)
   object_hold at (home.Private n) = (p.private n, tt)
@@ -189,160 +196,195 @@ module _ (ς : Source) (P : Value → Type 0) (p : HoldsOf ς P) where
   cases_hold at κ (AndSwitchStatement s more) before = cases_hold at κ more (before + stmt.size ς κ s)
 
   -- ---- statements
-  mutual
-    statement_hold : (s : Statement) (κ : Standing) (ω : Ways) → Holds (stmt.statement_code ς κ ω s)
-    statement_hold (Stands at kind) κ ω = kind_hold kind κ ω at
 
-    kind_hold : (kind : StatementKind) (κ : Standing) (ω : Ways) (at : Place)
+  -- Where so many objects are in scope, these more are still as many as may be.
+  abbrev HaveRoom : Standing → List DeclaredObject → Type 0
+  HaveRoom κ objects = κ.count + length objects ≤ most
+
+  front_room : (κ : Standing) (xs ys : List DeclaredObject) → HaveRoom κ (xs ++ ys) → HaveRoom κ xs
+  front_room κ xs ys h = let e = length-append xs ys in omega arith
+
+  back_room : (κ : Standing) (xs ys : List DeclaredObject) → HaveRoom κ (xs ++ ys) → HaveRoom κ ys
+  back_room κ xs ys h = let e = length-append xs ys in omega arith
+
+  -- With the first of them in scope the others have room.
+  later_room : (κ : Standing) (xs ys : List DeclaredObject) → HaveRoom κ (xs ++ ys) → HaveRoom (with_objects xs κ) ys
+  later_room κ xs ys h = let e = length-append xs ys in omega arith
+
+  scope_room : (κ : Standing) (xs : List DeclaredObject) → HaveRoom κ xs → κ.count ≤ most
+  scope_room κ xs h = omega arith
+
+  mutual
+    statement_hold : (s : Statement) (κ : Standing) (ω : Ways) → HaveRoom κ (objects_in s)
+        → Holds (stmt.statement_code ς κ ω s)
+    statement_hold (Stands at kind) κ ω h = kind_hold kind κ ω at h
+
+    kind_hold : (kind : StatementKind) (κ : Standing) (ω : Ways) (at : Place) → HaveRoom κ (objects_by kind)
         → Holds (stmt.kind_code ς κ ω at kind)
-    kind_hold (Block strict items) κ ω at = (
-      tt,
+    kind_hold (Block strict items) κ ω at h = (
+      scope_room κ (items_objects items) h,
       behind (stmt.items_code ς (with_strict strict κ) (all_inner ω) items) _
-          (items_hold items (with_strict strict κ) (all_inner ω)) tt,
+          (items_hold items (with_strict strict κ) (all_inner ω) h) tt,
     )
-    kind_hold (tree.Value e) κ ω at = aside_hold κ.strict e
-    kind_hold (If arms last) κ ω at =
-        arms_hold arms κ ω at (stmt.last_code ς κ ω last) (stmt.last_size ς κ last) (last_statement_hold last κ ω)
-    kind_hold (Switch e items) κ ω at =
+    kind_hold (tree.Value e) κ ω at h = aside_hold κ.strict e
+    kind_hold (If arms last) κ ω at h =
+        arms_hold arms κ ω at (front_room κ (arms_objects arms) (last_objects last) h) (stmt.last_code ς κ ω last)
+        (stmt.last_size ς κ last)
+        (last_statement_hold last κ ω (back_room κ (arms_objects arms) (last_objects last) h))
+    kind_hold (Switch e items) κ ω at h =
         both (expr.value_code ς κ.strict e) _ (value_hold κ.strict e)
         (both (stmt.label_code at (integer_of (type_of e))) _ (label_hold at (integer_of (type_of e)))
         (both (stmt.cases_code ς at κ items 0) _ (cases_hold at κ items 0)
-        (tt, (tt, switch_hold items κ (in_switch ω)))))
-    kind_hold (While test body) κ ω at =
+        (tt, (tt, switch_hold items κ (in_switch ω) h))))
+    kind_hold (While test body) κ ω at h =
         loop_hold at (expr.value_code ς κ.strict test) (stmt.statement_code ς κ (in_loop 0 ω) body) []
-        (stmt.size ς κ body) (value_hold κ.strict test) (statement_hold body κ (in_loop 0 ω)) tt
-    kind_hold (DoWhile body test) κ ω at = (
+        (stmt.size ς κ body) (value_hold κ.strict test) (statement_hold body κ (in_loop 0 ω) h) tt
+    kind_hold (DoWhile body test) κ ω at h = (
       tt,
       loop_hold at (expr.value_code ς κ.strict test) (stmt.statement_code ς κ (in_loop 0 ω) body) []
-          (stmt.size ς κ body) (value_hold κ.strict test) (statement_hold body κ (in_loop 0 ω)) tt,
+          (stmt.size ς κ body) (value_hold κ.strict test) (statement_hold body κ (in_loop 0 ω) h) tt,
     )
-    kind_hold (For head body) κ ω at =
+    kind_hold (For head body) κ ω at h =
         let η = with_objects head.objects κ in
         let step = stmt.aside_code ς κ.strict head.step in
         let ω' = in_loop (length step) (all_inner ω) in
         let loop = stmt.loop_code at (stmt.test_code ς at κ.strict head.test) (stmt.statement_code ς η ω' body) step
         (stmt.size ς η body) in (
-          tt,
+          scope_room κ (head.objects ++ objects_in body) h,
           behind (stmt.first_code ς κ.strict head ++ loop) _
               (both (stmt.first_code ς κ.strict head) loop (first_hold κ.strict head)
               (loop_hold at (stmt.test_code ς at κ.strict head.test) (stmt.statement_code ς η ω' body) step
-              (stmt.size ς η body) (test_hold at κ.strict head.test) (statement_hold body η ω')
+              (stmt.size ς η body) (test_hold at κ.strict head.test)
+              (statement_hold body η ω' (later_room κ head.objects (objects_in body) h))
               (aside_hold κ.strict head.step))) tt,
         )
-    kind_hold (Forall head whose body) κ ω at =
+    kind_hold (Forall head whose body) κ ω at h =
         let η = with_objects head.objects κ in
         let step = stmt.aside_code ς κ.strict head.step in
         let ω' = in_forall (all_inner ω) in
         let part = stmt.guard_code ς at κ.strict whose (stmt.statement_code ς η ω' body) (stmt.size ς η body) in
         let m = stmt.guard_size ς κ.strict whose (stmt.size ς η body) in
         let loop = stmt.loop_code at (stmt.test_code ς at κ.strict head.test) part step m in (
-          tt,
+          scope_room κ (head.objects ++ objects_in body) h,
           behind (stmt.first_code ς κ.strict head ++ loop) _
               (both (stmt.first_code ς κ.strict head) loop (first_hold κ.strict head)
               (loop_hold at (stmt.test_code ς at κ.strict head.test) part step m (test_hold at κ.strict head.test)
               (guard_hold at κ.strict whose (stmt.statement_code ς η ω' body) (stmt.size ς η body)
-              (statement_hold body η ω')) (aside_hold κ.strict head.step))) tt,
+              (statement_hold body η ω' (later_room κ head.objects (objects_in body) h)))
+              (aside_hold κ.strict head.step))) tt,
         )
-    kind_hold Break κ ω at = (tt, tt)
-    kind_hold Continue κ ω at = (tt, tt)
-    kind_hold (Return None) κ ω at = (p.integer _, (tt, tt))
-    kind_hold (Return (Some e)) κ ω at =
+    kind_hold Break κ ω at h = (tt, tt)
+    kind_hold Continue κ ω at h = (tt, tt)
+    kind_hold (Return None) κ ω at h = (p.integer _, (tt, tt))
+    kind_hold (Return (Some e)) κ ω at h =
         behind (stmt.converted_code ς κ.strict κ.result e) _ (converted_hold κ.strict κ.result e) tt
-    kind_hold (Synchronise h None) κ ω at = synchronise_hold at h
-    kind_hold (Synchronise h (Some e)) κ ω at =
+    kind_hold (Synchronise h None) κ ω at h = synchronise_hold at h
+    kind_hold (Synchronise h (Some e)) κ ω at h =
         both (expr.value_code ς κ.strict e) _ (value_hold κ.strict e) (synchronise_value_hold at h)
-    kind_hold Fence κ ω at = (tt, tt)
+    kind_hold Fence κ ω at h = (tt, tt)
 
-    last_statement_hold : (last : StatementOption) (κ : Standing) (ω : Ways)
+    last_statement_hold : (last : StatementOption) (κ : Standing) (ω : Ways) → HaveRoom κ (last_objects last)
         → Holds (stmt.last_code ς κ ω last)
-    last_statement_hold NoStatement κ ω = tt
-    last_statement_hold (TheStatement s) κ ω = statement_hold s κ ω
+    last_statement_hold NoStatement κ ω h = tt
+    last_statement_hold (TheStatement s) κ ω h = statement_hold s κ ω h
 
-    arms_hold : (arms : Arms) (κ : Standing) (ω : Ways) (at : Place) (last : List Instr) (n : ℕ) → Holds last
-        → Holds (stmt.arms_code ς κ ω at arms last n)
-    arms_hold NoArms κ ω at last n x = x
-    arms_hold (AndArm test body more) κ ω at last n x =
+    arms_hold : (arms : Arms) (κ : Standing) (ω : Ways) (at : Place) → HaveRoom κ (arms_objects arms)
+        → (last : List Instr) (n : ℕ) → Holds last → Holds (stmt.arms_code ς κ ω at arms last n)
+    arms_hold NoArms κ ω at h last n x = x
+    arms_hold (AndArm test body more) κ ω at h last n x =
         let ω' = all_past (1 + stmt.arms_size ς κ more n) ω in
         both (expr.value_code ς κ.strict test) _ (value_hold κ.strict test) (
           tt,
-          both (stmt.statement_code ς κ ω' body) _ (statement_hold body κ ω')
-              (tt, arms_hold more κ ω at last n x),
+          both (stmt.statement_code ς κ ω' body) _
+              (statement_hold body κ ω' (front_room κ (objects_in body) (arms_objects more) h))
+              (tt, arms_hold more κ ω at (back_room κ (objects_in body) (arms_objects more) h) last n x),
         )
 
-    items_hold : (items : Items) (κ : Standing) (ω : Ways) → Holds (stmt.items_code ς κ ω items)
-    items_hold NoItems κ ω = tt
-    items_hold (AndObjects objects more) κ ω =
+    items_hold : (items : Items) (κ : Standing) (ω : Ways) → HaveRoom κ (items_objects items)
+        → Holds (stmt.items_code ς κ ω items)
+    items_hold NoItems κ ω h = tt
+    items_hold (AndObjects objects more) κ ω h =
         both (stmt.declared_code ς κ.strict objects) _ (declared_hold κ.strict objects)
-        (items_hold more (with_objects objects κ) ω)
-    items_hold (AndStatement s more) κ ω =
+        (items_hold more (with_objects objects κ) ω (later_room κ objects (items_objects more) h))
+    items_hold (AndStatement s more) κ ω h =
         let ω' = all_past (stmt.items_size ς κ more) ω in
-        both (stmt.statement_code ς κ ω' s) _ (statement_hold s κ ω') (items_hold more κ ω)
+        both (stmt.statement_code ς κ ω' s) _
+        (statement_hold s κ ω' (front_room κ (objects_in s) (items_objects more) h))
+        (items_hold more κ ω (back_room κ (objects_in s) (items_objects more) h))
 
-    switch_hold : (items : SwitchItems) (κ : Standing) (ω : Ways) → Holds (stmt.switch_code ς κ ω items)
-    switch_hold NoSwitchItems κ ω = tt
-    switch_hold (AndCase w more) κ ω = switch_hold more κ ω
-    switch_hold (AndDefault more) κ ω = switch_hold more κ ω
-    switch_hold (AndSwitchStatement s more) κ ω =
+    switch_hold : (items : SwitchItems) (κ : Standing) (ω : Ways) → HaveRoom κ (switch_objects items)
+        → Holds (stmt.switch_code ς κ ω items)
+    switch_hold NoSwitchItems κ ω h = tt
+    switch_hold (AndCase w more) κ ω h = switch_hold more κ ω h
+    switch_hold (AndDefault more) κ ω h = switch_hold more κ ω h
+    switch_hold (AndSwitchStatement s more) κ ω h =
         let ω' = all_past (stmt.switch_size ς κ more) ω in
-        both (stmt.statement_code ς κ ω' s) _ (statement_hold s κ ω') (switch_hold more κ ω)
+        both (stmt.statement_code ς κ ω' s) _
+        (statement_hold s κ ω' (front_room κ (objects_in s) (switch_objects more) h))
+        (switch_hold more κ ω (back_room κ (objects_in s) (switch_objects more) h))
 
   -- ---- functions
 
-  plain_hold : (f : Function) (s : Statement)
-      → Holds (stmt.statement_code ς (in_body (running_of ς) f false) (in_function 0) s)
-  plain_hold f s = statement_hold s (in_body (running_of ς) f false) (in_function 0)
+  -- A function with a body so has no more parameters and objects than there may be.
+  abbrev IsRoom : Function → Statement → Type 0
+  IsRoom f s = length f.parameters + length (objects_in s) ≤ most
 
-  body_hold : (f : Function) (s : Statement) → Holds (body_code ς f s)
-  body_hold f (Stands at (Block strict items)) = (
-    tt,
+  plain_hold : (f : Function) (s : Statement) → IsRoom f s
+      → Holds (stmt.statement_code ς (in_body (running_of ς) f false) (in_function 0) s)
+  plain_hold f s h = statement_hold s (in_body (running_of ς) f false) (in_function 0) h
+
+  body_hold : (f : Function) (s : Statement) → IsRoom f s → Holds (body_code ς f s)
+  body_hold f (Stands at (Block strict items)) h = (
+    omega arith,
     (
       tt,
       behind (stmt.items_code ς (in_body (running_of ς) f strict) (in_function 1) items) _
-          (items_hold items (in_body (running_of ς) f strict) (in_function 1)) tt,
+          (items_hold items (in_body (running_of ς) f strict) (in_function 1) h) tt,
     ),
   )
-  body_hold f (Stands at (tree.Value e)) = (tt, plain_hold f (Stands at (tree.Value e)))
-  body_hold f (Stands at (If arms last)) = (tt, plain_hold f (Stands at (If arms last)))
-  body_hold f (Stands at (Switch e items)) = (tt, plain_hold f (Stands at (Switch e items)))
-  body_hold f (Stands at (While test s)) = (tt, plain_hold f (Stands at (While test s)))
-  body_hold f (Stands at (DoWhile s test)) = (tt, plain_hold f (Stands at (DoWhile s test)))
-  body_hold f (Stands at (For head s)) = (tt, plain_hold f (Stands at (For head s)))
-  body_hold f (Stands at (Forall head whose s)) = (tt, plain_hold f (Stands at (Forall head whose s)))
-  body_hold f (Stands at Break) = (tt, plain_hold f (Stands at Break))
-  body_hold f (Stands at Continue) = (tt, plain_hold f (Stands at Continue))
-  body_hold f (Stands at (Return e)) = (tt, plain_hold f (Stands at (Return e)))
-  body_hold f (Stands at (Synchronise h e)) = (tt, plain_hold f (Stands at (Synchronise h e)))
-  body_hold f (Stands at Fence) = (tt, plain_hold f (Stands at Fence))
+  body_hold f (Stands at (tree.Value e)) h = (tt, plain_hold f (Stands at (tree.Value e)) h)
+  body_hold f (Stands at (If arms last)) h = (tt, plain_hold f (Stands at (If arms last)) h)
+  body_hold f (Stands at (Switch e items)) h = (tt, plain_hold f (Stands at (Switch e items)) h)
+  body_hold f (Stands at (While test s)) h = (tt, plain_hold f (Stands at (While test s)) h)
+  body_hold f (Stands at (DoWhile s test)) h = (tt, plain_hold f (Stands at (DoWhile s test)) h)
+  body_hold f (Stands at (For head s)) h = (tt, plain_hold f (Stands at (For head s)) h)
+  body_hold f (Stands at (Forall head whose s)) h = (tt, plain_hold f (Stands at (Forall head whose s)) h)
+  body_hold f (Stands at Break) h = (tt, plain_hold f (Stands at Break) h)
+  body_hold f (Stands at Continue) h = (tt, plain_hold f (Stands at Continue) h)
+  body_hold f (Stands at (Return e)) h = (tt, plain_hold f (Stands at (Return e)) h)
+  body_hold f (Stands at (Synchronise h e)) h = (tt, plain_hold f (Stands at (Synchronise h e)) h)
+  body_hold f (Stands at Fence) h = (tt, plain_hold f (Stands at Fence) h)
 
   blank_holds : (kind : Option Kind) → P (blank_of kind)
   blank_holds (Some kind) = p.blank kind
   blank_holds None = p.integer _
 
-  function_hold : (f : Function) → Holds (function_code ς f)
-  function_hold f =
-      both (body_code ς f f.body) _ (body_hold f f.body) (blank_holds (cell_kind ς.structs f.result), (tt, tt))
+  function_hold : (f : Function) → IsRoom f f.body → Holds (function_code ς f)
+  function_hold f h =
+      both (body_code ς f f.body) _ (body_hold f f.body h) (blank_holds (cell_kind ς.structs f.result), (tt, tt))
 
-  functions_hold : (fs : List Function) → Each (Each (λ i. Fine P i.does)) (map (function_code ς) fs)
-  functions_hold [] = tt
-  functions_hold (f ∷ fs) = (function_hold f, functions_hold fs)
+  functions_hold : (fs : List Function) → count_in fs ≤ most
+      → Each (Each (λ i. Fine P most i.does)) (map (function_code ς) fs)
+  functions_hold [] h = tt
+  functions_hold (f ∷ fs) h = (function_hold f (omega arith), functions_hold fs (omega arith))
 
 -- ---- what is said of each instruction
 
-begins_none : (w : Operation) → Fine (λ v. Unit {0}) w → OnCall BeginsNone w
-begins_none (work.Stack w) h = tt
-begins_none (work.Value w) h = tt
-begins_none (work.Object w) h = tt
-begins_none (work.Way w) h = tt
-begins_none (work.Call w) h = h
-begins_none (work.Thread w) h = tt
+begins_none : (most : ℕ) (w : Operation) → Fine (λ v. Unit {0}) most w → OnCall BeginsNone w
+begins_none most (work.Stack w) h = tt
+begins_none most (work.Value w) h = tt
+begins_none most (work.Object w) h = tt
+begins_none most (work.Way w) h = tt
+begins_none most (work.Call w) h = h
+begins_none most (work.Thread w) h = tt
 
-pushes_so : (P : Value → Type 0) (w : Operation) → Fine P w → Pushes P w
-pushes_so P (work.Stack w) h = h
-pushes_so P (work.Value w) h = tt
-pushes_so P (work.Object w) h = tt
-pushes_so P (work.Way w) h = tt
-pushes_so P (work.Call w) h = tt
-pushes_so P (work.Thread w) h = tt
+pushes_so : (P : Value → Type 0) (most : ℕ) (w : Operation) → Fine P most w → Pushes P w
+pushes_so P most (work.Stack w) h = h
+pushes_so P most (work.Value w) h = tt
+pushes_so P most (work.Object w) h = tt
+pushes_so P most (work.Way w) h = tt
+pushes_so P most (work.Call w) h = tt
+pushes_so P most (work.Thread w) h = tt
 
 each_so : (A B : Operation → Type 0) → ((w : Operation) → A w → B w) → (is : List Instr) → Each (λ i. A i.does) is
     → Each (λ i. B i.does) is
@@ -360,7 +402,9 @@ any_pushed ς = record { integer = λ v. tt; private = λ n. tt; shared = λ n. 
 pub program_begins : (program : Checked) → BeginsOnce (program_code program).functions
 program_begins program = (
   (tt, (tt, (omega arith, (tt, (tt, (tt, tt)))))),
-  all_so _ _ begins_none _ (functions_hold (source program) _ (any_pushed (source program)) program.functions),
+  all_so _ _ (begins_none (count_in program.functions)) _
+      (functions_hold (source program) _ (any_pushed (source program)) (count_in program.functions) program.functions
+      (omega arith)),
 )
 
 pub program_pushes : (program : Checked) → PushesOnly program
@@ -373,5 +417,24 @@ program_pushes program =
       blank = λ kind. blank kind refl;
     } in (
       (tt, (tt, (tt, (tt, (tt, (tt, tt)))))),
-      all_so _ _ (pushes_so (IsPushed ς)) _ (functions_hold ς (IsPushed ς) each program.functions),
+      all_so _ _ (pushes_so (IsPushed ς) (count_in program.functions)) _
+          (functions_hold ς (IsPushed ς) each (count_in program.functions) program.functions (omega arith)),
+    )
+
+enters_so : (P : Value → Type 0) (most : ℕ) (w : Operation) → Fine P most w → OnObject (EntersWithin most) w
+enters_so P most (work.Stack w) h = tt
+enters_so P most (work.Value w) h = tt
+enters_so P most (work.Object w) h = h
+enters_so P most (work.Way w) h = tt
+enters_so P most (work.Call w) h = tt
+enters_so P most (work.Thread w) h = tt
+
+-- No block begins after more objects in scope than the program declares with its parameters.
+pub program_enters : (program : Checked) → EntersFew program
+program_enters program =
+    let ς = source program in
+    let most = count_of program in (
+      (tt, (tt, (tt, (tt, (tt, (tt, tt)))))),
+      all_so _ _ (enters_so (λ v. Unit {0}) most) _
+          (functions_hold ς (λ v. Unit {0}) (any_pushed ς) most program.functions (omega arith)),
     )

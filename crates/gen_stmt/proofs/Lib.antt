@@ -4,6 +4,7 @@ pub mod Steps
 pub mod Behind
 pub mod Mains
 pub mod Compiling
+pub mod KnownInitials
 pub mod Counts
 pub mod Runs
 pub mod Courses

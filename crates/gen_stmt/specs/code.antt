@@ -2,3 +2,4 @@ pub mod Parts
 pub mod Views
 pub mod Compiled
 pub mod Pushes
+pub mod Enters

@@ -4,6 +4,7 @@ ghost use Rattle.typed_tree.specs.Programs.{Checked};
 ghost use Rattle.upc_values.specs.Lists.{Each};
 ghost use Rattle.stack_code.specs.layer.Depths.{BeginsOnce, IsDeep};
 ghost use Rattle.gen_stmt.specs.Programs.{program_code};
+ghost use Rattle.gen_stmt.specs.code.Enters.{EntersFew};
 ghost use Rattle.gen_stmt.specs.code.Pushes.{PushesOnly};
 ghost use Rattle.gen_stmt.specs.layer.Meanings.{MeansProgram};
 
@@ -26,4 +27,9 @@ pub fn entries_begin_once()
 /// It pushes integers, places of objects of the file, and 0 or null.
 pub fn pushes_are_known()
     ensures { (program : Checked) → PushesOnly program }
+{}
+
+/// None of its blocks begins after more objects in scope than the program declares in all.
+pub fn blocks_begin_after_few()
+    ensures { (program : Checked) → EntersFew program }
 {}

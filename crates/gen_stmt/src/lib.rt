@@ -18,5 +18,7 @@ mod standing;
 mod statements;
 mod values;
 
-pub use laws::{depths_agree, entries_begin_once, programs_are_meant, pushes_are_known};
+pub use laws::{
+    blocks_begin_after_few, depths_agree, entries_begin_once, programs_are_meant, pushes_are_known,
+};
 pub use programs::compile;

@@ -6,6 +6,8 @@ ghost use Rattle.typed_tree.specs.ViewStatements.{view_function};
 ghost use Rattle.gen_expr.specs.layer.ViewSource.{view_source};
 ghost use Rattle.gen_stmt.specs.Programs as pure;
 ghost use Rattle.gen_stmt.specs.layer.Meanings.{MeansProgram};
+ghost use Rattle.upc_values.specs.Lists.{Each};
+ghost use Rattle.stack_code.specs.layer.Kept.{IsKnown};
 ghost use Rattle.stack_code.specs.layer.Names.{NamesOnly};
 ghost use Rattle.source_meaning.specs.Laws.{opening_of};
 ghost use Rattle.typed_tree.specs.Beginnings.{view_beginning};
@@ -60,21 +62,13 @@ fn put_objects(builder: &mut Builder, alloc: Global, shapes: &[Shape]) -> Result
     Ok(())
 }
 
-fn put_initial(builder: &mut Builder, given: &(LocalPtr, Value)) -> Result<(), OutOfMemory>
-    ensures { OnOk result (builder.new ≡ with_initials (given.now ∷ []) builder.old) }
-{
-    if !builder.knows(&given.1) {
-        return Err(OutOfMemory);
-    }
-    builder.append_initial(given.0, given.1)
-}
-
-// Their initial values, which the code may name in a typed program.
+// Their initial values, which the code may name.
 fn put_initials(builder: &mut Builder, initials: &[(LocalPtr, Value)]) -> Result<(), OutOfMemory>
+    requires { Each (λ x. IsKnown builder.old.codes.threads builder.old.codes.shapes x.1) initials.now }
     ensures { OnOk result (builder.new ≡ with_initials initials.now builder.old) }
 {
     for given in initials {
-        put_initial(builder, given)?;
+        builder.append_initial(given.0, given.1)?;
     }
     Ok(())
 }

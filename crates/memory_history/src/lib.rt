@@ -6,6 +6,7 @@ mod barrier;
 mod calls;
 mod collective;
 mod formed;
+mod kept;
 mod leader;
 mod locks;
 mod meets;

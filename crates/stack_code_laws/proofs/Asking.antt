@@ -1,9 +1,13 @@
 -- What threads of code ask for.
-use Rattle.std.proofs.Common.{◌≡◌, ℕ, zero, suc, ◌+◌, ◌<◌, List, [], ◌∷◌, ◌++◌, length, true, false}
+use Rattle.std.proofs.Common.{◌≡◌, ℕ, zero, suc, ◌+◌, ◌<◌, List, [], ◌∷◌, ◌++◌, length, Bool, true, false, Option}
+use Rattle.std.proofs.Common.{Some, None}
 use Rattle.std.proofs.Common.{refl, sym, ◌∙◌, ap, subst, arith}
 use Rattle.std.proofs.lemmas.List.{length_push}
+use Rattle.block_layout.specs.declared.kind.Kind.{Kind}
+use Rattle.block_layout.specs.declared.place.Loc.{Loc}
 use Rattle.upc_values.specs.declared.scalar.Value.{Value}
 use Rattle.upc_values.specs.declared.action.Action.{Action}
+use Rattle.upc_values.specs.declared.action.Action.TheVariants as act
 use Rattle.upc_values.specs.declared.action.Reply.{Reply}
 use Rattle.upc_values.specs.declared.record.ToldEnd.{ToldEnd}
 use Rattle.upc_values.specs.declared.record.ToldEnd.TheVariants.{Wants, Misfit, Ended, Exit, Fault, OutOfTicks}
@@ -12,6 +16,7 @@ use Rattle.upc_values.specs.Lists.{Each}
 use Rattle.upc_values.specs.Outcomes.{Outcome}
 use Rattle.upc_values.specs.Openings.{Opening, IsOpening}
 use Rattle.upc_values.specs.Formed as history
+use Rattle.upc_values.specs.Formed.{fits}
 use Rattle.upc_values.specs.layer.Known.{HasGiven}
 use Rattle.thread_steps.specs.States.{Thread, State, Res, Val, Over, Unfinished}
 use Rattle.thread_steps.specs.layer.Fronts.{Begins}
@@ -20,18 +25,21 @@ use Rattle.thread_steps.proofs.Following.{total, plus, Later}
 use Rattle.stack_code.specs.declared.instruction.Instr.{Instr}
 use Rattle.stack_code.specs.Codes.{Codes, thread_of}
 use Rattle.stack_code.specs.layer.Steps.{Spot, Conf, At, Halt, nowhere, step, steps}
-use Rattle.stack_code.specs.layer.Outcomes.{told_by, HasEnded, initial_state, beginning}
+use Rattle.stack_code.specs.layer.Outcomes.{told_by, HasEnded, CodeMeans, initial_state, beginning}
 use Rattle.stack_code.proofs.Ends.{steps_add, steps_ended}
-use Rattle.stack_code_laws.specs.layer.Asking.{IsDeclaredIn, IsThreadOf, AsksWell}
+use Rattle.stack_code.specs.layer.Kept.{IsCode}
+use Rattle.stack_code_laws.specs.layer.Asking.{IsDeclaredIn, NamesDeclared, IsThreadOf, AsksWell}
+use Rattle.stack_code_laws.specs.code.Wanted.{ReadsKind, IsReadAs}
 use Rattle.stack_code_laws.specs.code.Names.{NamesGiven}
-use Rattle.stack_code_laws.proofs.Given.{FindsNamed, IsWellFormed, fits_after}
-use Rattle.stack_code_laws.proofs.Histories.{names_given, all_known, finds_named, formed_there, fits_there}
+use Rattle.stack_code_laws.proofs.Given.{IsGround, ReadsWell, IsWellFormed, AnyRead}
+use Rattle.stack_code_laws.proofs.Heard.{all_heard}
+use Rattle.stack_code_laws.proofs.Histories.{names_given, formed_there, fits_there}
 use Rattle.stack_code_laws.proofs.KnownValues.{runner}
 use Rattle.stack_code_laws.proofs.Stores.{begun_filled}
 use Rattle.stack_code_laws.proofs.Doings.{GrownTo, Grown, Reaches, Misses}
 use Rattle.stack_code_laws.proofs.Doings.{grown_to}
 use Rattle.stack_code_laws.proofs.Doings.{IsGood, EndsWell, Comes}
-use Rattle.stack_code_laws.proofs.Instructions.{Point, res_of, AllKnown, Stands, step_asks}
+use Rattle.stack_code_laws.proofs.Instructions.{Point, res_of, AllKnown, Stands, ReadsHere, step_asks}
 
 -- ---- where the code stands
 
@@ -90,8 +98,32 @@ module _ (τ : Thread) (functions : List (List Instr)) where
       let g : told_by t υ ≡ q = subst (λ d. HasEnded d q) (steps_ended τ functions n t υ) e in
       (sym (ap (λ x. x.«end») g) ∙ h.0, sym (ap (λ x. x.actions) g) ∙ h.1)
 
-module _ (o : Opening) (past : List Reply) (v : IsOpening o) (finds : FindsNamed o past) (me budget : ℕ)
-    (one : me < o.threads) (functions : List (List Instr)) (declared : Each (Each (IsDeclaredIn o)) functions) where
+module _ (o : Opening) (past : List Reply) (R : Kind → Loc → Type 0) where
+  any_read : (l : Loc) (kind : Option Kind) → ReadsWell o past R l kind → ReadsWell o past AnyRead l kind
+  any_read l (Some k) h = (h.0, tt)
+  any_read l None h = h
+
+  -- What may be asked for, whatever is read.
+  any_formed : (kind : Option Kind) (a : Action) → IsWellFormed o past R kind a → IsWellFormed o past AnyRead kind a
+  any_formed kind (act.Read l s) h = any_read l kind h
+  any_formed kind (act.Write s l w) h = h
+  any_formed kind (act.Lock l) h = h
+  any_formed kind (act.Attempt l) h = h
+  any_formed kind (act.Unlock l) h = h
+  any_formed kind (act.LockFree l) h = h
+  any_formed kind (act.Free p) h = h
+  any_formed kind (act.Meet c args) h = h
+  any_formed kind act.Fence h = h
+  any_formed kind act.Beat h = h
+  any_formed kind (act.Notify m) h = h
+  any_formed kind (act.Wait m) h = h
+  any_formed kind act.LockMake h = h
+  any_formed kind (act.Alloc n b home shape) h = h
+  any_formed kind (act.Print x) h = h
+  any_formed kind (act.Exit w) h = h
+
+module _ (o : Opening) (past : List Reply) (v : IsGround o) (me budget : ℕ) (one : me < o.threads)
+    (functions : List (List Instr)) (declared : Each (Each (IsDeclaredIn o)) functions) where
   abbrev τ : Thread
   τ = runner o me budget
 
@@ -101,24 +133,28 @@ module _ (o : Opening) (past : List Reply) (v : IsOpening o) (finds : FindsNamed
   steps_grow (suc n) (At here given operands calls σ) =
       let c = step τ functions (At here given operands calls σ) in
       grown_to σ (state_of c) (state_of (steps τ functions n c))
-      (grown_state σ c
-      ((step_asks o past v finds me budget one functions declared here given operands calls).grows σ))
+      (grown_state σ c ((step_asks o past v me budget one functions declared here given operands calls).grows σ))
       (steps_grow n c)
   steps_grow (suc n) (Halt e σ) = steps_grow n (Halt e σ)
 
-  -- An action is wanted at the end of what begins at a point: it may be asked for, each reply was heard, and with a
-  -- further reply that fits it, it is done; with one that does not, the thread ends.
-  record IsWanted (p : Outcome) (a : Action) (σ : State) (begins : List Reply → Conf) : Type 0 where
-    formed : IsWellFormed o past a
-    heard : length p.actions ≡ total σ
-    fit : (r : Reply) → fits_after o past a r ≡ true
-        → (count : ℕ)
-        × Begins (p.actions ++ a ∷ []) (state_of (steps τ functions count (begins (r ∷ [])))).actions
-    misfit : (r : Reply) → fits_after o past a r ≡ false
-        → (count : ℕ) × HasMissed p (steps τ functions count (begins (r ∷ [])))
+  -- An action is wanted at the end of what begins at a point: it may be asked for, and is read by its instruction; each
+  -- reply was heard, and with a further reply that fits it, it is done; with one that does not, the thread ends.
+  pub record IsWanted (p : Outcome) (a : Action) (heard_there : ℕ) (from : Conf) (begins : List Reply → Conf) : Type 0
+    where
+      pub kind : Option Kind
+      pub formed : IsWellFormed o past AnyRead kind a
+      pub reads : IsReadAs τ functions from kind a
+      pub heard : length p.actions ≡ heard_there
+      pub fit : (r : Reply) → fits o.threads o.shapes kind a r ≡ true
+          → (count : ℕ)
+          × Begins (p.actions ++ a ∷ []) (state_of (steps τ functions count (begins (r ∷ [])))).actions
+      pub misfit : (r : Reply) → fits o.threads o.shapes kind a r ≡ false
+          → (count : ℕ) × HasMissed p (steps τ functions count (begins (r ∷ [])))
 
-  module _ (here : Spot) (given operands : List Value) (calls : List Spot) (σ : State) (p : Outcome) (a : Action)
-      (w : p.«end» ≡ Wants a) where
+  module _ (here : Spot) (given operands : List Value) (calls : List Spot) (σ : State) where
+    abbrev from : Conf
+    from = At here given operands calls σ
+
     -- Where the thread begins with further replies.
     abbrev with_more : List Reply → Conf
     with_more more = At here given operands calls (record σ { replies = σ.replies ++ more })
@@ -126,62 +162,140 @@ module _ (o : Opening) (past : List Reply) (v : IsOpening o) (finds : FindsNamed
     abbrev next_with : Later Point
     next_with x xs = res_of (step τ functions (with_more (x ∷ xs)))
 
-    halted : (e : ToldEnd) (υ : State) → EndsWell o past e υ next_with → GrownTo σ υ → told_by e υ ≡ p
-        → IsWanted p a σ with_more
-    halted (Wants b) υ h g t =
-        let same = same_action b a (ap (λ q. q.«end») t ∙ w) in
-        let acts = ap (λ q. q.actions) t in
-        let n = ap length acts in
-        let none = ap length h.none in
-        let all = g.1 in
-        record {
-          formed = subst (IsWellFormed o past) same h.formed;
-          heard = omega arith;
-          fit = λ r f. (
-            1,
-            subst (λ l. Begins l (state_of (step τ functions (with_more (r ∷ [])))).actions)
-                (ap (λ l. l ++ b ∷ []) acts ∙ ap (λ c. p.actions ++ c ∷ []) same)
-                (reached_state (υ.actions ++ b ∷ []) (step τ functions (with_more (r ∷ [])))
-                (h.fit r [] (subst (λ c. fits_after o past c r ≡ true) (sym same) f))),
-          );
-          misfit = λ r f. (
-            1,
-            missed_at p υ.actions (step τ functions (with_more (r ∷ []))) acts
-                (h.misfit r [] (subst (λ c. fits_after o past c r ≡ false) (sym same) f)),
-          );
-        }
-    halted (Misfit k) υ h g t = let q = ap (λ q. q.«end») t ∙ w in absurd cc
-    halted (Ended n) υ h g t = let q = ap (λ q. q.«end») t ∙ w in absurd cc
-    halted (Exit n) υ h g t = let q = ap (λ q. q.«end») t ∙ w in absurd cc
-    halted (Fault code at) υ h g t = let q = ap (λ q. q.«end») t ∙ w in absurd cc
-    halted OutOfTicks υ h g t = let q = ap (λ q. q.«end») t ∙ w in absurd cc
+    abbrev Reads : Kind → Loc → Type 0
+    Reads = ReadsHere o past v me budget one functions declared here operands
+
+    read_here : (l : Loc) (s : Bool) (υ : State) (kind : Option Kind) → ReadsWell o past Reads l kind
+        → step τ functions from ≡ Halt (Wants (act.Read l s)) υ → ReadsKind τ functions from l s kind
+    read_here l s υ (Some k) h e = record {
+      count = 0;
+      at = here;
+      given = given;
+      operands = operands;
+      calls = calls;
+      before = σ;
+      after = υ;
+      leads = refl;
+      wants = e;
+      reads = h.1;
+    }
+    read_here l s υ None h e = absurd h
+
+    -- What is wanted at this instruction is read by it.
+    reads_here : (kind : Option Kind) (a : Action) (υ : State) → IsWellFormed o past Reads kind a
+        → step τ functions from ≡ Halt (Wants a) υ → IsReadAs τ functions from kind a
+    reads_here kind (act.Read l s) υ h e = read_here l s υ kind h e
+    reads_here kind (act.Write s l w) υ h e = tt
+    reads_here kind (act.Lock l) υ h e = tt
+    reads_here kind (act.Attempt l) υ h e = tt
+    reads_here kind (act.Unlock l) υ h e = tt
+    reads_here kind (act.LockFree l) υ h e = tt
+    reads_here kind (act.Free p) υ h e = tt
+    reads_here kind (act.Meet c args) υ h e = tt
+    reads_here kind act.Fence υ h e = tt
+    reads_here kind act.Beat υ h e = tt
+    reads_here kind (act.Notify m) υ h e = tt
+    reads_here kind (act.Wait m) υ h e = tt
+    reads_here kind act.LockMake υ h e = tt
+    reads_here kind (act.Alloc n b home shape) υ h e = tt
+    reads_here kind (act.Print x) υ h e = tt
+    reads_here kind (act.Exit w) υ h e = tt
+
+    read_later : (l : Loc) (s : Bool) (c : Conf) (kind : Option Kind) → step τ functions from ≡ c
+        → ReadsKind τ functions c l s kind → ReadsKind τ functions from l s kind
+    read_later l s c (Some k) e h = record {
+      count = suc h.count;
+      at = h.at;
+      given = h.given;
+      operands = h.operands;
+      calls = h.calls;
+      before = h.before;
+      after = h.after;
+      leads = ap (λ d. steps τ functions h.count d) e ∙ h.leads;
+      wants = h.wants;
+      reads = h.reads;
+    }
+    read_later l s c None e h = absurd h
+
+    -- What is wanted after this instruction is read by its own.
+    reads_later : (kind : Option Kind) (a : Action) (c : Conf) → step τ functions from ≡ c
+        → IsReadAs τ functions c kind a → IsReadAs τ functions from kind a
+    reads_later kind (act.Read l s) c e h = read_later l s c kind e h
+    reads_later kind (act.Write s l w) c e h = tt
+    reads_later kind (act.Lock l) c e h = tt
+    reads_later kind (act.Attempt l) c e h = tt
+    reads_later kind (act.Unlock l) c e h = tt
+    reads_later kind (act.LockFree l) c e h = tt
+    reads_later kind (act.Free p) c e h = tt
+    reads_later kind (act.Meet n args) c e h = tt
+    reads_later kind act.Fence c e h = tt
+    reads_later kind act.Beat c e h = tt
+    reads_later kind (act.Notify m) c e h = tt
+    reads_later kind (act.Wait m) c e h = tt
+    reads_later kind act.LockMake c e h = tt
+    reads_later kind (act.Alloc n b home shape) c e h = tt
+    reads_later kind (act.Print x) c e h = tt
+    reads_later kind (act.Exit w) c e h = tt
+
+    module _ (p : Outcome) (a : Action) (w : p.«end» ≡ Wants a) where
+      halted : (e : ToldEnd) (υ : State) → step τ functions from ≡ Halt e υ → EndsWell o past Reads e υ next_with
+          → GrownTo σ υ → told_by e υ ≡ p → IsWanted p a (total σ) from with_more
+      halted (Wants b) υ q h g t =
+          let same = same_action b a (ap (λ d. d.«end») t ∙ w) in
+          let acts = ap (λ d. d.actions) t in
+          let n = ap length acts in
+          let none = ap length h.none in
+          let all = g.1 in
+          subst (λ c. IsWanted p c (total σ) from with_more) same
+          (record {
+            kind = h.kind;
+            formed = any_formed o past Reads h.kind b h.formed;
+            reads = reads_here h.kind b υ h.formed q;
+            heard = omega arith;
+            fit = λ r f. (
+              1,
+              subst (λ l. Begins (l ++ b ∷ []) (state_of (step τ functions (with_more (r ∷ [])))).actions) acts
+                  (reached_state (υ.actions ++ b ∷ []) (step τ functions (with_more (r ∷ []))) (h.fit r [] f)),
+            );
+            misfit = λ r f. (
+              1,
+              missed_at p υ.actions (step τ functions (with_more (r ∷ []))) acts (h.misfit r [] f),
+            );
+          })
+      halted (Misfit k) υ q h g t = let d = ap (λ d. d.«end») t ∙ w in absurd cc
+      halted (Ended n) υ q h g t = let d = ap (λ d. d.«end») t ∙ w in absurd cc
+      halted (Exit n) υ q h g t = let d = ap (λ d. d.«end») t ∙ w in absurd cc
+      halted (Fault code at) υ q h g t = let d = ap (λ d. d.«end») t ∙ w in absurd cc
+      halted OutOfTicks υ q h g t = let d = ap (λ d. d.«end») t ∙ w in absurd cc
 
   wanted_from : (n : ℕ) (here : Spot) (given operands : List Value) (calls : List Spot) (σ : State)
-      → AllKnown o past given × AllKnown o past operands → IsGood o past σ → (p : Outcome) (a : Action)
+      → AllKnown o past given × AllKnown o past operands → IsGood o past AnyRead σ → (p : Outcome) (a : Action)
       → (w : p.«end» ≡ Wants a) → HasEnded (steps τ functions n (At here given operands calls σ)) p
-      → IsWanted p a σ (with_more here given operands calls σ p a w)
+      → IsWanted p a (total σ) (At here given operands calls σ) (with_more here given operands calls σ)
   wanted_from zero here given operands calls σ k good p a w h = absurd h
   wanted_from (suc n) here given operands calls σ k good p a w h =
-      let s = step_asks o past v finds me budget one functions declared here given operands calls in
-      by_next (step τ functions (At here given operands calls σ)) (s.by k σ good) (s.grows σ) h (wanted_from n)
+      let s = step_asks o past v me budget one functions declared here given operands calls in
+      by_next (step τ functions (At here given operands calls σ)) refl
+      (s.by k σ (record { store = good.store; replies = good.replies }))
+      (s.grows σ) h (wanted_from n)
     where
-      from : List Reply → Conf
-      from = with_more here given operands calls σ p a w
-
-      by_next : (c : Conf)
-          → Comes o past (Stands o past) (res_of c) (next_with here given operands calls σ p a w) → Grown σ (res_of c)
+      by_next : (c : Conf) → step τ functions (At here given operands calls σ) ≡ c
+          → Comes o past (Reads here given operands calls σ) (Stands o past) (res_of c)
+          (next_with here given operands calls σ) → Grown σ (res_of c)
           → HasEnded (steps τ functions n c) p
           → ((at : Spot) (vs ws : List Value) (back : List Spot) (υ : State)
-          → AllKnown o past vs × AllKnown o past ws → IsGood o past υ → (q : Outcome) (b : Action)
+          → AllKnown o past vs × AllKnown o past ws → IsGood o past AnyRead υ → (q : Outcome) (b : Action)
           → (z : q.«end» ≡ Wants b) → HasEnded (steps τ functions n (At at vs ws back υ)) q
-          → IsWanted q b υ (with_more at vs ws back υ q b z))
-          → IsWanted p a σ (with_more here given operands calls σ p a w)
-      by_next (At at vs ws back υ) c g e next =
-          let i = next at vs ws back υ c.0 c.1 p a w e in
+          → IsWanted q b (total υ) (At at vs ws back υ) (with_more at vs ws back υ))
+          → IsWanted p a (total σ) (At here given operands calls σ) (with_more here given operands calls σ)
+      by_next (At at vs ws back υ) d c g e next =
+          let i = next at vs ws back υ c.0 (record { store = c.1.store; replies = c.1.replies }) p a w e in
           let all = g.1 in
           let m = i.heard in
           record {
+            kind = i.kind;
             formed = i.formed;
+            reads = reads_later here given operands calls σ i.kind a (At at vs ws back υ) d i.reads;
             heard = omega arith;
             fit = λ r f.
                 let j = i.fit r f in
@@ -200,17 +314,26 @@ module _ (o : Opening) (past : List Reply) (v : IsOpening o) (finds : FindsNamed
                   subst (λ d. HasMissed p (steps τ functions j.0 d)) (sym same) j.1,
                 );
           }
-      by_next (Halt e υ) c g h next =
-          halted here given operands calls σ p a w e υ c g
+      by_next (Halt e υ) d c g h next =
+          halted here given operands calls σ p a w e υ d c g
           (subst (λ d. HasEnded d p) (steps_ended τ functions n e υ) h)
 
+-- What the proofs need of a thread of code: it begins with some threads and shapes of shared elements, and its code
+-- names nothing but what is declared.
+pub record IsRun (o : Opening) (codes : Codes) (thread budget : ℕ) (f : List Reply → Outcome) : Type 0 where
+  pub ground : IsGround o
+  pub code : IsCode codes
+  pub declared : NamesDeclared o codes
+  pub number : thread < codes.threads
+  pub means : (replies : List Reply) → CodeMeans codes thread budget replies (f replies)
+
 module _ (o : Opening) (codes : Codes) (thread budget : ℕ) (f : List Reply → Outcome)
-    (h : IsThreadOf o codes thread budget f) where
+    (h : IsRun o codes thread budget f) where
   same_thread : thread_of codes thread budget ≡ runner o thread budget
   same_thread =
       λ i. record { number = thread; threads = h.declared.threads i; budget = budget; shapes = h.declared.shapes i }
 
-  one : thread < o.threads
+  pub one : thread < o.threads
   one = subst (λ n. thread < n) h.declared.threads h.number
 
   -- How many instructions lead to the end.
@@ -226,44 +349,34 @@ module _ (o : Opening) (codes : Codes) (thread budget : ℕ) (f : List Reply →
       same_thread
       (h.means replies).ended
 
-  module _ (rs : List Reply) (es : List Entry) (a : Action) (w : (f rs).«end» ≡ Wants a) (has : HasGiven o es rs) where
+  module _ (rs : List Reply) (a : Action) (w : (f rs).«end» ≡ Wants a) where
     abbrev origin : Spot
     origin = record { function = 0; place = 0 }
 
-    finds : FindsNamed o rs
-    finds = finds_named o es h.opening has.legal rs has.known
-
-    is_wanted : IsWanted o rs h.opening finds thread budget one codes.functions h.declared.pushed
-        (f rs) a
-        (initial_state codes rs) (λ more. beginning codes (rs ++ more))
+    pub is_wanted : IsWanted o rs h.ground thread budget one codes.functions h.declared.pushed (f rs) a
+        (total (initial_state codes rs)) (beginning codes rs) (λ more. beginning codes (rs ++ more))
     is_wanted =
-        wanted_from o rs h.opening finds thread budget one codes.functions h.declared.pushed
-        (count_of rs) origin [] [] [] (initial_state codes rs) (tt, tt)
+        wanted_from o rs h.ground thread budget one codes.functions h.declared.pushed (count_of rs) origin [] [] []
+        (initial_state codes rs) (tt, tt)
         (record {
           store = begun_filled o rs codes.private_shapes codes.private_initials h.declared.initials
               h.code.private.fit;
-          replies = all_known o es rs has.known;
+          replies = all_heard o rs;
         })
         (f rs) a w (ended rs)
 
-    fits_so : (r : Reply) → history.fits_after o es a r ≡ fits_after o rs a r
-    fits_so r = fits_there o es h.opening has.legal rs has.known a is_wanted.formed r
+    pub heard_all : length (f rs).actions ≡ length rs
+    heard_all = let heard = is_wanted.heard in omega arith
 
-    formed_so : history.IsWellFormed o es a
-    formed_so = formed_there o es h.opening has.legal rs has.known a is_wanted.formed
-
-    named_so : NamesGiven o rs a
-    named_so = names_given o rs a is_wanted.formed
-
-    taken : (r : Reply) → history.fits_after o es a r ≡ true → (f (rs ++ r ∷ [])).actions ≡ (f rs).actions ++ a ∷ []
+    pub taken : (r : Reply) → fits o.threads o.shapes is_wanted.kind a r ≡ true
+        → (f (rs ++ r ∷ [])).actions ≡ (f rs).actions ++ a ∷ []
     taken r fit =
         let τ = runner o thread budget in
-        let k = is_wanted.fit r (sym (fits_so r) ∙ fit) in
+        let k = is_wanted.fit r fit in
         let first = beginning codes (rs ++ r ∷ []) in
         let n = count_of (rs ++ r ∷ []) in
         let end = steps τ codes.functions n first in
-        let grow =
-        steps_grow o rs h.opening finds thread budget one codes.functions h.declared.pushed in
+        let grow = steps_grow o rs h.ground thread budget one codes.functions h.declared.pushed in
         let acts = ended_actions end (f (rs ++ r ∷ [])) (ended (rs ++ r ∷ [])) in
         let further = steps τ codes.functions n (steps τ codes.functions k.0 first) in
         let swap : k.0 + n ≡ n + k.0 = omega arith in
@@ -282,11 +395,11 @@ module _ (o : Opening) (codes : Codes) (thread budget : ℕ) (f : List Reply →
         let more = length_push (f rs).actions a in
         all_of ((f rs).actions ++ a ∷ []) (f (rs ++ r ∷ [])).actions begins (omega arith)
 
-    missed : (r : Reply) → history.fits_after o es a r ≡ false
+    pub missed : (r : Reply) → fits o.threads o.shapes is_wanted.kind a r ≡ false
         → ((f (rs ++ r ∷ [])).«end» ≡ Misfit (length rs)) × ((f (rs ++ r ∷ [])).actions ≡ (f rs).actions)
     missed r misfit =
         let τ = runner o thread budget in
-        let k = is_wanted.misfit r (sym (fits_so r) ∙ misfit) in
+        let k = is_wanted.misfit r misfit in
         let first = beginning codes (rs ++ r ∷ []) in
         let n = count_of (rs ++ r ∷ []) in
         let q = f (rs ++ r ∷ []) in
@@ -298,30 +411,70 @@ module _ (o : Opening) (codes : Codes) (thread budget : ℕ) (f : List Reply →
         ∙ steps_add τ codes.functions k.0 n first in
         let m = missed_stays τ codes.functions n (steps τ codes.functions k.0 first) (f rs) q k.1
         (subst (λ c. HasEnded c q) same (ended (rs ++ r ∷ []))) in
-        let all = is_wanted.heard in
-        let heard : length (f rs).actions ≡ length rs = omega arith in
-        (m.0 ∙ ap Misfit heard, m.1)
+        (m.0 ∙ ap Misfit heard_all, m.1)
+
+-- What an opening has of the ground.
+ground_of : (o : Opening) → IsOpening o → IsGround o
+ground_of o v = record { least = v.least; shapes = v.shapes; sharable = v.sharable }
+
+run_of : (o : Opening) (codes : Codes) (thread budget : ℕ) (f : List Reply → Outcome)
+    → IsThreadOf o codes thread budget f → IsRun o codes thread budget f
+run_of o codes thread budget f h = record {
+  ground = ground_of o h.opening;
+  code = h.code;
+  declared = h.declared;
+  number = h.number;
+  means = h.means;
+}
 
 -- On no reply the thread does nothing.
 pub begins_empty : (o : Opening) (codes : Codes) (thread budget : ℕ) (f : List Reply → Outcome)
     → IsThreadOf o codes thread budget f → (f []).actions ≡ []
-begins_empty o codes thread budget f h =
+begins_empty o codes thread budget f t =
+    let h = run_of o codes thread budget f t in
     let first = beginning codes [] in
     let n = count_of o codes thread budget f h [] in
     let grow =
-    steps_grow o [] h.opening (finds_named o [] h.opening tt [] tt) thread budget (one o codes thread budget f h)
-    codes.functions h.declared.pushed n first in
+    steps_grow o [] h.ground thread budget (one o codes thread budget f h) codes.functions h.declared.pushed n first in
     let end = steps (runner o thread budget) codes.functions n first in
     let acts = ended_actions end (f []) (ended o codes thread budget f h []) in
     let all = grow.1 in
     let many = ap length acts in
     none_left (f []).actions (omega arith)
 
+module _ (o : Opening) (codes : Codes) (thread budget : ℕ) (f : List Reply → Outcome)
+    (t : IsThreadOf o codes thread budget f) (rs : List Reply) (es : List Entry) (a : Action)
+    (w : (f rs).«end» ≡ Wants a) (has : HasGiven o es rs) where
+  abbrev run : IsRun o codes thread budget f
+  run = run_of o codes thread budget f t
+
+  abbrev wish : IsWanted o rs run.ground thread budget (one o codes thread budget f run) codes.functions
+      run.declared.pushed (f rs) a (total (initial_state codes rs)) (beginning codes rs)
+      (λ more. beginning codes (rs ++ more))
+  wish = is_wanted o codes thread budget f run rs a w
+
+  fits_so : (r : Reply) → history.fits_after o es a r ≡ fits o.threads o.shapes wish.kind a r
+  fits_so r = fits_there o es t.opening has.legal rs has.known AnyRead wish.kind a wish.formed r
+
+  formed_so : history.IsWellFormed o es a
+  formed_so = formed_there o es t.opening has.legal rs has.known AnyRead wish.kind a wish.formed
+
+  named_so : NamesGiven o.declared rs a
+  named_so = names_given o rs AnyRead wish.kind a wish.formed
+
+  taken_so : (r : Reply) → history.fits_after o es a r ≡ true
+      → (f (rs ++ r ∷ [])).actions ≡ (f rs).actions ++ a ∷ []
+  taken_so r fit = taken o codes thread budget f run rs a w r (sym (fits_so r) ∙ fit)
+
+  missed_so : (r : Reply) → history.fits_after o es a r ≡ false
+      → ((f (rs ++ r ∷ [])).«end» ≡ Misfit (length rs)) × ((f (rs ++ r ∷ [])).actions ≡ (f rs).actions)
+  missed_so r misfit = missed o codes thread budget f run rs a w r (sym (fits_so r) ∙ misfit)
+
 pub asks_well : (o : Opening) (codes : Codes) (thread budget : ℕ) (f : List Reply → Outcome)
     → IsThreadOf o codes thread budget f → AsksWell o f
-asks_well o codes thread budget f h = record {
-  goes = λ rs before a r w has fit. taken o codes thread budget f h rs before a w has r fit;
-  misfits = λ rs before a r w has misfit. missed o codes thread budget f h rs before a w has r misfit;
-  formed = λ rs before a w has. formed_so o codes thread budget f h rs before a w has;
-  names = λ rs before a w has. named_so o codes thread budget f h rs before a w has;
+asks_well o codes thread budget f t = record {
+  goes = λ rs before a r w has fit. taken_so o codes thread budget f t rs before a w has r fit;
+  misfits = λ rs before a r w has misfit. missed_so o codes thread budget f t rs before a w has r misfit;
+  formed = λ rs before a w has. formed_so o codes thread budget f t rs before a w has;
+  names = λ rs before a w has. named_so o codes thread budget f t rs before a w has;
 }

@@ -1,5 +1,5 @@
 -- A thread of code wants its Beats at the multiples of 1,024 ticks.
-use Rattle.std.proofs.Common.{◌≡◌, ℕ, ◌+◌, ◌*◌, ◌/◌, List, refl, sym, ap, subst, ◌∙◌}
+use Rattle.std.proofs.Common.{◌≡◌, ℕ, ◌+◌, ◌*◌, ◌/◌, List, refl, ap, subst, ◌∙◌}
 use Rattle.upc_values.specs.declared.action.Action.TheVariants.{Beat}
 use Rattle.upc_values.specs.declared.action.Reply.{Reply}
 use Rattle.upc_values.specs.declared.record.ToldEnd.TheVariants.{Wants}

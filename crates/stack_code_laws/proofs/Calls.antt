@@ -7,6 +7,8 @@ use Rattle.std.specs.Prelude.{nat_le, unsigned_abs, negsuc, slice_get}
 use Rattle.block_layout.specs.declared.kind.Shape.{Shape}
 use Rattle.block_layout.specs.declared.run_error.TheConstants.{LIBRARY_ARGS, NULL_ACCESS, CELL_TYPE}
 use Rattle.block_layout.specs.Pointers.{null, is_null}
+use Rattle.block_layout.specs.declared.kind.Kind.{Kind}
+use Rattle.block_layout.specs.declared.place.Loc.{Loc}
 use Rattle.block_layout.specs.declared.kind.Kind.TheVariants as kind
 use Rattle.integers.specs.Integers.{converted}
 use Rattle.upc_values.specs.declared.scalar.Scalar.{Scalar}
@@ -22,8 +24,8 @@ use Rattle.upc_values.specs.declared.library.LibraryCall.{LibraryCall}
 use Rattle.upc_values.specs.declared.library.LibraryCall.TheVariants as c
 use Rattle.upc_values.specs.Lists.{Each}
 use Rattle.upc_values.specs.Scalars.{zero}
-use Rattle.upc_values.specs.Openings.{Opening, IsOpening}
-use Rattle.upc_values.specs.Formed.{is_whole, is_home, may_alloc, fits}
+use Rattle.upc_values.specs.Openings.{Opening}
+use Rattle.upc_values.specs.Formed.{is_whole, is_home, may_alloc}
 use Rattle.upc_values.specs.Calls.{Allocates, Other, is_size, call_of}
 use Rattle.upc_values.specs.Expansion.{Expansion, Gives, Fails}
 use Rattle.upc_values.specs.Copying.{copy, set}
@@ -31,7 +33,7 @@ use Rattle.upc_values.specs.Expansions.{is_large, collective}
 use Rattle.upc_values.specs.LibraryCalls as l
 use Rattle.thread_steps.specs.Library.{is_call, is_formed}
 use Rattle.stack_code_laws.specs.code.Names.{is_lock_given}
-use Rattle.stack_code_laws.proofs.Given.{is_known, FindsNamed, may_call, IsWellFormed, fits_after}
+use Rattle.stack_code_laws.proofs.Given.{IsGround, is_known, may_call, IsWellFormed}
 use Rattle.stack_code_laws.proofs.KnownValues.{Known}
 use Rattle.stack_code_laws.proofs.Doings.{Nothing}
 use Rattle.stack_code_laws.proofs.Primitives as p
@@ -54,13 +56,13 @@ size_of : (n : ℤ) → is_size n ≡ true → is_size (pos (unsigned_abs n)) �
 size_of (pos n) h = h
 size_of (negsuc n) h = absurd (false≢true h)
 
-module _ (o : Opening) (past : List Reply) (v : IsOpening o) (finds : FindsNamed o past) (me budget : ℕ)
+module _ (o : Opening) (past : List Reply) (v : IsGround o) (R : Kind → Loc → Type 0) (me budget : ℕ)
     (one : me < o.threads) where
   abbrev Goes : Expansion Scalar → Type 0
-  Goes e = p.GoesWell o past v finds me budget {A = Scalar} (λ w. is_known o past w ≡ true) e
+  Goes e = p.GoesWell o past v R me budget {A = Scalar} (λ w. is_known o past w ≡ true) e
 
   abbrev CallGoes : LibraryCall → ℕ → List Value → Type 0
-  CallGoes call shape args = p.CallGoesWell o past v finds me budget call shape args
+  CallGoes call shape args = p.CallGoesWell o past v R me budget call shape args
 
   abbrev AreKnown : List Value → Type 0
   AreKnown args = Each (Known o past) args
@@ -72,24 +74,23 @@ module _ (o : Opening) (past : List Reply) (v : IsOpening o) (finds : FindsNamed
   either_goes false x y h g = g refl
 
   unless_goes : (b : Bool) (code : ℕ) (y : Expansion Scalar) → (b ≡ false → Goes y) → Goes (cond b (Fails code) y)
-  unless_goes b code y g = m.unless_goes o past v finds me budget (λ w. is_known o past w ≡ true) b code y g
+  unless_goes b code y g = m.unless_goes o past v R me budget (λ w. is_known o past w ≡ true) b code y g
 
   -- A call that gives no value gives 0.
-  valued_goes : (e : Expansion (Unit {0})) → p.GoesWell o past v finds me budget Nothing e → Goes (l.valued e)
+  valued_goes : (e : Expansion (Unit {0})) → p.GoesWell o past v R me budget Nothing e → Goes (l.valued e)
   valued_goes e h =
-      m.bind_goes o past v finds me budget Nothing (λ w. is_known o past w ≡ true) e (λ u. Gives zero) h (λ u k. refl)
+      m.bind_goes o past v R me budget Nothing (λ w. is_known o past w ≡ true) e (λ u. Gives zero) h (λ u k. refl)
 
   -- ---- actions
 
-  given_goes : (r : Reply) → p.IsGiven o past v finds me budget r → Goes (l.given_by r)
+  given_goes : (r : Reply) → p.IsGiven o past v R me budget r → Goes (l.given_by r)
   given_goes reply.Done h = refl
   given_goes (reply.Value w) h = h
   given_goes (reply.Flag b) h = refl
   given_goes (reply.Refused code) h = tt
 
-  asks_goes : (a : Action) → IsWellFormed o past a
-      → ((r : Reply) → fits_after o past a r ≡ fits o.threads o.shapes None a r) → Goes (l.asks a)
-  asks_goes a formed fit = (formed, fit, given_goes)
+  asks_goes : (a : Action) → IsWellFormed o past R None a → Goes (l.asks a)
+  asks_goes a formed = (formed, given_goes)
 
   -- ---- calls that ask for nothing (UPC 7.2.3)
 
@@ -122,8 +123,7 @@ module _ (o : Opening) (past : List Reply) (v : IsOpening o) (finds : FindsNamed
       either_goes (n * b == 0) (Gives (scalar.Shared null)) _ refl (λ some.
       unless_goes (not (n * b == 0) && not whole) CELL_TYPE go (λ e.
       asks_goes (act.Alloc n b home shape)
-      (and_from (not (n * b == 0) && whole) (is_home o.threads home) (whole_by (n * b == 0) whole some e) at_home)
-      (λ r. refl)))
+      (and_from (not (n * b == 0) && whole) (is_home o.threads home) (whole_by (n * b == 0) whole some e) at_home)))
 
   global_alloc_goes : (shape : ℕ) (args : List Value) → CallGoes c.GlobalAlloc shape args
   global_alloc_goes shape (value.Scalar (scalar.Int n) ∷ value.Scalar (scalar.Int b) ∷ []) private =
@@ -162,28 +162,27 @@ module _ (o : Opening) (past : List Reply) (v : IsOpening o) (finds : FindsNamed
             (and_from (is_size (pos size)) (is_size (pos block) && is_size (pos shape)) (size_of n all.0)
             (and_from (is_size (pos block)) (is_size (pos shape)) (size_of b rest.0) rest.1)) formed.1 e,
         (refl, (refl, (refl, tt))),
-      )
-      (λ r. refl))
+      ))
   all_alloc_goes shape args h private = refl
 
   free_goes : (shape : ℕ) (args : List Value) → AreKnown args → CallGoes c.Free shape args
   free_goes shape (value.Scalar (scalar.Shared q) ∷ []) h private =
-      either_goes (is_null q) (Gives zero) _ refl (λ e. asks_goes (act.Free q) h.0 (λ r. refl))
+      either_goes (is_null q) (Gives zero) _ refl (λ e. asks_goes (act.Free q) h.0)
   free_goes shape args h private = refl
 
   all_free_goes : (shape : ℕ) (args : List Value) → AreKnown args → CallGoes c.AllFree shape args
   all_free_goes shape (value.Scalar (scalar.Shared q) ∷ []) h private =
-      asks_goes (act.Meet 3 (scalar.Shared q ∷ [])) (h.0, (h.0, tt)) (λ r. refl)
+      asks_goes (act.Meet 3 (scalar.Shared q ∷ [])) (h.0, (h.0, tt))
   all_free_goes shape args h private = refl
 
   -- ---- locks (UPC 7.2.4)
 
   lock_alloc_goes : (shape : ℕ) (args : List Value) → CallGoes c.GlobalLockAlloc shape args
-  lock_alloc_goes shape [] private = asks_goes act.LockMake tt (λ r. refl)
+  lock_alloc_goes shape [] private = asks_goes act.LockMake tt
   lock_alloc_goes shape args private = refl
 
   all_lock_alloc_goes : (shape : ℕ) (args : List Value) → CallGoes c.AllLockAlloc shape args
-  all_lock_alloc_goes shape [] private = asks_goes (act.Meet 2 []) (refl, tt) (λ r. refl)
+  all_lock_alloc_goes shape [] private = asks_goes (act.Meet 2 []) (refl, tt)
   all_lock_alloc_goes shape args private = refl
 
   -- A lock that was given, of those that are null or were given.
@@ -192,40 +191,40 @@ module _ (o : Opening) (past : List Reply) (v : IsOpening o) (finds : FindsNamed
 
   lock_goes : (shape : ℕ) (args : List Value) → AreKnown args → CallGoes c.Lock shape args
   lock_goes shape (value.Scalar (scalar.Lock n) ∷ []) h private =
-      unless_goes (n == 0) NULL_ACCESS _ (λ e. asks_goes (act.Lock n) (given_lock n h.0 e) (λ r. refl))
+      unless_goes (n == 0) NULL_ACCESS _ (λ e. asks_goes (act.Lock n) (given_lock n h.0 e))
   lock_goes shape args h private = refl
 
   attempt_goes : (shape : ℕ) (args : List Value) → AreKnown args → CallGoes c.LockAttempt shape args
   attempt_goes shape (value.Scalar (scalar.Lock n) ∷ []) h private =
-      unless_goes (n == 0) NULL_ACCESS _ (λ e. asks_goes (act.Attempt n) (given_lock n h.0 e) (λ r. refl))
+      unless_goes (n == 0) NULL_ACCESS _ (λ e. asks_goes (act.Attempt n) (given_lock n h.0 e))
   attempt_goes shape args h private = refl
 
   unlock_goes : (shape : ℕ) (args : List Value) → AreKnown args → CallGoes c.Unlock shape args
   unlock_goes shape (value.Scalar (scalar.Lock n) ∷ []) h private =
-      unless_goes (n == 0) NULL_ACCESS _ (λ e. asks_goes (act.Unlock n) (given_lock n h.0 e) (λ r. refl))
+      unless_goes (n == 0) NULL_ACCESS _ (λ e. asks_goes (act.Unlock n) (given_lock n h.0 e))
   unlock_goes shape args h private = refl
 
   lock_free_goes : (shape : ℕ) (args : List Value) → AreKnown args → CallGoes c.LockFree shape args
   lock_free_goes shape (value.Scalar (scalar.Lock n) ∷ []) h private =
-      either_goes (n == 0) (Gives zero) _ refl (λ e. asks_goes (act.LockFree n) (given_lock n h.0 e) (λ r. refl))
+      either_goes (n == 0) (Gives zero) _ refl (λ e. asks_goes (act.LockFree n) (given_lock n h.0 e))
   lock_free_goes shape args h private = refl
 
   all_lock_free_goes : (shape : ℕ) (args : List Value) → AreKnown args → CallGoes c.AllLockFree shape args
   all_lock_free_goes shape (value.Scalar (scalar.Lock n) ∷ []) h private =
-      asks_goes (act.Meet 4 (scalar.Lock n ∷ [])) (h.0, (h.0, tt)) (λ r. refl)
+      asks_goes (act.Meet 4 (scalar.Lock n ∷ [])) (h.0, (h.0, tt))
   all_lock_free_goes shape args h private = refl
 
   -- ---- memory (UPC 7.2.5)
 
   -- Areas are known where the values are.
-  area_known : (w : Value) → Known o past w → m.IsKnownArea o past v finds me budget (l.area_of w)
-  area_known w h = m.area_known o past v finds me budget w h
+  area_known : (w : Value) → Known o past w → m.IsKnownArea o past v R me budget (l.area_of w)
+  area_known w h = m.area_known o past v R me budget w h
 
   copy_goes : (part : Option Shape) (dst src : Value) (n : ℕ) → Known o past dst → Known o past src
       → Goes (l.valued (copy o.threads o.shapes part (l.area_of dst) (l.area_of src) n))
   copy_goes part dst src n h g =
       valued_goes (copy o.threads o.shapes part (l.area_of dst) (l.area_of src) n)
-      (m.copy_goes o past v finds me budget part (l.area_of dst) (l.area_of src) n (area_known dst h) (area_known src g))
+      (m.copy_goes o past v R me budget part (l.area_of dst) (l.area_of src) n (area_known dst h) (area_known src g))
 
   memcpy_goes : (shape : ℕ) (args : List Value) → AreKnown args → CallGoes c.Memcpy shape args
   memcpy_goes shape (dst ∷ src ∷ value.Scalar (scalar.Int n) ∷ []) h private =
@@ -246,7 +245,7 @@ module _ (o : Opening) (past : List Reply) (v : IsOpening o) (finds : FindsNamed
   memset_goes shape (dst ∷ value.Scalar (scalar.Int k) ∷ value.Scalar (scalar.Int n) ∷ []) h private =
       let byte = unsigned_abs (converted kind.UChar k) in
       valued_goes (set o.threads o.shapes None (l.area_of dst) byte (unsigned_abs n))
-      (m.set_goes o past v finds me budget None (l.area_of dst) byte (unsigned_abs n) (area_known dst h.0))
+      (m.set_goes o past v R me budget None (l.area_of dst) byte (unsigned_abs n) (area_known dst h.0))
   memset_goes shape args h private = refl
 
   -- ---- collective calls (UPC 7.3)
@@ -266,7 +265,7 @@ module _ (o : Opening) (past : List Reply) (v : IsOpening o) (finds : FindsNamed
       → Goes (l.together o.threads o.shapes me private n args)
   together_goes n args e k h private =
       valued_goes (collective o.threads o.shapes me n (l.scalars args))
-      (collective_goes o past v finds me budget n (l.scalars args) e (scalars_known args k)
+      (collective_goes o past v R me budget n (l.scalars args) e (scalars_known args k)
       (and_parts (is_call (call_of n (l.scalars args))) true h).0)
 
   -- ---- all of these

@@ -6,6 +6,7 @@ use Rattle.std.specs.Prelude.{unsigned_abs, Result, Ok, Err}
 use Rattle.std.specs.List.{list_any, range_with_len}
 use Rattle.std.proofs.lemmas.Bool.{and_parts, and_from, false≢true}
 use Rattle.block_layout.specs.declared.kind.Kind.{Kind}
+use Rattle.block_layout.specs.declared.place.Loc.{Loc}
 use Rattle.block_layout.specs.declared.kind.Kind.TheVariants as kind
 use Rattle.block_layout.specs.declared.place.SharedPtr.{SharedPtr}
 use Rattle.block_layout.specs.declared.run_error.TheConstants.{OUT_OF_OBJECT, POINTER_RANGE, CELL_TYPE, LIBRARY_ARGS}
@@ -22,10 +23,9 @@ use Rattle.upc_values.specs.declared.action.Action.{Action}
 use Rattle.upc_values.specs.declared.action.Action.TheVariants as act
 use Rattle.upc_values.specs.declared.action.Reply.{Reply}
 use Rattle.upc_values.specs.Lists.{Each}
-use Rattle.upc_values.specs.Shapes.{kind_at, is_integer, fits_kind, fits_cell}
-use Rattle.upc_values.specs.Openings.{Opening, IsOpening, cell_of}
+use Rattle.upc_values.specs.Shapes.{kind_at, is_integer, fits_kind}
+use Rattle.upc_values.specs.Openings.{Opening}
 use Rattle.upc_values.specs.History.{each_thread}
-use Rattle.upc_values.specs.Formed.{fits}
 use Rattle.upc_values.specs.Calls.{Call, Allocates, Makes_lock, Frees, Frees_lock, Copies, Permutes, Reduces}
 use Rattle.upc_values.specs.Calls.{Reduces_prefixes, Other, Way, Broadcast, Scatter, Gather, Gather_all, Exchange}
 use Rattle.upc_values.specs.Calls.{is_size, is_int, way_of, copies, call_of}
@@ -41,7 +41,7 @@ use Rattle.upc_values.specs.Expansions.{Part}
 use Rattle.upc_values.proofs.Membership.{each-append, each-front, each-back}
 use Rattle.thread_steps.specs.Library.{is_call}
 use Rattle.stack_code_laws.specs.code.Names.{objects_given}
-use Rattle.stack_code_laws.proofs.Given.{names, knows, is_known, FindsNamed, may_call, IsWellFormed, fits_after}
+use Rattle.stack_code_laws.proofs.Given.{IsGround, names, knows, is_known, may_call, IsCellThere, IsWellFormed}
 use Rattle.stack_code_laws.proofs.KnownValues.{pointer_names}
 use Rattle.block_layout.proofs.Found.{kind_is}
 use Rattle.private_store.proofs.Places.{some_bytes}
@@ -157,48 +157,50 @@ module _ (o : Opening) (past : List Reply) where
       (Reduces_prefixes dst src op (unsigned_abs n) (unsigned_abs b) (unsigned_abs j) f) h both both
   may_form c args e k h = absurd (false≢true h)
 
-module _ (o : Opening) (past : List Reply) (v : IsOpening o) (finds : FindsNamed o past) (me budget : ℕ) where
+module _ (o : Opening) (past : List Reply) (v : IsGround o) (R : Kind → Loc → Type 0) (me budget : ℕ) where
   abbrev Goes : {A : Type 0} → (A → Type 0) → Expansion A → Type 0
-  Goes V e = p.GoesWell o past v finds me budget V e
+  Goes V e = p.GoesWell o past v R me budget V e
 
   -- ---- actions
 
-  does_goes : (a : Action) → IsWellFormed o past a
-      → ((r : Reply) → fits_after o past a r ≡ fits o.threads o.shapes None a r) → Goes Nothing (does a)
-  does_goes a formed fit = (formed, fit, λ r e. m.unrefused o past v finds me budget r)
+  does_goes : (a : Action) → IsWellFormed o past R None a → Goes Nothing (does a)
+  does_goes a formed = (formed, λ r e. m.unrefused o past v R me budget r)
 
   barrier_goes : Goes Nothing barrier
   barrier_goes =
-      m.bind_goes o past v finds me budget Nothing Nothing (does (act.Notify Absent)) (λ u. does (act.Wait Absent))
-      (does_goes (act.Notify Absent) tt (λ r. refl)) (λ u h. does_goes (act.Wait Absent) tt (λ r. refl))
+      m.bind_goes o past v R me budget Nothing Nothing (does (act.Notify Absent)) (λ u. does (act.Wait Absent))
+      (does_goes (act.Notify Absent) tt) (λ u h. does_goes (act.Wait Absent) tt)
 
   after : (e : Expansion (Unit {0})) (f : Unit {0} → Expansion (Unit {0})) → Goes Nothing e
       → ((u : Unit {0}) → Goes Nothing (f u)) → Goes Nothing (bind e f)
-  after e f h g = m.bind_goes o past v finds me budget Nothing Nothing e f h (λ u k. g u)
+  after e f h g = m.bind_goes o past v R me budget Nothing Nothing e f h (λ u k. g u)
 
   unless : (b : Bool) (e : Expansion (Unit {0})) → Goes Nothing e → Goes Nothing (cond b nothing e)
-  unless b e h = m.cond_goes o past v finds me budget Nothing b nothing e tt (λ q. h)
+  unless b e h = m.cond_goes o past v R me budget Nothing b nothing e tt (λ q. h)
 
   only_if : (b : Bool) (e : Expansion (Unit {0})) → Goes Nothing e → Goes Nothing (cond b e nothing)
-  only_if b e h = m.cond_goes o past v finds me budget Nothing b e nothing h (λ q. tt)
+  only_if b e h = m.cond_goes o past v R me budget Nothing b e nothing h (λ q. tt)
 
   -- ---- pointers
 
   -- The object of a pointer is one of those given, and its thread one of the run's.
   abbrev IsNear : SharedPtr → Type 0
-  IsNear q = (list_any (same_object q.object) (objects_given o past) ≡ true) × (nat_lt q.thread o.threads ≡ true)
+  IsNear q =
+      (list_any (same_object q.object) (objects_given o.declared past) ≡ true) × (nat_lt q.thread o.threads ≡ true)
 
   known_near : (q : SharedPtr) → knows o past q ≡ true → is_null q ≡ false → IsNear q
   known_near q h e =
       let all = pointer_names o past q h e in
       let first =
-      and_parts (list_any (same_object q.object) (objects_given o past)) (nat_lt q.thread o.threads && in_range q.offset) all
+      and_parts (list_any (same_object q.object) (objects_given o.declared past))
+      (nat_lt q.thread o.threads && in_range q.offset) all
       in
       (first.0, (and_parts (nat_lt q.thread o.threads) (in_range q.offset) first.1).0)
 
   named : (q : SharedPtr) → IsNear q → in_range q.offset ≡ true → names o past q.object q.thread q.offset ≡ true
   named q h e =
-      and_from (list_any (same_object q.object) (objects_given o past)) (nat_lt q.thread o.threads && in_range q.offset) h.0
+      and_from (list_any (same_object q.object) (objects_given o.declared past))
+      (nat_lt q.thread o.threads && in_range q.offset) h.0
       (and_from (nat_lt q.thread o.threads) (in_range q.offset) h.1 e)
 
   element_near : (q : SharedPtr) (block size i : ℕ) → IsNear q → IsNear (element q block size o.threads i)
@@ -225,7 +227,7 @@ module _ (o : Opening) (past : List Reply) (v : IsOpening o) (finds : FindsNamed
 
   -- A pointer leads to a cell of a kind.
   abbrev IsCell : Kind → SharedPtr → Type 0
-  IsCell k q = cell_of o (objects_given o past) (location q) ≡ Some k
+  IsCell k q = IsCellThere o past (location q) k
 
   cell_there : (k : Kind) (q : SharedPtr) → IsNear q → leaves_range (kind_size k) q ≡ false
       → leaves_piece o.threads (kind_size k) q ≡ false → is_cell o.shapes k q ≡ true → IsCell k q
@@ -234,8 +236,8 @@ module _ (o : Opening) (past : List Reply) (v : IsOpening o) (finds : FindsNamed
       let same : byte + 0 ≡ byte = omega arith in
       let found = is_kind_some k (kind_at (shape_at o.shapes q) byte) there in
       subst
-      (λ n. cell_of o (objects_given o past) (record { object = q.object.number; thread = q.thread; offset = n }) ≡ Some k) same
-      (cell_behind o past v finds q (kind_size k) 0 k (named q h (begins_in (kind_size k) q range)) room (some_bytes k)
+      (λ n. IsCellThere o past (record { object = q.object.number; thread = q.thread; offset = n }) k) same
+      (cell_behind o past v q (kind_size k) 0 k (named q h (begins_in (kind_size k) q range)) room (some_bytes k)
       (subst (λ n. kind_at (shape_at o.shapes q) n ≡ Some k) (sym same) found))
 
   cells_there : (k : Kind) (qs : List SharedPtr) → Each IsNear qs → Each (λ q. leaves_range (kind_size k) q ≡ false) qs
@@ -255,9 +257,10 @@ module _ (o : Opening) (past : List Reply) (v : IsOpening o) (finds : FindsNamed
       ∷ (list_any (leaves_piece o.threads (kind_size k)) qs, OUT_OF_OBJECT)
       ∷ (list_any (λ q. not (is_cell o.shapes k q)) qs, CELL_TYPE)
       ∷ [] in
-      m.refused_goes o past v finds me budget Nothing tests e (λ t.
+      m.refused_goes o past v R me budget Nothing tests e (λ t.
       f
-      (cells_there k qs h (none_of (leaves_range (kind_size k)) qs t.0) (none_of (leaves_piece o.threads (kind_size k)) qs t.1.0)
+      (cells_there k qs h (none_of (leaves_range (kind_size k)) qs t.0)
+      (none_of (leaves_piece o.threads (kind_size k)) qs t.1.0)
       (none_of (λ q. not (is_cell o.shapes k q)) qs t.1.1.0)))
 
   -- ---- reads and writes of numbers
@@ -274,9 +277,7 @@ module _ (o : Opening) (past : List Reply) (v : IsOpening o) (finds : FindsNamed
       → Goes Nothing (x.number_put o.threads o.shapes me q n)
   put_goes k q n i h e =
       does_goes (act.Write false (location q) (scalar.Int n))
-      (and_from (fits_cell (scalar.Int n) (cell_of o (objects_given o past) (location q))) true
-      (subst (λ c. fits_cell (scalar.Int n) c ≡ true) (sym h) (and_from (is_integer k) (in_kind k n) i e)) refl)
-      (λ r. refl)
+      (k, h, and_from (is_integer k) (in_kind k n) i e, refl)
 
   back_goes : (k : Kind) (r : Result ℤ ℕ) → Goes (IsOf k) (x.outcome o.threads o.shapes me (back_to k r))
   back_goes k (Ok n) = converted_in k n
@@ -289,9 +290,9 @@ module _ (o : Opening) (past : List Reply) (v : IsOpening o) (finds : FindsNamed
         → Goes Nothing (x.total o.threads o.shapes me op k n dst qs)
     total_goes n dst [] e h g = put_goes k dst n i h e
     total_goes n dst (q ∷ qs) e h g =
-        m.bind_goes o past v finds me budget (IsOf k) Nothing (x.number_at o.threads o.shapes me k q) _
+        m.bind_goes o past v R me budget (IsOf k) Nothing (x.number_at o.threads o.shapes me k q) _
         (read_goes k q g.0) (λ y c.
-        m.bind_goes o past v finds me budget (IsOf k) Nothing (x.outcome o.threads o.shapes me (step op k n y)) _
+        m.bind_goes o past v R me budget (IsOf k) Nothing (x.outcome o.threads o.shapes me (step op k n y)) _
         (back_goes k (reduced op (promoted k) n y)) (λ z d. total_goes z dst qs d h g.1))
 
     abbrev AreCells : Part → Type 0
@@ -303,9 +304,9 @@ module _ (o : Opening) (past : List Reply) (v : IsOpening o) (finds : FindsNamed
     totals_goes n (y ∷ parts) g =
         let put : ℤ → Expansion (Unit {0}) =
         λ b. bind (x.number_put o.threads o.shapes me y.into b) (λ u. x.totals o.threads o.shapes me op k b parts) in
-        m.bind_goes o past v finds me budget (IsOf k) Nothing (x.number_at o.threads o.shapes me k y.from)
+        m.bind_goes o past v R me budget (IsOf k) Nothing (x.number_at o.threads o.shapes me k y.from)
         (λ z. bind (x.outcome o.threads o.shapes me (step op k n z)) put) (read_goes k y.from g.0.1) (λ z c.
-        m.bind_goes o past v finds me budget (IsOf k) Nothing (x.outcome o.threads o.shapes me (step op k n z)) put
+        m.bind_goes o past v R me budget (IsOf k) Nothing (x.outcome o.threads o.shapes me (step op k n z)) put
         (back_goes k (reduced op (promoted k) n z)) (λ b d.
         after (x.number_put o.threads o.shapes me y.into b) _ (put_goes k y.into b i g.0.0 d) (λ u.
         totals_goes b parts g.1)))
@@ -314,7 +315,7 @@ module _ (o : Opening) (past : List Reply) (v : IsOpening o) (finds : FindsNamed
     reduce_goes : (op : Option Reduction) (dst : SharedPtr) (qs : List SharedPtr) → IsCell k dst
         → Each (IsCell k) qs → Goes Nothing (x.reduce o.threads o.shapes me op k dst qs)
     reduce_goes (Some op) dst (q ∷ qs) h g =
-        m.bind_goes o past v finds me budget (IsOf k) Nothing (x.number_at o.threads o.shapes me k q) _
+        m.bind_goes o past v R me budget (IsOf k) Nothing (x.number_at o.threads o.shapes me k q) _
         (read_goes k q g.0) (λ y c. total_goes op k i y dst qs c h g.1)
     reduce_goes (Some op) dst [] h g = tt
     reduce_goes None dst qs h g = tt
@@ -323,7 +324,7 @@ module _ (o : Opening) (past : List Reply) (v : IsOpening o) (finds : FindsNamed
         → Goes Nothing (x.reduce_prefixes o.threads o.shapes me op k parts)
     prefixes_goes (Some op) (y ∷ parts) g =
         let more : ℤ → Unit {0} → Expansion (Unit {0}) = λ z u. x.totals o.threads o.shapes me op k z parts in
-        m.bind_goes o past v finds me budget (IsOf k) Nothing (x.number_at o.threads o.shapes me k y.from)
+        m.bind_goes o past v R me budget (IsOf k) Nothing (x.number_at o.threads o.shapes me k y.from)
         (λ z. bind (x.number_put o.threads o.shapes me y.into z) (more z)) (read_goes k y.from g.0.1) (λ z c.
         after (x.number_put o.threads o.shapes me y.into z) (more z) (put_goes k y.into z i g.0.0 c) (λ u.
         totals_goes op k i z parts g.1))
@@ -359,7 +360,7 @@ module _ (o : Opening) (past : List Reply) (v : IsOpening o) (finds : FindsNamed
       let d = neither (cut y.into) (cut y.from || not (same_cells into from)) differ in
       let e = neither (cut y.from) (not (same_cells into from)) d.1 in
       let same = cells_same into from (not_false (same_cells into from) e.1) in
-      m.copy_cells_goes o past v finds me budget None n (In_shared y.into) (In_shared y.from)
+      m.copy_cells_goes o past v R me budget None n (In_shared y.into) (In_shared y.from)
       (named y.into h.0 (begins_in n y.into r.0)) (named y.from h.1 (begins_in n y.from r.1)) s.0 s.1 same
 
   parts_go : (n : ℕ) (parts : List Part) → Each IsNearPart parts
@@ -380,8 +381,8 @@ module _ (o : Opening) (past : List Reply) (v : IsOpening o) (finds : FindsNamed
       ∷ (list_any (x.differ o.threads o.shapes me n) parts, CELL_TYPE)
       ∷ [] in
       let go = each_in_turn (x.copied o.threads o.shapes me n) parts in
-      m.refused_goes o past v finds me budget Nothing tests go (λ t.
-      m.each_goes o past v finds me budget (x.copied o.threads o.shapes me n) parts
+      m.refused_goes o past v R me budget Nothing tests go (λ t.
+      m.each_goes o past v R me budget (x.copied o.threads o.shapes me n) parts
       (parts_go n parts h (none_of (λ y. leaves_range n y.into || leaves_range n y.from) parts t.0)
       (none_of (λ y. leaves_piece o.threads n y.into || leaves_piece o.threads n y.from) parts t.1.0)
       (none_of (x.differ o.threads o.shapes me n) parts t.1.1.0)))
@@ -415,9 +416,9 @@ module _ (o : Opening) (past : List Reply) (v : IsOpening o) (finds : FindsNamed
   gathered_goes (q ∷ qs) h =
       let read : SharedPtr → Expansion ℤ = x.number_at o.threads o.shapes me kind.Int in
       let others : Expansion (List ℤ) = gathered read qs in
-      m.bind_goes o past v finds me budget {A = ℤ} {B = List ℤ} (IsOf kind.Int) AnyOf (read q)
+      m.bind_goes o past v R me budget {A = ℤ} {B = List ℤ} (IsOf kind.Int) AnyOf (read q)
       (λ y. bind others (λ ys. Gives (y ∷ ys))) (read_goes kind.Int q h.0) (λ y c.
-      m.bind_goes o past v finds me budget {A = List ℤ} {B = List ℤ} AnyOf AnyOf others (λ ys. Gives (y ∷ ys))
+      m.bind_goes o past v R me budget {A = List ℤ} {B = List ℤ} AnyOf AnyOf others (λ ys. Gives (y ∷ ys))
       (gathered_goes qs h.1) (λ ys d. tt))
 
   permute_goes : (dst src perm : SharedPtr) (n : ℕ) → IsNear dst → IsNear src → IsNear perm
@@ -440,18 +441,18 @@ module _ (o : Opening) (past : List Reply) (v : IsOpening o) (finds : FindsNamed
       let chosen : List ℤ → Expansion (Unit {0}) =
       λ ns. refused_by ((not (is_permutation ns), LIBRARY_ARGS) ∷ []) (copy ns) in
       let all : Expansion (List ℤ) = gathered (x.number_at o.threads o.shapes me kind.Int) qs in
-      m.refused_goes o past v finds me budget Nothing tests (bind all chosen) (λ t.
+      m.refused_goes o past v R me budget Nothing tests (bind all chosen) (λ t.
       let range = neither (list_any (leaves_range 4) qs) (some && leaves_range n own) t.0 in
       let room = neither (list_any (leaves_piece o.threads 4) qs) (some && leaves_piece o.threads n own) t.1.0 in
       let cells =
       neither (list_any (λ q. not (is_cell o.shapes kind.Int q)) qs) (some && x.cut o.threads o.shapes me n own) t.1.1.0
       in
-      m.bind_goes o past v finds me budget {A = List ℤ} {B = Unit {0}} AnyOf Nothing all chosen
+      m.bind_goes o past v R me budget {A = List ℤ} {B = Unit {0}} AnyOf Nothing all chosen
       (gathered_goes qs
       (cells_there kind.Int qs near (none_of (leaves_range 4) qs range.0)
       (none_of (leaves_piece o.threads 4) qs room.0)
       (none_of (λ q. not (is_cell o.shapes kind.Int q)) qs cells.0))) (λ ns c.
-      m.refused_goes o past v finds me budget Nothing ((not (is_permutation ns), LIBRARY_ARGS) ∷ []) (copy ns) (λ z.
+      m.refused_goes o past v R me budget Nothing ((not (is_permutation ns), LIBRARY_ARGS) ∷ []) (copy ns) (λ z.
       unless (n == 0) (x.move o.threads o.shapes me n (x.chosen o.threads o.shapes me dst src n ns ∷ []))
       (move_goes n (x.chosen o.threads o.shapes me dst src n ns ∷ [])
       ((byte_near dst n (me * n) hd, byte_near src n _ hs), tt)))))
@@ -507,8 +508,8 @@ module _ (o : Opening) (past : List Reply) (v : IsOpening o) (finds : FindsNamed
       let call = call_of c args in
       let f = x.flags_of o.threads o.shapes me call in
       let may = may_form o past c args e k h in
-      m.refused_goes o past v finds me budget Nothing (x.tests o.threads o.shapes me call) _ (λ t.
-      after (does (act.Meet c args)) _ (does_goes (act.Meet c args) (may, k) (λ r. refl)) (λ u.
+      m.refused_goes o past v R me budget Nothing (x.tests o.threads o.shapes me call) _ (λ t.
+      after (does (act.Meet c args)) _ (does_goes (act.Meet c args) (may, k)) (λ u.
       after (x.entry f) _ (unless (unsigned_abs f % 8 == 1) barrier barrier_goes) (λ w.
       after (x.work o.threads o.shapes me call) _ (work_goes call may t) (λ z.
       unless (unsigned_abs f / 8 == 1) barrier barrier_goes))))

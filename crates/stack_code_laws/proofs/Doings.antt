@@ -1,12 +1,13 @@
 -- Steps of a thread that ask well: what is asked for may be asked for, where all values are known; a reply that fits
 -- it is taken; and what was done before goes by the replies that were heard alone.
-use Rattle.std.proofs.Common.{◌≡◌, ℕ, ◌+◌, List, [], ◌∷◌, ◌++◌, length, Option, Bool, true, false}
+use Rattle.std.proofs.Common.{◌≡◌, ℕ, List, [], ◌∷◌, ◌++◌, length, Option, Bool, true, false}
 use Rattle.std.proofs.Common.{refl, sym, ◌∙◌, ap, subst, arith}
 use Rattle.std.specs.Prelude.{Result, Ok, Err}
 use Rattle.std.proofs.lemmas.Bool.{false≢true}
 use Rattle.std.proofs.lemmas.List.{length_push}
 use Rattle.upc_text.specs.declared.place.Place.{Place}
 use Rattle.block_layout.specs.declared.kind.Kind.{Kind}
+use Rattle.block_layout.specs.declared.place.Loc.{Loc}
 use Rattle.upc_values.specs.declared.action.Action.{Action}
 use Rattle.upc_values.specs.declared.action.Reply.{Reply}
 use Rattle.upc_values.specs.declared.record.ToldEnd.{ToldEnd}
@@ -21,7 +22,9 @@ use Rattle.thread_steps.specs.Accesses.{with_store}
 use Rattle.thread_steps.specs.layer.Fronts.{Begins}
 use Rattle.thread_steps.proofs.Fronts.{begins_itself, begins_pushed, begins_on}
 use Rattle.thread_steps.proofs.Following.{total, plus, Later}
-use Rattle.stack_code_laws.proofs.Given.{gives_known, AreKnown, IsWellFormed, fits_after}
+use Rattle.stack_code_laws.proofs.Given.{gives_known, AreHeard, IsWellFormed}
+use Rattle.stack_code_laws.proofs.Heard.{answer_known}
+use Rattle.stack_code_laws.proofs.KnownValues.{runner}
 use Rattle.stack_code_laws.proofs.Stores.{IsFilled, FilledIn}
 
 -- ---- what was done stays, whatever is heard
@@ -73,40 +76,45 @@ abbrev pub Holds : {A : Type 0} → (A → Type 0) → Result A ℕ → Type 0
 Holds V (Ok v) = V v
 Holds V (Err code) = Unit {0}
 
-module _ (o : Opening) (past : List Reply) where
-  -- The values of the store are known, and what the replies to come give.
+-- R holds of what a read reads.
+module _ (o : Opening) (past : List Reply) (R : Kind → Loc → Type 0) where
+  -- The values of the store are known, and what the replies to come name was given.
   pub record IsGood (σ : State) : Type 0 where
     pub store : IsFilled o past σ.store
-    pub replies : AreKnown o past σ.replies
+    pub replies : AreHeard o past σ.replies
 
-  -- An action that may be asked for is wanted; with a reply that fits it, it is done, and with another one the thread
-  -- ends.
-  pub record IsAsked (A : Type 0) (a : Action) (υ : State) (R : Later A) : Type 0 where
+  -- An action that may be asked for is wanted; with a reply that fits it, a read by the kind of its cell, it is done,
+  -- and with another one the thread ends.
+  pub record IsAsked (A : Type 0) (a : Action) (υ : State) (later : Later A) : Type 0 where
     pub none : υ.replies ≡ []
-    pub formed : IsWellFormed o past a
-    pub fit : (x : Reply) (xs : List Reply) → fits_after o past a x ≡ true → Reaches (υ.actions ++ a ∷ []) (R x xs)
-    pub misfit : (x : Reply) (xs : List Reply) → fits_after o past a x ≡ false → Misses υ.actions (R x xs)
+    pub kind : Option Kind
+    pub formed : IsWellFormed o past R kind a
+    pub fit :
+        (x : Reply) (xs : List Reply) → fits o.threads o.shapes kind a x ≡ true
+        → Reaches (υ.actions ++ a ∷ []) (later x xs)
+    pub misfit :
+        (x : Reply) (xs : List Reply) → fits o.threads o.shapes kind a x ≡ false → Misses υ.actions (later x xs)
 
   abbrev pub EndsWell : {A : Type 0} → ToldEnd → State → Later A → Type 0
-  EndsWell {A} (Wants a) υ R = IsAsked A a υ R
-  EndsWell e υ R = Unit {0}
+  EndsWell {A} (Wants a) υ later = IsAsked A a υ later
+  EndsWell e υ later = Unit {0}
 
   -- A value that passes, or such an end; with further replies the same value comes.
   abbrev pub Comes : {A : Type 0} → (A → Type 0) → Res A → Later A → Type 0
-  Comes V (Val v υ) R = V v × IsGood υ × ((x : Reply) (xs : List Reply) → R x xs ≡ Val v (plus υ x xs))
-  Comes V (Over e υ) R = EndsWell e υ R
-  Comes V Unfinished R = ⊥
+  Comes V (Val v υ) later = V v × IsGood υ × ((x : Reply) (xs : List Reply) → later x xs ≡ Val v (plus υ x xs))
+  Comes V (Over e υ) later = EndsWell e υ later
+  Comes V Unfinished later = ⊥
 
   -- What is done grows the actions, and, where P holds, comes well to a value that passes or to an end.
   pub record Asks (A P : Type 0) (V : A → Type 0) (m : Doing A) : Type 0 where
     pub grows : (σ : State) → Grown σ (m σ)
     pub by : P → (σ : State) → IsGood σ → Comes V (m σ) (λ x xs. m (plus σ x xs))
 
-  comes_wider : {A : Type 0} (V W : A → Type 0) → ((v : A) → V v → W v) → (r : Res A) (R : Later A) → Comes V r R
-      → Comes W r R
-  comes_wider V W f (Val v υ) R c = (f v c.0, c.1, c.2)
-  comes_wider V W f (Over e υ) R c = c
-  comes_wider V W f Unfinished R c = c
+  comes_wider : {A : Type 0} (V W : A → Type 0) → ((v : A) → V v → W v) → (r : Res A) (later : Later A)
+      → Comes V r later → Comes W r later
+  comes_wider V W f (Val v υ) later c = (f v c.0, c.1, c.2)
+  comes_wider V W f (Over e υ) later c = c
+  comes_wider V W f Unfinished later c = c
 
   pub wider : {A : Type 0} (P : Type 0) (V W : A → Type 0) (m : Doing A) → ((v : A) → V v → W v) → Asks A P V m
       → Asks A P W m
@@ -132,26 +140,28 @@ module _ (o : Opening) (past : List Reply) where
     misses_then actions (Over e υ) h = h
     misses_then actions Unfinished h = absurd h
 
-    end_then : (e : ToldEnd) (υ : State) (R : Later A) → EndsWell e υ R → EndsWell e υ (λ x xs. bind (R x xs) f)
-    end_then (Wants a) υ R h = record {
+    end_then : (e : ToldEnd) (υ : State) (later : Later A) → EndsWell e υ later
+        → EndsWell e υ (λ x xs. bind (later x xs) f)
+    end_then (Wants a) υ later h = record {
       none = h.none;
+      kind = h.kind;
       formed = h.formed;
-      fit = λ x xs e. reaches_then (υ.actions ++ a ∷ []) (R x xs) (h.fit x xs e);
-      misfit = λ x xs e. misses_then υ.actions (R x xs) (h.misfit x xs e);
+      fit = λ x xs e. reaches_then (υ.actions ++ a ∷ []) (later x xs) (h.fit x xs e);
+      misfit = λ x xs e. misses_then υ.actions (later x xs) (h.misfit x xs e);
     }
-    end_then (Misfit k) υ R h = tt
-    end_then (Ended v) υ R h = tt
-    end_then (Exit v) υ R h = tt
-    end_then (Fault code at) υ R h = tt
-    end_then OutOfTicks υ R h = tt
+    end_then (Misfit k) υ later h = tt
+    end_then (Ended v) υ later h = tt
+    end_then (Exit v) υ later h = tt
+    end_then (Fault code at) υ later h = tt
+    end_then OutOfTicks υ later h = tt
 
-    comes_then : P → (r : Res A) (R : Later A) → Comes V r R → Comes W (bind r f) (λ x xs. bind (R x xs) f)
-    comes_then p (Val v υ) R c =
+    comes_then : P → (r : Res A) (later : Later A) → Comes V r later → Comes W (bind r f) (λ x xs. bind (later x xs) f)
+    comes_then p (Val v υ) later c =
         let h = (lf v).by (p, c.0) υ c.1 in
-        let same : (λ x xs. Val v (plus υ x xs)) ≡ R = λ i x xs. sym (c.2 x xs) i in
+        let same : (λ x xs. Val v (plus υ x xs)) ≡ later = λ i x xs. sym (c.2 x xs) i in
         subst (λ S. Comes W (f v υ) (λ x xs. bind (S x xs) f)) same h
-    comes_then p (Over e υ) R c = end_then e υ R c
-    comes_then p Unfinished R c = c
+    comes_then p (Over e υ) later c = end_then e υ later c
+    comes_then p Unfinished later c = c
 
   -- First the one, then what its value leads to.
   pub then_asks : (A B P : Type 0) (V : A → Type 0) (W : B → Type 0) (m : Doing A) (f : A → Doing B) → Asks A P V m
@@ -173,7 +183,7 @@ module _ (o : Opening) (past : List Reply) where
   fault_asks A P V code at = record { grows = λ σ. unmoved σ; by = λ p σ g. tt }
 
   pub exit_asks : (A P : Type 0) (V : A → Type 0) (over_by : ToldEnd)
-      → ((υ : State) (R : Later A) → EndsWell over_by υ R)
+      → ((υ : State) (later : Later A) → EndsWell over_by υ later)
       → Asks A P V (over over_by)
   exit_asks A P V e h = record { grows = λ σ. unmoved σ; by = λ p σ g. h σ _ }
 
@@ -190,7 +200,8 @@ module _ (o : Opening) (past : List Reply) where
   }
 
   -- A change of the state that leaves actions and replies as they are.
-  pub change_asks : (P : Type 0) (f : State → State) → ((σ : State) → IsFilled o past σ.store → IsFilled o past (f σ).store)
+  pub change_asks : (P : Type 0) (f : State → State)
+      → ((σ : State) → IsFilled o past σ.store → IsFilled o past (f σ).store)
       → ((σ : State) → (f σ).actions ≡ σ.actions) → ((σ : State) → (f σ).replies ≡ σ.replies)
       → ((σ : State) (x : Reply) (xs : List Reply) → f (plus σ x xs) ≡ plus (f σ) x xs)
       → Asks (Unit {0}) P Nothing (change f)
@@ -203,7 +214,7 @@ module _ (o : Opening) (past : List Reply) where
       tt,
       record {
         store = kept σ g.store;
-        replies = subst (λ l. AreKnown o past l) (sym (reps σ)) g.replies;
+        replies = subst (λ l. AreHeard o past l) (sym (reps σ)) g.replies;
       },
       λ x xs. ap (λ s. Val tt s) (comm σ x xs),
     );
@@ -242,7 +253,10 @@ module _ (o : Opening) (past : List Reply) where
 
   -- ---- one action
 
-  module _ (τ : Thread) (kind : Option Kind) (a : Action) where
+  module _ (me budget : ℕ) (kind : Option Kind) (a : Action) where
+    abbrev τ : Thread
+    τ = runner o me budget
+
     grown_by_fit : (b : Bool) (r : Reply) (rest : List Reply) (σ : State) → σ.replies ≡ r ∷ rest
         → Grown σ (answered b a r rest σ)
     grown_by_fit true r rest σ e =
@@ -251,7 +265,7 @@ module _ (o : Opening) (past : List Reply) where
 
     grown_by_replies : (rs : List Reply) (σ : State) → σ.replies ≡ rs → Grown σ (answered_from τ kind a rs σ)
     grown_by_replies [] σ e = unmoved σ
-    grown_by_replies (r ∷ rest) σ e = grown_by_fit (fits τ.threads τ.shapes kind a r) r rest σ e
+    grown_by_replies (r ∷ rest) σ e = grown_by_fit (fits o.threads o.shapes kind a r) r rest σ e
 
     taken : (b : Bool) (x : Reply) (xs : List Reply) (σ : State) → b ≡ true
         → Reaches (σ.actions ++ a ∷ []) (answered b a x xs (plus σ x xs))
@@ -266,27 +280,30 @@ module _ (o : Opening) (past : List Reply) where
     -- What answers the action: a reply that gives what is known, and fits it.
     pub record IsAnswer (r : Reply) : Type 0 where
       pub given : gives_known o past r ≡ true
-      pub fit : fits τ.threads τ.shapes kind a r ≡ true
+      pub fit : fits o.threads o.shapes kind a r ≡ true
 
     comes_by_fit : (b : Bool) (r : Reply) (rest : List Reply) (σ : State) → IsGood σ → σ.replies ≡ r ∷ rest
-        → fits τ.threads τ.shapes kind a r ≡ b
+        → fits o.threads o.shapes kind a r ≡ b
         → Comes IsAnswer (answered b a r rest σ) (λ x xs. answered b a r (rest ++ x ∷ xs) (plus σ x xs))
     comes_by_fit true r rest σ g e f =
-        let k = subst (λ l. AreKnown o past l) e g.replies in
-        (record { given = k.0; fit = f }, record { store = g.store; replies = k.1 }, λ x xs. refl)
+        let k = subst (λ l. AreHeard o past l) e g.replies in (
+          record { given = answer_known o past kind a r k.0 f; fit = f },
+          record { store = g.store; replies = k.1 },
+          λ x xs. refl,
+        )
     comes_by_fit false r rest σ g e f = tt
 
-    module _ (P : Type 0) (formed : P → IsWellFormed o past a)
-        (same : P → (x : Reply) → fits_after o past a x ≡ fits τ.threads τ.shapes kind a x) where
+    module _ (P : Type 0) (formed : P → IsWellFormed o past R kind a) where
       comes_by_replies : P → (rs : List Reply) (σ : State) → IsGood σ → σ.replies ≡ rs
           → Comes IsAnswer (answered_from τ kind a rs σ) (λ x xs. answered_from τ kind a (rs ++ x ∷ xs) (plus σ x xs))
       comes_by_replies p [] σ g e = record {
         none = e;
+        kind = kind;
         formed = formed p;
-        fit = λ x xs h. taken (fits τ.threads τ.shapes kind a x) x xs σ (sym (same p x) ∙ h);
-        misfit = λ x xs h. missed (fits τ.threads τ.shapes kind a x) x xs σ (sym (same p x) ∙ h);
+        fit = λ x xs h. taken (fits o.threads o.shapes kind a x) x xs σ h;
+        misfit = λ x xs h. missed (fits o.threads o.shapes kind a x) x xs σ h;
       }
-      comes_by_replies p (r ∷ rest) σ g e = comes_by_fit (fits τ.threads τ.shapes kind a r) r rest σ g e refl
+      comes_by_replies p (r ∷ rest) σ g e = comes_by_fit (fits o.threads o.shapes kind a r) r rest σ g e refl
 
       pub ask_asks : Asks Reply P IsAnswer (ask τ kind a)
       unfolding ask

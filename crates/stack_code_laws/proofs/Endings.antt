@@ -1,6 +1,6 @@
 -- Every thread of code ends, whatever it is answered, and counts no more ticks than its budget.
-use Rattle.std.proofs.Common.{◌≡◌, ◌⊎◌, inl, inr, ℕ, zero, suc, ◌+◌, ◌%◌, ◌<◌, ◌≤◌, List, [], ◌∷◌, Option, None}
-use Rattle.std.proofs.Common.{Bool, true, false, refl, sym, ap, subst, ◌∙◌, arith}
+use Rattle.std.proofs.Common.{◌≡◌, ◌⊎◌, inl, inr, ℕ, zero, suc, ◌+◌, ◌%◌, ◌<◌, ◌≤◌, List, [], ◌∷◌, None}
+use Rattle.std.proofs.Common.{Bool, true, false, refl, sym, subst, arith}
 use Rattle.std.specs.Prelude.{◌==◌, slice_get}
 use Rattle.upc_values.specs.declared.scalar.Value.{Value}
 use Rattle.upc_values.specs.declared.action.Action.TheVariants as act
@@ -9,7 +9,7 @@ use Rattle.upc_values.specs.declared.record.ToldEnd.{ToldEnd}
 use Rattle.upc_values.specs.declared.record.ToldEnd.TheVariants.{OutOfTicks}
 use Rattle.upc_values.specs.Formed.{fits}
 use Rattle.upc_values.specs.Outcomes.{Outcome}
-use Rattle.thread_steps.specs.States.{Thread, State, Res, Val, Over, Unfinished, bind, Doing, ◌>>=◌, ◌>>◌, skip}
+use Rattle.thread_steps.specs.States.{Thread, State, Res, Val, Over, Unfinished, bind, Doing, ◌>>◌, skip}
 use Rattle.thread_steps.specs.States.{choose, over}
 use Rattle.thread_steps.specs.Actions.{ask, answered, answered_from, tick, with_tick}
 use Rattle.thread_steps.proofs.Depths.{depth}

@@ -1,13 +1,16 @@
 -- What may be asked for by the names that replies gave.
-use Rattle.std.proofs.Common.{◌≡◌, ℕ, ◌*◌, ◌==◌, nat_lt, ℤ, Bool, true, false, ◌&&◌, ◌||◌, List, Option, Some, None}
+use Rattle.std.proofs.Common.{◌≡◌, ℕ, ◌<◌, ◌*◌, ◌==◌, nat_lt, ℤ, Bool, true, false, ◌&&◌, ◌||◌, List, Option, Some}
+use Rattle.std.proofs.Common.{None}
 use Rattle.std.proofs.Common.{is_some, slice_get}
-use Rattle.std.specs.List.{list_any, find}
+use Rattle.std.specs.List.{list_any}
 use Rattle.block_layout.specs.declared.kind.Kind.{Kind}
+use Rattle.block_layout.specs.declared.place.Loc.{Loc}
 use Rattle.block_layout.specs.declared.place.ObjectRef.{ObjectRef}
 use Rattle.block_layout.specs.declared.place.SharedPtr.{SharedPtr}
 use Rattle.block_layout.specs.declared.place.LocalPtr.TheVariants as local
 use Rattle.block_layout.specs.Places.{in_range}
 use Rattle.block_layout.specs.Pointers.{same_object}
+use Rattle.block_layout.specs.Shapes.{IsShape}
 use Rattle.upc_values.specs.declared.scalar.Scalar.{Scalar}
 use Rattle.upc_values.specs.declared.scalar.Scalar.TheVariants.{Int, Shared, Lock}
 use Rattle.upc_values.specs.declared.scalar.Value.{Value}
@@ -17,21 +20,28 @@ use Rattle.upc_values.specs.declared.action.Action.TheVariants as act
 use Rattle.upc_values.specs.declared.action.Reply.{Reply}
 use Rattle.upc_values.specs.declared.action.Reply.TheVariants as reply
 use Rattle.upc_values.specs.Lists.{Each}
-use Rattle.upc_values.specs.Shapes.{fits_cell}
+use Rattle.upc_values.specs.Shapes.{fits_kind}
 use Rattle.upc_values.specs.Calls.{Call, Allocates, Makes_lock, Frees, Frees_lock, Copies, Permutes, Reduces}
 use Rattle.upc_values.specs.Calls.{Reduces_prefixes, Other, call_of}
-use Rattle.upc_values.specs.Openings.{Opening, cell_of, is_named}
-use Rattle.upc_values.specs.Formed.{is_home, may_alloc, fits}
-use Rattle.stack_code_laws.specs.code.Names.{objects_given, is_lock_given}
+use Rattle.upc_values.specs.Openings.{Opening, IsSharable, is_named}
+use Rattle.upc_values.specs.Formed.{is_home, may_alloc}
+use Rattle.stack_code_laws.specs.code.Names.{object_in, lock_in, objects_given, is_lock_given}
+use Rattle.stack_code_laws.specs.code.Wanted.{IsCellAmong}
+
+-- What is needed of what a thread of code begins with: some threads, and shapes of shared elements.
+pub record IsGround (o : Opening) : Type 0 where
+  pub least : 0 < o.threads
+  pub shapes : Each IsShape o.shapes
+  pub sharable : Each IsSharable o.shapes
 
 -- A place in the piece of a given object that a thread has.
 abbrev pub names : Opening → List Reply → (object : ObjectRef) (thread : ℕ) (offset : ℤ) → Bool
 names o past object thread offset =
-    list_any (same_object object) (objects_given o past) && (nat_lt thread o.threads && in_range offset)
+    list_any (same_object object) (objects_given o.declared past) && (nat_lt thread o.threads && in_range offset)
 
 -- A pointer is null or names a given object.
 abbrev pub knows : Opening → List Reply → SharedPtr → Bool
-knows o past p = is_named o.threads (objects_given o past) p
+knows o past p = is_named o.threads (objects_given o.declared past) p
 
 -- A scalar is known: a pointer is null or names a given object, and a lock is null or given.
 abbrev pub is_known : Opening → List Reply → Scalar → Bool
@@ -48,14 +58,14 @@ abbrev pub gives_known : Opening → List Reply → Reply → Bool
 gives_known o past (reply.Value v) = is_known o past v
 gives_known o past r = true
 
-abbrev pub AreKnown : Opening → List Reply → List Reply → Type 0
-AreKnown o past replies = Each (λ r. gives_known o past r ≡ true) replies
+-- What a reply names was given.
+pub record IsHeard (o : Opening) (past : List Reply) (r : Reply) : Type 0 where
+  pub object : (x : ObjectRef) → object_in r ≡ Some x → list_any (same_object x) (objects_given o.declared past) ≡ true
+  pub lock : (l : ℕ) → lock_in r ≡ Some l → is_lock_given past l ≡ true
 
--- The number of a given object finds it among them.
-abbrev pub FindsNamed : Opening → List Reply → Type 0
-FindsNamed o past =
-    (x : ObjectRef) → list_any (same_object x) (objects_given o past) ≡ true
-    → find (λ y. y.number == x.number) (objects_given o past) ≡ Some x
+-- What each of the replies names was given.
+abbrev pub AreHeard : Opening → List Reply → List Reply → Type 0
+AreHeard o past replies = Each (IsHeard o past) replies
 
 -- The arguments of a collective call.
 abbrev pub may_call : Opening → List Reply → Call → Bool
@@ -69,25 +79,30 @@ may_call o past (Reduces dst src op n b k f) = knows o past dst && knows o past 
 may_call o past (Reduces_prefixes dst src op n b k f) = knows o past dst && knows o past src
 may_call o past Other = false
 
--- An action may be asked for by the names that were given.
-abbrev pub IsWellFormed : Opening → List Reply → Action → Type 0
-IsWellFormed o past (act.Read l s) = is_some (cell_of o (objects_given o past) l) ≡ true
-IsWellFormed o past (act.Write s l v) =
-    (fits_cell v (cell_of o (objects_given o past) l) && is_known o past v) ≡ true
-IsWellFormed o past (act.Lock l) = is_lock_given past l ≡ true
-IsWellFormed o past (act.Attempt l) = is_lock_given past l ≡ true
-IsWellFormed o past (act.Unlock l) = is_lock_given past l ≡ true
-IsWellFormed o past (act.LockFree l) = is_lock_given past l ≡ true
-IsWellFormed o past (act.Alloc n b h s) = (may_alloc o n b s && is_home o.threads h) ≡ true
-IsWellFormed o past (act.Free p) = knows o past p ≡ true
-IsWellFormed o past (act.Meet c args) =
+-- A cell of a kind at a location, in a given object.
+abbrev pub IsCellThere : Opening → List Reply → Loc → Kind → Type 0
+IsCellThere o past l k = IsCellAmong (objects_given o.declared past) o.threads o.shapes l k
+
+-- A read of a cell of a given object, of the kind at which it is read; R holds of the kind and the location.
+abbrev pub ReadsWell : Opening → List Reply → (Kind → Loc → Type 0) → Loc → Option Kind → Type 0
+ReadsWell o past R l (Some k) = IsCellThere o past l k × R k l
+ReadsWell o past R l None = ⊥
+
+-- An action may be asked for by the names that were given. R holds of what a read reads.
+abbrev pub IsWellFormed : Opening → List Reply → (Kind → Loc → Type 0) → Option Kind → Action → Type 0
+IsWellFormed o past R kind (act.Read l s) = ReadsWell o past R l kind
+IsWellFormed o past R kind (act.Write s l v) =
+    (k : Kind) × IsCellThere o past l k × (fits_kind v k ≡ true) × (is_known o past v ≡ true)
+IsWellFormed o past R kind (act.Lock l) = is_lock_given past l ≡ true
+IsWellFormed o past R kind (act.Attempt l) = is_lock_given past l ≡ true
+IsWellFormed o past R kind (act.Unlock l) = is_lock_given past l ≡ true
+IsWellFormed o past R kind (act.LockFree l) = is_lock_given past l ≡ true
+IsWellFormed o past R kind (act.Alloc n b h s) = (may_alloc o n b s && is_home o.threads h) ≡ true
+IsWellFormed o past R kind (act.Free p) = knows o past p ≡ true
+IsWellFormed o past R kind (act.Meet c args) =
     (may_call o past (call_of c args) ≡ true) × Each (λ v. is_known o past v ≡ true) args
-IsWellFormed o past a = Unit {0}
+IsWellFormed o past R kind a = Unit {0}
 
-abbrev pub kind_read : Opening → List Reply → Action → Option Kind
-kind_read o past (act.Read l s) = cell_of o (objects_given o past) l
-kind_read o past a = None
-
--- The reply fits the action, where a read is of the cell that its location finds among the given objects.
-abbrev pub fits_after : Opening → List Reply → Action → Reply → Bool
-fits_after o past a r = fits o.threads o.shapes (kind_read o past a) a r
+-- No more is said of what a read reads.
+abbrev pub AnyRead : Kind → Loc → Type 0
+AnyRead k l = Unit {0}

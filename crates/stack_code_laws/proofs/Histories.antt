@@ -12,7 +12,7 @@ use Rattle.block_layout.specs.declared.place.ObjectRef.{ObjectRef}
 use Rattle.block_layout.specs.declared.place.SharedPtr.{SharedPtr}
 use Rattle.block_layout.specs.Places.{in_range}
 use Rattle.block_layout.specs.Pointers.{is_null, same_object}
-use Rattle.block_layout.proofs.Pointers.{same_object-true, same_object-refl}
+use Rattle.block_layout.proofs.Pointers.{same_object-true}
 use Rattle.upc_values.specs.declared.scalar.Scalar.{Scalar}
 use Rattle.upc_values.specs.declared.scalar.Scalar.TheVariants as scalar
 use Rattle.upc_values.specs.declared.action.Action.{Action}
@@ -29,74 +29,29 @@ use Rattle.upc_values.specs.Formed as history
 use Rattle.upc_values.specs.Formed.{fits, is_lock}
 use Rattle.upc_values.specs.layer.Known as replies
 use Rattle.upc_values.proofs.Membership.{each-weaker}
-use Rattle.stack_code_laws.specs.code.Names.{object_in, lock_in, objects_given, is_object_given, is_lock_given, is_given}
+use Rattle.stack_code_laws.specs.code.Names.{object_in, lock_in, objects_given, is_object_given, is_lock_given}
+use Rattle.stack_code_laws.specs.code.Names.{is_given}
 use Rattle.stack_code_laws.specs.code.Names.{NamesGiven}
-use Rattle.stack_code_laws.proofs.Given.{names, knows, is_known, gives_known, AreKnown, FindsNamed, may_call, IsWellFormed}
-use Rattle.stack_code_laws.proofs.Given.{fits_after}
-use Rattle.stack_code_laws.proofs.ObjectNumbers.{AreNumberedFrom, objects_numbered, object_found}
+use Rattle.stack_code_laws.proofs.Given.{names, knows, is_known, may_call, IsCellThere, ReadsWell, IsWellFormed}
+use Rattle.stack_code_laws.proofs.ObjectNumbers.{objects_numbered, object_found}
 
 -- ---- lists
 
-any_cons : {X : Type 0} (test : X → Bool) (m : Option X) (xs : List X) → list_any test xs ≡ true
-    → list_any test (cons_option m xs) ≡ true
-any_cons test (Some x) xs h = or_right (test x) (list_any test xs) h
-any_cons test None xs h = h
-
 -- One of two.
-of_either : (P : Type 0) (a b : Bool) → (a || b) ≡ true → (a ≡ true → P) → (b ≡ true → P) → P
+pub of_either : (P : Type 0) (a b : Bool) → (a || b) ≡ true → (a ≡ true → P) → (b ≡ true → P) → P
 of_either P true b h f g = f refl
 of_either P false b h f g = g h
 
--- What a search finds is a member, and has the number.
-record IsFound (n : ℕ) (xs : List ObjectRef) (x : ObjectRef) : Type 0 where
-  member : list_any (same_object x) xs ≡ true
-  some : list_any (λ y. y.number == n) xs ≡ true
-  number : x.number ≡ n
-
-found_is : (n : ℕ) (xs : List ObjectRef) (x : ObjectRef) → find (λ y. y.number == n) xs ≡ Some x → IsFound n xs x
-found_is n [] x e = absurd cc
-found_is n (y ∷ xs) x e = by_number (y.number == n) refl e (found_is n xs x)
-  where
-    by_number : (b : Bool) → (y.number == n) ≡ b → cond b (Some y) (find (λ z. z.number == n) xs) ≡ Some x
-        → (find (λ z. z.number == n) xs ≡ Some x → IsFound n xs x) → IsFound n (y ∷ xs) x
-    by_number true q e next =
-        let same : y ≡ x = cc in
-        record {
-          member = or_left (same_object x y) (list_any (same_object x) xs)
-              (subst (λ z. same_object x z ≡ true) (sym same) (same_object-refl x));
-          some = or_left (y.number == n) (list_any (λ z. z.number == n) xs) q;
-          number = subst (λ z. z.number ≡ n) same (eqb-true y.number n q);
-        }
-    by_number false q e next =
-        let h = next e in
-        record {
-          member = or_right (same_object x y) (list_any (same_object x) xs) h.member;
-          some = or_right (y.number == n) (list_any (λ z. z.number == n) xs) h.some;
-          number = h.number;
-        }
-
--- Among some of numbered objects a number finds its object too.
-found_among : (all xs : List ObjectRef) (x : ObjectRef) → AreNumberedFrom 0 all
-    → ((y : ObjectRef) → list_any (same_object y) xs ≡ true → list_any (same_object y) all ≡ true)
-    → list_any (same_object x) all ≡ true → list_any (same_object x) xs ≡ true
-    → find (λ y. y.number == x.number) xs ≡ Some x
-found_among all [] x h f there e = absurd (false≢true e)
-found_among all (y ∷ xs) x h f there e =
-    by_number (y.number == x.number) refl
-    (found_among all xs x h (λ z m. f z (or_right (same_object z y) (list_any (same_object z) xs) m)) there)
-  where
-    by_number : (b : Bool) → (y.number == x.number) ≡ b
-        → (list_any (same_object x) xs ≡ true → find (λ z. z.number == x.number) xs ≡ Some x)
-        → cond b (Some y) (find (λ z. z.number == x.number) xs) ≡ Some x
-    by_number true q next =
-        let own = f y (or_left (same_object y y) (list_any (same_object y) xs) (same_object-refl y)) in
-        sym (object_found 0 all y h own)
-        ∙ ap (λ n. find (λ z. z.number == n) all) (eqb-true y.number x.number q) ∙ object_found 0 all x h there
-    by_number false q next =
-        of_either (find (λ z. z.number == x.number) xs ≡ Some x) (same_object x y) (list_any (same_object x) xs) e
-        (λ s.
-        let same = ap (λ z. z.number) (same_object-true x y s) in
-        absurd (eqb-false y.number x.number q (sym same))) next
+-- Some object of a list has the number of one that is among them.
+number_some : (x : ObjectRef) (n : ℕ) (xs : List ObjectRef) → x.number ≡ n → list_any (same_object x) xs ≡ true
+    → list_any (λ y. y.number == n) xs ≡ true
+number_some x n [] e h = absurd (false≢true h)
+number_some x n (y ∷ xs) e h =
+    of_either (list_any (λ z. z.number == n) (y ∷ xs) ≡ true) (same_object x y) (list_any (same_object x) xs) h
+    (λ s.
+    or_left (y.number == n) (list_any (λ z. z.number == n) xs)
+    (eq-eqb y.number n (sym (ap (λ z. z.number) (same_object-true x y s)) ∙ e)))
+    (λ m. or_right (y.number == n) (list_any (λ z. z.number == n) xs) (number_some x n xs e m))
 
 -- ---- what a reply names
 
@@ -106,55 +61,52 @@ object_if p b = elim (cond b None (Some p)) [ Some q ↦ Some q.object | None �
 abbrev lock_if : ℕ → Bool → Option ℕ
 lock_if l b = cond b None (Some l)
 
-fits_some : (v : Scalar) (k : Option Kind) → fits_cell v k ≡ true → is_some k ≡ true
-fits_some v (Some k) h = refl
-fits_some v None h = h
-
-module _ (o : Opening) (rs : List Reply) where
+module _ (o : Opening) (rs : List Reply) (R : Kind → Loc → Type 0) where
   -- ---- what an action names
 
-  named_object : (l : Loc) (x : Option ObjectRef) → find (λ y. y.number == l.object) (objects_given o rs) ≡ x
-      → is_some (cell_in o.threads o.shapes x l) ≡ true → is_object_given o rs l.object ≡ true
-  named_object l (Some x) e h = (found_is l.object (objects_given o rs) x e).some
-  named_object l None e h = absurd (false≢true h)
+  object_named : (l : Loc) (k : Kind) → IsCellThere o rs l k → is_object_given o.declared rs l.object ≡ true
+  object_named l k c = number_some c.object l.object (objects_given o.declared rs) c.number c.among
 
-  object_named : (l : Loc) → is_some (cell_of o (objects_given o rs) l) ≡ true → is_object_given o rs l.object ≡ true
-  object_named l h = named_object l (find (λ y. y.number == l.object) (objects_given o rs)) refl h
+  read_named : (l : Loc) (kind : Option Kind) → ReadsWell o rs R l kind
+      → is_object_given o.declared rs l.object ≡ true
+  read_named l (Some k) h = object_named l k h.0
+  read_named l None h = absurd h
 
   pointer_named : (b : Bool) (p : SharedPtr)
-      → (b || (list_any (same_object p.object) (objects_given o rs) && (nat_lt p.thread o.threads && in_range p.offset)))
-      ≡ true → (b || list_any (same_object p.object) (objects_given o rs)) ≡ true
+      → (b
+      || (list_any (same_object p.object) (objects_given o.declared rs)
+      && (nat_lt p.thread o.threads && in_range p.offset)))
+      ≡ true → (b || list_any (same_object p.object) (objects_given o.declared rs)) ≡ true
   pointer_named true p h = refl
   pointer_named false p h =
-      (and_parts (list_any (same_object p.object) (objects_given o rs)) (nat_lt p.thread o.threads && in_range p.offset)
+      (and_parts (list_any (same_object p.object) (objects_given o.declared rs))
+      (nat_lt p.thread o.threads && in_range p.offset)
       h).0
 
-  scalar_named : (v : Scalar) → is_known o rs v ≡ true → is_given o rs v ≡ true
+  scalar_named : (v : Scalar) → is_known o rs v ≡ true → is_given o.declared rs v ≡ true
   scalar_named (scalar.Int v) h = refl
   scalar_named (scalar.Shared p) h = pointer_named (is_null p) p h
   scalar_named (scalar.Lock l) h = h
 
   -- What may be asked for names what was given.
-  pub names_given : (a : Action) → IsWellFormed o rs a → NamesGiven o rs a
-  names_given (act.Read l s) h = object_named l h
-  names_given (act.Write s l v) h =
-      let q = and_parts (fits_cell v (cell_of o (objects_given o rs) l)) (is_known o rs v) h in
-      (object_named l (fits_some v (cell_of o (objects_given o rs) l) q.0), scalar_named v q.1)
-  names_given (act.Lock l) h = h
-  names_given (act.Attempt l) h = h
-  names_given (act.Unlock l) h = h
-  names_given (act.LockFree l) h = h
-  names_given (act.Free p) h = scalar_named (scalar.Shared p) h
-  names_given (act.Meet c args) h =
-      each-weaker (λ v. is_known o rs v ≡ true) (λ v. is_given o rs v ≡ true) scalar_named args h.1
-  names_given act.Fence h = tt
-  names_given act.Beat h = tt
-  names_given (act.Notify m) h = tt
-  names_given (act.Wait m) h = tt
-  names_given act.LockMake h = tt
-  names_given (act.Alloc n b home shape) h = tt
-  names_given (act.Print x) h = tt
-  names_given (act.Exit v) h = tt
+  pub names_given : (kind : Option Kind) (a : Action) → IsWellFormed o rs R kind a → NamesGiven o.declared rs a
+  names_given kind (act.Read l s) h = read_named l kind h
+  names_given kind (act.Write s l v) h = (object_named l h.0 h.1, scalar_named v h.3)
+  names_given kind (act.Lock l) h = h
+  names_given kind (act.Attempt l) h = h
+  names_given kind (act.Unlock l) h = h
+  names_given kind (act.LockFree l) h = h
+  names_given kind (act.Free p) h = scalar_named (scalar.Shared p) h
+  names_given kind (act.Meet c args) h =
+      each-weaker (λ v. is_known o rs v ≡ true) (λ v. is_given o.declared rs v ≡ true) scalar_named args h.1
+  names_given kind act.Fence h = tt
+  names_given kind act.Beat h = tt
+  names_given kind (act.Notify m) h = tt
+  names_given kind (act.Wait m) h = tt
+  names_given kind act.LockMake h = tt
+  names_given kind (act.Alloc n b home shape) h = tt
+  names_given kind (act.Print x) h = tt
+  names_given kind (act.Exit v) h = tt
 
 module _ (o : Opening) (es : List Entry) where
   -- ---- given objects and locks are in the history
@@ -202,7 +154,7 @@ module _ (o : Opening) (es : List Entry) where
       ∙ or_left (list_any (same_object x) o.declared) (list_any (same_object x) more) h
 
   given_there : (rs : List Reply) → replies.AreKnown o es rs → (x : ObjectRef)
-      → list_any (same_object x) (objects_given o rs) ≡ true → IsThere x
+      → list_any (same_object x) (objects_given o.declared rs) ≡ true → IsThere x
   given_there rs k x h =
       of_either (IsThere x) (list_any (same_object x) o.declared) (list_any (same_object x) (filter_map object_in rs))
       (sym (list_any-append (same_object x) o.declared (filter_map object_in rs)) ∙ h) (declared_there x)
@@ -235,88 +187,17 @@ module _ (o : Opening) (es : List Entry) where
       by_reply (reply.Flag b) k h next = next h
       by_reply (reply.Refused code) k h next = next h
 
-  -- ---- what replies give is known by their names
-
-  module _ (all : List Reply) where
-    one_known : (r : Reply) (objects_behind : List ObjectRef) (locks_behind : List ℕ)
-        → replies.gives_known o es r ≡ true
-        → ((x : ObjectRef) → list_any (same_object x) (cons_option (object_in r) objects_behind) ≡ true
-        → list_any (same_object x) (objects_given o all) ≡ true)
-        → ((l : ℕ) → list_any (λ m. m == l) (cons_option (lock_in r) locks_behind) ≡ true
-        → is_lock_given all l ≡ true)
-        → gives_known o all r ≡ true
-    one_known (reply.Value (scalar.Shared p)) xs ls k f g = by_null (is_null p) refl k
-      where
-        by_null : (b : Bool) → is_null p ≡ b
-            → (b || (list_any (same_object p.object) (objects o es)
-            && (nat_lt p.thread o.threads && in_range p.offset)))
-            ≡ true → knows o all p ≡ true
-        by_null true e h = or_left (is_null p) (names o all p.object p.thread p.offset) e
-        by_null false e h =
-            let own = or_left (same_object p.object p.object) (list_any (same_object p.object) xs)
-            (same_object-refl p.object) in
-            or_right (is_null p) (names o all p.object p.thread p.offset)
-            (and_from (list_any (same_object p.object) (objects_given o all))
-            (nat_lt p.thread o.threads && in_range p.offset)
-            (f p.object
-            (subst (λ b. list_any (same_object p.object) (cons_option (object_if p b) xs) ≡ true) (sym e) own))
-            (and_parts (list_any (same_object p.object) (objects o es))
-            (nat_lt p.thread o.threads && in_range p.offset) h).1)
-    one_known (reply.Value (scalar.Lock l)) xs ls k f g = by_null (l == 0) refl
-      where
-        by_null : (b : Bool) → (l == 0) ≡ b → is_known o all (scalar.Lock l) ≡ true
-        by_null true e = or_left (l == 0) (is_lock_given all l) e
-        by_null false e =
-            or_right (l == 0) (is_lock_given all l)
-            (g l
-            (subst (λ b. list_any (λ m. m == l) (cons_option (lock_if l b) ls) ≡ true) (sym e)
-            (or_left (l == l) (list_any (λ m. m == l) ls) (eq-eqb l l refl))))
-    one_known (reply.Value (scalar.Int v)) xs ls k f g = refl
-    one_known reply.Done xs ls k f g = refl
-    one_known (reply.Flag b) xs ls k f g = refl
-    one_known (reply.Refused code) xs ls k f g = refl
-
-    some_known : (rs : List Reply) → replies.AreKnown o es rs
-        → ((x : ObjectRef) → list_any (same_object x) (filter_map object_in rs) ≡ true
-        → list_any (same_object x) (objects_given o all) ≡ true)
-        → ((l : ℕ) → is_lock_given rs l ≡ true → is_lock_given all l ≡ true) → AreKnown o all rs
-    some_known [] k f g = tt
-    some_known (r ∷ rs) k f g = (
-      one_known r (filter_map object_in rs) (filter_map lock_in rs) k.0 f g,
-      some_known rs k.1 (λ x h. f x (any_cons (same_object x) (object_in r) (filter_map object_in rs) h))
-          (λ l h. g l (any_cons (λ m. m == l) (lock_in r) (filter_map lock_in rs) h)),
-    )
-
-  -- Replies that a history may have given are known by the names that they give.
-  pub all_known : (rs : List Reply) → replies.AreKnown o es rs → AreKnown o rs rs
-  all_known rs k =
-      some_known rs rs k
-      (λ x h.
-      list_any-append (same_object x) o.declared (filter_map object_in rs)
-      ∙ or_right (list_any (same_object x) o.declared) (list_any (same_object x) (filter_map object_in rs)) h)
-      (λ l h. h)
-
   module _ (v : IsOpening o) (legal : IsLegal o es) (rs : List Reply) (k : replies.AreKnown o es rs) where
-    pub finds_named : FindsNamed o rs
-    finds_named x h =
-        found_among (objects o es) (objects_given o rs) x (objects_numbered o es v legal) (given_there rs k)
-        (given_there rs k x h) h
-
     -- ---- what may be asked for
 
-    cell_found : (l : Loc) (x : Option ObjectRef) → find (λ y. y.number == l.object) (objects_given o rs) ≡ x
-        → is_some (cell_in o.threads o.shapes x l) ≡ true
-        → cell_in o.threads o.shapes x l ≡ cell_of o (objects o es) l
-    cell_found l None e h = absurd (false≢true h)
-    cell_found l (Some x) e h =
-        let f = found_is l.object (objects_given o rs) x e in
-        let there = object_found 0 (objects o es) x (objects_numbered o es v legal) (given_there rs k x f.member) in
-        ap (λ y. cell_in o.threads o.shapes y l)
-        (sym there ∙ ap (λ n. find (λ y. y.number == n) (objects o es)) f.number)
-
-    cell_there : (l : Loc) → is_some (cell_of o (objects_given o rs) l) ≡ true
-        → cell_of o (objects_given o rs) l ≡ cell_of o (objects o es) l
-    cell_there l h = cell_found l (find (λ y. y.number == l.object) (objects_given o rs)) refl h
+    cell_there : (l : Loc) (j : Kind) → IsCellThere o rs l j → cell_of o (objects o es) l ≡ Some j
+    cell_there l j c =
+        let found =
+        object_found 0 (objects o es) c.object (objects_numbered o es v legal) (given_there rs k c.object c.among) in
+        ap (λ n. cell_of_number n l) (sym c.number) ∙ ap (λ y. cell_in o.threads o.shapes y l) found ∙ c.cell
+      where
+        cell_of_number : ℕ → Loc → Option Kind
+        cell_of_number n m = cell_in o.threads o.shapes (find (λ y. y.number == n) (objects o es)) m
 
     known_there : (p : SharedPtr) → knows o rs p ≡ true → history.knows o es p ≡ true
     known_there p h = by_null (is_null p) refl h
@@ -325,7 +206,7 @@ module _ (o : Opening) (es : List Entry) where
             → history.knows o es p ≡ true
         by_null true e h = or_left (is_null p) _ e
         by_null false e h =
-            let q = and_parts (list_any (same_object p.object) (objects_given o rs))
+            let q = and_parts (list_any (same_object p.object) (objects_given o.declared rs))
             (nat_lt p.thread o.threads && in_range p.offset) h in
             or_right (is_null p) _
             (and_from (list_any (same_object p.object) (objects o es)) (nat_lt p.thread o.threads && in_range p.offset)
@@ -362,46 +243,54 @@ module _ (o : Opening) (es : List Entry) where
     call_there (Reduces_prefixes dst src op n b j f) h = both_there dst src h
     call_there Other h = h
 
-    -- What may be asked for by the names that were given may be asked for after the history.
-    pub formed_there : (a : Action) → IsWellFormed o rs a → history.IsWellFormed o es a
-    formed_there (act.Read l s) h = subst (λ c. is_some c ≡ true) (cell_there l h) h
-    formed_there (act.Write s l w) h =
-        let q = and_parts (fits_cell w (cell_of o (objects_given o rs) l)) (is_known o rs w) h in
-        let cell = cell_there l (fits_some w (cell_of o (objects_given o rs) l) q.0) in
-        and_from (fits_cell w (cell_of o (objects o es) l)) (history.is_known o es w)
-        (subst (λ c. fits_cell w c ≡ true) cell q.0) (scalar_there w q.1)
-    formed_there (act.Lock l) h = lock_there l rs k h
-    formed_there (act.Attempt l) h = lock_there l rs k h
-    formed_there (act.Unlock l) h = lock_there l rs k h
-    formed_there (act.LockFree l) h = lock_there l rs k h
-    formed_there (act.Free p) h = known_there p h
-    formed_there (act.Meet c args) h = call_there (call_of c args) h.0
-    formed_there act.Fence h = refl
-    formed_there act.Beat h = refl
-    formed_there (act.Notify m) h = refl
-    formed_there (act.Wait m) h = refl
-    formed_there act.LockMake h = refl
-    formed_there (act.Alloc n b home shape) h = h
-    formed_there (act.Print x) h = refl
-    formed_there (act.Exit w) h = refl
+    module _ (R : Kind → Loc → Type 0) where
+      read_formed : (l : Loc) (kind : Option Kind) → ReadsWell o rs R l kind
+          → is_some (cell_of o (objects o es) l) ≡ true
+      read_formed l (Some j) h = ap is_some (cell_there l j h.0)
+      read_formed l None h = absurd h
 
-    -- The same replies fit it.
-    pub fits_there : (a : Action) → IsWellFormed o rs a → (r : Reply)
-        → history.fits_after o es a r ≡ fits_after o rs a r
-    fits_there (act.Read l s) h r =
-        ap (λ c. fits o.threads o.shapes c (act.Read l s) r) (sym (cell_there l h))
-    fits_there (act.Write s l w) h r = refl
-    fits_there (act.Lock l) h r = refl
-    fits_there (act.Attempt l) h r = refl
-    fits_there (act.Unlock l) h r = refl
-    fits_there (act.LockFree l) h r = refl
-    fits_there (act.Free p) h r = refl
-    fits_there (act.Meet c args) h r = refl
-    fits_there act.Fence h r = refl
-    fits_there act.Beat h r = refl
-    fits_there (act.Notify m) h r = refl
-    fits_there (act.Wait m) h r = refl
-    fits_there act.LockMake h r = refl
-    fits_there (act.Alloc n b home shape) h r = refl
-    fits_there (act.Print x) h r = refl
-    fits_there (act.Exit w) h r = refl
+      -- What may be asked for by the names that were given may be asked for after the history.
+      pub formed_there : (kind : Option Kind) (a : Action) → IsWellFormed o rs R kind a → history.IsWellFormed o es a
+      formed_there kind (act.Read l s) h = read_formed l kind h
+      formed_there kind (act.Write s l w) h =
+          and_from (fits_cell w (cell_of o (objects o es) l)) (history.is_known o es w)
+          (subst (λ c. fits_cell w c ≡ true) (sym (cell_there l h.0 h.1)) h.2) (scalar_there w h.3)
+      formed_there kind (act.Lock l) h = lock_there l rs k h
+      formed_there kind (act.Attempt l) h = lock_there l rs k h
+      formed_there kind (act.Unlock l) h = lock_there l rs k h
+      formed_there kind (act.LockFree l) h = lock_there l rs k h
+      formed_there kind (act.Free p) h = known_there p h
+      formed_there kind (act.Meet c args) h = call_there (call_of c args) h.0
+      formed_there kind act.Fence h = refl
+      formed_there kind act.Beat h = refl
+      formed_there kind (act.Notify m) h = refl
+      formed_there kind (act.Wait m) h = refl
+      formed_there kind act.LockMake h = refl
+      formed_there kind (act.Alloc n b home shape) h = h
+      formed_there kind (act.Print x) h = refl
+      formed_there kind (act.Exit w) h = refl
+
+      read_fits : (l : Loc) (s : Bool) (kind : Option Kind) → ReadsWell o rs R l kind → (r : Reply)
+          → history.fits_after o es (act.Read l s) r ≡ fits o.threads o.shapes kind (act.Read l s) r
+      read_fits l s (Some j) h r = ap (λ c. fits o.threads o.shapes c (act.Read l s) r) (cell_there l j h.0)
+      read_fits l s None h r = absurd h
+
+      -- The same replies fit it.
+      pub fits_there : (kind : Option Kind) (a : Action) → IsWellFormed o rs R kind a → (r : Reply)
+          → history.fits_after o es a r ≡ fits o.threads o.shapes kind a r
+      fits_there kind (act.Read l s) h r = read_fits l s kind h r
+      fits_there kind (act.Write s l w) h r = refl
+      fits_there kind (act.Lock l) h r = refl
+      fits_there kind (act.Attempt l) h r = refl
+      fits_there kind (act.Unlock l) h r = refl
+      fits_there kind (act.LockFree l) h r = refl
+      fits_there kind (act.Free p) h r = refl
+      fits_there kind (act.Meet c args) h r = refl
+      fits_there kind act.Fence h r = refl
+      fits_there kind act.Beat h r = refl
+      fits_there kind (act.Notify m) h r = refl
+      fits_there kind (act.Wait m) h r = refl
+      fits_there kind act.LockMake h r = refl
+      fits_there kind (act.Alloc n b home shape) h r = refl
+      fits_there kind (act.Print x) h r = refl
+      fits_there kind (act.Exit w) h r = refl

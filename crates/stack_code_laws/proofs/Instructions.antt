@@ -6,11 +6,13 @@ use Rattle.std.specs.Prelude.{slice_get, IfSome}
 use Rattle.std.specs.Ordering.{int_eq}
 use Rattle.std.proofs.lemmas.List.{reverse-append}
 use Rattle.upc_text.specs.declared.place.Place.{Place}
+use Rattle.block_layout.specs.declared.kind.Kind.{Kind}
+use Rattle.block_layout.specs.declared.place.Loc.{Loc}
 use Rattle.upc_values.specs.declared.scalar.Value.{Value}
 use Rattle.upc_values.specs.declared.action.Reply.{Reply}
 use Rattle.upc_values.specs.declared.record.ToldEnd.TheVariants as told
 use Rattle.upc_values.specs.Lists.{Each}
-use Rattle.upc_values.specs.Openings.{Opening, IsOpening}
+use Rattle.upc_values.specs.Openings.{Opening}
 use Rattle.upc_values.proofs.Lists.{each-take}
 use Rattle.upc_values.proofs.Membership.{each-append}
 use Rattle.thread_steps.specs.States.{Thread, State, Res, Val, Over, Unfinished, bind, Doing, know}
@@ -37,12 +39,14 @@ use Rattle.stack_code.specs.declared.instruction.Operation.{Operation}
 use Rattle.stack_code.specs.declared.instruction.Operation.TheVariants as work
 use Rattle.stack_code.specs.declared.instruction.Instr.{Instr}
 use Rattle.stack_code.specs.Codes.{function_at, instructions_of}
-use Rattle.stack_code.specs.layer.Steps.{Spot, Conf, At, Halt, further, back, conf_of, top, rest, second, third, below_two}
+use Rattle.stack_code.specs.layer.Steps.{Spot, Conf, At, Halt, further, back, conf_of, top, rest, second}
+use Rattle.stack_code.specs.layer.Steps.{third, below_two}
 use Rattle.stack_code.specs.layer.Steps.{youngest, gives, leaves, pick, close_blocks, given_back, begun, stacked, made}
 use Rattle.stack_code.specs.layer.Steps.{placed}
 use Rattle.stack_code.specs.layer.Steps.{acted, jumped, kept_in, received, called, worked, act, step}
 use Rattle.stack_code_laws.specs.layer.Asking.{PushesKnown, NamesKnown, IsDeclaredIn}
-use Rattle.stack_code_laws.proofs.Given.{FindsNamed}
+use Rattle.stack_code_laws.specs.code.Wanted.{LoadsKind, CallReads, WorkReads, InstructionReads}
+use Rattle.stack_code_laws.proofs.Given.{IsGround}
 use Rattle.stack_code_laws.proofs.KnownValues.{runner, Known, first_value}
 use Rattle.stack_code_laws.proofs.Doings.{Grown, Nothing, Asks, then_asks, give_asks, skip_asks, exit_asks}
 use Rattle.stack_code_laws.proofs.Doings.{know_asks}
@@ -101,10 +105,6 @@ module _ (o : Opening) (past : List Reply) where
   abbrev pub Stands : Point → Type 0
   Stands point = AllKnown point.given × AllKnown point.operands
 
-  -- Where P holds, the code goes on well from a state.
-  abbrev pub Going : (P : Type 0) → (State → Conf) → Type 0
-  Going P go = Asks o past Point P Stands (λ σ. res_of (go σ))
-
   top_known : (vs : List Value) → AllKnown vs → Known o past (top vs)
   top_known [] h = refl
   top_known (v ∷ vs) h = h.0
@@ -129,19 +129,24 @@ module _ (o : Opening) (past : List Reply) where
   pick_known true vs ws h g = h
   pick_known false vs ws h g = g
 
-  -- ---- how instructions go on
+-- ---- how instructions go on
 
-  at_asks : (P : Type 0) (at : Spot) (given operands : List Value) (calls : List Spot) → (P → AllKnown given)
-      → (P → AllKnown operands) → Going P (At at given operands calls)
+module _ (o : Opening) (past : List Reply) (R : Kind → Loc → Type 0) where
+  -- Where P holds, the code goes on well from a state.
+  abbrev pub Going : (P : Type 0) → (State → Conf) → Type 0
+  Going P go = Asks o past R Point P (Stands o past) (λ σ. res_of (go σ))
+
+  at_asks : (P : Type 0) (at : Spot) (given operands : List Value) (calls : List Spot) → (P → AllKnown o past given)
+      → (P → AllKnown o past operands) → Going P (At at given operands calls)
   at_asks P at given operands calls h g =
-      give_asks o past Point P Stands (record { at = at; given = given; operands = operands; calls = calls })
+      give_asks o past R Point P (Stands o past) (record { at = at; given = given; operands = operands; calls = calls })
       (λ q. (h q, g q))
 
   quit_asks : (P : Type 0) (n : ℤ) → Going P (Halt (told.Ended n))
-  quit_asks P n = exit_asks o past Point P Stands (told.Ended n) (λ υ later. tt)
+  quit_asks P n = exit_asks o past R Point P (Stands o past) (told.Ended n) (λ υ later. tt)
 
   -- A step, and where the code stands after it.
-  module _ (A P : Type 0) (V : A → Type 0) (m : Doing A) (go : A → State → Conf) (hm : Asks o past A P V m)
+  module _ (A P : Type 0) (V : A → Type 0) (m : Doing A) (go : A → State → Conf) (hm : Asks o past R A P V m)
       (hgo : (v : A) → Going (P × V v) (go v)) where
     same_result : (σ : State) (r : Res A) → Grown σ r → bind r (λ v υ. res_of (go v υ)) ≡ res_of (conf_of r go)
     same_result σ (Val v υ) g = refl
@@ -152,24 +157,24 @@ module _ (o : Opening) (past : List Reply) where
     conf_asks =
         let same : (λ σ. bind (m σ) (λ v υ. res_of (go v υ))) ≡ (λ σ. res_of (conf_of (m σ) go)) =
         λ i σ. same_result σ (m σ) (hm.grows σ) i in
-        subst (λ k. Asks o past Point P Stands k) same
-        (then_asks o past A Point P V Stands m (λ v υ. res_of (go v υ)) hm hgo)
+        subst (λ k. Asks o past R Point P (Stands o past) k) same
+        (then_asks o past R A Point P V (Stands o past) m (λ v υ. res_of (go v υ)) hm hgo)
 
-  module _ (P : Type 0) (there : Spot) (given operands : List Value) (calls : List Spot) (hg : P → AllKnown given)
-      (ho : P → AllKnown operands) where
-    gives_asks : (m : Doing Value) → Asks o past Value P (Known o past) m
+  module _ (P : Type 0) (there : Spot) (given operands : List Value) (calls : List Spot)
+      (hg : P → AllKnown o past given) (ho : P → AllKnown o past operands) where
+    gives_asks : (m : Doing Value) → Asks o past R Value P (Known o past) m
         → Going P (gives m operands (λ vs. At there given vs calls))
     gives_asks m hm =
         conf_asks Value P (Known o past) m (λ v. At there given (v ∷ operands) calls) hm (λ v.
         at_asks (P × Known o past v) there given (v ∷ operands) calls (λ q. hg q.0) (λ q. (q.1, ho q.0)))
 
-    leaves_asks : (m : Doing (Unit {0})) → Asks o past (Unit {0}) P Nothing m
+    leaves_asks : (m : Doing (Unit {0})) → Asks o past R (Unit {0}) P Nothing m
         → Going P (leaves m operands (λ vs. At there given vs calls))
     leaves_asks m hm =
         conf_asks (Unit {0}) P Nothing m (λ u. At there given operands calls) hm (λ u.
         at_asks (P × Unit {0}) there given operands calls (λ q. hg q.0) (λ q. ho q.0))
 
-module _ (o : Opening) (past : List Reply) (v : IsOpening o) (finds : FindsNamed o past) (me budget : ℕ)
+module _ (o : Opening) (past : List Reply) (v : IsGround o) (R : Kind → Loc → Type 0) (me budget : ℕ)
     (one : me < o.threads) where
   abbrev τ : Thread
   τ = runner o me budget
@@ -188,26 +193,26 @@ module _ (o : Opening) (past : List Reply) (v : IsOpening o) (finds : FindsNamed
   stacked_known stack.Truth operands d h = (refl, rest_known o past operands h)
   stacked_known stack.Not operands d h = (refl, rest_known o past operands h)
 
-  closing : (P : Type 0) (n : ℕ) → Asks o past (Unit {0}) P Nothing (close_blocks n)
-  closing P zero = skip_asks o past P
+  closing : (P : Type 0) (n : ℕ) → Asks o past R (Unit {0}) P Nothing (close_blocks n)
+  closing P zero = skip_asks o past R P
   closing P (suc n) =
-      then_asks o past (Unit {0}) (Unit {0}) P Nothing Nothing close_block (λ u. close_blocks n)
-      (p.close_asks o past v finds me budget P) (λ u. closing (P × Unit {0}) n)
+      then_asks o past R (Unit {0}) (Unit {0}) P Nothing Nothing close_block (λ u. close_blocks n)
+      (p.close_asks o past v R me budget P) (λ u. closing (P × Unit {0}) n)
 
   keeping : (P : Type 0) (access : Option CellAccess) (at : Place) (q y : Value) → (P → Known o past q)
-      → (P → Known o past y) → Asks o past (Unit {0}) P Nothing (kept_in τ access at q y)
-  keeping P (Some access) at q y h g = p.save_asks o past v finds me budget P access.kind access.strict at q y h g
-  keeping P None at q y h g = skip_asks o past P
+      → (P → Known o past y) → Asks o past R (Unit {0}) P Nothing (kept_in τ access at q y)
+  keeping P (Some access) at q y h g = p.save_asks o past v R me budget P access.kind access.strict at q y h g
+  keeping P None at q y h g = skip_asks o past R P
 
   receiving : (P : Type 0) (at : Place) (i : ℕ) (cells : List (Option CellAccess)) (vs : List Value)
-      → (P → AllKnown o past vs) → Asks o past (Unit {0}) P Nothing (received τ at i cells vs)
-  receiving P at i [] [] h = skip_asks o past P
-  receiving P at i [] (y ∷ vs) h = skip_asks o past P
-  receiving P at i (access ∷ cells) [] h = skip_asks o past P
+      → (P → AllKnown o past vs) → Asks o past R (Unit {0}) P Nothing (received τ at i cells vs)
+  receiving P at i [] [] h = skip_asks o past R P
+  receiving P at i [] (y ∷ vs) h = skip_asks o past R P
+  receiving P at i (access ∷ cells) [] h = skip_asks o past R P
   receiving P at i (access ∷ cells) (y ∷ vs) h =
-      then_asks o past Value (Unit {0}) P (Known o past) Nothing (local_object i) _
-      (p.local_asks o past v finds me budget P i) (λ q.
-      then_asks o past (Unit {0}) (Unit {0}) (P × Known o past q) Nothing Nothing (kept_in τ access at q y) _
+      then_asks o past R Value (Unit {0}) P (Known o past) Nothing (local_object i) _
+      (p.local_asks o past v R me budget P i) (λ q.
+      then_asks o past R (Unit {0}) (Unit {0}) (P × Known o past q) Nothing Nothing (kept_in τ access at q y) _
       (keeping (P × Known o past q) access at q y (λ r. r.1) (λ r. (h r.0).0)) (λ u.
       receiving ((P × Known o past q) × Unit {0}) at (i + 1) cells vs (λ r. (h r.0.0).1)))
 
@@ -217,181 +222,201 @@ module _ (o : Opening) (past : List Reply) (v : IsOpening o) (finds : FindsNamed
     Before = AllKnown o past given × AllKnown o past operands
 
     made_asks : (w : ValueWork) (at : Place) (there : Spot)
-        → Going o past Before (made τ w at operands (λ vs. At there given vs calls))
+        → Going o past R Before (made τ w at operands (λ vs. At there given vs calls))
     made_asks (Operate operator left right) at there =
-        gives_asks o past Before there given (below_two operands) calls (λ h. h.0) (λ h. below_known o past operands h.1) _
-        (p.operate_asks o past v finds me budget Before at operator left right (second operands) (top operands))
+        gives_asks o past R Before there given (below_two operands) calls (λ h. h.0)
+        (λ h. below_known o past operands h.1) _
+        (p.operate_asks o past v R me budget Before at operator left right (second operands) (top operands))
     made_asks (Apply operator kind) at there =
-        gives_asks o past Before there given (rest operands) calls (λ h. h.0) (λ h. rest_known o past operands h.1) _
-        (p.apply_asks o past v finds me budget Before at operator kind (top operands))
+        gives_asks o past R Before there given (rest operands) calls (λ h. h.0) (λ h. rest_known o past operands h.1) _
+        (p.apply_asks o past v R me budget Before at operator kind (top operands))
     made_asks (Cast into) at there =
-        gives_asks o past Before there given (rest operands) calls (λ h. h.0) (λ h. rest_known o past operands h.1) _
-        (p.cast_asks o past v finds me budget Before at into (top operands) (λ h. top_known o past operands h.1))
+        gives_asks o past R Before there given (rest operands) calls (λ h. h.0) (λ h. rest_known o past operands h.1) _
+        (p.cast_asks o past v R me budget Before at into (top operands) (λ h. top_known o past operands h.1))
     made_asks (Advance ε count) at there =
-        gives_asks o past Before there given (below_two operands) calls (λ h. h.0) (λ h. below_known o past operands h.1) _
-        (p.advance_asks o past v finds me budget Before at ε (second operands) _ (λ h. second_known o past operands h.1))
+        gives_asks o past R Before there given (below_two operands) calls (λ h. h.0)
+        (λ h. below_known o past operands h.1) _
+        (p.advance_asks o past v R me budget Before at ε (second operands) _ (λ h. second_known o past operands h.1))
     made_asks (Retreat ε count) at there =
-        gives_asks o past Before there given (below_two operands) calls (λ h. h.0) (λ h. below_known o past operands h.1) _
-        (p.advance_asks o past v finds me budget Before at ε (second operands) _ (λ h. second_known o past operands h.1))
+        gives_asks o past R Before there given (below_two operands) calls (λ h. h.0)
+        (λ h. below_known o past operands h.1) _
+        (p.advance_asks o past v R me budget Before at ε (second operands) _ (λ h. second_known o past operands h.1))
     made_asks (InRow count) at there =
-        leaves_asks o past Before there given (top operands ∷ below_two (rest operands)) calls (λ h. h.0)
+        leaves_asks o past R Before there given (top operands ∷ below_two (rest operands)) calls (λ h. h.0)
         (λ h. (top_known o past operands h.1, below_known o past (rest operands) (rest_known o past operands h.1))) _
-        (p.in_row_asks o past v finds me budget Before at count (third operands) (number_of (second operands)))
+        (p.in_row_asks o past v R me budget Before at count (third operands) (number_of (second operands)))
     made_asks (Member offset) at there =
-        gives_asks o past Before there given (rest operands) calls (λ h. h.0) (λ h. rest_known o past operands h.1) _
-        (p.member_asks o past v finds me budget Before at offset (top operands) (λ h. top_known o past operands h.1))
+        gives_asks o past R Before there given (rest operands) calls (λ h. h.0) (λ h. rest_known o past operands h.1) _
+        (p.member_asks o past v R me budget Before at offset (top operands) (λ h. top_known o past operands h.1))
     made_asks (Difference ε) at there =
-        gives_asks o past Before there given (below_two operands) calls (λ h. h.0) (λ h. below_known o past operands h.1) _
-        (p.difference_asks o past v finds me budget Before at ε (second operands) (top operands))
+        gives_asks o past R Before there given (below_two operands) calls (λ h. h.0)
+        (λ h. below_known o past operands h.1) _
+        (p.difference_asks o past v R me budget Before at ε (second operands) (top operands))
     made_asks (Order operator ε) at there =
-        gives_asks o past Before there given (below_two operands) calls (λ h. h.0) (λ h. below_known o past operands h.1) _
-        (p.order_asks o past v finds me budget Before at operator ε (second operands) (top operands))
+        gives_asks o past R Before there given (below_two operands) calls (λ h. h.0)
+        (λ h. below_known o past operands h.1) _
+        (p.order_asks o past v R me budget Before at operator ε (second operands) (top operands))
     made_asks Same at there =
-        gives_asks o past Before there given (below_two operands) calls (λ h. h.0) (λ h. below_known o past operands h.1) _
-        (p.same_asks o past v finds me budget Before at (second operands) (top operands))
+        gives_asks o past R Before there given (below_two operands) calls (λ h. h.0)
+        (λ h. below_known o past operands h.1) _
+        (p.same_asks o past v R me budget Before at (second operands) (top operands))
 
-    placed_asks : (w : ObjectWork) (at : Place) (there : Spot)
-        → Going o past Before (placed τ w at operands (λ vs. At there given vs calls))
-    placed_asks (Local n) at there =
-        gives_asks o past Before there given operands calls (λ h. h.0) (λ h. h.1) _
-        (p.local_asks o past v finds me budget Before n)
-    placed_asks (Load access) at there =
-        gives_asks o past Before there given (rest operands) calls (λ h. h.0) (λ h. rest_known o past operands h.1) _
-        (p.load_asks o past v finds me budget Before access.kind access.strict at (top operands)
-        (λ h. top_known o past operands h.1))
-    placed_asks (Save access) at there =
-        leaves_asks o past Before there given (top operands ∷ below_two operands) calls (λ h. h.0)
+    placed_asks : (w : ObjectWork) (at : Place) (there : Spot) → ((k : Kind) (l : Loc) → LoadsKind w k → R k l)
+        → Going o past R Before (placed τ w at operands (λ vs. At there given vs calls))
+    placed_asks (Local n) at there r =
+        gives_asks o past R Before there given operands calls (λ h. h.0) (λ h. h.1) _
+        (p.local_asks o past v R me budget Before n)
+    placed_asks (Load access) at there r =
+        gives_asks o past R Before there given (rest operands) calls (λ h. h.0) (λ h. rest_known o past operands h.1) _
+        (p.load_asks o past v R me budget Before access.kind access.strict at (top operands)
+        (λ h. top_known o past operands h.1) (λ l. r access.kind l refl))
+    placed_asks (Save access) at there r =
+        leaves_asks o past R Before there given (top operands ∷ below_two operands) calls (λ h. h.0)
         (λ h. (top_known o past operands h.1, below_known o past operands h.1)) _
-        (p.save_asks o past v finds me budget Before access.kind access.strict at (second operands) (top operands)
+        (p.save_asks o past v R me budget Before access.kind access.strict at (second operands) (top operands)
         (λ h. second_known o past operands h.1) (λ h. top_known o past operands h.1))
-    placed_asks (Enter from shapes) at there =
-        leaves_asks o past Before there given operands calls (λ h. h.0) (λ h. h.1) _
-        (p.open_asks o past v finds me budget Before from _ at)
-    placed_asks Leave at there =
-        leaves_asks o past Before there given operands calls (λ h. h.0) (λ h. h.1) _
-        (p.close_asks o past v finds me budget Before)
+    placed_asks (Enter from shapes) at there r =
+        leaves_asks o past R Before there given operands calls (λ h. h.0) (λ h. h.1) _
+        (p.open_asks o past v R me budget Before from _ at)
+    placed_asks Leave at there r =
+        leaves_asks o past R Before there given operands calls (λ h. h.0) (λ h. h.1) _
+        (p.close_asks o past v R me budget Before)
 
     acted_asks : (w : ThreadWork) (at : Place) (there : Spot)
-        → Going o past Before (acted τ w at operands (λ vs. At there given vs calls))
-    acted_asks (Notify mark) at there =
-        leaves_asks o past Before there given operands calls (λ h. h.0) (λ h. h.1) _
-        (p.notify_asks o past v finds me budget Before at mark)
-    acted_asks (Wait mark) at there =
-        leaves_asks o past Before there given operands calls (λ h. h.0) (λ h. h.1) _
-        (p.wait_asks o past v finds me budget Before at mark)
-    acted_asks NotifyValue at there =
-        leaves_asks o past Before there given (rest operands) calls (λ h. h.0) (λ h. rest_known o past operands h.1) _
-        (p.notify_asks o past v finds me budget Before at _)
-    acted_asks WaitValue at there =
-        leaves_asks o past Before there given (rest operands) calls (λ h. h.0) (λ h. rest_known o past operands h.1) _
-        (p.wait_asks o past v finds me budget Before at _)
-    acted_asks Fence at there =
-        leaves_asks o past Before there given operands calls (λ h. h.0) (λ h. h.1) _
-        (p.fence_asks o past v finds me budget Before)
-    acted_asks Control at there =
-        leaves_asks o past Before there given operands calls (λ h. h.0) (λ h. h.1) _
-        (p.control_asks o past v finds me budget Before)
-    acted_asks Release at there =
-        leaves_asks o past Before there given operands calls (λ h. h.0) (λ h. h.1) _
-        (p.release_asks o past v finds me budget Before)
-    acted_asks Mine at there =
-        gives_asks o past Before there given (rest operands) calls (λ h. h.0) (λ h. rest_known o past operands h.1) _
-        (p.mine_asks o past v finds me budget Before at (top operands))
-    acted_asks (Library call shape n) at there =
-        gives_asks o past Before there given (drop n operands) calls (λ h. h.0) (λ h. dropped_known o past n operands h.1) _
-        (p.library_asks o past v finds me budget Before call shape at (youngest n operands)
-        (λ h f. call_goes o past v finds me budget one call shape (youngest n operands) f
+        → ((k : Kind) (l : Loc) → CallReads τ w operands k l → R k l)
+        → Going o past R Before (acted τ w at operands (λ vs. At there given vs calls))
+    acted_asks (Notify mark) at there r =
+        leaves_asks o past R Before there given operands calls (λ h. h.0) (λ h. h.1) _
+        (p.notify_asks o past v R me budget Before at mark)
+    acted_asks (Wait mark) at there r =
+        leaves_asks o past R Before there given operands calls (λ h. h.0) (λ h. h.1) _
+        (p.wait_asks o past v R me budget Before at mark)
+    acted_asks NotifyValue at there r =
+        leaves_asks o past R Before there given (rest operands) calls (λ h. h.0) (λ h. rest_known o past operands h.1) _
+        (p.notify_asks o past v R me budget Before at _)
+    acted_asks WaitValue at there r =
+        leaves_asks o past R Before there given (rest operands) calls (λ h. h.0) (λ h. rest_known o past operands h.1) _
+        (p.wait_asks o past v R me budget Before at _)
+    acted_asks Fence at there r =
+        leaves_asks o past R Before there given operands calls (λ h. h.0) (λ h. h.1) _
+        (p.fence_asks o past v R me budget Before)
+    acted_asks Control at there r =
+        leaves_asks o past R Before there given operands calls (λ h. h.0) (λ h. h.1) _
+        (p.control_asks o past v R me budget Before)
+    acted_asks Release at there r =
+        leaves_asks o past R Before there given operands calls (λ h. h.0) (λ h. h.1) _
+        (p.release_asks o past v R me budget Before)
+    acted_asks Mine at there r =
+        gives_asks o past R Before there given (rest operands) calls (λ h. h.0) (λ h. rest_known o past operands h.1) _
+        (p.mine_asks o past v R me budget Before at (top operands))
+    acted_asks (Library call shape n) at there r =
+        gives_asks o past R Before there given (drop n operands) calls (λ h. h.0)
+        (λ h. dropped_known o past n operands h.1) _
+        (p.library_asks o past v R me budget call shape at (youngest n operands) r Before
+        (λ h f. call_goes o past v R me budget one call shape (youngest n operands) f
         (youngest_known o past n operands h.1)))
-    acted_asks (Print format n) at there =
-        gives_asks o past Before there given (drop n operands) calls (λ h. h.0) (λ h. dropped_known o past n operands h.1) _
-        (p.print_asks o past v finds me budget Before _ (youngest n operands))
+    acted_asks (Print format n) at there r =
+        gives_asks o past R Before there given (drop n operands) calls (λ h. h.0)
+        (λ h. dropped_known o past n operands h.1) _
+        (p.print_asks o past v R me budget Before _ (youngest n operands))
 
     jumped_asks : (j : Jump) (here : Spot)
-        → Going o past Before (jumped τ j here operands (λ there vs. At there given vs calls))
+        → Going o past R Before (jumped τ j here operands (λ there vs. At there given vs calls))
     jumped_asks (GoOn n) here =
-        at_asks o past Before (further (n + 1) here) given operands calls (λ h. h.0) (λ h. h.1)
+        at_asks o past R Before (further (n + 1) here) given operands calls (λ h. h.0) (λ h. h.1)
     jumped_asks (SkipIfZero n) here =
-        at_asks o past Before (pick (is_zero (top operands)) (further (n + 1) here) (further 1 here)) given
+        at_asks o past R Before (pick (is_zero (top operands)) (further (n + 1) here) (further 1 here)) given
         (rest operands)
         calls (λ h. h.0) (λ h. rest_known o past operands h.1)
     jumped_asks (SkipIfControlled n) here =
-        then_asks o past Bool Point Before (λ b. Unit {0}) (Stands o past) (know is_controlled)
+        then_asks o past R Bool Point Before (λ b. Unit {0}) (Stands o past) (know is_controlled)
         (λ b σ. res_of (At (pick b (further (n + 1) here) (further 1 here)) given operands calls σ))
-        (know_asks o past Bool Before (λ b. Unit {0}) is_controlled (λ q σ g. tt) (λ σ r rs. refl)) (λ b.
-        at_asks o past (Before × Unit {0}) (pick b (further (n + 1) here) (further 1 here)) given operands calls
+        (know_asks o past R Bool Before (λ b. Unit {0}) is_controlled (λ q σ g. tt) (λ σ r rs. refl)) (λ b.
+        at_asks o past R (Before × Unit {0}) (pick b (further (n + 1) here) (further 1 here)) given operands calls
         (λ h. h.0.0) (λ h. h.0.1))
     jumped_asks (Case label n) here =
         let same = int_eq (number_of (top operands)) label in
-        at_asks o past Before (pick same (further (n + 1) here) (further 1 here)) given
+        at_asks o past R Before (pick same (further (n + 1) here) (further 1 here)) given
         (pick same (rest operands) operands)
         calls (λ h. h.0) (λ h. pick_known o past same (rest operands) operands (rest_known o past operands h.1) h.1)
     jumped_asks Tick here =
-        leaves_asks o past Before (further 1 here) given operands calls (λ h. h.0) (λ h. h.1) _
-        (p.tick_asks o past v finds me budget Before)
+        leaves_asks o past R Before (further 1 here) given operands calls (λ h. h.0) (λ h. h.1) _
+        (p.tick_asks o past v R me budget Before)
     jumped_asks (GoBack n) here =
-        leaves_asks o past Before (back n here) given operands calls (λ h. h.0) (λ h. h.1) _
-        (p.tick_asks o past v finds me budget Before)
+        leaves_asks o past R Before (back n here) given operands calls (λ h. h.0) (λ h. h.1) _
+        (p.tick_asks o past v R me budget Before)
     jumped_asks (Leaving blocks n) here =
-        leaves_asks o past Before (further (n + 1) here) given operands calls (λ h. h.0) (λ h. h.1) _
+        leaves_asks o past R Before (further (n + 1) here) given operands calls (λ h. h.0) (λ h. h.1) _
         (closing Before blocks)
 
   -- ---- calls
 
   returns_asks : (P : Type 0) (y : Value) (operands : List Value) (calls : List Spot) → (P → Known o past y)
-      → (P → AllKnown o past operands) → Going o past P (given_back y operands calls)
-  returns_asks P y operands [] h g = quit_asks o past P _
+      → (P → AllKnown o past operands) → Going o past R P (given_back y operands calls)
+  returns_asks P y operands [] h g = quit_asks o past R P _
   returns_asks P y operands (at ∷ calls) h g =
-      conf_asks o past (Unit {0}) P Nothing end_call _ (p.end_asks o past v finds me budget P) (λ u.
-      at_asks o past (P × Unit {0}) at [] (y ∷ operands) calls (λ q. tt) (λ q. (h q.0, g q.0)))
+      conf_asks o past R (Unit {0}) P Nothing end_call _ (p.end_asks o past v R me budget P) (λ u.
+      at_asks o past R (P × Unit {0}) at [] (y ∷ operands) calls (λ q. tt) (λ q. (h q.0, g q.0)))
 
   begun_asks : (P : Type 0) (f : ℕ) (at : Place) (given operands : List Value) (calls : List Spot)
-      → (P → AllKnown o past given) → (P → AllKnown o past operands) → Going o past P (begun f at given operands calls)
+      → (P → AllKnown o past given) → (P → AllKnown o past operands)
+      → Going o past R P (begun f at given operands calls)
   begun_asks P f at given operands calls h g =
-      conf_asks o past (Unit {0}) P Nothing (begin_call at) _ (p.begin_asks o past v finds me budget P at) (λ u.
-      at_asks o past (P × Unit {0}) (record { function = f; place = 0 }) given operands calls (λ q. h q.0) (λ q. g q.0))
+      conf_asks o past R (Unit {0}) P Nothing (begin_call at) _ (p.begin_asks o past v R me budget P at) (λ u.
+      at_asks o past R (P × Unit {0}) (record { function = f; place = 0 }) given operands calls (λ q. h q.0)
+      (λ q. g q.0))
 
   module _ (given operands : List Value) (calls : List Spot) where
     called_asks : (w : CallWork) (at : Place) (here : Spot)
-        → Going o past (Before given operands calls) (called τ w at here given operands calls)
+        → Going o past R (Before given operands calls) (called τ w at here given operands calls)
     called_asks (CallTo f n) at here =
         let P = Before given operands calls in
-        conf_asks o past (Unit {0}) P Nothing (tick τ) _ (p.tick_asks o past v finds me budget P) (λ u.
+        conf_asks o past R (Unit {0}) P Nothing (tick τ) _ (p.tick_asks o past v R me budget P) (λ u.
         begun_asks (P × Unit {0}) f at (youngest n operands) (drop n operands) (further 1 here ∷ calls)
         (λ h. youngest_known o past n operands h.0.1) (λ h. dropped_known o past n operands h.0.1))
     called_asks (Begin f) at here =
         begun_asks (Before given operands calls) f at [] operands (further 1 here ∷ calls) (λ h. tt) (λ h. h.1)
     called_asks (Receive cells) at here =
-        leaves_asks o past (Before given operands calls) (further 1 here) [] operands calls (λ h. tt) (λ h. h.1) _
+        leaves_asks o past R (Before given operands calls) (further 1 here) [] operands calls (λ h. tt) (λ h. h.1) _
         (receiving (Before given operands calls) at 0 cells given (λ h. h.0))
     called_asks (GiveBack blocks) at here =
         let P = Before given operands calls in
-        conf_asks o past (Unit {0}) P Nothing (close_blocks blocks) _ (closing P blocks) (λ u.
+        conf_asks o past R (Unit {0}) P Nothing (close_blocks blocks) _ (closing P blocks) (λ u.
         returns_asks (P × Unit {0}) (top operands) (rest operands) calls (λ h. top_known o past operands h.0.1)
         (λ h. rest_known o past operands h.0.1))
-    called_asks Quit at here = quit_asks o past (Before given operands calls) _
+    called_asks Quit at here = quit_asks o past R (Before given operands calls) _
 
     worked_asks : (w : Operation) (at : Place) (here : Spot) → NamesKnown o w
-        → Going o past (Before given operands calls) (worked τ w at here given operands calls)
-    worked_asks (work.Stack w) at here d =
-        at_asks o past (Before given operands calls) (further 1 here) given (stacked τ w operands) calls (λ h. h.0)
+        → ((k : Kind) (l : Loc) → WorkReads τ w operands k l → R k l)
+        → Going o past R (Before given operands calls) (worked τ w at here given operands calls)
+    worked_asks (work.Stack w) at here d r =
+        at_asks o past R (Before given operands calls) (further 1 here) given (stacked τ w operands) calls (λ h. h.0)
         (λ h. stacked_known w operands d h.1)
-    worked_asks (work.Value w) at here d = made_asks given operands calls w at (further 1 here)
-    worked_asks (work.Object w) at here d = placed_asks given operands calls w at (further 1 here)
-    worked_asks (work.Way j) at here d = jumped_asks given operands calls j here
-    worked_asks (work.Call w) at here d = called_asks w at here
-    worked_asks (work.Thread w) at here d = acted_asks given operands calls w at (further 1 here)
+    worked_asks (work.Value w) at here d r = made_asks given operands calls w at (further 1 here)
+    worked_asks (work.Object w) at here d r = placed_asks given operands calls w at (further 1 here) r
+    worked_asks (work.Way j) at here d r = jumped_asks given operands calls j here
+    worked_asks (work.Call w) at here d r = called_asks w at here
+    worked_asks (work.Thread w) at here d r = acted_asks given operands calls w at (further 1 here) r
 
     act_asks : (i : Option Instr) (here : Spot) → IfSome i (IsDeclaredIn o)
-        → Going o past (Before given operands calls) (act τ i here given operands calls)
-    act_asks (Some i) here d = worked_asks i.does i.place here d
-    act_asks None here d =
+        → ((k : Kind) (l : Loc) → InstructionReads τ i operands k l → R k l)
+        → Going o past R (Before given operands calls) (act τ i here given operands calls)
+    act_asks (Some i) here d r = worked_asks i.does i.place here d r
+    act_asks None here d r =
         returns_asks (Before given operands calls) (number (pos 0)) operands calls (λ h. refl) (λ h. h.1)
 
-  module _ (functions : List (List Instr)) (declared : Each (Each (IsDeclaredIn o)) functions) where
-    -- One instruction.
-    pub step_asks : (here : Spot) (given operands : List Value) (calls : List Spot)
-        → Going o past (AllKnown o past given × AllKnown o past operands)
-        (λ σ. step τ functions (At here given operands calls σ))
-    step_asks here given operands calls =
-        act_asks given operands calls (slice_get (function_at functions here.function) here.place) here
-        (found (IsDeclaredIn o) functions here declared)
+module _ (o : Opening) (past : List Reply) (v : IsGround o) (me budget : ℕ) (one : me < o.threads)
+    (functions : List (List Instr)) (declared : Each (Each (IsDeclaredIn o)) functions) where
+  -- What is read by the instruction at a spot.
+  abbrev pub ReadsHere : Spot → List Value → Kind → Loc → Type 0
+  ReadsHere here operands k l =
+      InstructionReads (runner o me budget) (slice_get (function_at functions here.function) here.place) operands k l
+
+  -- One instruction.
+  pub step_asks : (here : Spot) (given operands : List Value) (calls : List Spot)
+      → Going o past (ReadsHere here operands) (AllKnown o past given × AllKnown o past operands)
+      (λ σ. step (runner o me budget) functions (At here given operands calls σ))
+  step_asks here given operands calls =
+      act_asks o past v (ReadsHere here operands) me budget one given operands calls
+      (slice_get (function_at functions here.function) here.place) here
+      (found (IsDeclaredIn o) functions here declared) (λ k l r. r)

@@ -47,7 +47,7 @@ runner o number budget = record { number = number; threads = o.threads; budget =
 
 module _ (o : Opening) (past : List Reply) where
   declared_given : (object : ObjectRef) → list_any (same_object object) (o.declared ++ []) ≡ true
-      → list_any (same_object object) (objects_given o past) ≡ true
+      → list_any (same_object object) (objects_given o.declared past) ≡ true
   declared_given object h =
       list_any-append (same_object object) o.declared (filter_map object_in past)
       ∙ or_left (list_any (same_object object) o.declared) (list_any (same_object object) (filter_map object_in past))
@@ -58,7 +58,8 @@ module _ (o : Opening) (past : List Reply) where
   first_names object thread offset h =
       let q =
       and_parts (list_any (same_object object) (o.declared ++ [])) (nat_lt thread o.threads && in_range offset) h in
-      and_from (list_any (same_object object) (objects_given o past)) (nat_lt thread o.threads && in_range offset)
+      and_from (list_any (same_object object) (objects_given o.declared past))
+      (nat_lt thread o.threads && in_range offset)
       (declared_given object q.0) q.1
 
   first_pointer : (b : Bool) (p : SharedPtr) → is_null p ≡ b → (b || first.names o [] p.object p.thread p.offset) ≡ true
@@ -153,13 +154,15 @@ module _ (o : Opening) (past : List Reply) where
   moved_names : (object : ObjectRef) (t u : ℕ) (x y : ℤ) → names o past object t x ≡ true → nat_lt u o.threads ≡ true
       → in_range y ≡ true → names o past object u y ≡ true
   moved_names object t u x y h a b =
-      let q = and_parts (list_any (same_object object) (objects_given o past)) (nat_lt t o.threads && in_range x) h in
-      and_from (list_any (same_object object) (objects_given o past)) (nat_lt u o.threads && in_range y) q.0
+      let q =
+      and_parts (list_any (same_object object) (objects_given o.declared past)) (nat_lt t o.threads && in_range x) h in
+      and_from (list_any (same_object object) (objects_given o.declared past)) (nat_lt u o.threads && in_range y) q.0
       (and_from (nat_lt u o.threads) (in_range y) a b)
 
   thread_named : (object : ObjectRef) (t : ℕ) (x : ℤ) → names o past object t x ≡ true → nat_lt t o.threads ≡ true
   thread_named object t x h =
-      let q = and_parts (list_any (same_object object) (objects_given o past)) (nat_lt t o.threads && in_range x) h in
+      let q =
+      and_parts (list_any (same_object object) (objects_given o.declared past)) (nat_lt t o.threads && in_range x) h in
       (and_parts (nat_lt t o.threads) (in_range x) q.1).0
 
   same_thread : (object : ObjectRef) (t : ℕ) (x y : ℤ) → names o past object t x ≡ true → in_range y ≡ true

@@ -1,4 +1,5 @@
 pub mod Given
+pub mod Heard
 pub mod KnownValues
 pub mod ObjectNumbers
 pub mod SharedCells
@@ -13,6 +14,7 @@ pub mod Instructions
 pub mod Asking
 pub mod Walks
 pub mod Turns
+pub mod Rightly
 pub mod Beats
 pub mod Weights
 pub mod Endings

@@ -6,6 +6,7 @@ use Rattle.std.specs.Prelude.{unsigned_abs}
 use Rattle.std.specs.List.{list_any, filter_map, cons_option, range_with_len}
 use Rattle.std.proofs.lemmas.Bool.{and_parts, and_from, false≢true, eqb-true}
 use Rattle.block_layout.specs.declared.kind.Kind.{Kind}
+use Rattle.block_layout.specs.declared.place.Loc.{Loc}
 use Rattle.block_layout.specs.declared.kind.Kind.TheVariants as kind
 use Rattle.block_layout.specs.declared.kind.Shape.{Shape}
 use Rattle.block_layout.specs.declared.place.LocalPtr.TheVariants as local
@@ -20,9 +21,9 @@ use Rattle.upc_values.specs.declared.scalar.Value.TheVariants as value
 use Rattle.upc_values.specs.declared.action.Reply.{Reply}
 use Rattle.upc_values.specs.declared.action.Reply.TheVariants as reply
 use Rattle.upc_values.specs.Lists.{Each}
-use Rattle.upc_values.specs.Shapes.{kind_at, is_integer, fits_kind, fits_cell, value_fits}
+use Rattle.upc_values.specs.Shapes.{kind_at, is_integer, fits_kind, value_fits}
 use Rattle.block_layout.specs.Cells.{is_private}
-use Rattle.upc_values.specs.Openings.{Opening, IsOpening, cell_of}
+use Rattle.upc_values.specs.Openings.{Opening}
 use Rattle.upc_values.specs.Expansion.{Expansion, Gives, Fails, Reads, Asks as Acts, Loads, Stores, bind, nothing}
 use Rattle.upc_values.specs.Expansion.{unless_refused, each_in_turn, refused_by}
 use Rattle.block_layout.specs.Cells.{same_cells}
@@ -32,8 +33,7 @@ use Rattle.upc_values.specs.Copying.{Area, Nowhere, In_shared, In_private, fille
 use Rattle.upc_values.specs.LibraryCalls.{area_of}
 use Rattle.upc_values.proofs.Membership.{each-weaker}
 use Rattle.thread_steps.specs.Values.{scalar_of}
-use Rattle.stack_code_laws.specs.code.Names.{objects_given}
-use Rattle.stack_code_laws.proofs.Given.{names, is_known, FindsNamed}
+use Rattle.stack_code_laws.proofs.Given.{IsGround, names, is_known, IsCellThere}
 use Rattle.stack_code_laws.proofs.KnownValues.{Known, pointer_names, scalar_known}
 use Rattle.block_layout.proofs.Found.{kind_is}
 use Rattle.thread_steps.proofs.Conversions.{converted_in}
@@ -102,9 +102,9 @@ loaded_fits (value.Scalar x) k h e = h
 loaded_fits (value.Local q) (kind.Private n) h e = absurd (false≢true (sym e))
 loaded_fits (value.Local q) k h e = absurd (false≢true h)
 
-module _ (o : Opening) (past : List Reply) (v : IsOpening o) (finds : FindsNamed o past) (me budget : ℕ) where
+module _ (o : Opening) (past : List Reply) (v : IsGround o) (R : Kind → Loc → Type 0) (me budget : ℕ) where
   abbrev Goes : {A : Type 0} → (A → Type 0) → Expansion A → Type 0
-  Goes V e = p.GoesWell o past v finds me budget V e
+  Goes V e = p.GoesWell o past v R me budget V e
 
   -- ---- steps put together
 
@@ -113,7 +113,7 @@ module _ (o : Opening) (past : List Reply) (v : IsOpening o) (finds : FindsNamed
   bind_goes V W (Gives y) f h g = g y h
   bind_goes V W (Fails code) f h g = tt
   bind_goes V W (Reads at k after) f h g = (h.0, λ w c. bind_goes V W (after w) f (h.1 w c) g)
-  bind_goes V W (Acts action after) f h g = (h.0, h.1, λ r c. bind_goes V W (after r) f (h.2 r c) g)
+  bind_goes V W (Acts action after) f h g = (h.0, λ r c. bind_goes V W (after r) f (h.1 r c) g)
   bind_goes V W (Loads ptr k after) f h g = λ w c. bind_goes V W (after (scalar_of w)) f (h w c) g
   bind_goes V W (Stores ptr k w after) f h g = (h.0, bind_goes V W after f h.1 g)
 
@@ -165,7 +165,7 @@ module _ (o : Opening) (past : List Reply) (v : IsOpening o) (finds : FindsNamed
 
   -- A cell of an area is a cell of its shared object among those given.
   abbrev IsThere : Area → ℕ × Kind → Type 0
-  IsThere (In_shared q) c = cell_of o (objects_given o past) (location_behind q c.0) ≡ Some c.1
+  IsThere (In_shared q) c = IsCellThere o past (location_behind q c.0) c.1
   IsThere a c = Unit {0}
 
   module _ (private : Option Shape) where
@@ -177,7 +177,7 @@ module _ (o : Opening) (past : List Reply) (v : IsOpening o) (finds : FindsNamed
     cells_there n (In_shared q) h room =
         let s = m.shape_in o.threads o.shapes private (In_shared q) in
         each-weaker (IsCellIn s (unsigned_abs q.offset) n) (IsThere (In_shared q))
-        (λ c t. cell_behind o past v finds q n c.0 c.1 h room t.0 t.1) (cells n (In_shared q))
+        (λ c t. cell_behind o past v q n c.0 c.1 h room t.0 t.1) (cells n (In_shared q))
         (cells_are s (unsigned_abs q.offset) n)
     cells_there n Nowhere h room =
         each-weaker (IsCellIn None 0 n) (IsThere Nowhere) (λ c t. tt) (cells n Nowhere) (cells_are None 0 n)
@@ -189,12 +189,8 @@ module _ (o : Opening) (past : List Reply) (v : IsOpening o) (finds : FindsNamed
         → (is_private c.1 ≡ false → fits_kind w c.1 ≡ true)
         → Goes Nothing (m.written o.threads o.shapes private a c w)
     written_goes Nowhere c w t k f = tt
-    written_goes (In_shared q) c w t k f = (
-      and_from (fits_cell w (cell_of o (objects_given o past) (location_behind q c.0))) (is_known o past w)
-          (subst (λ x. fits_cell w x ≡ true) (sym t) (f (shared_kind o past v finds (location_behind q c.0) c.1 t))) k,
-      λ r. refl,
-      λ r e. unrefused r,
-    )
+    written_goes (In_shared q) c w t k f =
+        ((c.1, t, f (shared_kind o past v (location_behind q c.0) c.1 t), k), λ r e. unrefused r)
     written_goes (In_private object offset) c w t k f = (k, tt)
 
     copied_goes : (dst src : Area) (c : ℕ × Kind) → IsThere dst c → IsThere src c

@@ -1,8 +1,8 @@
 -- Each step of a thread asks well where the values that it is given are known.
 use Rattle.std.proofs.Common.{◌≡◌, ℕ, suc, ◌%◌, ◌==◌, ℤ, pos, Bool, true, false, ◌&&◌, List}
-use Rattle.std.proofs.Common.{length, map, Option, Some, None, is_some, refl, sym, ap, subst}
+use Rattle.std.proofs.Common.{length, map, Option, Some, None, is_some, inl, inr, refl}
 use Rattle.std.specs.Prelude.{Result, Ok, Err, int_le, int_lt, pred}
-use Rattle.std.proofs.lemmas.Bool.{and_parts, and_from, false≢true}
+use Rattle.std.proofs.lemmas.Bool.{and_parts, false≢true}
 use Rattle.upc_text.specs.declared.place.Place.{Place}
 use Rattle.block_layout.specs.declared.kind.Kind.{Kind}
 use Rattle.block_layout.specs.declared.kind.Kind.TheVariants as kind
@@ -28,9 +28,9 @@ use Rattle.upc_values.specs.declared.action.Reply.{Reply}
 use Rattle.upc_values.specs.declared.action.Reply.TheVariants as reply
 use Rattle.upc_values.specs.declared.record.ToldEnd.TheVariants as told
 use Rattle.upc_values.specs.declared.library.LibraryCall.{LibraryCall}
-use Rattle.upc_values.specs.Shapes.{fits_kind, fits_cell}
-use Rattle.upc_values.specs.Openings.{Opening, IsOpening, cell_of}
-use Rattle.upc_values.specs.Formed.{is_pointer, fits}
+use Rattle.upc_values.specs.Shapes.{fits_kind}
+use Rattle.upc_values.specs.Openings.{Opening}
+use Rattle.upc_values.specs.Formed.{is_pointer}
 use Rattle.upc_values.specs.Expansion.{Expansion, Gives, Fails, Reads, Asks as Acts, Loads, Stores, value_in}
 use Rattle.upc_values.specs.LibraryCalls.{library_call, meet_number}
 use Rattle.upc_values.specs.Printing.{printed}
@@ -47,8 +47,8 @@ use Rattle.thread_steps.specs.Pointers as p
 use Rattle.thread_steps.specs.Operators as o
 use Rattle.thread_steps.specs.Blocks as b
 use Rattle.thread_steps.specs.Library as l
-use Rattle.stack_code_laws.specs.code.Names.{objects_given}
-use Rattle.stack_code_laws.proofs.Given.{knows, is_known, gives_known, FindsNamed, IsWellFormed, fits_after}
+use Rattle.stack_code_laws.specs.code.Wanted.{ReadsCell}
+use Rattle.stack_code_laws.proofs.Given.{IsGround, knows, is_known, gives_known, IsCellThere, IsWellFormed}
 use Rattle.stack_code_laws.proofs.KnownValues.{runner, Known, KnownIn, kept_scalar_known, scalar_known}
 use Rattle.stack_code_laws.proofs.KnownValues.{names_pointer, advanced_known, member_known, cast_known}
 use Rattle.stack_code_laws.proofs.Stores as s
@@ -62,7 +62,8 @@ holds_any : {A : Type 0} (r : Result A ℕ) → Holds (λ v. Unit {0}) r
 holds_any (Ok v) = tt
 holds_any (Err code) = tt
 
-module _ (op : Opening) (past : List Reply) (v : IsOpening op) (finds : FindsNamed op past) (me budget : ℕ) where
+-- R holds of what a read reads.
+module _ (op : Opening) (past : List Reply) (v : IsGround op) (R : Kind → Loc → Type 0) (me budget : ℕ) where
   abbrev τ : Thread
   τ = runner op me budget
 
@@ -76,90 +77,89 @@ module _ (op : Opening) (past : List Reply) (v : IsOpening op) (finds : FindsNam
   IsGiven r = gives_known op past r ≡ true
 
   abbrev IsAnswer : Option Kind → Action → Reply → Type 0
-  IsAnswer k action r = d.IsAnswer op past τ k action r
+  IsAnswer k action r = d.IsAnswer op past R me budget k action r
 
   -- ---- actions
 
   module _ (P : Type 0) where
-    only_asks : (action : Action) → IsWellFormed op past action
-        → ((r : Reply) → fits_after op past action r ≡ fits op.threads op.shapes None action r)
-        → Asks op past (Unit {0}) P Nothing (a.ask τ None action >> skip)
-    only_asks action formed fit =
-        then_asks op past Reply (Unit {0}) P (IsAnswer None action) Nothing (a.ask τ None action) (λ r. skip)
-        (ask_asks op past τ None action P (λ q. formed) (λ q. fit)) (λ r. skip_asks op past (P × IsAnswer None action r))
+    only_asks : (action : Action) → IsWellFormed op past R None action
+        → Asks op past R (Unit {0}) P Nothing (a.ask τ None action >> skip)
+    only_asks action formed =
+        then_asks op past R Reply (Unit {0}) P (IsAnswer None action) Nothing (a.ask τ None action) (λ r. skip)
+        (ask_asks op past R me budget None action P (λ q. formed)) (λ r.
+        skip_asks op past R (P × IsAnswer None action r))
 
-    unless_asks : (at : Place) (r : Reply) → Asks op past (Unit {0}) P Nothing (a.unless_refused at r)
-    unless_asks at reply.Done = skip_asks op past P
-    unless_asks at (reply.Value w) = skip_asks op past P
-    unless_asks at (reply.Flag f) = skip_asks op past P
-    unless_asks at (reply.Refused code) = fault_asks op past (Unit {0}) P Nothing code at
+    unless_asks : (at : Place) (r : Reply) → Asks op past R (Unit {0}) P Nothing (a.unless_refused at r)
+    unless_asks at reply.Done = skip_asks op past R P
+    unless_asks at (reply.Value w) = skip_asks op past R P
+    unless_asks at (reply.Flag f) = skip_asks op past R P
+    unless_asks at (reply.Refused code) = fault_asks op past R (Unit {0}) P Nothing code at
 
-  does_asks : (P : Type 0) (at : Place) (action : Action) → IsWellFormed op past action
-      → ((r : Reply) → fits_after op past action r ≡ fits op.threads op.shapes None action r)
-      → Asks op past (Unit {0}) P Nothing (a.does τ at action)
-  does_asks P at action formed fit =
-      then_asks op past Reply (Unit {0}) P (IsAnswer None action) Nothing (a.ask τ None action)
+  does_asks : (P : Type 0) (at : Place) (action : Action) → IsWellFormed op past R None action
+      → Asks op past R (Unit {0}) P Nothing (a.does τ at action)
+  does_asks P at action formed =
+      then_asks op past R Reply (Unit {0}) P (IsAnswer None action) Nothing (a.ask τ None action)
       (λ r. a.unless_refused at r)
-      (ask_asks op past τ None action P (λ q. formed) (λ q. fit)) (λ r. unless_asks (P × IsAnswer None action r) at r)
+      (ask_asks op past R me budget None action P (λ q. formed)) (λ r. unless_asks (P × IsAnswer None action r) at r)
 
   -- The one, whatever it is for, and then the other.
-  on : (B P : Type 0) (W : B → Type 0) (m : Doing (Unit {0})) (k : Doing B) → Asks op past (Unit {0}) P Nothing m
-      → ((Q : Type 0) → (Q → P) → Asks op past B Q W k) → Asks op past B P W (m >> k)
+  on : (B P : Type 0) (W : B → Type 0) (m : Doing (Unit {0})) (k : Doing B) → Asks op past R (Unit {0}) P Nothing m
+      → ((Q : Type 0) → (Q → P) → Asks op past R B Q W k) → Asks op past R B P W (m >> k)
   on B P W m k hm hk =
-      then_asks op past (Unit {0}) B P Nothing W m (λ u. k) hm (λ u. hk (P × Unit {0}) (λ q. q.0))
+      then_asks op past R (Unit {0}) B P Nothing W m (λ u. k) hm (λ u. hk (P × Unit {0}) (λ q. q.0))
 
-  pub tick_asks : (P : Type 0) → Asks op past (Unit {0}) P Nothing (a.tick τ)
+  pub tick_asks : (P : Type 0) → Asks op past R (Unit {0}) P Nothing (a.tick τ)
   unfolding a.tick
   tick_asks P =
       on (Unit {0}) P Nothing (change a.with_tick) _
-      (change_asks op past P a.with_tick (λ σ h. h) (λ σ. refl) (λ σ. refl) (λ σ r rs. refl)) (λ Q f.
-      then_asks op past ℕ (Unit {0}) Q (λ n. Unit {0}) Nothing (know a.ticks_of) _
-      (know_asks op past ℕ Q (λ n. Unit {0}) a.ticks_of (λ q σ g. tt) (λ σ r rs. refl)) (λ n.
+      (change_asks op past R P a.with_tick (λ σ h. h) (λ σ. refl) (λ σ. refl) (λ σ r rs. refl)) (λ Q f.
+      then_asks op past R ℕ (Unit {0}) Q (λ n. Unit {0}) Nothing (know a.ticks_of) _
+      (know_asks op past R ℕ Q (λ n. Unit {0}) a.ticks_of (λ q σ g. tt) (λ σ r rs. refl)) (λ n.
       on (Unit {0}) (Q × Unit {0}) Nothing (choose (n % 1024 == 0) (do a.ask τ None act.Beat; skip) skip) _
-      (choose_asks op past (Unit {0}) (Q × Unit {0}) Nothing (n % 1024 == 0) _ _
-      (only_asks (Q × Unit {0}) act.Beat tt (λ r. refl)) (skip_asks op past (Q × Unit {0}))) (λ R g.
-      choose_asks op past (Unit {0}) R Nothing (n == budget) _ _
-      (exit_asks op past (Unit {0}) R Nothing told.OutOfTicks (λ υ later. tt)) (skip_asks op past R))))
+      (choose_asks op past R (Unit {0}) (Q × Unit {0}) Nothing (n % 1024 == 0) _ _
+      (only_asks (Q × Unit {0}) act.Beat tt) (skip_asks op past R (Q × Unit {0}))) (λ N g.
+      choose_asks op past R (Unit {0}) N Nothing (n == budget) _ _
+      (exit_asks op past R (Unit {0}) N Nothing told.OutOfTicks (λ υ later. tt)) (skip_asks op past R N))))
 
-  pub notify_asks : (P : Type 0) (at : Place) (mark : Mark) → Asks op past (Unit {0}) P Nothing (a.notify τ at mark)
+  pub notify_asks : (P : Type 0) (at : Place) (mark : Mark) → Asks op past R (Unit {0}) P Nothing (a.notify τ at mark)
   unfolding a.notify
   notify_asks P at mark =
       on (Unit {0}) P Nothing (fault_if a.is_controlled BARRIER_IN_FORALL at) _
-      (fault_if_asks op past P a.is_controlled BARRIER_IN_FORALL at (λ σ r rs. refl)) (λ Q f.
+      (fault_if_asks op past R P a.is_controlled BARRIER_IN_FORALL at (λ σ r rs. refl)) (λ Q f.
       on (Unit {0}) Q Nothing (fault_if a.is_notified PHASE_ORDER at) _
-      (fault_if_asks op past Q a.is_notified PHASE_ORDER at (λ σ r rs. refl)) (λ R g.
-      on (Unit {0}) R Nothing (a.does τ at (act.Notify mark)) _
-      (does_asks R at (act.Notify mark) tt (λ r. refl)) (λ S h.
-      change_asks op past S (a.with_notified true) (λ σ h. h) (λ σ. refl) (λ σ. refl) (λ σ r rs. refl))))
+      (fault_if_asks op past R Q a.is_notified PHASE_ORDER at (λ σ r rs. refl)) (λ N g.
+      on (Unit {0}) N Nothing (a.does τ at (act.Notify mark)) _
+      (does_asks N at (act.Notify mark) tt) (λ S h.
+      change_asks op past R S (a.with_notified true) (λ σ h. h) (λ σ. refl) (λ σ. refl) (λ σ r rs. refl))))
 
-  pub wait_asks : (P : Type 0) (at : Place) (mark : Mark) → Asks op past (Unit {0}) P Nothing (a.wait τ at mark)
+  pub wait_asks : (P : Type 0) (at : Place) (mark : Mark) → Asks op past R (Unit {0}) P Nothing (a.wait τ at mark)
   unfolding a.wait
   wait_asks P at mark =
       on (Unit {0}) P Nothing (fault_if a.is_controlled BARRIER_IN_FORALL at) _
-      (fault_if_asks op past P a.is_controlled BARRIER_IN_FORALL at (λ σ r rs. refl)) (λ Q f.
+      (fault_if_asks op past R P a.is_controlled BARRIER_IN_FORALL at (λ σ r rs. refl)) (λ Q f.
       on (Unit {0}) Q Nothing (fault_if a.is_not_notified PHASE_ORDER at) _
-      (fault_if_asks op past Q a.is_not_notified PHASE_ORDER at (λ σ r rs. refl)) (λ R g.
-      on (Unit {0}) R Nothing (a.does τ at (act.Wait mark)) _
-      (does_asks R at (act.Wait mark) tt (λ r. refl)) (λ S h.
-      change_asks op past S (a.with_notified false) (λ σ h. h) (λ σ. refl) (λ σ. refl) (λ σ r rs. refl))))
+      (fault_if_asks op past R Q a.is_not_notified PHASE_ORDER at (λ σ r rs. refl)) (λ N g.
+      on (Unit {0}) N Nothing (a.does τ at (act.Wait mark)) _
+      (does_asks N at (act.Wait mark) tt) (λ S h.
+      change_asks op past R S (a.with_notified false) (λ σ h. h) (λ σ. refl) (λ σ. refl) (λ σ r rs. refl))))
 
-  meet_asks : (P : Type 0) (at : Place) → Asks op past (Unit {0}) P Nothing (a.meet τ at)
+  meet_asks : (P : Type 0) (at : Place) → Asks op past R (Unit {0}) P Nothing (a.meet τ at)
   unfolding a.meet
   meet_asks P at =
       on (Unit {0}) P Nothing (fault_if a.is_controlled BARRIER_IN_FORALL at) _
-      (fault_if_asks op past P a.is_controlled BARRIER_IN_FORALL at (λ σ r rs. refl)) (λ Q f.
-      fault_if_asks op past Q a.is_notified PHASE_ORDER at (λ σ r rs. refl))
+      (fault_if_asks op past R P a.is_controlled BARRIER_IN_FORALL at (λ σ r rs. refl)) (λ Q f.
+      fault_if_asks op past R Q a.is_notified PHASE_ORDER at (λ σ r rs. refl))
 
-  pub fence_asks : (P : Type 0) → Asks op past (Unit {0}) P Nothing (a.fence τ)
+  pub fence_asks : (P : Type 0) → Asks op past R (Unit {0}) P Nothing (a.fence τ)
   unfolding a.fence
-  fence_asks P = only_asks P act.Fence tt (λ r. refl)
+  fence_asks P = only_asks P act.Fence tt
 
-  leave_asks : (A P : Type 0) (V : A → Type 0) (n : ℤ) → Asks op past A P V (a.exit τ n)
+  leave_asks : (A P : Type 0) (V : A → Type 0) (n : ℤ) → Asks op past R A P V (a.exit τ n)
   unfolding a.exit
   leave_asks A P V n =
-      then_asks op past Reply A P (IsAnswer None (act.Exit n)) V (a.ask τ None (act.Exit n)) (λ r. over (told.Exit n))
-      (ask_asks op past τ None (act.Exit n) P (λ q. tt) (λ q r. refl)) (λ r.
-      exit_asks op past A (P × IsAnswer None (act.Exit n) r) V (told.Exit n) (λ υ later. tt))
+      then_asks op past R Reply A P (IsAnswer None (act.Exit n)) V (a.ask τ None (act.Exit n)) (λ r. over (told.Exit n))
+      (ask_asks op past R me budget None (act.Exit n) P (λ q. tt)) (λ r.
+      exit_asks op past R A (P × IsAnswer None (act.Exit n) r) V (told.Exit n) (λ υ later. tt))
 
   -- ---- accesses
 
@@ -181,55 +181,55 @@ module _ (op : Opening) (past : List Reply) (v : IsOpening op) (finds : FindsNam
   answer_is k at strict (reply.Refused code) h = absurd (false≢true h.fit)
 
   module _ (P : Type 0) (k : Kind) where
-    read_asks : (strict : Bool) (at : Loc) → (P → cell_of op (objects_given op past) at ≡ Some k)
-        → Asks op past Scalar P (IsCellScalar k) (x.read τ k strict at)
-    read_asks strict at h =
-        then_asks op past Reply Scalar P (IsAnswer (Some k) (act.Read at strict)) (IsCellScalar k)
+    read_asks : (strict : Bool) (at : Loc) → (P → IsCellThere op past at k) → (P → R k at)
+        → Asks op past R Scalar P (IsCellScalar k) (x.read τ k strict at)
+    read_asks strict at h g =
+        then_asks op past R Reply Scalar P (IsAnswer (Some k) (act.Read at strict)) (IsCellScalar k)
         (a.ask τ (Some k) (act.Read at strict)) (λ r. give (value_in r))
-        (ask_asks op past τ (Some k) (act.Read at strict) P (λ q. ap is_some (h q))
-        (λ q r. ap (λ c. fits op.threads op.shapes c (act.Read at strict) r) (h q))) (λ r.
-        give_asks op past Scalar (P × IsAnswer (Some k) (act.Read at strict) r) (IsCellScalar k) (value_in r)
+        (ask_asks op past R me budget (Some k) (act.Read at strict) P (λ q. (h q, g q))) (λ r.
+        give_asks op past R Scalar (P × IsAnswer (Some k) (act.Read at strict) r) (IsCellScalar k) (value_in r)
         (λ q. answer_is k at strict r q.1))
 
-    write_asks : (strict : Bool) (at : Loc) (w : Scalar) → (P → cell_of op (objects_given op past) at ≡ Some k)
-        → (P → fits_kind w k ≡ true) → (P → IsKnownScalar w) → Asks op past (Unit {0}) P Nothing (x.write τ strict at w)
+    write_asks : (strict : Bool) (at : Loc) (w : Scalar) → (P → IsCellThere op past at k)
+        → (P → fits_kind w k ≡ true) → (P → IsKnownScalar w)
+        → Asks op past R (Unit {0}) P Nothing (x.write τ strict at w)
     write_asks strict at w h f g =
-        then_asks op past Reply (Unit {0}) P (IsAnswer None (act.Write strict at w)) Nothing
+        then_asks op past R Reply (Unit {0}) P (IsAnswer None (act.Write strict at w)) Nothing
         (a.ask τ None (act.Write strict at w)) (λ r. skip)
-        (ask_asks op past τ None (act.Write strict at w) P
-        (λ q. and_from (fits_cell w (cell_of op (objects_given op past) at)) (is_known op past w)
-        (subst (λ c. fits_cell w c ≡ true) (sym (h q)) (f q)) (g q)) (λ q r. refl))
-        (λ r. skip_asks op past (P × IsAnswer None (act.Write strict at w) r))
+        (ask_asks op past R me budget None (act.Write strict at w) P (λ q. (k, h q, f q, g q)))
+        (λ r. skip_asks op past R (P × IsAnswer None (act.Write strict at w) r))
 
     -- The location that an access reaches is a cell of that kind.
     abbrev IsCell : Loc → Type 0
-    IsCell at = cell_of op (objects_given op past) at ≡ Some k
+    IsCell at = IsCellThere op past at k
 
     cell_holds : (ptr : SharedPtr) → knows op past ptr ≡ true → (r : Result Loc ℕ) → x.cell τ k ptr ≡ r → Holds IsCell r
-    cell_holds ptr h (Ok at) e = reached_cell op past v finds me budget ptr k at h e
+    cell_holds ptr h (Ok at) e = reached_cell op past v me budget ptr k at h e
     cell_holds ptr h (Err code) e = tt
 
     located : (at : Place) (ptr : SharedPtr) → (P → knows op past ptr ≡ true)
-        → Asks op past Loc P IsCell (valued at (x.cell τ k ptr))
+        → Asks op past R Loc P IsCell (valued at (x.cell τ k ptr))
     located at ptr h =
-        valued_asks op past Loc P IsCell at (x.cell τ k ptr) (λ q. cell_holds ptr (h q) (x.cell τ k ptr) refl)
+        valued_asks op past R Loc P IsCell at (x.cell τ k ptr) (λ q. cell_holds ptr (h q) (x.cell τ k ptr) refl)
 
   load_shared_asks : (P : Type 0) (k : Kind) (strict : Bool) (at : Place) (ptr : SharedPtr)
-      → (P → knows op past ptr ≡ true) → Asks op past Value P IsKnown (x.load_shared τ k strict at ptr)
-  load_shared_asks P k strict at ptr h =
-      then_asks op past Loc Value P (IsCell P k) IsKnown (valued at (x.cell τ k ptr)) _ (located P k at ptr h) (λ there.
-      then_asks op past Scalar Value (P × IsCell P k there) (IsCellScalar k) IsKnown (x.read τ k strict there) _
-      (read_asks (P × IsCell P k there) k strict there (λ q. q.1)) (λ w.
-      give_asks op past Value ((P × IsCell P k there) × IsCellScalar k w) IsKnown (value.Scalar w) (λ q. q.1.known)))
+      → (P → knows op past ptr ≡ true) → ((there : Loc) → R k there)
+      → Asks op past R Value P IsKnown (x.load_shared τ k strict at ptr)
+  load_shared_asks P k strict at ptr h g =
+      then_asks op past R Loc Value P (IsCell P k) IsKnown (valued at (x.cell τ k ptr)) _
+      (located P k at ptr h) (λ there.
+      then_asks op past R Scalar Value (P × IsCell P k there) (IsCellScalar k) IsKnown (x.read τ k strict there) _
+      (read_asks (P × IsCell P k there) k strict there (λ q. q.1) (λ q. g there)) (λ w.
+      give_asks op past R Value ((P × IsCell P k there) × IsCellScalar k w) IsKnown (value.Scalar w) (λ q. q.1.known)))
 
   save_shared_asks : (P : Type 0) (k : Kind) (strict : Bool) (at : Place) (ptr : SharedPtr) (w : Value)
       → (P → knows op past ptr ≡ true) → (P → IsKnown w)
-      → Asks op past (Unit {0}) P Nothing (x.save_shared τ k strict at ptr w)
+      → Asks op past R (Unit {0}) P Nothing (x.save_shared τ k strict at ptr w)
   save_shared_asks P k strict at ptr w h g =
-      then_asks op past Loc (Unit {0}) P (IsCell P k) Nothing (valued at (x.cell τ k ptr)) _
+      then_asks op past R Loc (Unit {0}) P (IsCell P k) Nothing (valued at (x.cell τ k ptr)) _
       (located P k at ptr h) (λ there.
       write_asks (P × IsCell P k there) k strict there (kept_scalar k (scalar_of w)) (λ q. q.1)
-      (λ q. kept_fits op past v finds there k (scalar_of w) q.1)
+      (λ q. kept_fits op past v there k (scalar_of w) q.1)
       (λ q. kept_scalar_known op past k (scalar_of w) (scalar_known op past w (g q.0))))
 
   known_holds : (r : Result Value ℕ) → KnownIn op past r → Holds IsKnown r
@@ -244,41 +244,42 @@ module _ (op : Opening) (past : List Reply) (v : IsOpening op) (finds : FindsNam
     read_holds (Ok w) h = h
     read_holds (Err code) h = h
 
-    load_private_asks : Asks op past Value P (s.IsCellValue op past k) (x.load_private k at ptr)
+    load_private_asks : Asks op past R Value P (s.IsCellValue op past k) (x.load_private k at ptr)
     load_private_asks =
-        then_asks op past (Result Value ℕ) Value P IsRead (s.IsCellValue op past k) (know (λ σ. loaded ptr k σ.store))
+        then_asks op past R (Result Value ℕ) Value P IsRead (s.IsCellValue op past k) (know (λ σ. loaded ptr k σ.store))
         (valued at)
-        (know_asks op past (Result Value ℕ) P IsRead (λ σ. loaded ptr k σ.store)
+        (know_asks op past R (Result Value ℕ) P IsRead (λ σ. loaded ptr k σ.store)
         (λ q σ g. s.loaded_is op past ptr k σ.store g.store) (λ σ r rs. refl)) (λ r.
-        valued_asks op past Value (P × IsRead r) (s.IsCellValue op past k) at r (λ q. read_holds r q.1))
+        valued_asks op past R Value (P × IsRead r) (s.IsCellValue op past k) at r (λ q. read_holds r q.1))
 
-    load_known_asks : Asks op past Value P IsKnown (x.load_private k at ptr)
+    load_known_asks : Asks op past R Value P IsKnown (x.load_private k at ptr)
     load_known_asks =
-        wider op past P (s.IsCellValue op past k) IsKnown (x.load_private k at ptr) (λ w h. h.known) load_private_asks
+        wider op past R P (s.IsCellValue op past k) IsKnown (x.load_private k at ptr) (λ w h. h.known) load_private_asks
 
-    save_private_asks : (w : Value) → (P → IsKnown w) → Asks op past (Unit {0}) P Nothing (x.save_private k at ptr w)
+    save_private_asks : (w : Value) → (P → IsKnown w) → Asks op past R (Unit {0}) P Nothing (x.save_private k at ptr w)
     save_private_asks w g =
-        store_asks op past P at (λ live. stored ptr k (kept k w) live)
+        store_asks op past R P at (λ live. stored ptr k (kept k w) live)
         (λ q live h. s.stored_filled op past ptr k (kept k w) live (s.kept_is op past k w (g q)) h)
 
   module _ (P : Type 0) (k : Kind) (strict : Bool) (at : Place) where
-    pub load_asks : (ptr : Value) → (P → IsKnown ptr) → Asks op past Value P IsKnown (x.load τ k strict at ptr)
+    pub load_asks : (ptr : Value) → (P → IsKnown ptr) → ((there : Loc) → R k there)
+        → Asks op past R Value P IsKnown (x.load τ k strict at ptr)
     unfolding x.load
-    load_asks (value.Scalar (scalar.Shared q)) h = load_shared_asks P k strict at q h
-    load_asks (value.Scalar (scalar.Int n)) h = fault_asks op past Value P IsKnown NULL_ACCESS at
-    load_asks (value.Scalar (scalar.Lock n)) h = fault_asks op past Value P IsKnown NULL_ACCESS at
-    load_asks (value.Local (local.Shared object thread offset)) h =
+    load_asks (value.Scalar (scalar.Shared q)) h g = load_shared_asks P k strict at q h g
+    load_asks (value.Scalar (scalar.Int n)) h g = fault_asks op past R Value P IsKnown NULL_ACCESS at
+    load_asks (value.Scalar (scalar.Lock n)) h g = fault_asks op past R Value P IsKnown NULL_ACCESS at
+    load_asks (value.Local (local.Shared object thread offset)) h g =
         let q = x.into_shared object thread offset in
-        load_shared_asks P k false at q (λ r. names_pointer op past q (h r))
-    load_asks (value.Local (local.Private object offset)) h = load_known_asks P k at (local.Private object offset)
-    load_asks (value.Local local.Null) h = load_known_asks P k at local.Null
+        load_shared_asks P k false at q (λ r. names_pointer op past q (h r)) g
+    load_asks (value.Local (local.Private object offset)) h g = load_known_asks P k at (local.Private object offset)
+    load_asks (value.Local local.Null) h g = load_known_asks P k at local.Null
 
     pub save_asks : (ptr w : Value) → (P → IsKnown ptr) → (P → IsKnown w)
-        → Asks op past (Unit {0}) P Nothing (x.save τ k strict at ptr w)
+        → Asks op past R (Unit {0}) P Nothing (x.save τ k strict at ptr w)
     unfolding x.save
     save_asks (value.Scalar (scalar.Shared q)) w h g = save_shared_asks P k strict at q w h g
-    save_asks (value.Scalar (scalar.Int n)) w h g = fault_asks op past (Unit {0}) P Nothing NULL_ACCESS at
-    save_asks (value.Scalar (scalar.Lock n)) w h g = fault_asks op past (Unit {0}) P Nothing NULL_ACCESS at
+    save_asks (value.Scalar (scalar.Int n)) w h g = fault_asks op past R (Unit {0}) P Nothing NULL_ACCESS at
+    save_asks (value.Scalar (scalar.Lock n)) w h g = fault_asks op past R (Unit {0}) P Nothing NULL_ACCESS at
     save_asks (value.Local (local.Shared object thread offset)) w h g =
         let q = x.into_shared object thread offset in
         save_shared_asks P k false at q w (λ r. names_pointer op past q (h r)) g
@@ -289,87 +290,90 @@ module _ (op : Opening) (past : List Reply) (v : IsOpening op) (finds : FindsNam
   -- ---- pointers, operators and conversions
 
   module _ (P : Type 0) (at : Place) where
-    value_asks : (r : Result Value ℕ) → (P → KnownIn op past r) → Asks op past Value P IsKnown (valued at r)
-    value_asks r h = valued_asks op past Value P IsKnown at r (λ q. known_holds r (h q))
+    value_asks : (r : Result Value ℕ) → (P → KnownIn op past r) → Asks op past R Value P IsKnown (valued at r)
+    value_asks r h = valued_asks op past R Value P IsKnown at r (λ q. known_holds r (h q))
 
     -- What computes anything and makes a value of it.
     then_value_asks : {A : Type 0} (r : Result A ℕ) (f : A → Value) → ((y : A) → IsKnown (f y))
-        → Asks op past Value P IsKnown (valued at r >>= (λ y. give (f y)))
+        → Asks op past R Value P IsKnown (valued at r >>= (λ y. give (f y)))
     then_value_asks {A} r f h =
-        then_asks op past A Value P (λ y. Unit {0}) IsKnown (valued at r) (λ y. give (f y))
-        (valued_asks op past A P (λ y. Unit {0}) at r (λ q. holds_any r)) (λ y.
-        give_asks op past Value (P × Unit {0}) IsKnown (f y) (λ q. h y))
+        then_asks op past R A Value P (λ y. Unit {0}) IsKnown (valued at r) (λ y. give (f y))
+        (valued_asks op past R A P (λ y. Unit {0}) at r (λ q. holds_any r)) (λ y.
+        give_asks op past R Value (P × Unit {0}) IsKnown (f y) (λ q. h y))
 
     pub advance_asks : (ε : Elements) (w : Value) (i : ℤ) → (P → IsKnown w)
-        → Asks op past Value P IsKnown (p.advance τ ε at w i)
+        → Asks op past R Value P IsKnown (p.advance τ ε at w i)
     unfolding p.advance
     advance_asks ε w i h =
         value_asks (p.advanced τ ε i w) (λ q. advanced_known op past v.least me budget ε i w (h q))
 
-    pub member_asks : (offset : ℕ) (w : Value) → (P → IsKnown w) → Asks op past Value P IsKnown (p.member τ offset at w)
+    pub member_asks : (offset : ℕ) (w : Value) → (P → IsKnown w)
+        → Asks op past R Value P IsKnown (p.member τ offset at w)
     unfolding p.member
-    member_asks offset w h = value_asks (p.member_behind τ offset w) (λ q. member_known op past me budget offset w (h q))
+    member_asks offset w h =
+        value_asks (p.member_behind τ offset w) (λ q. member_known op past me budget offset w (h q))
 
-    pub difference_asks : (ε : Elements) (w y : Value) → Asks op past Value P IsKnown (p.difference τ ε at w y)
+    pub difference_asks : (ε : Elements) (w y : Value) → Asks op past R Value P IsKnown (p.difference τ ε at w y)
     unfolding p.difference
     difference_asks ε w y = then_value_asks (p.apart τ ε w y) number (λ n. refl)
 
     pub order_asks : (operator : BinOp) (ε : Elements) (w y : Value)
-        → Asks op past Value P IsKnown (p.order τ operator ε at w y)
+        → Asks op past R Value P IsKnown (p.order τ operator ε at w y)
     unfolding p.order
     order_asks operator ε w y =
-        then_asks op past ℤ Value P (λ n. Unit {0}) IsKnown (valued at (p.apart τ ε w y)) _
-        (valued_asks op past ℤ P (λ n. Unit {0}) at (p.apart τ ε w y) (λ q. holds_any (p.apart τ ε w y))) (λ n.
-        then_asks op past ℤ Value (P × Unit {0}) (λ m. Unit {0}) IsKnown
+        then_asks op past R ℤ Value P (λ n. Unit {0}) IsKnown (valued at (p.apart τ ε w y)) _
+        (valued_asks op past R ℤ P (λ n. Unit {0}) at (p.apart τ ε w y) (λ q. holds_any (p.apart τ ε w y))) (λ n.
+        then_asks op past R ℤ Value (P × Unit {0}) (λ m. Unit {0}) IsKnown
         (valued at (binary_of operator kind.Long n (pos 0))) _
-        (valued_asks op past ℤ (P × Unit {0}) (λ m. Unit {0}) at (binary_of operator kind.Long n (pos 0))
+        (valued_asks op past R ℤ (P × Unit {0}) (λ m. Unit {0}) at (binary_of operator kind.Long n (pos 0))
         (λ q. holds_any (binary_of operator kind.Long n (pos 0)))) (λ m.
-        give_asks op past Value ((P × Unit {0}) × Unit {0}) IsKnown (number m) (λ q. refl)))
+        give_asks op past R Value ((P × Unit {0}) × Unit {0}) IsKnown (number m) (λ q. refl)))
 
-    pub same_asks : (w y : Value) → Asks op past Value P IsKnown (p.same τ w y)
+    pub same_asks : (w y : Value) → Asks op past R Value P IsKnown (p.same τ w y)
     unfolding p.same
-    same_asks w y = give_asks op past Value P IsKnown (truth_value (p.same_value w y)) (λ q. refl)
+    same_asks w y = give_asks op past R Value P IsKnown (truth_value (p.same_value w y)) (λ q. refl)
 
-    pub in_row_asks : (count : ℕ) (w : Value) (i : ℤ) → Asks op past (Unit {0}) P Nothing (p.in_row count at w i)
+    pub in_row_asks : (count : ℕ) (w : Value) (i : ℤ) → Asks op past R (Unit {0}) P Nothing (p.in_row count at w i)
     in_row_asks count w i =
-        choose_asks op past (Unit {0}) P Nothing (int_le (pos 0) i && int_lt i (pos count)) skip (fault (p.outside w) at)
-        (skip_asks op past P) (fault_asks op past (Unit {0}) P Nothing (p.outside w) at)
+        choose_asks op past R (Unit {0}) P Nothing (int_le (pos 0) i && int_lt i (pos count)) skip
+        (fault (p.outside w) at)
+        (skip_asks op past R P) (fault_asks op past R (Unit {0}) P Nothing (p.outside w) at)
 
     pub operate_asks : (operator : BinOp) (left right : Kind) (w y : Value)
-        → Asks op past Value P IsKnown (o.operate operator left right at w y)
+        → Asks op past R Value P IsKnown (o.operate operator left right at w y)
     unfolding o.operate
     operate_asks operator left right w y =
         then_value_asks (binary_of operator left (converted left (number_of w)) (converted right (number_of y))) number
         (λ n. refl)
 
-    pub apply_asks : (operator : UnOp) (k : Kind) (w : Value) → Asks op past Value P IsKnown (o.apply operator k at w)
+    pub apply_asks : (operator : UnOp) (k : Kind) (w : Value) → Asks op past R Value P IsKnown (o.apply operator k at w)
     unfolding o.apply
     apply_asks operator k w = then_value_asks (unary_of operator k (converted k (number_of w))) number (λ n. refl)
 
-    pub cast_asks : (into : CastTo) (w : Value) → (P → IsKnown w) → Asks op past Value P IsKnown (o.cast τ into at w)
+    pub cast_asks : (into : CastTo) (w : Value) → (P → IsKnown w) → Asks op past R Value P IsKnown (o.cast τ into at w)
     unfolding o.cast
     cast_asks into w h = value_asks (o.cast_value τ into w) (λ q. cast_known op past me budget into w (h q))
 
-    pub mine_asks : (w : Value) → Asks op past Value P IsKnown (b.mine τ at w)
+    pub mine_asks : (w : Value) → Asks op past R Value P IsKnown (b.mine τ at w)
     unfolding b.mine
     mine_asks w = then_value_asks (b.has_turn τ w) truth_value (λ t. refl)
 
   -- ---- blocks and calls
 
   live_asks : (P : Type 0) (f : Live → Live) → ((live : Live) → s.IsFilled op past live → s.IsFilled op past (f live))
-      → Asks op past (Unit {0}) P Nothing (change (b.with_live f))
+      → Asks op past R (Unit {0}) P Nothing (change (b.with_live f))
   live_asks P f h =
-      change_asks op past P (b.with_live f) (λ σ g. h σ.store g) (λ σ. refl) (λ σ. refl) (λ σ r rs. refl)
+      change_asks op past R P (b.with_live f) (λ σ g. h σ.store g) (λ σ. refl) (λ σ. refl) (λ σ r rs. refl)
 
   pub open_asks : (P : Type 0) (from : ℕ) (shapes : List Shape) (at : Place)
-      → Asks op past (Unit {0}) P Nothing (b.open_block from shapes at)
+      → Asks op past R (Unit {0}) P Nothing (b.open_block from shapes at)
   unfolding b.open_block
   open_asks P from shapes at =
       on (Unit {0}) P Nothing (fault_if (b.is_too_large shapes) PRIVATE_SPACE at) _
-      (fault_if_asks op past P (b.is_too_large shapes) PRIVATE_SPACE at (λ σ r rs. refl)) (λ Q f.
+      (fault_if_asks op past R P (b.is_too_large shapes) PRIVATE_SPACE at (λ σ r rs. refl)) (λ Q f.
       live_asks Q (entered from shapes) (λ live h. s.entered_filled op past from shapes live h))
 
-  pub close_asks : (P : Type 0) → Asks op past (Unit {0}) P Nothing b.close_block
+  pub close_asks : (P : Type 0) → Asks op past R (Unit {0}) P Nothing b.close_block
   unfolding b.close_block
   close_asks P = live_asks P left (λ live h. s.left_filled op past live h)
 
@@ -377,26 +381,26 @@ module _ (op : Opening) (past : List Reply) (v : IsOpening op) (finds : FindsNam
   place_known (Some n) = tt
   place_known None = tt
 
-  pub local_asks : (P : Type 0) (n : ℕ) → Asks op past Value P IsKnown (b.local_object n)
+  pub local_asks : (P : Type 0) (n : ℕ) → Asks op past R Value P IsKnown (b.local_object n)
   unfolding b.local_object
-  local_asks P n = know_asks op past Value P IsKnown _ (λ q σ g. place_known _) (λ σ r rs. refl)
+  local_asks P n = know_asks op past R Value P IsKnown _ (λ q σ g. place_known _) (λ σ r rs. refl)
 
-  pub begin_asks : (P : Type 0) (at : Place) → Asks op past (Unit {0}) P Nothing (b.begin_call at)
+  pub begin_asks : (P : Type 0) (at : Place) → Asks op past R (Unit {0}) P Nothing (b.begin_call at)
   unfolding b.begin_call
   begin_asks P at =
       on (Unit {0}) P Nothing (fault_if b.is_deep DEPTH at) _
-      (fault_if_asks op past P b.is_deep DEPTH at (λ σ r rs. refl)) (λ Q f.
+      (fault_if_asks op past R P b.is_deep DEPTH at (λ σ r rs. refl)) (λ Q f.
       live_asks Q called (λ live h. h))
 
-  pub end_asks : (P : Type 0) → Asks op past (Unit {0}) P Nothing b.end_call
+  pub end_asks : (P : Type 0) → Asks op past R (Unit {0}) P Nothing b.end_call
   unfolding b.end_call
   end_asks P = live_asks P returned (λ live h. s.returned_filled op past live h)
 
-  pub control_asks : (P : Type 0) → Asks op past (Unit {0}) P Nothing b.control
+  pub control_asks : (P : Type 0) → Asks op past R (Unit {0}) P Nothing b.control
   unfolding b.control
   control_asks P = live_asks P b.one_more (λ live h. s.recounted_filled op past (suc (controls live)) live h)
 
-  pub release_asks : (P : Type 0) → Asks op past (Unit {0}) P Nothing b.release
+  pub release_asks : (P : Type 0) → Asks op past R (Unit {0}) P Nothing b.release
   unfolding b.release
   release_asks P = live_asks P b.one_less (λ live h. s.recounted_filled op past (pred (controls live)) live h)
 
@@ -406,39 +410,38 @@ module _ (op : Opening) (past : List Reply) (v : IsOpening op) (finds : FindsNam
   abbrev pub GoesWell : {A : Type 0} → (A → Type 0) → Expansion A → Type 0
   GoesWell V (Gives w) = V w
   GoesWell V (Fails code) = Unit {0}
-  GoesWell V (Reads at k after) =
-      (cell_of op (objects_given op past) at ≡ Some k) × ((w : Scalar) → IsCellScalar k w → GoesWell V (after w))
+  GoesWell V (Reads at k after) = IsCellThere op past at k × ((w : Scalar) → IsCellScalar k w → GoesWell V (after w))
   GoesWell V (Acts action after) =
-      IsWellFormed op past action
-      × ((r : Reply) → fits_after op past action r ≡ fits op.threads op.shapes None action r)
-      × ((r : Reply) → IsGiven r → GoesWell V (after r))
+      IsWellFormed op past R None action × ((r : Reply) → IsGiven r → GoesWell V (after r))
   GoesWell V (Loads ptr k after) = (w : Value) → s.IsCellValue op past k w → GoesWell V (after (scalar_of w))
   GoesWell V (Stores ptr k w after) = IsKnownScalar w × GoesWell V after
 
   expanded_asks : {A : Type 0} (P : Type 0) (V : A → Type 0) (at : Place) (e : Expansion A) → (P → GoesWell V e)
-      → Asks op past A P V (x.expanded τ at e)
-  expanded_asks {A} P V at (Gives w) h = give_asks op past A P V w h
-  expanded_asks {A} P V at (Fails code) h = fault_asks op past A P V code at
-  expanded_asks {A} P V at (Reads l k after) h =
-      then_asks op past Scalar A P (IsCellScalar k) V (x.read τ k false l) _ (read_asks P k false l (λ q. (h q).0)) (λ w.
-      expanded_asks (P × IsCellScalar k w) V at (after w) (λ q. (h q.0).1 w q.1))
-  expanded_asks {A} P V at (Acts action after) h =
-      then_asks op past Reply A P (IsAnswer None action) V (a.ask τ None action) _
-      (ask_asks op past τ None action P (λ q. (h q).0) (λ q. (h q).1)) (λ r.
-      expanded_asks (P × IsAnswer None action r) V at (after r) (λ q. (h q.0).2 r q.1.given))
-  expanded_asks {A} P V at (Loads ptr k after) h =
-      then_asks op past Value A P (s.IsCellValue op past k) V (x.load_private k at ptr) _
+      → ((k : Kind) (l : Loc) → ReadsCell e k l → R k l) → Asks op past R A P V (x.expanded τ at e)
+  expanded_asks {A} P V at (Gives w) h g = give_asks op past R A P V w h
+  expanded_asks {A} P V at (Fails code) h g = fault_asks op past R A P V code at
+  expanded_asks {A} P V at (Reads l k after) h g =
+      then_asks op past R Scalar A P (IsCellScalar k) V (x.read τ k false l) _
+      (read_asks P k false l (λ q. (h q).0) (λ q. g k l (inl (refl, refl)))) (λ w.
+      expanded_asks (P × IsCellScalar k w) V at (after w) (λ q. (h q.0).1 w q.1) (λ j m r. g j m (inr (w, r))))
+  expanded_asks {A} P V at (Acts action after) h g =
+      then_asks op past R Reply A P (IsAnswer None action) V (a.ask τ None action) _
+      (ask_asks op past R me budget None action P (λ q. (h q).0)) (λ r.
+      expanded_asks (P × IsAnswer None action r) V at (after r) (λ q. (h q.0).1 r q.1.given) (λ j m y. g j m (r, y)))
+  expanded_asks {A} P V at (Loads ptr k after) h g =
+      then_asks op past R Value A P (s.IsCellValue op past k) V (x.load_private k at ptr) _
       (load_private_asks P k at ptr) (λ w.
-      expanded_asks (P × s.IsCellValue op past k w) V at (after (scalar_of w)) (λ q. h q.0 w q.1))
-  expanded_asks {A} P V at (Stores ptr k w after) h =
-      then_asks op past (Unit {0}) A P Nothing V (x.save_private k at ptr (value.Scalar w)) _
+      expanded_asks (P × s.IsCellValue op past k w) V at (after (scalar_of w)) (λ q. h q.0 w q.1) (λ j m y.
+      g j m (scalar_of w, y)))
+  expanded_asks {A} P V at (Stores ptr k w after) h g =
+      then_asks op past R (Unit {0}) A P Nothing V (x.save_private k at ptr (value.Scalar w)) _
       (save_private_asks P k at ptr (value.Scalar w) (λ q. (h q).0)) (λ u.
-      expanded_asks (P × Unit {0}) V at after (λ q. (h q.0).1))
+      expanded_asks (P × Unit {0}) V at after (λ q. (h q.0).1) g)
 
   run_asks : {A : Type 0} (P : Type 0) (V : A → Type 0) (at : Place) (e : Expansion A) → (P → GoesWell V e)
-      → Asks op past A P V (x.run τ at e)
+      → ((k : Kind) (l : Loc) → ReadsCell e k l → R k l) → Asks op past R A P V (x.run τ at e)
   unfolding x.run
-  run_asks P V at e h = expanded_asks P V at e h
+  run_asks P V at e h g = expanded_asks P V at e h g
 
   -- A call goes well whatever private objects live.
   abbrev pub CallGoesWell : LibraryCall → (shape : ℕ) → List Value → Type 0
@@ -446,42 +449,49 @@ module _ (op : Opening) (past : List Reply) (v : IsOpening op) (finds : FindsNam
       (private : ℕ → Option Shape)
       → GoesWell IsKnownScalar (library_call op.threads op.shapes me private call shape args)
 
-  called_asks : (P : Type 0) (call : LibraryCall) (shape : ℕ) (at : Place) (args : List Value)
-      → (P → CallGoesWell call shape args) → Asks op past Value P IsKnown (l.called τ call shape at args)
-  called_asks P call shape at args h =
-      on Value P IsKnown (choose (is_some (meet_number call)) (a.meet τ at) skip) _
-      (choose_asks op past (Unit {0}) P Nothing (is_some (meet_number call)) (a.meet τ at) skip (meet_asks P at)
-      (skip_asks op past P)) (λ Q f.
-      then_asks op past (ℕ → Option Shape) Value Q (λ y. Unit {0}) IsKnown (know l.private_shapes) _
-      (know_asks op past (ℕ → Option Shape) Q (λ y. Unit {0}) l.private_shapes (λ q σ g. tt) (λ σ r rs. refl)) (λ private.
-      then_asks op past Scalar Value (Q × Unit {0}) IsKnownScalar IsKnown
-      (x.run τ at (library_call op.threads op.shapes me private call shape args)) _
-      (run_asks (Q × Unit {0}) IsKnownScalar at (library_call op.threads op.shapes me private call shape args)
-      (λ q. h (f q.0) private)) (λ w.
-      give_asks op past Value ((Q × Unit {0}) × IsKnownScalar w) IsKnown (value.Scalar w) (λ q. q.1))))
+  -- What a call reads with some private objects.
+  abbrev pub CallReads : LibraryCall → (shape : ℕ) → List Value → Kind → Loc → Type 0
+  CallReads call shape args k l =
+      (private : ℕ → Option Shape) × ReadsCell (library_call op.threads op.shapes me private call shape args) k l
 
-  formed_asks : (P : Type 0) (call : LibraryCall) (shape : ℕ) (at : Place) (args : List Value)
-      → (P → l.is_formed op.shapes call shape args ≡ true → CallGoesWell call shape args) → (b : Bool)
-      → l.is_formed op.shapes call shape args ≡ b
-      → Asks op past Value P IsKnown (choose b (l.called τ call shape at args) (give (number (pos 0))))
-  formed_asks P call shape at args h true e = called_asks P call shape at args (λ q. h q e)
-  formed_asks P call shape at args h false e = give_asks op past Value P IsKnown (number (pos 0)) (λ q. refl)
+  module _ (call : LibraryCall) (shape : ℕ) (at : Place) (args : List Value)
+      (reads : (k : Kind) (l : Loc) → CallReads call shape args k l → R k l) where
+    called_asks : (P : Type 0) → (P → CallGoesWell call shape args)
+        → Asks op past R Value P IsKnown (l.called τ call shape at args)
+    called_asks P h =
+        on Value P IsKnown (choose (is_some (meet_number call)) (a.meet τ at) skip) _
+        (choose_asks op past R (Unit {0}) P Nothing (is_some (meet_number call)) (a.meet τ at) skip (meet_asks P at)
+        (skip_asks op past R P)) (λ Q f.
+        then_asks op past R (ℕ → Option Shape) Value Q (λ y. Unit {0}) IsKnown (know l.private_shapes) _
+        (know_asks op past R (ℕ → Option Shape) Q (λ y. Unit {0}) l.private_shapes (λ q σ g. tt) (λ σ r rs. refl))
+        (λ private.
+        then_asks op past R Scalar Value (Q × Unit {0}) IsKnownScalar IsKnown
+        (x.run τ at (library_call op.threads op.shapes me private call shape args)) _
+        (run_asks (Q × Unit {0}) IsKnownScalar at (library_call op.threads op.shapes me private call shape args)
+        (λ q. h (f q.0) private) (λ k l r. reads k l (private, r))) (λ w.
+        give_asks op past R Value ((Q × Unit {0}) × IsKnownScalar w) IsKnown (value.Scalar w) (λ q. q.1))))
 
-  pub library_asks : (P : Type 0) (call : LibraryCall) (shape : ℕ) (at : Place) (args : List Value)
-      → (P → l.is_formed op.shapes call shape args ≡ true → CallGoesWell call shape args)
-      → Asks op past Value P IsKnown (l.library τ call shape at args)
-  unfolding l.library
-  library_asks P call shape at args h =
-      choose_asks op past Value P IsKnown (l.is_exit call) (a.exit τ (l.first_number args))
-      (l.formed_call τ call shape at args) (leave_asks Value P IsKnown (l.first_number args))
-      (formed_asks P call shape at args h (l.is_formed op.shapes call shape args) refl)
+    formed_asks : (P : Type 0) → (P → l.is_formed op.shapes call shape args ≡ true → CallGoesWell call shape args)
+        → (b : Bool) → l.is_formed op.shapes call shape args ≡ b
+        → Asks op past R Value P IsKnown (choose b (l.called τ call shape at args) (give (number (pos 0))))
+    formed_asks P h true e = called_asks P (λ q. h q e)
+    formed_asks P h false e = give_asks op past R Value P IsKnown (number (pos 0)) (λ q. refl)
+
+    pub library_asks : (P : Type 0)
+        → (P → l.is_formed op.shapes call shape args ≡ true → CallGoesWell call shape args)
+        → Asks op past R Value P IsKnown (l.library τ call shape at args)
+    unfolding l.library
+    library_asks P h =
+        choose_asks op past R Value P IsKnown (l.is_exit call) (a.exit τ (l.first_number args))
+        (l.formed_call τ call shape at args) (leave_asks Value P IsKnown (l.first_number args))
+        (formed_asks P h (l.is_formed op.shapes call shape args) refl)
 
   pub print_asks : (P : Type 0) (format : List ℕ) (args : List Value)
-      → Asks op past Value P IsKnown (l.print τ format args)
+      → Asks op past R Value P IsKnown (l.print τ format args)
   unfolding l.print
   print_asks P format args =
       let text = printed format (map number_of args) in
-      then_asks op past Reply Value P (IsAnswer None (act.Print text)) IsKnown (a.ask τ None (act.Print text)) _
-      (ask_asks op past τ None (act.Print text) P (λ q. tt) (λ q r. refl)) (λ r.
-      give_asks op past Value (P × IsAnswer None (act.Print text) r) IsKnown
+      then_asks op past R Reply Value P (IsAnswer None (act.Print text)) IsKnown (a.ask τ None (act.Print text)) _
+      (ask_asks op past R me budget None (act.Print text) P (λ q. tt)) (λ r.
+      give_asks op past R Value (P × IsAnswer None (act.Print text) r) IsKnown
       (number (converted kind.Int (pos (length text)))) (λ q. refl))

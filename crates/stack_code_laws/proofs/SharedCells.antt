@@ -5,9 +5,9 @@ use Rattle.std.proofs.Common.{List, [], ◌∷◌, Option, Some, None, slice_get
 use Rattle.std.proofs.Common.{if◌then◌else◌, lt-ltb}
 use Rattle.std.proofs.Math.IntN.{ℤ, pos, negsuc, ◌+ℤ◌}
 use Rattle.std.specs.Prelude.{Ok, Err, unsigned_abs}
-use Rattle.std.specs.List.{list_any, find}
+use Rattle.std.specs.List.{list_any}
 use Rattle.std.proofs.lemmas.Int.{ints}
-use Rattle.std.proofs.lemmas.Bool.{and_parts, cond-true, false≢true}
+use Rattle.std.proofs.lemmas.Bool.{and_parts, cond-true, false≢true, ltb-true}
 use Rattle.block_layout.specs.declared.kind.Kind.{Kind}
 use Rattle.block_layout.specs.declared.kind.Kind.TheVariants as kind
 use Rattle.block_layout.specs.declared.kind.Shape.{Shape}
@@ -27,14 +27,14 @@ use Rattle.block_layout.specs.Lists.{under}
 use Rattle.upc_values.specs.Lists.{Each}
 use Rattle.upc_values.specs.Shapes.{kind_at, cell_in, fits_kind, blank}
 use Rattle.block_layout.specs.Cells.{is_private}
-use Rattle.upc_values.specs.Openings.{Opening, IsOpening, IsSharable, cell_of}
+use Rattle.upc_values.specs.Openings.{Opening, IsSharable}
 use Rattle.upc_values.specs.Views.{leaves_piece, shape_at, location_behind}
 use Rattle.shared_pointers.specs.Access.{cell_at, in_piece, byte_of_element}
 use Rattle.private_store.proofs.Places.{some_bytes}
 use Rattle.thread_steps.specs.Accesses.{shape_or_byte, cell}
 use Rattle.thread_steps.specs.Values.{kept_scalar}
 use Rattle.stack_code_laws.specs.code.Names.{objects_given}
-use Rattle.stack_code_laws.proofs.Given.{names, knows, FindsNamed}
+use Rattle.stack_code_laws.proofs.Given.{IsGround, names, knows, IsCellThere}
 use Rattle.stack_code_laws.proofs.KnownValues.{runner, pointer_names}
 
 abbrev Cells : Type 0
@@ -99,7 +99,7 @@ passed p s k threads l e =
     by_tests false x true y false z e = absurd cc
     by_tests false x true y true z e = record { some = x; piece = y; cell_there = z; is = cc }
 
-module _ (o : Opening) (past : List Reply) (v : IsOpening o) (finds : FindsNamed o past) where
+module _ (o : Opening) (past : List Reply) (v : IsGround o) where
   reached_kind : (p : SharedPtr) (k : Kind) (l : Loc) (s : Option Shape) → slice_get o.shapes p.object.shape ≡ s
       → Passes p (shape_or_byte s) k o.threads l → cell_in o.threads o.shapes (Some p.object) (location p) ≡ Some k
   reached_kind p k l None q t = absurd (false≢true t.cell_there)
@@ -114,35 +114,54 @@ module _ (o : Opening) (past : List Reply) (v : IsOpening o) (finds : FindsNamed
       ∙ cell_found s.cells 0 s.size (unsigned_abs p.offset % s.size) k shape.1
       (subst (λ n. has_cell s.cells n k ≡ true) byte t.cell_there)
 
+  -- The object of a named place is one of those given.
+  named_object : (object : ObjectRef) (thread : ℕ) (offset : ℤ) → names o past object thread offset ≡ true
+      → list_any (same_object object) (objects_given o.declared past) ≡ true
+  named_object object thread offset h =
+      (and_parts (list_any (same_object object) (objects_given o.declared past))
+      (nat_lt thread o.threads && in_range offset) h).0
+
+  -- Its thread is one of the run's.
+  named_thread : (object : ObjectRef) (thread : ℕ) (offset : ℤ) → names o past object thread offset ≡ true
+      → thread < o.threads
+  named_thread object thread offset h =
+      ltb-true thread o.threads
+      (and_parts (nat_lt thread o.threads) (in_range offset)
+      (and_parts (list_any (same_object object) (objects_given o.declared past))
+      (nat_lt thread o.threads && in_range offset) h).1).0
+
   -- The cell of a kind that a known pointer reaches is a cell of that kind among the given objects.
   pub reached_cell : (number budget : ℕ) (p : SharedPtr) (k : Kind) (l : Loc) → knows o past p ≡ true
-      → cell (runner o number budget) k p ≡ Ok l → cell_of o (objects_given o past) l ≡ Some k
+      → cell (runner o number budget) k p ≡ Ok l → IsCellThere o past l k
   reached_cell number budget p k l h e =
       let s = slice_get o.shapes p.object.shape in
       let t = passed p (shape_or_byte s) k o.threads l e in
       let named = pointer_names o past p h t.some in
-      let has =
-      (and_parts (list_any (same_object p.object) (objects_given o past))
-      (nat_lt p.thread o.threads && in_range p.offset) named).0 in
-      let found = finds p.object has in
-      subst (λ x. cell_of o (objects_given o past) x ≡ Some k) t.is
-      (ap (λ x. cell_in o.threads o.shapes x (location p)) found ∙ reached_kind p k l s refl t)
+      subst (λ x. IsCellThere o past x k) t.is
+      (record {
+        object = p.object;
+        among = named_object p.object p.thread p.offset named;
+        number = refl;
+        thread = named_thread p.object p.thread p.offset named;
+        cell = reached_kind p k l s refl t;
+      })
 
   -- The cell of a kind that begins among the bytes from a pointer on is a cell of that kind among the given objects.
   pub cell_behind : (p : SharedPtr) (n i : ℕ) (k : Kind) → names o past p.object p.thread p.offset ≡ true
       → leaves_piece o.threads n p ≡ false → i < n → kind_at (shape_at o.shapes p) (unsigned_abs p.offset + i) ≡ Some k
-      → cell_of o (objects_given o past) (location_behind p i) ≡ Some k
+      → IsCellThere o past (location_behind p i) k
   cell_behind p n i k named room lt e =
       let piece = piece_of p.object p.thread o.threads in
-      let has =
-      (and_parts (list_any (same_object p.object) (objects_given o past))
-      (nat_lt p.thread o.threads && in_range p.offset) named).0 in
-      let found = finds p.object has in
-      ap (λ x. cell_in o.threads o.shapes x (location_behind p i)) found
-      ∙ cond-true (nat_lt (unsigned_abs p.offset + i) piece)
-      (kind_at (slice_get o.shapes p.object.shape) (unsigned_abs p.offset + i)) None
-      (lies_before p.offset n piece i (not_false (lies_in p.offset n piece) room) lt)
-      ∙ e
+      record {
+        object = p.object;
+        among = named_object p.object p.thread p.offset named;
+        number = refl;
+        thread = named_thread p.object p.thread p.offset named;
+        cell = cond-true (nat_lt (unsigned_abs p.offset + i) piece)
+            (kind_at (slice_get o.shapes p.object.shape) (unsigned_abs p.offset + i)) None
+            (lies_before p.offset n piece i (not_false (lies_in p.offset n piece) room) lt)
+            ∙ e;
+      }
 
   -- ---- what a cell keeps
 
@@ -187,11 +206,11 @@ module _ (o : Opening) (past : List Reply) (v : IsOpening o) (finds : FindsNamed
   blank_fits (kind.Private n) h = absurd cc
 
   -- No cell of a shared object holds a pointer to a private one.
-  pub shared_kind : (l : Loc) (k : Kind) → cell_of o (objects_given o past) l ≡ Some k → is_private k ≡ false
-  shared_kind l k e = cell_sharable (find (λ x. x.number == l.object) (objects_given o past)) l k e
+  pub shared_kind : (l : Loc) (k : Kind) → IsCellThere o past l k → is_private k ≡ false
+  shared_kind l k e = cell_sharable (Some e.object) l k e.cell
 
   -- What a cell of a shared object keeps of a value fits it.
-  pub kept_fits : (l : Loc) (k : Kind) (w : Scalar) → cell_of o (objects_given o past) l ≡ Some k
+  pub kept_fits : (l : Loc) (k : Kind) (w : Scalar) → IsCellThere o past l k
       → fits_kind (kept_scalar k w) k ≡ true
   kept_fits l k w e = by_fit (fits_kind w k) refl
     where

@@ -1,5 +1,5 @@
 -- Notifies and waits alternate in whatever a thread of code does.
-use Rattle.std.proofs.Common.{◌≡◌, ℕ, ◌+◌, false, List, [], Some, refl, sym, subst, append-nil}
+use Rattle.std.proofs.Common.{◌≡◌, ℕ, ◌+◌, false, List, Some, refl, sym, subst, append-nil}
 use Rattle.upc_values.specs.declared.action.Reply.{Reply}
 use Rattle.upc_values.specs.declared.record.ToldEnd.{ToldEnd}
 use Rattle.upc_values.specs.declared.record.ToldEnd.TheVariants as told

@@ -1,6 +1,7 @@
 //! What holds of every code that names nothing but what an opening declares.
 
 ghost use Rattle.std.specs.Prelude.{ℕ, ◌≤◌, List};
+ghost use Rattle.block_layout.specs.declared.place.ObjectRef.{ObjectRef};
 ghost use Rattle.upc_values.specs.declared.action.Reply.{Reply};
 ghost use Rattle.upc_values.specs.Outcomes.{Outcome, IsMeaning};
 ghost use Rattle.upc_values.specs.Openings.{Opening};
@@ -8,6 +9,7 @@ ghost use Rattle.stack_code.specs.Codes.{Codes};
 ghost use Rattle.stack_code.specs.layer.Kept.{IsCode};
 ghost use Rattle.stack_code.specs.layer.Outcomes.{CodeMeans};
 ghost use Rattle.stack_code_laws.specs.layer.Asking.{IsThreadOf, AsksWell};
+ghost use Rattle.stack_code_laws.specs.code.Wanted.{IsThreadNaming, AsksRightly};
 ghost use Rattle.stack_code_laws.specs.code.Endings.{IsWithinBudget};
 ghost use Rattle.stack_code_laws.specs.code.Turns.{TakesTurns};
 
@@ -17,6 +19,15 @@ ghost use Rattle.stack_code_laws.specs.code.Turns.{TakesTurns};
 pub fn code_asks_well()
     ensures { (o : Opening) (codes : Codes) (thread budget : ℕ) (f : List Reply → Outcome)
         → IsThreadOf o codes thread budget f → AsksWell o f }
+{}
+
+/// Whatever a thread of code was answered, fitting or not, what it wants names nothing but what its code names or one
+/// of these replies gave, leads to a cell of such an object, in a read to one of the very kind that the instruction
+/// reads there, and has its pointers and numbers in range. A further reply that fits it, a read by that kind, is taken,
+/// and any other one ends the thread.
+pub fn code_asks_rightly()
+    ensures { (named : List ObjectRef) (codes : Codes) (thread budget : ℕ) (f : List Reply → Outcome)
+        → IsThreadNaming named codes thread budget f → AsksRightly named codes thread budget f }
 {}
 
 /// Every thread of every code notifies and waits in turn, beginning with a notify (UPC 6.6.1).

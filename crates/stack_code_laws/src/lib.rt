@@ -4,5 +4,6 @@
 mod laws;
 
 pub use laws::{
-    code_asks_well, code_has_outcomes, code_is_a_meaning, code_keeps_budgets, code_takes_turns,
+    code_asks_rightly, code_asks_well, code_has_outcomes, code_is_a_meaning, code_keeps_budgets,
+    code_takes_turns,
 };

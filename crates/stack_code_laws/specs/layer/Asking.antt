@@ -103,4 +103,4 @@ pub record AsksWell (o : Opening) (f : List Reply → Outcome) : Type 0 where
   -- The wanted action names nothing but what the opening declares or one of these replies gave.
   pub names :
       (rs : List Reply) (before : List Entry) (a : Action) → (f rs).«end» ≡ Wants a
-      → HasGiven o before rs → NamesGiven o rs a
+      → HasGiven o before rs → NamesGiven o.declared rs a

@@ -1,4 +1,4 @@
-use Rattle.std.proofs.Common.{subst, sym, List}
+use Rattle.std.proofs.Common.{◌∙◌, ap, subst, sym, List}
 use Rattle.block_layout.specs.declared.kind.Shape.{Shape}
 use Rattle.block_layout.specs.Shapes.{IsShape}
 use Rattle.upc_values.specs.Lists.{Each}
@@ -6,7 +6,9 @@ use Rattle.typed_tree.specs.Beginnings.{view_beginning}
 use Rattle.typed_tree.specs.ViewProgram.{view_program}
 use Rattle.gen_expr.specs.layer.ViewSource.{view_source}
 use Rattle.source_meaning.proofs.Beginnings.{shapes_fit}
+use Rattle.stack_code.specs.layer.Making.{Making}
 use Rattle.gen_stmt.proofs.Compiling.{all_made}
+use Rattle.gen_stmt.proofs.KnownInitials.{initials_there}
 use Rattle.gen_stmt.proofs.programs.builder_of.Goals as goal
 
 pub make-requires-clause-shapes : goal.make-requires-clause-shapes
@@ -25,3 +27,19 @@ returns c =
     c.put_initials.new.builder c.threads.ensures c.shapes.ensures c.private_shapes.ensures c.private_initials.ensures
     c.of-source.ensures c.in_ok-entry.ensures c.in_ok-builder.ensures c.in_ok-put_code.ensures
     c.in_ok-put_functions.ensures c.in_ok-put_objects.ensures c.in_ok-put_initials.ensures
+
+pub put_initials-requires : goal.put_initials-requires
+put_initials-requires c =
+    let p = c.args.program.now in
+    let threads =
+    ap (λ (m : Making). m.codes.threads) c.in_ok-put_objects.ensures
+    ∙ ap (λ (m : Making). m.codes.threads) c.in_ok-put_functions.ensures
+    ∙ ap (λ (m : Making). m.codes.threads) c.in_ok-put_code.ensures
+    ∙ ap (λ (m : Making). m.codes.threads) c.in_ok-builder.ensures ∙ c.threads.ensures in
+    let shapes =
+    ap (λ (m : Making). m.codes.shapes) c.in_ok-put_objects.ensures
+    ∙ ap (λ (m : Making). m.codes.shapes) c.in_ok-put_functions.ensures
+    ∙ ap (λ (m : Making). m.codes.shapes) c.in_ok-put_code.ensures
+    ∙ ap (λ (m : Making). m.codes.shapes) c.in_ok-builder.ensures ∙ c.shapes.ensures in
+    initials_there p.threads (view_beginning p.beginning) c.put_objects.new.builder c.private_initials.result.now
+    threads shapes c.private_initials.ensures p.opening p.private

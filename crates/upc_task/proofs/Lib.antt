@@ -1,0 +1,6 @@
+pub mod Lists
+pub mod Options
+pub mod Buffers
+pub mod Turns
+pub mod Workers
+pub mod Seen
