@@ -1,4 +1,5 @@
-//! Tests of write buffers, of the shared heap, of histories and runs by hand, and of the text of a run.
+//! Tests of turns at a cell, of write buffers, of the shared heap, of histories and runs by hand, and of the text of a
+//! run.
 #![tactic(auto)]
 
 #[cfg(test)]
@@ -11,3 +12,5 @@ mod heaps;
 mod histories;
 #[cfg(test)]
 mod records;
+#[cfg(test)]
+mod turns;

@@ -1,21 +1,24 @@
 -- From what a seat has seen to the list under the turn.
-use Rattle.std.proofs.Common.{◌≡◌, ℕ, nat_lt, true, false, List, [], ◌∷◌, ◌++◌, length, drop, map, Some, None, refl, sym, ap, subst, ◌∙◌, append-nil}
+use Rattle.std.proofs.Common.{◌≡◌, ℕ, nat_lt, true, false, List, [], ◌∷◌, ◌++◌, length, drop, map, Option, Some, None, refl, sym, ap, subst, ◌∙◌, append-nil}
 use Rattle.std.specs.Prelude.{Result, Ok, Err, IfOk, OnErr}
 use Rattle.std.proofs.lemmas.Bool.{cond_both}
 use Rattle.std.proofs.lemmas.List.{append_cancel_left}
 use mathlib.Core.List.{IsPrefix}
 use Rattle.turn_cell.specs.layer.Members.{Every, longer, added_to}
+use Rattle.upc_values.specs.declared.record.Item.{Item}
 use Rattle.upc_values.specs.declared.journal.Entry.{Entry}
 use Rattle.upc_values.specs.Drain.{drain, entries_of, walked}
 use Rattle.upc_values.specs.Openings.{Opening, IsOpening}
-use Rattle.upc_values.specs.History.{IsLegal}
+use Rattle.upc_values.specs.History.{IsLegal, EachBelow}
 use Rattle.upc_values.specs.Formed.{AreWellFormed}
 use Rattle.upc_values.proofs.Walks.{entries_of-append}
 use Rattle.stack_code.specs.Codes.{Codes}
 use Rattle.write_buffer.specs.layer.Buffer.{committed}
+use Rattle.stack_machine.specs.declared.wish.Wish.{Wish}
 use Rattle.upc_task.specs.declared.worker.Worker.{Worker}
+use Rattle.upc_task.specs.declared.worker.Pause.{Pause}
 use Rattle.upc_task.specs.layer.Sources.{Outcomes}
-use Rattle.upc_task.specs.layer.Kept.{IsKept, Holds, settled, AllOf, Grew}
+use Rattle.upc_task.specs.layer.Kept.{IsKept, Holds, settled, AllOf, Grew, Adds, Leaves}
 use Rattle.upc_task.specs.layer.Seated.{IsLawful, Gained}
 use Rattle.upc_task.proofs.Buffers.{grew-same, front-own}
 use Rattle.upc_task.proofs.Workers.{kept-seen, kept-room}
@@ -40,12 +43,27 @@ kept-entered o m p f t seen all k b own thread opens h =
     subst (λ z. IsKept z p f all k) (sym opens) (subst (λ l. IsKept o p f l k) b.1 (kept-seen o p f seen b.0 k none h))
 
 -- and so once it has taken room for an item
-pub kept-turn : (o m : Opening) (p : Codes) (f : Outcomes) (t : ℕ) (seen all : List Entry) (k w v : Worker)
-    → w ≡ record k { items = w.items } → w.items.items ≡ k.items.items → v ≡ w → IsPrefix seen all
+pub kept-turn : (o m : Opening) (p : Codes) (f : Outcomes) (t : ℕ) (seen all : List Entry) (k v : Worker)
+    → v ≡ record k { items = v.items } → v.items.items ≡ k.items.items → IsPrefix seen all
     → entries_of t all ≡ entries_of t seen → k.thread ≡ t → m ≡ o → IsKept o p f seen k → IsKept m p f all v
-kept-turn o m p f t seen all k w v is items same b own thread opens h =
-    subst (IsKept m p f all) (sym same)
-    (kept-entered o m p f t seen all w b own (ap (λ z. z.thread) is ∙ thread) opens (kept-room o p f seen k w is items h))
+kept-turn o m p f t seen all k v is items b own thread opens h =
+    kept-entered o m p f t seen all v b own (ap (λ z. z.thread) is ∙ thread) opens (kept-room o p f seen k v is items h)
+
+-- a worker that is the same but for the room of its record
+pub same-but : (k w v : Worker) → v ≡ w → w ≡ record k { items = w.items } → w.items.items ≡ k.items.items
+    → (v ≡ record k { items = v.items }) × (v.items.items ≡ k.items.items)
+same-but k w v same is items =
+    (subst (λ z. z ≡ record k { items = z.items }) (sym same) is, ap (λ z. z.items.items) same ∙ items)
+
+-- what such a worker adds and leaves
+pub adds-room : (p : Pause) (k v : Worker) (ys : List Item) → v ≡ record k { items = v.items } → v.items.items ≡ k.items.items
+    → Adds p v.wish v.items.items ys → Adds p k.wish k.items.items ys
+adds-room p k v ys is items h =
+    subst (λ z. Adds p z k.items.items ys) (ap (λ z. z.wish) is) (subst (λ xs. Adds p v.wish xs ys) items h)
+
+pub leaves-room : (p : Pause) (k v : Worker) (left : Option Wish) → v ≡ record k { items = v.items } → Leaves p v.wish left
+    → Leaves p k.wish left
+leaves-room p k v left is h = subst (λ z. Leaves p z left) (ap (λ z. z.wish) is) h
 
 drop-front : (xs ys : List Entry) → drop (length xs) (xs ++ ys) ≡ ys
 drop-front [] ys = refl
@@ -95,9 +113,10 @@ pub err-both : {X E : Type 0} (r : Result X E) (P Q : Type 0) → OnErr r P → 
 err-both (Ok x) P Q h k = tt
 err-both (Err e) P Q h k = (h, k)
 
-pub lawful-of : (m o : Opening) (es : List Entry) → m ≡ o → IsOpening m → IsLegal m es → AreWellFormed m es → IsLawful o es
-lawful-of m o es same opening legal formed =
-    subst (λ z. IsLawful z es) same (record { opening = opening; legal = legal; formed = formed })
+pub lawful-of : (m o : Opening) (es : List Entry) → m ≡ o → IsOpening m → IsLegal m es → AreWellFormed m es
+    → EachBelow m.threads es → IsLawful o es
+lawful-of m o es same opening legal formed below =
+    subst (λ z. IsLawful z es) same (record { opening = opening; legal = legal; formed = formed; below = below })
 
 -- what holds of both lists holds of the longer
 pub longer-holds : (P : List Entry → Type 0) (xs ys : List Entry) → P xs → P ys → P (longer xs ys)
@@ -112,6 +131,17 @@ kept-front o p f seen later k opened h b =
     let hw : Holds o k.thread seen k.buffer k.next w =
     subst (λ e. Holds o k.thread seen k.buffer k.next (settled e w)) opened h.holds in
     front-own o k.thread k.next seen later k.buffer w hw b
+
+-- and so where its record took room
+pub kept-cut : (o m : Opening) (p : Codes) (f : Outcomes) (seen later : List Entry) (k v : Worker)
+    → v ≡ record k { items = v.items } → v.items.items ≡ k.items.items → k.«end» ≡ None → IsKept m p f seen v
+    → IsPrefix later (seen ++ map (committed v.thread) v.buffer)
+    → IsPrefix (entries_of k.thread later) (drain k.thread k.items.items)
+kept-cut o m p f seen later k v is items opened h b =
+    let thread : v.thread ≡ k.thread = ap (λ z. z.thread) is in
+    subst (λ t. IsPrefix (entries_of t later) (drain t k.items.items)) thread
+    (subst (λ xs. IsPrefix (entries_of v.thread later) (drain v.thread xs)) items
+    (kept-front m p f seen later v (ap (λ z. z.«end») is ∙ opened) h b))
 
 -- what it has out before is one too
 pub kept-out : (o : Opening) (p : Codes) (f : Outcomes) (seen : List Entry) (k : Worker) → k.«end» ≡ None → IsKept o p f seen k

@@ -14,7 +14,6 @@ use Rattle.upc_values.specs.declared.record.End.TheVariants as ends
 use Rattle.upc_values.specs.declared.journal.Entry.{Entry}
 use Rattle.upc_values.specs.Drain.{entries_in, Walk, emptied, walked, gone, entry_of, entries_of}
 use Rattle.upc_values.specs.Openings.{Opening}
-use Rattle.upc_values.specs.code.Chunks.{roomy}
 use Rattle.upc_values.specs.History.{IsLegal}
 use Rattle.upc_values.specs.Formed.{IsWellFormed, AreWellFormed}
 use Rattle.upc_values.specs.layer.Known.{gives_known, AreKnown, HasGiven}
@@ -467,7 +466,7 @@ kept-seen o p f seen more k none h = record {
 pub kept-room : (o : Opening) (p : Codes) (f : Outcomes) (seen : List Entry) (k m : Worker) → m ≡ record k { items = m.items }
     → m.items.items ≡ k.items.items → IsKept o p f seen k → IsKept o p f seen m
 kept-room o p f seen k m is items h =
-    let with : List Item → Worker = λ xs. record k { items = roomy xs m.items.room } in
+    let with : List Item → Worker = λ xs. record k { items = record m.items { items = xs } } in
     let same : IsKept o p f seen (with k.items.items) = record {
       source = h.source;
       within = h.within;

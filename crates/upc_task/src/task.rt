@@ -1,6 +1,7 @@
 //! What a task does: private work by itself, and steps on the shared history in turns.
 
-ghost use Rattle.std.specs.Prelude.{◌≡◌, ◌<◌, [], true, Some, None, is_some, IfOk, IfSome, IsNone, OnErr, option_copied};
+ghost use Rattle.std.specs.Prelude.{◌≡◌, ◌<◌, [], length, true, Some, None, is_some, IfOk, IfSome, IsNone, OnErr};
+ghost use Rattle.std.specs.Prelude.{option_copied};
 ghost use mathlib.Core.List.{IsPrefix};
 ghost use Rattle.upc_values.specs.declared.action.Action.{Action};
 ghost use Rattle.upc_values.specs.declared.journal.Entry.{Entry};
@@ -14,6 +15,7 @@ ghost use Rattle.stack_machine.specs.declared.wish.Wish.TheVariants.{Act};
 ghost use Rattle.turn_cell.specs.layer.Members.{longer};
 ghost use Rattle.turn_cell.specs.layer.Seats as seats;
 ghost use Rattle.turn_cell.specs.layer.Seats.{cell_of, id_of, number_of, opening_of, seen_of, started, IsFree};
+ghost use Rattle.upc_task.specs.declared.worker.Pause.TheVariants.{Finished};
 ghost use Rattle.upc_task.specs.layer.Sources.{Outcomes, HasOutcomes};
 ghost use Rattle.upc_task.specs.layer.Kept.{AreLimits, IsKept, IsSame, StaysKept, Paused, CanEnd, Adds, Leaves};
 ghost use Rattle.upc_task.specs.layer.Kept.{Waits, strand_of};
@@ -72,7 +74,7 @@ impl Task {
 
     /// Acts on the wish: at most one new item, and the commits that go with it. The machine is not resumed. Where the
     /// write buffer alone answers, it takes no turn; else it waits for one, and has left it when it returns, also after
-    /// want of memory.
+    /// want of memory. A full record ends.
     pub fn step<R: Wait>(
         &mut self,
         rt: &R,
@@ -92,6 +94,8 @@ impl Task {
             Adds p self.old.worker.wish self.old.worker.items.items self.new.worker.items.items) }
         ensures leaves { IfOk result (λ p. Leaves p self.old.worker.wish self.new.worker.wish) }
         ensures waits { IfOk result (λ p. Waits p (started cell.now).0 (seen_of self.new.seat) self.new.worker) }
+        ensures full { IfOk result (λ p.
+            length self.old.worker.items.items ≡ self.old.worker.limits.actions → p ≡ Finished) }
         ensures lacks { OnErr result (IsCutShort (started cell.now).0 self.old self.new) }
     {
         self.worker.reserve()?;

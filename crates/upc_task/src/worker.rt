@@ -251,6 +251,7 @@ impl Worker {
         ensures pause { result ≡ true → Paused Going self.new }
         ensures adds { result ≡ true → Adds Going self.old.wish self.old.items.items self.new.items.items }
         ensures leaves { result ≡ true → Leaves Going self.old.wish self.new.wish }
+        ensures room { result ≡ true → length self.old.items.items < self.old.limits.actions }
         ensures none { result ≡ false → self.new ≡ self.old }
     {
         if self.items.len() as u64 >= self.limits.actions {
@@ -271,7 +272,8 @@ impl Worker {
         true
     }
 
-    /// Acts on the wish: at most one new item, and the commits that go with it. The machine is not resumed.
+    /// Acts on the wish: at most one new item, and the commits that go with it. The machine is not resumed. A full
+    /// record ends.
     ///
     /// After want of memory the record is as it was, and the history has gained the first of the pending writes at most.
     pub fn step(&mut self, world: &mut World) -> Result<Pause, OutOfMemory>
@@ -287,6 +289,7 @@ impl Worker {
         ensures adds { IfOk result (λ p. Adds p self.old.wish self.old.items.items self.new.items.items) }
         ensures leaves { IfOk result (λ p. Leaves p self.old.wish self.new.wish) }
         ensures waits { IfOk result (λ p. Waits p world.new.0 world.new.1 self.new) }
+        ensures full { IfOk result (λ p. length self.old.items.items ≡ self.old.limits.actions → p ≡ Finished) }
         ensures opening { world.new.0 ≡ world.old.0 }
     {
         let full = self.items.len() as u64 >= self.limits.actions;

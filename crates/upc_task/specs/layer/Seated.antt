@@ -4,7 +4,7 @@ use mathlib.Core.List.{IsPrefix}
 use Rattle.upc_values.specs.declared.journal.Entry.{Entry}
 use Rattle.upc_values.specs.Drain.{drain, entries_of}
 use Rattle.upc_values.specs.Openings.{Opening, IsOpening}
-use Rattle.upc_values.specs.History.{IsLegal}
+use Rattle.upc_values.specs.History.{IsLegal, EachBelow}
 use Rattle.upc_values.specs.Formed.{AreWellFormed}
 use Rattle.stack_code.specs.Codes.{Codes}
 use Rattle.turn_cell.specs.declared.seat.Seat.{Seat}
@@ -14,11 +14,13 @@ use Rattle.upc_task.specs.declared.seated.Task.{Task}
 use Rattle.upc_task.specs.layer.Sources.{Outcomes}
 use Rattle.upc_task.specs.layer.Kept.{IsKept, Grew}
 
--- The entries are a legal history from a valid opening, and each was well formed after those before it.
+-- The entries are a legal history from a valid opening; each was well formed after those before it, and is of one of
+-- the threads.
 pub record IsLawful (o : Opening) (seen : List Entry) : Type 0 where
   pub opening : IsOpening o
   pub legal : IsLegal o seen
   pub formed : AreWellFormed o seen
+  pub below : EachBelow o.threads seen
 
 -- A task at the cell z with the opening o, of the program p with these outcomes: what its worker keeps holds over what
 -- its seat has seen.

@@ -19,7 +19,7 @@ returns-clause-kept c = λ b o p f seen valid legal formed h.
     let z : Worker = record m { next = k.next + 1; answer = Some r; wish = c.take.new.self } in
     let y : Worker = record z { wish = None } in
     let hw : Holds o k.thread seen k.buffer k.next (walked k.thread k.items.items) =
-      subst (λ q. Holds o k.thread seen k.buffer k.next (settled q (walked k.thread k.items.items))) c.requires.ready.0 h.holds in
+    subst (λ q. Holds o k.thread seen k.buffer k.next (settled q (walked k.thread k.items.items))) c.requires.ready.0 h.holds in
     subst (λ w. let x : Worker = record y { wish = w } in IsKept o p f seen x) (sym c.in-Some-Act-take.ensures.after)
     (kept-did o p f seen seen k m a r legal formed h c.requires.ready.0 wants (search rules) (grew-same k.thread seen seen refl)
     (λ w q. e.holds o k.thread seen w asked q) (e.answer o k.thread seen valid legal formed hw.formed) (search rules))
