@@ -6,7 +6,11 @@ use Rattle.turn_cell.specs.layer.Seats.{part}
 use Rattle.turn_cell.specs.layer.Seats.{TableId, AreNew, IsNew, IsFree, first_number, first_own, number_of, cell_of, seen_of, opening_of}
 use Rattle.upc_values.specs.declared.journal.Entry.{Entry}
 use Rattle.upc_values.specs.Openings.{Opening}
+use Rattle.upc_values.specs.Lists.{Numbered}
+use Rattle.stack_code.specs.Codes.{Codes}
+use Rattle.upc_task.specs.layer.Sources.{Outcomes}
 use Rattle.upc_rounds.specs.declared.place.Place.{Place}
+use Rattle.upc_rounds.specs.code.Teams.{IsMember, seen_among}
 
 abbrev pub OurSeat : Type 0
 OurSeat = Seat (Opening × List Entry) Entry Opening
@@ -35,6 +39,11 @@ new-seen z o k s h = ap (λ m. m.0.seen) h.1
 pub new-opening : (z : TableId) (o : Opening) (k : ℕ) (s : OurSeat) → IsNew z o k s → opening_of s ≡ Some o
 new-opening z o k s h = ap (λ m. m.0.opening) h.1
 
+-- Members that have seen nothing have among them seen nothing.
+pub seen-none : (z : TableId) (o : Opening) (c : Codes) (f : Outcomes) (ks : List Place) → Numbered (IsMember z o c f []) ks → seen_among ks ≡ []
+seen-none z o c f [] h = refl
+seen-none z o c f (k ∷ ks) h = (h 0 k (omega arith)).seen_is
+
 drop-all : (ys xs : List Place) → length ys ≡ length xs → drop (length ys) xs ≡ []
 drop-all [] [] h = refl
 drop-all [] (x ∷ xs) h = absurd (omega arith)
@@ -47,6 +56,6 @@ take-all (suc n) [] h = absurd (omega arith)
 take-all zero (y ∷ ys) h = absurd (omega arith)
 take-all (suc n) (y ∷ ys) h = ap (λ l. y ∷ l) (take-all n ys (omega arith))
 
--- a slice of all of a vector that is given back with as many members
+-- A slice of all of a vector that is given back with as many members
 pub given-back : (n : ℕ) (xs ys : List Place) → length ys ≡ length xs → n ≡ length xs → take n (ys ++ drop (length ys) xs) ≡ ys
 given-back n xs ys h e = ap (λ l. take n (ys ++ l)) (drop-all ys xs h) ∙ ap (take n) (append-nil ys) ∙ take-all n ys (e ∙ sym h)

@@ -8,7 +8,7 @@ use Rattle.upc_values.specs.Openings.{Opening}
 use Rattle.upc_task.specs.layer.Seated.{IsLawful}
 use Rattle.upc_rounds.specs.declared.place.Place.{Place}
 use Rattle.upc_rounds.specs.code.Teams.{Met, HaveMet, seen_at}
-use Rattle.upc_rounds.proofs.Teams.{met-then}
+use Rattle.upc_rounds.proofs.Crews.{met-then}
 
 -- what holds at a place of a list of which one member was set
 pub set-at : (Q : ℕ → Place → Type 0) (ls : List Place) (t i : ℕ) (m d : Place) → t < length ls → ((i ≢ t) → Q i (get_or ls i d)) → (i ≡ t → Q t m) → Q i (get_or (set ls t m) i d)

@@ -9,7 +9,9 @@ use Rattle.block_layout.specs.contracts.kind.Shape as shape_row
 use Rattle.block_layout.specs.declared.kind.Kind.{Kind}
 use Rattle.block_layout.specs.declared.kind.Shape.{Shape}
 use Rattle.block_layout.specs.declared.place.ObjectRef.{ObjectRef}
+use Rattle.block_layout.specs.declared.place.Loc.{Loc}
 use Rattle.block_layout.specs.Shapes.{CellsWithin, IsShape}
+use Rattle.upc_values.specs.declared.scalar.Scalar.{Scalar}
 use Rattle.upc_values.specs.Lists.{Each, Pairwise}
 use Rattle.upc_values.specs.Openings.{Opening, IsOpening, IsDeclared}
 
@@ -64,3 +66,12 @@ opening_prop o a b =
 -- What a program keeps of its opening.
 pub kept_opening : (o : Opening) → ∥ IsOpening o ∥₁ → IsOpening o
 kept_opening o h = ∥∥₁_elim h (opening_prop o) (λ x. x)
+
+-- What a run begins with, by its parts.
+abbrev pub opening_with : ℕ → List ObjectRef → List (Loc × Scalar) → List Shape → Opening
+opening_with threads declared initials shapes =
+    record { threads = threads; declared = declared; initials = initials; shapes = shapes }
+
+pub opens : (a b : ℕ) (xs ys : List ObjectRef) (us vs : List (Loc × Scalar)) (ss ts : List Shape)
+    → a ≡ b → xs ≡ ys → us ≡ vs → ss ≡ ts → opening_with a xs us ss ≡ opening_with b ys vs ts
+opens a b xs ys us vs ss ts p q r s = λ i. opening_with (p i) (q i) (r i) (s i)

@@ -2,6 +2,7 @@
 use Rattle.std.proofs.Common.{◌≡◌, ℕ, ◌++◌, List, [], ◌∷◌, length, None, Some, is_some, refl, sym, ap, subst, ◌∙◌, true, false, append_assoc, append-nil, inl, inr}
 use Rattle.std.specs.Prelude.{◌⊎◌}
 use Rattle.std.proofs.lemmas.Bool.{false≢true}
+use mathlib.Core.List.{IsPrefix}
 use Rattle.upc_values.specs.declared.journal.Entry.{Entry}
 use Rattle.upc_values.specs.declared.record.End.{End}
 use Rattle.upc_values.specs.declared.record.Item.{Item}
@@ -27,6 +28,7 @@ use Rattle.upc_rounds.specs.layer.Course.{Steps}
 use Rattle.upc_rounds.specs.code.Runs.{HasOwnEnd, IsIdle, Rested, standing_of}
 use Rattle.upc_rounds.specs.code.Played.{TurnedSeen, SoFar, Acted, KeepsStalls}
 use Rattle.upc_rounds.specs.code.Places.{Moved, Took, RestsWith}
+use Rattle.upc_rounds.proofs.Prefixes.{prefix-self, prefix-then}
 use Rattle.upc_rounds.proofs.Turns.{turned-step, turned-work}
 use Rattle.upc_rounds.proofs.Running.{paused-own}
 use Rattle.upc_rounds.proofs.Standings.{idle-of, steps-of, Going, going-new, going-more, part-of}
@@ -71,6 +73,14 @@ adds-from : (z : TableId) (o : Opening) (c : Codes) (p : Pause) (k l m : Task) �
     → Adds p l.worker.wish k.worker.items.items m.worker.items.items
 adds-from z o c p k l m w s = subst (λ xs. Adds p l.worker.wish xs.items m.worker.items.items) w.items s.adds
 
+-- What a step and the work before it let the seat see.
+sees-more : (z : TableId) (o : Opening) (c : Codes) (p : Pause) (k l m : Task) → Worked c k l → Stepped z o c p l m → IsPrefix (seen_of k.seat) (seen_of m.seat)
+sees-more z o c p k l m w s =
+    let g = s.gained in (
+      g.others ++ g.grew.more,
+      sym (append_assoc (seen_of k.seat) g.others g.grew.more) ∙ ap (λ e. (seen_of e ++ g.others) ++ g.grew.more) (sym w.seat) ∙ sym g.grew.is,
+    )
+
 -- Work and a step, of a task without an end.
 pub moved-of : (z : TableId) (o : Opening) (c : Codes) (p : Pause) (k l m : Task) → Worked c k l → Stepped z o c p l m → Moved z o c k m
 moved-of z o c p k l m w s = record {
@@ -78,6 +88,7 @@ moved-of z o c p k l m w s = record {
   own = λ h. paused-own p m.worker s.pause;
   idle = λ h. idle-of p o (seen_of m.seat) l.worker.wish m.worker s.pause s.leaves s.waits;
   fine = λ f h. s.kept f (w.stays z o f h);
+  sees = sees-more z o c p k l m w s;
 }
 
 pub steps-from : (z : TableId) (o : Opening) (c : Codes) (p : Pause) (k l m : Task) → k.worker.«end» ≡ None → Worked c k l → Stepped z o c p l m
@@ -93,6 +104,7 @@ pub record Far (z : TableId) (o : Opening) (c : Codes) (first k : Task) : Type 0
   pub far : (f : Outcomes) → IsTask z o c f first
       → SoFar f first.worker.thread (seen_of first.seat) (seen_of k.seat) first.worker k.worker
   pub going : Going (standing_of first.worker) (standing_of k.worker)
+  pub sees : IsPrefix (seen_of first.seat) (seen_of k.seat)
   pub full : length first.worker.items.items ≡ first.worker.limits.actions → k.worker.items.items ≡ first.worker.items.items
 
 pub far-begins : (z : TableId) (o : Opening) (c : Codes) (k : Task) → k.worker.«end» ≡ None → Far z o c k k
@@ -102,6 +114,7 @@ far-begins z o c k opened = record {
   is_open = opened;
   far = λ f h. far-start f k.worker.thread (seen_of k.seat) k.worker;
   going = going-new k.worker opened;
+  sees = prefix-self (seen_of k.seat);
   full = λ q. refl;
 }
 
@@ -125,6 +138,7 @@ far-goes z o c first k l m h w s = record {
   far = λ f t. far-going o f first.worker.thread (seen_of first.seat) (seen_of k.seat) (seen_of m.seat) first.worker k.worker m.worker (h.far f t)
       (turned-first z o c f pauses.Going first k l m h w s t);
   going = going-more first.worker k.worker m.worker l.worker.wish h.going (adds-from z o c pauses.Going k l m w s) s.pause;
+  sees = prefix-then (seen_of first.seat) (seen_of k.seat) (seen_of m.seat) h.sees (sees-more z o c pauses.Going k l m w s);
   full = λ q. let bad : pauses.Going ≡ pauses.Finished = full-ends z o c pauses.Going first k l m h w s q in absurd cc;
 }
 
@@ -143,6 +157,7 @@ far-took z o c p first k l m h opened w s y = record {
     own = λ q. paused-own p m.worker s.pause;
     idle = λ q. idle-of p o (seen_of m.seat) l.worker.wish m.worker s.pause s.leaves s.waits;
     fine = λ f t. s.kept f (w.stays z o f (h.kept f t));
+    sees = prefix-then (seen_of first.seat) (seen_of k.seat) (seen_of m.seat) h.sees (sees-more z o c p k l m w s);
   };
   rested = rested-of p m.worker s.pause y;
   takes = part-of first.worker k.worker m.worker opened h.going (steps-from z o c p k l m h.is_open w s) (rested-of p m.worker s.pause y);

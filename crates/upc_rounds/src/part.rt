@@ -33,7 +33,8 @@ pub fn round<R: Wait, G: Gate>(
     gate.round_begins(task.thread(), number);
     for _ in rt.forever() {
         task.work(code)?;
-        match task.step(rt, code, cell)? {
+        let pause = task.step(rt, code, cell)?;
+        match pause {
             Pause::Going => {}
             Pause::Beat => return Ok(Pause::Beat),
             Pause::Stalled => return Ok(Pause::Stalled),

@@ -1,5 +1,6 @@
 -- What a round of all does to each task.
 use Rattle.std.specs.Prelude.{◌≡◌, ◌⊎◌, true, false, None, is_some, length}
+use mathlib.Core.List.{IsPrefix}
 use Rattle.upc_values.specs.Openings.{Opening}
 use Rattle.upc_values.specs.Records.{last_item, is_beat_item}
 use Rattle.stack_code.specs.Codes.{Codes}
@@ -21,6 +22,7 @@ pub record Moved (z : TableId) (o : Opening) (c : Codes) (k m : Task) : Type 0 w
   pub own : HasOwnEnd k.worker → HasOwnEnd m.worker
   pub idle : IsIdle k.worker → IsIdle m.worker
   pub fine : (f : Outcomes) → IsTask z o c f k → IsTask z o c f m
+  pub sees : IsPrefix (seen_of k.seat) (seen_of m.seat)
 
 -- A task's part in a round.
 pub record Took (z : TableId) (o : Opening) (c : Codes) (k m : Task) : Type 0 where

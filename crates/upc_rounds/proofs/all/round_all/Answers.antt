@@ -8,4 +8,4 @@ use Rattle.upc_rounds.proofs.all.round_all.Goals as goal
 pub for_each_mut-requires-clause-accepts : goal.for_each_mut-requires-clause-accepts
 for_each_mut-requires-clause-accepts g c κs within i p lt is =
     let P : Place → Type 0 = λ k. (f : Outcomes) × IsTask (id_of c.args.cell.now) (started c.args.cell.now).0 c.args.code.now f k.task in
-    (subst P (sym is) (c.requires.kept i p.now lt), (subst (λ (k : Place). k.failed ≡ false) (sym is) (c.requires.fine i p.now lt), search rules))
+    (subst P (sym is) (c.requires.kept i p.now lt), search rules)

@@ -5,7 +5,8 @@ use mathlib.Core.List.{IsPrefix}
 use Rattle.upc_task.specs.layer.Seated.{IsLawful}
 use Rattle.upc_rounds.specs.declared.place.Place.{Place}
 use Rattle.upc_rounds.specs.code.Teams.{Met, seen_at}
-use Rattle.upc_rounds.proofs.Teams.{met-then, prefix-then}
+use Rattle.upc_rounds.proofs.Prefixes.{prefix-then}
+use Rattle.upc_rounds.proofs.Crews.{met-then}
 use Rattle.upc_rounds.proofs.Meetings.{set-at}
 use Rattle.upc_rounds.proofs.meeting.gather_all.Goals as goal
 
