@@ -1,6 +1,6 @@
 -- What commits and stores make of a buffer that holds a walk.
 use Rattle.std.proofs.Common.{◌≡◌, ℕ, ◌+◌, ◌<◌, ◌≤◌, Bool, true, false, cond, List, [], ◌∷◌, ◌++◌, length, map, Option, Some, None, is_some, refl, sym, ap, subst, ◌∙◌, append-nil, append_assoc, arith}
-use Rattle.std.specs.Prelude.{option_map, option_to_list, IfSome, IsSome, nat_lt, ◌||◌, ◌↔◌}
+use Rattle.std.specs.Prelude.{option_map, IfSome, nat_lt, ◌||◌}
 use mathlib.Core.List.{IsPrefix}
 use Rattle.std.specs.Option.{option_or}
 use Rattle.std.proofs.lemmas.Bool.{and_from, cond_both, false≢true}

@@ -1,5 +1,5 @@
 -- From what a seat has seen to the list under the turn.
-use Rattle.std.proofs.Common.{◌≡◌, ℕ, nat_lt, true, false, List, [], ◌∷◌, ◌++◌, length, drop, map, Option, Some, None, refl, sym, ap, subst, ◌∙◌, append-nil}
+use Rattle.std.proofs.Common.{◌≡◌, ℕ, nat_lt, List, [], ◌∷◌, ◌++◌, length, drop, map, Option, None, refl, sym, ap, subst, ◌∙◌, append-nil}
 use Rattle.std.specs.Prelude.{Result, Ok, Err, IfOk, OnErr}
 use Rattle.std.proofs.lemmas.Bool.{cond_both}
 use Rattle.std.proofs.lemmas.List.{append_cancel_left}
@@ -108,6 +108,10 @@ ok-map (Err e) P Q h k = tt
 pub err-map : {X E : Type 0} (r : Result X E) (P Q : Type 0) → (P → Q) → OnErr r P → OnErr r Q
 err-map (Ok x) P Q h k = tt
 err-map (Err e) P Q h k = h k
+
+pub on-err : {X E : Type 0} (r : Result X E) (P : Type 0) → P → OnErr r P
+on-err (Ok x) P h = tt
+on-err (Err e) P h = h
 
 pub err-both : {X E : Type 0} (r : Result X E) (P Q : Type 0) → OnErr r P → OnErr r Q → OnErr r (P × Q)
 err-both (Ok x) P Q h k = tt

@@ -1,5 +1,5 @@
 -- What an action does to a write buffer and to the history.
-use Rattle.std.specs.Prelude.{ℕ, ◌≡◌, ◌+◌, true, false, List, [], Option, Some, None}
+use Rattle.std.specs.Prelude.{ℕ, ◌≡◌, ◌+◌, true, false, List, Option, Some, None}
 use Rattle.upc_values.specs.declared.action.Action.{Action}
 use Rattle.upc_values.specs.declared.action.Action.TheVariants.{Read, Write, Print}
 use Rattle.upc_values.specs.declared.action.Reply.{Reply}

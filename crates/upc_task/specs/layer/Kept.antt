@@ -1,5 +1,5 @@
 -- What a worker keeps, over a prefix of the history that has all entries of its own.
-use Rattle.std.specs.Prelude.{ℕ, ◌≡◌, ◌+◌, ◌*◌, ◌<◌, ◌≤◌, ◌^◌, Bool, true, false, cond, List, [], ◌∷◌, ◌++◌, length}
+use Rattle.std.specs.Prelude.{ℕ, ◌≡◌, ◌*◌, ◌<◌, ◌≤◌, ◌^◌, Bool, true, false, cond, List, [], ◌∷◌, ◌++◌, length}
 use Rattle.std.specs.Prelude.{map, Option, Some, None, is_some, ◌⊎◌}
 use Rattle.upc_values.specs.declared.action.Action.{Action}
 use Rattle.upc_values.specs.declared.action.Action.TheVariants.{Write}
@@ -11,14 +11,14 @@ use Rattle.upc_values.specs.declared.record.End.TheVariants as ends
 use Rattle.upc_values.specs.declared.journal.Entry.{Entry}
 use Rattle.upc_values.specs.declared.journal.Strand.{Strand}
 use Rattle.upc_values.specs.Lists.{Each}
-use Rattle.upc_values.specs.Drain.{entries_in, Walk, walked, entries_of, emptied, gone, entry_of}
+use Rattle.upc_values.specs.Drain.{entries_in, Walk, walked, entries_of, emptied}
 use Rattle.upc_values.specs.Openings.{Opening}
 use Rattle.upc_values.specs.History.{reply}
-use Rattle.upc_values.specs.Formed.{IsWellFormed, fits_after}
-use Rattle.upc_values.specs.layer.Known.{gives_known, AreKnown}
+use Rattle.upc_values.specs.Formed.{IsWellFormed}
+use Rattle.upc_values.specs.layer.Known.{AreKnown}
 use Rattle.upc_values.specs.Outcomes.{Outcome, wanted}
 use Rattle.upc_values.specs.Records.{actions_of, replies_of, last_item, is_stall, is_beat, is_beat_item, beats}
-use Rattle.upc_values.specs.Strands.{StallsStand, AreJustified, strand_ticks, may_wait}
+use Rattle.upc_values.specs.Strands.{StallsStand, AreJustified, strand_ticks}
 use Rattle.upc_values.specs.Ends.{OwnEnd}
 use Rattle.stack_code.specs.Codes.{Codes}
 use Rattle.stack_machine.specs.layer.Machine.{Seen}

@@ -9,7 +9,6 @@ use Rattle.upc_values.specs.Formed.{AreWellFormed}
 use Rattle.stack_code.specs.Codes.{Codes}
 use Rattle.turn_cell.specs.declared.seat.Seat.{Seat}
 use Rattle.turn_cell.specs.layer.Seats.{TableId, cell_of, number_of, own_of, seen_of, opening_of}
-use Rattle.upc_task.specs.declared.worker.Worker.{Worker}
 use Rattle.upc_task.specs.declared.seated.Task.{Task}
 use Rattle.upc_task.specs.layer.Sources.{Outcomes}
 use Rattle.upc_task.specs.layer.Kept.{IsKept, Grew}

@@ -1,20 +1,29 @@
 use Rattle.std.proofs.Common.{rules, ℕ, ◌≡◌, ◌<◌, None, Some, is_some, true, List, refl, sym, subst, ap, ◌∙◌, arith}
-use Rattle.std.specs.Prelude.{IfOk, OnErr}
 use mathlib.Core.List.{IsPrefix}
-use Rattle.upc_values.specs.declared.journal.Entry.{Entry}
 use Rattle.upc_values.specs.Openings.{Opening}
 use Rattle.upc_values.specs.Drain.{drain, entries_of}
-use Rattle.turn_cell.specs.layer.Members.{Every, added_to}
-use Rattle.turn_cell.specs.layer.Seats.{id_of, number_of, seen_of, own_of, started}
-use Rattle.upc_task.specs.declared.worker.Worker.{Worker}
-use Rattle.upc_task.specs.declared.worker.Pause.{Pause}
-use Rattle.upc_task.specs.declared.worker.Pause.TheVariants.{Going, Finished}
-use Rattle.upc_task.specs.layer.Sources.{Outcomes}
-use Rattle.upc_task.specs.layer.Kept.{IsKept, Grew, Keeps, Leaves, Adds, IsSame}
-use Rattle.upc_task.specs.layer.Seated.{IsLawful, IsTask, Gained, IsCutShort}
+use Rattle.turn_cell.specs.layer.Seats.{number_of, seen_of, own_of, started}
+use Rattle.upc_task.specs.declared.worker.Pause.TheVariants.{Going}
+use Rattle.upc_task.specs.layer.Kept.{IsKept, Grew, Keeps, Leaves, Adds}
+use Rattle.upc_task.specs.layer.Seated.{IsLawful, Gained}
 use Rattle.upc_task.proofs.Workers.{kept-room}
-use Rattle.upc_task.proofs.Seen.{kept-turn, kept-cut, kept-out, same-but, adds-room, leaves-room, added-own, gained-entered, gained-same, lawful-of, ok-map, err-map, err-both}
+use Rattle.upc_task.proofs.Seen.{kept-turn, kept-cut, kept-out, same-but, adds-room, leaves-room, added-own, gained-entered, gained-same, lawful-of, ok-map, on-err, err-map, err-both}
 use Rattle.upc_task.proofs.seated.Task.step.Goals as goal
+
+-- where there is no room
+
+pub returns-in_err-reserve-clause-lacks : goal.returns-in_err-reserve-clause-lacks
+returns-in_err-reserve-clause-lacks g c =
+    let k = c.args.self.now in let h = c.requires.kept in let r = c.in_err-reserve.ensures in
+    let o : Opening = (started c.args.cell.now).0 in
+    let own : own_of k.seat ≡ entries_of k.worker.thread (seen_of k.seat) =
+    k.free.0.2 ∙ ap (λ n. entries_of n (seen_of k.seat)) h.1.number in
+    on-err c.from_residual.result _ (record {
+      items = r.items;
+      front = subst (λ es. IsPrefix es (drain k.worker.thread k.worker.items.items)) (sym own)
+          (kept-out o c.args.code.now h.0 (seen_of k.seat) k.worker c.requires.ready.0 h.1.kept);
+      lawful = h.1.lawful;
+    })
 
 -- before the turn
 
@@ -64,10 +73,12 @@ pub step-pause-requires-clause-kept : goal.step-pause-requires-clause-kept
 step-pause-requires-clause-kept g c =
     let k = c.args.self.now in let h = c.requires.kept in let e = c.enter-turn.ensures in let o : Opening = (started c.args.cell.now).0 in
     let r = c.in_ok-reserve.ensures in
-    let is = same-but k.worker c.reserve.new.self c.step_alone.new.self (c.step_alone.ensures.none c.if-step_alone.false) r.is r.items in
-    (c.args.code.now, h.0,
-    kept-turn o c.enter-turn.result.world.0 c.args.code.now h.0 (number_of k.seat) (seen_of k.seat) c.enter-turn.result.world.1 k.worker c.step_alone.new.self
-    is.0 is.1 e.begins.0 (sym e.own.1 ∙ e.own.0 ∙ k.free.0.2) (sym h.1.number) (e.opening o h.1.opened) h.1.kept)
+    let is = same-but k.worker c.reserve.new.self c.step_alone.new.self (c.step_alone.ensures.none c.if-step_alone.false) r.is r.items in (
+      c.args.code.now,
+      h.0,
+      kept-turn o c.enter-turn.result.world.0 c.args.code.now h.0 (number_of k.seat) (seen_of k.seat) c.enter-turn.result.world.1 k.worker c.step_alone.new.self
+          is.0 is.1 e.begins.0 (sym e.own.1 ∙ e.own.0 ∙ k.free.0.2) (sym h.1.number) (e.opening o h.1.opened) h.1.kept,
+    )
 
 pub step-pause-requires-clause-ready : goal.step-pause-requires-clause-ready
 step-pause-requires-clause-ready g c =
@@ -104,20 +115,20 @@ returns-clause-kept g c =
     let s = c.step-pause.ensures in let r = c.in_ok-reserve.ensures in
     let is = same-but k.worker c.reserve.new.self c.step_alone.new.self (c.step_alone.ensures.none c.if-step_alone.false) r.is r.items in
     ok-map c.step-pause.result (λ _. Keeps w c.step_alone.new.self v c.step-pause.new.self) _ (λ x keeps f h.
-      let opens : w.0 ≡ o = e.opening o h.opened in
-      let was : IsKept w.0 code f w.1 c.step_alone.new.self =
-      kept-turn o w.0 code f (number_of k.seat) (seen_of k.seat) w.1 k.worker c.step_alone.new.self is.0 is.1 e.begins.0
-      (sym e.own.1 ∙ e.own.0 ∙ k.free.0.2) (sym h.number) opens h.kept in
-      let now : IsKept v.0 code f v.1 c.step-pause.new.self = keeps code f was in
-      let lawful : IsLawful o v.1 = lawful-of v.0 o v.1 (s.opening ∙ opens) law.opening law.legal law.formed law.below in
-      record {
-        cell = l.free.1.0 ∙ e.turn.1.0 ∙ h.cell;
-        opened = l.free.1.2 ∙ e.turn.1.2 ∙ h.opened;
-        number = l.free.1.1 ∙ e.turn.1.1 ∙ h.number ∙ sym (s.same.thread ∙ ap (λ z. z.thread) is.0);
-        lawful = subst (IsLawful o) (sym l.seen) lawful;
-        kept = subst (λ q. IsKept o code f q c.step-pause.new.self) (sym l.seen)
-            (subst (λ z. IsKept z code f v.1 c.step-pause.new.self) (s.opening ∙ opens) now);
-      }) s.kept
+    let opens : w.0 ≡ o = e.opening o h.opened in
+    let was : IsKept w.0 code f w.1 c.step_alone.new.self =
+    kept-turn o w.0 code f (number_of k.seat) (seen_of k.seat) w.1 k.worker c.step_alone.new.self is.0 is.1 e.begins.0
+    (sym e.own.1 ∙ e.own.0 ∙ k.free.0.2) (sym h.number) opens h.kept in
+    let now : IsKept v.0 code f v.1 c.step-pause.new.self = keeps code f was in
+    let lawful : IsLawful o v.1 = lawful-of v.0 o v.1 (s.opening ∙ opens) law.opening law.legal law.formed law.below in
+    record {
+      cell = l.free.1.0 ∙ e.turn.1.0 ∙ h.cell;
+      opened = l.free.1.2 ∙ e.turn.1.2 ∙ h.opened;
+      number = l.free.1.1 ∙ e.turn.1.1 ∙ h.number ∙ sym (s.same.thread ∙ ap (λ z. z.thread) is.0);
+      lawful = subst (IsLawful o) (sym l.seen) lawful;
+      kept = subst (λ q. IsKept o code f q c.step-pause.new.self) (sym l.seen)
+          (subst (λ z. IsKept z code f v.1 c.step-pause.new.self) (s.opening ∙ opens) now);
+    }) s.kept
 
 pub returns-clause-adds : goal.returns-clause-adds
 returns-clause-adds g c =

@@ -2,8 +2,8 @@ use Rattle.std.proofs.Common.{◌∙◌, sym}
 use Rattle.turn_cell.specs.layer.Seats.{seen_of}
 use Rattle.upc_task.proofs.seated.Task.work.Goals as goal
 
-pub returns-in_ok-work-clause-stays : goal.returns-in_ok-work-clause-stays
-returns-in_ok-work-clause-stays c = λ z o f h.
+pub returns-clause-stays : goal.returns-clause-stays
+returns-clause-stays c = λ z o f h.
     let e = c.in_ok-work.ensures in
     record {
       cell = h.cell;

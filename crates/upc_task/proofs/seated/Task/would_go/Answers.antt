@@ -1,4 +1,4 @@
-use Rattle.std.proofs.Common.{rules, ◌≡◌, ◌<◌, refl, sym, subst, ◌∙◌}
+use Rattle.std.proofs.Common.{◌≡◌, ◌<◌, refl, sym, subst, ◌∙◌}
 use Rattle.upc_values.specs.Formed.{IsWellFormed}
 use Rattle.upc_values.specs.Openings.{Opening}
 use Rattle.upc_values.proofs.Replies.{formed-grow}

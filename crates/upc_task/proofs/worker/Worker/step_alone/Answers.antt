@@ -1,9 +1,7 @@
-use Rattle.std.proofs.Common.{rules, ◌≡◌, ◌+◌, ◌++◌, ◌<◌, [], ◌∷◌, length, Some, None, sym, subst, ap, ◌∙◌, refl, arith}
-use Rattle.std.proofs.lemmas.Bool.{leb-false}
+use Rattle.std.proofs.Common.{rules, ◌≡◌, ◌+◌, ◌++◌, [], ◌∷◌, Some, None, sym, subst, refl}
 use Rattle.upc_values.specs.declared.record.Item.TheVariants.{Did}
 use Rattle.stack_machine.specs.declared.wish.Wish.TheVariants.{Act}
 use Rattle.upc_values.specs.Drain.{walked}
-use Rattle.upc_values.specs.Records.{is_beat}
 use Rattle.upc_task.specs.declared.worker.Worker.{Worker}
 use Rattle.upc_task.specs.layer.Kept.{IsKept, Holds, settled}
 use Rattle.upc_task.proofs.Buffers.{grew-same}
@@ -15,7 +13,7 @@ returns-clause-kept c = λ b o p f seen valid legal formed h.
     let k = c.args.self.now in let a = c.in-Some-Act.action in let r = c.in-Some.reply in let e = c.in-Some.ensures in
     let wants : k.wish ≡ Some (Act a) = search rules in
     let asked = kept-asks o p f seen k a legal formed h wants in
-    let m : Worker = record k { items = c.push.new.self; buffer = c.emit_alone.new.buffer } in
+    let m : Worker = record k { items = c.push_reserved.new.self; buffer = c.emit_alone.new.buffer } in
     let z : Worker = record m { next = k.next + 1; answer = Some r; wish = c.take.new.self } in
     let y : Worker = record z { wish = None } in
     let hw : Holds o k.thread seen k.buffer k.next (walked k.thread k.items.items) =
@@ -28,5 +26,5 @@ pub returns-clause-adds : goal.returns-clause-adds
 returns-clause-adds c = λ b.
     let k = c.args.self.now in let a = c.in-Some-Act.action in
     let wants : k.wish ≡ Some (Act a) = search rules in
-    let is : c.push.new.self.items ≡ k.items.items ++ Did a c.in-Some.reply ∷ [] = search rules in
+    let is : c.push_reserved.new.self.items ≡ k.items.items ++ Did a c.in-Some.reply ∷ [] = search rules in
     (a, c.in-Some.reply, c.in-Some.ensures.plain, wants, is)
