@@ -1,0 +1,4 @@
+pub mod Played
+pub mod Places
+pub mod Teams
+pub mod Runs

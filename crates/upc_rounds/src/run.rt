@@ -1,0 +1,119 @@
+//! Runs by rounds, each thread on a thread of its own.
+
+ghost use Rattle.std.specs.Prelude.{ℕ, ◌≡◌, ◌<◌, ◌≤◌, ◌*◌, IfOk, length};
+ghost use Rattle.upc_values.specs.Sound.{IsSound};
+ghost use Rattle.upc_values.specs.Ends.{AreSpent};
+ghost use Rattle.upc_values.specs.Waits.{WaitsFollow};
+ghost use Rattle.upc_values.specs.Locks.{LocksExclude};
+ghost use Rattle.stack_code_laws.specs.layer.Asking.{IsCodeFor};
+ghost use Rattle.turn_cell.specs.layer.Seats.{id_of, started};
+ghost use Rattle.upc_task.specs.layer.Sources.{Outcomes, GivesOutcomes};
+ghost use Rattle.upc_rounds.specs.Openings.{opening_of};
+ghost use Rattle.upc_rounds.specs.Rounds.{EndsInTime};
+ghost use Rattle.upc_rounds.specs.code.Runs.{AreSame};
+ghost use Rattle.upc_rounds.specs.code.Teams.{IsTeam, IsDone, HasEnded, workers_of};
+
+use crate::all::go;
+use crate::begin::{begin, make_all};
+use crate::closing::close_all;
+use crate::ends::{all_ended, halt_all, lock_all, none_goes, stopped};
+use crate::place::Place;
+use memory_history::World;
+use stack_code::Code;
+use std::alloc::{AllocError as OutOfMemory, Global};
+use std::sync::Wait;
+use std::thread::Threads;
+use turn_cell::TurnCell;
+use typed_tree::Program;
+use upc_task::Limits;
+use upc_text::Gate;
+use upc_values::{Journal, Listing};
+
+// Rounds of all, until the run is over.
+fn rounds<R: Threads + Wait + Sync, G: Gate>(
+    rt: &R,
+    alloc: Global,
+    places: &mut [Place],
+    code: &Code,
+    cell: &TurnCell<World>,
+    gate: &G,
+) -> Result<(), OutOfMemory>
+    requires some { 0 < length places.old }
+    requires team { (f : Outcomes) × IsTeam (id_of cell.now) (started cell.now).0 code.now f places.old }
+    ensures over { IfOk result (λ _. (f : Outcomes)
+        → IsTeam (id_of cell.now) (started cell.now).0 code.now f places.old
+        → IsDone (id_of cell.now) (started cell.now).0 code.now f places.new) }
+    ensures rounds { IfOk result (λ _. (f : Outcomes)
+        → IsTeam (id_of cell.now) (started cell.now).0 code.now f places.old
+        → HasEnded (started cell.now).0 f places.new) }
+    ensures same { IfOk result (λ _. AreSame (workers_of places.old) (workers_of places.new)) }
+{
+    let mut number = 0u64;
+    for _ in rt.forever() {
+        number = number.saturating_add(1);
+        go(rt, places, code, cell, gate, number)?;
+        if stopped(places).is_some() {
+            halt_all(places);
+            return Ok(());
+        }
+        if all_ended(places) {
+            return Ok(());
+        }
+        if none_goes(rt, alloc, places, cell)? {
+            lock_all(alloc, places)?;
+            return Ok(());
+        }
+    }
+    unreachable!()
+}
+
+/// Runs code by rounds, with one thread of the machine for each thread of the code, which has the program's threads and
+/// shapes and names no shared object but the program's declared ones. In each round every thread without an end goes on,
+/// at the same time as the others, to a Beat, a Stall or its end. Each calls the gate as it begins; rounds are numbered
+/// from 1.
+///
+/// The run is over after a round in which an end has ended it, after which no thread has no end, or after which every
+/// thread without an end stands at a Stall and wants what is not legal then.
+///
+/// The journal is sound: each thread's record is what its code gives on the recorded replies, and one legal history
+/// takes these records as the write buffers drain. It goes by rounds, and its run ends in the round in which it has to.
+/// Which threads come first in a round differs from run to run.
+pub fn run<R: Threads + Wait + Sync, G: Gate>(
+    rt: &R,
+    alloc: Global,
+    program: &Program,
+    code: &Code,
+    limits: Limits,
+    gate: &G,
+) -> Result<Journal, OutOfMemory>
+    requires threads { (1 ≤ limits.threads) × (limits.threads ≤ 32) }
+    requires budget { (1 ≤ limits.budget) × (limits.budget ≤ 1000000000000) }
+    requires actions { (1 ≤ limits.actions) × (limits.threads * limits.actions ≤ 8388608) }
+    requires same { program.now.threads ≡ limits.threads }
+    requires fits { IsCodeFor (opening_of program.now) code.now }
+    ensures sound { IfOk result (λ j. (f : ℕ → Outcomes) → GivesOutcomes code.now limits (f limits.budget)
+        → IsSound (opening_of program.now) f j) }
+    ensures limits { IfOk result (λ j. (j.threads ≡ limits.threads) × (j.budget ≡ limits.budget)
+        × (j.actions ≡ limits.actions)) }
+    ensures waits { IfOk result (λ j. WaitsFollow limits.threads j.history) }
+    ensures locks { IfOk result (λ j. LocksExclude j.history) }
+    ensures spent { IfOk result (λ j. AreSpent limits.budget j.strands) }
+    ensures rounds { IfOk result (λ j. (f : ℕ → Outcomes) → GivesOutcomes code.now limits (f limits.budget)
+        → EndsInTime (opening_of program.now) f j) }
+{
+    code.keep();
+    let world = begin(alloc, program, limits.threads)?;
+    let seats_room = Vec::with_capacity(alloc, limits.threads as usize)?;
+    let strands_room = Vec::with_capacity(alloc, limits.threads as usize)?;
+    let (cell, seats) = TurnCell::start(alloc, world, limits.threads)?;
+    let mut places = make_all(alloc, code, limits, seats)?;
+    rounds(rt, alloc, places.as_mut_slice(), code, &cell, gate)?;
+    let (world, strands) = close_all(cell, places, seats_room, strands_room);
+    Ok(Journal {
+        threads: limits.threads,
+        budget: limits.budget,
+        actions: limits.actions,
+        strands: Listing::from_vec(strands),
+        history: world.take_history(),
+    })
+}
