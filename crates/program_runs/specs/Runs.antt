@@ -1,5 +1,5 @@
 -- What it is to be a run of a program.
-use Rattle.std.specs.Prelude.{ℕ, ◌≡◌, List}
+use Rattle.std.specs.Prelude.{◌≡◌}
 use Rattle.upc_text.specs.declared.place.Code.TheVariants.{Profile}
 use Rattle.upc_text.specs.declared.place.Refusal.{Refusal}
 use Rattle.upc_text.specs.declared.faults.Stop.{Stop}
@@ -14,17 +14,16 @@ use Rattle.typed_tree.specs.Programs.{Checked}
 use Rattle.source_meaning.specs.Laws.{opening_of}
 use Rattle.source_meaning.specs.Threads.{thread_outcome}
 use Rattle.order_builder.specs.Named.{AreConsistentOrders, orders_of}
-use Rattle.serial_core.specs.declared.limits.Limits.{Limits}
-use Rattle.serial_core.specs.Course.{IsCourse}
+use Rattle.upc_task.specs.declared.limits.Limits.{Limits}
+use Rattle.upc_rounds.specs.Rounds.{EndsInTime}
 use Rattle.program_runs.specs.Served.{RunsToday}
 
 -- The journal is a sound run of the program within these limits: each thread's record is what its source gives on the
 -- recorded replies, and one legal history takes these records as the write buffers drain. The strict order and the
 -- orders of the threads that this gives make the records UPC consistent (UPC Appendix B). Each thread's p-th wait
--- stands after the p-th notify of all threads; between two acquisitions of one lock its first holder lets it go; a
--- thread whose ticks are spent has had as many as the budget; and the run went by the picks and then round by round,
--- with no round begun once an end had ended it.
-pub record IsRunOf (program : Checked) (l : Limits) (picks : List ℕ) (j : Journal) : Type 0 where
+-- stands after the p-th notify of all threads; between two acquisitions of one lock its first holder lets it go; and a
+-- thread whose ticks are spent has had as many as the budget.
+pub record IsRunOf (program : Checked) (l : Limits) (j : Journal) : Type 0 where
   pub threads : j.threads ≡ l.threads
   pub budget : j.budget ≡ l.budget
   pub actions : j.actions ≡ l.actions
@@ -33,7 +32,11 @@ pub record IsRunOf (program : Checked) (l : Limits) (picks : List ℕ) (j : Jour
   pub waits : WaitsFollow l.threads j.history
   pub locks : LocksExclude j.history
   pub spent : AreSpent l.budget j.strands
-  pub course : IsCourse picks j
+
+-- A sound run of the program within these limits that went round by round, and ended in the round in which it had to.
+pub record IsRunByRounds (program : Checked) (l : Limits) (j : Journal) : Type 0 where
+  pub run : IsRunOf program l j
+  pub rounds : EndsInTime (opening_of program) (λ budget t. thread_outcome program t budget) j
 
 -- The refusal of a program that does not run today, which is `profile 0` at 1:1.
 pub record IsNotYet (program : Checked) (r : Refusal) : Type 0 where

@@ -4,4 +4,4 @@
 mod run;
 mod served;
 
-pub use run::run_program;
+pub use run::{run_program, run_program_by};

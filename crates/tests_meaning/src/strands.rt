@@ -4,8 +4,8 @@ ghost use Rattle.std.specs.Prelude.{◌<◌};
 
 use crate::front::program_of;
 use crate::sources::SOURCES;
-use program_runs::run_program;
-use serial_core::Limits;
+use program_runs::run_program_by;
+use upc_task::Limits;
 use std::alloc::Global;
 use std::test::Fail;
 use upc_checker::Program;
@@ -82,7 +82,7 @@ fn strands_are_told_again(rt: HostRuntime) -> Result<(), Fail> {
                 budget: BUDGET,
                 actions: 1_000,
             };
-            let journal = run_program(&rt, rt.alloc(), &program, limits, &[0, 1, 1, 0])?;
+            let journal = run_program_by(&rt, rt.alloc(), &program, limits, &[0, 1, 1, 0])?;
             for thread in 0..threads {
                 let strand = journal
                     .strands

@@ -4,7 +4,7 @@ use crate::front::program_of;
 use crate::runs::{has_history, run_of};
 use order_builder::orders;
 use plain_orders::is_consistent;
-use serial_core::Limits;
+use upc_task::Limits;
 use std::alloc::Global;
 use std::sync::Wait;
 use std::test::Fail;

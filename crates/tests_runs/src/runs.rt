@@ -4,8 +4,8 @@ ghost use Rattle.std.specs.Prelude.{◌≤◌, ◌*◌, IfOk, IsTrue};
 ghost use Rattle.upc_values.specs.Consistent.{FollowsBuffers};
 
 use crate::front::program_of;
-use program_runs::run_program;
-use serial_core::Limits;
+use program_runs::run_program_by;
+use upc_task::Limits;
 use std::alloc::Global;
 use std::sync::Wait;
 use std::test::Fail;
@@ -357,7 +357,7 @@ pub fn run_of<R: Wait>(
     if program.threads() != limits.threads {
         return Err(Stop::Memory);
     }
-    run_program(rt, alloc, &program, limits, picks)
+    run_program_by(rt, alloc, &program, limits, picks)
 }
 
 // Whether a run is seen as its row says.

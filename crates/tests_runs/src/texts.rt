@@ -6,7 +6,7 @@ ghost use Rattle.run_recorder_text.specs.Short.{HasText};
 use crate::runs::run_of;
 use order_builder::orders;
 use run_recorder_text::{is_short, render};
-use serial_core::Limits;
+use upc_task::Limits;
 use std::alloc::Global;
 use std::sync::Wait;
 use std::test::Fail;

@@ -11,8 +11,8 @@ use Rattle.typed_tree.specs.ViewProgram.{view_program}
 use Rattle.upc_top_words.specs.declared.call.Mode.{Mode}
 use Rattle.upc_top_words.specs.declared.call.Mode.TheVariants.{Record, Check, Layout, Sample}
 use Rattle.upc_top_words.specs.Values.{Asked, Asks, IsInRange}
-use Rattle.serial_core.specs.declared.limits.Limits.{Limits}
-use Rattle.program_runs.specs.Runs.{IsRunOf}
+use Rattle.upc_task.specs.declared.limits.Limits.{Limits}
+use Rattle.program_runs.specs.Runs.{IsRunByRounds}
 use Rattle.order_builder.specs.Named.{orders_of}
 use Rattle.run_recorder_text.specs.Short.{HasText, is_short}
 use Rattle.run_recorder_text.specs.Lines.{text}
@@ -44,7 +44,7 @@ pub record RunsAs (a : Asked) (bytes : List ℕ) (j : Journal) : Type 0 where
   pub mode : runs a.mode ≡ true
   pub checked : Checked
   pub runnable : IsRunnable a.threads bytes checked
-  pub run : IsRunOf checked (limits_of a) [] j
+  pub run : IsRunByRounds checked (limits_of a) j
 
 -- What the program prints was asked for, and the journal is its run.
 pub record RanFrom (a : Asked) (bytes : List ℕ) (j : Journal) : Type 0 where

@@ -16,11 +16,12 @@ use crate::record::recorded;
 use crate::source::source_of;
 use crate::verdict::Verdict;
 use program_runs::run_program;
-use serial_core::Limits;
 use std::alloc::Global;
 use std::sync::Wait;
+use std::thread::Threads;
 use typed_tree::Program;
-use upc_text::{ReadEnd, Sources, Stop};
+use upc_task::Limits;
+use upc_text::{Gate, ReadEnd, Sources, Stop};
 use upc_top_words::{Call, Mode, NoCall, read_words};
 use upc_values::Journal;
 
@@ -37,12 +38,13 @@ fn shown(alloc: Global, mode: Mode, journal: Journal) -> Verdict
 }
 
 // Runs a source that is accepted.
-fn run_accepted<R: Wait>(
+fn run_accepted<R: Threads + Wait + Sync, G: Gate>(
     rt: &R,
     alloc: Global,
     call: &Call<'_>,
     bytes: &[u8],
     program: &Program,
+    gate: &G,
 ) -> Verdict
     requires mode { runs call.now.mode ≡ true }
     requires range { IsInRange (view_call call.now) }
@@ -55,7 +57,7 @@ fn run_accepted<R: Wait>(
         budget: call.budget,
         actions: call.actions,
     };
-    match run_program(rt, alloc, program, limits, &[]) {
+    match run_program(rt, alloc, program, limits, gate) {
         Ok(journal) => shown(alloc, call.mode, journal),
         Err(Stop::Refused(refusal)) => Verdict::Refused(refusal),
         Err(Stop::Memory) => Verdict::NoMemory(None),
@@ -73,7 +75,13 @@ fn stopped(stop: Stop) -> Verdict
 }
 
 // The verdict on a source. Where no more is asked than whether it is accepted, no program is made.
-fn come_to<R: Wait>(rt: &R, alloc: Global, call: &Call<'_>, bytes: &[u8]) -> Verdict
+fn come_to<R: Threads + Wait + Sync, G: Gate>(
+    rt: &R,
+    alloc: Global,
+    call: &Call<'_>,
+    bytes: &[u8],
+    gate: &G,
+) -> Verdict
     requires range { IsInRange (view_call call.now) }
     requires allowed { IsAllowed (view_call call.now) }
     requires short { length bytes.now ≤ 1048576 }
@@ -89,7 +97,7 @@ fn come_to<R: Wait>(rt: &R, alloc: Global, call: &Call<'_>, bytes: &[u8]) -> Ver
             Err(stop) => stopped(stop),
         },
         _ => match read_source(alloc, call.threads, bytes) {
-            Ok(program) => run_accepted(rt, alloc, call, bytes, &program),
+            Ok(program) => run_accepted(rt, alloc, call, bytes, &program, gate),
             Err(stop) => stopped(stop),
         },
     }
@@ -97,7 +105,13 @@ fn come_to<R: Wait>(rt: &R, alloc: Global, call: &Call<'_>, bytes: &[u8]) -> Ver
 
 /// The verdict on the words and the file.
 #[tactic(auto, using(crate::proofs::Endings::no_file_read))]
-pub fn judge<R: Wait, S: Sources>(rt: &R, alloc: Global, words: &[String], files: &mut S) -> Verdict
+pub fn judge<R: Threads + Wait + Sync, S: Sources, G: Gate>(
+    rt: &R,
+    alloc: Global,
+    words: &[String],
+    files: &mut S,
+    gate: &G,
+) -> Verdict
     ensures caused { Caused (map string_bytes words.now)
         (reading (S.bytes_of files.old) (S.faults files.old) (S.faults files.new))
         result }
@@ -109,7 +123,7 @@ pub fn judge<R: Wait, S: Sources>(rt: &R, alloc: Global, words: &[String], files
         Err(NoCall::Memory) => return Verdict::NoMemory(None),
     };
     match source_of(alloc, &call, files) {
-        Ok(source) => come_to(rt, alloc, &call, source.as_slice()),
+        Ok(source) => come_to(rt, alloc, &call, source.as_slice(), gate),
         Err(ReadEnd::ReadFault) => Verdict::ReadFault,
         Err(ReadEnd::TooLong) => Verdict::TooLong,
         Err(ReadEnd::Memory) => Verdict::NoMemory(None),

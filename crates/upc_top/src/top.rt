@@ -10,6 +10,7 @@ use crate::done::Done;
 use crate::judge::judge;
 use std::alloc::Global;
 use std::sync::Wait;
+use std::thread::Threads;
 use upc_text::{Gate, Sink, Sources};
 
 /// Reads the words and the file, and does with its program what the mode says: `run` writes what it prints to `out`,
@@ -19,7 +20,7 @@ use upc_text::{Gate, Sink, Sources};
 /// source is; 102 where a read failed; 103 where a write failed; 104 where memory was wanting; 105 for a run error; 106
 /// for a deadlock; 107 and 108 where a thread reached its limit of ticks or of items; 109 where a run is too long for a
 /// text; 110 where the file has more than 1,048,576 bytes.
-pub fn upc_main<R: Wait, S: Sources, O: Sink, E: Sink, G: Gate>(
+pub fn upc_main<R: Threads + Wait + Sync, S: Sources, O: Sink, E: Sink, G: Gate>(
     rt: &R,
     alloc: Global,
     words: &[String],
@@ -49,7 +50,6 @@ pub fn upc_main<R: Wait, S: Sources, O: Sink, E: Sink, G: Gate>(
         (writing (E.taken err.old) (E.taken err.new) (E.faults err.old) (E.faults err.new))
         result }
 {
-    let _ = gate;
-    let verdict = judge(rt, alloc, words, files);
+    let verdict = judge(rt, alloc, words, files, gate);
     deliver(alloc, verdict, out, err)
 }

@@ -1,4 +1,0 @@
-pub mod Kept
-pub mod Course
-pub mod layer
-pub mod code
