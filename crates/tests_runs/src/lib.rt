@@ -11,3 +11,4 @@ mod orders;
 mod runs;
 #[cfg(test)]
 mod texts;
+mod threads;

@@ -53,8 +53,8 @@ fn has_strands(journal: &Journal, strands: &[(&str, usize, u64)]) -> bool {
     true
 }
 
-// Whether the print entries write these lines, in order.
-fn has_printed(journal: &Journal, lines: &[&[u8]]) -> bool {
+/// Whether the print entries write these lines, in order.
+pub fn has_printed(journal: &Journal, lines: &[&[u8]]) -> bool {
     let mut at = 0usize;
     for entry in journal.history.iter() {
         if let Action::Print(text) = &entry.action {
