@@ -11,4 +11,5 @@ mod orders;
 mod runs;
 #[cfg(test)]
 mod texts;
+#[cfg(test)]
 mod threads;
