@@ -146,8 +146,6 @@ def syntax(spot):
         yield "braces inside braces are no initialiser here: one dimension, or a loop in main"
     if re.match(r"\{", spot.after) and re.search(r"\bstruct\s*$", spot.before):
         yield "a struct has a tag: `struct point {int x;} a;`"
-    if re.match(r'"', spot.after) and "=" in spot.before:
-        yield "a string is no initialiser: characters in braces, and the size"
     if re.search(r"#\s*pragma\s+upc", spot.text):
         yield "`#pragma upc` stands at the file, or directly after the { of a block"
     if re.search(r"\bupc_forall\s*\([^()]*;[^();]*;[^();]*$", spot.before) and spot.after.startswith(")"):
@@ -156,6 +154,13 @@ def syntax(spot):
     if not spot.before.strip() and re.search(r"[\w\])]\s*$", re.sub(r"//.*|/\*.*?\*/", "", above)) \
             and not above.lstrip().startswith("#"):
         yield "the line above may want a `;` at its end"
+
+
+def string(spot):
+    if re.search(r"=\s*$", spot.before):
+        yield "a string is no initialiser: characters in braces, and the size"
+    else:
+        yield "printf has no %s: the text in the format itself, or a loop of %c"
 
 
 def tokens(spot):
@@ -197,7 +202,7 @@ def sizes(spot):
 
 FOR = {
     "typing 1": undeclared, "typing 2": declared_twice, "typing 3": no_main, "typing 6": sizes,
-    "typing 12": conversion, "typing 28": format_of_printf, "syntax": syntax, "lex": tokens, "directive": directive,
+    "typing 12": conversion, "typing 28": format_of_printf, "typing 30": string, "syntax": syntax, "lex": tokens, "directive": directive,
     "E5": outside,
 }
 
