@@ -158,11 +158,11 @@ class Names:
 
 def told(item, names):
     """An item in words."""
-    strict = "strict " if item.kind in ("read", "write") and not item.relaxed else ""
+    strict = " (strict)" if item.kind in ("read", "write") and not item.relaxed else ""
     if item.kind == "read":
-        return f"{strict}{names.at(item.place)} is {names.value(item.reply.removeprefix('value '))}"
+        return f"{names.at(item.place)} is {names.value(item.reply.removeprefix('value '))}{strict}"
     if item.kind == "write":
-        return f"{strict}{names.at(item.place)} = {names.value(item.words[3])}"
+        return f"{names.at(item.place)} = {names.value(item.words[3])}{strict}"
     if item.kind == "print":
         text = bytes.fromhex("" if item.words[1] == "-" else item.words[1]).decode(errors="replace")
         return 'prints "' + text.replace("\\", "\\\\").replace("\n", "\\n").replace('"', '\\"') + '"'
