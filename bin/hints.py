@@ -202,8 +202,8 @@ def sizes(spot):
 
 FOR = {
     "typing 1": undeclared, "typing 2": declared_twice, "typing 3": no_main, "typing 6": sizes,
-    "typing 12": conversion, "typing 28": format_of_printf, "typing 30": string, "syntax": syntax, "lex": tokens, "directive": directive,
-    "E5": outside,
+    "typing 12": conversion, "typing 28": format_of_printf, "typing 30": string,
+    "syntax": syntax, "lex": tokens, "directive": directive, "E5": outside,
 }
 
 

@@ -1,4 +1,4 @@
-"""The text of a run read back, as docs/FORMATS.md has it, and the names of what it speaks of; nothing of it is proved."""
+"""The text of a run read back, as docs/FORMATS.md has it, and the names of what it speaks of. None of it is proved."""
 import re
 import sys
 

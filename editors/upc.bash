@@ -1,4 +1,4 @@
-# Completion for upc, why, story, traffic, draw and pre: `source editors/upc.bash`; in zsh after `autoload -U
+# Completion for upc, try, why, story, traffic, draw and pre: `source editors/upc.bash`; in zsh after `autoload -U
 # bashcompinit && bashcompinit`.
 
 _upc() {
@@ -7,7 +7,7 @@ _upc() {
   name=$(basename "${COMP_WORDS[0]}")
   COMPREPLY=()
   case $name in
-    upc | why)
+    upc | why | try)
       for word in "${COMP_WORDS[@]:1:COMP_CWORD-1}"; do
         case $word in run | record | check | layout | sample) moded=1 ;; esac
       done
@@ -31,4 +31,4 @@ _upc() {
   fi
 }
 
-complete -F _upc upc why story traffic draw pre
+complete -F _upc upc try why story traffic draw pre
