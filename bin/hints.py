@@ -142,6 +142,8 @@ def syntax(spot):
         yield "`static` stands at the file alone: move the object out of the function"
     if re.match(r"\]", spot.after) and spot.before.endswith("["):
         yield "an array has its size written: `int a[3] = {1, 2, 3};`"
+    if re.match(r"\}", spot.after) and re.search(r",\s*$", spot.before):
+        yield "no comma stands after the last value in braces"
     if re.match(r"\{", spot.after) and re.search(r"\{[^;]*$", spot.before):
         yield "braces inside braces are no initialiser here: one dimension, or a loop in main"
     if re.match(r"\{", spot.after) and re.search(r"\bstruct\s*$", spot.before):
