@@ -30,7 +30,7 @@ int main(void) {
   printf("\nblocks of 4, from value[1]:");
   for (i = 0; i < 3; i++)
     printf(" %d", by_four[i]);
-  printf("\nphase of &value[1]: %lu, behind the cast: %lu\n", upc_phaseof(&value[1]), upc_phaseof(by_four));
+  printf("\nphase of &value[1]: %lu, after the cast: %lu\n", upc_phaseof(&value[1]), upc_phaseof(by_four));
   printf("back by a cast: %d\n", (shared [2] int *)(by_one + 1) == &value[2]);
   return 0;
 }

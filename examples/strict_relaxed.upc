@@ -9,7 +9,7 @@
 shared int value[3];
 strict shared int said;
 shared int said_in_block;
-shared int said_behind_fence;
+shared int said_after_fence;
 
 int told_in_block(void) {
 #pragma upc strict
@@ -26,7 +26,7 @@ void tell(void) {
   }
   value[2] = 42;
   upc_fence;
-  said_behind_fence = 1;
+  said_after_fence = 1;
 }
 
 void hear(void) {
@@ -38,7 +38,7 @@ void hear(void) {
   printf("%d\n", value[1]);
   do
     upc_fence;
-  while (!said_behind_fence);
+  while (!said_after_fence);
   upc_fence;
   printf("%d\n", value[2]);
 }
