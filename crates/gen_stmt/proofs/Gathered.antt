@@ -278,9 +278,9 @@ module _ (ς : Source) (P : Value → Type 0) (p : HoldsOf ς P) (most : ℕ) wh
     kind_hold (Return None) κ ω at h = (p.integer _, (tt, tt))
     kind_hold (Return (Some e)) κ ω at h =
         behind (stmt.converted_code ς κ.strict κ.result e) _ (converted_hold κ.strict κ.result e) tt
-    kind_hold (Synchronise h None) κ ω at h = synchronise_hold at h
-    kind_hold (Synchronise h (Some e)) κ ω at h =
-        both (expr.value_code ς κ.strict e) _ (value_hold κ.strict e) (synchronise_value_hold at h)
+    kind_hold (Synchronise s None) κ ω at h = synchronise_hold at s
+    kind_hold (Synchronise s (Some e)) κ ω at h =
+        both (expr.value_code ς κ.strict e) _ (value_hold κ.strict e) (synchronise_value_hold at s)
     kind_hold Fence κ ω at h = (tt, tt)
 
     last_statement_hold : (last : StatementOption) (κ : Standing) (ω : Ways) → HaveRoom κ (last_objects last)
@@ -352,7 +352,7 @@ module _ (ς : Source) (P : Value → Type 0) (p : HoldsOf ς P) (most : ℕ) wh
   body_hold f (Stands at Break) h = (tt, plain_hold f (Stands at Break) h)
   body_hold f (Stands at Continue) h = (tt, plain_hold f (Stands at Continue) h)
   body_hold f (Stands at (Return e)) h = (tt, plain_hold f (Stands at (Return e)) h)
-  body_hold f (Stands at (Synchronise h e)) h = (tt, plain_hold f (Stands at (Synchronise h e)) h)
+  body_hold f (Stands at (Synchronise s e)) h = (tt, plain_hold f (Stands at (Synchronise s e)) h)
   body_hold f (Stands at Fence) h = (tt, plain_hold f (Stands at Fence) h)
 
   blank_holds : (kind : Option Kind) → P (blank_of kind)

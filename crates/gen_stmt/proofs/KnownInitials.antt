@@ -1,9 +1,11 @@
 -- The initial values of a program's private objects are values that code may name.
-use Rattle.std.proofs.Common.{◌≡◌, ℕ, zero, suc, ◌+◌, ◌<◌, ◌≤◌, ◌==◌, ◌^◌, nat_lt, ℤ, Bool, true, false, ◌&&◌, ◌||◌}
-use Rattle.std.proofs.Common.{inl, inr, List, [], ◌∷◌, length, drop, get_or, Option, Some, None, refl, sym, ap, subst, arith}
-use Rattle.std.specs.Prelude.{slice_get}
+use Rattle.std.proofs.Common.{◌≡◌, ℕ, zero, suc, ◌<◌, ◌≤◌, nat_lt, ℤ, Bool, true, false, ◌&&◌, ◌||◌}
+use Rattle.std.proofs.Common.{inl, inr, List, [], ◌∷◌, length, drop, get_or, Option, Some, None, refl, sym, ap, subst}
+use Rattle.std.proofs.Common.{arith}
+use Rattle.std.proofs.Common.{int_le}
+use Rattle.std.specs.Prelude.{slice_get, int_lt, pos, ◌+ℤ◌}
 use Rattle.std.specs.List.{list_any}
-use Rattle.std.proofs.lemmas.Bool.{and_parts, false≢true, eqb-true, ltb-true, or_cases}
+use Rattle.std.proofs.lemmas.Bool.{and_parts, false≢true, eqb-true, ltb-true}
 use Rattle.std.proofs.lemmas.Int.{ints}
 use Rattle.std.proofs.lemmas.List.Sums.{sum_by-cons}
 use Rattle.std.proofs.Math.Logic.{∥∥₁_elim}
@@ -17,18 +19,18 @@ use Rattle.block_layout.specs.declared.place.LocalPtr.TheVariants as local
 use Rattle.block_layout.specs.declared.place.ObjectRef.{ObjectRef}
 use Rattle.block_layout.specs.declared.place.SharedPtr.{SharedPtr}
 use Rattle.block_layout.specs.Places.{in_range}
-use Rattle.block_layout.specs.Pointers.{IsNull, null, is_null, same_object}
+use Rattle.block_layout.specs.Pointers.{null, is_null, same_object}
 use Rattle.block_layout.proofs.Pointers.{same_object-true, same_pointer-true}
 use Rattle.block_layout.proofs.Ranges.{in_range-true}
-use Rattle.integers.specs.Integers.{in_kind}
+use Rattle.integers.specs.Integers.{InKind, in_kind, least, values}
 use Rattle.upc_values.specs.declared.scalar.Scalar.TheVariants as scalar
 use Rattle.upc_values.specs.declared.scalar.Value.{Value}
 use Rattle.upc_values.specs.declared.scalar.Value.TheVariants as value
 use Rattle.upc_values.specs.Lists.{Each}
 use Rattle.upc_values.specs.Openings.{Opening, IsOpening, IsDeclared, bytes_of}
-use Rattle.upc_values.specs.Shapes.{is_integer, fits_kind}
+use Rattle.upc_values.specs.Shapes.{is_integer}
 use Rattle.upc_values.proofs.Lists.{each-at}
-use Rattle.thread_steps.specs.layer.Ranges.{IsNumber, IsObject, IsShared}
+use Rattle.thread_steps.specs.layer.Ranges.{IsNumber, IsObject}
 use Rattle.typed_tree.specs.Beginnings.{Beginning, opening_in}
 use Rattle.typed_tree.specs.layer.PrivateOpenings.{IsPrivateOpening, is_known, fits_cell, private_cell}
 use Rattle.source_meaning.proofs.Beginnings.{each_prop}
@@ -38,23 +40,20 @@ use Rattle.gen_stmt.specs.code.Compiled.{with_initials}
 
 -- ---- numbers
 
-in_kind-number : (k : Kind) (v : ℤ) → is_integer k ≡ true → in_kind k v ≡ true → IsNumber v
-in_kind-number kind.Char v i h =
-    let p = and_parts _ _ h in record { least = omega (arith, ints, p.0); most = omega (arith, ints, p.1) }
-in_kind-number kind.UChar v i h =
-    let p = and_parts _ _ h in record { least = omega (arith, ints, p.0); most = omega (arith, ints, p.1) }
-in_kind-number kind.Short v i h =
-    let p = and_parts _ _ h in record { least = omega (arith, ints, p.0); most = omega (arith, ints, p.1) }
-in_kind-number kind.UShort v i h =
-    let p = and_parts _ _ h in record { least = omega (arith, ints, p.0); most = omega (arith, ints, p.1) }
-in_kind-number kind.Int v i h =
-    let p = and_parts _ _ h in record { least = omega (arith, ints, p.0); most = omega (arith, ints, p.1) }
-in_kind-number kind.UInt v i h =
-    let p = and_parts _ _ h in record { least = omega (arith, ints, p.0); most = omega (arith, ints, p.1) }
-in_kind-number kind.Long v i h =
-    let p = and_parts _ _ h in record { least = omega (arith, ints, p.0); most = omega (arith, ints, p.1) }
-in_kind-number kind.ULong v i h =
-    let p = and_parts _ _ h in record { least = omega (arith, ints, p.0); most = omega (arith, ints, p.1) }
+in_kind-is : (k : Kind) (v : ℤ) → in_kind k v ≡ true → InKind v k
+in_kind-is k v h =
+    let p : (int_le (least k) v ≡ true) × (int_lt v (least k +ℤ pos (values k)) ≡ true) = and_parts _ _ h in
+    record { low = omega (arith, ints, p.0); high = omega (arith, ints, p.1) }
+
+in_kind-number : (k : Kind) (v : ℤ) → is_integer k ≡ true → InKind v k → IsNumber v
+in_kind-number kind.Char v i h = record { least = omega (arith, ints, h.low); most = omega (arith, ints, h.high) }
+in_kind-number kind.UChar v i h = record { least = omega (arith, ints, h.low); most = omega (arith, ints, h.high) }
+in_kind-number kind.Short v i h = record { least = omega (arith, ints, h.low); most = omega (arith, ints, h.high) }
+in_kind-number kind.UShort v i h = record { least = omega (arith, ints, h.low); most = omega (arith, ints, h.high) }
+in_kind-number kind.Int v i h = record { least = omega (arith, ints, h.low); most = omega (arith, ints, h.high) }
+in_kind-number kind.UInt v i h = record { least = omega (arith, ints, h.low); most = omega (arith, ints, h.high) }
+in_kind-number kind.Long v i h = record { least = omega (arith, ints, h.low); most = omega (arith, ints, h.high) }
+in_kind-number kind.ULong v i h = record { least = omega (arith, ints, h.low); most = omega (arith, ints, h.high) }
 in_kind-number (kind.Shared n b) v i h = absurd (false≢true i)
 in_kind-number kind.Lock v i h = absurd (false≢true i)
 in_kind-number (kind.Private n) v i h = absurd (false≢true i)
@@ -107,52 +106,52 @@ declared_objects threads b h =
 -- ---- values
 
 module _ (threads : ℕ) (b : Beginning) (objects : Each (IsObject threads b.shapes) (opening_in threads b).declared)
-    where
-  among : (xs : List ObjectRef) (x : ObjectRef) → Each (IsObject threads b.shapes) xs
-      → list_any (same_object x) xs ≡ true → IsObject threads b.shapes x
-  among [] x h e = absurd (false≢true e)
-  among (y ∷ xs) x h e = by_first (same_object x y) refl e
-    where
-      by_first : (t : Bool) → same_object x y ≡ t → (t || list_any (same_object x) xs) ≡ true
-          → IsObject threads b.shapes x
-      by_first true q z = subst (IsObject threads b.shapes) (sym (same_object-true x y q)) h.0
-      by_first false q z = among xs x h.1 z
+  where
+    among : (xs : List ObjectRef) (x : ObjectRef) → Each (IsObject threads b.shapes) xs
+        → list_any (same_object x) xs ≡ true → IsObject threads b.shapes x
+    among [] x h e = absurd (false≢true e)
+    among (y ∷ xs) x h e = by_first (same_object x y) refl e (among xs x h.1)
+      where
+        by_first : (t : Bool) → same_object x y ≡ t → (t || list_any (same_object x) xs) ≡ true
+            → (list_any (same_object x) xs ≡ true → IsObject threads b.shapes x) → IsObject threads b.shapes x
+        by_first true q z next = subst (IsObject threads b.shapes) (sym (same_object-true x y q)) h.0
+        by_first false q z next = next z
 
-  pointer_known : (p : SharedPtr) (t : Bool) → is_null p ≡ t
-      → (t || (list_any (same_object p.object) (opening_in threads b).declared
-      && (nat_lt p.thread threads && in_range p.offset)))
-      ≡ true → IsKnown threads b.shapes (value.Scalar (scalar.Shared p))
-  pointer_known p true e h = inl (same_pointer-true p null e)
-  pointer_known p false e h =
-      let q = and_parts (list_any (same_object p.object) (opening_in threads b).declared) _ h in
-      let r = and_parts (nat_lt p.thread threads) (in_range p.offset) q.1 in
-      inr (record {
-        object_is = among (opening_in threads b).declared p.object objects q.0;
-        thread = ltb-true p.thread threads r.0;
-        offset = in_range-true p.offset r.1;
-      })
+    pointer_known : (p : SharedPtr) (t : Bool) → is_null p ≡ t
+        → (t || (list_any (same_object p.object) (opening_in threads b).declared
+        && (nat_lt p.thread threads && in_range p.offset)))
+        ≡ true → IsKnown threads b.shapes (value.Scalar (scalar.Shared p))
+    pointer_known p true e h = inl (same_pointer-true p null e)
+    pointer_known p false e h =
+        let q = and_parts (list_any (same_object p.object) (opening_in threads b).declared) _ h in
+        let r = and_parts (nat_lt p.thread threads) (in_range p.offset) q.1 in
+        inr (record {
+          object_is = among (opening_in threads b).declared p.object objects q.0;
+          thread = ltb-true p.thread threads r.0;
+          offset = in_range-true p.offset r.1;
+        })
 
-  number_known : (v : ℤ) (k : Option Kind) → fits_cell (value.Scalar (scalar.Int v)) k ≡ true → IsNumber v
-  number_known v (Some k) h =
-      let q = and_parts (is_integer k) (in_kind k v) h in in_kind-number k v q.0 q.1
-  number_known v None h = absurd (false≢true h)
+    number_known : (v : ℤ) (k : Option Kind) → fits_cell (value.Scalar (scalar.Int v)) k ≡ true → IsNumber v
+    number_known v (Some k) h =
+        let q = and_parts (is_integer k) (in_kind k v) h in in_kind-number k v q.0 (in_kind-is k v q.1)
+    number_known v None h = absurd (false≢true h)
 
-  value_known : (privates : ℕ) (v : Value) (k : Option Kind)
-      → is_known (opening_in threads b) privates v ≡ true → fits_cell v k ≡ true → IsKnown threads b.shapes v
-  value_known privates (value.Scalar (scalar.Int v)) k h f = number_known v k f
-  value_known privates (value.Scalar (scalar.Shared p)) k h f = pointer_known p (is_null p) refl h
-  value_known privates (value.Scalar (scalar.Lock l)) k h f = eqb-true l 0 h
-  value_known privates (value.Local local.Null) k h f = tt
-  value_known privates (value.Local (local.Private object offset)) k h f =
-      in_range-true offset (and_parts (nat_lt object privates) (in_range offset) h).1
-  value_known privates (value.Local (local.Shared object thread offset)) k h f = absurd (false≢true h)
+    value_known : (privates : ℕ) (v : Value) (k : Option Kind)
+        → is_known (opening_in threads b) privates v ≡ true → fits_cell v k ≡ true → IsKnown threads b.shapes v
+    value_known privates (value.Scalar (scalar.Int v)) k h f = number_known v k f
+    value_known privates (value.Scalar (scalar.Shared p)) k h f = pointer_known p (is_null p) refl h
+    value_known privates (value.Scalar (scalar.Lock l)) k h f = eqb-true l 0 h
+    value_known privates (value.Local local.Null) k h f = tt
+    value_known privates (value.Local (local.Private object offset)) k h f =
+        in_range-true offset (and_parts (nat_lt object privates) (in_range offset) h).1
+    value_known privates (value.Local (local.Shared object thread offset)) k h f = absurd (false≢true h)
 
-  all_known : (privates : ℕ) (shapes : List Shape) (xs : List (LocalPtr × Value))
-      → Each (λ x. is_known (opening_in threads b) privates x.1 ≡ true) xs
-      → Each (λ x. fits_cell x.1 (private_cell shapes x.0) ≡ true) xs → Each (λ x. IsKnown threads b.shapes x.1) xs
-  all_known privates shapes [] h f = tt
-  all_known privates shapes (x ∷ xs) h f =
-      (value_known privates x.1 (private_cell shapes x.0) h.0 f.0, all_known privates shapes xs h.1 f.1)
+    all_known : (privates : ℕ) (shapes : List Shape) (xs : List (LocalPtr × Value))
+        → Each (λ x. is_known (opening_in threads b) privates x.1 ≡ true) xs
+        → Each (λ x. fits_cell x.1 (private_cell shapes x.0) ≡ true) xs → Each (λ x. IsKnown threads b.shapes x.1) xs
+    all_known privates shapes [] h f = tt
+    all_known privates shapes (x ∷ xs) h f =
+        (value_known privates x.1 (private_cell shapes x.0) h.0 f.0, all_known privates shapes xs h.1 f.1)
 
 -- Code may name the initial values of a program's private objects.
 pub initials_known : (threads : ℕ) (b : Beginning) → ∥ IsOpening (opening_in threads b) ∥₁

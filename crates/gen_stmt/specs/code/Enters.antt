@@ -22,4 +22,5 @@ OnObject P w = Unit {0}
 -- In the code of a program no block begins after more objects in scope than the program declares in all, together with
 -- its structs, parameters and functions. In a typed program these are at most 65,535 (docs/LANGUAGE.md, "Limits").
 abbrev pub EntersFew : Checked → Type 0
-EntersFew program = Each (Each (λ i. OnObject (EntersWithin (count_of program)) i.does)) (program_code program).functions
+EntersFew program =
+    Each (Each (λ i. OnObject (EntersWithin (count_of program)) i.does)) (program_code program).functions

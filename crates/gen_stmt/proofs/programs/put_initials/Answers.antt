@@ -5,9 +5,10 @@ use Rattle.gen_stmt.proofs.KnownInitials.{next_known}
 use Rattle.gen_stmt.proofs.programs.put_initials.Goals as goal
 
 pub append_initial-requires : goal.append_initial-requires
-append_initial-requires c =
-    next_known c.args.builder.now c.loop-given.builder c.args.initials.now c.loop-given.given-index _
-    c.loop-given.invariant c.requires c.loop-given-test.true
+append_initial-requires c = record {
+  known = next_known c.args.builder.now c.loop-given.builder c.args.initials.now c.loop-given.given-index _
+      c.loop-given.invariant c.requires c.loop-given-test.true;
+}
 
 pub loop-given-preserved : goal.loop-given-preserved
 loop-given-preserved c =
