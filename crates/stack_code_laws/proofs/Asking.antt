@@ -4,7 +4,9 @@ use Rattle.std.proofs.Common.{Some, None}
 use Rattle.std.proofs.Common.{refl, sym, ◌∙◌, ap, subst, arith}
 use Rattle.std.proofs.lemmas.List.{length_push}
 use Rattle.block_layout.specs.declared.kind.Kind.{Kind}
+use Rattle.block_layout.specs.declared.kind.Shape.{Shape}
 use Rattle.block_layout.specs.declared.place.Loc.{Loc}
+use Rattle.block_layout.specs.declared.place.LocalPtr.{LocalPtr}
 use Rattle.upc_values.specs.declared.scalar.Value.{Value}
 use Rattle.upc_values.specs.declared.action.Action.{Action}
 use Rattle.upc_values.specs.declared.action.Action.TheVariants as act
@@ -27,14 +29,14 @@ use Rattle.stack_code.specs.Codes.{Codes, thread_of}
 use Rattle.stack_code.specs.layer.Steps.{Spot, Conf, At, Halt, nowhere, step, steps}
 use Rattle.stack_code.specs.layer.Outcomes.{told_by, HasEnded, CodeMeans, initial_state, beginning}
 use Rattle.stack_code.proofs.Ends.{steps_add, steps_ended}
-use Rattle.stack_code.specs.layer.Kept.{IsCode}
+use Rattle.stack_code.specs.layer.Kept.{IsCode, IsFitting, IsKnown}
 use Rattle.stack_code_laws.specs.layer.Asking.{IsDeclaredIn, NamesDeclared, IsThreadOf, AsksWell}
 use Rattle.stack_code_laws.specs.code.Wanted.{ReadsKind, IsReadAs}
 use Rattle.stack_code_laws.specs.code.Names.{NamesGiven}
 use Rattle.stack_code_laws.proofs.Given.{IsGround, ReadsWell, IsWellFormed, AnyRead}
 use Rattle.stack_code_laws.proofs.Heard.{all_heard}
 use Rattle.stack_code_laws.proofs.Histories.{names_given, formed_there, fits_there}
-use Rattle.stack_code_laws.proofs.KnownValues.{runner}
+use Rattle.stack_code_laws.proofs.KnownValues.{runner, IsInRange}
 use Rattle.stack_code_laws.proofs.Stores.{begun_filled}
 use Rattle.stack_code_laws.proofs.Doings.{GrownTo, Grown, Reaches, Misses}
 use Rattle.stack_code_laws.proofs.Doings.{grown_to}
@@ -123,7 +125,8 @@ module _ (o : Opening) (past : List Reply) (R : Kind → Loc → Type 0) where
   any_formed kind (act.Exit w) h = h
 
 module _ (o : Opening) (past : List Reply) (v : IsGround o) (me budget : ℕ) (one : me < o.threads)
-    (functions : List (List Instr)) (declared : Each (Each (IsDeclaredIn o)) functions) where
+    (functions : List (List Instr)) (declared : Each (Each (IsDeclaredIn o)) functions)
+    (fitting : Each (Each (IsFitting o.threads o.shapes)) functions) where
   abbrev τ : Thread
   τ = runner o me budget
 
@@ -133,7 +136,8 @@ module _ (o : Opening) (past : List Reply) (v : IsGround o) (me budget : ℕ) (o
   steps_grow (suc n) (At here given operands calls σ) =
       let c = step τ functions (At here given operands calls σ) in
       grown_to σ (state_of c) (state_of (steps τ functions n c))
-      (grown_state σ c ((step_asks o past v me budget one functions declared here given operands calls).grows σ))
+      (grown_state σ c
+      ((step_asks o past v me budget one functions declared fitting here given operands calls).grows σ))
       (steps_grow n c)
   steps_grow (suc n) (Halt e σ) = steps_grow n (Halt e σ)
 
@@ -163,7 +167,7 @@ module _ (o : Opening) (past : List Reply) (v : IsGround o) (me budget : ℕ) (o
     next_with x xs = res_of (step τ functions (with_more (x ∷ xs)))
 
     abbrev Reads : Kind → Loc → Type 0
-    Reads = ReadsHere o past v me budget one functions declared here operands
+    Reads = ReadsHere o past v me budget one functions declared fitting here operands
 
     read_here : (l : Loc) (s : Bool) (υ : State) (kind : Option Kind) → ReadsWell o past Reads l kind
         → step τ functions from ≡ Halt (Wants (act.Read l s)) υ → ReadsKind τ functions from l s kind
@@ -274,7 +278,7 @@ module _ (o : Opening) (past : List Reply) (v : IsGround o) (me budget : ℕ) (o
       → IsWanted p a (total σ) (At here given operands calls σ) (with_more here given operands calls σ)
   wanted_from zero here given operands calls σ k good p a w h = absurd h
   wanted_from (suc n) here given operands calls σ k good p a w h =
-      let s = step_asks o past v me budget one functions declared here given operands calls in
+      let s = step_asks o past v me budget one functions declared fitting here given operands calls in
       by_next (step τ functions (At here given operands calls σ)) refl
       (s.by k σ (record { store = good.store; replies = good.replies }))
       (s.grows σ) h (wanted_from n)
@@ -324,6 +328,8 @@ pub record IsRun (o : Opening) (codes : Codes) (thread budget : ℕ) (f : List R
   pub ground : IsGround o
   pub code : IsCode codes
   pub declared : NamesDeclared o codes
+  pub fitting : Each (Each (IsFitting o.threads o.shapes)) codes.functions
+  pub known : Each (λ x. IsInRange o x.1) codes.private_initials
   pub number : thread < codes.threads
   pub means : (replies : List Reply) → CodeMeans codes thread budget replies (f replies)
 
@@ -353,13 +359,13 @@ module _ (o : Opening) (codes : Codes) (thread budget : ℕ) (f : List Reply →
     abbrev origin : Spot
     origin = record { function = 0; place = 0 }
 
-    pub is_wanted : IsWanted o rs h.ground thread budget one codes.functions h.declared.pushed (f rs) a
+    pub is_wanted : IsWanted o rs h.ground thread budget one codes.functions h.declared.pushed h.fitting (f rs) a
         (total (initial_state codes rs)) (beginning codes rs) (λ more. beginning codes (rs ++ more))
     is_wanted =
-        wanted_from o rs h.ground thread budget one codes.functions h.declared.pushed (count_of rs) origin [] [] []
-        (initial_state codes rs) (tt, tt)
+        wanted_from o rs h.ground thread budget one codes.functions h.declared.pushed h.fitting (count_of rs) origin []
+        [] [] (initial_state codes rs) (tt, tt)
         (record {
-          store = begun_filled o rs codes.private_shapes codes.private_initials h.declared.initials
+          store = begun_filled o rs codes.private_shapes codes.private_initials h.declared.initials h.known
               h.code.private.fit;
           replies = all_heard o rs;
         })
@@ -376,7 +382,7 @@ module _ (o : Opening) (codes : Codes) (thread budget : ℕ) (f : List Reply →
         let first = beginning codes (rs ++ r ∷ []) in
         let n = count_of (rs ++ r ∷ []) in
         let end = steps τ codes.functions n first in
-        let grow = steps_grow o rs h.ground thread budget one codes.functions h.declared.pushed in
+        let grow = steps_grow o rs h.ground thread budget one codes.functions h.declared.pushed h.fitting in
         let acts = ended_actions end (f (rs ++ r ∷ [])) (ended (rs ++ r ∷ [])) in
         let further = steps τ codes.functions n (steps τ codes.functions k.0 first) in
         let swap : k.0 + n ≡ n + k.0 = omega arith in
@@ -415,7 +421,7 @@ module _ (o : Opening) (codes : Codes) (thread budget : ℕ) (f : List Reply →
 
 -- What an opening has of the ground.
 ground_of : (o : Opening) → IsOpening o → IsGround o
-ground_of o v = record { least = v.least; shapes = v.shapes; sharable = v.sharable }
+ground_of o v = record { least = v.least; most = v.most; shapes = v.shapes; sharable = v.sharable }
 
 run_of : (o : Opening) (codes : Codes) (thread budget : ℕ) (f : List Reply → Outcome)
     → IsThreadOf o codes thread budget f → IsRun o codes thread budget f
@@ -423,6 +429,13 @@ run_of o codes thread budget f h = record {
   ground = ground_of o h.opening;
   code = h.code;
   declared = h.declared;
+  fitting = subst (λ (n : ℕ). Each (Each (IsFitting n o.shapes)) codes.functions) h.declared.threads
+      (subst (λ (ss : List Shape). Each (Each (IsFitting codes.threads ss)) codes.functions) h.declared.shapes
+      h.code.fitting);
+  known = subst (λ (n : ℕ). Each (λ (x : LocalPtr × Value). IsKnown n o.shapes x.1) codes.private_initials)
+      h.declared.threads
+      (subst (λ (ss : List Shape). Each (λ (x : LocalPtr × Value). IsKnown codes.threads ss x.1) codes.private_initials)
+      h.declared.shapes h.code.known);
   number = h.number;
   means = h.means;
 }
@@ -435,7 +448,8 @@ begins_empty o codes thread budget f t =
     let first = beginning codes [] in
     let n = count_of o codes thread budget f h [] in
     let grow =
-    steps_grow o [] h.ground thread budget (one o codes thread budget f h) codes.functions h.declared.pushed n first in
+    steps_grow o [] h.ground thread budget (one o codes thread budget f h) codes.functions h.declared.pushed
+    h.fitting n first in
     let end = steps (runner o thread budget) codes.functions n first in
     let acts = ended_actions end (f []) (ended o codes thread budget f h []) in
     let all = grow.1 in
@@ -449,7 +463,7 @@ module _ (o : Opening) (codes : Codes) (thread budget : ℕ) (f : List Reply →
   run = run_of o codes thread budget f t
 
   abbrev wish : IsWanted o rs run.ground thread budget (one o codes thread budget f run) codes.functions
-      run.declared.pushed (f rs) a (total (initial_state codes rs)) (beginning codes rs)
+      run.declared.pushed run.fitting (f rs) a (total (initial_state codes rs)) (beginning codes rs)
       (λ more. beginning codes (rs ++ more))
   wish = is_wanted o codes thread budget f run rs a w
 

@@ -1,16 +1,18 @@
 -- The calls of the library ask well where what they are given is known, and of their parameters' types.
-use Rattle.std.proofs.Common.{◌≡◌, ℕ, ◌*◌, ◌<◌, ◌==◌, ℤ, pos, Bool, true, false, not, ◌&&◌, ◌||◌, cond}
+use Rattle.std.proofs.Common.{arith, ◌^◌, ◌≡◌, ℕ, ◌*◌, ◌<◌, ◌==◌, ℤ, pos, Bool, true, false, not, ◌&&◌, ◌||◌, cond}
 use Rattle.std.proofs.Common.{List, [], ◌∷◌, Option, Some, None, is_some, refl, sym, subst, lt-ltb}
 use Rattle.std.proofs.Common.{if◌then◌else◌}
 use Rattle.std.proofs.lemmas.Bool.{and_parts, and_from, false≢true}
-use Rattle.std.specs.Prelude.{nat_le, unsigned_abs, negsuc, slice_get}
+use Rattle.std.specs.Prelude.{nat_le, unsigned_abs, negsuc, ◌+ℤ◌, slice_get}
 use Rattle.block_layout.specs.declared.kind.Shape.{Shape}
 use Rattle.block_layout.specs.declared.run_error.TheConstants.{LIBRARY_ARGS, NULL_ACCESS, CELL_TYPE}
+use Rattle.block_layout.specs.Pieces.{piece_of}
 use Rattle.block_layout.specs.Pointers.{null, is_null}
 use Rattle.block_layout.specs.declared.kind.Kind.{Kind}
 use Rattle.block_layout.specs.declared.place.Loc.{Loc}
 use Rattle.block_layout.specs.declared.kind.Kind.TheVariants as kind
 use Rattle.integers.specs.Integers.{converted}
+use Rattle.integers.specs.Operators.{truth}
 use Rattle.upc_values.specs.declared.scalar.Scalar.{Scalar}
 use Rattle.upc_values.specs.declared.scalar.Scalar.TheVariants as scalar
 use Rattle.upc_values.specs.declared.scalar.Value.{Value}
@@ -20,6 +22,7 @@ use Rattle.upc_values.specs.declared.action.Action.TheVariants as act
 use Rattle.upc_values.specs.declared.action.Reply.{Reply}
 use Rattle.upc_values.specs.declared.action.Reply.TheVariants as reply
 use Rattle.upc_values.specs.declared.library.ElementKind.{ElementKind}
+use Rattle.upc_values.specs.declared.library.ElementKind.TheVariants as element
 use Rattle.upc_values.specs.declared.library.LibraryCall.{LibraryCall}
 use Rattle.upc_values.specs.declared.library.LibraryCall.TheVariants as c
 use Rattle.upc_values.specs.Lists.{Each}
@@ -35,6 +38,7 @@ use Rattle.thread_steps.specs.Library.{is_call, is_formed}
 use Rattle.stack_code_laws.specs.code.Names.{is_lock_given}
 use Rattle.stack_code_laws.proofs.Given.{IsGround, is_known, may_call, IsWellFormed}
 use Rattle.stack_code_laws.proofs.KnownValues.{Known}
+use Rattle.stack_code_laws.proofs.Numbers.{number_size, kind_number, converted_number}
 use Rattle.stack_code_laws.proofs.Doings.{Nothing}
 use Rattle.stack_code_laws.proofs.Primitives as p
 use Rattle.stack_code_laws.proofs.MemoryCalls as m
@@ -86,7 +90,7 @@ module _ (o : Opening) (past : List Reply) (v : IsGround o) (R : Kind → Loc �
   given_goes : (r : Reply) → p.IsGiven o past v R me budget r → Goes (l.given_by r)
   given_goes reply.Done h = refl
   given_goes (reply.Value w) h = h
-  given_goes (reply.Flag b) h = refl
+  given_goes (reply.Flag b) h = converted_number kind.Int (truth b)
   given_goes (reply.Refused code) h = tt
 
   asks_goes : (a : Action) → IsWellFormed o past R None a → Goes (l.asks a)
@@ -95,45 +99,53 @@ module _ (o : Opening) (past : List Reply) (v : IsGround o) (R : Kind → Loc �
   -- ---- calls that ask for nothing (UPC 7.2.3)
 
   thread_of_goes : (shape : ℕ) (args : List Value) → CallGoes c.ThreadOf shape args
-  thread_of_goes shape (value.Scalar (scalar.Shared q) ∷ []) private = refl
+  thread_of_goes shape (value.Scalar (scalar.Shared q) ∷ []) private = converted_number kind.ULong (pos q.thread)
   thread_of_goes shape args private = refl
 
   phase_of_goes : (shape : ℕ) (args : List Value) → CallGoes c.PhaseOf shape args
-  phase_of_goes shape (value.Scalar (scalar.Shared q) ∷ []) private = refl
+  phase_of_goes shape (value.Scalar (scalar.Shared q) ∷ []) private = converted_number kind.ULong (pos q.phase)
   phase_of_goes shape args private = refl
 
   address_goes : (shape : ℕ) (args : List Value) → CallGoes c.AddressField shape args
-  address_goes shape (value.Scalar (scalar.Shared q) ∷ []) private = refl
+  address_goes shape (value.Scalar (scalar.Shared q) ∷ []) private =
+      converted_number kind.ULong (pos q.object.base +ℤ q.offset)
   address_goes shape args private = refl
 
   affinity_goes : (shape : ℕ) (args : List Value) → CallGoes c.AffinitySize shape args
   affinity_goes shape (value.Scalar (scalar.Int n) ∷ value.Scalar (scalar.Int b) ∷ value.Scalar (scalar.Int t) ∷ [])
       private =
       unless_goes (nat_le o.threads (unsigned_abs t) || (is_large (unsigned_abs n) || is_large (unsigned_abs b)))
-      LIBRARY_ARGS _ (λ e. refl)
+      LIBRARY_ARGS _ (λ e.
+      converted_number kind.ULong
+      (pos (piece_of (l.laid_out (unsigned_abs n) (unsigned_abs b)) (unsigned_abs t) o.threads)))
   affinity_goes shape args private = refl
 
   -- ---- allocations (UPC 7.2.2)
 
   allocation_goes : (home : Option ℕ) (shape n b : ℕ) (private : ℕ → Option Shape) → is_home o.threads home ≡ true
-      → Goes (l.allocation o.threads o.shapes me private home shape n b)
-  allocation_goes home shape n b private at_home =
+      → n < 2 ^ 64 → b < 2 ^ 64 → Goes (l.allocation o.threads o.shapes me private home shape n b)
+  allocation_goes home shape n b private at_home size block =
       let go = l.asks (act.Alloc n b home shape) in
       let whole = is_whole (slice_get o.shapes shape) b in
       either_goes (n * b == 0) (Gives (scalar.Shared null)) _ refl (λ some.
       unless_goes (not (n * b == 0) && not whole) CELL_TYPE go (λ e.
-      asks_goes (act.Alloc n b home shape)
-      (and_from (not (n * b == 0) && whole) (is_home o.threads home) (whole_by (n * b == 0) whole some e) at_home)))
+      asks_goes (act.Alloc n b home shape) (
+        and_from (not (n * b == 0) && whole) (is_home o.threads home) (whole_by (n * b == 0) whole some e) at_home,
+        size,
+        block,
+      )))
 
-  global_alloc_goes : (shape : ℕ) (args : List Value) → CallGoes c.GlobalAlloc shape args
-  global_alloc_goes shape (value.Scalar (scalar.Int n) ∷ value.Scalar (scalar.Int b) ∷ []) private =
-      allocation_goes None shape (unsigned_abs n) (unsigned_abs b) private refl
-  global_alloc_goes shape args private = refl
+  global_alloc_goes : (shape : ℕ) (args : List Value) → AreKnown args → CallGoes c.GlobalAlloc shape args
+  global_alloc_goes shape (value.Scalar (scalar.Int n) ∷ value.Scalar (scalar.Int b) ∷ []) h private =
+      allocation_goes None shape (unsigned_abs n) (unsigned_abs b) private refl (number_size n h.0)
+      (number_size b h.1.0)
+  global_alloc_goes shape args h private = refl
 
-  alloc_goes : (shape : ℕ) (args : List Value) → CallGoes c.Alloc shape args
-  alloc_goes shape (value.Scalar (scalar.Int b) ∷ []) private =
-      allocation_goes (Some me) shape 1 (unsigned_abs b) private (lt-ltb me o.threads one)
-  alloc_goes shape args private = refl
+  alloc_goes : (shape : ℕ) (args : List Value) → AreKnown args → CallGoes c.Alloc shape args
+  alloc_goes shape (value.Scalar (scalar.Int b) ∷ []) h private =
+      allocation_goes (Some me) shape 1 (unsigned_abs b) private (lt-ltb me o.threads one) (omega arith)
+      (number_size b h.0)
+  alloc_goes shape args h private = refl
 
   -- All threads may meet for these sizes, which are a size_t each.
   may_meet : (n b s : ℕ) → (is_size (pos n) && (is_size (pos b) && is_size (pos s))) ≡ true
@@ -161,7 +173,13 @@ module _ (o : Opening) (past : List Reply) (v : IsGround o) (R : Kind → Loc �
         may_meet size block shape
             (and_from (is_size (pos size)) (is_size (pos block) && is_size (pos shape)) (size_of n all.0)
             (and_from (is_size (pos block)) (is_size (pos shape)) (size_of b rest.0) rest.1)) formed.1 e,
-        (refl, (refl, (refl, tt))),
+        (
+          kind_number kind.ULong (pos size) (size_of n all.0),
+          (
+            kind_number kind.ULong (pos block) (size_of b rest.0),
+            (kind_number kind.ULong (pos shape) rest.1, tt),
+          ),
+        ),
       ))
   all_alloc_goes shape args h private = refl
 
@@ -255,9 +273,19 @@ module _ (o : Opening) (past : List Reply) (v : IsGround o) (R : Kind → Loc �
   scalars_known (value.Scalar w ∷ args) h = (h.0, scalars_known args h.1)
   scalars_known (value.Local q ∷ args) h = scalars_known args h.1
 
+  element_known_number : (k : ElementKind) → is_known o past (scalar.Int (pos (l.element_number k))) ≡ true
+  element_known_number element.Char = refl
+  element_known_number element.UnsignedChar = refl
+  element_known_number element.Short = refl
+  element_known_number element.UnsignedShort = refl
+  element_known_number element.Int = refl
+  element_known_number element.UnsignedInt = refl
+  element_known_number element.Long = refl
+  element_known_number element.UnsignedLong = refl
+
   element_known : (k : ElementKind) (args : List Value) → AreKnown args → AreKnown (l.with_element k args)
   element_known k (dst ∷ src ∷ op ∷ n ∷ block ∷ function ∷ f ∷ []) h =
-      (h.0, (h.1.0, (h.1.1.0, (h.1.1.1.0, (h.1.1.1.1.0, (refl, h.1.1.1.1.1.1))))))
+      (h.0, (h.1.0, (h.1.1.0, (h.1.1.1.0, (h.1.1.1.1.0, (element_known_number k, h.1.1.1.1.1.1))))))
   element_known k args h = h
 
   together_goes : (n : ℕ) (args : List Value) → (n == 1) ≡ false → AreKnown args
@@ -277,9 +305,9 @@ module _ (o : Opening) (past : List Reply) (v : IsGround o) (R : Kind → Loc �
   call_goes c.AddressField shape args h k = address_goes shape args
   call_goes c.AffinitySize shape args h k = affinity_goes shape args
   call_goes c.GlobalExit shape args h k = λ private. refl
-  call_goes c.GlobalAlloc shape args h k = global_alloc_goes shape args
+  call_goes c.GlobalAlloc shape args h k = global_alloc_goes shape args k
   call_goes c.AllAlloc shape args h k = all_alloc_goes shape args h
-  call_goes c.Alloc shape args h k = alloc_goes shape args
+  call_goes c.Alloc shape args h k = alloc_goes shape args k
   call_goes c.Free shape args h k = free_goes shape args k
   call_goes c.AllFree shape args h k = all_free_goes shape args k
   call_goes c.GlobalLockAlloc shape args h k = lock_alloc_goes shape args

@@ -43,6 +43,7 @@ use Rattle.thread_steps.specs.Library.{is_call}
 use Rattle.stack_code_laws.specs.code.Names.{objects_given}
 use Rattle.stack_code_laws.proofs.Given.{IsGround, names, knows, is_known, may_call, IsCellThere, IsWellFormed}
 use Rattle.stack_code_laws.proofs.KnownValues.{pointer_names}
+use Rattle.stack_code_laws.proofs.Numbers.{kind_number}
 use Rattle.block_layout.proofs.Found.{kind_is}
 use Rattle.private_store.proofs.Places.{some_bytes}
 use Rattle.stack_code_laws.proofs.SharedCells.{cell_behind, not_false}
@@ -277,7 +278,7 @@ module _ (o : Opening) (past : List Reply) (v : IsGround o) (R : Kind → Loc �
       → Goes Nothing (x.number_put o.threads o.shapes me q n)
   put_goes k q n i h e =
       does_goes (act.Write false (location q) (scalar.Int n))
-      (k, h, and_from (is_integer k) (in_kind k n) i e, refl)
+      (k, h, and_from (is_integer k) (in_kind k n) i e, kind_number k n e)
 
   back_goes : (k : Kind) (r : Result ℤ ℕ) → Goes (IsOf k) (x.outcome o.threads o.shapes me (back_to k r))
   back_goes k (Ok n) = converted_in k n

@@ -1,6 +1,7 @@
 -- What may be asked for by the names that replies gave.
-use Rattle.std.proofs.Common.{◌≡◌, ℕ, ◌<◌, ◌*◌, ◌==◌, nat_lt, ℤ, Bool, true, false, ◌&&◌, ◌||◌, List, Option, Some}
-use Rattle.std.proofs.Common.{None}
+use Rattle.std.proofs.Common.{◌≡◌, ℕ, ◌<◌, ◌≤◌, ◌*◌, ◌^◌, ◌==◌, nat_lt, ℤ, Bool, true, false, ◌&&◌, ◌||◌, List, Option}
+use Rattle.std.proofs.Common.{Some, None, int_le}
+use Rattle.std.specs.Prelude.{int_lt, pos, neg_ℤ}
 use Rattle.std.proofs.Common.{is_some, slice_get}
 use Rattle.std.specs.List.{list_any}
 use Rattle.block_layout.specs.declared.kind.Kind.{Kind}
@@ -31,6 +32,7 @@ use Rattle.stack_code_laws.specs.code.Wanted.{IsCellAmong}
 -- What is needed of what a thread of code begins with: some threads, and shapes of shared elements.
 pub record IsGround (o : Opening) : Type 0 where
   pub least : 0 < o.threads
+  pub most : o.threads ≤ 32
   pub shapes : Each IsShape o.shapes
   pub sharable : Each IsSharable o.shapes
 
@@ -43,16 +45,22 @@ names o past object thread offset =
 abbrev pub knows : Opening → List Reply → SharedPtr → Bool
 knows o past p = is_named o.threads (objects_given o.declared past) p
 
--- A scalar is known: a pointer is null or names a given object, and a lock is null or given.
+-- A number that some integer kind has (C99 6.2.5).
+abbrev pub is_number : ℤ → Bool
+is_number v = int_le (neg_ℤ (pos (2 ^ 63))) v && int_lt v (pos (2 ^ 64))
+
+-- A scalar is known: it is a number that some kind has, a pointer that is null or names a given object, or a lock that
+-- is null or given.
 abbrev pub is_known : Opening → List Reply → Scalar → Bool
-is_known o past (Int v) = true
+is_known o past (Int v) = is_number v
 is_known o past (Shared p) = knows o past p
 is_known o past (Lock l) = (l == 0) || is_lock_given past l
 
 abbrev pub IsKnownValue : Opening → List Reply → Value → Type 0
 IsKnownValue o past (value.Scalar v) = is_known o past v ≡ true
 IsKnownValue o past (value.Local (local.Shared object thread offset)) = names o past object thread offset ≡ true
-IsKnownValue o past (value.Local p) = Unit {0}
+IsKnownValue o past (value.Local (local.Private object offset)) = in_range offset ≡ true
+IsKnownValue o past (value.Local local.Null) = Unit {0}
 
 abbrev pub gives_known : Opening → List Reply → Reply → Bool
 gives_known o past (reply.Value v) = is_known o past v
@@ -97,7 +105,8 @@ IsWellFormed o past R kind (act.Lock l) = is_lock_given past l ≡ true
 IsWellFormed o past R kind (act.Attempt l) = is_lock_given past l ≡ true
 IsWellFormed o past R kind (act.Unlock l) = is_lock_given past l ≡ true
 IsWellFormed o past R kind (act.LockFree l) = is_lock_given past l ≡ true
-IsWellFormed o past R kind (act.Alloc n b h s) = (may_alloc o n b s && is_home o.threads h) ≡ true
+IsWellFormed o past R kind (act.Alloc n b h s) =
+    ((may_alloc o n b s && is_home o.threads h) ≡ true) × (n < 2 ^ 64) × (b < 2 ^ 64)
 IsWellFormed o past R kind (act.Free p) = knows o past p ≡ true
 IsWellFormed o past R kind (act.Meet c args) =
     (may_call o past (call_of c args) ≡ true) × Each (λ v. is_known o past v ≡ true) args

@@ -1,6 +1,6 @@
 -- What the replies of a thread name was given, and so a reply that fits its action gives what is known.
 use Rattle.std.proofs.Common.{◌≡◌, ℕ, ◌==◌, nat_lt, Bool, true, false, ◌&&◌, ◌||◌, cond, List, [], ◌∷◌, Option}
-use Rattle.std.proofs.Common.{Some, None, is_some, slice_get, refl, sym, ◌∙◌, subst}
+use Rattle.std.proofs.Common.{ℤ, Some, None, is_some, slice_get, refl, sym, ◌∙◌, subst}
 use Rattle.std.specs.Prelude.{not, nat_le}
 use Rattle.std.specs.List.{list_any, filter_map, cons_option}
 use Rattle.std.proofs.lemmas.Bool.{and_parts, and_from, or_left, or_right, false≢true, eq-eqb}
@@ -16,13 +16,15 @@ use Rattle.upc_values.specs.declared.action.Action.{Action}
 use Rattle.upc_values.specs.declared.action.Action.TheVariants as act
 use Rattle.upc_values.specs.declared.action.Reply.{Reply}
 use Rattle.upc_values.specs.declared.action.Reply.TheVariants as reply
-use Rattle.upc_values.specs.Shapes.{fits_cell}
+use Rattle.integers.specs.Integers.{in_kind}
+use Rattle.upc_values.specs.Shapes.{is_integer, fits_cell}
 use Rattle.upc_values.specs.Calls.{Call, Allocates, Makes_lock, Frees, Frees_lock, Copies, Permutes, Reduces}
 use Rattle.upc_values.specs.Calls.{Reduces_prefixes, Other, call_of}
 use Rattle.upc_values.specs.Openings.{Opening}
 use Rattle.upc_values.specs.Formed.{fits, fits_call, is_pointer}
 use Rattle.stack_code_laws.specs.code.Names.{object_in, lock_in, objects_given, is_lock_given}
-use Rattle.stack_code_laws.proofs.Given.{names, knows, gives_known, IsHeard, AreHeard}
+use Rattle.stack_code_laws.proofs.Given.{is_number, names, knows, gives_known, IsHeard, AreHeard}
+use Rattle.stack_code_laws.proofs.Numbers.{kind_number}
 
 any_cons : {X : Type 0} (test : X → Bool) (m : Option X) (xs : List X) → list_any test xs ≡ true
     → list_any test (cons_option m xs) ≡ true
@@ -124,6 +126,42 @@ module _ (o : Opening) (past : List Reply) where
   shared_known kind (act.Print x) p h e = absurd (false≢true e)
   shared_known kind (act.Exit w) p h e = absurd (false≢true e)
 
+  -- No action but a read is answered by a number.
+  call_number : (c : Call) (n : ℤ) → fits_call o.threads o.shapes c (reply.Value (scalar.Int n)) ≡ true
+      → is_number n ≡ true
+  call_number (Allocates m b s) n e = absurd (false≢true e)
+  call_number Makes_lock n e = absurd (false≢true e)
+  call_number (Frees q) n e = absurd (false≢true e)
+  call_number (Frees_lock l) n e = absurd (false≢true e)
+  call_number (Copies w dst src m f) n e = absurd (false≢true e)
+  call_number (Permutes dst src perm m f) n e = absurd (false≢true e)
+  call_number (Reduces dst src op m b k f) n e = absurd (false≢true e)
+  call_number (Reduces_prefixes dst src op m b k f) n e = absurd (false≢true e)
+  call_number Other n e = absurd (false≢true e)
+
+  cell_number : (kind : Option Kind) (n : ℤ) → fits_cell (scalar.Int n) kind ≡ true → is_number n ≡ true
+  cell_number (Some k) n e = kind_number k n (and_parts (is_integer k) (in_kind k n) e).1
+  cell_number None n e = absurd (false≢true e)
+
+  number_known : (kind : Option Kind) (a : Action) (n : ℤ)
+      → fits o.threads o.shapes kind a (reply.Value (scalar.Int n)) ≡ true → is_number n ≡ true
+  number_known kind (act.Read l s) n e = cell_number kind n e
+  number_known kind (act.Write s l v) n e = absurd (false≢true e)
+  number_known kind (act.Lock l) n e = absurd (false≢true e)
+  number_known kind (act.Attempt l) n e = absurd (false≢true e)
+  number_known kind (act.Unlock l) n e = absurd (false≢true e)
+  number_known kind (act.LockFree l) n e = absurd (false≢true e)
+  number_known kind (act.Free q) n e = absurd (false≢true e)
+  number_known kind (act.Meet c args) n e = call_number (call_of c args) n e
+  number_known kind act.Fence n e = absurd (false≢true e)
+  number_known kind act.Beat n e = absurd (false≢true e)
+  number_known kind (act.Notify m) n e = absurd (false≢true e)
+  number_known kind (act.Wait m) n e = absurd (false≢true e)
+  number_known kind act.LockMake n e = absurd (false≢true e)
+  number_known kind (act.Alloc m b home shape) n e = absurd (false≢true e)
+  number_known kind (act.Print x) n e = absurd (false≢true e)
+  number_known kind (act.Exit w) n e = absurd (false≢true e)
+
   lock_known : (l : ℕ) → IsHeard o past (reply.Value (scalar.Lock l)) → ((l == 0) || is_lock_given past l) ≡ true
   lock_known l h = by_null (l == 0) refl
     where
@@ -137,7 +175,7 @@ module _ (o : Opening) (past : List Reply) where
       → fits o.threads o.shapes kind a r ≡ true → gives_known o past r ≡ true
   answer_known kind a (reply.Value (scalar.Shared p)) h e = shared_known kind a p h e
   answer_known kind a (reply.Value (scalar.Lock l)) h e = lock_known l h
-  answer_known kind a (reply.Value (scalar.Int v)) h e = refl
+  answer_known kind a (reply.Value (scalar.Int v)) h e = number_known kind a v e
   answer_known kind a reply.Done h e = refl
   answer_known kind a (reply.Flag b) h e = refl
   answer_known kind a (reply.Refused code) h e = refl

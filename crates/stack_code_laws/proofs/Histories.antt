@@ -266,7 +266,7 @@ module _ (o : Opening) (es : List Entry) where
       formed_there kind (act.Notify m) h = refl
       formed_there kind (act.Wait m) h = refl
       formed_there kind act.LockMake h = refl
-      formed_there kind (act.Alloc n b home shape) h = h
+      formed_there kind (act.Alloc n b home shape) h = h.0
       formed_there kind (act.Print x) h = refl
       formed_there kind (act.Exit w) h = refl
 

@@ -1,7 +1,8 @@
 -- Each instruction asks well where operands, arguments and private objects hold what is known.
 use Rattle.std.proofs.Common.{◌≡◌, ℕ, zero, suc, ◌+◌, ℤ, pos, ◌<◌, Bool, true, false, List, [], ◌∷◌, Option}
 use Rattle.std.proofs.Common.{Some, None}
-use Rattle.std.proofs.Common.{refl, sym, subst, take, drop, reverse}
+use Rattle.std.proofs.Common.{refl, sym, subst, take, drop, reverse, not, arith}
+use Rattle.std.proofs.lemmas.Int.{ints}
 use Rattle.std.specs.Prelude.{slice_get, IfSome}
 use Rattle.std.specs.Ordering.{int_eq}
 use Rattle.std.proofs.lemmas.List.{reverse-append}
@@ -46,7 +47,9 @@ use Rattle.stack_code.specs.layer.Steps.{placed}
 use Rattle.stack_code.specs.layer.Steps.{acted, jumped, kept_in, received, called, worked, act, step}
 use Rattle.stack_code_laws.specs.layer.Asking.{PushesKnown, NamesKnown, IsDeclaredIn}
 use Rattle.stack_code_laws.specs.code.Wanted.{LoadsKind, CallReads, WorkReads, InstructionReads}
+use Rattle.stack_code.specs.layer.Kept.{StackFits, ValuesFit, Fits, IsFitting}
 use Rattle.stack_code_laws.proofs.Given.{IsGround}
+use Rattle.stack_code_laws.proofs.Numbers.{number_is, truth_number}
 use Rattle.stack_code_laws.proofs.KnownValues.{runner, Known, first_value}
 use Rattle.stack_code_laws.proofs.Doings.{Grown, Nothing, Asks, then_asks, give_asks, skip_asks, exit_asks}
 use Rattle.stack_code_laws.proofs.Doings.{know_asks}
@@ -181,17 +184,19 @@ module _ (o : Opening) (past : List Reply) (v : IsGround o) (R : Kind → Loc �
 
   -- ---- groups of instructions
 
-  stacked_known : (w : StackWork) (operands : List Value) → PushesKnown o w → AllKnown o past operands
-      → AllKnown o past (stacked τ w operands)
-  stacked_known (stack.Push y) operands d h = (first_value o past y d, h)
-  stacked_known stack.Me operands d h = (refl, h)
-  stacked_known stack.Pop operands d h = rest_known o past operands h
-  stacked_known stack.Copy operands d h = (top_known o past operands h, h)
-  stacked_known stack.Over operands d h = (second_known o past operands h, h)
-  stacked_known stack.Swap operands d h =
+  stacked_known : (w : StackWork) (operands : List Value) → PushesKnown o w → StackFits o.threads o.shapes w
+      → AllKnown o past operands → AllKnown o past (stacked τ w operands)
+  stacked_known (stack.Push y) operands d f h = (first_value o past y d f, h)
+  stacked_known stack.Me operands d f h =
+      let most = v.most in
+      (number_is (pos me) (record { least = omega (arith, ints, one, most); most = omega (arith, ints, one, most) }), h)
+  stacked_known stack.Pop operands d f h = rest_known o past operands h
+  stacked_known stack.Copy operands d f h = (top_known o past operands h, h)
+  stacked_known stack.Over operands d f h = (second_known o past operands h, h)
+  stacked_known stack.Swap operands d f h =
       (second_known o past operands h, (top_known o past operands h, below_known o past operands h))
-  stacked_known stack.Truth operands d h = (refl, rest_known o past operands h)
-  stacked_known stack.Not operands d h = (refl, rest_known o past operands h)
+  stacked_known stack.Truth operands d f h = (truth_number (not (is_zero (top operands))), rest_known o past operands h)
+  stacked_known stack.Not operands d f h = (truth_number (is_zero (top operands)), rest_known o past operands h)
 
   closing : (P : Type 0) (n : ℕ) → Asks o past R (Unit {0}) P Nothing (close_blocks n)
   closing P zero = skip_asks o past R P
@@ -221,42 +226,44 @@ module _ (o : Opening) (past : List Reply) (v : IsGround o) (R : Kind → Loc �
     abbrev Before : Type 0
     Before = AllKnown o past given × AllKnown o past operands
 
-    made_asks : (w : ValueWork) (at : Place) (there : Spot)
+    made_asks : (w : ValueWork) (at : Place) (there : Spot) → ValuesFit w
         → Going o past R Before (made τ w at operands (λ vs. At there given vs calls))
-    made_asks (Operate operator left right) at there =
+    made_asks (Operate operator left right) at there f =
         gives_asks o past R Before there given (below_two operands) calls (λ h. h.0)
         (λ h. below_known o past operands h.1) _
         (p.operate_asks o past v R me budget Before at operator left right (second operands) (top operands))
-    made_asks (Apply operator kind) at there =
+    made_asks (Apply operator kind) at there f =
         gives_asks o past R Before there given (rest operands) calls (λ h. h.0) (λ h. rest_known o past operands h.1) _
         (p.apply_asks o past v R me budget Before at operator kind (top operands))
-    made_asks (Cast into) at there =
+    made_asks (Cast into) at there f =
         gives_asks o past R Before there given (rest operands) calls (λ h. h.0) (λ h. rest_known o past operands h.1) _
         (p.cast_asks o past v R me budget Before at into (top operands) (λ h. top_known o past operands h.1))
-    made_asks (Advance ε count) at there =
+    made_asks (Advance ε count) at there f =
         gives_asks o past R Before there given (below_two operands) calls (λ h. h.0)
         (λ h. below_known o past operands h.1) _
         (p.advance_asks o past v R me budget Before at ε (second operands) _ (λ h. second_known o past operands h.1))
-    made_asks (Retreat ε count) at there =
+    made_asks (Retreat ε count) at there f =
         gives_asks o past R Before there given (below_two operands) calls (λ h. h.0)
         (λ h. below_known o past operands h.1) _
         (p.advance_asks o past v R me budget Before at ε (second operands) _ (λ h. second_known o past operands h.1))
-    made_asks (InRow count) at there =
+    made_asks (InRow count) at there f =
         leaves_asks o past R Before there given (top operands ∷ below_two (rest operands)) calls (λ h. h.0)
         (λ h. (top_known o past operands h.1, below_known o past (rest operands) (rest_known o past operands h.1))) _
         (p.in_row_asks o past v R me budget Before at count (third operands) (number_of (second operands)))
-    made_asks (Member offset) at there =
+    made_asks (Member offset) at there f =
         gives_asks o past R Before there given (rest operands) calls (λ h. h.0) (λ h. rest_known o past operands h.1) _
         (p.member_asks o past v R me budget Before at offset (top operands) (λ h. top_known o past operands h.1))
-    made_asks (Difference ε) at there =
+    made_asks (Difference ε) at there f =
         gives_asks o past R Before there given (below_two operands) calls (λ h. h.0)
         (λ h. below_known o past operands h.1) _
-        (p.difference_asks o past v R me budget Before at ε (second operands) (top operands))
-    made_asks (Order operator ε) at there =
+        (p.difference_asks o past v R me budget Before at ε (second operands) (top operands) (λ h. f)
+        (λ h. second_known o past operands h.1) (λ h. top_known o past operands h.1))
+    made_asks (Order operator ε) at there f =
         gives_asks o past R Before there given (below_two operands) calls (λ h. h.0)
         (λ h. below_known o past operands h.1) _
-        (p.order_asks o past v R me budget Before at operator ε (second operands) (top operands))
-    made_asks Same at there =
+        (p.order_asks o past v R me budget Before at operator ε (second operands) (top operands) (λ h. f)
+        (λ h. second_known o past operands h.1) (λ h. top_known o past operands h.1))
+    made_asks Same at there f =
         gives_asks o past R Before there given (below_two operands) calls (λ h. h.0)
         (λ h. below_known o past operands h.1) _
         (p.same_asks o past v R me budget Before at (second operands) (top operands))
@@ -386,27 +393,29 @@ module _ (o : Opening) (past : List Reply) (v : IsGround o) (R : Kind → Loc �
         (λ h. rest_known o past operands h.0.1))
     called_asks Quit at here = quit_asks o past R (Before given operands calls) _
 
-    worked_asks : (w : Operation) (at : Place) (here : Spot) → NamesKnown o w
+    worked_asks : (w : Operation) (at : Place) (here : Spot) → NamesKnown o w → Fits o.threads o.shapes w
         → ((k : Kind) (l : Loc) → WorkReads τ w operands k l → R k l)
         → Going o past R (Before given operands calls) (worked τ w at here given operands calls)
-    worked_asks (work.Stack w) at here d r =
+    worked_asks (work.Stack w) at here d f r =
         at_asks o past R (Before given operands calls) (further 1 here) given (stacked τ w operands) calls (λ h. h.0)
-        (λ h. stacked_known w operands d h.1)
-    worked_asks (work.Value w) at here d r = made_asks given operands calls w at (further 1 here)
-    worked_asks (work.Object w) at here d r = placed_asks given operands calls w at (further 1 here) r
-    worked_asks (work.Way j) at here d r = jumped_asks given operands calls j here
-    worked_asks (work.Call w) at here d r = called_asks w at here
-    worked_asks (work.Thread w) at here d r = acted_asks given operands calls w at (further 1 here) r
+        (λ h. stacked_known w operands d f h.1)
+    worked_asks (work.Value w) at here d f r = made_asks given operands calls w at (further 1 here) f
+    worked_asks (work.Object w) at here d f r = placed_asks given operands calls w at (further 1 here) r
+    worked_asks (work.Way j) at here d f r = jumped_asks given operands calls j here
+    worked_asks (work.Call w) at here d f r = called_asks w at here
+    worked_asks (work.Thread w) at here d f r = acted_asks given operands calls w at (further 1 here) r
 
     act_asks : (i : Option Instr) (here : Spot) → IfSome i (IsDeclaredIn o)
+        → IfSome i (IsFitting o.threads o.shapes)
         → ((k : Kind) (l : Loc) → InstructionReads τ i operands k l → R k l)
         → Going o past R (Before given operands calls) (act τ i here given operands calls)
-    act_asks (Some i) here d r = worked_asks i.does i.place here d r
-    act_asks None here d r =
+    act_asks (Some i) here d f r = worked_asks i.does i.place here d f r
+    act_asks None here d f r =
         returns_asks (Before given operands calls) (number (pos 0)) operands calls (λ h. refl) (λ h. h.1)
 
 module _ (o : Opening) (past : List Reply) (v : IsGround o) (me budget : ℕ) (one : me < o.threads)
-    (functions : List (List Instr)) (declared : Each (Each (IsDeclaredIn o)) functions) where
+    (functions : List (List Instr)) (declared : Each (Each (IsDeclaredIn o)) functions)
+    (fitting : Each (Each (IsFitting o.threads o.shapes)) functions) where
   -- What is read by the instruction at a spot.
   abbrev pub ReadsHere : Spot → List Value → Kind → Loc → Type 0
   ReadsHere here operands k l =
@@ -419,4 +428,5 @@ module _ (o : Opening) (past : List Reply) (v : IsGround o) (me budget : ℕ) (o
   step_asks here given operands calls =
       act_asks o past v (ReadsHere here operands) me budget one given operands calls
       (slice_get (function_at functions here.function) here.place) here
-      (found (IsDeclaredIn o) functions here declared) (λ k l r. r)
+      (found (IsDeclaredIn o) functions here declared) (found (IsFitting o.threads o.shapes) functions here fitting)
+      (λ k l r. r)

@@ -13,7 +13,8 @@ use Rattle.block_layout.specs.declared.place.LocalPtr.{LocalPtr}
 use Rattle.block_layout.specs.declared.place.LocalPtr.TheVariants as local
 use Rattle.block_layout.specs.declared.run_error.TheConstants.{NULL_ACCESS, POINTER_RANGE, NOT_LOCAL}
 use Rattle.block_layout.specs.Floor.{floor_div}
-use Rattle.block_layout.specs.Places.{in_range}
+use Rattle.block_layout.specs.Places.{InRange, in_range}
+use Rattle.block_layout.proofs.Ranges.{in_range-false}
 use Rattle.block_layout.specs.Pointers.{null, is_null, same_object}
 use Rattle.block_layout.proofs.Numbers.{floor_mod-below}
 use Rattle.block_layout.proofs.Pointers.{same_pointer-true}
@@ -31,17 +32,23 @@ use Rattle.thread_steps.specs.declared.cast.CastTo.{CastTo}
 use Rattle.thread_steps.specs.declared.cast.CastTo.TheVariants as to
 use Rattle.thread_steps.specs.declared.elements.Elements.{Elements}
 use Rattle.thread_steps.specs.States.{Thread}
-use Rattle.thread_steps.specs.Values.{kept, kept_scalar, scalar_of}
+use Rattle.thread_steps.specs.Values.{kept, kept_scalar, scalar_of, number_of}
+use Rattle.stack_code.specs.layer.Kept.{IsKnown}
 use Rattle.thread_steps.specs.Pointers.{phased, shared_value, local_value, local_moved, advanced}
 use Rattle.thread_steps.specs.Pointers.{member_behind}
 use Rattle.thread_steps.specs.Operators.{cast_value}
 use Rattle.stack_code_laws.specs.code.Names.{object_in, objects_given}
 use Rattle.stack_code_laws.specs.layer.Asking as first
 use Rattle.stack_code_laws.proofs.Given.{names, knows, is_known, IsKnownValue}
+use Rattle.stack_code_laws.proofs.Numbers.{number_is, converted_number}
 
 -- A thread of a run from an opening.
 abbrev pub runner : Opening → (number budget : ℕ) → Thread
 runner o number budget = record { number = number; threads = o.threads; budget = budget; shapes = o.shapes }
+
+-- The value is one that code for such a thread may name.
+abbrev pub IsInRange : Opening → Value → Type 0
+IsInRange o v = IsKnown o.threads o.shapes v
 
 -- ---- what is known before any reply
 
@@ -72,17 +79,22 @@ module _ (o : Opening) (past : List Reply) where
   first_lock zero h = refl
   first_lock (suc l) h = let le = leb-true (suc l) 0 h in absurd (omega arith)
 
-  first_scalar : (v : Scalar) → first.IsKnownValue o [] (value.Scalar v) → is_known o past v ≡ true
-  first_scalar (Int v) h = refl
-  first_scalar (Shared p) h = first_pointer (is_null p) p refl h
-  first_scalar (Lock l) h = first_lock l h
+  first_scalar : (v : Scalar) → first.IsKnownValue o [] (value.Scalar v) → IsInRange o (value.Scalar v)
+      → is_known o past v ≡ true
+  first_scalar (Int v) h k = number_is v k
+  first_scalar (Shared p) h k = first_pointer (is_null p) p refl h
+  first_scalar (Lock l) h k = first_lock l h
 
-  -- A value that is known before any reply is known.
-  pub first_value : (v : Value) → first.IsKnownValue o [] v → IsKnownValue o past v
-  first_value (value.Scalar v) h = first_scalar v h
-  first_value (value.Local (local.Shared object thread offset)) h = first_names object thread offset h
-  first_value (value.Local (local.Private object offset)) h = tt
-  first_value (value.Local local.Null) h = tt
+  ranged : (z : ℤ) → InRange z → (b : Bool) → in_range z ≡ b → in_range z ≡ true
+  ranged z h true e = e
+  ranged z h false e = absurd (in_range-false z e h)
+
+  -- A value in range that is known before any reply is known.
+  pub first_value : (v : Value) → first.IsKnownValue o [] v → IsInRange o v → IsKnownValue o past v
+  first_value (value.Scalar v) h k = first_scalar v h k
+  first_value (value.Local (local.Shared object thread offset)) h k = first_names object thread offset h
+  first_value (value.Local (local.Private object offset)) h k = ranged offset k (in_range offset) refl
+  first_value (value.Local local.Null) h k = tt
 
 module _ (o : Opening) (past : List Reply) where
   abbrev pub Known : Value → Type 0
@@ -217,7 +229,7 @@ module _ (o : Opening) (past : List Reply) where
   local_known : (p : LocalPtr) (bytes : ℤ) → Known (value.Local p) → KnownIn (local_value (local_moved p bytes))
   local_known local.Null bytes h = tt
   local_known (local.Private object offset) bytes h =
-      ranged_known (in_range (offset +ℤ bytes)) POINTER_RANGE (local.Private object (offset +ℤ bytes)) (λ e. tt)
+      ranged_known (in_range (offset +ℤ bytes)) POINTER_RANGE (local.Private object (offset +ℤ bytes)) (λ e. e)
   local_known (local.Shared object thread offset) bytes h =
       ranged_known (in_range (offset +ℤ bytes)) POINTER_RANGE (local.Shared object thread (offset +ℤ bytes))
       (λ e. same_thread object thread offset (offset +ℤ bytes) h e)
@@ -251,7 +263,7 @@ module _ (o : Opening) (past : List Reply) where
     to_local false false c p f = tt
 
     pub cast_known : (into : CastTo) (v : Value) → Known v → KnownIn (cast_value (runner o number budget) into v)
-    cast_known (to.Integer k) v h = refl
+    cast_known (to.Integer k) v h = converted_number k (number_of v)
     cast_known to.Shared (value.Scalar (Shared p)) h = h
     cast_known to.Shared (value.Scalar (Int v)) h = refl
     cast_known to.Shared (value.Scalar (Lock v)) h = refl

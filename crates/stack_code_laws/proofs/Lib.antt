@@ -1,6 +1,8 @@
 pub mod Given
 pub mod Heard
+pub mod Numbers
 pub mod KnownValues
+pub mod Distances
 pub mod ObjectNumbers
 pub mod SharedCells
 pub mod Histories

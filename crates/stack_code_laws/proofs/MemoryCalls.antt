@@ -35,6 +35,7 @@ use Rattle.upc_values.proofs.Membership.{each-weaker}
 use Rattle.thread_steps.specs.Values.{scalar_of}
 use Rattle.stack_code_laws.proofs.Given.{IsGround, names, is_known, IsCellThere}
 use Rattle.stack_code_laws.proofs.KnownValues.{Known, pointer_names, scalar_known}
+use Rattle.stack_code_laws.proofs.Numbers.{converted_number}
 use Rattle.block_layout.proofs.Found.{kind_is}
 use Rattle.thread_steps.proofs.Conversions.{converted_in}
 use Rattle.stack_code_laws.proofs.SharedCells.{not_false, cell_behind, shared_kind}
@@ -259,5 +260,7 @@ module _ (o : Opening) (past : List Reply) (v : IsGround o) (R : Kind → Loc �
         let all = integers_all (cells n dst) (neither cut others h.1.1.1.0).1 in
         each_goes f (cells n dst)
         (each_both (IsThere dst) (λ c. is_integer c.1 ≡ true) (λ c. Goes Nothing (f c))
-        (λ c t i. written_goes dst c (filled b c.1) t refl (λ q. filled_fits b c.1 i)) (cells n dst)
+        (λ c t i.
+        written_goes dst c (filled b c.1) t (converted_number c.1 (pos (b * ((256 ^ kind_size c.1 - 1) / 255))))
+        (λ q. filled_fits b c.1 i)) (cells n dst)
         (cells_there n dst hd h.1.0) all)))

@@ -1,5 +1,5 @@
 -- Each step of a thread asks well where the values that it is given are known.
-use Rattle.std.proofs.Common.{◌≡◌, ℕ, suc, ◌%◌, ◌==◌, ℤ, pos, Bool, true, false, ◌&&◌, List}
+use Rattle.std.proofs.Common.{unsigned_abs, ◌≤◌, ◌^◌, ◌≡◌, ℕ, suc, ◌%◌, ◌==◌, ℤ, pos, Bool, true, false, ◌&&◌, List}
 use Rattle.std.proofs.Common.{length, map, Option, Some, None, is_some, inl, inr, refl}
 use Rattle.std.specs.Prelude.{Result, Ok, Err, int_le, int_lt, pred}
 use Rattle.std.proofs.lemmas.Bool.{and_parts, false≢true}
@@ -48,7 +48,12 @@ use Rattle.thread_steps.specs.Operators as o
 use Rattle.thread_steps.specs.Blocks as b
 use Rattle.thread_steps.specs.Library as l
 use Rattle.stack_code_laws.specs.code.Wanted.{ReadsCell}
-use Rattle.stack_code_laws.proofs.Given.{IsGround, knows, is_known, gives_known, IsCellThere, IsWellFormed}
+use Rattle.shared_pointers.specs.layer.Ranges.{IsTarget}
+use Rattle.thread_steps.proofs.Conversions.{converted_in}
+use Rattle.stack_code_laws.proofs.Given.{IsGround, is_number, knows, is_known, gives_known, IsCellThere, IsWellFormed}
+use Rattle.stack_code_laws.proofs.Numbers.{NumberIn, near_number, near_long, converted_number, truth_number}
+use Rattle.stack_code_laws.proofs.Numbers.{binary_number, unary_number}
+use Rattle.stack_code_laws.proofs.Distances.{NearIn, known_near}
 use Rattle.stack_code_laws.proofs.KnownValues.{runner, Known, KnownIn, kept_scalar_known, scalar_known}
 use Rattle.stack_code_laws.proofs.KnownValues.{names_pointer, advanced_known, member_known, cast_known}
 use Rattle.stack_code_laws.proofs.Stores as s
@@ -57,6 +62,18 @@ use Rattle.stack_code_laws.proofs.Doings.{Nothing, Holds, Asks, wider, then_asks
 use Rattle.stack_code_laws.proofs.Doings.{fault_asks, exit_asks, valued_asks, know_asks, change_asks, store_asks}
 use Rattle.stack_code_laws.proofs.Doings.{choose_asks, fault_if_asks, ask_asks}
 use Rattle.stack_code_laws.proofs.Doings as d
+
+number_holds : (r : Result ℤ ℕ) → NumberIn r → Holds (λ n. is_number n ≡ true) r
+number_holds (Ok n) h = h
+number_holds (Err code) h = tt
+
+near_holds : (r : Result ℤ ℕ) → NearIn r → Holds (λ n. unsigned_abs n ≤ 2 ^ 60) r
+near_holds (Ok n) h = h
+near_holds (Err code) h = tt
+
+near_numbers : (r : Result ℤ ℕ) → NearIn r → NumberIn r
+near_numbers (Ok n) h = near_number n h
+near_numbers (Err code) h = tt
 
 holds_any : {A : Type 0} (r : Result A ℕ) → Holds (λ v. Unit {0}) r
 holds_any (Ok v) = tt
@@ -170,7 +187,7 @@ module _ (op : Opening) (past : List Reply) (v : IsGround op) (R : Kind → Loc 
 
   answer_is : (k : Kind) (at : Loc) (strict : Bool) (r : Reply) → IsAnswer (Some k) (act.Read at strict) r
       → IsCellScalar k (value_in r)
-  answer_is k at strict (reply.Value (scalar.Int n)) h = record { known = refl; fits = h.fit }
+  answer_is k at strict (reply.Value (scalar.Int n)) h = record { known = h.given; fits = h.fit }
   answer_is k at strict (reply.Value (scalar.Lock n)) h = record { known = h.given; fits = h.fit }
   answer_is k at strict (reply.Value (scalar.Shared q)) h = record {
     known = h.given;
@@ -293,13 +310,13 @@ module _ (op : Opening) (past : List Reply) (v : IsGround op) (R : Kind → Loc 
     value_asks : (r : Result Value ℕ) → (P → KnownIn op past r) → Asks op past R Value P IsKnown (valued at r)
     value_asks r h = valued_asks op past R Value P IsKnown at r (λ q. known_holds r (h q))
 
-    -- What computes anything and makes a value of it.
-    then_value_asks : {A : Type 0} (r : Result A ℕ) (f : A → Value) → ((y : A) → IsKnown (f y))
-        → Asks op past R Value P IsKnown (valued at r >>= (λ y. give (f y)))
-    then_value_asks {A} r f h =
-        then_asks op past R A Value P (λ y. Unit {0}) IsKnown (valued at r) (λ y. give (f y))
-        (valued_asks op past R A P (λ y. Unit {0}) at r (λ q. holds_any r)) (λ y.
-        give_asks op past R Value (P × Unit {0}) IsKnown (f y) (λ q. h y))
+    -- What computes a number.
+    number_asks : (r : Result ℤ ℕ) → (P → NumberIn r)
+        → Asks op past R Value P IsKnown (valued at r >>= (λ n. give (number n)))
+    number_asks r h =
+        then_asks op past R ℤ Value P (λ n. is_number n ≡ true) IsKnown (valued at r) (λ n. give (number n))
+        (valued_asks op past R ℤ P (λ n. is_number n ≡ true) at r (λ q. number_holds r (h q))) (λ n.
+        give_asks op past R Value (P × (is_number n ≡ true)) IsKnown (number n) (λ q. q.1))
 
     pub advance_asks : (ε : Elements) (w : Value) (i : ℤ) → (P → IsKnown w)
         → Asks op past R Value P IsKnown (p.advance τ ε at w i)
@@ -313,25 +330,33 @@ module _ (op : Opening) (past : List Reply) (v : IsGround op) (R : Kind → Loc 
     member_asks offset w h =
         value_asks (p.member_behind τ offset w) (λ q. member_known op past me budget offset w (h q))
 
-    pub difference_asks : (ε : Elements) (w y : Value) → Asks op past R Value P IsKnown (p.difference τ ε at w y)
+    pub difference_asks : (ε : Elements) (w y : Value) → (P → IsTarget ε.block ε.size) → (P → IsKnown w)
+        → (P → IsKnown y) → Asks op past R Value P IsKnown (p.difference τ ε at w y)
     unfolding p.difference
-    difference_asks ε w y = then_value_asks (p.apart τ ε w y) number (λ n. refl)
+    difference_asks ε w y t h g =
+        number_asks (p.apart τ ε w y) (λ q. near_numbers (p.apart τ ε w y)
+        (known_near op past v me budget ε w y (t q) (h q) (g q)))
 
-    pub order_asks : (operator : BinOp) (ε : Elements) (w y : Value)
-        → Asks op past R Value P IsKnown (p.order τ operator ε at w y)
+    pub order_asks : (operator : BinOp) (ε : Elements) (w y : Value) → (P → IsTarget ε.block ε.size) → (P → IsKnown w)
+        → (P → IsKnown y) → Asks op past R Value P IsKnown (p.order τ operator ε at w y)
     unfolding p.order
-    order_asks operator ε w y =
-        then_asks op past R ℤ Value P (λ n. Unit {0}) IsKnown (valued at (p.apart τ ε w y)) _
-        (valued_asks op past R ℤ P (λ n. Unit {0}) at (p.apart τ ε w y) (λ q. holds_any (p.apart τ ε w y))) (λ n.
-        then_asks op past R ℤ Value (P × Unit {0}) (λ m. Unit {0}) IsKnown
+    order_asks operator ε w y t h g =
+        then_asks op past R ℤ Value P (λ n. unsigned_abs n ≤ 2 ^ 60) IsKnown (valued at (p.apart τ ε w y)) _
+        (valued_asks op past R ℤ P (λ n. unsigned_abs n ≤ 2 ^ 60) at (p.apart τ ε w y)
+        (λ q. near_holds (p.apart τ ε w y) (known_near op past v me budget ε w y (t q) (h q) (g q)))) (λ n.
+        then_asks op past R ℤ Value (P × (unsigned_abs n ≤ 2 ^ 60)) (λ m. is_number m ≡ true) IsKnown
         (valued at (binary_of operator kind.Long n (pos 0))) _
-        (valued_asks op past R ℤ (P × Unit {0}) (λ m. Unit {0}) at (binary_of operator kind.Long n (pos 0))
-        (λ q. holds_any (binary_of operator kind.Long n (pos 0)))) (λ m.
-        give_asks op past R Value ((P × Unit {0}) × Unit {0}) IsKnown (number m) (λ q. refl)))
+        (valued_asks op past R ℤ (P × (unsigned_abs n ≤ 2 ^ 60)) (λ m. is_number m ≡ true) at
+        (binary_of operator kind.Long n (pos 0))
+        (λ q. number_holds (binary_of operator kind.Long n (pos 0))
+        (binary_number operator kind.Long n (pos 0) (near_long n q.1)))) (λ m.
+        give_asks op past R Value ((P × (unsigned_abs n ≤ 2 ^ 60)) × (is_number m ≡ true)) IsKnown (number m)
+        (λ q. q.1)))
 
     pub same_asks : (w y : Value) → Asks op past R Value P IsKnown (p.same τ w y)
     unfolding p.same
-    same_asks w y = give_asks op past R Value P IsKnown (truth_value (p.same_value w y)) (λ q. refl)
+    same_asks w y =
+        give_asks op past R Value P IsKnown (truth_value (p.same_value w y)) (λ q. truth_number (p.same_value w y))
 
     pub in_row_asks : (count : ℕ) (w : Value) (i : ℤ) → Asks op past R (Unit {0}) P Nothing (p.in_row count at w i)
     in_row_asks count w i =
@@ -343,12 +368,15 @@ module _ (op : Opening) (past : List Reply) (v : IsGround op) (R : Kind → Loc 
         → Asks op past R Value P IsKnown (o.operate operator left right at w y)
     unfolding o.operate
     operate_asks operator left right w y =
-        then_value_asks (binary_of operator left (converted left (number_of w)) (converted right (number_of y))) number
-        (λ n. refl)
+        number_asks (binary_of operator left (converted left (number_of w)) (converted right (number_of y))) (λ q.
+        binary_number operator left (converted left (number_of w)) (converted right (number_of y))
+        (converted_in left (number_of w)))
 
     pub apply_asks : (operator : UnOp) (k : Kind) (w : Value) → Asks op past R Value P IsKnown (o.apply operator k at w)
     unfolding o.apply
-    apply_asks operator k w = then_value_asks (unary_of operator k (converted k (number_of w))) number (λ n. refl)
+    apply_asks operator k w =
+        number_asks (unary_of operator k (converted k (number_of w))) (λ q.
+        unary_number operator k (converted k (number_of w)) (converted_in k (number_of w)))
 
     pub cast_asks : (into : CastTo) (w : Value) → (P → IsKnown w) → Asks op past R Value P IsKnown (o.cast τ into at w)
     unfolding o.cast
@@ -356,7 +384,11 @@ module _ (op : Opening) (past : List Reply) (v : IsGround op) (R : Kind → Loc 
 
     pub mine_asks : (w : Value) → Asks op past R Value P IsKnown (b.mine τ at w)
     unfolding b.mine
-    mine_asks w = then_value_asks (b.has_turn τ w) truth_value (λ t. refl)
+    mine_asks w =
+        then_asks op past R Bool Value P (λ t. Unit {0}) IsKnown (valued at (b.has_turn τ w))
+        (λ t. give (truth_value t))
+        (valued_asks op past R Bool P (λ t. Unit {0}) at (b.has_turn τ w) (λ q. holds_any (b.has_turn τ w))) (λ t.
+        give_asks op past R Value (P × Unit {0}) IsKnown (truth_value t) (λ q. truth_number t))
 
   -- ---- blocks and calls
 
@@ -378,7 +410,7 @@ module _ (op : Opening) (past : List Reply) (v : IsGround op) (R : Kind → Loc 
   close_asks P = live_asks P left (λ live h. s.left_filled op past live h)
 
   place_known : (n : Option ℕ) → IsKnown (b.pointer_to n)
-  place_known (Some n) = tt
+  place_known (Some n) = refl
   place_known None = tt
 
   pub local_asks : (P : Type 0) (n : ℕ) → Asks op past R Value P IsKnown (b.local_object n)
@@ -494,4 +526,4 @@ module _ (op : Opening) (past : List Reply) (v : IsGround op) (R : Kind → Loc 
       then_asks op past R Reply Value P (IsAnswer None (act.Print text)) IsKnown (a.ask τ None (act.Print text)) _
       (ask_asks op past R me budget None (act.Print text) P (λ q. tt)) (λ r.
       give_asks op past R Value (P × IsAnswer None (act.Print text) r) IsKnown
-      (number (converted kind.Int (pos (length text)))) (λ q. refl))
+      (number (converted kind.Int (pos (length text)))) (λ q. converted_number kind.Int (pos (length text))))

@@ -1,17 +1,11 @@
 -- What a thread of code wants it wants rightly, whatever it was answered.
-use Rattle.std.proofs.Common.{◌≡◌, ◌≢◌, ℕ, ◌*◌, ◌<◌, ◌==◌, nat_lt, Bool, true, false, not, ◌&&◌, ◌||◌, cond, List, []}
-use Rattle.std.proofs.Common.{◌∷◌, Option, Some, None, is_some, slice_get, refl, sym, ◌∙◌, subst, arith}
+use Rattle.std.proofs.Common.{◌≡◌, ◌≢◌, ℕ, ◌*◌, ◌==◌, Bool, true, false, not, ◌||◌, cond, List, []}
+use Rattle.std.proofs.Common.{◌∷◌, Option, Some, None, is_some, slice_get, refl, ◌∙◌}
 use Rattle.std.specs.List.{list_any, filter_map, cons_option}
-use Rattle.std.proofs.lemmas.Bool.{and_parts, false≢true, eqb-true, eqb-false, ltb-true, not-true}
-use Rattle.std.proofs.lemmas.Int.{ints}
+use Rattle.std.proofs.lemmas.Bool.{and_parts, false≢true, eqb-true, eqb-false, not-true}
 use Rattle.block_layout.specs.declared.kind.Kind.{Kind}
 use Rattle.block_layout.specs.declared.place.Loc.{Loc}
 use Rattle.block_layout.specs.declared.place.ObjectRef.{ObjectRef}
-use Rattle.block_layout.specs.declared.place.SharedPtr.{SharedPtr}
-use Rattle.block_layout.specs.Places.{InRange, in_range}
-use Rattle.block_layout.specs.Pointers.{null, is_null, same_object}
-use Rattle.block_layout.proofs.Pointers.{same_pointer-true}
-use Rattle.block_layout.proofs.Ranges.{in_range-true}
 use Rattle.upc_values.specs.declared.scalar.Scalar.{Scalar}
 use Rattle.upc_values.specs.declared.scalar.Scalar.TheVariants as scalar
 use Rattle.upc_values.specs.declared.action.Action.{Action}
@@ -28,11 +22,11 @@ use Rattle.upc_values.specs.Outcomes.{Outcome}
 use Rattle.upc_values.proofs.Membership.{each-weaker}
 use Rattle.stack_code.specs.Codes.{Codes}
 use Rattle.stack_code_laws.specs.code.Names.{objects_given, is_lock_given, lock_in}
-use Rattle.stack_code_laws.specs.code.Wanted.{IsThreadNaming, IsPlaced, scalars_in, HasLock, IsAllocation, IsCallOf}
+use Rattle.stack_code_laws.specs.code.Wanted.{IsThreadNaming, IsPlaced, scalars_in, HasLock, IsCallOf}
 use Rattle.stack_code_laws.specs.code.Wanted.{HasRanges, IsCellRead, LeadsToCell, IsWantedRightly, AsksRightly}
-use Rattle.stack_code_laws.proofs.Given.{IsGround, knows, is_known, may_call, ReadsWell, IsWellFormed, AnyRead}
+use Rattle.stack_code_laws.proofs.Given.{IsGround, is_known, may_call, ReadsWell, IsWellFormed, AnyRead}
 use Rattle.stack_code_laws.proofs.Naming.{names_declared}
-use Rattle.stack_code_laws.proofs.KnownValues.{pointer_names}
+use Rattle.stack_code_laws.proofs.Distances.{pointer_placed}
 use Rattle.stack_code_laws.proofs.Histories.{of_either, names_given}
 use Rattle.stack_code_laws.proofs.Asking.{IsRun, is_wanted, heard_all, taken, missed}
 use Rattle.stack_code_laws.proofs.Turns.{takes_turns}
@@ -63,25 +57,9 @@ lock_some (r ∷ rs) l h = by_reply r h (lock_some rs l)
     by_reply (reply.Refused code) k next = next k
 
 module _ (o : Opening) (rs : List Reply) (v : IsGround o) where
-  -- A known pointer lies on a thread of the run, at an offset in range.
-  pointer_placed : (p : SharedPtr) → knows o rs p ≡ true → (p.thread < o.threads) × InRange p.offset
-  pointer_placed p h = by_null (is_null p) refl
-    where
-      by_null : (b : Bool) → is_null p ≡ b → (p.thread < o.threads) × InRange p.offset
-      by_null true e =
-          subst (λ (q : SharedPtr). (q.thread < o.threads) × InRange q.offset) (sym (same_pointer-true p null e))
-          (v.least, record { least = omega (arith, ints); most = omega (arith, ints) })
-      by_null false e =
-          let named = pointer_names o rs p h e in
-          let place =
-          (and_parts (list_any (same_object p.object) (objects_given o.declared rs))
-          (nat_lt p.thread o.threads && in_range p.offset) named).1 in
-          let both = and_parts (nat_lt p.thread o.threads) (in_range p.offset) place in
-          (ltb-true p.thread o.threads both.0, in_range-true p.offset both.1)
-
   scalar_placed : (w : Scalar) → is_known o rs w ≡ true → IsPlaced o.threads w
   scalar_placed (scalar.Int n) h = tt
-  scalar_placed (scalar.Shared p) h = pointer_placed p h
+  scalar_placed (scalar.Shared p) h = pointer_placed o rs v p h
   scalar_placed (scalar.Lock l) h = tt
 
   placed : (kind : Option Kind) (a : Action) → IsWellFormed o rs AnyRead kind a
@@ -92,7 +70,7 @@ module _ (o : Opening) (rs : List Reply) (v : IsGround o) where
   placed kind (act.Attempt l) h = tt
   placed kind (act.Unlock l) h = tt
   placed kind (act.LockFree l) h = tt
-  placed kind (act.Free p) h = (pointer_placed p h, tt)
+  placed kind (act.Free p) h = (pointer_placed o rs v p h, tt)
   placed kind (act.Meet c args) h =
       each-weaker (λ w. is_known o rs w ≡ true) (IsPlaced o.threads) scalar_placed args h.1
   placed kind act.Fence h = tt
@@ -124,10 +102,11 @@ module _ (o : Opening) (rs : List Reply) (v : IsGround o) where
 
   -- ---- numbers
 
-  allocated : (n b s : ℕ) → may_alloc o n b s ≡ true → IsAllocation o.shapes n b s
-  allocated n b s h =
+  made : (n b s : ℕ) → may_alloc o n b s ≡ true
+      → (n * b ≢ 0) × (is_whole (slice_get o.shapes s) b ≡ true)
+  made n b s h =
       let both = and_parts (not (n * b == 0)) (is_whole (slice_get o.shapes s) b) h in
-      record { some = eqb-false (n * b) 0 (not-true (n * b == 0) both.0); whole = both.1 }
+      (eqb-false (n * b) 0 (not-true (n * b == 0) both.0), both.1)
 
   called : (c : Call) → may_call o rs c ≡ true → IsCallOf o.shapes c
   called (Allocates n b s) h =
@@ -135,7 +114,7 @@ module _ (o : Opening) (rs : List Reply) (v : IsGround o) where
         both.0,
         λ some.
             of_either (is_whole (slice_get o.shapes s) b ≡ true) (n * b == 0) (may_alloc o n b s) both.1
-            (λ e. absurd (some (eqb-true (n * b) 0 e))) (λ m. (allocated n b s m).whole),
+            (λ e. absurd (some (eqb-true (n * b) 0 e))) (λ m. (made n b s m).1),
       )
   called Makes_lock h = tt
   called (Frees p) h = tt
@@ -161,8 +140,8 @@ module _ (o : Opening) (rs : List Reply) (v : IsGround o) where
   ranged kind (act.Wait m) h = tt
   ranged kind act.LockMake h = tt
   ranged kind (act.Alloc n b home shape) h =
-      let both = and_parts (may_alloc o n b shape) (is_home o.threads home) h in
-      (allocated n b shape both.0, both.1)
+      let both = and_parts (may_alloc o n b shape) (is_home o.threads home) h.0 in
+      (record { some = (made n b shape both.0).0; whole = (made n b shape both.0).1; count = h.1; size = h.2 }, both.1)
   ranged kind (act.Print x) h = tt
   ranged kind (act.Exit w) h = tt
 
@@ -203,10 +182,17 @@ module _ (named : List ObjectRef) (codes : Codes) (thread budget : ℕ) (f : Lis
     (t : IsThreadNaming named codes thread budget f) where
   run : IsRun (opening_of named codes) codes thread budget f
   run = record {
-    ground = record { least = t.code.threads.least; shapes = t.code.shapes; sharable = t.sharable };
+    ground = record {
+      least = t.code.threads.least;
+      most = t.code.threads.most;
+      shapes = t.code.shapes;
+      sharable = t.sharable;
+    };
     code = t.code;
     declared = names_declared (opening_of named codes) codes t.code
         (record { threads = refl; shapes = refl; names = t.names });
+    fitting = t.code.fitting;
+    known = t.code.known;
     number = t.number;
     means = t.means;
   }

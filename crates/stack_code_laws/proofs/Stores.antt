@@ -28,7 +28,7 @@ use Rattle.private_store.specs.Beginnings.{fits_cell, private_cell, if_stored, b
 use Rattle.block_layout.proofs.Found.{kind_is}
 use Rattle.thread_steps.proofs.Blanks.{blank_fits, kept_fits}
 use Rattle.stack_code_laws.specs.layer.Asking.{IsKnownValue}
-use Rattle.stack_code_laws.proofs.KnownValues.{Known, blank_value_known, kept_known, first_value}
+use Rattle.stack_code_laws.proofs.KnownValues.{IsInRange, Known, blank_value_known, kept_known, first_value}
 
 -- ---- what fits
 
@@ -223,16 +223,16 @@ module _ (o : Opening) (past : List Reply) where
   begun_by None x s g f h = h
 
   all_begun : (shapes : List Shape) (initials : List (LocalPtr × Value)) (s : Live)
-      → Each (λ x. IsKnownValue o [] x.1) initials
+      → Each (λ x. IsKnownValue o [] x.1) initials → Each (λ x. IsInRange o x.1) initials
       → Each (λ x. fits_cell x.1 (private_cell shapes x.0) ≡ true) initials → IsFilled s
       → IsFilled (fold (λ s x. begun_cell (private_cell shapes x.0) x s) s initials)
-  all_begun shapes [] s g f h = h
-  all_begun shapes (x ∷ initials) s g f h =
-      all_begun shapes initials (begun_cell (private_cell shapes x.0) x s) g.1 f.1
-      (begun_by (private_cell shapes x.0) x s (first_value o past x.1 g.0) f.0 h)
+  all_begun shapes [] s g k f h = h
+  all_begun shapes (x ∷ initials) s g k f h =
+      all_begun shapes initials (begun_cell (private_cell shapes x.0) x s) g.1 k.1 f.1
+      (begun_by (private_cell shapes x.0) x s (first_value o past x.1 g.0 k.0) f.0 h)
 
   -- What a thread begins with is known, and fits.
   pub begun_filled : (shapes : List Shape) (initials : List (LocalPtr × Value))
-      → Each (λ x. IsKnownValue o [] x.1) initials
+      → Each (λ x. IsKnownValue o [] x.1) initials → Each (λ x. IsInRange o x.1) initials
       → Each (λ x. fits_cell x.1 (private_cell shapes x.0) ≡ true) initials → IsFilled (begun shapes initials)
-  begun_filled shapes initials g f = all_begun shapes initials (blank shapes) g f (new_things 0 shapes)
+  begun_filled shapes initials g k f = all_begun shapes initials (blank shapes) g k f (new_things 0 shapes)

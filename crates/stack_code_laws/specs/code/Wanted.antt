@@ -1,6 +1,6 @@
 -- What a thread of code may want, whatever replies it was given, fitting or not.
-use Rattle.std.specs.Prelude.{ℕ, ◌≡◌, ◌≢◌, ◌<◌, ◌*◌, ◌⊎◌, Bool, true, false, List, [], ◌∷◌, ◌++◌, length, Option, Some}
-use Rattle.std.specs.Prelude.{None, is_some, slice_get}
+use Rattle.std.specs.Prelude.{ℕ, ◌≡◌, ◌≢◌, ◌<◌, ◌*◌, ◌^◌, ◌⊎◌, Bool, true, false, List, [], ◌∷◌, ◌++◌, length, Option}
+use Rattle.std.specs.Prelude.{Some, None, is_some, slice_get}
 use Rattle.std.specs.List.{list_any}
 use Rattle.block_layout.specs.declared.kind.Kind.{Kind}
 use Rattle.block_layout.specs.declared.kind.Shape.{Shape}
@@ -134,8 +134,10 @@ HasLock (act.Unlock l) = l ≢ 0
 HasLock (act.LockFree l) = l ≢ 0
 HasLock a = Unit {0}
 
--- An allocation of at least one byte is of whole elements of a shape of the program (UPC 7.2.2).
+-- An allocation has numbers of 64 bits, and at least one byte, in whole elements of a shape of the program (UPC 7.2.2).
 pub record IsAllocation (shapes : List Shape) (nblocks nbytes shape : ℕ) : Type 0 where
+  pub count : nblocks < 2 ^ 64
+  pub size : nbytes < 2 ^ 64
   pub some : nblocks * nbytes ≢ 0
   pub whole : is_whole (slice_get shapes shape) nbytes ≡ true
 
