@@ -22,8 +22,8 @@ use Rattle.upc_rounds.specs.declared.place.Place.{Place}
 use Rattle.upc_rounds.specs.layer.Course.{Grows}
 use Rattle.upc_rounds.specs.code.Runs.{IsAt, IsRunning, AreSame, HasOwnEnd, IsIdle}
 use Rattle.upc_rounds.specs.code.Places.{Moved}
-use Rattle.upc_rounds.specs.code.Teams.{worker_of, workers_of, seen_at, seen_among, Met, HaveMet, IsMember, IsCrew}
-use Rattle.upc_rounds.proofs.Prefixes.{prefix-self, prefix-then}
+use Rattle.upc_rounds.specs.code.Teams.{worker_of, workers_of, seen_at, seen_among, Met, AreMet, HaveMet, IsMember, IsCrew}
+use Rattle.upc_rounds.proofs.Prefixes.{prefix-self, prefix-then, prefix-both}
 use Rattle.upc_rounds.proofs.Rounding.{whole-seen}
 
 -- ---- the workers of places
@@ -161,3 +161,65 @@ crew-whole z o c f ks ns some many met all seen lawful t =
     below-behind : (n : ℕ) (xs ys : List Entry) → EachBelow n (xs ++ ys) → EachBelow n ys
     below-behind n [] ys h = h
     below-behind n (x ∷ xs) ys h = below-behind n xs ys h.1
+
+-- ---- a crew of which some have seen more, and all have met again
+
+pub workers-same : (ks ns : List Place) → length ns ≡ length ks → ((i : ℕ) (d : Place) → i < length ks → (get_or ns i d).task.worker ≡ (get_or ks i d).task.worker)
+    → workers_of ns ≡ workers_of ks
+workers-same [] [] many h = refl
+workers-same [] (n ∷ ns) many h = absurd (omega arith)
+workers-same (k ∷ ks) [] many h = absurd (omega arith)
+workers-same (k ∷ ks) (n ∷ ns) many h =
+    ap (λ w. w ∷ workers_of ns) (h 0 k (omega arith))
+    ∙ ap (λ l. k.task.worker ∷ l) (workers-same ks ns (omega arith) (λ i d lt. h (suc i) d (omega arith)))
+
+module _ (ks ms ns : List Place) (some : 0 < length ks) (asked : AreMet ks ms) (met : HaveMet ms ns) where
+  many : length ns ≡ length ks
+  many = met.many ∙ asked.many
+
+  both : (i : ℕ) (d : Place) → i < length ks → Met (get_or ks i d) (get_or ns i d)
+  both i d lt =
+      met-then (get_or ks i d) (get_or ms i d) (get_or ns i d) (asked.each i d lt) (met.each i d (subst (λ n. i < n) (sym asked.many) lt))
+
+  pub again-workers : workers_of ns ≡ workers_of ks
+  again-workers = workers-same ks ns many (λ i d lt. (both i d lt).worker)
+
+  module _ (z : TableId) (o : Opening) (c : Codes) (f : Outcomes) (kept : Numbered (λ i k. IsTask z o c f k.task) ms) (t : IsCrew z o c f ks) where
+    lawful : IsLawful o met.all
+    lawful = met.lawful o (λ i d lt. (kept i d lt).lawful)
+
+    seen-all : (i : ℕ) (d : Place) → i < length ks → seen_at (get_or ns i d) ≡ met.all
+    seen-all i d lt = met.seen i d (subst (λ n. i < n) (sym asked.many) lt)
+
+    all-is : met.all ≡ seen_among ks
+    all-is = crew-whole z o c f ks ns some many both met.all seen-all lawful t
+
+    among-is : seen_among ns ≡ met.all
+    among-is = let d = some-place ks 0 some in among-at ns d (subst (λ n. 0 < n) (sym many) some) ∙ seen-all 0 d some
+
+    pub again-crew : IsCrew z o c f ns × (seen_among ns ≡ seen_among ks)
+    again-crew = (
+      record {
+        many = many ∙ t.many;
+        members = λ i d lt.
+            let l : i < length ks = subst (λ n. i < n) many lt in let k = get_or ks i d in let n = get_or ns i d in
+            let h = t.members i d l in let mi = both i d l in
+            record {
+              kept = met-kept z o c f k n mi (subst (IsLawful o) (sym (seen-all i d l)) lawful) h.kept;
+              thread = ap (λ w. w.thread) mi.worker ∙ h.thread;
+              seen_is = seen-all i d l ∙ sym among-is;
+              own = subst HasOwnEnd (sym mi.worker) h.own;
+              idle = subst IsIdle (sym mi.worker) h.idle;
+            };
+      },
+      among-is ∙ all-is,
+    )
+
+    -- Each had seen the whole when it asked.
+    pub asked-whole : (i : ℕ) (d : Place) → i < length ms → seen_at (get_or ms i d) ≡ seen_among ns
+    asked-whole i d lt =
+        let l : i < length ks = subst (λ n. i < n) asked.many lt in
+        let m = seen_at (get_or ms i d) in
+        let front : IsPrefix (seen_among ks) m = subst (λ l. IsPrefix l m) (t.members i d l).seen_is (asked.each i d l).seen in
+        let back : IsPrefix m (seen_among ks) = subst (IsPrefix m) (met.seen i d lt ∙ all-is) (met.each i d lt).seen in
+        prefix-both m (seen_among ks) back front ∙ sym all-is ∙ sym among-is

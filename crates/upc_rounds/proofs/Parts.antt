@@ -29,7 +29,7 @@ use Rattle.upc_rounds.specs.code.Runs.{HasOwnEnd, IsIdle, Rested, standing_of}
 use Rattle.upc_rounds.specs.code.Played.{TurnedSeen, SoFar, Acted, KeepsStalls}
 use Rattle.upc_rounds.specs.code.Places.{Moved, Took, RestsWith}
 use Rattle.upc_rounds.proofs.Prefixes.{prefix-self, prefix-then}
-use Rattle.upc_rounds.proofs.Turns.{turned-step, turned-work}
+use Rattle.upc_rounds.proofs.Gains.{turned-step, turned-work}
 use Rattle.upc_rounds.proofs.Running.{paused-own}
 use Rattle.upc_rounds.proofs.Standings.{idle-of, steps-of, Going, going-new, going-more, part-of}
 use Rattle.upc_rounds.proofs.Playing.{far-start, far-going, far-acted, IsPause}

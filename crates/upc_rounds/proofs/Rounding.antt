@@ -21,7 +21,10 @@ use Rattle.upc_values.specs.Ends.{stops, OwnEnd}
 use Rattle.upc_values.proofs.Walks.{walked-push, entries_of-append, entries-own}
 use Rattle.upc_values.proofs.Records.{last-push}
 use Rattle.stack_code.specs.Codes.{Codes}
+use Rattle.stack_machine.specs.declared.wish.Wish.{Wish}
 use Rattle.stack_machine.specs.declared.wish.Wish.TheVariants.{Act}
+use Rattle.stack_machine.specs.declared.wish.Wish.TheVariants as wishes
+use Rattle.stack_machine.specs.layer.Machine.{told_of}
 use Rattle.upc_task.specs.declared.worker.Worker.{Worker}
 use Rattle.upc_task.specs.declared.worker.Pause.TheVariants.{Stalled}
 use Rattle.upc_task.specs.Ends.{is_given}
@@ -33,7 +36,7 @@ use Rattle.upc_rounds.specs.code.Runs.{HasOwnEnd, NoneStops, Moving, standing_of
 use Rattle.upc_rounds.specs.code.Played.{want_of, KeepsStalls, Acted, Played, SomeGoes, StallsNow, BeatsNow, HasParts, GoesByRounds, GoneByRounds}
 use Rattle.upc_rounds.proofs.Items.{none-added, stalls-at, same-stall}
 use Rattle.upc_rounds.proofs.Resting.{joined-push, but-last-push, after-map, last-map, last-push as after-push, last-whole, each-last, rests-each, stands-longer, ready-stays, rests-moved, rests-push}
-use Rattle.upc_rounds.proofs.Turns.{keeps-self}
+use Rattle.upc_rounds.proofs.Gains.{keeps-self}
 
 -- ---- a thread's part, in what all have seen
 
@@ -140,7 +143,7 @@ whole-seen n seen (e ∷ more) b h =
 -- ---- ends
 
 -- Where the end is some or none.
-none-or : (m : Worker) → (m.«end» ≡ None) ⊎ ((e : End) × (m.«end» ≡ Some e))
+pub none-or : (m : Worker) → (m.«end» ≡ None) ⊎ ((e : End) × (m.«end» ≡ Some e))
 none-or m = go m.«end» refl
   where
     go : (z : Option End) → m.«end» ≡ z → (m.«end» ≡ None) ⊎ ((e : End) × (m.«end» ≡ Some e))
@@ -332,7 +335,7 @@ gone-start o f ks new = record {
   goes = tt;
 }
 
-some-worker : (ks : List Worker) (i : ℕ) → i < length ks → Worker
+pub some-worker : (ks : List Worker) (i : ℕ) → i < length ks → Worker
 some-worker [] i lt = absurd (omega arith)
 some-worker (k ∷ ks) i lt = k
 
@@ -369,3 +372,22 @@ goes-on o c f seen ks at quiet kept mv g =
       stalls = g.stalls;
       goes = each-last (SomeGoes o f ks) [] ps g.goes last;
     }
+
+-- A worker without an end that stands at a Stall wants an action.
+pub stalled-wish : (o : Opening) (c : Codes) (f : Outcomes) (seen : List Entry) (k : Worker) → IsKept o c f seen k → is_stall (last_item k.items.items) ≡ true
+    → (a : Action) × (k.wish ≡ Some (Act a))
+stalled-wish o c f seen k h s = go k.wish refl
+  where
+    last : (ahead : List Item) × (k.items.items ≡ ahead ++ Stall ∷ [])
+    last = stall-last None k.items.items refl s
+    waits : MayWait (want_of f k)
+    waits = (stalls-at (want_of f k) last.0 [] (subst (StallsStand (want_of f k)) last.1 h.record_ok.stalls)).1
+    of-wish : (w : Wish) → told_of w ≡ (outcome_of f k).«end» → (a : Action) × (w ≡ Act a)
+    of-wish (Act a) q = (a, refl)
+    of-wish (wishes.Ended v) q = absurd (subst (λ e. MayWait (wanted e)) (sym q) waits)
+    of-wish (wishes.Exit v) q = absurd (subst (λ e. MayWait (wanted e)) (sym q) waits)
+    of-wish (wishes.Fault n p) q = absurd (subst (λ e. MayWait (wanted e)) (sym q) waits)
+    of-wish wishes.Budget q = absurd (subst (λ e. MayWait (wanted e)) (sym q) waits)
+    go : (w : Option Wish) → k.wish ≡ w → (a : Action) × (k.wish ≡ Some (Act a))
+    go None q = absurd (false≢true (sym (h.goes.idle q) ∙ s))
+    go (Some w) q = let a = of-wish w (h.goes.wished w q).1 in (a.0, q ∙ ap Some a.1)

@@ -25,7 +25,7 @@ use Rattle.upc_task.specs.layer.Sources.{Outcomes}
 use Rattle.upc_rounds.specs.layer.Course.{Standing}
 use Rattle.upc_task.specs.Ends.{is_given}
 use Rattle.upc_task.specs.layer.Kept.{AreLimits, IsKept, IsSame, Grew, Paused, outcome_of, settled, Holds, end_or, strand_of}
-use Rattle.upc_rounds.specs.code.Runs.{IsAt, HasOwnEnd, IsIdle, IsRunning, IsStart, IsNew, AreSame, Rested, Stops, Wanting, Given, IsOver, AreEach, halted, halted_end, locked, locked_end, CanLock}
+use Rattle.upc_rounds.specs.code.Runs.{IsAt, HasOwnEnd, IsIdle, IsRunning, AreSame, Rested, Stops, Wanting, Given, IsOver, AreEach, halted, halted_end, locked, locked_end, CanLock}
 use Rattle.std.proofs.lemmas.List.Sums.{count_by_more_yes, count_by_more_no}
 use Rattle.std.proofs.Common.{take, ◌+◌}
 use Rattle.std.specs.Prelude.{not}
@@ -266,21 +266,6 @@ same-each f ks ls ms h s e = record {
 pub limits-of : (l : Limits) → (1 ≤ l.threads) × (l.threads ≤ 32) → (1 ≤ l.budget) × (l.budget ≤ 1000000000000)
     → (1 ≤ l.actions) × (l.threads * l.actions ≤ 8388608) → AreLimits l
 limits-of l t b a = record { some = t.0; threads = t.1; ticks = b.0; budget = b.1; items = a.0; all = a.1 }
-
--- a run that begins
-pub start-of : (op : Opening) (p : Codes) (src : Outcomes) (l : Limits) (ks : List Worker) → length ks ≡ op.threads → Numbered (λ i k. IsNew op p src l i k) ks
-    → IsStart op p src l ks
-start-of op p src l ks many new = record {
-  running = record {
-    many = many;
-    tasks = λ i d lt. record { thread = (new i d lt).thread; kept = (new i d lt).kept };
-    own = λ i d lt e q. absurd (none-some (get_or ks i d).«end» e (new i d lt).opened q);
-    idle = λ i d lt q s. absurd (false≢true (sym (ap is_some (new i d lt).waits) ∙ s));
-  };
-  limits = λ i d lt. (new i d lt).limits;
-  fresh = λ i d lt. ap (λ z. let s : Standing = record { items = z; «end» = (get_or ks i d).«end» } in s) (new i d lt).empty
-      ∙ ap (λ z. let s : Standing = record { items = []; «end» = z } in s) (new i d lt).opened;
-}
 
 -- one task more, with and without an end
 pub open-more : (ks : List Worker) (i : ℕ) → i < length ks → IsOpenAt ks i → open_among (take (i + 1) ks) ≡ open_among (take i ks) + 1

@@ -1,11 +1,12 @@
 //! How a run ends between two rounds.
 
-ghost use Rattle.std.specs.Prelude.{ℕ, ◌≡◌, ◌<◌, true, false, Some, None, is_some, IfOk, IfSome, IsNone, MatchOption};
+ghost use Rattle.std.specs.Prelude.{ℕ, ◌≡◌, ◌<◌, true, false, List, Some, None, is_some, IfOk, MatchOption};
 ghost use Rattle.std.specs.Prelude.{slice_index_or, length};
 ghost use Rattle.upc_values.specs.declared.action.Action.{Action};
 ghost use Rattle.upc_values.specs.declared.record.End.{End};
+ghost use Rattle.upc_values.specs.declared.journal.Entry.{Entry};
+ghost use Rattle.upc_values.specs.Openings.{Opening};
 ghost use Rattle.upc_values.specs.Lists.{Numbered};
-ghost use Rattle.upc_values.specs.History.{reply};
 ghost use Rattle.upc_values.specs.Ends as ends;
 ghost use Rattle.stack_machine.specs.declared.wish.Wish.TheVariants.{Act};
 ghost use Rattle.stack_code.specs.Codes.{Codes};
@@ -15,8 +16,8 @@ ghost use Rattle.upc_task.specs.layer.Seated.{IsTask};
 ghost use Rattle.upc_rounds.specs.declared.place.Place.{Place};
 ghost use Rattle.upc_rounds.specs.code.Runs.{Rested, Stops, StopsAt, NoneStops, Wanting, Moving, AreEach, CanLock};
 ghost use Rattle.upc_rounds.specs.code.Runs.{halted, locked, IsOpenAt};
-ghost use Rattle.upc_rounds.specs.code.Teams.{GoesOn, IsCrew, Met, AreMet, SameSeats, InVain, Allowed, Stands};
-ghost use Rattle.upc_rounds.specs.code.Teams.{worker_of, workers_of, seen_at, seen_among};
+ghost use Rattle.upc_rounds.specs.code.Teams.{GoesOn, IsCrew, Met, AreMet, SameSeats, InVain, IsAllowed, Stands};
+ghost use Rattle.upc_rounds.specs.code.Teams.{worker_of, workers_of, seen_among};
 
 use crate::meeting::meet_all;
 use crate::place::Place;
@@ -76,8 +77,8 @@ pub(crate) fn all_ended(places: &[Place]) -> bool
 
 // A task without an end that stands at no Stall.
 fn unstalled(places: &[Place]) -> Option<usize>
-    ensures none { IsNone result → Numbered (λ _ k. Stands k) places.now }
-    ensures some { IfSome result (λ at. (o : _) (seen : _) → Moving o seen (workers_of places.now) at) }
+    ensures { MatchOption result (Numbered (λ _ k. Stands k) places.now)
+        (λ at. (o : Opening) (seen : List Entry) → Moving o seen (workers_of places.now) at) }
 {
     for at in 0..places.len() {
         if is_open(places, at) && !places[at].task.is_stalled() {
@@ -87,7 +88,7 @@ fn unstalled(places: &[Place]) -> Option<usize>
     None
 }
 
-// Whether what the task wants is legal now.
+// Whether the task has no end, and what it wants is legal now. It asks after all that was added.
 fn may_go<R: Wait>(
     rt: &R,
     alloc: Global,
@@ -95,20 +96,26 @@ fn may_go<R: Wait>(
     cell: &TurnCell<World>,
 ) -> Result<bool, OutOfMemory>
     requires kept { (c : Codes) × (f : Outcomes) × IsTask (id_of cell.now) (started cell.now).0 c f place.old.task }
-    requires wants { (a : Action) × (place.old.task.worker.wish ≡ Some (Act a)) }
+    requires wants { place.old.task.worker.«end» ≡ None
+        → (a : Action) × (place.old.task.worker.wish ≡ Some (Act a)) }
+    requires stands { Stands place.old }
     ensures met { IfOk result (λ _. Met place.old place.new) }
     ensures kept { IfOk result (λ _. (c : Codes) (f : Outcomes)
         → IsTask (id_of cell.now) (started cell.now).0 c f place.old.task
         → IsTask (id_of cell.now) (started cell.now).0 c f place.new.task) }
-    ensures answer { IfOk result (λ goes. (a : Action) → place.old.task.worker.wish ≡ Some (Act a)
-        → goes ≡ is_some (reply (started cell.now).0 (seen_at place.new) place.old.task.worker.thread a)) }
+    ensures no { IfOk result (λ goes. goes ≡ false → InVain (started cell.now).0 place.new) }
+    ensures yes { IfOk result (λ goes. goes ≡ true → IsAllowed (started cell.now).0 place.new) }
 {
+    if place.task.has_ended() {
+        return Ok(false);
+    }
     let Some(action) = place.task.wanted() else {
         unreachable!()
     };
     let action = copy_action(alloc, action)?;
     let thread = place.task.thread();
-    Ok(place.task.would_go(rt, cell, thread, &action))
+    let goes = place.task.would_go(rt, cell, thread, &action);
+    Ok(goes)
 }
 
 // The first of the tasks without an end whose action is legal now.
@@ -125,16 +132,45 @@ fn first_to_go<R: Wait>(
         → IsCrew (id_of cell.now) (started cell.now).0 c f places.old
         → Numbered (λ _ k. IsTask (id_of cell.now) (started cell.now).0 c f k.task) places.new) }
     ensures answer { IfOk result (λ found. MatchOption found
-        (Numbered (λ _ k. InVain (started cell.now).0 k) places.new) (Allowed (started cell.now).0 places.new)) }
+        (Numbered (λ _ k. InVain (started cell.now).0 k) places.new)
+        (λ at. (at < length places.new)
+            × ((d : Place) → IsAllowed (started cell.now).0 (slice_index_or places.new at d)))) }
 {
     for at in 0..places.len() {
-        if is_open(places, at) {
-            if may_go(rt, alloc, &mut places[at], cell)? {
-                return Ok(Some(at));
-            }
+        let goes = may_go(rt, alloc, &mut places[at], cell)?;
+        if goes {
+            return Ok(Some(at));
         }
     }
     Ok(None)
+}
+
+// Whether no task without an end wants what is legal now, where each stands at a Stall. Then all meet again.
+fn none_may_go<R: Wait>(
+    rt: &R,
+    alloc: Global,
+    places: &mut [Place],
+    cell: &TurnCell<World>,
+) -> Result<bool, OutOfMemory>
+    requires some { 0 < length places.old }
+    requires goes { (c : Codes) × GoesOn (id_of cell.now) (started cell.now).0 c places.old }
+    requires stand { Numbered (λ _ k. Stands k) places.old }
+    ensures workers { IfOk result (λ _. workers_of places.new ≡ workers_of places.old) }
+    ensures crew { IfOk result (λ _. (c : Codes) (f : Outcomes)
+        → IsCrew (id_of cell.now) (started cell.now).0 c f places.old
+        → IsCrew (id_of cell.now) (started cell.now).0 c f places.new
+            × (seen_among places.new ≡ seen_among places.old)) }
+    ensures yes { IfOk result (λ none. none ≡ true → Numbered
+        (λ _ k. k.«end» ≡ None → Wanting (started cell.now).0 (seen_among places.new) k) (workers_of places.new)) }
+    ensures no { IfOk result (λ none. none ≡ false → (at : ℕ)
+        × Moving (started cell.now).0 (seen_among places.new) (workers_of places.new) at) }
+{
+    let found = first_to_go(rt, alloc, places, cell)?;
+    meet_all(cell, places);
+    if found.is_some() {
+        return Ok(false);
+    }
+    Ok(true)
 }
 
 /// Whether each task without an end stands at a Stall, and wants what is not legal after all that was added.
@@ -159,9 +195,7 @@ pub(crate) fn none_goes<R: Wait>(
     if unstalled(places).is_some() {
         return Ok(false);
     }
-    let found = first_to_go(rt, alloc, places, cell)?;
-    meet_all(cell, places);
-    Ok(found.is_none())
+    none_may_go(rt, alloc, places, cell)
 }
 
 // Another task ended the run.

@@ -9,9 +9,9 @@ mod meeting;
 mod part;
 mod picks;
 mod place;
-mod run;
+mod threads;
 mod turns;
 
 pub use part::round;
 pub use picks::run_by;
-pub use run::run;
+pub use threads::run;

@@ -22,7 +22,7 @@ use stack_code::Code;
 use std::alloc::AllocError as OutOfMemory;
 use std::sync::Wait;
 use turn_cell::TurnCell;
-use upc_task::Task;
+use upc_task::{Pause, Task};
 use upc_text::OpenGate;
 
 // Private work, and then a step.
@@ -31,15 +31,15 @@ fn step_once<R: Wait>(
     code: &Code,
     task: &mut Task,
     cell: &TurnCell<World>,
-) -> Result<(), OutOfMemory>
+) -> Result<Pause, OutOfMemory>
     requires kept { (f : Outcomes) × IsTask (id_of cell.now) (started cell.now).0 code.now f task.old }
     requires open { task.old.worker.«end» ≡ None }
     ensures moved { IfOk result (λ _. Moved (id_of cell.now) (started cell.now).0 code.now task.old task.new) }
     ensures steps { IfOk result (λ _. Steps (standing_of task.old.worker) (standing_of task.new.worker)) }
 {
     task.work(code)?;
-    task.step(rt, code, cell)?;
-    Ok(())
+    let pause = task.step(rt, code, cell)?;
+    Ok(pause)
 }
 
 /// One task goes on by one step, and all see what it has added.

@@ -110,12 +110,12 @@ pub record AreMet (ks ms : List Place) : Type 0 where
 abbrev pub InVain : Opening → Place → Type 0
 InVain o k = k.task.worker.«end» ≡ None → Wanting o (seen_at k) k.task.worker
 
--- The task of this place goes on: it has no end, and what it wants is legal after what its seat has seen.
-pub record Allowed (o : Opening) (ks : List Place) (at : ℕ) : Type 0 where
-  pub within : at < length ks
-  pub opened : (d : Place) → (slice_index_or ks at d).task.worker.«end» ≡ None
-  pub goes : (d : Place) → let k = slice_index_or ks at d in
-      (a : Action) × (k.task.worker.wish ≡ Some (Act a)) × (is_some (reply o (seen_at k) k.task.worker.thread a) ≡ true)
+-- The task goes on: it has no end, and what it wants is legal after what its seat has seen.
+pub record IsAllowed (o : Opening) (k : Place) : Type 0 where
+  pub opened : k.task.worker.«end» ≡ None
+  pub action : Action
+  pub wish_is : k.task.worker.wish ≡ Some (Act action)
+  pub legal : is_some (reply o (seen_at k) k.task.worker.thread action) ≡ true
 
 -- A task without an end stands at a Stall.
 abbrev pub Stands : Place → Type 0

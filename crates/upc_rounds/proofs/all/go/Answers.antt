@@ -7,7 +7,7 @@ use Rattle.upc_rounds.proofs.Teams.{team-goes, moved-did, did-rested, moved-same
 use Rattle.upc_rounds.proofs.all.go.Goals as goal
 
 pub round_all-requires-clause-kept : goal.round_all-requires-clause-kept
-round_all-requires-clause-kept g c = λ i d lt. let t = c.requires.team in (t.0, (t.1.crew.members i d lt).kept)
+round_all-requires-clause-kept g c κs within = λ i d lt. let t = c.requires.team in (t.0, (t.1.crew.members i d lt).kept)
 
 pub meet_all-requires-clause-cell : goal.meet_all-requires-clause-cell
 meet_all-requires-clause-cell g c = λ i d lt.

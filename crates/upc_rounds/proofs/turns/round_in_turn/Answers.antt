@@ -1,7 +1,9 @@
-use Rattle.std.proofs.Common.{rules, ◌≡◌, ℕ, ◌<◌, ◌+◌, ◌≤◌, length, refl, sym, subst, ◌∙◌, arith, inl, inr}
+use Rattle.std.proofs.Common.{rules, ◌≡◌, ℕ, ◌<◌, ◌+◌, ◌≤◌, List, length, refl, sym, subst, ◌∙◌, arith, inl, inr}
 use Rattle.std.specs.Prelude.{slice_index_or}
 use Rattle.std.proofs.lemmas.Bool.{cases_eq}
 use Rattle.turn_cell.specs.layer.Seats.{id_of, started}
+use Rattle.upc_values.specs.declared.journal.Entry.{Entry}
+use Rattle.upc_values.specs.Openings.{Opening}
 use Rattle.upc_task.specs.declared.worker.Worker.{Worker}
 use Rattle.upc_rounds.specs.layer.Course.{InRound}
 use Rattle.upc_rounds.specs.code.Runs.{Rested, GoesAt, standing_of}
@@ -52,7 +54,7 @@ visit-requires-clause-running g c = let r = c.requires.running in (r.0, c.loop-a
 pub returns-clause-round : goal.returns-clause-round
 returns-clause-round g c =
     let h = c.loop-at.invariant in let r = c.requires.running in let o = (started c.args.cell.now).0 in
-    let w = (o, seen_among c.args.places.now) in let x = (o, seen_among c.loop-at.places) in
+    let w : Opening × List Entry = (o, seen_among c.args.places.now) in let x : Opening × List Entry = (o, seen_among c.loop-at.places) in
     let ks = workers_of c.args.places.now in let ms = workers_of c.loop-at.places in
     let over : length ks ≤ c.loop-at.at =
       (let a = many-workers c.args.places.now in let b = h.same.many in let d = many-workers c.loop-at.places in let t = c.loop-at-test.false in let e = c.loop-at.auto.at-end in omega arith) in

@@ -59,7 +59,8 @@ fn rounds<R: Threads + Wait + Sync, G: Gate>(
         if all_ended(places) {
             return Ok(());
         }
-        if none_goes(rt, alloc, places, cell)? {
+        let none = none_goes(rt, alloc, places, cell)?;
+        if none {
             lock_all(alloc, places)?;
             return Ok(());
         }

@@ -1,0 +1,10 @@
+use Rattle.std.proofs.Common.{rules, ◌≡◌, ◌<◌, ◌≤◌, Some, is_some, true, false, length, arith}
+use Rattle.upc_values.specs.declared.record.End.{End}
+use Rattle.upc_values.specs.Ends.{stops}
+use Rattle.upc_rounds.proofs.Crews.{numbered-workers}
+use Rattle.upc_rounds.proofs.ends.all_ended.Goals as goal
+
+pub returns : goal.returns
+returns c = λ yes.
+    numbered-workers (λ i k. is_some k.«end» ≡ true) c.args.places.now (λ i d lt.
+      let t = c.loop-at-test.false in let e = c.loop-at.auto.at-end in c.loop-at.invariant i d (omega (arith, lt, t, e)))
