@@ -63,7 +63,7 @@ pub(crate) fn put_tested(
         (length body.items) out.old (length out.old)) }
 {
     let behind = out.len();
-    let passed = sum(body.len(), 1)?;
+    let passed = body.len() + 1;
     let tested = value_of(out.alloc(), source, strict, test)?;
     put_way(out, place, Jump::GoOn(behind))?;
     out.put_code(body)?;

@@ -10,7 +10,6 @@ ghost use Rattle.gen_stmt.specs.Codes as pure;
 ghost use Rattle.gen_stmt.specs.code.Parts as parts;
 ghost use Rattle.gen_stmt.specs.code.Views.{view_standing};
 
-use crate::exits::sum;
 use crate::initials::put_first;
 use crate::put::{put_act, put_all, put_enter, put_leave};
 use crate::shapes::push_shapes;
@@ -32,8 +31,8 @@ pub(crate) fn put_loop(
     ensures { OnOk result (code.new.items
         ≡ code.old.items ++ pure.loop_code place test.items body.items last.items (length body.items)) }
 {
-    let passed = sum(sum(body.len(), last.len())?, 1)?;
-    let back = sum(sum(sum(test.len(), 1)?, body.len())?, last.len())?;
+    let passed = body.len() + last.len() + 1;
+    let back = test.len() + 1 + body.len() + last.len();
     put_jump(code, place, Jump::Tick)?;
     put_all(code, test)?;
     put_jump(code, place, Jump::SkipIfZero(passed))?;
@@ -76,7 +75,7 @@ pub(crate) fn put_do(
 {
     let alloc = *code.allocator();
     let tested = value_of(alloc, source, strict, test)?;
-    let passed = sum(sum(1, tested.len())?, 1)?;
+    let passed = 1 + tested.len() + 1;
     put_jump(code, place, Jump::GoOn(passed))?;
     put_loop(code, place, tested, body, Vec::new(alloc))
 }
@@ -130,8 +129,8 @@ fn put_mine(
 {
     let alloc = *code.allocator();
     let value = value_of(alloc, source, strict, e)?;
-    let passed = sum(value.len(), 2)?;
-    let skipped = sum(sum(1, body.len())?, 1)?;
+    let passed = value.len() + 2;
+    let skipped = 1 + body.len() + 1;
     put_jump(code, place, Jump::SkipIfControlled(passed))?;
     put_all(code, value)?;
     put_act(code, e.place, ThreadWork::Mine)?;
