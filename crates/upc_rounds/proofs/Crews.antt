@@ -101,7 +101,7 @@ crew-goes z o c f ks ms ns some many moved met t =
     let d0 = some-place ks 0 some in let some2 : 0 < length ms = subst (λ n. 0 < n) (sym many) some in let some3 : 0 < length ns = subst (λ n. 0 < n) (sym same) some in
     let whole : seen_among ns ≡ met.all = among-at ns d0 some3 ∙ met.seen 0 d0 some2 in
     let lawful : IsLawful o met.all = met.lawful o (λ i d lt.
-      let l : i < length ks = subst (λ n. i < n) many lt in ((moved i d l).fine f (t.members i d l).kept).lawful) in
+    let l : i < length ks = subst (λ n. i < n) many lt in ((moved i d l).fine f (t.members i d l).kept).lawful) in
     record {
       many = same ∙ t.many;
       members = λ i d lt.
@@ -146,16 +146,16 @@ pub crew-whole : (z : TableId) (o : Opening) (c : Codes) (f : Outcomes) (ks ns :
 crew-whole z o c f ks ns some many met all seen lawful t =
     let d0 = some-place ks 0 some in
     let b : IsPrefix (seen_among ks) all =
-      subst (λ l. IsPrefix l all) (t.members 0 d0 some).seen_is (subst (IsPrefix (seen_at (get_or ks 0 d0))) (seen 0 d0 some) (met 0 d0 some).seen) in
+    subst (λ l. IsPrefix l all) (t.members 0 d0 some).seen_is (subst (IsPrefix (seen_at (get_or ks 0 d0))) (seen 0 d0 some) (met 0 d0 some).seen) in
     let same : (i : ℕ) → i < o.threads → entries_of i (seen_among ks ++ b.0) ≡ entries_of i (seen_among ks) = λ i lo.
-      let lt : i < length ks = subst (λ n. i < n) (sym t.many) lo in
-      let d = some-place ks i lt in let h = t.members i d lt in let k = get_or ks i d in
-      let number : number_of k.task.seat ≡ i = h.kept.number ∙ h.thread in
-      ap (entries_of i) (b.1 ∙ sym (seen i d lt))
-      ∙ subst (λ j. entries_of j (seen_at (get_or ns i d)) ≡ entries_of j (seen_at k)) number (own-stays k (get_or ns i d) (met i d lt))
-      ∙ ap (entries_of i) h.seen_is in
+    let lt : i < length ks = subst (λ n. i < n) (sym t.many) lo in
+    let d = some-place ks i lt in let h = t.members i d lt in let k = get_or ks i d in
+    let number : number_of k.task.seat ≡ i = h.kept.number ∙ h.thread in
+    ap (entries_of i) (b.1 ∙ sym (seen i d lt))
+    ∙ subst (λ j. entries_of j (seen_at (get_or ns i d)) ≡ entries_of j (seen_at k)) number (own-stays k (get_or ns i d) (met i d lt))
+    ∙ ap (entries_of i) h.seen_is in
     let none : b.0 ≡ [] = whole-seen o.threads (seen_among ks) b.0
-      (below-behind o.threads (seen_among ks) b.0 (subst (EachBelow o.threads) (sym b.1) lawful.below)) same in
+    (below-behind o.threads (seen_among ks) b.0 (subst (EachBelow o.threads) (sym b.1) lawful.below)) same in
     sym b.1 ∙ ap (λ l. seen_among ks ++ l) none ∙ append-nil (seen_among ks)
   where
     below-behind : (n : ℕ) (xs ys : List Entry) → EachBelow n (xs ++ ys) → EachBelow n ys

@@ -57,10 +57,10 @@ room-emits : (w : Walk) → Quiet (entries_in w.pending) → Emits w (with_room 
 room-emits w h = cond_both (nat_lt (length w.pending) 64) w (oldest_out w.pending w) (λ v. Emits w v false)
     (λ e. emits-none w w refl)
     (λ e. let P : List Commit → Type 0 = λ ps. Quiet (entries_in ps) → Emits w (oldest_out ps w) false in
-      let go : (ps : List Commit) → P ps = λ ps. elim ps as P [
-        | [] ↦ λ s. emits-none w w refl
-        | x ∷ xs ↦ λ s. (x.entry ∷ [], both-in w.emitted (x ∷ []), (s.0, tt))
-      ] in go w.pending h)
+    let go : (ps : List Commit) → P ps = λ ps. elim ps as P [
+      | [] ↦ λ s. emits-none w w refl
+      | x ∷ xs ↦ λ s. (x.entry ∷ [], both-in w.emitted (x ∷ []), (s.0, tt))
+    ] in go w.pending h)
 
 put-emits : (l : Loc) (e : Entry) (f : Option Scalar) (w : Walk) → Quiet (entries_in w.pending) → Emits w (put l e f w) false
 put-emits l e None w h = room-emits w h
@@ -139,36 +139,56 @@ turned-step o c f p seen later k m h opened hm same g paused adds waits =
     let hw : Holds o t seen k.buffer k.next w = subst (λ e. Holds o t seen k.buffer k.next (settled e w)) opened h.holds in
     let stores : Quiet (entries_in w.pending) = subst Quiet hw.inside (pending-quiet t k.buffer) in
     let hm' : entries_of t later ≡ entries_in (settled m.«end» (walked t m.items.items)).emitted =
-      subst (λ j. entries_of j later ≡ entries_in (settled m.«end» (walked j m.items.items)).emitted) same.thread hm.holds.out in
+    subst (λ j. entries_of j later ≡ entries_in (settled m.«end» (walked j m.items.items)).emitted) same.thread hm.holds.out in
     let by : (b : Bool) (v : Walk) → settled m.«end» (walked t m.items.items) ≡ v → Emits w v b → QuietBut b g.more =
-      λ b v q e. subst (QuietBut b) (sym (grew-extra t seen later g.more (entries_in w.emitted) e.0 g.is g.all_own hw.out (hm' ∙ ap (λ z. entries_in z.emitted) q ∙ e.1))) e.2 in
+    λ b v q e. subst (QuietBut b) (sym (grew-extra t seen later g.more (entries_in w.emitted) e.0 g.is g.all_own hw.out (hm' ∙ ap (λ z. entries_in z.emitted) q ∙ e.1))) e.2 in
     let P : Pause → Type 0 = λ p. Paused p m → Adds p k.wish k.items.items m.items.items → Waits p o later m → Turned o f p t seen later k m in
     let did : (a : Action) (r : Reply) → m.«end» ≡ None → m.items.items ≡ k.items.items ++ Did a r ∷ [] → settled m.«end» (walked t m.items.items) ≡ stepped t w (Did a r) =
-      λ a r q is. ap (λ e. settled e (walked t m.items.items)) q ∙ ap (walked t) is ∙ walked-push t k.items.items (Did a r) in
+    λ a r q is. ap (λ e. settled e (walked t m.items.items)) q ∙ ap (walked t) is ∙ walked-push t k.items.items (Did a r) in
     let wanting : (a : Action) → k.wish ≡ Some (Act a) → want_of f k ≡ Some a = λ a q. ap wanted (sym (h.goes.wished (Act a) q).1) in
     let go : (p : Pause) → P p = λ p. elim p as P [
       | Going ↦ λ q a v. record {
-          more = g.more; is = g.is; all_own = g.all_own;
-          quiet = by false (stepped t w (Did a.0 a.1)) (did a.0 a.1 q a.4) (subst (Emits w (stepped t w (Did a.0 a.1))) (beat-item a.0 a.1 ∙ a.2) (stepped-emits t w (Did a.0 a.1) stores));
-          keeps = keeps-did f k m a.0 a.1 (wanting a.0 a.3) a.4; waits = v }
+        more = g.more;
+        is = g.is;
+        all_own = g.all_own;
+        quiet = by false (stepped t w (Did a.0 a.1)) (did a.0 a.1 q a.4) (subst (Emits w (stepped t w (Did a.0 a.1))) (beat-item a.0 a.1 ∙ a.2) (stepped-emits t w (Did a.0 a.1) stores));
+        keeps = keeps-did f k m a.0 a.1 (wanting a.0 a.3) a.4;
+        waits = v;
+      }
       | pauses.Beat ↦ λ q a v. record {
-          more = g.more; is = g.is; all_own = g.all_own;
-          quiet = by true (stepped t w (Did a.0 a.1)) (did a.0 a.1 q.0 a.4) (subst (Emits w (stepped t w (Did a.0 a.1))) (beat-item a.0 a.1 ∙ a.2) (stepped-emits t w (Did a.0 a.1) stores));
-          keeps = keeps-did f k m a.0 a.1 (wanting a.0 a.3) a.4; waits = v }
+        more = g.more;
+        is = g.is;
+        all_own = g.all_own;
+        quiet = by true (stepped t w (Did a.0 a.1)) (did a.0 a.1 q.0 a.4) (subst (Emits w (stepped t w (Did a.0 a.1))) (beat-item a.0 a.1 ∙ a.2) (stepped-emits t w (Did a.0 a.1) stores));
+        keeps = keeps-did f k m a.0 a.1 (wanting a.0 a.3) a.4;
+        waits = v;
+      }
       | Stalled ↦ λ q a v. elim a as (λ z. Turned o f Stalled t seen later k m) [
         | inl is ↦ record {
-            more = g.more; is = g.is; all_own = g.all_own;
-            quiet = by false w (ap (λ e. settled e (walked t m.items.items)) q.0 ∙ ap (walked t) is) (emits-none w w refl);
-            keeps = keeps-same f k m same.thread is; waits = v }
+          more = g.more;
+          is = g.is;
+          all_own = g.all_own;
+          quiet = by false w (ap (λ e. settled e (walked t m.items.items)) q.0 ∙ ap (walked t) is) (emits-none w w refl);
+          keeps = keeps-same f k m same.thread is;
+          waits = v;
+        }
         | inr is ↦ record {
-            more = g.more; is = g.is; all_own = g.all_own;
-            quiet = by false (emptied w) (ap (λ e. settled e (walked t m.items.items)) q.0 ∙ ap (walked t) is ∙ walked-push t k.items.items Stall) (emits-emptied w stores);
-            keeps = keeps-stall f k m same.thread is; waits = v }
+          more = g.more;
+          is = g.is;
+          all_own = g.all_own;
+          quiet = by false (emptied w) (ap (λ e. settled e (walked t m.items.items)) q.0 ∙ ap (walked t) is ∙ walked-push t k.items.items Stall) (emits-emptied w stores);
+          keeps = keeps-stall f k m same.thread is;
+          waits = v;
+        }
       ]
       | Finished ↦ λ q is v. record {
-          more = g.more; is = g.is; all_own = g.all_own;
-          quiet = by false (emptied w) (ap (λ e. settled e (walked t m.items.items)) q.1 ∙ ap (λ l. emptied (walked t l)) is) (emits-emptied w stores);
-          keeps = keeps-same f k m same.thread is; waits = v }
+        more = g.more;
+        is = g.is;
+        all_own = g.all_own;
+        quiet = by false (emptied w) (ap (λ e. settled e (walked t m.items.items)) q.1 ∙ ap (λ l. emptied (walked t l)) is) (emits-emptied w stores);
+        keeps = keeps-same f k m same.thread is;
+        waits = v;
+      }
     ] in go p paused adds waits
 
 pub turned-work : (o : Opening) (f : Outcomes) (p : Pause) (t : ℕ) (seen later : List Entry) (k l m : Worker) → l.thread ≡ k.thread → l.items.items ≡ k.items.items → Turned o f p t seen later l m → Turned o f p t seen later k m

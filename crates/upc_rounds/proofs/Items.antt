@@ -116,14 +116,14 @@ waited-emits t w (Lock l) r h = twice t w (Lock l) r
   where
     twice : (t : ℕ) (w : Walk) (a : Action) (r : Reply) → length (passed (entry_of t w.next a r) (emptied (emptied w))).emitted ≡ length (emptied w).emitted + 1
     twice t w a r =
-      length-append ((emptied w).emitted ++ []) (commit_of (entry_of t w.next a r) ∷ [])
-      ∙ ap (λ l. length l + 1) (append-nil (emptied w).emitted)
+        length-append ((emptied w).emitted ++ []) (commit_of (entry_of t w.next a r) ∷ [])
+        ∙ ap (λ l. length l + 1) (append-nil (emptied w).emitted)
 waited-emits t w (Wait m) r h = twice t w (Wait m) r
   where
     twice : (t : ℕ) (w : Walk) (a : Action) (r : Reply) → length (passed (entry_of t w.next a r) (emptied (emptied w))).emitted ≡ length (emptied w).emitted + 1
     twice t w a r =
-      length-append ((emptied w).emitted ++ []) (commit_of (entry_of t w.next a r) ∷ [])
-      ∙ ap (λ l. length l + 1) (append-nil (emptied w).emitted)
+        length-append ((emptied w).emitted ++ []) (commit_of (entry_of t w.next a r) ∷ [])
+        ∙ ap (λ l. length l + 1) (append-nil (emptied w).emitted)
 waited-emits t w a r h = absurd (false≢true h)
 
 drain-many : (t : ℕ) (xs : List Item) → length (drain t xs) ≡ length (emptied (walked t xs)).emitted
@@ -136,7 +136,7 @@ drain-grows t xs a r ys h =
     let w = walked t xs in let v = gone (entry_of t w.next a r) a (emptied w) in
     let whole : walked t (xs ++ Stall ∷ Did a r ∷ ys) ≡ walked_from t v ys = walked-on t start xs (Stall ∷ Did a r ∷ ys) in
     let many : length (drain t (xs ++ Stall ∷ Did a r ∷ ys)) ≡ length (emptied (walked_from t v ys)).emitted =
-      drain-many t (xs ++ Stall ∷ Did a r ∷ ys) ∙ ap (λ z. length (emptied z).emitted) whole in
+    drain-many t (xs ++ Stall ∷ Did a r ∷ ys) ∙ ap (λ z. length (emptied z).emitted) whole in
     let one = waited-emits t w a r h in let more = walked-longer t v ys in let last = emptied-longer (walked_from t v ys) in
     let first = drain-many t xs in omega (arith, many, one, more, last, first)
 
@@ -147,7 +147,7 @@ not-after t w ahead (Stall ∷ y) s d = false≢true (sym (stalls-at w ahead (St
 not-after t w ahead (Did a r ∷ y) s d =
     let may = (stalls-at w ahead (Did a r ∷ (y ++ Stall ∷ [])) s).1 in
     let same : length (drain t ahead) ≡ length (drain t (ahead ++ Stall ∷ Did a r ∷ y)) =
-      ap length d ∙ ap (λ l. length (drain t l)) (append_assoc ahead (Stall ∷ []) (Did a r ∷ y)) in
+    ap length d ∙ ap (λ l. length (drain t l)) (append_assoc ahead (Stall ∷ []) (Did a r ∷ y)) in
     let more = drain-grows t ahead a r y may in omega (arith, same, more)
 
 -- Two Stalls that emitted as much are one.

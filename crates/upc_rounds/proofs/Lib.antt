@@ -18,3 +18,4 @@ pub mod Openings
 pub mod Beginnings
 pub mod Timing
 pub mod Ending
+pub mod Whole

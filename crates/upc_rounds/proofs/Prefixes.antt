@@ -20,7 +20,7 @@ no-length (x ∷ xs) h = absurd (omega arith)
 pub longer-whole : (xs ys : List Entry) → IsPrefix xs ys → longer xs ys ≡ ys
 longer-whole xs ys p = cond_both (nat_lt (length xs) (length ys)) ys xs (λ l. l ≡ ys) (λ e. refl)
     (λ e. let le = ltb-false (length xs) (length ys) e in let many = ap length p.1 in let two = length-append xs p.0 in
-      sym (append-nil xs) ∙ ap (λ l. xs ++ l) (sym (no-length p.0 (omega arith))) ∙ p.1)
+    sym (append-nil xs) ∙ ap (λ l. xs ++ l) (sym (no-length p.0 (omega arith))) ∙ p.1)
 
 -- Two lists that begin each other are one.
 pub prefix-both : (xs ys : List Entry) → IsPrefix xs ys → IsPrefix ys xs → xs ≡ ys

@@ -137,7 +137,7 @@ whole-seen n seen [] b h = refl
 whole-seen n seen (e ∷ more) b h =
     let z : entries_of e.thread (e ∷ more) ≡ [] = none-behind e.thread seen (e ∷ more) (h e.thread b.0) in
     let y : entries_of e.thread (e ∷ more) ≡ e ∷ entries_of e.thread more =
-      entries_of-append e.thread (e ∷ []) more ∙ ap (λ l. l ++ entries_of e.thread more) (entries-own e.thread e refl) in
+    entries_of-append e.thread (e ∷ []) more ∙ ap (λ l. l ++ entries_of e.thread more) (entries-own e.thread e refl) in
     absurd (let x : e ∷ entries_of e.thread more ≡ [] = sym y ∙ z in cc)
 
 -- ---- ends
@@ -173,17 +173,17 @@ rests-round : (o : Opening) (f : Outcomes) (i : ℕ) (seen part : List Entry) (p
     → RestsAfterEach o i k.items.items (want_of f k) (end_or k.«end») [] ps → RestsAfterEach o i m.items.items (want_of f m) (end_or m.«end») [] (ps ++ part ∷ [])
 rests-round o f i seen part ps k m whole om p h =
     let now : Rests o i m.items.items (want_of f m) (end_or m.«end») ([] ++ joined ps) part [] =
-      subst (λ l. Rests o i m.items.items (want_of f m) (end_or m.«end») l part []) (sym whole)
-      (elim p.rests [
-        | inl b ↦ inl b.0
-        | inr z ↦ elim z [
-          | inl y ↦ elim (none-or m) [
-            | inl n ↦ absurd (false≢true (sym (ap is_some n) ∙ y))
-            | inr e ↦ inr (inl (refl, ap (λ g. is_given (end_or g)) e.1 ∙ om e.0 e.1))
-          ]
-          | inr s ↦ inr (inr s.0)
+    subst (λ l. Rests o i m.items.items (want_of f m) (end_or m.«end») l part []) (sym whole)
+    (elim p.rests [
+      | inl b ↦ inl b.0
+      | inr z ↦ elim z [
+        | inl y ↦ elim (none-or m) [
+          | inl n ↦ absurd (false≢true (sym (ap is_some n) ∙ y))
+          | inr e ↦ inr (inl (refl, ap (λ g. is_given (end_or g)) e.1 ∙ om e.0 e.1))
         ]
-      ]) in
+        | inr s ↦ inr (inr s.0)
+      ]
+    ]) in
     elim (none-or k) [
       | inl q ↦ rests-push o i k.items.items m.items.items (want_of f k) (want_of f m) Halted (end_or m.«end») [] ps part p.keeps (λ y. absurd (false≢true (sym y)))
           (subst (λ g. RestsAfterEach o i k.items.items (want_of f k) g [] ps) (ap end_or q) h) p.beats now
@@ -228,7 +228,7 @@ full-never o c f i seen part now k m pl quiet own h many ne b p later r s = elim
       | inr st ↦
           let more = grown-of k m (pl.takes q) in
           let whole : st.ahead ++ Stall ∷ (st.behind ++ more.0) ≡ s.ahead ++ Stall ∷ [] =
-            sym (append_assoc st.ahead (Stall ∷ st.behind) more.0) ∙ ap (λ l. l ++ more.0) (sym st.is) ∙ sym more.1 ∙ s.is in
+          sym (append_assoc st.ahead (Stall ∷ st.behind) more.0) ∙ ap (λ l. l ++ more.0) (sym st.is) ∙ sym more.1 ∙ s.is in
           let stands : StallsStand (want_of f m) (s.ahead ++ Stall ∷ []) = subst (StallsStand (want_of f m)) s.is h.record_ok.stalls in
           let none : st.behind ++ more.0 ≡ [] = same-stall i (want_of f m) st.ahead (st.behind ++ more.0) s.ahead whole stands (sym st.drained ∙ s.drained) in
           let empty : more.0 ≡ [] = right-empty st.behind more.0 none in
@@ -345,11 +345,11 @@ pub goes-on : (o : Opening) (c : Codes) (f : Outcomes) (seen : List Entry) (ks :
 goes-on o c f seen ks at quiet kept mv g =
     let d0 = some-worker ks at mv.within in let k = get_or ks at d0 in let ps = g.has.parts in
     let one : (b p : List Entry) → (ends_with_beat (entries_of at p) ≡ true) ⊎ Rattle.upc_rounds.specs.Rounds.StandsReady o at k.items.items (want_of f k) b p → SomeGoes o f ks b p =
-      λ b p h. record {
-        thread = at;
-        within = mv.within;
-        goes = λ d. subst (λ n. (ends_with_beat (entries_of at p) ≡ true) ⊎ Rattle.upc_rounds.specs.Rounds.StandsReady o at n.items.items (want_of f n) b p) (get_or_default ks at d0 d mv.within) h;
-      } in
+    λ b p h. record {
+      thread = at;
+      within = mv.within;
+      goes = λ d. subst (λ n. (ends_with_beat (entries_of at p) ≡ true) ⊎ Rattle.upc_rounds.specs.Rounds.StandsReady o at n.items.items (want_of f n) b p) (get_or_default ks at d0 d mv.within) h;
+    } in
     let last : AfterLast (SomeGoes o f ks) [] ps = elim (mv.goes d0) [
       | inl off ↦ last-map (λ b p. ends_with_beat (entries_of at p) ≡ true) (SomeGoes o f ks) [] ps (λ b p h. one b p (inl h)) (g.beats at d0 mv.within (mv.opened d0) off)
       | inr w ↦
@@ -380,14 +380,17 @@ stalled-wish o c f seen k h s = go k.wish refl
   where
     last : (ahead : List Item) × (k.items.items ≡ ahead ++ Stall ∷ [])
     last = stall-last None k.items.items refl s
+
     waits : MayWait (want_of f k)
     waits = (stalls-at (want_of f k) last.0 [] (subst (StallsStand (want_of f k)) last.1 h.record_ok.stalls)).1
+
     of-wish : (w : Wish) → told_of w ≡ (outcome_of f k).«end» → (a : Action) × (w ≡ Act a)
     of-wish (Act a) q = (a, refl)
     of-wish (wishes.Ended v) q = absurd (subst (λ e. MayWait (wanted e)) (sym q) waits)
     of-wish (wishes.Exit v) q = absurd (subst (λ e. MayWait (wanted e)) (sym q) waits)
     of-wish (wishes.Fault n p) q = absurd (subst (λ e. MayWait (wanted e)) (sym q) waits)
     of-wish wishes.Budget q = absurd (subst (λ e. MayWait (wanted e)) (sym q) waits)
+
     go : (w : Option Wish) → k.wish ≡ w → (a : Action) × (k.wish ≡ Some (Act a))
     go None q = absurd (false≢true (sym (h.goes.idle q) ∙ s))
     go (Some w) q = let a = of-wish w (h.goes.wished w q).1 in (a.0, q ∙ ap Some a.1)

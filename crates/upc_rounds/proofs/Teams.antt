@@ -54,8 +54,8 @@ member-plays z o c f i seen all part k m n is h did fine met whole =
     let go : Played o f i seen part k.task.worker m.task.worker = elim (did.did fine) [
       | inl a ↦
           let acted : Acted o f i seen (seen_at m) k.task.worker m.task.worker =
-            subst (λ l. Acted o f i l (seen_at m) k.task.worker m.task.worker) h.seen_is
-            (subst (λ j. Acted o f j (seen_at k) (seen_at m) k.task.worker m.task.worker) h.thread (a.1.acted f h.kept)) in
+          subst (λ l. Acted o f i l (seen_at m) k.task.worker m.task.worker) h.seen_is
+          (subst (λ j. Acted o f j (seen_at k) (seen_at m) k.task.worker m.task.worker) h.thread (a.1.acted f h.kept)) in
           played-seen o c f i seen part (seen_at m) met.seen.0 k.task.worker m.task.worker cut none a.0 thread t.kept mv.same a.1.takes a.1.full acted
       | inr b ↦
           let same : seen_at m ≡ seen = ap seen_at b.1 ∙ h.seen_is in
@@ -70,7 +70,7 @@ pub team-goes : (z : TableId) (o : Opening) (c : Codes) (f : Outcomes) (ks ms ns
     → IsTeam z o c f ks → HasGone z o c f ns
 team-goes z o c f ks ms ns some many did fine met t =
     let moved : (i : ℕ) (d : Place) → i < length ks → Moved z o c (get_or ks i d).task (get_or ms i d).task =
-      λ i d lt. moved-did z o c (get_or ks i d) (get_or ms i d) (did i d lt) (fine i d (subst (λ n. i < n) (sym many) lt)) in
+    λ i d lt. moved-did z o c (get_or ks i d) (get_or ms i d) (did i d lt) (fine i d (subst (λ n. i < n) (sym many) lt)) in
     let crew = crew-goes z o c f ks ms ns some many moved met t.crew in
     let cut = crew-grows z o c ks ms ns some many moved met in
     let seen = seen_among ks in let all = seen_among ns in
@@ -85,8 +85,8 @@ team-goes z o c f ks ms ns some many did fine met t =
           (subst (λ l. Numbered (λ i k. IsKept o c f l k) (workers_of ns)) (sym cut.1) (λ i d lt. (running.tasks i d lt).kept))
           (both-workers (λ i k n. Played o f i seen cut.0 k n) ks ns same
           (λ i d lt. let l2 : i < length ms = subst (λ n. i < n) (sym many) lt in
-            member-plays z o c f i seen all cut.0 (get_or ks i d) (get_or ms i d) (get_or ns i d) (sym cut.1) (t.crew.members i d lt) (did i d lt) (fine i d l2) (met.each i d l2)
-            (met.seen i d l2 ∙ sym whole)))
+          member-plays z o c f i seen all cut.0 (get_or ks i d) (get_or ms i d) (get_or ns i d) (sym cut.1) (t.crew.members i d lt) (did i d lt) (fine i d l2) (met.each i d l2)
+          (met.seen i d l2 ∙ sym whole)))
           t.goes);
     }
 
@@ -95,8 +95,8 @@ pub did-rested : (z : TableId) (o : Opening) (c : Codes) (ks ms ns : List Place)
     → Numbered (λ i k. Rested k) (workers_of ns)
 did-rested z o c ks ms ns many did fine met =
     numbered-workers (λ i k. Rested k) ns (λ i d lt.
-      let l2 : i < length ms = subst (λ n. i < n) met.many lt in let l : i < length ks = subst (λ n. i < n) many l2 in
-      subst Rested (sym (met.each i d l2).worker) (rested-did z o c (get_or ks i d) (get_or ms i d) (did i d l) (fine i d l2)))
+    let l2 : i < length ms = subst (λ n. i < n) met.many lt in let l : i < length ks = subst (λ n. i < n) many l2 in
+    subst Rested (sym (met.each i d l2).worker) (rested-did z o c (get_or ks i d) (get_or ms i d) (did i d l) (fine i d l2)))
 
 pub moved-same : (z : TableId) (o : Opening) (c : Codes) (ks ms ns : List Place) → length ms ≡ length ks
     → ((i : ℕ) (d : Place) → i < length ks → Moved z o c (get_or ks i d).task (get_or ms i d).task) → HaveMet ms ns → AreSame (workers_of ks) (workers_of ns)

@@ -129,8 +129,8 @@ module _ (o : Opening) (all : ℕ → Outcomes) (b : ℕ) where
               (λ i n. stops (end_or n.«end») ≡ true → RestsAfterEach o i n.items.items (wants i n.items.items) Halted [] (but_last ps))
               (λ i r. stops r.«end» ≡ true → RestsAfterEach o i r.items (wants i r.items) Halted [] (but_last ps)) (λ i n h. h) ns
               (λ i d l s. let k = get_or ks i d in let n = get_or ns i d in let e = ends i d (lt i l) in
-                rests-moved o i k.items.items n.items.items (want_of (all b) k) (wants i n.items.items) Halted Halted [] (but_last ps)
-                (stays-ended i k n e (numbered i d (lt i l))) (λ y. y) (g.before i d (lt i l) (stopped-before k n e s)));
+              rests-moved o i k.items.items n.items.items (want_of (all b) k) (wants i n.items.items) Halted Halted [] (but_last ps)
+              (stays-ended i k n e (numbered i d (lt i l))) (λ y. y) (g.before i d (lt i l) (stopped-before k n e s)));
         };
         goes = after-map (SomeGoes o (all b) ks) (SomeMayGo o all (journal_of threads actions ns history)) [] (but_last ps)
             (some-goes threads actions ks ns history many ends numbered) g.goes;
@@ -140,14 +140,14 @@ module _ (o : Opening) (all : ℕ → Outcomes) (b : ℕ) where
             (λ i r. length r.items ≡ actions → (r.«end» ≢ ActionsFull)
             → AfterEach (λ before part. StandsLast i r.items before part → ⊥) [] (but_last ps)) (λ i n h. h) ns
             (λ i d l q ne. let k = get_or ks i d in let n = get_or ns i d in let e = ends i d (lt i l) in
-              let items : n.items.items ≡ k.items.items = ap (λ x. x.items) e.items in
-              subst (λ xs. AfterEach (λ before part. StandsLast i xs before part → ⊥) [] (but_last ps)) (sym items)
-              (g.full_ends i d (lt i l) (ap length (sym items) ∙ q ∙ sym (limits i d (lt i l))) (full-after k n e ne)));
+            let items : n.items.items ≡ k.items.items = ap (λ x. x.items) e.items in
+            subst (λ xs. AfterEach (λ before part. StandsLast i xs before part → ⊥) [] (but_last ps)) (sym items)
+            (g.full_ends i d (lt i l) (ap length (sym items) ∙ q ∙ sym (limits i d (lt i l))) (full-after k n e ne)));
         full_stood = numbered-map f
             (λ i n. end_or n.«end» ≡ ActionsFull → is_stall (last_item n.items.items) ≡ true → AfterLast (StandsLast i n.items.items) [] (but_last ps))
             (λ i r. r.«end» ≡ ActionsFull → is_stall (last_item r.items) ≡ true → AfterLast (StandsLast i r.items) [] (but_last ps)) (λ i n h. h) ns
             (λ i d l q s. let k = get_or ks i d in let n = get_or ns i d in let e = ends i d (lt i l) in
-              let items : n.items.items ≡ k.items.items = ap (λ x. x.items) e.items in
-              subst (λ xs. AfterLast (StandsLast i xs) [] (but_last ps)) (sym items)
-              (g.full_stood i d (lt i l) (full-before k n e q) (ap (λ xs. is_stall (last_item xs)) (sym items) ∙ s)));
+            let items : n.items.items ≡ k.items.items = ap (λ x. x.items) e.items in
+            subst (λ xs. AfterLast (StandsLast i xs) [] (but_last ps)) (sym items)
+            (g.full_stood i d (lt i l) (full-before k n e q) (ap (λ xs. is_stall (last_item xs)) (sym items) ∙ s)));
       }

@@ -20,7 +20,6 @@ use Rattle.upc_values.specs.Strands.{next_action}
 use Rattle.upc_values.specs.Ends.{stops}
 use Rattle.upc_task.specs.Ends.{is_given}
 
-
 -- The entries of all parts, in order.
 abbrev pub joined : List (List Entry) → List Entry
 joined [] = []

@@ -47,9 +47,13 @@ fn round_all<R: Threads + Wait + Sync, G: Gate>(
     ensures many { length places.new ≡ length places.old }
     ensures did { (i : ℕ) (d : Place) → i < length places.old
         → Did (id_of cell.now) (started cell.now).0 code.now (slice_index_or places.old i d)
-            (slice_index_or places.new i d) }
+        (slice_index_or places.new i d) }
 {
-    let threads = if count_movers(places) <= 1 { 1 } else { places.len() };
+    let threads = if count_movers(places) <= 1 {
+        1
+    } else {
+        places.len()
+    };
     thread::for_each_mut(
         rt,
         places,

@@ -134,7 +134,7 @@ fn first_to_go<R: Wait>(
     ensures answer { IfOk result (λ found. MatchOption found
         (Numbered (λ _ k. InVain (started cell.now).0 k) places.new)
         (λ at. (at < length places.new)
-            × ((d : Place) → IsAllowed (started cell.now).0 (slice_index_or places.new at d)))) }
+        × ((d : Place) → IsAllowed (started cell.now).0 (slice_index_or places.new at d)))) }
 {
     for at in 0..places.len() {
         let goes = may_go(rt, alloc, &mut places[at], cell)?;
@@ -159,7 +159,7 @@ fn none_may_go<R: Wait>(
     ensures crew { IfOk result (λ _. (c : Codes) (f : Outcomes)
         → IsCrew (id_of cell.now) (started cell.now).0 c f places.old
         → IsCrew (id_of cell.now) (started cell.now).0 c f places.new
-            × (seen_among places.new ≡ seen_among places.old)) }
+        × (seen_among places.new ≡ seen_among places.old)) }
     ensures yes { IfOk result (λ none. none ≡ true → Numbered
         (λ _ k. k.«end» ≡ None → Wanting (started cell.now).0 (seen_among places.new) k) (workers_of places.new)) }
     ensures no { IfOk result (λ none. none ≡ false → (at : ℕ)
@@ -186,7 +186,7 @@ pub(crate) fn none_goes<R: Wait>(
     ensures crew { IfOk result (λ _. (c : Codes) (f : Outcomes)
         → IsCrew (id_of cell.now) (started cell.now).0 c f places.old
         → IsCrew (id_of cell.now) (started cell.now).0 c f places.new
-            × (seen_among places.new ≡ seen_among places.old)) }
+        × (seen_among places.new ≡ seen_among places.old)) }
     ensures yes { IfOk result (λ none. none ≡ true → Numbered
         (λ _ k. k.«end» ≡ None → Wanting (started cell.now).0 (seen_among places.new) k) (workers_of places.new)) }
     ensures no { IfOk result (λ none. none ≡ false → (at : ℕ)

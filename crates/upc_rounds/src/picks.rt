@@ -199,7 +199,8 @@ fn go_all<R: Wait>(
         ((started cell.now).0, seen_among places.new) (workers_of places.new)) }
 {
     pick_all(rt, code, places, cell, picks)?;
-    go_out(rt, alloc, code, places, cell)
+    go_out(rt, alloc, code, places, cell)?;
+    Ok(())
 }
 
 /// Runs code on one thread of the machine, in an order that the picks choose; the code has the program's threads and
@@ -243,11 +244,12 @@ pub fn run_by<R: Wait>(
     let mut places = make_all(alloc, code, limits, seats)?;
     go_all(rt, alloc, code, places.as_mut_slice(), &cell, picks)?;
     let (world, strands) = close_all(cell, places, seats_room, strands_room);
+    let history = world.take_history();
     Ok(Journal {
         threads: limits.threads,
         budget: limits.budget,
         actions: limits.actions,
         strands: Listing::from_vec(strands),
-        history: world.take_history(),
+        history,
     })
 }

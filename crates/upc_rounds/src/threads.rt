@@ -110,11 +110,12 @@ pub fn run<R: Threads + Wait + Sync, G: Gate>(
     let mut places = make_all(alloc, code, limits, seats)?;
     rounds(rt, alloc, places.as_mut_slice(), code, &cell, gate)?;
     let (world, strands) = close_all(cell, places, seats_room, strands_room);
+    let history = world.take_history();
     Ok(Journal {
         threads: limits.threads,
         budget: limits.budget,
         actions: limits.actions,
         strands: Listing::from_vec(strands),
-        history: world.take_history(),
+        history,
     })
 }

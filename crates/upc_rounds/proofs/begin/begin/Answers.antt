@@ -8,7 +8,7 @@ pub make-requires : goal.make-requires
 make-requires c =
     let o : Opening = opening_of c.args.program.now in
     let same : opening_with c.args.threads c.as_slice.result.now c.initials.result.now c.shapes.result.now ≡ o =
-      opens _ _ _ _ _ _ _ _ (sym c.requires)
-      (c.as_slice.ensures.value ∙ c.in_ok-declared.ensures ∙ ap (map (λ x. x.object)) c.shared_objects.ensures)
-      c.initials.ensures c.shapes.ensures in
+    opens _ _ _ _ _ _ _ _ (sym c.requires)
+    (c.as_slice.ensures.value ∙ c.in_ok-declared.ensures ∙ ap (map (λ x. x.object)) c.shared_objects.ensures)
+    c.initials.ensures c.shapes.ensures in
     subst IsOpening (sym same) (kept_opening o c.args.program.now.opening)

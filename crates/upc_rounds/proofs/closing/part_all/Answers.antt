@@ -22,17 +22,18 @@ loop-place-preserved c =
     let h = c.loop-place.invariant in let k = c.in-Some.place in let xs = c.loop-place.yielded in let s = c.into_parts-strand.result.0 in
     let left : List Place = into_iter_items c.next.new.self in
     let all : (xs ++ k ∷ []) ++ left ≡ c.args.places.items =
-      append_assoc xs (k ∷ []) left ∙ ap (λ l. xs ++ l) (sym c.in-Some.ensures.steps.0) ∙ h.all in
-    let is : c.push_reserved2.new.self.items ≡ c.loop-place.strands.items ++ s ∷ [] = c.push_reserved2.ensures.items in
+    append_assoc xs (k ∷ []) left ∙ ap (λ l. xs ++ l) (sym c.in-Some.ensures.steps.0) ∙ h.all in
+    let is : c.push_reserved-in-loop-place.new.self.items ≡ c.loop-place.strands.items ++ s ∷ [] = c.push_reserved-in-loop-place.ensures.items in
     record {
       all = all;
-      seats = (search rules);
+      seats = c.push_reserved.ensures.items ∙ ap (λ l. l ++ c.into_parts-strand.result.1 ∷ []) h.seats
+          ∙ ap (λ y. map seat_at xs ++ y ∷ []) c.into_parts-strand.ensures.seat ∙ sym (map-append seat_at xs (k ∷ []));
       many = ap length is ∙ length-append c.loop-place.strands.items (s ∷ []) ∙ ap (λ n. n + 1) h.many ∙ sym (length-append xs (k ∷ []));
       room = (search rules);
       made = λ o p f a.
           let at : IsKept o p f (seen_at k) k.task.worker =
-            numbered-at (λ i (q : Place). IsKept o p f (seen_at q) q.task.worker) xs left k
-            (subst (Numbered (λ i (q : Place). IsKept o p f (seen_at q) q.task.worker)) (sym all ∙ append_assoc xs (k ∷ []) left) a) in
+          numbered-at (λ i (q : Place). IsKept o p f (seen_at q) q.task.worker) xs left k
+          (subst (Numbered (λ i (q : Place). IsKept o p f (seen_at q) q.task.worker)) (sym all ∙ append_assoc xs (k ∷ []) left) a) in
           is ∙ ap (λ l. l ++ s ∷ []) (h.made o p f a) ∙ ap (λ z. map (strand_of f) (workers_of xs) ++ z ∷ []) (c.into_parts-strand.ensures.strand o p f at)
           ∙ sym (map-append (strand_of f) (workers_of xs) (k.task.worker ∷ [])) ∙ ap (map (strand_of f)) (sym (map-append worker_of xs (k ∷ [])));
     }

@@ -12,7 +12,7 @@ halt-requires c =
     let lt : t < length ks = (let a = c.loop-at-test.true in let b = c.loop-at.auto.at-end in let m = h.many in omega arith) in
     let lw : t < length (workers_of ks) = subst (λ n. t < n) (sym (many-workers ks)) lt in
     let is : get_or (workers_of ks) t x.task.worker ≡ (get_or ls t x).task.worker =
-      worker-at ks t x x.task.worker lt ∙ ap (λ n. n.task.worker) (sym (h.left t x (omega arith))) in
+    worker-at ks t x x.task.worker lt ∙ ap (λ n. n.task.worker) (sym (h.left t x (omega arith))) in
     subst (Rested) is (c.requires t x.task.worker lw)
 
 pub returns-clause-workers : goal.returns-clause-workers

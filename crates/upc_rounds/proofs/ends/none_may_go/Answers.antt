@@ -42,12 +42,12 @@ returns-clause-yes g c = λ yes.
     let e = c.in_ok-found.ensures in
     let no : is_some c.in_ok-found.found ≡ false = search rules in
     let vain : Numbered (λ i k. InVain o k) ms = match-none c.in_ok-found.found (Numbered (λ i k. InVain o k) ms)
-      (λ at. (at < length ms) × ((d : Place) → IsAllowed o (slice_index_or ms at d))) no e.answer in
+    (λ at. (at < length ms) × ((d : Place) → IsAllowed o (slice_index_or ms at d))) no e.answer in
     subst (λ ws. Numbered (λ i k. k.«end» ≡ None → Wanting o (seen_among ns) k) ws) (workers-back ks ms ns c.requires.some e.met c.meet_all.ensures)
     (numbered-workers (λ i k. k.«end» ≡ None → Wanting o (seen_among ns) k) ms (λ i d lt q.
-      subst (λ l. Wanting o l (get_or ms i d).task.worker)
-      (asked-whole ks ms ns c.requires.some e.met c.meet_all.ensures (id_of c.args.cell.now) o r.0 r.1.0 (e.kept r.0 r.1.0 r.1.1) r.1.1 i d lt)
-      (vain i d lt q)))
+    subst (λ l. Wanting o l (get_or ms i d).task.worker)
+    (asked-whole ks ms ns c.requires.some e.met c.meet_all.ensures (id_of c.args.cell.now) o r.0 r.1.0 (e.kept r.0 r.1.0 r.1.1) r.1.1 i d lt)
+    (vain i d lt q)))
   where
     workers-back : (ks ms ns : Rattle.std.proofs.Common.List Place) → 0 < length ks → Rattle.upc_rounds.specs.code.Teams.AreMet ks ms → Rattle.upc_rounds.specs.code.Teams.HaveMet ms ns → workers_of ms ≡ workers_of ns
     workers-back ks ms ns some asked met = sym (Rattle.upc_rounds.proofs.Crews.workers-same ms ns met.many (λ i d lt. (met.each i d lt).worker))
@@ -58,16 +58,16 @@ returns-then-is_some-clause-no g c = λ off.
     let e = c.in_ok-found.ensures in
     let yes : is_some c.in_ok-found.found ≡ true = search rules in
     let u = match-some c.in_ok-found.found (Numbered (λ i k. InVain o k) ms)
-      (λ at. (at < length ms) × ((d : Place) → IsAllowed o (slice_index_or ms at d))) yes e.answer in
+    (λ at. (at < length ms) × ((d : Place) → IsAllowed o (slice_index_or ms at d))) yes e.answer in
     let at = u.0 in let lt = u.1.0 in let d = some-place ms at lt in let m = get_or ms at d in let a = u.1.1 d in
     let lk : at < length ks = subst (λ n. at < n) e.met.many lt in
     let ln : at < length ns = subst (λ n. at < n) (sym c.meet_all.ensures.many) lt in
     let is : (w : Worker) → get_or (workers_of ns) at w ≡ m.task.worker = λ w. worker-at ns at d w ln ∙ (c.meet_all.ensures.each at d lt).worker in
     let seen : seen_at m ≡ seen_among ns =
-      asked-whole ks ms ns c.requires.some e.met c.meet_all.ensures (id_of c.args.cell.now) o r.0 r.1.0 (e.kept r.0 r.1.0 r.1.1) r.1.1 at d lt in
+    asked-whole ks ms ns c.requires.some e.met c.meet_all.ensures (id_of c.args.cell.now) o r.0 r.1.0 (e.kept r.0 r.1.0 r.1.1) r.1.1 at d lt in
     let stall : is_stall (last_item m.task.worker.items.items) ≡ true =
-      ap (λ (w : Worker). is_stall (last_item w.items.items)) (e.met.each at d lk).worker
-      ∙ c.requires.stand at d lk (ap (λ (w : Worker). w.«end») (sym (e.met.each at d lk).worker) ∙ a.opened) in
+    ap (λ (w : Worker). is_stall (last_item w.items.items)) (e.met.each at d lk).worker
+    ∙ c.requires.stand at d lk (ap (λ (w : Worker). w.«end») (sym (e.met.each at d lk).worker) ∙ a.opened) in
     let moving : Moving o (seen_among ns) (workers_of ns) at = record {
       within = subst (λ n. at < n) (sym (many-workers ns)) ln;
       opened = λ w. ap (λ (k : Worker). k.«end») (is w) ∙ a.opened;

@@ -16,8 +16,8 @@ loop-i-preserved c =
     let lt0 : t < length ks = subst (λ m. t < m) inv.many lt in
     let was : (d : Place) → x ≡ get_or ls t d = λ d. get_or_default ls t c.index-others-i.result d lt in
     let begins : IsPrefix (seen_at x) (seen_at c.loop-i.first) =
-      subst (λ z. IsPrefix (seen_at x) z) (sym inv.stays)
-      (subst (λ z. IsPrefix z (seen_at first)) (sym (ap seen_at (was x) ∙ inv.left t x (omega arith) lt0)) (c.requires.begins t x lt0)) in
+    subst (λ z. IsPrefix (seen_at x) z) (sym inv.stays)
+    (subst (λ z. IsPrefix z (seen_at first)) (sym (ap seen_at (was x) ∙ inv.left t x (omega arith) lt0)) (c.requires.begins t x lt0)) in
     let whole : seen_at n ≡ seen_at first = e.whole begins ∙ inv.stays in
     record {
       many = length-set ls t n ∙ inv.many;

@@ -18,7 +18,7 @@ loop-preserved g c =
     let k = c.loop.task in let l = c.work.new.self in let m = c.step.new.self in let w = c.in_ok-work.ensures in let s = c.in_ok-pause.ensures in
     let worked : Worked code k l = record { stays = w.stays; kept = w.kept; same = w.same.0; opened = w.same.1; items = w.items; seat = w.seat } in
     let stepped : Stepped z o code c.in_ok-pause.pause l m =
-      record { kept = s.kept; same = s.same; gained = s.gained; pause = s.pause; adds = s.adds; leaves = s.leaves; waits = s.waits; full = s.full } in
+    record { kept = s.kept; same = s.same; gained = s.gained; pause = s.pause; adds = s.adds; leaves = s.leaves; waits = s.waits; full = s.full } in
     far-goes z o code c.args.task.now k l m c.loop.invariant worked (subst (λ p. Stepped z o code p l m) c.in-Going.is stepped)
 
 pub returns-in-Beat-clause-took : goal.returns-in-Beat-clause-took
@@ -27,7 +27,7 @@ returns-in-Beat-clause-took g c =
     let k = c.loop.task in let l = c.work.new.self in let m = c.step.new.self in let w = c.in_ok-work.ensures in let s = c.in_ok-pause.ensures in
     let worked : Worked code k l = record { stays = w.stays; kept = w.kept; same = w.same.0; opened = w.same.1; items = w.items; seat = w.seat } in
     let stepped : Stepped z o code c.in_ok-pause.pause l m =
-      record { kept = s.kept; same = s.same; gained = s.gained; pause = s.pause; adds = s.adds; leaves = s.leaves; waits = s.waits; full = s.full } in
+    record { kept = s.kept; same = s.same; gained = s.gained; pause = s.pause; adds = s.adds; leaves = s.leaves; waits = s.waits; full = s.full } in
     far-took z o code pauses.Beat c.args.task.now k l m c.loop.invariant c.requires.«open» worked (subst (λ p. Stepped z o code p l m) c.in-Beat.is stepped) tt
 
 pub returns-in-Beat-clause-rests : goal.returns-in-Beat-clause-rests
@@ -36,7 +36,7 @@ returns-in-Beat-clause-rests g c =
     let k = c.loop.task in let l = c.work.new.self in let m = c.step.new.self in let w = c.in_ok-work.ensures in let s = c.in_ok-pause.ensures in
     let worked : Worked code k l = record { stays = w.stays; kept = w.kept; same = w.same.0; opened = w.same.1; items = w.items; seat = w.seat } in
     let stepped : Stepped z o code c.in_ok-pause.pause l m =
-      record { kept = s.kept; same = s.same; gained = s.gained; pause = s.pause; adds = s.adds; leaves = s.leaves; waits = s.waits; full = s.full } in
+    record { kept = s.kept; same = s.same; gained = s.gained; pause = s.pause; adds = s.adds; leaves = s.leaves; waits = s.waits; full = s.full } in
     rests-with z o code pauses.Beat k l m worked (subst (λ p. Stepped z o code p l m) c.in-Beat.is stepped) tt
 
 pub returns-in-Stalled-clause-took : goal.returns-in-Stalled-clause-took
@@ -45,7 +45,7 @@ returns-in-Stalled-clause-took g c =
     let k = c.loop.task in let l = c.work.new.self in let m = c.step.new.self in let w = c.in_ok-work.ensures in let s = c.in_ok-pause.ensures in
     let worked : Worked code k l = record { stays = w.stays; kept = w.kept; same = w.same.0; opened = w.same.1; items = w.items; seat = w.seat } in
     let stepped : Stepped z o code c.in_ok-pause.pause l m =
-      record { kept = s.kept; same = s.same; gained = s.gained; pause = s.pause; adds = s.adds; leaves = s.leaves; waits = s.waits; full = s.full } in
+    record { kept = s.kept; same = s.same; gained = s.gained; pause = s.pause; adds = s.adds; leaves = s.leaves; waits = s.waits; full = s.full } in
     far-took z o code pauses.Stalled c.args.task.now k l m c.loop.invariant c.requires.«open» worked (subst (λ p. Stepped z o code p l m) c.in-Stalled.is stepped) tt
 
 pub returns-in-Stalled-clause-rests : goal.returns-in-Stalled-clause-rests
@@ -54,7 +54,7 @@ returns-in-Stalled-clause-rests g c =
     let k = c.loop.task in let l = c.work.new.self in let m = c.step.new.self in let w = c.in_ok-work.ensures in let s = c.in_ok-pause.ensures in
     let worked : Worked code k l = record { stays = w.stays; kept = w.kept; same = w.same.0; opened = w.same.1; items = w.items; seat = w.seat } in
     let stepped : Stepped z o code c.in_ok-pause.pause l m =
-      record { kept = s.kept; same = s.same; gained = s.gained; pause = s.pause; adds = s.adds; leaves = s.leaves; waits = s.waits; full = s.full } in
+    record { kept = s.kept; same = s.same; gained = s.gained; pause = s.pause; adds = s.adds; leaves = s.leaves; waits = s.waits; full = s.full } in
     rests-with z o code pauses.Stalled k l m worked (subst (λ p. Stepped z o code p l m) c.in-Stalled.is stepped) tt
 
 pub returns-in-Finished-clause-took : goal.returns-in-Finished-clause-took
@@ -63,7 +63,7 @@ returns-in-Finished-clause-took g c =
     let k = c.loop.task in let l = c.work.new.self in let m = c.step.new.self in let w = c.in_ok-work.ensures in let s = c.in_ok-pause.ensures in
     let worked : Worked code k l = record { stays = w.stays; kept = w.kept; same = w.same.0; opened = w.same.1; items = w.items; seat = w.seat } in
     let stepped : Stepped z o code c.in_ok-pause.pause l m =
-      record { kept = s.kept; same = s.same; gained = s.gained; pause = s.pause; adds = s.adds; leaves = s.leaves; waits = s.waits; full = s.full } in
+    record { kept = s.kept; same = s.same; gained = s.gained; pause = s.pause; adds = s.adds; leaves = s.leaves; waits = s.waits; full = s.full } in
     far-took z o code pauses.Finished c.args.task.now k l m c.loop.invariant c.requires.«open» worked (subst (λ p. Stepped z o code p l m) c.in-Finished.is stepped) tt
 
 pub returns-in-Finished-clause-rests : goal.returns-in-Finished-clause-rests
@@ -72,5 +72,5 @@ returns-in-Finished-clause-rests g c =
     let k = c.loop.task in let l = c.work.new.self in let m = c.step.new.self in let w = c.in_ok-work.ensures in let s = c.in_ok-pause.ensures in
     let worked : Worked code k l = record { stays = w.stays; kept = w.kept; same = w.same.0; opened = w.same.1; items = w.items; seat = w.seat } in
     let stepped : Stepped z o code c.in_ok-pause.pause l m =
-      record { kept = s.kept; same = s.same; gained = s.gained; pause = s.pause; adds = s.adds; leaves = s.leaves; waits = s.waits; full = s.full } in
+    record { kept = s.kept; same = s.same; gained = s.gained; pause = s.pause; adds = s.adds; leaves = s.leaves; waits = s.waits; full = s.full } in
     rests-with z o code pauses.Finished k l m worked (subst (λ p. Stepped z o code p l m) c.in-Finished.is stepped) tt

@@ -23,4 +23,4 @@ loop-at-preserved c =
 pub returns : goal.returns
 returns c =
     let h = c.loop-at.invariant in let ks = c.args.places.now in let m = many-workers ks in let t = c.loop-at-test.false in let e = c.loop-at.auto.at-end in
-    h.counted ∙ ap Rattle.upc_rounds.specs.code.Runs.open_among (Rattle.std.proofs.lemmas.List.take_all (workers_of ks) c.loop-at.at (omega (arith, m, t, e)))
+    h.counted ∙ ap Rattle.upc_rounds.specs.code.Runs.open_among (Rattle.std.proofs.lemmas.List.take_all c.loop-at.at (workers_of ks) (omega (arith, m, t, e)))

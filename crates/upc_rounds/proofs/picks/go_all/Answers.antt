@@ -13,3 +13,15 @@ go_out-requires-clause-some g c =
 
 pub go_out-requires-clause-running : goal.go_out-requires-clause-running
 go_out-requires-clause-running g c = let r = c.requires.running in (r.0, c.in_ok-pick_all.ensures.running r.0 r.1)
+
+pub returns-clause-over : goal.returns-clause-over
+returns-clause-over g c = λ f t. c.in_ok-go_out.ensures.over f (c.in_ok-pick_all.ensures.running f t)
+
+pub returns-clause-same : goal.returns-clause-same
+returns-clause-same g c =
+    same-trans (workers_of c.args.places.now) (workers_of c.pick_all.new.places) (workers_of c.go_out.new.places) c.in_ok-pick_all.ensures.same c.in_ok-go_out.ensures.same
+
+pub returns-clause-out : goal.returns-clause-out
+returns-clause-out g c =
+    let o = (started c.args.cell.now).0 in let ms = c.pick_all.new.places in let out = c.in_ok-go_out.ensures.out in
+    (moment_of (o, seen_among ms) (workers_of ms), out.0, c.in_ok-pick_all.ensures.picked, out.1, out.2)

@@ -120,8 +120,7 @@ returns-then-all_ended-clause-out g c =
     let first = c.args.places.now in let ks = c.round_in_turn.new.places in let e = c.in_ok-round_in_turn.ensures in
     let some : 0 < length ks = some-of (length c.loop.places) (length ks) (length (workers_of c.loop.places)) (length (workers_of ks)) h.some (many-workers c.loop.places) (many-workers ks) e.same.many in
     let m0 : Moment = moment_of (o, seen_among first) (workers_of first) in let ml : Moment = moment_of (o, seen_among c.loop.places) (workers_of c.loop.places) in
-    let mk : Moment = moment_of (o, seen_among ks) (workers_of ks) in
-    (
+    let mk : Moment = moment_of (o, seen_among ks) (workers_of ks) in (
       mk,
       inr (suc h.went.0, (ml, h.went.1, e.round)),
       out-ended (o, seen_among ks) (workers_of ks) (c.all_ended.ensures c.if-all_ended.true),

@@ -115,7 +115,7 @@ returns-then-none-clause-over g c = λ f t.
     let quiet : NoneStops (workers_of ks) = match-none c.stopped.result (NoneStops (workers_of ks)) (StopsAt (workers_of ks)) no c.stopped.ensures in
     let crew = e.crew code f (c.in_ok-go.ensures.gone f (h.team f t)).crew in
     let some = some-of (length c.loop.places) (length ms) (length (workers_of c.loop.places)) (length (workers_of ms)) h.some (many-workers c.loop.places) (many-workers ms)
-      (ap length e.workers ∙ c.in_ok-go.ensures.same.many) in
+    (ap length e.workers ∙ c.in_ok-go.ensures.same.many) in
     done-locked z o code f ms c.lock_all.new.places some c.in_ok-lock_all.ensures.seats crew.0 (e.yes (search rules)) (subst NoneStops (sym e.workers) quiet) c.in_ok-lock_all.ensures.workers
 
 pub returns-then-none-clause-rounds : goal.returns-then-none-clause-rounds
@@ -125,7 +125,7 @@ returns-then-none-clause-rounds g c = λ f t.
     let ms = c.none_goes.new.places in let e = c.in_ok-none.ensures in
     let gone = c.in_ok-go.ensures.gone f (h.team f t) in let crew = e.crew code f gone.crew in
     let some = some-of (length c.loop.places) (length ms) (length (workers_of c.loop.places)) (length (workers_of ms)) h.some (many-workers c.loop.places) (many-workers ms)
-      (ap length e.workers ∙ c.in_ok-go.ensures.same.many) in
+    (ap length e.workers ∙ c.in_ok-go.ensures.same.many) in
     let w = c.in_ok-lock_all.ensures.workers in
     let want : Numbered (λ i k. k.«end» ≡ None → Wanting o (seen_among ms) k) (workers_of ms) = e.yes (search rules) in
     ended-gone z o code f ms c.lock_all.new.places some c.in_ok-lock_all.ensures.seats crew.0 w.many

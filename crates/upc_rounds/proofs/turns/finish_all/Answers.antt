@@ -57,7 +57,7 @@ returns-clause-rest g c =
     let w : Opening × List Entry = (o, seen_among c.args.places.now) in let x : Opening × List Entry = (o, seen_among c.loop-at.places) in
     let ks = workers_of c.args.places.now in let ms = workers_of c.loop-at.places in
     let over : length ks ≤ c.loop-at.at =
-      (let a = many-workers c.args.places.now in let b = h.same.many in let d = many-workers c.loop-at.places in let t = c.loop-at-test.false in let e = c.loop-at.auto.at-end in omega arith) in
+    (let a = many-workers c.args.places.now in let b = h.same.many in let d = many-workers c.loop-at.places in let t = c.loop-at-test.false in let e = c.loop-at.auto.at-end in omega arith) in
     record {
       stopped = stopped-of w ks c.requires.stopped.0 c.requires.stopped.1;
       each = each-of ToRest w x ks ms h.same.many (λ i d lt. h.done i (omega (arith, lt, over)) d);
@@ -69,6 +69,6 @@ pub returns-clause-stopped : goal.returns-clause-stopped
 returns-clause-stopped g c =
     let h = c.loop-at.invariant in let ks = workers_of c.args.places.now in let ms = workers_of c.loop-at.places in
     let over : length ks ≤ c.loop-at.at =
-      (let a = many-workers c.args.places.now in let b = h.same.many in let d = many-workers c.loop-at.places in let t = c.loop-at-test.false in let e = c.loop-at.auto.at-end in omega arith) in
+    (let a = many-workers c.args.places.now in let b = h.same.many in let d = many-workers c.loop-at.places in let t = c.loop-at-test.false in let e = c.loop-at.auto.at-end in omega arith) in
     let u = c.requires.stopped in
     (u.0, stays-stopped ks ms h.same.many (λ i d lt. h.done i (omega (arith, lt, over)) d) u.0 u.1)

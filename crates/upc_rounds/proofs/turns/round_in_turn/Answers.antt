@@ -57,7 +57,7 @@ returns-clause-round g c =
     let w : Opening × List Entry = (o, seen_among c.args.places.now) in let x : Opening × List Entry = (o, seen_among c.loop-at.places) in
     let ks = workers_of c.args.places.now in let ms = workers_of c.loop-at.places in
     let over : length ks ≤ c.loop-at.at =
-      (let a = many-workers c.args.places.now in let b = h.same.many in let d = many-workers c.loop-at.places in let t = c.loop-at-test.false in let e = c.loop-at.auto.at-end in omega arith) in
+    (let a = many-workers c.args.places.now in let b = h.same.many in let d = many-workers c.loop-at.places in let t = c.loop-at-test.false in let e = c.loop-at.auto.at-end in omega arith) in
     record {
       quiet = quiet-of w ks c.requires.quiet;
       each = each-of InRound w x ks ms h.same.many (λ i d lt. h.done i (omega (arith, lt, over)) d);

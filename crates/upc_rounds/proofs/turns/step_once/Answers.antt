@@ -14,7 +14,7 @@ returns-clause-moved g c =
     let k = c.args.task.now in let l = c.work.new.self in let m = c.step.new.self in let w = c.in_ok-work.ensures in let s = c.in_ok-pause.ensures in
     let worked : Worked code k l = record { stays = w.stays; kept = w.kept; same = w.same.0; opened = w.same.1; items = w.items; seat = w.seat } in
     let stepped : Stepped z o code c.in_ok-pause.pause l m =
-      record { kept = s.kept; same = s.same; gained = s.gained; pause = s.pause; adds = s.adds; leaves = s.leaves; waits = s.waits; full = s.full } in
+    record { kept = s.kept; same = s.same; gained = s.gained; pause = s.pause; adds = s.adds; leaves = s.leaves; waits = s.waits; full = s.full } in
     moved-of z o code c.in_ok-pause.pause k l m worked stepped
 
 pub returns-clause-steps : goal.returns-clause-steps
@@ -23,5 +23,5 @@ returns-clause-steps g c =
     let k = c.args.task.now in let l = c.work.new.self in let m = c.step.new.self in let w = c.in_ok-work.ensures in let s = c.in_ok-pause.ensures in
     let worked : Worked code k l = record { stays = w.stays; kept = w.kept; same = w.same.0; opened = w.same.1; items = w.items; seat = w.seat } in
     let stepped : Stepped z o code c.in_ok-pause.pause l m =
-      record { kept = s.kept; same = s.same; gained = s.gained; pause = s.pause; adds = s.adds; leaves = s.leaves; waits = s.waits; full = s.full } in
+    record { kept = s.kept; same = s.same; gained = s.gained; pause = s.pause; adds = s.adds; leaves = s.leaves; waits = s.waits; full = s.full } in
     steps-from z o code c.in_ok-pause.pause k l m c.requires.«open» worked stepped
