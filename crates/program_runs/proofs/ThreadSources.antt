@@ -12,7 +12,7 @@ use Rattle.stack_code_laws.specs.layer.Asking.{IsCodeFor}
 use Rattle.gen_stmt.specs.layer.Meanings.{MeansProgram}
 use Rattle.upc_task.specs.declared.limits.Limits.{Limits}
 use Rattle.upc_task.specs.layer.Sources.{GivesOutcomes}
-use Rattle.upc_rounds.specs.Openings as rounds
+use Rattle.upc_rounds.specs.layer.Openings as rounds
 use Rattle.upc_values.specs.declared.action.Reply.{Reply}
 use Rattle.upc_values.specs.declared.journal.Journal.{Journal}
 use Rattle.upc_values.specs.Outcomes.{Outcome}

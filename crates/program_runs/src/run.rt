@@ -5,7 +5,7 @@ ghost use Rattle.upc_values.specs.Consistent.{FollowsBuffers};
 ghost use Rattle.typed_tree.specs.ViewProgram.{view_program};
 ghost use Rattle.stack_code_laws.specs.layer.Asking.{IsCodeFor};
 ghost use Rattle.gen_stmt.specs.layer.Meanings.{MeansProgram};
-ghost use Rattle.upc_rounds.specs.Openings.{opening_of};
+ghost use Rattle.upc_rounds.specs.layer.Openings.{opening_of};
 ghost use Rattle.program_runs.specs.Served.{RunsToday};
 ghost use Rattle.program_runs.specs.Runs.{IsRunByRounds, StopsRun};
 ghost use Rattle.program_runs.specs.code.Picked.{IsRunByPicks};

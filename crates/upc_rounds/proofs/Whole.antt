@@ -17,7 +17,7 @@ use Rattle.upc_task.specs.declared.limits.Limits.{Limits}
 use Rattle.upc_task.specs.layer.Sources.{Outcomes, HasOutcomes}
 use Rattle.upc_task.specs.layer.Kept.{IsKept, strand_of}
 use Rattle.upc_rounds.specs.declared.place.Place.{Place}
-use Rattle.upc_rounds.specs.Openings.{opening_of}
+use Rattle.upc_rounds.specs.layer.Openings.{opening_of}
 use Rattle.upc_rounds.specs.Rounds.{EndsInTime}
 use Rattle.upc_rounds.specs.code.Runs.{AreSame, IsAt, standing_of}
 use Rattle.upc_rounds.specs.code.Teams.{IsCrew, IsTeam, IsDone, HasEnded, workers_of, seen_at, seen_among}

@@ -1,4 +1,3 @@
-pub mod Openings
 pub mod Rounds
 pub mod code
 pub mod layer

@@ -70,8 +70,8 @@ module _ (o : Opening) (t : ℕ) (items : List Item) (want : Option Action) wher
   RestsAfterEach e before (p ∷ ps) =
       BeatsLast (entries_of t p) × Rests e before p (joined ps) × RestsAfterEach e (before ++ p) ps
 
-  -- After a part the thread may go on: its last entry there is a Beat, or it stands at a Stall and its next action has a
-  -- lawful reply after the history so far.
+  -- After a part the thread stands at a Stall of its record, and its next action has a lawful reply after the history
+  -- so far.
   pub record StandsReady (before part : List Entry) : Type 0 where
     pub ahead : List Item
     pub behind : List Item
@@ -81,6 +81,7 @@ module _ (o : Opening) (t : ℕ) (items : List Item) (want : Option Action) wher
     pub wants : next_action want behind ≡ Some action
     pub some : is_some (reply o (before ++ part) t action) ≡ true
 
+  -- After a part the thread may go on: its last entry there is a Beat, or it stands at a Stall and is ready.
   abbrev pub MayGo : (before part : List Entry) → Type 0
   MayGo before part = (ends_with_beat (entries_of t part) ≡ true) ⊎ StandsReady before part
 
@@ -140,8 +141,8 @@ pub record SomeMayGo (o : Opening) (outcome : (budget t : ℕ) → List Reply �
 
 -- The run of the journal ends in the round in which it has to. Once an end has ended it, there is no further round. Nor
 -- is there one where no thread may go on: a deadlock ends the run in the round in which every thread without an end
--- first stands at a Stall that is not legal. And a thread whose record is full where it stands at a Stall is not
--- passed over: it ends in the next round, by its full record, and in no other case does a full record end at a Stall so.
+-- first stands at a Stall that is not legal. And a thread whose record is full where it stands at a Stall is not passed
+-- over: it ends in the next round, by its full record, and in no other case does a full record end at a Stall so.
 pub record EndsInTime (o : Opening) (outcome : (budget t : ℕ) → List Reply → Outcome) (j : Journal) : Type 0 where
   pub stops_in_time : StopsInTime o outcome j
   -- after each part but the last some strand may go on

@@ -6,7 +6,7 @@ ghost use Rattle.upc_values.specs.Openings.{Opening, IsOpening};
 ghost use Rattle.turn_cell.specs.layer.Seats.{TableId, AreNew};
 ghost use Rattle.upc_task.specs.layer.Sources.{Outcomes, HasOutcomes};
 ghost use Rattle.upc_task.specs.layer.Kept.{AreLimits};
-ghost use Rattle.upc_rounds.specs.Openings.{opening_of};
+ghost use Rattle.upc_rounds.specs.layer.Openings.{opening_of};
 ghost use Rattle.upc_rounds.specs.code.Runs.{standing_of};
 ghost use Rattle.upc_rounds.specs.code.Teams.{IsCrew, worker_of, workers_of, seen_among};
 

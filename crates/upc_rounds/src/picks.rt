@@ -8,7 +8,7 @@ ghost use Rattle.upc_values.specs.Locks.{LocksExclude};
 ghost use Rattle.stack_code_laws.specs.layer.Asking.{IsCodeFor};
 ghost use Rattle.turn_cell.specs.layer.Seats.{id_of, started};
 ghost use Rattle.upc_task.specs.layer.Sources.{Outcomes, GivesOutcomes};
-ghost use Rattle.upc_rounds.specs.Openings.{opening_of};
+ghost use Rattle.upc_rounds.specs.layer.Openings.{opening_of};
 ghost use Rattle.upc_rounds.specs.layer.Course.{Obeys, ArePicked, IsCourse};
 ghost use Rattle.upc_rounds.specs.code.Runs.{AreSame, NoneStops, IsChosen, EndsOut, GoesPicked, open_among, moment_of};
 ghost use Rattle.upc_rounds.specs.code.Teams.{GoesOn, StaysCrew, IsCrew, IsDone, workers_of, seen_among};

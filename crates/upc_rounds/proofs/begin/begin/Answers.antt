@@ -1,6 +1,6 @@
 use Rattle.std.proofs.Common.{ℕ, ◌≡◌, List, map, sym, subst, ap, ◌∙◌, [], refl}
 use Rattle.upc_values.specs.Openings.{Opening, IsOpening}
-use Rattle.upc_rounds.specs.Openings.{opening_of}
+use Rattle.upc_rounds.specs.layer.Openings.{opening_of}
 use Rattle.upc_rounds.proofs.Openings.{kept_opening, opening_with, opens}
 use Rattle.upc_rounds.proofs.begin.begin.Goals as goal
 

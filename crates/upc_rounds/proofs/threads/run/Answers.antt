@@ -10,7 +10,7 @@ use Rattle.upc_values.specs.Waits.{WaitsFollow}
 use Rattle.upc_task.specs.layer.Sources.{Outcomes, HasOutcomes}
 use Rattle.upc_task.specs.layer.Kept.{IsKept, strand_of}
 use Rattle.upc_rounds.specs.declared.place.Place.{Place}
-use Rattle.upc_rounds.specs.Openings.{opening_of}
+use Rattle.upc_rounds.specs.layer.Openings.{opening_of}
 use Rattle.upc_rounds.specs.layer.Course.{Moment, AreOf}
 use Rattle.upc_rounds.specs.code.Runs.{AreSame, moment_of}
 use Rattle.upc_rounds.specs.code.Teams.{IsSeated, IsCrew, IsTeam, IsDone, HasEnded, workers_of, seen_at, seen_among}
