@@ -5,11 +5,11 @@ ghost use Rattle.std.specs.Prelude.{◌<◌};
 use crate::front::program_of;
 use crate::sources::SOURCES;
 use program_runs::run_program_by;
-use upc_task::Limits;
 use std::alloc::Global;
 use std::test::Fail;
 use upc_checker::Program;
 use upc_meaning::{Told, replay};
+use upc_task::Limits;
 use upc_text::OutOfMemory;
 use upc_values::{Action, End, Item, Reply, Strand, ToldEnd, same_action};
 

@@ -4,10 +4,10 @@ use crate::front::program_of;
 use crate::runs::{has_history, run_of};
 use order_builder::orders;
 use plain_orders::is_consistent;
-use upc_task::Limits;
 use std::alloc::Global;
 use std::sync::Wait;
 use std::test::Fail;
+use upc_task::Limits;
 use upc_values::Order;
 
 // The name of an operation: its thread, the number of its action there, and whether it is a write.

@@ -5,10 +5,10 @@ ghost use Rattle.upc_values.specs.Consistent.{FollowsBuffers};
 
 use crate::front::program_of;
 use program_runs::run_program_by;
-use upc_task::Limits;
 use std::alloc::Global;
 use std::sync::Wait;
 use std::test::Fail;
+use upc_task::Limits;
 use upc_text::Stop;
 use upc_values::{Action, End, Journal};
 

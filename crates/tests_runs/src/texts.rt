@@ -6,10 +6,10 @@ ghost use Rattle.run_recorder_text.specs.Short.{HasText};
 use crate::runs::run_of;
 use order_builder::orders;
 use run_recorder_text::{is_short, render};
-use upc_task::Limits;
 use std::alloc::Global;
 use std::sync::Wait;
 use std::test::Fail;
+use upc_task::Limits;
 use upc_values::{Journal, Orders, agrees};
 
 // The text of `int main(){return 0;}`, run by one thread.

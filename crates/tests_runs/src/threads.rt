@@ -30,7 +30,8 @@ int main(void) {
 }
 ";
 
-const FLAG: &[u8] = b"strict shared int f; int main(void){if(MYTHREAD==0){while(!f);}else f=1;return 0;}";
+const FLAG: &[u8] =
+    b"strict shared int f; int main(void){if(MYTHREAD==0){while(!f);}else f=1;return 0;}";
 
 const STORES: &[u8] = b"strict shared int x, y; shared int seen[2];
 int main(void) {
@@ -100,14 +101,14 @@ fn always_prints<R: Threads + Wait + Sync>(
 
 #[test]
 fn sums_are_the_same_in_every_interleaving(rt: HostRuntime) -> Result<(), Fail> {
-    assert!(rt; always_prints(&rt, rt.alloc(), SUM, 4, b"79800\n", 50)?);
-    assert!(rt; always_prints(&rt, rt.alloc(), SUM, 32, b"79800\n", 20)?);
+    assert!(rt; always_prints(&rt, rt.alloc(), SUM, 4, b"79800\n", 20)?);
+    assert!(rt; always_prints(&rt, rt.alloc(), SUM, 32, b"79800\n", 5)?);
     Ok(())
 }
 
 #[test]
 fn a_flag_ends_a_loop(rt: HostRuntime) -> Result<(), Fail> {
-    for _ in 0..50 {
+    for _ in 0..20 {
         let journal = run_on(&rt, rt.alloc(), FLAG, 2, &OpenGate)?;
         assert!(rt; has_ended(&journal));
     }
@@ -116,8 +117,8 @@ fn a_flag_ends_a_loop(rt: HostRuntime) -> Result<(), Fail> {
 
 #[test]
 fn strict_accesses_are_seen_in_one_order(rt: HostRuntime) -> Result<(), Fail> {
-    assert!(rt; always_prints(&rt, rt.alloc(), STORES, 2, b"seen\n", 300)?);
-    assert!(rt; always_prints(&rt, rt.alloc(), MESSAGE, 2, b"seen\n", 300)?);
+    assert!(rt; always_prints(&rt, rt.alloc(), STORES, 2, b"seen\n", 100)?);
+    assert!(rt; always_prints(&rt, rt.alloc(), MESSAGE, 2, b"seen\n", 100)?);
     Ok(())
 }
 
