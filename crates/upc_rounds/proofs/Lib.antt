@@ -19,3 +19,5 @@ pub mod Beginnings
 pub mod Timing
 pub mod Ending
 pub mod Whole
+pub mod Cuts
+mod RoundRows

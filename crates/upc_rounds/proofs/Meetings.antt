@@ -10,7 +10,7 @@ use Rattle.upc_rounds.specs.declared.place.Place.{Place}
 use Rattle.upc_rounds.specs.code.Teams.{Met, HaveMet, seen_at}
 use Rattle.upc_rounds.proofs.Crews.{met-then}
 
--- what holds at a place of a list of which one member was set
+-- What holds at a place of a list of which one member was set
 pub set-at : (Q : ℕ → Place → Type 0) (ls : List Place) (t i : ℕ) (m d : Place) → t < length ls → ((i ≢ t) → Q i (get_or ls i d)) → (i ≡ t → Q t m) → Q i (get_or (set ls t m) i d)
 set-at Q ls t i m d lt other same = elim (cases_eq i t) as (λ z. Q i (get_or (set ls t m) i d)) [
   | inl e ↦ subst (λ j. Q j (get_or (set ls t m) j d)) (sym e) (subst (Q t) (sym (get_or-set_same ls t m d lt)) (same e))
@@ -30,7 +30,7 @@ seen-of : (b c : Place) (xs ys zs : List Place) → length ys ≡ length xs → 
 seen-of b c xs ys zs xy stays seen zero d lt = stays
 seen-of b c xs ys zs xy stays seen (suc i) d lt = let l : i < length xs = omega arith in seen i d (subst (λ k. i < k) (sym xy) l)
 
--- the first and the others after both sweeps
+-- The first and the others after both sweeps
 pub have-met : (a b c : Place) (xs ys zs : List Place) → length ys ≡ length xs → length zs ≡ length ys → Met a b → Met b c → seen_at c ≡ seen_at b
     → ((i : ℕ) (d : Place) → i < length xs → Met (get_or xs i d) (get_or ys i d)) → ((i : ℕ) (d : Place) → i < length ys → Met (get_or ys i d) (get_or zs i d))
     → ((i : ℕ) (d : Place) → i < length ys → seen_at (get_or zs i d) ≡ seen_at b)

@@ -60,7 +60,7 @@ running-set op p src t seen later ks k r lt g a o idle = record {
   ];
 }
 
--- what f makes of each, where it makes a task that keeps its thread, limit and invariant
+-- What f makes of each, where it makes a task that keeps its thread, limit and invariant
 each-at : (f : Worker → Worker) (op : Opening) (p : Codes) (src : Outcomes) (seen : List Entry) (ks ms : List Worker) → AreEach f ks ms → ((i : ℕ) (d : Worker) → i < length ks → IsAt op p src seen i (f (get_or ks i d))) → Numbered (λ i k. IsAt op p src seen i k) ms
 each-at f op p src seen ks ms e h i d lt = let l : i < length ks = subst (λ m. i < m) e.many lt in subst (IsAt op p src seen i) (sym (e.each i d l)) (h i d l)
 
@@ -169,7 +169,7 @@ over-ended op p src seen ks r ended = record {
   given = λ i d lt f q. given-own op seen ks i f (r.own i d lt f q);
 }
 
--- a strand of a task
+-- A strand of a task
 strand-own : (op : Opening) (p : Codes) (src : Outcomes) (seen : List Entry) (k : Worker) (e : End) → IsKept op p src seen k → k.«end» ≡ Some e
     → IsStrand op k.thread k.limits.actions seen (src k.thread) (strand_of src k)
 strand-own op p src seen k e h q =
@@ -220,7 +220,7 @@ shared-end op src j ms i k Budget s ended h = tt
 shared-end op src j ms i k ActionsFull s ended h = tt
 shared-end op src j ms i k (Exit v) s ended h = tt
 
--- the journal of a run that is over is sound
+-- The journal of a run that is over is sound
 pub over-sound : (op : Opening) (p : Codes) (all : ℕ → Outcomes) (l : Limits) (ks ms : List Worker) (j : Journal) → IsOver op p (all l.budget) j.history ms → IsLegal op j.history
     → AreWellFormed op j.history → EachBelow op.threads j.history → AreSame ks ms → Numbered (λ i k. k.limits ≡ l) ks
     → j.threads ≡ op.threads → j.budget ≡ l.budget → j.actions ≡ l.actions → j.strands ≡ map (strand_of (all l.budget)) ms
@@ -255,7 +255,7 @@ same-trans ks ls ms s e = record {
 pub same-refl : (ks : List Worker) → AreSame ks ks
 same-refl ks = record { many = refl; each = λ i d l. record { thread = refl; limits = refl } }
 
--- the same, after ends were given
+-- The same, after ends were given
 pub same-each : (f : Worker → Worker) (ks ls ms : List Worker) → ((k : Worker) → IsSame k (f k)) → AreSame ks ls → AreEach f ls ms → AreSame ks ms
 same-each f ks ls ms h s e = record {
   many = e.many ∙ s.many;
@@ -267,7 +267,7 @@ pub limits-of : (l : Limits) → (1 ≤ l.threads) × (l.threads ≤ 32) → (1 
     → (1 ≤ l.actions) × (l.threads * l.actions ≤ 8388608) → AreLimits l
 limits-of l t b a = record { some = t.0; threads = t.1; ticks = b.0; budget = b.1; items = a.0; all = a.1 }
 
--- one task more, with and without an end
+-- One task more, with and without an end
 pub open-more : (ks : List Worker) (i : ℕ) → i < length ks → IsOpenAt ks i → open_among (take (i + 1) ks) ≡ open_among (take i ks) + 1
 open-more ks i lt h = let d = some-of ks i lt in count_by_more_yes is_open ks i d lt (ap (λ z. not (is_some z)) (h d))
 

@@ -30,21 +30,21 @@ use Rattle.upc_rounds.specs.code.Runs.{IsAt, IsRunning, IsIdle, AreSame, OthersS
 use Rattle.upc_task.proofs.Lists.{numbered-map, some-of}
 use Rattle.upc_task.proofs.Options.{none-some, none-is}
 
--- the standing with these items and this end
+-- The standing with these items and this end
 abbrev pub with : List Item → Option End → Standing
 with items e = record { items = items; «end» = e }
 
 with-is : (k : Worker) (items : List Item) (e : Option End) → k.items.items ≡ items → k.«end» ≡ e → standing_of k ≡ with items e
 with-is k items e h q = ap (λ z. with z k.«end») h ∙ ap (with items) q
 
--- a task between two steps
+-- A task between two steps
 pub idle-of : (p : Pause) (o : Opening) (seen : List Entry) (wish : Option Wish) (m : Worker) → Paused p m → Leaves p wish m.wish → Waits p o seen m → IsIdle m
 idle-of pauses.Going o seen wish m h l w = λ q s. absurd (false≢true (sym (ap is_some l) ∙ s))
 idle-of pauses.Beat o seen wish m h l w = λ q s. absurd (false≢true (sym (ap is_some l) ∙ s))
 idle-of pauses.Stalled o seen wish m h l w = λ q s. w.2
 idle-of pauses.Finished o seen wish m h l w = λ q s. absurd (none-some m.«end» h.0 q h.1)
 
--- a step
+-- A step
 pub steps-of : (p : Pause) (o : Opening) (seen : List Entry) (wish : Option Wish) (k m : Worker) → k.«end» ≡ None → Paused p m → Adds p wish k.items.items m.items.items → Waits p o seen m
     → Steps (standing_of k) (standing_of m)
 steps-of pauses.Going o seen wish k m q h a w = (q, inl (Did a.0 a.1, with-is m (k.items.items ++ Did a.0 a.1 ∷ []) None a.4 h))
@@ -58,7 +58,7 @@ steps-of pauses.Stalled o seen wish k m q h a w = (
 )
 steps-of pauses.Finished o seen wish k m q h a w = (q, inr (inr (h.0, h.2, with-is m k.items.items (Some h.0) a h.1)))
 
--- an item that is no Beat
+-- An item that is no Beat
 pub going-of : (wish : Option Wish) (xs ys : List Item) → Adds pauses.Going wish xs ys → (x : Item) × (is_pause (Some x) ≡ false) × (ys ≡ xs ++ x ∷ [])
 going-of wish xs ys a = (Did a.0 a.1, a.2, a.4)
 
@@ -68,7 +68,7 @@ pausing-pauses k h = elim h [
   | inr s ↦ stall-pauses (last_item k.items.items) s.0
 ]
 
--- rest, of a task and of its standing
+-- Rest, of a task and of its standing
 pub rested-rests : (k : Worker) → Rested k → rests (standing_of k) ≡ true
 rested-rests k h =
     let go : (o : Option End) → k.«end» ≡ o → rests (with k.items.items o) ≡ true = λ o. elim o as (λ o. k.«end» ≡ o → rests (with k.items.items o) ≡ true) [
@@ -100,7 +100,7 @@ unrested-open k h =
       | Some e ↦ λ q z. absurd (false≢true (sym z))
     ] in go k.«end» refl h
 
--- moments
+-- Moments
 pub drained-of : (p : Codes) (f : Outcomes) (w : Opening × List Entry) (ks : List Worker) → IsRunning w.0 p f w.1 ks → IsDrained (moment_of w ks)
 drained-of p f w ks r =
     numbered-map standing_of (λ i k. IsAt w.0 p f w.1 i k) (λ t s. entries_of t w.1 ≡ entries_in (settled s.«end» (walked t s.items)).emitted)
@@ -137,7 +137,7 @@ stopped-of w ks u h = (
 pub count-of : (ks : List Worker) → count_by goes_on (map standing_of ks) ≡ open_among ks
 count-of ks = fold-map (λ a s. a + cond (goes_on s) 1 0) standing_of 0 ks
 
--- an end that has ended the run stays
+-- An end that has ended the run stays
 pub stays-stopped : (ks ms : List Worker) → length ms ≡ length ks
     → ((i : ℕ) (d : Worker) → i < length ks → ToRest (standing_of (get_or ks i d)) (standing_of (get_or ms i d)))
     → (u : ℕ) → StopsAt ks u → StopsAt ms u
@@ -163,7 +163,7 @@ others-of ks ms t at d same ne h =
           get_or_past (map standing_of ms) t d (omega (arith, g, same, many-ms)) ∙ sym (get_or_past (map standing_of ks) t d (omega (arith, g, many-ks)))
     ]
 
--- a pick
+-- A pick
 pub obeys-of : (p : Codes) (f : Outcomes) (w x : Opening × List Entry) (ks ms : List Worker) (pick at : ℕ) → NoneStops ks → IsChosen ks pick at → IsRunning x.0 p f x.1 ms
     → AreSame ks ms → OthersStay at ks ms → GoesAt Steps at ks ms → Grows w.1 x.1 → Obeys pick (moment_of w ks) (moment_of x ms)
 obeys-of p f w x ks ms pick at quiet ch r same others steps g =
@@ -184,20 +184,20 @@ obeyed-push : (picks : List ℕ) (pick : ℕ) (m mid n : Moment) → AreObeyed p
 obeyed-push [] pick m mid n h o = (n, subst (λ z. Obeys pick z n) h o, refl)
 obeyed-push (p ∷ picks) pick m mid n h o = (h.0, h.1, obeyed-push picks pick h.0 mid n h.2 o)
 
--- the next pick is obeyed
+-- The next pick is obeyed
 pub obeyed-more : (picks : List ℕ) (i d : ℕ) (m mid n : Moment) → i < length picks → AreObeyed (take i picks) m mid → Obeys (get_or picks i d) mid n
     → AreObeyed (take (i + 1) picks) m n
 obeyed-more picks i d m mid n lt h o =
     subst (λ z. AreObeyed z m n) (sym (take_more picks i d lt)) (obeyed-push (take i picks) (get_or picks i d) m mid n h o)
 
--- a history that grows twice
+-- A history that grows twice
 pub grows-refl : (xs : List Entry) → Grows xs xs
 grows-refl xs = ([], sym (append-nil xs))
 
 pub grows-trans : (xs ys zs : List Entry) → Grows xs ys → Grows ys zs → Grows xs zs
 grows-trans xs ys zs g h = (g.0 ++ h.0, h.1 ∙ ap (λ l. l ++ h.0) g.1 ∙ append_assoc xs g.0 h.0)
 
--- a part in a round that has not reached its rest
+-- A part in a round that has not reached its rest
 abbrev pub Going : Standing → Standing → Type 0
 Going s u = (items : List Item) × Each (λ x. is_pause (Some x) ≡ false) items × (u ≡ with (s.items ++ items) None)
 
@@ -224,7 +224,7 @@ part-of k l m q g st r = record {
   rested = rested-rests m r;
 }
 
--- a moment that the tasks' strands are of
+-- A moment that the tasks' strands are of
 pub strands-of : (w : Opening × List Entry) (ks ms : List Worker) → length ms ≡ length ks
     → ((f : Outcomes) (i : ℕ) (d : Worker) → i < length ks → IsStrandOf (standing_of (get_or ks i d)) (strand_of f (get_or ms i d)))
     → (f : Outcomes) → AreOf (moment_of w ks) w.1 (map (strand_of f) ms)
@@ -276,7 +276,7 @@ out-locked w o seen ks ms want e = strands-of w ks ms e.many
 pub out-ended : (w : Opening × List Entry) (ks : List Worker) → Numbered (λ j k. is_some k.«end» ≡ true) ks → (f : Outcomes) → AreOf (moment_of w ks) w.1 (map (strand_of f) ks)
 out-ended w ks h = strands-of w ks ks refl (λ f i d lt. strand-ended f (get_or ks i d) (h i d lt))
 
--- what a run begins with
+-- What a run begins with
 pub outset-of : (n : ℕ) (w : Opening × List Entry) (ks : List Worker) → length ks ≡ n → Numbered (λ i k. standing_of k ≡ with [] None) ks → w.1 ≡ [] → IsOutset n (moment_of w ks)
 outset-of n w ks many new empty = record {
   many = length-map ks standing_of ∙ many;
