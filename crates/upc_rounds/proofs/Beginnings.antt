@@ -1,9 +1,9 @@
 -- New seats, and slices that are given back.
-use Rattle.std.proofs.Common.{◌≡◌, ℕ, zero, suc, ◌+◌, ◌<◌, List, [], ◌∷◌, ◌++◌, length, take, drop, Some, refl, sym, ap, subst, ◌∙◌, append-nil, arith}
+use Rattle.std.proofs.Common.{◌≡◌, ℕ, zero, suc, ◌+◌, List, [], ◌∷◌, ◌++◌, length, take, drop, Some, refl, sym, ap, subst, ◌∙◌, append-nil, arith}
 use Rattle.turn_cell.specs.declared.seat.Seat.{Seat}
 use Rattle.turn_cell.specs.layer.Members.{of}
 use Rattle.turn_cell.specs.layer.Seats.{part}
-use Rattle.turn_cell.specs.layer.Seats.{TableId, AreNew, IsNew, IsFree, first_number, first_own, number_of, cell_of, seen_of, opening_of}
+use Rattle.turn_cell.specs.layer.Seats.{TableId, AreNew, IsNew, IsFree, first_number, first_own, number_of, seen_of, opening_of}
 use Rattle.upc_values.specs.declared.journal.Entry.{Entry}
 use Rattle.upc_values.specs.Openings.{Opening}
 use Rattle.upc_values.specs.Lists.{Numbered}

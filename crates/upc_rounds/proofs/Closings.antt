@@ -1,5 +1,5 @@
 -- At the end the list has nothing that the tasks had not seen.
-use Rattle.std.proofs.Common.{◌≡◌, ℕ, zero, suc, ◌+◌, ◌<◌, List, [], ◌∷◌, ◌++◌, map, length, refl, sym, ap, subst, ◌∙◌, arith, get_or, append-nil}
+use Rattle.std.proofs.Common.{◌≡◌, ℕ, zero, suc, ◌+◌, ◌<◌, List, [], ◌∷◌, ◌++◌, map, length, sym, ap, subst, ◌∙◌, arith, get_or, append-nil}
 use mathlib.Core.List.{IsPrefix}
 use Rattle.turn_cell.specs.layer.Members.{of, Every}
 use Rattle.turn_cell.specs.layer.Seats.{TableId, AreFree, HasAll, number_of, own_of}
@@ -8,7 +8,7 @@ use Rattle.upc_values.specs.Lists.{Numbered}
 use Rattle.upc_values.specs.History.{EachBelow}
 use Rattle.upc_values.specs.Drain.{entries_of}
 use Rattle.upc_rounds.specs.declared.place.Place.{Place}
-use Rattle.upc_rounds.specs.code.Teams.{seat_at, seen_at, seen_among, IsSeated}
+use Rattle.upc_rounds.specs.code.Teams.{seat_at, seen_at, IsSeated}
 use Rattle.upc_rounds.proofs.Rounding.{whole-seen}
 use Rattle.upc_rounds.proofs.Crews.{some-place}
 

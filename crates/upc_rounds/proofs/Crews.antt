@@ -1,6 +1,5 @@
 -- Places that meet, and a crew that has gone on and met.
-use Rattle.std.proofs.Common.{◌≡◌, ℕ, zero, suc, ◌+◌, ◌<◌, ◌≤◌, true, false, List, [], ◌∷◌, ◌++◌, map, length, None, Some, is_some, refl, sym, ap, subst, ◌∙◌, append-nil, append_assoc, arith, inl, inr, get_or}
-use Rattle.std.specs.Prelude.{◌⊎◌}
+use Rattle.std.proofs.Common.{◌≡◌, ℕ, suc, ◌<◌, List, [], ◌∷◌, ◌++◌, length, refl, sym, ap, subst, ◌∙◌, append-nil, arith, get_or}
 use Rattle.std.proofs.lemmas.List.{length-map, get_or-map}
 use mathlib.Core.List.{IsPrefix}
 use Rattle.turn_cell.specs.layer.Members.{of}
@@ -15,14 +14,14 @@ use Rattle.upc_task.specs.declared.worker.Worker.{Worker}
 use Rattle.upc_task.specs.declared.seated.Task.{Task}
 use Rattle.upc_task.specs.layer.Sources.{Outcomes}
 use Rattle.upc_task.specs.layer.Kept.{IsKept, IsSame}
-use Rattle.upc_task.specs.layer.Seated.{IsLawful, IsTask, IsSeatOf}
+use Rattle.upc_task.specs.layer.Seated.{IsLawful, IsTask}
 use Rattle.upc_task.proofs.Lists.{numbered-map}
-use Rattle.upc_task.proofs.Seen.{kept-entered, unseen-none}
+use Rattle.upc_task.proofs.Seen.{kept-entered}
 use Rattle.upc_rounds.specs.declared.place.Place.{Place}
 use Rattle.upc_rounds.specs.layer.Course.{Grows}
 use Rattle.upc_rounds.specs.code.Runs.{IsAt, IsRunning, AreSame, HasOwnEnd, IsIdle}
 use Rattle.upc_rounds.specs.code.Places.{Moved}
-use Rattle.upc_rounds.specs.code.Teams.{worker_of, workers_of, seen_at, seen_among, Met, AreMet, HaveMet, IsMember, IsCrew}
+use Rattle.upc_rounds.specs.code.Teams.{worker_of, workers_of, seen_at, seen_among, Met, AreMet, HaveMet, IsCrew}
 use Rattle.upc_rounds.proofs.Prefixes.{prefix-self, prefix-then, prefix-both}
 use Rattle.upc_rounds.proofs.Rounding.{whole-seen}
 

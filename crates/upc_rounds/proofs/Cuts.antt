@@ -1,6 +1,6 @@
 -- Where a history may be cut into parts.
 use Rattle.std.proofs.Common.{◌≡◌, ℕ, ◌==◌, true, false, cond, List, [], ◌∷◌, ◌++◌, Option, refl, sym, ap, subst, ◌∙◌, append-nil, append_assoc, inl, inr}
-use Rattle.std.specs.Prelude.{◌⊎◌, filter, ◌+◌, ◌&&◌, nat_lt, Some, None, is_some, slice_get}
+use Rattle.std.specs.Prelude.{◌⊎◌, ◌+◌, ◌&&◌, nat_lt, Some, None, is_some, slice_get}
 use Rattle.std.proofs.Common.{arith}
 use Rattle.std.proofs.lemmas.List.Sums.{sum_by-append}
 use Rattle.std.proofs.lemmas.Bool.{cases_Bool, cond_both, false≢true, lt-ltb}

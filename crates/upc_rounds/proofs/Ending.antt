@@ -1,6 +1,5 @@
 -- A run that is over: ends were given where tasks had none.
-use Rattle.std.proofs.Common.{◌≡◌, ◌≢◌, ℕ, ◌<◌, true, false, List, map, length, Option, Some, None, is_some, refl, sym, ap, subst, ◌∙◌, inl, inr, get_or}
-use Rattle.std.specs.Prelude.{◌⊎◌}
+use Rattle.std.proofs.Common.{◌≡◌, ℕ, ◌<◌, true, List, length, Option, Some, None, is_some, refl, sym, ap, subst, ◌∙◌, get_or}
 use Rattle.std.proofs.lemmas.Bool.{false≢true}
 use Rattle.turn_cell.specs.layer.Seats.{TableId, cell_of, number_of, seen_of}
 use Rattle.upc_values.specs.declared.action.Action.{Action}
@@ -13,14 +12,12 @@ use Rattle.stack_code.specs.Codes.{Codes}
 use Rattle.stack_machine.specs.declared.wish.Wish.TheVariants.{Act}
 use Rattle.upc_task.specs.declared.worker.Worker.{Worker}
 use Rattle.upc_task.specs.layer.Sources.{Outcomes}
-use Rattle.upc_task.specs.layer.Kept.{IsKept, IsSame}
 use Rattle.upc_rounds.specs.declared.place.Place.{Place}
-use Rattle.upc_rounds.specs.code.Runs.{IsRunning, IsOver, AreEach, AreSame, Rested, Stops, StopsAt, NoneStops, Wanting, halted, halted_end, locked, locked_end}
+use Rattle.upc_rounds.specs.code.Runs.{IsOver, AreEach, AreSame, Rested, StopsAt, NoneStops, Wanting, halted, halted_end, locked, locked_end}
 use Rattle.upc_rounds.specs.code.Played.{GoneByRounds, IsEnded}
-use Rattle.upc_rounds.specs.code.Teams.{seat_at, seen_at, seen_among, workers_of, SameSeats, IsSeated, IsCrew, IsDone, HasGone, HasEnded}
+use Rattle.upc_rounds.specs.code.Teams.{seen_among, workers_of, SameSeats, IsSeated, IsCrew, IsDone, HasEnded}
 use Rattle.upc_rounds.proofs.Running.{over-halted, over-locked, over-ended}
-use Rattle.upc_rounds.proofs.Crews.{some-place, many-workers, among-at, crew-running}
-use Rattle.upc_rounds.proofs.Rounding.{none-or}
+use Rattle.upc_rounds.proofs.Crews.{some-place, among-at, crew-running}
 
 -- ---- seats
 

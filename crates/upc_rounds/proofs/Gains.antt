@@ -1,7 +1,6 @@
 -- What a step adds to the history, and that each Stall of a record stays one.
-use Rattle.std.proofs.Common.{◌≡◌, ℕ, ◌+◌, ◌<◌, nat_lt, Bool, true, false, cond, List, [], ◌∷◌, ◌++◌, map, length, Option, Some, None, refl, sym, ap, subst, ◌∙◌, append-nil, append_assoc, inl, inr}
-use Rattle.std.specs.Prelude.{◌⊎◌}
-use Rattle.std.proofs.lemmas.Bool.{cond_both, false≢true}
+use Rattle.std.proofs.Common.{◌≡◌, ℕ, nat_lt, Bool, true, false, List, [], ◌∷◌, ◌++◌, map, length, Option, Some, None, refl, sym, ap, subst, ◌∙◌, append-nil, append_assoc, inl, inr}
+use Rattle.std.proofs.lemmas.Bool.{cond_both}
 use Rattle.std.proofs.lemmas.List.{append_cancel_left, map-append}
 use Rattle.block_layout.specs.declared.place.Loc.{Loc}
 use Rattle.upc_values.specs.declared.scalar.Scalar.{Scalar}
@@ -10,10 +9,9 @@ use Rattle.upc_values.specs.declared.action.Action.TheVariants.{Read, Write, Pri
 use Rattle.upc_values.specs.declared.action.Reply.{Reply}
 use Rattle.upc_values.specs.declared.record.Item.{Item}
 use Rattle.upc_values.specs.declared.record.Item.TheVariants.{Did, Stall}
-use Rattle.upc_values.specs.declared.record.End.{End}
 use Rattle.upc_values.specs.declared.journal.Entry.{Entry}
 use Rattle.upc_values.specs.Openings.{Opening}
-use Rattle.upc_values.specs.Drain.{Commit, commit_of, entries_in, Walk, emptied, oldest_out, with_room, passed, put, looked_up, gone, stepped, walked, pending_value, entry_of, entries_of}
+use Rattle.upc_values.specs.Drain.{Commit, commit_of, entries_in, Walk, emptied, oldest_out, with_room, passed, put, looked_up, stepped, walked, pending_value, entry_of, entries_of}
 use Rattle.upc_values.specs.Outcomes.{wanted}
 use Rattle.upc_values.specs.Records.{replies_of, is_beat, is_beat_item}
 use Rattle.upc_values.specs.Strands.{next_action}
@@ -28,8 +26,8 @@ use Rattle.upc_task.specs.declared.worker.Pause.{Pause}
 use Rattle.upc_task.specs.declared.worker.Pause.TheVariants as pauses
 use Rattle.upc_task.specs.declared.worker.Pause.TheVariants.{Going, Stalled, Finished}
 use Rattle.upc_task.specs.layer.Sources.{Outcomes}
-use Rattle.upc_task.specs.layer.Kept.{AllOf, Grew, Holds, settled, IsKept, IsSame, Paused, Adds, Waits, outcome_of}
-use Rattle.upc_rounds.specs.code.Played.{want_of, Quiet, QuietBut, beats_at, KeepsStalls, Turned}
+use Rattle.upc_task.specs.layer.Kept.{AllOf, Grew, Holds, settled, IsKept, IsSame, Paused, Adds, Waits}
+use Rattle.upc_rounds.specs.code.Played.{want_of, Quiet, QuietBut, KeepsStalls, Turned}
 
 pub quiet-append : (xs ys : List Entry) → Quiet xs → Quiet ys → Quiet (xs ++ ys)
 quiet-append [] ys h k = k

@@ -1,5 +1,5 @@
 -- Records and where their Stalls stand.
-use Rattle.std.proofs.Common.{◌≡◌, ℕ, ◌+◌, ◌<◌, ◌≤◌, nat_lt, Bool, true, false, List, [], ◌∷◌, ◌++◌, length, Option, Some, None, refl, sym, ap, subst, ◌∙◌, append-nil, append_assoc, arith, inl, inr}
+use Rattle.std.proofs.Common.{◌≡◌, ℕ, ◌+◌, ◌<◌, ◌≤◌, nat_lt, true, false, List, [], ◌∷◌, ◌++◌, length, Option, Some, None, refl, sym, ap, subst, ◌∙◌, append-nil, append_assoc, arith, inl, inr}
 use Rattle.std.specs.Prelude.{◌⊎◌}
 use Rattle.std.proofs.lemmas.Bool.{cond_both, false≢true}
 use Rattle.std.proofs.lemmas.List.{length-append, length-map}
@@ -12,7 +12,7 @@ use Rattle.upc_values.specs.declared.record.Item.{Item}
 use Rattle.upc_values.specs.declared.record.Item.TheVariants.{Did, Stall}
 use Rattle.upc_values.specs.declared.journal.Entry.{Entry}
 use Rattle.upc_values.specs.Lists.{Each}
-use Rattle.upc_values.specs.Drain.{Commit, commit_of, Walk, emptied, oldest_out, with_room, passed, put, looked_up, gone, stepped, walked, walked_from, start, pending_value, entry_of, entries_in, drain}
+use Rattle.upc_values.specs.Drain.{Commit, commit_of, Walk, emptied, oldest_out, with_room, passed, put, looked_up, gone, stepped, walked, walked_from, start, pending_value, entry_of, drain}
 use Rattle.upc_values.specs.Ends.{is_pause}
 use Rattle.upc_values.specs.Records.{last_item, last_from, is_stall}
 use Rattle.upc_values.specs.Strands.{may_wait, MayWait, first_is_stall, next_action, StallsStand}

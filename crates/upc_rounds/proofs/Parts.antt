@@ -1,32 +1,25 @@
 -- A thread's part in a round, step by step.
-use Rattle.std.proofs.Common.{◌≡◌, ℕ, ◌++◌, List, [], ◌∷◌, length, None, Some, is_some, refl, sym, ap, subst, ◌∙◌, true, false, append_assoc, append-nil, inl, inr}
-use Rattle.std.specs.Prelude.{◌⊎◌}
-use Rattle.std.proofs.lemmas.Bool.{false≢true}
+use Rattle.std.proofs.Common.{◌≡◌, ◌++◌, List, [], ◌∷◌, length, None, Some, is_some, refl, sym, ap, subst, ◌∙◌, true, append_assoc}
 use mathlib.Core.List.{IsPrefix}
-use Rattle.upc_values.specs.declared.journal.Entry.{Entry}
-use Rattle.upc_values.specs.declared.record.End.{End}
 use Rattle.upc_values.specs.declared.record.Item.{Item}
 use Rattle.upc_values.specs.declared.record.Item.TheVariants.{Did}
 use Rattle.upc_values.specs.Openings.{Opening}
-use Rattle.upc_values.specs.Records.{last_item, is_stall, is_beat_item}
-use Rattle.upc_values.specs.Drain.{entries_of}
+use Rattle.upc_values.specs.Records.{last_item, is_beat_item}
 use Rattle.upc_values.proofs.Records.{last-push}
 use Rattle.stack_code.specs.Codes.{Codes}
-use Rattle.turn_cell.specs.layer.Seats.{TableId, cell_of, number_of, seen_of, opening_of}
+use Rattle.turn_cell.specs.layer.Seats.{TableId, seen_of}
 use Rattle.upc_task.specs.declared.worker.Worker.{Worker}
 use Rattle.upc_task.specs.declared.worker.Pause.{Pause}
 use Rattle.upc_task.specs.declared.worker.Pause.TheVariants as pauses
 use Rattle.upc_task.specs.declared.seated.Task.{Task}
-use Rattle.upc_task.specs.Ends.{is_given}
 use Rattle.upc_task.specs.layer.Sources.{Outcomes}
-use Rattle.upc_task.specs.layer.Kept.{IsKept, IsSame, IsPausing, StaysKept, Paused, Adds, Leaves, Waits}
+use Rattle.upc_task.specs.layer.Kept.{IsSame, StaysKept, Paused, Adds, Leaves, Waits}
 use Rattle.upc_task.specs.layer.Seated.{IsTask, StaysTask, Gained}
 use Rattle.upc_task.proofs.Options.{none-some}
 use Rattle.upc_task.proofs.Workers.{kept-seen}
-use Rattle.upc_rounds.specs.Rounds.{ends_with_beat}
 use Rattle.upc_rounds.specs.layer.Course.{Steps}
-use Rattle.upc_rounds.specs.code.Runs.{HasOwnEnd, IsIdle, Rested, standing_of}
-use Rattle.upc_rounds.specs.code.Played.{TurnedSeen, SoFar, Acted, KeepsStalls}
+use Rattle.upc_rounds.specs.code.Runs.{Rested, standing_of}
+use Rattle.upc_rounds.specs.code.Played.{TurnedSeen, SoFar}
 use Rattle.upc_rounds.specs.code.Places.{Moved, Took, RestsWith}
 use Rattle.upc_rounds.proofs.Prefixes.{prefix-self, prefix-then}
 use Rattle.upc_rounds.proofs.Gains.{turned-step, turned-work}

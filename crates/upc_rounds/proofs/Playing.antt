@@ -1,11 +1,9 @@
 -- What the steps of one thread make of its part in a round.
-use Rattle.std.proofs.Common.{◌≡◌, ℕ, Bool, true, false, List, [], ◌∷◌, ◌++◌, Option, Some, None, is_some, refl, sym, ap, subst, ◌∙◌, append-nil, append_assoc, inl, inr}
-use Rattle.std.specs.Prelude.{◌⊎◌}
-use Rattle.std.proofs.lemmas.Bool.{false≢true}
+use Rattle.std.proofs.Common.{◌≡◌, ℕ, true, false, List, [], ◌∷◌, ◌++◌, Option, Some, is_some, refl, sym, ap, subst, ◌∙◌, append-nil, append_assoc, inl, inr}
 use Rattle.upc_values.specs.declared.action.Action.{Action}
 use Rattle.upc_values.specs.declared.action.Reply.{Reply}
 use Rattle.upc_values.specs.declared.record.Item.{Item}
-use Rattle.upc_values.specs.declared.record.Item.TheVariants.{Did, Stall}
+use Rattle.upc_values.specs.declared.record.Item.TheVariants.{Did}
 use Rattle.upc_values.specs.declared.journal.Entry.{Entry}
 use Rattle.upc_values.specs.Openings.{Opening}
 use Rattle.upc_values.specs.Drain.{entries_of}
@@ -20,7 +18,7 @@ use Rattle.upc_task.specs.declared.worker.Pause.TheVariants.{Going, Stalled, Fin
 use Rattle.upc_task.specs.layer.Sources.{Outcomes}
 use Rattle.upc_task.specs.layer.Kept.{AllOf, Paused, Adds}
 use Rattle.upc_rounds.specs.Rounds.{BeatsLast, ends_with_beat}
-use Rattle.upc_rounds.specs.code.Played.{Quiet, KeepsStalls, TurnedSeen, SoFar, Acted}
+use Rattle.upc_rounds.specs.code.Played.{Quiet, TurnedSeen, SoFar, Acted}
 use Rattle.upc_rounds.proofs.Gains.{quiet-append, keeps-self, keeps-then}
 
 pub quiet-beats : (xs : List Entry) → Quiet xs → BeatsLast xs

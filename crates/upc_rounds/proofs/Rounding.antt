@@ -1,8 +1,8 @@
 -- Threads' parts make a round of all, and these a history that goes by rounds.
-use Rattle.std.proofs.Common.{◌≡◌, ◌≢◌, ℕ, ◌+◌, ◌<◌, Bool, true, false, List, [], ◌∷◌, ◌++◌, map, length, Option, Some, None, is_some, refl, sym, ap, subst, ◌∙◌, append-nil, append_assoc, arith, inl, inr, get_or}
+use Rattle.std.proofs.Common.{◌≡◌, ◌≢◌, ℕ, ◌<◌, true, false, List, [], ◌∷◌, ◌++◌, length, Option, Some, None, is_some, refl, sym, ap, subst, ◌∙◌, append-nil, append_assoc, arith, inl, inr, get_or}
 use Rattle.std.specs.Prelude.{◌⊎◌}
-use Rattle.std.proofs.lemmas.Bool.{cases_Bool, false≢true}
-use Rattle.std.proofs.lemmas.List.{length-map, get_or-map, get_or_default, append_cancel_left}
+use Rattle.std.proofs.lemmas.Bool.{false≢true}
+use Rattle.std.proofs.lemmas.List.{get_or_default, append_cancel_left}
 use Rattle.upc_values.specs.declared.action.Action.{Action}
 use Rattle.upc_values.specs.declared.record.Item.{Item}
 use Rattle.upc_values.specs.declared.record.Item.TheVariants.{Did, Stall}
@@ -31,9 +31,9 @@ use Rattle.upc_task.specs.Ends.{is_given}
 use Rattle.upc_task.specs.layer.Sources.{Outcomes}
 use Rattle.upc_task.specs.layer.Kept.{IsKept, IsSame, Waits, settled, outcome_of, end_or}
 use Rattle.upc_rounds.specs.Rounds.{BeatsLast, ends_with_beat, joined, StandsAtStall, StandsLast, Rests, RestsAfterEach, AfterEach, AfterLast, but_last}
-use Rattle.upc_rounds.specs.layer.Course.{Steps, TakesPart}
+use Rattle.upc_rounds.specs.layer.Course.{TakesPart}
 use Rattle.upc_rounds.specs.code.Runs.{HasOwnEnd, NoneStops, Moving, standing_of}
-use Rattle.upc_rounds.specs.code.Played.{want_of, KeepsStalls, Acted, Played, SomeGoes, StallsNow, BeatsNow, HasParts, GoesByRounds, GoneByRounds}
+use Rattle.upc_rounds.specs.code.Played.{want_of, KeepsStalls, Acted, Played, SomeGoes, GoesByRounds, GoneByRounds}
 use Rattle.upc_rounds.proofs.Items.{none-added, stalls-at, same-stall}
 use Rattle.upc_rounds.proofs.Resting.{joined-push, but-last-push, after-map, last-map, last-push as after-push, last-whole, each-last, rests-each, stands-longer, ready-stays, rests-moved, rests-push}
 use Rattle.upc_rounds.proofs.Gains.{keeps-self}

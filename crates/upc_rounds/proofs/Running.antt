@@ -1,5 +1,5 @@
 -- A run of tasks: at a step, at its end, and as a journal.
-use Rattle.std.proofs.Common.{◌≡◌, ◌≢◌, ℕ, ◌<◌, ◌≤◌, ◌*◌, true, false, List, [], map, length, Option, Some, None, is_some, refl, sym, ap, subst, ◌∙◌, inl, inr, get_or, set, get_or-set_same, get_or-set_other}
+use Rattle.std.proofs.Common.{◌≡◌, ◌≢◌, ℕ, ◌<◌, ◌≤◌, ◌*◌, true, false, List, map, length, Option, Some, None, is_some, refl, sym, ap, subst, ◌∙◌, inl, inr, get_or, set, get_or-set_same, get_or-set_other}
 use Rattle.std.proofs.lemmas.Bool.{cases_eq, false≢true}
 use Rattle.std.proofs.lemmas.List.{length-set, length-map, get_or-map}
 use Rattle.upc_values.specs.declared.action.Action.{Action}
@@ -22,7 +22,6 @@ use Rattle.upc_task.specs.declared.worker.Worker.{Worker}
 use Rattle.upc_task.specs.declared.worker.Pause.{Pause}
 use Rattle.upc_task.specs.declared.worker.Pause.TheVariants as pauses
 use Rattle.upc_task.specs.layer.Sources.{Outcomes}
-use Rattle.upc_rounds.specs.layer.Course.{Standing}
 use Rattle.upc_task.specs.Ends.{is_given}
 use Rattle.upc_task.specs.layer.Kept.{AreLimits, IsKept, IsSame, Grew, Paused, outcome_of, settled, Holds, end_or, strand_of}
 use Rattle.upc_rounds.specs.code.Runs.{IsAt, HasOwnEnd, IsIdle, IsRunning, AreSame, Rested, Stops, Wanting, Given, IsOver, AreEach, halted, halted_end, locked, locked_end, CanLock}
@@ -31,7 +30,6 @@ use Rattle.std.proofs.Common.{take, ◌+◌}
 use Rattle.std.specs.Prelude.{not}
 use Rattle.upc_rounds.specs.code.Runs.{IsOpenAt, is_open, open_among}
 use Rattle.upc_task.proofs.Lists.{numbered-map, both, some-of}
-use Rattle.upc_task.proofs.Options.{none-some}
 use Rattle.upc_task.proofs.Workers.{kept-grow, kept-ended}
 
 at-grow : (op : Opening) (p : Codes) (src : Outcomes) (i t : ℕ) (seen later : List Entry) (k : Worker) → (i ≢ t) → Grew t seen later → IsAt op p src seen i k → IsAt op p src later i k

@@ -1,6 +1,5 @@
 -- A round of all and their meetings.
-use Rattle.std.proofs.Common.{◌≡◌, ℕ, ◌+◌, ◌<◌, ◌≤◌, true, false, List, [], ◌∷◌, ◌++◌, map, length, None, Some, is_some, refl, sym, ap, subst, ◌∙◌, append-nil, append_assoc, arith, inl, inr, get_or}
-use Rattle.std.specs.Prelude.{◌⊎◌}
+use Rattle.std.proofs.Common.{◌≡◌, ℕ, ◌<◌, false, List, [], ◌++◌, length, is_some, sym, ap, subst, ◌∙◌, inl, inr, get_or}
 use Rattle.std.proofs.lemmas.Bool.{false≢true}
 use Rattle.std.proofs.lemmas.List.{append_cancel_left}
 use mathlib.Core.List.{IsPrefix}
@@ -10,16 +9,15 @@ use Rattle.upc_values.specs.Lists.{Numbered}
 use Rattle.upc_values.specs.Openings.{Opening}
 use Rattle.upc_values.specs.Drain.{entries_of}
 use Rattle.stack_code.specs.Codes.{Codes}
-use Rattle.upc_task.specs.declared.worker.Worker.{Worker}
 use Rattle.upc_task.specs.layer.Sources.{Outcomes}
 use Rattle.upc_task.specs.layer.Kept.{IsKept, IsSame}
 use Rattle.upc_task.specs.layer.Seated.{IsTask}
 use Rattle.upc_task.proofs.Seen.{unseen-none}
 use Rattle.upc_rounds.specs.declared.place.Place.{Place}
-use Rattle.upc_rounds.specs.code.Runs.{AreSame, Rested, HasOwnEnd}
+use Rattle.upc_rounds.specs.code.Runs.{AreSame, Rested}
 use Rattle.upc_rounds.specs.code.Played.{Acted, Played, GoneByRounds}
-use Rattle.upc_rounds.specs.code.Places.{Moved, Took, Did}
-use Rattle.upc_rounds.specs.code.Teams.{worker_of, workers_of, seen_at, seen_among, Met, HaveMet, IsMember, IsCrew, IsTeam, HasGone}
+use Rattle.upc_rounds.specs.code.Places.{Moved, Did}
+use Rattle.upc_rounds.specs.code.Teams.{worker_of, workers_of, seen_at, seen_among, Met, HaveMet, IsMember, IsTeam, HasGone}
 use Rattle.upc_rounds.proofs.Rounding.{played-seen, played-over, gone-round}
 use Rattle.upc_rounds.proofs.Crews.{some-place, numbered-workers, both-workers, many-workers, same-workers, among-at, own-stays, moved-self, crew-goes, crew-grows, crew-running}
 

@@ -1,6 +1,5 @@
 -- The journal of a run that went by rounds ends in the round in which it has to.
-use Rattle.std.proofs.Common.{◌≡◌, ◌≢◌, ℕ, ◌<◌, true, false, List, [], ◌∷◌, ◌++◌, map, length, Option, Some, None, is_some, refl, sym, ap, subst, ◌∙◌, inl, inr, get_or}
-use Rattle.std.specs.Prelude.{◌⊎◌}
+use Rattle.std.proofs.Common.{◌≡◌, ◌≢◌, ℕ, ◌<◌, true, false, List, [], map, length, Option, Some, refl, sym, ap, subst, ◌∙◌, inl, inr, get_or}
 use Rattle.std.proofs.lemmas.Bool.{false≢true}
 use Rattle.std.proofs.lemmas.List.{length-map, get_or-map}
 use Rattle.upc_values.specs.declared.action.Action.{Action}
@@ -8,7 +7,6 @@ use Rattle.upc_values.specs.declared.record.Item.{Item}
 use Rattle.upc_values.specs.declared.record.End.{End}
 use Rattle.upc_values.specs.declared.record.End.TheVariants.{Ended, Fault, Budget, ActionsFull, Exit, Halted, Deadlocked}
 use Rattle.upc_values.specs.declared.journal.Entry.{Entry}
-use Rattle.upc_values.specs.declared.journal.Strand.{Strand}
 use Rattle.upc_values.specs.declared.journal.Journal.{Journal}
 use Rattle.upc_values.specs.Lists.{Numbered}
 use Rattle.upc_values.specs.Openings.{Opening}
@@ -20,7 +18,7 @@ use Rattle.upc_task.specs.Ends.{is_given}
 use Rattle.upc_task.specs.layer.Sources.{Outcomes}
 use Rattle.upc_task.specs.layer.Kept.{end_or, strand_of}
 use Rattle.upc_task.proofs.Lists.{numbered-map}
-use Rattle.upc_rounds.specs.Rounds.{RestsAfterEach, MayGo, StandsReady, StandsLast, AfterEach, AfterLast, but_last, SomeMayGo, GoesByRounds, StopsInTime, EndsInTime, want_after}
+use Rattle.upc_rounds.specs.Rounds.{RestsAfterEach, MayGo, StandsLast, AfterEach, AfterLast, but_last, SomeMayGo, EndsInTime}
 use Rattle.upc_rounds.specs.code.Played.{want_of, SomeGoes, GoneByRounds, IsEnded}
 use Rattle.upc_rounds.proofs.Resting.{after-map, rests-moved}
 use Rattle.upc_rounds.proofs.Rounding.{none-or, some-worker}

@@ -1,12 +1,11 @@
 -- One task of a crew has gone on, and all have met.
-use Rattle.std.proofs.Common.{◌≡◌, ◌≢◌, ℕ, ◌<◌, ◌≤◌, nat_lt, List, map, length, refl, sym, ap, subst, ◌∙◌, arith, inl, inr, get_or, set, length-set, get_or-set_same, get_or-set_other}
+use Rattle.std.proofs.Common.{◌≡◌, ℕ, ◌<◌, ◌≤◌, nat_lt, List, length, sym, ap, subst, ◌∙◌, arith, inl, inr, get_or, set, length-set, get_or-set_same, get_or-set_other}
 use Rattle.std.proofs.lemmas.Bool.{cases_Bool, cases_eq, ltb-true, ltb-false}
 use Rattle.std.proofs.lemmas.List.{get_or_past}
 use Rattle.turn_cell.specs.layer.Seats.{TableId}
 use Rattle.upc_values.specs.Openings.{Opening}
 use Rattle.stack_code.specs.Codes.{Codes}
 use Rattle.upc_task.specs.declared.worker.Worker.{Worker}
-use Rattle.upc_task.specs.layer.Seated.{IsTask}
 use Rattle.upc_rounds.specs.declared.place.Place.{Place}
 use Rattle.upc_rounds.specs.layer.Course.{Standing, Grows}
 use Rattle.upc_rounds.specs.code.Runs.{AreSame, OthersStay, GoesAt, standing_of}

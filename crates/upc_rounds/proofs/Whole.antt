@@ -1,10 +1,10 @@
 -- A whole run, from its beginning to its journal.
 use Rattle.std.proofs.Common.{◌≡◌, ℕ, ◌<◌, ◌≤◌, true, List, [], map, length, None, is_some, refl, sym, ap, subst, ◌∙◌, get_or}
-use Rattle.turn_cell.specs.layer.Seats.{TableId, AreNew}
+use Rattle.turn_cell.specs.layer.Seats.{TableId}
 use Rattle.upc_values.specs.declared.journal.Entry.{Entry}
 use Rattle.upc_values.specs.declared.journal.Journal.{Journal}
 use Rattle.upc_values.specs.Lists.{Numbered}
-use Rattle.upc_values.specs.Openings.{Opening, IsOpening}
+use Rattle.upc_values.specs.Openings.{Opening}
 use Rattle.upc_values.specs.History.{IsLegal, EachBelow}
 use Rattle.upc_values.specs.Formed.{AreWellFormed}
 use Rattle.upc_values.specs.Sound.{IsSound}
@@ -24,7 +24,7 @@ use Rattle.upc_rounds.specs.code.Teams.{IsCrew, IsTeam, IsDone, HasEnded, worker
 use Rattle.upc_rounds.proofs.Openings.{kept_opening}
 use Rattle.upc_rounds.proofs.Outcomes.{outcomes_there}
 use Rattle.upc_rounds.proofs.Running.{over-sound}
-use Rattle.upc_rounds.proofs.Crews.{some-place, worker-at, many-workers}
+use Rattle.upc_rounds.proofs.Crews.{worker-at, many-workers}
 use Rattle.upc_rounds.proofs.Rounding.{gone-start}
 use Rattle.upc_rounds.proofs.Timing.{gone-in-time}
 

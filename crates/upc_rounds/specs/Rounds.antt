@@ -1,6 +1,6 @@
 -- When a journal goes by rounds: its history falls into parts, and between two parts every thread rests.
-use Rattle.std.specs.Prelude.{ℕ, ◌≡◌, ◌≢◌, ◌<◌, ◌⊎◌, Bool, true, false, List, [], ◌∷◌, ◌++◌, length, slice_index_or, Option, None}
-use Rattle.std.specs.Prelude.{Some, is_some}
+use Rattle.std.specs.Prelude.{ℕ, ◌≡◌, ◌≢◌, ◌<◌, ◌⊎◌, Bool, true, false, List, [], ◌∷◌, ◌++◌, length}
+use Rattle.std.specs.Prelude.{slice_index_or, Option, None, Some, is_some}
 use Rattle.upc_values.specs.declared.action.Action.{Action}
 use Rattle.upc_values.specs.declared.action.Reply.{Reply}
 use Rattle.upc_values.specs.declared.record.Item.{Item}
@@ -81,7 +81,7 @@ module _ (o : Opening) (t : ℕ) (items : List Item) (want : Option Action) wher
     pub wants : next_action want behind ≡ Some action
     pub some : is_some (reply o (before ++ part) t action) ≡ true
 
-  -- After a part the thread may go on: its last entry there is a Beat, or it stands at a Stall and is ready.
+  -- After a part the thread may go on: its last entry there is a Beat, or it stands at a Stall whose action is legal.
   abbrev pub MayGo : (before part : List Entry) → Type 0
   MayGo before part = (ends_with_beat (entries_of t part) ≡ true) ⊎ StandsReady before part
 
@@ -142,18 +142,18 @@ pub record SomeMayGo (o : Opening) (outcome : (budget t : ℕ) → List Reply �
 -- The run of the journal ends in the round in which it has to. Once an end has ended it, there is no further round. Nor
 -- is there one where no thread may go on: a deadlock ends the run in the round in which every thread without an end
 -- first stands at a Stall that is not legal. And a thread whose record is full where it stands at a Stall is not passed
--- over: it ends in the next round, by its full record, and in no other case does a full record end at a Stall so.
+-- over: it ends in the next round by its full record, and by that it ends at a Stall in no other case.
 pub record EndsInTime (o : Opening) (outcome : (budget t : ℕ) → List Reply → Outcome) (j : Journal) : Type 0 where
   pub stops_in_time : StopsInTime o outcome j
-  -- after each part but the last some strand may go on
+  -- After each part but the last some strand may go on.
   pub goes : AfterEach (SomeMayGo o outcome j) [] (but_last stops_in_time.rounds.parts)
-  -- a full record that is not ended by that stands at a Stall, as its last item, after the last part alone
+  -- A strand with a full record that did not end it stands at its last item, a Stall, after the last part alone.
   pub full_ends :
       Numbered
       (λ t s. length s.items ≡ j.actions → (s.«end» ≢ ActionsFull)
       → AfterEach (λ before part. StandsLast t s.items before part → ⊥) [] (but_last stops_in_time.rounds.parts))
       j.strands
-  -- one that is ended by that at a Stall stood there after the last part but one
+  -- A strand that its full record ended at a Stall stood there after the last part but one.
   pub full_stood :
       Numbered
       (λ t s. s.«end» ≡ ActionsFull → is_stall (last_item s.items) ≡ true

@@ -69,9 +69,9 @@ fn rounds<R: Threads + Wait + Sync, G: Gate>(
 }
 
 /// Runs code by rounds, with one thread of the machine for each thread of the code, which has the program's threads and
-/// shapes and names no shared object but the program's declared ones. In each round every thread without an end goes on,
-/// at the same time as the others, to a Beat, a Stall or its end. Each calls the gate as it begins; rounds are numbered
-/// from 1.
+/// shapes and names no shared object but the program's declared ones. In each round every thread without an end goes
+/// on, at the same time as the others, to a Beat, a Stall or its end. Each calls the gate as it begins; rounds are
+/// numbered from 1.
 ///
 /// The run is over after a round in which an end has ended it, after which no thread has no end, or after which every
 /// thread without an end stands at a Stall and wants what is not legal then.

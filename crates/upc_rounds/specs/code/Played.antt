@@ -48,7 +48,8 @@ beats_at p = false
 -- Each Stall of the one is a Stall of the other, with the same next action.
 abbrev pub KeepsStalls : Outcomes → Worker → Worker → Type 0
 KeepsStalls f k m =
-    (ahead behind : List Item) (a : Action) → k.items.items ≡ ahead ++ Stall ∷ behind → next_action (want_of f k) behind ≡ Some a
+    (ahead behind : List Item) (a : Action) → k.items.items ≡ ahead ++ Stall ∷ behind
+    → next_action (want_of f k) behind ≡ Some a
     → (rest : List Item) × (m.items.items ≡ ahead ++ Stall ∷ rest) × (next_action (want_of f m) rest ≡ Some a)
 
 -- What a step adds, and how it leaves the worker.

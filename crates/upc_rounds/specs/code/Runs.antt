@@ -1,5 +1,5 @@
 -- What a run of tasks keeps.
-use Rattle.std.specs.Prelude.{ℕ, ◌≡◌, ◌≢◌, ◌<◌, true, false, List, [], length, map, slice_index_or, Option, Some}
+use Rattle.std.specs.Prelude.{ℕ, ◌≡◌, ◌≢◌, ◌<◌, true, false, List, length, map, slice_index_or, Option, Some}
 use Rattle.std.specs.Prelude.{None, is_some, Bool, not, count_by, take, ◌%◌, ◌⊎◌}
 use Rattle.upc_values.specs.declared.action.Action.{Action}
 use Rattle.upc_values.specs.declared.record.End.{End}
@@ -13,7 +13,6 @@ use Rattle.upc_values.specs.Ends.{stops, settles}
 use Rattle.stack_code.specs.Codes.{Codes}
 use Rattle.stack_machine.specs.declared.wish.Wish.{Wish}
 use Rattle.stack_machine.specs.declared.wish.Wish.TheVariants.{Act}
-use Rattle.upc_task.specs.declared.limits.Limits.{Limits}
 use Rattle.upc_task.specs.declared.worker.Worker.{Worker}
 use Rattle.upc_task.specs.layer.Sources.{Outcomes}
 use Rattle.upc_task.specs.Ends.{is_given}

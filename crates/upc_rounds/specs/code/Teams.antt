@@ -131,4 +131,5 @@ pub record HasEnded (o : Opening) (f : Outcomes) (ks : List Place) : Type 0 wher
   pub last : List Worker
   pub gone : GoneByRounds o f (seen_among ks) last
   pub many : length (workers_of ks) ≡ length last
-  pub ends : (i : ℕ) (d : Worker) → i < length last → IsEnded (slice_index_or last i d) (slice_index_or (workers_of ks) i d)
+  pub ends : (i : ℕ) (d : Worker) → i < length last
+      → IsEnded (slice_index_or last i d) (slice_index_or (workers_of ks) i d)

@@ -1,19 +1,18 @@
-use Rattle.std.proofs.Common.{rules, ℕ, ◌≡◌, ◌<◌, ◌+◌, ◌++◌, [], ◌∷◌, List, length, None, is_some, false, true, refl, sym, ap, subst, ◌∙◌, arith, append_assoc, length-append, map}
+use Rattle.std.proofs.Common.{ℕ, ◌≡◌, ◌+◌, ◌++◌, [], ◌∷◌, List, length, None, is_some, false, sym, ap, subst, ◌∙◌, arith, append_assoc, length-append}
 use Rattle.std.specs.Vec.Iter.{into_iter_items}
 use Rattle.std.proofs.lemmas.Grind.{common_steps}
 use Rattle.std.proofs.lemmas.Bool.{false≢true}
 use Rattle.upc_values.specs.Lists.{Numbered}
-use Rattle.upc_values.specs.Openings.{Opening, IsOpening}
-use Rattle.turn_cell.specs.layer.Seats.{TableId, AreNew, IsNew, cell_of, seen_of, opening_of}
+use Rattle.upc_values.specs.Openings.{Opening}
+use Rattle.turn_cell.specs.layer.Seats.{TableId, AreNew, IsNew, cell_of, seen_of}
 use Rattle.upc_task.specs.declared.worker.Worker.{Worker}
-use Rattle.upc_task.specs.layer.Sources.{Outcomes, HasOutcomes}
 use Rattle.upc_task.specs.layer.Seated.{IsTask}
 use Rattle.upc_task.proofs.Lists.{numbered-push}
 use Rattle.upc_task.proofs.Options.{none-some}
 use Rattle.upc_rounds.specs.declared.place.Place.{Place}
 use Rattle.upc_rounds.specs.layer.Course.{Standing}
 use Rattle.upc_rounds.specs.code.Runs.{standing_of}
-use Rattle.upc_rounds.specs.code.Teams.{IsMember, IsCrew, seen_among, worker_of}
+use Rattle.upc_rounds.specs.code.Teams.{IsMember}
 use Rattle.upc_rounds.proofs.Beginnings.{OurSeat, new-at, new-free, new-number, new-seen, new-opening, seen-none}
 use Rattle.upc_rounds.proofs.Crews.{numbered-workers}
 use Rattle.upc_rounds.proofs.begin.make_all.Goals as goal

@@ -1,4 +1,4 @@
-use Rattle.std.proofs.Common.{ℕ, ◌≡◌, ◌<◌, ◌++◌, List, [], length, false, None}
+use Rattle.std.proofs.Common.{◌≡◌, ◌++◌, [], length, None}
 use Rattle.std.specs.Vec.Iter.{into_iter_items}
 use Rattle.upc_values.specs.Lists.{Numbered}
 use Rattle.upc_values.specs.Openings.{Opening, IsOpening}

@@ -1,4 +1,4 @@
-use Rattle.std.proofs.Common.{rules, is_some, true, ◌≡◌, ◌+◌, ◌++◌, ◌≤◌, List, [], ◌∷◌, length, map, sym, subst, ap, ◌∙◌, arith, append_assoc}
+use Rattle.std.proofs.Common.{rules, is_some, true, ◌≡◌, ◌+◌, ◌++◌, List, [], ◌∷◌, length, map, sym, subst, ap, ◌∙◌, arith, append_assoc}
 use Rattle.std.specs.Vec.Iter.{into_iter_items}
 use Rattle.std.proofs.lemmas.Grind.{common_steps}
 use Rattle.std.proofs.lemmas.List.{length-append, map-append}

@@ -1,6 +1,4 @@
-use Rattle.std.proofs.Common.{rules, ◌≡◌, ◌<◌, ◌≤◌, Some, is_some, true, false, length, arith}
-use Rattle.upc_values.specs.declared.record.End.{End}
-use Rattle.upc_values.specs.Ends.{stops}
+use Rattle.std.proofs.Common.{◌≡◌, is_some, true, arith}
 use Rattle.upc_rounds.proofs.Crews.{numbered-workers}
 use Rattle.upc_rounds.proofs.ends.all_ended.Goals as goal
 

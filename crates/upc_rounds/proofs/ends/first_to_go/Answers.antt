@@ -1,5 +1,4 @@
 use Rattle.std.proofs.Common.{rules, ◌≡◌, ◌<◌, ◌≤◌, ◌+◌, ℕ, None, length, sym, ap, subst, ◌∙◌, arith, inl, inr, get_or, set, length-set, get_or-set_same, get_or-set_other}
-use Rattle.std.proofs.lemmas.Bool.{cases_eq}
 use Rattle.std.proofs.lemmas.List.{get_or_default}
 use Rattle.turn_cell.specs.layer.Seats.{id_of, started}
 use Rattle.upc_task.specs.layer.Seated.{IsTask}

@@ -1,5 +1,5 @@
-use Rattle.std.proofs.Common.{rules, ◌≡◌, sym, ap, subst, ◌∙◌}
-use Rattle.turn_cell.specs.layer.Seats.{id_of, started, seen_of}
+use Rattle.std.proofs.Common.{rules}
+use Rattle.turn_cell.specs.layer.Seats.{started, seen_of}
 use Rattle.upc_task.proofs.Workers.{kept-asks}
 use Rattle.upc_rounds.proofs.ends.may_go.Goals as goal
 

@@ -1,5 +1,5 @@
 use Rattle.std.proofs.Common.{rules, ◌≡◌, is_some, true, false, List}
-use Rattle.turn_cell.specs.layer.Seats.{id_of, started}
+use Rattle.turn_cell.specs.layer.Seats.{started}
 use Rattle.upc_values.specs.declared.journal.Entry.{Entry}
 use Rattle.upc_values.specs.Openings.{Opening}
 use Rattle.upc_values.specs.Lists.{Numbered}

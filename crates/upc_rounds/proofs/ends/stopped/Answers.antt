@@ -1,4 +1,4 @@
-use Rattle.std.proofs.Common.{rules, ◌≡◌, ◌<◌, ◌≤◌, Some, is_some, true, false, length, arith}
+use Rattle.std.proofs.Common.{◌≡◌, Some, false, arith}
 use Rattle.upc_values.specs.declared.record.End.{End}
 use Rattle.upc_values.specs.Ends.{stops}
 use Rattle.upc_rounds.proofs.Crews.{numbered-workers}

@@ -1,5 +1,5 @@
-use Rattle.std.proofs.Common.{rules, ◌≡◌, refl, sym, subst, ap, ◌∙◌}
-use Rattle.turn_cell.specs.layer.Seats.{id_of, seen_of, started}
+use Rattle.std.proofs.Common.{subst}
+use Rattle.turn_cell.specs.layer.Seats.{id_of, started}
 use Rattle.upc_task.specs.declared.worker.Pause.TheVariants as pauses
 use Rattle.upc_rounds.proofs.Parts.{Worked, Stepped, far-begins, far-goes, far-took, rests-with}
 use Rattle.upc_rounds.proofs.part.round.Goals as goal

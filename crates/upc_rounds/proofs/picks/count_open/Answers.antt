@@ -1,4 +1,4 @@
-use Rattle.std.proofs.Common.{rules, ◌≡◌, ◌<◌, ◌≤◌, is_some, true, length, sym, subst, ap, ◌∙◌, arith}
+use Rattle.std.proofs.Common.{◌<◌, is_some, length, sym, subst, ap, ◌∙◌, arith}
 use Rattle.upc_task.specs.declared.worker.Worker.{Worker}
 use Rattle.upc_rounds.specs.code.Teams.{workers_of}
 use Rattle.upc_rounds.proofs.Running.{open-more, ended-more}

@@ -1,4 +1,4 @@
-use Rattle.std.proofs.Common.{◌≡◌, ◌≤◌, ◌+◌, ◌%◌, take}
+use Rattle.std.proofs.Common.{◌≡◌, ◌≤◌, take}
 use Rattle.upc_rounds.specs.code.Runs.{open_among}
 use Rattle.upc_rounds.specs.code.Teams.{workers_of}
 use Rattle.upc_rounds.proofs.picks.count_open.Given as goal

@@ -1,5 +1,5 @@
-use Rattle.std.proofs.Common.{rules, ◌≡◌, ◌<◌, length, sym, subst, ◌∙◌}
-use Rattle.turn_cell.specs.layer.Seats.{id_of, started}
+use Rattle.std.proofs.Common.{◌<◌, sym, subst, ◌∙◌}
+use Rattle.turn_cell.specs.layer.Seats.{started}
 use Rattle.upc_rounds.specs.code.Runs.{moment_of}
 use Rattle.upc_rounds.specs.code.Teams.{workers_of, seen_among}
 use Rattle.upc_rounds.proofs.Running.{same-trans}

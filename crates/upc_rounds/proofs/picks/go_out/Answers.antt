@@ -1,4 +1,4 @@
-use Rattle.std.proofs.Common.{rules, ◌≡◌, ◌<◌, ℕ, false, true, is_some, List, map, length, sym, subst, ◌∙◌, inl}
+use Rattle.std.proofs.Common.{rules, ◌≡◌, ◌<◌, ℕ, false, true, is_some, map, length, sym, subst, ◌∙◌, inl}
 use Rattle.turn_cell.specs.layer.Seats.{id_of, started}
 use Rattle.upc_task.specs.layer.Sources.{Outcomes}
 use Rattle.upc_task.specs.layer.Kept.{strand_of}

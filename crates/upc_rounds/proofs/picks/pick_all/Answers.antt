@@ -1,12 +1,11 @@
 use Rattle.std.proofs.Common.{rules, ◌≡◌, ◌∙◌, true, false, is_some, take, sym, subst, ap, inl, inr}
-use Rattle.turn_cell.specs.layer.Seats.{id_of, started}
+use Rattle.turn_cell.specs.layer.Seats.{started}
 use Rattle.upc_rounds.specs.layer.Course.{Moment, AreObeyed}
 use Rattle.upc_rounds.specs.code.Runs.{StopsAt, NoneStops, open_among, moment_of}
 use Rattle.upc_rounds.specs.code.Teams.{workers_of, seen_among}
 use Rattle.upc_task.proofs.Options.{match-some, match-none}
 use Rattle.upc_rounds.proofs.Running.{same-trans, same-refl}
 use Rattle.upc_rounds.proofs.Standings.{obeyed-more, stopped-of, count-of}
-use Rattle.upc_rounds.specs.declared.place.Place.{Place}
 use Rattle.upc_rounds.proofs.picks.pick_all.Goals as goal
 
 pub loop-pick-init : goal.loop-pick-init

@@ -1,4 +1,4 @@
-use Rattle.std.proofs.Common.{◌≡◌, take}
+use Rattle.std.proofs.Common.{take}
 use Rattle.turn_cell.specs.layer.Seats.{id_of, started}
 use Rattle.upc_rounds.specs.layer.Course.{AreObeyed}
 use Rattle.upc_rounds.specs.code.Runs.{AreSame, moment_of}

@@ -1,10 +1,10 @@
-use Rattle.std.proofs.Common.{rules, ◌≡◌, ◌<◌, ℕ, suc, None, is_some, true, false, List, map, length, refl, sym, ap, subst, ◌∙◌, inr}
+use Rattle.std.proofs.Common.{rules, ◌≡◌, ◌<◌, ℕ, suc, None, is_some, true, false, map, length, refl, sym, ap, subst, ◌∙◌, inr}
 use Rattle.turn_cell.specs.layer.Seats.{id_of, started}
 use Rattle.upc_values.specs.Lists.{Numbered}
 use Rattle.upc_task.specs.layer.Sources.{Outcomes}
 use Rattle.upc_task.specs.layer.Kept.{strand_of}
 use Rattle.upc_task.proofs.Options.{match-some, match-none}
-use Rattle.upc_rounds.specs.layer.Course.{Moment, GoesRounds, GoesOut, AreOf}
+use Rattle.upc_rounds.specs.layer.Course.{Moment, GoesRounds, AreOf}
 use Rattle.upc_rounds.specs.code.Runs.{AreSame, StopsAt, NoneStops, Wanting, moment_of}
 use Rattle.upc_rounds.specs.code.Teams.{workers_of, seen_among}
 use Rattle.upc_rounds.proofs.Running.{same-trans, same-refl}

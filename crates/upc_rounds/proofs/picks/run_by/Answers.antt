@@ -1,6 +1,5 @@
 use Rattle.std.proofs.Common.{rules, ℕ, ◌≡◌, ◌<◌, ◌≤◌, ◌++◌, List, [], map, length, take, drop, refl, sym, subst, ap, ◌∙◌, arith}
-use Rattle.turn_cell.specs.layer.Seats.{TableId, AreNew, id_of, started}
-use Rattle.upc_values.specs.declared.journal.Entry.{Entry}
+use Rattle.turn_cell.specs.layer.Seats.{AreNew, id_of, started}
 use Rattle.upc_values.specs.declared.journal.Journal.{Journal}
 use Rattle.upc_values.specs.Lists.{Numbered}
 use Rattle.upc_values.specs.Openings.{Opening, IsOpening}
@@ -13,15 +12,14 @@ use Rattle.upc_rounds.specs.declared.place.Place.{Place}
 use Rattle.upc_rounds.specs.layer.Openings.{opening_of}
 use Rattle.upc_rounds.specs.layer.Course.{Moment, AreOf}
 use Rattle.upc_rounds.specs.code.Runs.{AreSame, moment_of}
-use Rattle.upc_rounds.specs.code.Teams.{IsSeated, IsCrew, IsTeam, IsDone, HasEnded, workers_of, seen_at, seen_among}
+use Rattle.upc_rounds.specs.code.Teams.{IsSeated, IsCrew, IsDone, workers_of, seen_at, seen_among}
 use Rattle.upc_rounds.proofs.Openings.{kept_opening}
 use Rattle.upc_rounds.proofs.Outcomes.{has_outcomes}
-use Rattle.upc_rounds.proofs.Running.{limits-of}
 use Rattle.upc_rounds.proofs.Standings.{outset-of}
 use Rattle.upc_rounds.proofs.Spending.{sound-spent}
 use Rattle.upc_rounds.proofs.Crews.{many-workers}
 use Rattle.upc_rounds.proofs.Beginnings.{given-back}
-use Rattle.upc_rounds.proofs.Whole.{there, begun-team, done-kept, done-is-ended, done-sound, done-in-time}
+use Rattle.upc_rounds.proofs.Whole.{there, done-kept, done-is-ended, done-sound}
 use Rattle.upc_rounds.proofs.picks.run_by.Goals as goal
 
 pub make_all-requires-clause-code : goal.make_all-requires-clause-code

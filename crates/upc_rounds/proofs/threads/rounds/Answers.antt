@@ -1,12 +1,10 @@
-use Rattle.std.proofs.Common.{rules, ◌≡◌, ◌<◌, ℕ, None, Some, is_some, true, false, List, length, refl, sym, ap, subst, ◌∙◌, get_or}
+use Rattle.std.proofs.Common.{rules, ◌≡◌, ◌<◌, ℕ, None, is_some, true, false, length, refl, sym, ap, subst, ◌∙◌, get_or}
 use Rattle.turn_cell.specs.layer.Seats.{id_of, started}
 use Rattle.upc_values.specs.Lists.{Numbered}
-use Rattle.upc_task.specs.declared.worker.Worker.{Worker}
 use Rattle.upc_task.proofs.Options.{match-some, match-none}
-use Rattle.upc_rounds.specs.declared.place.Place.{Place}
 use Rattle.upc_rounds.specs.code.Runs.{StopsAt, NoneStops, Wanting, AreEach, locked}
 use Rattle.upc_rounds.specs.code.Played.{GoneByRounds}
-use Rattle.upc_rounds.specs.code.Teams.{IsTeam, HasGone, IsCrew, workers_of, seen_among}
+use Rattle.upc_rounds.specs.code.Teams.{workers_of, seen_among}
 use Rattle.upc_rounds.proofs.Running.{same-trans, same-refl}
 use Rattle.upc_rounds.proofs.Crews.{many-workers, crew-running}
 use Rattle.upc_rounds.proofs.Rounding.{goes-on}

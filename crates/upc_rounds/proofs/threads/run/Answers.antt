@@ -1,6 +1,5 @@
 use Rattle.std.proofs.Common.{rules, ℕ, ◌≡◌, ◌<◌, ◌≤◌, ◌++◌, List, [], map, length, take, drop, refl, sym, subst, ap, ◌∙◌, arith}
-use Rattle.turn_cell.specs.layer.Seats.{TableId, AreNew, id_of, started}
-use Rattle.upc_values.specs.declared.journal.Entry.{Entry}
+use Rattle.turn_cell.specs.layer.Seats.{AreNew, id_of, started}
 use Rattle.upc_values.specs.declared.journal.Journal.{Journal}
 use Rattle.upc_values.specs.Lists.{Numbered}
 use Rattle.upc_values.specs.Openings.{Opening, IsOpening}
@@ -11,13 +10,10 @@ use Rattle.upc_task.specs.layer.Sources.{Outcomes, HasOutcomes}
 use Rattle.upc_task.specs.layer.Kept.{IsKept, strand_of}
 use Rattle.upc_rounds.specs.declared.place.Place.{Place}
 use Rattle.upc_rounds.specs.layer.Openings.{opening_of}
-use Rattle.upc_rounds.specs.layer.Course.{Moment, AreOf}
-use Rattle.upc_rounds.specs.code.Runs.{AreSame, moment_of}
-use Rattle.upc_rounds.specs.code.Teams.{IsSeated, IsCrew, IsTeam, IsDone, HasEnded, workers_of, seen_at, seen_among}
+use Rattle.upc_rounds.specs.code.Runs.{AreSame}
+use Rattle.upc_rounds.specs.code.Teams.{IsSeated, IsTeam, IsDone, HasEnded, workers_of, seen_at, seen_among}
 use Rattle.upc_rounds.proofs.Openings.{kept_opening}
 use Rattle.upc_rounds.proofs.Outcomes.{has_outcomes}
-use Rattle.upc_rounds.proofs.Running.{limits-of}
-use Rattle.upc_rounds.proofs.Standings.{outset-of}
 use Rattle.upc_rounds.proofs.Spending.{sound-spent}
 use Rattle.upc_rounds.proofs.Crews.{many-workers}
 use Rattle.upc_rounds.proofs.Beginnings.{given-back}

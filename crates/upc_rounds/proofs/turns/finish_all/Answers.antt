@@ -1,4 +1,4 @@
-use Rattle.std.proofs.Common.{rules, ◌≡◌, ℕ, ◌<◌, ◌+◌, ◌≤◌, List, length, refl, sym, subst, ◌∙◌, arith, inl, inr}
+use Rattle.std.proofs.Common.{ℕ, ◌<◌, ◌+◌, ◌≤◌, List, length, refl, sym, subst, ◌∙◌, arith, inl, inr}
 use Rattle.std.specs.Prelude.{slice_index_or}
 use Rattle.std.proofs.lemmas.Bool.{cases_eq}
 use Rattle.turn_cell.specs.layer.Seats.{id_of, started}
@@ -9,7 +9,7 @@ use Rattle.upc_rounds.specs.layer.Course.{ToRest}
 use Rattle.upc_rounds.specs.code.Runs.{Rested, GoesAt, standing_of}
 use Rattle.upc_rounds.specs.code.Teams.{workers_of, seen_among}
 use Rattle.upc_rounds.proofs.Running.{same-trans, same-refl}
-use Rattle.upc_rounds.proofs.Standings.{grows-refl, quiet-of, stopped-of, stays-stopped, grows-trans, each-of, later-of}
+use Rattle.upc_rounds.proofs.Standings.{grows-refl, stopped-of, stays-stopped, grows-trans, each-of, later-of}
 use Rattle.upc_rounds.proofs.Crews.{many-workers, crew-running}
 use Rattle.upc_rounds.proofs.turns.finish_all.Goals as goal
 

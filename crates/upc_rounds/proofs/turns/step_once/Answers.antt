@@ -1,4 +1,3 @@
-use Rattle.std.proofs.Common.{rules}
 use Rattle.turn_cell.specs.layer.Seats.{id_of, started}
 use Rattle.upc_rounds.proofs.Parts.{Worked, Stepped, moved-of, steps-from}
 use Rattle.upc_rounds.proofs.turns.step_once.Goals as goal

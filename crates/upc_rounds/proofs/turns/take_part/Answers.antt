@@ -1,8 +1,6 @@
-use Rattle.std.proofs.Common.{rules, ◌≡◌, sym, subst, ap, ◌∙◌, set, get_or}
+use Rattle.std.proofs.Common.{◌≡◌, sym, subst, ap, ◌∙◌, get_or}
 use Rattle.std.proofs.lemmas.List.{get_or_default}
 use Rattle.turn_cell.specs.layer.Seats.{id_of, started}
-use Rattle.upc_task.specs.declared.worker.Worker.{Worker}
-use Rattle.upc_task.specs.layer.Seated.{IsTask}
 use Rattle.upc_rounds.specs.declared.place.Place.{Place}
 use Rattle.upc_rounds.specs.layer.Course.{TakesPart}
 use Rattle.upc_rounds.specs.code.Runs.{Rested}

@@ -1,13 +1,10 @@
-use Rattle.std.proofs.Common.{rules, ◌≡◌, sym, subst, ap, ◌∙◌, set, get_or}
+use Rattle.std.proofs.Common.{◌≡◌, sym, ap, ◌∙◌, get_or}
 use Rattle.std.proofs.lemmas.List.{get_or_default}
 use Rattle.turn_cell.specs.layer.Seats.{id_of, started}
-use Rattle.upc_task.specs.declared.worker.Worker.{Worker}
-use Rattle.upc_task.specs.layer.Seated.{IsTask}
 use Rattle.upc_rounds.specs.declared.place.Place.{Place}
 use Rattle.upc_rounds.specs.layer.Course.{Steps}
-use Rattle.upc_rounds.specs.code.Runs.{Rested}
 use Rattle.upc_rounds.proofs.Crews.{worker-at}
-use Rattle.upc_rounds.proofs.Turning.{turned-cells, turned-crew, turned-grows, turned-same, turned-worker, turned-goes, turned-others}
+use Rattle.upc_rounds.proofs.Turning.{turned-cells, turned-crew, turned-grows, turned-same, turned-goes, turned-others}
 use Rattle.upc_rounds.proofs.turns.turn.Goals as goal
 
 pub step_once-requires-clause-kept : goal.step_once-requires-clause-kept
