@@ -7,7 +7,7 @@ use Rattle.upc_top.proofs.Records.{shown-comes}
 use Rattle.upc_top.proofs.judge.run_accepted.Goals as goal
 
 pub run_program-requires-clause-threads : goal.run_program-requires-clause-threads
-run_program-requires-clause-threads g c = accepted_threads _ _ _ c.requires.accepted
+run_program-requires-clause-threads g c κs within = accepted_threads _ _ _ c.requires.accepted
 
 pub returns-in-Ok : goal.returns-in-Ok
 returns-in-Ok g c =
