@@ -144,8 +144,8 @@ pub fn emit_alone(next: u32, buffer: &mut WriteBuffer, action: &Action) -> Optio
     }
 }
 
-/// Acts on the buffer and the history: the reply, or only an emptied buffer where the action is not legal. After want of
-/// memory the history has gained the first of the pending writes at most.
+/// Acts on the buffer and the history: the reply, or only an emptied buffer where the action is not legal. After want
+/// of memory the history has gained the first of the pending writes at most.
 #[tactic(auto, using(crate::proofs::Buffers::grows))]
 pub fn emit(
     thread: u32,

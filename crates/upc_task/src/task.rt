@@ -125,8 +125,8 @@ impl Task {
         cell.meet(&mut self.seat, &mut other.seat);
     }
 
-    /// Whether an action of a thread has a lawful reply, after the list that the seat has then seen. It waits for a turn,
-    /// adds nothing, and takes no memory.
+    /// Whether an action of a thread has a lawful reply, after the list that the seat has then seen. It waits for a
+    /// turn, adds nothing, and takes no memory.
     pub fn would_go<R: Wait>(
         &mut self,
         rt: &R,

@@ -17,9 +17,9 @@ ghost use Rattle.stack_code.specs.Codes.{Codes};
 ghost use Rattle.stack_machine.specs.declared.wish.Wish.TheVariants.{Act};
 ghost use Rattle.upc_task.specs.declared.worker.Pause.TheVariants.{Going, Finished};
 ghost use Rattle.upc_task.specs.layer.Sources.{Outcomes, HasOutcomes};
+ghost use Rattle.upc_task.specs.Ends.{is_given};
 ghost use Rattle.upc_task.specs.layer.Kept as kept;
 ghost use Rattle.upc_task.specs.layer.Kept.{AreLimits, IsKept, Keeps, StaysKept, IsSame, Grew, Paused, CanEnd, Adds};
-ghost use Rattle.upc_task.specs.Ends.{is_given};
 ghost use Rattle.upc_task.specs.layer.Kept.{Leaves, Waits, outcome_of, strand_of};
 
 use crate::emit::{emit, emit_alone, empty};
@@ -275,7 +275,8 @@ impl Worker {
     /// Acts on the wish: at most one new item, and the commits that go with it. The machine is not resumed. A full
     /// record ends.
     ///
-    /// After want of memory the record is as it was, and the history has gained the first of the pending writes at most.
+    /// After want of memory the record is as it was, and the history has gained the first of the pending writes at
+    /// most.
     pub fn step(&mut self, world: &mut World) -> Result<Pause, OutOfMemory>
         requires kept { (p : Codes) × (f : Outcomes) × IsKept world.old.0 p f world.old.1 self.old }
         requires ready { (self.old.«end» ≡ None) × (is_some self.old.wish ≡ true) }

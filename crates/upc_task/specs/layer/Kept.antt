@@ -93,7 +93,8 @@ pub record Goes (p : Codes) (outcome : List Reply → Outcome) (t b : ℕ) (mach
       → (outcome given).ticks ≡ 1024 * beats (actions_of items)
   pub asked : ((items ≡ []) × (wish ≡ None)) ⊎ HasAsked machine
 
--- A worker has its end: its buffer is empty, the end is one that the outcome allows, and the ticks are those of a strand.
+-- A worker has its end: its buffer is empty, the end is one that the outcome allows, and the ticks are those of a
+-- strand.
 pub record HasEnd (actions ticks : ℕ) (pending : List Pending) (machine : Seen) (outcome : Outcome)
     (items : List Item) (e : End) : Type 0 where
   pub empty : pending ≡ []

@@ -47,8 +47,8 @@ pub record Gained (t : ℕ) (old new : List Entry) : Type 0 where
   pub none : entries_of t others ≡ []
   pub grew : Grew t (old ++ others) new
 
--- A task that found no memory: its record is as it was, the history is lawful, and what its seat has added is a front of
--- what the record emits with all that was pending.
+-- A task that found no memory: its record is as it was, the history is lawful, and what its seat has added is a front
+-- of what the record emits with all that was pending.
 pub record IsCutShort (o : Opening) (k m : Task) : Type 0 where
   pub items : m.worker.items.items ≡ k.worker.items.items
   pub front : IsPrefix (own_of m.seat) (drain k.worker.thread k.worker.items.items)
