@@ -123,6 +123,7 @@ fn strict_accesses_are_seen_in_one_order(rt: HostRuntime) -> Result<(), Fail> {
 }
 
 // A gate at which two threads look for each other in the first round: how many have come, and how many have seen both.
+#[derive(Drop)]
 struct Meeting {
     come: AtomicU64,
     seen: AtomicU64,
