@@ -2,6 +2,7 @@
 use std::alloc::Global;
 use std::sync::Wait;
 use std::test::Fail;
+use std::thread::Threads;
 use upc_text::{MemFiles, MemSink, OpenGate};
 use upc_top::upc_main;
 
@@ -406,7 +407,7 @@ struct Answer {
 }
 
 // What the call of a row answers, over memory.
-fn answer_to<R: Wait>(rt: &R, alloc: Global, row: &Row) -> Result<Answer, Fail> {
+fn answer_to<R: Threads + Wait + Sync>(rt: &R, alloc: Global, row: &Row) -> Result<Answer, Fail> {
     let mut words = Vec::new(alloc);
     for word in row.words {
         words.push(String::from_str(alloc, word)?)?;
@@ -433,7 +434,7 @@ fn answer_to<R: Wait>(rt: &R, alloc: Global, row: &Row) -> Result<Answer, Fail> 
     })
 }
 
-fn is_answered<R: Wait>(rt: &R, alloc: Global, row: &Row) -> Result<bool, Fail> {
+fn is_answered<R: Threads + Wait + Sync>(rt: &R, alloc: Global, row: &Row) -> Result<bool, Fail> {
     let found = answer_to(rt, alloc, row)?;
     Ok(
         found.status == row.status
