@@ -3,7 +3,8 @@
 ghost use Rattle.std.specs.Prelude.{◌≡◌, ◌∷◌, [], ◌<◌};
 ghost use Rattle.upc_values.specs.Calls as said;
 ghost use Rattle.upc_values.specs.Calls.{call_of};
-ghost use Rattle.plain_collectives.specs.code.Calls.{call_in, called, kept, shared_in, int_in, size_in, kind_in, way_option};
+ghost use Rattle.plain_collectives.specs.code.Calls.{call_in, called, kept, shared_in};
+ghost use Rattle.plain_collectives.specs.code.Calls.{int_in, size_in, kind_in, way_option};
 
 use block_layout::{Kind, SharedPtr};
 use integers::lies_in;

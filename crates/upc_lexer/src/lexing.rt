@@ -114,9 +114,9 @@ fn step(
 /// The tokens of a source of at most 1,048,576 bytes (C99 6.4).
 ///
 /// A source is refused with `Code::Lex` where no token, blank or comment begins that C99 reads in the same way, or a
-/// number is no constant, with `Code::Limit(2)` at a constant for which there is no type, and with `Code::Limit(6)` at a
-/// name of more than 255 bytes or a string of more than 4,095. The first such place counts. The numbers are in the range
-/// of their type.
+/// number is no constant, with `Code::Limit(2)` at a constant for which there is no type, and with `Code::Limit(6)` at
+/// a name of more than 255 bytes or a string of more than 4,095. The first such place counts. The numbers are in the
+/// range of their type.
 pub fn lex(alloc: Global, source: &[u8]) -> Result<Lexed, Stop>
     requires { length source.now ≤ 1048576 }
     ensures tokens { IfOk result (λ lexed. AreTokensOf source.now lexed.tokens.items lexed.names) }

@@ -1,7 +1,8 @@
 //! Declarations (C99 6.7).
 
 ghost use Rattle.std.specs.Prelude.{◌<◌};
-ghost use Rattle.upc_tree.specs.layer.ViewStatement.{view_initial, view_declared, view_next_declared, view_next_declareds};
+ghost use Rattle.upc_tree.specs.layer.ViewStatement.{view_initial, view_declared};
+ghost use Rattle.upc_tree.specs.layer.ViewStatement.{view_next_declared, view_next_declareds};
 ghost use Rattle.upc_tree.specs.layer.ViewStatement.{view_declared_list, view_declaration};
 ghost use Rattle.upc_parser_ground.specs.layer.Run.{Reads, boxed};
 ghost use Rattle.upc_parser_declarations.specs.layer.Parse as spec;

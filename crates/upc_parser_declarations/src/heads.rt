@@ -1,6 +1,7 @@
 //! Parts of statements that are no statements (C99 6.8.4, 6.8.5; UPC 6.6.2, 6.7).
 
-ghost use Rattle.upc_tree.specs.layer.ViewStatement.{view_value, view_test, view_first, view_affinity, view_for, view_forall};
+ghost use Rattle.upc_tree.specs.layer.ViewStatement.{view_value, view_test, view_first};
+ghost use Rattle.upc_tree.specs.layer.ViewStatement.{view_affinity, view_for, view_forall};
 ghost use Rattle.upc_parser_ground.specs.layer.Run.{Reads, boxed, same};
 ghost use Rattle.upc_parser_declarations.specs.layer.Parse as spec;
 

@@ -1,7 +1,8 @@
 //! Lists and parts of types, each of at most height n.
 
 ghost use Rattle.std.specs.Prelude.{◌<◌};
-ghost use Rattle.upc_tree.specs.layer.View.{view_next_exprs, view_specs, view_pointers, view_dimensions, view_declarator};
+ghost use Rattle.upc_tree.specs.layer.View.{view_next_exprs, view_specs, view_pointers};
+ghost use Rattle.upc_tree.specs.layer.View.{view_dimensions, view_declarator};
 ghost use Rattle.upc_tree.specs.layer.View.{view_parameters};
 ghost use Rattle.upc_parser_types.specs.layer.Expression as spec;
 ghost use Rattle.upc_parser_types.specs.layer.Expression.{at_height};

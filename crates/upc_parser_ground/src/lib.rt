@@ -1,6 +1,6 @@
 //! What every parser stands on: tokens read from the front (which are left, what comes next, what a token begins or
-//! continues, items one after the other), and syntax trees from their parts, where memory allows (C99 6.5, 6.7; UPC 6.4,
-//! 6.5).
+//! continues, items one after the other), and syntax trees from their parts, where memory allows (C99 6.5, 6.7;
+//! UPC 6.4, 6.5).
 #![tactic(auto)]
 
 mod ahead;

@@ -1,8 +1,10 @@
 //! Declarators, parameters and structs (C99 6.7.2.1, 6.7.5).
 
 ghost use Rattle.std.specs.Prelude.{◌≤◌};
-ghost use Rattle.upc_tree.specs.layer.View.{view_spec, view_member, view_members, view_declarator, view_next_declarator};
-ghost use Rattle.upc_tree.specs.layer.View.{view_next_declarators, view_parameters, view_parameter, view_next_parameter};
+ghost use Rattle.upc_tree.specs.layer.View.{view_spec, view_member, view_members};
+ghost use Rattle.upc_tree.specs.layer.View.{view_declarator, view_next_declarator};
+ghost use Rattle.upc_tree.specs.layer.View.{view_next_declarators, view_parameters};
+ghost use Rattle.upc_tree.specs.layer.View.{view_parameter, view_next_parameter};
 ghost use Rattle.upc_tree.specs.layer.View.{view_next_parameters, view_array, view_pointers};
 ghost use Rattle.upc_parser_types.specs.layer.Expression as spec;
 ghost use Rattle.upc_parser_types.specs.layer.Expression.{at_height};

@@ -9,7 +9,8 @@ ghost use Rattle.upc_tree.specs.Expression.{height_next_parameters, height_array
 ghost use Rattle.upc_tree.specs.layer.Lists.{capped, height_member, next_exprs_of, specs_of, quals_of, pointers_of};
 ghost use Rattle.upc_tree.specs.layer.Lists.{dimensions_of, members_of, next_declarators_of, next_parameters_of};
 ghost use Rattle.upc_tree.specs.layer.View.{view, view_arguments, view_next_expr, view_type, view_spec, view_qual};
-ghost use Rattle.upc_tree.specs.layer.View.{view_layout, view_pointer, view_dimension, view_member, view_next_declarator};
+ghost use Rattle.upc_tree.specs.layer.View.{view_layout, view_pointer, view_dimension};
+ghost use Rattle.upc_tree.specs.layer.View.{view_member, view_next_declarator};
 ghost use Rattle.upc_tree.specs.layer.View.{view_declarator, view_parameters, view_parameter, view_next_parameter};
 ghost use Rattle.upc_tree.specs.layer.View.{view_array};
 

@@ -9,7 +9,8 @@ ghost use Rattle.upc_tree.specs.Statement.{height_switch_items, height_switch_it
 ghost use Rattle.upc_tree.specs.Statement.{height_otherwise};
 ghost use Rattle.upc_tree.specs.Unit.{height_external, height_unit};
 ghost use Rattle.upc_tree.specs.layer.Lists.{capped, next_declareds_of, block_items_of, switch_items_of, else_ifs_of};
-ghost use Rattle.upc_tree.specs.layer.ViewStatement.{view_initial, view_declared, view_next_declared, view_declared_list};
+ghost use Rattle.upc_tree.specs.layer.ViewStatement.{view_initial, view_declared};
+ghost use Rattle.upc_tree.specs.layer.ViewStatement.{view_next_declared, view_declared_list};
 ghost use Rattle.upc_tree.specs.layer.ViewStatement.{view_declaration, view_value, view_first, view_affinity, view_for};
 ghost use Rattle.upc_tree.specs.layer.ViewStatement.{view_forall, view_statement, view_compound, view_block_item};
 ghost use Rattle.upc_tree.specs.layer.ViewStatement.{view_switch_item, view_else_if, view_otherwise, view_function};

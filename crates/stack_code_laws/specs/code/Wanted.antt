@@ -63,7 +63,7 @@ pub record IsCellAmong (objects : List ObjectRef) (threads : ℕ) (shapes : List
 
 -- ---- what an instruction reads
 
--- A call of the library reads a cell of this kind at this location, whatever it was answered before.
+--- A call of the library reads a cell of this kind at this location, on some answers to what it asked for before.
 abbrev pub ReadsCell : {A : Type 0} → Expansion A → Kind → Loc → Type 0
 ReadsCell (Gives v) k l = ⊥
 ReadsCell (Fails code) k l = ⊥
