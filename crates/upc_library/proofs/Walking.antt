@@ -15,7 +15,7 @@ use Rattle.upc_values.specs.declared.action.Reply.TheVariants as reply
 use Rattle.upc_values.specs.Views.{location_behind}
 use Rattle.upc_values.specs.Copying as said
 use Rattle.upc_values.specs.Copying.{Nowhere, In_shared, In_private}
-use Rattle.upc_values.specs.Expansion.{Expansion, Reads, Loads, bind, nothing, each_in_turn, unless_refused}
+use Rattle.upc_values.specs.Expansion.{Expansion, Reads, Loads, bind, each_in_turn, unless_refused}
 use Rattle.upc_values.specs.Expansion.{after_reply, value_in}
 use Rattle.upc_library.specs.layer.Walks.{Source, From, Filled, rest_of, replies_of, written, one, all}
 use Rattle.upc_library.specs.layer.Spots.{IsRoomFor}

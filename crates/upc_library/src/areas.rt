@@ -224,7 +224,8 @@ pub(crate) fn common_cells(
     requires shapes { AreShapes caller.now.shapes.now (option_copied caller.now.private) }
     requires few { bytes ≤ 2 ^ 32 }
     ensures cells { IfOk result (λ found. AreCommon caller.now.threads caller.now.shapes.now
-        (option_copied caller.now.private) bytes (area_in dst.now) (area_in src.now) (option_map (λ v. v.items) found)) }
+        (option_copied caller.now.private) bytes (area_in dst.now) (area_in src.now)
+        (option_map (λ v. v.items) found)) }
     ensures within { IfOk result (λ found. IfSome found (λ cells. All (λ c. c.0 < bytes) cells.items)) }
 {
     if is_cut(caller, bytes, dst) || is_cut(caller, bytes, src) {

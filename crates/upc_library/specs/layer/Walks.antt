@@ -1,10 +1,10 @@
 -- What is left of a memory call, reply by reply.
-use Rattle.std.specs.Prelude.{ℕ, zero, suc, ◌≡◌, ◌+◌, ◌*◌, ◌<◌, List, [], ◌∷◌, length, Option, Some, None}
+use Rattle.std.specs.Prelude.{ℕ, ◌≡◌, ◌+◌, ◌*◌, ◌<◌, List, [], ◌∷◌, length, Option, Some, None}
 use Rattle.block_layout.specs.declared.kind.Kind.{Kind}
 use Rattle.upc_values.specs.declared.scalar.Scalar.{Scalar}
 use Rattle.upc_values.specs.declared.action.Reply.{Reply}
 use Rattle.upc_values.specs.Copying as said
-use Rattle.upc_values.specs.Expansion.{Expansion, nothing, bind, each_in_turn, value_in, after_reply}
+use Rattle.upc_values.specs.Expansion.{Expansion, nothing, bind, each_in_turn, after_reply}
 
 -- Where the values of a memory call come from: an area, or one byte for all.
 pub data Source : Type 0 where

@@ -1,4 +1,4 @@
-use Rattle.std.proofs.Common.{◌≡◌, Option, sym, subst}
+use Rattle.std.proofs.Common.{Option, sym, subst}
 use Rattle.std.specs.Prelude.{IfSome}
 use Rattle.block_layout.specs.Shapes.{IsShape}
 use Rattle.block_layout.specs.declared.kind.Shape.{Shape}

@@ -1,4 +1,4 @@
-use Rattle.std.proofs.Common.{◌≡◌, Option, Bor, sym, ap, ◌∙◌}
+use Rattle.std.proofs.Common.{Option, Bor, sym, ap, ◌∙◌}
 use Rattle.std.specs.Option.{option_copied}
 use Rattle.block_layout.specs.Cells.{has_cut}
 use Rattle.block_layout.specs.declared.kind.Shape.{Shape}
