@@ -243,7 +243,7 @@ x block 1 elements 1 size 8 pieces 8 0 0 0\n",
 // A source on one thread, its status, and what it writes to the output and to the error output.
 type Program = (&'static [u8], u8, &'static [u8], &'static [u8]);
 
-const PROGRAMS: [Program; 31] = [
+const PROGRAMS: [Program; 33] = [
     // Sums, variables, loops and their run errors.
     (
         b"strict shared int x; int main(){x = 2147483647 + 1; return 0;}",
@@ -344,18 +344,30 @@ printf(\"%d\\n\", s); upc_fence; return s;}",
         b"",
         b"upc: run error E13 at 1:63 on thread 0\n",
     ),
-    // What does not run yet: memory calls and the collective functions of UPC 7.3.
+    // Memory calls; and what does not run yet, the collective functions of UPC 7.3.
     (
-        b"shared char a[4]; int main(){upc_memset(a, 0, 1); return 0;}",
-        101,
+        b"shared char a[4]; int main(){upc_memset(a, 7, 3); return a[2] - a[3];}",
+        7,
         b"",
-        b"upc: refused at 1:1: profile 0\n",
+        b"",
+    ),
+    (
+        b"shared [] int a[2]; int main(){int b[2]; a[1] = 5; upc_memget(b, a, 8); return b[1];}",
+        5,
+        b"",
+        b"",
     ),
     (
         b"shared int a[2]; shared int b[2]; int main(){upc_all_exchange(a, b, 4, 0); return 0;}",
         101,
         b"",
         b"upc: refused at 1:1: profile 0\n",
+    ),
+    (
+        b"shared char a[4]; int main(){upc_memset(a, 0, 5); return 0;}",
+        105,
+        b"",
+        b"upc: run error E5 at 1:30 on thread 0\n",
     ),
 ];
 
