@@ -43,7 +43,7 @@ kind_itself (kind.Shared n b) = rw (eq-eqb n n refl, eq-eqb b b refl) refl
 kind_itself kind.Lock = refl
 kind_itself (kind.Private n) = eq-eqb n n refl
 
-some_bytes : (k : Kind) → 1 ≤ kind_size k
+pub some_bytes : (k : Kind) → 1 ≤ kind_size k
 some_bytes kind.Char = omega arith
 some_bytes kind.UChar = omega arith
 some_bytes kind.Short = omega arith
@@ -55,6 +55,19 @@ some_bytes kind.ULong = omega arith
 some_bytes (kind.Shared n b) = omega arith
 some_bytes kind.Lock = omega arith
 some_bytes (kind.Private n) = omega arith
+
+pub few_bytes : (k : Kind) → kind_size k ≤ 16
+few_bytes kind.Char = omega arith
+few_bytes kind.UChar = omega arith
+few_bytes kind.Short = omega arith
+few_bytes kind.UShort = omega arith
+few_bytes kind.Int = omega arith
+few_bytes kind.UInt = omega arith
+few_bytes kind.Long = omega arith
+few_bytes kind.ULong = omega arith
+few_bytes (kind.Shared n b) = omega arith
+few_bytes kind.Lock = omega arith
+few_bytes (kind.Private n) = omega arith
 
 -- A cell after others begins after them.
 begins_behind : (cells : List (ℕ × Kind)) (from size byte : ℕ) (k : Kind) → CellsWithin cells from size → has_cell cells byte k ≡ true → from ≤ byte

@@ -9,7 +9,7 @@ use Rattle.block_layout.proofs.Near.{near_append, near_copy}
 use Rattle.block_layout.proofs.RunLists.{runs_push}
 
 -- Copies after copies.
-copies_joined : (s c d t : ℕ) (cells : List (ℕ × Kind)) → moved s (copies c t cells) ++ moved (s + c * t) (copies d t cells) ≡ moved s (copies (c + d) t cells)
+pub copies_joined : (s c d t : ℕ) (cells : List (ℕ × Kind)) → moved s (copies c t cells) ++ moved (s + c * t) (copies d t cells) ≡ moved s (copies (c + d) t cells)
 copies_joined s c zero t cells =
     let e : c + 0 ≡ c = omega arith in
     append-nil (moved s (copies c t cells)) ∙ sym (ap (λ n. moved s (copies n t cells)) e)

@@ -15,3 +15,4 @@ pub mod Found
 pub mod FoundRuns
 pub mod SharableCells
 pub mod Told
+pub mod FromPlace

@@ -84,7 +84,7 @@ told_take rs ts i r t l m is at before e =
     ∙ ap (λ (x : Repeated). runs_cells (take i ts) ++ run_cells x) (sym is) ∙ ap (λ xs. runs_cells (take i ts) ++ xs) e
     ∙ ap (λ (x : Repeated). runs_cells (take i ts) ++ run_cells x) at ∙ sym (runs_take ts i t m)
 
-runs_parts : (rs : List Repeated) (i : ℕ) (d : Repeated) → i < length rs → runs_cells rs ≡ runs_cells (take i rs) ++ (run_cells (get_or rs i d) ++ runs_cells (drop (i + 1) rs))
+pub runs_parts : (rs : List Repeated) (i : ℕ) (d : Repeated) → i < length rs → runs_cells rs ≡ runs_cells (take i rs) ++ (run_cells (get_or rs i d) ++ runs_cells (drop (i + 1) rs))
 runs_parts [] i d l = absurd (omega arith)
 runs_parts (r ∷ rs) zero d l = refl
 runs_parts (r ∷ rs) (suc i) d l =

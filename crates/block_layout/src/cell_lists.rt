@@ -1,9 +1,10 @@
 //! Lists of cells.
 
-ghost use Rattle.std.specs.Prelude.{◌≡◌, ◌+◌, ◌*◌, ◌≤◌, ◌++◌, IfOk, OnOk};
+ghost use Rattle.std.specs.Prelude.{ℕ, ◌≡◌, ◌+◌, ◌*◌, ◌≤◌, ◌++◌, ◌<◌, length, IfOk, OnOk, IsTrue, IsFalse};
 ghost use Rattle.block_layout.specs.Cells as pure;
 ghost use Rattle.block_layout.specs.Lists.{under};
 ghost use Rattle.block_layout.specs.Shapes.{CellsWithin, has_cell};
+ghost use Rattle.block_layout.specs.code.Runs.{BeginsBehind, first_of};
 
 use crate::kind::Kind;
 use std::alloc::{AllocError as OutOfMemory, Global};
@@ -80,6 +81,32 @@ pub(crate) fn kind_among(cells: &[(u32, Kind)], place: u32) -> Option<Kind>
         }
     }
     None
+}
+
+// The byte at which the first of these cells begins.
+pub(crate) fn first_place(cells: &[(u32, Kind)]) -> u32
+    requires { 0 < length cells.now }
+    ensures { result ≡ first_of cells.now }
+{
+    cells[0].0
+}
+
+// Whether the first of these cells begins at a byte or before it.
+pub(crate) fn begins_by(cells: &[(u32, Kind)], place: u32) -> bool
+    ensures by { IsTrue result → (0 < length cells.now) × (first_of cells.now ≤ place) }
+    ensures behind { IsFalse result → BeginsBehind place cells.now }
+{
+    !cells.is_empty() && cells[0].0 <= place
+}
+
+// Those of these cells, each moved on by so many bytes, that begin at a byte or after it; before they are moved.
+pub(crate) fn list_from(cells: &[(u32, Kind)], start: u32, place: u32) -> &[(u32, Kind)]
+    requires { (size : ℕ) × CellsWithin (pure.moved start cells.now) 0 size }
+    ensures { pure.moved start result.now ≡ pure.cells_from place (pure.moved start cells.now) }
+{
+    let before = cells.partition_point(|cell| u64::from(start) + u64::from(cell.0)
+        < u64::from(place));
+    &cells[before..]
 }
 
 // The cells without pointers to private objects.

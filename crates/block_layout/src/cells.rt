@@ -23,6 +23,9 @@ use std::marker::Model;
 // Where the tail has so many cells, it becomes a run before one more comes.
 const MOST: usize = 256;
 
+// The most bytes of a cell.
+const LONGEST: u32 = 16;
+
 /// Cells of an element: the byte offset and the kind of each. Contracts see the list.
 #[derive(Drop)]
 pub struct Cells {
@@ -105,6 +108,31 @@ impl Cells {
         ensures { result ≡ self.now }
     {
         CellsIter::of(self.runs.as_slice(), self.tail.as_slice())
+    }
+
+    /// The cells that begin at a byte of the element or after it, in order. Those before it are not walked: in a run of
+    /// copies the first one is found by division.
+    pub fn from(&self, place: u32) -> CellsIter<'_>
+        requires { (size : ℕ) × CellsWithin self.now 0 size }
+        ensures { result ≡ pure.cells_from place self.now }
+    {
+        CellsIter::from(self.runs.as_slice(), self.tail.as_slice(), place)
+    }
+
+    /// Whether a cell begins before this byte of the element and ends after it.
+    pub fn cuts(&self, place: u32) -> bool
+        requires { (size : ℕ) × CellsWithin self.now 0 size }
+        ensures { result ≡ pure.has_cut self.now place }
+    {
+        for (start, kind) in self.from(place.saturating_sub(LONGEST)) {
+            if start >= place {
+                return false;
+            }
+            if place - start < kind.size() {
+                return true;
+            }
+        }
+        false
     }
 
     /// Whether a cell of this kind begins at this byte of the element.

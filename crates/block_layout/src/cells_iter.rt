@@ -1,8 +1,11 @@
 //! The cells of an element, one after another.
 
-ghost use Rattle.std.specs.Prelude.{◌≡◌, ◌++◌};
-ghost use Rattle.block_layout.specs.code.Runs.{AreNear, runs_cells};
+ghost use Rattle.std.specs.Prelude.{ℕ, ◌≡◌, ◌++◌};
+ghost use Rattle.block_layout.specs.Cells.{cells_from};
+ghost use Rattle.block_layout.specs.Shapes.{CellsWithin};
+ghost use Rattle.block_layout.specs.code.Runs.{AreNear, run_cells, runs_cells};
 
+use crate::cell_lists::{begins_by, list_from};
 use crate::kind::Kind;
 use crate::run::Run;
 use std::marker::Model;
@@ -71,6 +74,41 @@ impl<'a> Iterator for CellsIter<'a> {
 }
 
 impl<'a> CellsIter<'a> {
+    // The cells of these runs, and these after them, from a byte on.
+    pub(crate) fn from(runs: &'a [Run], tail: &'a [(u32, Kind)], place: u32) -> CellsIter<'a>
+        requires { (size : ℕ) × CellsWithin (runs_cells runs.now ++ tail.now) 0 size }
+        ensures { result ≡ cells_from place (runs_cells runs.now ++ tail.now) }
+    {
+        if begins_by(tail, place) {
+            return CellsIter::of(&[], list_from(tail, 0, place));
+        }
+        for at in (0..runs.len()).rev() {
+            if runs[at].first() <= u64::from(place) {
+                return CellsIter::in_run(&runs[at], place, &runs[at + 1..], tail);
+            }
+        }
+        CellsIter::of(runs, tail)
+    }
+
+    // The cells of a run from a byte on, those of these runs, and these after them.
+    fn in_run(run: &'a Run, place: u32, runs: &'a [Run], tail: &'a [(u32, Kind)]) -> CellsIter<'a>
+        requires { (size : ℕ) × CellsWithin (run_cells run.now) 0 size }
+        ensures { result ≡ cells_from place (run_cells run.now) ++ (runs_cells runs.now ++ tail.now) }
+    {
+        let copy = run.last_by(place);
+        let start = run.start + copy * run.stride;
+        let pattern = run.cells.as_slice();
+        CellsIter {
+            left: list_from(pattern, start, place),
+            start,
+            stride: run.stride,
+            more: run.count - 1 - copy,
+            pattern,
+            runs,
+            tail,
+        }
+    }
+
     // The cells of these runs, and these after them.
     pub(crate) fn of(runs: &'a [Run], tail: &'a [(u32, Kind)]) -> CellsIter<'a>
         ensures { result ≡ runs_cells runs.now ++ tail.now }

@@ -5,10 +5,11 @@ ghost use Rattle.std.specs.List.{list_any};
 ghost use Rattle.std.specs.Prelude.{◌≡◌, ◌+◌, ◌*◌, ◌<◌, ◌≤◌, ◌++◌, IfOk, IfSome, MatchOption, None, true, length};
 ghost use Rattle.block_layout.specs.Cells as pure;
 ghost use Rattle.block_layout.specs.Lists.{under};
-ghost use Rattle.block_layout.specs.code.Runs.{AreNear, GoesOn, IsRun, hits, repeated, run_cells};
+ghost use Rattle.block_layout.specs.code.Runs.{AreNear, GoesOn, IsLastBy, IsRun};
+ghost use Rattle.block_layout.specs.code.Runs.{first_of, hits, repeated, run_cells};
 ghost use Rattle.block_layout.specs.Shapes.{CellsWithin, has_cell};
 
-use crate::cell_lists::same_lists;
+use crate::cell_lists::{first_place, same_lists};
 use crate::kind::Kind;
 use std::alloc::{AllocError as OutOfMemory, Global};
 use std::marker::Model;
@@ -161,6 +162,27 @@ impl Run {
             count: self.count,
             cells,
         }
+    }
+
+    /// The byte at which the first cell begins.
+    pub(crate) fn first(&self) -> u64
+        ensures value { result ≡ first_of (run_cells self.now) }
+        ensures some { 0 < length (run_cells self.now) }
+    {
+        u64::from(self.start) + u64::from(first_place(self.cells.as_slice()))
+    }
+
+    /// The number of the last copy that begins at a byte or before it; 0 where none does.
+    pub(crate) fn last_by(&self, place: u32) -> u32
+        ensures { IsLastBy place result self.now }
+    {
+        let first = self.first();
+        let place = u64::from(place);
+        if place < first || self.stride == 0 {
+            return 0;
+        }
+        let copy = (place - first) / u64::from(self.stride);
+        copy.min(u64::from(self.count - 1)) as u32
     }
 
     // Whether one of the copies of a cell of the pattern begins at a byte.

@@ -176,18 +176,57 @@ fn is_found(shape: &Shape, place: u32, kind: Option<Kind>) -> bool {
         && !shape.cells.has(place, Kind::UInt)
 }
 
-#[test]
-fn found_at_the_edges(rt: HostRuntime) -> Result<(), Fail> {
-    let part = of(
-        rt.alloc(),
-        &[(0, Kind::Int), (4, Kind::Int), (8, Kind::Char)],
-    )?;
-    let mut cells = of(rt.alloc(), &[(0, Kind::Long)])?;
+// That element.
+fn edges(alloc: Global) -> Result<Shape, OutOfMemory> {
+    let part = of(alloc, &[(0, Kind::Int), (4, Kind::Int), (8, Kind::Char)])?;
+    let mut cells = of(alloc, &[(0, Kind::Long)])?;
     add(&mut cells, 8, 100, 12, &part)?;
     cells.push(1208, Kind::UChar)?;
-    let shape = Shape { size: 1216, cells };
+    Ok(Shape { size: 1216, cells })
+}
+
+#[test]
+fn found_at_the_edges(rt: HostRuntime) -> Result<(), Fail> {
+    let shape = edges(rt.alloc())?;
     for (place, kind) in &EDGES {
         assert!(rt; is_found(&shape, *place, *kind));
+    }
+    Ok(())
+}
+
+// A byte of that element, where the first cell from there on begins, and whether a cell is cut there.
+const FROM: [(u32, Option<u32>, bool); 12] = [
+    (0, Some(0), false),
+    (1, Some(8), true),
+    (7, Some(8), true),
+    (8, Some(8), false),
+    (9, Some(12), true),
+    (16, Some(16), false),
+    (17, Some(20), false),
+    (1203, Some(1204), true),
+    (1205, Some(1208), false),
+    (1208, Some(1208), false),
+    (1209, None, false),
+    (1216, None, false),
+];
+
+// Whether the first cell from a byte on begins there, and a cell is cut at that byte or none is.
+fn is_from(shape: &Shape, place: u32, first: Option<u32>, cut: bool) -> bool {
+    if !shape.cells.lie_within(shape.size) {
+        return false;
+    }
+    let begins = match shape.cells.from(place).next() {
+        Some((start, _)) => first == Some(start),
+        None => first.is_none(),
+    };
+    begins && shape.cells.cuts(place) == cut
+}
+
+#[test]
+fn from_a_byte_on(rt: HostRuntime) -> Result<(), Fail> {
+    let shape = edges(rt.alloc())?;
+    for (place, first, cut) in &FROM {
+        assert!(rt; is_from(&shape, *place, *first, *cut));
     }
     Ok(())
 }

@@ -1,1 +1,4 @@
 pub mod Printing
+pub mod Cursors
+pub mod Areas
+pub mod Kept

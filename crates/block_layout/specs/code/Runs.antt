@@ -29,6 +29,15 @@ abbrev pub AreNear : List (ℕ × Kind) → Type 0
 AreNear [] = Unit {0}
 AreNear (c ∷ cells) = (c.0 ≤ 4294967295) × AreNear cells
 
+-- The byte at which the first cell begins; 0 where there is no cell.
+abbrev pub first_of : List (ℕ × Kind) → ℕ
+first_of [] = 0
+first_of (c ∷ cells) = c.0
+
+-- If there is a cell, the first begins after this byte.
+abbrev pub BeginsBehind : ℕ → List (ℕ × Kind) → Type 0
+BeginsBehind place cells = 0 < length cells → place < first_of cells
+
 -- A run has a copy, and its pattern a cell. It is a list as it is, or its places are near.
 pub record IsRun (r : Repeated) : Type 0 where
   pub some : 0 < r.count
@@ -41,6 +50,12 @@ pub record GoesOn (stride : ℕ) (r s : Repeated) : Type 0 where
   pub own : (r.count ≡ 1) ⊎ (r.stride ≡ stride)
   pub other : (s.count ≡ 1) ⊎ (s.stride ≡ stride)
   pub behind : s.start ≡ r.start + r.count * stride
+
+-- The last copy that begins at this byte or before it; the first one where none does.
+pub record IsLastBy (place copy : ℕ) (r : Repeated) : Type 0 where
+  pub below : copy < r.count
+  pub before : 0 < copy → r.start + copy * r.stride + first_of r.cells ≤ place
+  pub behind : 0 < r.stride → copy + 1 < r.count → place < r.start + (copy + 1) * r.stride + first_of r.cells
 
 -- Whether one of these copies of a cell begins at a byte.
 abbrev pub hits : ℕ → ℕ → ℕ → ℕ → ℕ → Bool

@@ -1,0 +1,5 @@
+pub mod Ranges
+pub mod Steps
+pub mod Cursors
+pub mod Compared
+pub mod Walking

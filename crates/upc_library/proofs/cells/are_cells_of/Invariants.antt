@@ -1,0 +1,12 @@
+use Rattle.std.proofs.Common.{◌≡◌, ◌+◌, ◌%◌, ◌≤◌, Some, take, length}
+use Rattle.upc_values.specs.Views.{cells_within}
+use Rattle.upc_library.specs.code.Cursors.{IsCursor}
+use Rattle.upc_library.proofs.cells.are_cells_of.Given as goal
+
+abbrev pub invariant-loop-i : goal.invariant-loop-i
+invariant-loop-i l = record {
+  place : l.cursor.place ≡ (l.byte + l.i) % l.shape.size;
+  cursor : IsCursor l.shape l.cursor.place l.cursor.next l.cursor.left;
+  few : l.done ≤ length l.cells;
+  same : take l.done l.cells ≡ cells_within (Some l.shape) l.byte l.i;
+}

@@ -1,0 +1,274 @@
+//! Where the ranges of memory calls lie, and the tests of them (UPC 7.2.5).
+
+ghost use Rattle.std.specs.Prelude.{◌≡◌, ◌<◌, ◌≤◌, ◌^◌, ◌-◌, ◌/◌, ◌||◌, not, false, true, []};
+ghost use Rattle.std.specs.Prelude.{None, IfOk, IfSome};
+ghost use Rattle.std.specs.Option.{option_copied, option_map};
+ghost use Rattle.std.specs.List.{All, list_any};
+ghost use Rattle.block_layout.specs.Shapes.{IsShape, kind_size};
+ghost use Rattle.upc_values.specs.Views.{shape_at};
+ghost use Rattle.upc_values.specs.Copying as said;
+ghost use Rattle.upc_values.specs.Shapes as shapes;
+ghost use Rattle.block_layout.specs.Cells.{same_cells};
+ghost use Rattle.upc_library.specs.code.Areas.{AreCommon, AreShapes, area_in, HasSharedRoom, HasPrivateRoom};
+ghost use Rattle.upc_library.specs.layer.Spots.{IsRoomFor};
+
+use crate::cells::{Cell, are_cells, cells_within, cuts_cell, shape_of};
+use crate::piece::is_within;
+use crate::spot::spot_at;
+use block_layout::{Kind, LocalPtr, Shape, SharedPtr};
+use integers::convert;
+use std::alloc::{AllocError as OutOfMemory, Global};
+use upc_values::{Scalar, is_integer};
+
+/// Where a range of bytes begins: nowhere, in a shared object, or in a private one.
+#[derive(Clone, Copy)]
+pub(crate) enum Area {
+    Nowhere,
+    Shared(SharedPtr),
+    Private { object: u64, offset: i64 },
+}
+
+/// The run of a memory call: how many threads there are, the program's shapes, and the shape of the private object that
+/// the call names, if it has not ended.
+#[derive(Clone, Copy)]
+pub(crate) struct Caller<'a> {
+    pub threads: u32,
+    pub shapes: &'a [Shape],
+    pub private: Option<&'a Shape>,
+    ghost some: { 0 < threads },
+}
+
+/// Where a pointer-to-shared leads: nowhere if it is null.
+pub(crate) fn shared_area(p: &SharedPtr) -> Area
+    ensures { area_in result ≡ said.shared_area p.now }
+{
+    if p.is_null() {
+        Area::Nowhere
+    } else {
+        Area::Shared(*p)
+    }
+}
+
+/// Where a private pointer leads: into shared space, it may be.
+pub(crate) fn local_area(p: &LocalPtr) -> Area
+    ensures { area_in result ≡ said.local_area p.now }
+{
+    match p {
+        LocalPtr::Null => Area::Nowhere,
+        LocalPtr::Private { object, offset } => Area::Private {
+            object: *object,
+            offset: *offset,
+        },
+        LocalPtr::Shared {
+            object,
+            thread,
+            offset,
+        } => Area::Shared(SharedPtr {
+            object: *object,
+            thread: *thread,
+            phase: 0,
+            offset: *offset,
+        }),
+    }
+}
+
+// Whether the area is nowhere.
+pub(crate) fn is_nowhere(area: &Area) -> bool
+    ensures { result ≡ said.is_nowhere (area_in area.now) }
+{
+    matches!(area, Area::Nowhere)
+}
+
+// Whether so many bytes leave the piece of their thread.
+pub(crate) fn leaves_shared(caller: &Caller<'_>, bytes: u64, area: &Area) -> bool
+    ensures value { result ≡ said.leaves_shared caller.now.threads caller.now.shapes.now
+        (option_copied caller.now.private) bytes (area_in area.now) }
+    ensures inside { result ≡ false → HasSharedRoom bytes area.now }
+{
+    match area {
+        Area::Shared(p) => spot_at(p).leaves_piece(caller.threads, bytes),
+        _ => false,
+    }
+}
+
+// Whether so many bytes lie inside an object of this shape.
+pub(crate) fn is_inside(shape: Option<&Shape>, offset: i64, bytes: u64) -> bool
+    ensures value { result ≡ said.is_inside 0 [] None (option_copied shape.entry) offset bytes }
+    ensures inside { result ≡ true → IsRoomFor bytes offset }
+{
+    match shape {
+        Some(shape) => is_within(i128::from(offset), bytes, shape.size),
+        None => false,
+    }
+}
+
+// Whether so many bytes leave the private object, or it has ended.
+pub(crate) fn leaves_private(caller: &Caller<'_>, bytes: u64, area: &Area) -> bool
+    ensures value { result ≡ said.leaves_private caller.now.threads caller.now.shapes.now
+        (option_copied caller.now.private) bytes (area_in area.now) }
+    ensures inside { result ≡ false → HasPrivateRoom bytes area.now }
+{
+    match area {
+        Area::Private { offset, .. } => !is_inside(caller.private, *offset, bytes),
+        _ => false,
+    }
+}
+
+// The byte at which the area begins.
+pub(crate) fn first_byte(area: &Area) -> u128
+    ensures value { result ≡ said.first_byte 0 [] None (area_in area.now) }
+    ensures near { result ≤ 2 ^ 63 }
+{
+    match area {
+        Area::Nowhere => 0,
+        Area::Shared(p) => u128::from(p.offset.unsigned_abs()),
+        Area::Private { offset, .. } => u128::from(offset.unsigned_abs()),
+    }
+}
+
+// The shape of the elements of a pointer's object.
+fn shape_at<'a>(caller: &Caller<'a>, p: &SharedPtr) -> Option<&'a Shape>
+    requires { AreShapes caller.now.shapes.now (option_copied caller.now.private) }
+    ensures value { option_copied result ≡ shape_at caller.now.shapes.now p.now }
+    ensures valid { IfSome (option_copied result) IsShape }
+{
+    shape_of(caller.shapes, p.object.shape)
+}
+
+// Whether a cell is cut at either end.
+pub(crate) fn is_cut(caller: &Caller<'_>, bytes: u64, area: &Area) -> bool
+    requires { AreShapes caller.now.shapes.now (option_copied caller.now.private) }
+    ensures { result ≡ said.is_cut caller.now.threads caller.now.shapes.now
+        (option_copied caller.now.private) bytes (area_in area.now) }
+{
+    match area {
+        Area::Nowhere => false,
+        Area::Shared(p) => cuts_cell(shape_at(caller, p), first_byte(area), bytes),
+        Area::Private { .. } => cuts_cell(caller.private, first_byte(area), bytes),
+    }
+}
+
+// The cells in so many bytes.
+pub(crate) fn cells(
+    alloc: Global,
+    caller: &Caller<'_>,
+    bytes: u64,
+    area: &Area,
+) -> Result<Vec<Cell>, OutOfMemory>
+    requires shapes { AreShapes caller.now.shapes.now (option_copied caller.now.private) }
+    requires few { bytes ≤ 2 ^ 32 }
+    ensures cells { IfOk result (λ cells. cells.items
+        ≡ said.cells caller.now.threads caller.now.shapes.now
+        (option_copied caller.now.private) bytes (area_in area.now)) }
+    ensures within { IfOk result (λ cells. All (λ c. c.0 < bytes) cells.items) }
+{
+    match area {
+        Area::Nowhere => cells_within(alloc, None, 0, bytes),
+        Area::Shared(p) => cells_within(alloc, shape_at(caller, p), first_byte(area), bytes),
+        Area::Private { .. } => cells_within(alloc, caller.private, first_byte(area), bytes),
+    }
+}
+
+// Whether one of the areas is nowhere.
+pub(crate) fn are_nowhere(dst: &Area, src: &Area) -> bool
+    ensures { result ≡ (said.is_nowhere (area_in dst.now) || said.is_nowhere (area_in src.now)) }
+{
+    is_nowhere(dst) || is_nowhere(src)
+}
+
+// Whether so many bytes leave the piece of their thread at one of the areas.
+pub(crate) fn leave_shared(caller: &Caller<'_>, bytes: u64, dst: &Area, src: &Area) -> bool
+    ensures value { result ≡ (said.leaves_shared caller.now.threads caller.now.shapes.now
+        (option_copied caller.now.private) bytes (area_in dst.now)
+        || said.leaves_shared caller.now.threads caller.now.shapes.now
+        (option_copied caller.now.private) bytes (area_in src.now)) }
+    ensures into { result ≡ false → HasSharedRoom bytes dst.now }
+    ensures from { result ≡ false → HasSharedRoom bytes src.now }
+{
+    leaves_shared(caller, bytes, dst) || leaves_shared(caller, bytes, src)
+}
+
+// Whether they leave a private object at one of the areas.
+pub(crate) fn leave_private(caller: &Caller<'_>, bytes: u64, dst: &Area, src: &Area) -> bool
+    ensures value { result ≡ (said.leaves_private caller.now.threads caller.now.shapes.now
+        (option_copied caller.now.private) bytes (area_in dst.now)
+        || said.leaves_private caller.now.threads caller.now.shapes.now
+        (option_copied caller.now.private) bytes (area_in src.now)) }
+    ensures into { result ≡ false → HasPrivateRoom bytes dst.now }
+    ensures from { result ≡ false → HasPrivateRoom bytes src.now }
+{
+    leaves_private(caller, bytes, dst) || leaves_private(caller, bytes, src)
+}
+
+// Whether these are the cells in so many bytes.
+fn has_cells(caller: &Caller<'_>, bytes: u64, area: &Area, cells: &[Cell]) -> bool
+    requires { AreShapes caller.now.shapes.now (option_copied caller.now.private) }
+    ensures { result ≡ same_cells cells.now (said.cells caller.now.threads caller.now.shapes.now
+        (option_copied caller.now.private) bytes (area_in area.now)) }
+{
+    match area {
+        Area::Nowhere => are_cells(None, 0, bytes, cells),
+        Area::Shared(p) => are_cells(shape_at(caller, p), first_byte(area), bytes, cells),
+        Area::Private { .. } => are_cells(caller.private, first_byte(area), bytes, cells),
+    }
+}
+
+/// The cells of both areas; None where a cell is cut, or they differ in place or kind.
+pub(crate) fn common_cells(
+    alloc: Global,
+    caller: &Caller<'_>,
+    bytes: u64,
+    dst: &Area,
+    src: &Area,
+) -> Result<Option<Vec<Cell>>, OutOfMemory>
+    requires shapes { AreShapes caller.now.shapes.now (option_copied caller.now.private) }
+    requires few { bytes ≤ 2 ^ 32 }
+    ensures cells { IfOk result (λ found. AreCommon caller.now.threads caller.now.shapes.now
+        (option_copied caller.now.private) bytes (area_in dst.now) (area_in src.now)
+        (option_map (λ v. v.items) found)) }
+    ensures within { IfOk result (λ found. IfSome found (λ cells. All (λ c. c.0 < bytes) cells.items)) }
+{
+    if is_cut(caller, bytes, dst) || is_cut(caller, bytes, src) {
+        return Ok(None);
+    }
+    let cells = cells(alloc, caller, bytes, dst)?;
+    if has_cells(caller, bytes, src, cells.as_slice()) {
+        Ok(Some(cells))
+    } else {
+        Ok(None)
+    }
+}
+
+// The number whose every byte is 1.
+pub(crate) fn ones(kind: Kind) -> u64
+    requires { shapes.is_integer kind ≡ true }
+    ensures { result ≡ (256 ^ kind_size kind - 1) / 255 }
+{
+    match kind {
+        Kind::Char | Kind::UChar => 1,
+        Kind::Short | Kind::UShort => 0x0101,
+        Kind::Int | Kind::UInt => 0x0101_0101,
+        _ => 0x0101_0101_0101_0101,
+    }
+}
+
+// The value whose every byte is this one.
+pub(crate) fn filled(byte: u8, kind: Kind) -> Scalar
+    requires { shapes.is_integer kind ≡ true }
+    ensures { result ≡ said.filled byte kind }
+{
+    Scalar::Int(convert(i128::from(byte) * i128::from(ones(kind)), kind))
+}
+
+// Whether one of the cells holds a pointer or a lock.
+pub(crate) fn hold_pointers(cells: &[Cell]) -> bool
+    ensures value { result ≡ list_any (λ x. not (shapes.is_integer x.1)) cells.now }
+    ensures inside { result ≡ false → All (λ c. shapes.is_integer c.1 ≡ true) cells.now }
+{
+    for cell in cells {
+        if !is_integer(cell.1) {
+            return true;
+        }
+    }
+    false
+}
