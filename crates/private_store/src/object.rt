@@ -84,7 +84,8 @@ impl Object {
 
     /// Its shape.
     pub(crate) fn shape(&self) -> &Shape
-        ensures { result.now ≡ self.now.shape }
+        ensures value { result.now ≡ self.now.shape }
+        ensures valid { IsShape result.now }
     {
         &self.shape
     }

@@ -1,7 +1,7 @@
 //! The store: the private objects of a thread, its open blocks and its active calls.
 
 ghost use Rattle.std.specs.Prelude.{◌≡◌, ◌+◌, ◌-◌, ◌<◌, ◌≤◌, ◌^◌, ◌⊎◌, ◌↔◌, ◌++◌, ◌==◌, nat_lt, true, length, IsTrue};
-ghost use Rattle.std.specs.Prelude.{IfOk, IfErr, IsErrOf, OnOk, OnErr, option_map, option_copied};
+ghost use Rattle.std.specs.Prelude.{IfOk, IfErr, IfSome, IsErrOf, OnOk, OnErr, option_map, option_copied};
 ghost use Rattle.block_layout.specs.Shapes.{IsShape};
 ghost use Rattle.upc_values.specs.Lists.{Each};
 ghost use Rattle.upc_values.specs.Shapes as shapes;
@@ -101,7 +101,8 @@ impl Store {
 
     /// The shape of a live object, None exactly where no live object has the number. It takes no memory.
     pub fn shape(&self, object: u64) -> Option<&Shape>
-        ensures { option_copied result ≡ option_map (λ x. x.shape) (thing object self.now.objects) }
+        ensures value { option_copied result ≡ option_map (λ x. x.shape) (thing object self.now.objects) }
+        ensures valid { IfSome (option_copied result) IsShape }
     {
         match object_place(&self.objects, object) {
             None => None,

@@ -1,9 +1,8 @@
 -- Which programs run today.
 use Rattle.std.specs.Prelude.{◌≡◌, Bool, true, false}
 use Rattle.upc_values.specs.declared.library.LibraryCall.{LibraryCall}
-use Rattle.upc_values.specs.declared.library.LibraryCall.TheVariants.{Memcpy, Memget, Memput, Memset, Broadcast}
-use Rattle.upc_values.specs.declared.library.LibraryCall.TheVariants.{Scatter, Gather, GatherAll, Exchange, Permute}
-use Rattle.upc_values.specs.declared.library.LibraryCall.TheVariants.{Reduce, PrefixReduce}
+use Rattle.upc_values.specs.declared.library.LibraryCall.TheVariants.{Broadcast, Scatter, Gather, GatherAll}
+use Rattle.upc_values.specs.declared.library.LibraryCall.TheVariants.{Exchange, Permute, Reduce, PrefixReduce}
 use Rattle.upc_values.specs.Lists.{Each}
 use Rattle.typed_tree.specs.Programs.{Checked}
 use Rattle.stack_code.specs.declared.instruction.ThreadWork.{ThreadWork}
@@ -13,13 +12,8 @@ use Rattle.stack_code.specs.declared.instruction.Operation.TheVariants.{Thread}
 use Rattle.stack_code.specs.Codes.{Codes}
 use Rattle.gen_stmt.specs.Programs.{program_code}
 
--- A call of the library that runs today: none that copies memory, and no collective one but those that allocate and
--- free (UPC 7.2, 7.3).
+-- A call of the library that runs today: no collective one but those that allocate and free (UPC 7.2, 7.3).
 abbrev pub is_served_call : LibraryCall → Bool
-is_served_call Memcpy = false
-is_served_call Memget = false
-is_served_call Memput = false
-is_served_call Memset = false
 is_served_call Broadcast = false
 is_served_call Scatter = false
 is_served_call Gather = false
@@ -44,7 +38,6 @@ is_served w = true
 abbrev pub AreServed : Codes → Type 0
 AreServed codes = Each (Each (λ i. is_served i.does ≡ true)) codes.functions
 
--- A program that runs today: its code calls neither upc_memcpy, upc_memget, upc_memput and upc_memset nor a collective
--- function of UPC 7.3.
+-- A program that runs today: its code calls no collective function of UPC 7.3.
 abbrev pub RunsToday : Checked → Type 0
 RunsToday program = AreServed (program_code program)

@@ -58,10 +58,6 @@ fn is_call_served(call: LibraryCall) -> bool
     ensures { result ≡ pure.is_served_call call }
 {
     match call {
-        LibraryCall::Memcpy => false,
-        LibraryCall::Memget => false,
-        LibraryCall::Memput => false,
-        LibraryCall::Memset => false,
         LibraryCall::Broadcast => false,
         LibraryCall::Scatter => false,
         LibraryCall::Gather => false,

@@ -25,12 +25,12 @@ use Rattle.stack_machine.specs.code.Bodies.{Body}
 use Rattle.stack_machine.specs.code.Standing.{Stands}
 use Rattle.stack_machine.specs.code.Inside.{StandsInside, FailsBy, wanted_in, with_value}
 use Rattle.stack_machine.proofs.Inside.{goes_inside}
-use Rattle.copying.specs.Walks.{Source, rest, rest_of, replies_of}
-use Rattle.copying.specs.Wishes.{IsWish, kind_read}
-use Rattle.copying.specs.declared.walk.CopyWish.TheVariants.{Act, LoadPrivate, StorePrivate, Finished}
+use Rattle.upc_library.specs.layer.Walks.{Source, rest, rest_of, replies_of}
+use Rattle.upc_library.specs.layer.Wishes.{IsWish, kind_read}
+use Rattle.upc_library.specs.declared.copying.CopyWish.TheVariants.{Act, LoadPrivate, StorePrivate, Finished}
 use Rattle.upc_values.specs.declared.refused.Refused.{Refused}
 use Rattle.upc_values.specs.declared.refused.Refused.TheVariants as refused
-use Rattle.copying.specs.Wishes.{RefusesSo}
+use Rattle.upc_library.specs.layer.Wishes.{RefusesSo}
 use Rattle.stack_machine.specs.declared.open_calls.Walk.{Walk}
 use Rattle.stack_machine.specs.declared.open_calls.Walk.TheVariants as walk
 use Rattle.stack_machine.specs.declared.wish.Halt.{Halt}

@@ -21,10 +21,10 @@ use Rattle.upc_values.specs.Expansion.{Expansion, Gives, Fails, Reads, Asks, Loa
 use Rattle.upc_values.specs.Expansion.{after_reply, unless_refused, nothing}
 use Rattle.thread_steps.specs.layer.Ranges.{IsHeldScalar, IsNumber}
 use Rattle.thread_values.specs.layer.Asking.{IsHeldReply}
-use Rattle.copying.specs.Wishes.{area_of}
-use Rattle.copying.specs.declared.walk.CopySpec.{CopySpec}
-use Rattle.copies.specs.layer.Copies.{copies, copy_spec, spec_of, private_of, copying_of}
-use Rattle.copies.proofs.MemoryCalls.{by_copy}
+use Rattle.upc_library.specs.layer.Wishes.{area_of}
+use Rattle.upc_library.specs.declared.copying.CopySpec.{CopySpec}
+use Rattle.thread_values.specs.layer.Copies.{copies, copy_spec, spec_of, private_of, copying_of}
+use Rattle.thread_values.proofs.MemoryCalls.{by_copy}
 use Rattle.stack_machine.specs.code.Calls.{WritesHeld}
 
 -- ---- what is written

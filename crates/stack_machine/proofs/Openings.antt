@@ -23,7 +23,7 @@ use Rattle.stack_machine.specs.declared.wish.Halt.TheVariants.{Memory, Asks, Sto
 use Rattle.stack_machine.specs.declared.wish.Stop.TheVariants.{Ended, Exit, Fault, Budget}
 use Rattle.stack_machine.specs.code.Bodies.{Body}
 use Rattle.stack_machine.specs.code.Calls.{call_instr, left_of, on_its_way, WritesHeld, IsGoingOn, FailsSo}
-use Rattle.copies.specs.layer.Copies.{copies, shapes_in}
+use Rattle.thread_values.specs.layer.Copies.{copies, shapes_in}
 use Rattle.stack_machine.specs.code.Calls.{HasLeft}
 use Rattle.stack_machine.specs.code.Inside.{StandsInside, StandsAt, MayMeet, without}
 use Rattle.stack_machine.specs.code.Kept.{AreHeld, HoldsHeld, IsHolding}
@@ -32,16 +32,16 @@ use Rattle.stack_machine.specs.code.Standing.{Stands}
 use Rattle.stack_machine.specs.code.Tasks.{task_seen}
 use Rattle.stack_machine.specs.code.Walking.{IsHalted, IsOver, HasHalted, HasCome, IfGoing}
 use Rattle.stack_machine.specs.layer.Machine.{listed}
-use Rattle.copies.proofs.MemoryCalls.{copies_no_exit, copies_formed, copies_alone}
+use Rattle.thread_values.proofs.MemoryCalls.{copies_no_exit, copies_formed, copies_alone}
 use Rattle.stack_machine.proofs.Entering.{enters}
 use Rattle.stack_machine.proofs.Inside.{goes_inside}
 use Rattle.upc_values.specs.declared.scalar.Value.{Value}
 use Rattle.upc_values.specs.declared.library.LibraryCall.{LibraryCall}
 use Rattle.upc_values.specs.declared.refused.Refused.{Refused}
 use Rattle.upc_values.specs.declared.refused.Refused.TheVariants as refused
-use Rattle.copying.specs.Wishes.{RefusesSo, expansion}
-use Rattle.copying.specs.declared.walk.CopySpec.{CopySpec}
-use Rattle.copies.specs.layer.Copies.{spec_of, private_of, copying_of}
+use Rattle.upc_library.specs.layer.Wishes.{RefusesSo, expansion}
+use Rattle.upc_library.specs.declared.copying.CopySpec.{CopySpec}
+use Rattle.thread_values.specs.layer.Copies.{spec_of, private_of, copying_of}
 use Rattle.stack_code.specs.Codes.{thread_of}
 use Rattle.stack_code.specs.layer.Steps.{step}
 use Rattle.stack_machine.specs.code.Bodies.{conf}

@@ -3,11 +3,11 @@
 ghost use Rattle.std.specs.Prelude.{◌≡◌, ◌<◌, List, IfErr, OnOk};
 ghost use Rattle.block_layout.specs.declared.kind.Shape.{Shape};
 ghost use Rattle.upc_values.specs.Expansion.{after_reply};
-ghost use Rattle.copying.specs.Wishes.{IsWish, RefusesSo, is_refusal, kind_read};
+ghost use Rattle.upc_library.specs.layer.Wishes.{IsWish, RefusesSo, is_refusal, kind_read};
 ghost use Rattle.stack_machine.specs.code.Calls.{left_of, replies_to};
 
 use block_layout::Kind;
-use copying::{CopyWish, Copying};
+use upc_library::{CopyWish, Copying};
 use upc_text::Place;
 use upc_values::{Refused, Reply};
 

@@ -24,9 +24,9 @@ use Rattle.thread_steps.specs.States as states
 use Rattle.thread_steps.specs.Values.{kept, scalar_of}
 use Rattle.thread_steps.specs.Actions.{ask}
 use Rattle.thread_steps.specs.Accesses.{run, expanded, with_store}
-use Rattle.copying.specs.Walks.{Left, Source, rest, rest_of, replies_left, replies_of}
-use Rattle.copying.specs.Wishes.{IsWish, kind_read}
-use Rattle.copying.specs.declared.walk.CopyWish.TheVariants.{Act, LoadPrivate, StorePrivate, Finished}
+use Rattle.upc_library.specs.layer.Walks.{Left, Source, rest, rest_of, replies_left, replies_of}
+use Rattle.upc_library.specs.layer.Wishes.{IsWish, kind_read}
+use Rattle.upc_library.specs.declared.copying.CopyWish.TheVariants.{Act, LoadPrivate, StorePrivate, Finished}
 use Rattle.upc_meaning_state.specs.code.Memory.{IsUnfinished}
 use Rattle.upc_meaning_state.specs.layer.Libraries.{expanded_to}
 

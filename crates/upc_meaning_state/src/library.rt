@@ -14,9 +14,8 @@ use crate::progress::{Progress, Step};
 use crate::ranges::is_numeric;
 use crate::runner::Runner;
 use block_layout::SharedPtr;
-use copies::is_copying;
 use thread_values::{
-    LibraryStep, first_int, is_collective, is_formed, library_step, library_value, printed,
+    LibraryStep, first_int, is_collective, is_copying, is_formed, library_step, library_value, printed,
     printed_count, reply_value,
 };
 use upc_text::{OutOfMemory, Place};

@@ -1,11 +1,11 @@
 //! Memory calls whose arguments have their values (UPC 7.2.5).
 
 ghost use Rattle.std.specs.Prelude.{◌≡◌, ◌<◌, IfOk, IfSome, Some, None, true, false};
-ghost use Rattle.copying.specs.Walks.{rest};
-ghost use Rattle.copying.specs.Wishes.{IsWish, is_refusal};
-ghost use Rattle.copying.specs.declared.walk.CopyWish.TheVariants as wishes;
+ghost use Rattle.upc_library.specs.layer.Walks.{rest};
+ghost use Rattle.upc_library.specs.layer.Wishes.{IsWish, is_refusal};
+ghost use Rattle.upc_library.specs.declared.copying.CopyWish.TheVariants as wishes;
 ghost use Rattle.thread_steps.specs.Library as pure;
-ghost use Rattle.copies.specs.layer.Copies.{copies};
+ghost use Rattle.thread_values.specs.layer.Copies.{copies};
 ghost use Rattle.upc_values.specs.LibraryCalls.{valued};
 ghost use Rattle.upc_meaning_state.specs.code.Memory.{Answers, IsAnswered, IsAnsweredOrOver, IsUnfinished};
 ghost use Rattle.upc_meaning_state.specs.layer.Came.{Came, state_seen};
@@ -16,9 +16,8 @@ use crate::library::are_numeric;
 use crate::progress::{Progress, Step};
 use crate::runner::Runner;
 use block_layout::{Kind, LocalPtr};
-use copying::{CopyWish, Copying};
-use copies::{private_of, spec_of};
-use thread_values::{kept, scalar_of};
+use upc_library::{CopyWish, Copying};
+use thread_values::{kept, private_of, scalar_of, spec_of};
 use upc_text::{OutOfMemory, Place};
 use upc_values::{Action, LibraryCall, Refused, Reply, Scalar, ToldEnd, Value};
 

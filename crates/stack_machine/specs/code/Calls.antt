@@ -9,7 +9,7 @@ use Rattle.upc_values.specs.declared.action.Reply.TheVariants as reply
 use Rattle.upc_values.specs.Formed.{is_read}
 use Rattle.upc_values.specs.Expansion.{Expansion, Gives, Fails, Reads, Asks, Loads, Stores}
 use Rattle.thread_steps.specs.layer.Ranges.{IsHeldScalar}
-use Rattle.copying.specs.Walks.{rest, replies_left}
+use Rattle.upc_library.specs.layer.Walks.{rest, replies_left}
 use Rattle.stack_machine.specs.declared.open_calls.Walk.{Walk}
 use Rattle.stack_machine.specs.declared.open_calls.Walk.TheVariants as walk
 use Rattle.stack_machine.specs.declared.open_calls.OpenCall.{OpenCall}

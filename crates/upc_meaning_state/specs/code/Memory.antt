@@ -8,7 +8,7 @@ use Rattle.upc_values.specs.Expansion as expansion
 use Rattle.upc_values.specs.Expansion.{Expansion, after_reply}
 use Rattle.upc_values.specs.LibraryCalls.{valued}
 use Rattle.thread_steps.specs.States.{Thread, State, Val, Over}
-use Rattle.copying.specs.Wishes.{is_refusal}
+use Rattle.upc_library.specs.layer.Wishes.{is_refusal}
 use Rattle.upc_meaning_state.specs.declared.progress.Step.{Step}
 use Rattle.upc_meaning_state.specs.declared.progress.Step.TheVariants.{Gives, Ends}
 use Rattle.upc_meaning_state.specs.declared.progress.Progress.{Progress}

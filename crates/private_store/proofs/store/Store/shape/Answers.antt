@@ -11,13 +11,13 @@ shape_in o = option_map (λ x. x.shape) o
 abbrev some : Shape → Option Shape
 some s = Some s
 
-pub returns-in-None : goal.returns-in-None
-returns-in-None c =
+pub returns-in-None-clause-value : goal.returns-in-None-clause-value
+returns-in-None-clause-value c =
     let none : None ≡ position (λ x. x.number == c.args.object) c.deref.result.now = c.in-None.ensures in
     rw (← c.self.view_is) (ap shape_in (sym (no_thing c.args.object c.self.inside.objects.items (rw c.deref.ensures.value at none))))
 
-pub returns-in-Some : goal.returns-in-Some
-returns-in-Some c =
+pub returns-in-Some-clause-value : goal.returns-in-Some-clause-value
+returns-in-Some-clause-value c =
     let found : Some c.in-Some.at ≡ position (λ x. x.number == c.args.object) c.deref.result.now = c.in-Some.ensures in
     let there = a_thing c.args.object c.self.inside.objects.items c.in-Some.at c.index.result.now (rw c.deref.ensures.value at found) c.index.ensures in
-    rw (← c.self.view_is) (ap some c.shape.ensures ∙ ap shape_in (sym there))
+    rw (← c.self.view_is) (ap some c.shape.ensures.value ∙ ap shape_in (sym there))

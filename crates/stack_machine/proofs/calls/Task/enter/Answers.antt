@@ -1,7 +1,7 @@
 use Rattle.std.proofs.Common.{◌≡◌, sym, ap, ◌∙◌, subst, List}
 use Rattle.upc_values.specs.declared.scalar.Value.{Value}
 use Rattle.upc_values.specs.LibraryCalls.{library_call, valued}
-use Rattle.copies.specs.layer.Copies.{shapes_in}
+use Rattle.thread_values.specs.layer.Copies.{shapes_in}
 use Rattle.stack_machine.specs.layer.Machine.{listed}
 use Rattle.stack_machine.specs.code.Calls.{left_of, FailsSo}
 use Rattle.stack_machine.specs.code.Inside.{StandsInside}

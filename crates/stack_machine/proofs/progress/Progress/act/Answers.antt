@@ -3,7 +3,7 @@ use Rattle.block_layout.specs.declared.kind.Kind.{Kind}
 use Rattle.upc_values.specs.Expansion.{after_reply}
 use Rattle.upc_values.specs.Formed.{fits}
 use Rattle.upc_values.specs.LibraryCalls.{valued}
-use Rattle.copying.specs.Wishes.{kind_read}
+use Rattle.upc_library.specs.layer.Wishes.{kind_read}
 use Rattle.stack_machine.specs.layer.Machine.{listed}
 use Rattle.stack_machine.specs.code.Calls.{left_of}
 use Rattle.stack_machine.specs.code.Inside.{StandsInside}

@@ -1,8 +1,8 @@
 use Rattle.std.proofs.Common.{◌≡◌, sym, ◌∙◌, subst}
 use Rattle.std.specs.Prelude.{Result, Err}
 use Rattle.upc_values.specs.declared.action.Reply.{Reply}
-use Rattle.copying.specs.Wishes.{IsWish}
-use Rattle.copying.specs.declared.walk.CopyWish.{CopyWish}
+use Rattle.upc_library.specs.layer.Wishes.{IsWish}
+use Rattle.upc_library.specs.declared.copying.CopyWish.{CopyWish}
 use Rattle.stack_machine.specs.declared.progress.Progress.{Progress}
 use Rattle.stack_machine.specs.declared.wish.Halt.{Halt}
 use Rattle.stack_machine.specs.layer.Machine.{listed}

@@ -2,9 +2,9 @@ use Rattle.std.proofs.Common.{◌≡◌, sym, ap, ◌∙◌, subst}
 use Rattle.std.specs.Option.{option_copied}
 use Rattle.upc_values.specs.Expansion.{Expansion}
 use Rattle.upc_values.specs.LibraryCalls.{valued}
-use Rattle.copying.specs.Wishes.{expansion}
-use Rattle.copies.specs.layer.Copies.{shapes_in, copying_of}
-use Rattle.copies.proofs.MemoryCalls.{means}
+use Rattle.upc_library.specs.layer.Wishes.{expansion}
+use Rattle.thread_values.specs.layer.Copies.{shapes_in, copying_of}
+use Rattle.thread_values.proofs.MemoryCalls.{means}
 use Rattle.stack_machine.specs.code.Calls.{WritesHeld}
 use Rattle.stack_machine.proofs.CallsOf.{expansion_held}
 use Rattle.stack_machine.proofs.Openings.{made_is, fails_as}
@@ -19,7 +19,7 @@ returns-in-Ok-clause-made c =
     ∙ ap valued (sym (c.in-Ok.ensures.made
     ∙ made_is c.threads.result code.threads c.shapes.result.now code.shapes (option_copied c.private_of-private.result)
     private c.spec_of-spec.result c.args.next.now.call c.args.args.now c.threads.ensures.value c.shapes.ensures.value
-    c.spec_of-spec.ensures c.private_of-private.ensures))
+    c.spec_of-spec.ensures c.private_of-private.ensures.value))
 
 pub returns-in-Ok-clause-values : goal.returns-in-Ok-clause-values
 returns-in-Ok-clause-values c =
@@ -29,7 +29,7 @@ returns-in-Ok-clause-values c =
     (sym (c.in-Ok.ensures.made
     ∙ made_is c.threads.result code.threads c.shapes.result.now code.shapes (option_copied c.private_of-private.result)
     private c.spec_of-spec.result c.args.next.now.call c.args.args.now c.threads.ensures.value c.shapes.ensures.value
-    c.spec_of-spec.ensures c.private_of-private.ensures))
+    c.spec_of-spec.ensures c.private_of-private.ensures.value))
     (expansion_held code.threads code.shapes code.threads code.shapes private c.args.args.now c.args.next.now.call
     c.requires.copies)
 
@@ -44,5 +44,5 @@ returns-in-Err-clause-fails c =
     c.args.next.now.call c.requires.copies
     ∙ ap valued (sym (made_is c.threads.result code.threads c.shapes.result.now code.shapes
     (option_copied c.private_of-private.result) private c.spec_of-spec.result c.args.next.now.call c.args.args.now
-    c.threads.ensures.value c.shapes.ensures.value c.spec_of-spec.ensures c.private_of-private.ensures)))
+    c.threads.ensures.value c.shapes.ensures.value c.spec_of-spec.ensures c.private_of-private.ensures.value)))
     c.in-Err.ensures.refused c.refused.ensures

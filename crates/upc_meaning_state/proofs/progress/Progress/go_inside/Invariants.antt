@@ -1,5 +1,5 @@
 use Rattle.std.proofs.Common.{◌≡◌}
-use Rattle.copying.specs.Walks.{rest, replies_left}
+use Rattle.upc_library.specs.layer.Walks.{rest, replies_left}
 use Rattle.upc_values.specs.LibraryCalls.{valued}
 use Rattle.upc_meaning_state.specs.layer.Came.{state_seen}
 use Rattle.upc_meaning_state.specs.layer.Libraries.{expanded_to}

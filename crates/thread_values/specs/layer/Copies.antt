@@ -12,10 +12,10 @@ use Rattle.upc_values.specs.declared.library.LibraryCall.TheVariants.{Memcpy, Me
 use Rattle.upc_values.specs.Expansion.{Expansion}
 use Rattle.upc_values.specs.LibraryCalls.{private_shape}
 use Rattle.private_store.specs.Live.{Live, thing}
-use Rattle.copying.specs.Wishes.{area_of, expansion}
-use Rattle.copying.specs.declared.walk.CopySpec.{CopySpec}
-use Rattle.copying.specs.declared.walk.Side.{Side}
-use Rattle.copying.specs.declared.walk.Side.TheVariants as side
+use Rattle.upc_library.specs.layer.Wishes.{area_of, expansion}
+use Rattle.upc_library.specs.declared.copying.CopySpec.{CopySpec}
+use Rattle.upc_library.specs.declared.copying.Side.{Side}
+use Rattle.upc_library.specs.declared.copying.Side.TheVariants as side
 
 -- The call is a memory call (UPC 7.2.5).
 abbrev pub copies : LibraryCall → Bool

@@ -1,14 +1,15 @@
 //! Memory calls by their arguments (UPC 7.2.5).
 
-ghost use Rattle.std.specs.Prelude.{◌≡◌, ◌<◌, ◌≤◌, All};
+ghost use Rattle.std.specs.Prelude.{◌≡◌, ◌<◌, ◌≤◌, All, IfSome};
+ghost use Rattle.block_layout.specs.Shapes.{IsShape};
 ghost use Rattle.std.specs.Option.{option_copied};
 ghost use Rattle.thread_steps.specs.layer.Ranges.{IsNumber};
 ghost use Rattle.thread_steps.specs.Values.{number_of};
-ghost use Rattle.copies.specs.layer.Copies as said;
-ghost use Rattle.copies.specs.layer.Copies.{copies, private_at, shapes_in};
+ghost use Rattle.thread_values.specs.layer.Copies as said;
+ghost use Rattle.thread_values.specs.layer.Copies.{copies, private_at, shapes_in};
 
 use block_layout::{Kind, LocalPtr, Shape};
-use copying::{CopySpec, Side};
+use upc_library::{CopySpec, Side};
 use integers::convert;
 use private_store::Store;
 use upc_values::{LibraryCall, Scalar, Value};
@@ -123,7 +124,8 @@ pub fn spec_of(call: LibraryCall, args: &[Value]) -> CopySpec
 
 // The shape of the private object on a side.
 fn private_at<'a>(store: &'a Store, side: &Side) -> Option<&'a Shape>
-    ensures { option_copied result ≡ private_at (shapes_in store.now) side.now }
+    ensures value { option_copied result ≡ private_at (shapes_in store.now) side.now }
+    ensures valid { IfSome (option_copied result) IsShape }
 {
     match side {
         Side::Local(LocalPtr::Private { object, .. }) => store.shape(*object),
@@ -133,7 +135,8 @@ fn private_at<'a>(store: &'a Store, side: &Side) -> Option<&'a Shape>
 
 /// The shape of the private object that a memory call names, if it has not ended.
 pub fn private_of<'a>(store: &'a Store, call: LibraryCall, spec: &CopySpec) -> Option<&'a Shape>
-    ensures { option_copied result ≡ said.private_of call spec.now (shapes_in store.now) }
+    ensures value { option_copied result ≡ said.private_of call spec.now (shapes_in store.now) }
+    ensures valid { IfSome (option_copied result) IsShape }
 {
     match call {
         LibraryCall::Memget => private_at(store, &spec.dst),
