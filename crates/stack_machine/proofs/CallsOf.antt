@@ -78,8 +78,11 @@ module _ (threads : ℕ) (shapes : List Shape) where
       (said.is_nowhere dst || said.is_nowhere src, NULL_ACCESS)
       ∷ (said.leaves_shared t s p n dst || said.leaves_shared t s p n src, OUT_OF_OBJECT)
       ∷ (said.leaves_private t s p n dst || said.leaves_private t s p n src, PRIVATE_RANGE)
-      ∷ (said.is_cut t s p n dst
-      || (said.is_cut t s p n src || not (same_cells (said.cells t s p n dst) (said.cells t s p n src))), CELL_TYPE)
+      ∷ (
+        said.is_cut t s p n dst
+            || (said.is_cut t s p n src || not (same_cells (said.cells t s p n dst) (said.cells t s p n src))),
+        CELL_TYPE,
+      )
       ∷ []
 
   copy_held : (t : ℕ) (s : List Shape) (p : Option Shape) (dst src : Area) (n : ℕ)
@@ -94,8 +97,11 @@ module _ (threads : ℕ) (shapes : List Shape) where
   abbrev set_tests : ℕ → List Shape → SharedPtr → ℕ → List (Bool × ℕ)
   set_tests t s q n =
       (false, NULL_ACCESS) ∷ (said.leaves_shared t s None n (In_shared q), OUT_OF_OBJECT) ∷ (false, PRIVATE_RANGE)
-      ∷ (said.is_cut t s None n (In_shared q)
-      || list_any (λ x. not (is_integer x.1)) (said.cells t s None n (In_shared q)), CELL_TYPE)
+      ∷ (
+        said.is_cut t s None n (In_shared q)
+            || list_any (λ x. not (is_integer x.1)) (said.cells t s None n (In_shared q)),
+        CELL_TYPE,
+      )
       ∷ []
 
   -- Into a private object nothing is set.

@@ -104,7 +104,7 @@ module _ (codes : Codes) (thread budget : ℕ) (given : List Reply) where
   halted_so Memory c t q h = tt
   halted_so (Asks a n) c t q h = (
     subst (λ o. StandsInside codes thread budget given (listed o) c.place (valued (left_of codes.shapes c.walk))
-    (task_seen (record t { progress = q }))) h.1 h.0,
+        (task_seen (record t { progress = q }))) h.1 h.0,
     (h.2, h.3),
   )
   halted_so (Stops s n) c t q h = h

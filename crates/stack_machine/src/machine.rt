@@ -7,8 +7,8 @@ ghost use Rattle.upc_values.specs.Outcomes.{Outcome};
 ghost use Rattle.stack_code.specs.layer.Outcomes.{CodeMeans};
 ghost use Rattle.stack_machine.specs.layer.Machine.{listed, told_by, told_of, Answered, HasHeard, HasAsked, HasFailed};
 
-use crate::open_calls::OpenCall;
 use crate::calls::Task;
+use crate::open_calls::OpenCall;
 use crate::progress::Progress;
 use crate::runner::Runner;
 use crate::stacks::{Operands, Spots};

@@ -19,14 +19,14 @@ ghost use Rattle.stack_machine.specs.code.Turns.{IsFirm};
 ghost use Rattle.stack_machine.specs.code.Walking.{HasCome, HasEntered};
 ghost use Rattle.stack_machine.specs.layer.Machine.{listed};
 
-use crate::open_calls::{OpenCall, Walk};
 use crate::calls::Task;
+use crate::open_calls::{OpenCall, Walk};
 use crate::progress::Progress;
 use crate::runner::Runner;
 use crate::wish::Halt;
-use upc_library::Copying;
 use stack_code::{Code, Instr, Operation, ThreadWork};
 use thread_values::{is_copying, private_of, spec_of};
+use upc_library::Copying;
 use upc_text::{OutOfMemory, Place};
 use upc_values::{LibraryCall, Scalar, Value};
 
@@ -45,11 +45,13 @@ fn call_of(instr: &Instr) -> Option<NextCall>
     ensures copies { IfSome result (λ c. copies c.call ≡ true) }
 {
     match &instr.does {
-        Operation::Thread(ThreadWork::Library {
-            call,
-            shape,
-            arguments,
-        }) => {
+        Operation::Thread(
+            ThreadWork::Library {
+                call,
+                shape,
+                arguments,
+            },
+        ) => {
             if is_copying(*call) {
                 Some(NextCall {
                     call: *call,
@@ -67,7 +69,13 @@ fn call_of(instr: &Instr) -> Option<NextCall>
 
 impl Progress {
     // A memory call is tested.
-    fn begin_copy(&self, next: &NextCall, args: &[Value], code: &Code, runner: &Runner) -> Result<Walk, Halt>
+    fn begin_copy(
+        &self,
+        next: &NextCall,
+        args: &[Value],
+        code: &Code,
+        runner: &Runner,
+    ) -> Result<Walk, Halt>
         requires held { AreHeld code.now.threads code.now.shapes args.now }
         requires copies { copies next.now.call ≡ true }
         ensures made { IfOk result (λ w. library_call code.now.threads code.now.shapes runner.now.number
@@ -121,10 +129,12 @@ impl Task {
         ensures taken { OnOk result (self.new
             ≡ record self.old { operands = drop next.arguments self.old.operands }) }
     {
-        match self
-            .progress
-            .begin_copy(&next, self.operands.youngest(next.arguments), code, runner)
-        {
+        match self.progress.begin_copy(
+            &next,
+            self.operands.youngest(next.arguments),
+            code,
+            runner,
+        ) {
             Err(halt) => Err(halt),
             Ok(walk) => {
                 self.operands.drop_youngest(next.arguments);
@@ -168,7 +178,8 @@ impl Task {
         ensures closed { OnOk result (under_way.new ≡ under_way.old) }
         ensures waits { IfErr result (λ e. Waits e runner.now.budget code.now.threads code.now.shapes
             (the_call under_way.new) (task_seen self.new)) }
-        ensures left { OnOk result (HasLeft code.now.threads code.now.shapes (task_seen self.old) (task_seen self.new)) }
+        ensures left { OnOk result
+            (HasLeft code.now.threads code.now.shapes (task_seen self.old) (task_seen self.new)) }
     {
         match self.progress.walk_on(&mut call.walk, call.place, code) {
             Ok(()) => {

@@ -11,8 +11,8 @@ ghost use Rattle.stack_machine.specs.code.Tasks.{task_seen};
 ghost use Rattle.stack_machine.specs.code.Walking.{HasCome};
 ghost use Rattle.stack_machine.specs.layer.Machine.{listed};
 
-use crate::open_calls::OpenCall;
 use crate::calls::Task;
+use crate::open_calls::OpenCall;
 use crate::runner::Runner;
 use crate::wish::Halt;
 use stack_code::Code;

@@ -17,9 +17,9 @@ use crate::open_calls::Walk;
 use crate::progress::Progress;
 use crate::wish::Halt;
 use block_layout::{Kind, LocalPtr};
-use upc_library::CopyWish;
 use stack_code::Code;
 use thread_values::{is_read, kept, reply_fits, scalar_of};
+use upc_library::CopyWish;
 use upc_text::Place;
 use upc_values::{Action, Refused, Reply, Scalar, Value};
 

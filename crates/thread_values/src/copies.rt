@@ -9,9 +9,9 @@ ghost use Rattle.thread_values.specs.layer.Copies as said;
 ghost use Rattle.thread_values.specs.layer.Copies.{copies, private_at, shapes_in};
 
 use block_layout::{Kind, LocalPtr, Shape};
-use upc_library::{CopySpec, Side};
 use integers::convert;
 use private_store::Store;
+use upc_library::{CopySpec, Side};
 use upc_values::{LibraryCall, Scalar, Value};
 
 // A call of no byte, which does nothing.

@@ -15,8 +15,8 @@ use crate::ranges::is_numeric;
 use crate::runner::Runner;
 use block_layout::SharedPtr;
 use thread_values::{
-    LibraryStep, first_int, is_collective, is_copying, is_formed, library_step, library_value, printed,
-    printed_count, reply_value,
+    LibraryStep, first_int, is_collective, is_copying, is_formed, library_step, library_value,
+    printed, printed_count, reply_value,
 };
 use upc_text::{OutOfMemory, Place};
 use upc_values::{Action, LibraryCall, Scalar, ToldEnd, Value};

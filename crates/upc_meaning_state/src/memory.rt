@@ -16,8 +16,8 @@ use crate::library::are_numeric;
 use crate::progress::{Progress, Step};
 use crate::runner::Runner;
 use block_layout::{Kind, LocalPtr};
-use upc_library::{CopyWish, Copying};
 use thread_values::{kept, private_of, scalar_of, spec_of};
+use upc_library::{CopyWish, Copying};
 use upc_text::{OutOfMemory, Place};
 use upc_values::{Action, LibraryCall, Refused, Reply, Scalar, ToldEnd, Value};
 
@@ -118,7 +118,9 @@ impl<'r> Progress<'r> {
             CopyWish::Finished => return Ok(None),
             CopyWish::Act(action) => self.act_inside(runner, place, call, action)?,
             CopyWish::LoadPrivate(p, kind) => self.load_inside(runner, place, call, p, kind)?,
-            CopyWish::StorePrivate(p, kind, v) => self.save_inside(runner, place, call, p, kind, v)?,
+            CopyWish::StorePrivate(p, kind, v) => self.save_inside(
+                runner, place, call, p, kind, v,
+            )?,
         };
         Ok(Some(step))
     }

@@ -34,8 +34,8 @@ use Rattle.stack_code.specs.layer.Outcomes.{CodeMeans}
 use Rattle.stack_machine.specs.code.Bodies.{Body, conf, state_of, Awaits, one}
 use Rattle.stack_machine.specs.code.Standing.{Stands, first_body}
 
--- What the code comes to from inside a call: what is left of the call is done, its value goes onto the operands, and the
--- next instruction follows.
+-- What the code comes to from inside a call: what is left of the call is done, its value goes onto the operands, and
+-- the next instruction follows.
 abbrev pub inside : Thread → Place → Expansion Scalar → Body → List Action → List Reply → Conf
 inside τ at x b before later =
     conf_of (bind (run τ at x (state_of b before later)) (λ v. give (value.Scalar v)))
@@ -79,7 +79,8 @@ pub record GoesInside (codes : Codes) (thread budget : ℕ) : Type 0 where
       → StandsInside codes thread budget (given ++ more) (left ++ more) at x b
   -- A read is answered.
   pub reads :
-      (given left : List Reply) (r : Reply) (at : Place) (l : Loc) (k : Kind) (go : Scalar → Expansion Scalar) (b : Body)
+      (given left : List Reply) (r : Reply) (at : Place) (l : Loc) (k : Kind) (go : Scalar → Expansion Scalar)
+      (b : Body)
       → StandsInside codes thread budget given (r ∷ left) at (Reads l k go) b
       → fits codes.threads codes.shapes (Some k) (act.Read l false) r ≡ true
       → StandsInside codes thread budget given left at (go (value_in r)) b
