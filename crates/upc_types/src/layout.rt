@@ -6,9 +6,10 @@ ghost use Rattle.upc_types.specs.layer.Kept.{IsFine};
 ghost use Rattle.upc_types.specs.View.{view_base};
 
 use crate::ctype::Base;
+use block_layout::limits;
 
 /// No object has more bytes.
-pub const MOST_BYTES: u32 = 16_777_216;
+pub const MOST_BYTES: u32 = limits::SHARED_BYTES;
 
 /// The size and the alignment of a type, in bytes.
 #[derive(Clone, Copy, PartialEq, Eq, Debug)]
