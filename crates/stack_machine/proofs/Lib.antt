@@ -1,6 +1,11 @@
 pub mod Framing
 pub mod Instructions
 pub mod Standings
+pub mod Inside
+pub mod Entering
+pub mod Answering
+pub mod CallsOf
+pub mod Openings
 mod Halves
 pub mod Leaving
 pub mod Arrivals

@@ -14,3 +14,6 @@ pub mod Quick
 pub mod Shorts
 pub mod Bodies
 pub mod Standing
+pub mod Inside
+pub mod Calls
+pub mod Walking

@@ -9,21 +9,27 @@ mod jumps;
 mod laws;
 mod library;
 mod machine;
+mod memory_calls;
 mod objects;
+mod open_calls;
 mod private_pointers;
 mod progress;
 mod quick;
 mod quick_objects;
 mod receiving;
 mod runner;
+mod runs;
 mod shorts;
 mod stack_work;
 mod stacks;
 mod steps;
 mod threads;
 mod value_work;
+mod walking;
 mod wish;
 
-pub use laws::{instructions_go_on, machines_go_by_replies};
+pub use laws::{
+    calls_are_entered, calls_go_by_replies, instructions_go_on, machines_go_by_replies,
+};
 pub use machine::Machine;
 pub use wish::Wish;

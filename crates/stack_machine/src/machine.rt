@@ -8,6 +8,7 @@ ghost use Rattle.stack_code.specs.layer.Outcomes.{CodeMeans};
 ghost use Rattle.stack_machine.specs.layer.Machine.{listed, told_by, told_of, Answered, HasHeard, HasAsked, HasFailed};
 
 use crate::calls::Task;
+use crate::open_calls::OpenCall;
 use crate::progress::Progress;
 use crate::runner::Runner;
 use crate::stacks::{Operands, Spots};
@@ -19,7 +20,8 @@ use std::marker::Model;
 use upc_text::OutOfMemory;
 use upc_values::Reply;
 
-/// The machine of a thread. Contracts see its thread, its budget, how far it is, and its body.
+/// The machine of a thread. Contracts see its thread, its budget, how far it is, its body, and the call of the library
+/// that is on its way, if one is.
 #[derive(Drop)]
 pub struct Machine {
     runner: Runner,
@@ -28,11 +30,13 @@ pub struct Machine {
     phase: Phase,
     count: u64,
     task: Task,
+    under_way: Option<OpenCall>,
 }
 
 impl Model for Machine {
     ghost use Rattle.stack_machine.specs.layer.Machine.{Seen};
     ghost use Rattle.stack_machine.specs.code.Machines.{IsKept};
+    ghost use Rattle.stack_machine.specs.code.Calls.{the_call};
     ghost use Rattle.stack_machine.specs.code.Tasks.{task_seen};
 
     ghost Value = { Seen };
@@ -43,9 +47,11 @@ impl Model for Machine {
       phase = m.phase;
       count = m.count;
       body = task_seen m.task;
+      call = m.under_way;
     } };
 
-    ghost invariant = { λ m. IsKept m.phase m.runner.number m.runner.budget m.threads m.shapes (task_seen m.task) };
+    ghost invariant = { λ m. IsKept m.phase m.runner.number m.runner.budget m.threads m.shapes
+        (the_call m.under_way) (task_seen m.task) };
 }
 
 // The wish that stands for a stop.
@@ -97,6 +103,7 @@ impl Machine {
                     reply: None,
                 },
             },
+            under_way: None,
         })
     }
 
@@ -131,7 +138,7 @@ impl Machine {
                     return Err(OutOfMemory);
                 }
                 self.task.progress.reply = reply;
-                match self.task.run(code, &self.runner) {
+                match self.task.run(&mut self.under_way, code, &self.runner) {
                     Halt::Memory => {
                         self.phase = Phase::Failed;
                         Err(OutOfMemory)

@@ -314,8 +314,8 @@ fn asking(
     }
 }
 
-// A call of the library. Not built yet are those that ask for more than one action: they answer want of memory, and
-// the top call refuses the programs that have them.
+// A call of the library that is no memory call. Not built yet are the collective ones that ask for more than one
+// action: they answer want of memory, and the top call refuses the programs that have them.
 fn library(
     operands: &mut Operands,
     progress: &mut Progress,

@@ -4,3 +4,4 @@ pub mod Doings
 pub mod Sized
 pub mod AtOnce
 pub mod Asking
+pub mod MemoryCalls

@@ -4,6 +4,7 @@
 mod calls;
 mod casts;
 mod cells;
+mod copies;
 mod library;
 mod meetings;
 mod operators;
@@ -14,6 +15,7 @@ mod values;
 pub use calls::{has_turn, library_value, pointer_to, printed, printed_count};
 pub use casts::cast;
 pub use cells::{cell, into_shared, is_read};
+pub use copies::{is_copying, private_of, spec_of};
 pub use library::{LibraryStep, library_step};
 pub use meetings::{is_collective, is_formed};
 pub use operators::{applied, int_of, operated};

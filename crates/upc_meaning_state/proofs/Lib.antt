@@ -3,3 +3,4 @@ mod Libraries
 mod Receiving
 mod Rows
 pub mod Thens
+mod MemoryCalls

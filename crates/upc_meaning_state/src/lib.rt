@@ -7,6 +7,7 @@ mod blocks;
 mod bodies;
 mod called;
 mod library;
+mod memory;
 mod objects;
 mod operated;
 mod operations;

@@ -15,13 +15,13 @@ use crate::ranges::is_numeric;
 use crate::runner::Runner;
 use block_layout::SharedPtr;
 use thread_values::{
-    LibraryStep, first_int, is_collective, is_formed, library_step, library_value, printed,
-    printed_count, reply_value,
+    LibraryStep, first_int, is_collective, is_copying, is_formed, library_step, library_value,
+    printed, printed_count, reply_value,
 };
 use upc_text::{OutOfMemory, Place};
 use upc_values::{Action, LibraryCall, Scalar, ToldEnd, Value};
 
-fn are_numeric(args: &[Value]) -> bool
+pub(crate) fn are_numeric(args: &[Value]) -> bool
     ensures { IsTrue result → All (λ v. IsNumber (number_of v)) args.now }
 {
     args.iter().all(is_numeric)
@@ -135,7 +135,8 @@ impl<'r> Progress<'r> {
         }
     }
 
-    // A call that asks for one action at most; any other answers want of memory.
+    // A call that asks for one action at most. Not built yet are the collective calls that ask for more: they answer
+    // want of memory.
     #[tactic(auto, using(thread_values::proofs::Asking::unformed))]
     fn asking_call(
         &mut self,
@@ -171,7 +172,8 @@ impl<'r> Progress<'r> {
         }
     }
 
-    /// A call of the library other than printf. Those that ask for more than one action answer want of memory.
+    /// A call of the library other than printf. Collective calls that ask for more than one action answer want of
+    /// memory.
     pub(crate) fn library(
         &mut self,
         runner: Runner<'_>,
@@ -186,6 +188,9 @@ impl<'r> Progress<'r> {
     {
         if is_exit(call) {
             return self.exit_call(runner, place, call, shape, args);
+        }
+        if is_copying(call) {
+            return self.memory_call(runner, place, call, shape, args);
         }
         match library_value(runner.threads, call, args) {
             None => self.asking_call(runner, place, call, shape, args),

@@ -1,4 +1,4 @@
-use Rattle.std.proofs.Common.{◌≡◌, ◌∙◌, ap, sym, refl, subst, length, [], arith}
+use Rattle.std.proofs.Common.{◌≡◌, ◌∙◌, ap, sym, refl, subst, length, [], None, arith}
 use Rattle.private_store.specs.Beginnings.{begun}
 use Rattle.stack_machine.specs.code.Bodies.{Body}
 use Rattle.stack_machine.specs.code.Standing.{Stands, first_body}
@@ -15,11 +15,11 @@ invariant_of-result c =
     ∙ ap (λ l. begun c.args.code.now.private_shapes l) c.private_initials.ensures.value in
     let body = first_is c.args.code.now c.new.result.items c.new-2.result c.new-3.result c.in_ok-store.store
     c.new.ensures.items c.new-2.ensures c.new-3.ensures store in
-    subst (λ (b : Body). IsWhole c.args.thread c.args.budget c.threads.result (length c.shapes.result.now) b) (sym body)
-    (whole c.args.thread c.args.budget c.threads.result (length c.shapes.result.now) c.args.code.now.shapes
+    subst (λ (b : Body). IsWhole c.args.thread c.args.budget c.threads.result (length c.shapes.result.now) None b) (sym body)
+    (whole c.args.thread c.args.budget c.threads.result (length c.shapes.result.now) c.args.code.now.shapes None
     (first_body c.args.code.now) (omega arith) (omega arith) (ap (λ l. length l) (sym c.shapes.ensures.value))
     (subst (λ n. IsHolding n c.args.code.now.shapes (first_body c.args.code.now)) (sym c.threads.ensures.value)
-    (first_held c.args.code.now c.keep.ensures.known)))
+    (first_held c.args.code.now c.keep.ensures.known)) tt)
 
 pub returns : goal.returns
 returns c =

@@ -1,15 +1,11 @@
-use Rattle.std.proofs.Common.{[], rules, arith}
+use Rattle.std.proofs.Common.{rules, arith}
 use Rattle.stack_machine.specs.code.Shorts.{Goes}
-use Rattle.stack_machine.proofs.Halting.{stands_on, halts_so, halts_behind}
-use Rattle.stack_machine.proofs.calls.Task.run.Goals as goal
+use Rattle.stack_machine.proofs.calls.Task.turns.Goals as goal
 
-pub returns-in-Err-step-clause-halts : goal.returns-in-Err-step-clause-halts
-returns-in-Err-step-clause-halts c =
+pub returns-in-Err-turn-clause-halts : goal.returns-in-Err-turn-clause-halts
+returns-in-Err-turn-clause-halts c =
     let g : Goes c.args.code.now c.args.runner.now 0 c.loop-self.self c.go.new.self = search rules in
-    halts_behind c.args.code.now c.args.runner.now.number c.args.runner.now.budget c.in-Err-step.halt c.args.self.now
-    c.go.new.self c.step.new.self (λ given s. g.along given (c.loop-self.invariant.along given s))
-    (halts_so c.args.code.now c.args.runner.now.number c.args.runner.now.budget c.in-Err-step.halt c.go.new.self
-    c.step.new.self (c.in-Err-step.ensures.does []) c.in-Err-step.ensures.remains)
+    λ given s. c.in-Err-turn.ensures.goes given (g.along given (c.loop-self.invariant.along given s))
 
 pub loop-self-preserved-in-Ok-true : goal.loop-self-preserved-in-Ok-true
 loop-self-preserved-in-Ok-true c =
@@ -18,18 +14,17 @@ loop-self-preserved-in-Ok-true c =
       along = λ given s. g.along given (c.loop-self.invariant.along given s);
       held = g.held;
       in_time = g.in_time;
+      closed = c.loop-self.invariant.closed;
     }
 
 pub loop-self-preserved : goal.loop-self-preserved
 loop-self-preserved c =
     let g : Goes c.args.code.now c.args.runner.now 0 c.loop-self.self c.go.new.self = search rules in
     record {
-      along = λ given s.
-          stands_on c.args.code.now c.args.runner.now.number c.args.runner.now.budget c.go.new.self c.step.new.self given
-          (c.in-Ok.ensures.does []) c.in-Ok.ensures.advances.in_time
-          (g.along given (c.loop-self.invariant.along given s));
+      along = λ given s. c.in-Ok.ensures.goes given (g.along given (c.loop-self.invariant.along given s));
       held = c.in-Ok.ensures.advances.held;
       in_time = c.in-Ok.ensures.advances.in_time;
+      closed = c.in-Ok.ensures.closed;
     }
 
 pub loop-self-smaller : goal.loop-self-smaller

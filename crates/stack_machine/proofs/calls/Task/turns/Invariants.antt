@@ -1,11 +1,11 @@
-use Rattle.std.proofs.Common.{◌<◌, List}
+use Rattle.std.proofs.Common.{◌≡◌, ◌<◌, List, None}
 use Rattle.upc_values.specs.declared.action.Reply.{Reply}
 use Rattle.stack_machine.specs.layer.Machine.{listed}
 use Rattle.stack_machine.specs.code.Standing.{Stands}
 use Rattle.stack_machine.specs.code.Ahead.{weight}
 use Rattle.stack_machine.specs.code.Kept.{IsHolding}
 use Rattle.stack_machine.specs.code.Tasks.{task_seen}
-use Rattle.stack_machine.proofs.calls.Task.run.Given as goal
+use Rattle.stack_machine.proofs.calls.Task.turns.Given as goal
 
 abbrev pub invariant-loop-self : goal.invariant-loop-self
 invariant-loop-self l = record {
@@ -14,6 +14,7 @@ invariant-loop-self l = record {
       → Stands l.code l.runner.number l.runner.budget given (listed l.self.progress.reply) (task_seen l.self);
   held : IsHolding l.code.threads l.code.shapes (task_seen l.self);
   in_time : l.self.progress.ticks < l.runner.budget;
+  closed : l.under_way ≡ None;
 }
 
 abbrev pub decreases-loop-self : goal.decreases-loop-self

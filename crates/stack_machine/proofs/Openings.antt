@@ -1,0 +1,182 @@
+-- Calls of the library begin, go on and are left.
+use Rattle.std.proofs.Common.{◌≡◌, ℕ, ◌+◌, ◌<◌, ◌^◌, List, [], ◌∷◌, Option, Some, None, true, refl, sym, ap, ◌∙◌, subst, drop, length, arith}
+use Rattle.std.specs.Prelude.{Result, Ok, Err, OnOk, slice_get}
+use Rattle.block_layout.specs.declared.kind.Shape.{Shape}
+use Rattle.upc_text.specs.declared.place.Place.{Place}
+use Rattle.upc_values.specs.declared.scalar.Scalar.{Scalar}
+use Rattle.upc_values.specs.declared.scalar.Value.TheVariants as value
+use Rattle.upc_values.specs.declared.action.Reply.{Reply}
+use Rattle.upc_values.specs.declared.record.ToldEnd.TheVariants as told
+use Rattle.upc_values.specs.Scalars.{zero}
+use Rattle.upc_values.specs.Expansion.{Expansion, Fails}
+use Rattle.upc_values.specs.LibraryCalls.{library_call, valued}
+use Rattle.thread_steps.specs.layer.Ranges.{IsHeld}
+use Rattle.stack_code.specs.Codes.{Codes, function_at}
+use Rattle.stack_code.specs.layer.Steps.{youngest}
+use Rattle.stack_machine.specs.declared.open_calls.Walk.{Walk}
+use Rattle.stack_machine.specs.declared.open_calls.OpenCall.{OpenCall}
+use Rattle.stack_machine.specs.declared.calls.Task.{Task}
+use Rattle.stack_machine.specs.declared.memory_calls.NextCall.{NextCall}
+use Rattle.stack_machine.specs.declared.progress.Progress.{Progress}
+use Rattle.stack_machine.specs.declared.wish.Halt.{Halt}
+use Rattle.stack_machine.specs.declared.wish.Halt.TheVariants.{Memory, Asks, Stops}
+use Rattle.stack_machine.specs.declared.wish.Stop.TheVariants.{Ended, Exit, Fault, Budget}
+use Rattle.stack_machine.specs.code.Bodies.{Body}
+use Rattle.stack_machine.specs.code.Calls.{call_instr, left_of, on_its_way, WritesHeld, IsGoingOn, FailsSo}
+use Rattle.thread_values.specs.layer.Copies.{copies, shapes_in}
+use Rattle.stack_machine.specs.code.Calls.{HasLeft}
+use Rattle.stack_machine.specs.code.Inside.{StandsInside, StandsAt, MayMeet, without}
+use Rattle.stack_machine.specs.code.Kept.{AreHeld, HoldsHeld, IsHolding}
+use Rattle.stack_machine.specs.code.Machines.{Waits}
+use Rattle.stack_machine.specs.code.Standing.{Stands}
+use Rattle.stack_machine.specs.code.Tasks.{task_seen}
+use Rattle.stack_machine.specs.code.Walking.{IsHalted, IsOver, HasHalted, HasCome, IfGoing}
+use Rattle.stack_machine.specs.layer.Machine.{listed}
+use Rattle.thread_values.proofs.MemoryCalls.{copies_no_exit, copies_formed, copies_alone}
+use Rattle.stack_machine.proofs.Entering.{enters}
+use Rattle.stack_machine.proofs.Inside.{goes_inside}
+use Rattle.upc_values.specs.declared.scalar.Value.{Value}
+use Rattle.upc_values.specs.declared.library.LibraryCall.{LibraryCall}
+use Rattle.upc_values.specs.declared.refused.Refused.{Refused}
+use Rattle.upc_values.specs.declared.refused.Refused.TheVariants as refused
+use Rattle.upc_library.specs.layer.Wishes.{RefusesSo, expansion}
+use Rattle.upc_library.specs.declared.copying.CopySpec.{CopySpec}
+use Rattle.thread_values.specs.layer.Copies.{spec_of, private_of, copying_of}
+use Rattle.stack_code.specs.Codes.{thread_of}
+use Rattle.stack_code.specs.layer.Steps.{step}
+use Rattle.stack_machine.specs.code.Bodies.{conf}
+use Rattle.stack_machine.specs.code.Steps.{Advances}
+use Rattle.stack_machine.specs.code.Tasks.{Remains}
+use Rattle.stack_machine.specs.code.Turns.{Arrived}
+use Rattle.stack_machine.specs.code.Walking.{IsRefusal}
+use Rattle.stack_machine.proofs.Advancing.{on}
+use Rattle.stack_machine.proofs.Halting.{stands_on, halts_so}
+
+module _ (codes : Codes) (thread budget : ℕ) (given : List Reply) where
+  module _ (b : Body) (next : NextCall)
+      (there : slice_get (function_at codes.functions b.at.function) b.at.place ≡ Some (call_instr next))
+      (copy : copies next.call ≡ true) where
+    -- What the call does by its arguments.
+    abbrev Does : Expansion Scalar
+    Does = library_call codes.threads codes.shapes thread (shapes_in b.store) next.call next.shape
+        (youngest next.arguments b.operands)
+
+    entered : (left : List Reply) → Stands codes thread budget given left b
+        → StandsInside codes thread budget given left next.place Does (without next.arguments b)
+    entered left s =
+        enters codes thread budget given left b next.place next.call next.shape next.arguments there
+        (copies_no_exit next.call copy)
+        (copies_formed codes.shapes next.shape (youngest next.arguments b.operands) next.call copy)
+        (record {
+          controlled = λ e. absurd (copies_alone next.call copy e);
+          notified = λ e. absurd (copies_alone next.call copy e);
+        }) s
+
+    pub enters_so : (left : List Reply) (w : Walk) → Does ≡ valued (left_of codes.shapes w)
+        → Stands codes thread budget given left b
+        → StandsInside codes thread budget given left next.place (valued (left_of codes.shapes w))
+        (without next.arguments b)
+    enters_so left w e s =
+        subst (λ x. StandsInside codes thread budget given left next.place x (without next.arguments b)) e (entered left s)
+
+    pub refused_so : (left : List Reply) (e : Halt) (t : Task) → FailsSo e Does next.place b.ticks
+        → Stands codes thread budget given left b → HasHalted codes thread budget given e None t
+    refused_so left Memory t h s = tt
+    refused_so left (Asks a n) t h s = absurd h
+    refused_so left (Stops (Ended v) n) t h s = absurd h
+    refused_so left (Stops (Exit v) n) t h s = absurd h
+    refused_so left (Stops Budget n) t h s = absurd h
+    refused_so left (Stops (Fault code at) n) t h s =
+        let i = subst (λ x. StandsInside codes thread budget given left next.place x (without next.arguments b)) h.0
+        (entered left s) in
+        record {
+          by = λ f all later.
+              let k = (goes_inside codes thread budget).fails f given left later next.place (Fails code) code
+              (without next.arguments b) all i refl in
+              (k.0 ∙ ap (told.Fault code) (sym h.1), k.1 ∙ sym h.2);
+        }
+
+  -- ---- where a call goes no further
+
+  pub halted_so : (e : Halt) (c : OpenCall) (t : Task) (q : Progress)
+      → IsHalted codes thread budget given c.place (left_of codes.shapes c.walk) (task_seen t) e q
+      → HasHalted codes thread budget given e (Some (on_its_way c)) (record t { progress = q })
+  halted_so Memory c t q h = tt
+  halted_so (Asks a n) c t q h = (
+    subst (λ o. StandsInside codes thread budget given (listed o) c.place (valued (left_of codes.shapes c.walk))
+        (task_seen (record t { progress = q }))) h.1 h.0,
+    (h.2, h.3),
+  )
+  halted_so (Stops s n) c t q h = h
+
+  -- ---- behind a call
+
+  pub over_so : (at : Place) (t u : Task) (q : Progress) → IsOver codes thread budget given at (task_seen t) q
+      → u ≡ record t { place = t.place + 1; operands = value.Scalar zero ∷ t.operands; progress = q }
+      → Stands codes thread budget given (listed u.progress.reply) (task_seen u)
+  over_so at t u q h e =
+      subst (λ (x : Task). Stands codes thread budget given (listed x.progress.reply) (task_seen x)) (sym e) h
+
+module _ (threads budget : ℕ) (shapes : List Shape) where
+  -- The store alone has changed.
+  pub kept_on : (t : Task) (q : Progress) → IsHolding threads shapes (task_seen t) → HoldsHeld threads shapes q.store
+      → IsHolding threads shapes (task_seen (record t { progress = q }))
+  kept_on t q h k = record { given = h.given; operands = h.operands; store = k }
+
+  pub waits_on : (e : Halt) (c : OpenCall) (t : Task) (q : Progress) → IsHolding threads shapes (task_seen t)
+      → HoldsHeld threads shapes q.store → q.ticks < budget → t.place + 1 < 2 ^ 64
+      → IfGoing {A = Unit {0}} (Err e) (WritesHeld threads shapes (left_of shapes c.walk))
+      → Waits e budget threads shapes (Some (on_its_way c)) (task_seen (record t { progress = q }))
+  waits_on Memory c t q h k lt room w = tt
+  waits_on (Asks a n) c t q h k lt room w = (kept_on t q h k, lt, record { held = w; room = room })
+  waits_on (Stops s n) c t q h k lt room w = tt
+
+  pub left_on : (t u : Task) (q : Progress) → IsHolding threads shapes (task_seen t) → HoldsHeld threads shapes q.store
+      → q.ticks ≡ t.progress.ticks → IsHeld threads shapes (value.Scalar zero)
+      → u ≡ record t { place = t.place + 1; operands = value.Scalar zero ∷ t.operands; progress = q }
+      → HasLeft threads shapes (task_seen t) (task_seen u)
+  left_on t u q h k e z is =
+      subst (λ (x : Task). HasLeft threads shapes (task_seen t) (task_seen x)) (sym is) (record {
+        held = record { given = h.given; operands = (z, h.operands); store = k };
+        function = refl;
+        place = refl;
+        calls = refl;
+        ticks = e;
+      })
+
+-- ---- how memory calls begin
+
+-- By what is found of the program and of the arguments.
+pub made_is : (n threads : ℕ) (xs shapes : List Shape) (o : Option Shape) (private : ℕ → Option Shape) (s : CopySpec)
+    (c : LibraryCall) (args : List Value) → n ≡ threads → xs ≡ shapes → s ≡ spec_of c args → o ≡ private_of c s private
+    → expansion n xs o s ≡ copying_of threads shapes private c args
+made_is n threads xs shapes o private s c args e f g h =
+    ap (λ n. expansion n xs o s) e ∙ ap (λ l. expansion threads l o s) f ∙ ap (λ o. expansion threads shapes o s) h
+    ∙ ap (λ s. expansion threads shapes (private_of c s private) s) g
+
+pub fails_as : (e : Refused) (x : Expansion (Unit {0})) (y : Expansion Scalar) (at : Place) (n : ℕ) (halt : Halt)
+    → y ≡ valued x → RefusesSo e x → IsRefusal e at n halt → FailsSo halt y at n
+fails_as refused.Memory x y at n halt e h r = subst (λ (k : Halt). FailsSo k y at n) (sym r) tt
+fails_as (refused.Error code) x y at n halt e h r =
+    subst (λ (k : Halt). FailsSo k y at n) (sym r) (e ∙ ap valued h, refl, refl)
+
+-- ---- what comes next
+
+module _ (codes : Codes) (thread budget : ℕ) where
+  pub stepped_so : (r : Result (Unit {0}) Halt) (t u : Task) (given : List Reply)
+      → Arrived [] (step (thread_of codes thread budget) codes.functions
+      (conf (task_seen t) [] (listed t.progress.reply))) r t.progress u.progress (task_seen u)
+      → Remains r t u → OnOk r (Advances codes budget (task_seen t) (task_seen u))
+      → Stands codes thread budget given (listed t.progress.reply) (task_seen t)
+      → HasCome codes thread budget given r None u
+  stepped_so (Ok v) t u given h k a s = stands_on codes thread budget t u given h a.in_time s
+  stepped_so (Err e) t u given h k a s = halts_so codes thread budget e t u h k given s
+
+  -- A call that has given its value has led on.
+  pub left_ahead : (t u : Task) (n : ℕ) → t.progress.ticks < budget
+      → t.place + 1 < length (function_at codes.functions t.function)
+      → HasLeft codes.threads codes.shapes (task_seen (record t { operands = drop n t.operands })) (task_seen u)
+      → Advances codes budget (task_seen t) (task_seen u)
+  left_ahead t u n lt l h =
+      on codes budget (task_seen t) (task_seen u) h.held lt h.ticks h.calls h.function
+      (let p : u.place ≡ t.place + 1 = h.place in omega arith) (omega arith)

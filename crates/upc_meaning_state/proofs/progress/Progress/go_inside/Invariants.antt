@@ -1,0 +1,15 @@
+use Rattle.std.proofs.Common.{◌≡◌}
+use Rattle.upc_library.specs.layer.Walks.{rest, replies_left}
+use Rattle.upc_values.specs.LibraryCalls.{valued}
+use Rattle.upc_meaning_state.specs.layer.Came.{state_seen}
+use Rattle.upc_meaning_state.specs.layer.Libraries.{expanded_to}
+use Rattle.upc_meaning_state.specs.layer.Runners.{thread_seen}
+use Rattle.upc_meaning_state.proofs.progress.Progress.go_inside.Given as goal
+
+abbrev pub invariant-loop-self : goal.invariant-loop-self
+invariant-loop-self l =
+    expanded_to (thread_seen l.runner) l.place (valued (rest l.initial.call)) (state_seen l.initial.self)
+    ≡ expanded_to (thread_seen l.runner) l.place (valued (rest l.call)) (state_seen l.self)
+
+abbrev pub decreases-loop-self : goal.decreases-loop-self
+decreases-loop-self l = replies_left l.call
