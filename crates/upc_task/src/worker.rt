@@ -147,8 +147,8 @@ impl Worker {
         requires { self.old.«end» ≡ None }
         ensures kept { IfOk result (λ _. StaysKept code.now self.old self.new) }
         ensures ready { IfOk result (λ _. is_some self.new.wish ≡ true) }
-        ensures same { IfOk result (λ _. IsSame self.old self.new × (self.new.«end» ≡ None)) }
-        ensures items { IfOk result (λ _. self.new.items ≡ self.old.items) }
+        ensures same { IsSame self.old self.new × (self.new.«end» ≡ None) }
+        ensures items { self.new.items ≡ self.old.items }
         ensures unchanged { is_some self.old.wish ≡ true → self.new ≡ self.old }
     {
         if self.wish.is_none() {
