@@ -103,8 +103,9 @@ impl Task {
         if self.worker.step_alone() {
             return Ok(Pause::Going);
         }
+        let copy = self.worker.copy_wanted()?;
         let mut turn = cell.enter(rt, &mut self.seat);
-        let pause = self.worker.step(&mut turn.world);
+        let pause = self.worker.step(&mut turn.world, copy);
         turn.world.keeps();
         let _len = turn.world.len();
         cell.leave(&mut self.seat, turn);

@@ -77,6 +77,18 @@ returns-then-step_alone-clause-full g c = λ full.
     let most = ap (λ z. z.limits.actions) r.is in
     absurd (omega arith)
 
+-- where there is no room for the copy
+
+pub returns-in_err-copy-clause-gained : goal.returns-in_err-copy-clause-gained
+returns-in_err-copy-clause-gained g c = gained-same c.args.self.now.worker.thread (seen_of c.args.self.now.seat)
+
+pub returns-in_err-copy-clause-order : goal.returns-in_err-copy-clause-order
+returns-in_err-copy-clause-order g c =
+    let k = c.args.self.now in let h = c.requires.kept in let r = c.in_ok-reserve.ensures in
+    let o : Opening = (started c.args.cell.now).0 in
+    let is = same-but k.worker c.reserve.new.self c.step_alone.new.self (c.step_alone.ensures.none c.if-step_alone.false) r.is r.items in
+    ordered-same o k _ (task-ordered (id_of c.args.cell.now) o c.args.code.now h.0 k h.1) refl (ap (λ z. z.thread) is.0) is.1
+
 -- in the turn
 
 pub step-pause-requires-clause-kept : goal.step-pause-requires-clause-kept
