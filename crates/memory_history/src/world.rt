@@ -87,19 +87,48 @@ impl World {
         ensures opening { self.new.0 ≡ self.old.0 }
         ensures err { OnErr result (self.new.1 ≡ self.old.1) }
     {
+        let copy = self.copied(action)?;
+        self.perform_owned(thread, index, copy)
+    }
+
+    // An equal action, in the memory of the entries.
+    fn copied(&self, action: &Action) -> Result<Action, OutOfMemory>
+        ensures { IfOk result (λ a. a ≡ action.now) }
+    {
+        copy_action(self.entries.allocator(), action)
+    }
+
+    /// `perform` of an action that is handed over: the entry takes it, and no copy is made.
+    pub fn perform_owned(
+        &mut self,
+        thread: u32,
+        index: u32,
+        action: Action,
+    ) -> Result<Step, OutOfMemory>
+        requires below { thread < self.old.0.threads }
+        requires formed { IsWellFormed self.old.0 self.old.1 action }
+        requires turns { takes_turn self.old.1 thread action ≡ true }
+        ensures reply { IfOk result (λ s. answer_of s ≡ history.reply self.old.0 self.old.1 thread action) }
+        ensures fits { IfOk result (λ s. IfSome (answer_of s) (λ r.
+            fits_after self.old.0 self.old.1 action r ≡ true)) }
+        ensures entries { IfOk result (λ s. self.new.1 ≡ performed self.old.1 thread index action (answer_of s)) }
+        ensures known { IfOk result (λ s. IfSome (answer_of s) (λ r. gives_known self.new.0 self.new.1 r ≡ true)) }
+        ensures disabled { IfOk result (λ s. answer_of s ≡ None → may_wait action ≡ true) }
+        ensures opening { self.new.0 ≡ self.old.0 }
+        ensures err { OnErr result (self.new.1 ≡ self.old.1) }
+    {
         if self.entries.len() as u64 >= (1 << 62) - 1 {
             return Err(OutOfMemory);
         }
         let alloc = self.entries.allocator();
-        let copy = copy_action(alloc, action)?;
         self.entries.reserve()?;
-        let Some(reply) = self.parts.act(alloc, thread, action)? else {
+        let Some(reply) = self.parts.act(alloc, thread, &action)? else {
             return Ok(Step::Disabled);
         };
         let entry = Entry {
             thread,
             index,
-            action: copy,
+            action,
             reply,
         };
         self.entries.push_reserved(entry);

@@ -3,7 +3,7 @@
 ghost use Rattle.std.specs.Prelude.{◌≡◌, None, IfOk};
 ghost use Rattle.turn_cell.specs.layer.Seats.{id_of, started};
 ghost use Rattle.upc_task.specs.layer.Sources.{Outcomes};
-ghost use Rattle.upc_task.specs.layer.Seated.{IsTask};
+ghost use Rattle.upc_task.specs.layer.Seated.{IsTask, IsInOrder};
 ghost use Rattle.upc_rounds.specs.code.Places.{Took, Did, RestsWith};
 
 use crate::place::Place;
@@ -16,7 +16,8 @@ use upc_task::{Pause, Task};
 use upc_text::Gate;
 
 /// A thread's part in a round: after the call of the gate it goes on to a Beat, a Stall or its end, and answers which.
-/// After want of memory the task is only dropped.
+/// After want of memory the task is only dropped; it is in order, as after any other answer: its turn is left, what it
+/// has added is a front of what its record emits, and the list that it has seen is lawful.
 pub fn round<R: Wait, G: Gate>(
     rt: &R,
     task: &mut Task,
@@ -29,6 +30,7 @@ pub fn round<R: Wait, G: Gate>(
     requires open { task.old.worker.«end» ≡ None }
     ensures took { IfOk result (λ _. Took (id_of cell.now) (started cell.now).0 code.now task.old task.new) }
     ensures rests { IfOk result (λ p. RestsWith p (started cell.now).0 task.new) }
+    ensures order { IsInOrder (started cell.now).0 task.new }
 {
     gate.round_begins(task.thread(), number);
     for _ in rt.forever() {

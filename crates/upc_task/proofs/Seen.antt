@@ -1,13 +1,15 @@
 -- From what a seat has seen to the list under the turn.
-use Rattle.std.proofs.Common.{◌≡◌, ℕ, nat_lt, List, [], ◌∷◌, ◌++◌, length, drop, map, Option, None, refl, sym, ap, subst, ◌∙◌, append-nil}
+use Rattle.std.proofs.Common.{◌≡◌, ℕ, nat_lt, List, [], ◌∷◌, ◌++◌, length, drop, map, Option, None, Some, refl, sym, ap, subst, ◌∙◌, append-nil}
 use Rattle.std.specs.Prelude.{Result, Ok, Err, IfOk, OnErr}
 use Rattle.std.proofs.lemmas.Bool.{cond_both}
 use Rattle.std.proofs.lemmas.List.{append_cancel_left}
 use mathlib.Core.List.{IsPrefix}
 use Rattle.turn_cell.specs.layer.Members.{Every, longer, added_to}
+use Rattle.turn_cell.specs.layer.Seats.{TableId, IsFree, number_of, own_of, seen_of}
 use Rattle.upc_values.specs.declared.record.Item.{Item}
 use Rattle.upc_values.specs.declared.journal.Entry.{Entry}
-use Rattle.upc_values.specs.Drain.{drain, entries_of, walked}
+use Rattle.upc_values.specs.declared.record.End.{End}
+use Rattle.upc_values.specs.Drain.{drain, entries_of, walked, emptied}
 use Rattle.upc_values.specs.Openings.{Opening, IsOpening}
 use Rattle.upc_values.specs.History.{IsLegal, EachBelow}
 use Rattle.upc_values.specs.Formed.{AreWellFormed}
@@ -19,7 +21,8 @@ use Rattle.upc_task.specs.declared.worker.Worker.{Worker}
 use Rattle.upc_task.specs.declared.worker.Pause.{Pause}
 use Rattle.upc_task.specs.layer.Sources.{Outcomes}
 use Rattle.upc_task.specs.layer.Kept.{IsKept, Holds, settled, AllOf, Grew, Adds, Leaves}
-use Rattle.upc_task.specs.layer.Seated.{IsLawful, Gained}
+use Rattle.upc_task.specs.declared.seated.Task.{Task}
+use Rattle.upc_task.specs.layer.Seated.{IsLawful, IsTask, Gained, IsInOrder}
 use Rattle.upc_task.proofs.Buffers.{grew-same, front-own}
 use Rattle.upc_task.proofs.Workers.{kept-seen, kept-room}
 
@@ -109,10 +112,6 @@ pub err-map : {X E : Type 0} (r : Result X E) (P Q : Type 0) → (P → Q) → O
 err-map (Ok x) P Q h k = tt
 err-map (Err e) P Q h k = h k
 
-pub on-err : {X E : Type 0} (r : Result X E) (P : Type 0) → P → OnErr r P
-on-err (Ok x) P h = tt
-on-err (Err e) P h = h
-
 pub err-both : {X E : Type 0} (r : Result X E) (P Q : Type 0) → OnErr r P → OnErr r Q → OnErr r (P × Q)
 err-both (Ok x) P Q h k = tt
 err-both (Err e) P Q h k = (h, k)
@@ -136,19 +135,58 @@ kept-front o p f seen later k opened h b =
     subst (λ e. Holds o k.thread seen k.buffer k.next (settled e w)) opened h.holds in
     front-own o k.thread k.next seen later k.buffer w hw b
 
--- and so where its record took room
-pub kept-cut : (o m : Opening) (p : Codes) (f : Outcomes) (seen later : List Entry) (k v : Worker)
-    → v ≡ record k { items = v.items } → v.items.items ≡ k.items.items → k.«end» ≡ None → IsKept m p f seen v
-    → IsPrefix later (seen ++ map (committed v.thread) v.buffer)
-    → IsPrefix (entries_of k.thread later) (drain k.thread k.items.items)
-kept-cut o m p f seen later k v is items opened h b =
-    let thread : v.thread ≡ k.thread = ap (λ z. z.thread) is in
-    subst (λ t. IsPrefix (entries_of t later) (drain t k.items.items)) thread
-    (subst (λ xs. IsPrefix (entries_of v.thread later) (drain v.thread xs)) items
-    (kept-front m p f seen later v (ap (λ z. z.«end») is ∙ opened) h b))
+-- what a worker has out is one too, and all of it where it has its end
+kept-ended : (o : Opening) (p : Codes) (f : Outcomes) (seen : List Entry) (k : Worker) (e : Option End) → k.«end» ≡ e
+    → IsKept o p f seen k → IsPrefix (entries_of k.thread seen) (drain k.thread k.items.items)
+kept-ended o p f seen k None q h =
+    kept-front o p f seen seen k q h (map (committed k.thread) k.buffer, refl)
+kept-ended o p f seen k (Some e) q h =
+    let w = walked k.thread k.items.items in
+    let hw : Holds o k.thread seen k.buffer k.next (emptied w) =
+    subst (λ e. Holds o k.thread seen k.buffer k.next (settled e w)) q h.holds in
+    ([], append-nil (entries_of k.thread seen) ∙ hw.out)
 
--- what it has out before is one too
-pub kept-out : (o : Opening) (p : Codes) (f : Outcomes) (seen : List Entry) (k : Worker) → k.«end» ≡ None → IsKept o p f seen k
+pub kept-out : (o : Opening) (p : Codes) (f : Outcomes) (seen : List Entry) (k : Worker) → IsKept o p f seen k
     → IsPrefix (entries_of k.thread seen) (drain k.thread k.items.items)
-kept-out o p f seen k opened h =
-    kept-front o p f seen seen k opened h (map (committed k.thread) k.buffer, refl)
+kept-out o p f seen k h = kept-ended o p f seen k k.«end» refl h
+
+-- a front stays one under other names of its thread and its record
+pub front-moved : (t u : ℕ) (xs ys : List Item) (later : List Entry) → t ≡ u → xs ≡ ys
+    → IsPrefix (entries_of t later) (drain t xs) → IsPrefix (entries_of u later) (drain u ys)
+front-moved t u xs ys later a b h =
+    subst (λ n. IsPrefix (entries_of n later) (drain n ys)) a
+    (subst (λ zs. IsPrefix (entries_of t later) (drain t zs)) b h)
+
+-- what holds on each answer
+pub either-way : {X E : Type 0} (r : Result X E) (P : Type 0) → IfOk r (λ _. P) → OnErr r P → P
+either-way (Ok x) P h k = h
+either-way (Err e) P h k = k
+
+-- a seat with a lawful list, of which what is its own is such a front
+pub ordered : (o : Opening) (k : Task) → IsFree (λ (e : Entry). e.thread) k.seat → number_of k.seat ≡ k.worker.thread
+    → IsLawful o (seen_of k.seat)
+    → IsPrefix (entries_of k.worker.thread (seen_of k.seat)) (drain k.worker.thread k.worker.items.items) → IsInOrder o k
+ordered o k free number lawful front = record {
+  free = free;
+  number = number;
+  front = subst (λ es. IsPrefix es (drain k.worker.thread k.worker.items.items))
+      (sym (free.0.2 ∙ ap (λ n. entries_of n (seen_of k.seat)) number)) front;
+  lawful = lawful;
+}
+
+-- a task is in order
+pub task-ordered : (z : TableId) (o : Opening) (p : Codes) (f : Outcomes) (k : Task) → IsTask z o p f k → IsInOrder o k
+task-ordered z o p f k h =
+    ordered o k k.free h.number h.lawful (kept-out o p f (seen_of k.seat) k.worker h.kept)
+
+-- and so is one with the same seat, thread and items
+pub ordered-same : (o : Opening) (k m : Task) → IsInOrder o k → m.seat ≡ k.seat → m.worker.thread ≡ k.worker.thread
+    → m.worker.items.items ≡ k.worker.items.items → IsInOrder o m
+ordered-same o k m h seat thread items = record {
+  free = m.free;
+  number = ap number_of seat ∙ h.number ∙ sym thread;
+  front = subst (λ s. IsPrefix (own_of s) (drain m.worker.thread m.worker.items.items)) (sym seat)
+      (subst (λ t. IsPrefix (own_of k.seat) (drain t m.worker.items.items)) (sym thread)
+      (subst (λ xs. IsPrefix (own_of k.seat) (drain k.worker.thread xs)) (sym items) h.front));
+  lawful = subst (λ s. IsLawful o (seen_of s)) (sym seat) h.lawful;
+}

@@ -478,3 +478,7 @@ kept-room o p f seen k m is items h =
       ended = h.ended;
     } in
     subst (IsKept o p f seen) (sym is) (subst (λ xs. IsKept o p f seen (with xs)) (sym items) same)
+
+-- what is wished is one action
+pub act-is : (w : Option Wish) (a b : Action) → w ≡ Some (Act a) → w ≡ Some (Act b) → a ≡ b
+act-is w a b h k = let same : Some (Act a) ≡ Some (Act b) = sym h ∙ k in cc

@@ -61,7 +61,7 @@ fn commit(thread: u32, world: &mut World, write: Pending) -> Result<(), OutOfMem
         value: write.value,
         strict: false,
     };
-    world.perform(thread, write.index, &action)?;
+    world.perform_owned(thread, write.index, action)?;
     Ok(())
 }
 
@@ -144,29 +144,29 @@ pub fn emit_alone(next: u32, buffer: &mut WriteBuffer, action: &Action) -> Optio
     }
 }
 
-/// Acts on the buffer and the history: the reply, or only an emptied buffer where the action is not legal. After want
-/// of memory the history has gained the first of the pending writes at most.
+/// Acts on the buffer and the history, which takes the action: the reply, or only an emptied buffer where the action is
+/// not legal. After want of memory the history has gained the first of the pending writes at most.
 #[tactic(auto, using(crate::proofs::Buffers::grows))]
 pub fn emit(
     thread: u32,
     next: u32,
     world: &mut World,
     buffer: &mut WriteBuffer,
-    action: &Action,
+    action: Action,
 ) -> Result<Step, OutOfMemory>
     requires below { thread < world.old.0.threads }
     requires pending { AreFormed world.old.0 world.old.1 buffer.old }
-    requires asked { IsWellFormed world.old.0 world.old.1 action.now }
-    requires turns { takes_turn world.old.1 thread action.now ≡ true }
+    requires asked { IsWellFormed world.old.0 world.old.1 action }
+    requires turns { takes_turn world.old.1 thread action ≡ true }
     ensures holds { IfOk result (λ s. (w : Walk)
         → Holds world.old.0 thread world.old.1 buffer.old next w
-        → Emitted world.old.0 thread world.new.1 buffer.new next action.now (answer_of s) w) }
-    ensures answer { IfOk result (λ s. IsAnswer world.old.0 thread world.new.1 action.now (answer_of s)) }
+        → Emitted world.old.0 thread world.new.1 buffer.new next action (answer_of s) w) }
+    ensures answer { IfOk result (λ s. IsAnswer world.old.0 thread world.new.1 action (answer_of s)) }
     ensures lacks { OnErr result (IsPrefix world.new.1 (world.old.1 ++ map (committed thread) buffer.old)) }
     ensures grew { Grew thread world.old.1 world.new.1 }
     ensures opening { world.new.0 ≡ world.old.0 }
 {
-    match way_through(action) {
+    match way_through(&action) {
         Way::Stores(loc, value) => {
             store(thread, next, world, buffer, loc, value)?;
             Ok(Step::Done(Reply::Done))
@@ -177,17 +177,17 @@ pub fn emit(
                 Ok(Step::Done(Reply::Value(value)))
             }
             None => {
-                let step = world.perform(thread, next, action)?;
+                let step = world.perform_owned(thread, next, action)?;
                 Ok(step)
             }
         },
         Way::Passes => {
-            let step = world.perform(thread, next, action)?;
+            let step = world.perform_owned(thread, next, action)?;
             Ok(step)
         }
         Way::Empties => {
             empty(thread, world, buffer)?;
-            let step = world.perform(thread, next, action)?;
+            let step = world.perform_owned(thread, next, action)?;
             Ok(step)
         }
     }

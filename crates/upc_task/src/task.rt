@@ -19,7 +19,7 @@ ghost use Rattle.upc_task.specs.declared.worker.Pause.TheVariants.{Finished};
 ghost use Rattle.upc_task.specs.layer.Sources.{Outcomes, HasOutcomes};
 ghost use Rattle.upc_task.specs.layer.Kept.{AreLimits, IsKept, IsSame, StaysKept, Paused, CanEnd, Adds, Leaves};
 ghost use Rattle.upc_task.specs.layer.Kept.{Waits, strand_of};
-ghost use Rattle.upc_task.specs.layer.Seated.{IsLawful, IsTask, StaysTask, IsSeatOf, Gained, IsCutShort};
+ghost use Rattle.upc_task.specs.layer.Seated.{IsLawful, IsTask, StaysTask, IsSeatOf, Gained, IsInOrder};
 
 use crate::limits::Limits;
 use crate::seated::Task;
@@ -56,25 +56,25 @@ impl Task {
     }
 
     /// Does the private work up to the next wish, after which the task is ready. A ready task stays as it is. It takes
-    /// no turn, and adds no item and no entry.
+    /// no turn, and adds no item and no entry, also where it finds no memory.
     pub fn work(&mut self, code: &Code) -> Result<(), OutOfMemory>
         requires { self.old.worker.«end» ≡ None }
         ensures kept { IfOk result (λ _. StaysKept code.now self.old.worker self.new.worker) }
         ensures stays { IfOk result (λ _. StaysTask code.now self.old self.new) }
         ensures ready { IfOk result (λ _. is_some self.new.worker.wish ≡ true) }
-        ensures same { IfOk result (λ _.
-            IsSame self.old.worker self.new.worker × (self.new.worker.«end» ≡ None)) }
-        ensures items { IfOk result (λ _. self.new.worker.items ≡ self.old.worker.items) }
+        ensures same { IsSame self.old.worker self.new.worker × (self.new.worker.«end» ≡ None) }
+        ensures items { self.new.worker.items ≡ self.old.worker.items }
         ensures unchanged { is_some self.old.worker.wish ≡ true → self.new.worker ≡ self.old.worker }
         ensures seat { self.new.seat ≡ self.old.seat }
+        ensures order { (o : Opening) → IsInOrder o self.old → IsInOrder o self.new }
     {
         self.worker.work(code)?;
         Ok(())
     }
 
     /// Acts on the wish: at most one new item, and the commits that go with it. The machine is not resumed. Where the
-    /// write buffer alone answers, it takes no turn; else it waits for one, and has left it when it returns, also after
-    /// want of memory. A full record ends.
+    /// write buffer alone answers, it takes no turn; else it waits for one, and has left it when it returns. A full
+    /// record ends. After want of memory the record is as it was, and the task is in order as after any other answer.
     pub fn step<R: Wait>(
         &mut self,
         rt: &R,
@@ -96,14 +96,16 @@ impl Task {
         ensures waits { IfOk result (λ p. Waits p (started cell.now).0 (seen_of self.new.seat) self.new.worker) }
         ensures full { IfOk result (λ p.
             length self.old.worker.items.items ≡ self.old.worker.limits.actions → p ≡ Finished) }
-        ensures lacks { OnErr result (IsCutShort (started cell.now).0 self.old self.new) }
+        ensures lacks { OnErr result (self.new.worker.items.items ≡ self.old.worker.items.items) }
+        ensures order { IsInOrder (started cell.now).0 self.new }
     {
         self.worker.reserve()?;
         if self.worker.step_alone() {
             return Ok(Pause::Going);
         }
+        let copy = self.worker.copy_wanted()?;
         let mut turn = cell.enter(rt, &mut self.seat);
-        let pause = self.worker.step(&mut turn.world);
+        let pause = self.worker.step(&mut turn.world, copy);
         turn.world.keeps();
         let _len = turn.world.len();
         cell.leave(&mut self.seat, turn);

@@ -20,7 +20,7 @@ ghost use Rattle.upc_task.specs.layer.Sources.{Outcomes, HasOutcomes};
 ghost use Rattle.upc_task.specs.Ends.{is_given};
 ghost use Rattle.upc_task.specs.layer.Kept as kept;
 ghost use Rattle.upc_task.specs.layer.Kept.{AreLimits, IsKept, Keeps, StaysKept, IsSame, Grew, Paused, CanEnd, Adds};
-ghost use Rattle.upc_task.specs.layer.Kept.{Leaves, Waits, outcome_of, strand_of};
+ghost use Rattle.upc_task.specs.layer.Kept.{Leaves, Waits, outcome_of, strand_of, wanted_of};
 
 use crate::emit::{emit, emit_alone, empty};
 use crate::limits::Limits;
@@ -28,7 +28,7 @@ use memory_history::{Step, World};
 use stack_code::Code;
 use stack_machine::{Machine, Wish};
 use std::alloc::{AllocError as OutOfMemory, Global};
-use upc_values::{Action, Chunks, End, Item, Items, Reply, Strand};
+use upc_values::{Action, Chunks, End, Item, Items, Reply, Strand, copy_action};
 use write_buffer::WriteBuffer;
 
 /// How a worker stands after a step.
@@ -147,8 +147,8 @@ impl Worker {
         requires { self.old.«end» ≡ None }
         ensures kept { IfOk result (λ _. StaysKept code.now self.old self.new) }
         ensures ready { IfOk result (λ _. is_some self.new.wish ≡ true) }
-        ensures same { IfOk result (λ _. IsSame self.old self.new × (self.new.«end» ≡ None)) }
-        ensures items { IfOk result (λ _. self.new.items ≡ self.old.items) }
+        ensures same { IsSame self.old self.new × (self.new.«end» ≡ None) }
+        ensures items { self.new.items ≡ self.old.items }
         ensures unchanged { is_some self.old.wish ≡ true → self.new ≡ self.old }
     {
         if self.wish.is_none() {
@@ -180,11 +180,11 @@ impl Worker {
         Ok(Pause::Finished)
     }
 
-    // Does the wanted action, or stalls before it.
-    fn act(&mut self, world: &mut World) -> Result<Pause, OutOfMemory>
+    // Does the wanted action, or stalls before it. The history takes the copy.
+    fn act(&mut self, world: &mut World, copy: Action) -> Result<Pause, OutOfMemory>
         requires kept { (p : Codes) × (f : Outcomes) × IsKept world.old.0 p f world.old.1 self.old }
         requires open { self.old.«end» ≡ None }
-        requires wants { (a : Action) × (self.old.wish ≡ Some (Act a)) }
+        requires wants { self.old.wish ≡ Some (Act copy) }
         requires room { length self.old.items.items < self.old.limits.actions }
         ensures kept { IfOk result (λ _. Keeps world.old self.old world.new self.new) }
         ensures same { IsSame self.old self.new }
@@ -204,7 +204,7 @@ impl Worker {
         let Some(Wish::Act(action)) = self.wish.take() else {
             unreachable!()
         };
-        match emit(self.thread, self.next, world, &mut self.buffer, &action)? {
+        match emit(self.thread, self.next, world, &mut self.buffer, copy)? {
             Step::Done(reply) => {
                 world.keeps();
                 let pause = if is_beat(&action) {
@@ -235,6 +235,17 @@ impl Worker {
     {
         self.items.reserve()?;
         Ok(())
+    }
+
+    /// A copy of the action that is wished, None where the wish is none.
+    pub fn copy_wanted(&self) -> Result<Option<Action>, OutOfMemory>
+        ensures { IfOk result (λ c. c ≡ wanted_of self.now.wish) }
+    {
+        let Some(action) = self.wanted() else {
+            return Ok(None);
+        };
+        let copy = copy_action(self.items.allocator(), action)?;
+        Ok(Some(copy))
     }
 
     /// Acts on the wish where the buffer alone answers it, and says whether it did: a relaxed store that pushes none
@@ -273,13 +284,14 @@ impl Worker {
     }
 
     /// Acts on the wish: at most one new item, and the commits that go with it. The machine is not resumed. A full
-    /// record ends.
+    /// record ends. The history takes the copy of the wanted action.
     ///
     /// After want of memory the record is as it was, and the history has gained the first of the pending writes at
     /// most.
-    pub fn step(&mut self, world: &mut World) -> Result<Pause, OutOfMemory>
+    pub fn step(&mut self, world: &mut World, copy: Option<Action>) -> Result<Pause, OutOfMemory>
         requires kept { (p : Codes) × (f : Outcomes) × IsKept world.old.0 p f world.old.1 self.old }
         requires ready { (self.old.«end» ≡ None) × (is_some self.old.wish ≡ true) }
+        requires copy { copy ≡ wanted_of self.old.wish }
         ensures kept { IfOk result (λ _. Keeps world.old self.old world.new self.new) }
         ensures same { IsSame self.old self.new }
         ensures grew { Grew self.old.thread world.old.1 world.new.1 }
@@ -299,7 +311,10 @@ impl Worker {
         };
         match own_end(wish, full) {
             Some(end) => self.close(world, end),
-            None => self.act(world),
+            None => {
+                let Some(copy) = copy else { unreachable!() };
+                self.act(world, copy)
+            }
         }
     }
 

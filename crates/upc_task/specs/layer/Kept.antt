@@ -152,6 +152,11 @@ CanEnd k ends.Halted = IsPausing k
 CanEnd k (ends.Deadlocked a) = (k.wish ≡ Some (Act a)) × (is_stall (last_item k.items.items) ≡ true)
 CanEnd k e = ⊥
 
+-- The action that is wished, none where the wish is none.
+abbrev pub wanted_of : Option Wish → Option Action
+wanted_of (Some (Act a)) = Some a
+wanted_of w = None
+
 -- The end that a wish is, or that comes where the record is full.
 abbrev pub own_end : Wish → Bool → Option End
 own_end (Act a) full = cond full (Some ends.ActionsFull) None

@@ -8,7 +8,7 @@ use Rattle.upc_values.specs.History.{IsLegal, EachBelow}
 use Rattle.upc_values.specs.Formed.{AreWellFormed}
 use Rattle.stack_code.specs.Codes.{Codes}
 use Rattle.turn_cell.specs.declared.seat.Seat.{Seat}
-use Rattle.turn_cell.specs.layer.Seats.{TableId, cell_of, number_of, own_of, seen_of, opening_of}
+use Rattle.turn_cell.specs.layer.Seats.{TableId, IsFree, cell_of, number_of, own_of, seen_of, opening_of}
 use Rattle.upc_task.specs.declared.seated.Task.{Task}
 use Rattle.upc_task.specs.layer.Sources.{Outcomes}
 use Rattle.upc_task.specs.layer.Kept.{IsKept, Grew}
@@ -47,9 +47,10 @@ pub record Gained (t : ℕ) (old new : List Entry) : Type 0 where
   pub none : entries_of t others ≡ []
   pub grew : Grew t (old ++ others) new
 
--- A task that found no memory: its record is as it was, the history is lawful, and what its seat has added is a front
--- of what the record emits with all that was pending.
-pub record IsCutShort (o : Opening) (k m : Task) : Type 0 where
-  pub items : m.worker.items.items ≡ k.worker.items.items
-  pub front : IsPrefix (own_of m.seat) (drain k.worker.thread k.worker.items.items)
-  pub lawful : IsLawful o (seen_of m.seat)
+-- A task in order: its seat holds no turn and has its thread's number, what the seat has added is a front of what the
+-- record emits with all that was pending, and the list that it has seen is lawful.
+pub record IsInOrder (o : Opening) (k : Task) : Type 0 where
+  pub free : IsFree (λ (e : Entry). e.thread) k.seat
+  pub number : number_of k.seat ≡ k.worker.thread
+  pub front : IsPrefix (own_of k.seat) (drain k.worker.thread k.worker.items.items)
+  pub lawful : IsLawful o (seen_of k.seat)

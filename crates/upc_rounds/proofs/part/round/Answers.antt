@@ -1,11 +1,17 @@
 use Rattle.std.proofs.Common.{subst}
 use Rattle.turn_cell.specs.layer.Seats.{id_of, started}
 use Rattle.upc_task.specs.declared.worker.Pause.TheVariants as pauses
+use Rattle.upc_task.proofs.Seen.{task-ordered}
 use Rattle.upc_rounds.proofs.Parts.{Worked, Stepped, far-begins, far-goes, far-took, rests-with}
 use Rattle.upc_rounds.proofs.part.round.Goals as goal
 
 pub loop-init : goal.loop-init
 loop-init g c = far-begins (id_of c.args.cell.now) (started c.args.cell.now).0 c.args.code.now c.args.task.now c.requires.«open»
+
+pub returns-in_err-work-clause-order : goal.returns-in_err-work-clause-order
+returns-in_err-work-clause-order g c =
+    let h = c.requires.kept in let z = id_of c.args.cell.now in let o = (started c.args.cell.now).0 in
+    c.in_err-work.ensures.order o (task-ordered z o c.args.code.now h.0 c.loop.task (c.loop.invariant.kept h.0 h.1))
 
 pub step-requires-clause-kept : goal.step-requires-clause-kept
 step-requires-clause-kept g c =

@@ -2,28 +2,21 @@ use Rattle.std.proofs.Common.{rules, ℕ, ◌≡◌, ◌<◌, None, Some, is_som
 use mathlib.Core.List.{IsPrefix}
 use Rattle.upc_values.specs.Openings.{Opening}
 use Rattle.upc_values.specs.Drain.{drain, entries_of}
-use Rattle.turn_cell.specs.layer.Seats.{number_of, seen_of, own_of, started}
+use Rattle.turn_cell.specs.layer.Seats.{id_of, number_of, seen_of, started}
 use Rattle.upc_task.specs.declared.worker.Pause.TheVariants.{Going}
 use Rattle.upc_task.specs.layer.Kept.{IsKept, Grew, Keeps, Leaves, Adds}
 use Rattle.upc_task.specs.layer.Seated.{IsLawful, Gained}
 use Rattle.upc_task.proofs.Workers.{kept-room}
-use Rattle.upc_task.proofs.Seen.{kept-turn, kept-cut, kept-out, same-but, adds-room, leaves-room, added-own, gained-entered, gained-same, lawful-of, ok-map, on-err, err-map, err-both}
+use Rattle.upc_task.proofs.Seen.{kept-turn, kept-front, kept-out, task-ordered, ordered-same, front-moved, either-way, same-but, adds-room, leaves-room, added-own, gained-entered, gained-same, lawful-of, ok-map, err-map, err-both}
 use Rattle.upc_task.proofs.seated.Task.step.Goals as goal
 
 -- where there is no room
 
-pub returns-in_err-reserve-clause-lacks : goal.returns-in_err-reserve-clause-lacks
-returns-in_err-reserve-clause-lacks g c =
+pub returns-in_err-reserve-clause-order : goal.returns-in_err-reserve-clause-order
+returns-in_err-reserve-clause-order g c =
     let k = c.args.self.now in let h = c.requires.kept in let r = c.in_err-reserve.ensures in
     let o : Opening = (started c.args.cell.now).0 in
-    let own : own_of k.seat ≡ entries_of k.worker.thread (seen_of k.seat) =
-    k.free.0.2 ∙ ap (λ n. entries_of n (seen_of k.seat)) h.1.number in
-    on-err c.from_residual.result _ (record {
-      items = r.items;
-      front = subst (λ es. IsPrefix es (drain k.worker.thread k.worker.items.items)) (sym own)
-          (kept-out o c.args.code.now h.0 (seen_of k.seat) k.worker c.requires.ready.0 h.1.kept);
-      lawful = h.1.lawful;
-    })
+    ordered-same o k _ (task-ordered (id_of c.args.cell.now) o c.args.code.now h.0 k h.1) refl (ap (λ z. z.thread) r.is) r.items
 
 -- before the turn
 
@@ -51,6 +44,23 @@ returns-then-step_alone-clause-kept g c = λ f h.
           (kept-room o p f seen k.worker c.reserve.new.self r.is r.items h.kept);
     }
 
+pub returns-then-step_alone-clause-order : goal.returns-then-step_alone-clause-order
+returns-then-step_alone-clause-order g c =
+    let k = c.args.self.now in let h = c.requires.kept in
+    let r = c.in_ok-reserve.ensures in let s = c.step_alone.ensures in
+    let o : Opening = (started c.args.cell.now).0 in let p = c.args.code.now in let seen = seen_of k.seat in
+    let kept = s.kept c.if-step_alone.true o p h.0 seen h.1.lawful.opening h.1.lawful.legal h.1.lawful.formed
+    (kept-room o p h.0 seen k.worker c.reserve.new.self r.is r.items h.1.kept) in
+    let number = h.1.number ∙ sym (s.same.thread ∙ ap (λ z. z.thread) r.is) in
+    record {
+      free = k.free;
+      number = number;
+      front = subst (λ es. IsPrefix es (drain c.step_alone.new.self.thread c.step_alone.new.self.items.items))
+          (sym (k.free.0.2 ∙ ap (λ n. entries_of n seen) number))
+          (kept-out o p h.0 seen c.step_alone.new.self kept);
+      lawful = h.1.lawful;
+    }
+
 pub returns-then-step_alone-clause-gained : goal.returns-then-step_alone-clause-gained
 returns-then-step_alone-clause-gained g c = gained-same c.args.self.now.worker.thread (seen_of c.args.self.now.seat)
 
@@ -66,6 +76,18 @@ returns-then-step_alone-clause-full g c = λ full.
     let many = ap (λ xs. Rattle.std.proofs.Common.length xs) r.items in
     let most = ap (λ z. z.limits.actions) r.is in
     absurd (omega arith)
+
+-- where there is no room for the copy
+
+pub returns-in_err-copy-clause-gained : goal.returns-in_err-copy-clause-gained
+returns-in_err-copy-clause-gained g c = gained-same c.args.self.now.worker.thread (seen_of c.args.self.now.seat)
+
+pub returns-in_err-copy-clause-order : goal.returns-in_err-copy-clause-order
+returns-in_err-copy-clause-order g c =
+    let k = c.args.self.now in let h = c.requires.kept in let r = c.in_ok-reserve.ensures in
+    let o : Opening = (started c.args.cell.now).0 in
+    let is = same-but k.worker c.reserve.new.self c.step_alone.new.self (c.step_alone.ensures.none c.if-step_alone.false) r.is r.items in
+    ordered-same o k _ (task-ordered (id_of c.args.cell.now) o c.args.code.now h.0 k h.1) refl (ap (λ z. z.thread) is.0) is.1
 
 -- in the turn
 
@@ -146,21 +168,35 @@ returns-clause-leaves g c =
 
 pub returns-clause-lacks : goal.returns-clause-lacks
 returns-clause-lacks g c =
+    let r = c.in_ok-reserve.ensures in let k = c.args.self.now.worker in let v = c.step_alone.new.self in
+    let is = same-but k c.reserve.new.self v (c.step_alone.ensures.none c.if-step_alone.false) r.is r.items in
+    err-map c.step-pause.result _ _ (λ q. q ∙ is.1) c.step-pause.ensures.lacks
+
+pub returns-clause-order : goal.returns-clause-order
+returns-clause-order g c =
     let k = c.args.self.now in let h = c.requires.kept in let e = c.enter-turn.ensures in let l = c.leave.ensures in
     let o : Opening = (started c.args.cell.now).0 in let code = c.args.code.now in let law = c.keeps.ensures in
     let w = c.enter-turn.result.world in let x = c.step-pause.new.world in let v = c.step_alone.new.self in
-    let s = c.step-pause.ensures in let r = c.in_ok-reserve.ensures in
+    let m = c.step-pause.new.self in let s = c.step-pause.ensures in let r = c.in_ok-reserve.ensures in
     let is = same-but k.worker c.reserve.new.self v (c.step_alone.ensures.none c.if-step_alone.false) r.is r.items in
     let opens : w.0 ≡ o = e.opening o h.1.opened in
     let was : IsKept w.0 code h.0 w.1 v =
     kept-turn o w.0 code h.0 (number_of k.seat) (seen_of k.seat) w.1 k.worker v is.0 is.1 e.begins.0
     (sym e.own.1 ∙ e.own.0 ∙ k.free.0.2) (sym h.1.number) opens h.1.kept in
-    let own : own_of c.leave.new.seat ≡ entries_of k.worker.thread x.1 =
-    l.free.0.0.2 ∙ ap (λ n. entries_of n (seen_of c.leave.new.seat)) (l.free.1.1 ∙ e.turn.1.1 ∙ h.1.number)
-    ∙ ap (entries_of k.worker.thread) l.seen in
-    err-map c.step-pause.result _ _ (λ q. record {
-      items = q.0 ∙ is.1;
-      front = subst (λ es. IsPrefix es (drain k.worker.thread k.worker.items.items)) (sym own)
-          (kept-cut o w.0 code h.0 w.1 x.1 k.worker v is.0 is.1 c.requires.ready.0 was q.1);
-      lawful = subst (IsLawful o) (sym l.seen) (lawful-of x.0 o x.1 (s.opening ∙ opens) law.opening law.legal law.formed law.below);
-    }) (err-both c.step-pause.result _ _ s.lacks s.front)
+    let number : number_of c.leave.new.seat ≡ m.thread =
+    l.free.1.1 ∙ e.turn.1.1 ∙ h.1.number ∙ sym (s.same.thread ∙ ap (λ z. z.thread) is.0) in
+    let front : IsPrefix (entries_of m.thread x.1) (drain m.thread m.items.items) =
+    either-way c.step-pause.result (IsPrefix (entries_of m.thread x.1) (drain m.thread m.items.items))
+    (ok-map c.step-pause.result (λ _. Keeps w v x m) _ (λ _ keeps. kept-out x.0 code h.0 x.1 m (keeps code h.0 was)) s.kept)
+    (err-map c.step-pause.result _ _ (λ q. front-moved v.thread m.thread v.items.items m.items.items x.1
+    (sym s.same.thread) (sym q.0) (kept-front w.0 code h.0 w.1 x.1 v (ap (λ z. z.«end») is.0 ∙ c.requires.ready.0) was q.1))
+    (err-both c.step-pause.result _ _ s.lacks s.front)) in
+    record {
+      free = l.free.0;
+      number = number;
+      front = subst (λ es. IsPrefix es (drain m.thread m.items.items))
+          (sym (l.free.0.0.2 ∙ ap (λ n. entries_of n (seen_of c.leave.new.seat)) number ∙ ap (entries_of m.thread) l.seen))
+          front;
+      lawful = subst (IsLawful o) (sym l.seen)
+          (lawful-of x.0 o x.1 (s.opening ∙ opens) law.opening law.legal law.formed law.below);
+    }
