@@ -1,0 +1,9 @@
+pub mod Members
+pub mod Ranges
+pub mod Truths
+pub mod CellTests
+pub mod Classes
+pub mod Reading
+pub mod Limits
+pub mod Following
+pub mod EachElement

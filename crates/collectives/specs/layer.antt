@@ -1,0 +1,4 @@
+pub mod Spots
+pub mod Left
+pub mod Wishes
+pub mod Walks
