@@ -9,9 +9,9 @@ use Rattle.upc_values.specs.declared.action.Reply.{Reply}
 use Rattle.upc_values.specs.Expansion.{Expansion, Fails, nothing, bind, gathered, after_reply, value_in}
 use Rattle.upc_values.specs.Expansions as said
 use Rattle.upc_values.specs.Reductions.{Reduction}
-use Rattle.collectives.specs.layer.Spots.{pointer_of}
-use Rattle.collectives.specs.layer.Left.{joined, total_rest, prefixes_rest, prefixes_put, PrefixesLeft}
-use Rattle.collectives.specs.declared.spot.Spot.{Spot}
+use Rattle.upc_library.specs.layer.Spots.{pointer_of}
+use Rattle.collectives.specs.code.Left.{joined, total_rest, prefixes_rest, prefixes_put, PrefixesLeft}
+use Rattle.upc_library.specs.declared.spot.Spot.{Spot}
 use Rattle.collectives.proofs.Following.{number_comes}
 use Rattle.collectives.proofs.Members.{drop-at}
 

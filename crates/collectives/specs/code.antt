@@ -1,3 +1,6 @@
+pub mod Left
+pub mod Wishes
+pub mod Walks
 pub mod Calls
 pub mod Reductions
 pub mod Parts

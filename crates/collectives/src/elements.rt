@@ -4,12 +4,12 @@ ghost use Rattle.std.specs.Prelude.{◌≡◌, ◌<◌, false, not, map};
 ghost use Rattle.std.specs.List.{All, list_any};
 ghost use Rattle.block_layout.specs.Shapes.{kind_size};
 ghost use Rattle.upc_values.specs.Views as views;
-ghost use Rattle.collectives.specs.layer.Spots.{pointer_of, IsRoomFor};
+ghost use Rattle.upc_library.specs.layer.Spots.{pointer_of, IsRoomFor};
 
 use crate::cells::{kind_at, shape_of};
-use crate::spot::Spot;
 use crate::thread::Thread;
 use block_layout::Kind;
+use upc_library::Spot;
 
 /// Whether one of the elements, as a cell of this kind, has its first or its last byte at an offset out of range.
 pub fn leave_range(kind: Kind, elements: &[Spot]) -> bool

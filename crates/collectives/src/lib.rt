@@ -17,7 +17,6 @@ mod prefixes;
 mod reduce;
 mod reduction;
 mod reply;
-mod spot;
 mod stage;
 mod step;
 mod thread;

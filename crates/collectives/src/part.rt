@@ -4,13 +4,13 @@ ghost use Rattle.std.specs.Prelude.{◌≡◌, ◌<◌, ◌||◌, false, map, un
 ghost use Rattle.std.specs.List.{All, list_any};
 ghost use Rattle.upc_values.specs.Expansions as said;
 ghost use Rattle.upc_values.specs.Views as views;
-ghost use Rattle.collectives.specs.layer.Spots.{pointer_of};
+ghost use Rattle.upc_library.specs.layer.Spots.{pointer_of};
 ghost use Rattle.collectives.specs.code.Parts.{part_of, HasRoom};
 
 use crate::cells::{Cell, cells_within, cuts_cell, same_cells, shape_of};
-use crate::spot::Spot;
 use crate::thread::Thread;
 use std::alloc::{AllocError as OutOfMemory, Global};
+use upc_library::Spot;
 
 /// Where bytes are copied to, and where from.
 #[derive(Clone, Copy)]

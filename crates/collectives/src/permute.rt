@@ -9,19 +9,18 @@ ghost use Rattle.block_layout.specs.declared.kind.Kind.TheVariants as kind;
 ghost use Rattle.upc_values.specs.Expansions as said;
 ghost use Rattle.upc_values.specs.History.{each_thread};
 ghost use Rattle.upc_values.specs.Views as views;
-ghost use Rattle.collectives.specs.layer.Spots.{pointer_of, IsRoomFor};
+ghost use Rattle.upc_library.specs.layer.Spots.{pointer_of, IsRoomFor};
 ghost use Rattle.upc_values.specs.Expansion.{after_reply, bind, gathered};
 ghost use Rattle.collectives.specs.code.Calls.{refusal_in};
 ghost use Rattle.collectives.specs.code.Tests.{permute_tests};
 ghost use Rattle.collectives.specs.code.Parts.{part_of};
-ghost use Rattle.collectives.specs.layer.Left.{permuted, numbers_rest};
-ghost use Rattle.collectives.specs.layer.Walks.{work_left};
-ghost use Rattle.collectives.specs.layer.Wishes.{IsAsked, RefusesSo};
+ghost use Rattle.collectives.specs.code.Left.{permuted, numbers_rest};
+ghost use Rattle.collectives.specs.code.Walks.{work_left};
+ghost use Rattle.collectives.specs.code.Wishes.{IsAsked, RefusesSo};
 
 use crate::elements::{are_not_cells, leave_pieces, leave_range};
 use crate::part::{Part, cut};
 use crate::reply::number_in;
-use crate::spot::{Spot, byte_at, element, from_phase_0};
 use crate::thread::Thread;
 use crate::ways::{Ends, one};
 use crate::work::{Work, copy};
@@ -29,6 +28,7 @@ use block_layout::run_error::{CELL_TYPE, LIBRARY_ARGS, OUT_OF_OBJECT, POINTER_RA
 use block_layout::{Kind, SharedPtr};
 use std::alloc::{AllocError as OutOfMemory, Global};
 use std::marker::Model;
+use upc_library::{Spot, byte_at, element, from_phase_0};
 use upc_values::{Action, Refused, Reply};
 
 /// A permutation whose numbers are read. Contracts see what is left of it.
@@ -48,8 +48,8 @@ pub struct Numbers {
 
 impl Model for Numbers {
     ghost use Rattle.std.specs.Prelude.{drop, map};
-    ghost use Rattle.collectives.specs.layer.Spots.{pointer_of};
-    ghost use Rattle.collectives.specs.layer.Left.{NumbersLeft};
+    ghost use Rattle.upc_library.specs.layer.Spots.{pointer_of};
+    ghost use Rattle.collectives.specs.code.Left.{NumbersLeft};
     ghost use Rattle.collectives.specs.code.Elements.{IsNumbering};
 
     ghost Value = { NumbersLeft };

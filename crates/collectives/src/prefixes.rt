@@ -9,11 +9,11 @@ ghost use Rattle.upc_values.specs.Calls as calls;
 ghost use Rattle.upc_values.specs.Expansion.{after_reply, value_in};
 ghost use Rattle.upc_values.specs.Expansions as said;
 ghost use Rattle.upc_values.specs.Reductions as reductions;
-ghost use Rattle.collectives.specs.layer.Spots.{pointer_of};
+ghost use Rattle.upc_library.specs.layer.Spots.{pointer_of};
 ghost use Rattle.collectives.specs.code.Elements.{HasPlace};
-ghost use Rattle.collectives.specs.layer.Left.{prefixes_rest, prefixes_put, joined};
-ghost use Rattle.collectives.specs.layer.Walks.{work_left};
-ghost use Rattle.collectives.specs.layer.Wishes.{IsAsked, RefusesSo};
+ghost use Rattle.collectives.specs.code.Left.{prefixes_rest, prefixes_put, joined};
+ghost use Rattle.collectives.specs.code.Walks.{work_left};
+ghost use Rattle.collectives.specs.code.Wishes.{IsAsked, RefusesSo};
 
 use crate::call::Operands;
 use crate::join::join;
@@ -21,12 +21,12 @@ use crate::number::Number;
 use crate::reduce::{operands, test_cells};
 use crate::reduction::{Reduction, element_kind, reduction_of};
 use crate::reply::number_in;
-use crate::spot::Spot;
 use crate::thread::Thread;
 use crate::work::Work;
 use block_layout::Kind;
 use std::alloc::Global;
 use std::marker::Model;
+use upc_library::Spot;
 use upc_values::{Action, Refused, Reply, Scalar};
 
 /// A prefix reduction on its way. Contracts see what is left of it.
@@ -48,10 +48,10 @@ pub struct Prefixes {
 impl Model for Prefixes {
     ghost use Rattle.std.specs.Prelude.{[], drop, map};
     ghost use Rattle.upc_values.specs.Expansions.{part, paired};
-    ghost use Rattle.collectives.specs.layer.Spots.{pointer_of};
+    ghost use Rattle.upc_library.specs.layer.Spots.{pointer_of};
     ghost use Rattle.collectives.specs.code.Reductions.{reduction_in};
     ghost use Rattle.collectives.specs.code.Elements.{IsPrefixes};
-    ghost use Rattle.collectives.specs.layer.Left.{PrefixesLeft};
+    ghost use Rattle.collectives.specs.code.Left.{PrefixesLeft};
 
     ghost Value = { PrefixesLeft };
 

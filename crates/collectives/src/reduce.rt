@@ -7,16 +7,16 @@ ghost use Rattle.upc_values.specs.Expansions as said;
 ghost use Rattle.upc_values.specs.Reductions as reductions;
 ghost use Rattle.upc_values.specs.Views as views;
 ghost use Rattle.collectives.specs.code.Calls.{refusal_in};
-ghost use Rattle.collectives.specs.layer.Spots.{pointer_of, IsRoomFor};
+ghost use Rattle.upc_library.specs.layer.Spots.{pointer_of, IsRoomFor};
 
 use crate::call::Operands;
 use crate::elements::{are_not_cells, leave_pieces, leave_range};
 use crate::reduction::element_kind;
-use crate::spot::{Spot, element, from_phase_0};
 use crate::thread::Thread;
 use block_layout::run_error::{CELL_TYPE, OUT_OF_OBJECT, POINTER_RANGE};
 use block_layout::{Kind, SharedPtr};
 use std::alloc::{AllocError as OutOfMemory, Global};
+use upc_library::{Spot, element, from_phase_0};
 
 // With an indefinite block the phase is 0.
 fn with_block(p: &SharedPtr, block: u32) -> SharedPtr

@@ -9,11 +9,11 @@ ghost use Rattle.upc_values.specs.Calls as calls;
 ghost use Rattle.upc_values.specs.Expansion.{after_reply, value_in};
 ghost use Rattle.upc_values.specs.Expansions as said;
 ghost use Rattle.upc_values.specs.Reductions as reductions;
-ghost use Rattle.collectives.specs.layer.Spots.{pointer_of};
+ghost use Rattle.upc_library.specs.layer.Spots.{pointer_of};
 ghost use Rattle.collectives.specs.code.Elements.{HasPlace};
-ghost use Rattle.collectives.specs.layer.Left.{total_rest, joined};
-ghost use Rattle.collectives.specs.layer.Walks.{work_left, work_rest};
-ghost use Rattle.collectives.specs.layer.Wishes.{IsAsked, RefusesSo};
+ghost use Rattle.collectives.specs.code.Left.{total_rest, joined};
+ghost use Rattle.collectives.specs.code.Walks.{work_left, work_rest};
+ghost use Rattle.collectives.specs.code.Wishes.{IsAsked, RefusesSo};
 
 use crate::call::Operands;
 use crate::join::join;
@@ -21,12 +21,12 @@ use crate::number::Number;
 use crate::reduce::{operands, test_cells};
 use crate::reduction::{Reduction, element_kind, reduction_of};
 use crate::reply::number_in;
-use crate::spot::{Spot, spot_at};
 use crate::thread::Thread;
 use crate::work::Work;
 use block_layout::Kind;
 use std::alloc::Global;
 use std::marker::Model;
+use upc_library::{Spot, spot_at};
 use upc_values::{Action, Refused, Reply};
 
 /// A reduction whose elements are read. Contracts see what is left of it.
@@ -46,10 +46,10 @@ pub struct Total {
 
 impl Model for Total {
     ghost use Rattle.std.specs.Prelude.{drop, map};
-    ghost use Rattle.collectives.specs.layer.Spots.{pointer_of};
+    ghost use Rattle.upc_library.specs.layer.Spots.{pointer_of};
     ghost use Rattle.collectives.specs.code.Reductions.{reduction_in};
     ghost use Rattle.collectives.specs.code.Elements.{IsTotal};
-    ghost use Rattle.collectives.specs.layer.Left.{TotalLeft};
+    ghost use Rattle.collectives.specs.code.Left.{TotalLeft};
 
     ghost Value = { TotalLeft };
 

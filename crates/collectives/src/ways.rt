@@ -9,10 +9,10 @@ ghost use Rattle.collectives.specs.code.Parts.{part_of};
 
 use crate::call::Way;
 use crate::part::Part;
-use crate::spot::byte_at;
 use crate::thread::Thread;
 use block_layout::SharedPtr;
 use std::alloc::{AllocError as OutOfMemory, Global};
+use upc_library::byte_at;
 
 /// Where the bytes of a copying call lie: `bytes` of each thread.
 #[derive(Clone, Copy)]

@@ -3,8 +3,8 @@ use Rattle.std.specs.Prelude.{ℕ, ◌≡◌, ◌+◌, ◌≤◌, ℤ, List, len
 use Rattle.std.specs.List.{All}
 use Rattle.block_layout.specs.declared.kind.Kind.{Kind}
 use Rattle.integers.specs.Integers.{IsInteger}
-use Rattle.collectives.specs.declared.spot.Spot.{Spot}
-use Rattle.collectives.specs.layer.Spots.{IsRoomFor}
+use Rattle.upc_library.specs.declared.spot.Spot.{Spot}
+use Rattle.upc_library.specs.layer.Spots.{IsRoomFor}
 
 -- room at an element
 abbrev pub HasPlace : Spot → Type 0

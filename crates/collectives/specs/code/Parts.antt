@@ -3,7 +3,7 @@ use Rattle.std.specs.Prelude.{ℕ, ◌<◌, List}
 use Rattle.std.specs.List.{All}
 use Rattle.block_layout.specs.declared.kind.Kind.{Kind}
 use Rattle.upc_values.specs.Expansions as said
-use Rattle.collectives.specs.layer.Spots.{pointer_of, IsRoomFor}
+use Rattle.upc_library.specs.layer.Spots.{pointer_of, IsRoomFor}
 use Rattle.collectives.specs.declared.part.Part.{Part}
 
 -- the part of the definitions

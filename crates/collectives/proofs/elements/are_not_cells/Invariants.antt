@@ -1,7 +1,7 @@
 use Rattle.std.proofs.Common.{◌≡◌, not, drop, map}
 use Rattle.std.specs.List.{list_any}
 use Rattle.upc_values.specs.Views.{is_cell}
-use Rattle.collectives.specs.layer.Spots.{pointer_of}
+use Rattle.upc_library.specs.layer.Spots.{pointer_of}
 use Rattle.collectives.proofs.elements.are_not_cells.Given as goal
 
 abbrev pub invariant-loop-element : goal.invariant-loop-element

@@ -3,8 +3,8 @@ use Rattle.std.specs.List.{All}
 use Rattle.block_layout.specs.Shapes.{kind_size}
 use Rattle.block_layout.specs.declared.place.SharedPtr.{SharedPtr}
 use Rattle.upc_values.specs.Views.{leaves_piece}
-use Rattle.collectives.specs.declared.spot.Spot.{Spot}
-use Rattle.collectives.specs.layer.Spots.{pointer_of, IsRoomFor}
+use Rattle.upc_library.specs.declared.spot.Spot.{Spot}
+use Rattle.upc_library.specs.layer.Spots.{pointer_of, IsRoomFor}
 use Rattle.collectives.proofs.Ranges.{all-more}
 use Rattle.collectives.proofs.Members.{any-passed}
 use Rattle.collectives.proofs.elements.leave_pieces.Goals as goal

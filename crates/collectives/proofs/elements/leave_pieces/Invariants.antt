@@ -2,7 +2,7 @@ use Rattle.std.proofs.Common.{◌≡◌, drop, take, map}
 use Rattle.std.specs.List.{list_any, All}
 use Rattle.block_layout.specs.Shapes.{kind_size}
 use Rattle.upc_values.specs.Views.{leaves_piece}
-use Rattle.collectives.specs.layer.Spots.{pointer_of, IsRoomFor}
+use Rattle.upc_library.specs.layer.Spots.{pointer_of, IsRoomFor}
 use Rattle.collectives.proofs.elements.leave_pieces.Given as goal
 
 abbrev pub invariant-loop-element : goal.invariant-loop-element

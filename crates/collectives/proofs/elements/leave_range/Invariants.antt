@@ -2,7 +2,7 @@ use Rattle.std.proofs.Common.{◌≡◌, drop, map}
 use Rattle.std.specs.List.{list_any}
 use Rattle.block_layout.specs.Shapes.{kind_size}
 use Rattle.upc_values.specs.Views.{leaves_range}
-use Rattle.collectives.specs.layer.Spots.{pointer_of}
+use Rattle.upc_library.specs.layer.Spots.{pointer_of}
 use Rattle.collectives.proofs.elements.leave_range.Given as goal
 
 abbrev pub invariant-loop-element : goal.invariant-loop-element

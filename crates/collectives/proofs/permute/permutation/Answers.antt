@@ -2,7 +2,7 @@ use Rattle.std.proofs.Common.{ℕ, ◌≡◌, map, length, length-append, ap, �
 use Rattle.std.specs.List.{range_with_len}
 use Rattle.block_layout.specs.declared.place.SharedPtr.{SharedPtr}
 use Rattle.upc_values.specs.Views.{element}
-use Rattle.collectives.specs.layer.Spots.{pointer_of}
+use Rattle.upc_library.specs.layer.Spots.{pointer_of}
 use Rattle.collectives.proofs.Members.{mapped-more}
 use Rattle.collectives.proofs.permute.permutation.Goals as goal
 

@@ -1,7 +1,7 @@
 use Rattle.std.proofs.Common.{◌≡◌, map, length}
 use Rattle.std.specs.List.{range_with_len}
 use Rattle.upc_values.specs.Views.{element}
-use Rattle.collectives.specs.layer.Spots.{pointer_of}
+use Rattle.upc_library.specs.layer.Spots.{pointer_of}
 use Rattle.collectives.proofs.permute.permutation.Given as goal
 
 abbrev pub invariant-loop-i : goal.invariant-loop-i

@@ -1,7 +1,7 @@
 use Rattle.std.proofs.Common.{ℕ, length, length-append, ap, arith}
 use Rattle.block_layout.specs.declared.place.SharedPtr.{SharedPtr}
 use Rattle.upc_values.specs.Views.{element}
-use Rattle.collectives.specs.layer.Spots.{pointer_of}
+use Rattle.upc_library.specs.layer.Spots.{pointer_of}
 use Rattle.collectives.proofs.Members.{mapped-more}
 use Rattle.collectives.proofs.reduce.operands.Goals as goal
 

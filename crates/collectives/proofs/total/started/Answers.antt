@@ -4,7 +4,7 @@ use Rattle.collectives.proofs.EachElement.{total_none}
 use Rattle.collectives.proofs.Members.{all-at}
 use Rattle.collectives.specs.code.Elements.{HasPlace}
 use Rattle.collectives.specs.code.Reductions.{reduction_in}
-use Rattle.collectives.specs.layer.Spots.{pointer_of}
+use Rattle.upc_library.specs.layer.Spots.{pointer_of}
 use Rattle.collectives.proofs.total.started.Goals as goal
 
 pub invariant_of-result : goal.invariant_of-result

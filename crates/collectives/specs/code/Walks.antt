@@ -7,8 +7,8 @@ use Rattle.upc_values.specs.declared.action.Action.TheVariants as act
 use Rattle.upc_values.specs.Calls as calls
 use Rattle.upc_values.specs.Expansion.{Expansion, nothing, bind, does, barrier}
 use Rattle.upc_values.specs.Expansions as said
-use Rattle.collectives.specs.layer.Left.{copies_rest, copies_put, numbers_rest, total_rest, prefixes_rest}
-use Rattle.collectives.specs.layer.Left.{prefixes_put}
+use Rattle.collectives.specs.code.Left.{copies_rest, copies_put, numbers_rest, total_rest, prefixes_rest}
+use Rattle.collectives.specs.code.Left.{prefixes_put}
 use Rattle.collectives.specs.declared.work.Work.{Work}
 use Rattle.collectives.specs.declared.work.Work.TheVariants as work
 use Rattle.collectives.specs.declared.stage.Stage.{Stage}

@@ -1,4 +1,0 @@
-pub mod Spots
-pub mod Left
-pub mod Wishes
-pub mod Walks
