@@ -1,3 +1,3 @@
 pub mod Served
 pub mod Runs
-pub mod code
+pub mod Picked

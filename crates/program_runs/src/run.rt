@@ -8,7 +8,7 @@ ghost use Rattle.gen_stmt.specs.layer.Meanings.{MeansProgram};
 ghost use Rattle.upc_rounds.specs.layer.Openings.{opening_of};
 ghost use Rattle.program_runs.specs.Served.{RunsToday};
 ghost use Rattle.program_runs.specs.Runs.{IsRunByRounds, StopsRun};
-ghost use Rattle.program_runs.specs.code.Picked.{IsRunByPicks};
+ghost use Rattle.program_runs.specs.Picked.{IsRunByPicks};
 
 use crate::served::is_served;
 use gen_stmt::compile;

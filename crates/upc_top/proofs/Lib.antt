@@ -2,4 +2,4 @@ mod Endings
 pub mod Readings
 pub mod Stages
 mod Agreement
-mod Records
+pub mod Records

@@ -11,5 +11,5 @@ mod top;
 mod verdict;
 
 pub use done::Done;
-pub use front::one_reading;
+pub use front::{one_reading, read_source};
 pub use top::upc_main;

@@ -54,13 +54,15 @@ fn number(text: &str) -> Option<u64>
     }
 }
 
-fn first<'a>(matches: &ArgMatches<'a>, id: &str) -> Option<&'a str>
+/// The first text that was given for a name, if there is one.
+pub fn first<'a>(matches: &ArgMatches<'a>, id: &str) -> Option<&'a str>
     ensures { option_map (λ s. s.now) result ≡ first_of id.now (rows_of (found_of matches.now)) }
 {
     matches.get_str(id)
 }
 
-fn number_at(matches: &ArgMatches<'_>, id: &str) -> Option<u64>
+/// The first number that was given for a name, if there is one.
+pub fn number_at(matches: &ArgMatches<'_>, id: &str) -> Option<u64>
     ensures { result ≡ number_in (rows_of (found_of matches.now)) id.now }
 {
     match first(matches, id) {

@@ -1,0 +1,5 @@
+mod Sameness
+mod Adding
+mod Tallies
+mod Finding
+pub mod Prefixes

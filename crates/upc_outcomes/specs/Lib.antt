@@ -1,0 +1,5 @@
+pub mod Plans
+pub mod Verdicts
+pub mod Causes
+pub mod Answers
+pub mod code

@@ -1,0 +1,4 @@
+pub mod Line
+pub mod Picks
+pub mod Values
+pub mod layer
