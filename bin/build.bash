@@ -1,5 +1,6 @@
 # Sourced by the scripts here: proves and builds a program of crates/ where it is missing or older than its sources.
-# Set before: `top` the repository, `crate` the program's crate, `name` what it is called in messages.
+# Set before: `top` the repository, `crate` the program's crate, `name` what it is called in messages, and `hint`, words
+# that end the line where the toolchain is missing.
 program="$top/crates/$crate/out/$crate"
 log="$top/crates/$crate/build.log"
 
@@ -63,7 +64,7 @@ build() {
   local room pid count status=0
   if ! command -v rt >/dev/null; then
     echo "$name: the program is not built, and to build it \`rt\` is missing: it comes with the Rattle toolchain." >&2
-    echo "$name: README.md, \"Install\", says which one is wanted." >&2
+    echo "$name: README.md, \"Install\", says which one is wanted$hint." >&2
     exit 127
   fi
   mkdir -p "$top/crates/$crate/out"

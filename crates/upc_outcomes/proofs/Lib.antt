@@ -1,3 +1,5 @@
 mod Records
 mod Plans
+mod Runs
 mod Endings
+mod Complete

@@ -1,10 +1,14 @@
 -- How many lists of picks there are.
-use Rattle.std.proofs.Common.{◌≡◌, ◌∙◌, ◌≤◌, ◌+◌, ◌*◌, ℕ, zero, suc, List, [], ◌∷◌, length, map, refl, sym, ap, arith}
+use Rattle.std.proofs.Common.{◌≡◌, ◌∙◌, ◌≤◌, ◌+◌, ◌*◌, ℕ, zero, suc, List, [], ◌∷◌, length, map, true, refl, sym, ap, subst, arith}
 use Rattle.std.specs.List.{flat_map, range_with_len}
 use Rattle.std.proofs.lemmas.List.{length-map, length-append}
 use Rattle.std.proofs.lemmas.List.FromFn.{length-range_with_len}
 use Rattle.outcomes.specs.Schedules.{lists}
-use Rattle.upc_outcomes_words.specs.Values.{lists_count}
+use Rattle.upc_outcomes_words.specs.declared.call.Plan.{Plan}
+use Rattle.upc_outcomes_words.specs.declared.call.Plan.TheVariants as plan
+use Rattle.upc_outcomes_words.specs.Values.{Wanted, IsFit, lists_count, seeded, every, given, recorded}
+use Rattle.upc_outcomes_words.specs.layer.Views.{view_plan}
+use Rattle.upc_outcomes.specs.Plans.{IsPlanned, is_listing}
 
 -- where each member gives as many
 same-many : {X : Type 0} (f : ℕ → List X) (n : ℕ) → ((t : ℕ) → length (f t) ≡ n) → (ts : List ℕ)
@@ -28,3 +32,15 @@ lists-many threads (suc most) =
     let e : length (range_with_len 0 threads) * length (lists threads most) ≡ threads * lists_count threads most =
     ap (λ n. n * length (lists threads most)) threads-many ∙ ap (λ n. threads * n) shorter in
     omega arith
+
+-- Lists that are asked for are few.
+pub planned-few : (threads : ℕ) (w : Wanted) (schedules : List (List ℕ)) → IsFit threads w → IsPlanned w threads schedules
+    → length schedules ≤ 100000
+planned-few threads (seeded many seed) schedules fit is = let most = fit.1 in omega arith
+planned-few threads (every most) schedules fit is =
+    let many = lists-many threads most in
+    let e : length schedules ≡ lists_count threads most = ap length is ∙ many in
+    let few = fit.1 in
+    omega arith
+planned-few threads (given picks) schedules fit is = let e = ap length is in omega arith
+planned-few threads (recorded picks) schedules fit is = let e = ap length is in omega arith

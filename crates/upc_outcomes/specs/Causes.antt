@@ -1,5 +1,5 @@
 -- The causes of the verdicts of the top call.
-use Rattle.std.specs.Prelude.{ℕ, ◌≡◌, false, List, length, map}
+use Rattle.std.specs.Prelude.{ℕ, ◌≡◌, true, false, List, length, map}
 use Rattle.upc_text.specs.declared.place.Refusal.{Refusal}
 use Rattle.upc_text.specs.Outside.{Rose, IsLonger}
 use Rattle.upc_values.specs.declared.journal.Journal.{Journal}
@@ -18,15 +18,16 @@ use Rattle.upc_outcomes_words.specs.Values.{Asked, Asks, recorded}
 use Rattle.upc_outcomes.specs.declared.verdict.Verdict.{Verdict}
 use Rattle.upc_outcomes.specs.declared.verdict.Verdict.TheVariants.{Usage, ReadFault, TooLong, Refused, Found, Recorded}
 use Rattle.upc_outcomes.specs.declared.verdict.Verdict.TheVariants.{Overlong, NoMemory}
-use Rattle.upc_outcomes.specs.Plans.{IsPlanned}
+use Rattle.upc_outcomes.specs.Plans.{IsPlanned, is_listing}
 
 -- What a run is limited to by what was asked for.
 abbrev pub limits_of : Asked → Limits
 limits_of a = record { threads = a.threads; budget = a.budget; actions = a.actions }
 
--- The bytes are accepted as a program, there are the lists of picks that were asked for, so many of them, and the list
--- says what the program's runs by them show, within what was asked for.
+-- What runs show was asked for, the bytes are accepted as a program, there are the lists of picks that were asked for,
+-- so many of them, and the list says what the program's runs by them show, within what was asked for.
 pub record FoundFrom (a : Asked) (bytes : List ℕ) (many : ℕ) (list : List Listed) : Type 0 where
+  pub listing : is_listing a.wanted ≡ true
   pub checked : Checked
   pub accepted : IsAccepted a.threads bytes checked
   pub schedules : List (List ℕ)

@@ -1,6 +1,6 @@
 //! From the words to the verdict of the top call.
 
-ghost use Rattle.std.specs.Prelude.{◌≡◌, ◌≤◌, ℕ, List, length, map, string_bytes};
+ghost use Rattle.std.specs.Prelude.{◌≡◌, ◌≤◌, ℕ, List, true, length, map, string_bytes};
 ghost use Rattle.upc_values.specs.Consistent.{FollowsBuffers};
 ghost use Rattle.typed_tree.specs.ViewProgram.{view_program};
 ghost use Rattle.upc_outcomes_words.specs.Values.{Asked, IsAllowed, recorded as wants};
@@ -8,6 +8,7 @@ ghost use Rattle.upc_outcomes_words.specs.layer.Views.{view_call};
 ghost use Rattle.upc_top.specs.Sources.{IsAccepted, StopsReading};
 ghost use Rattle.upc_top.specs.Verdicts.{reading};
 ghost use Rattle.upc_outcomes.specs.Causes.{Caused, ComesFrom, limits_of};
+ghost use Rattle.upc_outcomes.specs.Plans.{is_listing};
 ghost use Rattle.upc_outcomes.specs.code.Records.{IsRecordOf};
 
 use crate::plan::lists_of;
@@ -16,11 +17,11 @@ use order_builder::orders;
 use outcomes::explore;
 use program_runs::run_program_by;
 use run_recorder_text::is_short;
-use upc_task::Limits;
 use std::alloc::Global;
 use std::sync::Wait;
 use typed_tree::Program;
 use upc_outcomes_words::{Call, Plan, read_words};
+use upc_task::Limits;
 use upc_text::{ReadEnd, Sources, Stop, read_all};
 use upc_top::read_source;
 use upc_top_words::NoCall;
@@ -76,6 +77,7 @@ fn record<R: Wait>(
 fn find<R: Wait>(rt: &R, alloc: Global, call: &Call<'_>, bytes: &[u8], program: &Program) -> Verdict
     requires allowed { IsAllowed (view_call call.now) }
     requires accepted { IsAccepted call.now.threads bytes.now (view_program program.now) }
+    requires listing { is_listing (view_call call.now).wanted ≡ true }
     ensures { ComesFrom (view_call call.now) bytes.now result }
 {
     let Ok(lists) = lists_of(alloc, call.threads as u32, &call.plan) else {

@@ -3,7 +3,7 @@
 ghost use Rattle.std.specs.Prelude.{map, string_bytes};
 ghost use Rattle.upc_top.specs.Verdicts.{reading};
 ghost use Rattle.upc_top.specs.Delivery.{writing};
-ghost use Rattle.upc_outcomes.specs.Answers.{Answered};
+ghost use Rattle.upc_outcomes.specs.Answers.{Answered, RefusesOtherWords, IsComplete};
 
 use crate::deliver::deliver;
 use crate::judge::judge;
@@ -25,7 +25,16 @@ pub fn outcomes_main<R: Wait, S: Sources, O: Sink, E: Sink>(
     err: &mut E,
 ) -> u8
     // Some verdict, which has its cause, was delivered.
-    ensures { Answered (map string_bytes words.now)
+    ensures answered { Answered (map string_bytes words.now)
+        (reading (S.bytes_of files.old) (S.faults files.old) (S.faults files.new))
+        (writing (O.taken out.old) (O.taken out.new) (O.faults out.old) (O.faults out.new))
+        (writing (E.taken err.old) (E.taken err.new) (E.faults err.old) (E.faults err.new))
+        result }
+    // Other words are refused.
+    ensures words { RefusesOtherWords (map string_bytes words.now) result }
+    // Where nothing fails, a program that runs today is run by the lists that were asked for, and what they show is
+    // written.
+    ensures complete { IsComplete (map string_bytes words.now)
         (reading (S.bytes_of files.old) (S.faults files.old) (S.faults files.new))
         (writing (O.taken out.old) (O.taken out.new) (O.faults out.old) (O.faults out.new))
         (writing (E.taken err.old) (E.taken err.new) (E.faults err.old) (E.faults err.new))
