@@ -1,14 +1,16 @@
 -- How many lists of picks there are.
-use Rattle.std.proofs.Common.{◌≡◌, ◌∙◌, ◌≤◌, ◌+◌, ◌*◌, ℕ, zero, suc, List, [], ◌∷◌, length, map, true, refl, sym, ap, subst, arith}
+use Rattle.std.proofs.Common.{◌≡◌, ◌∙◌, ◌≤◌, ◌+◌, ◌*◌, ℕ, zero, suc, List, [], ◌∷◌, length, map, refl, ap, subst, arith}
+use Rattle.std.specs.Prelude.{Vec, Result, Ok, Err, IfOk}
+use Rattle.std.specs.declared.alloc.Global.{Global}
 use Rattle.std.specs.List.{flat_map, range_with_len}
 use Rattle.std.proofs.lemmas.List.{length-map, length-append}
 use Rattle.std.proofs.lemmas.List.FromFn.{length-range_with_len}
 use Rattle.outcomes.specs.Schedules.{lists}
 use Rattle.upc_outcomes_words.specs.declared.call.Plan.{Plan}
-use Rattle.upc_outcomes_words.specs.declared.call.Plan.TheVariants as plan
+use Rattle.upc_outcomes_words.specs.declared.call.Plan.TheVariants.{Every}
 use Rattle.upc_outcomes_words.specs.Values.{Wanted, IsFit, lists_count, seeded, every, given, recorded}
 use Rattle.upc_outcomes_words.specs.layer.Views.{view_plan}
-use Rattle.upc_outcomes.specs.Plans.{IsPlanned, is_listing}
+use Rattle.upc_outcomes.specs.Plans.{IsPlanned}
 
 -- where each member gives as many
 same-many : {X : Type 0} (f : ℕ → List X) (n : ℕ) → ((t : ℕ) → length (f t) ≡ n) → (ts : List ℕ)
@@ -44,3 +46,14 @@ planned-few threads (every most) schedules fit is =
     omega arith
 planned-few threads (given picks) schedules fit is = let e = ap length is in omega arith
 planned-few threads (recorded picks) schedules fit is = let e = ap length is in omega arith
+
+-- Every list that a plan asks for is one of few.
+pub every-few : {E : Type 0} (r : Result (Vec (Vec ℕ Global) Global) E) (threads most : ℕ) (p : Plan) → p ≡ Every most
+    → IsFit threads (view_plan p) → IfOk r (λ all. map (λ v. v.items) all.items ≡ lists threads most)
+    → IfOk r (λ all. length all.items ≤ 100000)
+every-few (Ok all) threads most p e fit h =
+    let fits : IsFit threads (every most) = subst (λ (x : Plan). IsFit threads (view_plan x)) e fit in
+    let few = planned-few threads (every most) (map (λ (v : Vec ℕ Global). v.items) all.items) fits h in
+    let same = length-map all.items (λ (v : Vec ℕ Global). v.items) in
+    omega arith
+every-few (Err x) threads most p e fit h = tt
