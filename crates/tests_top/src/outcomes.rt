@@ -34,7 +34,7 @@ const ROWS: [Row; 8] = [
         out: b"2 of 2: status 3, picks none\n    a\n    b\n\\ no line end\n",
         err: b"",
     },
-    // One after the other, and both reads before both writes.
+    // One after the other; and where thread 1 has begun and read when thread 0 goes on.
     Row {
         words: &["-T", "2", "--picks", "none", "f.upc"],
         source: ADDING,
@@ -44,16 +44,25 @@ const ROWS: [Row; 8] = [
         err: b"",
     },
     Row {
-        words: &["-T", "2", "--picks", "0,1", "f.upc"],
+        words: &["-T", "2", "--picks", "1,0,1,1", "f.upc"],
         source: ADDING,
         failing_puts: &[],
         status: 0,
-        out: b"1 of 1: status 0, picks 0,1\n    1\n",
+        out: b"1 of 1: status 0, picks 1,0,1,1\n    1\n",
         err: b"",
     },
     // The text of one run.
     Row {
-        words: &["-T", "1", "--picks", "none", "--record", "--actions", "9", "f.upc"],
+        words: &[
+            "-T",
+            "1",
+            "--picks",
+            "none",
+            "--record",
+            "--actions",
+            "9",
+            "f.upc",
+        ],
         source: FAILING,
         failing_puts: &[],
         status: 0,
@@ -145,10 +154,7 @@ fn is_answered<R: Wait>(rt: &R, alloc: Global, row: &Row) -> Result<bool, Fail> 
 #[test]
 fn answers(rt: HostRuntime) -> Result<(), Fail> {
     for (number, row) in ROWS.iter().enumerate() {
-        assert!(rt;
-            is_answered(&rt, rt.alloc(), row)?,
-            "row {number}"
-        );
+        assert!(rt; is_answered(&rt, rt.alloc(), row)?, "row {number}");
     }
     for (number, words) in USAGES.iter().enumerate() {
         assert!(rt;
