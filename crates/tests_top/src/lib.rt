@@ -4,6 +4,6 @@
 #[cfg(test)]
 mod calls;
 #[cfg(test)]
-mod outcomes;
+mod listings;
 #[cfg(test)]
 mod refused;
