@@ -1,6 +1,5 @@
 -- The causes of the verdicts of the top call.
 use Rattle.std.specs.Prelude.{ℕ, ◌≡◌, true, false, List, length, map}
-use Rattle.upc_text.specs.declared.place.Refusal.{Refusal}
 use Rattle.upc_text.specs.Outside.{Rose, IsLonger}
 use Rattle.upc_values.specs.declared.journal.Journal.{Journal}
 use Rattle.upc_values.specs.declared.order.Orders.{Orders}
