@@ -1,9 +1,5 @@
 -- What is answered where nothing fails, and where the words ask for nothing.
-<<<<<<< HEAD
-use Rattle.std.proofs.Common.{◌≡◌, ◌∙◌, ◌≤◌, ◌<◌, ◌⊎◌, ℕ, true, false, List, length, map, Option, Some, None, refl, sym, ap, subst, inl, inr, arith}
-=======
 use Rattle.std.proofs.Common.{◌≡◌, ◌∙◌, ◌<◌, ℕ, true, List, length, map, Option, Some, sym, subst, inl, inr, arith}
->>>>>>> 464825a729979e72bf2551464b04594571129dbf
 use Rattle.upc_text.specs.Outside.{Rose, IsWhole, IsLonger}
 use Rattle.upc_text.specs.declared.place.Refusal.{Refusal}
 use Rattle.typed_tree.specs.Programs.{Checked}

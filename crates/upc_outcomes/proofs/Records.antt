@@ -1,9 +1,5 @@
 -- What is shown of a run whose record was asked for is the outcome of a source.
-<<<<<<< HEAD
-use Rattle.std.proofs.Common.{◌≡◌, ◌∙◌, List, ℕ, sym, ap, subst}
-=======
 use Rattle.std.proofs.Common.{◌∙◌, List, ℕ, sym, ap, subst}
->>>>>>> 464825a729979e72bf2551464b04594571129dbf
 use Rattle.upc_values.specs.declared.journal.Journal.{Journal}
 use Rattle.order_builder.specs.Named.{orders_of}
 use Rattle.run_recorder_text.specs.Short.{HasText}
