@@ -25,16 +25,22 @@ use Rattle.thread_steps.specs.Values.{kept, scalar_of}
 use Rattle.thread_steps.specs.Actions.{ask}
 use Rattle.thread_steps.specs.Accesses.{run, expanded, with_store}
 use Rattle.upc_library.specs.layer.Walks.{Left, Source, rest, rest_of, replies_left, replies_of}
-use Rattle.upc_library.specs.layer.Wishes.{IsWish, kind_read}
+use Rattle.upc_library.specs.layer.Wishes.{IsWish, kind_read, expansion}
+use Rattle.upc_library.specs.declared.copying.CopySpec.{CopySpec}
+use Rattle.block_layout.specs.declared.kind.Shape.{Shape}
+use Rattle.upc_values.specs.declared.library.LibraryCall.{LibraryCall}
+use Rattle.thread_steps.specs.Library.{library, private_shapes}
+use Rattle.thread_values.specs.layer.Copies.{copies, spec_of, private_of}
+use Rattle.thread_values.proofs.MemoryCalls.{copied}
 use Rattle.upc_library.specs.declared.copying.CopyWish.TheVariants.{Act, LoadPrivate, StorePrivate, Finished}
 use Rattle.upc_meaning_state.specs.code.Memory.{IsUnfinished}
 use Rattle.upc_meaning_state.specs.layer.Libraries.{expanded_to}
 
-module _ (τ : Thread) (at : Place) (σ : State) where
-  -- What comes of the rest is given as a value.
-  abbrev onto : Res Scalar → Res Value
-  onto r = bind r (λ v. give (value.Scalar v))
+-- What comes of the rest is given as a value.
+abbrev onto : Res Scalar → Res Value
+onto r = bind r (λ v. give (value.Scalar v))
 
+module _ (τ : Thread) (at : Place) (σ : State) where
   pub act_gives : (x : Expansion (Unit {0})) (a : Action) (r : Reply) (υ : State) → IsWish x (Act a)
       → ask τ (kind_read x) a σ ≡ Val r υ
       → expanded_to τ at (valued x) σ ≡ expanded_to τ at (valued (after_reply x r)) υ
@@ -165,3 +171,20 @@ stores_on (Reads l j go) p k v e = absurd e
 stores_on (Asks c go) p k v e = absurd e
 stores_on (Gives w) p k v e = absurd e
 stores_on (Fails c) p k v e = absurd e
+
+-- ---- memory calls by their arguments
+
+module _ (τ : Thread) (at : Place) (σ : State) where
+  pub refused_so : (x : Expansion (Unit {0})) (code : ℕ) → x ≡ Fails code
+      → expanded_to τ at (valued x) σ ≡ Over (Fault code at) σ
+  unfolding run
+  refused_so x code e = ap (λ x. onto (expanded τ at (valued x) σ)) e
+
+  pub asks_so : (c : LibraryCall) (shape : ℕ) (args : List Value) (o : Option Shape) (s : CopySpec) → copies c ≡ true
+      → s ≡ spec_of c args → o ≡ private_of c s (private_shapes σ)
+      → library τ c shape at args σ ≡ expanded_to τ at (valued (expansion τ.threads τ.shapes o s)) σ
+  asks_so c shape args o s h e f =
+      copied τ at σ c shape args h
+      ∙ ap (λ x. expanded_to τ at (valued x) σ)
+      (sym (ap (λ o. expansion τ.threads τ.shapes o s) f
+      ∙ ap (λ s. expansion τ.threads τ.shapes (private_of c s (private_shapes σ)) s) e))

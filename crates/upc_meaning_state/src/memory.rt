@@ -130,13 +130,13 @@ impl<'r> Progress<'r> {
         &mut self,
         runner: Runner<'_>,
         place: Place,
-        call: &mut Copying,
+        mut call: Copying,
     ) -> Result<Step<Value>, OutOfMemory>
-        ensures { IfOk result (λ s. Came (expanded_to (thread_seen runner.entry) place (valued (rest call.old))
+        ensures { IfOk result (λ s. Came (expanded_to (thread_seen runner.entry) place (valued (rest call))
             (state_seen self.old)) s self.new) }
     {
         loop {
-            match self.answer_inside(runner, place, call, call.wish())? {
+            match self.answer_inside(runner, place, &call, call.wish())? {
                 None => return Ok(Step::Gives(Value::Scalar(Scalar::Int(0)))),
                 Some(Step::Ends(end)) => return Ok(Step::Ends(end)),
                 Some(Step::Gives(reply)) => call.take(&reply),
@@ -166,7 +166,7 @@ impl<'r> Progress<'r> {
         match Copying::make(runner.alloc, &spec, runner.shapes, private, runner.threads) {
             Err(Refused::Memory) => Err(OutOfMemory),
             Err(Refused::Error(code)) => Ok(Step::Ends(ToldEnd::Fault(code, place))),
-            Ok(mut copying) => self.go_inside(runner, place, &mut copying),
+            Ok(copying) => self.go_inside(runner, place, copying),
         }
     }
 }
