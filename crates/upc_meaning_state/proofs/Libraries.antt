@@ -1,5 +1,5 @@
 -- Calls of the library that ask for one action at most.
-use Rattle.std.proofs.Common.{◌≡◌, ℕ, List, [], ◌∷◌, Option, Some, None, Bool, true, ap, sym, ◌∙◌, subst}
+use Rattle.std.proofs.Common.{◌≡◌, ℕ, List, Option, Some, None, Bool, true, ap, sym, ◌∙◌, subst}
 use Rattle.std.specs.Prelude.{Result, Ok, Err, is_some, IfSome}
 use Rattle.upc_text.specs.declared.place.Place.{Place}
 use Rattle.block_layout.specs.declared.kind.Shape.{Shape}
@@ -7,19 +7,16 @@ use Rattle.upc_values.specs.declared.action.Action.{Action}
 use Rattle.upc_values.specs.declared.action.Reply.{Reply}
 use Rattle.upc_values.specs.declared.record.ToldEnd.{ToldEnd}
 use Rattle.upc_values.specs.declared.record.ToldEnd.TheVariants.{Fault}
-use Rattle.upc_values.specs.declared.scalar.Scalar.{Scalar}
 use Rattle.upc_values.specs.declared.scalar.Value.{Value}
 use Rattle.upc_values.specs.declared.scalar.Value.TheVariants as value
 use Rattle.upc_values.specs.declared.library.LibraryCall.{LibraryCall}
-use Rattle.upc_values.specs.Expansion.{Expansion, Gives, Fails}
 use Rattle.upc_values.specs.LibraryCalls.{library_call, meet_number, asks, given_by}
-use Rattle.thread_steps.specs.States.{Thread, State, Val, Over, Unfinished, Doing, bind, ◌>>=◌, ◌>>◌, give, valued}
+use Rattle.thread_steps.specs.States.{Thread, State, Val, Over, bind, give, valued}
 use Rattle.thread_steps.specs.Actions.{ask}
 use Rattle.thread_steps.specs.Accesses.{run, expanded}
-use Rattle.thread_steps.specs.Values.{number}
 use Rattle.thread_steps.specs.Library.{library, is_formed}
 use Rattle.thread_values.specs.declared.library.LibraryStep.{LibraryStep}
-use Rattle.thread_values.specs.layer.Results.{asks_nothing, given_at_once}
+use Rattle.thread_values.specs.layer.Results.{given_at_once}
 use Rattle.thread_values.specs.layer.Asking.{asks_once, expansion_of, DoesSoThere}
 use Rattle.thread_values.proofs.Asking.{gives}
 use Rattle.thread_values.proofs.Asking as asking

@@ -1,6 +1,6 @@
 -- Memory calls, reply by reply.
-use Rattle.std.proofs.Common.{◌≡◌, ℕ, ◌<◌, List, [], ◌∷◌, Option, Some, None, Bool, true, false, refl, sym, ap, ◌∙◌, subst, arith}
-use Rattle.std.specs.Prelude.{Result, Ok, Err}
+use Rattle.std.proofs.Common.{◌≡◌, ℕ, ◌<◌, List, [], ◌∷◌, Option, Some, None, true, refl, sym, ap, ◌∙◌, subst, arith}
+use Rattle.std.specs.Prelude.{Ok, Err}
 use Rattle.upc_text.specs.declared.place.Place.{Place}
 use Rattle.block_layout.specs.declared.place.LocalPtr.{LocalPtr}
 use Rattle.block_layout.specs.declared.kind.Kind.{Kind}
@@ -8,7 +8,6 @@ use Rattle.upc_values.specs.declared.scalar.Scalar.{Scalar}
 use Rattle.upc_values.specs.declared.scalar.Value.{Value}
 use Rattle.upc_values.specs.declared.scalar.Value.TheVariants as value
 use Rattle.upc_values.specs.declared.action.Action.{Action}
-use Rattle.upc_values.specs.declared.action.Action.TheVariants as act
 use Rattle.upc_values.specs.declared.action.Reply.{Reply}
 use Rattle.upc_values.specs.declared.action.Reply.TheVariants as reply
 use Rattle.upc_values.specs.declared.record.ToldEnd.{ToldEnd}

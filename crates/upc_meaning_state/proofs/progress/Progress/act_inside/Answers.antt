@@ -1,5 +1,4 @@
-use Rattle.std.proofs.Common.{◌≡◌, Option, sym, ◌∙◌, subst}
-use Rattle.std.specs.Prelude.{Ok}
+use Rattle.std.proofs.Common.{◌≡◌, Option, subst}
 use Rattle.block_layout.specs.declared.kind.Kind.{Kind}
 use Rattle.upc_values.specs.declared.action.Reply.{Reply}
 use Rattle.thread_steps.specs.States.{Val, Over}

@@ -6,10 +6,10 @@ use Rattle.upc_meaning_state.specs.layer.Libraries.{expanded_to}
 use Rattle.upc_meaning_state.specs.layer.Runners.{thread_seen}
 use Rattle.upc_meaning_state.proofs.progress.Progress.go_inside.Given as goal
 
-abbrev pub invariant-loop-end : goal.invariant-loop-end
-invariant-loop-end l =
+abbrev pub invariant-loop-call : goal.invariant-loop-call
+invariant-loop-call l =
     expanded_to (thread_seen l.runner) l.place (valued (rest l.initial.call)) (state_seen l.initial.self)
     ≡ expanded_to (thread_seen l.runner) l.place (valued (rest l.call)) (state_seen l.self)
 
-abbrev pub decreases-loop-end : goal.decreases-loop-end
-decreases-loop-end l = replies_left l.call
+abbrev pub decreases-loop-call : goal.decreases-loop-call
+decreases-loop-call l = replies_left l.call

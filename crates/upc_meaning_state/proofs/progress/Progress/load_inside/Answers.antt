@@ -1,5 +1,4 @@
 use Rattle.std.proofs.Common.{◌≡◌, sym, refl, ◌∙◌, subst}
-use Rattle.std.specs.Prelude.{Ok, Err}
 use Rattle.upc_values.specs.declared.scalar.Scalar.{Scalar}
 use Rattle.upc_values.specs.declared.action.Reply.TheVariants as reply
 use Rattle.upc_values.specs.Expansion.{after_reply}
