@@ -81,7 +81,7 @@ build() {
   # However this ends, what was begun ends too.
   trap '[ -z "$pid" ] || kill -TERM -- "-$pid" 2>/dev/null; rm -rf "$room"' EXIT
   trap 'exit 130' INT
-  trap 'exit 143' TERM HUP
+  trap 'exit 143' TERM HUP PIPE
   : >"$room/begun"
   copy_way "$room/repository"
   count=$(way | wc -l)
@@ -103,7 +103,7 @@ build() {
   tell "$count"
   [ ! -t 2 ] || echo >&2
   if [ "$status" -ne 0 ] || [ ! -x "$room/repository/crates/$crate/out/$crate" ]; then
-    echo "$name: the program was not built. What rt said last:" >&2
+    echo "$name: the program was not built: rt ended with status $status. What it said last:" >&2
     tail -n 5 "$log" | sed "s/^/$name:   /" >&2
     echo "$name: all of it: $log" >&2
     exit 126
@@ -111,7 +111,7 @@ build() {
   cp "$room/repository/crates/$crate/out/$crate" "$program.new"
   touch -r "$room/begun" "$program.new"
   mv "$program.new" "$program"
-  trap - EXIT INT TERM HUP
+  trap - EXIT INT TERM HUP PIPE
   rm -rf "$room"
   exec 9>&-
 }

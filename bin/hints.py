@@ -23,6 +23,8 @@ INSTEAD = {
     "upc_resetphase": "a cast to another block size and back", "upc_lock_init": "upc_all_lock_alloc()",
     "INT_MAX": "2147483647", "INT_MIN": "(-2147483647 - 1)", "EOF": "nothing: there is no input", "true": "1",
     "false": "0", "bool": "int", "main": "no call of main",
+    "UPC_FUNC": "an operator such as UPC_ADD: a reduction has no function of its own",
+    "UPC_NONCOMM_FUNC": "as UPC_FUNC",
 }
 CONVERSION = re.compile(r"%[-+ #0-9.*]*(?:hh|h|ll|l|z|j|t|L)?[A-Za-z%]?")
 TAKEN = re.compile(r"%0?(?:[1-9][0-9]?)?(?:d|i|u|x|c|ld|lu|lx)|%%")
@@ -120,22 +122,88 @@ def format_of_printf(spot):
         yield "sizeof, upc_threadof and their kin give size_t: %lu, or a cast to int"
 
 
+def declaration(spot):
+    """What stands before and at the first use of the first name from the place on, mostly its declaration."""
+    name = re.search(r"[A-Za-z_]\w*", spot.after)
+    found = re.search(rf"\b{name[0]}\b", spot.source) if name else None
+    if not found:
+        return spot.text
+    begins = max(spot.source.rfind(sign, 0, found.start()) for sign in ";{}") + 1
+    return spot.source[begins:found.end()]
+
+
 def conversion(spot):
-    """Typing 12, for what UPC programs mostly meet there."""
-    line = spot.text
-    if re.search(r"shared\s+void\s*\*", spot.source):
+    """Typing 12, for what UPC programs mostly meet there, by the declaration of the first name from the place on."""
+    declared = declaration(spot)
+    if re.search(r"shared\s+void\s*\*", declared):
         yield "`shared void *` is for parameters of the library: give the pointer the type of what it leads to"
-    if re.search(r"\bvoid\s*\*\s*\w+", line):
+    elif re.search(r"\bvoid\s*\*\s*\w+$", declared):
         yield "a `void *` of your own takes no pointer: give it the type of what it leads to"
-    if re.search(r"\bshared\s*\[", spot.source):
+    elif "shared" in declared and re.search(r"\bshared\s*\[", spot.source):
         yield ("the block size is part of a pointer's type: `shared [4] int *` for a `shared [4] int a[16]`; a cast to"
                " another one counts another way from there")
-    if re.search(r"=\s*&|\*\s*\w+\s*=", line) and re.search(r"\bshared\b", spot.source):
+    elif "shared" not in declared and "shared" in spot.source and "*" in declared:
         yield ("a pointer to private takes the address of a shared element by a cast alone, `(int *)&a[i]`, on the"
                " thread that has it")
 
 
+def called(spot):
+    """Typing 10: how the function is declared."""
+    words = re.search(rf"`({spot.name}\([^`]*\))`", read_text(TOP / "docs" / "LANGUAGE.md")) if spot.name else None
+    defined = re.search(rf"\b{spot.name}\s*\(([^()]*)\)\s*\{{", spot.source) if spot.name else None
+    if words:
+        yield f"it is `{words[1]}`" + (", where SV stands for `shared void *`" if "SV" in words[1] else "")
+    elif defined:
+        count = 0 if defined[1].strip() in ("", "void") else defined[1].count(",") + 1
+        yield f"`{spot.name}` has {count or 'no'} parameter{'' if count == 1 else 's'}"
+    elif spot.name and re.search(rf"\b{spot.name}\s*\([^()]*\)\s*;", spot.source):
+        yield f"`{spot.name}` has no body in this file, and a program is one file"
+
+
+def rows(spot):
+    """Typing 18: a row of an array of arrays."""
+    name = re.search(r"([A-Za-z_]\w*)\s*((?:\[[^]]*\])*)", spot.after)
+    if name and re.search(rf"\b{name[1]}\s*\[[^]]{{0,99}}\]\s*\[", spot.source):
+        yield f"`&{name[1]}{name[2] or '[0]'}[0]` is the first element of a row, where a pointer to it is wanted"
+
+
+def allocation(spot):
+    """Typing 29: where the result of an allocation goes."""
+    goes = re.split(r"[;{}]", spot.before)[-1]
+    if re.search(r"shared\s+void", goes or spot.text) or re.search(r"shared\s+void\s*\*", spot.source):
+        yield "a `shared void *` keeps no result of an allocation: give the pointer the type of what it leads to"
+    elif "shared" not in goes:
+        yield "what is allocated is shared: `shared [] int *p = upc_alloc(n * sizeof(int));`"
+
+
+def is_open(spot):
+    """Whether the file ends at the place with more `{` than `}`, comments, strings and characters left out."""
+    plain = re.sub(r"/\*.*?\*/|//[^\n]*|\"(?:[^\"\\\n]|\\.)*\"|'(?:[^'\\\n]|\\.)*'", " ", spot.source, flags=re.S)
+    below = "".join(spot.lines[spot.number:]) + re.sub(r"^\W?\w*", "", spot.after)
+    return not below.strip() and plain.count("{") > plain.count("}")
+
+
+def forms(spot):
+    """Forms of C99 that the grammar does not have."""
+    if re.match(r":", spot.after) and re.search(r"\b(unsigned|signed|char|short|int|long)\s+\w+\s*$", spot.before):
+        yield "there are no fields of bits: `&`, `|` and shifts of an integer"
+    elif re.match(r":", spot.after) and re.search(r"(^|[;{}])\s*[A-Za-z_]\w*\s*$", spot.before):
+        yield "there are no labels but those of a switch: a flag that the loops test, or a function"
+    if re.match(r"\(\s*\*", spot.after):
+        yield "there are no pointers to functions or to arrays: a number and a `switch`, or a pointer to an element"
+    if re.search(r"\bswitch\s*\((?:[^()]|\([^()]*\))*\)\s*$", spot.before):
+        yield "a switch has braces: `switch (n) {case 1: ..}`"
+    if re.match(r"\[", spot.after) and re.search(r"\([^;{}]*\[[^]]*\]$", spot.before[-200:]):
+        yield "a parameter has one dimension: `int *a`, and an index that is computed"
+
+
 def syntax(spot):
+    yield from forms(spot)
+    if is_open(spot):
+        yield "the file ends while a `{` is open: a `}` is missing somewhere above"
+    elif re.match(r"[{;]", spot.after) and not re.search(r"\b(for|upc_forall)\b", spot.before) \
+            and spot.before.count("(") > spot.before.count(")"):
+        yield "a `(` of this line is not closed before this place"
     if re.search(r"\bupc_(barrier|fence|notify|wait)\s*\(\s*$", spot.before):
         yield "upc_barrier, upc_notify, upc_wait and upc_fence are statements, not calls: write `upc_barrier;`"
     if re.match(r"static\b", spot.after):
@@ -195,6 +263,12 @@ def outside(spot):
         yield f"`{spot.name}` has {row[1]} elements, {spot.name}[0] to {spot.name}[{int(row[1]) - 1}]"
 
 
+def ranges(spot):
+    """E18 of a call that copies: a range with a part of an element."""
+    if re.match(r"upc_(mem|all_)", spot.after):
+        yield "a range has whole elements of one type on both sides: so many times `sizeof` of one are its bytes"
+
+
 def sizes(spot):
     if re.search(r"\bTHREADS\b", spot.text):
         yield "THREADS is a constant here; a name that `const` declares is none"
@@ -203,9 +277,10 @@ def sizes(spot):
 
 
 FOR = {
-    "typing 1": undeclared, "typing 2": declared_twice, "typing 3": no_main, "typing 6": sizes,
-    "typing 12": conversion, "typing 28": format_of_printf, "typing 30": string,
-    "syntax": syntax, "lex": tokens, "directive": directive, "E5": outside,
+    "typing 1": undeclared, "typing 2": declared_twice, "typing 3": no_main, "typing 6": sizes, "typing 10": called,
+    "typing 12": conversion, "typing 18": rows, "typing 28": format_of_printf, "typing 29": allocation,
+    "typing 30": string,
+    "syntax": syntax, "lex": tokens, "directive": directive, "E5": outside, "E18": ranges,
 }
 
 

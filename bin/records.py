@@ -5,11 +5,16 @@ import sys
 from runs import Call, Failed, answer, read_text
 
 MOST_ENTRIES = 32768  # of a history that has a text
-PLACE, VALUE = r"@\d+\.\d+\.\d+", r"(?:-?\d+|l:\d+|p(?::-?\d+){9})"
+NUMBER = r"[0-9]{1,20}"
+PLACE, VALUE = rf"@{NUMBER}\.{NUMBER}\.{NUMBER}", rf"(?:-?{NUMBER}|l:{NUMBER}|p(?::-?{NUMBER}){{9}})"
 ITEM = re.compile(rf"(?:read (?:relaxed|strict) {PLACE}|write (?:relaxed|strict) {PLACE} {VALUE}"
                   rf"|print (?:-|(?:[0-9a-f]{{2}})+)|(?:notify|wait|lock|attempt|unlock|lockfree) \S+|exit -?\d+"
-                  rf"|meet \d+ \d+(?: {VALUE})*|(?:alloc|free)(?: \S+)+|fence|beat|lockmake)"
+                  rf"|meet [0-9]{{1,9}} [0-9]{{1,9}}(?: {VALUE})*|(?:alloc|free)(?: \S+)+|fence|beat|lockmake)"
                   rf" -> (?:done|value {VALUE}|flag [01]|refused \d+)")
+ALLOCATION, REDUCTIONS = "1", ("11", "12")
+MEETINGS = dict(enumerate(("alloc", "lock_alloc", "free", "lock_free", "broadcast", "scatter", "gather", "gather_all",
+                           "exchange", "permute", "reduce", "prefix_reduce"), 1))
+ELEMENTS = ("C", "UC", "S", "US", "I", "UI", "L", "UL")
 END = r"ended -?\d+|fault \d+ \d+:\d+|budget|full|exit -?\d+|halted|deadlocked \S+.*"
 
 
@@ -43,9 +48,9 @@ class Strand:
 class Record:
     """A run: its strands, and its history as pairs of a thread and the number of an item of its strand."""
 
-    def __init__(self, text):
+    def __init__(self, text, file=""):
         lines = iter(text.split("\n"))
-        self.strands, self.history = [], []
+        self.strands, self.history, self.file = [], [], file
         if not re.fullmatch(r"upc-record [12]", next(lines, "")):
             raise Failed("this is no text of a run", 2)
         try:
@@ -156,6 +161,25 @@ class Names:
         return written
 
 
+def written(sign):
+    """A character as a string of C has it."""
+    return "\\" + sign if sign in '"\\' else sign if sign.isprintable() else sign.encode("unicode_escape").decode()
+
+
+def called(words, names):
+    """A collective call as it is written, from its item.
+
+    That of upc_all_alloc has the number of a shape besides, and that of a reduction its type where it has a function.
+    """
+    number, values = words[1], [names.value(value) for value in words[3:]]
+    name = "upc_all_" + MEETINGS.get(int(number), number)
+    if number == ALLOCATION:
+        values = values[:2]
+    elif number in REDUCTIONS and len(values) == 7 and values[5] in map(str, range(len(ELEMENTS))):
+        name, values[5] = name + ELEMENTS[int(values[5])], "0"
+    return f"{name}({', '.join(values)})"
+
+
 def told(item, names):
     """An item in words."""
     strict = " (strict)" if item.kind in ("read", "write") and not item.relaxed else ""
@@ -165,15 +189,28 @@ def told(item, names):
         return f"{names.at(item.place)} = {names.value(item.words[3])}{strict}"
     if item.kind == "print":
         text = bytes.fromhex("" if item.words[1] == "-" else item.words[1]).decode(errors="replace")
-        return 'prints "' + text.replace("\\", "\\\\").replace("\n", "\\n").replace('"', '\\"') + '"'
+        return 'prints "' + "".join(written(sign) for sign in text) + '"'
     if item.kind in ("notify", "wait") and item.words[1] == "none":
         return item.kind
     gave = item.reply.removeprefix("value ")
     if item.kind == "attempt":
         return f"tries lock {item.words[1]}: " + ("it has it" if gave == "flag 1" else "it is not free")
+    said = called(item.words, names) if item.kind == "meet" else item.action
     if gave.startswith("refused "):
-        return f"{item.action}: refused, E{gave[8:]}"
-    return item.action if gave == "done" else f"{item.action} gives {names.value(gave)}"
+        return f"{said}: refused, E{gave[8:]}"
+    return said if gave == "done" else f"{said} gives {names.value(gave)}"
+
+
+def record_named(words):
+    """The file after --record, where the words have one, and the other words."""
+    for at, word in enumerate(words):
+        name, sign, value = word.partition("=")
+        if word == "--":
+            break
+        if name == "--record":
+            after = at + 1 if sign else at + 2
+            return value if sign else "".join(words[at + 1:after]), [*words[:at], *words[after:]]
+    return None, list(words)
 
 
 def recorded(words, usage):
@@ -181,12 +218,10 @@ def recorded(words, usage):
 
     Answers besides what upc wrote on the error output, and its status.
     """
-    words, text = list(words), None
-    if "--record" in words:
-        at = words.index("--record")
-        path = words[at + 1] if at + 1 < len(words) else ""
-        del words[at:at + 2]
-        text = sys.stdin.read() if path == "-" else read_text(path)
+    text = None
+    path, words = record_named(words)
+    if path is not None:
+        text = read_text("/dev/stdin" if path == "-" else path)
         if not text:
             raise Failed(f"{path or 'no file after --record'}: no text of a run", 102)
     call = Call(words, modes=False)
@@ -195,11 +230,12 @@ def recorded(words, usage):
     error, status = "", 0
     if text is None:
         text, error, status = answer(call.words("record"))
-        sys.stderr.write(error)
+        if error:
+            sys.stderr.write(error)
         if not text:
             more = "\n      = --actions 1000 shows the beginning of a long run" if status == 109 else ""
             raise Failed(more.lstrip("\n"), status)
-    record = Record(text)
+    record = Record(text, call.file)
     layout, refused, layout_status = answer(call.words("layout", T=len(record.strands)))
     if layout_status:
         raise Failed(refused.strip(), layout_status)

@@ -10,11 +10,12 @@ import threading
 
 TOP = pathlib.Path(__file__).resolve().parent.parent
 MODES = ("run", "record", "check", "layout", "sample")
-WITH_NUMBER = ("-T", "--budget", "--actions")
+WITH_NUMBER = {"-T": 32, "--budget": 1_000_000_000_000, "--actions": 8_388_608}  # each with the most that it takes
 
 
 def program():
-    return os.environ.get("UPC_BINARY") or str(TOP / "bin" / "upc")
+    given = os.environ.get("UPC_BINARY")
+    return os.path.abspath(given) if given else str(TOP / "bin" / "upc")
 
 
 class Failed(Exception):
@@ -26,19 +27,25 @@ class Failed(Exception):
 
 
 class Call:
-    """The words of a command line: mode, file and options, in any order; a word that is none of them is `unknown`."""
+    """The words of a command line: mode, file and options, in any order; a word that is none of them is `unknown`.
+
+    After `--` stand mode and file alone. An option that is given again is in `twice`.
+    """
 
     def __init__(self, words, modes=True):
-        self.mode, self.file, self.options, self.unknown = None, None, {}, []
-        left = list(words)
+        self.mode, self.file, self.options, self.unknown, self.twice = None, None, {}, [], []
+        left, plain = list(words), False
         while left:
             word = left.pop(0)
             option = next((name for name in WITH_NUMBER if word == name or word.startswith(name + "=")
                            or name == "-T" and word.startswith(name)), None)
-            if option:
+            if option and not plain:
+                self.twice += [option] if option in self.options else []
                 value = word[len(option):].removeprefix("=") or (left.pop(0) if left else "")
                 self.options[option] = value
-            elif word.startswith("-") and word != "-":
+            elif word == "--" and not plain:
+                plain = True
+            elif word.startswith("-") and word != "-" and not plain:
                 self.unknown.append(word)
             elif modes and self.mode is None:
                 self.mode = word
@@ -50,7 +57,8 @@ class Call:
     def words(self, mode, **other):
         """These words for another mode, with options set by `other`: T, budget, actions."""
         options = {**self.options, **{("-T" if key == "T" else "--" + key): str(value) for key, value in other.items()}}
-        return [mode, *(part for option in options.items() for part in option), *([self.file] if self.file else [])]
+        return [*(part for option in options.items() for part in option), "--", mode,
+                *([self.file] if self.file is not None else [])]
 
 
 def answer(words, shows=False):
@@ -63,13 +71,13 @@ def answer(words, shows=False):
         call = subprocess.Popen([program(), *words], stdin=subprocess.DEVNULL,
                                 stdout=None if shows else subprocess.PIPE, stderr=subprocess.PIPE)
     except (OSError, ValueError) as error:
-        raise Failed(f"{program()} does not run: {getattr(error, 'strerror', None) or error}", 1) from None
+        raise Failed(f"{program()} does not run: {getattr(error, 'strerror', None) or error}", 127) from None
     said = []
 
     def listen():
         for line in call.stderr:
             if line.startswith(b"upc: building"):
-                print(line.decode().rstrip("\n"), file=sys.stderr, flush=True)
+                print(line.decode(errors="replace").rstrip("\n"), file=sys.stderr, flush=True)
             else:
                 said.append(line)
 
@@ -89,20 +97,49 @@ def read_text(path):
         return ""
 
 
-def run_script(main, name):
-    """Ends the script with what `main` answers; no input ends it with a traceback."""
-    sys.stdout.reconfigure(errors="backslashreplace")
+def page_of(script):
+    """What the words -h and --help print: the usage and what the script is, from its names."""
+    print(script["USAGE"], script["__doc__"].strip(), sep="\n\n")
+    return 0
+
+
+def last_words(line=""):
+    """A line on the error output, where that can be written; what a stream cannot take is dropped."""
     try:
-        status = main(sys.argv[1:])
+        if line:
+            print(line, file=sys.stderr)
+    except OSError:
+        pass
+    for stream, number in ((sys.stdout, 1), (sys.stderr, 2)):
+        try:
+            stream.flush()
+        except OSError:
+            os.dup2(os.open(os.devnull, os.O_WRONLY), number)
+
+
+def run_script(main, name):
+    """Ends the script with what `main` answers; no input ends it with a traceback.
+
+    Where its output is closed or cannot be written, the status is 103, as that of upc.
+    """
+    is_closed = sys.stdout is None
+    sys.stdout, sys.stderr = (stream or open(os.devnull, "w", encoding="utf-8") for stream in (sys.stdout, sys.stderr))
+    sys.stdout.reconfigure(errors="backslashreplace")
+    words = sys.argv[1:]
+    is_asked = {"-h", "--help"} & set(words[:words.index("--")] if "--" in words else words)
+    try:
+        status = page_of(main.__globals__) if is_asked else main(words)
         sys.stdout.flush()
     except Failed as failed:
-        if failed.line:
-            print(failed.line if failed.line.startswith(("usage", " ", "upc:")) else f"{name}: {failed.line}",
-                  file=sys.stderr)
+        starts = ("usage", " ", "upc:")
+        last_words(failed.line if not failed.line or failed.line.startswith(starts) else f"{name}: {failed.line}")
         status = failed.status
     except BrokenPipeError:
-        os.dup2(os.open(os.devnull, os.O_WRONLY), 1)
+        last_words()
+        status = 103
+    except OSError as error:
+        last_words(f"{name}: {error.strerror or error}")
         status = 103
     except KeyboardInterrupt:
         status = 130
-    sys.exit(status)
+    sys.exit(103 if is_closed and status == 0 else status)

@@ -4,8 +4,8 @@
    - Relaxed, by UPC: (0, 0), (0, 1), (1, 0), (1, 1). Two reads do not conflict, so even two of one variable need not
      stand in program order, and (1, 0) is allowed: first the new value, and then the old one.
    - Strict, by UPC: all but (1, 0).
-   - By the write buffer: all but (1, 0). Both reads are made in order from one history, in which the write stands once.
-     The command may give each of these. */
+   - By the write buffer: all but (1, 0). Both reads are made in order from one history, in which the write stands
+     once. `upc run` may give each of these, and `bin/outcomes -T 2` lists them. */
 #include <upc_relaxed.h>
 #include <stdio.h>
 

@@ -5,8 +5,9 @@
    - Relaxed, by UPC: all 16. In (1, 0; 1, 0) the two readers saw the two writes in opposite orders: each thread has an
      order of its own, in which the other threads' relaxed writes may stand anywhere.
    - Strict, by UPC: all but (1, 0; 1, 0). All threads see strict accesses in one order.
-   - By the write buffer: all but (1, 0; 1, 0). There is one history, and a thread's reads are made in order; only the
-     thread that wrote sees its own write sooner than the others do. The command may give each of these. */
+   - By the write buffer: all but (1, 0; 1, 0). There is one history, and a thread's reads are made in order; only
+     the thread that wrote sees its own write sooner than the others do. `upc run` may give each of these, and
+     `bin/outcomes -T 4` lists them. */
 #include <upc_relaxed.h>
 #include <stdio.h>
 

@@ -4,8 +4,8 @@
    - Relaxed, by UPC: (0, 0), (0, 1), (1, 0), (1, 1). In (1, 1) each read gives what the other thread writes only after
      its own read: each thread's order may set the other's write first.
    - Strict, by UPC: all but (1, 1). The access that stands first of all is a read, and it gives 0.
-   - By the write buffer: all but (1, 1). A read is made at once and a write never before its turn, so the first read
-     comes before both writes. The command may give each of these. */
+   - By the write buffer: all but (1, 1). A read is made at once and a write never before its turn, so the first
+     read comes before both writes. `upc run` may give each of these, and `bin/outcomes -T 2` lists them. */
 #include <upc_relaxed.h>
 #include <stdio.h>
 

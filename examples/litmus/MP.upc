@@ -4,8 +4,8 @@
    - Relaxed, by UPC: (0, 0), (0, 1), (1, 0), (1, 1). Neither the two writes nor the two reads need be seen in program
      order, so (1, 0) is allowed: the flag without the data.
    - Strict, by UPC: all but (1, 0). To rule it out it is enough that both accesses to the flag are strict.
-   - By the write buffer: all but (1, 0). The writes leave it in order, and a thread's reads are made in order. The
-     command may give each of these. */
+   - By the write buffer: all but (1, 0). The writes leave it in order, and a thread's reads are made in order.
+     `upc run` may give each of these, and `bin/outcomes -T 2` lists them. */
 #include <upc_relaxed.h>
 #include <stdio.h>
 

@@ -4,9 +4,10 @@
    - Relaxed, by UPC: (0, 1), (0, 2), (1, 1), (1, 2). In (0, 2) the write of 2 comes after that of 1, and yet the read
      that follows it misses x, which was written before that 1.
    - Strict, by UPC: all but (0, 2).
-   - By the write buffer: all but (1, 1). For (0, 2) the write of 2 waits while thread 1 reads and thread 0 does all its
-     work. For (1, 1) thread 1 would see x, whose write leaves the buffer together with that of 1 into y, and its own
-     write, which waits until the barrier, comes after both. The command may give each of these. */
+   - By the write buffer: all but (1, 1). For (0, 2) the write of 2 waits while thread 1 reads and thread 0 does all
+     its work. For (1, 1) thread 1 would see x, whose write leaves the buffer together with that of 1 into y, and
+     its own write, which waits until the barrier, comes after both. `upc run` may give each of these, and
+     `bin/outcomes -T 2` lists them. */
 #include <upc_relaxed.h>
 #include <stdio.h>
 

@@ -5,8 +5,8 @@
      its own write of x comes before that one. The threads' orders may even set the two writes of x differently, so that
      one thread finds 1 after the barrier and the other 2.
    - Strict, by UPC: all but (1, 2). It is enough that both accesses to y are strict.
-   - By the write buffer: all but (1, 2). Where y is seen, x stands in the history already, and thread 1's
-     write follows. The command may give each of these. */
+   - By the write buffer: all but (1, 2). Where y is seen, x stands in the history already, and thread 1's write
+     follows. `upc run` may give each of these, and `bin/outcomes -T 2` lists them. */
 #include <upc_relaxed.h>
 #include <stdio.h>
 

@@ -5,8 +5,8 @@
      order need keep them in program order.
    - Strict, by UPC: all but (0, 0). The four accesses stand in one order; the read that stands last gives 1.
    - By the write buffer: all but (1, 1). For (0, 0) both writes still wait while both threads read. For (1, 1) each
-     write would have to leave its buffer before the other thread's read, and a write waits here until its thread comes
-     to the barrier, after its own read. The command may give each of these. */
+     write would have to leave its buffer before the other thread's read, and a write waits here until its thread
+     comes to the barrier, after its own read. `upc run` may give each of these, and `bin/outcomes -T 2` lists them. */
 #include <upc_relaxed.h>
 #include <stdio.h>
 

@@ -10,7 +10,7 @@ use Rattle.upc_values.specs.Expansion.{Expansion, Fails, nothing, bind, gathered
 use Rattle.upc_values.specs.Expansions as said
 use Rattle.upc_values.specs.Reductions.{Reduction}
 use Rattle.upc_library.specs.layer.Spots.{pointer_of}
-use Rattle.collectives.specs.code.Left.{joined, total_rest, prefixes_rest, prefixes_put, PrefixesLeft}
+use Rattle.collectives.specs.layer.Left.{joined, total_rest, prefixes_rest, prefixes_put, PrefixesLeft}
 use Rattle.upc_library.specs.declared.spot.Spot.{Spot}
 use Rattle.collectives.proofs.Following.{number_comes}
 use Rattle.collectives.proofs.Members.{drop-at}

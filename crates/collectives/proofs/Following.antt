@@ -17,11 +17,11 @@ use Rattle.upc_values.specs.Expansion.{refused_by, after_reply, each_in_turn}
 use Rattle.upc_values.specs.Expansions as said
 use Rattle.upc_values.specs.Expansions.{Part}
 use Rattle.collectives.specs.code.Calls.{refusal_in}
-use Rattle.collectives.specs.code.Left.{CopiesLeft, PrefixesLeft, copies_put, prefixes_put}
-use Rattle.collectives.specs.code.Walks.{work_rest}
-use Rattle.collectives.specs.code.Wishes.{IsAsked, RefusesSo, kind_read}
+use Rattle.collectives.specs.layer.Left.{CopiesLeft, PrefixesLeft, copies_put, prefixes_put}
+use Rattle.collectives.specs.layer.Walks.{work_rest}
+use Rattle.collectives.specs.layer.Wishes.{IsAsked, RefusesSo, kind_read}
 use Rattle.upc_library.specs.layer.Spots.{pointer_of}
-use Rattle.collectives.specs.code.Left.{parts_copied, cell_copied}
+use Rattle.collectives.specs.layer.Left.{parts_copied, cell_copied}
 use Rattle.collectives.specs.code.Parts.{part_of}
 use Rattle.collectives.specs.declared.part.Part as held
 use Rattle.collectives.proofs.Members.{drop-at}

@@ -7,3 +7,4 @@ pub mod Reading
 pub mod Limits
 pub mod Following
 pub mod EachElement
+pub mod Known

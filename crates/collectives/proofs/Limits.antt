@@ -13,7 +13,7 @@ use Rattle.upc_values.specs.Calls as said
 use Rattle.upc_values.specs.Expansion.{Expansion, bind, does, refused_by}
 use Rattle.upc_values.specs.Expansions as expansions
 use Rattle.upc_values.specs.Expansions.{is_large}
-use Rattle.collectives.specs.code.Walks.{from_entry}
+use Rattle.collectives.specs.layer.Walks.{from_entry}
 use Rattle.collectives.specs.declared.call.Call.{Call}
 use Rattle.collectives.specs.declared.call.Call.TheVariants as call
 use Rattle.collectives.specs.code.Calls.{call_in, kept, refusal_in, FitsLimits}

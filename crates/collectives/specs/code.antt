@@ -1,6 +1,3 @@
-pub mod Left
-pub mod Wishes
-pub mod Walks
 pub mod Calls
 pub mod Reductions
 pub mod Parts

@@ -6,7 +6,7 @@ ghost use Rattle.upc_values.specs.Calls.{call_of};
 ghost use Rattle.upc_values.specs.Expansion.{Expansion, refused_by};
 ghost use Rattle.upc_values.specs.Expansions as said;
 ghost use Rattle.collectives.specs.code.Calls.{call_in, kept, FitsLimits};
-ghost use Rattle.collectives.specs.code.Wishes.{RefusesSo};
+ghost use Rattle.collectives.specs.layer.Wishes.{RefusesSo};
 
 use crate::arguments::refusal;
 use crate::call::{Call, call_of};

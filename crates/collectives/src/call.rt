@@ -3,6 +3,7 @@
 ghost use Rattle.std.specs.Prelude.{◌≡◌, ◌∷◌, [], ◌<◌};
 ghost use Rattle.upc_values.specs.Calls as said;
 ghost use Rattle.upc_values.specs.Calls.{call_of};
+ghost use Rattle.collectives.specs.layer.Arguments.{copies_or_reduces};
 ghost use Rattle.collectives.specs.code.Calls.{call_in, called, kept, shared_in};
 ghost use Rattle.collectives.specs.code.Calls.{int_in, size_in, kind_in, way_option};
 
@@ -207,4 +208,18 @@ pub fn call_of(call: u8, args: &[Scalar]) -> Call
         _ => None,
     };
     read.unwrap_or(Call::Other)
+}
+
+// Whether a call copies or reduces.
+fn is_known(call: &Call) -> bool
+    ensures { result ≡ copies_or_reduces (call_in call.now) }
+{
+    !matches!(call, Call::Other)
+}
+
+/// Whether the arguments are of the types of the parameters of the collective call with this number, from 5 to 12.
+pub fn may_meet(call: u8, args: &[Scalar]) -> bool
+    ensures { result ≡ copies_or_reduces (call_of call args.now) }
+{
+    is_known(&call_of(call, args))
 }

@@ -7,8 +7,8 @@ ghost use Rattle.upc_values.specs.Expansion.{after_reply, bind, does};
 ghost use Rattle.upc_values.specs.declared.action.Action.TheVariants as act;
 ghost use Rattle.upc_values.specs.Expansions as said;
 ghost use Rattle.upc_values.specs.declared.refused.Refused.TheVariants.{Memory};
-ghost use Rattle.collectives.specs.code.Walks.{rest, from_entry};
-ghost use Rattle.collectives.specs.code.Wishes.{IsWish, RefusesSo, behind, kind_read};
+ghost use Rattle.collectives.specs.layer.Walks.{rest, from_entry};
+ghost use Rattle.collectives.specs.layer.Wishes.{IsWish, RefusesSo, behind, kind_read};
 
 use crate::asked::Asked;
 use crate::stage::{Stage, listed};

@@ -9,8 +9,8 @@ ghost use Rattle.upc_values.specs.declared.refused.Refused.TheVariants.{Memory};
 ghost use Rattle.collectives.specs.code.Calls.{refusal_in};
 ghost use Rattle.collectives.specs.code.Parts.{part_of, HasRoom};
 ghost use Rattle.collectives.specs.code.Tests.{move_tests};
-ghost use Rattle.collectives.specs.code.Left.{copies_rest, copies_put, copies_left, parts_copied, cell_copied};
-ghost use Rattle.collectives.specs.code.Wishes.{IsAsked, RefusesSo};
+ghost use Rattle.collectives.specs.layer.Left.{copies_rest, copies_put, copies_left, parts_copied, cell_copied};
+ghost use Rattle.collectives.specs.layer.Wishes.{IsAsked, RefusesSo};
 
 use crate::cells::Cell;
 use crate::part::{Part, any_differs, cells, leave_pieces, leave_range};
@@ -38,7 +38,7 @@ pub struct Copies {
 
 impl Model for Copies {
     ghost use Rattle.std.specs.Prelude.{drop, map};
-    ghost use Rattle.collectives.specs.code.Left.{CopiesLeft};
+    ghost use Rattle.collectives.specs.layer.Left.{CopiesLeft};
     ghost use Rattle.collectives.specs.code.Parts.{part_of, IsCopying};
 
     ghost Value = { CopiesLeft };

@@ -3,7 +3,7 @@
 ghost use Rattle.std.specs.Prelude.{◌≡◌};
 ghost use Rattle.integers.specs.Integers.{IsInteger};
 ghost use Rattle.collectives.specs.code.Reductions.{reduction_in};
-ghost use Rattle.collectives.specs.code.Left.{joined};
+ghost use Rattle.collectives.specs.layer.Left.{joined};
 
 use crate::number::Number;
 use crate::reduction::Reduction;

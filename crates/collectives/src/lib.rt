@@ -25,5 +25,6 @@ mod ways;
 mod wish;
 mod work;
 
+pub use call::may_meet;
 pub use collective::Collective;
 pub use wish::CollWish;

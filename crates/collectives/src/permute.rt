@@ -14,9 +14,9 @@ ghost use Rattle.upc_values.specs.Expansion.{after_reply, bind, gathered};
 ghost use Rattle.collectives.specs.code.Calls.{refusal_in};
 ghost use Rattle.collectives.specs.code.Tests.{permute_tests};
 ghost use Rattle.collectives.specs.code.Parts.{part_of};
-ghost use Rattle.collectives.specs.code.Left.{permuted, numbers_rest};
-ghost use Rattle.collectives.specs.code.Walks.{work_left};
-ghost use Rattle.collectives.specs.code.Wishes.{IsAsked, RefusesSo};
+ghost use Rattle.collectives.specs.layer.Left.{permuted, numbers_rest};
+ghost use Rattle.collectives.specs.layer.Walks.{work_left};
+ghost use Rattle.collectives.specs.layer.Wishes.{IsAsked, RefusesSo};
 
 use crate::elements::{are_not_cells, leave_pieces, leave_range};
 use crate::part::{Part, cut};
@@ -49,7 +49,7 @@ pub struct Numbers {
 impl Model for Numbers {
     ghost use Rattle.std.specs.Prelude.{drop, map};
     ghost use Rattle.upc_library.specs.layer.Spots.{pointer_of};
-    ghost use Rattle.collectives.specs.code.Left.{NumbersLeft};
+    ghost use Rattle.collectives.specs.layer.Left.{NumbersLeft};
     ghost use Rattle.collectives.specs.code.Elements.{IsNumbering};
 
     ghost Value = { NumbersLeft };

@@ -11,9 +11,9 @@ ghost use Rattle.upc_values.specs.Expansions as said;
 ghost use Rattle.upc_values.specs.Reductions as reductions;
 ghost use Rattle.upc_library.specs.layer.Spots.{pointer_of};
 ghost use Rattle.collectives.specs.code.Elements.{HasPlace};
-ghost use Rattle.collectives.specs.code.Left.{prefixes_rest, prefixes_put, joined};
-ghost use Rattle.collectives.specs.code.Walks.{work_left};
-ghost use Rattle.collectives.specs.code.Wishes.{IsAsked, RefusesSo};
+ghost use Rattle.collectives.specs.layer.Left.{prefixes_rest, prefixes_put, joined};
+ghost use Rattle.collectives.specs.layer.Walks.{work_left};
+ghost use Rattle.collectives.specs.layer.Wishes.{IsAsked, RefusesSo};
 
 use crate::call::Operands;
 use crate::join::join;
@@ -51,7 +51,7 @@ impl Model for Prefixes {
     ghost use Rattle.upc_library.specs.layer.Spots.{pointer_of};
     ghost use Rattle.collectives.specs.code.Reductions.{reduction_in};
     ghost use Rattle.collectives.specs.code.Elements.{IsPrefixes};
-    ghost use Rattle.collectives.specs.code.Left.{PrefixesLeft};
+    ghost use Rattle.collectives.specs.layer.Left.{PrefixesLeft};
 
     ghost Value = { PrefixesLeft };
 

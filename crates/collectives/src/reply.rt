@@ -3,7 +3,7 @@
 ghost use Rattle.std.specs.Prelude.{◌≡◌, [], IfOk, IfErr};
 ghost use Rattle.upc_values.specs.Expansion.{unless_refused, value_in, nothing};
 ghost use Rattle.upc_values.specs.Expansions as said;
-ghost use Rattle.collectives.specs.code.Wishes.{RefusesSo};
+ghost use Rattle.collectives.specs.layer.Wishes.{RefusesSo};
 
 use crate::number::Number;
 use upc_values::{Refused, Reply, Scalar};

@@ -11,9 +11,9 @@ ghost use Rattle.upc_values.specs.Expansions as said;
 ghost use Rattle.upc_values.specs.Reductions as reductions;
 ghost use Rattle.upc_library.specs.layer.Spots.{pointer_of};
 ghost use Rattle.collectives.specs.code.Elements.{HasPlace};
-ghost use Rattle.collectives.specs.code.Left.{total_rest, joined};
-ghost use Rattle.collectives.specs.code.Walks.{work_left, work_rest};
-ghost use Rattle.collectives.specs.code.Wishes.{IsAsked, RefusesSo};
+ghost use Rattle.collectives.specs.layer.Left.{total_rest, joined};
+ghost use Rattle.collectives.specs.layer.Walks.{work_left, work_rest};
+ghost use Rattle.collectives.specs.layer.Wishes.{IsAsked, RefusesSo};
 
 use crate::call::Operands;
 use crate::join::join;
@@ -49,7 +49,7 @@ impl Model for Total {
     ghost use Rattle.upc_library.specs.layer.Spots.{pointer_of};
     ghost use Rattle.collectives.specs.code.Reductions.{reduction_in};
     ghost use Rattle.collectives.specs.code.Elements.{IsTotal};
-    ghost use Rattle.collectives.specs.code.Left.{TotalLeft};
+    ghost use Rattle.collectives.specs.layer.Left.{TotalLeft};
 
     ghost Value = { TotalLeft };
 

@@ -7,9 +7,9 @@ ghost use Rattle.upc_values.specs.declared.scalar.Scalar.{Scalar};
 ghost use Rattle.upc_values.specs.Expansions as said;
 ghost use Rattle.collectives.specs.code.Calls.{call_in, way_in, FitsLimits};
 ghost use Rattle.collectives.specs.code.Parts.{part_of};
-ghost use Rattle.collectives.specs.code.Left.{copies_left, copies_put, prefixes_put};
-ghost use Rattle.collectives.specs.code.Walks.{work_rest, work_left};
-ghost use Rattle.collectives.specs.code.Wishes.{IsAsked, RefusesSo, kind_read};
+ghost use Rattle.collectives.specs.layer.Left.{copies_left, copies_put, prefixes_put};
+ghost use Rattle.collectives.specs.layer.Walks.{work_rest, work_left};
+ghost use Rattle.collectives.specs.layer.Wishes.{IsAsked, RefusesSo, kind_read};
 
 use crate::call::{Call, Way};
 use crate::copies::Copies;

@@ -5,8 +5,8 @@ use Rattle.std.proofs.lemmas.Bool.{false≢true}
 use Rattle.typed_tree.specs.Tree.{Expr}
 use Rattle.stack_code.specs.declared.instruction.Instr.{Instr}
 use Rattle.stack_code.specs.layer.Making.{Making, with_instructions}
-use Rattle.gen_expr.specs.Sources.{Source}
-use Rattle.gen_expr.specs.Codes.{value_code}
+use Rattle.gen_expr.specs.layer.Sources.{Source}
+use Rattle.gen_expr.specs.layer.Codes.{value_code}
 use Rattle.gen_expr.specs.layer.Meanings.{GivesValue, MeansExpression, AppendsMeaning}
 use Rattle.gen_expr.proofs.Simulation.{expressions_are_meant}
 

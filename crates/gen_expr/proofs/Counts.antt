@@ -4,7 +4,7 @@ use Rattle.thread_steps.specs.declared.cast.CastTo.{CastTo}
 use Rattle.typed_tree.specs.declared.tree.Expr.{Expr}
 use Rattle.typed_tree.specs.Tree.{exprs_of}
 use Rattle.typed_tree.specs.ViewTree.{view_expr}
-use Rattle.gen_expr.specs.Codes.{arguments_count}
+use Rattle.gen_expr.specs.layer.Codes.{arguments_count}
 
 -- Where the conversions are fewer.
 pub fewer : (cs : List CastTo) (es : List Expr) → length cs < length es

@@ -5,7 +5,7 @@ use Rattle.stack_code.specs.declared.instruction.Jump.TheVariants.{GoOn, SkipIfZ
 use Rattle.stack_code.specs.declared.instruction.Instr.{Instr}
 use Rattle.stack_code.specs.layer.Depths.{Lands}
 use Rattle.stack_code.proofs.Deepenings.{Deepens, Then, joins, follows, single, lands_past, lands_end, lands_assoc}
-use Rattle.gen_expr.specs.Codes.{jumps}
+use Rattle.gen_expr.specs.layer.Codes.{jumps}
 
 -- A test and two sides of m and n instructions, which end at depth e.
 pub either_deepens : (at : Place) (test first second : List Instr) (m n d e : ℕ) (P Q : List ℕ → Type 0)

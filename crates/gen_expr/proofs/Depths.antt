@@ -33,9 +33,9 @@ use Rattle.stack_code.specs.declared.instruction.CallWork.TheVariants.{GiveBack}
 use Rattle.stack_code.specs.declared.instruction.Operation.TheVariants as work
 use Rattle.stack_code.specs.declared.instruction.Instr.{Instr}
 use Rattle.stack_code.specs.layer.Depths.{raised}
-use Rattle.gen_expr.specs.Sources.{Source, running_of}
-use Rattle.gen_expr.specs.Codes as code
-use Rattle.gen_expr.specs.Codes.{pushes, casts, makes, stacks, arguments_count}
+use Rattle.gen_expr.specs.layer.Sources.{Source, running_of}
+use Rattle.gen_expr.specs.layer.Codes as code
+use Rattle.gen_expr.specs.layer.Codes.{pushes, casts, makes, stacks, arguments_count}
 use Rattle.gen_expr.specs.code.Depths.{ExpressionsAreDeep}
 use Rattle.stack_code.proofs.Deepenings.{Deepens, Then, follows, single, begins_with, ends_with, under, no_code}
 use Rattle.stack_code.proofs.Deepenings.{raised_more, whole}

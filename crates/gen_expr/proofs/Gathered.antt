@@ -31,9 +31,9 @@ use Rattle.source_meaning.specs.Expressions.{type_of, types_of}
 use Rattle.stack_code.specs.declared.instruction.StackWork.TheVariants as stack
 use Rattle.stack_code.specs.declared.instruction.ValueWork.TheVariants as make
 use Rattle.stack_code.specs.declared.instruction.Instr.{Instr}
-use Rattle.gen_expr.specs.Sources.{Source, running_of}
-use Rattle.gen_expr.specs.Codes as code
-use Rattle.gen_expr.specs.Codes.{pushes, casts, makes, stacks, arguments_count}
+use Rattle.gen_expr.specs.layer.Sources.{Source, running_of}
+use Rattle.gen_expr.specs.layer.Codes as code
+use Rattle.gen_expr.specs.layer.Codes.{pushes, casts, makes, stacks, arguments_count}
 use Rattle.gen_expr.specs.layer.Gathered.{HoldsOfForms}
 
 module _ (ς : Source) (Q : Instr → Type 0) (h : HoldsOfForms ς Q) where

@@ -9,11 +9,11 @@ use Rattle.thread_steps.specs.Values.{is_zero}
 use Rattle.stack_code.specs.declared.instruction.StackWork.{StackWork}
 use Rattle.stack_code.specs.declared.instruction.Jump.TheVariants.{GoOn, SkipIfZero}
 use Rattle.stack_code.specs.declared.instruction.Instr.{Instr}
-use Rattle.stack_code.specs.Codes.{function_at}
+use Rattle.stack_code.specs.layer.Codes.{function_at}
 use Rattle.stack_code.specs.layer.Steps.{Spot, Conf, conf_of, further, act, stacked}
 use Rattle.stack_code.specs.layer.Meets.{HasAt, HasFrom, Meets, there}
 use Rattle.stack_code.proofs.Meetings as meet
-use Rattle.gen_expr.specs.Codes.{stacks, jumps, either_code}
+use Rattle.gen_expr.specs.layer.Codes.{stacks, jumps, either_code}
 
 -- The place n of a function.
 abbrev pub spot : (function n : ℕ) → Spot

@@ -42,9 +42,9 @@ use Rattle.stack_code.specs.declared.instruction.Instr.{Instr}
 use Rattle.stack_code.specs.layer.Steps.{Spot, conf_of, act, further}
 use Rattle.stack_code.specs.layer.Meets.{piled, there}
 use Rattle.stack_code.proofs.Meetings.{piled_more, youngest_piled, below_piled}
-use Rattle.gen_expr.specs.Sources.{source_of}
-use Rattle.gen_expr.specs.Codes as code
-use Rattle.gen_expr.specs.Codes.{pushes, casts, makes, stacks, arguments_count}
+use Rattle.gen_expr.specs.layer.Sources.{source_of}
+use Rattle.gen_expr.specs.layer.Codes as code
+use Rattle.gen_expr.specs.layer.Codes.{pushes, casts, makes, stacks, arguments_count}
 use Rattle.gen_expr.specs.layer.Meanings.{CallsMeet, ExpressionsAreMeant}
 use Rattle.gen_expr.proofs.Parts as part
 use Rattle.gen_expr.proofs.Parts.{Runs, Gives, then_gives}

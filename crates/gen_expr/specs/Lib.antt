@@ -1,4 +1,2 @@
-pub mod Sources
-pub mod Codes
 pub mod code
 pub mod layer

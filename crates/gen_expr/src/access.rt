@@ -3,7 +3,7 @@
 ghost use Rattle.std.specs.Prelude.{◌≡◌, ◌++◌, OnOk};
 ghost use Rattle.upc_types.specs.View.{view};
 ghost use Rattle.typing_rules.specs.Nodes.{view_attr};
-ghost use Rattle.gen_expr.specs.Codes as pure;
+ghost use Rattle.gen_expr.specs.layer.Codes as pure;
 ghost use Rattle.gen_expr.specs.layer.ViewSource.{view_source};
 
 use crate::operators::{put_advance, put_binary};

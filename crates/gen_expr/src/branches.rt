@@ -3,7 +3,7 @@
 ghost use Rattle.std.specs.Prelude.{◌≡◌, ◌+◌, [], ◌∷◌, ◌++◌, length, IfOk, OnOk};
 ghost use Rattle.thread_steps.specs.Values.{number};
 ghost use Rattle.stack_code.specs.declared.instruction.Jump.TheVariants.{SkipIfZero, GoOn};
-ghost use Rattle.gen_expr.specs.Codes as pure;
+ghost use Rattle.gen_expr.specs.layer.Codes as pure;
 
 use crate::put::{put_jump, put_push};
 use stack_code::{Instr, Jump};

@@ -5,7 +5,7 @@ ghost use Rattle.typed_tree.specs.Beginnings.{view_beginning};
 ghost use Rattle.typed_tree.specs.ViewProgram.{view_program};
 ghost use Rattle.typed_tree.specs.ViewTree.{view_expr};
 ghost use Rattle.stack_code.specs.layer.Making.{with_instructions};
-ghost use Rattle.gen_expr.specs.Codes as pure;
+ghost use Rattle.gen_expr.specs.layer.Codes as pure;
 ghost use Rattle.gen_expr.specs.layer.Meanings.{AppendsMeaning};
 ghost use Rattle.gen_expr.specs.layer.ViewSource.{source_with};
 

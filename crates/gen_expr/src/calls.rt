@@ -13,8 +13,8 @@ ghost use Rattle.source_meaning.specs.Expressions as mean;
 ghost use Rattle.stack_code.specs.declared.instruction.CallWork.TheVariants.{CallTo};
 ghost use Rattle.stack_code.specs.declared.instruction.ThreadWork.TheVariants as thread;
 ghost use Rattle.stack_code.specs.declared.instruction.Operation.TheVariants as work;
-ghost use Rattle.gen_expr.specs.Sources.{running_of};
-ghost use Rattle.gen_expr.specs.Codes as pure;
+ghost use Rattle.gen_expr.specs.layer.Sources.{running_of};
+ghost use Rattle.gen_expr.specs.layer.Codes as pure;
 ghost use Rattle.gen_expr.specs.layer.ViewSource.{view_source};
 
 use crate::put::put;

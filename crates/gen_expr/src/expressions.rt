@@ -7,7 +7,7 @@ ghost use Rattle.typed_tree.specs.Tree.{Call, exprs_of};
 ghost use Rattle.typed_tree.specs.ViewTree.{view_expr};
 ghost use Rattle.source_meaning.specs.Types as types;
 ghost use Rattle.stack_code.specs.declared.instruction.StackWork.TheVariants.{Truth};
-ghost use Rattle.gen_expr.specs.Codes as pure;
+ghost use Rattle.gen_expr.specs.layer.Codes as pure;
 ghost use Rattle.gen_expr.specs.layer.ViewSource.{view_source};
 ghost use Rattle.gen_expr.specs.code.Groups.{is_leaf, is_unary, is_infix, is_assignment, is_choice};
 ghost use Rattle.gen_expr.specs.code.Calls.{function_call_code, library_call_code};

@@ -2,8 +2,8 @@
 
 ghost use Rattle.std.specs.Prelude.{◌≡◌, ◌++◌, OnOk};
 ghost use Rattle.source_meaning.specs.Running as running;
-ghost use Rattle.gen_expr.specs.Sources.{running_of};
-ghost use Rattle.gen_expr.specs.Codes as pure;
+ghost use Rattle.gen_expr.specs.layer.Sources.{running_of};
+ghost use Rattle.gen_expr.specs.layer.Codes as pure;
 ghost use Rattle.gen_expr.specs.layer.ViewSource.{view_source};
 
 use crate::put::{put, put_push};

@@ -5,7 +5,7 @@ ghost use Rattle.integers.specs.Integers.{IsInteger};
 ghost use Rattle.upc_types.specs.View.{view};
 ghost use Rattle.typing_rules.specs.layer.Views.{view_target};
 ghost use Rattle.typing_rules.specs.Constants as constants;
-ghost use Rattle.gen_expr.specs.Codes as pure;
+ghost use Rattle.gen_expr.specs.layer.Codes as pure;
 ghost use Rattle.gen_expr.specs.layer.ViewSource.{view_source};
 
 use crate::put::{put_push, put_stack, put_value};

@@ -4,7 +4,7 @@ ghost use Rattle.std.specs.Prelude.{◌≡◌, ◌∷◌, ◌++◌, [], OnOk};
 ghost use Rattle.typed_tree.specs.Initials as initials;
 ghost use Rattle.source_meaning.specs.Expressions as mean;
 ghost use Rattle.thread_steps.specs.Values.{number};
-ghost use Rattle.gen_expr.specs.Codes as pure;
+ghost use Rattle.gen_expr.specs.layer.Codes as pure;
 
 use crate::put::put_push;
 use meaning_types::known_or_zero;

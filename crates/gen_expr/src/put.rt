@@ -1,7 +1,7 @@
 //! Instructions that are appended to code.
 
 ghost use Rattle.std.specs.Prelude.{◌≡◌, [], ◌∷◌, ◌++◌, OnOk};
-ghost use Rattle.gen_expr.specs.Codes.{instruction, stacks, makes, jumps, pushes, casts, loads, saves};
+ghost use Rattle.gen_expr.specs.layer.Codes.{instruction, stacks, makes, jumps, pushes, casts, loads, saves};
 
 use block_layout::Kind;
 use stack_code::{CellAccess, Instr, Jump, ObjectWork, Operation, StackWork, ValueWork};

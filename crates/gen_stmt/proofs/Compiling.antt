@@ -14,10 +14,10 @@ use Rattle.typed_tree.specs.Beginnings.{Beginning}
 use Rattle.typed_tree.specs.Programs.{Checked, start_of}
 use Rattle.typed_tree.specs.ViewStatements.{view_function}
 use Rattle.stack_code.specs.declared.instruction.Instr.{Instr}
-use Rattle.stack_code.specs.Codes.{Codes}
+use Rattle.stack_code.specs.layer.Codes.{Codes}
 use Rattle.stack_code.specs.layer.Making.{Making, empty, with_function, with_instructions, with_object}
-use Rattle.gen_expr.specs.Sources.{Source}
-use Rattle.gen_stmt.specs.Programs.{entry_code, function_code, program_code}
+use Rattle.gen_expr.specs.layer.Sources.{Source}
+use Rattle.gen_stmt.specs.code.Programs.{entry_code, function_code, program_code}
 use Rattle.gen_expr.specs.layer.ViewSource.{source_with}
 use Rattle.gen_stmt.specs.code.Compiled.{made, with_functions, with_objects, with_initials}
 

@@ -35,7 +35,7 @@ use Rattle.source_meaning.specs.Threads as source
 use Rattle.source_meaning.specs.Laws.{IsFinished}
 use Rattle.source_meaning.proofs.Finished.{is_total}
 use Rattle.stack_code.specs.declared.instruction.Instr.{Instr}
-use Rattle.stack_code.specs.Codes.{instructions_of, function_at}
+use Rattle.stack_code.specs.layer.Codes.{instructions_of, function_at}
 use Rattle.stack_code.specs.layer.Steps.{Spot, Conf, At, Halt, conf_of, further, given_back, begun, act, youngest, kept_in}
 use Rattle.stack_code.specs.layer.Steps as machine
 use Rattle.stack_code.specs.layer.Outcomes.{HasEnded, CodeMeans}
@@ -43,13 +43,13 @@ use Rattle.stack_code.specs.layer.Meets.{HasAt, Leads, Meets, piled, value_at}
 use Rattle.stack_code.proofs.Ends.{one_outcome}
 use Rattle.stack_code.proofs.Meetings.{has_front, has_back, has_past, leads_on, stays, one_step, after, then_meets}
 use Rattle.stack_code.proofs.Meetings.{same_step, here, fetched}
-use Rattle.gen_expr.specs.Sources.{Source, source_of, running_of}
-use Rattle.gen_expr.specs.Codes.{pushes}
+use Rattle.gen_expr.specs.layer.Sources.{Source, source_of, running_of}
+use Rattle.gen_expr.specs.layer.Codes.{pushes}
 use Rattle.gen_expr.specs.layer.Meanings.{CallsMeet, MeansValue, ExpressionsAreMeant}
-use Rattle.gen_stmt.specs.Ways.{in_function}
-use Rattle.gen_stmt.specs.Codes.{gives_back, leaves, enters, items_size, size, items_code, statement_code}
-use Rattle.gen_stmt.specs.Programs.{access_of, receives, parameter_access, opened_code, body_code, function_code}
-use Rattle.gen_stmt.specs.Programs.{counted, main_number, functions_code, program_code}
+use Rattle.gen_stmt.specs.code.Ways.{in_function}
+use Rattle.gen_stmt.specs.code.Codes.{gives_back, leaves, enters, items_size, size, items_code, statement_code}
+use Rattle.gen_stmt.specs.code.Programs.{access_of, receives, parameter_access, opened_code, body_code, function_code}
+use Rattle.gen_stmt.specs.code.Programs.{counted, main_number, functions_code, program_code}
 use Rattle.gen_stmt.specs.layer.Meanings.{MeansProgram}
 use Rattle.gen_stmt.proofs.Lengths.{items_long, statement_long}
 use Rattle.gen_stmt.proofs.Runs.{ways_at, conf_meets, flow_at, closes, items_run, statement_runs}

@@ -28,22 +28,22 @@ use Rattle.stack_code.specs.declared.instruction.Jump.TheVariants as jump
 use Rattle.stack_code.specs.declared.instruction.ThreadWork.TheVariants as thread
 use Rattle.stack_code.specs.declared.instruction.Instr.{Instr}
 use Rattle.stack_code.specs.layer.Depths.{effect_of, Lands, Fine, Deep, IsDeep}
-use Rattle.gen_expr.specs.Sources.{Source, running_of}
-use Rattle.gen_expr.specs.Codes.{stacks, jumps, pushes, casts, value_code, object_code, put_code}
+use Rattle.gen_expr.specs.layer.Sources.{Source, running_of}
+use Rattle.gen_expr.specs.layer.Codes.{stacks, jumps, pushes, casts, value_code, object_code, put_code}
 use Rattle.stack_code.proofs.Deepenings.{onto, deep_append, lands_past, lands_end, lands_assoc, back_past, Deepens}
 use Rattle.stack_code.proofs.Deepenings.{Then, joins, follows, single, begins_with, ends_with, under, no_code, whole}
 use Rattle.gen_expr.proofs.Deepening.{either_deepens}
 use Rattle.gen_expr.proofs.Depths.{value_deepens, put_deepens}
-use Rattle.gen_stmt.specs.Ways.{Ways, all_past, all_inner, in_loop, in_switch, in_forall, in_function}
-use Rattle.gen_stmt.specs.Codes.{leaves, enters, acts, gives_back, block_code, loop_code, control_code}
-use Rattle.gen_stmt.specs.Codes.{label_code, synchronise_code, synchronise_value_code, cases, converted_code}
-use Rattle.gen_stmt.specs.Codes.{aside_code}
-use Rattle.gen_stmt.specs.Codes.{test_code, listed_code, initial_code, declared_code, first_code, guard_code}
-use Rattle.gen_stmt.specs.Codes.{guard_size, size, last_size, arms_size, items_size, switch_size, cases_code}
-use Rattle.gen_stmt.specs.Codes.{before_default, statement_code, kind_code, last_code, arms_code, items_code}
-use Rattle.gen_stmt.specs.Codes.{switch_code}
-use Rattle.gen_stmt.specs.Programs.{receives, parameter_access, opened_code, body_code, function_code, entry_code}
-use Rattle.gen_stmt.specs.Programs.{source, program_code}
+use Rattle.gen_stmt.specs.code.Ways.{Ways, all_past, all_inner, in_loop, in_switch, in_forall, in_function}
+use Rattle.gen_stmt.specs.code.Codes.{leaves, enters, acts, gives_back, block_code, loop_code, control_code}
+use Rattle.gen_stmt.specs.code.Codes.{label_code, synchronise_code, synchronise_value_code, cases, converted_code}
+use Rattle.gen_stmt.specs.code.Codes.{aside_code}
+use Rattle.gen_stmt.specs.code.Codes.{test_code, listed_code, initial_code, declared_code, first_code, guard_code}
+use Rattle.gen_stmt.specs.code.Codes.{guard_size, size, last_size, arms_size, items_size, switch_size, cases_code}
+use Rattle.gen_stmt.specs.code.Codes.{before_default, statement_code, kind_code, last_code, arms_code, items_code}
+use Rattle.gen_stmt.specs.code.Codes.{switch_code}
+use Rattle.gen_stmt.specs.code.Programs.{receives, parameter_access, opened_code, body_code, function_code, entry_code}
+use Rattle.gen_stmt.specs.code.Programs.{source, program_code}
 use Rattle.gen_stmt.proofs.Lengths.{guard_long, cases_long, statement_long, last_long, arms_long, items_long}
 use Rattle.gen_stmt.proofs.Lengths.{switch_long}
 

@@ -40,13 +40,13 @@ use Rattle.stack_code.specs.declared.instruction.Operation.{Operation}
 use Rattle.stack_code.specs.declared.instruction.Operation.TheVariants as work
 use Rattle.stack_code.specs.declared.instruction.Instr.{Instr}
 use Rattle.stack_code.specs.layer.Depths.{OnCall, BeginsNone, BeginsOnce}
-use Rattle.gen_expr.specs.Sources.{Source, running_of}
-use Rattle.gen_expr.specs.Codes as expr
+use Rattle.gen_expr.specs.layer.Sources.{Source, running_of}
+use Rattle.gen_expr.specs.layer.Codes as expr
 use Rattle.gen_expr.specs.layer.Gathered.{HoldsOfForms, PushesNone}
 use Rattle.gen_expr.proofs.Gathered.{value_gathers}
-use Rattle.gen_stmt.specs.Ways.{Ways, all_past, all_inner, in_loop, in_switch, in_forall, in_function}
-use Rattle.gen_stmt.specs.Codes as stmt
-use Rattle.gen_stmt.specs.Programs.{body_code, function_code, source, program_code}
+use Rattle.gen_stmt.specs.code.Ways.{Ways, all_past, all_inner, in_loop, in_switch, in_forall, in_function}
+use Rattle.gen_stmt.specs.code.Codes as stmt
+use Rattle.gen_stmt.specs.code.Programs.{body_code, function_code, source, program_code}
 use Rattle.stack_code.specs.layer.Names.{PushedBy, Pushes}
 use Rattle.gen_stmt.specs.code.Pushes.{IsPushed, integer, private, shared, blank, PushesOnly}
 use Rattle.gen_stmt.specs.code.Enters.{EntersWithin, OnObject, EntersFew}

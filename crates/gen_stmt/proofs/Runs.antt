@@ -48,23 +48,25 @@ use Rattle.stack_code.specs.declared.instruction.StackWork.TheVariants as stack
 use Rattle.stack_code.specs.declared.instruction.Jump.TheVariants as jump
 use Rattle.stack_code.specs.declared.instruction.ThreadWork.TheVariants as thread
 use Rattle.stack_code.specs.declared.instruction.Instr.{Instr}
-use Rattle.stack_code.specs.Codes.{function_at}
+use Rattle.stack_code.specs.layer.Codes.{function_at}
 use Rattle.stack_code.specs.layer.Steps.{Spot, Conf, At, Halt, conf_of, pick, close_blocks, given_back, act, step}
 use Rattle.stack_code.specs.layer.Meets.{HasAt, Leads, Meets}
 use Rattle.stack_code.proofs.Meetings.{has_front, has_back, has_past, leads_on, stays, one_step, after, then_meets}
 use Rattle.stack_code.proofs.Meetings.{same_step, here, lands, chooses, fetched}
-use Rattle.gen_expr.specs.Sources.{Source, source_of, running_of}
-use Rattle.gen_expr.specs.Codes.{stacks, jumps, pushes, casts, saves, value_code, object_code, put_code, saved_code}
-use Rattle.gen_expr.specs.Codes.{advance_code}
+use Rattle.gen_expr.specs.layer.Sources.{Source, source_of, running_of}
+use Rattle.gen_expr.specs.layer.Codes.{stacks, jumps, pushes, casts}
+use Rattle.gen_expr.specs.layer.Codes.{saves, value_code, object_code, put_code, saved_code}
+use Rattle.gen_expr.specs.layer.Codes.{advance_code}
 use Rattle.gen_expr.specs.layer.Meanings.{MeansValue}
-use Rattle.gen_stmt.specs.Ways.{Ways, way, all_past, all_inner, in_loop, in_switch, in_forall}
-use Rattle.gen_stmt.specs.Codes.{leaves, enters, acts, gives_back, block_code, loop_code, loop_size, control_code}
-use Rattle.gen_stmt.specs.Codes.{label_code, synchronise_code, synchronise_value_code, cases, converted_code}
-use Rattle.gen_stmt.specs.Codes.{aside_code}
-use Rattle.gen_stmt.specs.Codes.{test_code, listed_code, initial_code, declared_code, first_code, guard_code}
-use Rattle.gen_stmt.specs.Codes.{guard_size, size, kind_size, last_size, arms_size, items_size, switch_size, cases_code}
-use Rattle.gen_stmt.specs.Codes.{before_default, statement_code, kind_code, last_code, arms_code, items_code}
-use Rattle.gen_stmt.specs.Codes.{switch_code}
+use Rattle.gen_stmt.specs.code.Ways.{Ways, way, all_past, all_inner, in_loop, in_switch, in_forall}
+use Rattle.gen_stmt.specs.code.Codes.{leaves, enters, acts, gives_back, block_code, loop_code, loop_size, control_code}
+use Rattle.gen_stmt.specs.code.Codes.{label_code, synchronise_code, synchronise_value_code, cases, converted_code}
+use Rattle.gen_stmt.specs.code.Codes.{aside_code}
+use Rattle.gen_stmt.specs.code.Codes.{test_code, listed_code, initial_code, declared_code, first_code, guard_code}
+use Rattle.gen_stmt.specs.code.Codes.{guard_size, size, kind_size, last_size}
+use Rattle.gen_stmt.specs.code.Codes.{arms_size, items_size, switch_size, cases_code}
+use Rattle.gen_stmt.specs.code.Codes.{before_default, statement_code, kind_code, last_code, arms_code, items_code}
+use Rattle.gen_stmt.specs.code.Codes.{switch_code}
 use Rattle.gen_stmt.proofs.Lengths.{loop_long, guard_long, cases_long, statement_long, last_long}
 use Rattle.gen_stmt.proofs.Lengths.{items_long}
 use Rattle.gen_stmt.proofs.Counts.{same_return}

@@ -25,10 +25,10 @@ use Rattle.stack_code.specs.declared.instruction.ThreadWork.TheVariants.{Notify,
 use Rattle.stack_code.specs.declared.instruction.Operation.{Operation}
 use Rattle.stack_code.specs.declared.instruction.Operation.TheVariants as work
 use Rattle.stack_code.specs.declared.instruction.Instr.{Instr}
-use Rattle.gen_expr.specs.Sources.{Source}
-use Rattle.gen_stmt.specs.Ways.{in_function}
-use Rattle.gen_stmt.specs.Codes.{statement_code}
-use Rattle.gen_stmt.specs.Programs.{program_code}
+use Rattle.gen_expr.specs.layer.Sources.{Source}
+use Rattle.gen_stmt.specs.code.Ways.{in_function}
+use Rattle.gen_stmt.specs.code.Codes.{statement_code}
+use Rattle.gen_stmt.specs.code.Programs.{program_code}
 
 abbrev here : Place
 here = record { line = 1; column = 1 }

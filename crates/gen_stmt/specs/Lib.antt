@@ -1,5 +1,2 @@
-pub mod Ways
-pub mod Codes
-pub mod Programs
 pub mod code
 pub mod layer

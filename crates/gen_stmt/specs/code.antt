@@ -3,3 +3,6 @@ pub mod Views
 pub mod Compiled
 pub mod Pushes
 pub mod Enters
+pub mod Codes
+pub mod Programs
+pub mod Ways

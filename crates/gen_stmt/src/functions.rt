@@ -5,11 +5,11 @@ ghost use Rattle.upc_types.specs.View.{view};
 ghost use Rattle.typed_tree.specs.ViewStatements.{view_function, view_items, view_statement};
 ghost use Rattle.source_meaning.specs.Running.{Running};
 ghost use Rattle.source_meaning.specs.Threads as threads;
-ghost use Rattle.gen_expr.specs.Sources.{running_of};
+ghost use Rattle.gen_expr.specs.layer.Sources.{running_of};
 ghost use Rattle.gen_expr.specs.layer.ViewSource.{view_source};
-ghost use Rattle.gen_stmt.specs.Ways.{in_function};
-ghost use Rattle.gen_stmt.specs.Codes.{statement_code};
-ghost use Rattle.gen_stmt.specs.Programs as pure;
+ghost use Rattle.gen_stmt.specs.code.Ways.{in_function};
+ghost use Rattle.gen_stmt.specs.code.Codes.{statement_code};
+ghost use Rattle.gen_stmt.specs.code.Programs as pure;
 ghost use Rattle.gen_stmt.specs.code.Parts as parts;
 ghost use Rattle.gen_stmt.specs.code.Views.{view_standing};
 

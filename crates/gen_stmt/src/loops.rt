@@ -3,10 +3,10 @@
 ghost use Rattle.std.specs.Prelude.{◌≡◌, ◌++◌, [], length, OnOk};
 ghost use Rattle.typed_tree.specs.Tree.{AtValue};
 ghost use Rattle.typed_tree.specs.ViewStatements.{view_affinity, view_head};
-ghost use Rattle.gen_expr.specs.Codes.{value_code};
+ghost use Rattle.gen_expr.specs.layer.Codes.{value_code};
 ghost use Rattle.gen_expr.specs.layer.ViewSource.{view_source};
 ghost use Rattle.typed_tree.specs.ViewTree.{view_expr};
-ghost use Rattle.gen_stmt.specs.Codes as pure;
+ghost use Rattle.gen_stmt.specs.code.Codes as pure;
 ghost use Rattle.gen_stmt.specs.code.Parts as parts;
 ghost use Rattle.gen_stmt.specs.code.Views.{view_standing};
 

@@ -1,8 +1,8 @@
 //! Instructions of statements that are appended to code.
 
 ghost use Rattle.std.specs.Prelude.{◌≡◌, [], ◌∷◌, ◌++◌, OnOk};
-ghost use Rattle.gen_expr.specs.Codes.{instruction};
-ghost use Rattle.gen_stmt.specs.Codes.{enters, leaves, acts, gives_back};
+ghost use Rattle.gen_expr.specs.layer.Codes.{instruction};
+ghost use Rattle.gen_stmt.specs.code.Codes.{enters, leaves, acts, gives_back};
 
 use block_layout::Shape;
 use stack_code::{CallWork, Instr, ObjectWork, Operation, ThreadWork};

@@ -7,7 +7,7 @@ ghost use Rattle.typed_tree.specs.Tree.{NoItems};
 ghost use Rattle.typed_tree.specs.ViewStatements.{view_item, view_items, view_object};
 ghost use Rattle.source_meaning.specs.Types as pure;
 ghost use Rattle.source_meaning.specs.Statements.{shapes_of, objects_in};
-ghost use Rattle.gen_expr.specs.Sources.{running_of};
+ghost use Rattle.gen_expr.specs.layer.Sources.{running_of};
 ghost use Rattle.gen_expr.specs.layer.ViewSource.{view_source};
 
 use crate::exits::sum;

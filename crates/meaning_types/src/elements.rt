@@ -7,12 +7,10 @@ ghost use Rattle.upc_types.specs.ViewStructs.{view_structs};
 ghost use Rattle.typing_rules.specs.Constants.{block_or_none};
 ghost use Rattle.source_meaning.specs.Types as pure;
 
+use block_layout::limits;
 use thread_steps::Elements;
 use typing_rules::types::leaf;
 use upc_types::{Base, CType, Structs};
-
-// The most bytes of a block.
-const MOST_BLOCK: u32 = 16_777_216;
 
 // The bytes of an object; a type without layout is as one byte.
 fn bytes_of(structs: &Structs, base: &Base) -> u32
@@ -40,11 +38,11 @@ pub fn elements_of(structs: &Structs, target: &CType) -> Elements
 {
     let block = block_of(target.shared);
     let size = bytes_of(structs, leaf(&target.base));
-    if block < MOST_BLOCK {
+    if block < limits::SHARED_BYTES {
         Elements { block, size }
     } else {
         Elements {
-            block: MOST_BLOCK,
+            block: limits::SHARED_BYTES,
             size,
         }
     }

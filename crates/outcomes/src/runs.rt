@@ -1,9 +1,8 @@
 //! The runs of a program by each of these lists of picks.
 
-ghost use Rattle.std.specs.Prelude.{◌≡◌, ◌≤◌, ◌<◌, ◌*◌, ◌^◌, IfOk, IfErr, map, length};
+ghost use Rattle.std.specs.Prelude.{◌≡◌, ◌≤◌, ◌<◌, ◌*◌, ◌^◌, IfOk, map, length};
 ghost use Rattle.upc_values.specs.declared.journal.Journal.{Journal};
 ghost use Rattle.typed_tree.specs.ViewProgram.{view_program};
-ghost use Rattle.program_runs.specs.Runs.{StopsRun};
 ghost use Rattle.outcomes.specs.Tally.{listed, shown_by};
 ghost use Rattle.outcomes.specs.Found.{IsFound};
 
@@ -14,7 +13,6 @@ use std::alloc::{AllocError as OutOfMemory, Global};
 use std::sync::Wait;
 use typed_tree::Program;
 use upc_task::Limits;
-use upc_text::Stop;
 use upc_top_output::status::status_of;
 use upc_top_output::text::{output_text, run_text};
 use upc_values::Journal;
@@ -41,14 +39,13 @@ pub fn explore<R: Wait>(
     program: &Program,
     limits: Limits,
     schedules: &[Vec<u32>],
-) -> Result<Vec<Row>, Stop>
+) -> Result<Vec<Row>, OutOfMemory>
     requires threads { program.now.threads ≡ limits.threads }
     requires budget { (1 ≤ limits.budget) × (limits.budget ≤ 1000000000000) }
     requires actions { (1 ≤ limits.actions) × (limits.threads * limits.actions ≤ 8388608) }
     requires few { length schedules.now < 2 ^ 32 }
-    ensures found { IfOk result (λ rows. IsFound (view_program program.now) limits
+    ensures { IfOk result (λ rows. IsFound (view_program program.now) limits
         (map (λ v. v.items) schedules.now) (map listed rows.items)) }
-    ensures stopped { IfErr result (StopsRun (view_program program.now)) }
 {
     let mut rows = Vec::new(alloc);
     for picks in schedules {

@@ -15,8 +15,8 @@ use Rattle.plain_calls.specs.declared.telling.Stop.TheVariants as stop
 use Rattle.plain_calls.specs.declared.told.End.{End}
 use Rattle.plain_calls.specs.declared.told.End.TheVariants as end
 use Rattle.plain_calls.specs.declared.told.Told.{Told}
-use Rattle.plain_calls.specs.layer.Told.{told, after, at_once}
-use Rattle.plain_calls.specs.layer.Run.{Standing, standing, run_from, run, taken, ComesTo, Follows}
+use Rattle.plain_calls.specs.code.Told.{told, after, at_once}
+use Rattle.plain_calls.specs.code.Run.{Standing, standing, run_from, run, taken, ComesTo, Follows}
 
 -- what a value leads to; a stop stays
 abbrev pub next : {A B : Type 0} → Standing → Result A Stop → (A → Expansion B) → Standing × Result B Stop

@@ -3,7 +3,7 @@ use Rattle.std.proofs.Common.{◌≡◌, ℕ, List, [], ◌∷◌, refl}
 use Rattle.upc_values.specs.declared.action.Reply.{Reply}
 use Rattle.upc_values.specs.Expansion.{Gives, Fails, Reads, Asks, Loads, Stores, value_in, after_replies}
 use Rattle.plain_calls.specs.declared.told.End.TheVariants as end
-use Rattle.plain_calls.specs.layer.Told.{end_now, EndsAgree}
+use Rattle.plain_calls.specs.code.Told.{end_now, EndsAgree}
 
 gives-stays : (v : Unit {0}) (rs : List Reply) → end.Done ≡ end_now (after_replies (Gives v) rs)
 gives-stays v [] = refl

@@ -1,1 +1,4 @@
 pub mod Areas
+pub mod Told
+pub mod Run
+pub mod Spots

@@ -11,10 +11,10 @@ ghost use Rattle.upc_values.specs.Expansion.{each_in_turn, refused_by};
 ghost use Rattle.upc_values.specs.Shapes as shapes;
 ghost use Rattle.block_layout.specs.Cells.{same_cells};
 ghost use Rattle.upc_values.specs.Views as views;
-ghost use Rattle.plain_calls.specs.layer.Told.{told};
+ghost use Rattle.plain_calls.specs.code.Told.{told};
 ghost use Rattle.plain_calls.specs.code.Areas.{area_in, HasSharedRoom, HasPrivateRoom, HasRooms};
-ghost use Rattle.plain_calls.specs.layer.Run.{Follows};
-ghost use Rattle.plain_calls.specs.layer.Spots.{IsRoomFor};
+ghost use Rattle.plain_calls.specs.code.Run.{Follows};
+ghost use Rattle.plain_calls.specs.code.Spots.{IsRoomFor};
 
 use crate::cells::{Cell, cells_within, cuts_cell, same_cells, shape_of};
 use crate::piece::is_within;

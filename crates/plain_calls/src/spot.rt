@@ -4,7 +4,7 @@ ghost use Rattle.std.specs.Prelude.{◌≡◌, ◌<◌, ◌≤◌, ◌+◌, ◌*
 ghost use Rattle.block_layout.specs.Pointers.{location};
 ghost use Rattle.upc_values.specs.Views as views;
 ghost use Rattle.upc_values.specs.Views.{leaves_piece, leaves_range, location_behind, byte_at};
-ghost use Rattle.plain_calls.specs.layer.Spots.{pointer_of, IsRoomFor};
+ghost use Rattle.plain_calls.specs.code.Spots.{pointer_of, IsRoomFor};
 
 use crate::piece::{is_within, piece, stays_in_range};
 use block_layout::{Loc, ObjectRef, SharedPtr, wide};

@@ -5,8 +5,8 @@ ghost use Rattle.upc_values.specs.declared.scalar.Mark.TheVariants.{Absent};
 ghost use Rattle.upc_values.specs.Expansion.{Expansion, value_in, Reads, Loads, Stores, Gives, nothing, does, barrier};
 ghost use Rattle.plain_calls.specs.declared.telling.Stop.TheVariants.{Memory};
 ghost use Rattle.upc_values.specs.declared.action.Reply.{Reply};
-ghost use Rattle.plain_calls.specs.layer.Told.{told};
-ghost use Rattle.plain_calls.specs.layer.Run.{ComesTo, Follows, standing, taken};
+ghost use Rattle.plain_calls.specs.code.Told.{told};
+ghost use Rattle.plain_calls.specs.code.Run.{ComesTo, Follows, standing, taken};
 
 use crate::told::{End, Step, Told};
 use block_layout::{Kind, Loc, LocalPtr};
@@ -48,7 +48,7 @@ pub struct Telling<'a> {
 }
 
 impl<'a> Model for Telling<'a> {
-    ghost use Rattle.plain_calls.specs.layer.Run.{Standing, standing};
+    ghost use Rattle.plain_calls.specs.code.Run.{Standing, standing};
 
     ghost Value = { Standing };
 

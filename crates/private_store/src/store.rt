@@ -18,17 +18,17 @@ use crate::finding::{object_place, reach};
 use crate::frame::{Block, Call};
 use crate::object::Object;
 use block_layout::run_error::{DEPTH, PRIVATE_SPACE};
-use block_layout::{Kind, LocalPtr, Shape};
+use block_layout::{Kind, LocalPtr, Shape, limits};
 use std::alloc::Global;
 use std::marker::Model;
 use upc_text::OutOfMemory;
 use upc_values::{Refused, Value};
 
 /// How many bytes of private objects of a thread may live at once.
-pub const MOST_BYTES: usize = 1_048_576;
+pub const MOST_BYTES: usize = limits::PRIVATE_BYTES as usize;
 
 /// How many calls may be active at once, `main` among them.
-pub const MOST_CALLS: usize = 1_000;
+pub const MOST_CALLS: usize = limits::CALLS as usize;
 
 /// How many objects a thread may make: the numbers of objects are below this.
 pub const MOST_OBJECTS: u64 = 0x8000_0000_0000_0000;

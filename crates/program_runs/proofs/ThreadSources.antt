@@ -6,7 +6,7 @@ use Rattle.typed_tree.specs.Programs.{Checked, start_of}
 use Rattle.typed_tree.specs.ViewProgram.{view_program}
 use Rattle.source_meaning.specs.Laws.{opening_of}
 use Rattle.source_meaning.specs.Threads.{thread_outcome}
-use Rattle.stack_code.specs.Codes.{Codes}
+use Rattle.stack_code.specs.layer.Codes.{Codes}
 use Rattle.stack_code.specs.layer.Names.{NamesOnly}
 use Rattle.stack_code_laws.specs.layer.Asking.{IsCodeFor}
 use Rattle.gen_stmt.specs.layer.Meanings.{MeansProgram}

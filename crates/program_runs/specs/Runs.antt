@@ -1,9 +1,5 @@
 -- What it is to be a run of a program.
 use Rattle.std.specs.Prelude.{◌≡◌}
-use Rattle.upc_text.specs.declared.place.Code.TheVariants.{Profile}
-use Rattle.upc_text.specs.declared.place.Refusal.{Refusal}
-use Rattle.upc_text.specs.declared.faults.Stop.{Stop}
-use Rattle.upc_text.specs.declared.faults.Stop.TheVariants.{Refused, Memory}
 use Rattle.upc_values.specs.declared.journal.Journal.{Journal}
 use Rattle.upc_values.specs.Ends.{AreSpent}
 use Rattle.upc_values.specs.Sound.{IsSound}
@@ -16,7 +12,6 @@ use Rattle.source_meaning.specs.Threads.{thread_outcome}
 use Rattle.order_builder.specs.Named.{AreConsistentOrders, orders_of}
 use Rattle.upc_task.specs.declared.limits.Limits.{Limits}
 use Rattle.upc_rounds.specs.Rounds.{EndsInTime}
-use Rattle.program_runs.specs.Served.{RunsToday}
 
 -- The journal is a sound run of the program within these limits: each thread's record is what its source gives on the
 -- recorded replies, and one legal history takes these records as the write buffers drain. The strict order and the
@@ -37,15 +32,3 @@ pub record IsRunOf (program : Checked) (l : Limits) (j : Journal) : Type 0 where
 pub record IsRunByRounds (program : Checked) (l : Limits) (j : Journal) : Type 0 where
   pub run : IsRunOf program l j
   pub rounds : EndsInTime (opening_of program) (λ budget t. thread_outcome program t budget) j
-
--- The refusal of a program that does not run today, which is `profile 0` at 1:1.
-pub record IsNotYet (program : Checked) (r : Refusal) : Type 0 where
-  pub runs : RunsToday program → ⊥
-  pub code : r.code ≡ Profile 0
-  pub line : r.place.line ≡ 1
-  pub column : r.place.column ≡ 1
-
--- Why a program is not run: it does not run today, or there was no memory.
-abbrev pub StopsRun : Checked → Stop → Type 0
-StopsRun program (Refused r) = IsNotYet program r
-StopsRun program Memory = Unit {0}

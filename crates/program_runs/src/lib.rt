@@ -2,6 +2,5 @@
 #![tactic(auto)]
 
 mod run;
-mod served;
 
 pub use run::{run_program, run_program_by};

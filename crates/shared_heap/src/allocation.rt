@@ -12,12 +12,10 @@ ghost use Rattle.shared_heap.specs.layer.Heap.{all_objects};
 ghost use Rattle.shared_heap.specs.code.Kept.{IsNext};
 
 use crate::heap::Heap;
+use block_layout::limits;
 use block_layout::run_error::{BAD_FREE, SHARED_SPACE};
 use upc_text::OutOfMemory;
 use upc_values::{ObjectRef, Refused, SharedPtr};
-
-/// The most bytes that all shared objects ever made may have.
-pub(crate) const MOST_BYTES: u32 = 16777216;
 
 // A pointer to the first byte of an object on its home.
 fn start_of(object: ObjectRef) -> SharedPtr
@@ -114,7 +112,7 @@ impl Heap {
         ensures none { IfNone result
             (said.grow_answer self.now nblocks nbytes home shape ≡ reply.Refused SHARED_SPACE) }
     {
-        let total = bytes_within(nblocks, nbytes, MOST_BYTES - self.bytes)?;
+        let total = bytes_within(nblocks, nbytes, limits::SHARED_BYTES - self.bytes)?;
         match home {
             Some(thread) => Some(self.next_object(total, 0, thread, shape)),
             None => Some(self.next_object(total, nbytes as u32, 0, shape)),

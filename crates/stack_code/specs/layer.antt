@@ -6,3 +6,4 @@ pub mod Depths
 pub mod Kept
 pub mod Making
 pub mod Names
+pub mod Codes

@@ -35,7 +35,7 @@ pub struct Builder {
 
 impl Model for Builder {
     ghost use Rattle.std.specs.Prelude.{map};
-    ghost use Rattle.stack_code.specs.Codes.{codes_of};
+    ghost use Rattle.stack_code.specs.layer.Codes.{codes_of};
     ghost use Rattle.stack_code.specs.layer.Making.{Making, IsMaking};
 
     ghost Value = { Making };

@@ -11,13 +11,10 @@ ghost use Rattle.stack_code.specs.layer.Kept.{IsKnownScalar, IsKnown, IsFitting,
 ghost use Rattle.stack_code.specs.layer.Kept.{CastFits, ElementsFit, RightFits, ValuesFit};
 
 use crate::instruction::{Instr, ObjectWork, Operation, StackWork, ValueWork};
-use block_layout::{Kind, LocalPtr, ObjectRef, Shape, is_in_range};
+use block_layout::{Kind, LocalPtr, ObjectRef, Shape, is_in_range, limits};
 use integers::BinOp;
 use thread_steps::{CastTo, Elements};
 use upc_values::{Scalar, Value, is_integer};
-
-/// The most bytes of an object, elements of a block, and elements of one step.
-const MOST: u32 = 16_777_216;
 
 fn is_number(v: i128) -> bool
     ensures { IsTrue result ↔ IsNumber v }
@@ -34,7 +31,9 @@ fn is_promoted(kind: Kind) -> bool
 fn is_target(elements: &Elements) -> bool
     ensures { IsTrue result ↔ IsTarget elements.now.block elements.now.size }
 {
-    elements.block <= MOST && elements.size > 0 && elements.size <= MOST
+    elements.block <= limits::SHARED_BYTES
+        && elements.size > 0
+        && elements.size <= limits::SHARED_BYTES
 }
 
 fn is_object(threads: u32, shapes: &[Shape], object: &ObjectRef) -> bool
@@ -43,8 +42,8 @@ fn is_object(threads: u32, shapes: &[Shape], object: &ObjectRef) -> bool
     object.number > 0
         && (object.shape as usize) < shapes.len()
         && object.home < threads
-        && object.total <= MOST
-        && object.block <= MOST
+        && object.total <= limits::SHARED_BYTES
+        && object.block <= limits::SHARED_BYTES
 }
 
 fn is_shared(threads: u32, shapes: &[Shape], object: &ObjectRef, thread: u32, offset: i64) -> bool
@@ -100,7 +99,7 @@ fn cast_fits(into: &CastTo) -> bool
 fn elements_fit(elements: &Elements, count: u32) -> bool
     ensures { IsTrue result ↔ ElementsFit elements.now count }
 {
-    is_target(elements) && count <= MOST
+    is_target(elements) && count <= limits::SHARED_BYTES
 }
 
 fn right_fits(operator: BinOp, left: Kind, right: Kind) -> bool

@@ -3,7 +3,7 @@
 ghost use Rattle.std.specs.Prelude.{List};
 ghost use Rattle.thread_steps.specs.States.{Thread};
 ghost use Rattle.stack_code.specs.declared.instruction.Instr.{Instr};
-ghost use Rattle.stack_code.specs.Codes.{Codes};
+ghost use Rattle.stack_code.specs.layer.Codes.{Codes};
 ghost use Rattle.stack_code.specs.layer.Outcomes.{HasOneOutcome, StaysEnded};
 
 /// A thread of code has at most one outcome, whatever it is answered.

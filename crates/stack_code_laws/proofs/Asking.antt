@@ -25,7 +25,7 @@ use Rattle.thread_steps.specs.layer.Fronts.{Begins}
 use Rattle.thread_steps.proofs.Fronts.{begins_itself, begins_on, all_of, none_left}
 use Rattle.thread_steps.proofs.Following.{total, plus, Later}
 use Rattle.stack_code.specs.declared.instruction.Instr.{Instr}
-use Rattle.stack_code.specs.Codes.{Codes, thread_of}
+use Rattle.stack_code.specs.layer.Codes.{Codes, thread_of}
 use Rattle.stack_code.specs.layer.Steps.{Spot, Conf, At, Halt, nowhere, step, steps}
 use Rattle.stack_code.specs.layer.Outcomes.{told_by, HasEnded, CodeMeans, initial_state, beginning}
 use Rattle.stack_code.proofs.Ends.{steps_add, steps_ended}

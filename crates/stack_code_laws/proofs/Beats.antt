@@ -9,7 +9,7 @@ use Rattle.thread_steps.specs.States.{Thread, State, Res, Val, Over, Unfinished,
 use Rattle.thread_steps.specs.Actions.{tick}
 use Rattle.thread_steps.proofs.Depths.{depth}
 use Rattle.thread_steps.proofs.Beating.{IsDue, Beating, Ends, beating}
-use Rattle.stack_code.specs.Codes.{Codes, thread_of}
+use Rattle.stack_code.specs.layer.Codes.{Codes, thread_of}
 use Rattle.stack_code.specs.layer.Steps.{Conf, At, Halt, steps}
 use Rattle.stack_code.specs.layer.Outcomes.{CodeMeans, HasEnded, beginning}
 use Rattle.stack_code_laws.proofs.Walks.{On, IsRule, Stands, steps_stand}

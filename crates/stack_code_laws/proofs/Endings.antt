@@ -15,7 +15,7 @@ use Rattle.thread_steps.specs.Actions.{ask, answered, answered_from, tick, with_
 use Rattle.thread_steps.proofs.Depths.{depth}
 use Rattle.thread_steps.proofs.Lasting.{IsSpent, Enough, Lasts, lasting}
 use Rattle.stack_code.specs.declared.instruction.Instr.{Instr}
-use Rattle.stack_code.specs.Codes.{Codes, function_at, thread_of}
+use Rattle.stack_code.specs.layer.Codes.{Codes, function_at, thread_of}
 use Rattle.stack_code.specs.layer.Depths.{BeginsOnce}
 use Rattle.stack_code.specs.layer.Kept.{IsCode}
 use Rattle.stack_code.specs.layer.Steps.{Spot, Conf, At, Halt, step, steps}

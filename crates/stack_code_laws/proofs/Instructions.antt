@@ -39,7 +39,7 @@ use Rattle.stack_code.specs.declared.instruction.ThreadWork.TheVariants.{Control
 use Rattle.stack_code.specs.declared.instruction.Operation.{Operation}
 use Rattle.stack_code.specs.declared.instruction.Operation.TheVariants as work
 use Rattle.stack_code.specs.declared.instruction.Instr.{Instr}
-use Rattle.stack_code.specs.Codes.{function_at, instructions_of}
+use Rattle.stack_code.specs.layer.Codes.{function_at, instructions_of}
 use Rattle.stack_code.specs.layer.Steps.{Spot, Conf, At, Halt, further, back, conf_of, top, rest, second}
 use Rattle.stack_code.specs.layer.Steps.{third, below_two}
 use Rattle.stack_code.specs.layer.Steps.{youngest, gives, leaves, pick, close_blocks, given_back, begun, stacked, made}

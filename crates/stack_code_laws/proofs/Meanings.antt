@@ -3,7 +3,7 @@ use Rattle.std.proofs.Common.{ℕ, List}
 use Rattle.upc_values.specs.declared.action.Reply.{Reply}
 use Rattle.upc_values.specs.Openings.{Opening}
 use Rattle.upc_values.specs.Outcomes.{Outcome, IsMeaning}
-use Rattle.stack_code.specs.Codes.{Codes}
+use Rattle.stack_code.specs.layer.Codes.{Codes}
 use Rattle.stack_code_laws.specs.layer.Asking.{IsThreadOf}
 use Rattle.stack_code_laws.proofs.Asking.{asks_well, begins_empty}
 use Rattle.stack_code_laws.proofs.Beats.{beats_in_time}

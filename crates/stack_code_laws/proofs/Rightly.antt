@@ -20,7 +20,7 @@ use Rattle.upc_values.specs.Calls.{Call, Allocates, Makes_lock, Frees, Frees_loc
 use Rattle.upc_values.specs.Calls.{Reduces_prefixes, Other, call_of}
 use Rattle.upc_values.specs.Outcomes.{Outcome}
 use Rattle.upc_values.proofs.Membership.{each-weaker}
-use Rattle.stack_code.specs.Codes.{Codes}
+use Rattle.stack_code.specs.layer.Codes.{Codes}
 use Rattle.stack_code_laws.specs.code.Names.{objects_given, is_lock_given, lock_in}
 use Rattle.stack_code_laws.specs.code.Wanted.{IsThreadNaming, IsPlaced, scalars_in, HasLock, IsCallOf}
 use Rattle.stack_code_laws.specs.code.Wanted.{HasRanges, IsCellRead, LeadsToCell, IsWantedRightly, AsksRightly}

@@ -8,7 +8,7 @@ use Rattle.thread_steps.specs.States.{Thread, State, Res, Val, Over, Unfinished,
 use Rattle.thread_steps.specs.Actions.{tick}
 use Rattle.thread_steps.specs.layer.Fronts.{turned_by, IsInTurn}
 use Rattle.thread_steps.proofs.Turning.{IsFine, Ends, InTurn, turning}
-use Rattle.stack_code.specs.Codes.{Codes, thread_of}
+use Rattle.stack_code.specs.layer.Codes.{Codes, thread_of}
 use Rattle.stack_code.specs.layer.Steps.{Conf, At, Halt, steps}
 use Rattle.stack_code.specs.layer.Outcomes.{CodeMeans, HasEnded, told_by, beginning}
 use Rattle.stack_code_laws.specs.code.Turns.{TakesTurns}

@@ -35,7 +35,7 @@ use Rattle.stack_code.specs.declared.instruction.ThreadWork.TheVariants as threa
 use Rattle.stack_code.specs.declared.instruction.Operation.{Operation}
 use Rattle.stack_code.specs.declared.instruction.Operation.TheVariants as work
 use Rattle.stack_code.specs.declared.instruction.Instr.{Instr}
-use Rattle.stack_code.specs.Codes.{function_at}
+use Rattle.stack_code.specs.layer.Codes.{function_at}
 use Rattle.stack_code.specs.layer.Steps.{Spot, Conf, At, Halt, conf_of, nowhere, top, rest, second, third, below_two}
 use Rattle.stack_code.specs.layer.Steps.{int_of, youngest, Next, gives, leaves, further, back, close_blocks, pick}
 use Rattle.stack_code.specs.layer.Steps.{given_back, begun, made, placed, acted, jumped, kept_in, received}

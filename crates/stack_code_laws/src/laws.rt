@@ -5,7 +5,7 @@ ghost use Rattle.block_layout.specs.declared.place.ObjectRef.{ObjectRef};
 ghost use Rattle.upc_values.specs.declared.action.Reply.{Reply};
 ghost use Rattle.upc_values.specs.Outcomes.{Outcome, IsMeaning};
 ghost use Rattle.upc_values.specs.Openings.{Opening};
-ghost use Rattle.stack_code.specs.Codes.{Codes};
+ghost use Rattle.stack_code.specs.layer.Codes.{Codes};
 ghost use Rattle.stack_code.specs.layer.Kept.{IsCode};
 ghost use Rattle.stack_code.specs.layer.Outcomes.{CodeMeans};
 ghost use Rattle.stack_code_laws.specs.layer.Asking.{IsThreadOf, AsksWell};

@@ -1,6 +1,6 @@
 -- What a call asks for, and where the thread is behind it.
-use Rattle.std.proofs.Common.{◌≡◌, ℕ, ◌<◌, ◌*◌, ◌+◌, List, [], ◌∷◌, Option, Some, None, Bool, true, refl, sym, ap, ◌∙◌, subst, length, arith}
-use Rattle.std.specs.Prelude.{Result, Ok, Err}
+use Rattle.std.proofs.Common.{◌≡◌, ℕ, ◌<◌, List, [], ◌∷◌, Option, Some, None, Bool, true, refl, sym, ap, subst, arith}
+use Rattle.std.specs.Prelude.{Result, Ok, Err, OnOk}
 use Rattle.upc_text.specs.declared.place.Place.{Place}
 use Rattle.block_layout.specs.declared.place.LocalPtr.{LocalPtr}
 use Rattle.block_layout.specs.declared.kind.Kind.{Kind}
@@ -20,12 +20,12 @@ use Rattle.upc_values.specs.LibraryCalls.{valued}
 use Rattle.private_store.specs.Live.{Live}
 use Rattle.private_store.specs.Cells.{loaded, stored}
 use Rattle.thread_steps.specs.Values.{kept, scalar_of}
-use Rattle.stack_code.specs.Codes.{Codes}
+use Rattle.stack_code.specs.layer.Codes.{Codes}
 use Rattle.stack_machine.specs.code.Bodies.{Body}
 use Rattle.stack_machine.specs.code.Standing.{Stands}
 use Rattle.stack_machine.specs.code.Inside.{StandsInside, FailsBy, wanted_in, with_value}
 use Rattle.stack_machine.proofs.Inside.{goes_inside}
-use Rattle.upc_library.specs.layer.Walks.{Source, rest, rest_of, replies_of}
+use Rattle.upc_library.specs.layer.Walks.{Source, rest_of, replies_of}
 use Rattle.upc_library.specs.layer.Wishes.{IsWish, kind_read}
 use Rattle.upc_library.specs.declared.copying.CopyWish.TheVariants.{Act, LoadPrivate, StorePrivate, Finished}
 use Rattle.upc_values.specs.declared.refused.Refused.{Refused}
@@ -37,7 +37,8 @@ use Rattle.stack_machine.specs.declared.wish.Halt.{Halt}
 use Rattle.stack_machine.specs.declared.wish.Stop.TheVariants.{Fault}
 use Rattle.stack_machine.specs.declared.progress.Progress.{Progress}
 use Rattle.stack_machine.specs.layer.Machine.{listed, told_by, HasStopped}
-use Rattle.stack_machine.specs.code.Calls.{IsUnfinished, WritesHeld, left_of, replies_to}
+use Rattle.stack_machine.specs.code.Calls.{IsUnfinished, WritesHeld, ActsOnly, IsNearer, replies_there, left_of}
+use Rattle.stack_machine.proofs.CollectivesOf.{collective_acts}
 use Rattle.stack_machine.specs.code.Walking.{IsInside, IsHalted, IsRefusal, IfGoing, body_with}
 
 module _ (codes : Codes) (thread budget : ℕ) (given : List Reply) (at : Place) (b : Body) where
@@ -142,8 +143,11 @@ left_by None dst src (c ∷ cells) h = omega arith
 left_by (Some v) dst src [] h = absurd h
 left_by (Some v) dst src (c ∷ cells) h = omega arith
 
-pub unfinished_left : (shapes : List Shape) (w : Walk) → IsUnfinished (left_of shapes w) → 0 < replies_to w
-unfinished_left shapes (walk.Copying l) h = left_by l.value l.dst l.src l.cells h
+-- An answer that takes the reply, if the call asks for actions alone, brings it nearer to its end.
+pub nearer_by : (shapes : List Shape) (w : Walk) (before after : Option Reply) → IsUnfinished (left_of shapes w)
+    → (ActsOnly (left_of shapes w) → replies_there after < replies_there before) → IsNearer w before after
+nearer_by shapes (walk.Copying l) before after h t = left_by l.value l.dst l.src l.cells h
+nearer_by shapes (walk.Collective c) before after h t = t (collective_acts shapes c)
 
 -- A wish that is not the last one.
 pub acts_on : (x : Expansion (Unit {0})) (a : Action) → IsWish x (Act a) → IsUnfinished x
@@ -200,3 +204,13 @@ pub refused_firm : (P : Type 0) (e : Refused) (at : Place) (n : ℕ) (halt : Hal
     → IfGoing {A = Bool} (Err halt) P
 refused_firm P refused.Memory at n halt r = subst (λ (e : Halt). IfGoing {A = Bool} (Err e) P) (sym r) tt
 refused_firm P (refused.Error code) at n halt r = subst (λ (e : Halt). IfGoing {A = Bool} (Err e) P) (sym r) tt
+
+pub taken_by : {A : Type 0} (r : Result A Halt) (a : A) (P : Type 0) → r ≡ Ok a → OnOk r P → P
+taken_by {A} r a P e h = subst (λ (x : Result A Halt). OnOk x P) e h
+
+-- The reply is taken.
+pub fewer : (before after : Option Reply) (r : Reply) → after ≡ None → before ≡ Some r
+    → replies_there after < replies_there before
+fewer before after r e f =
+    subst (λ q. replies_there q < replies_there before) (sym e)
+    (subst (λ o. 0 < replies_there o) (sym f) (omega arith))

@@ -1,5 +1,5 @@
 -- Calls of the library that ask for one action at most.
-use Rattle.std.proofs.Common.{◌≡◌, ℕ, List, [], ◌∷◌, ◌++◌, Option, Some, None, Bool, true, false}
+use Rattle.std.proofs.Common.{◌≡◌, ℕ, pos, List, [], ◌∷◌, ◌++◌, Option, Some, None, Bool, true, false}
 use Rattle.std.proofs.Common.{refl, ap, sym, ◌∙◌, subst}
 use Rattle.std.specs.Prelude.{Result, Ok, Err, is_some, IfSome}
 use Rattle.upc_text.specs.declared.place.Place.{Place}
@@ -12,22 +12,28 @@ use Rattle.upc_values.specs.declared.scalar.Value.TheVariants as value
 use Rattle.upc_values.specs.declared.library.LibraryCall.{LibraryCall}
 use Rattle.upc_values.specs.Expansion.{Expansion}
 use Rattle.upc_values.specs.Formed.{fits}
-use Rattle.upc_values.specs.LibraryCalls.{meet_number, asks, given_by}
-use Rattle.thread_steps.specs.States.{Thread, State, Res, Val, bind, give, valued}
-use Rattle.thread_steps.specs.Actions.{meet, ask, answered, answered_from}
+use Rattle.upc_values.specs.LibraryCalls.{library_call, meet_number, asks, given_by}
+use Rattle.thread_steps.specs.States.{Thread, State, Res, Val, bind, give, choose, skip, valued}
+use Rattle.thread_steps.specs.Actions.{meet, exit, ask, answered, answered_from}
 use Rattle.thread_steps.specs.Accesses.{run, expanded}
 use Rattle.thread_steps.specs.Values.{number}
-use Rattle.thread_steps.specs.Library.{library, is_formed}
+use Rattle.thread_steps.specs.Library.{library, called, formed_call, is_formed, first_number, private_shapes}
+use Rattle.upc_values.specs.Calls.{call_of}
+use Rattle.thread_values.specs.layer.Collectives.{collective_number, scalars_met}
+use Rattle.thread_values.proofs.CollectiveCalls.{collective_no_exit, collective_formed, collective_meets}
 use Rattle.thread_values.specs.declared.library.LibraryStep.{LibraryStep}
 use Rattle.thread_values.specs.layer.Results.{given_at_once}
 use Rattle.thread_values.specs.layer.Asking.{asks_once, expansion_of, DoesSoThere}
 use Rattle.thread_values.proofs.Asking.{formed, gives}
 use Rattle.stack_machine.specs.layer.Machine.{listed}
 use Rattle.stack_machine.specs.declared.wish.Halt.{Halt}
-use Rattle.stack_machine.specs.declared.wish.Halt.TheVariants.{Stops}
+use Rattle.stack_machine.specs.declared.wish.Halt.TheVariants.{Memory, Asks, Stops}
 use Rattle.stack_machine.specs.declared.wish.Stop.TheVariants.{Fault}
 use Rattle.stack_machine.specs.declared.progress.Progress.{Progress}
 use Rattle.stack_machine.specs.code.Libraries.{expanded_to, met_then}
+use Rattle.collectives.specs.layer.Arguments.{copies_or_reduces}
+use Rattle.stack_machine.proofs.CollectivesOf.{known_call}
+use Rattle.stack_machine.specs.code.Calls.{UnlessWant}
 use Rattle.stack_machine.specs.code.Turns.{Came, Gave, Stopped, state_seen}
 use Rattle.stack_machine.proofs.Accessing.{bind_err}
 
@@ -49,6 +55,34 @@ module _ (τ : Thread) (c : LibraryCall) (shape : ℕ) (args : List Value) where
       subst (λ (r : Res Value). Came before r res p q)
       (ap (λ x. met_then x τ at (expansion_of step) (state_seen before p)) f
       ∙ sym (formed τ at (state_seen before p) c shape args step h e does)) came
+
+-- A collective call that may not begin.
+unmet_by : (τ : Thread) (at : Place) (before : List Action) (p : Progress) (c : LibraryCall) (shape : ℕ)
+    (args : List Value) (n : ℕ) (e : Halt) → collective_number c ≡ Some n
+    → copies_or_reduces (call_of n (scalars_met c args)) ≡ true
+    → Came before (meet τ at (state_seen before p)) (Err e) p p
+    → Came before (library τ c shape at args (state_seen before p)) (Err e) p p
+unfolding library
+unmet_by τ at before p c shape args n e h f came =
+    let go : Unit {0} → State → Res Value = λ _ υ.
+    bind (run τ at (library_call τ.threads τ.shapes τ.number (private_shapes υ) c shape args) υ)
+    (λ v. give (value.Scalar v)) in
+    subst (λ (r : Res Value). Came before r (Err e) p p)
+    (sym (ap (λ b. choose b (exit τ (first_number args)) (formed_call τ c shape at args) (state_seen before p))
+    (collective_no_exit c n h)
+    ∙ ap (λ b. choose b (called τ c shape at args) (give (number (pos 0))) (state_seen before p))
+    (collective_formed τ.shapes shape args c n h (known_call (call_of n (scalars_met c args)) f))
+    ∙ ap (λ b. bind (choose b (meet τ at) skip (state_seen before p)) go) (collective_meets c n h)))
+    (bind_err before (meet τ at (state_seen before p)) e p p go came)
+
+pub unmet : (τ : Thread) (at : Place) (before : List Action) (p : Progress) (c : LibraryCall) (shape : ℕ)
+    (args : List Value) (n : ℕ) (e : Halt) → collective_number c ≡ Some n
+    → UnlessWant {A = Value} (Err e) (copies_or_reduces (call_of n (scalars_met c args)) ≡ true)
+    → Came before (meet τ at (state_seen before p)) (Err e) p p
+    → Came before (library τ c shape at args (state_seen before p)) (Err e) p p
+unmet τ at before p c shape args n Memory h f came = tt
+unmet τ at before p c shape args n (Asks a k) h f came = unmet_by τ at before p c shape args n (Asks a k) h f came
+unmet τ at before p c shape args n (Stops s k) h f came = unmet_by τ at before p c shape args n (Stops s k) h f came
 
 module _ (τ : Thread) (at : Place) (before : List Action) (p : Progress) where
   -- ---- one action

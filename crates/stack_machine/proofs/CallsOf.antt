@@ -1,6 +1,6 @@
 -- What calls of the library write to private cells.
-use Rattle.std.proofs.Common.{◌≡◌, ℕ, ℤ, pos, Bool, true, false, cond, not, ◌||◌, ◌==◌, List, [], ◌∷◌, Option, Some, None, refl, sym, ap, ◌∙◌, subst}
-use Rattle.std.proofs.Common.{arith, inl}
+use Rattle.std.proofs.Common.{◌≡◌, ℕ, pos, Bool, true, false, cond, not, ◌||◌, ◌==◌, List, [], ◌∷◌, Option, None, refl, sym, subst}
+use Rattle.std.proofs.Common.{arith}
 use Rattle.std.proofs.lemmas.Int.{ints}
 use Rattle.std.specs.List.{list_any}
 use Rattle.block_layout.specs.Cells.{same_cells}
@@ -22,7 +22,6 @@ use Rattle.upc_values.specs.Expansion.{after_reply, unless_refused, nothing}
 use Rattle.thread_steps.specs.layer.Ranges.{IsHeldScalar, IsNumber}
 use Rattle.thread_values.specs.layer.Asking.{IsHeldReply}
 use Rattle.upc_library.specs.layer.Wishes.{area_of}
-use Rattle.upc_library.specs.declared.copying.CopySpec.{CopySpec}
 use Rattle.thread_values.specs.layer.Copies.{copies, copy_spec, spec_of, private_of, copying_of}
 use Rattle.thread_values.proofs.MemoryCalls.{by_copy}
 use Rattle.stack_machine.specs.code.Calls.{WritesHeld}

@@ -1,12 +1,10 @@
 -- The instruction of a call of the library leads into it.
-use Rattle.std.proofs.Common.{◌≡◌, ℕ, ◌+◌, Bool, true, false, List, [], ◌∷◌, ◌++◌, Option, Some}
-use Rattle.std.proofs.Common.{pos, refl, sym, ◌∙◌, ap}
-use Rattle.std.specs.Prelude.{is_some, drop, slice_get}
+use Rattle.std.proofs.Common.{◌≡◌, ℕ, ◌+◌, Bool, true, false, List, [], ◌∷◌, ◌++◌, Option}
+use Rattle.std.proofs.Common.{pos, refl, ◌∙◌, ap}
+use Rattle.std.specs.Prelude.{is_some, drop}
 use Rattle.upc_text.specs.declared.place.Place.{Place}
 use Rattle.upc_values.specs.declared.scalar.Value.{Value}
 use Rattle.upc_values.specs.declared.scalar.Value.TheVariants as value
-use Rattle.upc_values.specs.declared.action.Action.{Action}
-use Rattle.upc_values.specs.declared.action.Reply.{Reply}
 use Rattle.upc_values.specs.declared.library.LibraryCall.{LibraryCall}
 use Rattle.upc_values.specs.LibraryCalls.{library_call, meet_number}
 use Rattle.thread_steps.specs.States.{Thread, State, Res, Val, bind, give, choose, skip, fault}
@@ -14,16 +12,14 @@ use Rattle.thread_steps.specs.Actions.{meet, exit, is_controlled}
 use Rattle.thread_steps.specs.Accesses.{run}
 use Rattle.thread_steps.specs.Values.{number}
 use Rattle.thread_steps.specs.Library.{library, called, formed_call, is_formed, is_exit, first_number, private_shapes}
-use Rattle.stack_code.specs.declared.instruction.ThreadWork.TheVariants.{Library}
-use Rattle.stack_code.specs.declared.instruction.Operation.TheVariants.{Thread as Among}
 use Rattle.stack_code.specs.declared.instruction.Instr.{Instr}
-use Rattle.stack_code.specs.Codes.{Codes, thread_of, function_at}
-use Rattle.stack_code.specs.layer.Steps.{Conf, At, conf_of, act, further, youngest, step, steps}
+use Rattle.stack_code.specs.layer.Codes.{Codes, thread_of}
+use Rattle.stack_code.specs.layer.Steps.{At, conf_of, act, further, youngest, steps}
 use Rattle.stack_code.proofs.Ends.{steps_add}
 use Rattle.block_layout.specs.declared.run_error.TheConstants.{PHASE_ORDER, BARRIER_IN_FORALL}
-use Rattle.stack_machine.specs.code.Bodies.{Body, conf, state_of}
-use Rattle.stack_machine.specs.code.Standing.{Stands, first_body}
-use Rattle.stack_machine.specs.code.Inside.{inside, StandsInside, MayMeet, Enters, without}
+use Rattle.stack_machine.specs.code.Bodies.{conf, state_of}
+use Rattle.stack_machine.specs.code.Standing.{first_body}
+use Rattle.stack_machine.specs.code.Inside.{Enters}
 
 module _ (τ : Thread) (at : Place) (call : LibraryCall) (shape : ℕ) (args : List Value) where
   -- Where all threads may meet, they do not stop.

@@ -1,7 +1,7 @@
 -- A call is walked reply by reply.
-use Rattle.std.proofs.Common.{◌≡◌, ℕ, ◌+◌, ◌<◌, Bool, true, false, List, [], ◌∷◌, ◌++◌, Option, Some, None}
+use Rattle.std.proofs.Common.{◌≡◌, ℕ, ◌<◌, true, false, List, [], ◌∷◌, ◌++◌, Some, None}
 use Rattle.std.proofs.Common.{refl, sym, ◌∙◌, ap, subst, append_assoc, append-nil}
-use Rattle.std.specs.Prelude.{Result, Ok, Err}
+use Rattle.std.specs.Prelude.{Ok}
 use Rattle.upc_text.specs.declared.place.Place.{Place}
 use Rattle.block_layout.specs.declared.place.Loc.{Loc}
 use Rattle.block_layout.specs.declared.place.LocalPtr.{LocalPtr}
@@ -19,17 +19,16 @@ use Rattle.upc_values.specs.Formed.{fits}
 use Rattle.upc_values.specs.Expansion.{Expansion, Gives, Fails, Reads, Asks, Loads, Stores, value_in}
 use Rattle.private_store.specs.Live.{Live}
 use Rattle.private_store.specs.Cells.{loaded, stored}
-use Rattle.thread_steps.specs.States.{Thread, State, Res, Val, Over, bind, give, valued}
+use Rattle.thread_steps.specs.States.{Thread, Res, bind, give, valued}
 use Rattle.thread_steps.specs.Values.{kept, scalar_of}
-use Rattle.thread_steps.specs.Actions.{ask, answered, answered_from}
+use Rattle.thread_steps.specs.Actions.{ask, answered}
 use Rattle.thread_steps.specs.Accesses.{run, expanded, with_store}
-use Rattle.stack_code.specs.declared.instruction.Instr.{Instr}
-use Rattle.stack_code.specs.Codes.{Codes, thread_of}
-use Rattle.stack_code.specs.layer.Steps.{Conf, At, Halt, conf_of, further, step, steps}
+use Rattle.stack_code.specs.layer.Codes.{Codes, thread_of}
+use Rattle.stack_code.specs.layer.Steps.{Conf, At, Halt, conf_of, further, steps}
 use Rattle.stack_code.specs.layer.Outcomes.{HasEnded, CodeMeans, beginning}
-use Rattle.stack_code.proofs.Ends.{steps_add, one_outcome}
+use Rattle.stack_code.proofs.Ends.{one_outcome}
 use Rattle.stack_machine.specs.code.Bodies.{Body, conf, state_of}
-use Rattle.stack_machine.specs.code.Standing.{Stands, first_body}
+use Rattle.stack_machine.specs.code.Standing.{first_body}
 use Rattle.stack_machine.specs.code.Inside.{inside, with_value, StandsInside, wanted_in, FailsBy, GoesInside}
 
 -- ---- one step of what is left

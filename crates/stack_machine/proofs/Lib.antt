@@ -5,6 +5,7 @@ pub mod Inside
 pub mod Entering
 pub mod Answering
 pub mod CallsOf
+pub mod CollectivesOf
 pub mod Openings
 mod Halves
 pub mod Leaving

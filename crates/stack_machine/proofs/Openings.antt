@@ -1,6 +1,6 @@
 -- Calls of the library begin, go on and are left.
-use Rattle.std.proofs.Common.{◌≡◌, ℕ, ◌+◌, ◌<◌, ◌^◌, List, [], ◌∷◌, Option, Some, None, true, refl, sym, ap, ◌∙◌, subst, drop, length, arith}
-use Rattle.std.specs.Prelude.{Result, Ok, Err, OnOk, slice_get}
+use Rattle.std.proofs.Common.{◌≡◌, ℕ, ◌+◌, ◌<◌, ◌^◌, List, [], ◌∷◌, Option, Some, None, Bool, true, false, not, ◌&&◌, ◌||◌, ◌==◌, refl, sym, ap, ◌∙◌, subst, drop, length, arith}
+use Rattle.std.specs.Prelude.{Result, Ok, Err, OnOk, slice_get, is_some}
 use Rattle.block_layout.specs.declared.kind.Shape.{Shape}
 use Rattle.upc_text.specs.declared.place.Place.{Place}
 use Rattle.upc_values.specs.declared.scalar.Scalar.{Scalar}
@@ -11,7 +11,7 @@ use Rattle.upc_values.specs.Scalars.{zero}
 use Rattle.upc_values.specs.Expansion.{Expansion, Fails}
 use Rattle.upc_values.specs.LibraryCalls.{library_call, valued}
 use Rattle.thread_steps.specs.layer.Ranges.{IsHeld}
-use Rattle.stack_code.specs.Codes.{Codes, function_at}
+use Rattle.stack_code.specs.layer.Codes.{Codes, function_at}
 use Rattle.stack_code.specs.layer.Steps.{youngest}
 use Rattle.stack_machine.specs.declared.open_calls.Walk.{Walk}
 use Rattle.stack_machine.specs.declared.open_calls.OpenCall.{OpenCall}
@@ -22,17 +22,22 @@ use Rattle.stack_machine.specs.declared.wish.Halt.{Halt}
 use Rattle.stack_machine.specs.declared.wish.Halt.TheVariants.{Memory, Asks, Stops}
 use Rattle.stack_machine.specs.declared.wish.Stop.TheVariants.{Ended, Exit, Fault, Budget}
 use Rattle.stack_machine.specs.code.Bodies.{Body}
-use Rattle.stack_machine.specs.code.Calls.{call_instr, left_of, on_its_way, WritesHeld, IsGoingOn, FailsSo}
+use Rattle.stack_machine.specs.code.Calls.{call_instr, left_of, on_its_way, WritesHeld, FailsSo}
 use Rattle.thread_values.specs.layer.Copies.{copies, shapes_in}
-use Rattle.stack_machine.specs.code.Calls.{HasLeft}
-use Rattle.stack_machine.specs.code.Inside.{StandsInside, StandsAt, MayMeet, without}
-use Rattle.stack_machine.specs.code.Kept.{AreHeld, HoldsHeld, IsHolding}
+use Rattle.stack_machine.specs.code.Calls.{HasLeft, UnlessWant, walks, may_meet, may_begin}
+use Rattle.stack_machine.specs.code.Inside.{StandsInside, MayMeet, without}
+use Rattle.stack_machine.specs.code.Kept.{HoldsHeld, IsHolding}
 use Rattle.stack_machine.specs.code.Machines.{Waits}
 use Rattle.stack_machine.specs.code.Standing.{Stands}
 use Rattle.stack_machine.specs.code.Tasks.{task_seen}
 use Rattle.stack_machine.specs.code.Walking.{IsHalted, IsOver, HasHalted, HasCome, IfGoing}
 use Rattle.stack_machine.specs.layer.Machine.{listed}
-use Rattle.thread_values.proofs.MemoryCalls.{copies_no_exit, copies_formed, copies_alone}
+use Rattle.thread_values.proofs.MemoryCalls.{copies_formed, copies_alone}
+use Rattle.thread_steps.specs.Library.{is_exit, is_formed}
+use Rattle.private_store.specs.Live.{controls}
+use Rattle.thread_values.specs.layer.Collectives.{collective_number}
+use Rattle.upc_values.specs.declared.library.LibraryCall.TheVariants as call
+use Rattle.upc_values.specs.Expansions.{collective}
 use Rattle.stack_machine.proofs.Entering.{enters}
 use Rattle.stack_machine.proofs.Inside.{goes_inside}
 use Rattle.upc_values.specs.declared.scalar.Value.{Value}
@@ -42,7 +47,7 @@ use Rattle.upc_values.specs.declared.refused.Refused.TheVariants as refused
 use Rattle.upc_library.specs.layer.Wishes.{RefusesSo, expansion}
 use Rattle.upc_library.specs.declared.copying.CopySpec.{CopySpec}
 use Rattle.thread_values.specs.layer.Copies.{spec_of, private_of, copying_of}
-use Rattle.stack_code.specs.Codes.{thread_of}
+use Rattle.stack_code.specs.layer.Codes.{thread_of}
 use Rattle.stack_code.specs.layer.Steps.{step}
 use Rattle.stack_machine.specs.code.Bodies.{conf}
 use Rattle.stack_machine.specs.code.Steps.{Advances}
@@ -55,43 +60,41 @@ use Rattle.stack_machine.proofs.Halting.{stands_on, halts_so}
 module _ (codes : Codes) (thread budget : ℕ) (given : List Reply) where
   module _ (b : Body) (next : NextCall)
       (there : slice_get (function_at codes.functions b.at.function) b.at.place ≡ Some (call_instr next))
-      (copy : copies next.call ≡ true) where
+      (exit : is_exit next.call ≡ false) (meets : MayMeet next.call b) where
+    abbrev Formed : Type 0
+    Formed = is_formed codes.shapes next.call next.shape (youngest next.arguments b.operands) ≡ true
+
     -- What the call does by its arguments.
     abbrev Does : Expansion Scalar
     Does = library_call codes.threads codes.shapes thread (shapes_in b.store) next.call next.shape
         (youngest next.arguments b.operands)
 
-    entered : (left : List Reply) → Stands codes thread budget given left b
+    entered : (left : List Reply) → Formed → Stands codes thread budget given left b
         → StandsInside codes thread budget given left next.place Does (without next.arguments b)
-    entered left s =
-        enters codes thread budget given left b next.place next.call next.shape next.arguments there
-        (copies_no_exit next.call copy)
-        (copies_formed codes.shapes next.shape (youngest next.arguments b.operands) next.call copy)
-        (record {
-          controlled = λ e. absurd (copies_alone next.call copy e);
-          notified = λ e. absurd (copies_alone next.call copy e);
-        }) s
+    entered left f s =
+        enters codes thread budget given left b next.place next.call next.shape next.arguments there exit f meets s
 
-    pub enters_so : (left : List Reply) (w : Walk) → Does ≡ valued (left_of codes.shapes w)
+    pub enters_so : (left : List Reply) (w : Walk) → Does ≡ valued (left_of codes.shapes w) → Formed
         → Stands codes thread budget given left b
         → StandsInside codes thread budget given left next.place (valued (left_of codes.shapes w))
         (without next.arguments b)
-    enters_so left w e s =
-        subst (λ x. StandsInside codes thread budget given left next.place x (without next.arguments b)) e (entered left s)
+    enters_so left w e f s =
+        subst (λ x. StandsInside codes thread budget given left next.place x (without next.arguments b)) e
+        (entered left f s)
 
     pub refused_so : (left : List Reply) (e : Halt) (t : Task) → FailsSo e Does next.place b.ticks
-        → Stands codes thread budget given left b → HasHalted codes thread budget given e None t
-    refused_so left Memory t h s = tt
-    refused_so left (Asks a n) t h s = absurd h
-    refused_so left (Stops (Ended v) n) t h s = absurd h
-    refused_so left (Stops (Exit v) n) t h s = absurd h
-    refused_so left (Stops Budget n) t h s = absurd h
-    refused_so left (Stops (Fault code at) n) t h s =
+        → UnlessWant {A = Walk} (Err e) Formed → Stands codes thread budget given left b → HasHalted codes thread budget given e None t
+    refused_so left Memory t h f s = tt
+    refused_so left (Asks a n) t h f s = absurd h
+    refused_so left (Stops (Ended v) n) t h f s = absurd h
+    refused_so left (Stops (Exit v) n) t h f s = absurd h
+    refused_so left (Stops Budget n) t h f s = absurd h
+    refused_so left (Stops (Fault code at) n) t h f s =
         let i = subst (λ x. StandsInside codes thread budget given left next.place x (without next.arguments b)) h.0
-        (entered left s) in
+        (entered left f s) in
         record {
-          by = λ f all later.
-              let k = (goes_inside codes thread budget).fails f given left later next.place (Fails code) code
+          by = λ g all later.
+              let k = (goes_inside codes thread budget).fails g given left later next.place (Fails code) code
               (without next.arguments b) all i refl in
               (k.0 ∙ ap (told.Fault code) (sym h.1), k.1 ∙ sym h.2);
         }
@@ -159,6 +162,56 @@ pub fails_as : (e : Refused) (x : Expansion (Unit {0})) (y : Expansion Scalar) (
 fails_as refused.Memory x y at n halt e h r = subst (λ (k : Halt). FailsSo k y at n) (sym r) tt
 fails_as (refused.Error code) x y at n halt e h r =
     subst (λ (k : Halt). FailsSo k y at n) (sym r) (e ∙ ap valued h, refl, refl)
+
+-- ---- where a call may begin
+
+or_none : (b : Bool) → (b || false) ≡ true → b ≡ true
+or_none true h = refl
+or_none false h = h
+
+pub unless_so : {A : Type 0} (r : Result A Halt) (P : Type 0) → P → UnlessWant r P
+unless_so (Ok w) P h = h
+unless_so (Err Memory) P h = tt
+unless_so (Err (Asks a n)) P h = h
+unless_so (Err (Stops s n)) P h = h
+
+both_met : (a b : Bool) → (a && not b) ≡ true → (not a ≡ false) × (b ≡ false)
+both_met true false h = (refl, refl)
+both_met true true h = absurd (cc)
+both_met false b h = absurd (cc)
+
+meets_if : (c : LibraryCall) (t : Task) (b : Bool) → copies c ≡ b → (b || may_meet t.progress) ≡ true
+    → MayMeet c (task_seen t)
+meets_if c t true e h = record {
+  controlled = λ m. absurd (copies_alone c e m);
+  notified = λ m. absurd (copies_alone c e m);
+}
+meets_if c t false e h =
+    let k = both_met (controls t.progress.store == 0) t.progress.notified h in
+    record { controlled = λ m. k.0; notified = λ m. k.1 }
+
+pub walks_no_exit : (c : LibraryCall) → walks c ≡ true → is_exit c ≡ false
+walks_no_exit call.GlobalExit h = absurd (cc)
+walks_no_exit c h = refl
+
+-- A call that asks for many actions and is no collective one is a memory call.
+pub copies_else : (c : LibraryCall) → walks c ≡ true → collective_number c ≡ None → copies c ≡ true
+copies_else c h e = or_none (copies c) (subst (λ (o : Option ℕ). (copies c || is_some o) ≡ true) e h)
+
+pub copied_formed : (shapes : List Shape) (shape : ℕ) (args : List Value) (c : LibraryCall) (r : Result Walk Halt)
+    → copies c ≡ true → UnlessWant r (is_formed shapes c shape args ≡ true)
+copied_formed shapes shape args c r h = unless_so r _ (copies_formed shapes shape args c h)
+
+pub meets_by : (c : LibraryCall) (b : Bool) (p : Progress) → b ≡ may_begin c p → b ≡ true → (t : Task)
+    → t.progress ≡ p → MayMeet c (task_seen t)
+meets_by c b p e h t f =
+    meets_if c t (copies c) refl (ap (λ (q : Progress). may_begin c q) f ∙ sym e ∙ h)
+
+-- By what is found of the threads and of the arguments.
+pub collective_is : (n threads : ℕ) (shapes : List Shape) (me k : ℕ) (xs ys : List Scalar) → n ≡ threads → xs ≡ ys
+    → collective n shapes me k xs ≡ collective threads shapes me k ys
+collective_is n threads shapes me k xs ys e f =
+    ap (λ n. collective n shapes me k xs) e ∙ ap (λ l. collective threads shapes me k l) f
 
 -- ---- what comes next
 

@@ -9,7 +9,7 @@ ghost use Rattle.thread_steps.specs.Accesses as pure;
 ghost use Rattle.thread_steps.specs.layer.Ranges.{IsHeld, IsHeldScalar};
 ghost use Rattle.thread_steps.specs.States.{Thread, Val};
 ghost use Rattle.thread_steps.specs.Values as values;
-ghost use Rattle.stack_code.specs.Codes.{thread_of};
+ghost use Rattle.stack_code.specs.layer.Codes.{thread_of};
 ghost use Rattle.stack_machine.specs.code.Kept.{HoldsHeld};
 ghost use Rattle.stack_machine.specs.code.Turns.{Came, IsFirm, state_seen};
 

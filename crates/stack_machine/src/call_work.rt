@@ -9,7 +9,7 @@ ghost use Rattle.thread_steps.specs.States.{Thread};
 ghost use Rattle.thread_steps.specs.Values.{number_of};
 ghost use Rattle.stack_code.specs.declared.instruction.CallWork.TheVariants as calls;
 ghost use Rattle.stack_code.specs.declared.instruction.Operation.TheVariants as operation;
-ghost use Rattle.stack_code.specs.Codes.{function_at};
+ghost use Rattle.stack_code.specs.layer.Codes.{function_at};
 ghost use Rattle.stack_code.specs.layer.Depths.{LandsAt, call_effect};
 ghost use Rattle.stack_code.specs.layer.Steps.{called, further, rest, top};
 ghost use Rattle.stack_machine.specs.code.Jumps.{lefts};

@@ -3,7 +3,7 @@
 ghost use Rattle.std.specs.Prelude.{ℕ, List};
 ghost use Rattle.thread_steps.specs.States.{Thread};
 ghost use Rattle.stack_code.specs.declared.instruction.Instr.{Instr};
-ghost use Rattle.stack_code.specs.Codes.{Codes};
+ghost use Rattle.stack_code.specs.layer.Codes.{Codes};
 ghost use Rattle.stack_machine.specs.code.Bodies.{GoesOn};
 ghost use Rattle.stack_machine.specs.code.Inside.{Enters, GoesInside};
 ghost use Rattle.stack_machine.specs.code.Standing.{GoesByReplies};

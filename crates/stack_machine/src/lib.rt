@@ -4,6 +4,7 @@
 mod accesses;
 mod call_work;
 mod calls;
+mod collective_calls;
 mod ints;
 mod jumps;
 mod laws;

@@ -1,13 +1,17 @@
 //! Calls of the library that ask for one action at most.
 
-ghost use Rattle.std.specs.Prelude.{◌≡◌, ℕ, List, IfOk, OnOk};
+ghost use Rattle.std.specs.Prelude.{◌≡◌, ℕ, true, List, Err, IfOk, OnOk};
+ghost use Rattle.upc_values.specs.Calls.{call_of};
+ghost use Rattle.upc_values.specs.declared.scalar.Value.{Value};
+ghost use Rattle.collectives.specs.layer.Arguments.{copies_or_reduces};
+ghost use Rattle.stack_machine.specs.code.Calls.{UnlessWant};
 ghost use Rattle.upc_values.specs.declared.action.Action.{Action};
 ghost use Rattle.upc_values.specs.LibraryCalls.{asks};
 ghost use Rattle.thread_steps.specs.Actions as actions;
 ghost use Rattle.thread_steps.specs.Library as pure;
 ghost use Rattle.thread_steps.specs.layer.Ranges.{IsHeld};
 ghost use Rattle.thread_steps.specs.States.{Thread, Val};
-ghost use Rattle.stack_code.specs.Codes.{thread_of};
+ghost use Rattle.stack_code.specs.layer.Codes.{thread_of};
 ghost use Rattle.thread_values.specs.layer.Asking.{expansion_of};
 ghost use Rattle.stack_machine.specs.code.Kept.{AreHeld};
 ghost use Rattle.stack_machine.specs.code.Libraries.{expanded_to, met_then};
@@ -18,8 +22,12 @@ use crate::runner::Runner;
 use crate::wish::Halt;
 use block_layout::SharedPtr;
 use block_layout::run_error::{BARRIER_IN_FORALL, PHASE_ORDER};
+use collectives::may_meet;
 use stack_code::Code;
-use thread_values::{LibraryStep, is_collective, is_formed, library_step, reply_fits, reply_value};
+use thread_values::{
+    LibraryStep, collective_number, is_collective, is_formed, library_step, reply_fits,
+    reply_value, scalars_met,
+};
 use upc_text::Place;
 use upc_values::{Action, LibraryCall, Scalar, Value};
 
@@ -109,7 +117,48 @@ impl Progress {
         }
     }
 
-    /// A call that asks for one action at most; any other answers want of memory.
+    // How a collective call ends where all threads may not meet.
+    fn not_met(&self, number: u8, met: &[Scalar], place: Place) -> Halt
+        ensures does { (τ : Thread) (before : List Action)
+            → Came before (actions.meet τ place (state_seen before self.now)) (Err result) self.now self.now }
+        ensures formed { UnlessWant {A = Value} (Err result) (copies_or_reduces (call_of number met.now) ≡ true) }
+    {
+        if !may_meet(number, met) {
+            return Halt::Memory;
+        }
+        match self.meet(place) {
+            Err(e) => e,
+            Ok(()) => Halt::Memory,
+        }
+    }
+
+    // A call that has not begun though it asks for many actions: all threads meet in it, and here they may not.
+    fn not_begun(
+        &self,
+        call: LibraryCall,
+        shape: u32,
+        args: &[Value],
+        place: Place,
+        code: &Code,
+        runner: &Runner,
+    ) -> Halt
+        ensures { (before : List Action)
+            → Came before
+            (pure.library (thread_of code.now runner.now.number runner.now.budget) call shape place args.now
+            (state_seen before self.now))
+            (Err result) self.now self.now }
+    {
+        match collective_number(call) {
+            None => Halt::Memory,
+            Some(number) => match scalars_met(runner.alloc, call, args) {
+                Err(_) => Halt::Memory,
+                Ok(met) => self.not_met(number, met.as_slice(), place),
+            },
+        }
+    }
+
+    /// A call that asks for one action at most. One that asks for many begins elsewhere, and comes here only where it
+    /// may not begin.
     pub(crate) fn library(
         &mut self,
         call: LibraryCall,
@@ -137,7 +186,7 @@ impl Progress {
             args,
         )?;
         match step {
-            None => Err(Halt::Memory),
+            None => Err(self.not_begun(call, shape, args, place, code, runner)),
             Some(step) => {
                 if !is_formed(runner.alloc, code.shapes(), call, shape, args)? {
                     return Ok(Value::Scalar(Scalar::Int(0)));

@@ -1,7 +1,7 @@
 //! The machine that runs code reply by reply.
 
 ghost use Rattle.std.specs.Prelude.{◌≡◌, ◌<◌, ◌≤◌, ◌++◌, [], ℕ, List, IfOk, OnErr, IsErr};
-ghost use Rattle.stack_code.specs.Codes.{Codes};
+ghost use Rattle.stack_code.specs.layer.Codes.{Codes};
 ghost use Rattle.upc_values.specs.declared.action.Reply.{Reply};
 ghost use Rattle.upc_values.specs.Outcomes.{Outcome};
 ghost use Rattle.stack_code.specs.layer.Outcomes.{CodeMeans};

@@ -1,14 +1,17 @@
 //! Calls of the library that ask for many actions: they begin, and they go on.
 
 ghost use Rattle.std.specs.Prelude.{◌≡◌, ◌+◌, ◌<◌, ◌≤◌, ◌^◌, ℕ, List, Some, None, IfOk, IfErr, IfSome, OnOk, drop};
-ghost use Rattle.std.specs.Prelude.{slice_get, length, true, pos, ◌∷◌};
+ghost use Rattle.std.specs.Prelude.{slice_get, length, true, pos, IsTrue, ◌∷◌};
+ghost use Rattle.stack_machine.specs.declared.calls.Task.{Task};
 ghost use Rattle.upc_values.specs.declared.action.Reply.{Reply};
 ghost use Rattle.upc_values.specs.LibraryCalls.{library_call, valued};
-ghost use Rattle.stack_code.specs.Codes.{function_at};
+ghost use Rattle.stack_code.specs.layer.Codes.{function_at};
 ghost use Rattle.thread_values.specs.layer.Copies.{copies, shapes_in};
 ghost use Rattle.stack_machine.specs.code.Calls.{call_instr, left_of, the_call, on_its_way};
-ghost use Rattle.stack_machine.specs.code.Calls.{WritesHeld, IsGoingOn, FailsSo, HasLeft};
-ghost use Rattle.stack_machine.specs.code.Inside.{StandsAt};
+ghost use Rattle.stack_machine.specs.code.Calls.{WritesHeld, IsGoingOn, FailsSo, HasLeft, UnlessWant};
+ghost use Rattle.stack_machine.specs.code.Calls.{walks, may_meet, may_begin};
+ghost use Rattle.thread_steps.specs.Library.{is_formed};
+ghost use Rattle.stack_machine.specs.code.Inside.{MayMeet, StandsAt};
 ghost use Rattle.stack_machine.specs.code.Kept.{AreHeld, IsHolding};
 ghost use Rattle.stack_machine.specs.code.Machines.{Waits};
 ghost use Rattle.stack_machine.specs.code.Runs.{Halts};
@@ -25,12 +28,12 @@ use crate::progress::Progress;
 use crate::runner::Runner;
 use crate::wish::Halt;
 use stack_code::{Code, Instr, Operation, ThreadWork};
-use thread_values::{is_copying, private_of, spec_of};
+use thread_values::{collective_number, is_copying, private_of, spec_of};
 use upc_library::Copying;
 use upc_text::{OutOfMemory, Place};
 use upc_values::{LibraryCall, Scalar, Value};
 
-/// A memory call, with the shape of its elements, its arguments' number and its place in the source.
+/// A call that asks for many actions, with the shape of its elements, the number of its arguments and its place.
 #[derive(Clone, Copy)]
 pub(crate) struct NextCall {
     pub(crate) call: LibraryCall,
@@ -39,10 +42,17 @@ pub(crate) struct NextCall {
     pub(crate) place: Place,
 }
 
-// The memory call of an instruction, if it is one.
+// Whether a call of the library asks for many actions.
+fn walks(call: LibraryCall) -> bool
+    ensures { result ≡ walks call }
+{
+    is_copying(call) || collective_number(call).is_some()
+}
+
+// The call of an instruction that asks for many actions, if it is one.
 fn call_of(instr: &Instr) -> Option<NextCall>
     ensures instr { IfSome result (λ c. instr.now ≡ call_instr c) }
-    ensures copies { IfSome result (λ c. copies c.call ≡ true) }
+    ensures walks { IfSome result (λ c. walks c.call ≡ true) }
 {
     match &instr.does {
         Operation::Thread(
@@ -52,7 +62,7 @@ fn call_of(instr: &Instr) -> Option<NextCall>
                 arguments,
             },
         ) => {
-            if is_copying(*call) {
+            if walks(*call) {
                 Some(NextCall {
                     call: *call,
                     shape: *shape,
@@ -68,6 +78,21 @@ fn call_of(instr: &Instr) -> Option<NextCall>
 }
 
 impl Progress {
+    // Whether all threads may meet.
+    fn may_meet(&self) -> bool
+        ensures { result ≡ may_meet self.now }
+    {
+        !self.store.is_controlled() && !self.notified
+    }
+
+    // Whether a call that asks for many actions may begin.
+    fn may_begin(&self, call: LibraryCall) -> bool
+        ensures value { result ≡ may_begin call self.now }
+        ensures meets { IsTrue result → (t : Task) → t.progress ≡ self.now → MayMeet call (task_seen t) }
+    {
+        is_copying(call) || self.may_meet()
+    }
+
     // A memory call is tested.
     fn begin_copy(
         &self,
@@ -95,30 +120,66 @@ impl Progress {
             Err(e) => Err(self.refused(e, next.place)),
         }
     }
+
+    // A call that asks for many actions is tested.
+    fn begin(
+        &self,
+        next: &NextCall,
+        args: &[Value],
+        code: &Code,
+        runner: &Runner,
+    ) -> Result<Walk, Halt>
+        requires held { AreHeld code.now.threads code.now.shapes args.now }
+        requires walks { walks next.now.call ≡ true }
+        ensures made { IfOk result (λ w. library_call code.now.threads code.now.shapes runner.now.number
+            (shapes_in self.now.store) next.now.call next.now.shape args.now
+            ≡ valued (left_of code.now.shapes w)) }
+        ensures values { IfOk result (λ w. WritesHeld code.now.threads code.now.shapes
+            (left_of code.now.shapes w)) }
+        ensures fails { IfErr result (λ e. FailsSo e (library_call code.now.threads code.now.shapes
+            runner.now.number (shapes_in self.now.store) next.now.call next.now.shape args.now)
+            next.now.place self.now.ticks) }
+        ensures formed { UnlessWant result
+            (is_formed code.now.shapes next.now.call next.now.shape args.now ≡ true) }
+    {
+        match collective_number(next.call) {
+            Some(number) => self.begin_collective(next, number, args, code, runner),
+            None => self.begin_copy(next, args, code, runner),
+        }
+    }
 }
 
 impl Task {
-    // The memory call that comes next, if one does.
+    // The call that comes next and asks for many actions, if one does and may begin.
     fn next_call(&self, code: &Code) -> Option<NextCall>
         ensures there { IfSome result (λ c.
             slice_get (function_at code.now.functions self.now.function) self.now.place ≡ Some (call_instr c)) }
-        ensures copies { IfSome result (λ c. copies c.call ≡ true) }
+        ensures walks { IfSome result (λ c. walks c.call ≡ true) }
+        ensures meets { IfSome result (λ c. MayMeet c.call (task_seen self.now)) }
         ensures lands { IfSome result (λ c.
             self.now.place + 1 < length (function_at code.now.functions self.now.function)) }
         ensures small { length (function_at code.now.functions self.now.function) ≤ usize.MAX }
     {
         match code.fetch(self.function, self.place) {
             None => None,
-            Some(instr) => call_of(instr),
+            Some(instr) => {
+                let next = call_of(instr)?;
+                if self.progress.may_begin(next.call) {
+                    Some(next)
+                } else {
+                    None
+                }
+            }
         }
     }
 
-    // A memory call begins: its arguments are taken off.
+    // A call begins: its arguments are taken off.
     fn enter(&mut self, next: NextCall, code: &Code, runner: &Runner) -> Result<OpenCall, Halt>
         requires held { IsHolding code.now.threads code.now.shapes (task_seen self.old) }
         requires there { slice_get (function_at code.now.functions self.old.function) self.old.place
             ≡ Some (call_instr next) }
-        requires copies { copies next.call ≡ true }
+        requires walks { walks next.call ≡ true }
+        requires meets { MayMeet next.call (task_seen self.old) }
         ensures enters { (given : List Reply)
             → Stands code.now runner.now.number runner.now.budget given (listed self.old.progress.reply)
             (task_seen self.old)
@@ -129,12 +190,7 @@ impl Task {
         ensures taken { OnOk result (self.new
             ≡ record self.old { operands = drop next.arguments self.old.operands }) }
     {
-        match self.progress.begin_copy(
-            &next,
-            self.operands.youngest(next.arguments),
-            code,
-            runner,
-        ) {
+        match self.progress.begin(&next, self.operands.youngest(next.arguments), code, runner) {
             Err(halt) => Err(halt),
             Ok(walk) => {
                 self.operands.drop_youngest(next.arguments);
@@ -181,7 +237,10 @@ impl Task {
         ensures left { OnOk result
             (HasLeft code.now.threads code.now.shapes (task_seen self.old) (task_seen self.new)) }
     {
-        match self.progress.walk_on(&mut call.walk, call.place, code) {
+        match self
+            .progress
+            .walk_on(&mut call.walk, call.place, code, runner.alloc)
+        {
             Ok(()) => {
                 self.leave()?;
                 Ok(())

@@ -314,8 +314,8 @@ fn asking(
     }
 }
 
-// A call of the library that is no memory call. Not built yet are the collective ones that ask for more than one
-// action: they answer want of memory, and the top call refuses the programs that have them.
+// A call of the library that is no memory call. A collective one that asks for more than one action begins elsewhere,
+// and comes here only where it may not begin.
 fn library(
     operands: &mut Operands,
     progress: &mut Progress,

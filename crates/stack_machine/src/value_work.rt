@@ -8,7 +8,7 @@ ghost use Rattle.thread_steps.specs.Pointers as pointers;
 ghost use Rattle.thread_steps.specs.layer.Ranges.{IsHeld, IsNumber};
 ghost use Rattle.thread_steps.specs.States.{Thread};
 ghost use Rattle.thread_steps.specs.Values as values;
-ghost use Rattle.stack_code.specs.Codes.{thread_of};
+ghost use Rattle.stack_code.specs.layer.Codes.{thread_of};
 ghost use Rattle.stack_code.specs.layer.Kept.{ElementsFit, ValuesFit};
 ghost use Rattle.stack_code.specs.layer.Steps.{At, Spot, made, top, second, third};
 ghost use Rattle.stack_machine.specs.code.Kept.{AreHeld};

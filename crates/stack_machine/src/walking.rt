@@ -8,7 +8,8 @@ ghost use Rattle.thread_values.specs.layer.Asking.{IsHeldReply};
 ghost use Rattle.upc_library.specs.layer.Wishes.{IsWish, RefusesSo};
 ghost use Rattle.upc_library.specs.declared.copying.CopyWish.TheVariants as wishes;
 ghost use Rattle.stack_machine.specs.code.Bodies.{Body};
-ghost use Rattle.stack_machine.specs.code.Calls.{left_of, replies_to, IsUnfinished, WritesHeld, fits_read};
+ghost use Rattle.stack_machine.specs.code.Calls.{left_of, turns_left, replies_there, IsUnfinished, WritesHeld};
+ghost use Rattle.stack_machine.specs.code.Calls.{ActsOnly, fits_read};
 ghost use Rattle.stack_machine.specs.code.Kept.{HoldsHeld};
 ghost use Rattle.stack_machine.specs.code.Walking.{IsInside, IsHalted, IsAnswered, IsAnsweredOrOver};
 ghost use Rattle.stack_machine.specs.code.Walking.{HasGoneOn, IsWalked, IsRefusal, IfGoing};
@@ -18,6 +19,7 @@ use crate::progress::Progress;
 use crate::wish::Halt;
 use block_layout::{Kind, LocalPtr};
 use stack_code::Code;
+use std::alloc::Global;
 use thread_values::{is_read, kept, reply_fits, scalar_of};
 use upc_library::CopyWish;
 use upc_text::Place;
@@ -54,6 +56,7 @@ impl Progress {
             → IsAnswered code.now thread budget given place (left_of code.now.shapes walk.now) b result self.new }
         ensures held { IfOk result (IsHeldReply code.now.threads code.now.shapes) }
         ensures kept { self.new ≡ record self.old { reply = self.new.reply } }
+        ensures taken { OnOk result (replies_there self.new.reply < replies_there self.old.reply) }
     {
         match self.reply.take() {
             None => Err(Halt::Asks(action, self.ticks)),
@@ -138,6 +141,8 @@ impl Progress {
         ensures store { HoldsHeld code.now.threads code.now.shapes self.new.store }
         ensures kept { self.new ≡ record self.old { store = self.new.store; reply = self.new.reply } }
         ensures unfinished { IfOk result (λ r. IfSome r (λ _. IsUnfinished (left_of code.now.shapes walk.now))) }
+        ensures taken { IfOk result (λ r. IfSome r (λ _. ActsOnly (left_of code.now.shapes walk.now)
+            → replies_there self.new.reply < replies_there self.old.reply)) }
     {
         let answer = match wish {
             CopyWish::Finished => return Ok(None),
@@ -162,7 +167,13 @@ impl Progress {
     }
 
     // One thing that the call asks for is done. Whether the call is over.
-    fn walk_one(&mut self, walk: &mut Walk, place: Place, code: &Code) -> Result<bool, Halt>
+    fn walk_one(
+        &mut self,
+        walk: &mut Walk,
+        place: Place,
+        code: &Code,
+        alloc: Global,
+    ) -> Result<bool, Halt>
         requires store { HoldsHeld code.now.threads code.now.shapes self.old.store }
         requires values { WritesHeld code.now.threads code.now.shapes (left_of code.now.shapes walk.old) }
         ensures goes { (thread budget : ℕ) (given : List Reply) (b : Body)
@@ -172,12 +183,14 @@ impl Progress {
             (WritesHeld code.now.threads code.now.shapes (left_of code.now.shapes walk.new)) }
         ensures store { HoldsHeld code.now.threads code.now.shapes self.new.store }
         ensures kept { self.new ≡ record self.old { store = self.new.store; reply = self.new.reply } }
-        ensures falls { IfOk result (λ over. over ≡ false → replies_to walk.new < replies_to walk.old) }
+        ensures falls { IfOk result (λ over. over ≡ false
+            → turns_left walk.new self.new.reply < turns_left walk.old self.old.reply) }
     {
-        match self.answer(walk, walk.wish(), place, code) {
+        let wish = walk.wish(alloc)?;
+        match self.answer(walk, wish, place, code) {
             Err(halt) => Err(halt),
             Ok(None) => Ok(true),
-            Ok(Some(reply)) => match walk.take(&reply) {
+            Ok(Some(reply)) => match walk.take(alloc, &reply, code.shapes()) {
                 Err(e) => Err(self.refused(e, place)),
                 Ok(()) => Ok(false),
             },
@@ -185,7 +198,13 @@ impl Progress {
     }
 
     /// The call goes on, up to the next action that is wanted, or to its end.
-    pub(crate) fn walk_on(&mut self, walk: &mut Walk, place: Place, code: &Code) -> Result<(), Halt>
+    pub(crate) fn walk_on(
+        &mut self,
+        walk: &mut Walk,
+        place: Place,
+        code: &Code,
+        alloc: Global,
+    ) -> Result<(), Halt>
         requires store { HoldsHeld code.now.threads code.now.shapes self.old.store }
         requires values { WritesHeld code.now.threads code.now.shapes (left_of code.now.shapes walk.old) }
         ensures goes { (thread budget : ℕ) (given : List Reply) (b : Body)
@@ -197,7 +216,7 @@ impl Progress {
         ensures kept { self.new ≡ record self.old { store = self.new.store; reply = self.new.reply } }
     {
         loop {
-            match self.walk_one(walk, place, code) {
+            match self.walk_one(walk, place, code, alloc) {
                 Err(halt) => return Err(halt),
                 Ok(true) => return Ok(()),
                 Ok(false) => {}

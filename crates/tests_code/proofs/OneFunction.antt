@@ -10,8 +10,8 @@ use Rattle.stack_code.specs.declared.instruction.Operation.TheVariants as work
 use Rattle.stack_code.specs.declared.instruction.Instr.{Instr}
 use Rattle.stack_code.specs.layer.Depths.{IsDeep, BeginsOnce, BeginsOther, OnCall}
 use Rattle.stack_code.specs.layer.Making.{Making, empty, with_instruction, with_instructions, with_function}
-use Rattle.gen_expr.specs.Sources.{Source}
-use Rattle.gen_expr.specs.Codes.{value_code, instruction}
+use Rattle.gen_expr.specs.layer.Sources.{Source}
+use Rattle.gen_expr.specs.layer.Codes.{value_code, instruction}
 use Rattle.gen_expr.specs.layer.Gathered.{HoldsOfForms}
 use Rattle.gen_expr.proofs.Gathered.{value_gathers}
 use Rattle.gen_expr.proofs.Depths.{expressions_are_deep}

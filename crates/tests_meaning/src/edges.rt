@@ -147,7 +147,8 @@ const ROWS: [Row; 14] = [
     },
 ];
 
-fn told_as(end: &ToldEnd) -> (&'static str, i64) {
+/// An end, as a word and a number.
+pub fn told_as(end: &ToldEnd) -> (&'static str, i64) {
     match end {
         ToldEnd::Wants(Action::Notify(_)) => ("wants notify", 0),
         ToldEnd::Wants(Action::Wait(_)) => ("wants wait", 0),

@@ -9,3 +9,5 @@ mod front;
 mod sources;
 #[cfg(test)]
 mod strands;
+#[cfg(test)]
+mod together;

@@ -357,7 +357,8 @@ pub fn run_of<R: Wait>(
     if program.threads() != limits.threads {
         return Err(Stop::Memory);
     }
-    run_program_by(rt, alloc, &program, limits, picks)
+    let journal = run_program_by(rt, alloc, &program, limits, picks)?;
+    Ok(journal)
 }
 
 // Whether a run is seen as its row says.

@@ -68,7 +68,8 @@ fn run_on<R: Threads + Wait + Sync, G: Gate>(
     if threads > 32 || program.threads() != threads {
         return Err(Stop::Memory);
     }
-    run_program(rt, alloc, &program, limits, gate)
+    let journal = run_program(rt, alloc, &program, limits, gate)?;
+    Ok(journal)
 }
 
 // Whether every thread has ended with 0.

@@ -243,7 +243,7 @@ x block 1 elements 1 size 8 pieces 8 0 0 0\n",
 // A source on one thread, its status, and what it writes to the output and to the error output.
 type Program = (&'static [u8], u8, &'static [u8], &'static [u8]);
 
-const PROGRAMS: [Program; 33] = [
+const PROGRAMS: [Program; 34] = [
     // Sums, variables, loops and their run errors.
     (
         b"strict shared int x; int main(){x = 2147483647 + 1; return 0;}",
@@ -344,7 +344,7 @@ printf(\"%d\\n\", s); upc_fence; return s;}",
         b"",
         b"upc: run error E13 at 1:63 on thread 0\n",
     ),
-    // Memory calls; and what does not run yet, the collective functions of UPC 7.3.
+    // Memory calls, and the collective functions of UPC 7.3.
     (
         b"shared char a[4]; int main(){upc_memset(a, 7, 3); return a[2] - a[3];}",
         7,
@@ -358,10 +358,16 @@ printf(\"%d\\n\", s); upc_fence; return s;}",
         b"",
     ),
     (
-        b"shared int a[2]; shared int b[2]; int main(){upc_all_exchange(a, b, 4, 0); return 0;}",
-        101,
+        b"shared int a; shared int b; int main(){b = 9; upc_all_exchange(&a, &b, 4, 0); return a;}",
+        9,
         b"",
-        b"upc: refused at 1:1: profile 0\n",
+        b"",
+    ),
+    (
+        b"shared int a[3], s; int main(){a[2] = 4; upc_all_reduceI(&s, a, UPC_ADD, 3, 1, 0, 0); return s;}",
+        4,
+        b"",
+        b"",
     ),
     (
         b"shared char a[4]; int main(){upc_memset(a, 0, 5); return 0;}",

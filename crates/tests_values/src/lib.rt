@@ -12,6 +12,8 @@ mod cells;
 #[cfg(test)]
 mod chunks;
 #[cfg(test)]
+mod collective_calls;
+#[cfg(test)]
 mod counted;
 #[cfg(test)]
 mod edges;

@@ -5,3 +5,4 @@ pub mod Sized
 pub mod AtOnce
 pub mod Asking
 pub mod MemoryCalls
+pub mod CollectiveCalls

@@ -1,6 +1,6 @@
 -- The sizes of an allocation by the arguments of its call, and the scalars among arguments.
 use Rattle.std.proofs.Common.{◌≡◌, ◌<◌, ℕ, List, [], ◌∷◌, ◌++◌, ◌+◌, length, get_or, take, Option, Some, None, Bool, true}
-use Rattle.std.proofs.Common.{false, refl, sym, ap, ◌∙◌, pos, arith}
+use Rattle.std.proofs.Common.{false, refl, sym, ap, ◌∙◌, pos}
 use Rattle.std.proofs.lemmas.List.{take_more}
 use Rattle.std.specs.Prelude.{◌&&◌, is_some, slice_get}
 use Rattle.block_layout.specs.declared.kind.Shape.{Shape}
@@ -14,7 +14,7 @@ use Rattle.upc_values.specs.Expansion.{Expansion, Gives}
 use Rattle.upc_values.specs.LibraryCalls.{library_call, global_alloc, all_alloc, alloc, scalars}
 use Rattle.upc_values.specs.Scalars as scalar
 use Rattle.thread_steps.specs.Library.{is_call, is_formed}
-use Rattle.thread_values.specs.code.Parts.{size_of, both_sizes, two_sizes, one_size}
+use Rattle.thread_values.specs.code.Parts.{two_sizes, one_size}
 
 abbrev with_two : Option (ℕ × ℕ) → (ℕ → ℕ → Expansion Scalar) → Expansion Scalar
 with_two (Some s) go = go s.0 s.1

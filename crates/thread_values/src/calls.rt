@@ -16,7 +16,7 @@ ghost use Rattle.thread_values.specs.code.Parts.{IsGiven, is_integer};
 
 use crate::values::{number, number_of};
 use block_layout::run_error::{LIBRARY_ARGS, NULL_ACCESS};
-use block_layout::{Kind, LocalPtr, ObjectRef, piece_bytes};
+use block_layout::{Kind, LocalPtr, ObjectRef, limits, piece_bytes};
 use integers::convert;
 use std::alloc::Global;
 use upc_library::print_text;
@@ -24,7 +24,7 @@ use upc_text::{OutOfMemory, Text};
 use upc_values::{LibraryCall, Scalar, Value};
 
 // The most bytes of an object and of a block.
-const MOST_BYTES: u128 = 16_777_216;
+const MOST_BYTES: u128 = limits::SHARED_BYTES as u128;
 
 /// The pointer to a private object of this number, or a null one.
 pub fn pointer_to(object: Option<u64>) -> Value

@@ -11,11 +11,8 @@ ghost use Rattle.upc_values.specs.Lists.{Each};
 ghost use Rattle.upc_values.specs.declared.scalar.Scalar.TheVariants as scalar;
 
 use block_layout::run_error::NULL_ACCESS;
-use block_layout::{Kind, Loc, ObjectRef, Shape, SharedPtr, is_in_range};
+use block_layout::{Kind, Loc, ObjectRef, Shape, SharedPtr, is_in_range, limits};
 use upc_values::{Scalar, fits_kind};
-
-// The most bytes of an object and of a block.
-const MOST_BYTES: u32 = 16_777_216;
 
 /// The pointer-to-shared to the place of a pointer-to-local (UPC 6.4.3).
 pub fn into_shared(object: ObjectRef, thread: u32, offset: i64) -> SharedPtr
@@ -85,5 +82,5 @@ fn is_small(object: &ObjectRef) -> bool
     ensures total { IsTrue result → object.now.total ≤ 16777216 }
     ensures block { IsTrue result → object.now.block ≤ 16777216 }
 {
-    object.total <= MOST_BYTES && object.block <= MOST_BYTES
+    object.total <= limits::SHARED_BYTES && object.block <= limits::SHARED_BYTES
 }

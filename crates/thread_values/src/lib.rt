@@ -4,6 +4,7 @@
 mod calls;
 mod casts;
 mod cells;
+mod collectives;
 mod copies;
 mod library;
 mod meetings;
@@ -15,6 +16,7 @@ mod values;
 pub use calls::{has_turn, library_value, pointer_to, printed, printed_count};
 pub use casts::cast;
 pub use cells::{cell, into_shared, is_read};
+pub use collectives::{collective_number, scalars_met};
 pub use copies::{is_copying, private_of, spec_of};
 pub use library::{LibraryStep, library_step};
 pub use meetings::{is_collective, is_formed};

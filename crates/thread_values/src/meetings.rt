@@ -51,7 +51,7 @@ fn is_met(call: u8, args: &[Scalar]) -> bool
 }
 
 // The scalars among values.
-fn scalars(alloc: Global, values: &[Value]) -> Result<Vec<Scalar>, OutOfMemory>
+pub(crate) fn scalars(alloc: Global, values: &[Value]) -> Result<Vec<Scalar>, OutOfMemory>
     ensures { IfOk result (λ v. v.items ≡ scalars values.now) }
 {
     let mut found = Vec::new(alloc);

@@ -20,7 +20,7 @@ use crate::addresses::ALONE;
 use crate::constants::{
     and_constant, binary_constant, choice_constant, or_constant, unary_constant,
 };
-use block_layout::Kind;
+use block_layout::{Kind, limits};
 use integers::{BinOp, UnOp};
 use std::alloc::Global;
 use std::rc::Rc;
@@ -151,7 +151,7 @@ pub fn threads(threads: u32) -> Attr
 pub fn max_block_size() -> Attr
     ensures { (φ : Facts) → view_attr result ≡ attr φ nodes.MaxBlockSize }
 {
-    constant(Kind::Int, Constant::Known(16_777_216))
+    constant(Kind::Int, Constant::Known(i128::from(limits::SHARED_BYTES)))
 }
 
 fn unary_kind(op: UnOp, kind: Kind) -> Kind

@@ -14,6 +14,7 @@ ghost use Rattle.typing_rules.specs.Rules.{lowest};
 
 use crate::conversion::converts;
 use crate::rules::has_no_size;
+use block_layout::limits;
 use typing_rules::constants::constant_of;
 use typing_rules::types::{is_array, is_lock, is_nested, is_no_object, is_shared, is_struct, leaf};
 use typing_rules::{Attr, Constant, Formed, Signature, SizeOperator};
@@ -30,7 +31,7 @@ fn is_block_size(k: Constant) -> bool
     ensures { result ≡ r.is_block_size k }
 {
     match k {
-        Constant::Known(v) => 0 <= v && v <= 16_777_216,
+        Constant::Known(v) => 0 <= v && v <= i128::from(limits::SHARED_BYTES),
         _ => false,
     }
 }

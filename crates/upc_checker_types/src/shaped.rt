@@ -8,7 +8,7 @@ ghost use Rattle.upc_checker_types.specs.Shapes as walks;
 ghost use Rattle.upc_checker_types.specs.layer.ViewShapes.{view_blocks, view_quals, view_shaped, view_specified};
 
 use crate::specified::{Blocks, Quals, Specified, quals_fit, specified_base};
-use block_layout::Kind;
+use block_layout::{Kind, limits};
 use std::alloc::Global;
 use std::rc::Rc;
 use typing_rules::{Constant, Formed};
@@ -126,10 +126,10 @@ fn elements(size: Constant) -> u32
 {
     match size {
         Constant::Known(v) if 1 <= v => {
-            if v <= 16_777_216 {
+            if v <= i128::from(limits::SHARED_BYTES) {
                 v as u32
             } else {
-                16_777_217
+                limits::SHARED_BYTES + 1
             }
         }
         _ => 1,

@@ -8,6 +8,7 @@ ghost use Rattle.upc_checker_types.specs.layer.ViewShapes.{view_specifying};
 ghost use Rattle.upc_checker_types.specs.code.ViewWords.{view_found};
 
 use crate::words::{base_of_words, count, no_types};
+use block_layout::limits;
 use std::alloc::Global;
 use typing_rules::Constant;
 use upc_text::{OutOfMemory, Place};
@@ -174,7 +175,7 @@ pub fn block_size(c: Constant) -> u32
     ensures { result ≡ walks.block_size c }
 {
     match c {
-        Constant::Known(v) if 0 <= v && v <= 16_777_216 => v as u32,
+        Constant::Known(v) if 0 <= v && v <= i128::from(limits::SHARED_BYTES) => v as u32,
         _ => 1,
     }
 }

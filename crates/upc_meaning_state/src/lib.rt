@@ -16,6 +16,7 @@ mod ranges;
 mod runner;
 mod setting;
 mod shapes;
+mod together;
 
 pub use progress::{Progress, Step};
 pub use ranges::is_numeric;

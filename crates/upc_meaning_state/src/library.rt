@@ -15,8 +15,8 @@ use crate::ranges::is_numeric;
 use crate::runner::Runner;
 use block_layout::SharedPtr;
 use thread_values::{
-    LibraryStep, first_int, is_collective, is_copying, is_formed, library_step, library_value,
-    printed, printed_count, reply_value,
+    LibraryStep, collective_number, first_int, is_collective, is_copying, is_formed, library_step,
+    library_value, printed, printed_count, reply_value,
 };
 use upc_text::{OutOfMemory, Place};
 use upc_values::{Action, LibraryCall, Scalar, ToldEnd, Value};
@@ -135,8 +135,7 @@ impl<'r> Progress<'r> {
         }
     }
 
-    // A call that asks for one action at most. Not built yet are the collective calls that ask for more: they answer
-    // want of memory.
+    // A call that asks for one action at most.
     #[tactic(auto, using(thread_values::proofs::Asking::unformed))]
     fn asking_call(
         &mut self,
@@ -172,8 +171,29 @@ impl<'r> Progress<'r> {
         }
     }
 
-    /// A call of the library other than printf. Collective calls that ask for more than one action answer want of
-    /// memory.
+    // A call that gives its value at once, or asks for one action at most.
+    fn brief_call(
+        &mut self,
+        runner: Runner<'_>,
+        place: Place,
+        call: LibraryCall,
+        shape: u32,
+        args: &[Value],
+    ) -> Result<Step<Value>, OutOfMemory>
+        requires { Fits runner }
+        ensures { IfOk result (λ s. Came (pure.library (thread_seen runner.entry) call shape place args.now
+            (state_seen self.old)) s self.new) }
+    {
+        match library_value(runner.threads, call, args) {
+            None => self.asking_call(runner, place, call, shape, args),
+            Some(answer) => match answer {
+                Err(code) => Ok(Step::Ends(ToldEnd::Fault(code, place))),
+                Ok(v) => Ok(Step::Gives(v)),
+            },
+        }
+    }
+
+    /// A call of the library other than printf.
     pub(crate) fn library(
         &mut self,
         runner: Runner<'_>,
@@ -192,12 +212,9 @@ impl<'r> Progress<'r> {
         if is_copying(call) {
             return self.memory_call(runner, place, call, shape, args);
         }
-        match library_value(runner.threads, call, args) {
-            None => self.asking_call(runner, place, call, shape, args),
-            Some(answer) => match answer {
-                Err(code) => Ok(Step::Ends(ToldEnd::Fault(code, place))),
-                Ok(v) => Ok(Step::Gives(v)),
-            },
+        match collective_number(call) {
+            None => self.brief_call(runner, place, call, shape, args),
+            Some(number) => self.collective_call(runner, place, call, number, shape, args),
         }
     }
 }

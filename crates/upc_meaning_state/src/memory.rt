@@ -7,7 +7,7 @@ ghost use Rattle.upc_library.specs.declared.copying.CopyWish.TheVariants as wish
 ghost use Rattle.thread_steps.specs.Library as pure;
 ghost use Rattle.thread_values.specs.layer.Copies.{copies};
 ghost use Rattle.upc_values.specs.LibraryCalls.{valued};
-ghost use Rattle.upc_meaning_state.specs.code.Memory.{Answers, IsAnswered, IsAnsweredOrOver, IsUnfinished};
+ghost use Rattle.upc_meaning_state.specs.code.Walking.{Answers, IsAnswered, IsAnsweredOrOver, IsUnfinished};
 ghost use Rattle.upc_meaning_state.specs.layer.Came.{Came, state_seen};
 ghost use Rattle.upc_meaning_state.specs.layer.Libraries.{expanded_to};
 ghost use Rattle.upc_meaning_state.specs.layer.Runners.{Fits, thread_seen};

@@ -1,13 +1,11 @@
 -- What is answered where nothing fails, and where the words ask for nothing.
 use Rattle.std.proofs.Common.{◌≡◌, ◌∙◌, ◌<◌, ℕ, true, List, length, map, Option, Some, sym, subst, inl, inr, arith}
 use Rattle.upc_text.specs.Outside.{Rose, IsWhole, IsLonger}
-use Rattle.upc_text.specs.declared.place.Refusal.{Refusal}
 use Rattle.typed_tree.specs.Programs.{Checked}
-use Rattle.upc_top_words.specs.declared.call.Mode.TheVariants.{Run}
-use Rattle.upc_top.specs.Sources.{IsRunnable, IsRefusedIn, not_accepted, not_runnable}
+use Rattle.upc_top.specs.Sources.{IsAccepted}
 use Rattle.upc_top.specs.Verdicts.{Reading}
 use Rattle.upc_top.specs.Delivery.{Writing, Gained}
-use Rattle.upc_top.proofs.Readings.{never_both, never_outside}
+use Rattle.upc_top.proofs.Readings.{never_both}
 use Rattle.outcomes.specs.Tally.{listed}
 use Rattle.upc_outcomes_words.specs.Values.{Asked, Asks, Wanted, seeded, every, given, recorded}
 use Rattle.upc_outcomes.specs.declared.verdict.Verdict.{Verdict}
@@ -81,16 +79,12 @@ module _ (words : List (List ℕ)) (r : Reading) (out err : Writing) (status : �
       let short = s.source.short in
       omega arith
 
-  run-refused : (program : Checked) (x : Refusal) → IsRunnable a.threads bytes program → IsRefusedIn Run a.threads bytes x → ⊥
-  run-refused program x h (not_accepted why) = never_both a.threads bytes program x h.accepted why
-  run-refused program x h (not_runnable mode why) = never_outside a.threads bytes program x h why
-
-  done-by : (program : Checked) → IsRunnable a.threads bytes program → (v : Verdict) → Caused words r v → Written v out status
+  done-by : (program : Checked) → IsAccepted a.threads bytes program → (v : Verdict) → Caused words r v → Written v out status
       → IsDone a.wanted a bytes out status
   done-by program h Usage c w = absurd (c a s.asks)
   done-by program h ReadFault c w = absurd (no-fault c)
   done-by program h TooLong c w = absurd (not-longer c)
-  done-by program h (Refused x) c w = absurd (run-refused program x h (came-from (Refused x) c))
+  done-by program h (Refused x) c w = absurd (never_both a.threads bytes program x h (came-from (Refused x) c))
   done-by program h (Found many rows) c w =
       let f = came-from (Found many rows) c in
       done-listed a.wanted a bytes out status f.listing

@@ -5,7 +5,7 @@ use Rattle.upc_values.specs.declared.journal.Journal.{Journal}
 use Rattle.upc_values.specs.declared.order.Orders.{Orders}
 use Rattle.typed_tree.specs.Programs.{Checked}
 use Rattle.run_recorder_text.specs.Lines.{text}
-use Rattle.upc_top.specs.Sources.{IsRunnable}
+use Rattle.upc_top.specs.Sources.{IsAccepted}
 use Rattle.upc_top.specs.Verdicts.{Reading}
 use Rattle.upc_top.specs.Delivery.{Writing, Gained, Broke, IsToldWhole}
 use Rattle.outcomes.specs.Tally.{Listed}
@@ -79,9 +79,9 @@ IsDone (recorded picks) a bytes out status =
     HasRecorded a bytes out status ⊎ IsOverlong a bytes status ⊎ (status ≡ 104)
 IsDone wanted a bytes out status = HasListed a bytes out status ⊎ (status ≡ 104)
 
--- Where the words were taken, the file is known and nothing failed, a program that runs today is run as was asked for,
--- and what its runs show is written.
+-- Where the words were taken, the file is known and nothing failed, an accepted program is run as was asked for, and
+-- what its runs show is written.
 abbrev pub IsComplete : List (List ℕ) → Reading → Writing → Writing → ℕ → Type 0
 IsComplete words reading out err status =
     (a : Asked) (bytes : List ℕ) (checked : Checked) → Succeeds words reading out err a bytes
-    → IsRunnable a.threads bytes checked → IsDone a.wanted a bytes out status
+    → IsAccepted a.threads bytes checked → IsDone a.wanted a bytes out status

@@ -8,8 +8,7 @@ use Rattle.upc_task.specs.declared.limits.Limits.{Limits}
 use Rattle.program_runs.specs.Picked.{IsRunByPicks}
 use Rattle.order_builder.specs.Named.{orders_of}
 use Rattle.run_recorder_text.specs.Short.{HasText, is_short}
-use Rattle.upc_top_words.specs.declared.call.Mode.TheVariants.{Run}
-use Rattle.upc_top.specs.Sources.{IsAccepted, IsRefusedIn}
+use Rattle.upc_top.specs.Sources.{IsAccepted, IsRefused}
 use Rattle.upc_top.specs.Verdicts.{Reading, IsFile}
 use Rattle.outcomes.specs.Tally.{Listed, listed}
 use Rattle.outcomes.specs.Found.{IsFound}
@@ -57,7 +56,7 @@ pub record OverlongFrom (a : Asked) (bytes : List ℕ) : Type 0 where
 
 -- What each verdict says of the bytes of a source that was read whole.
 abbrev pub ComesFrom : Asked → List ℕ → Verdict → Type 0
-ComesFrom a bytes (Refused r) = IsRefusedIn Run a.threads bytes r
+ComesFrom a bytes (Refused r) = IsRefused a.threads bytes r
 ComesFrom a bytes (Found many rows) = FoundFrom a bytes many (map listed rows.items)
 ComesFrom a bytes (Recorded j o) = RecordedFrom a bytes j o
 ComesFrom a bytes Overlong = OverlongFrom a bytes

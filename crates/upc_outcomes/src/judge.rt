@@ -68,8 +68,7 @@ fn record<R: Wait>(
 {
     match run_program_by(rt, alloc, program, limits(call), picks) {
         Ok(journal) => recorded(alloc, journal),
-        Err(Stop::Refused(refusal)) => Verdict::Refused(refusal),
-        Err(Stop::Memory) => Verdict::NoMemory,
+        Err(_) => Verdict::NoMemory,
     }
 }
 
@@ -85,8 +84,7 @@ fn find<R: Wait>(rt: &R, alloc: Global, call: &Call<'_>, bytes: &[u8], program: 
     };
     match explore(rt, alloc, program, limits(call), lists.as_slice()) {
         Ok(rows) => Verdict::Found(lists.len() as u32, rows),
-        Err(Stop::Refused(refusal)) => Verdict::Refused(refusal),
-        Err(Stop::Memory) => Verdict::NoMemory,
+        Err(_) => Verdict::NoMemory,
     }
 }
 

@@ -32,8 +32,7 @@ pub fn outcomes_main<R: Wait, S: Sources, O: Sink, E: Sink>(
         result }
     // Other words are refused.
     ensures words { RefusesOtherWords (map string_bytes words.now) result }
-    // Where nothing fails, a program that runs today is run by the lists that were asked for, and what they show is
-    // written.
+    // Where nothing fails, an accepted program is run by the lists that were asked for, and what they show is written.
     ensures complete { IsComplete (map string_bytes words.now)
         (reading (S.bytes_of files.old) (S.faults files.old) (S.faults files.new))
         (writing (O.taken out.old) (O.taken out.new) (O.faults out.old) (O.faults out.new))

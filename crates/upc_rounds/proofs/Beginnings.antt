@@ -7,7 +7,7 @@ use Rattle.turn_cell.specs.layer.Seats.{TableId, AreNew, IsNew, IsFree, first_nu
 use Rattle.upc_values.specs.declared.journal.Entry.{Entry}
 use Rattle.upc_values.specs.Openings.{Opening}
 use Rattle.upc_values.specs.Lists.{Numbered}
-use Rattle.stack_code.specs.Codes.{Codes}
+use Rattle.stack_code.specs.layer.Codes.{Codes}
 use Rattle.upc_task.specs.layer.Sources.{Outcomes}
 use Rattle.upc_rounds.specs.declared.place.Place.{Place}
 use Rattle.upc_rounds.specs.code.Teams.{IsMember, seen_among}

@@ -8,7 +8,7 @@ use Rattle.upc_values.specs.declared.record.End.TheVariants.{Halted, Deadlocked}
 use Rattle.upc_values.specs.declared.journal.Entry.{Entry}
 use Rattle.upc_values.specs.Lists.{Numbered}
 use Rattle.upc_values.specs.Openings.{Opening}
-use Rattle.stack_code.specs.Codes.{Codes}
+use Rattle.stack_code.specs.layer.Codes.{Codes}
 use Rattle.stack_machine.specs.declared.wish.Wish.TheVariants.{Act}
 use Rattle.upc_task.specs.declared.worker.Worker.{Worker}
 use Rattle.upc_task.specs.layer.Sources.{Outcomes}

@@ -18,7 +18,7 @@ use Rattle.upc_values.specs.Strands.{next_action}
 use Rattle.upc_values.proofs.Walks.{walked-push, entries_of-append, entries-all}
 use Rattle.upc_values.proofs.Records.{next-did, next-stall, replies-stall}
 use Rattle.stack_machine.specs.declared.wish.Wish.TheVariants.{Act}
-use Rattle.stack_code.specs.Codes.{Codes}
+use Rattle.stack_code.specs.layer.Codes.{Codes}
 use Rattle.write_buffer.specs.declared.pending.Pending.{Pending}
 use Rattle.write_buffer.specs.layer.Buffer.{committed}
 use Rattle.upc_task.specs.declared.worker.Worker.{Worker}

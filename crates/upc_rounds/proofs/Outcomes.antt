@@ -7,7 +7,7 @@ use Rattle.upc_values.specs.declared.record.ToldEnd.TheVariants.{Wants}
 use Rattle.upc_values.specs.Openings.{Opening, IsOpening}
 use Rattle.upc_values.specs.Outcomes.{Outcome}
 use Rattle.thread_steps.specs.layer.Fronts.{IsInTurn}
-use Rattle.stack_code.specs.Codes.{Codes}
+use Rattle.stack_code.specs.layer.Codes.{Codes}
 use Rattle.stack_code.specs.layer.Kept.{IsCode}
 use Rattle.stack_code.specs.layer.Outcomes.{CodeMeans}
 use Rattle.stack_code_laws.specs.layer.Asking.{IsCodeFor, IsThreadOf}

@@ -6,7 +6,7 @@ use Rattle.upc_values.specs.declared.record.Item.TheVariants.{Did}
 use Rattle.upc_values.specs.Openings.{Opening}
 use Rattle.upc_values.specs.Records.{last_item, is_beat_item}
 use Rattle.upc_values.proofs.Records.{last-push}
-use Rattle.stack_code.specs.Codes.{Codes}
+use Rattle.stack_code.specs.layer.Codes.{Codes}
 use Rattle.turn_cell.specs.layer.Seats.{TableId, seen_of}
 use Rattle.upc_task.specs.declared.worker.Worker.{Worker}
 use Rattle.upc_task.specs.declared.worker.Pause.{Pause}

@@ -20,7 +20,7 @@ use Rattle.upc_values.specs.Strands.{MayWait, StallsStand}
 use Rattle.upc_values.specs.Ends.{stops, OwnEnd}
 use Rattle.upc_values.proofs.Walks.{walked-push, entries_of-append, entries-own}
 use Rattle.upc_values.proofs.Records.{last-push}
-use Rattle.stack_code.specs.Codes.{Codes}
+use Rattle.stack_code.specs.layer.Codes.{Codes}
 use Rattle.stack_machine.specs.declared.wish.Wish.{Wish}
 use Rattle.stack_machine.specs.declared.wish.Wish.TheVariants.{Act}
 use Rattle.stack_machine.specs.declared.wish.Wish.TheVariants as wishes

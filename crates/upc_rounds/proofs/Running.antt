@@ -14,7 +14,7 @@ use Rattle.upc_values.specs.History.{reply, IsLegal, EachBelow}
 use Rattle.upc_values.specs.Formed.{AreWellFormed}
 use Rattle.upc_values.specs.Ends.{stops, settles, SharedEnd, OwnEnd}
 use Rattle.upc_values.specs.Sound.{IsStrand, IsSound}
-use Rattle.stack_code.specs.Codes.{Codes}
+use Rattle.stack_code.specs.layer.Codes.{Codes}
 use Rattle.stack_machine.specs.declared.wish.Wish.{Wish}
 use Rattle.stack_machine.specs.declared.wish.Wish.TheVariants.{Act}
 use Rattle.upc_task.specs.declared.limits.Limits.{Limits}

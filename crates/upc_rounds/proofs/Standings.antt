@@ -16,7 +16,7 @@ use Rattle.upc_values.specs.Openings.{Opening}
 use Rattle.upc_values.specs.Ends.{stops, is_pause}
 use Rattle.upc_values.proofs.Lists.{each-push}
 use Rattle.upc_values.proofs.Walks.{stall-pauses, beat-pauses}
-use Rattle.stack_code.specs.Codes.{Codes}
+use Rattle.stack_code.specs.layer.Codes.{Codes}
 use Rattle.stack_machine.specs.declared.wish.Wish.{Wish}
 use Rattle.stack_machine.specs.declared.wish.Wish.TheVariants.{Act}
 use Rattle.upc_task.specs.declared.worker.Worker.{Worker}

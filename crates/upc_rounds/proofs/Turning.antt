@@ -4,7 +4,7 @@ use Rattle.std.proofs.lemmas.Bool.{cases_Bool, cases_eq, ltb-true, ltb-false}
 use Rattle.std.proofs.lemmas.List.{get_or_past}
 use Rattle.turn_cell.specs.layer.Seats.{TableId}
 use Rattle.upc_values.specs.Openings.{Opening}
-use Rattle.stack_code.specs.Codes.{Codes}
+use Rattle.stack_code.specs.layer.Codes.{Codes}
 use Rattle.upc_task.specs.declared.worker.Worker.{Worker}
 use Rattle.upc_rounds.specs.declared.place.Place.{Place}
 use Rattle.upc_rounds.specs.layer.Course.{Standing, Grows}

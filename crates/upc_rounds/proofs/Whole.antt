@@ -8,7 +8,7 @@ use Rattle.upc_values.specs.Openings.{Opening}
 use Rattle.upc_values.specs.History.{IsLegal, EachBelow}
 use Rattle.upc_values.specs.Formed.{AreWellFormed}
 use Rattle.upc_values.specs.Sound.{IsSound}
-use Rattle.stack_code.specs.Codes.{Codes}
+use Rattle.stack_code.specs.layer.Codes.{Codes}
 use Rattle.stack_code.specs.layer.Kept.{IsCode}
 use Rattle.stack_code_laws.specs.layer.Asking.{IsCodeFor}
 use Rattle.typed_tree.specs.declared.program.Program.{Program}

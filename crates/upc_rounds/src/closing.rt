@@ -4,7 +4,7 @@ ghost use Rattle.std.specs.Prelude.{◌≡◌, ◌<◌, ◌≤◌, [], true, is_
 ghost use Rattle.upc_values.specs.Lists.{Numbered};
 ghost use Rattle.turn_cell.specs.layer.Seats.{id_of, seats_of, seen_of, started};
 ghost use Rattle.upc_values.specs.Openings.{Opening};
-ghost use Rattle.stack_code.specs.Codes.{Codes};
+ghost use Rattle.stack_code.specs.layer.Codes.{Codes};
 ghost use Rattle.upc_task.specs.layer.Sources.{Outcomes};
 ghost use Rattle.upc_task.specs.layer.Kept.{IsKept, strand_of};
 ghost use Rattle.upc_rounds.specs.code.Teams.{IsSeated, worker_of, workers_of, seat_at, seen_at, seen_among};

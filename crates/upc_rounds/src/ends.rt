@@ -9,7 +9,7 @@ ghost use Rattle.upc_values.specs.Openings.{Opening};
 ghost use Rattle.upc_values.specs.Lists.{Numbered};
 ghost use Rattle.upc_values.specs.Ends as ends;
 ghost use Rattle.stack_machine.specs.declared.wish.Wish.TheVariants.{Act};
-ghost use Rattle.stack_code.specs.Codes.{Codes};
+ghost use Rattle.stack_code.specs.layer.Codes.{Codes};
 ghost use Rattle.turn_cell.specs.layer.Seats.{id_of, started};
 ghost use Rattle.upc_task.specs.layer.Sources.{Outcomes};
 ghost use Rattle.upc_task.specs.layer.Seated.{IsTask};

@@ -14,7 +14,7 @@ use Rattle.upc_values.specs.Openings.{Opening, IsOpening}
 use Rattle.upc_values.specs.History.{IsLegal, EachBelow}
 use Rattle.upc_values.specs.Formed.{AreWellFormed}
 use Rattle.upc_values.proofs.Walks.{entries_of-append}
-use Rattle.stack_code.specs.Codes.{Codes}
+use Rattle.stack_code.specs.layer.Codes.{Codes}
 use Rattle.write_buffer.specs.layer.Buffer.{committed}
 use Rattle.stack_machine.specs.declared.wish.Wish.{Wish}
 use Rattle.upc_task.specs.declared.worker.Worker.{Worker}

@@ -25,7 +25,7 @@ use Rattle.upc_values.proofs.Known.{known-grow}
 use Rattle.upc_values.proofs.Lists.{each-push}
 use Rattle.upc_values.proofs.Walks.{walked-push, paused-empty, stall-pauses, beat-pauses, emptied-same, entries-other}
 use Rattle.upc_values.proofs.Records.{last-push, actions-did, replies-did, actions-stall, replies-stall, stand-did, stand-stall, justified-did, justified-stall, justified-grow, beats-push, beat-of, stall-no_beat}
-use Rattle.stack_code.specs.Codes.{Codes}
+use Rattle.stack_code.specs.layer.Codes.{Codes}
 use Rattle.stack_machine.specs.layer.Machine.{Seen}
 use Rattle.stack_machine.specs.declared.wish.Wish.{Wish}
 use Rattle.stack_machine.specs.declared.wish.Wish.TheVariants.{Act, Ended, Exit, Fault, Budget}

@@ -10,7 +10,7 @@ ghost use Rattle.upc_values.specs.History.{reply};
 ghost use Rattle.upc_values.specs.Records as records;
 ghost use Rattle.upc_values.specs.Ends as ends;
 ghost use Rattle.upc_values.specs.Formed.{IsWellFormed};
-ghost use Rattle.stack_code.specs.Codes.{Codes};
+ghost use Rattle.stack_code.specs.layer.Codes.{Codes};
 ghost use Rattle.stack_machine.specs.declared.wish.Wish.TheVariants.{Act};
 ghost use Rattle.turn_cell.specs.layer.Members.{longer};
 ghost use Rattle.turn_cell.specs.layer.Seats as seats;

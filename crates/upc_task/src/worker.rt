@@ -13,7 +13,7 @@ ghost use Rattle.write_buffer.specs.layer.Buffer.{committed};
 ghost use Rattle.upc_values.specs.Records as records;
 ghost use Rattle.upc_values.specs.Ends as ends;
 ghost use Rattle.upc_values.specs.Ends.{OwnEnd};
-ghost use Rattle.stack_code.specs.Codes.{Codes};
+ghost use Rattle.stack_code.specs.layer.Codes.{Codes};
 ghost use Rattle.stack_machine.specs.declared.wish.Wish.TheVariants.{Act};
 ghost use Rattle.upc_task.specs.declared.worker.Pause.TheVariants.{Going, Finished};
 ghost use Rattle.upc_task.specs.layer.Sources.{Outcomes, HasOutcomes};

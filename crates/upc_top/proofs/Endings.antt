@@ -4,7 +4,6 @@ use Rattle.upc_sample.specs.Sample.{sample}
 use Rattle.std.specs.Prelude.{◌⊎◌}
 use Rattle.std.proofs.lemmas.Fmt.{decimal_injective}
 use Rattle.upc_text.specs.Outside.{Rose, IsWhole, IsLonger}
-use Rattle.upc_text.specs.declared.place.Refusal.{Refusal}
 use Rattle.typed_tree.specs.Programs.{Checked}
 use Rattle.upc_top_words.specs.declared.call.Mode.{Mode}
 use Rattle.upc_top_words.specs.declared.call.Mode.TheVariants.{Run, Record, Check, Layout, Sample}
@@ -15,8 +14,8 @@ use Rattle.upc_top.specs.declared.verdict.Verdict.{Verdict}
 use Rattle.upc_top.specs.declared.verdict.Verdict.TheVariants.{Usage, ReadFault, TooLong, Refused, Ran, Recorded, Overlong, Passed, Laid, NoMemory}
 use Rattle.upc_top.specs.Words.{prints, runs}
 use Rattle.upc_top_output.specs.Layout.{layout}
-use Rattle.upc_top.specs.Sources.{IsAccepted, IsRunnable, IsRefusedIn, not_accepted, not_runnable}
-use Rattle.upc_top.proofs.Readings.{never_both, never_outside, same_checked}
+use Rattle.upc_top.specs.Sources.{IsAccepted}
+use Rattle.upc_top.proofs.Readings.{never_both, same_checked}
 use Rattle.upc_top.specs.Verdicts.{Reading, IsSample, IsSource, Holds, Taken, Caused, CameTo, ComesFrom, FailedToRead, IsTooLong, status_for, text_of, journal_of, orders_in, without_memory, IsWritable}
 use Rattle.upc_top.specs.Delivery.{Writing, Gained, Delivered, Delivered.Whole, Delivered.Out_broke, Delivered.Err_broke, Delivers, Answered, RefusesOtherWords, RefusesLongFiles, SampleReadsNoFile, Succeeds, IsThere, IsToldWhole, HasRun, HasRecorded, IsOverlong, HasWritten, IsDone, IsComplete}
 
@@ -164,16 +163,12 @@ module _ (words : List (List ℕ)) (r : Reading) (out err : Writing) (d : Done) 
       let short = t.short in
       omega arith
 
-  run-refused : (program : Checked) (x : Refusal) → IsRunnable a.threads bytes program → IsRefusedIn a.mode a.threads bytes x → ⊥
-  run-refused program x h (not_accepted why) = never_both a.threads bytes program x h.accepted why
-  run-refused program x h (not_runnable mode why) = never_outside a.threads bytes program x h why
-
   -- a run of a mode that prints
-  done-run : prints a.mode ≡ true → (program : Checked) → IsRunnable a.threads bytes program → (v : Verdict) → Caused words r v → Written v out d → HasRun out d ⊎ (d.status ≡ 104)
+  done-run : prints a.mode ≡ true → (program : Checked) → IsAccepted a.threads bytes program → (v : Verdict) → Caused words r v → Written v out d → HasRun out d ⊎ (d.status ≡ 104)
   done-run m program h Usage c w = absurd (c a s.asks)
   done-run m program h ReadFault c w = absurd (no-fault c)
   done-run m program h TooLong c w = absurd (not-longer c)
-  done-run m program h (Refused x) c w = absurd (run-refused program x h (came-from (Refused x) c))
+  done-run m program h (Refused x) c w = absurd (never_both a.threads bytes program x h (came-from (Refused x) c))
   done-run m program h (Ran j) c w = inl (record { journal = j; is = w.journal; status = w.status; text = w.text })
   done-run m program h (Recorded j o) c w = absurd (not-both prints a.mode Record refl m (came-from (Recorded j o) c).mode)
   done-run m program h (Overlong j) c w = absurd (not-both prints a.mode Record refl m (came-from (Overlong j) c).mode)
@@ -181,12 +176,12 @@ module _ (words : List (List ℕ)) (r : Reading) (out err : Writing) (d : Done) 
   done-run m program h (Laid p) c w = absurd (not-both prints a.mode Layout refl m (came-from (Laid p) c).mode)
   done-run m program h (NoMemory o) c w = inr w.status
 
-  done-record : a.mode ≡ Record → (program : Checked) → IsRunnable a.threads bytes program → (v : Verdict) → Caused words r v → Written v out d
+  done-record : a.mode ≡ Record → (program : Checked) → IsAccepted a.threads bytes program → (v : Verdict) → Caused words r v → Written v out d
       → HasRecorded out d ⊎ IsOverlong d ⊎ (d.status ≡ 104)
   done-record m program h Usage c w = absurd (c a s.asks)
   done-record m program h ReadFault c w = absurd (no-fault c)
   done-record m program h TooLong c w = absurd (not-longer c)
-  done-record m program h (Refused x) c w = absurd (run-refused program x h (came-from (Refused x) c))
+  done-record m program h (Refused x) c w = absurd (never_both a.threads bytes program x h (came-from (Refused x) c))
   done-record m program h (Ran j) c w = absurd (not-both prints a.mode Record refl (came-from (Ran j) c).prints m)
   done-record m program h (Recorded j o) c w =
       inl (record { journal = j; is = w.journal; orders = o; are = w.orders; status = w.status; text = w.text })
@@ -195,10 +190,6 @@ module _ (words : List (List ℕ)) (r : Reading) (out err : Writing) (d : Done) 
   done-record m program h Passed c w = let bad = sym m ∙ (came-from Passed c).mode in absurd cc
   done-record m program h (Laid p) c w = let bad = sym m ∙ (came-from (Laid p) c).mode in absurd cc
   done-record m program h (NoMemory o) c w = inr (inr w.status)
-
-  accepted-refused : runs a.mode ≡ false → (checked : Checked) (x : Refusal) → IsAccepted a.threads bytes checked → IsRefusedIn a.mode a.threads bytes x → ⊥
-  accepted-refused m checked x h (not_accepted why) = never_both a.threads bytes checked x h why
-  accepted-refused m checked x h (not_runnable mode why) = let bad = sym m ∙ mode in absurd cc
 
   -- no run where the mode runs none
   no-run : runs a.mode ≡ false → runs a.mode ≡ true → ⊥
@@ -209,7 +200,7 @@ module _ (words : List (List ℕ)) (r : Reading) (out err : Writing) (d : Done) 
   done-check m checked h Usage c w = absurd (c a s.asks)
   done-check m checked h ReadFault c w = absurd (no-fault c)
   done-check m checked h TooLong c w = absurd (not-longer c)
-  done-check m checked h (Refused x) c w = absurd (accepted-refused (ap runs m) checked x h (came-from (Refused x) c))
+  done-check m checked h (Refused x) c w = absurd (never_both a.threads bytes checked x h (came-from (Refused x) c))
   done-check m checked h (Ran j) c w = absurd (no-run (ap runs m) (came-from (Ran j) c).run.mode)
   done-check m checked h (Recorded j o) c w = absurd (no-run (ap runs m) (came-from (Recorded j o) c).run.mode)
   done-check m checked h (Overlong j) c w = absurd (no-run (ap runs m) (came-from (Overlong j) c).run.mode)
@@ -222,7 +213,7 @@ module _ (words : List (List ℕ)) (r : Reading) (out err : Writing) (d : Done) 
   done-layout m checked h Usage c w = absurd (c a s.asks)
   done-layout m checked h ReadFault c w = absurd (no-fault c)
   done-layout m checked h TooLong c w = absurd (not-longer c)
-  done-layout m checked h (Refused x) c w = absurd (accepted-refused (ap runs m) checked x h (came-from (Refused x) c))
+  done-layout m checked h (Refused x) c w = absurd (never_both a.threads bytes checked x h (came-from (Refused x) c))
   done-layout m checked h (Ran j) c w = absurd (no-run (ap runs m) (came-from (Ran j) c).run.mode)
   done-layout m checked h (Recorded j o) c w = absurd (no-run (ap runs m) (came-from (Recorded j o) c).run.mode)
   done-layout m checked h (Overlong j) c w = absurd (no-run (ap runs m) (came-from (Overlong j) c).run.mode)

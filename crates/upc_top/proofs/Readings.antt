@@ -11,8 +11,7 @@ use Rattle.upc_checker.specs.Limits.{Passed}
 use Rattle.upc_checker.specs.Outcomes as o
 use Rattle.upc_checker.specs.Outcomes.{outcome}
 use Rattle.typed_tree.specs.Programs.{Checked}
-use Rattle.upc_top.specs.Sources.{IsExpanded, IsRead, IsAccepted, IsRunnable, IsOutside, no_syntax, too_high, IsRefused, no_tokens, no_expansion, no_tree, no_typing}
-use Rattle.program_runs.specs.Served.{RunsToday}
+use Rattle.upc_top.specs.Sources.{IsExpanded, IsRead, IsAccepted, no_syntax, too_high, IsRefused, no_tokens, no_expansion, no_tree, no_typing}
 
 -- given tokens are equal where they are given alike
 given_same : (ts us : List Token) → map given ts ≡ map given us → ts ≡ us
@@ -52,11 +51,6 @@ accepted_is None None x c h = cc
 pub accepted_threads : (threads : ℕ) (bytes : List ℕ) (c : Checked) → IsAccepted threads bytes c → c.threads ≡ threads
 accepted_threads threads bytes c a =
     sym (ap (λ (x : Checked). x.threads) (accepted_is _ _ _ c a.typed.typed))
-
--- a source that can run is not outside
-pub never_outside : (threads : ℕ) (bytes : List ℕ) (c : Checked) (r : Refusal) → IsRunnable threads bytes c → IsOutside threads bytes r → ⊥
-never_outside threads bytes c r a b =
-    b.not_yet.runs (subst RunsToday (same_checked threads bytes c b.checked a.accepted b.accepted) a.runs)
 
 -- a source is not both accepted and refused
 pub never_both : (threads : ℕ) (bytes : List ℕ) (d : Checked) (r : Refusal) → IsAccepted threads bytes d → IsRefused threads bytes r → ⊥

@@ -11,7 +11,7 @@ use Rattle.upc_top_words.specs.declared.call.Mode.TheVariants.{Run, Record, Chec
 use Rattle.upc_top_words.specs.Values.{Asked, Asks}
 use Rattle.upc_top.specs.declared.verdict.Verdict.{Verdict}
 use Rattle.upc_top.specs.declared.done.Done.{Done}
-use Rattle.upc_top.specs.Sources.{IsAccepted, IsRunnable}
+use Rattle.upc_top.specs.Sources.{IsAccepted}
 use Rattle.upc_top_output.specs.Layout.{layout}
 use Rattle.upc_top_output.specs.Output.{output, status_of}
 use Rattle.upc_top.specs.Verdicts.{Reading, Caused, text_of, line_of, status_for, refusal_of, journal_of}
@@ -133,15 +133,15 @@ pub record HasWritten (out : Writing) (done : Done) (text : List ℕ) : Type 0 w
   pub status : done.status ≡ 0
   pub gained : Gained out text
 
--- What is done with bytes in each mode, or memory was wanting: a program that runs today is run, or run and recorded,
--- unless its run is too long for a text; an accepted source is passed, or laid out.
+-- What is done with bytes in each mode, or memory was wanting: an accepted source is run, or run and recorded unless
+-- its run is too long for a text, or is passed, or laid out.
 abbrev pub IsDone : Mode → ℕ → List ℕ → Writing → Done → Type 0
 IsDone Run threads bytes out done =
-    (checked : Checked) → IsRunnable threads bytes checked → HasRun out done ⊎ (done.status ≡ 104)
+    (checked : Checked) → IsAccepted threads bytes checked → HasRun out done ⊎ (done.status ≡ 104)
 IsDone Sample threads bytes out done =
-    (checked : Checked) → IsRunnable threads bytes checked → HasRun out done ⊎ (done.status ≡ 104)
+    (checked : Checked) → IsAccepted threads bytes checked → HasRun out done ⊎ (done.status ≡ 104)
 IsDone Record threads bytes out done =
-    (checked : Checked) → IsRunnable threads bytes checked
+    (checked : Checked) → IsAccepted threads bytes checked
     → HasRecorded out done ⊎ IsOverlong done ⊎ (done.status ≡ 104)
 IsDone Check threads bytes out done =
     (checked : Checked) → IsAccepted threads bytes checked → HasWritten out done (codes "ok\n") ⊎ (done.status ≡ 104)

@@ -1,6 +1,6 @@
 -- The way of a source to a program for so many threads: tokens, then their expansion, then the tree of that, then the
 -- typed tree, then the program.
-use Rattle.std.specs.Prelude.{ℕ, ◌≡◌, ◌≤◌, true, List, length}
+use Rattle.std.specs.Prelude.{ℕ, ◌≡◌, ◌≤◌, List, length}
 use Rattle.upc_text.specs.declared.place.Code.{Code}
 use Rattle.upc_text.specs.declared.place.Code.TheVariants.{Syntax, Limit}
 use Rattle.upc_text.specs.declared.place.Refusal.{Refusal}
@@ -14,10 +14,6 @@ use Rattle.upc_parser.specs.Answer.{HasPlace}
 use Rattle.upc_checker.specs.Outcomes as outcomes
 use Rattle.upc_checker.specs.Outcomes.{outcome}
 use Rattle.typed_tree.specs.Programs.{Checked}
-use Rattle.upc_top_words.specs.declared.call.Mode.{Mode}
-use Rattle.program_runs.specs.Served.{RunsToday}
-use Rattle.program_runs.specs.Runs.{IsNotYet}
-use Rattle.upc_top.specs.Words.{runs}
 
 -- The bytes have tokens over these names, and these tokens are their expansion.
 pub record IsExpanded (bytes : List ℕ) (names : List (List ℕ)) (expanded : List Token) : Type 0 where
@@ -49,11 +45,6 @@ pub record Passes (threads : ℕ) (bytes : List ℕ) : Type 0 where
   pub checked : Checked
   pub accepted : IsAccepted threads bytes checked
 
--- The source is accepted as a program that runs today.
-pub record IsRunnable (threads : ℕ) (bytes : List ℕ) (checked : Checked) : Type 0 where
-  pub accepted : IsAccepted threads bytes checked
-  pub runs : RunsToday checked
-
 -- Why expanded tokens have no tree: no proper tree of any height has them, or each that has them is too high.
 pub data HasNoTree (expanded : List Token) (code : Code) : Type 0 where
   no_syntax : code ≡ Syntax → ((u : List External) → ProperUnit u → tokens_of u ≡ expanded → ⊥)
@@ -75,17 +66,6 @@ pub data IsRefused (threads : ℕ) (bytes : List ℕ) (r : Refusal) : Type 0 whe
   -- The tree breaks a typing rule, or passes a limit.
   no_typing : (names : List (List ℕ)) (tree : List External) → IsRead bytes names tree
       → outcome names threads tree ≡ outcomes.Refused r → IsRefused threads bytes r
-
--- The source is accepted, but does not run today, for which the answer is `profile 0` at 1:1.
-pub record IsOutside (threads : ℕ) (bytes : List ℕ) (r : Refusal) : Type 0 where
-  pub checked : Checked
-  pub accepted : IsAccepted threads bytes checked
-  pub not_yet : IsNotYet checked r
-
--- Why a source is refused in a mode: it is refused, or it is to run and cannot.
-pub data IsRefusedIn (mode : Mode) (threads : ℕ) (bytes : List ℕ) (r : Refusal) : Type 0 where
-  not_accepted : IsRefused threads bytes r → IsRefusedIn mode threads bytes r
-  not_runnable : runs mode ≡ true → IsOutside threads bytes r → IsRefusedIn mode threads bytes r
 
 -- The source is refused, or there was no memory.
 abbrev pub StopsReading : ℕ → List ℕ → Stop → Type 0

@@ -21,7 +21,7 @@ use Rattle.upc_top.specs.declared.verdict.Verdict.{Verdict}
 use Rattle.upc_top.specs.declared.verdict.Verdict.TheVariants.{Usage, ReadFault, TooLong, Refused, Ran, Passed, Laid}
 use Rattle.upc_top.specs.declared.verdict.Verdict.TheVariants.{Recorded, Overlong, NoMemory}
 use Rattle.upc_top.specs.Words.{prints, runs}
-use Rattle.upc_top.specs.Sources.{IsAccepted, IsRunnable, IsRefusedIn}
+use Rattle.upc_top.specs.Sources.{IsAccepted, IsRefused}
 use Rattle.upc_top_output.specs.Layout.{layout}
 use Rattle.upc_top_output.specs.Output.{output, status_of, run_line, refusal_line}
 
@@ -39,11 +39,11 @@ reading told before after = record { told = told; before = before; after = after
 abbrev pub limits_of : Asked → Limits
 limits_of a = record { threads = a.threads; budget = a.budget; actions = a.actions }
 
--- The bytes are a program that runs today, of which the journal is a sound run within what was asked for.
+-- The bytes are accepted as a program, of which the journal is a sound run within what was asked for.
 pub record RunsAs (a : Asked) (bytes : List ℕ) (j : Journal) : Type 0 where
   pub mode : runs a.mode ≡ true
   pub checked : Checked
-  pub runnable : IsRunnable a.threads bytes checked
+  pub accepted : IsAccepted a.threads bytes checked
   pub run : IsRunByRounds checked (limits_of a) j
 
 -- What the program prints was asked for, and the journal is its run.
@@ -77,7 +77,7 @@ pub record LaidFrom (a : Asked) (bytes : List ℕ) (checked : Checked) : Type 0 
 
 -- What each verdict says of the bytes of a source that was read whole or made.
 abbrev pub ComesFrom : Asked → List ℕ → Verdict → Type 0
-ComesFrom a bytes (Refused refusal) = IsRefusedIn a.mode a.threads bytes refusal
+ComesFrom a bytes (Refused refusal) = IsRefused a.threads bytes refusal
 ComesFrom a bytes (Ran j) = RanFrom a bytes j
 ComesFrom a bytes (Recorded j o) = RecordedFrom a bytes j o
 ComesFrom a bytes (Overlong j) = OverlongFrom a bytes j

@@ -8,7 +8,7 @@ ghost use Rattle.upc_tree.specs.layer.ViewStatement.{view_unit};
 ghost use Rattle.upc_text.specs.declared.place.Refusal.{Refusal as Reason};
 ghost use Rattle.typed_tree.specs.Programs.{Checked};
 ghost use Rattle.typed_tree.specs.ViewProgram.{view_program};
-ghost use Rattle.upc_top.specs.Sources.{IsExpanded, IsRead, IsAccepted, IsRunnable, IsRefused, IsOutside};
+ghost use Rattle.upc_top.specs.Sources.{IsExpanded, IsRead, IsAccepted, IsRefused};
 ghost use Rattle.upc_top.specs.Sources.{Passes, StopsReading};
 
 use std::alloc::Global;
@@ -77,6 +77,4 @@ pub fn one_reading()
         → IsAccepted threads bytes d → c ≡ d }
     ensures either { (threads : ℕ) (bytes : List ℕ) (c : Checked) (r : Reason)
         → IsAccepted threads bytes c → IsRefused threads bytes r → ⊥ }
-    ensures outside { (threads : ℕ) (bytes : List ℕ) (c : Checked) (r : Reason)
-        → IsRunnable threads bytes c → IsOutside threads bytes r → ⊥ }
 {}

@@ -59,8 +59,7 @@ fn run_accepted<R: Threads + Wait + Sync, G: Gate>(
     };
     match run_program(rt, alloc, program, limits, gate) {
         Ok(journal) => shown(alloc, call.mode, journal),
-        Err(Stop::Refused(refusal)) => Verdict::Refused(refusal),
-        Err(Stop::Memory) => Verdict::NoMemory(None),
+        Err(_) => Verdict::NoMemory(None),
     }
 }
 

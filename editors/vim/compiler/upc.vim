@@ -4,6 +4,7 @@ if exists("current_compiler")
   finish
 endif
 let current_compiler = "upc"
-let s:call = get(g:, "upc_why", resolve(expand("<sfile>:p:h") .. "/../../../bin/why") .. " check -T 4")
+let s:why = shellescape(resolve(expand("<sfile>:p:h") .. "/../../../bin/why"), 1)
+let s:call = get(g:, "upc_why", s:why .. " check -T 4")
 let &l:makeprg = s:call .. " %:S"
 CompilerSet errorformat=%f:%l:%c:\ %trror:\ %m,%f:%l:%c:\ %m,%-G%.%#

@@ -12,8 +12,8 @@ use Rattle.stack_code.specs.declared.instruction.CallWork.TheVariants.{CallTo}
 use Rattle.stack_code.specs.declared.instruction.ThreadWork.TheVariants.{Library}
 use Rattle.stack_code.specs.declared.instruction.Operation.TheVariants as work
 use Rattle.stack_code.specs.declared.instruction.Instr.{Instr}
-use Rattle.gen_expr.specs.Sources.{Source, running_of}
-use Rattle.gen_expr.specs.Codes.{instruction, arguments_count, arguments_code}
+use Rattle.gen_expr.specs.layer.Sources.{Source, running_of}
+use Rattle.gen_expr.specs.layer.Codes.{instruction, arguments_count, arguments_code}
 
 -- The code of a call of a function of the source (C99 6.5.2.2).
 abbrev pub function_call_code : Source → Bool → Place → ℕ → Exprs → List Instr

@@ -5,8 +5,8 @@ use Rattle.typed_tree.specs.Tree.{Expr}
 use Rattle.stack_code.specs.declared.instruction.CallWork.TheVariants.{GiveBack}
 use Rattle.stack_code.specs.declared.instruction.Operation.TheVariants as work
 use Rattle.stack_code.specs.layer.Depths.{IsDeep}
-use Rattle.gen_expr.specs.Sources.{Source}
-use Rattle.gen_expr.specs.Codes.{value_code}
+use Rattle.gen_expr.specs.layer.Sources.{Source}
+use Rattle.gen_expr.specs.layer.Codes.{value_code}
 
 -- The operand depths of the code of each expression agree, and it leaves one operand, its value: with an instruction
 -- after it that gives the value back it is a function whose depths agree.

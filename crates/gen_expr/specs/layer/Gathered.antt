@@ -16,8 +16,8 @@ use Rattle.stack_code.specs.declared.instruction.CallWork.TheVariants as call
 use Rattle.stack_code.specs.declared.instruction.ThreadWork.TheVariants as thread
 use Rattle.stack_code.specs.declared.instruction.Operation.TheVariants as work
 use Rattle.stack_code.specs.declared.instruction.Instr.{Instr}
-use Rattle.gen_expr.specs.Sources.{Source, running_of}
-use Rattle.gen_expr.specs.Codes.{instruction, stacks, makes, jumps, pushes, loads, saves}
+use Rattle.gen_expr.specs.layer.Sources.{Source, running_of}
+use Rattle.gen_expr.specs.layer.Codes.{instruction, stacks, makes, jumps, pushes, loads, saves}
 
 -- The work on the stack is no push of a value.
 abbrev pub PushesNone : StackWork → Type 0

@@ -9,12 +9,12 @@ use Rattle.source_meaning.specs.Expressions.{Calls, value}
 use Rattle.stack_code.specs.declared.instruction.CallWork.TheVariants.{CallTo}
 use Rattle.stack_code.specs.declared.instruction.Operation.TheVariants as work
 use Rattle.stack_code.specs.declared.instruction.Instr.{Instr}
-use Rattle.stack_code.specs.Codes.{function_at}
+use Rattle.stack_code.specs.layer.Codes.{function_at}
 use Rattle.stack_code.specs.layer.Steps.{Spot, further}
 use Rattle.stack_code.specs.layer.Meets.{HasFrom, Meets, piled, there, value_at}
 use Rattle.stack_code.specs.layer.Making.{Making, with_instructions}
-use Rattle.gen_expr.specs.Sources.{Source, source_of}
-use Rattle.gen_expr.specs.Codes.{value_code}
+use Rattle.gen_expr.specs.layer.Sources.{Source, source_of}
+use Rattle.gen_expr.specs.layer.Codes.{value_code}
 
 -- In these functions an instruction that calls function n + 1 does what a call of function n does.
 abbrev pub CallsMeet : Running → List (List Instr) → Calls → Type 0

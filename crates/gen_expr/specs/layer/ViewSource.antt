@@ -5,7 +5,7 @@ use Rattle.typed_tree.specs.Beginnings.{Beginning}
 use Rattle.typed_tree.specs.Tree.{Function}
 use Rattle.typed_tree.specs.ViewStatements.{view_function}
 use Rattle.gen_expr.specs.declared.source.Source as sources
-use Rattle.gen_expr.specs.Sources.{Source}
+use Rattle.gen_expr.specs.layer.Sources.{Source}
 
 -- What the code generator makes code from, as contracts see it.
 abbrev pub view_source : sources.Source → Source

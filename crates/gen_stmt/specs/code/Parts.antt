@@ -12,13 +12,14 @@ use Rattle.stack_code.specs.declared.instruction.StackWork.TheVariants as stack
 use Rattle.stack_code.specs.declared.instruction.Jump.TheVariants as jump
 use Rattle.stack_code.specs.declared.instruction.ThreadWork.TheVariants as thread
 use Rattle.stack_code.specs.declared.instruction.Instr.{Instr}
-use Rattle.gen_expr.specs.Sources.{Source, running_of}
-use Rattle.gen_expr.specs.Codes.{stacks, jumps, value_code}
-use Rattle.gen_stmt.specs.Ways.{Ways, all_past, all_inner}
-use Rattle.gen_stmt.specs.Codes.{enters, acts, block_code, loop_code, label_code, test_code, first_code, guard_code}
-use Rattle.gen_stmt.specs.Codes.{aside_code}
-use Rattle.gen_stmt.specs.Codes.{declared_code, statement_code, items_code}
-use Rattle.gen_stmt.specs.Programs.{receives, parameter_access}
+use Rattle.gen_expr.specs.layer.Sources.{Source, running_of}
+use Rattle.gen_expr.specs.layer.Codes.{stacks, jumps, value_code}
+use Rattle.gen_stmt.specs.code.Ways.{Ways, all_past, all_inner}
+use Rattle.gen_stmt.specs.code.Codes.{enters, acts, block_code, loop_code}
+use Rattle.gen_stmt.specs.code.Codes.{label_code, test_code, first_code, guard_code}
+use Rattle.gen_stmt.specs.code.Codes.{aside_code}
+use Rattle.gen_stmt.specs.code.Codes.{declared_code, statement_code, items_code}
+use Rattle.gen_stmt.specs.code.Programs.{receives, parameter_access}
 
 -- The body of a switch: its code, its labels with values, and its `default`. Each has the number of instructions of the
 -- body that stand after it, 0 where there is no `default`.

@@ -4,7 +4,7 @@ use Rattle.upc_values.specs.declared.action.Reply.{Reply}
 use Rattle.upc_values.specs.Outcomes.{Outcome}
 use Rattle.typed_tree.specs.Programs.{Checked}
 use Rattle.source_meaning.specs.Threads.{thread_outcome}
-use Rattle.stack_code.specs.Codes.{Codes}
+use Rattle.stack_code.specs.layer.Codes.{Codes}
 use Rattle.stack_code.specs.layer.Outcomes.{CodeMeans}
 
 -- Code means what a program means: each thread, with each budget of at least one tick and on all replies, fitting or

@@ -1,7 +1,7 @@
 -- The program's areas as the definitions have them.
 use Rattle.std.specs.Prelude.{ℕ}
 use Rattle.upc_values.specs.Copying as said
-use Rattle.plain_calls.specs.layer.Spots.{IsRoomFor}
+use Rattle.plain_calls.specs.code.Spots.{IsRoomFor}
 use Rattle.plain_calls.specs.declared.memory.Area.{Area}
 use Rattle.plain_calls.specs.declared.memory.Area.TheVariants as area
 

@@ -7,7 +7,7 @@ use Rattle.shared_pointers.specs.layer.Ranges.{IsThreads}
 use Rattle.upc_values.specs.Lists.{Each}
 use Rattle.upc_values.specs.declared.scalar.Value.{Value}
 use Rattle.stack_code.specs.declared.instruction.Instr.{Instr}
-use Rattle.stack_code.specs.Codes.{Codes, codes_of}
+use Rattle.stack_code.specs.layer.Codes.{Codes, codes_of}
 use Rattle.stack_code.specs.layer.Kept.{IsFitting, IsKnown}
 
 -- The code so far, the instructions of the function that is not ended yet, and whether memory was wanting.

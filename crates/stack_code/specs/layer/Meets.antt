@@ -3,7 +3,7 @@ use Rattle.std.specs.Prelude.{ℕ, ◌≡◌, ◌+◌, List, [], ◌∷◌, Some
 use Rattle.upc_values.specs.declared.scalar.Value.{Value}
 use Rattle.thread_steps.specs.States.{Thread, State, Res, Val, Over, Unfinished}
 use Rattle.stack_code.specs.declared.instruction.Instr.{Instr}
-use Rattle.stack_code.specs.Codes.{function_at}
+use Rattle.stack_code.specs.layer.Codes.{function_at}
 use Rattle.stack_code.specs.layer.Steps.{Spot, Conf, At, Halt, steps}
 
 -- These instructions stand in a list from this place on.

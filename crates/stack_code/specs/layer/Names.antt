@@ -12,7 +12,7 @@ use Rattle.stack_code.specs.declared.instruction.StackWork.{StackWork}
 use Rattle.stack_code.specs.declared.instruction.StackWork.TheVariants.{Push}
 use Rattle.stack_code.specs.declared.instruction.Operation.{Operation}
 use Rattle.stack_code.specs.declared.instruction.Operation.TheVariants as work
-use Rattle.stack_code.specs.Codes.{Codes}
+use Rattle.stack_code.specs.layer.Codes.{Codes}
 
 -- P holds of the value that work on the stack pushes, if it pushes one.
 abbrev pub PushedBy : (Value → Type 0) → StackWork → Type 0

@@ -31,7 +31,7 @@ use Rattle.stack_code.specs.declared.instruction.ThreadWork.TheVariants.{Library
 use Rattle.stack_code.specs.declared.instruction.Operation.{Operation}
 use Rattle.stack_code.specs.declared.instruction.Operation.TheVariants as work
 use Rattle.stack_code.specs.declared.instruction.Instr.{Instr}
-use Rattle.stack_code.specs.Codes.{Codes, thread_of, function_at}
+use Rattle.stack_code.specs.layer.Codes.{Codes, thread_of, function_at}
 use Rattle.stack_code.specs.layer.Kept.{IsCode}
 use Rattle.stack_code.specs.layer.Names.{NamesOnly}
 use Rattle.stack_code.specs.layer.Outcomes.{CodeMeans, beginning}

@@ -22,7 +22,7 @@ use Rattle.stack_code.specs.declared.instruction.StackWork.TheVariants.{Push}
 use Rattle.stack_code.specs.declared.instruction.Operation.{Operation}
 use Rattle.stack_code.specs.declared.instruction.Operation.TheVariants as work
 use Rattle.stack_code.specs.declared.instruction.Instr.{Instr}
-use Rattle.stack_code.specs.Codes.{Codes}
+use Rattle.stack_code.specs.layer.Codes.{Codes}
 use Rattle.stack_code.specs.layer.Kept.{IsCode}
 use Rattle.stack_code.specs.layer.Names.{NamesOnly}
 use Rattle.stack_code.specs.layer.Outcomes.{CodeMeans}

@@ -1,5 +1,6 @@
 -- Calls of the library on their way.
-use Rattle.std.specs.Prelude.{ℕ, ◌≡◌, ◌+◌, ◌<◌, ◌^◌, Bool, true, false, List, [], ◌∷◌, Option, Some, None, option_map}
+use Rattle.std.specs.Prelude.{ℕ, ◌≡◌, ◌+◌, ◌<◌, ◌^◌, Bool, false, not, ◌&&◌, ◌||◌, ◌==◌, List}
+use Rattle.std.specs.Prelude.{Option, Some, None, option_map, is_some, Result, Err}
 use Rattle.block_layout.specs.declared.kind.Kind.{Kind}
 use Rattle.block_layout.specs.declared.kind.Shape.{Shape}
 use Rattle.upc_text.specs.declared.place.Place.{Place}
@@ -10,6 +11,11 @@ use Rattle.upc_values.specs.Formed.{is_read}
 use Rattle.upc_values.specs.Expansion.{Expansion, Gives, Fails, Reads, Asks, Loads, Stores}
 use Rattle.thread_steps.specs.layer.Ranges.{IsHeldScalar}
 use Rattle.upc_library.specs.layer.Walks.{rest, replies_left}
+use Rattle.upc_values.specs.declared.library.LibraryCall.{LibraryCall}
+use Rattle.private_store.specs.Live.{controls}
+use Rattle.thread_values.specs.layer.Copies.{copies}
+use Rattle.thread_values.specs.layer.Collectives.{collective_number}
+use Rattle.collectives.specs.layer.Walks as together
 use Rattle.stack_machine.specs.declared.open_calls.Walk.{Walk}
 use Rattle.stack_machine.specs.declared.open_calls.Walk.TheVariants as walk
 use Rattle.stack_machine.specs.declared.open_calls.OpenCall.{OpenCall}
@@ -23,14 +29,29 @@ use Rattle.stack_code.specs.declared.instruction.Instr.{Instr}
 use Rattle.stack_machine.specs.code.Bodies.{Body}
 use Rattle.stack_machine.specs.code.Inside.{OnItsWay}
 use Rattle.stack_machine.specs.code.Kept.{IsHolding}
+use Rattle.stack_machine.specs.declared.progress.Progress.{Progress}
 
 -- What is left of a call, by the shapes of the program.
 abbrev pub left_of : List Shape → Walk → Expansion (Unit {0})
 left_of shapes (walk.Copying c) = rest c
+left_of shapes (walk.Collective c) = together.rest shapes c
 
--- How many replies it still takes at most.
-abbrev pub replies_to : Walk → ℕ
-replies_to (walk.Copying c) = replies_left c
+-- How many replies are there: one, or none.
+abbrev pub replies_there : Option Reply → ℕ
+replies_there None = 0
+replies_there (Some r) = 1
+
+-- How many turns the call takes at most before it asks for an action that no reply is there for: in a memory call the
+-- replies that it still takes, and in a collective call, which asks for actions alone, the reply that is there.
+abbrev pub turns_left : Walk → Option Reply → ℕ
+turns_left (walk.Copying c) r = replies_left c
+turns_left (walk.Collective c) r = replies_there r
+
+-- The answer to what the call asked for leaves fewer turns: something was left to do, and in a collective call the
+-- reply that was there is taken.
+abbrev pub IsNearer : Walk → (before after : Option Reply) → Type 0
+IsNearer (walk.Copying c) before after = 0 < replies_left c
+IsNearer (walk.Collective c) before after = replies_there after < replies_there before
 
 -- The call as contracts see it.
 abbrev pub on_its_way : OpenCall → OnItsWay
@@ -44,6 +65,15 @@ the_call o = option_map on_its_way o
 abbrev pub IsUnfinished : Expansion (Unit {0}) → Type 0
 IsUnfinished (Gives v) = ⊥
 IsUnfinished x = Unit {0}
+
+-- The call asks for actions alone.
+abbrev pub ActsOnly : {A : Type 0} → Expansion A → Type 0
+ActsOnly (Gives v) = Unit {0}
+ActsOnly (Fails code) = Unit {0}
+ActsOnly (Reads l k go) = (v : Scalar) → ActsOnly (go v)
+ActsOnly (Asks a go) = (r : Reply) → ActsOnly (go r)
+ActsOnly (Loads p k go) = ⊥
+ActsOnly (Stores p k v go) = ⊥
 
 -- A reply gives a value that a read of a cell of this kind may give.
 abbrev pub fits_read : ℕ → List Shape → Option Kind → Reply → Bool
@@ -70,7 +100,24 @@ module _ (threads : ℕ) (shapes : List Shape) where
   MayGoOn None b = Unit {0}
   MayGoOn (Some c) b = IsGoingOn (c.left shapes) b
 
--- The instruction of a memory call with so many arguments.
+-- The call asks for many actions: a memory call, and a collective call from 5 to 12 (UPC 7.2.5, 7.3).
+abbrev pub walks : LibraryCall → Bool
+walks c = copies c || is_some (collective_number c)
+
+-- The thread stands neither in a controlling body nor between a notify and its wait (UPC 6.6.1, 6.6.2).
+abbrev pub may_meet : Progress → Bool
+may_meet p = (controls p.store == 0) && not p.notified
+
+-- Such a call may begin: a memory call always, and a collective call where all threads may meet.
+abbrev pub may_begin : LibraryCall → Progress → Bool
+may_begin c p = copies c || may_meet p
+
+-- This holds unless memory was wanting.
+abbrev pub UnlessWant : {A : Type 0} → Result A Halt → Type 0 → Type 0
+UnlessWant (Err halt.Memory) P = Unit {0}
+UnlessWant r P = P
+
+-- The instruction of a call with so many arguments.
 abbrev pub call_instr : NextCall → Instr
 call_instr c = record { place = c.place; does = Among (Library c.call c.shape c.arguments) }
 

@@ -1,5 +1,5 @@
 -- Where a thread stands inside a call of the library, reply by reply.
-use Rattle.std.specs.Prelude.{ℕ, ◌≡◌, ◌==◌, ◌<◌, ◌++◌, Bool, true, false, List, [], ◌∷◌, drop, Option, Some, None}
+use Rattle.std.specs.Prelude.{ℕ, ◌≡◌, ◌<◌, ◌++◌, true, false, List, [], ◌∷◌, drop, Option, Some, None}
 use Rattle.std.specs.Prelude.{Ok, Err, is_some, slice_get}
 use Rattle.upc_text.specs.declared.place.Place.{Place}
 use Rattle.block_layout.specs.declared.place.Loc.{Loc}
@@ -20,16 +20,15 @@ use Rattle.upc_values.specs.LibraryCalls.{library_call, meet_number, valued}
 use Rattle.upc_values.specs.Expansion.{Expansion, Gives, Fails, Reads, Asks, Loads, Stores, value_in}
 use Rattle.private_store.specs.Live.{Live}
 use Rattle.private_store.specs.Cells.{loaded, stored}
-use Rattle.thread_steps.specs.States.{Thread, State, bind, give}
+use Rattle.thread_steps.specs.States.{Thread, bind, give}
 use Rattle.thread_steps.specs.Values.{kept, scalar_of}
 use Rattle.thread_steps.specs.Actions.{is_controlled}
 use Rattle.thread_steps.specs.Accesses.{run}
 use Rattle.thread_steps.specs.Library.{private_shapes, is_exit, is_formed}
 use Rattle.stack_code.specs.declared.instruction.ThreadWork.TheVariants.{Library}
 use Rattle.stack_code.specs.declared.instruction.Operation.TheVariants.{Thread as Among}
-use Rattle.stack_code.specs.declared.instruction.Instr.{Instr}
-use Rattle.stack_code.specs.Codes.{Codes, thread_of, function_at}
-use Rattle.stack_code.specs.layer.Steps.{Conf, At, conf_of, further, youngest, step, steps}
+use Rattle.stack_code.specs.layer.Codes.{Codes, thread_of, function_at}
+use Rattle.stack_code.specs.layer.Steps.{Conf, At, conf_of, further, youngest, steps}
 use Rattle.stack_code.specs.layer.Outcomes.{CodeMeans}
 use Rattle.stack_machine.specs.code.Bodies.{Body, conf, state_of, Awaits, one}
 use Rattle.stack_machine.specs.code.Standing.{Stands, first_body}

@@ -5,7 +5,7 @@ use Rattle.upc_values.specs.declared.action.Reply.{Reply}
 use Rattle.upc_values.specs.Scalars.{zero}
 use Rattle.upc_values.specs.Expansion.{Expansion, after_reply}
 use Rattle.upc_values.specs.LibraryCalls.{valued}
-use Rattle.stack_code.specs.Codes.{Codes}
+use Rattle.stack_code.specs.layer.Codes.{Codes}
 use Rattle.upc_values.specs.declared.refused.Refused.{Refused}
 use Rattle.upc_values.specs.declared.refused.Refused.TheVariants as refused
 use Rattle.upc_values.specs.declared.refused.Refused.TheVariants.{Error}

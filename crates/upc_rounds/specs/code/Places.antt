@@ -3,7 +3,7 @@ use Rattle.std.specs.Prelude.{◌≡◌, ◌⊎◌, true, false, None, is_some, 
 use mathlib.Core.List.{IsPrefix}
 use Rattle.upc_values.specs.Openings.{Opening}
 use Rattle.upc_values.specs.Records.{last_item, is_beat_item}
-use Rattle.stack_code.specs.Codes.{Codes}
+use Rattle.stack_code.specs.layer.Codes.{Codes}
 use Rattle.turn_cell.specs.layer.Seats.{TableId, seen_of}
 use Rattle.upc_task.specs.declared.seated.Task.{Task}
 use Rattle.upc_task.specs.layer.Sources.{Outcomes}

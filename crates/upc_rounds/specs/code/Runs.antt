@@ -10,7 +10,7 @@ use Rattle.upc_values.specs.Records.{is_stall, last_item}
 use Rattle.upc_values.specs.Openings.{Opening}
 use Rattle.upc_values.specs.History.{reply}
 use Rattle.upc_values.specs.Ends.{stops, settles}
-use Rattle.stack_code.specs.Codes.{Codes}
+use Rattle.stack_code.specs.layer.Codes.{Codes}
 use Rattle.stack_machine.specs.declared.wish.Wish.{Wish}
 use Rattle.stack_machine.specs.declared.wish.Wish.TheVariants.{Act}
 use Rattle.upc_task.specs.declared.worker.Worker.{Worker}

@@ -7,7 +7,7 @@ use Rattle.upc_values.specs.Lists.{Numbered}
 use Rattle.upc_values.specs.Records.{last_item, is_stall}
 use Rattle.upc_values.specs.Openings.{Opening}
 use Rattle.upc_values.specs.History.{reply}
-use Rattle.stack_code.specs.Codes.{Codes}
+use Rattle.stack_code.specs.layer.Codes.{Codes}
 use Rattle.stack_machine.specs.declared.wish.Wish.TheVariants.{Act}
 use Rattle.turn_cell.specs.declared.seat.Seat.{Seat}
 use Rattle.turn_cell.specs.layer.Seats.{TableId, cell_of, number_of, seen_of}

@@ -20,7 +20,7 @@ use Rattle.upc_values.specs.Outcomes.{Outcome, wanted}
 use Rattle.upc_values.specs.Records.{actions_of, replies_of, last_item, is_stall, is_beat, is_beat_item, beats}
 use Rattle.upc_values.specs.Strands.{StallsStand, AreJustified, strand_ticks}
 use Rattle.upc_values.specs.Ends.{OwnEnd}
-use Rattle.stack_code.specs.Codes.{Codes}
+use Rattle.stack_code.specs.layer.Codes.{Codes}
 use Rattle.stack_machine.specs.layer.Machine.{Seen}
 use Rattle.stack_machine.specs.declared.wish.Wish.{Wish}
 use Rattle.stack_machine.specs.declared.wish.Wish.TheVariants.{Act, Ended, Exit, Fault, Budget}

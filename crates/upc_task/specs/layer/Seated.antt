@@ -6,7 +6,7 @@ use Rattle.upc_values.specs.Drain.{drain, entries_of}
 use Rattle.upc_values.specs.Openings.{Opening, IsOpening}
 use Rattle.upc_values.specs.History.{IsLegal, EachBelow}
 use Rattle.upc_values.specs.Formed.{AreWellFormed}
-use Rattle.stack_code.specs.Codes.{Codes}
+use Rattle.stack_code.specs.layer.Codes.{Codes}
 use Rattle.turn_cell.specs.declared.seat.Seat.{Seat}
 use Rattle.turn_cell.specs.layer.Seats.{TableId, IsFree, cell_of, number_of, own_of, seen_of, opening_of}
 use Rattle.upc_task.specs.declared.seated.Task.{Task}

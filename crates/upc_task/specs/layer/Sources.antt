@@ -6,7 +6,7 @@ use Rattle.upc_values.specs.declared.record.ToldEnd.TheVariants.{Wants, OutOfTic
 use Rattle.upc_values.specs.Openings.{Opening}
 use Rattle.upc_values.specs.Outcomes.{Outcome, IsMeaning}
 use Rattle.thread_steps.specs.layer.Fronts.{IsInTurn}
-use Rattle.stack_code.specs.Codes.{Codes}
+use Rattle.stack_code.specs.layer.Codes.{Codes}
 use Rattle.stack_code.specs.layer.Outcomes.{CodeMeans}
 use Rattle.stack_machine.specs.layer.Machine.{Seen}
 use Rattle.stack_machine.specs.layer.Machine.{HasHeard}

@@ -1,6 +1,6 @@
 use Rattle.std.proofs.Common.{◌≡◌, drop, map}
 use Rattle.collectives.specs.code.Parts.{part_of}
-use Rattle.collectives.specs.code.Left.{parts_copied}
+use Rattle.collectives.specs.layer.Left.{parts_copied}
 use Rattle.collectives.proofs.copies.first.Given as goal
 
 abbrev pub invariant-loop-at : goal.invariant-loop-at

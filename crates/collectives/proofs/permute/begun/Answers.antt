@@ -2,7 +2,7 @@ use Rattle.std.proofs.Common.{length, ap, arith}
 use Rattle.collectives.proofs.EachElement.{numbers_begin}
 use Rattle.collectives.proofs.Members.{all-at}
 use Rattle.collectives.specs.code.Elements.{HasPlace}
-use Rattle.collectives.specs.code.Left.{permuted}
+use Rattle.collectives.specs.layer.Left.{permuted}
 use Rattle.collectives.proofs.permute.begun.Goals as goal
 
 pub invariant_of-result : goal.invariant_of-result

@@ -5,7 +5,7 @@ use Rattle.collectives.proofs.Following.{goes_past}
 use Rattle.collectives.proofs.Following.{stops_at}
 use Rattle.collectives.specs.code.Calls.{refusal_in}
 use Rattle.collectives.specs.code.Tests.{permute_tests}
-use Rattle.collectives.specs.code.Left.{permuted}
+use Rattle.collectives.specs.layer.Left.{permuted}
 use Rattle.upc_library.specs.layer.Spots.{pointer_of}
 use Rattle.upc_values.specs.Expansion.{Expansion}
 use Rattle.upc_values.specs.Expansion.{bind}

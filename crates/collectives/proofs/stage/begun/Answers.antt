@@ -2,8 +2,8 @@ use Rattle.std.proofs.Common.{ℕ, ap, ◌∙◌}
 use Rattle.collectives.proofs.Following.{refuses_along}
 use Rattle.collectives.proofs.Following.{refuses_both}
 use Rattle.collectives.specs.code.Calls.{call_in}
-use Rattle.collectives.specs.code.Walks.{exit_by}
-use Rattle.collectives.specs.code.Walks.{from_work}
+use Rattle.collectives.specs.layer.Walks.{exit_by}
+use Rattle.collectives.specs.layer.Walks.{from_work}
 use Rattle.upc_values.specs.Calls as calls
 use Rattle.upc_values.specs.Expansion.{Expansion}
 use Rattle.upc_values.specs.Expansion.{bind}

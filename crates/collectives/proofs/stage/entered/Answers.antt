@@ -2,9 +2,9 @@ use Rattle.std.proofs.Common.{◌≡◌, subst, arith}
 use Rattle.std.specs.Prelude.{IfOk, IfErr}
 use Rattle.collectives.proofs.Following.{at_once}
 use Rattle.collectives.proofs.Following.{by_barrier}
-use Rattle.collectives.specs.code.Walks.{from_work}
-use Rattle.collectives.specs.code.Walks.{stage_rest}
-use Rattle.collectives.specs.code.Wishes.{RefusesSo}
+use Rattle.collectives.specs.layer.Walks.{from_work}
+use Rattle.collectives.specs.layer.Walks.{stage_rest}
+use Rattle.collectives.specs.layer.Wishes.{RefusesSo}
 use Rattle.collectives.proofs.stage.entered.Goals as goal
 
 pub returns-then-group-eq1-clause-made : goal.returns-then-group-eq1-clause-made

@@ -1,7 +1,7 @@
 use Rattle.std.proofs.Common.{Option, sym, ap, ◌∙◌}
 use Rattle.collectives.specs.declared.work.Work.{Work}
-use Rattle.collectives.specs.code.Walks.{exit_by}
-use Rattle.collectives.specs.code.Walks.{work_left}
+use Rattle.collectives.specs.layer.Walks.{exit_by}
+use Rattle.collectives.specs.layer.Walks.{work_left}
 use Rattle.upc_values.specs.Expansion.{bind}
 use Rattle.collectives.proofs.stage.left.Goals as goal
 

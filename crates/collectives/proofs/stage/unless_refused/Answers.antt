@@ -1,6 +1,6 @@
 use Rattle.collectives.proofs.Following.{goes_on}
 use Rattle.collectives.proofs.Following.{refuses_both}
-use Rattle.collectives.specs.code.Walks.{stage_rest}
+use Rattle.collectives.specs.layer.Walks.{stage_rest}
 use Rattle.upc_values.specs.Expansion.{unless_refused}
 use Rattle.collectives.proofs.stage.unless_refused.Goals as goal
 

@@ -2,9 +2,9 @@ use Rattle.std.proofs.Common.{◌≡◌, subst}
 use Rattle.std.specs.Prelude.{IfOk, IfErr}
 use Rattle.collectives.proofs.Following.{goes_on}
 use Rattle.collectives.proofs.Following.{refuses_both}
-use Rattle.collectives.specs.code.Walks.{from_work}
-use Rattle.collectives.specs.code.Walks.{stage_rest}
-use Rattle.collectives.specs.code.Wishes.{RefusesSo}
+use Rattle.collectives.specs.layer.Walks.{from_work}
+use Rattle.collectives.specs.layer.Walks.{stage_rest}
+use Rattle.collectives.specs.layer.Wishes.{RefusesSo}
 use Rattle.upc_values.specs.Expansion.{unless_refused}
 use Rattle.collectives.proofs.stage.waited.Goals as goal
 

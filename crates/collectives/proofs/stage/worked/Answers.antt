@@ -3,8 +3,8 @@ use Rattle.collectives.proofs.Following.{after_bind}
 use Rattle.collectives.proofs.Following.{refuses_along}
 use Rattle.collectives.proofs.Following.{refuses_both}
 use Rattle.collectives.proofs.Following.{unfinished}
-use Rattle.collectives.specs.code.Walks.{exit_by}
-use Rattle.collectives.specs.code.Walks.{work_rest}
+use Rattle.collectives.specs.layer.Walks.{exit_by}
+use Rattle.collectives.specs.layer.Walks.{work_rest}
 use Rattle.upc_values.specs.Expansion.{Expansion}
 use Rattle.upc_values.specs.Expansion.{after_reply}
 use Rattle.upc_values.specs.Expansion.{bind}

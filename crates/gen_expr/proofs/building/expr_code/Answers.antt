@@ -1,11 +1,11 @@
 use Rattle.std.proofs.Common.{◌≡◌, ◌∙◌, OnOk, List, sym, subst}
 use Rattle.stack_code.specs.declared.instruction.Instr.{Instr}
 use Rattle.stack_code.specs.layer.Making.{with_instructions}
-use Rattle.gen_expr.specs.Codes as pure
+use Rattle.gen_expr.specs.layer.Codes as pure
 use Rattle.typed_tree.specs.Beginnings.{view_beginning}
 use Rattle.typed_tree.specs.ViewProgram.{view_program}
 use Rattle.typed_tree.specs.ViewTree.{view_expr}
-use Rattle.gen_expr.specs.Sources.{Source}
+use Rattle.gen_expr.specs.layer.Sources.{Source}
 use Rattle.gen_expr.specs.layer.Meanings.{AppendsMeaning}
 use Rattle.gen_expr.specs.layer.ViewSource.{view_source}
 use Rattle.gen_expr.proofs.Appended.{made, appends_meaning}

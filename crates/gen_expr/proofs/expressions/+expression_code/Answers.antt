@@ -4,7 +4,7 @@ use Rattle.typing_rules.specs.Nodes.{view_attr}
 use Rattle.typed_tree.specs.ViewTree.{view_kind}
 use Rattle.typed_tree.proofs.Built.{call_is, comma_is}
 use Rattle.gen_expr.specs.layer.ViewSource.{view_source}
-use Rattle.gen_expr.specs.Codes.{given_code}
+use Rattle.gen_expr.specs.layer.Codes.{given_code}
 use Rattle.gen_expr.proofs.expressions.+expression_code.Goals as goal
 
 pub put_address_code-returns-in-Call : goal.put_address_code-returns-in-Call

@@ -2,7 +2,7 @@ use Rattle.std.proofs.Common.{◌≡◌, ◌++◌, map, drop}
 use Rattle.typed_tree.specs.Tree.{exprs_of}
 use Rattle.typed_tree.specs.ViewTree.{view_expr}
 use Rattle.gen_expr.specs.layer.ViewSource.{view_source}
-use Rattle.gen_expr.specs.Codes.{arguments_code, further_code}
+use Rattle.gen_expr.specs.layer.Codes.{arguments_code, further_code}
 use Rattle.gen_expr.proofs.expressions.+expression_code.Given as goal
 
 abbrev pub invariant-put_arguments-loop-i : goal.invariant-put_arguments-loop-i

@@ -1,7 +1,7 @@
 use Rattle.std.proofs.Common.{◌++◌, ◌+◌, ℕ, List, ◌∙◌, ap}
 use Rattle.upc_values.specs.declared.scalar.Mark.TheVariants.{Start}
 use Rattle.stack_code.specs.declared.instruction.Instr.{Instr}
-use Rattle.gen_expr.specs.Sources.{running_of}
+use Rattle.gen_expr.specs.layer.Sources.{running_of}
 use Rattle.gen_expr.specs.layer.ViewSource.{view_source}
 use Rattle.gen_stmt.specs.code.Parts.{barrier_code}
 use Rattle.gen_stmt.proofs.Behind.{entry_whole}

@@ -1,5 +1,5 @@
 use Rattle.typed_tree.specs.ViewStatements.{view_function, view_items}
-use Rattle.gen_expr.specs.Sources.{running_of}
+use Rattle.gen_expr.specs.layer.Sources.{running_of}
 use Rattle.gen_expr.specs.layer.ViewSource.{view_source}
 use Rattle.gen_stmt.specs.code.Views.{view_exits, view_standing}
 use Rattle.gen_stmt.proofs.Behind.{on_ok, opened_whole}

@@ -3,14 +3,14 @@ use Rattle.upc_values.specs.Lists.{Each}
 use Rattle.private_store.specs.Beginnings.{IsBeginning}
 use Rattle.typed_tree.specs.Beginnings.{view_beginning}
 use Rattle.typed_tree.specs.ViewProgram.{view_program}
-use Rattle.stack_code.specs.Codes.{Codes}
+use Rattle.stack_code.specs.layer.Codes.{Codes}
 use Rattle.stack_code.specs.layer.Depths.{IsDeep, BeginsOnce}
 use Rattle.stack_code.specs.layer.Making.{Making}
 use Rattle.gen_expr.proofs.Simulation.{expressions_are_meant}
 use Rattle.source_meaning.specs.Laws.{opening_of}
 use Rattle.gen_stmt.specs.layer.Meanings.{MeansProgram}
 use Rattle.stack_code.specs.layer.Names.{NamesOnly}
-use Rattle.gen_stmt.specs.Programs.{program_code}
+use Rattle.gen_stmt.specs.code.Programs.{program_code}
 use Rattle.gen_stmt.proofs.Gathered.{program_begins}
 use Rattle.source_meaning.proofs.Beginnings.{privates_begin}
 use Rattle.gen_stmt.proofs.Compiling.{codes_are, if_ok}

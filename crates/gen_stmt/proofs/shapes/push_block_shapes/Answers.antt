@@ -1,5 +1,5 @@
 use Rattle.std.proofs.Common.{◌∙◌}
-use Rattle.gen_expr.specs.Sources.{running_of}
+use Rattle.gen_expr.specs.layer.Sources.{running_of}
 use Rattle.gen_expr.specs.layer.ViewSource.{view_source}
 use Rattle.source_meaning.proofs.Rows.{item_step}
 use Rattle.gen_stmt.proofs.shapes.push_block_shapes.Goals as goal

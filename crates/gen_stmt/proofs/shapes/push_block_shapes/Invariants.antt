@@ -1,7 +1,7 @@
 use Rattle.std.proofs.Common.{◌≡◌, ◌++◌, drop}
 use Rattle.typed_tree.specs.ViewStatements.{view_items}
 use Rattle.source_meaning.specs.Statements.{shapes_of, objects_in}
-use Rattle.gen_expr.specs.Sources.{running_of}
+use Rattle.gen_expr.specs.layer.Sources.{running_of}
 use Rattle.gen_expr.specs.layer.ViewSource.{view_source}
 use Rattle.gen_stmt.proofs.shapes.push_block_shapes.Given as goal
 

@@ -5,7 +5,7 @@ use Rattle.typed_tree.specs.declared.tree.Statement.{Statement}
 use Rattle.typed_tree.specs.declared.tree.SwitchItem.{SwitchItem}
 use Rattle.typed_tree.specs.Tree.{Switch}
 use Rattle.source_meaning.specs.Statements.{with_objects}
-use Rattle.gen_expr.specs.Codes.{value_code}
+use Rattle.gen_expr.specs.layer.Codes.{value_code}
 use Rattle.gen_stmt.specs.code.Parts.{arm_code, do_code}
 use Rattle.typed_tree.specs.ViewTree.{view_expr}
 use Rattle.typed_tree.specs.ViewStatements.{view_statement_kind, view_statement, view_object, view_head}
@@ -13,7 +13,7 @@ use Rattle.typed_tree.specs.ViewStatements.{view_affinity, view_last}
 use Rattle.typed_tree.specs.ViewStatements.{view_switch_items}
 use Rattle.typed_tree.proofs.StatementRows.{block_is, if_is, switch_is}
 use Rattle.gen_expr.specs.layer.ViewSource.{view_source}
-use Rattle.gen_stmt.specs.Codes.{kind_code, loop_code, statement_code}
+use Rattle.gen_stmt.specs.code.Codes.{kind_code, loop_code, statement_code}
 use Rattle.gen_stmt.specs.code.Views.{view_exits, view_labelled, view_standing}
 use Rattle.gen_stmt.proofs.Steps.{count_back}
 use Rattle.gen_stmt.proofs.Behind.{on_ok, instead, behind, items_back, arms_back, parts_back, within_whole, if_whole}

@@ -49,8 +49,8 @@ loop-picks-preserved g c =
     subst (λ ls. IsFound program limits ls (map listed c.add.new.rows.items)) now
     (subst (IsFound program limits (before ++ picks ∷ [])) rows more)
 
-pub returns-clause-found : goal.returns-clause-found
-returns-clause-found g c =
+pub returns : goal.returns
+returns g c =
     let program = view_program c.args.program.now in
     subst (λ ls. IsFound program c.args.limits (picks_in ls) (map listed c.loop-picks.rows.items))
     (take_all c.loop-picks.picks-index c.args.schedules.now c.loop-picks-test.false)

@@ -3,7 +3,7 @@ use Rattle.std.specs.Option.{option_copied}
 use Rattle.upc_values.specs.Copying.{copied}
 use Rattle.upc_values.specs.Expansion.{each_in_turn}
 use Rattle.plain_calls.specs.code.Areas.{area_in}
-use Rattle.plain_calls.specs.layer.Run.{Follows}
+use Rattle.plain_calls.specs.code.Run.{Follows}
 use Rattle.plain_calls.proofs.memory.copy_all.Goals as goal
 
 pub returns : goal.returns

@@ -3,7 +3,7 @@ use Rattle.std.proofs.lemmas.Int.{ints}
 use mir.Val.{to_z, of_z, SFits}
 use Rattle.upc_values.specs.Copying.{copied, In_private}
 use Rattle.plain_calls.specs.code.Areas.{area_in}
-use Rattle.plain_calls.specs.layer.Run.{Follows}
+use Rattle.plain_calls.specs.code.Run.{Follows}
 use Rattle.plain_calls.proofs.memory.copy_cell.Goals as goal
 
 pub returns-in-Shared : goal.returns-in-Shared

@@ -6,7 +6,7 @@ use Rattle.block_layout.specs.declared.place.LocalPtr.TheVariants.{Private}
 use Rattle.upc_values.specs.Copying as said
 use Rattle.upc_values.specs.Expansion.{Loads, Gives}
 use Rattle.plain_calls.specs.code.Areas.{area_in}
-use Rattle.plain_calls.specs.layer.Run.{Follows}
+use Rattle.plain_calls.specs.code.Run.{Follows}
 use Rattle.plain_calls.proofs.Following.{goes}
 use Rattle.plain_calls.proofs.memory.copy_private.Goals as goal
 

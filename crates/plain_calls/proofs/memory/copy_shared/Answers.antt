@@ -4,7 +4,7 @@ use Rattle.upc_values.specs.Copying as said
 use Rattle.upc_values.specs.Expansion.{Reads, Gives}
 use Rattle.upc_values.specs.Views.{location_behind}
 use Rattle.plain_calls.specs.code.Areas.{area_in}
-use Rattle.plain_calls.specs.layer.Run.{Follows}
+use Rattle.plain_calls.specs.code.Run.{Follows}
 use Rattle.plain_calls.proofs.Following.{goes}
 use Rattle.plain_calls.proofs.memory.copy_shared.Goals as goal
 

@@ -6,7 +6,7 @@ use Rattle.upc_values.specs.Copying.{written, filled}
 use Rattle.upc_values.specs.Expansion.{Expansion, each_in_turn}
 use Rattle.upc_values.specs.Shapes.{is_integer}
 use Rattle.plain_calls.specs.code.Areas.{area_in}
-use Rattle.plain_calls.specs.layer.Run.{Follows}
+use Rattle.plain_calls.specs.code.Run.{Follows}
 use Rattle.plain_calls.proofs.Following.{passes}
 use Rattle.plain_calls.proofs.Truths.{neither}
 use Rattle.plain_calls.proofs.memory.fill_all.Goals as goal

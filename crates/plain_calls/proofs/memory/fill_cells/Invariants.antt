@@ -3,7 +3,7 @@ use Rattle.block_layout.specs.declared.kind.Shape.{Shape}
 use Rattle.upc_values.specs.Expansion.{each_in_turn}
 use Rattle.upc_values.specs.Copying.{written, filled}
 use Rattle.plain_calls.specs.code.Areas.{area_in}
-use Rattle.plain_calls.specs.layer.Run.{run}
+use Rattle.plain_calls.specs.code.Run.{run}
 use Rattle.plain_calls.proofs.memory.fill_cells.Given as goal
 
 abbrev pub invariant-loop-cell : goal.invariant-loop-cell

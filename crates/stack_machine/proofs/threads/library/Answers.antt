@@ -3,7 +3,7 @@ use Rattle.upc_values.specs.declared.scalar.Value.{Value}
 use Rattle.thread_steps.specs.layer.Ranges.{IsHeld}
 use Rattle.thread_steps.specs.States.{Res}
 use Rattle.thread_steps.specs.Library.{private_shapes}
-use Rattle.stack_code.specs.Codes.{thread_of}
+use Rattle.stack_code.specs.layer.Codes.{thread_of}
 use Rattle.stack_code.specs.layer.Steps.{At, conf_of, youngest}
 use Rattle.stack_machine.specs.code.Kept.{AreHeld}
 use Rattle.stack_machine.specs.code.Turns.{state_seen, body_seen}

@@ -1,4 +1,4 @@
-use Rattle.stack_code.specs.Codes.{thread_of}
+use Rattle.stack_code.specs.layer.Codes.{thread_of}
 use Rattle.stack_machine.proofs.Arrivals.{err_then}
 use Rattle.stack_machine.proofs.threads.wait.Goals as goal
 

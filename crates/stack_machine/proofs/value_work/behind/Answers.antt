@@ -4,7 +4,7 @@ use Rattle.std.proofs.Math.Facts.{to_z-of_z}
 use Rattle.shared_pointers.specs.layer.Ranges.{IsStep}
 use Rattle.std.specs.Prelude.{pos, neg_ℤ, ◌*ℤ◌}
 use Rattle.thread_steps.specs.Pointers.{advanced}
-use Rattle.stack_code.specs.Codes.{thread_of}
+use Rattle.stack_code.specs.layer.Codes.{thread_of}
 use Rattle.stack_machine.proofs.Stepping.{step_of}
 use Rattle.stack_machine.proofs.Holding.{number_held}
 use Rattle.stack_machine.proofs.value_work.behind.Goals as goal

@@ -1,5 +1,5 @@
 use Rattle.std.proofs.Common.{ap, ◌∙◌, ◌∷◌, drop}
-use Rattle.stack_code.specs.Codes.{thread_of}
+use Rattle.stack_code.specs.layer.Codes.{thread_of}
 use Rattle.stack_code.specs.layer.Steps.{At}
 use Rattle.stack_machine.specs.code.Turns.{body_seen, state_seen}
 use Rattle.stack_machine.proofs.Holding.{third_held}

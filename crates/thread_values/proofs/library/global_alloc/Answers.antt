@@ -1,5 +1,5 @@
 use Rattle.std.proofs.Common.{rules, ◌≡◌, ◌∙◌, Some}
-use Rattle.thread_values.specs.code.Parts.{two_sizes, one_size}
+use Rattle.thread_values.specs.code.Parts.{two_sizes}
 use Rattle.thread_values.proofs.Sized.{global-of}
 use Rattle.thread_values.proofs.library.global_alloc.Goals as goal
 

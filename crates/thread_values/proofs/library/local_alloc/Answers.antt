@@ -1,5 +1,5 @@
 use Rattle.std.proofs.Common.{rules, ◌≡◌, ◌∙◌, Some}
-use Rattle.thread_values.specs.code.Parts.{two_sizes, one_size}
+use Rattle.thread_values.specs.code.Parts.{one_size}
 use Rattle.thread_values.proofs.Sized.{local-of}
 use Rattle.thread_values.proofs.library.local_alloc.Goals as goal
 

@@ -1,4 +1,4 @@
-use Rattle.std.proofs.Common.{rules, ◌≡◌, ◌<◌, length, ap, ◌∙◌, arith}
+use Rattle.std.proofs.Common.{rules, ◌<◌, length, arith}
 use Rattle.thread_values.proofs.Sized.{scalars-next, scalars-passed}
 use Rattle.thread_values.proofs.meetings.scalars.Goals as goal
 use Rattle.thread_values.proofs.meetings.scalars.Goals.{in-Scalar+in_ok-push, in_default}

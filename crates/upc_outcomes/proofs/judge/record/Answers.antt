@@ -1,6 +1,4 @@
-use Rattle.std.proofs.Common.{refl, rules}
 use Rattle.typed_tree.specs.ViewProgram.{view_program}
-use Rattle.upc_top.specs.Sources.{not_runnable}
 use Rattle.upc_top.proofs.Readings.{accepted_threads}
 use Rattle.upc_outcomes_words.specs.layer.Views.{view_call}
 use Rattle.upc_outcomes.proofs.Records.{record-comes}
@@ -28,13 +26,4 @@ returns-in-Ok g c =
       checked = view_program c.args.program.now;
       accepted = c.requires.accepted;
       run = run-within a c.limits.result _ _ _ c.limits.ensures c.in-Ok.ensures.ran;
-    })
-
-pub returns-in-Err-Refused : goal.returns-in-Err-Refused
-returns-in-Err-Refused g c =
-    not_runnable refl
-    (record {
-      checked = view_program c.args.program.now;
-      accepted = c.requires.accepted;
-      not_yet = search rules;
     })

@@ -1,6 +1,6 @@
 use Rattle.std.proofs.Common.{subst}
-use Rattle.upc_top.specs.Sources.{StopsReading, not_accepted}
+use Rattle.upc_top.specs.Sources.{StopsReading}
 use Rattle.upc_outcomes.proofs.judge.stopped.Goals as goal
 
 pub returns-in-Refused : goal.returns-in-Refused
-returns-in-Refused c a bytes h = not_accepted (subst (StopsReading a.threads bytes) c.in-Refused.is h)
+returns-in-Refused c a bytes h = subst (StopsReading a.threads bytes) c.in-Refused.is h

@@ -2,7 +2,7 @@ use Rattle.std.proofs.Common.{◌≡◌, ◌≤◌, ◌++◌, length, map, vec_c
 use Rattle.std.specs.Vec.Iter.{into_iter_items}
 use Rattle.upc_values.specs.Lists.{Numbered}
 use Rattle.upc_values.specs.Openings.{Opening}
-use Rattle.stack_code.specs.Codes.{Codes}
+use Rattle.stack_code.specs.layer.Codes.{Codes}
 use Rattle.upc_task.specs.layer.Sources.{Outcomes}
 use Rattle.upc_task.specs.layer.Kept.{IsKept, strand_of}
 use Rattle.upc_rounds.specs.declared.place.Place.{Place}

@@ -1,7 +1,6 @@
-use Rattle.std.proofs.Common.{refl, rules}
+use Rattle.std.proofs.Common.{refl}
 use Rattle.typed_tree.specs.ViewProgram.{view_program}
 use Rattle.upc_top_words.specs.Values.{view_call}
-use Rattle.upc_top.specs.Sources.{not_runnable}
 use Rattle.upc_top.proofs.Readings.{accepted_threads}
 use Rattle.upc_top.proofs.Records.{shown-comes}
 use Rattle.upc_top.proofs.judge.run_accepted.Goals as goal
@@ -15,15 +14,6 @@ returns-in-Ok g c =
     (record {
       mode = c.requires.mode;
       checked = view_program c.args.program.now;
-      runnable = record { accepted = c.requires.accepted; runs = c.in-Ok.ensures.runs };
-      run = c.in-Ok.ensures.ran;
-    })
-
-pub returns-in-Err-Refused : goal.returns-in-Err-Refused
-returns-in-Err-Refused g c =
-    not_runnable c.requires.mode
-    (record {
-      checked = view_program c.args.program.now;
       accepted = c.requires.accepted;
-      not_yet = search rules;
+      run = c.in-Ok.ensures.ran;
     })

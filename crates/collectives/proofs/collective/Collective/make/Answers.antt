@@ -5,8 +5,8 @@ use Rattle.collectives.proofs.Limits.{done_by-kept}
 use Rattle.collectives.proofs.Limits.{done_by}
 use Rattle.collectives.proofs.Limits.{met_by}
 use Rattle.collectives.specs.code.Calls.{kept}
-use Rattle.collectives.specs.code.Walks.{rest}
-use Rattle.collectives.specs.code.Wishes.{RefusesSo}
+use Rattle.collectives.specs.layer.Walks.{rest}
+use Rattle.collectives.specs.layer.Wishes.{RefusesSo}
 use Rattle.std.proofs.lemmas.Result.{IfErr-weaker}
 use Rattle.std.proofs.lemmas.Result.{IfOk-weaker}
 use Rattle.upc_values.specs.Calls.{call_of}

@@ -5,9 +5,9 @@ use Rattle.collectives.proofs.Following.{stops_at}
 use Rattle.collectives.specs.code.Calls.{refusal_in}
 use Rattle.collectives.specs.code.Parts.{part_of}
 use Rattle.collectives.specs.code.Tests.{move_tests}
-use Rattle.collectives.specs.code.Left.{copies_left}
-use Rattle.collectives.specs.code.Left.{parts_copied}
-use Rattle.collectives.specs.code.Wishes.{RefusesSo}
+use Rattle.collectives.specs.layer.Left.{copies_left}
+use Rattle.collectives.specs.layer.Left.{parts_copied}
+use Rattle.collectives.specs.layer.Wishes.{RefusesSo}
 use Rattle.std.proofs.lemmas.Result.{IfErr-weaker}
 use Rattle.upc_values.specs.Expansions as said
 use Rattle.upc_values.specs.declared.refused.Refused.TheVariants.{Memory}

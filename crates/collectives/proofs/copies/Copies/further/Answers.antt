@@ -2,9 +2,9 @@ use Rattle.std.proofs.Common.{◌≡◌, ◌+◌, ◌<◌, ◌∷◌, length, dr
 use Rattle.collectives.proofs.Following.{cell_next}
 use Rattle.collectives.proofs.Following.{cells_left}
 use Rattle.collectives.specs.code.Parts.{part_of}
-use Rattle.collectives.specs.code.Left.{CopiesLeft}
-use Rattle.collectives.specs.code.Left.{cell_copied}
-use Rattle.collectives.specs.code.Left.{parts_copied}
+use Rattle.collectives.specs.layer.Left.{CopiesLeft}
+use Rattle.collectives.specs.layer.Left.{cell_copied}
+use Rattle.collectives.specs.layer.Left.{parts_copied}
 use Rattle.upc_values.specs.Expansion.{bind}
 use Rattle.upc_values.specs.Expansion.{each_in_turn}
 use Rattle.collectives.proofs.copies.Copies.further.Goals as goal

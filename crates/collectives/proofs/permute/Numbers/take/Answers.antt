@@ -8,12 +8,12 @@ use Rattle.collectives.proofs.EachElement.{number_next}
 use Rattle.collectives.proofs.EachElement.{numbers_end}
 use Rattle.collectives.proofs.Members.{all-at}
 use Rattle.collectives.specs.code.Elements.{HasPlace}
-use Rattle.collectives.specs.code.Left.{NumbersLeft}
-use Rattle.collectives.specs.code.Left.{numbers_rest}
-use Rattle.collectives.specs.code.Left.{permuted}
+use Rattle.collectives.specs.layer.Left.{NumbersLeft}
+use Rattle.collectives.specs.layer.Left.{numbers_rest}
+use Rattle.collectives.specs.layer.Left.{permuted}
 use Rattle.upc_library.specs.layer.Spots.{pointer_of}
-use Rattle.collectives.specs.code.Walks.{work_left}
-use Rattle.collectives.specs.code.Wishes.{RefusesSo}
+use Rattle.collectives.specs.layer.Walks.{work_left}
+use Rattle.collectives.specs.layer.Wishes.{RefusesSo}
 use Rattle.upc_values.specs.Expansion.{Expansion}
 use Rattle.upc_values.specs.Expansion.{after_reply}
 use Rattle.collectives.proofs.permute.Numbers.take.Goals as goal

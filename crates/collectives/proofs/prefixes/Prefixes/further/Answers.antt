@@ -4,8 +4,8 @@ use Rattle.collectives.proofs.EachElement.{prefixes_end}
 use Rattle.collectives.proofs.Members.{all-at}
 use Rattle.collectives.specs.code.Elements.{HasPlace}
 use Rattle.collectives.specs.code.Reductions.{reduction_in}
-use Rattle.collectives.specs.code.Left.{PrefixesLeft}
-use Rattle.collectives.specs.code.Left.{prefixes_rest}
+use Rattle.collectives.specs.layer.Left.{PrefixesLeft}
+use Rattle.collectives.specs.layer.Left.{prefixes_rest}
 use Rattle.upc_library.specs.layer.Spots.{pointer_of}
 use Rattle.upc_values.specs.Expansion.{nothing}
 use Rattle.upc_values.specs.Expansions as said

@@ -2,10 +2,10 @@ use Rattle.std.proofs.Common.{◌≡◌, sym, ◌∙◌, subst}
 use Rattle.collectives.proofs.Following.{kind_bind}
 use Rattle.collectives.proofs.Following.{unfinished}
 use Rattle.collectives.specs.declared.stage.Stage.{Stage}
-use Rattle.collectives.specs.code.Walks.{exit_by}
-use Rattle.collectives.specs.code.Walks.{stage_rest}
-use Rattle.collectives.specs.code.Walks.{work_rest}
-use Rattle.collectives.specs.code.Wishes.{kind_read}
+use Rattle.collectives.specs.layer.Walks.{exit_by}
+use Rattle.collectives.specs.layer.Walks.{stage_rest}
+use Rattle.collectives.specs.layer.Walks.{work_rest}
+use Rattle.collectives.specs.layer.Wishes.{kind_read}
 use Rattle.collectives.proofs.stage.Stage.reads.Goals as goal
 
 pub returns-in-Works : goal.returns-in-Works

@@ -3,8 +3,8 @@ use Rattle.std.specs.Prelude.{IfErr}
 use Rattle.collectives.proofs.Following.{refuses_along}
 use Rattle.collectives.proofs.Following.{reply_alone}
 use Rattle.collectives.specs.declared.stage.Stage.{Stage}
-use Rattle.collectives.specs.code.Walks.{stage_rest}
-use Rattle.collectives.specs.code.Wishes.{RefusesSo}
+use Rattle.collectives.specs.layer.Walks.{stage_rest}
+use Rattle.collectives.specs.layer.Wishes.{RefusesSo}
 use Rattle.std.proofs.lemmas.Result.{IfErr-weaker}
 use Rattle.upc_values.specs.Expansion.{Expansion}
 use Rattle.upc_values.specs.Expansion.{after_reply}

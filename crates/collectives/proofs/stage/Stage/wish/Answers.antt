@@ -1,10 +1,10 @@
 use Rattle.std.proofs.Common.{sym, subst}
 use Rattle.collectives.proofs.Following.{asked_bind}
 use Rattle.collectives.specs.declared.stage.Stage.{Stage}
-use Rattle.collectives.specs.code.Walks.{exit_by}
-use Rattle.collectives.specs.code.Walks.{stage_rest}
-use Rattle.collectives.specs.code.Walks.{work_rest}
-use Rattle.collectives.specs.code.Wishes.{IsAsked}
+use Rattle.collectives.specs.layer.Walks.{exit_by}
+use Rattle.collectives.specs.layer.Walks.{stage_rest}
+use Rattle.collectives.specs.layer.Walks.{work_rest}
+use Rattle.collectives.specs.layer.Wishes.{IsAsked}
 use Rattle.collectives.proofs.stage.Stage.wish.Goals as goal
 
 pub returns-in-Works : goal.returns-in-Works

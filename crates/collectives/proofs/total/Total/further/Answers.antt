@@ -9,8 +9,8 @@ use Rattle.collectives.proofs.EachElement.{total_next}
 use Rattle.collectives.proofs.Members.{all-at}
 use Rattle.collectives.specs.code.Elements.{HasPlace}
 use Rattle.collectives.specs.code.Reductions.{reduction_in}
-use Rattle.collectives.specs.code.Left.{TotalLeft}
-use Rattle.collectives.specs.code.Left.{total_rest}
+use Rattle.collectives.specs.layer.Left.{TotalLeft}
+use Rattle.collectives.specs.layer.Left.{total_rest}
 use Rattle.upc_library.specs.layer.Spots.{pointer_of}
 use Rattle.upc_values.specs.Expansion.{Expansion}
 use Rattle.upc_values.specs.Expansion.{does}

@@ -1,7 +1,7 @@
 use Rattle.std.proofs.Common.{◌≡◌, [], ap, ◌∙◌, subst}
 use Rattle.collectives.specs.code.Reductions.{reduction_in}
-use Rattle.collectives.specs.code.Left.{TotalLeft}
-use Rattle.collectives.specs.code.Left.{joined}
+use Rattle.collectives.specs.layer.Left.{TotalLeft}
+use Rattle.collectives.specs.layer.Left.{joined}
 use Rattle.upc_values.specs.Expansion.{value_in}
 use Rattle.upc_values.specs.Expansions as said
 use Rattle.collectives.proofs.total.Total.joined.Goals as goal

@@ -1,7 +1,7 @@
 use Rattle.std.proofs.Common.{sym, subst}
 use Rattle.collectives.specs.declared.work.Work.{Work}
-use Rattle.collectives.specs.code.Walks.{work_rest}
-use Rattle.collectives.specs.code.Wishes.{IsAsked}
+use Rattle.collectives.specs.layer.Walks.{work_rest}
+use Rattle.collectives.specs.layer.Wishes.{IsAsked}
 use Rattle.collectives.proofs.work.Work.action.Goals as goal
 
 pub returns-in-Copies : goal.returns-in-Copies

@@ -1,8 +1,8 @@
 use Rattle.std.proofs.Common.{◌≡◌, sym, subst}
 use Rattle.std.specs.Prelude.{IfOk, IfErr}
 use Rattle.collectives.specs.code.Calls.{call_in}
-use Rattle.collectives.specs.code.Walks.{work_left}
-use Rattle.collectives.specs.code.Wishes.{RefusesSo}
+use Rattle.collectives.specs.layer.Walks.{work_left}
+use Rattle.collectives.specs.layer.Wishes.{RefusesSo}
 use Rattle.upc_values.specs.Expansions as said
 use Rattle.collectives.proofs.work.Work.begin.Goals as goal
 

@@ -1,9 +1,9 @@
 use Rattle.std.proofs.Common.{◌≡◌, sym, subst}
 use Rattle.std.specs.Prelude.{IfOk, IfErr}
 use Rattle.collectives.specs.declared.work.Work.{Work}
-use Rattle.collectives.specs.code.Walks.{work_left}
-use Rattle.collectives.specs.code.Walks.{work_rest}
-use Rattle.collectives.specs.code.Wishes.{RefusesSo}
+use Rattle.collectives.specs.layer.Walks.{work_left}
+use Rattle.collectives.specs.layer.Walks.{work_rest}
+use Rattle.collectives.specs.layer.Wishes.{RefusesSo}
 use Rattle.upc_values.specs.Expansion.{after_reply}
 use Rattle.collectives.proofs.work.Work.take.Goals as goal
 

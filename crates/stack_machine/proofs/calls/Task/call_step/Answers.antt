@@ -1,7 +1,7 @@
 use Rattle.std.proofs.Common.{sym, subst}
 use Rattle.std.specs.Prelude.{Err}
 use Rattle.stack_code.specs.declared.instruction.CallWork.{CallWork}
-use Rattle.stack_code.specs.Codes.{thread_of}
+use Rattle.stack_code.specs.layer.Codes.{thread_of}
 use Rattle.stack_code.specs.layer.Steps.{called, top, rest}
 use Rattle.stack_machine.specs.code.Tasks.{spot_at, task_seen}
 use Rattle.stack_machine.specs.code.Turns.{Arrived, state_seen}

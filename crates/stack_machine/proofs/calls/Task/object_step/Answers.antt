@@ -1,5 +1,5 @@
 use Rattle.std.proofs.Common.{[], refl, arith, ◌<◌, length}
-use Rattle.stack_code.specs.Codes.{function_at}
+use Rattle.stack_code.specs.layer.Codes.{function_at}
 use Rattle.stack_code.specs.layer.Steps.{further}
 use Rattle.stack_machine.specs.code.Tasks.{spot_at, task_seen}
 use Rattle.stack_machine.proofs.Arrivals.{err_any, remains}

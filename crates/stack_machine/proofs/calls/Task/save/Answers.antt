@@ -2,7 +2,7 @@ use Rattle.std.proofs.Common.{rules, refl, ap, subst, drop, ◌∷◌}
 use Rattle.upc_values.specs.declared.scalar.Value.{Value}
 use Rattle.stack_code.specs.declared.instruction.ObjectWork.TheVariants as objects
 use Rattle.stack_code.specs.declared.instruction.Operation.TheVariants as operation
-use Rattle.stack_code.specs.Codes.{thread_of}
+use Rattle.stack_code.specs.layer.Codes.{thread_of}
 use Rattle.stack_code.specs.layer.Steps.{At, further, second, top}
 use Rattle.stack_machine.specs.code.Quick.{Keeps}
 use Rattle.stack_machine.specs.code.Tasks.{spot_at}

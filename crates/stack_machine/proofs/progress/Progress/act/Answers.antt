@@ -1,4 +1,4 @@
-use Rattle.std.proofs.Common.{rules, ◌≡◌, List, [], ◌∷◌, Option, Some, None, true, sym, ◌∙◌, subst}
+use Rattle.std.proofs.Common.{◌≡◌, [], Option, Some, None, true, sym, ◌∙◌, subst}
 use Rattle.block_layout.specs.declared.kind.Kind.{Kind}
 use Rattle.upc_values.specs.Expansion.{after_reply}
 use Rattle.upc_values.specs.Formed.{fits}
@@ -8,7 +8,7 @@ use Rattle.stack_machine.specs.layer.Machine.{listed}
 use Rattle.stack_machine.specs.code.Calls.{left_of}
 use Rattle.stack_machine.specs.code.Inside.{StandsInside}
 use Rattle.stack_machine.specs.code.Walking.{body_with}
-use Rattle.stack_machine.proofs.Answering.{act_goes}
+use Rattle.stack_machine.proofs.Answering.{act_goes, fewer}
 use Rattle.stack_machine.proofs.progress.Progress.act.Goals as goal
 
 pub returns-else-not-fits-clause-goes : goal.returns-else-not-fits-clause-goes
@@ -26,3 +26,9 @@ returns-else-not-fits-clause-goes c = λ thread budget given b h.
     (sym gone)
     (act_goes code thread budget given c.args.place (body_with b p) x c.args.action r p.store [] c.requires fit
     (subst (λ o. StandsInside code thread budget given (listed o) c.args.place (valued x) (body_with b p)) there h))
+
+pub returns-else-not-fits-clause-taken : goal.returns-else-not-fits-clause-taken
+returns-else-not-fits-clause-taken c =
+    let there : c.args.self.now.reply ≡ Some c.in-Some.reply = cc in
+    let gone : c.take.new.self ≡ None = cc in
+    fewer c.args.self.now.reply c.take.new.self c.in-Some.reply gone there

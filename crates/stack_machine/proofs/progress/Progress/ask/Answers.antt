@@ -1,7 +1,7 @@
 use Rattle.std.proofs.Common.{rules, ◌≡◌, Some, None, true}
 use Rattle.upc_values.specs.Formed.{fits}
 use Rattle.thread_values.specs.layer.Asking.{IsHeldReply}
-use Rattle.stack_code.specs.Codes.{thread_of}
+use Rattle.stack_code.specs.layer.Codes.{thread_of}
 use Rattle.stack_machine.proofs.Asking.{took_ok, took_err}
 use Rattle.stack_machine.proofs.progress.Progress.ask.Goals as goal
 

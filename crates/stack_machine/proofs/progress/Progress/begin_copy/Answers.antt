@@ -1,9 +1,9 @@
-use Rattle.std.proofs.Common.{◌≡◌, sym, ap, ◌∙◌, subst}
+use Rattle.std.proofs.Common.{sym, ap, ◌∙◌, subst}
 use Rattle.std.specs.Option.{option_copied}
 use Rattle.upc_values.specs.Expansion.{Expansion}
 use Rattle.upc_values.specs.LibraryCalls.{valued}
 use Rattle.upc_library.specs.layer.Wishes.{expansion}
-use Rattle.thread_values.specs.layer.Copies.{shapes_in, copying_of}
+use Rattle.thread_values.specs.layer.Copies.{shapes_in}
 use Rattle.thread_values.proofs.MemoryCalls.{means}
 use Rattle.stack_machine.specs.code.Calls.{WritesHeld}
 use Rattle.stack_machine.proofs.CallsOf.{expansion_held}

@@ -5,7 +5,7 @@ use Rattle.thread_steps.specs.States.{Res}
 use Rattle.thread_steps.specs.Values.{number}
 use Rattle.thread_values.specs.layer.Asking.{asks_once}
 use Rattle.thread_values.proofs.Asking.{unformed}
-use Rattle.stack_code.specs.Codes.{thread_of}
+use Rattle.stack_code.specs.layer.Codes.{thread_of}
 use Rattle.stack_machine.specs.code.Turns.{Gave, state_seen}
 use Rattle.stack_machine.proofs.Asking.{goes, step_does}
 use Rattle.stack_machine.proofs.progress.Progress.library.Goals as goal

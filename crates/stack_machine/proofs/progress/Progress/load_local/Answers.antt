@@ -3,7 +3,7 @@ use Rattle.std.proofs.Math.Facts.{to_z-of_z}
 use Rattle.thread_steps.specs.Accesses.{into_shared}
 use Rattle.upc_values.specs.declared.scalar.Value.{Value}
 use Rattle.thread_steps.specs.States.{Doing}
-use Rattle.stack_code.specs.Codes.{thread_of}
+use Rattle.stack_code.specs.layer.Codes.{thread_of}
 use Rattle.stack_machine.specs.code.Turns.{Came, state_seen}
 use Rattle.stack_machine.proofs.Holding.{if_loaded}
 use Rattle.stack_machine.proofs.Accessing.{load_local_at, load_private_at, is_private}

@@ -1,5 +1,5 @@
 use Rattle.std.proofs.Common.{sym}
-use Rattle.stack_code.specs.Codes.{thread_of}
+use Rattle.stack_code.specs.layer.Codes.{thread_of}
 use Rattle.stack_machine.proofs.Accessing.{load_fault, load_err, load_ok}
 use Rattle.stack_machine.proofs.progress.Progress.load_shared.Goals as goal
 

@@ -1,6 +1,6 @@
 use Rattle.std.proofs.Common.{rules, ◌≡◌, true, false}
 use Rattle.thread_values.specs.layer.Asking.{expansion_of}
-use Rattle.stack_code.specs.Codes.{thread_of}
+use Rattle.stack_code.specs.layer.Codes.{thread_of}
 use Rattle.stack_machine.proofs.Asking.{alone, met_err, met_ok}
 use Rattle.stack_machine.proofs.progress.Progress.met_step.Goals as goal
 

@@ -1,6 +1,6 @@
 use Rattle.std.proofs.Common.{subst}
 use Rattle.thread_steps.specs.States.{Doing}
-use Rattle.stack_code.specs.Codes.{thread_of}
+use Rattle.stack_code.specs.layer.Codes.{thread_of}
 use Rattle.stack_machine.specs.code.Turns.{Came, state_seen}
 use Rattle.stack_machine.proofs.Accessing.{save_is}
 use Rattle.stack_machine.proofs.progress.Progress.save.Goals as goal

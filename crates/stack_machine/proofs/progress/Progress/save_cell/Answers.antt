@@ -1,4 +1,4 @@
-use Rattle.std.proofs.Common.{◌≡◌, sym, ◌∙◌, refl, subst}
+use Rattle.std.proofs.Common.{◌≡◌, sym, refl, subst}
 use Rattle.std.specs.Prelude.{Ok, Err}
 use Rattle.upc_values.specs.declared.scalar.Value.{Value}
 use Rattle.private_store.specs.Cells.{stored}

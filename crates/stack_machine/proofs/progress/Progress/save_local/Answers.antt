@@ -2,7 +2,7 @@ use Rattle.std.proofs.Common.{subst, ap, ◌∙◌, rules, w64}
 use Rattle.std.proofs.Math.Facts.{to_z-of_z}
 use Rattle.thread_steps.specs.Accesses.{into_shared}
 use Rattle.thread_steps.specs.States.{Doing}
-use Rattle.stack_code.specs.Codes.{thread_of}
+use Rattle.stack_code.specs.layer.Codes.{thread_of}
 use Rattle.stack_machine.specs.code.Turns.{Came, state_seen}
 use Rattle.stack_machine.proofs.Holding.{if_stored_so}
 use Rattle.stack_machine.proofs.Accessing.{save_local_at, save_private_at, is_private}

@@ -1,6 +1,6 @@
 use Rattle.std.proofs.Common.{subst, refl}
 use Rattle.thread_steps.specs.States.{Doing}
-use Rattle.stack_code.specs.Codes.{thread_of}
+use Rattle.stack_code.specs.layer.Codes.{thread_of}
 use Rattle.std.specs.Prelude.{Err}
 use Rattle.block_layout.specs.declared.run_error.TheConstants.{NULL_ACCESS}
 use Rattle.stack_machine.specs.declared.wish.Halt.TheVariants.{Stops}

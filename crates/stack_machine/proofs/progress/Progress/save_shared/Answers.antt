@@ -1,6 +1,6 @@
 use Rattle.std.proofs.Common.{sym, ap, ◌∙◌}
 use Rattle.thread_steps.specs.Values.{kept_scalar}
-use Rattle.stack_code.specs.Codes.{thread_of}
+use Rattle.stack_code.specs.layer.Codes.{thread_of}
 use Rattle.stack_machine.proofs.Accessing.{save_fault, save_by}
 use Rattle.stack_machine.proofs.progress.Progress.save_shared.Goals as goal
 

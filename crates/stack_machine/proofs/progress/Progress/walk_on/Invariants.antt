@@ -1,7 +1,7 @@
 use Rattle.std.proofs.Common.{◌≡◌, ℕ, List}
 use Rattle.upc_values.specs.declared.action.Reply.{Reply}
 use Rattle.stack_machine.specs.code.Bodies.{Body}
-use Rattle.stack_machine.specs.code.Calls.{WritesHeld, left_of, replies_to}
+use Rattle.stack_machine.specs.code.Calls.{WritesHeld, left_of, turns_left}
 use Rattle.stack_machine.specs.code.Kept.{HoldsHeld}
 use Rattle.stack_machine.specs.code.Walking.{IsInside}
 use Rattle.stack_machine.proofs.progress.Progress.walk_on.Given as goal
@@ -17,4 +17,4 @@ invariant-loop-halt l = record {
 }
 
 abbrev pub decreases-loop-halt : goal.decreases-loop-halt
-decreases-loop-halt l = replies_to l.walk
+decreases-loop-halt l = turns_left l.walk l.self.reply

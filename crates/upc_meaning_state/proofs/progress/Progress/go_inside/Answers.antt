@@ -3,7 +3,7 @@ use Rattle.std.specs.Prelude.{IfSome}
 use Rattle.upc_values.specs.declared.action.Reply.{Reply}
 use Rattle.upc_library.specs.layer.Walks.{rest}
 use Rattle.upc_meaning_state.specs.declared.progress.Step.{Step}
-use Rattle.upc_meaning_state.specs.code.Memory.{IsUnfinished}
+use Rattle.upc_meaning_state.specs.code.Walking.{IsUnfinished}
 use Rattle.upc_meaning_state.proofs.MemoryCalls.{unfinished_left}
 use Rattle.upc_meaning_state.proofs.progress.Progress.go_inside.Goals as goal
 

@@ -1,0 +1,4 @@
+pub mod Left
+pub mod Wishes
+pub mod Walks
+pub mod Arguments

@@ -1,0 +1,17 @@
+pub mod Steps
+pub mod Stores
+pub mod Conversions
+pub mod Operations
+pub mod Operators
+pub mod Rules
+pub mod Expressions
+pub mod Going
+pub mod Statements
+pub mod Library
+pub mod Allocating
+pub mod Shapes
+pub mod Shaped
+pub mod Uses
+pub mod Scopes
+pub mod Taken
+pub mod Scalars

@@ -1,0 +1,208 @@
+-- Why no default of the meaning is taken.
+use Rattle.std.specs.Prelude.{◌≡◌, ℕ, ◌≤◌, ◌^◌, pos, Bool, true, List, length, Some, Ok, is_some}
+use Rattle.std.specs.Prelude.{slice_get}
+use Rattle.upc_text.specs.declared.place.Place.{Place}
+use Rattle.block_layout.specs.declared.kind.Kind.{Kind}
+use Rattle.block_layout.specs.declared.place.Loc.{Loc}
+use Rattle.block_layout.specs.declared.place.SharedPtr.{SharedPtr}
+use Rattle.integers.specs.declared.operator.BinOp.{BinOp}
+use Rattle.integers.specs.declared.operator.UnOp.{UnOp}
+use Rattle.upc_values.specs.declared.scalar.Scalar.{Scalar}
+use Rattle.upc_values.specs.declared.scalar.Value.{Value}
+use Rattle.upc_values.specs.declared.scalar.Value.TheVariants as value_of
+use Rattle.upc_values.specs.declared.action.Reply.{Reply}
+use Rattle.block_layout.specs.declared.kind.Shape.{Shape}
+use Rattle.private_store.specs.Live as live
+use Rattle.private_store.specs.Live.{Live}
+use Rattle.private_store.specs.Beginnings.{fits_cell, private_cell}
+use Rattle.upc_values.specs.Lists.{Each}
+use Rattle.upc_values.specs.Shapes.{fits_kind, value_fits}
+use Rattle.upc_types.specs.Types.{CType, Structs, base_of}
+use Rattle.upc_types.specs.Conversions.{assignable, castable}
+use Rattle.typing_rules.specs.declared.attribute.Constant.{Constant}
+use Rattle.typing_rules.specs.Values.{value_type}
+use Rattle.typing_rules.specs.Library.{int}
+use Rattle.typing_rules.specs.Nodes as node
+use Rattle.typing_rules.specs.Nodes.{Use, Attr}
+use Rattle.typed_tree.specs.declared.tree.StepOperator.{StepOperator}
+use Rattle.typed_tree.specs.Tree.{Expr, Subscript, MemberBehind, Step, Unary, Binary, Compound, Function, attr_of}
+use Rattle.typed_tree.specs.Programs.{Checked, start_of}
+use Rattle.typed_tree.specs.layer.Judged.{Meets}
+use Rattle.typed_tree.specs.layer.TypedNodes.{MeetsExpr, MeetsKind, MeetsRules}
+use Rattle.thread_steps.specs.States.{Thread, ◌>>=◌}
+use Rattle.thread_steps.specs.Values.{number, kept, kept_scalar}
+use Rattle.thread_steps.specs.Accesses.{cell}
+use Rattle.thread_steps.specs.Operators.{cast}
+use Rattle.source_meaning.specs.Types.{cell_kind, conversion, target_of, integer_of}
+use Rattle.source_meaning.specs.Running.{Running, running}
+use Rattle.source_meaning.specs.Expressions.{Calls, type_of, step_operator, value, address, binary, converted_to}
+use Rattle.meaning_laws.specs.code.Values.{FitsCell, IsOf, IsPlaceOf, IsGiven, HasIntegerKind, IsFormedType}
+use Rattle.meaning_laws.specs.code.Values.{IsFilled, Brings}
+use Rattle.source_meaning.specs.Threads.{called, main_of, main_called, initial_state}
+use Rattle.meaning_laws.specs.code.Formed.{MakesSized, MakesShaped, IsFormed, CallsFit}
+use Rattle.meaning_laws.specs.code.Scopes.{HasScope}
+use Rattle.meaning_laws.specs.code.Uses.{Leads, Counts, IsOperand, AreOperands, HasAffinity, IsTaken}
+use Rattle.meaning_laws.specs.code.FormedStatements.{IsFormedFunction}
+
+-- A cell keeps what fits it, in a private object and in a shared one (C99 6.5.16).
+pub record CellsKeep : Type 0 where
+  pub value : (kind : Kind) (v : Value) → value_fits v kind ≡ true → kept kind v ≡ v
+  pub scalar : (kind : Kind) (v : Scalar) → fits_kind v kind ≡ true → kept_scalar kind v ≡ v
+
+-- What is written to a cell of a shared object and fits it is a scalar: no such cell is of pointers to private objects
+-- (UPC 6.5.1.1).
+pub record ScalarsAreKept : Type 0 where
+  pub each :
+      (program : Checked) (thread budget : ℕ) (kind : Kind) (p : SharedPtr) (l : Loc) (v : Value)
+      → cell (running program thread budget).thread kind p ≡ Ok l → value_fits v kind ≡ true
+      → (s : Scalar) × (v ≡ value_of.Scalar s)
+
+-- What the conversion of a value of one type into another type gives fits a cell of that type, so that the cell keeps
+-- it (C99 6.3, 6.5.16.1).
+pub record ConversionsFit : Type 0 where
+  pub each :
+      (structs : Structs) (τ : Thread) (from t : CType) (at : Place) (v : Value) → IsOf structs from v
+      → HasIntegerKind (base_of t) → Brings Value (FitsCell (cell_kind structs t)) (cast τ (conversion from t) at v)
+
+-- What an operator makes of the value of an object, converted back into the object's type, fits a cell of that type, so
+-- that the cell keeps it (C99 6.5.2.4, 6.5.3.1, 6.5.16.2).
+pub record ChangesFit : Type 0 where
+  pub each :
+      (ρ : Running) (at : Place) (op : BinOp) (t u : CType) (x y : Value) → IsOf ρ.structs t x
+      → HasIntegerKind (base_of t)
+      → Brings Value (FitsCell (cell_kind ρ.structs t))
+      (binary ρ at op t u x y >>= (λ z. cast ρ.thread (conversion t t) at z))
+
+-- The value of an expression that meets the rules is of the expression's type, where the types in it are formed, the
+-- program has the shapes of what it allocates, and the functions that it calls give values of their types (C99 6.5).
+pub record ExpressionsKeepTypes : Type 0 where
+  pub each :
+      (program : Checked) (thread budget : ℕ) (call : Calls) → CallsFit (running program thread budget) call
+      → (locals : List CType) (how : Use) (strict : Bool) (e : Expr) → MeetsExpr program locals how e
+      → IsFormed (MakesShaped program) e
+      → Brings Value (IsOf (running program thread budget).structs (type_of e))
+      (value (running program thread budget) call strict e)
+  -- Where it has the form of an lvalue, it names a place of its type.
+  pub given :
+      (program : Checked) (thread budget : ℕ) (call : Calls) → CallsFit (running program thread budget) call
+      → (locals : List CType) (how : Use) (strict : Bool) (e : Expr) → MeetsExpr program locals how e
+      → IsFormed (MakesShaped program) e
+      → Brings Value (IsGiven (running program thread budget).structs (attr_of e))
+      (address (running program thread budget) call strict e)
+  -- Converted into another type, as by an assignment, it fits a cell of that type, so that the cell keeps it.
+  pub converted :
+      (program : Checked) (thread budget : ℕ) (call : Calls) → CallsFit (running program thread budget) call
+      → (locals : List CType) (how : Use) (strict : Bool) (e : Expr) (t : CType) → MeetsExpr program locals how e
+      → IsFormed (MakesShaped program) e → IsFormedType t
+      → Brings Value (FitsCell (cell_kind (running program thread budget).structs t))
+      (converted_to (running program thread budget) t e (value (running program thread budget) call strict e))
+
+-- A function of a program that meets the rules gives values of the type of its result, however many calls may be
+-- active, where the types in the functions are formed, and the program has at most 2^64 shapes (C99 6.9.1).
+pub record FunctionsKeepTypes : Type 0 where
+  pub each :
+      (program : Checked) (thread budget : ℕ) → MeetsRules program
+      → Each (IsFormedFunction (MakesSized program)) program.functions → length (start_of program).shapes ≤ 2 ^ 64
+      → (calls : ℕ) → CallsFit (running program thread budget) (called (running program thread budget) calls)
+
+-- The main of a program that meets the rules gives a value of the type of its result, where the types in the functions
+-- are formed, and the program has at most 2^64 shapes (C99 5.1.2.2.3).
+pub record MainsKeepTypes : Type 0 where
+  pub each :
+      (program : Checked) (thread budget : ℕ) (f : Function) → MeetsRules program
+      → Each (IsFormedFunction (MakesSized program)) program.functions → length (start_of program).shapes ≤ 2 ^ 64
+      → main_of program.functions ≡ Some f
+      → Brings Value (IsOf (running program thread budget).structs f.result)
+      (main_called (running program thread budget) (Some f))
+
+-- What an operator takes in a program that meets the rules is what it is defined for, where the types of its operands
+-- are formed and their values have their types: no value stands there that counts as 0 or as null because it is no
+-- integer or no pointer (C99 6.5.2 to 6.5.12).
+pub record OperandsAreTaken : Type 0 where
+  -- The place of an object whose type is formed is a pointer, by which its cells are read and written.
+  pub place : (structs : Structs) (t : CType) (v : Value) → IsFormedType t → IsPlaceOf structs t v → Leads v
+  -- A subscript steps a pointer by an integer.
+  pub subscript :
+      (program : Checked) (locals : List CType) (how : Use) (attr : Attr) (a i : Expr) (structs : Structs) (p n : Value)
+      → MeetsKind program locals how attr (Subscript a i) → IsFormedType (type_of i) → IsOf structs (type_of a) p
+      → IsOf structs (type_of i) n → Leads p × Counts (integer_of (type_of i)) n
+  -- `->` goes from a pointer.
+  pub behind :
+      (program : Checked) (locals : List CType) (how : Use) (attr : Attr) (a : Expr) (index : ℕ) (structs : Structs)
+      (p : Value) → MeetsKind program locals how attr (MemberBehind a index) → IsOf structs (type_of a) p → Leads p
+  -- A unary operator but `!` takes an integer.
+  pub unary :
+      (program : Checked) (locals : List CType) (how : Use) (attr : Attr) (o : UnOp) (a : Expr) (structs : Structs)
+      (v : Value) → MeetsKind program locals how attr (Unary o a) → IsFormedType (type_of a)
+      → IsOf structs (type_of a) v → IsOperand o (integer_of (type_of a)) v
+  -- A binary operator takes integers, or pointers of one kind, or a pointer that can be stepped and an integer.
+  pub binary :
+      (program : Checked) (locals : List CType) (how : Use) (attr : Attr) (o : BinOp) (a b : Expr) (structs : Structs)
+      (x y : Value) → MeetsKind program locals how attr (Binary o a b) → IsFormedType (type_of a)
+      → IsFormedType (type_of b) → IsOf structs (type_of a) x → IsOf structs (type_of b) y
+      → AreOperands o (target_of (type_of a)) (target_of (type_of b)) (integer_of (type_of a)) (integer_of (type_of b))
+      x y
+  -- An assignment with an operator takes what the operator does.
+  pub compound :
+      (program : Checked) (locals : List CType) (how : Use) (attr : Attr) (o : BinOp) (a b : Expr) (structs : Structs)
+      (x y : Value) → MeetsKind program locals how attr (Compound o a b) → IsFormedType (type_of a)
+      → IsFormedType (type_of b) → IsOf structs (type_of a) x → IsOf structs (type_of b) y
+      → AreOperands o (target_of (type_of a)) (target_of (type_of b)) (integer_of (type_of a)) (integer_of (type_of b))
+      x y
+  -- `++` and `--` take an integer, or a pointer that can be stepped.
+  pub step :
+      (program : Checked) (locals : List CType) (how : Use) (attr : Attr) (ρ : Running) (o : StepOperator) (a : Expr)
+      (structs : Structs) (x : Value) → MeetsKind program locals how attr (Step o a) → IsFormedType (type_of a)
+      → IsOf structs (type_of a) x
+      → AreOperands (step_operator ρ o) (target_of (type_of a)) (target_of int) (integer_of (type_of a))
+      (integer_of int) x (number (pos 1))
+  -- The value of a `switch` is an integer.
+  pub switch :
+      (program : Checked) (a : Expr) (labels : List Constant) (defaults : ℕ) (structs : Structs) (v : Value)
+      → Meets program (node.Switch (attr_of a) labels defaults) → IsFormedType (type_of a) → IsOf structs (type_of a) v
+      → Counts (integer_of (type_of a)) v
+  -- The value of a notify, wait or barrier is an integer.
+  pub barrier :
+      (program : Checked) (a : Expr) (structs : Structs) (v : Value) → Meets program (node.Barrier (attr_of a))
+      → IsFormedType (type_of a) → IsOf structs (type_of a) v → Counts (integer_of (type_of a)) v
+  -- The affinity of a upc_forall is an integer or a pointer-to-shared.
+  pub affinity :
+      (program : Checked) (a : Expr) (structs : Structs) (v : Value) → Meets program (node.Affinity (attr_of a))
+      → IsFormedType (type_of a) → IsOf structs (type_of a) v → HasAffinity v
+
+-- A conversion that the table of conversions allows takes the value, so that no value counts as null or as 0 there but
+-- that of the constant 0; `zero` says that the value is that (C99 6.3.2.3, 6.5.4, 6.5.16.1; UPC 6.4.3).
+pub record ConversionsAreTaken : Type 0 where
+  -- Without a cast.
+  pub assigned :
+      (structs : Structs) (from into : CType) (zero : Bool) (v : Value)
+      → assignable (value_type from) into zero ≡ true → IsOf structs from v → IsTaken zero (conversion from into) v
+  -- By a cast.
+  pub cast :
+      (structs : Structs) (from into : CType) (zero : Bool) (v : Value)
+      → castable (value_type from) into zero ≡ true → IsOf structs from v → IsTaken zero (conversion from into) v
+
+-- The elements of each declared shared object have a shape that the program has (UPC 6.5.1.1).
+pub record SharedHaveShapes : Type 0 where
+  pub each :
+      (program : Checked)
+      → Each (λ x. is_some (slice_get (start_of program).shapes x.object.shape) ≡ true)
+      (start_of program).shared_objects
+
+-- Each local name has the number of an object where the block of its function is open, as it is from the begin of a
+-- call on, in the blocks inside it too (C99 6.2.1, 6.2.4, 6.9.1).
+pub record NamesAreFound : Type 0 where
+  pub found : (n : ℕ) (s : Live) → HasScope s → (number : ℕ) × (live.local_number n s ≡ Some number)
+  -- A call has begun, and then the block of its function.
+  pub begins : (shapes : List Shape) (s : Live) → HasScope (live.entered 0 shapes (live.called s))
+  -- A block is entered.
+  pub inside : (from : ℕ) (shapes : List Shape) (s : Live) → HasScope s → HasScope (live.entered from shapes s)
+
+-- Where the initial values of a program's private objects fit their cells, the cells of what a thread begins with hold
+-- values that fit them (C99 6.7.8).
+pub record BeginningsAreFilled : Type 0 where
+  pub each :
+      (program : Checked) (replies : List Reply)
+      → Each (λ x. fits_cell x.1 (private_cell (start_of program).private_shapes x.0) ≡ true)
+      (start_of program).private_initials
+      → IsFilled (initial_state program replies).store

@@ -1,0 +1,87 @@
+//! What holds of the meaning of every program that meets the typing rules.
+#![tactic(auto)]
+
+ghost use Rattle.meaning_laws.specs.code.Laws.{BeginningsAreFilled, CellsKeep, ChangesFit, ConversionsFit};
+ghost use Rattle.meaning_laws.specs.code.Laws.{ConversionsAreTaken};
+ghost use Rattle.meaning_laws.specs.code.Laws.{ExpressionsKeepTypes, FunctionsKeepTypes, MainsKeepTypes};
+ghost use Rattle.meaning_laws.specs.code.Laws.{NamesAreFound, OperandsAreTaken, ScalarsAreKept, SharedHaveShapes};
+
+/// A cell keeps what fits it.
+#[tactic(auto, using(crate::proofs::Conversions::cells_keep))]
+pub fn cells_keep()
+    ensures { CellsKeep }
+{}
+
+/// What the conversion of a value of one type into another gives fits a cell of that type, which is of a kind of
+/// integers where it is an integer type.
+#[tactic(auto, using(crate::proofs::Conversions::conversions_fit))]
+pub fn conversions_fit()
+    ensures { ConversionsFit }
+{}
+
+/// What an operator makes of the value of an object, converted back, fits a cell of the object's type, which is of a
+/// kind of integers where it is an integer type.
+#[tactic(auto, using(crate::proofs::Operators::changes_fit))]
+pub fn changes_fit()
+    ensures { ChangesFit }
+{}
+
+/// The value of an expression that meets the rules is of the expression's type, where the types in it are formed, the
+/// program has the shapes of what it allocates, and the functions that it calls give values of their types.
+#[tactic(auto, using(crate::proofs::Expressions::expressions_keep_types))]
+pub fn expressions_keep_types()
+    ensures { ExpressionsKeepTypes }
+{}
+
+/// A function of a program that meets the rules gives values of the type of its result, however many calls may be
+/// active, where the types in the functions are formed and the program has at most 2^64 shapes.
+#[tactic(auto, using(crate::proofs::Statements::functions_keep_types))]
+pub fn functions_keep_types()
+    ensures { FunctionsKeepTypes }
+{}
+
+/// The main of a program that meets the rules gives a value of the type of its result, where the types in the functions
+/// are formed and the program has at most 2^64 shapes.
+#[tactic(auto, using(crate::proofs::Statements::mains_keep_types))]
+pub fn mains_keep_types()
+    ensures { MainsKeepTypes }
+{}
+
+/// The cells of what a thread begins with hold values that fit them, where the initial values of the program's private
+/// objects fit their cells.
+#[tactic(auto, using(crate::proofs::Stores::beginnings_are_filled))]
+pub fn beginnings_are_filled()
+    ensures { BeginningsAreFilled }
+{}
+
+/// What an operator takes in a program that meets the rules is what it is defined for, where the types of its operands
+/// are formed and their values have their types.
+#[tactic(auto, using(crate::proofs::Uses::operands_are_taken))]
+pub fn operands_are_taken()
+    ensures { OperandsAreTaken }
+{}
+
+/// Each local name has the number of an object, where the block of its function is open in the youngest call.
+#[tactic(auto, using(crate::proofs::Scopes::names_are_found))]
+pub fn names_are_found()
+    ensures { NamesAreFound }
+{}
+
+/// A conversion that the table of conversions allows takes the value, so that no value counts as null or as 0 there but
+/// that of the constant 0.
+#[tactic(auto, using(crate::proofs::Taken::conversions_are_taken))]
+pub fn conversions_are_taken()
+    ensures { ConversionsAreTaken }
+{}
+
+/// What is written to a cell of a shared object is a scalar, where it fits the cell.
+#[tactic(auto, using(crate::proofs::Scalars::scalars_are_kept))]
+pub fn scalars_are_kept()
+    ensures { ScalarsAreKept }
+{}
+
+/// The elements of each declared shared object have a shape that the program has.
+#[tactic(auto, using(crate::proofs::Shapes::shared_have_shapes))]
+pub fn shared_have_shapes()
+    ensures { SharedHaveShapes }
+{}

@@ -1,9 +1,0 @@
-pub mod Behind
-pub mod Members
-pub mod Truths
-pub mod CellTests
-pub mod Copying
-pub mod Classes
-pub mod Reading
-pub mod Limits
-pub mod Totals

@@ -1,3 +1,0 @@
-pub mod Calls
-pub mod Reductions
-pub mod Parts

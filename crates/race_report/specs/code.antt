@@ -1,0 +1,4 @@
+pub mod Reach
+pub mod Races
+pub mod Serial
+pub mod Own

@@ -1,0 +1,16 @@
+pub mod Below
+pub mod Sorted
+pub mod Taken
+pub mod Places
+pub mod Reaching
+pub mod Tables
+pub mod Named
+pub mod Lists
+pub mod Owns
+pub mod Held
+pub mod Numbering
+pub mod Marking
+pub mod Building
+pub mod Keyed
+pub mod Rising
+pub mod Deciding

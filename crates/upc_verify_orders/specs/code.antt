@@ -1,0 +1,12 @@
+pub mod Reach
+pub mod Tables
+pub mod Program
+pub mod Values
+pub mod Below
+pub mod Parts
+pub mod Found
+pub mod Numbers
+pub mod Keys
+pub mod Orders
+pub mod Strict
+pub mod Given
