@@ -176,9 +176,14 @@ def allocation(spot):
         yield "what is allocated is shared: `shared [] int *p = upc_alloc(n * sizeof(int));`"
 
 
+def plain_text(source):
+    """A source without comments, strings and characters."""
+    return re.sub(r"/\*.*?\*/|//[^\n]*|\"(?:[^\"\\\n]|\\.)*\"|'(?:[^'\\\n]|\\.)*'", " ", source, flags=re.S)
+
+
 def is_open(spot):
-    """Whether the file ends at the place with more `{` than `}`, comments, strings and characters left out."""
-    plain = re.sub(r"/\*.*?\*/|//[^\n]*|\"(?:[^\"\\\n]|\\.)*\"|'(?:[^'\\\n]|\\.)*'", " ", spot.source, flags=re.S)
+    """Whether the file ends at the place with more `{` than `}`."""
+    plain = plain_text(spot.source)
     below = "".join(spot.lines[spot.number:]) + re.sub(r"^\W?\w*", "", spot.after)
     return not below.strip() and plain.count("{") > plain.count("}")
 
@@ -199,7 +204,9 @@ def forms(spot):
 
 def syntax(spot):
     yield from forms(spot)
-    if is_open(spot):
+    if not plain_text(spot.source).strip():
+        yield "there is no token in the file"
+    elif is_open(spot):
         yield "the file ends while a `{` is open: a `}` is missing somewhere above"
     elif re.match(r"[{;]", spot.after) and not re.search(r"\b(for|upc_forall)\b", spot.before) \
             and spot.before.count("(") > spot.before.count(")"):

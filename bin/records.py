@@ -2,7 +2,7 @@
 import re
 import sys
 
-from runs import Call, Failed, answer, read_text
+from runs import INPUT, Call, Failed, answer, read_text
 
 MOST_ENTRIES = 32768  # of a history that has a text
 NUMBER = r"[0-9]{1,20}"
@@ -221,7 +221,7 @@ def recorded(words, usage):
     text = None
     path, words = record_named(words)
     if path is not None:
-        text = read_text("/dev/stdin" if path == "-" else path)
+        text = read_text(INPUT if path == "-" else path)
         if not text:
             raise Failed(f"{path or 'no file after --record'}: no text of a run", 102)
     call = Call(words, modes=False)

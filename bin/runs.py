@@ -2,14 +2,17 @@
 
 They call `upc` beside them, or the program that $UPC_BINARY names.
 """
+import functools
 import os
 import pathlib
 import subprocess
 import sys
+import tempfile
 import threading
 
 TOP = pathlib.Path(__file__).resolve().parent.parent
 MODES = ("run", "record", "check", "layout", "sample")
+INPUT = "/dev/stdin"  # the file that is what comes in
 WITH_NUMBER = {"-T": 32, "--budget": 1_000_000_000_000, "--actions": 8_388_608}  # each with the most that it takes
 
 
@@ -61,15 +64,26 @@ class Call:
                 *([self.file] if self.file is not None else [])]
 
 
+@functools.cache
+def given_input():
+    """What came in, in a file, since several calls may read it."""
+    kept = tempfile.TemporaryFile()
+    kept.write(sys.stdin.buffer.read() if sys.stdin else b"")
+    return kept
+
+
 def answer(words, shows=False):
     """The output, the error output and the status of a call of upc.
 
     With `shows` the output goes to that of the script, and none is answered. The line that the program is built first
     is passed on at once; building takes long.
     """
+    kept = given_input() if INPUT in words else subprocess.DEVNULL
+    if INPUT in words:
+        kept.seek(0)
     try:
-        call = subprocess.Popen([program(), *words], stdin=subprocess.DEVNULL,
-                                stdout=None if shows else subprocess.PIPE, stderr=subprocess.PIPE)
+        call = subprocess.Popen([program(), *words], stdin=kept, stdout=None if shows else subprocess.PIPE,
+                                stderr=subprocess.PIPE)
     except (OSError, ValueError) as error:
         raise Failed(f"{program()} does not run: {getattr(error, 'strerror', None) or error}", 127) from None
     said = []
@@ -92,6 +106,9 @@ def answer(words, shows=False):
 def read_text(path):
     """The text of a file, nothing where it cannot be read; bytes that are no UTF-8 are kept, so columns stay."""
     try:
+        if path == INPUT:
+            given_input().seek(0)
+            return given_input().read().decode(errors="surrogateescape")
         return pathlib.Path(path).read_bytes().decode(errors="surrogateescape")
     except (OSError, ValueError):
         return ""
