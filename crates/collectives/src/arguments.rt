@@ -7,11 +7,11 @@ ghost use Rattle.collectives.specs.code.Calls.{call_in, way_in, refusal_in};
 
 use crate::call::{Call, Operands, Way};
 use crate::reduction::is_operator;
-use block_layout::SharedPtr;
 use block_layout::run_error::{LIBRARY_ARGS, NULL_ACCESS};
+use block_layout::{SharedPtr, limits};
 
 // The most bytes or elements that a call takes.
-const MOST: u64 = 16_777_216;
+const MOST: u64 = limits::SHARED_BYTES as u64;
 
 // A group of flags: none, or one of the three.
 fn is_sync(bits: u32) -> bool

@@ -9,15 +9,12 @@ ghost use Rattle.typed_tree.specs.Initials as pure;
 ghost use Rattle.typed_tree_opening.specs.code.ViewSettings.{view_setting};
 
 use crate::setting::Setting;
-use block_layout::{Kind, LocalPtr, ObjectRef, SharedPtr};
+use block_layout::{FARTHEST, Kind, LocalPtr, ObjectRef, SharedPtr};
 use typed_tree::numbered;
 use typing_rules::constants::cast_constant;
 use typing_rules::{Constant, Static};
 use upc_types::{Base, Structs};
 use upc_values::{Scalar, Value};
-
-/// No offset is farther from 0.
-const FARTHEST: i64 = 1_099_511_627_776;
 
 fn is_in_range(offset: i64) -> bool
     ensures { result ≡ in_range offset }

@@ -1,13 +1,13 @@
 //! Addresses that are known before the run, and those some elements after them (C99 6.5.6, 6.6; UPC 6.4.2, 6.4.4).
 
 ghost use Rattle.std.specs.Prelude.{◌≡◌, ◌*◌, ◌<◌, ◌≤◌, ◌^◌, IfSome, pos, ◌+ℤ◌, ◌*ℤ◌, unsigned_abs};
-ghost use Rattle.block_layout.specs.Places.{in_range, offset_at};
+ghost use Rattle.block_layout.specs.Places.{offset_at};
 ghost use Rattle.shared_pointers.specs.Steps.{element_in_row, row_offset, moved, moved_by_blocks};
 ghost use Rattle.typing_rules.specs.Constants as constants;
 ghost use Rattle.typing_rules.specs.Constants.{IsWithin};
 ghost use Rattle.typing_rules.specs.Attributes as attributes;
 
-use block_layout::{ObjectRef, SharedPtr, wide};
+use block_layout::{ObjectRef, SharedPtr, is_in_range, wide};
 use typing_rules::{Constant, Element, Static};
 
 /// An object that is no element of an array.
@@ -21,17 +21,11 @@ struct Spot {
     offset: i128,
 }
 
-fn lies_in_range(offset: i128) -> bool
-    ensures { result ≡ in_range offset }
-{
-    -1_099_511_627_776 <= offset && offset <= 1_099_511_627_776
-}
-
 fn private_at(element: Element, object: u32, offset: i128) -> Constant
     ensures value { result ≡ constants.ranged element (Static.Private object offset) }
     ensures within { IsWithin result }
 {
-    if !lies_in_range(offset) {
+    if !is_in_range(offset) {
         return Constant::Undefined;
     }
     let place = Static::Private {
@@ -45,7 +39,7 @@ fn shared_at(element: Element, object: u32, spot: Spot) -> Constant
     ensures value { result ≡ constants.ranged element (Static.Shared object spot.thread spot.phase spot.offset) }
     ensures within { IsWithin result }
 {
-    if !lies_in_range(spot.offset) {
+    if !is_in_range(spot.offset) {
         return Constant::Undefined;
     }
     let place = Static::Shared {
