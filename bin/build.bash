@@ -1,17 +1,20 @@
 # Sourced by the scripts here: proves and builds a program of crates/ where it is missing or older than its sources.
 # Set before: `top` the repository, `crate` the program's crate, `name` what it is called in messages, and `hint`, words
-# that end the line where the toolchain is missing.
+# that end the line where the toolchain is missing. Since nearly all crates are on the way of each program, all programs
+# are built together.
+programs=(upc outcomes_program)
 program="$top/crates/$crate/out/$crate"
 log="$top/crates/$crate/build.log"
 
-# The crates on the program's way, in the order of crates.txt.
+# The crates on the way of these programs, in the order of crates.txt.
 way() {
-  awk -v goal="$crate" '
+  awk -v goals="$*" '
     { sub(/#.*/, "") }
     /:/ { at = index($0, ":"); split(substr($0, 1, at - 1), head, " "); names[++count] = head[1]
           below[head[1]] = substr($0, at + 1) }
     END {
-      wanted[goal] = 1
+      count_of_goals = split(goals, goal, " ")
+      for (i = 1; i <= count_of_goals; i++) wanted[goal[i]] = 1
       do {
         grew = 0
         for (name in below) if (name in wanted) {
@@ -26,7 +29,7 @@ way() {
 is_built() {
   local folders=() one
   [ -x "$program" ] || return 1
-  while read -r one; do folders+=("$top/crates/$one/src" "$top/crates/$one/specs"); done < <(way)
+  while read -r one; do folders+=("$top/crates/$one/src" "$top/crates/$one/specs"); done < <(way "$crate")
   [ -z "$(find "$top/crates.txt" "${folders[@]}" -newer "$program" -print -quit 2>/dev/null)" ]
 }
 
@@ -42,7 +45,7 @@ copy_way() {
     for part in "$top/crates/$one"/*; do
       case ${part##*/} in out | must-fail | *.log) ;; *) cp -r "$part" "$1/crates/$one/" ;; esac
     done
-  done < <(way)
+  done < <(way "${programs[@]}")
 }
 
 # How far it is: the crates that are proved, by the log.
@@ -58,18 +61,18 @@ tell() {
   told=$proved
 }
 
-# Proves and builds the program: `rt ci`, the toolchain's gate, over a copy of its crates alone. It proves side by side
+# Proves and builds the programs: `rt ci`, the toolchain's gate, over a copy of their crates alone. It proves side by side
 # as many crates as there are processors and memory, and takes what it has kept of them on this machine.
 build() {
-  local room pid count status=0
+  local room pid count one status=0
   if ! command -v rt >/dev/null; then
     echo "$name: the program is not built, and to build it \`rt\` is missing: it comes with the Rattle toolchain." >&2
     echo "$name: README.md, \"Install\", says which one is wanted$hint." >&2
     exit 127
   fi
-  mkdir -p "$top/crates/$crate/out"
+  mkdir -p "$top/crates/$crate/out" "$top/crates/${programs[0]}/out"
   if command -v flock >/dev/null; then
-    exec 9>"$top/crates/$crate/out/building"
+    exec 9>"$top/crates/${programs[0]}/out/building"
     if ! flock -n 9; then
       echo "$name: building: another call does it, and this one waits for it" >&2
       flock 9
@@ -84,9 +87,9 @@ build() {
   trap 'exit 143' TERM HUP PIPE
   : >"$room/begun"
   copy_way "$room/repository"
-  count=$(way | wc -l)
-  echo "$name: building the program first: $count crates are proved, on four quick processors in half an hour, on" \
-    "others in hours; later calls take none. Log: $log" >&2
+  count=$(way "${programs[@]}" | wc -l)
+  echo "$name: building first, \`upc\` and \`outcomes\` together: $count crates are proved, on four quick processors in" \
+    "half an hour, on others in hours; later calls take none. Log: $log" >&2
   SECONDS=0
   : >"$log"
   set -m
@@ -108,9 +111,13 @@ build() {
     echo "$name: all of it: $log" >&2
     exit 126
   fi
-  cp "$room/repository/crates/$crate/out/$crate" "$program.new"
-  touch -r "$room/begun" "$program.new"
-  mv "$program.new" "$program"
+  for one in "${programs[@]}"; do
+    [ -x "$room/repository/crates/$one/out/$one" ] || continue
+    mkdir -p "$top/crates/$one/out"
+    cp "$room/repository/crates/$one/out/$one" "$top/crates/$one/out/$one.new"
+    touch -r "$room/begun" "$top/crates/$one/out/$one.new"
+    mv "$top/crates/$one/out/$one.new" "$top/crates/$one/out/$one"
+  done
   trap - EXIT INT TERM HUP PIPE
   rm -rf "$room"
   exec 9>&-
