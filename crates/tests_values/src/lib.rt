@@ -6,8 +6,6 @@ mod actions;
 #[cfg(test)]
 mod arithmetic_rows;
 #[cfg(test)]
-mod calls;
-#[cfg(test)]
 mod cells;
 #[cfg(test)]
 mod chunks;
@@ -21,6 +19,8 @@ mod edges;
 mod integer_rows;
 #[cfg(test)]
 mod journals;
+#[cfg(test)]
+mod memory_calls;
 #[cfg(test)]
 mod orders;
 #[cfg(test)]

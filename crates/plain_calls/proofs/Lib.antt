@@ -1,4 +1,0 @@
-pub mod Following
-pub mod Ranges
-pub mod Truths
-pub mod LastSteps

@@ -1,4 +1,0 @@
-pub mod Areas
-pub mod Told
-pub mod Run
-pub mod Spots
