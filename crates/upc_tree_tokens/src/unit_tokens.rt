@@ -22,9 +22,6 @@ ghost use Rattle.upc_tree.specs.layer.ViewStatement.{view_statement, view_compou
 ghost use Rattle.upc_tree.specs.layer.ViewStatement.{view_switch_item, view_else_if, view_otherwise, view_function};
 ghost use Rattle.upc_tree.specs.layer.ViewStatement.{view_external, view_unit};
 
-use crate::{
-    Backwards, put_declarator, put_expr, put_next_exprs, put_parameters, put_pointers, put_specs,
-};
 use std::alloc::Global;
 use upc_lexer::{Punct, Token, TokenKind, Word};
 use upc_text::OutOfMemory;
@@ -32,6 +29,9 @@ use upc_tree::{
     Affinity, BarrierWord, BlockItem, Compound, Declaration, Declared, DeclaredList, ElseIf, Expr,
     External, First, ForHead, ForallHead, Function, Initial, NextDeclared, Otherwise, Pragma, Span,
     Statement, SwitchItem, Test, Unit,
+};
+use upc_tree_expressions::{
+    Backwards, put_declarator, put_expr, put_next_exprs, put_parameters, put_pointers, put_specs,
 };
 
 fn barrier_word(word: BarrierWord) -> Word

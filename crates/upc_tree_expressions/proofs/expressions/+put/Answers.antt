@@ -4,7 +4,7 @@ use Rattle.upc_tree.specs.Expression.{spell, spell_arguments, spell_type, spell_
 use Rattle.upc_tree.specs.layer.Lists.{spell_member}
 use Rattle.upc_tree.specs.layer.View.{view, view_arguments, view_spec, view_declarator, view_parameters}
 use Rattle.upc_tree.proofs.Rows.{comma_is, filled_is, type_is, struct_is, member_is, object_is, function_is, parameters_is, parameter_is}
-use Rattle.upc_tree_tokens.proofs.expressions.+put.Goals as goal
+use Rattle.upc_tree_expressions.proofs.expressions.+put.Goals as goal
 
 pub put_arguments-returns-in_ok-put_next_exprs-in-Filled : goal.put_arguments-returns-in_ok-put_next_exprs-in-Filled
 put_arguments-returns-in_ok-put_next_exprs-in-Filled t c =

@@ -2,7 +2,7 @@ use Rattle.std.proofs.Common.{◌≡◌, drop, map}
 use Rattle.upc_tree.specs.Expression.{spell_next_exprs, spell_specs, spell_quals, spell_pointers, spell_dimensions, spell_members, spell_next_declarators, spell_next_parameters}
 use Rattle.upc_tree.specs.layer.Lists.{next_exprs_of, specs_of, quals_of, pointers_of, dimensions_of, members_of, next_declarators_of, next_parameters_of}
 use Rattle.upc_tree.specs.layer.View.{view_next_expr, view_spec, view_qual, view_pointer, view_dimension, view_member, view_next_declarator, view_next_parameter}
-use Rattle.upc_tree_tokens.proofs.expressions.+put.Given as goal
+use Rattle.upc_tree_expressions.proofs.expressions.+put.Given as goal
 
 abbrev pub invariant-put_next_exprs-loop-i : goal.invariant-put_next_exprs-loop-i
 invariant-put_next_exprs-loop-i l = l.out ≡ spell_next_exprs (next_exprs_of (map view_next_expr (drop l.i l.more))) l.fn.out
