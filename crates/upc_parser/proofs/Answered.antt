@@ -12,7 +12,7 @@ use Rattle.upc_tree.specs.layer.ViewStatement.{view_unit}
 use Rattle.upc_parser_ground.specs.declared.cursor.Fault.{Fault}
 use Rattle.upc_parser_ground.specs.declared.cursor.Fault.TheVariants.{NoTree, TooHigh}
 use Rattle.upc_parser_ground.specs.layer.Outcome.{Outcome}
-use Rattle.upc_parser_statements.specs.layer.Parse.{externals_at, unit_at}
+use Rattle.upc_parser_sources.specs.layer.Parse.{externals_at, unit_at}
 use Rattle.upc_parser.specs.Answer.{answer, settle, settled_fault, code_of, Ends, Answers, RefusedBy, OnlyRefused}
 use Rattle.upc_parser.proofs.Laws as laws
 

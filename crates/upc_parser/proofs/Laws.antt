@@ -8,7 +8,7 @@ use Rattle.upc_parser_ground.specs.declared.cursor.Fault.{Fault}
 use Rattle.upc_parser_ground.specs.declared.cursor.Fault.TheVariants.{NoTree, TooHigh}
 use Rattle.upc_parser_ground.specs.layer.Outcome.{Outcome}
 use Rattle.upc_parser_ground.proofs.Sequence.{Gets, gets, high}
-use Rattle.upc_parser_statements.specs.layer.Parse.{unit_at}
+use Rattle.upc_parser_sources.specs.layer.Parse.{unit_at}
 use Rattle.upc_parser.specs.Answer.{settle, answer}
 use Rattle.upc_parser_laws.proofs.StatementLow.{low_unit}
 use Rattle.upc_parser_laws.proofs.CompleteUnit.{unit_reads}

@@ -13,7 +13,7 @@ use Rattle.upc_tree.specs.layer.ViewStatement.{view_unit}
 use Rattle.upc_parser_ground.specs.declared.cursor.Fault.{Fault}
 use Rattle.upc_parser_ground.specs.declared.cursor.Fault.TheVariants.{NoTree, TooHigh}
 use Rattle.upc_parser_ground.specs.layer.Outcome.{Outcome}
-use Rattle.upc_parser_statements.specs.layer.Parse.{unit_at}
+use Rattle.upc_parser_sources.specs.layer.Parse.{unit_at}
 
 -- Why there is no tree, where no tree of fewer than 256 tokens is too high.
 abbrev pub settled_fault : ℕ → Fault → Fault

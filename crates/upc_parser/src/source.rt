@@ -11,7 +11,7 @@ ghost use Rattle.upc_parser.specs.Answer.{settled_fault};
 use std::alloc::Global;
 use upc_lexer::Token;
 use upc_parser_ground::{Fail, Fault, Tokens};
-use upc_parser_statements::unit;
+use upc_parser_sources::unit;
 use upc_text::{Code, Place, Refusal, Stop};
 use upc_tree::Unit;
 

@@ -20,7 +20,8 @@ use Rattle.upc_parser_laws.proofs.Stops.{stops_open, quiet_name, behind_named, b
 use Rattle.upc_parser_laws.proofs.CompleteTypes.{Freely, specs_reads, pointers_reads, dimensions_reads, parameters_reads, sizes_no_paren, parameters_paren}
 use Rattle.upc_parser_laws.proofs.CompleteExpressions.{reads}
 use Rattle.upc_parser_statements.specs.layer.Parse as parse
-use Rattle.upc_parser_statements.specs.layer.Parse.{none_declared, function_body, behind_name, behind_specs, declaration_or_function, node_at, pragma_part, external_at, all_externals, externals_at, unit_at}
+use Rattle.upc_parser_statements.specs.layer.Parse.{none_declared, pragma_part}
+use Rattle.upc_parser_sources.specs.layer.Parse.{function_body, behind_name, behind_specs, declaration_or_function, node_at, external_at, all_externals, externals_at, unit_at}
 use Rattle.upc_parser_laws.proofs.StatementListings.{externals_spelled, externals_highs, externals_goods}
 use Rattle.upc_parser_laws.proofs.StatementLow.{long_external}
 use Rattle.upc_parser_laws.proofs.Begins.{specs_no_pragma}

@@ -17,7 +17,8 @@ use Rattle.upc_parser_ground.proofs.Lists.{Finding, found, many_finds, all_first
 use Rattle.upc_parser_laws.proofs.CompleteTypes.{Freely}
 use Rattle.upc_parser_laws.proofs.SoundTypes.{specs_finds, pointers_finds, dimensions_finds, parameters_finds}
 use Rattle.upc_parser_laws.proofs.SoundExpressions.{finds}
-use Rattle.upc_parser_statements.specs.layer.Parse.{initial, next_declareds, pragma, none_declared, behind_declarator, function_body, behind_parameters, behind_name, behind_specs, declaration_or_function, node_at, pragma_part, external_at, all_externals, unit_at, statements_at}
+use Rattle.upc_parser_statements.specs.layer.Parse.{initial, next_declareds, pragma, none_declared, behind_declarator, pragma_part, statements_at}
+use Rattle.upc_parser_sources.specs.layer.Parse.{function_body, behind_parameters, behind_name, behind_specs, declaration_or_function, node_at, external_at, all_externals, unit_at}
 use Rattle.upc_parser_laws.proofs.StatementListings.{externals_spelled, externals_highs, externals_good}
 use Rattle.upc_parser_laws.proofs.SoundDeclarations.{initial_finds, next_declareds_finds, pragma_finds}
 use Rattle.upc_parser_laws.proofs.SoundStatements.{finds_statements, above, over}

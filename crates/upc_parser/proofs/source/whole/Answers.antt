@@ -1,6 +1,6 @@
 use Rattle.std.proofs.Common.{rules, ◌≡◌, Err}
 use Rattle.upc_parser.proofs.Answered.{answer_whole, answer_more, answer_fault}
-use Rattle.upc_parser_statements.specs.layer.Parse.{externals_at}
+use Rattle.upc_parser_sources.specs.layer.Parse.{externals_at}
 use Rattle.upc_parser.proofs.source.whole.Goals as goal
 
 pub returns-then-is_empty : goal.returns-then-is_empty

@@ -1,7 +1,7 @@
 use Rattle.std.proofs.Common.{◌≡◌, ap, arith}
 use Rattle.upc_parser_ground.proofs.Turns.{deeper}
-use Rattle.upc_parser_statements.specs.layer.Parse.{node_at}
-use Rattle.upc_parser_statements.proofs.externals.node.Goals as goal
+use Rattle.upc_parser_sources.specs.layer.Parse.{node_at}
+use Rattle.upc_parser_sources.proofs.externals.node.Goals as goal
 
 pub returns-then-height-eq0 : goal.returns-then-height-eq0
 unfolding node_at

@@ -3,8 +3,8 @@ use Rattle.upc_tree.specs.layer.ViewStatement.{view_external}
 use Rattle.upc_parser_ground.specs.layer.Outcome.{starts}
 use Rattle.upc_parser_ground.specs.layer.Ahead.{is_any}
 use Rattle.upc_parser_ground.proofs.Ran.{ran_reads}
-use Rattle.upc_parser_statements.specs.layer.Parse.{all_externals, external_at}
-use Rattle.upc_parser_statements.proofs.externals.externals.Goals as goal
+use Rattle.upc_parser_sources.specs.layer.Parse.{all_externals, external_at}
+use Rattle.upc_parser_sources.proofs.externals.externals.Goals as goal
 
 pub returns : goal.returns
 unfolding all_externals

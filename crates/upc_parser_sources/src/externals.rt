@@ -4,15 +4,15 @@ ghost use Rattle.std.specs.Prelude.{◌<◌, map};
 ghost use Rattle.upc_tree.specs.layer.View.{view_specs, view_pointers, view_parameters};
 ghost use Rattle.upc_tree.specs.layer.ViewStatement.{view_external, view_unit};
 ghost use Rattle.upc_parser_ground.specs.layer.Run.{Reads, boxed};
-ghost use Rattle.upc_parser_statements.specs.layer.Parse as spec;
+ghost use Rattle.upc_parser_sources.specs.layer.Parse as spec;
 
-use crate::knot::compound;
 use std::alloc::Global;
 use upc_lexer::Punct;
 use upc_parser_declarations::{behind_declarator, none_declared, pragma_part};
 use upc_parser_expressions::{dimensions, parameters, pointers, specs};
 use upc_parser_ground::expressions::{function, object};
 use upc_parser_ground::{Ahead, Fail, Fault, Sign, Tokens, boxed, many, name, starts};
+use upc_parser_statements::compound;
 use upc_tree::{External, Function, Name, Parameters, Pointer, Spec, Unit};
 
 #[tactic(auto, unfolding(crate::specs::layer::Parse::function_body))]
