@@ -1,5 +1,4 @@
 //! Statements: from a syntax tree to trees with types, or to the first rule that is broken.
 #![tactic(auto)]
 
-mod heads;
 pub mod statements;

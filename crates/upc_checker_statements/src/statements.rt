@@ -23,15 +23,15 @@ ghost use Rattle.upc_checker_scopes.specs.layer.Views.{state_of, view_setting};
 ghost use Rattle.upc_checker_scopes.specs.Walk as walks;
 ghost use Rattle.upc_checker_scopes.specs.Walk.{andthen, give};
 
-use crate::heads::{
-    case_item, in_forall, in_loop, in_switch, one_more, statement_place, strict_behind,
-    synchronises, walk_for_head, walk_forall_head, walk_label, walk_returned, walk_test,
-    walk_value,
-};
 use typed_tree::env::{Env, alone, inside, within};
 use typed_tree::{Arm, Item, Statement, SwitchItem};
 use typing_rules::{Around, Attr};
 use upc_checker_declarations::declarations::walk_declaration;
+use upc_checker_heads::heads::{
+    case_item, in_forall, in_loop, in_switch, one_more, statement_place, strict_behind,
+    synchronises, walk_for_head, walk_forall_head, walk_label, walk_returned, walk_test,
+    walk_value,
+};
 use upc_checker_nodes::build_statements as build;
 use upc_checker_nodes::statement_parts::Labelled;
 use upc_checker_nodes::statements::{

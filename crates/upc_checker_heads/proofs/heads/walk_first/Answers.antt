@@ -5,10 +5,10 @@ use Rattle.upc_tree.specs.layer.ViewStatement as trees
 use Rattle.typed_tree.specs.layer.ViewEnv.{view_env}
 use Rattle.typed_tree.specs.ViewStatements.{view_object, view_value}
 use Rattle.upc_checker_declarations.specs.Declarations as declarations
-use Rattle.upc_checker_statements.specs.Statements as pure
+use Rattle.upc_checker_heads.specs.Heads as pure
 use Rattle.upc_checker_scopes.specs.layer.Views.{view_setting, state_of}
 use Rattle.upc_checker_scopes.proofs.Walks.{goes, stops, gives}
-use Rattle.upc_checker_statements.proofs.heads.walk_first.Goals as goal
+use Rattle.upc_checker_heads.proofs.heads.walk_first.Goals as goal
 
 pub returns-in_err-first-in-Expression : goal.returns-in_err-first-in-Expression
 returns-in_err-first-in-Expression c =

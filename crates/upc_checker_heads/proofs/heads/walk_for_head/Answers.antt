@@ -5,10 +5,10 @@ use Rattle.upc_tree.specs.layer.ViewStatement as trees
 use Rattle.typed_tree.specs.Tree as k
 use Rattle.typed_tree.specs.layer.ViewEnv.{view_env}
 use Rattle.typed_tree.specs.ViewStatements.{view_head, view_object, view_value}
-use Rattle.upc_checker_statements.specs.Statements as pure
+use Rattle.upc_checker_heads.specs.Heads as pure
 use Rattle.upc_checker_scopes.specs.layer.Views.{view_setting, state_of}
 use Rattle.upc_checker_scopes.proofs.Walks.{goes, stops, gives}
-use Rattle.upc_checker_statements.proofs.heads.walk_for_head.Goals as goal
+use Rattle.upc_checker_heads.proofs.heads.walk_for_head.Goals as goal
 
 pub returns-in_err-begun : goal.returns-in_err-begun
 returns-in_err-begun c =

@@ -1,6 +1,6 @@
 use Rattle.std.proofs.Common.{◌≡◌, drop}
-use Rattle.upc_checker_statements.specs.Statements as pure
-use Rattle.upc_checker_statements.proofs.heads.strict_behind.Given as goal
+use Rattle.upc_checker_heads.specs.Heads as pure
+use Rattle.upc_checker_heads.proofs.heads.strict_behind.Given as goal
 
 -- what is left decides
 abbrev pub invariant-loop-pragma : goal.invariant-loop-pragma

@@ -15,7 +15,7 @@ use Rattle.upc_checker_scopes.specs.layer.Views.{view_setting, state_of}
 use Rattle.upc_checker_scopes.specs.Walk.{facts_in}
 use Rattle.upc_checker_scopes.proofs.Walks.{goes, stops}
 use Rattle.upc_checker_nodes.proofs.Judged.{judges, refuses}
-use Rattle.upc_checker_statements.proofs.heads.walk_affinity.Goals as goal
+use Rattle.upc_checker_heads.proofs.heads.walk_affinity.Goals as goal
 
 pub returns-in_err-a-in-Value : goal.returns-in_err-a-in-Value
 returns-in_err-a-in-Value c =

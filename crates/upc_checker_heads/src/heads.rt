@@ -15,7 +15,7 @@ ghost use Rattle.typed_tree.specs.ViewTree.{view_expr};
 ghost use Rattle.typing_rules.specs.layer.Views.{view_around};
 ghost use Rattle.upc_checker_scopes.specs.layer.Ends.{Meets, boxed};
 ghost use Rattle.upc_checker_expressions.specs.Expressions as walks;
-ghost use Rattle.upc_checker_statements.specs.Statements as pure;
+ghost use Rattle.upc_checker_heads.specs.Heads as pure;
 ghost use Rattle.upc_checker_scopes.specs.layer.Views.{state_of, view_setting};
 ghost use Rattle.upc_checker_scopes.specs.Walk.{andthen};
 
@@ -37,7 +37,8 @@ use upc_tree::{BarrierWord, First, ForHead, ForallHead, Pragma, Span, Test};
 
 // ---- what stands around
 
-pub(crate) fn in_loop(around: Around<'_>) -> Around<'_>
+/// What stands around the body of a loop.
+pub fn in_loop(around: Around<'_>) -> Around<'_>
     ensures { view_around result ≡ pure.in_loop (view_around around.entry) }
 {
     Around {
@@ -48,7 +49,8 @@ pub(crate) fn in_loop(around: Around<'_>) -> Around<'_>
     }
 }
 
-pub(crate) fn in_switch(around: Around<'_>) -> Around<'_>
+/// What stands around the body of a `switch`.
+pub fn in_switch(around: Around<'_>) -> Around<'_>
     ensures { view_around result ≡ pure.in_switch (view_around around.entry) }
 {
     Around {
@@ -59,7 +61,8 @@ pub(crate) fn in_switch(around: Around<'_>) -> Around<'_>
     }
 }
 
-pub(crate) fn in_forall(around: Around<'_>) -> Around<'_>
+/// What stands around the body of a `upc_forall`.
+pub fn in_forall(around: Around<'_>) -> Around<'_>
     ensures { view_around result ≡ pure.in_forall (view_around around.entry) }
 {
     Around {
@@ -71,7 +74,7 @@ pub(crate) fn in_forall(around: Around<'_>) -> Around<'_>
 }
 
 /// Whether accesses are strict after these pragmas (UPC 6.7).
-pub(crate) fn strict_behind(before: bool, pragmas: &[Pragma]) -> bool
+pub fn strict_behind(before: bool, pragmas: &[Pragma]) -> bool
     ensures { result ≡ pure.strict_behind before pragmas.now }
 {
     let mut strict = before;
@@ -81,7 +84,8 @@ pub(crate) fn strict_behind(before: bool, pragmas: &[Pragma]) -> bool
     strict
 }
 
-pub(crate) fn synchronises(word: BarrierWord) -> Synchronises
+/// Which barrier statement a word begins (UPC 6.6.1).
+pub fn synchronises(word: BarrierWord) -> Synchronises
     ensures { result ≡ pure.synchronises word }
 {
     match word {
@@ -93,7 +97,8 @@ pub(crate) fn synchronises(word: BarrierWord) -> Synchronises
 
 // ---- expressions of statements
 
-pub(crate) fn walk_value(
+/// The expression of a statement, if it has one.
+pub fn walk_value(
     value: &Option<Box<upc_tree::Expr>>,
     setting: Setting<'_>,
     env: &Env<'_>,
@@ -113,7 +118,8 @@ pub(crate) fn walk_value(
     }
 }
 
-pub(crate) fn walk_test(
+/// The controlling expression of a statement, in its parentheses.
+pub fn walk_test(
     test: &Test,
     setting: Setting<'_>,
     env: &Env<'_>,
@@ -128,7 +134,7 @@ pub(crate) fn walk_test(
 }
 
 /// What a `return` gives converts into the result of the function.
-pub(crate) fn walk_returned(
+pub fn walk_returned(
     value: &Option<Box<upc_tree::Expr>>,
     around: Around<'_>,
     setting: Setting<'_>,
@@ -149,7 +155,8 @@ pub(crate) fn walk_returned(
     }
 }
 
-pub(crate) fn statement_place(value: &Option<Box<Expr>>, semicolon: Span) -> Place
+/// The place of an expression statement: that of its expression, or of its semicolon where it has none.
+pub fn statement_place(value: &Option<Box<Expr>>, semicolon: Span) -> Place
     ensures { result ≡ pure.statement_place (view_value value.now) semicolon }
 {
     match value {
@@ -243,7 +250,8 @@ fn boxed_head(
     Ok(Box::new(alloc, head)?)
 }
 
-pub(crate) fn walk_for_head(
+/// The head of a `for`: what its first part declares is in scope in the others.
+pub fn walk_for_head(
     head: &ForHead,
     setting: Setting<'_>,
     env: &mut Env<'_>,
@@ -266,7 +274,8 @@ pub(crate) fn walk_for_head(
     Ok(head)
 }
 
-pub(crate) fn walk_forall_head(
+/// The head of a `upc_forall`, with its affinity.
+pub fn walk_forall_head(
     head: &ForallHead,
     setting: Setting<'_>,
     env: &mut Env<'_>,
@@ -303,14 +312,15 @@ fn label_value(a: &Attr, label: Constant) -> i128
 }
 
 /// A label, with the value that it compares with.
-pub(crate) fn case_item(a: &Attr, label: Constant) -> SwitchItem
+pub fn case_item(a: &Attr, label: Constant) -> SwitchItem
     ensures { (more : typed.SwitchItems) → view_switch_item result more ≡ typed.AndCase (pure.label_value
         (base_kind (base (view_attr a.now))) label) more }
 {
     SwitchItem::Case(label_value(a, label))
 }
 
-pub(crate) fn walk_label(
+/// The constant of a `case`.
+pub fn walk_label(
     value: &upc_tree::Expr,
     setting: Setting<'_>,
     env: &Env<'_>,
@@ -325,7 +335,8 @@ pub(crate) fn walk_label(
     constantly(setting, &a)
 }
 
-pub(crate) fn one_more(count: usize) -> Result<usize, OutOfMemory>
+/// One more than a count.
+pub fn one_more(count: usize) -> Result<usize, OutOfMemory>
     ensures { IfOk result (λ n. n ≡ count + 1) }
 {
     count.checked_add(1).ok_or(OutOfMemory)

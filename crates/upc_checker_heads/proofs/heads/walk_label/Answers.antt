@@ -8,7 +8,7 @@ use Rattle.typed_tree.specs.ViewTree.{view_expr}
 use Rattle.upc_checker_expressions.specs.Expressions.{constantly, walk}
 use Rattle.upc_checker_scopes.specs.layer.Views.{view_setting, state_of}
 use Rattle.upc_checker_scopes.proofs.Walks.{goes, stops}
-use Rattle.upc_checker_statements.proofs.heads.walk_label.Goals as goal
+use Rattle.upc_checker_heads.proofs.heads.walk_label.Goals as goal
 
 pub returns-in_err-a : goal.returns-in_err-a
 returns-in_err-a c =

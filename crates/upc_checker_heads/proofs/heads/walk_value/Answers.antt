@@ -9,7 +9,7 @@ use Rattle.typed_tree.specs.ViewTree.{view_expr}
 use Rattle.upc_checker_expressions.specs.Expressions.{walk}
 use Rattle.upc_checker_scopes.specs.layer.Views.{view_setting, state_of}
 use Rattle.upc_checker_scopes.proofs.Walks.{goes, stops, gives}
-use Rattle.upc_checker_statements.proofs.heads.walk_value.Goals as goal
+use Rattle.upc_checker_heads.proofs.heads.walk_value.Goals as goal
 
 pub returns-in_err-a-in-Some : goal.returns-in_err-a-in-Some
 returns-in_err-a-in-Some c =
