@@ -15,7 +15,8 @@ use std::alloc::{AllocError as OutOfMemory, Global};
 use std::sync::Wait;
 use std::thread::Threads;
 use typed_tree::Program;
-use upc_rounds::{run, run_by};
+use upc_rounds::run;
+use upc_rounds_picks::run_by;
 use upc_task::Limits;
 use upc_text::Gate;
 use upc_values::Journal;
@@ -50,7 +51,7 @@ pub fn run_program<R: Threads + Wait + Sync, G: Gate>(
 }
 
 /// Compiles a program and runs it on one thread of the machine, in an order that the picks choose (see
-/// `upc_rounds::run_by`).
+/// `upc_rounds_picks::run_by`).
 pub fn run_program_by<R: Wait>(
     rt: &R,
     alloc: Global,

@@ -10,7 +10,7 @@ use Rattle.upc_values.specs.Lists.{Numbered}
 use Rattle.stack_code.specs.layer.Codes.{Codes}
 use Rattle.upc_task.specs.layer.Sources.{Outcomes}
 use Rattle.upc_rounds.specs.declared.place.Place.{Place}
-use Rattle.upc_rounds.specs.code.Teams.{IsMember, seen_among}
+use Rattle.upc_rounds.specs.layer.Teams.{IsMember, seen_among}
 
 abbrev pub OurSeat : Type 0
 OurSeat = Seat (Opening × List Entry) Entry Opening

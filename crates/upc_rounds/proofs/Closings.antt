@@ -8,7 +8,7 @@ use Rattle.upc_values.specs.Lists.{Numbered}
 use Rattle.upc_values.specs.History.{EachBelow}
 use Rattle.upc_values.specs.Drain.{entries_of}
 use Rattle.upc_rounds.specs.declared.place.Place.{Place}
-use Rattle.upc_rounds.specs.code.Teams.{seat_at, seen_at, IsSeated}
+use Rattle.upc_rounds.specs.layer.Teams.{seat_at, seen_at, IsSeated}
 use Rattle.upc_rounds.proofs.Rounding.{whole-seen}
 use Rattle.upc_rounds.proofs.Crews.{some-place}
 

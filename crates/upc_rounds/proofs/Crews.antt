@@ -19,9 +19,9 @@ use Rattle.upc_task.proofs.Lists.{numbered-map}
 use Rattle.upc_task.proofs.Seen.{kept-entered}
 use Rattle.upc_rounds.specs.declared.place.Place.{Place}
 use Rattle.upc_rounds.specs.layer.Course.{Grows}
-use Rattle.upc_rounds.specs.code.Runs.{IsAt, IsRunning, AreSame, HasOwnEnd, IsIdle}
-use Rattle.upc_rounds.specs.code.Places.{Moved}
-use Rattle.upc_rounds.specs.code.Teams.{worker_of, workers_of, seen_at, seen_among, Met, AreMet, HaveMet, IsCrew}
+use Rattle.upc_rounds.specs.layer.Runs.{IsAt, IsRunning, AreSame, HasOwnEnd, IsIdle}
+use Rattle.upc_rounds.specs.layer.Places.{Moved}
+use Rattle.upc_rounds.specs.layer.Teams.{worker_of, workers_of, seen_at, seen_among, Met, AreMet, HaveMet, IsCrew}
 use Rattle.upc_rounds.proofs.Prefixes.{prefix-self, prefix-then, prefix-both}
 use Rattle.upc_rounds.proofs.Rounding.{whole-seen}
 

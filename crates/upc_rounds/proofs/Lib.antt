@@ -13,7 +13,6 @@ pub mod Crews
 pub mod Teams
 pub mod Meetings
 pub mod Closings
-pub mod Turning
 pub mod Openings
 pub mod Beginnings
 pub mod Timing

@@ -5,7 +5,7 @@ use Rattle.upc_values.specs.Lists.{Numbered}
 use Rattle.upc_values.specs.Openings.{Opening}
 use Rattle.upc_task.specs.layer.Seated.{IsLawful}
 use Rattle.upc_rounds.specs.declared.place.Place.{Place}
-use Rattle.upc_rounds.specs.code.Teams.{Met, HaveMet, seen_at}
+use Rattle.upc_rounds.specs.layer.Teams.{Met, HaveMet, seen_at}
 use Rattle.upc_rounds.proofs.Crews.{met-then}
 
 -- What holds at a place of a list of which one member was set

@@ -18,9 +18,9 @@ use Rattle.upc_task.specs.layer.Seated.{IsTask, StaysTask, Gained}
 use Rattle.upc_task.proofs.Options.{none-some}
 use Rattle.upc_task.proofs.Workers.{kept-seen}
 use Rattle.upc_rounds.specs.layer.Course.{Steps}
-use Rattle.upc_rounds.specs.code.Runs.{Rested, standing_of}
+use Rattle.upc_rounds.specs.layer.Runs.{Rested, standing_of}
 use Rattle.upc_rounds.specs.code.Played.{TurnedSeen, SoFar}
-use Rattle.upc_rounds.specs.code.Places.{Moved, Took, RestsWith}
+use Rattle.upc_rounds.specs.layer.Places.{Moved, Took, RestsWith}
 use Rattle.upc_rounds.proofs.Prefixes.{prefix-self, prefix-then}
 use Rattle.upc_rounds.proofs.Gains.{turned-step, turned-work}
 use Rattle.upc_rounds.proofs.Running.{paused-own}

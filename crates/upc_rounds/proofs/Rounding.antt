@@ -32,7 +32,7 @@ use Rattle.upc_task.specs.layer.Sources.{Outcomes}
 use Rattle.upc_task.specs.layer.Kept.{IsKept, IsSame, Waits, settled, outcome_of, end_or}
 use Rattle.upc_rounds.specs.Rounds.{BeatsLast, ends_with_beat, joined, StandsAtStall, StandsLast, Rests, RestsAfterEach, AfterEach, AfterLast, but_last}
 use Rattle.upc_rounds.specs.layer.Course.{TakesPart}
-use Rattle.upc_rounds.specs.code.Runs.{HasOwnEnd, NoneStops, Moving, standing_of}
+use Rattle.upc_rounds.specs.layer.Runs.{HasOwnEnd, NoneStops, Moving, standing_of}
 use Rattle.upc_rounds.specs.code.Played.{want_of, KeepsStalls, Acted, Played, SomeGoes, GoesByRounds, GoneByRounds}
 use Rattle.upc_rounds.proofs.Items.{none-added, stalls-at, same-stall}
 use Rattle.upc_rounds.proofs.Resting.{joined-push, but-last-push, after-map, last-map, last-push as after-push, last-whole, each-last, rests-each, stands-longer, ready-stays, rests-moved, rests-push}

@@ -14,10 +14,10 @@ use Rattle.upc_task.specs.layer.Kept.{IsKept, IsSame}
 use Rattle.upc_task.specs.layer.Seated.{IsTask}
 use Rattle.upc_task.proofs.Seen.{unseen-none}
 use Rattle.upc_rounds.specs.declared.place.Place.{Place}
-use Rattle.upc_rounds.specs.code.Runs.{AreSame, Rested}
+use Rattle.upc_rounds.specs.layer.Runs.{AreSame, Rested}
 use Rattle.upc_rounds.specs.code.Played.{Acted, Played, GoneByRounds}
-use Rattle.upc_rounds.specs.code.Places.{Moved, Did}
-use Rattle.upc_rounds.specs.code.Teams.{worker_of, workers_of, seen_at, seen_among, Met, HaveMet, IsMember, IsTeam, HasGone}
+use Rattle.upc_rounds.specs.layer.Places.{Moved, Did}
+use Rattle.upc_rounds.specs.layer.Teams.{worker_of, workers_of, seen_at, seen_among, Met, HaveMet, IsMember, IsTeam, HasGone}
 use Rattle.upc_rounds.proofs.Rounding.{played-seen, played-over, gone-round}
 use Rattle.upc_rounds.proofs.Crews.{some-place, numbered-workers, both-workers, many-workers, same-workers, among-at, own-stays, moved-self, crew-goes, crew-grows, crew-running}
 

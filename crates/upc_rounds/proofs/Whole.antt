@@ -19,8 +19,8 @@ use Rattle.upc_task.specs.layer.Kept.{IsKept, strand_of}
 use Rattle.upc_rounds.specs.declared.place.Place.{Place}
 use Rattle.upc_rounds.specs.layer.Openings.{opening_of}
 use Rattle.upc_rounds.specs.Rounds.{EndsInTime}
-use Rattle.upc_rounds.specs.code.Runs.{AreSame, IsAt, standing_of}
-use Rattle.upc_rounds.specs.code.Teams.{IsCrew, IsTeam, IsDone, HasEnded, workers_of, seen_at, seen_among}
+use Rattle.upc_rounds.specs.layer.Runs.{AreSame, IsAt, standing_of}
+use Rattle.upc_rounds.specs.layer.Teams.{IsCrew, IsTeam, IsDone, HasEnded, workers_of, seen_at, seen_among}
 use Rattle.upc_rounds.proofs.Openings.{kept_opening}
 use Rattle.upc_rounds.proofs.Outcomes.{outcomes_there}
 use Rattle.upc_rounds.proofs.Running.{over-sound}
@@ -69,7 +69,7 @@ pub done-sound : (z : TableId) (o : Opening) (c : Codes) (all : ℕ → Outcomes
     → IsSound o all (journal_with l strands history)
 done-sound z o c all l ks ms strands history h is made threads legal formed below same limits =
     over-sound o c all l (workers_of ks) (workers_of ms) (journal_with l strands history)
-    (subst (λ s. Rattle.upc_rounds.specs.code.Runs.IsOver o c (all l.budget) s (workers_of ms)) (sym is) h.over) legal formed below same limits threads refl refl made
+    (subst (λ s. Rattle.upc_rounds.specs.layer.Runs.IsOver o c (all l.budget) s (workers_of ms)) (sym is) h.over) legal formed below same limits threads refl refl made
 
 -- And it ends in time.
 pub done-in-time : (z : TableId) (o : Opening) (c : Codes) (all : ℕ → Outcomes) (l : Limits) (ks ms : List Place) (strands : List Rattle.upc_values.specs.declared.journal.Strand.Strand) (history : List Entry)

@@ -1,4 +1,1 @@
 pub mod Played
-pub mod Places
-pub mod Teams
-pub mod Runs

@@ -1,2 +1,5 @@
 pub mod Course
 pub mod Openings
+pub mod Places
+pub mod Teams
+pub mod Runs

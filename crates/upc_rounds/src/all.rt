@@ -5,9 +5,9 @@ ghost use Rattle.upc_values.specs.Lists.{Numbered};
 ghost use Rattle.turn_cell.specs.layer.Seats.{id_of, started};
 ghost use Rattle.upc_task.specs.layer.Sources.{Outcomes};
 ghost use Rattle.upc_task.specs.layer.Seated.{IsTask};
-ghost use Rattle.upc_rounds.specs.code.Places.{Did};
-ghost use Rattle.upc_rounds.specs.code.Runs.{AreSame, Rested};
-ghost use Rattle.upc_rounds.specs.code.Teams.{IsTeam, HasGone, workers_of};
+ghost use Rattle.upc_rounds.specs.layer.Places.{Did};
+ghost use Rattle.upc_rounds.specs.layer.Runs.{AreSame, Rested};
+ghost use Rattle.upc_rounds.specs.layer.Teams.{IsTeam, HasGone, workers_of};
 
 use crate::meeting::meet_all;
 use crate::part::play;

@@ -7,8 +7,8 @@ ghost use Rattle.turn_cell.specs.layer.Seats.{TableId, AreNew};
 ghost use Rattle.upc_task.specs.layer.Sources.{Outcomes, HasOutcomes};
 ghost use Rattle.upc_task.specs.layer.Kept.{AreLimits};
 ghost use Rattle.upc_rounds.specs.layer.Openings.{opening_of};
-ghost use Rattle.upc_rounds.specs.code.Runs.{standing_of};
-ghost use Rattle.upc_rounds.specs.code.Teams.{IsCrew, worker_of, workers_of, seen_among};
+ghost use Rattle.upc_rounds.specs.layer.Runs.{standing_of};
+ghost use Rattle.upc_rounds.specs.layer.Teams.{IsCrew, worker_of, workers_of, seen_among};
 
 use crate::place::Place;
 use block_layout::ObjectRef;
@@ -31,7 +31,7 @@ fn objects_of(alloc: Global, shared: &[SharedDecl]) -> Result<Vec<ObjectRef>, Ou
 }
 
 /// The shared memory with which a program begins.
-pub(crate) fn begin(alloc: Global, program: &Program, threads: u32) -> Result<World, OutOfMemory>
+pub fn begin(alloc: Global, program: &Program, threads: u32) -> Result<World, OutOfMemory>
     requires { program.now.threads ≡ threads }
     ensures { IfOk result (λ w. (w.1 ≡ []) × (w.0 ≡ opening_of program.now)) }
 {
@@ -46,7 +46,7 @@ pub(crate) fn begin(alloc: Global, program: &Program, threads: u32) -> Result<Wo
 }
 
 /// A task for each seat.
-pub(crate) fn make_all(
+pub fn make_all(
     alloc: Global,
     code: &Code,
     limits: Limits,

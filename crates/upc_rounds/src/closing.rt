@@ -7,7 +7,7 @@ ghost use Rattle.upc_values.specs.Openings.{Opening};
 ghost use Rattle.stack_code.specs.layer.Codes.{Codes};
 ghost use Rattle.upc_task.specs.layer.Sources.{Outcomes};
 ghost use Rattle.upc_task.specs.layer.Kept.{IsKept, strand_of};
-ghost use Rattle.upc_rounds.specs.code.Teams.{IsSeated, worker_of, workers_of, seat_at, seen_at, seen_among};
+ghost use Rattle.upc_rounds.specs.layer.Teams.{IsSeated, worker_of, workers_of, seat_at, seen_at, seen_among};
 
 use crate::place::Place;
 use memory_history::World;
@@ -37,7 +37,7 @@ fn part_all(
 }
 
 /// Ends the cell of a run that is over: its history is what each has seen. It takes no memory.
-pub(crate) fn close_all(
+pub fn close_all(
     cell: TurnCell<World>,
     places: Vec<Place>,
     seats: Vec<Seat<World>>,

@@ -14,10 +14,10 @@ ghost use Rattle.turn_cell.specs.layer.Seats.{id_of, started};
 ghost use Rattle.upc_task.specs.layer.Sources.{Outcomes};
 ghost use Rattle.upc_task.specs.layer.Seated.{IsTask};
 ghost use Rattle.upc_rounds.specs.declared.place.Place.{Place};
-ghost use Rattle.upc_rounds.specs.code.Runs.{Rested, Stops, StopsAt, NoneStops, Wanting, Moving, AreEach, CanLock};
-ghost use Rattle.upc_rounds.specs.code.Runs.{halted, locked, IsOpenAt};
-ghost use Rattle.upc_rounds.specs.code.Teams.{GoesOn, IsCrew, Met, AreMet, SameSeats, InVain, IsAllowed, Stands};
-ghost use Rattle.upc_rounds.specs.code.Teams.{worker_of, workers_of, seen_among};
+ghost use Rattle.upc_rounds.specs.layer.Runs.{Rested, Stops, StopsAt, NoneStops, Wanting, Moving, AreEach, CanLock};
+ghost use Rattle.upc_rounds.specs.layer.Runs.{halted, locked, IsOpenAt};
+ghost use Rattle.upc_rounds.specs.layer.Teams.{GoesOn, IsCrew, Met, AreMet, SameSeats, InVain, IsAllowed, Stands};
+ghost use Rattle.upc_rounds.specs.layer.Teams.{worker_of, workers_of, seen_among};
 
 use crate::meeting::meet_all;
 use crate::place::Place;
@@ -29,7 +29,7 @@ use upc_task::Task;
 use upc_values::{End, copy_action};
 
 /// Whether the task has no end.
-pub(crate) fn is_open(places: &[Place], at: usize) -> bool
+pub fn is_open(places: &[Place], at: usize) -> bool
     requires { at < length places.now }
     ensures yes { result ≡ true → IsOpenAt (workers_of places.now) at }
     ensures no { result ≡ false
@@ -52,7 +52,7 @@ fn stops(task: &Task) -> bool
 }
 
 /// A task whose end ends the run.
-pub(crate) fn stopped(places: &[Place]) -> Option<usize>
+pub fn stopped(places: &[Place]) -> Option<usize>
     ensures { MatchOption result (NoneStops (workers_of places.now)) (StopsAt (workers_of places.now)) }
 {
     for at in 0..places.len() {
@@ -64,7 +64,7 @@ pub(crate) fn stopped(places: &[Place]) -> Option<usize>
 }
 
 /// Whether each task has its end.
-pub(crate) fn all_ended(places: &[Place]) -> bool
+pub fn all_ended(places: &[Place]) -> bool
     ensures { result ≡ true → Numbered (λ _ k. is_some k.«end» ≡ true) (workers_of places.now) }
 {
     for at in 0..places.len() {
@@ -174,7 +174,7 @@ fn none_may_go<R: Wait>(
 }
 
 /// Whether each task without an end stands at a Stall, and wants what is not legal after all that was added.
-pub(crate) fn none_goes<R: Wait>(
+pub fn none_goes<R: Wait>(
     rt: &R,
     alloc: Global,
     places: &mut [Place],
@@ -227,7 +227,7 @@ fn lock(alloc: Global, task: &mut Task) -> Result<(), OutOfMemory>
 }
 
 /// Each task without an end is halted.
-pub(crate) fn halt_all(places: &mut [Place])
+pub fn halt_all(places: &mut [Place])
     requires { Numbered (λ _ k. Rested k) (workers_of places.old) }
     ensures workers { AreEach halted (workers_of places.old) (workers_of places.new) }
     ensures seats { SameSeats places.old places.new }
@@ -238,7 +238,7 @@ pub(crate) fn halt_all(places: &mut [Place])
 }
 
 /// Each task without an end is deadlocked.
-pub(crate) fn lock_all(alloc: Global, places: &mut [Place]) -> Result<(), OutOfMemory>
+pub fn lock_all(alloc: Global, places: &mut [Place]) -> Result<(), OutOfMemory>
     requires { Numbered (λ _ k. k.«end» ≡ None → CanLock k) (workers_of places.old) }
     ensures workers { IfOk result (λ _. AreEach locked (workers_of places.old) (workers_of places.new)) }
     ensures seats { IfOk result (λ _. SameSeats places.old places.new) }

@@ -1,17 +1,14 @@
-//! Rounds of tasks over one history: each thread on a thread of its own, or all on one thread by picks.
+//! Rounds of tasks over one history, each thread on a thread of its own.
 #![tactic(auto)]
 
 mod all;
-mod begin;
-mod closing;
-mod ends;
-mod meeting;
+pub mod begin;
+pub mod closing;
+pub mod ends;
+pub mod meeting;
 mod part;
-mod picks;
-mod place;
+pub mod place;
 mod threads;
-mod turns;
 
 pub use part::round;
-pub use picks::run_by;
 pub use threads::run;

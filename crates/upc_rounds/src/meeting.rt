@@ -7,7 +7,7 @@ ghost use Rattle.turn_cell.specs.layer.Seats.{cell_of, id_of};
 ghost use Rattle.upc_values.specs.Openings.{Opening};
 ghost use Rattle.upc_values.specs.Lists.{Numbered};
 ghost use Rattle.upc_task.specs.layer.Seated.{IsLawful};
-ghost use Rattle.upc_rounds.specs.code.Teams.{AreOf, Met, HaveMet, seen_at};
+ghost use Rattle.upc_rounds.specs.layer.Teams.{AreOf, Met, HaveMet, seen_at};
 
 use crate::place::Place;
 use memory_history::World;

@@ -4,7 +4,7 @@ ghost use Rattle.std.specs.Prelude.{◌≡◌, None, IfOk};
 ghost use Rattle.turn_cell.specs.layer.Seats.{id_of, started};
 ghost use Rattle.upc_task.specs.layer.Sources.{Outcomes};
 ghost use Rattle.upc_task.specs.layer.Seated.{IsTask, IsInOrder};
-ghost use Rattle.upc_rounds.specs.code.Places.{Took, Did, RestsWith};
+ghost use Rattle.upc_rounds.specs.layer.Places.{Took, Did, RestsWith};
 
 use crate::place::Place;
 use memory_history::World;

@@ -10,8 +10,8 @@ ghost use Rattle.turn_cell.specs.layer.Seats.{id_of, started};
 ghost use Rattle.upc_task.specs.layer.Sources.{Outcomes, GivesOutcomes};
 ghost use Rattle.upc_rounds.specs.layer.Openings.{opening_of};
 ghost use Rattle.upc_rounds.specs.Rounds.{EndsInTime};
-ghost use Rattle.upc_rounds.specs.code.Runs.{AreSame};
-ghost use Rattle.upc_rounds.specs.code.Teams.{IsTeam, IsDone, HasEnded, workers_of};
+ghost use Rattle.upc_rounds.specs.layer.Runs.{AreSame};
+ghost use Rattle.upc_rounds.specs.layer.Teams.{IsTeam, IsDone, HasEnded, workers_of};
 
 use crate::all::go;
 use crate::begin::{begin, make_all};

@@ -23,7 +23,7 @@ use Rattle.upc_task.specs.layer.Kept.{IsSame, Waits, AllOf, outcome_of, end_or}
 use Rattle.upc_rounds.specs.Rounds.{joined, BeatsLast, ends_with_beat, StandsAtStall, StandsLast, RestsAfterEach}
 use Rattle.upc_rounds.specs.Rounds.{MayGo, AfterEach, AfterLast, but_last}
 use Rattle.upc_rounds.specs.layer.Course.{TakesPart}
-use Rattle.upc_rounds.specs.code.Runs.{NoneStops, standing_of}
+use Rattle.upc_rounds.specs.layer.Runs.{NoneStops, standing_of}
 
 -- What the worker's source wants next.
 abbrev pub want_of : Outcomes → Worker → Option Action

@@ -3,7 +3,7 @@ use Rattle.std.proofs.lemmas.List.{get_or_default}
 use Rattle.turn_cell.specs.layer.Seats.{id_of, started}
 use Rattle.upc_task.specs.layer.Seated.{IsTask}
 use Rattle.upc_rounds.specs.declared.place.Place.{Place}
-use Rattle.upc_rounds.specs.code.Teams.{Met, InVain, IsAllowed, seen_among}
+use Rattle.upc_rounds.specs.layer.Teams.{Met, InVain, IsAllowed, seen_among}
 use Rattle.upc_rounds.proofs.Crews.{met-self}
 use Rattle.upc_rounds.proofs.Meetings.{set-at}
 use Rattle.upc_rounds.proofs.Rounding.{stalled-wish}
@@ -31,7 +31,7 @@ may_go-requires-clause-stands g c =
     let h = c.loop-at.invariant in let t = c.loop-at.at in let x = c.index-places-at.result in
     let lt : t < length c.loop-at.places = (let a = c.loop-at-test.true in let b = c.loop-at.auto.at-end in let m = h.many in omega arith) in
     let lk : t < length c.args.places.now = subst (λ n. t < n) h.many lt in
-    subst Rattle.upc_rounds.specs.code.Teams.Stands (sym (h.left t x (omega arith))) (c.requires.stand t x lk)
+    subst Rattle.upc_rounds.specs.layer.Teams.Stands (sym (h.left t x (omega arith))) (c.requires.stand t x lk)
 
 pub loop-at-init : goal.loop-at-init
 loop-at-init g c = record {

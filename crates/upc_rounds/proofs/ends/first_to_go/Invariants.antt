@@ -6,7 +6,7 @@ use Rattle.turn_cell.specs.layer.Seats.{id_of, started}
 use Rattle.upc_task.specs.layer.Sources.{Outcomes}
 use Rattle.upc_task.specs.layer.Seated.{IsTask}
 use Rattle.upc_rounds.specs.declared.place.Place.{Place}
-use Rattle.upc_rounds.specs.code.Teams.{IsCrew, Met, InVain}
+use Rattle.upc_rounds.specs.layer.Teams.{IsCrew, Met, InVain}
 use Rattle.upc_rounds.proofs.ends.first_to_go.Given as goal
 
 abbrev pub invariant-loop-at : goal.invariant-loop-at

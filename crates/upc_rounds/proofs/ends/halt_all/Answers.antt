@@ -1,6 +1,6 @@
 use Rattle.std.proofs.Common.{◌≡◌, ◌<◌, length, sym, ap, subst, ◌∙◌, arith, get_or}
-use Rattle.upc_rounds.specs.code.Runs.{Rested, halted}
-use Rattle.upc_rounds.specs.code.Teams.{workers_of}
+use Rattle.upc_rounds.specs.layer.Runs.{Rested, halted}
+use Rattle.upc_rounds.specs.layer.Teams.{workers_of}
 use Rattle.upc_rounds.proofs.Crews.{worker-at, many-workers, both-workers}
 use Rattle.upc_rounds.proofs.ends.halt_all.Goals as goal
 

@@ -1,7 +1,7 @@
 use Rattle.std.proofs.Common.{◌≡◌, ℕ, ◌<◌, ◌≤◌, length}
 use Rattle.std.specs.Prelude.{slice_index_or}
 use Rattle.upc_rounds.specs.declared.place.Place.{Place}
-use Rattle.upc_rounds.specs.code.Runs.{halted}
+use Rattle.upc_rounds.specs.layer.Runs.{halted}
 use Rattle.upc_rounds.proofs.ends.halt_all.Given as goal
 
 abbrev pub invariant-loop-at : goal.invariant-loop-at

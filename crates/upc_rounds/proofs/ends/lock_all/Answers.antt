@@ -1,7 +1,7 @@
 use Rattle.std.proofs.Common.{◌≡◌, ◌<◌, None, length, sym, ap, subst, ◌∙◌, arith, get_or}
 use Rattle.upc_task.specs.declared.worker.Worker.{Worker}
-use Rattle.upc_rounds.specs.code.Runs.{CanLock, locked}
-use Rattle.upc_rounds.specs.code.Teams.{workers_of}
+use Rattle.upc_rounds.specs.layer.Runs.{CanLock, locked}
+use Rattle.upc_rounds.specs.layer.Teams.{workers_of}
 use Rattle.upc_rounds.proofs.Crews.{worker-at, many-workers, both-workers}
 use Rattle.upc_rounds.proofs.ends.lock_all.Goals as goal
 

@@ -4,8 +4,8 @@ use Rattle.upc_values.specs.declared.journal.Entry.{Entry}
 use Rattle.upc_values.specs.Openings.{Opening}
 use Rattle.upc_values.specs.Lists.{Numbered}
 use Rattle.upc_task.proofs.Options.{match-some, match-none}
-use Rattle.upc_rounds.specs.code.Runs.{Moving}
-use Rattle.upc_rounds.specs.code.Teams.{Stands, workers_of, seen_among}
+use Rattle.upc_rounds.specs.layer.Runs.{Moving}
+use Rattle.upc_rounds.specs.layer.Teams.{Stands, workers_of, seen_among}
 use Rattle.upc_rounds.proofs.ends.none_goes.Goals as goal
 
 pub none_may_go-requires-clause-stand : goal.none_may_go-requires-clause-stand

@@ -7,8 +7,8 @@ use Rattle.upc_values.specs.Records.{last_item, is_stall}
 use Rattle.upc_task.specs.declared.worker.Worker.{Worker}
 use Rattle.upc_task.proofs.Options.{match-some, match-none}
 use Rattle.upc_rounds.specs.declared.place.Place.{Place}
-use Rattle.upc_rounds.specs.code.Runs.{Wanting, Moving}
-use Rattle.upc_rounds.specs.code.Teams.{InVain, IsAllowed, workers_of, seen_at, seen_among}
+use Rattle.upc_rounds.specs.layer.Runs.{Wanting, Moving}
+use Rattle.upc_rounds.specs.layer.Teams.{InVain, IsAllowed, workers_of, seen_at, seen_among}
 use Rattle.upc_rounds.proofs.Crews.{some-place, worker-at, many-workers, numbered-workers, again-workers, again-crew, asked-whole}
 use Rattle.upc_rounds.proofs.ends.none_may_go.Goals as goal
 
@@ -49,7 +49,7 @@ returns-clause-yes g c = λ yes.
     (asked-whole ks ms ns c.requires.some e.met c.meet_all.ensures (id_of c.args.cell.now) o r.0 r.1.0 (e.kept r.0 r.1.0 r.1.1) r.1.1 i d lt)
     (vain i d lt q)))
   where
-    workers-back : (ks ms ns : Rattle.std.proofs.Common.List Place) → 0 < length ks → Rattle.upc_rounds.specs.code.Teams.AreMet ks ms → Rattle.upc_rounds.specs.code.Teams.HaveMet ms ns → workers_of ms ≡ workers_of ns
+    workers-back : (ks ms ns : Rattle.std.proofs.Common.List Place) → 0 < length ks → Rattle.upc_rounds.specs.layer.Teams.AreMet ks ms → Rattle.upc_rounds.specs.layer.Teams.HaveMet ms ns → workers_of ms ≡ workers_of ns
     workers-back ks ms ns some asked met = sym (Rattle.upc_rounds.proofs.Crews.workers-same ms ns met.many (λ i d lt. (met.each i d lt).worker))
 
 pub returns-then-is_some-clause-no : goal.returns-then-is_some-clause-no

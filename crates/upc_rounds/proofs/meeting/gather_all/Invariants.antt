@@ -4,7 +4,7 @@ use Rattle.upc_values.specs.Lists.{Numbered}
 use Rattle.upc_values.specs.Openings.{Opening}
 use Rattle.upc_task.specs.layer.Seated.{IsLawful}
 use Rattle.upc_rounds.specs.declared.place.Place.{Place}
-use Rattle.upc_rounds.specs.code.Teams.{Met, seen_at}
+use Rattle.upc_rounds.specs.layer.Teams.{Met, seen_at}
 use Rattle.upc_rounds.proofs.meeting.gather_all.Given as goal
 
 abbrev pub invariant-loop-i : goal.invariant-loop-i

@@ -1,7 +1,7 @@
 use Rattle.std.proofs.Common.{rules, ◌≡◌, suc, ◌<◌, ◌∷◌, length, sym, subst, ◌∙◌, arith}
 use mathlib.Core.List.{IsPrefix}
 use Rattle.turn_cell.specs.layer.Seats.{id_of}
-use Rattle.upc_rounds.specs.code.Teams.{AreOf, HaveMet, seen_at}
+use Rattle.upc_rounds.specs.layer.Teams.{AreOf, HaveMet, seen_at}
 use Rattle.upc_rounds.proofs.Meetings.{have-met}
 use Rattle.upc_rounds.proofs.meeting.meet_all.Goals as goal
 

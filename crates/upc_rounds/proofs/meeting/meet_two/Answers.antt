@@ -1,5 +1,5 @@
 use Rattle.std.proofs.Common.{◌∙◌}
-use Rattle.upc_rounds.specs.code.Teams.{seen_at}
+use Rattle.upc_rounds.specs.layer.Teams.{seen_at}
 use Rattle.upc_rounds.proofs.Prefixes.{longer-whole}
 use Rattle.upc_rounds.proofs.meeting.meet_two.Goals as goal
 

@@ -1,6 +1,6 @@
 use Rattle.std.proofs.Common.{ℕ, ◌≡◌, ◌<◌, ◌≤◌, length, slice_index_or}
 use Rattle.upc_rounds.specs.declared.place.Place.{Place}
-use Rattle.upc_rounds.specs.code.Teams.{Met, seen_at}
+use Rattle.upc_rounds.specs.layer.Teams.{Met, seen_at}
 use Rattle.upc_rounds.proofs.meeting.spread_all.Given as goal
 
 abbrev pub invariant-loop-i : goal.invariant-loop-i

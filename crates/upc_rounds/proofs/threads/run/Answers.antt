@@ -10,8 +10,8 @@ use Rattle.upc_task.specs.layer.Sources.{Outcomes, HasOutcomes}
 use Rattle.upc_task.specs.layer.Kept.{IsKept, strand_of}
 use Rattle.upc_rounds.specs.declared.place.Place.{Place}
 use Rattle.upc_rounds.specs.layer.Openings.{opening_of}
-use Rattle.upc_rounds.specs.code.Runs.{AreSame}
-use Rattle.upc_rounds.specs.code.Teams.{IsSeated, IsTeam, IsDone, HasEnded, workers_of, seen_at, seen_among}
+use Rattle.upc_rounds.specs.layer.Runs.{AreSame}
+use Rattle.upc_rounds.specs.layer.Teams.{IsSeated, IsTeam, IsDone, HasEnded, workers_of, seen_at, seen_among}
 use Rattle.upc_rounds.proofs.Openings.{kept_opening}
 use Rattle.upc_rounds.proofs.Outcomes.{has_outcomes}
 use Rattle.upc_rounds.proofs.Spending.{sound-spent}

@@ -1,0 +1,21 @@
+use Rattle.std.proofs.Common.{◌<◌, is_some, length, sym, subst, ap, ◌∙◌, arith}
+use Rattle.upc_task.specs.declared.worker.Worker.{Worker}
+use Rattle.upc_rounds.specs.layer.Teams.{workers_of}
+use Rattle.upc_rounds.proofs.Running.{open-more, ended-more}
+use Rattle.upc_rounds.proofs.Crews.{some-place, worker-at, many-workers}
+use Rattle.upc_rounds_picks.proofs.picks.chosen.Goals as goal
+use Rattle.upc_rounds_picks.proofs.picks.chosen.Goals.{then-is_open+else-left-eq0, else-is_open}
+
+pub loop-at-preserved : goal.loop-at-preserved
+loop-at-preserved c =
+    let ks = workers_of c.args.places.now in let t = c.loop-at.at in let h = c.loop-at.invariant in
+    let lp : t < length c.args.places.now = omega arith in
+    let lt : t < length ks = subst (λ n. t < n) (sym (many-workers c.args.places.now)) lp in
+    elim c.if-is_open.branch [
+      | then-is_open+else-left-eq0 w ↦ let more = open-more ks t lt (c.is_open.ensures.yes w.if-is_open.true) in
+          omega (arith, h, more, w.left-is)
+      | else-is_open w ↦
+          let p = some-place c.args.places.now t lp in
+          let more = ended-more ks t lt (λ (d : Worker). ap (λ (k : Worker). is_some k.«end») (worker-at c.args.places.now t p d lp) ∙ c.is_open.ensures.no w.if-is_open.false p) in
+          omega (arith, h, more, w.left-is)
+    ]

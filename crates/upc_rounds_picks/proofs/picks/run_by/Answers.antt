@@ -1,0 +1,172 @@
+use Rattle.std.proofs.Common.{rules, ℕ, ◌≡◌, ◌<◌, ◌≤◌, ◌++◌, List, [], map, length, take, drop, refl, sym, subst, ap, ◌∙◌, arith}
+use Rattle.turn_cell.specs.layer.Seats.{AreNew, id_of, started}
+use Rattle.upc_values.specs.declared.journal.Journal.{Journal}
+use Rattle.upc_values.specs.Lists.{Numbered}
+use Rattle.upc_values.specs.Openings.{Opening, IsOpening}
+use Rattle.upc_values.specs.History.{IsLegal, EachBelow}
+use Rattle.upc_values.specs.Formed.{AreWellFormed}
+use Rattle.upc_values.specs.Waits.{WaitsFollow}
+use Rattle.upc_task.specs.layer.Sources.{Outcomes, HasOutcomes}
+use Rattle.upc_task.specs.layer.Kept.{IsKept, strand_of}
+use Rattle.upc_rounds.specs.declared.place.Place.{Place}
+use Rattle.upc_rounds.specs.layer.Openings.{opening_of}
+use Rattle.upc_rounds.specs.layer.Course.{Moment, AreOf}
+use Rattle.upc_rounds.specs.layer.Runs.{AreSame, moment_of}
+use Rattle.upc_rounds.specs.layer.Teams.{IsSeated, IsCrew, IsDone, workers_of, seen_at, seen_among}
+use Rattle.upc_rounds.proofs.Openings.{kept_opening}
+use Rattle.upc_rounds.proofs.Outcomes.{has_outcomes}
+use Rattle.upc_rounds.proofs.Standings.{outset-of}
+use Rattle.upc_rounds.proofs.Spending.{sound-spent}
+use Rattle.upc_rounds.proofs.Crews.{many-workers}
+use Rattle.upc_rounds.proofs.Beginnings.{given-back}
+use Rattle.upc_rounds.proofs.Whole.{there, done-kept, done-is-ended, done-sound}
+use Rattle.upc_rounds_picks.proofs.picks.run_by.Goals as goal
+
+pub make_all-requires-clause-code : goal.make_all-requires-clause-code
+make_all-requires-clause-code g c = c.requires.fits.threads ∙ c.requires.same
+
+pub go_all-requires-clause-running : goal.go_all-requires-clause-running
+go_all-requires-clause-running g c =
+    let o : Opening = opening_of c.args.program.now in let l = c.args.limits in let code = c.args.code.now in
+    let cell = c.in_ok-cell.cell in let z = id_of cell in let s = c.in_ok-cell.ensures in let ks = c.in_ok-places.places.items in
+    let opens : IsOpening o = kept_opening o c.args.program.now.opening in
+    let from : (started cell).0 ≡ o = ap (λ v. v.0) s.cell.0 ∙ c.in_ok-world.ensures.1 in
+    let new : AreNew z o 0 c.in_ok-cell.seats.items = subst (λ y. AreNew z y 0 c.in_ok-cell.seats.items) c.in_ok-world.ensures.1 s.seats.1 in
+    let is : c.as_mut_slice.result.now ≡ ks = search rules in
+    let begun : (f : Outcomes) → HasOutcomes o code l f → IsCrew z (started cell).0 code f c.as_mut_slice.result.now = λ f has.
+    subst (IsCrew z (started cell).0 code f) (sym is) (subst (λ y. IsCrew z y code f ks) (sym from)
+    (c.in_ok-places.ensures.crew z o f new opens has).0) in
+    let given = there c.args.program.now code l c.keep.ensures c.requires.fits c.requires.same c.requires.budget.0 in
+    (given.0, begun given.0 given.1)
+
+pub close_all-world-requires-clause-seated : goal.close_all-world-requires-clause-seated
+close_all-world-requires-clause-seated g c =
+    let o : Opening = opening_of c.args.program.now in let l = c.args.limits in let code = c.args.code.now in
+    let cell = c.in_ok-cell.cell in let z = id_of cell in let s = c.in_ok-cell.ensures in let ks = c.in_ok-places.places.items in
+    let opens : IsOpening o = kept_opening o c.args.program.now.opening in
+    let from : (started cell).0 ≡ o = ap (λ v. v.0) s.cell.0 ∙ c.in_ok-world.ensures.1 in
+    let new : AreNew z o 0 c.in_ok-cell.seats.items = subst (λ y. AreNew z y 0 c.in_ok-cell.seats.items) c.in_ok-world.ensures.1 s.seats.1 in
+    let is : c.as_mut_slice.result.now ≡ ks = search rules in
+    let ms = c.go_all.new.places in let e = c.in_ok-go_all.ensures in
+    let same : AreSame (workers_of ks) (workers_of ms) = subst (λ x. AreSame (workers_of x) (workers_of ms)) is e.same in
+    let many : length ms ≡ length ks = sym (many-workers ms) ∙ same.many ∙ many-workers ks in
+    let back : take c.in_ok-places.places.len (ms ++ drop (length ms) ks) ≡ ms = given-back c.in_ok-places.places.len ks ms many (search rules) in
+    let begun : (f : Outcomes) → HasOutcomes o code l f → IsCrew z (started cell).0 code f c.as_mut_slice.result.now = λ f has.
+    subst (IsCrew z (started cell).0 code f) (sym is) (subst (λ y. IsCrew z y code f ks) (sym from)
+    (c.in_ok-places.ensures.crew z o f new opens has).0) in
+    let given = there c.args.program.now code l c.keep.ensures c.requires.fits c.requires.same c.requires.budget.0 in
+    let done : (f : Outcomes) → HasOutcomes o code l f → IsDone z (started cell).0 code f ms = λ f has. e.over f (begun f has) in
+    subst (λ x. Numbered (IsSeated z (seen_among x)) x) (sym back) (done given.0 given.1).seats
+
+pub close_all-world-requires-clause-ended : goal.close_all-world-requires-clause-ended
+close_all-world-requires-clause-ended g c =
+    let o : Opening = opening_of c.args.program.now in let l = c.args.limits in let code = c.args.code.now in
+    let cell = c.in_ok-cell.cell in let z = id_of cell in let s = c.in_ok-cell.ensures in let ks = c.in_ok-places.places.items in
+    let opens : IsOpening o = kept_opening o c.args.program.now.opening in
+    let from : (started cell).0 ≡ o = ap (λ v. v.0) s.cell.0 ∙ c.in_ok-world.ensures.1 in
+    let new : AreNew z o 0 c.in_ok-cell.seats.items = subst (λ y. AreNew z y 0 c.in_ok-cell.seats.items) c.in_ok-world.ensures.1 s.seats.1 in
+    let is : c.as_mut_slice.result.now ≡ ks = search rules in
+    let ms = c.go_all.new.places in let e = c.in_ok-go_all.ensures in
+    let same : AreSame (workers_of ks) (workers_of ms) = subst (λ x. AreSame (workers_of x) (workers_of ms)) is e.same in
+    let many : length ms ≡ length ks = sym (many-workers ms) ∙ same.many ∙ many-workers ks in
+    let back : take c.in_ok-places.places.len (ms ++ drop (length ms) ks) ≡ ms = given-back c.in_ok-places.places.len ks ms many (search rules) in
+    let begun : (f : Outcomes) → HasOutcomes o code l f → IsCrew z (started cell).0 code f c.as_mut_slice.result.now = λ f has.
+    subst (IsCrew z (started cell).0 code f) (sym is) (subst (λ y. IsCrew z y code f ks) (sym from)
+    (c.in_ok-places.ensures.crew z o f new opens has).0) in
+    let given = there c.args.program.now code l c.keep.ensures c.requires.fits c.requires.same c.requires.budget.0 in
+    let done : (f : Outcomes) → HasOutcomes o code l f → IsDone z (started cell).0 code f ms = λ f has. e.over f (begun f has) in
+    subst (Numbered (λ i (k : Place). Rattle.std.proofs.Common.is_some k.task.worker.«end» ≡ Rattle.std.proofs.Common.true)) (sym back)
+    (done-is-ended z (started cell).0 code given.0 ms (done given.0 given.1))
+
+pub returns-clause-sound : goal.returns-clause-sound
+returns-clause-sound g c = λ f h.
+    let o : Opening = opening_of c.args.program.now in let l = c.args.limits in let code = c.args.code.now in
+    let cell = c.in_ok-cell.cell in let z = id_of cell in let s = c.in_ok-cell.ensures in let ks = c.in_ok-places.places.items in
+    let opens : IsOpening o = kept_opening o c.args.program.now.opening in
+    let from : (started cell).0 ≡ o = ap (λ v. v.0) s.cell.0 ∙ c.in_ok-world.ensures.1 in
+    let new : AreNew z o 0 c.in_ok-cell.seats.items = subst (λ y. AreNew z y 0 c.in_ok-cell.seats.items) c.in_ok-world.ensures.1 s.seats.1 in
+    let is : c.as_mut_slice.result.now ≡ ks = search rules in
+    let ms = c.go_all.new.places in let e = c.in_ok-go_all.ensures in
+    let same : AreSame (workers_of ks) (workers_of ms) = subst (λ x. AreSame (workers_of x) (workers_of ms)) is e.same in
+    let many : length ms ≡ length ks = sym (many-workers ms) ∙ same.many ∙ many-workers ks in
+    let back : take c.in_ok-places.places.len (ms ++ drop (length ms) ks) ≡ ms = given-back c.in_ok-places.places.len ks ms many (search rules) in
+    let begun : (f : Outcomes) → HasOutcomes o code l f → IsCrew z (started cell).0 code f c.as_mut_slice.result.now = λ f has.
+    subst (IsCrew z (started cell).0 code f) (sym is) (subst (λ y. IsCrew z y code f ks) (sym from)
+    (c.in_ok-places.ensures.crew z o f new opens has).0) in
+    let done : (f : Outcomes) → HasOutcomes o code l f → IsDone z (started cell).0 code f ms = λ f has. e.over f (begun f has) in
+    let took = c.take_history-history.ensures in let closed = c.close_all-world.ensures in let world = c.close_all-world.result.0 in let history = c.take_history-history.result in
+    let opened : world.0 ≡ o = closed.opening ∙ from in
+    let whole : history ≡ seen_among ms = took.taken ∙ closed.history ∙ ap seen_among back in
+    let made : (f : Outcomes) → HasOutcomes o code l f → c.from_vec.result ≡ map (strand_of f) (workers_of ms) = λ f has.
+    c.from_vec.ensures ∙ closed.strands (started cell).0 code f
+    (subst (Numbered (λ i (k : Place). IsKept (started cell).0 code f (seen_at k) k.task.worker)) (sym back) (done-kept z (started cell).0 code f ms (done f has)))
+    ∙ ap (λ x. map (strand_of f) (workers_of x)) back in
+    let legal : IsLegal o history = subst (IsLegal o) (sym took.taken) (subst (λ y. IsLegal y world.1) opened took.legal) in
+    let formed : AreWellFormed o history = subst (AreWellFormed o) (sym took.taken) (subst (λ y. AreWellFormed y world.1) opened took.formed) in
+    let below : EachBelow o.threads history = subst (EachBelow o.threads) (sym took.taken) (subst (λ y. EachBelow y.threads world.1) opened took.below) in
+    let has : HasOutcomes o code l (f l.budget) =
+    has_outcomes o code l opens c.keep.ensures c.requires.fits c.requires.same c.requires.budget.0 (f l.budget) h in
+    done-sound z o code f l ks ms c.from_vec.result history (subst (λ y. IsDone z y code (f l.budget) ms) from (done (f l.budget) has)) whole (made (f l.budget) has)
+    (sym c.requires.same) legal formed below same c.in_ok-places.ensures.limits
+
+pub returns-clause-waits : goal.returns-clause-waits
+returns-clause-waits g c =
+    let o : Opening = opening_of c.args.program.now in let l = c.args.limits in let code = c.args.code.now in
+    let cell = c.in_ok-cell.cell in let z = id_of cell in let s = c.in_ok-cell.ensures in let ks = c.in_ok-places.places.items in
+    let opens : IsOpening o = kept_opening o c.args.program.now.opening in
+    let from : (started cell).0 ≡ o = ap (λ v. v.0) s.cell.0 ∙ c.in_ok-world.ensures.1 in
+    let new : AreNew z o 0 c.in_ok-cell.seats.items = subst (λ y. AreNew z y 0 c.in_ok-cell.seats.items) c.in_ok-world.ensures.1 s.seats.1 in
+    let is : c.as_mut_slice.result.now ≡ ks = search rules in
+    let took = c.take_history-history.ensures in let world = c.close_all-world.result.0 in
+    let opened : world.0 ≡ o = c.close_all-world.ensures.opening ∙ from in
+    subst (λ n. WaitsFollow n c.take_history-history.result) c.requires.same
+    (subst (WaitsFollow o.threads) (sym took.taken) (subst (λ y. WaitsFollow y.threads world.1) opened took.waits))
+
+pub returns-clause-spent : goal.returns-clause-spent
+returns-clause-spent g c =
+    let o : Opening = opening_of c.args.program.now in let l = c.args.limits in
+    let given = there c.args.program.now c.args.code.now l c.keep.ensures c.requires.fits c.requires.same c.requires.budget.0 in
+    let f = given.0 in let has : HasOutcomes o c.args.code.now l f = given.1 in
+    let j : Journal = record { threads = l.threads; budget = l.budget; actions = l.actions; strands = c.from_vec.result; history = c.take_history-history.result } in
+    sound-spent o (λ b. f) j (λ t lt. has.sources t (subst (λ n. t < n) c.requires.same lt))
+    (returns-clause-sound g c (λ b. f) has.means)
+
+pub returns-clause-course : goal.returns-clause-course
+returns-clause-course g c =
+    let o : Opening = opening_of c.args.program.now in let l = c.args.limits in let code = c.args.code.now in
+    let cell = c.in_ok-cell.cell in let z = id_of cell in let s = c.in_ok-cell.ensures in let ks = c.in_ok-places.places.items in
+    let opens : IsOpening o = kept_opening o c.args.program.now.opening in
+    let from : (started cell).0 ≡ o = ap (λ v. v.0) s.cell.0 ∙ c.in_ok-world.ensures.1 in
+    let new : AreNew z o 0 c.in_ok-cell.seats.items = subst (λ y. AreNew z y 0 c.in_ok-cell.seats.items) c.in_ok-world.ensures.1 s.seats.1 in
+    let is : c.as_mut_slice.result.now ≡ ks = search rules in
+    let ms = c.go_all.new.places in let e = c.in_ok-go_all.ensures in
+    let same : AreSame (workers_of ks) (workers_of ms) = subst (λ x. AreSame (workers_of x) (workers_of ms)) is e.same in
+    let many : length ms ≡ length ks = sym (many-workers ms) ∙ same.many ∙ many-workers ks in
+    let back : take c.in_ok-places.places.len (ms ++ drop (length ms) ks) ≡ ms = given-back c.in_ok-places.places.len ks ms many (search rules) in
+    let begun : (f : Outcomes) → HasOutcomes o code l f → IsCrew z (started cell).0 code f c.as_mut_slice.result.now = λ f has.
+    subst (IsCrew z (started cell).0 code f) (sym is) (subst (λ y. IsCrew z y code f ks) (sym from)
+    (c.in_ok-places.ensures.crew z o f new opens has).0) in
+    let given = there c.args.program.now code l c.keep.ensures c.requires.fits c.requires.same c.requires.budget.0 in
+    let done : (f : Outcomes) → HasOutcomes o code l f → IsDone z (started cell).0 code f ms = λ f has. e.over f (begun f has) in
+    let took = c.take_history-history.ensures in let closed = c.close_all-world.ensures in let world = c.close_all-world.result.0 in let history = c.take_history-history.result in
+    let opened : world.0 ≡ o = closed.opening ∙ from in
+    let whole : history ≡ seen_among ms = took.taken ∙ closed.history ∙ ap seen_among back in
+    let made : (f : Outcomes) → HasOutcomes o code l f → c.from_vec.result ≡ map (strand_of f) (workers_of ms) = λ f has.
+    c.from_vec.ensures ∙ closed.strands (started cell).0 code f
+    (subst (Numbered (λ i (k : Place). IsKept (started cell).0 code f (seen_at k) k.task.worker)) (sym back) (done-kept z (started cell).0 code f ms (done f has)))
+    ∙ ap (λ x. map (strand_of f) (workers_of x)) back in
+    let f = given.0 in let out = e.out in
+    let crew = (c.in_ok-places.ensures.crew z o f new opens given.1).0 in
+    let first : Moment = moment_of ((started cell).0, seen_among c.as_mut_slice.result.now) (workers_of c.as_mut_slice.result.now) in
+    record {
+      first = first;
+      picked = out.0;
+      last = out.1;
+      outset = subst (λ x. Rattle.upc_rounds.specs.layer.Course.IsOutset l.threads (moment_of ((started cell).0, seen_among x) (workers_of x))) (sym is)
+          (outset-of l.threads ((started cell).0, seen_among ks) (workers_of ks) (many-workers ks ∙ c.in_ok-places.ensures.many) c.in_ok-places.ensures.fresh
+          (c.in_ok-places.ensures.crew z o f new opens given.1).1);
+      obeyed = out.2;
+      went = out.3;
+      out = subst (λ x. AreOf out.1 x c.from_vec.result) (sym whole)
+          (subst (AreOf out.1 (seen_among ms)) (sym (made f given.1)) (out.4 f));
+    }
