@@ -1,16 +1,13 @@
-pub mod Spots
 pub mod Turns
 pub mod Jumps
 pub mod Tasks
 pub mod Ahead
 pub mod Kept
 pub mod Libraries
-pub mod Works
 pub mod Steps
 pub mod Runs
 pub mod Machines
 pub mod Receiving
-pub mod Quick
 pub mod Shorts
 pub mod Bodies
 pub mod Standing

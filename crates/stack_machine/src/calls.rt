@@ -12,8 +12,8 @@ ghost use Rattle.stack_machine.specs.code.Turns.{Arrived, IsFirm, state_seen};
 
 use crate::jumps::close_blocks;
 use crate::progress::Progress;
-use crate::stacks::{Operands, Spot, Spots};
 use crate::wish::{Halt, Stop};
+use stack_machine_values::stacks::{Operands, Spot, Spots};
 use thread_values::int_of;
 use upc_text::{OutOfMemory, Place};
 use upc_values::Value;

@@ -10,10 +10,10 @@ ghost use Rattle.stack_machine.specs.code.Turns.{Places, Rests};
 
 use crate::progress::Progress;
 use crate::runner::Runner;
-use crate::stacks::Operands;
 use crate::wish::Halt;
 use block_layout::Shape;
 use stack_code::{CellAccess, Code, ObjectWork};
+use stack_machine_values::stacks::Operands;
 use thread_values::pointer_to;
 use upc_text::Place;
 use upc_values::Listing;

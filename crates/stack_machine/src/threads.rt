@@ -14,9 +14,9 @@ ghost use Rattle.stack_machine.specs.code.Turns.{Acts, Rests};
 
 use crate::progress::Progress;
 use crate::runner::Runner;
-use crate::stacks::Operands;
 use crate::wish::Halt;
 use stack_code::{Code, ThreadWork};
+use stack_machine_values::stacks::Operands;
 use thread_values::{
     first_int, has_turn, int_of, library_value, printed, printed_count, truth_value,
 };

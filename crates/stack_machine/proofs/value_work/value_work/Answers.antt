@@ -4,7 +4,7 @@ use Rattle.stack_code.specs.layer.Steps.{At}
 use Rattle.stack_machine.specs.code.Turns.{body_seen, state_seen}
 use Rattle.stack_machine.proofs.Holding.{third_held}
 use Rattle.stack_machine.proofs.Arrivals.{faults, reaches}
-use Rattle.stack_machine.proofs.Making.{made_err, made_ok}
+use Rattle.stack_machine_values.proofs.Making.{made_err, made_ok}
 use Rattle.stack_machine.proofs.value_work.value_work.Goals as goal
 
 pub worth-requires-clause-third : goal.worth-requires-clause-third

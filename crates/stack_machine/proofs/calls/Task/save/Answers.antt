@@ -4,7 +4,7 @@ use Rattle.stack_code.specs.declared.instruction.ObjectWork.TheVariants as objec
 use Rattle.stack_code.specs.declared.instruction.Operation.TheVariants as operation
 use Rattle.stack_code.specs.layer.Codes.{thread_of}
 use Rattle.stack_code.specs.layer.Steps.{At, further, second, top}
-use Rattle.stack_machine.specs.code.Quick.{Keeps}
+use Rattle.stack_machine_values.specs.layer.Quick.{Keeps}
 use Rattle.stack_machine.specs.code.Tasks.{spot_at}
 use Rattle.stack_machine.specs.code.Turns.{state_seen}
 use Rattle.stack_machine.proofs.Holding.{top_held}

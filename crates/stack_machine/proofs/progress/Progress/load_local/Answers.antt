@@ -6,7 +6,8 @@ use Rattle.thread_steps.specs.States.{Doing}
 use Rattle.stack_code.specs.layer.Codes.{thread_of}
 use Rattle.stack_machine.specs.code.Turns.{Came, state_seen}
 use Rattle.stack_machine.proofs.Holding.{if_loaded}
-use Rattle.stack_machine.proofs.Accessing.{load_local_at, load_private_at, is_private}
+use Rattle.stack_machine_values.proofs.Privates.{is_private}
+use Rattle.stack_machine.proofs.Accessing.{load_local_at, load_private_at}
 use Rattle.stack_machine.proofs.progress.Progress.load_local.Goals as goal
 
 pub returns-in-Shared-clause-does : goal.returns-in-Shared-clause-does
