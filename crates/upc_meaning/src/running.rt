@@ -11,8 +11,8 @@ ghost use Rattle.upc_meaning_work.specs.layer.Evaluations.{Went, seen};
 
 use typed_tree::{Statement, StatementKind};
 use upc_meaning_state::{Setting, Step};
-use upc_meaning_steps::declarations::{block, headed};
-use upc_meaning_steps::{statements, switches};
+use upc_meaning_statements::declarations::{block, headed};
+use upc_meaning_statements::{statements, switches};
 use upc_meaning_work::{Evaluation, Standing, Work};
 use upc_text::OutOfMemory;
 

@@ -9,10 +9,9 @@ ghost use Rattle.upc_meaning_work.specs.layer.ViewItems.{view_work};
 ghost use Rattle.upc_meaning_work.specs.layer.Evaluations.{Went, seen};
 
 use crate::running;
+use upc_meaning_expressions::{arguments, expressions, functions};
 use upc_meaning_state::{Setting, Step};
-use upc_meaning_steps::{
-    arguments, declarations, expressions, functions, loops, statements, switches,
-};
+use upc_meaning_statements::{declarations, loops, statements, switches};
 use upc_meaning_work::{Evaluation, Work};
 use upc_text::{OutOfMemory, Place};
 use upc_values::Mark;
