@@ -1,8 +1,8 @@
 //! What is left to do, item by item.
 
 ghost use Rattle.std.specs.Prelude.{◌≡◌, IfOk};
-ghost use Rattle.upc_meaning_state.specs.layer.Runners.{Fits};
-ghost use Rattle.upc_meaning_state.specs.layer.Settings.{running_seen};
+ghost use Rattle.upc_meaning_settings.specs.layer.Runners.{Fits};
+ghost use Rattle.upc_meaning_settings.specs.layer.Settings.{running_seen};
 ghost use Rattle.upc_meaning_work.specs.layer.Seen.{meant, with_item};
 ghost use Rattle.upc_meaning_work.specs.layer.Items as item;
 ghost use Rattle.upc_meaning_work.specs.layer.ViewItems.{view_work};

@@ -4,8 +4,8 @@ ghost use Rattle.std.specs.Prelude.{◌≡◌, ◌∷◌, [], MatchOption, IfOk,
 ghost use Rattle.typed_tree.specs.Tree as tree;
 ghost use Rattle.typed_tree.specs.Tree.{Exprs, exprs_of};
 ghost use Rattle.typed_tree.specs.ViewTree.{view_expr};
-ghost use Rattle.upc_meaning_state.specs.layer.Runners.{Fits};
-ghost use Rattle.upc_meaning_state.specs.layer.Settings.{running_seen};
+ghost use Rattle.upc_meaning_settings.specs.layer.Runners.{Fits};
+ghost use Rattle.upc_meaning_settings.specs.layer.Settings.{running_seen};
 ghost use Rattle.upc_meaning_work.specs.layer.Seen.{more_works, with_item};
 ghost use Rattle.upc_meaning_work.specs.layer.Items as item;
 ghost use Rattle.upc_meaning_work.specs.layer.ViewItems.{casts_of, view_work};

@@ -7,7 +7,7 @@ ghost use Rattle.typed_tree.specs.Tree.{exprs_of};
 ghost use Rattle.typed_tree.specs.ViewTree.{view_expr, view_kind};
 ghost use Rattle.typed_tree.specs.declared.tree.Target.TheVariants as target;
 ghost use Rattle.source_meaning.specs.Running as running;
-ghost use Rattle.upc_meaning_state.specs.layer.Settings.{running_seen};
+ghost use Rattle.upc_meaning_settings.specs.layer.Settings.{running_seen};
 ghost use Rattle.upc_meaning_work.specs.layer.Seen.{meant, more_works, with_item};
 ghost use Rattle.upc_meaning_work.specs.layer.Items as item;
 ghost use Rattle.upc_meaning_work.specs.layer.ViewItems.{casts_of};

@@ -1,30 +1,18 @@
 //! Accesses to objects.
 
-ghost use Rattle.std.specs.Prelude.{◌≡◌, IfOk};
+ghost use Rattle.std.specs.Prelude.{IfOk};
 ghost use Rattle.private_store.specs.Cells.{IsPrivate};
 ghost use Rattle.thread_steps.specs.Accesses as pure;
 ghost use Rattle.upc_meaning_state.specs.layer.Came.{Came, state_seen};
-ghost use Rattle.upc_meaning_state.specs.layer.Runners.{Fits, thread_seen};
+ghost use Rattle.upc_meaning_settings.specs.layer.Runners.{Fits, thread_seen};
 
 use crate::progress::{Progress, Step};
-use crate::ranges::is_held_scalar;
-use crate::runner::Runner;
 use block_layout::run_error::NULL_ACCESS;
 use block_layout::{Kind, Loc, LocalPtr, SharedPtr};
-use thread_values::{cell, into_shared, kept, kept_scalar, scalar_of};
+use thread_values::{into_shared, kept, kept_scalar, scalar_of};
+use upc_meaning_settings::{Runner, cell_at};
 use upc_text::{OutOfMemory, Place};
 use upc_values::{Action, Reply, Scalar, ToldEnd, Value};
-
-// The location of the cell of a kind at a pointer-to-shared, or its run error.
-fn cell_at(runner: Runner<'_>, kind: Kind, p: &SharedPtr) -> Result<Result<Loc, u8>, OutOfMemory>
-    requires { Fits runner }
-    ensures { IfOk result (λ r. r ≡ pure.cell (thread_seen runner.entry) kind p.now) }
-{
-    if !is_held_scalar(runner, &Scalar::Shared(*p)) {
-        return Err(OutOfMemory);
-    }
-    Ok(cell(runner.threads, runner.shapes, kind, p))
-}
 
 impl<'r> Progress<'r> {
     // The read of a location.

@@ -4,13 +4,12 @@ ghost use Rattle.std.specs.Prelude.{IfOk};
 ghost use Rattle.source_meaning.specs.Statements as mean;
 ghost use Rattle.upc_meaning_state.specs.layer.Barriers.{passed};
 ghost use Rattle.upc_meaning_state.specs.layer.Came.{Came, state_seen};
-ghost use Rattle.upc_meaning_state.specs.layer.Runners.{thread_seen};
-ghost use Rattle.upc_meaning_state.specs.layer.Settings.{running_seen};
+ghost use Rattle.upc_meaning_settings.specs.layer.Runners.{thread_seen};
+ghost use Rattle.upc_meaning_settings.specs.layer.Settings.{running_seen};
 
 use crate::progress::{Progress, Step};
-use crate::runner::Runner;
-use crate::setting::Setting;
 use typed_tree::Synchronises;
+use upc_meaning_settings::{Runner, Setting};
 use upc_text::{OutOfMemory, Place};
 use upc_values::Mark;
 

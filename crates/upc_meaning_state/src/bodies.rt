@@ -7,14 +7,13 @@ ghost use Rattle.typed_tree.specs.ViewStatements.{view_function};
 ghost use Rattle.thread_steps.specs.Blocks as blocks;
 ghost use Rattle.source_meaning.specs.Threads as mean;
 ghost use Rattle.upc_meaning_state.specs.layer.Came.{Came, state_seen};
-ghost use Rattle.upc_meaning_state.specs.layer.Runners.{Fits};
-ghost use Rattle.upc_meaning_state.specs.layer.Settings.{running_seen};
+ghost use Rattle.upc_meaning_settings.specs.layer.Runners.{Fits};
+ghost use Rattle.upc_meaning_settings.specs.layer.Settings.{running_seen};
 
 use crate::progress::{Progress, Step};
-use crate::setting::Setting;
-use crate::shapes::Shapes;
 use typed_tree::{Function, Item};
 use typing_rules::Home;
+use upc_meaning_settings::{Setting, Shapes};
 use upc_text::{OutOfMemory, Place};
 use upc_types::CType;
 use upc_values::Value;

@@ -12,14 +12,7 @@ mod objects;
 mod operated;
 mod operations;
 mod progress;
-mod ranges;
-mod runner;
-mod setting;
-mod shapes;
 mod together;
 
 pub use progress::{Progress, Step};
-pub use ranges::is_numeric;
-pub use runner::Runner;
-pub use setting::Setting;
-pub use shapes::Shapes;
+pub use upc_meaning_settings::{Runner, Setting, Shapes, is_numeric};

@@ -8,16 +8,15 @@ ghost use Rattle.upc_values.specs.LibraryCalls.{asks};
 ghost use Rattle.thread_values.specs.layer.Asking.{expansion_of};
 ghost use Rattle.upc_meaning_state.specs.layer.Came.{Came, state_seen};
 ghost use Rattle.upc_meaning_state.specs.layer.Libraries.{expanded_to, met_then};
-ghost use Rattle.upc_meaning_state.specs.layer.Runners.{Fits, thread_seen};
+ghost use Rattle.upc_meaning_settings.specs.layer.Runners.{Fits, thread_seen};
 
 use crate::progress::{Progress, Step};
-use crate::ranges::is_numeric;
-use crate::runner::Runner;
 use block_layout::SharedPtr;
 use thread_values::{
     LibraryStep, collective_number, first_int, is_collective, is_copying, is_formed, library_step,
     library_value, printed, printed_count, reply_value,
 };
+use upc_meaning_settings::{Runner, is_numeric};
 use upc_text::{OutOfMemory, Place};
 use upc_values::{Action, LibraryCall, Scalar, ToldEnd, Value};
 

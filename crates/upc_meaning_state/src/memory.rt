@@ -10,14 +10,14 @@ ghost use Rattle.upc_values.specs.LibraryCalls.{valued};
 ghost use Rattle.upc_meaning_state.specs.code.Walking.{Answers, IsAnswered, IsAnsweredOrOver, IsUnfinished};
 ghost use Rattle.upc_meaning_state.specs.layer.Came.{Came, state_seen};
 ghost use Rattle.upc_meaning_state.specs.layer.Libraries.{expanded_to};
-ghost use Rattle.upc_meaning_state.specs.layer.Runners.{Fits, thread_seen};
+ghost use Rattle.upc_meaning_settings.specs.layer.Runners.{Fits, thread_seen};
 
 use crate::library::are_numeric;
 use crate::progress::{Progress, Step};
-use crate::runner::Runner;
 use block_layout::{Kind, LocalPtr};
 use thread_values::{kept, private_of, scalar_of, spec_of};
 use upc_library::{CopyWish, Copying};
+use upc_meaning_settings::Runner;
 use upc_text::{OutOfMemory, Place};
 use upc_values::{Action, LibraryCall, Refused, Reply, Scalar, ToldEnd, Value};
 

@@ -1,36 +1,19 @@
 //! Named objects, and the values of the objects that expressions name (C99 6.2.4, 6.3.2.1; UPC 6.5.1).
 
-ghost use Rattle.std.specs.Prelude.{◌≡◌, IfOk};
+ghost use Rattle.std.specs.Prelude.{IfOk};
 ghost use Rattle.typing_rules.specs.Nodes.{view_attr};
 ghost use Rattle.source_meaning.specs.Expressions as mean;
-ghost use Rattle.source_meaning.specs.Running as running;
 ghost use Rattle.upc_meaning_state.specs.layer.Came.{Came, state_seen};
-ghost use Rattle.upc_meaning_state.specs.layer.Runners.{Fits};
-ghost use Rattle.upc_meaning_state.specs.layer.Settings.{running_seen};
+ghost use Rattle.upc_meaning_settings.specs.layer.Runners.{Fits};
+ghost use Rattle.upc_meaning_settings.specs.layer.Settings.{running_seen};
 
 use crate::progress::{Progress, Step};
-use crate::setting::Setting;
-use block_layout::{LocalPtr, SharedPtr};
+use block_layout::LocalPtr;
 use thread_values::pointer_to;
-use typed_tree::numbered;
 use typing_rules::{Attr, Form, Home};
+use upc_meaning_settings::{Setting, shared_object};
 use upc_text::{OutOfMemory, Place};
-use upc_values::{Scalar, Value};
-
-// Where a declared shared object begins, by its number (UPC 6.5.1.1).
-fn shared_object(setting: Setting<'_>, number: u32) -> Value
-    ensures { result ≡ running.shared_object (running_seen setting.entry) number }
-{
-    match numbered(setting.shared, number) {
-        Some(object) => Value::Scalar(Scalar::Shared(SharedPtr {
-            object,
-            thread: 0,
-            phase: 0,
-            offset: 0,
-        })),
-        None => Value::Scalar(Scalar::Shared(SharedPtr::NULL)),
-    }
-}
+use upc_values::Value;
 
 impl<'r> Progress<'r> {
     /// Where a named object lies (C99 6.2.4, UPC 6.5.1).

@@ -6,11 +6,10 @@ ghost use Rattle.typed_tree.specs.ViewTree.{view_expr};
 ghost use Rattle.source_meaning.specs.Expressions as mean;
 ghost use Rattle.upc_meaning_state.specs.layer.Came.{Came, state_seen};
 ghost use Rattle.upc_meaning_state.specs.layer.Operations as pure;
-ghost use Rattle.upc_meaning_state.specs.layer.Runners.{Fits};
-ghost use Rattle.upc_meaning_state.specs.layer.Settings.{running_seen};
+ghost use Rattle.upc_meaning_settings.specs.layer.Runners.{Fits};
+ghost use Rattle.upc_meaning_settings.specs.layer.Settings.{running_seen};
 
 use crate::progress::{Progress, Step};
-use crate::setting::Setting;
 use integers::BinOp;
 use meaning_types::{
     cell_kind, conversion, dimension, integer_of, is_strict, member_offset, target_of,
@@ -20,6 +19,7 @@ use thread_steps::CastTo;
 use thread_values::number_of;
 use typed_tree::{Expr, ExprKind, StepOperator};
 use typing_rules::types::int_type;
+use upc_meaning_settings::Setting;
 use upc_text::{OutOfMemory, Place};
 use upc_types::CType;
 use upc_values::{Scalar, Value};

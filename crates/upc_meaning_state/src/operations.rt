@@ -1,116 +1,31 @@
 //! Operators (C99 6.3, 6.5; UPC 6.4).
 
-ghost use Rattle.std.specs.Prelude.{◌≡◌, ◌*ℤ◌, pos, neg_ℤ, IfOk, IfSome};
+ghost use Rattle.std.specs.Prelude.{◌*ℤ◌, pos, neg_ℤ, IfOk, IfSome};
 ghost use Rattle.integers.specs.Integers.{IsInteger, IsPromoted};
 ghost use Rattle.upc_types.specs.Cells.{leaves};
 ghost use Rattle.upc_types.specs.View.{view, view_base};
-ghost use Rattle.typing_rules.specs.Constants as constants;
 ghost use Rattle.thread_steps.specs.Operators as operators;
 ghost use Rattle.thread_steps.specs.Pointers as pointers;
-ghost use Rattle.thread_values.specs.layer.Results.{IsRightKind, number_value, ordered};
+ghost use Rattle.thread_values.specs.layer.Results.{IsRightKind};
 ghost use Rattle.source_meaning.specs.Expressions as mean;
 ghost use Rattle.upc_meaning_state.specs.layer.Came.{Came, state_seen};
-ghost use Rattle.upc_meaning_state.specs.layer.Runners.{Fits, thread_seen};
-ghost use Rattle.upc_meaning_state.specs.layer.Settings.{running_seen};
+ghost use Rattle.upc_meaning_settings.specs.layer.Runners.{Fits, thread_seen};
+ghost use Rattle.upc_meaning_settings.specs.layer.Settings.{running_seen};
 
 use crate::progress::{Progress, Step};
-use crate::ranges::{is_cast, is_held, is_numeric, is_step, is_target};
-use crate::runner::Runner;
-use crate::setting::Setting;
 use block_layout::Kind;
 use integers::{BinOp, UnOp};
 use meaning_types::{elements_of, integer_of, leaves_of, target_of};
 use thread_steps::{CastTo, Elements};
-use thread_values::{
-    advanced, applied, cast, difference, in_row, is_zero, member_behind, number_of, operated,
-    order, same, truth_value,
-};
+use thread_values::{applied, in_row, is_zero, number_of, operated, same, truth_value};
 use typing_rules::constants::working_kind;
+use upc_meaning_settings::{
+    Runner, Setting, advanced_on, cast_on, difference_on, is_numeric, member_on, order_on,
+    right_kind,
+};
 use upc_text::{OutOfMemory, Place};
-use upc_types::{CType, promoted, usual};
+use upc_types::{CType, promoted};
 use upc_values::{Scalar, ToldEnd, Value};
-
-// ---- what a step gives, or its run error, on a thread
-
-fn cast_on(runner: Runner<'_>, into: CastTo, v: Value) -> Result<Result<Value, u8>, OutOfMemory>
-    ensures { IfOk result (λ r. r ≡ operators.cast_value (thread_seen runner.entry) into v) }
-{
-    if !is_cast(&into) || !is_numeric(&v) {
-        return Err(OutOfMemory);
-    }
-    Ok(cast(runner.number, into, v))
-}
-
-fn advanced_on(
-    runner: Runner<'_>,
-    elements: Elements,
-    p: Value,
-    i: i128,
-) -> Result<Result<Value, u8>, OutOfMemory>
-    requires { Fits runner }
-    ensures { IfOk result (λ r. r ≡ pointers.advanced (thread_seen runner.entry) elements i p) }
-{
-    if !is_target(&elements) || !is_step(i) || !is_held(runner, &p) {
-        return Err(OutOfMemory);
-    }
-    Ok(advanced(runner.threads, elements, p, i))
-}
-
-fn member_on(runner: Runner<'_>, offset: u32, p: Value) -> Result<Result<Value, u8>, OutOfMemory>
-    ensures { IfOk result (λ r. r ≡ pointers.member_behind (thread_seen runner.entry) offset p) }
-{
-    if !is_held(runner, &p) {
-        return Err(OutOfMemory);
-    }
-    Ok(member_behind(offset, p))
-}
-
-fn difference_on(
-    runner: Runner<'_>,
-    elements: Elements,
-    q: &Value,
-    p: &Value,
-) -> Result<Result<Value, u8>, OutOfMemory>
-    requires { Fits runner }
-    ensures { IfOk result (λ r. r ≡ number_value (pointers.apart (thread_seen runner.entry) elements q.now p.now)) }
-{
-    if !is_target(&elements) || !is_held(runner, q) || !is_held(runner, p) {
-        return Err(OutOfMemory);
-    }
-    Ok(difference(runner.threads, elements, q, p))
-}
-
-fn order_on(
-    runner: Runner<'_>,
-    op: BinOp,
-    elements: Elements,
-    q: &Value,
-    p: &Value,
-) -> Result<Result<Value, u8>, OutOfMemory>
-    requires { Fits runner }
-    ensures { IfOk result (λ r. r ≡ ordered op (pointers.apart (thread_seen runner.entry) elements q.now p.now)) }
-{
-    if !is_target(&elements) || !is_held(runner, q) || !is_held(runner, p) {
-        return Err(OutOfMemory);
-    }
-    Ok(order(op, runner.threads, elements, q, p))
-}
-
-// ---- integers
-
-// The kind of the right operand of a binary operator.
-fn right_kind(op: BinOp, left: Kind, right: Kind) -> Kind
-    requires left { IsInteger left }
-    requires right { IsInteger right }
-    ensures value { result ≡ constants.right_kind op left right }
-    ensures promoted { IsPromoted result }
-    ensures fits { IsRightKind op (constants.working_kind op left right) result }
-{
-    match op {
-        BinOp::ShiftLeft | BinOp::ShiftRight => promoted(right),
-        _ => usual(left, right),
-    }
-}
 
 impl<'r> Progress<'r> {
     /// A conversion.

@@ -8,13 +8,13 @@ ghost use Rattle.upc_values.specs.Formed as formed;
 ghost use Rattle.thread_steps.specs.Actions as pure;
 ghost use Rattle.thread_steps.specs.Blocks as blocks;
 ghost use Rattle.upc_meaning_state.specs.layer.Came.{Came, state_seen};
-ghost use Rattle.upc_meaning_state.specs.layer.Runners.{thread_seen};
+ghost use Rattle.upc_meaning_settings.specs.layer.Runners.{thread_seen};
 
-use crate::runner::Runner;
 use block_layout::run_error::{BARRIER_IN_FORALL, PHASE_ORDER};
 use block_layout::{Kind, Shape};
 use private_store::Store;
 use thread_values::{has_turn, is_read, reply_fits, truth_value};
+use upc_meaning_settings::Runner;
 use upc_text::{OutOfMemory, Place};
 use upc_values::{Action, Mark, Refused, Reply, ToldEnd, Value};
 

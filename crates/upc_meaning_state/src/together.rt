@@ -9,12 +9,12 @@ ghost use Rattle.thread_values.specs.layer.Collectives.{collective_number};
 ghost use Rattle.upc_meaning_state.specs.code.Walking.{IsAnsweredOrOver, IsTaken};
 ghost use Rattle.upc_meaning_state.specs.layer.Came.{Came, state_seen};
 ghost use Rattle.upc_meaning_state.specs.layer.Libraries.{expanded_to, met_then};
-ghost use Rattle.upc_meaning_state.specs.layer.Runners.{Fits, thread_seen};
+ghost use Rattle.upc_meaning_settings.specs.layer.Runners.{Fits, thread_seen};
 
 use crate::progress::{Progress, Step};
-use crate::runner::Runner;
 use collectives::{CollWish, Collective, may_meet};
 use thread_values::scalars_met;
+use upc_meaning_settings::Runner;
 use upc_text::{OutOfMemory, Place};
 use upc_values::{LibraryCall, Refused, Reply, Scalar, ToldEnd, Value};
 

@@ -5,7 +5,7 @@ ghost use Rattle.typed_tree.specs.Tree as tree;
 ghost use Rattle.typed_tree.specs.Tree.{Stands};
 ghost use Rattle.typed_tree.specs.ViewStatements as views;
 ghost use Rattle.source_meaning.specs.Statements as mean;
-ghost use Rattle.upc_meaning_state.specs.layer.Settings.{running_seen};
+ghost use Rattle.upc_meaning_settings.specs.layer.Settings.{running_seen};
 ghost use Rattle.upc_meaning_work.specs.layer.Seen.{armed, meant, with_item};
 ghost use Rattle.upc_meaning_work.specs.layer.Items as item;
 ghost use Rattle.upc_meaning_work.specs.layer.ViewItems.{flow_seen, view_standing};

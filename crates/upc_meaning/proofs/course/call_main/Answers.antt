@@ -2,7 +2,7 @@ use Rattle.std.proofs.Common.{◌≡◌, ◌-◌, ◌∷◌, [], refl, rules}
 use Rattle.thread_steps.specs.Blocks.{begin_call}
 use Rattle.thread_steps.specs.States.{Val}
 use Rattle.upc_meaning_state.specs.layer.Came.{state_seen}
-use Rattle.upc_meaning_state.specs.layer.Settings.{running_seen}
+use Rattle.upc_meaning_settings.specs.layer.Settings.{running_seen}
 use Rattle.upc_meaning_work.specs.layer.Courses.{view_main}
 use Rattle.upc_meaning_work.specs.layer.Seen.{more_works, with_state}
 use Rattle.upc_meaning_work.specs.layer.Items.{End}

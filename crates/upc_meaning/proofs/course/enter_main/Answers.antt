@@ -1,6 +1,6 @@
 use Rattle.std.proofs.Common.{◌-◌, ap}
 use Rattle.typed_tree.specs.ViewStatements.{view_function}
-use Rattle.upc_meaning_state.specs.layer.Settings.{running_seen}
+use Rattle.upc_meaning_settings.specs.layer.Settings.{running_seen}
 use Rattle.upc_meaning_work.specs.layer.Courses.{view_main}
 use Rattle.upc_meaning_work.proofs.Courses.{main_begins, main_missing}
 use Rattle.upc_meaning_work.specs.layer.Evaluations.{seen}

@@ -4,7 +4,7 @@ use Rattle.typed_tree.specs.ViewProgram.{view_program}
 use Rattle.source_meaning.specs.Running.{Running}
 use Rattle.source_meaning.specs.Threads.{main_of}
 use Rattle.upc_meaning_state.specs.layer.Came.{state_seen}
-use Rattle.upc_meaning_state.specs.layer.Settings.{running_seen}
+use Rattle.upc_meaning_settings.specs.layer.Settings.{running_seen}
 use Rattle.upc_meaning_work.specs.layer.Courses.{view_main}
 use Rattle.upc_meaning_work.proofs.Programs.{has_told, told_actions, told_end}
 use Rattle.upc_meaning.proofs.course.replay.Goals as goal

@@ -1,6 +1,6 @@
 use Rattle.std.proofs.Common.{ap}
 use Rattle.upc_meaning_state.specs.layer.Came.{state_seen}
-use Rattle.upc_meaning_state.specs.layer.Settings.{running_seen}
+use Rattle.upc_meaning_settings.specs.layer.Settings.{running_seen}
 use Rattle.upc_meaning_work.specs.layer.Courses.{view_main}
 use Rattle.upc_meaning_work.specs.layer.Seen.{with_state}
 use Rattle.upc_meaning_work.proofs.Courses.{starts_over, starts_so}

@@ -7,7 +7,7 @@ use Rattle.typed_tree.specs.Tree.{Stands, StatementKind, Block, If, Switch}
 use Rattle.typed_tree.specs.ViewTree.{view_expr}
 use Rattle.typed_tree.specs.ViewStatements.{view_arms, view_items, view_last, view_statement_kind, view_switch_items}
 use Rattle.typed_tree.proofs.StatementRows.{block_is, if_is, switch_is}
-use Rattle.upc_meaning_state.specs.layer.Settings.{running_seen}
+use Rattle.upc_meaning_settings.specs.layer.Settings.{running_seen}
 use Rattle.upc_meaning_work.specs.layer.Seen.{with_item}
 use Rattle.upc_meaning_work.specs.layer.Items.{Run}
 use Rattle.upc_meaning_work.specs.layer.ViewItems.{view_standing}

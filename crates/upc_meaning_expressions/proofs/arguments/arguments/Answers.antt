@@ -2,7 +2,7 @@ use Rattle.std.proofs.Common.{◌≡◌, ◌+◌, refl, ap, ◌∙◌, map}
 use Rattle.std.proofs.lemmas.List.{nil_from_length}
 use Rattle.typed_tree.specs.Tree.{NoExprs, AndExpr, exprs_of}
 use Rattle.typed_tree.specs.ViewTree.{view_expr}
-use Rattle.upc_meaning_state.specs.layer.Settings.{running_seen}
+use Rattle.upc_meaning_settings.specs.layer.Settings.{running_seen}
 use Rattle.upc_meaning_work.specs.layer.ViewItems.{casts_of}
 use Rattle.upc_meaning_work.proofs.Branches.{no_more, argument_goes}
 use Rattle.upc_meaning_work.specs.layer.Evaluations.{seen}

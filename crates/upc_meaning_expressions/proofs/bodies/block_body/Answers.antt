@@ -7,7 +7,7 @@ use Rattle.typed_tree.specs.ViewStatements.{view_function, view_items}
 use Rattle.source_meaning.specs.Statements.{Next, Standing}
 use Rattle.source_meaning.specs.Threads.{received}
 use Rattle.upc_meaning_state.specs.layer.Came.{state_seen}
-use Rattle.upc_meaning_state.specs.layer.Settings.{running_seen}
+use Rattle.upc_meaning_settings.specs.layer.Settings.{running_seen}
 use Rattle.upc_meaning_work.specs.layer.Seen.{more_works, with_flow, with_state}
 use Rattle.upc_meaning_work.specs.layer.Items.{Parts, Leave}
 use Rattle.upc_meaning_work.specs.layer.ViewItems.{view_standing}

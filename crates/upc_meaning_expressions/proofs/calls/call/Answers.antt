@@ -3,7 +3,7 @@ use Rattle.upc_types.specs.View.{view}
 use Rattle.typing_rules.specs.Nodes.{view_attr}
 use Rattle.typed_tree.specs.Tree.{Call, exprs_of}
 use Rattle.typed_tree.specs.ViewTree.{view_expr, view_kind}
-use Rattle.upc_meaning_state.specs.layer.Settings.{running_seen}
+use Rattle.upc_meaning_settings.specs.layer.Settings.{running_seen}
 use Rattle.upc_meaning_work.proofs.Branches.{function_goes}
 use Rattle.upc_meaning_work.specs.layer.Evaluations.{seen}
 use Rattle.upc_meaning_expressions.proofs.calls.call.Goals as goal

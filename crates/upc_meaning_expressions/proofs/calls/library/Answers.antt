@@ -5,7 +5,7 @@ use Rattle.typed_tree.specs.declared.tree.Target.TheVariants.{Library}
 use Rattle.typed_tree.specs.Tree.{Call, exprs_of}
 use Rattle.typed_tree.specs.ViewTree.{view_expr, view_kind}
 use Rattle.source_meaning.specs.Expressions.{is_printf}
-use Rattle.upc_meaning_state.specs.layer.Settings.{running_seen}
+use Rattle.upc_meaning_settings.specs.layer.Settings.{running_seen}
 use Rattle.upc_meaning_work.proofs.Branches.{printf_none}
 use Rattle.upc_meaning_work.specs.layer.Evaluations.{seen}
 use Rattle.upc_meaning_expressions.proofs.calls.library.Goals as goal

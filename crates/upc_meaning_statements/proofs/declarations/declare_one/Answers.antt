@@ -5,7 +5,7 @@ use Rattle.typed_tree.specs.ViewTree.{view_expr}
 use Rattle.typed_tree.specs.ViewStatements.{view_initial, view_object}
 use Rattle.source_meaning.specs.Types.{conversion}
 use Rattle.source_meaning.specs.Expressions.{type_of}
-use Rattle.upc_meaning_state.specs.layer.Settings.{running_seen}
+use Rattle.upc_meaning_settings.specs.layer.Settings.{running_seen}
 use Rattle.upc_meaning_work.specs.layer.Seen.{more_works}
 use Rattle.upc_meaning_work.specs.layer.Items.{Value, Convert, Keep, Declare}
 use Rattle.upc_meaning_work.specs.layer.ViewItems.{view_standing}

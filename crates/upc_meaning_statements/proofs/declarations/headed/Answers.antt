@@ -2,7 +2,7 @@ use Rattle.std.proofs.Common.{sym, ap, ◌∙◌}
 use Rattle.typed_tree.specs.declared.tree.Head.{Head}
 use Rattle.typed_tree.specs.Tree.{For, Forall}
 use Rattle.typed_tree.specs.ViewStatements.{view_affinity, view_head, view_statement, view_statement_kind}
-use Rattle.upc_meaning_state.specs.layer.Settings.{running_seen}
+use Rattle.upc_meaning_settings.specs.layer.Settings.{running_seen}
 use Rattle.upc_meaning_work.specs.layer.ViewItems.{view_standing}
 use Rattle.upc_meaning_work.specs.layer.Evaluations.{seen}
 use Rattle.upc_meaning_statements.proofs.Heads.{for_enters, forall_enters}

@@ -1,5 +1,5 @@
 use Rattle.typed_tree.specs.ViewStatements.{view_object}
-use Rattle.upc_meaning_state.specs.layer.Settings.{running_seen}
+use Rattle.upc_meaning_settings.specs.layer.Settings.{running_seen}
 use Rattle.upc_meaning_work.specs.layer.ViewItems.{view_standing}
 use Rattle.upc_meaning_work.proofs.Declaring.{listed_end}
 use Rattle.upc_meaning_work.specs.layer.Evaluations.{seen}

@@ -1,5 +1,5 @@
 use Rattle.std.proofs.Common.{◌≡◌, true, arith}
-use Rattle.upc_meaning_state.specs.layer.Settings.{running_seen}
+use Rattle.upc_meaning_settings.specs.layer.Settings.{running_seen}
 use Rattle.upc_meaning_work.specs.layer.Seen.{is_next}
 use Rattle.upc_meaning_work.specs.layer.ViewItems.{flow_seen, view_standing}
 use Rattle.upc_meaning_work.proofs.Turning.{cases_end}

@@ -1,5 +1,5 @@
 use Rattle.upc_meaning_state.specs.layer.Came.{state_seen}
-use Rattle.upc_meaning_state.specs.layer.Settings.{running_seen}
+use Rattle.upc_meaning_settings.specs.layer.Settings.{running_seen}
 use Rattle.upc_meaning_work.proofs.Turning.{mine_goes, mine_ends}
 use Rattle.upc_meaning_work.specs.layer.Evaluations.{seen}
 use Rattle.upc_meaning_statements.proofs.loops.mine.Goals as goal

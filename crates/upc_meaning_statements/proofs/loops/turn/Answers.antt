@@ -1,7 +1,7 @@
 use Rattle.std.proofs.Common.{◌≢◌, ◌-◌, refl, ap, ◌∙◌, arith}
 use Rattle.typed_tree.specs.ViewStatements.{view_statement_kind}
 use Rattle.upc_meaning_state.specs.layer.Came.{state_seen}
-use Rattle.upc_meaning_state.specs.layer.Settings.{running_seen}
+use Rattle.upc_meaning_settings.specs.layer.Settings.{running_seen}
 use Rattle.upc_meaning_work.specs.layer.Seen.{with_test}
 use Rattle.upc_meaning_work.specs.layer.Left.{test_in}
 use Rattle.upc_meaning_work.specs.layer.ViewItems.{view_standing}

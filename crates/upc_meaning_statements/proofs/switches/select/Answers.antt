@@ -4,7 +4,7 @@ use mir.Syntax.{w128}
 use mir.Val.{SFits, of_z, to_z}
 use Rattle.typing_rules.specs.Rules.{label_kind}
 use Rattle.typed_tree.specs.ViewStatements.{view_switch_items}
-use Rattle.upc_meaning_state.specs.layer.Settings.{running_seen}
+use Rattle.upc_meaning_settings.specs.layer.Settings.{running_seen}
 use Rattle.upc_meaning_work.specs.layer.Seen.{more_works}
 use Rattle.upc_meaning_work.specs.layer.Items.{Cases}
 use Rattle.upc_meaning_work.specs.layer.ViewItems.{view_standing}

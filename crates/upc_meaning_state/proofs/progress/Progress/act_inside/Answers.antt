@@ -6,7 +6,7 @@ use Rattle.thread_steps.specs.Actions.{ask}
 use Rattle.upc_library.specs.layer.Walks.{rest}
 use Rattle.upc_meaning_state.specs.declared.progress.Step.{Step}
 use Rattle.upc_meaning_state.specs.layer.Came.{Came, state_seen}
-use Rattle.upc_meaning_state.specs.layer.Runners.{thread_seen}
+use Rattle.upc_meaning_settings.specs.layer.Runners.{thread_seen}
 use Rattle.upc_meaning_state.proofs.Walking.{act_gives, act_ends}
 use Rattle.upc_meaning_state.proofs.progress.Progress.act_inside.Goals as goal
 

@@ -3,7 +3,7 @@ use Rattle.upc_library.specs.layer.Walks.{rest}
 use Rattle.upc_library.specs.layer.Wishes.{IsWish}
 use Rattle.upc_library.specs.declared.copying.CopyWish.{CopyWish}
 use Rattle.upc_meaning_state.specs.layer.Came.{state_seen}
-use Rattle.upc_meaning_state.specs.layer.Runners.{thread_seen}
+use Rattle.upc_meaning_settings.specs.layer.Runners.{thread_seen}
 use Rattle.upc_meaning_state.proofs.Walking.{finishes}
 use Rattle.upc_meaning_state.proofs.progress.Progress.answer_inside.Goals as goal
 

@@ -1,6 +1,6 @@
 use Rattle.collectives.specs.layer.Walks.{rest}
 use Rattle.upc_meaning_state.specs.layer.Came.{state_seen}
-use Rattle.upc_meaning_state.specs.layer.Runners.{thread_seen}
+use Rattle.upc_meaning_settings.specs.layer.Runners.{thread_seen}
 use Rattle.upc_meaning_state.proofs.CollectiveCalls.{answers_so, takes_so, ends_so}
 use Rattle.upc_meaning_state.proofs.progress.Progress.answer_together.Goals as goal
 

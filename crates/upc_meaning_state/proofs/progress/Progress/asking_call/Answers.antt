@@ -2,7 +2,7 @@ use Rattle.std.proofs.Common.{rules, ◌≡◌, true}
 use Rattle.thread_steps.specs.Library.{is_formed}
 use Rattle.thread_values.specs.layer.Asking.{asks_once}
 use Rattle.upc_meaning_state.specs.layer.Came.{state_seen}
-use Rattle.upc_meaning_state.specs.layer.Runners.{thread_seen}
+use Rattle.upc_meaning_settings.specs.layer.Runners.{thread_seen}
 use Rattle.upc_meaning_state.proofs.Libraries.{formed, step_does}
 use Rattle.upc_meaning_state.proofs.progress.Progress.asking_call.Goals as goal
 

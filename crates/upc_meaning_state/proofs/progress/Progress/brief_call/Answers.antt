@@ -1,5 +1,5 @@
 use Rattle.upc_meaning_state.specs.layer.Came.{state_seen}
-use Rattle.upc_meaning_state.specs.layer.Runners.{thread_seen}
+use Rattle.upc_meaning_settings.specs.layer.Runners.{thread_seen}
 use Rattle.upc_meaning_state.proofs.AtOnce.{fails_at_once, gives_at_once}
 use Rattle.upc_meaning_state.proofs.progress.Progress.brief_call.Goals as goal
 

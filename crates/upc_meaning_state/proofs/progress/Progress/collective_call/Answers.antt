@@ -6,7 +6,7 @@ use Rattle.thread_steps.specs.States.{Res}
 use Rattle.collectives.specs.layer.Arguments.{copies_or_reduces}
 use Rattle.thread_values.specs.layer.Collectives.{scalars_met}
 use Rattle.upc_meaning_state.specs.layer.Came.{Came, state_seen}
-use Rattle.upc_meaning_state.specs.layer.Runners.{thread_seen}
+use Rattle.upc_meaning_settings.specs.layer.Runners.{thread_seen}
 use Rattle.upc_meaning_state.proofs.CollectiveCalls.{meets_so}
 use Rattle.upc_meaning_state.proofs.progress.Progress.collective_call.Goals as goal
 

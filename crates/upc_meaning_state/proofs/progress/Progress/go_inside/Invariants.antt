@@ -3,7 +3,7 @@ use Rattle.upc_library.specs.layer.Walks.{rest, replies_left}
 use Rattle.upc_values.specs.LibraryCalls.{valued}
 use Rattle.upc_meaning_state.specs.layer.Came.{state_seen}
 use Rattle.upc_meaning_state.specs.layer.Libraries.{expanded_to}
-use Rattle.upc_meaning_state.specs.layer.Runners.{thread_seen}
+use Rattle.upc_meaning_settings.specs.layer.Runners.{thread_seen}
 use Rattle.upc_meaning_state.proofs.progress.Progress.go_inside.Given as goal
 
 abbrev pub invariant-loop-call : goal.invariant-loop-call

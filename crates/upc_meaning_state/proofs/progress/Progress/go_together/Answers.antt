@@ -5,7 +5,7 @@ use Rattle.upc_values.specs.Expansion.{after_reply}
 use Rattle.upc_meaning_state.specs.declared.progress.Step.{Step}
 use Rattle.upc_meaning_state.specs.code.Walking.{IsAnswered, IsAnsweredOrOver}
 use Rattle.upc_meaning_state.specs.layer.Came.{state_seen}
-use Rattle.upc_meaning_state.specs.layer.Runners.{thread_seen}
+use Rattle.upc_meaning_settings.specs.layer.Runners.{thread_seen}
 use Rattle.upc_meaning_state.proofs.Walking.{refused_so}
 use Rattle.upc_meaning_state.proofs.progress.Progress.go_together.Goals as goal
 

@@ -3,7 +3,7 @@ use Rattle.collectives.specs.layer.Walks.{rest}
 use Rattle.upc_values.specs.LibraryCalls.{valued}
 use Rattle.upc_meaning_state.specs.layer.Came.{state_seen}
 use Rattle.upc_meaning_state.specs.layer.Libraries.{expanded_to}
-use Rattle.upc_meaning_state.specs.layer.Runners.{thread_seen}
+use Rattle.upc_meaning_settings.specs.layer.Runners.{thread_seen}
 use Rattle.upc_meaning_state.proofs.progress.Progress.go_together.Given as goal
 
 abbrev pub invariant-loop-end : goal.invariant-loop-end

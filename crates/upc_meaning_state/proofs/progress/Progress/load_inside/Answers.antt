@@ -6,7 +6,7 @@ use Rattle.upc_values.specs.LibraryCalls.{valued}
 use Rattle.upc_library.specs.layer.Walks.{rest}
 use Rattle.upc_meaning_state.specs.layer.Came.{state_seen}
 use Rattle.upc_meaning_state.specs.layer.Libraries.{expanded_to}
-use Rattle.upc_meaning_state.specs.layer.Runners.{thread_seen}
+use Rattle.upc_meaning_settings.specs.layer.Runners.{thread_seen}
 use Rattle.upc_meaning_state.proofs.Walking.{load_gives, load_ends}
 use Rattle.upc_meaning_state.proofs.progress.Progress.load_inside.Goals as goal
 

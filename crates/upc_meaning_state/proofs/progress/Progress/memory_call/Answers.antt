@@ -7,7 +7,7 @@ use Rattle.thread_steps.specs.States.{Res}
 use Rattle.upc_library.specs.layer.Wishes.{expansion}
 use Rattle.upc_meaning_state.specs.layer.Came.{Came, state_seen}
 use Rattle.upc_meaning_state.specs.layer.Libraries.{expanded_to}
-use Rattle.upc_meaning_state.specs.layer.Runners.{thread_seen}
+use Rattle.upc_meaning_settings.specs.layer.Runners.{thread_seen}
 use Rattle.upc_meaning_state.proofs.MemoryCalls.{asks_so}
 use Rattle.upc_meaning_state.proofs.Walking.{refused_so}
 use Rattle.upc_meaning_state.proofs.progress.Progress.memory_call.Goals as goal

@@ -2,7 +2,7 @@ use Rattle.std.proofs.Common.{◌≡◌, map, drop}
 use Rattle.upc_types.specs.View.{view}
 use Rattle.source_meaning.specs.Threads.{received}
 use Rattle.upc_meaning_state.specs.layer.Came.{state_seen}
-use Rattle.upc_meaning_state.specs.layer.Settings.{running_seen}
+use Rattle.upc_meaning_settings.specs.layer.Settings.{running_seen}
 use Rattle.upc_meaning_state.proofs.progress.Progress.receive.Given as goal
 
 abbrev pub invariant-loop-i : goal.invariant-loop-i

@@ -7,7 +7,7 @@ use Rattle.private_store.specs.Cells.{stored}
 use Rattle.thread_steps.specs.States.{Over}
 use Rattle.upc_library.specs.layer.Walks.{rest}
 use Rattle.upc_meaning_state.specs.layer.Came.{state_seen}
-use Rattle.upc_meaning_state.specs.layer.Runners.{thread_seen}
+use Rattle.upc_meaning_settings.specs.layer.Runners.{thread_seen}
 use Rattle.upc_meaning_state.proofs.Walking.{save_gives, save_ends}
 use Rattle.upc_meaning_state.proofs.progress.Progress.save_inside.Goals as goal
 

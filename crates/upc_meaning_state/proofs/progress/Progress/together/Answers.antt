@@ -5,7 +5,7 @@ use Rattle.upc_values.specs.Expansions.{collective}
 use Rattle.upc_values.specs.LibraryCalls.{valued}
 use Rattle.upc_meaning_state.specs.layer.Came.{Came, state_seen}
 use Rattle.upc_meaning_state.specs.layer.Libraries.{expanded_to}
-use Rattle.upc_meaning_state.specs.layer.Runners.{thread_seen}
+use Rattle.upc_meaning_settings.specs.layer.Runners.{thread_seen}
 use Rattle.upc_meaning_state.proofs.Walking.{refused_so}
 use Rattle.upc_meaning_state.proofs.progress.Progress.together.Goals as goal
 

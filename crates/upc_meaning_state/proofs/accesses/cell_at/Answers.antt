@@ -1,6 +1,0 @@
-use Rattle.std.proofs.Common.{refl}
-use Rattle.upc_meaning_state.specs.layer.Runners.{thread_seen}
-use Rattle.upc_meaning_state.proofs.accesses.cell_at.Goals as goal
-
-pub returns : goal.returns
-returns c = c.cell.ensures (thread_seen c.args.runner) refl refl
