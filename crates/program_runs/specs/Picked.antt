@@ -3,7 +3,7 @@ use Rattle.std.specs.Prelude.{ℕ, List}
 use Rattle.upc_values.specs.declared.journal.Journal.{Journal}
 use Rattle.typed_tree.specs.Programs.{Checked}
 use Rattle.upc_task.specs.declared.limits.Limits.{Limits}
-use Rattle.upc_rounds.specs.layer.Course.{IsCourse}
+use Rattle.upc_rounds_teams.specs.layer.Course.{IsCourse}
 use Rattle.program_runs.specs.Runs.{IsRunOf}
 
 -- A sound run of the program within these limits that went by the picks and then round by round, with no round begun

@@ -9,8 +9,8 @@ use Rattle.upc_values.specs.Openings.{Opening}
 use Rattle.upc_values.specs.Lists.{Numbered}
 use Rattle.stack_code.specs.layer.Codes.{Codes}
 use Rattle.upc_task.specs.layer.Sources.{Outcomes}
-use Rattle.upc_rounds.specs.declared.place.Place.{Place}
-use Rattle.upc_rounds.specs.layer.Teams.{IsMember, seen_among}
+use Rattle.upc_rounds_teams.specs.declared.place.Place.{Place}
+use Rattle.upc_rounds_teams.specs.layer.Teams.{IsMember, seen_among}
 
 abbrev pub OurSeat : Type 0
 OurSeat = Seat (Opening × List Entry) Entry Opening

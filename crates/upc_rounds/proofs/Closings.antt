@@ -7,10 +7,10 @@ use Rattle.upc_values.specs.declared.journal.Entry.{Entry}
 use Rattle.upc_values.specs.Lists.{Numbered}
 use Rattle.upc_values.specs.History.{EachBelow}
 use Rattle.upc_values.specs.Drain.{entries_of}
-use Rattle.upc_rounds.specs.declared.place.Place.{Place}
-use Rattle.upc_rounds.specs.layer.Teams.{seat_at, seen_at, IsSeated}
-use Rattle.upc_rounds.proofs.Rounding.{whole-seen}
-use Rattle.upc_rounds.proofs.Crews.{some-place}
+use Rattle.upc_rounds_teams.specs.declared.place.Place.{Place}
+use Rattle.upc_rounds_teams.specs.layer.Teams.{seat_at, seen_at, IsSeated}
+use Rattle.upc_rounds_teams.proofs.Rounding.{whole-seen}
+use Rattle.upc_rounds_teams.proofs.Crews.{some-place}
 
 -- Seats that are numbered from k on are free, in order.
 pub free-from : (z : TableId) (seen : List Entry) (k : ℕ) (ks : List Place)

@@ -19,7 +19,7 @@ use Rattle.upc_values.specs.Openings.{Opening}
 use Rattle.upc_values.specs.Drain.{entry_of, entries_of}
 use Rattle.upc_values.specs.History.{each_thread, is_notify, is_wait, notifies, waits, marks, agrees_with, all_notified, reply}
 use Rattle.upc_values.proofs.Walks.{entries_of-append, entries-own}
-use Rattle.upc_rounds.specs.Rounds.{joined, BeatsLast, ends_with_beat, Rests, RestsAfterEach, AfterEach, AfterLast, but_last}
+use Rattle.upc_rounds_teams.specs.Rounds.{joined, BeatsLast, ends_with_beat, Rests, RestsAfterEach, AfterEach, AfterLast, but_last}
 
 -- P holds of each front of the list.
 abbrev pub EachFront : (List Entry → Type 0) → List Entry → Type 0

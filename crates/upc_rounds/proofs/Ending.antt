@@ -12,12 +12,12 @@ use Rattle.stack_code.specs.layer.Codes.{Codes}
 use Rattle.stack_machine.specs.declared.wish.Wish.TheVariants.{Act}
 use Rattle.upc_task.specs.declared.worker.Worker.{Worker}
 use Rattle.upc_task.specs.layer.Sources.{Outcomes}
-use Rattle.upc_rounds.specs.declared.place.Place.{Place}
-use Rattle.upc_rounds.specs.layer.Runs.{IsOver, AreEach, AreSame, Rested, StopsAt, NoneStops, Wanting, halted, halted_end, locked, locked_end}
-use Rattle.upc_rounds.specs.code.Played.{GoneByRounds, IsEnded}
-use Rattle.upc_rounds.specs.layer.Teams.{seen_among, workers_of, SameSeats, IsSeated, IsCrew, IsDone, HasEnded}
+use Rattle.upc_rounds_teams.specs.declared.place.Place.{Place}
+use Rattle.upc_rounds_teams.specs.layer.Runs.{IsOver, AreEach, AreSame, Rested, StopsAt, NoneStops, Wanting, halted, halted_end, locked, locked_end}
+use Rattle.upc_rounds_teams.specs.layer.Played.{GoneByRounds, IsEnded}
+use Rattle.upc_rounds_teams.specs.layer.Teams.{seen_among, workers_of, SameSeats, IsSeated, IsCrew, IsDone, HasEnded}
 use Rattle.upc_rounds.proofs.Running.{over-halted, over-locked, over-ended}
-use Rattle.upc_rounds.proofs.Crews.{some-place, among-at, crew-running}
+use Rattle.upc_rounds_teams.proofs.Crews.{some-place, among-at, crew-running}
 
 -- ---- seats
 

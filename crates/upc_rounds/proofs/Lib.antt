@@ -1,17 +1,10 @@
-pub mod Items
-pub mod Prefixes
-pub mod Resting
-pub mod Gains
 pub mod Running
 pub mod Outcomes
 pub mod Spending
 pub mod Standings
 pub mod Playing
 pub mod Parts
-pub mod Rounding
-pub mod Crews
 pub mod Teams
-pub mod Meetings
 pub mod Closings
 pub mod Openings
 pub mod Beginnings

@@ -17,12 +17,12 @@ use Rattle.upc_task.specs.layer.Kept.{IsSame, StaysKept, Paused, Adds, Leaves, W
 use Rattle.upc_task.specs.layer.Seated.{IsTask, StaysTask, Gained}
 use Rattle.upc_task.proofs.Options.{none-some}
 use Rattle.upc_task.proofs.Workers.{kept-seen}
-use Rattle.upc_rounds.specs.layer.Course.{Steps}
-use Rattle.upc_rounds.specs.layer.Runs.{Rested, standing_of}
-use Rattle.upc_rounds.specs.code.Played.{TurnedSeen, SoFar}
-use Rattle.upc_rounds.specs.layer.Places.{Moved, Took, RestsWith}
-use Rattle.upc_rounds.proofs.Prefixes.{prefix-self, prefix-then}
-use Rattle.upc_rounds.proofs.Gains.{turned-step, turned-work}
+use Rattle.upc_rounds_teams.specs.layer.Course.{Steps}
+use Rattle.upc_rounds_teams.specs.layer.Runs.{Rested, standing_of}
+use Rattle.upc_rounds_teams.specs.layer.Played.{TurnedSeen, SoFar}
+use Rattle.upc_rounds_teams.specs.layer.Places.{Moved, Took, RestsWith}
+use Rattle.upc_rounds_teams.proofs.Prefixes.{prefix-self, prefix-then}
+use Rattle.upc_rounds_teams.proofs.Gains.{turned-step, turned-work}
 use Rattle.upc_rounds.proofs.Running.{paused-own}
 use Rattle.upc_rounds.proofs.Standings.{idle-of, steps-of, Going, going-new, going-more, part-of}
 use Rattle.upc_rounds.proofs.Playing.{far-start, far-going, far-acted, IsPause}

@@ -17,9 +17,9 @@ use Rattle.upc_task.specs.declared.worker.Pause.TheVariants as pauses
 use Rattle.upc_task.specs.declared.worker.Pause.TheVariants.{Going, Stalled, Finished}
 use Rattle.upc_task.specs.layer.Sources.{Outcomes}
 use Rattle.upc_task.specs.layer.Kept.{AllOf, Paused, Adds}
-use Rattle.upc_rounds.specs.Rounds.{BeatsLast, ends_with_beat}
-use Rattle.upc_rounds.specs.code.Played.{Quiet, TurnedSeen, SoFar, Acted}
-use Rattle.upc_rounds.proofs.Gains.{quiet-append, keeps-self, keeps-then}
+use Rattle.upc_rounds_teams.specs.Rounds.{BeatsLast, ends_with_beat}
+use Rattle.upc_rounds_teams.specs.layer.Played.{Quiet, TurnedSeen, SoFar, Acted}
+use Rattle.upc_rounds_teams.proofs.Gains.{quiet-append, keeps-self, keeps-then}
 
 pub quiet-beats : (xs : List Entry) → Quiet xs → BeatsLast xs
 quiet-beats [] h = tt

@@ -23,7 +23,7 @@ use Rattle.upc_values.specs.Ends.{stops as stops_at}
 use Rattle.upc_values.specs.History.{reply}
 use Rattle.upc_values.specs.Strands.{next_action}
 use Rattle.upc_values.specs.Openings.{Opening}
-use Rattle.upc_rounds.specs.Rounds.{BeatsLast, ends_with_beat, joined, StandsAtStall, StandsReady, StandsLast, MayGo, Rests, RestsAfterEach, AfterEach, AfterLast, but_last, SomeMayGo, GoesByRounds, StopsInTime, EndsInTime, want_after}
+use Rattle.upc_rounds_teams.specs.Rounds.{BeatsLast, ends_with_beat, joined, StandsAtStall, StandsReady, StandsLast, MayGo, Rests, RestsAfterEach, AfterEach, AfterLast, but_last, SomeMayGo, GoesByRounds, StopsInTime, EndsInTime, want_after}
 use Rattle.upc_rounds.proofs.Cuts.{EachFront, front-has, only-stall, cut-at, beats-each, rests-at, after-at, each-mid, last-two, each-two, joined-append, Quiet, quiet-middle, quiet-part, quiet-own, after-own, rests-next, front-none, may-pass}
 
 -- Two threads with nothing to do but the barriers before and after main.

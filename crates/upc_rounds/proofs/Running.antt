@@ -24,11 +24,11 @@ use Rattle.upc_task.specs.declared.worker.Pause.TheVariants as pauses
 use Rattle.upc_task.specs.layer.Sources.{Outcomes}
 use Rattle.upc_task.specs.Ends.{is_given}
 use Rattle.upc_task.specs.layer.Kept.{AreLimits, IsKept, IsSame, Grew, Paused, outcome_of, settled, Holds, end_or, strand_of}
-use Rattle.upc_rounds.specs.layer.Runs.{IsAt, HasOwnEnd, IsIdle, IsRunning, AreSame, Rested, Stops, Wanting, Given, IsOver, AreEach, halted, halted_end, locked, locked_end, CanLock}
+use Rattle.upc_rounds_teams.specs.layer.Runs.{IsAt, HasOwnEnd, IsIdle, IsRunning, AreSame, Rested, Stops, Wanting, Given, IsOver, AreEach, halted, halted_end, locked, locked_end, CanLock}
 use Rattle.std.proofs.lemmas.List.Sums.{count_by_more_yes, count_by_more_no}
 use Rattle.std.proofs.Common.{take, ◌+◌}
 use Rattle.std.specs.Prelude.{not}
-use Rattle.upc_rounds.specs.layer.Runs.{IsOpenAt, is_open, open_among}
+use Rattle.upc_rounds_teams.specs.layer.Runs.{IsOpenAt, is_open, open_among}
 use Rattle.upc_task.proofs.Lists.{numbered-map, both, some-of}
 use Rattle.upc_task.proofs.Workers.{kept-grow, kept-ended}
 

@@ -25,8 +25,8 @@ use Rattle.upc_task.specs.declared.worker.Pause.TheVariants as pauses
 use Rattle.upc_task.specs.layer.Sources.{Outcomes}
 use Rattle.upc_task.specs.Ends.{is_given}
 use Rattle.upc_task.specs.layer.Kept.{settled, IsPausing, Paused, Adds, Leaves, Waits, end_or, strand_of}
-use Rattle.upc_rounds.specs.layer.Course.{Standing, Moment, goes_on, rests, IsQuiet, IsStopped, Grows, IsDrained, IsLater, Steps, Obeys, AreObeyed, TakesPart, ToRest, EachGoes, IsStrandOf, AreOf, IsOutset}
-use Rattle.upc_rounds.specs.layer.Runs.{IsAt, IsRunning, IsIdle, AreSame, OthersStay, IsChosen, open_among, Rested, StopsAt, NoneStops, Wanting, AreEach, halted, halted_end, locked, locked_end, standing_of, moment_of, GoesAt}
+use Rattle.upc_rounds_teams.specs.layer.Course.{Standing, Moment, goes_on, rests, IsQuiet, IsStopped, Grows, IsDrained, IsLater, Steps, Obeys, AreObeyed, TakesPart, ToRest, EachGoes, IsStrandOf, AreOf, IsOutset}
+use Rattle.upc_rounds_teams.specs.layer.Runs.{IsAt, IsRunning, IsIdle, AreSame, OthersStay, IsChosen, open_among, Rested, StopsAt, NoneStops, Wanting, AreEach, halted, halted_end, locked, locked_end, standing_of, moment_of, GoesAt}
 use Rattle.upc_task.proofs.Lists.{numbered-map, some-of}
 use Rattle.upc_task.proofs.Options.{none-some, none-is}
 

@@ -13,13 +13,13 @@ use Rattle.upc_task.specs.layer.Sources.{Outcomes}
 use Rattle.upc_task.specs.layer.Kept.{IsKept, IsSame}
 use Rattle.upc_task.specs.layer.Seated.{IsTask}
 use Rattle.upc_task.proofs.Seen.{unseen-none}
-use Rattle.upc_rounds.specs.declared.place.Place.{Place}
-use Rattle.upc_rounds.specs.layer.Runs.{AreSame, Rested}
-use Rattle.upc_rounds.specs.code.Played.{Acted, Played, GoneByRounds}
-use Rattle.upc_rounds.specs.layer.Places.{Moved, Did}
-use Rattle.upc_rounds.specs.layer.Teams.{worker_of, workers_of, seen_at, seen_among, Met, HaveMet, IsMember, IsTeam, HasGone}
-use Rattle.upc_rounds.proofs.Rounding.{played-seen, played-over, gone-round}
-use Rattle.upc_rounds.proofs.Crews.{some-place, numbered-workers, both-workers, many-workers, same-workers, among-at, own-stays, moved-self, crew-goes, crew-grows, crew-running}
+use Rattle.upc_rounds_teams.specs.declared.place.Place.{Place}
+use Rattle.upc_rounds_teams.specs.layer.Runs.{AreSame, Rested}
+use Rattle.upc_rounds_teams.specs.layer.Played.{Acted, Played, GoneByRounds}
+use Rattle.upc_rounds_teams.specs.layer.Places.{Moved, Did}
+use Rattle.upc_rounds_teams.specs.layer.Teams.{worker_of, workers_of, seen_at, seen_among, Met, HaveMet, IsMember, IsTeam, HasGone}
+use Rattle.upc_rounds_teams.proofs.Rounding.{played-seen, played-over, gone-round}
+use Rattle.upc_rounds_teams.proofs.Crews.{some-place, numbered-workers, both-workers, many-workers, same-workers, among-at, own-stays, moved-self, crew-goes, crew-grows, crew-running}
 
 -- What a part in a round makes of a task.
 pub moved-did : (z : TableId) (o : Opening) (c : Codes) (k m : Place) → Did z o c k m → m.failed ≡ false → Moved z o c k.task m.task

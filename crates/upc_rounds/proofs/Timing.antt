@@ -18,10 +18,10 @@ use Rattle.upc_task.specs.Ends.{is_given}
 use Rattle.upc_task.specs.layer.Sources.{Outcomes}
 use Rattle.upc_task.specs.layer.Kept.{end_or, strand_of}
 use Rattle.upc_task.proofs.Lists.{numbered-map}
-use Rattle.upc_rounds.specs.Rounds.{RestsAfterEach, MayGo, StandsLast, AfterEach, AfterLast, but_last, SomeMayGo, EndsInTime}
-use Rattle.upc_rounds.specs.code.Played.{want_of, SomeGoes, GoneByRounds, IsEnded}
-use Rattle.upc_rounds.proofs.Resting.{after-map, rests-moved}
-use Rattle.upc_rounds.proofs.Rounding.{none-or, some-worker}
+use Rattle.upc_rounds_teams.specs.Rounds.{RestsAfterEach, MayGo, StandsLast, AfterEach, AfterLast, but_last, SomeMayGo, EndsInTime}
+use Rattle.upc_rounds_teams.specs.layer.Played.{want_of, SomeGoes, GoneByRounds, IsEnded}
+use Rattle.upc_rounds_teams.proofs.Resting.{after-map, rests-moved}
+use Rattle.upc_rounds_teams.proofs.Rounding.{none-or, some-worker}
 
 given-stops : (e : End) → is_given e ≡ true → stops e ≡ false
 given-stops Halted h = refl
@@ -42,7 +42,7 @@ module _ (o : Opening) (all : ℕ → Outcomes) (b : ℕ) where
       ap (wants i) (ap (λ l. l.items) e.items) ∙ ap (λ j. wants j k.items.items) (sym t)
 
   stays-ended : (i : ℕ) (k n : Worker) → IsEnded k n → k.thread ≡ i
-      → Rattle.upc_rounds.proofs.Resting.StaysAt k.items.items n.items.items (want_of (all b) k) (wants i n.items.items)
+      → Rattle.upc_rounds_teams.proofs.Resting.StaysAt k.items.items n.items.items (want_of (all b) k) (wants i n.items.items)
   stays-ended i k n e t = λ ahead behind a is next. (
     behind,
     ap (λ l. l.items) e.items ∙ is,
@@ -103,7 +103,7 @@ module _ (o : Opening) (all : ℕ → Outcomes) (b : ℕ) where
             subst (λ r. MayGo o i r.items (wants i r.items) before part) (sym (get_or-map (strand_of (all b)) ns i w d ln))
             (elim (s.goes w) [
               | inl beat ↦ inl beat
-              | inr r ↦ inr (Rattle.upc_rounds.proofs.Resting.ready-stays o i k.items.items n.items.items (want_of (all b) k) (wants i n.items.items) before part
+              | inr r ↦ inr (Rattle.upc_rounds_teams.proofs.Resting.ready-stays o i k.items.items n.items.items (want_of (all b) k) (wants i n.items.items) before part
                   (stays-ended i k n (ends i w lt) (numbered i w lt)) r)
             ]);
       }

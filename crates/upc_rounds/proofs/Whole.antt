@@ -16,16 +16,16 @@ use Rattle.upc_task.specs.declared.worker.Worker.{Worker}
 use Rattle.upc_task.specs.declared.limits.Limits.{Limits}
 use Rattle.upc_task.specs.layer.Sources.{Outcomes, HasOutcomes}
 use Rattle.upc_task.specs.layer.Kept.{IsKept, strand_of}
-use Rattle.upc_rounds.specs.declared.place.Place.{Place}
+use Rattle.upc_rounds_teams.specs.declared.place.Place.{Place}
 use Rattle.upc_rounds.specs.layer.Openings.{opening_of}
-use Rattle.upc_rounds.specs.Rounds.{EndsInTime}
-use Rattle.upc_rounds.specs.layer.Runs.{AreSame, IsAt, standing_of}
-use Rattle.upc_rounds.specs.layer.Teams.{IsCrew, IsTeam, IsDone, HasEnded, workers_of, seen_at, seen_among}
+use Rattle.upc_rounds_teams.specs.Rounds.{EndsInTime}
+use Rattle.upc_rounds_teams.specs.layer.Runs.{AreSame, IsAt, standing_of}
+use Rattle.upc_rounds_teams.specs.layer.Teams.{IsCrew, IsTeam, IsDone, HasEnded, workers_of, seen_at, seen_among}
 use Rattle.upc_rounds.proofs.Openings.{kept_opening}
 use Rattle.upc_rounds.proofs.Outcomes.{outcomes_there}
 use Rattle.upc_rounds.proofs.Running.{over-sound}
-use Rattle.upc_rounds.proofs.Crews.{worker-at, many-workers}
-use Rattle.upc_rounds.proofs.Rounding.{gone-start}
+use Rattle.upc_rounds_teams.proofs.Crews.{worker-at, many-workers}
+use Rattle.upc_rounds_teams.proofs.Rounding.{gone-start}
 use Rattle.upc_rounds.proofs.Timing.{gone-in-time}
 
 -- The code has outcomes.
@@ -40,7 +40,7 @@ pub begun-team : (z : TableId) (o : Opening) (c : Codes) (f : Outcomes) (ks : Li
     → Numbered (λ i k. standing_of k ≡ record { items = []; «end» = None }) (workers_of ks) → IsTeam z o c f ks
 begun-team z o c f ks h fresh = record {
   crew = h.0;
-  goes = subst (λ s. Rattle.upc_rounds.specs.code.Played.GoesByRounds o f s (workers_of ks)) (sym h.1)
+  goes = subst (λ s. Rattle.upc_rounds_teams.specs.layer.Played.GoesByRounds o f s (workers_of ks)) (sym h.1)
       (gone-start o f (workers_of ks) (λ i d lt. (ap (λ s. s.items) (fresh i d lt), ap (λ s. s.«end») (fresh i d lt))));
 }
 
@@ -69,7 +69,7 @@ pub done-sound : (z : TableId) (o : Opening) (c : Codes) (all : ℕ → Outcomes
     → IsSound o all (journal_with l strands history)
 done-sound z o c all l ks ms strands history h is made threads legal formed below same limits =
     over-sound o c all l (workers_of ks) (workers_of ms) (journal_with l strands history)
-    (subst (λ s. Rattle.upc_rounds.specs.layer.Runs.IsOver o c (all l.budget) s (workers_of ms)) (sym is) h.over) legal formed below same limits threads refl refl made
+    (subst (λ s. Rattle.upc_rounds_teams.specs.layer.Runs.IsOver o c (all l.budget) s (workers_of ms)) (sym is) h.over) legal formed below same limits threads refl refl made
 
 -- And it ends in time.
 pub done-in-time : (z : TableId) (o : Opening) (c : Codes) (all : ℕ → Outcomes) (l : Limits) (ks ms : List Place) (strands : List Rattle.upc_values.specs.declared.journal.Strand.Strand) (history : List Entry)

@@ -5,13 +5,11 @@ ghost use Rattle.upc_values.specs.Lists.{Numbered};
 ghost use Rattle.turn_cell.specs.layer.Seats.{id_of, started};
 ghost use Rattle.upc_task.specs.layer.Sources.{Outcomes};
 ghost use Rattle.upc_task.specs.layer.Seated.{IsTask};
-ghost use Rattle.upc_rounds.specs.layer.Places.{Did};
-ghost use Rattle.upc_rounds.specs.layer.Runs.{AreSame, Rested};
-ghost use Rattle.upc_rounds.specs.layer.Teams.{IsTeam, HasGone, workers_of};
+ghost use Rattle.upc_rounds_teams.specs.layer.Places.{Did};
+ghost use Rattle.upc_rounds_teams.specs.layer.Runs.{AreSame, Rested};
+ghost use Rattle.upc_rounds_teams.specs.layer.Teams.{IsTeam, HasGone, workers_of};
 
-use crate::meeting::meet_all;
 use crate::part::play;
-use crate::place::Place;
 use memory_history::World;
 use stack_code::Code;
 use std::alloc::AllocError as OutOfMemory;
@@ -19,6 +17,8 @@ use std::sync::Wait;
 use std::thread;
 use std::thread::Threads;
 use turn_cell::TurnCell;
+use upc_rounds_teams::meeting::meet_all;
+use upc_rounds_teams::place::Place;
 use upc_text::Gate;
 
 // The tasks that have no end and stand at no Stall.

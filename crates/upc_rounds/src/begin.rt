@@ -7,16 +7,16 @@ ghost use Rattle.turn_cell.specs.layer.Seats.{TableId, AreNew};
 ghost use Rattle.upc_task.specs.layer.Sources.{Outcomes, HasOutcomes};
 ghost use Rattle.upc_task.specs.layer.Kept.{AreLimits};
 ghost use Rattle.upc_rounds.specs.layer.Openings.{opening_of};
-ghost use Rattle.upc_rounds.specs.layer.Runs.{standing_of};
-ghost use Rattle.upc_rounds.specs.layer.Teams.{IsCrew, worker_of, workers_of, seen_among};
+ghost use Rattle.upc_rounds_teams.specs.layer.Runs.{standing_of};
+ghost use Rattle.upc_rounds_teams.specs.layer.Teams.{IsCrew, worker_of, workers_of, seen_among};
 
-use crate::place::Place;
 use block_layout::ObjectRef;
 use memory_history::World;
 use stack_code::Code;
 use std::alloc::{AllocError as OutOfMemory, Global};
 use turn_cell::Seat;
 use typed_tree::{Program, SharedDecl};
+use upc_rounds_teams::place::Place;
 use upc_task::{Limits, Task};
 
 // The declared shared objects, in order.

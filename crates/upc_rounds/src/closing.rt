@@ -7,11 +7,11 @@ ghost use Rattle.upc_values.specs.Openings.{Opening};
 ghost use Rattle.stack_code.specs.layer.Codes.{Codes};
 ghost use Rattle.upc_task.specs.layer.Sources.{Outcomes};
 ghost use Rattle.upc_task.specs.layer.Kept.{IsKept, strand_of};
-ghost use Rattle.upc_rounds.specs.layer.Teams.{IsSeated, worker_of, workers_of, seat_at, seen_at, seen_among};
+ghost use Rattle.upc_rounds_teams.specs.layer.Teams.{IsSeated, worker_of, workers_of, seat_at, seen_at, seen_among};
 
-use crate::place::Place;
 use memory_history::World;
 use turn_cell::{Seat, TurnCell};
+use upc_rounds_teams::place::Place;
 use upc_values::Strand;
 
 // The seats and the strands, in order.

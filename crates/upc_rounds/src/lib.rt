@@ -4,10 +4,7 @@
 mod all;
 pub mod begin;
 pub mod closing;
-pub mod ends;
-pub mod meeting;
 mod part;
-pub mod place;
 mod threads;
 
 pub use part::round;

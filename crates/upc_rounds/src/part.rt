@@ -4,14 +4,14 @@ ghost use Rattle.std.specs.Prelude.{◌≡◌, None, IfOk};
 ghost use Rattle.turn_cell.specs.layer.Seats.{id_of, started};
 ghost use Rattle.upc_task.specs.layer.Sources.{Outcomes};
 ghost use Rattle.upc_task.specs.layer.Seated.{IsTask, IsInOrder};
-ghost use Rattle.upc_rounds.specs.layer.Places.{Took, Did, RestsWith};
+ghost use Rattle.upc_rounds_teams.specs.layer.Places.{Took, Did, RestsWith};
 
-use crate::place::Place;
 use memory_history::World;
 use stack_code::Code;
 use std::alloc::AllocError as OutOfMemory;
 use std::sync::Wait;
 use turn_cell::TurnCell;
+use upc_rounds_teams::place::Place;
 use upc_task::{Pause, Task};
 use upc_text::Gate;
 

@@ -6,12 +6,12 @@ use Rattle.turn_cell.specs.layer.Seats.{TableId}
 use Rattle.upc_values.specs.Openings.{Opening}
 use Rattle.stack_code.specs.layer.Codes.{Codes}
 use Rattle.upc_task.specs.declared.worker.Worker.{Worker}
-use Rattle.upc_rounds.specs.declared.place.Place.{Place}
-use Rattle.upc_rounds.specs.layer.Course.{Standing, Grows}
-use Rattle.upc_rounds.specs.layer.Runs.{AreSame, OthersStay, GoesAt, standing_of}
-use Rattle.upc_rounds.specs.layer.Places.{Moved}
-use Rattle.upc_rounds.specs.layer.Teams.{GoesOn, StaysCrew, AreOf, HaveMet, workers_of, seen_among}
-use Rattle.upc_rounds.proofs.Crews.{some-place, worker-at, many-workers, moved-self, crew-goes, crew-grows, grows-of}
+use Rattle.upc_rounds_teams.specs.declared.place.Place.{Place}
+use Rattle.upc_rounds_teams.specs.layer.Course.{Standing, Grows}
+use Rattle.upc_rounds_teams.specs.layer.Runs.{AreSame, OthersStay, GoesAt, standing_of}
+use Rattle.upc_rounds_teams.specs.layer.Places.{Moved}
+use Rattle.upc_rounds_teams.specs.layer.Teams.{GoesOn, StaysCrew, AreOf, HaveMet, workers_of, seen_among}
+use Rattle.upc_rounds_teams.proofs.Crews.{some-place, worker-at, many-workers, moved-self, crew-goes, crew-grows, grows-of}
 use Rattle.upc_rounds.proofs.Teams.{moved-same}
 
 module _ (z : TableId) (o : Opening) (c : Codes) (ks : List Place) (at : ℕ) (k m : Place) (lt : at < length ks)

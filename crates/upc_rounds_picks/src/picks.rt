@@ -9,9 +9,9 @@ ghost use Rattle.stack_code_laws.specs.layer.Asking.{IsCodeFor};
 ghost use Rattle.turn_cell.specs.layer.Seats.{id_of, started};
 ghost use Rattle.upc_task.specs.layer.Sources.{Outcomes, GivesOutcomes};
 ghost use Rattle.upc_rounds.specs.layer.Openings.{opening_of};
-ghost use Rattle.upc_rounds.specs.layer.Course.{Obeys, ArePicked, IsCourse};
-ghost use Rattle.upc_rounds.specs.layer.Runs.{AreSame, NoneStops, IsChosen, EndsOut, GoesPicked, open_among, moment_of};
-ghost use Rattle.upc_rounds.specs.layer.Teams.{GoesOn, StaysCrew, IsCrew, IsDone, workers_of, seen_among};
+ghost use Rattle.upc_rounds_teams.specs.layer.Course.{Obeys, ArePicked, IsCourse};
+ghost use Rattle.upc_rounds_teams.specs.layer.Runs.{AreSame, NoneStops, IsChosen, EndsOut, GoesPicked, open_among, moment_of};
+ghost use Rattle.upc_rounds_teams.specs.layer.Teams.{GoesOn, StaysCrew, IsCrew, IsDone, workers_of, seen_among};
 
 use crate::turns::{finish_all, round_in_turn, turn};
 use memory_history::World;
@@ -22,8 +22,8 @@ use turn_cell::TurnCell;
 use typed_tree::Program;
 use upc_rounds::begin::{begin, make_all};
 use upc_rounds::closing::close_all;
-use upc_rounds::ends::{all_ended, halt_all, is_open, lock_all, none_goes, stopped};
-use upc_rounds::place::Place;
+use upc_rounds_teams::ends::{all_ended, halt_all, is_open, lock_all, none_goes, stopped};
+use upc_rounds_teams::place::Place;
 use upc_task::Limits;
 use upc_values::{Journal, Listing};
 

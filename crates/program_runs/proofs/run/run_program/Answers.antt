@@ -1,6 +1,6 @@
 use Rattle.std.proofs.Common.{subst}
 use Rattle.upc_values.proofs.SoundOrders.{sound-follows}
-use Rattle.upc_rounds.specs.Rounds.{EndsInTime}
+use Rattle.upc_rounds_teams.specs.Rounds.{EndsInTime}
 use Rattle.program_runs.proofs.ThreadSources.{openings_agree, gives_outcomes, meaning, is_run}
 use Rattle.program_runs.proofs.run.run_program.Goals as goal
 

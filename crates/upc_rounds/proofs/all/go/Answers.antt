@@ -1,7 +1,7 @@
 use Rattle.std.proofs.Common.{◌≡◌, ◌<◌, length, false, sym, subst, get_or}
 use Rattle.upc_values.specs.Lists.{Numbered}
 use Rattle.turn_cell.specs.layer.Seats.{id_of, started}
-use Rattle.upc_rounds.specs.declared.place.Place.{Place}
+use Rattle.upc_rounds_teams.specs.declared.place.Place.{Place}
 use Rattle.upc_rounds.proofs.Teams.{team-goes, moved-did, did-rested, moved-same}
 use Rattle.upc_rounds.proofs.all.go.Goals as goal
 

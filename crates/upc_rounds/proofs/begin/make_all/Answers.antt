@@ -9,12 +9,12 @@ use Rattle.upc_task.specs.declared.worker.Worker.{Worker}
 use Rattle.upc_task.specs.layer.Seated.{IsTask}
 use Rattle.upc_task.proofs.Lists.{numbered-push}
 use Rattle.upc_task.proofs.Options.{none-some}
-use Rattle.upc_rounds.specs.declared.place.Place.{Place}
-use Rattle.upc_rounds.specs.layer.Course.{Standing}
-use Rattle.upc_rounds.specs.layer.Runs.{standing_of}
-use Rattle.upc_rounds.specs.layer.Teams.{IsMember}
+use Rattle.upc_rounds_teams.specs.declared.place.Place.{Place}
+use Rattle.upc_rounds_teams.specs.layer.Course.{Standing}
+use Rattle.upc_rounds_teams.specs.layer.Runs.{standing_of}
+use Rattle.upc_rounds_teams.specs.layer.Teams.{IsMember}
 use Rattle.upc_rounds.proofs.Beginnings.{OurSeat, new-at, new-free, new-number, new-seen, new-opening, seen-none}
-use Rattle.upc_rounds.proofs.Crews.{numbered-workers}
+use Rattle.upc_rounds_teams.proofs.Crews.{numbered-workers}
 use Rattle.upc_rounds.proofs.begin.make_all.Goals as goal
 
 -- The seat at hand is new.

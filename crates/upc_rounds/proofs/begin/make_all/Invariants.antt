@@ -4,9 +4,9 @@ use Rattle.upc_values.specs.Lists.{Numbered}
 use Rattle.upc_values.specs.Openings.{Opening, IsOpening}
 use Rattle.turn_cell.specs.layer.Seats.{TableId, AreNew}
 use Rattle.upc_task.specs.layer.Sources.{Outcomes, HasOutcomes}
-use Rattle.upc_rounds.specs.declared.place.Place.{Place}
-use Rattle.upc_rounds.specs.layer.Runs.{standing_of}
-use Rattle.upc_rounds.specs.layer.Teams.{IsMember}
+use Rattle.upc_rounds_teams.specs.declared.place.Place.{Place}
+use Rattle.upc_rounds_teams.specs.layer.Runs.{standing_of}
+use Rattle.upc_rounds_teams.specs.layer.Teams.{IsMember}
 use Rattle.upc_rounds.proofs.begin.make_all.Given as goal
 
 abbrev pub invariant-loop-seat : goal.invariant-loop-seat

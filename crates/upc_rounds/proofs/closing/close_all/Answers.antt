@@ -3,7 +3,7 @@ use Rattle.std.proofs.lemmas.List.{length-map}
 use Rattle.turn_cell.specs.layer.Members.{Every}
 use Rattle.turn_cell.specs.layer.Seats.{AreFree, HasAll, id_of}
 use Rattle.upc_values.specs.declared.journal.Entry.{Entry}
-use Rattle.upc_rounds.specs.layer.Teams.{IsSeated, seat_at, seen_among}
+use Rattle.upc_rounds_teams.specs.layer.Teams.{IsSeated, seat_at, seen_among}
 use Rattle.upc_rounds.proofs.Closings.{free-from, team-whole}
 use Rattle.upc_rounds.proofs.closing.close_all.Goals as goal
 

@@ -5,8 +5,8 @@ use Rattle.std.proofs.lemmas.List.{length-append, map-append}
 use Rattle.upc_values.specs.Lists.{Numbered}
 use Rattle.upc_task.specs.layer.Kept.{IsKept, strand_of}
 use Rattle.upc_task.proofs.Lists.{numbered-at}
-use Rattle.upc_rounds.specs.declared.place.Place.{Place}
-use Rattle.upc_rounds.specs.layer.Teams.{worker_of, workers_of, seat_at, seen_at}
+use Rattle.upc_rounds_teams.specs.declared.place.Place.{Place}
+use Rattle.upc_rounds_teams.specs.layer.Teams.{worker_of, workers_of, seat_at, seen_at}
 use Rattle.upc_rounds.proofs.closing.part_all.Goals as goal
 
 pub into_parts-strand-requires : goal.into_parts-strand-requires

@@ -5,8 +5,8 @@ use Rattle.upc_values.specs.Openings.{Opening}
 use Rattle.stack_code.specs.layer.Codes.{Codes}
 use Rattle.upc_task.specs.layer.Sources.{Outcomes}
 use Rattle.upc_task.specs.layer.Kept.{IsKept, strand_of}
-use Rattle.upc_rounds.specs.declared.place.Place.{Place}
-use Rattle.upc_rounds.specs.layer.Teams.{workers_of, seat_at, seen_at}
+use Rattle.upc_rounds_teams.specs.declared.place.Place.{Place}
+use Rattle.upc_rounds_teams.specs.layer.Teams.{workers_of, seat_at, seen_at}
 use Rattle.upc_rounds.proofs.closing.part_all.Given as goal
 
 abbrev pub invariant-loop-place : goal.invariant-loop-place

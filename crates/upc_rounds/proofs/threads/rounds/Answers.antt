@@ -2,12 +2,12 @@ use Rattle.std.proofs.Common.{rules, ◌≡◌, ◌<◌, ℕ, None, is_some, tru
 use Rattle.turn_cell.specs.layer.Seats.{id_of, started}
 use Rattle.upc_values.specs.Lists.{Numbered}
 use Rattle.upc_task.proofs.Options.{match-some, match-none}
-use Rattle.upc_rounds.specs.layer.Runs.{StopsAt, NoneStops, Wanting, AreEach, locked}
-use Rattle.upc_rounds.specs.code.Played.{GoneByRounds}
-use Rattle.upc_rounds.specs.layer.Teams.{workers_of, seen_among}
+use Rattle.upc_rounds_teams.specs.layer.Runs.{StopsAt, NoneStops, Wanting, AreEach, locked}
+use Rattle.upc_rounds_teams.specs.layer.Played.{GoneByRounds}
+use Rattle.upc_rounds_teams.specs.layer.Teams.{workers_of, seen_among}
 use Rattle.upc_rounds.proofs.Running.{same-trans, same-refl}
-use Rattle.upc_rounds.proofs.Crews.{many-workers, crew-running}
-use Rattle.upc_rounds.proofs.Rounding.{goes-on}
+use Rattle.upc_rounds_teams.proofs.Crews.{many-workers, crew-running}
+use Rattle.upc_rounds_teams.proofs.Rounding.{goes-on}
 use Rattle.upc_rounds.proofs.Ending.{seats-self, ended-self, done-halted, done-locked, done-ended, ended-gone, ends-halted, ends-locked, same-halted, same-locked}
 use Rattle.upc_rounds.proofs.threads.rounds.Goals as goal
 
@@ -56,7 +56,7 @@ loop-preserved g c =
           };
       same = same-trans (workers_of c.args.places.now) (workers_of ks) (workers_of ms)
           (same-trans (workers_of c.args.places.now) (workers_of c.loop.places) (workers_of ks) h.same c.in_ok-go.ensures.same)
-          (subst (Rattle.upc_rounds.specs.layer.Runs.AreSame (workers_of ks)) (sym e.workers) (same-refl (workers_of ks)));
+          (subst (Rattle.upc_rounds_teams.specs.layer.Runs.AreSame (workers_of ks)) (sym e.workers) (same-refl (workers_of ks)));
     }
 
 pub returns-then-is_some-clause-over : goal.returns-then-is_some-clause-over
@@ -138,5 +138,5 @@ returns-then-none-clause-same g c =
     let want : Numbered (λ i k. k.«end» ≡ None → Wanting o (seen_among ms) k) (workers_of ms) = e.yes (search rules) in
     same-trans (workers_of c.args.places.now) (workers_of ks) (workers_of c.lock_all.new.places)
     (same-trans (workers_of c.args.places.now) (workers_of c.loop.places) (workers_of ks) h.same c.in_ok-go.ensures.same)
-    (subst (λ ws. Rattle.upc_rounds.specs.layer.Runs.AreSame ws (workers_of c.lock_all.new.places)) e.workers
+    (subst (λ ws. Rattle.upc_rounds_teams.specs.layer.Runs.AreSame ws (workers_of c.lock_all.new.places)) e.workers
     (same-locked o (seen_among ms) (workers_of ms) (workers_of c.lock_all.new.places) want c.in_ok-lock_all.ensures.workers))

@@ -1,8 +1,8 @@
 use Rattle.std.proofs.Common.{◌<◌, length}
 use Rattle.turn_cell.specs.layer.Seats.{id_of, started}
 use Rattle.upc_task.specs.layer.Sources.{Outcomes}
-use Rattle.upc_rounds.specs.layer.Runs.{AreSame}
-use Rattle.upc_rounds.specs.layer.Teams.{IsTeam, workers_of}
+use Rattle.upc_rounds_teams.specs.layer.Runs.{AreSame}
+use Rattle.upc_rounds_teams.specs.layer.Teams.{IsTeam, workers_of}
 use Rattle.upc_rounds.proofs.threads.rounds.Given as goal
 
 abbrev pub invariant-loop : goal.invariant-loop

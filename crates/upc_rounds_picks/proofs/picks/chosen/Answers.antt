@@ -1,8 +1,8 @@
 use Rattle.std.proofs.Common.{◌<◌, is_some, length, sym, subst, ap, ◌∙◌, arith}
 use Rattle.upc_task.specs.declared.worker.Worker.{Worker}
-use Rattle.upc_rounds.specs.layer.Teams.{workers_of}
+use Rattle.upc_rounds_teams.specs.layer.Teams.{workers_of}
 use Rattle.upc_rounds.proofs.Running.{open-more, ended-more}
-use Rattle.upc_rounds.proofs.Crews.{some-place, worker-at, many-workers}
+use Rattle.upc_rounds_teams.proofs.Crews.{some-place, worker-at, many-workers}
 use Rattle.upc_rounds_picks.proofs.picks.chosen.Goals as goal
 use Rattle.upc_rounds_picks.proofs.picks.chosen.Goals.{then-is_open+else-left-eq0, else-is_open}
 

@@ -1,8 +1,8 @@
 use Rattle.std.proofs.Common.{◌<◌, is_some, length, sym, subst, ap, ◌∙◌, arith}
 use Rattle.upc_task.specs.declared.worker.Worker.{Worker}
-use Rattle.upc_rounds.specs.layer.Teams.{workers_of}
+use Rattle.upc_rounds_teams.specs.layer.Teams.{workers_of}
 use Rattle.upc_rounds.proofs.Running.{open-more, ended-more}
-use Rattle.upc_rounds.proofs.Crews.{some-place, worker-at, many-workers}
+use Rattle.upc_rounds_teams.proofs.Crews.{some-place, worker-at, many-workers}
 use Rattle.upc_rounds_picks.proofs.picks.count_open.Goals as goal
 use Rattle.upc_rounds_picks.proofs.picks.count_open.Goals.{then-is_open, else-is_open}
 
@@ -23,4 +23,4 @@ loop-at-preserved c =
 pub returns : goal.returns
 returns c =
     let h = c.loop-at.invariant in let ks = c.args.places.now in let m = many-workers ks in let t = c.loop-at-test.false in let e = c.loop-at.auto.at-end in
-    h.counted ∙ ap Rattle.upc_rounds.specs.layer.Runs.open_among (Rattle.std.proofs.lemmas.List.take_all c.loop-at.at (workers_of ks) (omega (arith, m, t, e)))
+    h.counted ∙ ap Rattle.upc_rounds_teams.specs.layer.Runs.open_among (Rattle.std.proofs.lemmas.List.take_all c.loop-at.at (workers_of ks) (omega (arith, m, t, e)))

@@ -1,9 +1,9 @@
 use Rattle.std.proofs.Common.{◌<◌, sym, subst, ◌∙◌}
 use Rattle.turn_cell.specs.layer.Seats.{started}
-use Rattle.upc_rounds.specs.layer.Runs.{moment_of}
-use Rattle.upc_rounds.specs.layer.Teams.{workers_of, seen_among}
+use Rattle.upc_rounds_teams.specs.layer.Runs.{moment_of}
+use Rattle.upc_rounds_teams.specs.layer.Teams.{workers_of, seen_among}
 use Rattle.upc_rounds.proofs.Running.{same-trans}
-use Rattle.upc_rounds.proofs.Crews.{many-workers}
+use Rattle.upc_rounds_teams.proofs.Crews.{many-workers}
 use Rattle.upc_rounds_picks.proofs.picks.go_all.Goals as goal
 
 pub go_out-requires-clause-some : goal.go_out-requires-clause-some

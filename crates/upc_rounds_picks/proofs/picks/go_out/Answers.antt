@@ -3,12 +3,12 @@ use Rattle.turn_cell.specs.layer.Seats.{id_of, started}
 use Rattle.upc_task.specs.layer.Sources.{Outcomes}
 use Rattle.upc_task.specs.layer.Kept.{strand_of}
 use Rattle.upc_task.proofs.Options.{match-some, match-none}
-use Rattle.upc_rounds.specs.layer.Course.{Moment, AreOf}
-use Rattle.upc_rounds.specs.layer.Runs.{StopsAt, NoneStops, moment_of}
-use Rattle.upc_rounds.specs.layer.Teams.{workers_of, seen_among}
+use Rattle.upc_rounds_teams.specs.layer.Course.{Moment, AreOf}
+use Rattle.upc_rounds_teams.specs.layer.Runs.{StopsAt, NoneStops, moment_of}
+use Rattle.upc_rounds_teams.specs.layer.Teams.{workers_of, seen_among}
 use Rattle.upc_rounds.proofs.Running.{same-trans}
 use Rattle.upc_rounds.proofs.Standings.{out-halted}
-use Rattle.upc_rounds.proofs.Crews.{many-workers}
+use Rattle.upc_rounds_teams.proofs.Crews.{many-workers}
 use Rattle.upc_rounds.proofs.Ending.{among-same, done-halted, same-halted}
 use Rattle.upc_rounds_picks.proofs.picks.go_out.Goals as goal
 

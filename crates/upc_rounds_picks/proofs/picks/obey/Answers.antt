@@ -1,8 +1,8 @@
 use Rattle.std.proofs.Common.{◌≡◌}
 use Rattle.turn_cell.specs.layer.Seats.{id_of, started}
-use Rattle.upc_rounds.specs.layer.Teams.{workers_of, seen_among}
+use Rattle.upc_rounds_teams.specs.layer.Teams.{workers_of, seen_among}
 use Rattle.upc_rounds.proofs.Standings.{obeys-of}
-use Rattle.upc_rounds.proofs.Crews.{many-workers, crew-running}
+use Rattle.upc_rounds_teams.proofs.Crews.{many-workers, crew-running}
 use Rattle.upc_rounds_picks.proofs.picks.obey.Goals as goal
 
 pub turn-requires-clause-at : goal.turn-requires-clause-at

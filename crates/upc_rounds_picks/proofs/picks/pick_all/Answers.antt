@@ -1,8 +1,8 @@
 use Rattle.std.proofs.Common.{rules, ◌≡◌, ◌∙◌, true, false, is_some, take, sym, subst, ap, inl, inr}
 use Rattle.turn_cell.specs.layer.Seats.{started}
-use Rattle.upc_rounds.specs.layer.Course.{Moment, AreObeyed}
-use Rattle.upc_rounds.specs.layer.Runs.{StopsAt, NoneStops, open_among, moment_of}
-use Rattle.upc_rounds.specs.layer.Teams.{workers_of, seen_among}
+use Rattle.upc_rounds_teams.specs.layer.Course.{Moment, AreObeyed}
+use Rattle.upc_rounds_teams.specs.layer.Runs.{StopsAt, NoneStops, open_among, moment_of}
+use Rattle.upc_rounds_teams.specs.layer.Teams.{workers_of, seen_among}
 use Rattle.upc_task.proofs.Options.{match-some, match-none}
 use Rattle.upc_rounds.proofs.Running.{same-trans, same-refl}
 use Rattle.upc_rounds.proofs.Standings.{obeyed-more, stopped-of, count-of}

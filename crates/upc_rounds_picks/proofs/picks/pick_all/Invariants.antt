@@ -1,8 +1,8 @@
 use Rattle.std.proofs.Common.{take}
 use Rattle.turn_cell.specs.layer.Seats.{id_of, started}
-use Rattle.upc_rounds.specs.layer.Course.{AreObeyed}
-use Rattle.upc_rounds.specs.layer.Runs.{AreSame, moment_of}
-use Rattle.upc_rounds.specs.layer.Teams.{StaysCrew, workers_of, seen_among}
+use Rattle.upc_rounds_teams.specs.layer.Course.{AreObeyed}
+use Rattle.upc_rounds_teams.specs.layer.Runs.{AreSame, moment_of}
+use Rattle.upc_rounds_teams.specs.layer.Teams.{StaysCrew, workers_of, seen_among}
 use Rattle.upc_rounds_picks.proofs.picks.pick_all.Given as goal
 
 abbrev pub invariant-loop-pick : goal.invariant-loop-pick

@@ -4,12 +4,12 @@ use Rattle.upc_values.specs.Lists.{Numbered}
 use Rattle.upc_task.specs.layer.Sources.{Outcomes}
 use Rattle.upc_task.specs.layer.Kept.{strand_of}
 use Rattle.upc_task.proofs.Options.{match-some, match-none}
-use Rattle.upc_rounds.specs.layer.Course.{Moment, GoesRounds, AreOf}
-use Rattle.upc_rounds.specs.layer.Runs.{AreSame, StopsAt, NoneStops, Wanting, moment_of}
-use Rattle.upc_rounds.specs.layer.Teams.{workers_of, seen_among}
+use Rattle.upc_rounds_teams.specs.layer.Course.{Moment, GoesRounds, AreOf}
+use Rattle.upc_rounds_teams.specs.layer.Runs.{AreSame, StopsAt, NoneStops, Wanting, moment_of}
+use Rattle.upc_rounds_teams.specs.layer.Teams.{workers_of, seen_among}
 use Rattle.upc_rounds.proofs.Running.{same-trans, same-refl}
 use Rattle.upc_rounds.proofs.Standings.{out-halted, out-locked, out-ended}
-use Rattle.upc_rounds.proofs.Crews.{many-workers}
+use Rattle.upc_rounds_teams.proofs.Crews.{many-workers}
 use Rattle.upc_rounds.proofs.Ending.{among-same, done-halted, done-locked, done-ended, same-halted, same-locked}
 use Rattle.upc_rounds_picks.proofs.picks.rounds.Goals as goal
 

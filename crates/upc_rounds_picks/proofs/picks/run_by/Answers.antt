@@ -8,16 +8,16 @@ use Rattle.upc_values.specs.Formed.{AreWellFormed}
 use Rattle.upc_values.specs.Waits.{WaitsFollow}
 use Rattle.upc_task.specs.layer.Sources.{Outcomes, HasOutcomes}
 use Rattle.upc_task.specs.layer.Kept.{IsKept, strand_of}
-use Rattle.upc_rounds.specs.declared.place.Place.{Place}
+use Rattle.upc_rounds_teams.specs.declared.place.Place.{Place}
 use Rattle.upc_rounds.specs.layer.Openings.{opening_of}
-use Rattle.upc_rounds.specs.layer.Course.{Moment, AreOf}
-use Rattle.upc_rounds.specs.layer.Runs.{AreSame, moment_of}
-use Rattle.upc_rounds.specs.layer.Teams.{IsSeated, IsCrew, IsDone, workers_of, seen_at, seen_among}
+use Rattle.upc_rounds_teams.specs.layer.Course.{Moment, AreOf}
+use Rattle.upc_rounds_teams.specs.layer.Runs.{AreSame, moment_of}
+use Rattle.upc_rounds_teams.specs.layer.Teams.{IsSeated, IsCrew, IsDone, workers_of, seen_at, seen_among}
 use Rattle.upc_rounds.proofs.Openings.{kept_opening}
 use Rattle.upc_rounds.proofs.Outcomes.{has_outcomes}
 use Rattle.upc_rounds.proofs.Standings.{outset-of}
 use Rattle.upc_rounds.proofs.Spending.{sound-spent}
-use Rattle.upc_rounds.proofs.Crews.{many-workers}
+use Rattle.upc_rounds_teams.proofs.Crews.{many-workers}
 use Rattle.upc_rounds.proofs.Beginnings.{given-back}
 use Rattle.upc_rounds.proofs.Whole.{there, done-kept, done-is-ended, done-sound}
 use Rattle.upc_rounds_picks.proofs.picks.run_by.Goals as goal
@@ -162,7 +162,7 @@ returns-clause-course g c =
       first = first;
       picked = out.0;
       last = out.1;
-      outset = subst (λ x. Rattle.upc_rounds.specs.layer.Course.IsOutset l.threads (moment_of ((started cell).0, seen_among x) (workers_of x))) (sym is)
+      outset = subst (λ x. Rattle.upc_rounds_teams.specs.layer.Course.IsOutset l.threads (moment_of ((started cell).0, seen_among x) (workers_of x))) (sym is)
           (outset-of l.threads ((started cell).0, seen_among ks) (workers_of ks) (many-workers ks ∙ c.in_ok-places.ensures.many) c.in_ok-places.ensures.fresh
           (c.in_ok-places.ensures.crew z o f new opens given.1).1);
       obeyed = out.2;

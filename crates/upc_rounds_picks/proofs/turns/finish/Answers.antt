@@ -1,9 +1,9 @@
 use Rattle.std.proofs.Common.{◌<◌, length, sym, subst, ◌∙◌}
 use Rattle.std.specs.Prelude.{slice_index_or}
 use Rattle.turn_cell.specs.layer.Seats.{id_of, started}
-use Rattle.upc_rounds.specs.layer.Teams.{workers_of, seen_among}
+use Rattle.upc_rounds_teams.specs.layer.Teams.{workers_of, seen_among}
 use Rattle.upc_rounds.proofs.Standings.{rests-rested}
-use Rattle.upc_rounds.proofs.Crews.{many-workers, crew-running}
+use Rattle.upc_rounds_teams.proofs.Crews.{many-workers, crew-running}
 use Rattle.upc_rounds_picks.proofs.turns.finish.Goals as goal
 
 pub returns-then-is_at_rest-clause-rested : goal.returns-then-is_at_rest-clause-rested

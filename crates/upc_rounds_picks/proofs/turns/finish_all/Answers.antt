@@ -5,12 +5,12 @@ use Rattle.turn_cell.specs.layer.Seats.{id_of, started}
 use Rattle.upc_values.specs.declared.journal.Entry.{Entry}
 use Rattle.upc_values.specs.Openings.{Opening}
 use Rattle.upc_task.specs.declared.worker.Worker.{Worker}
-use Rattle.upc_rounds.specs.layer.Course.{ToRest}
-use Rattle.upc_rounds.specs.layer.Runs.{Rested, GoesAt, standing_of}
-use Rattle.upc_rounds.specs.layer.Teams.{workers_of, seen_among}
+use Rattle.upc_rounds_teams.specs.layer.Course.{ToRest}
+use Rattle.upc_rounds_teams.specs.layer.Runs.{Rested, GoesAt, standing_of}
+use Rattle.upc_rounds_teams.specs.layer.Teams.{workers_of, seen_among}
 use Rattle.upc_rounds.proofs.Running.{same-trans, same-refl}
 use Rattle.upc_rounds.proofs.Standings.{grows-refl, stopped-of, stays-stopped, grows-trans, each-of, later-of}
-use Rattle.upc_rounds.proofs.Crews.{many-workers, crew-running}
+use Rattle.upc_rounds_teams.proofs.Crews.{many-workers, crew-running}
 use Rattle.upc_rounds_picks.proofs.turns.finish_all.Goals as goal
 
 pub loop-at-init : goal.loop-at-init

@@ -1,9 +1,9 @@
 use Rattle.std.proofs.Common.{◌≡◌, sym, ap, ◌∙◌, get_or}
 use Rattle.std.proofs.lemmas.List.{get_or_default}
 use Rattle.turn_cell.specs.layer.Seats.{id_of, started}
-use Rattle.upc_rounds.specs.declared.place.Place.{Place}
-use Rattle.upc_rounds.specs.layer.Course.{Steps}
-use Rattle.upc_rounds.proofs.Crews.{worker-at}
+use Rattle.upc_rounds_teams.specs.declared.place.Place.{Place}
+use Rattle.upc_rounds_teams.specs.layer.Course.{Steps}
+use Rattle.upc_rounds_teams.proofs.Crews.{worker-at}
 use Rattle.upc_rounds_picks.proofs.Turning.{turned-cells, turned-crew, turned-grows, turned-same, turned-goes, turned-others}
 use Rattle.upc_rounds_picks.proofs.turns.turn.Goals as goal
 

@@ -2,7 +2,7 @@ use Rattle.std.proofs.Common.{rules, ◌≡◌, true, false, is_some, refl, sym,
 use Rattle.std.specs.Prelude.{not}
 use Rattle.std.proofs.lemmas.Bool.{false≢true}
 use Rattle.upc_task.specs.declared.worker.Worker.{Worker}
-use Rattle.upc_rounds.proofs.Crews.{some-place, worker-at}
+use Rattle.upc_rounds_teams.proofs.Crews.{some-place, worker-at}
 use Rattle.upc_rounds_picks.proofs.turns.visit.Goals as goal
 
 pub returns-then-not-is_open-clause-rested : goal.returns-then-not-is_open-clause-rested
