@@ -26,7 +26,7 @@ longer g a (suc n) m e =
     ap (cons_option (g a)) (longer g (a + 1) n m (omega arith)) ∙ cons-front (g a) (filter_map g (range_with_len (a + 1) n)) (cons_option (g m) [])
 
 -- the cells in one byte more
-cells_more : (s : Option Shape) (x n : ℕ) (k : Option Kind) → kind_at s (x + n) ≡ k → cells_within s x (n + 1) ≡ cells_within s x n ++ cons_option (placed_kind n k) []
+pub cells_more : (s : Option Shape) (x n : ℕ) (k : Option Kind) → kind_at s (x + n) ≡ k → cells_within s x (n + 1) ≡ cells_within s x n ++ cons_option (placed_kind n k) []
 cells_more s x n k e =
     rw add-one (longer (λ i. placed_kind i (kind_at s (x + i))) 0 n n (omega arith)
     ∙ ap (λ o. cells_within s x n ++ cons_option (placed_kind n o) []) e)

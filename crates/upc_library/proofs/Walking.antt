@@ -1,13 +1,15 @@
 -- Memory calls, step by step.
 use Rattle.std.proofs.Common.{◌≡◌, ℕ, ◌<◌, Bool, true, false, List, [], ◌∷◌, Option, Some, None, refl, sym, ap, ◌∙◌}
-use Rattle.std.proofs.Common.{pos, suc, ◌+◌, length, drop, add-one, arith, ◌*◌, ◌≤◌, ◌^◌, ℤ}
-use Rattle.std.proofs.Math.Seq.{drop-cons}
-use Rattle.std.specs.Prelude.{slice_index_or}
+use Rattle.std.proofs.Common.{pos, not, cond, ◌==◌, ◌||◌, length, arith, subst, ◌*◌, ◌≤◌, ◌^◌, ℤ}
 use Rattle.std.specs.Prelude.{◌+ℤ◌}
-use Rattle.std.proofs.lemmas.Bool.{false≢true}
+use Rattle.std.specs.List.{All, list_any}
+use Rattle.std.specs.Option.{is_some}
+use Rattle.std.proofs.lemmas.List.Elements.{All-head, All-tail}
+use Rattle.std.proofs.lemmas.Bool.{false≢true, ne_eqb}
+use Rattle.block_layout.specs.Cells.{same_cells}
+use Rattle.block_layout.specs.declared.run_error.TheConstants.{NULL_ACCESS, OUT_OF_OBJECT, PRIVATE_RANGE, CELL_TYPE}
 use Rattle.block_layout.specs.declared.place.LocalPtr.TheVariants.{Private}
 use Rattle.block_layout.specs.declared.kind.Kind.{Kind}
-use Rattle.block_layout.specs.declared.kind.Kind.TheVariants.{Char}
 use Rattle.block_layout.specs.declared.kind.Shape.{Shape}
 use Rattle.upc_values.specs.declared.scalar.Scalar.{Scalar}
 use Rattle.upc_values.specs.declared.action.Reply.{Reply}
@@ -15,11 +17,18 @@ use Rattle.upc_values.specs.declared.action.Reply.TheVariants as reply
 use Rattle.upc_values.specs.Views.{location_behind}
 use Rattle.upc_values.specs.Copying as said
 use Rattle.upc_values.specs.Copying.{Nowhere, In_shared, In_private}
-use Rattle.upc_values.specs.Expansion.{Expansion, Reads, Loads, bind, each_in_turn, unless_refused}
+use Rattle.upc_values.specs.Expansion.{Expansion, Reads, Loads, nothing, bind, each_in_turn, refused_by, unless_refused}
 use Rattle.upc_values.specs.Expansion.{after_reply, value_in}
 use Rattle.upc_library.specs.layer.Walks.{Source, From, Filled, rest_of, replies_of, written, one, all}
 use Rattle.upc_library.specs.layer.Spots.{IsRoomFor}
-use Rattle.upc_library.specs.code.Areas.{area_in, HasSharedRoom, HasPrivateRoom}
+use Rattle.upc_library.specs.code.Areas.{area_in, AreCommon, HasSharedRoom, HasPrivateRoom}
+use Rattle.upc_library.specs.code.Cursors.{coming}
+use Rattle.upc_library.specs.code.Kept.{IsSource, IsWalk}
+use Rattle.upc_library.specs.declared.copying.Source as held
+use Rattle.upc_library.specs.declared.copying.Source.TheVariants as source
+use Rattle.upc_values.specs.Shapes.{is_integer}
+use Rattle.upc_library.proofs.Compared.{all_integers}
+use Rattle.upc_library.proofs.NextCell.{cells_below}
 use Rattle.upc_library.specs.declared.areas.Area.{Area}
 use Rattle.upc_library.specs.declared.areas.Area.TheVariants as area
 use Rattle.std.proofs.lemmas.Int.{ints}
@@ -91,34 +100,126 @@ pub fill_done : (dst : said.Area) (byte : ℕ) (c : ℕ × Kind) (cs : List (ℕ
 fill_done dst byte c cs r h g =
     written_behind dst c (said.filled byte c.1) (all dst (Filled byte) cs) r h g
 
--- ---- cells in a list
+-- ---- the next cell, and those after it
 
-some_cell : ℕ × Kind
-some_cell = (0, Char)
+pub behind_value : (cell : Option (ℕ × Kind)) (others next : List (ℕ × Kind)) (dst : said.Area) (src : Source)
+    (value : Option Scalar) (v : Scalar) (r : Reply) → is_some cell ≡ true → next ≡ others → value ≡ Some v
+    → said.is_nowhere dst ≡ false → is_refusal r ≡ false
+    → rest_of None dst src next ≡ after_reply (rest_of value dst src (coming cell others)) r
+behind_value None others next dst src value v r some e w h g = absurd (false≢true some)
+behind_value (Some c) others next dst src value v r some e w h g =
+    ap (rest_of None dst src) e ∙ cell_done dst src c others v r h g
+    ∙ ap (λ o. after_reply (rest_of o dst src (c ∷ others)) r) (sym w)
 
-pub behind_value : (i : ℕ) (cs : List (ℕ × Kind)) (dst : said.Area) (src : Source) (value : Option Scalar) (v : Scalar)
-    (r : Reply) → i < length cs → value ≡ Some v → said.is_nowhere dst ≡ false → is_refusal r ≡ false
-    → rest_of None dst src (drop (i + 1) cs) ≡ after_reply (rest_of value dst src (drop i cs)) r
-behind_value i cs dst src value v r lt e h g =
-    rw add-one (cell_done dst src (slice_index_or cs i some_cell) (drop (suc i) cs) v r h g
-    ∙ ap (λ l. after_reply (rest_of (Some v) dst src l) r) (sym (drop-cons cs i some_cell lt))
-    ∙ ap (λ o. after_reply (rest_of o dst src (drop i cs)) r) (sym e))
+pub behind_byte : (cell : Option (ℕ × Kind)) (others next : List (ℕ × Kind)) (dst : said.Area) (src : Source)
+    (value : Option Scalar) (byte : ℕ) (r : Reply) → is_some cell ≡ true → next ≡ others → value ≡ None
+    → src ≡ Filled byte → said.is_nowhere dst ≡ false → is_refusal r ≡ false
+    → rest_of value dst src next ≡ after_reply (rest_of value dst src (coming cell others)) r
+behind_byte None others next dst src value byte r some e w s h g = absurd (false≢true some)
+behind_byte (Some c) others next dst src value byte r some e w s h g =
+    ap (λ (o : Option Scalar). rest_of o dst src next) w ∙ ap (λ (z : Source). rest_of None dst z next) s
+    ∙ ap (rest_of None dst (Filled byte)) e ∙ fill_done dst byte c others r h g
+    ∙ ap (λ (z : Source). after_reply (rest_of None dst z (c ∷ others)) r) (sym s)
+    ∙ ap (λ (o : Option Scalar). after_reply (rest_of o dst src (c ∷ others)) r) (sym w)
 
-pub behind_byte : (i : ℕ) (cs : List (ℕ × Kind)) (dst : said.Area) (src : Source) (value : Option Scalar) (byte : ℕ)
-    (r : Reply) → i < length cs → value ≡ None → src ≡ Filled byte → said.is_nowhere dst ≡ false
-    → is_refusal r ≡ false
-    → rest_of value dst src (drop (i + 1) cs) ≡ after_reply (rest_of value dst src (drop i cs)) r
-behind_byte i cs dst src value byte r lt e s h g =
-    rw (add-one, e, s) (fill_done dst byte (slice_index_or cs i some_cell) (drop (suc i) cs) r h g
-    ∙ ap (λ l. after_reply (rest_of None dst (Filled byte) l) r) (sym (drop-cons cs i some_cell lt)))
+pub falls_value : (cell : Option (ℕ × Kind)) (others next : List (ℕ × Kind)) (value : Option Scalar) (v : Scalar)
+    → is_some cell ≡ true → next ≡ others → value ≡ Some v
+    → 2 * length next < replies_of value (coming cell others)
+falls_value None others next value v some e w = absurd (false≢true some)
+falls_value (Some c) others next value v some e w = rw (w, e) (omega arith)
 
-pub falls_value : (i : ℕ) (cs : List (ℕ × Kind)) (value : Option Scalar) (v : Scalar) → i < length cs
-    → value ≡ Some v → 2 * length (drop (i + 1) cs) < replies_of value (drop i cs)
-falls_value i cs value v lt e = rw (add-one, e, drop-cons cs i some_cell lt) (omega arith)
+pub falls_byte : (cell : Option (ℕ × Kind)) (others next : List (ℕ × Kind)) (value : Option Scalar)
+    → is_some cell ≡ true → next ≡ others → value ≡ None
+    → replies_of value next < replies_of value (coming cell others)
+falls_byte None others next value some e w = absurd (false≢true some)
+falls_byte (Some c) others next value some e w = rw (w, e) (omega arith)
 
-pub falls_byte : (i : ℕ) (cs : List (ℕ × Kind)) (value : Option Scalar) → i < length cs → value ≡ None
-    → replies_of value (drop (i + 1) cs) < replies_of value (drop i cs)
-falls_byte i cs value lt e = rw (add-one, e, drop-cons cs i some_cell lt) (omega arith)
+-- What holds of each cell holds of each that is left after the next.
+pub all_behind : (P : ℕ × Kind → Type 0) (cell : Option (ℕ × Kind)) (others next : List (ℕ × Kind))
+    → is_some cell ≡ true → next ≡ others → All P (coming cell others) → All P next
+all_behind P None others next some e h = absurd (false≢true some)
+all_behind P (Some c) others next some e h = subst (All P) (sym e) (All-tail P c others h)
+
+-- So what is kept of a memory call is.
+pub walk_behind : (n : ℕ) (dst : Area) (src : held.Source) (cell : Option (ℕ × Kind)) (others next : List (ℕ × Kind))
+    → is_some cell ≡ true → next ≡ others → IsWalk n dst src (coming cell others) → IsWalk n dst src next
+walk_behind n dst src cell others next some e h = record {
+  into = h.into;
+  from = source_behind src h.from;
+  within = all_behind (λ c. c.0 < n) cell others next some e h.within;
+}
+  where
+    source_behind : (s : held.Source) → IsSource n s (coming cell others) → IsSource n s next
+    source_behind (source.Area a) k = k
+    source_behind (source.Byte b) k = all_behind (λ c. is_integer c.1 ≡ true) cell others next some e k
+
+-- What is kept of a memory call as it begins.
+pub copy_begun : (t : ℕ) (s : List Shape) (p : Option Shape) (n : ℕ) (dst src : Area) (cells : List (ℕ × Kind))
+    → AreCommon t s p n (area_in dst) (area_in src) (Some cells)
+    → said.is_nowhere (area_in dst) ≡ false → said.is_nowhere (area_in src) ≡ false
+    → HasSharedRoom n dst → HasSharedRoom n src → HasPrivateRoom n dst → HasPrivateRoom n src
+    → IsWalk n dst (source.Area src) cells
+copy_begun t s p n dst src cells h d e a b x y = record {
+  into = record { somewhere = d; room = record { shared = a; private = x } };
+  from = record { somewhere = e; room = record { shared = b; private = y } };
+  within = subst (All (λ c. c.0 < n)) (sym h.1)
+      (cells_below (said.shape_in t s p (area_in dst)) (said.first_byte t s p (area_in dst)) n);
+}
+
+pub fill_begun : (t : ℕ) (s : List Shape) (p : Option Shape) (n : ℕ) (dst : Area) (byte : ℕ) (cells : List (ℕ × Kind))
+    → cells ≡ said.cells t s p n (area_in dst) → said.is_nowhere (area_in dst) ≡ false
+    → HasSharedRoom n dst → HasPrivateRoom n dst
+    → list_any (λ c. not (is_integer c.1)) (said.cells t s p n (area_in dst)) ≡ false → IsWalk n dst (source.Byte byte) cells
+fill_begun t s p n dst byte cells h d a x i = record {
+  into = record { somewhere = d; room = record { shared = a; private = x } };
+  from = subst (All (λ c. is_integer c.1 ≡ true)) (sym h) (all_integers (said.cells t s p n (area_in dst)) i);
+  within = subst (All (λ c. c.0 < n)) (sym h)
+      (cells_below (said.shape_in t s p (area_in dst)) (said.first_byte t s p (area_in dst)) n);
+}
+
+-- The next cell of a memory call begins among its bytes, and is an integer where one byte fills all.
+pub next_inside : (n : ℕ) (dst : Area) (src : held.Source) (cell : Option (ℕ × Kind)) (others : List (ℕ × Kind)) (c : ℕ × Kind)
+    → IsWalk n dst src (coming cell others) → cell ≡ Some c → c.0 < n
+next_inside n dst src cell others c h e =
+    All-head (λ d. d.0 < n) c others (subst (λ (o : Option (ℕ × Kind)). All (λ d. d.0 < n) (coming o others)) e h.within)
+
+pub next_integer : (n : ℕ) (dst : Area) (src : held.Source) (byte : ℕ) (cell : Option (ℕ × Kind)) (others : List (ℕ × Kind))
+    (c : ℕ × Kind) → IsWalk n dst src (coming cell others) → src ≡ source.Byte byte → cell ≡ Some c → is_integer c.1 ≡ true
+next_integer n dst src byte cell others c h f e =
+    All-head (λ d. is_integer d.1 ≡ true) c others
+    (subst (λ (o : Option (ℕ × Kind)). All (λ d. is_integer d.1 ≡ true) (coming o others)) e
+    (subst (λ s. IsSource n s (coming cell others)) f h.from))
+
+-- A memory call that nothing refuses does what is done for each cell.
+passed : (z a b c d : Bool) (j k l m : ℕ) (x : Expansion (Unit {0})) → z ≡ false → a ≡ false → b ≡ false → c ≡ false → d ≡ false
+    → x ≡ cond z nothing (refused_by ((a, j) ∷ (b, k) ∷ (c, l) ∷ (d, m) ∷ []) x)
+passed z a b c d j k l m x e f g h i = rw (e, f, g, h, i) refl
+
+pub copy_made : (t : ℕ) (s : List Shape) (p : Option Shape) (n : ℕ) (dst src : said.Area) (cells : List (ℕ × Kind)) → 0 < n
+    → (said.is_nowhere dst || said.is_nowhere src) ≡ false
+    → (said.leaves_shared t s p n dst || said.leaves_shared t s p n src) ≡ false
+    → (said.leaves_private t s p n dst || said.leaves_private t s p n src) ≡ false
+    → AreCommon t s p n dst src (Some cells) → all dst (From src) cells ≡ said.copy t s p dst src n
+copy_made t s p n dst src cells some a b c h =
+    copies_alike t s p dst src cells ∙ ap (each_in_turn (said.copied t s p dst src)) h.1
+    ∙ passed (n == 0) (said.is_nowhere dst || said.is_nowhere src) (said.leaves_shared t s p n dst || said.leaves_shared t s p n src)
+    (said.leaves_private t s p n dst || said.leaves_private t s p n src)
+    (said.is_cut t s p n dst || (said.is_cut t s p n src || not (same_cells (said.cells t s p n dst) (said.cells t s p n src))))
+    NULL_ACCESS OUT_OF_OBJECT PRIVATE_RANGE CELL_TYPE (each_in_turn (said.copied t s p dst src) (said.cells t s p n dst))
+    (ne_eqb n 0 (λ e. omega arith)) a b c h.0
+
+pub fill_made : (t : ℕ) (s : List Shape) (p : Option Shape) (n : ℕ) (dst : said.Area) (byte : ℕ) (cells : List (ℕ × Kind))
+    → 0 < n → said.is_nowhere dst ≡ false → said.leaves_shared t s p n dst ≡ false → said.leaves_private t s p n dst ≡ false
+    → said.is_cut t s p n dst ≡ false → list_any (λ x. not (is_integer x.1)) (said.cells t s p n dst) ≡ false
+    → cells ≡ said.cells t s p n dst → all dst (Filled byte) cells ≡ said.set t s p dst byte n
+fill_made t s p n dst byte cells some a b c d i h =
+    let each = λ (x : ℕ × Kind). said.written t s p dst x (said.filled byte x.1) in
+    fills_alike t s p dst byte cells ∙ ap (each_in_turn each) h
+    ∙ passed (n == 0) (said.is_nowhere dst) (said.leaves_shared t s p n dst) (said.leaves_private t s p n dst)
+    (said.is_cut t s p n dst || list_any (λ x. not (is_integer x.1)) (said.cells t s p n dst))
+    NULL_ACCESS OUT_OF_OBJECT PRIVATE_RANGE CELL_TYPE (each_in_turn each (said.cells t s p n dst))
+    (ne_eqb n 0 (λ e. omega arith)) a b c
+    (ap (λ b. b || list_any (λ x. not (is_integer x.1)) (said.cells t s p n dst)) d ∙ i)
 
 -- ---- room
 

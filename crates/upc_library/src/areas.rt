@@ -2,8 +2,8 @@
 
 ghost use Rattle.std.specs.Prelude.{◌≡◌, ◌<◌, ◌≤◌, ◌^◌, ◌-◌, ◌/◌, ◌||◌, not, false, true, []};
 ghost use Rattle.std.specs.Prelude.{None, IfOk, IfSome};
-ghost use Rattle.std.specs.Option.{option_copied, option_map};
-ghost use Rattle.std.specs.List.{All, list_any};
+ghost use Rattle.std.specs.Option.{option_copied};
+ghost use Rattle.std.specs.List.{list_any};
 ghost use Rattle.block_layout.specs.Shapes.{IsShape, kind_size};
 ghost use Rattle.upc_values.specs.Views.{shape_at};
 ghost use Rattle.upc_values.specs.Copying as said;
@@ -12,13 +12,14 @@ ghost use Rattle.block_layout.specs.Cells.{same_cells};
 ghost use Rattle.upc_library.specs.code.Areas.{AreCommon, AreShapes, area_in, HasSharedRoom, HasPrivateRoom};
 ghost use Rattle.upc_library.specs.layer.Spots.{IsRoomFor};
 
-use crate::cells::{Cell, are_cells, cells_within, cuts_cell, shape_of};
+use crate::cells::{cells_hold_pointers, cuts_cell, same_cells, shape_of};
 use crate::piece::is_within;
+use crate::range_cells::RangeCells;
 use crate::spot::spot_at;
 use block_layout::{Kind, LocalPtr, Shape, SharedPtr};
 use integers::convert;
 use std::alloc::{AllocError as OutOfMemory, Global};
-use upc_values::{Scalar, is_integer};
+use upc_values::Scalar;
 
 /// Where a range of bytes begins: nowhere, in a shared object, or in a private one.
 #[derive(Clone, Copy)]
@@ -135,17 +136,27 @@ fn shape_at<'a>(caller: &Caller<'a>, p: &SharedPtr) -> Option<&'a Shape>
     shape_of(caller.shapes, p.object.shape)
 }
 
+// The shape of the elements that follow one another in an area.
+fn shape_in<'a>(caller: &Caller<'a>, area: &Area) -> Option<&'a Shape>
+    requires { AreShapes caller.now.shapes.now (option_copied caller.now.private) }
+    ensures value { option_copied result ≡ said.shape_in caller.now.threads caller.now.shapes.now
+        (option_copied caller.now.private) (area_in area.now) }
+    ensures valid { IfSome (option_copied result) IsShape }
+{
+    match area {
+        Area::Nowhere => None,
+        Area::Shared(p) => shape_at(caller, p),
+        Area::Private { .. } => caller.private,
+    }
+}
+
 // Whether a cell is cut at either end.
 pub(crate) fn is_cut(caller: &Caller<'_>, bytes: u64, area: &Area) -> bool
     requires { AreShapes caller.now.shapes.now (option_copied caller.now.private) }
     ensures { result ≡ said.is_cut caller.now.threads caller.now.shapes.now
         (option_copied caller.now.private) bytes (area_in area.now) }
 {
-    match area {
-        Area::Nowhere => false,
-        Area::Shared(p) => cuts_cell(shape_at(caller, p), first_byte(area), bytes),
-        Area::Private { .. } => cuts_cell(caller.private, first_byte(area), bytes),
-    }
+    cuts_cell(shape_in(caller, area), first_byte(area), bytes)
 }
 
 // The cells in so many bytes.
@@ -154,19 +165,22 @@ pub(crate) fn cells(
     caller: &Caller<'_>,
     bytes: u64,
     area: &Area,
-) -> Result<Vec<Cell>, OutOfMemory>
+) -> Result<RangeCells, OutOfMemory>
     requires shapes { AreShapes caller.now.shapes.now (option_copied caller.now.private) }
     requires few { bytes ≤ 2 ^ 32 }
-    ensures cells { IfOk result (λ cells. cells.items
-        ≡ said.cells caller.now.threads caller.now.shapes.now
+    ensures { IfOk result (λ cells. cells ≡ said.cells caller.now.threads caller.now.shapes.now
         (option_copied caller.now.private) bytes (area_in area.now)) }
-    ensures within { IfOk result (λ cells. All (λ c. c.0 < bytes) cells.items) }
 {
-    match area {
-        Area::Nowhere => cells_within(alloc, None, 0, bytes),
-        Area::Shared(p) => cells_within(alloc, shape_at(caller, p), first_byte(area), bytes),
-        Area::Private { .. } => cells_within(alloc, caller.private, first_byte(area), bytes),
-    }
+    RangeCells::of(alloc, shape_in(caller, area), first_byte(area), bytes)
+}
+
+// Whether one of the cells in so many bytes holds a pointer or a lock.
+pub(crate) fn hold_pointers(caller: &Caller<'_>, bytes: u64, area: &Area) -> bool
+    requires { AreShapes caller.now.shapes.now (option_copied caller.now.private) }
+    ensures { result ≡ list_any (λ x. not (shapes.is_integer x.1)) (said.cells caller.now.threads
+        caller.now.shapes.now (option_copied caller.now.private) bytes (area_in area.now)) }
+{
+    cells_hold_pointers(shape_in(caller, area), first_byte(area), bytes)
 }
 
 // Whether one of the areas is nowhere.
@@ -200,42 +214,68 @@ pub(crate) fn leave_private(caller: &Caller<'_>, bytes: u64, dst: &Area, src: &A
     leaves_private(caller, bytes, dst) || leaves_private(caller, bytes, src)
 }
 
-// Whether these are the cells in so many bytes.
-fn has_cells(caller: &Caller<'_>, bytes: u64, area: &Area, cells: &[Cell]) -> bool
+// Whether the cells in so many bytes are the same in both areas.
+fn have_same_cells(caller: &Caller<'_>, bytes: u64, dst: &Area, src: &Area) -> bool
     requires { AreShapes caller.now.shapes.now (option_copied caller.now.private) }
-    ensures { result ≡ same_cells cells.now (said.cells caller.now.threads caller.now.shapes.now
-        (option_copied caller.now.private) bytes (area_in area.now)) }
+    ensures { result ≡ same_cells (said.cells caller.now.threads caller.now.shapes.now
+        (option_copied caller.now.private) bytes (area_in dst.now)) (said.cells caller.now.threads
+        caller.now.shapes.now (option_copied caller.now.private) bytes (area_in src.now)) }
 {
-    match area {
-        Area::Nowhere => are_cells(None, 0, bytes, cells),
-        Area::Shared(p) => are_cells(shape_at(caller, p), first_byte(area), bytes, cells),
-        Area::Private { .. } => are_cells(caller.private, first_byte(area), bytes, cells),
+    same_cells(
+        shape_in(caller, dst),
+        first_byte(dst),
+        shape_in(caller, src),
+        first_byte(src),
+        bytes,
+    )
+}
+
+// Whether a cell is cut in one of the areas, or the cells of the two differ.
+fn differ(caller: &Caller<'_>, bytes: u64, dst: &Area, src: &Area) -> bool
+    requires { AreShapes caller.now.shapes.now (option_copied caller.now.private) }
+    ensures { result ≡ (said.is_cut caller.now.threads caller.now.shapes.now
+        (option_copied caller.now.private) bytes (area_in dst.now)
+        || (said.is_cut caller.now.threads caller.now.shapes.now
+        (option_copied caller.now.private) bytes (area_in src.now)
+        || not (same_cells (said.cells caller.now.threads caller.now.shapes.now
+        (option_copied caller.now.private) bytes (area_in dst.now)) (said.cells caller.now.threads
+        caller.now.shapes.now (option_copied caller.now.private) bytes (area_in src.now))))) }
+{
+    is_cut(caller, bytes, dst)
+        || is_cut(caller, bytes, src)
+        || !have_same_cells(caller, bytes, dst, src)
+}
+
+// Whether the elements of the first area are larger than those of the second.
+fn is_larger(caller: &Caller<'_>, area: &Area, other: &Area) -> bool
+    requires { AreShapes caller.now.shapes.now (option_copied caller.now.private) }
+{
+    match (shape_in(caller, area), shape_in(caller, other)) {
+        (Some(shape), Some(other)) => shape.size > other.size,
+        _ => false,
     }
 }
 
-/// The cells of both areas; None where a cell is cut, or they differ in place or kind.
+/// The cells of both areas, kept by the smaller element; None where a cell is cut, or they differ in place or kind.
 pub(crate) fn common_cells(
     alloc: Global,
     caller: &Caller<'_>,
     bytes: u64,
     dst: &Area,
     src: &Area,
-) -> Result<Option<Vec<Cell>>, OutOfMemory>
+) -> Result<Option<RangeCells>, OutOfMemory>
     requires shapes { AreShapes caller.now.shapes.now (option_copied caller.now.private) }
     requires few { bytes ≤ 2 ^ 32 }
-    ensures cells { IfOk result (λ found. AreCommon caller.now.threads caller.now.shapes.now
-        (option_copied caller.now.private) bytes (area_in dst.now) (area_in src.now)
-        (option_map (λ v. v.items) found)) }
-    ensures within { IfOk result (λ found. IfSome found (λ cells. All (λ c. c.0 < bytes) cells.items)) }
+    ensures { IfOk result (λ found. AreCommon caller.now.threads caller.now.shapes.now
+        (option_copied caller.now.private) bytes (area_in dst.now) (area_in src.now) found) }
 {
-    if is_cut(caller, bytes, dst) || is_cut(caller, bytes, src) {
+    if differ(caller, bytes, dst, src) {
         return Ok(None);
     }
-    let cells = cells(alloc, caller, bytes, dst)?;
-    if has_cells(caller, bytes, src, cells.as_slice()) {
-        Ok(Some(cells))
+    if is_larger(caller, dst, src) {
+        Ok(Some(cells(alloc, caller, bytes, src)?))
     } else {
-        Ok(None)
+        Ok(Some(cells(alloc, caller, bytes, dst)?))
     }
 }
 
@@ -258,17 +298,4 @@ pub(crate) fn filled(byte: u8, kind: Kind) -> Scalar
     ensures { result ≡ said.filled byte kind }
 {
     Scalar::Int(convert(i128::from(byte) * i128::from(ones(kind)), kind))
-}
-
-// Whether one of the cells holds a pointer or a lock.
-pub(crate) fn hold_pointers(cells: &[Cell]) -> bool
-    ensures value { result ≡ list_any (λ x. not (shapes.is_integer x.1)) cells.now }
-    ensures inside { result ≡ false → All (λ c. shapes.is_integer c.1 ≡ true) cells.now }
-{
-    for cell in cells {
-        if !is_integer(cell.1) {
-            return true;
-        }
-    }
-    false
 }

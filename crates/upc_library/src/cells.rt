@@ -1,17 +1,19 @@
-//! The cells in a range of bytes, in time in proportion to the bytes.
+//! The cells of elements of a shape that follow one another.
 
-ghost use Rattle.std.specs.Prelude.{◌≡◌, ◌<◌, ◌≤◌, ◌%◌, ◌^◌, ◌↔◌, IfOk, IfSome, IsTrue, Some, slice_get};
+ghost use Rattle.std.specs.Prelude.{ℕ, ◌≡◌, ◌<◌, ◌≤◌, ◌%◌, ◌^◌, ◌↔◌, IfSome, IsTrue, MatchOption, Some, [], not};
+ghost use Rattle.std.specs.Prelude.{slice_get};
 ghost use Rattle.std.specs.Option.{option_copied};
-ghost use Rattle.std.specs.List.{All};
+ghost use Rattle.std.specs.List.{list_any};
 ghost use Rattle.block_layout.specs.Lists.{under};
 ghost use Rattle.block_layout.specs.Shapes.{IsShape};
 ghost use Rattle.block_layout.specs.Cells.{same_cells};
 ghost use Rattle.upc_values.specs.Shapes as shapes;
 ghost use Rattle.upc_values.specs.Views.{cuts, cuts_cell, cells_within};
 ghost use Rattle.upc_library.specs.code.Cursors.{IsCursor, IsPassed, Passes};
+ghost use Rattle.upc_library.specs.code.Ranges.{IsGap, IsNext, is_no_integer};
 
 use block_layout::{CellsIter, Kind, Shape};
-use std::alloc::{AllocError as OutOfMemory, Global};
+use upc_values::is_integer;
 
 /// A cell: how many bytes after the first byte it begins, and its kind.
 pub type Cell = (u32, Kind);
@@ -87,7 +89,7 @@ fn pass<'a>(cursor: &mut Cursor<'a>, shape: &'a Shape) -> Option<Kind>
 }
 
 // The place of a byte in its element.
-fn place_in(shape: &Shape, byte: u128) -> u32
+pub(crate) fn place_in(shape: &Shape, byte: u128) -> u32
     requires { IsShape shape.now }
     ensures value { result ≡ byte % shape.now.size }
     ensures inside { result < shape.now.size }
@@ -95,40 +97,21 @@ fn place_in(shape: &Shape, byte: u128) -> u32
     (byte % u128::from(shape.size)) as u32
 }
 
-// The cells in so many bytes from this one on, where elements of the shape follow one another.
-fn cells_of(alloc: Global, shape: &Shape, byte: u128, bytes: u64) -> Result<Vec<Cell>, OutOfMemory>
+/// The next cell from a place of an element on, where elements of the shape follow one another: how many bytes after the
+/// place it begins, and its kind. The cells before it are not walked. None where the shape has no cell.
+pub(crate) fn next_from(shape: &Shape, place: u32) -> Option<(u64, Kind)>
     requires shape { IsShape shape.now }
-    requires near { byte ≤ 2 ^ 127 }
-    requires few { bytes ≤ 2 ^ 32 }
-    ensures cells { IfOk result (λ cells. cells.items ≡ cells_within (Some shape.now) byte bytes) }
-    ensures within { IfOk result (λ cells. All (λ c. c.0 < bytes) cells.items) }
+    requires inside { place < shape.now.size }
+    ensures { MatchOption result ((n : ℕ) → IsGap shape.now place n) (IsNext shape.now place) }
 {
-    let mut cells = Vec::new(alloc);
-    let mut cursor = at(shape, place_in(shape, byte));
-    for i in 0..bytes {
-        if let Some(kind) = pass(&mut cursor, shape) {
-            cells.push((i as u32, kind))?;
+    let here = at(shape, place);
+    match here.next {
+        Some((start, kind)) => Some((u64::from(start - place), kind)),
+        None => {
+            let further = begin(shape);
+            let (start, kind) = further.next?;
+            Some((u64::from(shape.size - place) + u64::from(start), kind))
         }
-    }
-    Ok(cells)
-}
-
-/// The cells in so many bytes from this one on, where elements of the shape follow one another; none without a shape.
-pub fn cells_within(
-    alloc: Global,
-    shape: Option<&Shape>,
-    byte: u128,
-    bytes: u64,
-) -> Result<Vec<Cell>, OutOfMemory>
-    requires shape { IfSome (option_copied shape) IsShape }
-    requires near { byte ≤ 2 ^ 127 }
-    requires few { bytes ≤ 2 ^ 32 }
-    ensures cells { IfOk result (λ cells. cells.items ≡ cells_within (option_copied shape.entry) byte bytes) }
-    ensures within { IfOk result (λ cells. All (λ c. c.0 < bytes) cells.items) }
-{
-    match shape {
-        Some(shape) => cells_of(alloc, shape, byte, bytes),
-        None => Ok(Vec::new(alloc)),
     }
 }
 
@@ -163,41 +146,100 @@ pub fn cuts_cell(shape: Option<&Shape>, byte: u128, bytes: u64) -> bool
     cuts(shape, byte) || cuts(shape, byte + u128::from(bytes))
 }
 
-// Whether the cell of this number in a list has this place and kind.
-fn is_cell(cells: &[Cell], number: usize, place: u64, kind: Kind) -> bool
-    ensures { IsTrue result ↔ (slice_get cells.now number ≡ Some (place, kind)) }
+// Whether two cells have the same kind, or there is none in either place.
+fn are_alike(a: Option<Kind>, b: Option<Kind>) -> bool
+    ensures { IsTrue result ↔ (a ≡ b) }
 {
-    number < cells.len() && u64::from(cells[number].0) == place && cells[number].1.is(kind)
+    match (a, b) {
+        (Some(a), Some(b)) => a.is(b),
+        (None, None) => true,
+        _ => false,
+    }
 }
 
-// Whether these are the cells in so many bytes from this one on, where elements of the shape follow one another.
-fn are_cells_of(shape: &Shape, byte: u128, bytes: u64, cells: &[Cell]) -> bool
-    requires shape { IsShape shape.now }
-    requires near { byte ≤ 2 ^ 127 }
-    ensures { result ≡ same_cells cells.now (cells_within (Some shape.now) byte bytes) }
+// Whether the cells in so many bytes from one byte on, where elements of a shape follow one another, are in place and
+// kind those from another byte on, where those of another shape do.
+fn same_in_step(a: &Shape, first: u128, b: &Shape, second: u128, bytes: u64) -> bool
+    requires a { IsShape a.now }
+    requires b { IsShape b.now }
+    ensures { result ≡ same_cells (cells_within (Some a.now) first bytes) (cells_within (Some b.now) second bytes) }
 {
-    let mut cursor = at(shape, place_in(shape, byte));
-    let mut done = 0;
+    let mut here = at(a, place_in(a, first));
+    let mut there = at(b, place_in(b, second));
     for i in 0..bytes {
-        if let Some(kind) = pass(&mut cursor, shape) {
-            if !is_cell(cells, done, i, kind) {
-                return false;
-            }
-            done += 1;
+        if !are_alike(pass(&mut here, a), pass(&mut there, b)) {
+            return false;
         }
     }
-    done == cells.len()
+    true
 }
 
-/// Whether these are the cells in so many bytes from this one on, in place and kind. It makes no list.
-pub fn are_cells(shape: Option<&Shape>, byte: u128, bytes: u64, cells: &[Cell]) -> bool
-    requires shape { IfSome (option_copied shape) IsShape }
-    requires near { byte ≤ 2 ^ 127 }
-    ensures { result ≡ same_cells cells.now (cells_within (option_copied shape.entry) byte bytes) }
+// Whether no cell begins in so many bytes from this one on.
+fn is_bare(shape: &Shape, byte: u128, bytes: u64) -> bool
+    requires { IsShape shape.now }
+    ensures { result ≡ same_cells (cells_within (Some shape.now) byte bytes) [] }
+{
+    match next_from(shape, place_in(shape, byte)) {
+        Some((gap, _)) => gap >= bytes,
+        None => true,
+    }
+}
+
+/// Whether the cells in so many bytes from one byte on, where elements of a shape follow one another, are in place and
+/// kind those from another byte on, where those of another shape do; there are none without a shape. Makes no list.
+pub(crate) fn same_cells(
+    a: Option<&Shape>,
+    first: u128,
+    b: Option<&Shape>,
+    second: u128,
+    bytes: u64,
+) -> bool
+    requires a { IfSome (option_copied a) IsShape }
+    requires b { IfSome (option_copied b) IsShape }
+    ensures { result ≡ same_cells (cells_within (option_copied a.entry) first bytes)
+        (cells_within (option_copied b.entry) second bytes) }
+{
+    match (a, b) {
+        (Some(a), Some(b)) => same_in_step(a, first, b, second, bytes),
+        (Some(shape), None) => is_bare(shape, first, bytes),
+        (None, Some(shape)) => is_bare(shape, second, bytes),
+        (None, None) => true,
+    }
+}
+
+// Whether there is a cell, and it holds a pointer or a lock.
+fn holds_pointer(kind: Option<Kind>) -> bool
+    ensures { result ≡ is_no_integer kind }
+{
+    match kind {
+        Some(kind) => !is_integer(kind),
+        None => false,
+    }
+}
+
+// Whether one of the cells in so many bytes from this one on holds a pointer or a lock.
+fn hold_pointers(shape: &Shape, byte: u128, bytes: u64) -> bool
+    requires { IsShape shape.now }
+    ensures { result ≡ list_any (λ x. not (shapes.is_integer x.1)) (cells_within (Some shape.now) byte bytes) }
+{
+    let mut cursor = at(shape, place_in(shape, byte));
+    for i in 0..bytes {
+        if holds_pointer(pass(&mut cursor, shape)) {
+            return true;
+        }
+    }
+    false
+}
+
+/// Whether one of the cells in so many bytes from this one on holds a pointer or a lock; there are none without a shape.
+pub(crate) fn cells_hold_pointers(shape: Option<&Shape>, byte: u128, bytes: u64) -> bool
+    requires { IfSome (option_copied shape) IsShape }
+    ensures { result ≡ list_any (λ x. not (shapes.is_integer x.1))
+        (cells_within (option_copied shape.entry) byte bytes) }
 {
     match shape {
-        Some(shape) => are_cells_of(shape, byte, bytes, cells),
-        None => cells.is_empty(),
+        Some(shape) => hold_pointers(shape, byte, bytes),
+        None => false,
     }
 }
 

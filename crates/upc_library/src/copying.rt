@@ -9,7 +9,8 @@ ghost use Rattle.upc_values.specs.Expansion.{after_reply, value_in, nothing as s
 ghost use Rattle.upc_values.specs.Lists.{Each};
 ghost use Rattle.block_layout.specs.Shapes.{IsShape};
 ghost use Rattle.upc_library.specs.code.Areas.{AreShapes, area_in, HasRooms};
-ghost use Rattle.upc_library.specs.layer.Walks.{rest, behind, replies_left, Falls, written};
+ghost use Rattle.upc_library.specs.code.Kept.{source_in, IsWalk};
+ghost use Rattle.upc_library.specs.layer.Walks.{left, rest, behind, replies_left, Falls, written};
 ghost use Rattle.upc_library.specs.layer.Wishes.{IsWish, Answers, RefusesSo, is_refusal, kind_read, expansion, area_of};
 
 use crate::areas::{
@@ -17,6 +18,7 @@ use crate::areas::{
     leave_private, leave_shared, leaves_private, leaves_shared, local_area, shared_area,
 };
 use crate::cells::Cell;
+use crate::range_cells::RangeCells;
 use crate::spot::spot_at;
 use block_layout::run_error::{CELL_TYPE, NULL_ACCESS, OUT_OF_OBJECT, PRIVATE_RANGE};
 use block_layout::{Kind, LocalPtr, Shape, SharedPtr};
@@ -66,9 +68,9 @@ pub struct Copying {
     dst: Area,
     src: Source,
     bytes: u64,
-    cells: Vec<Cell>,
-    // How many cells are done.
-    at: usize,
+    // The next cell, and those after it.
+    cell: Option<Cell>,
+    others: RangeCells,
     // The value of the next one, once it has come.
     value: Option<Scalar>,
 }
@@ -77,13 +79,13 @@ impl Model for Copying {
     ghost use Rattle.upc_library.specs.layer.Walks.{Left, left};
     ghost use Rattle.upc_library.specs.code.Kept.{source_in, IsWalk};
     ghost use Rattle.upc_library.specs.code.Areas.{area_in};
-    ghost use Rattle.std.specs.Prelude.{drop};
+    ghost use Rattle.upc_library.specs.code.Cursors.{coming};
 
     ghost Value = { Left };
 
-    ghost view = { λ c. left (area_in c.dst) (source_in c.src) (drop c.at c.cells.items) c.value };
+    ghost view = { λ c. left (area_in c.dst) (source_in c.src) (coming c.cell c.others) c.value };
 
-    ghost invariant = { λ c. IsWalk c.bytes c.dst c.src c.cells.items };
+    ghost invariant = { λ c. IsWalk c.bytes c.dst c.src (coming c.cell c.others) };
 }
 
 // The value that a reply gives.
@@ -183,15 +185,15 @@ impl Copying {
         ensures rest { rest self.new ≡ after_reply (rest self.old) reply.now }
         ensures falls { 0 < replies_left self.old → replies_left self.new < replies_left self.old }
     {
-        if self.at < self.cells.len() {
+        if self.cell.is_some() {
             match self.value {
                 Some(_) => {
                     self.value = None;
-                    self.at += 1;
+                    self.cell = self.others.next();
                 }
                 None => match self.src {
                     Source::Area(_) => self.value = Some(value_in(reply)),
-                    Source::Byte(_) => self.at += 1,
+                    Source::Byte(_) => self.cell = self.others.next(),
                 },
             }
         }
@@ -201,10 +203,9 @@ impl Copying {
     pub fn wish(&self) -> CopyWish
         ensures { IsWish (rest self.now) result }
     {
-        if self.at >= self.cells.len() {
+        let Some(cell) = self.cell else {
             return CopyWish::Finished;
-        }
-        let cell = self.cells[self.at];
+        };
         match self.value {
             Some(value) => write(&self.dst, self.bytes, cell, value),
             None => match &self.src {
@@ -218,10 +219,7 @@ impl Copying {
     pub fn reads(&self) -> Option<Kind>
         ensures { result ≡ kind_read (rest self.now) }
     {
-        if self.at >= self.cells.len() {
-            return None;
-        }
-        let cell = self.cells[self.at];
+        let cell = self.cell?;
         match self.value {
             Some(_) => written_kind(&self.dst),
             None => match &self.src {
@@ -242,6 +240,21 @@ impl Copying {
             self.take(reply);
         }
         self.wish()
+    }
+}
+
+// A memory call at the first of these cells.
+fn begun(dst: Area, src: Source, bytes: u64, mut cells: RangeCells) -> Copying
+    requires { IsWalk bytes dst src cells }
+    ensures { result ≡ left (area_in dst) (source_in src) cells None }
+{
+    Copying {
+        dst,
+        src,
+        bytes,
+        cell: cells.next(),
+        others: cells,
+        value: None,
     }
 }
 
@@ -270,17 +283,11 @@ fn copy(
     if leave_private(caller, bytes, &dst, &src) {
         return Err(Refused::Error(PRIVATE_RANGE));
     }
-    let Some(cells) = common_cells(alloc, caller, bytes, &dst, &src)? else {
+    let common = common_cells(alloc, caller, bytes, &dst, &src)?;
+    let Some(cells) = common else {
         return Err(Refused::Error(CELL_TYPE));
     };
-    Ok(Copying {
-        dst,
-        src: Source::Area(src),
-        bytes,
-        cells,
-        at: 0,
-        value: None,
-    })
+    Ok(begun(dst, Source::Area(src), bytes, cells))
 }
 
 // Bytes that are set.
@@ -311,18 +318,11 @@ fn fill(
     if is_cut(caller, bytes, &dst) {
         return Err(Refused::Error(CELL_TYPE));
     }
-    let cells = cells(alloc, caller, bytes, &dst)?;
-    if hold_pointers(cells.as_slice()) {
+    if hold_pointers(caller, bytes, &dst) {
         return Err(Refused::Error(CELL_TYPE));
     }
-    Ok(Copying {
-        dst,
-        src: Source::Byte(byte),
-        bytes,
-        cells,
-        at: 0,
-        value: None,
-    })
+    let cells = cells(alloc, caller, bytes, &dst)?;
+    Ok(begun(dst, Source::Byte(byte), bytes, cells))
 }
 
 // A call of no byte does nothing.
@@ -330,14 +330,7 @@ fn nothing(alloc: Global) -> Copying
     ensures { rest result ≡ said_nothing }
 {
     let null = Area::Shared(SharedPtr::NULL);
-    Copying {
-        dst: null,
-        src: Source::Area(null),
-        bytes: 0,
-        cells: Vec::new(alloc),
-        at: 0,
-        value: None,
-    }
+    begun(null, Source::Area(null), 0, RangeCells::none(alloc))
 }
 
 impl Copying {

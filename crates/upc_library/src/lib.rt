@@ -6,9 +6,10 @@ mod cells;
 mod copying;
 mod piece;
 mod printing;
+mod range_cells;
 mod spot;
 
-pub use cells::{Cell, are_cells, cells_within, cuts_cell, kind_at, shape_of};
+pub use cells::{Cell, cuts_cell, kind_at, shape_of};
 pub use copying::{CopySpec, CopyWish, Copying, Side};
 pub use printing::print_text;
 pub use spot::{Spot, byte_at, element, from_phase_0, spot_at};
