@@ -35,6 +35,14 @@ pub struct Told {
     pub end: ToldEnd,
 }
 
+/// The same, with the ticks that it took.
+#[derive(Drop)]
+pub struct Outcome {
+    pub actions: Actions,
+    pub ticks: u64,
+    pub end: ToldEnd,
+}
+
 // The function main, if there is one.
 #[tactic(auto, using(upc_meaning_work::proofs::Courses::first_main))]
 fn main_of(functions: &[Function]) -> Option<&Function>
@@ -258,8 +266,37 @@ fn progress_of<'r>(
 }
 
 /// The outcome of a thread of a program on these replies, with a budget of ticks, by plain evaluation of its typed
-/// tree: its actions in order, and its end, or the action that it wants next. `Misfit(k)` comes exactly where reply k
-/// does not fit the action that asks for it.
+/// tree: its actions in order, its ticks, and its end, or the action that it wants next. `Misfit(k)` comes exactly where
+/// reply k does not fit the action that asks for it.
+pub fn replay_whole<'p>(
+    alloc: Global,
+    program: &'p Program,
+    thread: u32,
+    replies: &'p [Reply],
+    budget: u64,
+) -> Result<Outcome, OutOfMemory>
+    requires thread { thread < program.now.threads }
+    requires budget { 1 ≤ budget }
+    ensures actions { IfOk result (λ outcome. outcome.actions
+        ≡ (thread_outcome (view_program program.now) thread budget replies.now).actions) }
+    ensures ticks { IfOk result (λ outcome. outcome.ticks
+        ≡ (thread_outcome (view_program program.now) thread budget replies.now).ticks) }
+    ensures end { IfOk result (λ outcome. outcome.«end»
+        ≡ (thread_outcome (view_program program.now) thread budget replies.now).«end») }
+{
+    let setting = setting_of(alloc, program, thread, budget);
+    let progress = progress_of(alloc, program, replies)?;
+    let mut evaluation = beginning(alloc, progress);
+    let end = run_thread(&mut evaluation, setting, main_of(setting.functions))?;
+    let ticks = evaluation.progress.ticks;
+    Ok(Outcome {
+        actions: actions_of(evaluation),
+        ticks,
+        end,
+    })
+}
+
+/// The same without the ticks.
 pub fn replay<'p>(
     alloc: Global,
     program: &'p Program,
@@ -274,12 +311,6 @@ pub fn replay<'p>(
     ensures end { IfOk result (λ told. told.«end»
         ≡ (thread_outcome (view_program program.now) thread ticks replies.now).«end») }
 {
-    let setting = setting_of(alloc, program, thread, ticks);
-    let progress = progress_of(alloc, program, replies)?;
-    let mut evaluation = beginning(alloc, progress);
-    let end = run_thread(&mut evaluation, setting, main_of(setting.functions))?;
-    Ok(Told {
-        actions: actions_of(evaluation),
-        end,
-    })
+    let Outcome { actions, end, .. } = replay_whole(alloc, program, thread, replies, ticks)?;
+    Ok(Told { actions, end })
 }

@@ -5,4 +5,4 @@ mod course;
 mod running;
 mod threads;
 
-pub use course::{Told, replay};
+pub use course::{Outcome, Told, replay, replay_whole};

@@ -42,3 +42,8 @@ module _ (x : Checked) (b : Beginning) (thread budget : ℕ) (replies : List Rep
   told_end is h =
       let coded : Coded ToldEnd = hlevel codes in
       ∥∥₁_elim is (Coded-set coded _ _) (λ same. ap (λ (o : Outcome). o.«end») (sym (so_told same h)))
+
+  pub told_ticks : ∥ b ≡ start_of x ∥₁ → HasTold → τ.ticks ≡ (thread_outcome x thread budget replies).ticks
+  told_ticks is h =
+      let coded : Coded ℕ = hlevel codes in
+      ∥∥₁_elim is (Coded-set coded _ _) (λ same. ap (λ (o : Outcome). o.ticks) (sym (so_told same h)))

@@ -23,14 +23,14 @@ pub enum Stop {
     Memory,
 }
 
-/// Why `read_all` gives no bytes.
+/// Why `read_all` or `read_up_to` gives no bytes.
 #[derive(Clone, Copy, PartialEq, Eq, Debug, Error)]
 pub enum ReadEnd {
     /// A read failed.
     #[error("a read failed")]
     ReadFault,
-    /// There are more bytes than a source may have.
-    #[error("more than {} bytes", crate::SOURCE_LIMIT)]
+    /// There are more bytes than may be read.
+    #[error("too many bytes")]
     TooLong,
     /// There is not enough memory.
     #[error("out of memory")]

@@ -16,4 +16,4 @@ pub use place::{Code, Place, Refusal};
 pub use std::alloc::AllocError as OutOfMemory;
 pub use sure::{SureFiles, SureSink};
 pub use text::Text;
-pub use whole::{SOURCE_LIMIT, put_all, read_all};
+pub use whole::{SOURCE_LIMIT, put_all, read_all, read_up_to};

@@ -24,7 +24,7 @@ use Rattle.upc_values.specs.Copying.{copy, set, shared_area, local_area}
 use Rattle.upc_values.specs.Expansions.{Part, parts, collective}
 use Rattle.upc_values.specs.Calls.{Gather, Gather_all, Exchange}
 use Rattle.upc_values.specs.Views.{byte_at, destination}
-use Rattle.upc_values.specs.code.Collective.{source_byte}
+use Rattle.upc_values.specs.Collective.{source_byte}
 
 -- two threads, no declared objects, elements of type int
 abbrev opening : Opening

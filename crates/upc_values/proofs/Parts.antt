@@ -8,7 +8,7 @@ use Rattle.block_layout.specs.declared.kind.Shape.{Shape}
 use Rattle.upc_values.specs.Lists.{Each}
 use Rattle.upc_values.specs.Calls.{Way, Broadcast, Scatter, Gather, Gather_all, Exchange}
 use Rattle.upc_values.specs.Expansions.{Part, goes, parts}
-use Rattle.upc_values.specs.code.Collective.{source_byte}
+use Rattle.upc_values.specs.Collective.{source_byte}
 
 each-range : {X : Type 0} (P : X → Type 0) (f : ℕ → X) (a n m : ℕ) → a + n ≤ m → ((i : ℕ) → i < m → P (f i)) → Each P (map f (range_with_len a n))
 each-range P f a ℕ.zero m h k = tt

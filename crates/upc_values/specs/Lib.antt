@@ -22,6 +22,8 @@ pub mod Views
 pub mod Copying
 pub mod Reductions
 pub mod Expansions
+pub mod Collective
+pub mod Together
 pub mod Printing
 pub mod LibraryCalls
 pub mod layer

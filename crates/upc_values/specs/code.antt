@@ -1,4 +1,2 @@
 pub mod Chunks
 pub mod Apart
-pub mod Collective
-pub mod Together

@@ -1,6 +1,6 @@
 use Rattle.std.proofs.Common.{◌∙◌, take, arith}
 use Rattle.upc_text.proofs.Pieces.{StandsAt-next}
-use Rattle.upc_text.proofs.whole.read_all.Goals as goal
+use Rattle.upc_text.proofs.whole.read_up_to.Goals as goal
 
 pub loop-chunk-preserved : goal.loop-chunk-preserved
 loop-chunk-preserved g c =

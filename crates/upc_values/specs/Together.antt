@@ -9,7 +9,7 @@ use Rattle.upc_values.specs.declared.action.Action.TheVariants as act
 use Rattle.upc_values.specs.declared.action.Reply.TheVariants.{Done}
 use Rattle.upc_values.specs.declared.journal.Entry.{Entry}
 use Rattle.upc_values.specs.Calls.{Call, Copies, Permutes, Reduces, Reduces_prefixes, call_of}
-use Rattle.upc_values.specs.code.Collective.{HoldsCollective, operand_at}
+use Rattle.upc_values.specs.Collective.{HoldsCollective, operand_at}
 use Rattle.upc_values.specs.Drain.{entries_of}
 use Rattle.upc_values.specs.History.{objects, meets, notifies, all_notified, is_wait, held}
 use Rattle.upc_values.specs.Openings.{Opening, cell_of}

@@ -1,6 +1,6 @@
-use Rattle.std.proofs.Common.{◌≡◌, ◌≤◌, ◌-◌, ℕ, List, vec_len}
+use Rattle.std.proofs.Common.{◌≡◌, ◌≤◌, ◌-◌, ◌+◌, ℕ, List, vec_len}
 use Rattle.upc_text.specs.Outside.{StandsAt}
-use Rattle.upc_text.proofs.whole.read_all.Given as goal
+use Rattle.upc_text.proofs.whole.read_up_to.Given as goal
 
 abbrev pub invariant-loop-chunk : goal.invariant-loop-chunk
 invariant-loop-chunk g l = record {
@@ -10,4 +10,4 @@ invariant-loop-chunk g l = record {
 }
 
 abbrev pub decreases-loop-chunk : goal.decreases-loop-chunk
-decreases-loop-chunk g l = 1048577 - vec_len l.bytes
+decreases-loop-chunk g l = l.most + 1 - vec_len l.bytes

@@ -1,0 +1,14 @@
+pub mod Lists
+pub mod Writing
+pub mod Walking
+pub mod Syncing
+pub mod Locating
+pub mod Going
+pub mod Turning
+pub mod Courses
+pub mod Fronts
+pub mod Numbers
+pub mod Holding
+pub mod Middles
+pub mod Meeting
+pub mod Laws

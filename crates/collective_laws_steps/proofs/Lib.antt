@@ -1,0 +1,13 @@
+pub mod Rows
+pub mod Lists
+pub mod Firsts
+pub mod Performing
+pub mod Moving
+pub mod Ways
+pub mod Copied
+pub mod Numbers
+pub mod Permuted
+pub mod Folds
+pub mod Reduced
+pub mod Values
+pub mod Stays
