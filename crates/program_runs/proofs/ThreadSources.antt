@@ -13,13 +13,16 @@ use Rattle.gen_stmt.specs.layer.Meanings.{MeansProgram}
 use Rattle.upc_task.specs.declared.limits.Limits.{Limits}
 use Rattle.upc_task.specs.layer.Sources.{GivesOutcomes}
 use Rattle.upc_rounds.specs.layer.Openings as rounds
+use Rattle.upc_rounds.proofs.Openings.{kept_opening}
 use Rattle.upc_values.specs.declared.action.Reply.{Reply}
 use Rattle.upc_values.specs.declared.journal.Journal.{Journal}
 use Rattle.upc_values.specs.Outcomes.{Outcome}
+use Rattle.upc_values.specs.Openings.{IsOpening}
 use Rattle.upc_values.specs.Sound.{IsSound}
 use Rattle.upc_values.specs.Ends.{AreSpent}
 use Rattle.upc_values.specs.Waits.{WaitsFollow}
 use Rattle.upc_values.specs.Locks.{LocksExclude}
+use Rattle.collective_laws.proofs.Laws.{collectives_hold}
 use Rattle.order_builder.proofs.Satisfying.{sound-consistent}
 use Rattle.program_runs.specs.Runs.{IsRunOf}
 use Rattle.program_runs.proofs.Begun.{same_opening}
@@ -52,9 +55,12 @@ module _ (program : Program) where
   -- A journal that is sound for what the program keeps is a run of it.
   pub is_run : (l : Limits) (j : Journal) → IsSound (rounds.opening_of program) meaning j
       → (j.threads ≡ l.threads) × (j.budget ≡ l.budget) × (j.actions ≡ l.actions)
-      → WaitsFollow l.threads j.history → LocksExclude j.history → AreSpent l.budget j.strands → IsRunOf parts l j
-  is_run l j ran limits waits locks spent =
+      → WaitsFollow l.threads j.history → LocksExclude j.history → AreSpent l.budget j.strands → 1 ≤ l.budget
+      → IsRunOf parts l j
+  is_run l j ran limits waits locks spent some =
       let sound : IsSound (opening_of parts) meaning j = subst (λ o. IsSound o meaning j) openings_agree ran in
+      let begins : IsOpening (opening_of parts) =
+      subst IsOpening openings_agree (kept_opening (rounds.opening_of program) program.opening) in
       record {
         threads = limits.0;
         budget = limits.1;
@@ -64,4 +70,5 @@ module _ (program : Program) where
         waits = waits;
         locks = locks;
         spent = spent;
+        collectives = (collectives_hold parts).holds j begins sound (subst (λ b. 1 ≤ b) (sym limits.1) some);
       }

@@ -110,19 +110,19 @@ module _ (j : Journal) (f : FollowsBuffers j) where
   own-pairs : (t : ℕ) → Pairwise Placed (own t (record_of j t))
   own-pairs t = subst (Pairwise Placed) (own-is t) (kept t).pairs
 
-  global-only : (o : Operation) → Has (global_order j) o → IsOf j o
+  pub global-only : (o : Operation) → Has (global_order j) o → IsOf j o
   global-only o h =
       let b = below-placed j.history f.below o h in
       let m = has-filter (λ x. x.thread == o.thread) (global_order j) o (eq-eqb o.thread o.thread refl) h in
       let k = subst (λ l. Has l o) (global-own o.thread b ∙ sym (own-is o.thread)) m in
       (b, (kept o.thread).only o k)
 
-  global-has : (o : Operation) → IsOf j o → Has (global_order j) o
+  pub global-has : (o : Operation) → IsOf j o → Has (global_order j) o
   global-has o q =
       let k = subst (λ l. Has l o) (own-is o.thread ∙ sym (global-own o.thread q.0)) ((kept o.thread).has o q.1) in
       (filter-has (λ x. x.thread == o.thread) (global_order j) o k).0
 
-  global-distinct : Distinct (global_order j)
+  pub global-distinct : Distinct (global_order j)
   global-distinct =
       distinct-classes (λ o n. o.thread == n) (λ o. o.thread) (λ o. eq-eqb o.thread o.thread refl) (global_order j)
       (λ a m.
@@ -130,7 +130,7 @@ module _ (j : Journal) (f : FollowsBuffers j) where
       (pairs-weaker Placed (λ x y. x ≢ y) (λ x y p e. p.0 (ap rank e)) (own a.thread (record_of j a.thread)) (own-pairs a.thread)))
 
   -- two operations of one thread in the global order
-  global-placed : (t : ℕ) (a b : Operation) → t < j.threads → a.thread ≡ t → b.thread ≡ t → Precedes (global_order j) a b → Placed a b
+  pub global-placed : (t : ℕ) (a b : Operation) → t < j.threads → a.thread ≡ t → b.thread ≡ t → Precedes (global_order j) a b → Placed a b
   global-placed t a b h ea eb p =
       pairs-at Placed (own t (record_of j t)) (own-pairs t) a b
       (subst (λ l. Precedes l a b) (global-own t h)
@@ -142,7 +142,7 @@ module _ (j : Journal) (f : FollowsBuffers j) where
   or_swap false true z h = refl
   or_swap false false z h = absurd (false≢true h)
 
-  written-precedes : (a b : Operation) → IsOf j a → IsOf j b → a.thread ≡ b.thread → (a.strict || b.strict) ≡ true → rank a < rank b → Precedes (global_order j) a b
+  pub written-precedes : (a b : Operation) → IsOf j a → IsOf j b → a.thread ≡ b.thread → (a.strict || b.strict) ≡ true → rank a < rank b → Precedes (global_order j) a b
   written-precedes a b x y e s h =
       let n : a ≢ b = λ q. let r = ap rank q in omega arith in
       elim (precedes-total (global_order j) a b n (global-has a x) (global-has b y)) [
@@ -227,7 +227,7 @@ answered o before rest t (Read l s) r h =
 answered o before rest t (Write s l v) r h = cc
 answered o before rest t a r h = tt
 
-all-answered : (o : Opening) (before es whole : List Entry) → before ++ es ≡ whole → IsLegalFrom o before es → AreAnsweredFrom (begins o whole) before es
+pub all-answered : (o : Opening) (before es whole : List Entry) → before ++ es ≡ whole → IsLegalFrom o before es → AreAnsweredFrom (begins o whole) before es
 all-answered o before [] whole q h = tt
 all-answered o before (e ∷ es) whole q h = (
   subst (λ z. IsAnswered (begins o z) before e.action e.reply) q (answered o before (e ∷ es) e.thread e.action e.reply h.0),

@@ -26,7 +26,7 @@ made-none (Meet c args) b e = cc
 made-none a true e = refl
 made-none a false e = refl
 
-none-picked : (before es : List Entry) → Each (λ e. is_maker e.action ≡ false) es → picked_from (λ b e. makes e.action (led b e)) before es ≡ []
+pub none-picked : (before es : List Entry) → Each (λ e. is_maker e.action ≡ false) es → picked_from (λ b e. makes e.action (led b e)) before es ≡ []
 none-picked before [] h = refl
 none-picked before (e ∷ es) h =
     cond-false (makes e.action (led before e)) (e ∷ picked_from (λ b x. makes x.action (led b x)) (before ++ e ∷ []) es)

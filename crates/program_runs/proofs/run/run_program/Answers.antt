@@ -20,7 +20,8 @@ returns-clause-ran g c =
     gives_outcomes program c.in_ok-code.code c.args.limits c.in_ok-code.ensures.means c.requires.budget.0 in
     record {
       run =
-          is_run program c.args.limits journal (ran.sound (meaning program) gives) ran.limits ran.waits ran.locks ran.spent;
+          is_run program c.args.limits journal (ran.sound (meaning program) gives) ran.limits ran.waits ran.locks
+          ran.spent c.requires.budget.0;
       rounds =
           subst (λ o. EndsInTime o (meaning program) journal) (openings_agree program) (ran.rounds (meaning program) gives);
     }

@@ -18,6 +18,6 @@ returns-clause-ran g c =
     record {
       run =
           is_run program c.args.limits c.in_ok-journal.journal (ran.sound (meaning program) gives) ran.limits ran.waits
-          ran.locks ran.spent;
+          ran.locks ran.spent c.requires.budget.0;
       course = ran.course;
     }
