@@ -1,0 +1,5 @@
+pub mod Alone
+pub mod Linking
+pub mod Knowing
+pub mod Telling
+pub mod Racing

@@ -1,0 +1,62 @@
+-- The operations of a journal in the order of the history, each with what its thread knows where it stands.
+use Rattle.std.specs.Prelude.{ℕ, ◌≡◌, ◌+◌, ◌==◌, ◌↔◌, nat_le, nat_lt, max, Bool, true, not, ◌&&◌, ◌||◌, cond}
+use Rattle.std.specs.Prelude.{List, [], ◌∷◌, ◌++◌, map}
+use Rattle.upc_values.specs.declared.journal.Entry.{Entry}
+use Rattle.upc_values.specs.declared.journal.Journal.{Journal}
+use Rattle.upc_values.specs.Lists.{Has, Precedes}
+use Rattle.upc_values.specs.Operations.{Operation}
+use Rattle.upc_values.specs.Orders.{placed, global_order}
+use Rattle.upc_values.specs.Consistent.{same_place}
+use Rattle.race_report.specs.code.Races.{Race}
+use Rattle.race_report.specs.code.Serial.{IsRun}
+use Rattle.race_report_clocks.specs.code.Clocks.{Clock, Clocks, known, silent, advanced}
+
+-- An operation with what its thread knows of each thread where it stands.
+pub record Sight : Type 0 where
+  pub operation : Operation
+  pub known : Clock
+
+-- These operations, with what is known there.
+abbrev pub seen_with : Clock → List Operation → List Sight
+seen_with k os = map (λ o. record { operation = o; known = k }) os
+
+-- The operations in the places of these entries, which stand after others that made these clocks.
+abbrev pub sights_from : Journal → List Entry → Clocks → List Entry → List Sight
+sights_from j before c [] = []
+sights_from j before c (e ∷ es) =
+    seen_with (known before c e) (placed j e) ++ sights_from j (before ++ e ∷ []) (advanced before c e) es
+
+-- The operations of a journal in the order of the history, each with what is known there.
+abbrev pub sights : Journal → List Sight
+sights j = sights_from j [] silent j.history
+
+-- Two operations are of different threads and at one place, one of them is a write, and one of them is relaxed.
+abbrev pub might_race : Operation → Operation → Bool
+might_race a b =
+    not (a.thread == b.thread)
+    && (same_place a.place b.place && ((a.write || b.write) && not (a.strict && b.strict)))
+
+-- An operation races with an earlier one: they might race, and the earlier one's number is not below what is known.
+abbrev pub shows_race : Sight → Sight → Bool
+shows_race a b =
+    might_race a.operation b.operation && nat_le (b.known a.operation.thread) a.operation.index
+
+-- The sights are the operations in the order of the history, and show just which of them race.
+pub record ShowRaces (j : Journal) : Type 0 where
+  pub whole : map (λ s. s.operation) (sights j) ≡ global_order j
+  pub exact :
+      (a b : Sight) → Precedes (sights j) a b → (Race j a.operation b.operation ↔ (shows_race a b ≡ true))
+
+-- The sights of every run are so.
+abbrev pub SightsShowRaces : Type 0
+SightsShowRaces = (j : Journal) → IsRun j → ShowRaces j
+
+-- One more than the greatest number of an operation of thread u among these that might race with b; 0 if there is none.
+abbrev pub nearest : Operation → ℕ → List Sight → ℕ
+nearest b u [] = 0
+nearest b u (a ∷ before) =
+    max (cond ((a.operation.thread == u) && might_race a.operation b) (a.operation.index + 1) 0) (nearest b u before)
+
+-- A thread has an operation among these with which this one races.
+abbrev pub is_raced : Sight → ℕ → List Sight → Bool
+is_raced b u before = nat_lt (b.known u) (nearest b.operation u before)

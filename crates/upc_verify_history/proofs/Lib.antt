@@ -1,0 +1,3 @@
+pub mod Deadlocks
+pub mod Playing
+pub mod Unlocked
