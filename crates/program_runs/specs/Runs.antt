@@ -12,7 +12,7 @@ use Rattle.source_meaning.specs.Laws.{opening_of}
 use Rattle.source_meaning.specs.Threads.{thread_outcome}
 use Rattle.order_builder.specs.Named.{AreConsistentOrders, orders_of}
 use Rattle.upc_task.specs.declared.limits.Limits.{Limits}
-use Rattle.upc_rounds.specs.Rounds.{EndsInTime}
+use Rattle.upc_rounds_teams.specs.Rounds.{EndsInTime}
 
 -- The journal is a sound run of the program within these limits: each thread's record is what its source gives on the
 -- recorded replies, and one legal history takes these records as the write buffers drain. The strict order and the

@@ -1,4 +1,1 @@
-pub mod Reach
-pub mod Races
-pub mod Serial
 pub mod Own

@@ -14,14 +14,14 @@ use Rattle.upc_values.specs.Drain.{commits}
 use Rattle.upc_values.specs.Consistent.{FollowsBuffers, same_place}
 use Rattle.upc_values.proofs.Membership.{has-cases, each-has, each-append, each-weaker, precedes-strict, precedes-trans}
 use Rattle.upc_values.proofs.Own.{IsNew, new-item}
-use Rattle.race_report.specs.code.Reach.{ComesBefore, As_written, Across, Through}
+use Rattle.race_report.specs.layer.Reach.{ComesBefore, As_written, Across, Through}
 use Rattle.race_report.proofs.Lists.{has-flat, flat-precedes}
 use Rattle.race_report.proofs.Global.{global-only, global-distinct, global-placed}
 use Rattle.race_report.proofs.Covering.{placed-own}
 use Rattle.race_report.proofs.Bridging.{Written}
 use Rattle.race_report_clocks.specs.declared.channel.Channel.{Channel}
-use Rattle.race_report_clocks.specs.code.Channels.{telling, hearing, is_linked}
-use Rattle.race_report_clocks.specs.code.Knowing.{Knows, Itself, By_own, By_other}
+use Rattle.race_report_clocks.specs.layer.Channels.{telling, hearing, is_linked}
+use Rattle.race_report_clocks.specs.layer.Knowing.{Knows, Itself, By_own, By_other}
 use Rattle.race_report_clocks.proofs.Splits.{At, places, at-has, at-inner, at-precedes}
 use Rattle.race_report_bridge.proofs.Alone.{IsPut, placed-alone, placed-thread}
 use Rattle.race_report_bridge.proofs.Linking.{Link, linked-link, link-has, link-only, relaxed-unlinked, Joined, joined-releases, releases-joined}

@@ -6,12 +6,12 @@ use Rattle.upc_values.specs.Lists.{Precedes}
 use Rattle.upc_values.specs.Operations.{Operation}
 use Rattle.upc_values.specs.Orders.{IsOf, rank, global_order, strict_list}
 use Rattle.upc_values.proofs.Membership.{pairs-from, pairs-at, precedes-trans, precedes-filter, filter-precedes, Distinct}
-use Rattle.race_report.specs.code.Reach.{ComesBefore}
-use Rattle.race_report.specs.code.Serial.{IsRun}
+use Rattle.race_report.specs.layer.Reach.{ComesBefore}
+use Rattle.race_report.specs.layer.Serial.{IsRun}
 use Rattle.race_report.proofs.Global.{global-distinct, written-precedes}
 use Rattle.race_report.proofs.Bridging.{Written, AtOrBefore, IsStrict, Way, Bridge, KeepsStrict, bridged}
 use Rattle.race_report.proofs.Crossing.{crosses}
-use Rattle.race_report_bridge.specs.code.Telling.{ClocksTell, ComesForward}
+use Rattle.race_report_bridge.specs.layer.Telling.{ClocksTell, ComesForward}
 use Rattle.race_report_clocks.proofs.Splits.{At}
 use Rattle.race_report_clocks.proofs.Holding.{all-held}
 use Rattle.race_report_bridge.proofs.Knowing.{knows-comes, comes-knows}

@@ -1,6 +1,6 @@
 //! What the clocks of a history tell of its operations.
 
-ghost use Rattle.race_report_bridge.specs.code.Telling.{ClocksTell, ComesForward, ClocksShowRaces};
+ghost use Rattle.race_report_bridge.specs.layer.Telling.{ClocksTell, ComesForward, ClocksShowRaces};
 
 /// A law: an operation on a location comes before one of another thread just where the clocks say so.
 pub fn clocks_tell_what_comes_before()

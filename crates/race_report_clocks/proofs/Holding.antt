@@ -5,9 +5,9 @@ use Rattle.upc_values.specs.declared.journal.Entry.{Entry}
 use Rattle.upc_values.proofs.Sameness.{same_loc-true, same_loc-itself}
 use Rattle.race_report_clocks.specs.declared.channel.Channel.{Channel}
 use Rattle.race_report_clocks.specs.declared.channel.Channel.TheVariants as over
-use Rattle.race_report_clocks.specs.code.Channels.{same_channel, telling, hearing, is_linked}
-use Rattle.race_report_clocks.specs.code.Clocks.{Clocks, silent, heard, added, known, is_over, advanced, clocks_from, clocks}
-use Rattle.race_report_clocks.specs.code.Knowing.{Knows, Itself, By_own, By_other, ClocksHold}
+use Rattle.race_report_clocks.specs.layer.Channels.{same_channel, telling, hearing, is_linked}
+use Rattle.race_report_clocks.specs.layer.Clocks.{Clocks, silent, heard, added, known, is_over, advanced, clocks_from, clocks}
+use Rattle.race_report_clocks.specs.layer.Knowing.{Knows, Itself, By_own, By_other, ClocksHold}
 use Rattle.race_report_clocks.proofs.Splits.{At, no-cut, at-more, at-end, at-cases}
 
 -- channels

@@ -1,7 +1,7 @@
 //! Over what an entry of a history lets others go on, or goes on itself.
 
 ghost use Rattle.std.specs.Prelude.{◌≡◌};
-ghost use Rattle.race_report_clocks.specs.code.Channels.{telling_by, hearing_by};
+ghost use Rattle.race_report_clocks.specs.layer.Channels.{telling_by, hearing_by};
 
 use upc_values::{Action, Loc, Reply};
 

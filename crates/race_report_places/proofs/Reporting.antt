@@ -10,8 +10,8 @@ use Rattle.upc_values.specs.Orders.{IsOf, rank, record_of, operations_from, glob
 use Rattle.upc_values.specs.Consistent.{same_place}
 use Rattle.upc_values.proofs.Membership.{has-left, has-right}
 use Rattle.upc_values.proofs.Sameness.{same_loc-true}
-use Rattle.race_report.specs.code.Races.{Race}
-use Rattle.race_report.specs.code.Serial.{IsRun}
+use Rattle.race_report.specs.layer.Races.{Race}
+use Rattle.race_report.specs.layer.Serial.{IsRun}
 use Rattle.race_report.proofs.Lists.{has-map}
 use Rattle.race_report_bridge.proofs.Knowing.{one-action}
 use Rattle.race_report_places.specs.code.Sights.{Sight, sights, shows_race, ShowRaces}

@@ -9,8 +9,8 @@ use Rattle.upc_values.specs.Orders.{global_order}
 use Rattle.upc_values.specs.Consistent.{same_place}
 use Rattle.upc_values.proofs.Membership.{precedes-total}
 use Rattle.upc_values.proofs.Sameness.{same_loc-true, same_loc-itself}
-use Rattle.race_report.specs.code.Races.{Race}
-use Rattle.race_report.specs.code.Serial.{IsRun}
+use Rattle.race_report.specs.layer.Races.{Race}
+use Rattle.race_report.specs.layer.Serial.{IsRun}
 use Rattle.race_report.proofs.Global.{global-has}
 use Rattle.race_report_places.specs.code.Sights.{Sight, sights, might_race, shows_race, ShowRaces, nearest, is_raced}
 use Rattle.race_report_places.specs.code.Report.{IsFirstShown, IsQuiet}

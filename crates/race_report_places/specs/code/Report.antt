@@ -5,8 +5,8 @@ use Rattle.upc_values.specs.declared.journal.Journal.{Journal}
 use Rattle.upc_values.specs.Lists.{Each, Has, Precedes, Pairwise}
 use Rattle.upc_values.specs.Operations.{Operation, Cell}
 use Rattle.upc_values.specs.Orders.{rank, name_of, global_order}
-use Rattle.race_report.specs.code.Races.{Race}
-use Rattle.race_report.specs.code.Serial.{IsRun}
+use Rattle.race_report.specs.layer.Races.{Race}
+use Rattle.race_report.specs.layer.Serial.{IsRun}
 use Rattle.race_report_places.specs.declared.report.RacePair.{RacePair}
 use Rattle.race_report_places.specs.code.Sights.{Sight, sights, shows_race}
 

@@ -7,9 +7,9 @@ use Rattle.upc_values.specs.Lists.{Has, Precedes}
 use Rattle.upc_values.specs.Operations.{Operation}
 use Rattle.upc_values.specs.Orders.{placed, global_order}
 use Rattle.upc_values.specs.Consistent.{same_place}
-use Rattle.race_report.specs.code.Races.{Race}
-use Rattle.race_report.specs.code.Serial.{IsRun}
-use Rattle.race_report_clocks.specs.code.Clocks.{Clock, Clocks, known, silent, advanced}
+use Rattle.race_report.specs.layer.Races.{Race}
+use Rattle.race_report.specs.layer.Serial.{IsRun}
+use Rattle.race_report_clocks.specs.layer.Clocks.{Clock, Clocks, known, silent, advanced}
 
 -- An operation with what its thread knows of each thread where it stands.
 pub record Sight : Type 0 where

@@ -2,8 +2,8 @@
 use Rattle.std.specs.Prelude.{ℕ, ◌≡◌, ◌≤◌, ◌<◌, ◌↔◌, true, List, ◌∷◌, ◌++◌, Some}
 use Rattle.upc_values.specs.declared.journal.Entry.{Entry}
 use Rattle.race_report_clocks.specs.declared.channel.Channel.{Channel}
-use Rattle.race_report_clocks.specs.code.Channels.{telling, hearing, is_linked}
-use Rattle.race_report_clocks.specs.code.Clocks.{known, clocks}
+use Rattle.race_report_clocks.specs.layer.Channels.{telling, hearing, is_linked}
+use Rattle.race_report_clocks.specs.layer.Clocks.{known, clocks}
 
 -- An entry after some others knows of action i of thread u: it is that action or a later one of the thread, and lets
 -- others go on; or a linked entry of its own thread before it knows; or one that it goes on by.

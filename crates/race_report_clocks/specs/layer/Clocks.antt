@@ -2,7 +2,7 @@
 use Rattle.std.specs.Prelude.{ℕ, ◌+◌, ◌==◌, max, Bool, false, cond, List, [], ◌∷◌, ◌++◌, Option, Some, None}
 use Rattle.upc_values.specs.declared.journal.Entry.{Entry}
 use Rattle.race_report_clocks.specs.declared.channel.Channel.{Channel}
-use Rattle.race_report_clocks.specs.code.Channels.{same_channel, telling, hearing}
+use Rattle.race_report_clocks.specs.layer.Channels.{same_channel, telling, hearing}
 
 -- Of each thread: one more than the number of its last action that let others go on and that is known; 0 if none is.
 abbrev pub Clock : Type 0

@@ -7,10 +7,10 @@ use Rattle.upc_values.specs.Lists.{Has, Precedes}
 use Rattle.upc_values.specs.Operations.{Operation, Cell}
 use Rattle.upc_values.specs.Orders.{IsOf, placed, global_order}
 use Rattle.upc_values.specs.Consistent.{same_place}
-use Rattle.race_report.specs.code.Reach.{ComesBefore}
-use Rattle.race_report.specs.code.Races.{Race}
-use Rattle.race_report.specs.code.Serial.{IsRun}
-use Rattle.race_report_clocks.specs.code.Clocks.{known, clocks}
+use Rattle.race_report.specs.layer.Reach.{ComesBefore}
+use Rattle.race_report.specs.layer.Races.{Race}
+use Rattle.race_report.specs.layer.Serial.{IsRun}
+use Rattle.race_report_clocks.specs.layer.Clocks.{known, clocks}
 
 -- An operation on a location comes before one of another thread just where its number is below what is known of its
 -- thread with the entry in whose place the other stands.

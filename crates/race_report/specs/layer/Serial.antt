@@ -14,7 +14,7 @@ use Rattle.upc_values.specs.Waits.{WaitsFollow}
 use Rattle.upc_values.specs.Operations.{Operation}
 use Rattle.upc_values.specs.Orders.{IsOf, rank, name_of, strict_list, operations_of}
 use Rattle.upc_values.specs.Consistent.{IsOrderOf, ReadsLast, FollowsBuffers, begins}
-use Rattle.race_report.specs.code.Races.{IsRaceFree}
+use Rattle.race_report.specs.layer.Races.{IsRaceFree}
 
 -- Of these operations, those before the first strict one.
 abbrev pub until_strict : List Operation → List Operation

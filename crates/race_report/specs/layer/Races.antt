@@ -4,7 +4,7 @@ use Rattle.upc_values.specs.declared.journal.Journal.{Journal}
 use Rattle.upc_values.specs.Operations.{Operation}
 use Rattle.upc_values.specs.Orders.{IsOf}
 use Rattle.upc_values.specs.Consistent.{same_place}
-use Rattle.race_report.specs.code.Reach.{ComesBefore}
+use Rattle.race_report.specs.layer.Reach.{ComesBefore}
 
 -- Two operations of a journal race: they are of different threads and at one place, one of them is a write, one of them
 -- is relaxed, and neither comes before the other.

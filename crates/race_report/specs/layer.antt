@@ -1,0 +1,3 @@
+pub mod Races
+pub mod Reach
+pub mod Serial
