@@ -20,10 +20,16 @@ use upc_meaning_settings::{Runner, is_numeric};
 use upc_text::{OutOfMemory, Place};
 use upc_values::{Action, LibraryCall, Scalar, ToldEnd, Value};
 
+fn is_number(v: &Value) -> bool
+    ensures { IsTrue result → IsNumber (number_of v.now) }
+{
+    is_numeric(v)
+}
+
 pub(crate) fn are_numeric(args: &[Value]) -> bool
     ensures { IsTrue result → All (λ v. IsNumber (number_of v)) args.now }
 {
-    args.iter().all(is_numeric)
+    args.iter().all(is_number)
 }
 
 fn is_exit(call: LibraryCall) -> bool
