@@ -3,7 +3,7 @@ local a = {}
 for i = 0, 99 do a[i] = 0 end
 local x = 0
 for i = 0, 1999999 do
-  a[i % 100] = a[i * 7 % 100] + i % 13
+  a[i % 100] = a[i * 7 % 100] + i % 12
   if a[i % 100] > 1000 then
     a[i % 100] = a[i % 100] - 900
   end
