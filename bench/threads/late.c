@@ -1,6 +1,6 @@
-// Threads that wait at random, for LD_PRELOAD: each before it begins, and each before it asks the system for anything by
-// number, which is how it waits for its turn. It counts up to a number from 0 to 4,095; at times it lets others go, or
-// sleeps for up to 255 us. The numbers differ from call to call.
+// Threads that wait at random, for LD_PRELOAD: each before it begins, and each before it asks the system for anything
+// by number, which is how it waits for its turn. It counts up to a number from 0 to 4,095; at times it lets others go,
+// or sleeps for up to 255 us. The numbers differ from call to call.
 #define _GNU_SOURCE
 #include <dlfcn.h>
 #include <pthread.h>
