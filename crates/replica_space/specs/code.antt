@@ -1,0 +1,3 @@
+pub mod ReplicaOrders
+pub mod ReplicaSound
+pub mod ReplicaRows

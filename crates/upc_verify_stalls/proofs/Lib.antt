@@ -1,0 +1,5 @@
+pub mod Since
+pub mod Parting
+pub mod Pointing
+pub mod Watching
+pub mod Threads

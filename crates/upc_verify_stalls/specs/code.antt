@@ -1,0 +1,4 @@
+pub mod Points
+pub mod Searches
+pub mod Watches
+pub mod Wants
