@@ -13,9 +13,9 @@ use Rattle.race_report.specs.layer.Races.{IsRaceFree}
 use Rattle.race_report.specs.layer.Serial.{AreInOrder, IsRun, serial_list}
 use Rattle.race_report_places.specs.code.Report.{IsReport}
 
--- A list makes the operations of a journal sequentially consistent: it has each of them once and keeps the program order
--- of each thread, and each read has in it the value of the last write before it on its location, or the initial value if
--- there is none.
+-- A list makes the operations of a journal sequentially consistent: it has each of them once and keeps the program
+-- order of each thread, and each read has in it the value of the last write before it on its location, or the initial
+-- value if there is none.
 pub record IsSequential (initial : Loc → Scalar) (j : Journal) (list : List Operation) : Type 0 where
   pub whole : IsOrderOf (IsOf j) list
   pub program : Pairwise AreInOrder list

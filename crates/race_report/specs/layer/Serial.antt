@@ -68,9 +68,9 @@ pub record StandsBefore (j : Journal) (a b : Operation) : Type 0 where
   pub leads_second : Leads j second b
   pub ordered : Precedes (strict_list j) first second ⊎ ((first ≡ second) × (rank a < rank b))
 
--- A list is the serial order of a journal: it has each operation once, sorted by the strict ones that lead them and then
--- by program order; it keeps program order, and in a legal history without races each read has in it the value of the
--- last write before it on its location, or the initial value if there is none.
+-- A list is the serial order of a journal: it has each operation once, sorted by the strict ones that lead them and
+-- then by program order; it keeps program order, and in a legal history without races each read has in it the value of
+-- the last write before it on its location, or the initial value if there is none.
 pub record IsSerial (j : Journal) (list : List Operation) : Type 0 where
   pub whole : IsOrderOf (IsOf j) list
   pub sorted : Pairwise (StandsBefore j) list
