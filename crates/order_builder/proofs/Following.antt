@@ -1,7 +1,7 @@
 -- Each entry of the history takes the place of the next commit of its thread.
 use Rattle.std.proofs.Common.{◌≡◌, ℕ, ◌+◌, ◌<◌, ◌≤◌, ◌==◌, cond, List, [], ◌∷◌, ◌++◌, map, flat_map, length, get_or, set, slice_get, Some, refl, sym, ap, ◌∙◌, subst, append_assoc, append-nil, eq-eqb, eqb-true, inl, inr, arith}
 use Rattle.std.proofs.lemmas.Bool.{cond_both, cond-true, cases_eq}
-use Rattle.std.proofs.lemmas.List.{map-append, length-map, length-append, get_or-set_same, get_or-set_other, length-set, get_or_default}
+use Rattle.std.proofs.lemmas.List.{map-append, length-append, get_or-set_same, get_or-set_other, length-set, get_or_default}
 use Rattle.std.proofs.lemmas.Grind.{flat_map-append}
 use Rattle.upc_values.specs.declared.journal.Entry.{Entry}
 use Rattle.upc_values.specs.declared.journal.Journal.{Journal}
@@ -15,8 +15,10 @@ use Rattle.upc_values.proofs.Drained.{entry-at}
 use Rattle.upc_values.proofs.Numbering.{counted, numbered-drained}
 use Rattle.upc_values.proofs.Placement.{agrees-of, drains-of}
 use Rattle.order_builder.specs.declared.names.Named.{Named}
-use Rattle.order_builder.specs.declared.entry.KeptCommit.{KeptCommit}
-use Rattle.order_builder.specs.code.Views.{named, by_names, kept, AreKept, AreCommits, AreCursors, ArePlaced}
+use Rattle.order_builder.specs.declared.commits.Commits.{Commits}
+use Rattle.order_builder.specs.layer.Commits.{named, no_commits, AreCommits, HasCommit, names_at, AreCursors}
+use Rattle.order_builder.specs.code.Views.{ArePlaced}
+use Rattle.order_builder.proofs.Flat.{has-commit, names-at}
 
 -- a commit of the list is counted
 counted-there : (e : Entry) (cs : List Commit) (k : ℕ) → slice_get (entries_in cs) k ≡ Some e → 1 ≤ counted e.index cs
@@ -56,26 +58,12 @@ is-at e (c ∷ cs) (ℕ.suc k) h n =
           (λ t. rest.operations d);
     }
 
--- what the program keeps of the k-th commit
-pub many-kept : (ks : List KeptCommit) (cs : List Commit) → AreKept ks cs → length ks ≡ length cs
-many-kept ks cs h = sym (length-map ks kept) ∙ ap length h ∙ length-map cs by_names
-
-names-kept : (ks : List KeptCommit) (cs : List Commit) (k : ℕ) (d : KeptCommit) (c : Commit) → AreKept ks cs → k < length cs → (get_or ks k d).names ≡ map named (get_or cs k c).operations
-names-kept ks [] k d c h lt = absurd (omega arith)
-names-kept [] (y ∷ cs) k d c h lt = cc
-names-kept (x ∷ ks) (y ∷ cs) ℕ.zero d c h lt =
-    let one : kept x ≡ by_names y = cc in
-    ap (λ z. z.names) one
-names-kept (x ∷ ks) (y ∷ cs) (ℕ.suc k) d c h lt =
-    let rest : AreKept ks cs = cc in
-    names-kept ks cs k d c rest (omega arith)
-
-module _ (j : Journal) (f : FollowsBuffers j) (all : List (List KeptCommit)) (are : AreCommits j all) where
+module _ (j : Journal) (f : FollowsBuffers j) (all : List Commits) (are : AreCommits j all) where
   -- what the first entry that is left finds at the cursor of its thread
   pub record IsNext (e : Entry) (cursor : ℕ) : Type 0 where
     pub below : e.thread < j.threads
-    pub within : cursor < length (get_or all e.thread [])
-    pub names : (d : KeptCommit) → (get_or (get_or all e.thread []) cursor d).names ≡ map named (placed j e)
+    pub has : HasCommit (get_or all e.thread no_commits) cursor
+    pub names : names_at (get_or all e.thread no_commits) cursor ≡ map named (placed j e)
 
   is-next : (before left : List Entry) (e : Entry) → before ++ e ∷ left ≡ j.history → IsNext e (length (entries_of e.thread before))
   is-next before left e parts =
@@ -88,45 +76,48 @@ module _ (j : Journal) (f : FollowsBuffers j) (all : List (List KeptCommit)) (ar
       let entries : entries_of t (before ++ e ∷ left) ≡ entries_in cs = ap (entries_of t) parts ∙ drains-of j t f below in
       let once = (numbered-drained t (record_of j t) (agrees-of j t f below)).once e.index in
       let at = is-at e cs n (entry-at t before left e cs refl entries) (omega arith) in
-      let are_kept = are.each t below in
+      let held = are.each t below in
       record {
         below = below;
-        within = subst (λ m. n < m) (sym (many-kept (get_or all t []) cs are_kept)) at.within;
-        names = λ d.
-            names-kept (get_or all t []) cs n d (commit_of e) are_kept at.within
+        has = has-commit (get_or all t no_commits) cs held n (commit_of e) at.within;
+        names =
+            names-at (get_or all t no_commits) cs held n (commit_of e) at.within
             ∙ ap (map named) (at.operations (commit_of e));
       }
 
   -- what the program reads there
-  pub record Finds (cursors : List ℕ) (e : Entry) (cursor : ℕ) (of : List KeptCommit) : Type 0 where
+  pub record Finds (cursors : List ℕ) (e : Entry) (cursor : ℕ) (of : Commits) : Type 0 where
     pub below : e.thread < j.threads
     pub is : cursor ≡ get_or cursors e.thread 0
-    pub within : cursor < length of
-    pub names : (d : KeptCommit) → (get_or of cursor d).names ≡ map named (placed j e)
+    pub has : HasCommit of cursor
+    pub names : names_at of cursor ≡ map named (placed j e)
 
-  pub finds : (names : List Named) (cursors : List ℕ) (now left : List Entry) (e : Entry) (cursor : ℕ) (of : List KeptCommit) → ArePlaced j now names cursors → now ≡ e ∷ left → cursor ≡ get_or cursors e.thread cursor → of ≡ get_or all e.thread of → Finds cursors e cursor of
-  finds names cursors now left e cursor of p steps at found =
-      let parts : p.before ++ e ∷ left ≡ j.history = ap (λ z. p.before ++ z) (sym steps) ∙ p.parts in
-      let m = is-next p.before left e parts in
-      let n : IsNext e (get_or cursors e.thread 0) = subst (IsNext e) (sym (p.cursors_are.at e.thread m.below)) m in
+  pub finds : (cursors : List ℕ) (before left : List Entry) (e : Entry) (cursor : ℕ) (of : Commits) → before ++ e ∷ left ≡ j.history → AreCursors j before cursors → cursor ≡ get_or cursors e.thread cursor → of ≡ get_or all e.thread of → Finds cursors e cursor of
+  finds cursors before left e cursor of parts are_cursors at found =
+      let m = is-next before left e parts in
+      let n : IsNext e (get_or cursors e.thread 0) = subst (IsNext e) (sym (are_cursors.at e.thread m.below)) m in
       let below : e.thread < j.threads = n.below in
-      let there : e.thread < length cursors = let m = p.cursors_are.many in omega arith in
+      let there : e.thread < length cursors = let m = are_cursors.many in omega arith in
       let here : e.thread < length all = let m = are.many in omega arith in
       let q : cursor ≡ get_or cursors e.thread 0 = at ∙ get_or_default cursors e.thread cursor 0 there in
-      let r : of ≡ get_or all e.thread [] = found ∙ get_or_default all e.thread of [] here in
+      let r : of ≡ get_or all e.thread no_commits = found ∙ get_or_default all e.thread of no_commits here in
       record {
         below = below;
         is = q;
-        within = subst (λ z. cursor < length z) (sym r) (subst (λ k. k < length (get_or all e.thread [])) (sym q) n.within);
-        names = λ d. ap (λ z. (get_or z cursor d).names) r ∙ ap (λ k. (get_or (get_or all e.thread []) k d).names) q ∙ n.names d;
+        has = subst (λ z. HasCommit z cursor) (sym r) (subst (HasCommit (get_or all e.thread no_commits)) (sym q) n.has);
+        names = ap (λ z. names_at z cursor) r ∙ ap (λ k. names_at (get_or all e.thread no_commits) k) q ∙ n.names;
       }
+
+  pub finds-placed : (names : List Named) (cursors : List ℕ) (now left : List Entry) (e : Entry) (cursor : ℕ) (of : Commits) → ArePlaced j now names cursors → now ≡ e ∷ left → cursor ≡ get_or cursors e.thread cursor → of ≡ get_or all e.thread of → Finds cursors e cursor of
+  finds-placed names cursors now left e cursor of p steps at found =
+      finds cursors p.before left e cursor of (ap (λ z. p.before ++ z) (sym steps) ∙ p.parts) p.cursors_are at found
 
 -- at the beginning
 pub cursors-none : (j : Journal) (cursors : List ℕ) → length cursors ≡ j.threads → ((t : ℕ) → get_or cursors t 0 ≡ 0) → AreCursors j [] cursors
 cursors-none j cursors e h = record { many = e; at = λ t lt. h t }
 
 -- one more entry
-cursors-more : (j : Journal) (cursors : List ℕ) (before : List Entry) (e : Entry) → e.thread < j.threads → AreCursors j before cursors → AreCursors j (before ++ e ∷ []) (set cursors e.thread (get_or cursors e.thread 0 + 1))
+pub cursors-more : (j : Journal) (cursors : List ℕ) (before : List Entry) (e : Entry) → e.thread < j.threads → AreCursors j before cursors → AreCursors j (before ++ e ∷ []) (set cursors e.thread (get_or cursors e.thread 0 + 1))
 cursors-more j cursors before e below c =
     let t = e.thread in
     let v = get_or cursors t 0 + 1 in

@@ -1,4 +1,5 @@
 pub mod Finding
+pub mod Flat
 pub mod Showing
 pub mod Following
 pub mod Choosing

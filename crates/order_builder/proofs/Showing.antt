@@ -1,18 +1,21 @@
 -- What the program keeps of a walk, after a change of a pending commit.
-use Rattle.std.proofs.Common.{◌≡◌, ℕ, ◌+◌, ◌<◌, ◌&&◌, Bool, List, [], ◌∷◌, ◌++◌, map, length, get_or, set, Some, None, refl, sym, ap, subst, ◌∙◌, arith}
+use Rattle.std.proofs.Common.{◌≡◌, ℕ, ◌+◌, ◌<◌, ◌&&◌, Bool, List, [], ◌∷◌, ◌++◌, map, length, get_or, set, Some, None, refl, sym, ap, subst, ◌∙◌, append_assoc, append-nil, arith}
 use Rattle.std.proofs.lemmas.List.{map-append, length-map}
 use Rattle.block_layout.specs.declared.place.Loc.{Loc}
 use Rattle.upc_values.specs.declared.scalar.Scalar.{Scalar}
 use Rattle.upc_values.specs.declared.journal.Entry.{Entry}
 use Rattle.upc_values.specs.Operations.{accesses}
-use Rattle.upc_values.specs.Drain.{oldest_out, Commit, Walk, entries_in, pending_value, last_written, changed, with_read, combined, put, looked_up, is_done, is_value}
+use Rattle.upc_values.specs.Drain.{oldest_out, emptied, passed, commit_of, Commit, Walk, entries_in, pending_value, last_written, changed, with_read, combined, put, looked_up, is_done, is_value}
 use Rattle.order_builder.specs.declared.names.Named.{Named}
 use Rattle.order_builder.specs.declared.entry.EntryRef.{EntryRef}
 use Rattle.order_builder.specs.declared.entry.KeptCommit.{KeptCommit}
+use Rattle.order_builder.specs.declared.emitted.Emitted.{Emitted}
 use Rattle.order_builder.specs.declared.walk.Walk as program
-use Rattle.order_builder.specs.code.Views.{counted, noted, named, Named_commit, by_names, entry_in, kept, kept_entries, AreKept, IsShown, IsLast}
+use Rattle.order_builder.specs.layer.Commits.{named, AreFlat}
+use Rattle.order_builder.specs.code.Views.{counted, noted, Named_commit, by_names, entry_in, kept, kept_entries, AreKept, IsEmitted, IsPushed, IsShown, IsLast}
 use Rattle.order_builder.specs.code.Views as views
 use Rattle.order_builder.proofs.Finding.{is-place}
+use Rattle.order_builder.proofs.Flat.{flat-more}
 
 abbrev commit : Entry → List Named → Named_commit
 commit e ns = record { entry = e; names = ns }
@@ -78,29 +81,86 @@ value-kept l ks cs n v s h = (is-place l cs n v (subst (λ es. IsLast l es n v) 
 pub none-kept : (l : Loc) (ks : List KeptCommit) (cs : List Commit) → last_written l (kept_entries ks) ≡ None → AreKept ks cs → pending_value l cs ≡ None
 none-kept l ks cs q h = ap (last_written l) (sym (entries-kept ks cs h)) ∙ q
 
+-- one more commit is emitted
+pub emitted-more : (k : KeptCommit) (c : Commit) (before after : Emitted) (cs : List Commit) → kept k ≡ by_names c → IsPushed k before after → IsEmitted before cs → IsEmitted after (cs ++ c ∷ [])
+emitted-more k c before after cs one p h =
+    let more = flat-more before.names k.names before.ends.items cs c (ap (λ (z : Named_commit). z.names) one) h.flat in
+    record {
+      entries =
+          ap (map entry_in) p.entries ∙ map-append entry_in before.entries.items (k.entry ∷ [])
+          ∙ ap (λ z. z ++ entry_in k.entry ∷ []) h.entries
+          ∙ ap (λ (z : Named_commit). entries_in cs ++ z.entry ∷ []) one
+          ∙ sym (map-append (λ (z : Commit). z.entry) cs (c ∷ []));
+      flat =
+          subst (λ es. AreFlat after.names es (cs ++ c ∷ [])) (sym p.ends)
+          (subst (λ ns. AreFlat ns (before.ends.items ++ length ns ∷ []) (cs ++ c ∷ [])) (sym p.names) more);
+    }
+
+-- the entry itself is emitted
+pub passed-shown : (e : Entry) (k : KeptCommit) (s r t : program.Walk) → kept k ≡ by_names (commit_of e) → IsPushed k s.emitted r.emitted → r.next ≡ s.next → r.pending.items ≡ s.pending.items → r.agrees ≡ s.agrees → t ≡ counted r → (w : Walk) → IsShown w s → IsShown (passed e w) t
+passed-shown e k s r t one p next pending agrees q w h =
+    subst (IsShown (passed e w)) (sym q)
+    record {
+      next = ap (λ m. m + 1) (next ∙ h.next);
+      emitted = emitted-more k (commit_of e) s.emitted r.emitted w.emitted one p h.emitted;
+      pending = ap (map kept) pending ∙ h.pending;
+      agrees = agrees ∙ h.agrees;
+    }
+
 -- the oldest leaves
-oldest-kept : (w : Walk) (s t : program.Walk) (k : KeptCommit) (ks : List KeptCommit) (cs : List Commit) → t.next ≡ s.next → t.emitted.items ≡ s.emitted.items ++ k ∷ [] → t.pending.items ≡ ks → t.agrees ≡ s.agrees → AreKept (k ∷ ks) cs → IsShown w s → IsShown (oldest_out cs w) t
+oldest-kept : (w : Walk) (s t : program.Walk) (k : KeptCommit) (ks : List KeptCommit) (cs : List Commit) → t.next ≡ s.next → IsPushed k s.emitted t.emitted → t.pending.items ≡ ks → t.agrees ≡ s.agrees → AreKept (k ∷ ks) cs → IsShown w s → IsShown (oldest_out cs w) t
 oldest-kept w s t k ks [] next emitted pending agrees q h = cc
 oldest-kept w s t k ks (c ∷ cs) next emitted pending agrees q h =
     let one : kept k ≡ by_names c = cc in
     let rest : AreKept ks cs = cc in
     record {
       next = next ∙ h.next;
-      emitted =
-          ap (map kept) emitted ∙ map-append kept s.emitted.items (k ∷ []) ∙ ap (λ z. z ++ kept k ∷ []) h.emitted
-          ∙ ap (λ z. map by_names w.emitted ++ z ∷ []) one ∙ sym (map-append by_names w.emitted (c ∷ []));
+      emitted = emitted-more k c s.emitted t.emitted w.emitted one emitted h.emitted;
       pending = ap (map kept) pending ∙ rest;
       agrees = agrees ∙ h.agrees;
     }
 
-pub oldest-shown : (s t : program.Walk) (k : KeptCommit) (ks : List KeptCommit) → s.pending.items ≡ k ∷ ks → t.next ≡ s.next → t.emitted.items ≡ s.emitted.items ++ k ∷ [] → t.pending.items ≡ ks → t.agrees ≡ s.agrees → (w : Walk) → IsShown w s → IsShown (oldest_out w.pending w) t
+pub oldest-shown : (s t : program.Walk) (k : KeptCommit) (ks : List KeptCommit) → s.pending.items ≡ k ∷ ks → t.next ≡ s.next → IsPushed k s.emitted t.emitted → t.pending.items ≡ ks → t.agrees ≡ s.agrees → (w : Walk) → IsShown w s → IsShown (oldest_out w.pending w) t
 oldest-shown s t k ks is next emitted pending agrees w h =
     oldest-kept w s t k ks w.pending next emitted pending agrees (ap (map kept) (sym is) ∙ h.pending) h
+
+-- a walk that is emptied, one commit after another
+oldest-first : (cs : List Commit) (w : Walk) → w.pending ≡ cs → emptied (oldest_out cs w) ≡ emptied w
+oldest-first [] w q = refl
+oldest-first (c ∷ cs) w q =
+    let emitted_by : List Commit → Walk = λ l. record { next = w.next; emitted = l; pending = []; agrees = w.agrees } in
+    ap emitted_by (append_assoc w.emitted (c ∷ []) cs ∙ ap (λ l. w.emitted ++ l) (sym q))
+
+pub emptying-more : (w : Walk) (s t : program.Walk) (k : KeptCommit) (ks : List KeptCommit) → s.pending.items ≡ k ∷ ks → t.next ≡ s.next → IsPushed k s.emitted t.emitted → t.pending.items ≡ ks → t.agrees ≡ s.agrees → ((v : Walk) × (IsShown v s × (emptied v ≡ emptied w))) → ((v : Walk) × (IsShown v t × (emptied v ≡ emptied w)))
+emptying-more w s t k ks is next emitted pending agrees p =
+    let v = p.0 in (
+      oldest_out v.pending v,
+      (oldest-shown s t k ks is next emitted pending agrees v p.1.0, oldest-first v.pending v refl ∙ p.1.1),
+    )
+
+none-left : (cs : List Commit) (v : Walk) (s t : program.Walk) → v.pending ≡ cs → AreKept [] cs → t.next ≡ s.next → t.emitted ≡ s.emitted → t.pending.items ≡ [] → t.agrees ≡ s.agrees → IsShown v s → IsShown (emptied v) t
+none-left [] v s t q h next emitted pending agrees shown =
+    let all : IsEmitted s.emitted (v.emitted ++ v.pending) =
+    subst (IsEmitted s.emitted) (sym (append-nil v.emitted) ∙ ap (λ l. v.emitted ++ l) (sym q)) shown.emitted in
+    record {
+      next = next ∙ shown.next;
+      emitted = subst (λ z. IsEmitted z (v.emitted ++ v.pending)) (sym emitted) all;
+      pending = ap (map kept) pending;
+      agrees = agrees ∙ shown.agrees;
+    }
+none-left (c ∷ cs) v s t q h next emitted pending agrees shown = cc
+
+pub emptying-all : (w : Walk) (s t : program.Walk) → s.pending.items ≡ [] → t.next ≡ s.next → t.emitted ≡ s.emitted → t.pending.items ≡ [] → t.agrees ≡ s.agrees → ((v : Walk) × (IsShown v s × (emptied v ≡ emptied w))) → IsShown (emptied w) t
+emptying-all w s t is next emitted pending agrees p =
+    let v = p.0 in
+    let h = p.1.0 in
+    subst (λ u. IsShown u t) p.1.1
+    (none-left v.pending v s t refl (ap (map kept) (sym is) ∙ h.pending) next emitted pending agrees h)
 
 -- a pending commit is changed, a reply is noted, and the action has its number
 pub record IsChanged (s t : program.Walk) (ms : List KeptCommit) (b : Bool) : Type 0 where
   pub next : t.next ≡ s.next + 1
-  pub emitted : t.emitted.items ≡ s.emitted.items
+  pub emitted : t.emitted ≡ s.emitted
   pub pending : t.pending.items ≡ ms
   pub agrees : t.agrees ≡ s.agrees && b
 
@@ -109,7 +169,7 @@ is-changed s r n t b c next emitted agrees note count is =
     let e : t ≡ counted (noted b r) = count ∙ ap counted note in
     record {
       next = ap (λ (z : program.Walk). z.next) e ∙ ap (λ m. m + 1) next;
-      emitted = ap (λ (z : program.Walk). z.emitted.items) e ∙ ap (λ z. z.items) emitted;
+      emitted = ap (λ (z : program.Walk). z.emitted) e ∙ emitted;
       pending = ap (λ (z : program.Walk). z.pending.items) e;
       agrees = ap (λ (z : program.Walk). z.agrees) e ∙ ap (λ z. z && b) agrees ∙ ap (λ z. s.agrees && z) is;
     }
@@ -120,7 +180,7 @@ put-shown l e s t n v ns ms last q there is w h =
     subst (λ o. IsShown (put l (entry_in e) o w) t) (sym (value-kept l s.pending.items w.pending n v last h.pending))
     record {
       next = is.next ∙ ap (λ m. m + 1) h.next;
-      emitted = ap (map kept) is.emitted ∙ h.emitted;
+      emitted = subst (λ z. IsEmitted z w.emitted) (sym is.emitted) h.emitted;
       pending = ap (map kept) is.pending ∙ write-kept l e ns s.pending.items ms w.pending n v q last there h.pending;
       agrees = is.agrees ∙ ap (λ b. b && is_done e.reply.now) h.agrees;
     }
@@ -131,7 +191,7 @@ look_up-shown l e s t n v ns ms last q there is w h =
     subst (λ o. IsShown (looked_up l (entry_in e) o w) t) (sym (value-kept l s.pending.items w.pending n v last h.pending))
     record {
       next = is.next ∙ ap (λ m. m + 1) h.next;
-      emitted = ap (map kept) is.emitted ∙ h.emitted;
+      emitted = subst (λ z. IsEmitted z w.emitted) (sym is.emitted) h.emitted;
       pending = ap (map kept) is.pending ∙ read-kept l (entry_in e) ns s.pending.items ms w.pending n v q last there h.pending;
       agrees = is.agrees ∙ ap (λ b. b && is_value v e.reply.now) h.agrees;
     }

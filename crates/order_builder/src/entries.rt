@@ -1,28 +1,28 @@
 //! The entries that a thread's items emit.
 
-ghost use Rattle.std.specs.Prelude.{◌≡◌, IfOk, IfSome, is_some};
+ghost use Rattle.std.specs.Prelude.{◌≡◌, map, IfOk, IfSome, is_some};
 ghost use Rattle.upc_values.specs.Drain as drain;
-ghost use Rattle.order_builder.specs.code.Views.{kept_entries};
+ghost use Rattle.order_builder.specs.code.Views.{entry_in};
 
-use crate::commits::drained;
-use crate::entry::KeptCommit;
+use crate::entry::EntryRef;
+use crate::records::drained;
 use std::alloc::Global;
 use upc_text::OutOfMemory;
 use upc_values::{Chunks, Entries, Entry, Items, copy_action};
 
-// The entries of commits.
-fn entries_of(alloc: Global, commits: &[KeptCommit]) -> Result<Entries, OutOfMemory>
-    ensures { IfOk result (λ entries. entries ≡ kept_entries commits.now) }
+// The entries, with their actions.
+fn entries_of(alloc: Global, emitted: &[EntryRef]) -> Result<Entries, OutOfMemory>
+    ensures { IfOk result (λ entries. entries ≡ map entry_in emitted.now) }
 {
     let mut entries = Chunks::new(alloc);
-    for commit in commits {
-        let action = copy_action(alloc, commit.entry.action)?;
+    for entry in emitted {
+        let action = copy_action(alloc, entry.action)?;
         entries.reserve()?;
         entries.push_reserved(Entry {
-            thread: commit.entry.thread,
-            index: commit.entry.index,
+            thread: entry.thread,
+            index: entry.index,
             action,
-            reply: *commit.entry.reply,
+            reply: *entry.reply,
         });
     }
     Ok(Entries::from_chunks(entries))
@@ -36,7 +36,7 @@ pub fn drain(alloc: Global, thread: u32, items: &Items) -> Result<Option<Entries
 {
     let walk = drained(alloc, thread, items)?;
     if walk.agrees {
-        Ok(Some(entries_of(alloc, walk.emitted.as_slice())?))
+        Ok(Some(entries_of(alloc, walk.emitted.entries.as_slice())?))
     } else {
         Ok(None)
     }

@@ -3,10 +3,11 @@
 ghost use Rattle.std.specs.Prelude.{◌≡◌, map, IfOk};
 ghost use Rattle.upc_values.specs.Orders as said;
 ghost use Rattle.upc_values.specs.Consistent.{FollowsBuffers};
-ghost use Rattle.order_builder.specs.code.Views.{named, AreCommits};
+ghost use Rattle.order_builder.specs.layer.Commits.{named, AreCommits};
 
-use crate::commits::{Commits, all_commits};
+use crate::commits::Commits;
 use crate::names::Names;
+use crate::records::all_commits;
 use std::alloc::Global;
 use upc_text::OutOfMemory;
 use upc_values::Journal;
@@ -22,7 +23,7 @@ fn place_all(alloc: Global, journal: &Journal, commits: &[Commits]) -> Result<Na
     for entry in journal.history.iter() {
         let thread = entry.thread as usize;
         let cursor = cursors[thread];
-        names.extend(commits[thread].as_slice()[cursor].names.as_slice())?;
+        names.extend(commits[thread].at(cursor))?;
         cursors[thread] = cursor + 1;
     }
     Ok(names)

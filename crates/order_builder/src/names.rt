@@ -1,6 +1,6 @@
 //! Operations by their names.
 
-ghost use Rattle.std.specs.Prelude.{◌≡◌, [], ◌∷◌, ◌++◌, OnOk};
+ghost use Rattle.std.specs.Prelude.{◌≡◌, [], ◌∷◌, ◌++◌, length, OnOk};
 
 use std::alloc::Global;
 use std::marker::Model;
@@ -44,6 +44,13 @@ impl Names {
         ensures { result.now ≡ self.now }
     {
         self.list.as_slice()
+    }
+
+    /// How many members there are.
+    pub fn len(&self) -> usize
+        ensures { result ≡ length self.now }
+    {
+        self.list.len()
     }
 
     /// Adds one at the end.

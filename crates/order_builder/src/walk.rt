@@ -4,11 +4,13 @@ ghost use Rattle.std.specs.Prelude.{◌≡◌, ◌<◌, length, map, OnOk, IfOk,
 ghost use Rattle.upc_values.specs.Drain as drain;
 ghost use Rattle.upc_values.specs.Drain.{last_written, pending_value};
 ghost use Rattle.upc_values.specs.Operations.{accesses};
-ghost use Rattle.order_builder.specs.code.Views.{named, entry_in, by_names, kept, kept_entries};
+ghost use Rattle.order_builder.specs.layer.Commits.{named};
+ghost use Rattle.order_builder.specs.code.Views.{entry_in, by_names, kept, kept_entries};
 ghost use Rattle.order_builder.specs.code.Views.{IsShown, IsAfter, IsLast, IsChangedAt};
 ghost use Rattle.order_builder.specs.code.Views.{joined, combined, counted, noted};
 
 use crate::accesses::names_of;
+use crate::emitted::Emitted;
 use crate::entry::{EntryRef, KeptCommit};
 use crate::names::{Named, Names};
 use crate::written::{is_done, is_value, written};
@@ -23,7 +25,7 @@ use upc_values::{Action, Item, Loc, Scalar};
 #[derive(Drop)]
 pub struct Walk<'a> {
     pub next: u32,
-    pub emitted: Vec<KeptCommit<'a>>,
+    pub emitted: Emitted<'a>,
     pub pending: VecDeque<KeptCommit<'a>>,
     pub agrees: bool,
 }
@@ -94,7 +96,7 @@ impl<'a> Walk<'a> {
     {
         Walk {
             next: 0,
-            emitted: Vec::new(alloc),
+            emitted: Emitted::new(alloc),
             pending: VecDeque::new(alloc),
             agrees: true,
         }

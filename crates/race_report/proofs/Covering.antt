@@ -1,6 +1,6 @@
 -- What stands in an entry's place has the entry's own operations.
-use Rattle.std.proofs.Common.{◌≡◌, ℕ, ◌<◌, ◌==◌, nat_lt, false, List, [], ◌∷◌, length, is_some, Option, Some, None, refl, sym, ap, ◌∙◌, subst, eq-eqb, arith}
-use Rattle.std.proofs.lemmas.Bool.{cond_both}
+use Rattle.std.proofs.Common.{◌≡◌, ℕ, ◌<◌, ◌≤◌, ◌==◌, nat_lt, false, cond, List, [], ◌∷◌, length, is_some, Option, Some, None, refl, sym, ap, ◌∙◌, subst, eq-eqb, inl, inr, arith}
+use Rattle.std.proofs.lemmas.Bool.{cond_both, cond-true}
 use Rattle.block_layout.specs.declared.place.Loc.{Loc}
 use Rattle.upc_values.specs.declared.scalar.Scalar.{Scalar}
 use Rattle.upc_values.specs.declared.action.Action.TheVariants.{Read, Write, Print}
@@ -14,10 +14,31 @@ use Rattle.upc_values.specs.Drain.{Commit, commit_of, Walk, start, emptied, olde
 use Rattle.upc_values.specs.Consistent.{FollowsBuffers}
 use Rattle.upc_values.specs.Lists.{Each, Has}
 use Rattle.upc_values.proofs.Membership.{has-left, has-right, has-filter, each-has, each-append}
-use Rattle.upc_values.proofs.Numbering.{numbered-drained}
+use Rattle.upc_values.proofs.Numbering.{counted, numbered-drained}
 use Rattle.upc_values.proofs.Placement.{agrees-of, drains-of}
 use Rattle.race_report.proofs.Lists.{has-map}
-use Rattle.race_report.proofs.Global.{at-own}
+
+-- a commit that the list has is found by its number
+none-counted : (c : Commit) (cs : List Commit) → counted c.entry.index cs ≡ 0 → Has cs c → ⊥
+none-counted c [] h m = m
+none-counted c (x ∷ cs) h (inl q) =
+    let t : cond {A = ℕ} (x.entry.index == c.entry.index) 1 0 ≡ 1 =
+    cond-true (x.entry.index == c.entry.index) 1 0 (eq-eqb x.entry.index c.entry.index (ap (λ z. z.entry.index) q)) in
+    omega arith
+none-counted c (x ∷ cs) h (inr m) = none-counted c cs (omega arith) m
+
+pub at-own : (c : Commit) (cs : List Commit) → counted c.entry.index cs ≤ 1 → Has cs c → operations_at c.entry.index cs ≡ c.operations
+at-own c [] h m = absurd m
+at-own c (x ∷ cs) h (inl q) =
+    cond-true (x.entry.index == c.entry.index) x.operations (operations_at c.entry.index cs)
+    (eq-eqb x.entry.index c.entry.index (ap (λ z. z.entry.index) q))
+    ∙ ap (λ z. z.operations) q
+at-own c (x ∷ cs) h (inr m) =
+    cond_both (x.entry.index == c.entry.index) x.operations (operations_at c.entry.index cs) (λ z. z ≡ c.operations)
+    (λ t.
+    let one : cond {A = ℕ} (x.entry.index == c.entry.index) 1 0 ≡ 1 = cond-true (x.entry.index == c.entry.index) 1 0 t in
+    absurd (none-counted c cs (omega arith) m))
+    (λ t. at-own c cs (omega arith) m)
 
 abbrev Covers : Commit → Type 0
 Covers c = (o : Operation) → Has (accesses c.entry) o → Has c.operations o

@@ -20,7 +20,7 @@ use Rattle.upc_values.proofs.Membership.{each-has, filter-has, precedes-has, pre
 use Rattle.race_report.specs.layer.Reach.{notifies_of, waits_of, Releases, At_barrier, By_lock, By_value}
 use Rattle.race_report.proofs.Lists.{counted, counted-is, slice-has, before, early, flat-precedes}
 use Rattle.race_report.proofs.Moved.{front-precedes}
-use Rattle.race_report.proofs.Global.{global-only}
+use Rattle.upc_values.proofs.Consistency.{global-only}
 use Rattle.race_report.proofs.Covering.{placed-own}
 use Rattle.race_report.proofs.Bridging.{Crosses}
 

@@ -1,6 +1,5 @@
 pub mod Lists
 pub mod Moved
-pub mod Global
 pub mod Covering
 pub mod Crossing
 pub mod Bridging

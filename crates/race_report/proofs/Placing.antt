@@ -14,7 +14,7 @@ use Rattle.upc_values.proofs.Membership.{each-has, has-filter, filter-has, prece
 use Rattle.race_report.specs.layer.Serial.{until_strict, relaxed_after, phase, serial_list, IsRun, NamesSerial}
 use Rattle.race_report.specs.declared.own.OwnOperation.{OwnOperation}
 use Rattle.race_report.specs.code.Own.{own, relaxed_first, AreOwn, IsNext, ArePlaced}
-use Rattle.race_report.proofs.Global.{global-only, global-has, global-placed}
+use Rattle.upc_values.proofs.Consistency.{global-only, global-has, global-placed}
 use Rattle.race_report.proofs.Reading.{all-serial}
 use Rattle.race_report.proofs.Phases.{Sorted, sorted-own, thread-own, none-first}
 

@@ -1,5 +1,5 @@
 -- The serial order is right.
-use Rattle.std.proofs.Common.{◌≡◌, ◌≢◌, ℕ, ◌*◌, ◌+◌, ◌<◌, ◌≤◌, ◌&&◌, ◌||◌, true, cond, refl, sym, ap, ◌∙◌, subst, inl, inr, arith}
+use Rattle.std.proofs.Common.{◌≡◌, ◌≢◌, ℕ, ◌*◌, ◌+◌, ◌<◌, ◌≤◌, ◌&&◌, ◌||◌, true, cond, [], refl, sym, ap, ◌∙◌, subst, inl, inr, arith}
 use Rattle.std.proofs.lemmas.Bool.{and_parts, or_left, or_right, cases_Bool, cases_eq, cases_order}
 use Rattle.upc_values.specs.declared.journal.Journal.{Journal}
 use Rattle.upc_values.specs.Lists.{Has, Precedes, Pairwise}
@@ -7,17 +7,22 @@ use Rattle.upc_values.specs.Openings.{Opening}
 use Rattle.upc_values.specs.History.{IsLegal}
 use Rattle.upc_values.specs.Operations.{Operation}
 use Rattle.upc_values.specs.Orders.{IsOf, rank, name_of, no_strand, record_of, global_order, strict_list, operations_of}
-use Rattle.upc_values.specs.Consistent.{same_place, conflict, ReadsLast, begins}
+use Rattle.upc_values.specs.Consistent.{FollowsBuffers, same_place, conflict, ReadsLast, begins}
 use Rattle.upc_values.proofs.Membership.{has-filter, filter-has, each-from, pairs-at, pairs-from, pairs-weaker, precedes-has, precedes-total, precedes-strict, precedes-trans, precedes-filter, filter-precedes, Distinct}
 use Rattle.race_report.specs.layer.Reach.{ComesBefore}
 use Rattle.race_report.specs.layer.Races.{IsRaceFree}
-use Rattle.race_report.specs.layer.Serial.{relaxed_after, phase, serial_list, IsRun, AreInOrder, IsSerial, SerialIsRight}
+use Rattle.race_report.specs.layer.Serial.{relaxed_after, phase, serial_list, IsRun, Leads, StandsBefore, AreInOrder, IsSerial, SerialIsRight}
 use Rattle.race_report.proofs.Lists.{has-flat, flat-has, flat-precedes, flat-pairs}
 use Rattle.race_report.proofs.Moved.{meets, reads-moved}
-use Rattle.race_report.proofs.Global.{global-only, global-has, global-distinct, global-placed, written-precedes, global-reads}
+use Rattle.upc_values.proofs.Consistency.{global-only, global-has, global-distinct, global-placed, written-precedes, all-answered}
+use Rattle.upc_values.proofs.Placement.{global-right}
 use Rattle.race_report.proofs.Bridging.{AtOrBefore, IsStrict, Way, KeepsStrict, Bridge, bridged}
 use Rattle.race_report.proofs.Crossing.{crosses}
 use Rattle.race_report.proofs.Phases.{Sorted, sorted-own, thread-own, none-first, one-rank, after-has, after-sorted, after-last, led}
+
+-- in the global order of a legal history each read has the value of the last write before it
+global-reads : (j : Journal) (o : Opening) → FollowsBuffers j → IsLegal o j.history → ReadsLast (begins o j.history) (global_order j)
+global-reads j o f legal = global-right j (begins o j.history) f (all-answered o [] j.history j.history refl legal)
 
 module _ (j : Journal) (run : IsRun j) where
   sorted : (t : ℕ) → Sorted (operations_of j t)
@@ -133,6 +138,48 @@ module _ (j : Journal) (run : IsRun j) where
   serial-order =
       flat-pairs (phase j) AreInOrder (strict_list j)
       (each-from (λ s. Pairwise AreInOrder (phase j s)) (strict_list j) (λ s m. phase-order s)) phases-order
+
+  -- the order is sorted by the strict operations that lead the phases
+  leads : (s a : Operation) → IsStrict j s → InPhase s a → Leads j s a
+  leads s a is x =
+      record {
+        is = is.0;
+        strict = is.1;
+        thread = sym x.thread;
+        before = x.from;
+        last = λ u of strict thread le. x.last u (of, strict) thread le;
+      }
+
+  phase-sorted : (s : Operation) → IsStrict j s → Pairwise (StandsBefore j) (phase j s)
+  phase-sorted s is =
+      pairs-from (StandsBefore j) (phase j s)
+      (λ a b p.
+      let m = precedes-has (phase j s) a b p in
+      let x = in-phase s a is m.0 in
+      let y = in-phase s b is m.1 in
+      record {
+        first = s;
+        second = s;
+        leads_first = leads s a is x;
+        leads_second = leads s b is y;
+        ordered = inr (refl, pairs-at AreInOrder (phase j s) (phase-order s) a b p (x.thread ∙ sym y.thread));
+      })
+
+  serial-sorted : Pairwise (StandsBefore j) (serial_list j)
+  serial-sorted =
+      flat-pairs (phase j) (StandsBefore j) (strict_list j)
+      (each-from (λ s. Pairwise (StandsBefore j) (phase j s)) (strict_list j) (λ s m. phase-sorted s (strict-is s m)))
+      (λ s t p a b h k.
+      let m = precedes-has (strict_list j) s t p in
+      let x = strict-is s m.0 in
+      let y = strict-is t m.1 in
+      record {
+        first = s;
+        second = t;
+        leads_first = leads s a x (in-phase s a x h);
+        leads_second = leads t b y (in-phase t b y k);
+        ordered = inl p;
+      })
 
   differ : (a b : Operation) → AreInOrder a b → (a ≢ b)
   differ a b h e = let l : rank a < rank b = h (ap (λ z. z.thread) e) in let r : rank a ≡ rank b = ap rank e in omega arith
@@ -285,6 +332,7 @@ module _ (j : Journal) (run : IsRun j) where
               once = pairs-weaker AreInOrder (λ a b. name_of a ≢ name_of b) names-differ (serial_list j) serial-order;
             };
         program = serial-order;
+        sorted = serial-sorted;
         values = λ o legal free. serial-reads free o legal;
       }
 

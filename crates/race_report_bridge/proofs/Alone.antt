@@ -19,7 +19,7 @@ use Rattle.upc_values.proofs.Placement.{agrees-of, drains-of}
 use Rattle.upc_values.proofs.Growth.{ops, IsPending, pending-stepped}
 use Rattle.upc_values.proofs.Own.{IsOld, kept-drained}
 use Rattle.race_report.proofs.Lists.{has-map}
-use Rattle.race_report.proofs.Global.{at-own}
+use Rattle.race_report.proofs.Covering.{at-own}
 
 -- a commit with its entry's own operations, or a relaxed write with relaxed operations on its cell
 abbrev Alone : Commit → Type 0

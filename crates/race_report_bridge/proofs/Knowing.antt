@@ -16,7 +16,7 @@ use Rattle.upc_values.proofs.Membership.{has-cases, each-has, each-append, each-
 use Rattle.upc_values.proofs.Own.{IsNew, new-item}
 use Rattle.race_report.specs.layer.Reach.{ComesBefore, As_written, Across, Through}
 use Rattle.race_report.proofs.Lists.{has-flat, flat-precedes}
-use Rattle.race_report.proofs.Global.{global-only, global-distinct, global-placed}
+use Rattle.upc_values.proofs.Consistency.{global-only, global-distinct, global-placed}
 use Rattle.race_report.proofs.Covering.{placed-own}
 use Rattle.race_report.proofs.Bridging.{Written}
 use Rattle.race_report_clocks.specs.declared.channel.Channel.{Channel}

@@ -14,7 +14,7 @@ use Rattle.upc_values.proofs.Membership.{each-has, each-append, precedes-has, pr
 use Rattle.race_report.specs.layer.Reach.{ComesBefore}
 use Rattle.race_report.specs.layer.Races.{Race}
 use Rattle.race_report.specs.layer.Serial.{IsRun}
-use Rattle.race_report.proofs.Global.{global-only, global-distinct}
+use Rattle.upc_values.proofs.Consistency.{global-only, global-distinct}
 use Rattle.race_report_clocks.specs.layer.Clocks.{known, clocks}
 use Rattle.race_report_bridge.specs.layer.Telling.{MightRace, ClocksShowRaces}
 use Rattle.race_report_bridge.proofs.Telling.{all-tell, all-forward}
@@ -49,16 +49,16 @@ sync-both : (p q : Place) → same_place p q ≡ true → p ≡ Sync → q ≡ S
 sync-both p Sync h e = refl
 sync-both p (Cell l) h e = absurd (false≢true (sym (ap (λ z. same_place z (Cell l)) e) ∙ h))
 
-record OnCell (o : Operation) : Type 0 where
-  loc : Loc
-  is : o.place ≡ Cell loc
+pub record OnCell (o : Operation) : Type 0 where
+  pub loc : Loc
+  pub is : o.place ≡ Cell loc
 
 place-cases : (o : Operation) (p : Place) → o.place ≡ p → (p ≡ Sync → ⊥) → OnCell o
 place-cases o (Cell l) e n = record { loc = l; is = e }
 place-cases o Sync e n = absurd (n refl)
 
 -- two that might race are on a cell
-on-cell : (j : Journal) (x y : Operation) → IsOf j x → IsOf j y → MightRace x y → OnCell x
+pub on-cell : (j : Journal) (x y : Operation) → IsOf j x → IsOf j y → MightRace x y → OnCell x
 on-cell j x y ofx ofy m =
     place-cases x x.place refl
     (λ e.

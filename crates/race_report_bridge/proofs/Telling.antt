@@ -8,7 +8,7 @@ use Rattle.upc_values.specs.Orders.{IsOf, rank, global_order, strict_list}
 use Rattle.upc_values.proofs.Membership.{pairs-from, pairs-at, precedes-trans, precedes-filter, filter-precedes, Distinct}
 use Rattle.race_report.specs.layer.Reach.{ComesBefore}
 use Rattle.race_report.specs.layer.Serial.{IsRun}
-use Rattle.race_report.proofs.Global.{global-distinct, written-precedes}
+use Rattle.upc_values.proofs.Consistency.{global-distinct, written-precedes}
 use Rattle.race_report.proofs.Bridging.{Written, AtOrBefore, IsStrict, Way, Bridge, KeepsStrict, bridged}
 use Rattle.race_report.proofs.Crossing.{crosses}
 use Rattle.race_report_bridge.specs.layer.Telling.{ClocksTell, ComesForward}

@@ -11,7 +11,7 @@ use Rattle.upc_values.proofs.Membership.{precedes-total}
 use Rattle.upc_values.proofs.Sameness.{same_loc-true, same_loc-itself}
 use Rattle.race_report.specs.layer.Races.{Race}
 use Rattle.race_report.specs.layer.Serial.{IsRun}
-use Rattle.race_report.proofs.Global.{global-has}
+use Rattle.upc_values.proofs.Consistency.{global-has}
 use Rattle.race_report_places.specs.code.Sights.{Sight, sights, might_race, shows_race, ShowRaces, nearest, is_raced}
 use Rattle.race_report_places.specs.code.Report.{IsFirstShown, IsQuiet}
 use Rattle.race_report_places.proofs.Sights.{all-sights, might}

@@ -1,22 +1,19 @@
 -- What the program keeps of operations, of commits and of a walk.
-use Rattle.std.specs.Prelude.{ℕ, ◌≡◌, ◌+◌, ◌<◌, List, [], ◌++◌, length, map, drop, slice_index_or, slice_set}
+use Rattle.std.specs.Prelude.{ℕ, ◌≡◌, ◌+◌, ◌<◌, List, [], ◌∷◌, ◌++◌, length, map, drop, slice_index_or, slice_set}
 use Rattle.std.specs.Prelude.{Bool, ◌&&◌, Some, None}
 use Rattle.std.specs.List.{flat_map}
 use Rattle.block_layout.specs.declared.place.Loc.{Loc}
 use Rattle.upc_values.specs.declared.scalar.Scalar.{Scalar}
 use Rattle.upc_values.specs.declared.journal.Entry.{Entry}
 use Rattle.upc_values.specs.declared.journal.Journal.{Journal}
-use Rattle.upc_values.specs.Drain.{Commit, Walk, written, last_written, commits, entries_of}
-use Rattle.upc_values.specs.Operations.{Operation}
-use Rattle.upc_values.specs.Orders.{record_of, placed, name_of}
+use Rattle.upc_values.specs.Drain.{Commit, Walk, written, last_written, entries_in}
+use Rattle.upc_values.specs.Orders.{placed}
 use Rattle.order_builder.specs.declared.names.Named.{Named}
 use Rattle.order_builder.specs.declared.entry.EntryRef.{EntryRef}
 use Rattle.order_builder.specs.declared.entry.KeptCommit.{KeptCommit}
+use Rattle.order_builder.specs.declared.emitted.Emitted.{Emitted}
 use Rattle.order_builder.specs.declared.walk.Walk as program
-
--- An operation's name, and whether it is strict.
-abbrev pub named : Operation → Named
-named o = record { name = name_of o; strict = o.strict }
+use Rattle.order_builder.specs.layer.Commits.{named, AreFlat, AreCursors}
 
 -- An entry, with the names of the operations in its place.
 pub record Named_commit : Type 0 where
@@ -55,10 +52,21 @@ kept_entries ks = map (λ k. entry_in k.entry) ks
 abbrev pub AreKept : List KeptCommit → List Commit → Type 0
 AreKept ks cs = map kept ks ≡ map by_names cs
 
+-- These commits were emitted.
+pub record IsEmitted (shown : Emitted) (cs : List Commit) : Type 0 where
+  pub entries : map entry_in shown.entries.items ≡ entries_in cs
+  pub flat : AreFlat shown.names shown.ends.items cs
+
+-- One more commit was emitted.
+pub record IsPushed (c : KeptCommit) (before after : Emitted) : Type 0 where
+  pub entries : after.entries.items ≡ before.entries.items ++ c.entry ∷ []
+  pub names : after.names ≡ before.names ++ c.names
+  pub ends : after.ends.items ≡ before.ends.items ++ length after.names ∷ []
+
 -- The program's walk is this one.
 pub record IsShown (w : Walk) (shown : program.Walk) : Type 0 where
   pub next : shown.next ≡ w.next
-  pub emitted : AreKept shown.emitted.items w.emitted
+  pub emitted : IsEmitted shown.emitted w.emitted
   pub pending : AreKept shown.pending.items w.pending
   pub agrees : shown.agrees ≡ w.agrees
 
@@ -79,16 +87,6 @@ pub record IsLast (l : Loc) (es : List Entry) (place : ℕ) (value : Scalar) : T
   pub within : place < length es
   pub writes : (d : Entry) → written l (slice_index_or es place d).action ≡ Some value
   pub last : last_written l (drop (place + 1) es) ≡ None
-
--- For each thread of the journal, its commits.
-pub record AreCommits (j : Journal) (kept : List (List KeptCommit)) : Type 0 where
-  pub many : length kept ≡ j.threads
-  pub each : (t : ℕ) → t < j.threads → AreKept (slice_index_or kept t []) (commits t (record_of j t))
-
--- For each thread, how many of these entries are its own.
-pub record AreCursors (j : Journal) (before : List Entry) (cursors : List ℕ) : Type 0 where
-  pub many : length cursors ≡ j.threads
-  pub at : (t : ℕ) → t < j.threads → slice_index_or cursors t 0 ≡ length (entries_of t before)
 
 -- The entries of the history before those that are left have these names, and each thread's cursor is after its own.
 pub record ArePlaced (j : Journal) (left : List Entry) (names : List Named) (cursors : List ℕ) : Type 0 where

@@ -1,5 +1,5 @@
 -- The serial order of a journal's operations.
-use Rattle.std.specs.Prelude.{ℕ, ◌≡◌, ◌<◌, ◌==◌, Bool, true, false, cond, List, [], ◌∷◌, map}
+use Rattle.std.specs.Prelude.{ℕ, ◌≡◌, ◌<◌, ◌≤◌, ◌⊎◌, ◌==◌, Bool, true, false, cond, List, [], ◌∷◌, map}
 use Rattle.std.specs.List.{flat_map}
 use Rattle.upc_values.specs.declared.action.Action.TheVariants.{Notify}
 use Rattle.upc_values.specs.declared.action.Reply.TheVariants.{Done}
@@ -7,7 +7,7 @@ use Rattle.upc_values.specs.declared.record.Item.{Item}
 use Rattle.upc_values.specs.declared.record.Item.TheVariants.{Did}
 use Rattle.upc_values.specs.declared.journal.Journal.{Journal}
 use Rattle.upc_values.specs.declared.order.Op.{Op}
-use Rattle.upc_values.specs.Lists.{Numbered, Pairwise}
+use Rattle.upc_values.specs.Lists.{Numbered, Pairwise, Precedes}
 use Rattle.upc_values.specs.Openings.{Opening}
 use Rattle.upc_values.specs.History.{IsLegal}
 use Rattle.upc_values.specs.Waits.{WaitsFollow}
@@ -50,10 +50,30 @@ pub record IsRun (j : Journal) : Type 0 where
 abbrev pub AreInOrder : Operation → Operation → Type 0
 AreInOrder a b = a.thread ≡ b.thread → rank a < rank b
 
--- A list has each operation of the journal once and keeps program order, and in a legal history without races each read
--- has in it the value of the last write before it on its location, or the initial value if there is none.
+-- A strict operation leads another: it is the last strict one of that thread at or before it.
+pub record Leads (j : Journal) (s a : Operation) : Type 0 where
+  pub is : IsOf j s
+  pub strict : s.strict ≡ true
+  pub thread : s.thread ≡ a.thread
+  pub before : rank s ≤ rank a
+  pub last :
+      (u : Operation) → IsOf j u → u.strict ≡ true → u.thread ≡ a.thread → rank u ≤ rank a → rank u ≤ rank s
+
+-- One operation stands before another in the serial order: the strict one that leads it stands first in the strict
+-- list, or the same one leads both, and they are in program order.
+pub record StandsBefore (j : Journal) (a b : Operation) : Type 0 where
+  pub first : Operation
+  pub second : Operation
+  pub leads_first : Leads j first a
+  pub leads_second : Leads j second b
+  pub ordered : Precedes (strict_list j) first second ⊎ ((first ≡ second) × (rank a < rank b))
+
+-- A list is the serial order of a journal: it has each operation once, sorted by the strict ones that lead them and
+-- then by program order; it keeps program order, and in a legal history without races each read has in it the value of
+-- the last write before it on its location, or the initial value if there is none.
 pub record IsSerial (j : Journal) (list : List Operation) : Type 0 where
   pub whole : IsOrderOf (IsOf j) list
+  pub sorted : Pairwise (StandsBefore j) list
   pub program : Pairwise AreInOrder list
   pub values : (o : Opening) → IsLegal o j.history → IsRaceFree j → ReadsLast (begins o j.history) list
 

@@ -1,4 +1,4 @@
-use Rattle.std.proofs.Common.{rules, ◌≡◌, [], ◌∷◌, ◌++◌, refl}
+use Rattle.std.proofs.Common.{rules, ◌≡◌, ◌∷◌, refl}
 use Rattle.order_builder.specs.declared.walk.Walk.{Walk}
 use Rattle.order_builder.proofs.Showing.{oldest-shown}
 use Rattle.order_builder.proofs.walk.Walk.release.Goals as goal
@@ -10,5 +10,4 @@ returns-in_ok-push c =
     let t : Walk =
     record { next = s.next; emitted = c.push.new.self; pending = c.pop_front.new.self; agrees = s.agrees } in
     let is : s.pending.items ≡ k ∷ t.pending.items = search rules in
-    let more : t.emitted.items ≡ s.emitted.items ++ k ∷ [] = search rules in
-    oldest-shown s t k t.pending.items is refl more refl refl
+    oldest-shown s t k t.pending.items is refl c.in_ok-push.ensures refl refl

@@ -1,7 +1,7 @@
 use Rattle.std.proofs.Common.{◌≡◌}
 use Rattle.upc_values.specs.Drain.{Walk, walked, walked_from}
 use Rattle.order_builder.specs.code.Views.{IsShown}
-use Rattle.order_builder.proofs.commits.drained.Given as goal
+use Rattle.order_builder.proofs.records.drained.Given as goal
 
 -- the walk so far, from which the items that are left lead to the walk over all
 abbrev pub invariant-loop-item : goal.invariant-loop-item
