@@ -15,7 +15,7 @@ use Rattle.race_report.specs.layer.Serial.{IsRun}
 use Rattle.race_report.proofs.Lists.{has-map}
 use Rattle.race_report_bridge.proofs.Knowing.{one-action}
 use Rattle.race_report_places.specs.code.Sights.{Sight, sights, shows_race, ShowRaces}
-use Rattle.race_report_places.specs.code.Report.{IsFirstRace, IsFirstShown, ShownIsReported}
+use Rattle.race_report_places.specs.layer.Report.{IsFirstRace, IsFirstShown, ShownIsReported}
 use Rattle.race_report_places.proofs.Sights.{all-sights, map-has}
 
 module _ {X Y : Type 0} (f : X → Y) where

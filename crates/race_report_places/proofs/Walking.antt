@@ -13,7 +13,7 @@ use Rattle.race_report.specs.layer.Races.{Race}
 use Rattle.race_report.specs.layer.Serial.{IsRun}
 use Rattle.upc_values.proofs.Consistency.{global-has}
 use Rattle.race_report_places.specs.code.Sights.{Sight, sights, might_race, shows_race, ShowRaces, nearest, is_raced}
-use Rattle.race_report_places.specs.code.Report.{IsFirstShown, IsQuiet}
+use Rattle.race_report_places.specs.layer.Report.{IsFirstShown, IsQuiet}
 use Rattle.race_report_places.proofs.Sights.{all-sights, might}
 use Rattle.race_report_places.proofs.Nearest.{Near, near-has, near-all, raced-all}
 use Rattle.race_report_places.proofs.Reporting.{Behind, behind}

@@ -1,3 +1,2 @@
 pub mod Sights
-pub mod Report
 pub mod Latest

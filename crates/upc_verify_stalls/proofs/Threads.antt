@@ -9,7 +9,7 @@ use Rattle.upc_values.specs.Lists.{Each}
 use Rattle.upc_values.specs.Openings.{Opening}
 use Rattle.upc_values.specs.Orders.{record_of}
 use Rattle.upc_values.specs.Strands.{StallsStand}
-use Rattle.upc_verify_parts.specs.Parts.{StallsHold, FailsFirst, HoldsOfEach}
+use Rattle.upc_verify_parts.specs.layer.Parts.{StallsHold, FailsFirst, HoldsOfEach}
 use Rattle.upc_verify_stalls.specs.declared.points.Point.{Point}
 use Rattle.upc_verify_stalls.specs.declared.walk.Watch.{Watch}
 use Rattle.upc_verify_stalls.specs.code.Points.{waiting_of, waitings, WaitsOnce}

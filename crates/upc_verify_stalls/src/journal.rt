@@ -4,7 +4,7 @@ ghost use Rattle.std.specs.Prelude.{◌≡◌, ◌<◌, [], length, map, option_
 ghost use Rattle.upc_values.specs.History.{EachBelow};
 ghost use Rattle.upc_values.specs.Orders.{record_of};
 ghost use Rattle.upc_values.specs.Strands.{StallsStand};
-ghost use Rattle.upc_verify_parts.specs.Parts.{Drains, HistoryHolds, StallsHold, FailsFirst, HoldsOfEach};
+ghost use Rattle.upc_verify_parts.specs.layer.Parts.{Drains, HistoryHolds, StallsHold, FailsFirst, HoldsOfEach};
 ghost use Rattle.upc_verify_history.specs.layer.Turns.{AreInTurn};
 ghost use Rattle.upc_verify_stalls.specs.code.Points.{waiting_of, waitings};
 ghost use Rattle.upc_verify_stalls.specs.code.Watches.{AreDue, StallsWait};

@@ -11,7 +11,7 @@ use Rattle.upc_values.specs.Orders.{IsOf}
 use Rattle.upc_values.specs.Consistent.{IsOrderOf, ReadsLast, begins}
 use Rattle.race_report.specs.layer.Races.{IsRaceFree}
 use Rattle.race_report.specs.layer.Serial.{AreInOrder, IsRun, serial_list}
-use Rattle.race_report_places.specs.code.Report.{IsReport}
+use Rattle.race_report_places.specs.layer.Report.{IsReport}
 
 -- A list makes the operations of a journal sequentially consistent: it has each of them once and keeps the program
 -- order of each thread, and each read has in it the value of the last write before it on its location, or the initial
