@@ -97,8 +97,8 @@ pub(crate) fn place_in(shape: &Shape, byte: u128) -> u32
     (byte % u128::from(shape.size)) as u32
 }
 
-/// The next cell from a place of an element on, where elements of the shape follow one another: how many bytes after the
-/// place it begins, and its kind. The cells before it are not walked. None where the shape has no cell.
+/// The next cell from a place of an element on, where elements of the shape follow one another: how many bytes after
+/// the place it begins, and its kind. The cells before it are not walked. None where the shape has no cell.
 pub(crate) fn next_from(shape: &Shape, place: u32) -> Option<(u64, Kind)>
     requires shape { IsShape shape.now }
     requires inside { place < shape.now.size }
@@ -231,7 +231,8 @@ fn hold_pointers(shape: &Shape, byte: u128, bytes: u64) -> bool
     false
 }
 
-/// Whether one of the cells in so many bytes from this one on holds a pointer or a lock; there are none without a shape.
+/// Whether one of the cells in so many bytes from this one on holds a pointer or a lock; without a shape none is
+/// there.
 pub(crate) fn cells_hold_pointers(shape: Option<&Shape>, byte: u128, bytes: u64) -> bool
     requires { IfSome (option_copied shape) IsShape }
     ensures { result ≡ list_any (λ x. not (shapes.is_integer x.1))

@@ -10,8 +10,8 @@ use block_layout::{Cells, Shape};
 use std::alloc::{AllocError as OutOfMemory, Global};
 use std::marker::Model;
 
-/// The cells in a range of bytes that are still to come, where elements of a shape follow one another. Contracts see the
-/// list of them. It is not made: the next cell is found in the element, so that cells that repeat take no memory.
+/// The cells in a range of bytes that are still to come, where elements of a shape follow one another. Contracts see
+/// the list of them. It is not made: the next cell is found in the element, so that cells that repeat take no memory.
 #[derive(Drop)]
 pub(crate) struct RangeCells {
     element: Shape,

@@ -266,8 +266,8 @@ fn progress_of<'r>(
 }
 
 /// The outcome of a thread of a program on these replies, with a budget of ticks, by plain evaluation of its typed
-/// tree: its actions in order, its ticks, and its end, or the action that it wants next. `Misfit(k)` comes exactly where
-/// reply k does not fit the action that asks for it.
+/// tree: its actions in order, its ticks, and its end, or the action that it wants next. `Misfit(k)` comes exactly
+/// where reply k does not fit the action that asks for it.
 pub fn replay_whole<'p>(
     alloc: Global,
     program: &'p Program,

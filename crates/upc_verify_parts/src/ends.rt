@@ -30,7 +30,8 @@ fn ends_in_pause(items: &Items) -> bool
     }
 }
 
-/// Whether the end of the source's outcome and the items allow a strand's end, where a record has at most so many items.
+/// Whether the end of the source's outcome and the items allow a strand's end, where a record has at most so many
+/// items.
 pub fn has_own_end(actions: u64, told: &ToldEnd, items: &Items, end: &End) -> bool
     ensures { IsTrue result ↔ OwnEnd actions told.now items.now end.now }
 {
