@@ -7,7 +7,6 @@ ghost use Rattle.upc_values.specs.Consistent.{FollowsBuffers};
 use crate::histories::{X, Y, read, write, zeros};
 use memory_history::{Step, World};
 use order_builder::{drain, global_order, orders, strict_order, thread_order};
-use plain_orders::is_consistent;
 use run_recorder::read_record;
 use std::alloc::{AllocError as OutOfMemory, Global};
 use std::test::Fail;
@@ -15,6 +14,7 @@ use upc_values::{
     Action, Entries, Entry, Items, Journal, Op, Order, Orders, Reply, Scalar, same_action,
     same_reply,
 };
+use upc_verify_orders::{broken_order, operations_of};
 
 // A run and its orders, and other orders that Appendix B does not allow, all as in the text of a run.
 struct ByHand {
@@ -200,14 +200,25 @@ fn has_orders(alloc: Global, case: &ByHand) -> Result<bool, Fail> {
     if !follows_buffers(alloc, &journal)? {
         return Ok(false);
     }
-    Ok(are_orders_of(alloc, &journal, &given)? && is_consistent(alloc, &journal, &[], &[], &given)?)
+    Ok(are_orders_of(alloc, &journal, &given)? && is_consistent(alloc, &journal, &given)?)
+}
+
+// Whether the orders make the journal's operations consistent, where each location begins with 0.
+fn is_consistent(alloc: Global, journal: &Journal, orders: &Orders) -> Result<bool, OutOfMemory> {
+    let operations = operations_of(alloc, journal)?;
+    let firsts = vec![in alloc; Scalar::Int(0); operations.len()]?;
+    let many = journal.threads as usize;
+    if many == 0 || orders.threads.len() != many || firsts.len() != operations.len() {
+        return Ok(false);
+    }
+    Ok(broken_order(alloc, journal, firsts.as_slice(), orders)?.is_none())
 }
 
 // Whether the other orders are consistent.
 fn passes_wrong(alloc: Global, case: &ByHand) -> Result<bool, Fail> {
     let text = joined(alloc, case.run, case.wrong)?;
     let (_, journal, wrong) = read_record(alloc, text.as_slice())?;
-    Ok(is_consistent(alloc, &journal, &[], &[], &wrong)?)
+    Ok(is_consistent(alloc, &journal, &wrong)?)
 }
 
 #[test]

@@ -4,6 +4,8 @@
 #[cfg(test)]
 mod front;
 #[cfg(test)]
+mod given;
+#[cfg(test)]
 mod machines;
 #[cfg(test)]
 mod orders;

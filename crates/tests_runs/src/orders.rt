@@ -1,9 +1,9 @@
 //! Orders of small runs, as Appendix B of UPC 1.3 gives them.
 
 use crate::front::program_of;
+use crate::given::is_consistent;
 use crate::runs::{has_history, run_of};
 use order_builder::orders;
-use plain_orders::is_consistent;
 use std::alloc::Global;
 use std::sync::Wait;
 use std::test::Fail;
@@ -352,7 +352,7 @@ fn is_ordered<R: Wait>(rt: &R, alloc: Global, run: &Run) -> Result<bool, Fail> {
     let is_so = has_history(&journal, run.history)
         && has_names(&found.strict, run.strict)
         && have_names(found.threads.as_slice(), run.threads);
-    Ok(is_so && is_consistent(alloc, &journal, &[], &[], &found)?)
+    Ok(is_so && is_consistent(alloc, &journal, &[], &found)?)
 }
 
 #[test]
@@ -447,7 +447,7 @@ fn is_kept<R: Wait>(rt: &R, alloc: Global, case: &Case) -> Result<bool, Fail> {
     let program = program_of(alloc, 2, case.source)?;
     let journal = run_of(rt, alloc, case.source, TWO, case.picks)?;
     let found = orders(alloc, &journal)?;
-    Ok(is_consistent(alloc, &journal, program.initials(), &[], &found)?)
+    Ok(is_consistent(alloc, &journal, program.initials(), &found)?)
 }
 
 #[test]

@@ -16,6 +16,8 @@ mod counted;
 #[cfg(test)]
 mod edges;
 #[cfg(test)]
+mod given;
+#[cfg(test)]
 mod integer_rows;
 #[cfg(test)]
 mod journals;

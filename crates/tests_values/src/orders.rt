@@ -1,16 +1,17 @@
 //! Small journals with their orders, and orders that are not consistent.
 
+use crate::given::is_consistent;
 use crate::journals::{
     begin, buffering, finish, forwarding, legal_histories, read, read_of, variable, write,
 };
 use block_layout::{Kind, SharedPtr};
-use plain_orders::{is_consistent, operations_of};
 use std::alloc::{AllocError as OutOfMemory, Global};
 use std::test::Fail;
 use upc_values::{
     Action, End, Entries, Item, Items, Journal, Listing, Mark, Op, Order, Orders, Reply, Scalar,
-    Strand,
+    Strand, blank,
 };
+use upc_verify_orders::operations_of;
 
 // The name of an operation: its thread, the number of its action there, and whether it writes or reads.
 type Named = (u32, u32, char);
@@ -166,7 +167,7 @@ fn buffered_so(
     let journal = journal_of(alloc, buffering(alloc, false, reads)?)?;
     let orders = orders(alloc, strict, &FIRST, second)?;
     let initials = [(variable(1), Scalar::Int(begins))];
-    is_consistent(alloc, &journal, &initials, &[], &orders)
+    is_consistent(alloc, &journal, &initials, &orders)
 }
 
 // Reads, what x begins with, the strict order, thread 1's order, and whether they are consistent.
@@ -242,7 +243,7 @@ fn forwarded_so(alloc: Global, value: i128) -> Result<bool, OutOfMemory> {
         &FIRST_FORWARDED,
         &SECOND_FORWARDED,
     )?;
-    is_consistent(alloc, &journal, &[], &[], &orders)
+    is_consistent(alloc, &journal, &[], &orders)
 }
 
 #[test]
@@ -294,7 +295,7 @@ fn reading(alloc: Global, value: Scalar) -> Result<Journal, OutOfMemory> {
 fn begins_so(alloc: Global, kind: Kind, value: Scalar) -> Result<bool, OutOfMemory> {
     let journal = reading(alloc, value)?;
     let orders = orders(alloc, &BARRIERS, &READING, &BARRIERS)?;
-    is_consistent(alloc, &journal, &[], &[(variable(1), kind)], &orders)
+    is_consistent(alloc, &journal, &[(variable(1), blank(kind))], &orders)
 }
 
 const NULL: Scalar = Scalar::Shared(SharedPtr::NULL);
@@ -346,7 +347,7 @@ fn is_order_by(alloc: Global, journal: &Journal, mask: u32) -> Result<bool, OutO
     let list = merged(alloc, mask)?;
     let names = list.as_slice();
     let orders = orders(alloc, names, names, names)?;
-    Ok(names.len() == 12 && is_consistent(alloc, journal, &[], &[], &orders)?)
+    Ok(names.len() == 12 && is_consistent(alloc, journal, &[], &orders)?)
 }
 
 // How many of the orders of all twelve strict operations are consistent.

@@ -1,6 +1,0 @@
-use Rattle.std.proofs.Common.{◌≡◌}
-use Rattle.plain_orders.specs.code.Below.{operations_below}
-use Rattle.plain_orders.proofs.accesses.operations_of.Given as goal
-
-abbrev pub invariant-loop-thread : goal.invariant-loop-thread
-invariant-loop-thread l = l.list.items ≡ operations_below l.journal l.thread
