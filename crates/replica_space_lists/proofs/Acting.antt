@@ -1,6 +1,6 @@
 -- One event, as all threads' lists see it.
-use Rattle.std.proofs.Common.{◌≡◌, ◌≢◌, ℕ, ◌+◌, ◌*◌, ◌<◌, ◌≤◌, ◌==◌, ◌&&◌, ◌||◌, Bool, true, false, not, cond, List, [], ◌∷◌, ◌++◌, map, filter, Option, Some, None, refl, sym, ap, ◌∙◌, subst, inl, inr, ◌⊎◌, arith, append-nil, true≢false}
-use Rattle.std.proofs.lemmas.Bool.{false≢true, cond_both}
+use Rattle.std.proofs.Common.{◌≡◌, ◌≢◌, ℕ, ◌<◌, ◌≤◌, ◌==◌, ◌&&◌, true, false, cond, List, [], ◌∷◌, ◌++◌, map, Option, Some, None, refl, sym, ap, ◌∙◌, subst, inl, inr, arith, append-nil, true≢false}
+use Rattle.std.proofs.lemmas.Bool.{cond_both}
 use Rattle.block_layout.specs.declared.place.Loc.{Loc}
 use Rattle.upc_values.specs.declared.scalar.Scalar.{Scalar}
 use Rattle.upc_values.specs.declared.action.Action.{Action}
@@ -10,25 +10,22 @@ use Rattle.upc_values.specs.declared.action.Reply.TheVariants.{Done, Value, Flag
 use Rattle.upc_values.specs.declared.journal.Entry.{Entry}
 use Rattle.upc_values.specs.Scalars.{zero, value_or}
 use Rattle.upc_values.specs.Drain.{or_else}
-use Rattle.upc_values.specs.Lists.{Has, Each, Pairwise}
+use Rattle.upc_values.specs.Lists.{Has}
 use Rattle.upc_values.specs.Openings.{Opening, initial_of}
-use Rattle.upc_values.specs.History.{objects, reply, valued}
+use Rattle.upc_values.specs.History.{objects, valued}
 use Rattle.upc_values.specs.Operations.{Access, Nothing, Reads, Writes, Writes_sync, Reads_sync, Writes_and_reads_sync, access, Operation, Cell, Sync, read_at, write_at, operations_by, accesses_of}
-use Rattle.upc_values.specs.Orders.{rank}
 use Rattle.upc_values.specs.Consistent.{same_place, last_write, ReadsLastFrom, begins}
 use Rattle.upc_values.proofs.Beginnings.{initial-stays}
 use Rattle.upc_values.proofs.Values.{last_write-append, sync-accesses}
 use Rattle.replica_space.specs.declared.message.Stamp.{Stamp}
 use Rattle.replica_space.specs.declared.message.Message.{Message}
-use Rattle.replica_space.specs.declared.event.Deed.{Deed}
-use Rattle.replica_space.specs.declared.event.Deed.TheVariants.{Did, Delivered}
+use Rattle.replica_space.specs.declared.event.Deed.TheVariants.{Did}
 use Rattle.replica_space.specs.declared.event.Event.{Event}
 use Rattle.replica_space.specs.code.Events.{history_in}
-use Rattle.replica_space.specs.code.Spaces.{Space, greatest, is_synchronising, met, next_stamp, sent, spread, received, done}
-use Rattle.replica_space.specs.code.Runs.{NoneWaits, value_in, replica_reply}
-use Rattle.replica_space.specs.code.ReplicaOrders.{Placed, placed, write_of, with_write, with_first, operations, stamp_of, listed, Listed}
+use Rattle.replica_space.specs.code.Spaces.{is_synchronising, met, next_stamp, sent, spread, received, done}
+use Rattle.replica_space.specs.code.Runs.{NoneWaits, value_in}
+use Rattle.replica_space.specs.code.ReplicaOrders.{placed, write_of, with_first, operations, stamp_of, listed, Listed}
 use Rattle.replica_space_lists.specs.layer.Keeping.{told}
-use Rattle.replica_space_lists.proofs.Stamps.{greatest-most}
 use Rattle.replica_space_lists.proofs.Copies.{Made, met-made, spread-made, sent-made, received-made, agree}
 use Rattle.replica_space_lists.proofs.Putting.{last-value, value_told}
 use Rattle.replica_space_lists.proofs.Copying.{IsZero}

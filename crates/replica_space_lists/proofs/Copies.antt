@@ -1,6 +1,6 @@
 -- The copies of the threads: all agree where no message waits.
-use Rattle.std.proofs.Common.{◌≡◌, ◌≢◌, ℕ, ◌+◌, ◌<◌, ◌≤◌, ◌==◌, Bool, true, false, not, ◌&&◌, cond, List, [], ◌∷◌, ◌++◌, Option, Some, None, refl, sym, ap, ◌∙◌, subst, inl, inr, ◌⊎◌, arith, eq-eqb, eqb-true, ne_eqb}
-use Rattle.std.proofs.lemmas.Bool.{cases_Bool, cases_eq, false≢true, cond-true, cond-false, cond_both, and_parts, and_from, and_cases, and_left, not-true, not_from_false}
+use Rattle.std.proofs.Common.{◌≡◌, ◌≢◌, ℕ, ◌+◌, ◌<◌, ◌≤◌, ◌==◌, true, false, not, ◌&&◌, cond, List, [], ◌∷◌, ◌++◌, Option, Some, None, refl, sym, ap, ◌∙◌, subst, inl, inr, ◌⊎◌, arith, eq-eqb, eqb-true, ne_eqb}
+use Rattle.std.proofs.lemmas.Bool.{cases_Bool, cases_eq, false≢true, cond-true, cond-false, cond_both, and_parts, and_from, not-true, not_from_false}
 use Rattle.block_layout.specs.declared.place.Loc.{Loc}
 use Rattle.upc_values.specs.Scalars.{same_loc}
 use Rattle.upc_values.specs.Lists.{Has}
@@ -8,7 +8,7 @@ use Rattle.upc_values.proofs.Membership.{has-left, has-right, has-cases}
 use Rattle.upc_values.proofs.Sameness.{same_loc-true, same_loc-itself}
 use Rattle.replica_space.specs.declared.message.Stamp.{Stamp}
 use Rattle.replica_space.specs.declared.message.Message.{Message}
-use Rattle.replica_space.specs.code.Spaces.{Space, begun, is_later, greater, greatest, with_message, with_mail, is_behind, met, next_stamp, with_sent, sent, spread, received}
+use Rattle.replica_space.specs.code.Spaces.{Space, begun, is_later, greater, with_message, with_mail, is_behind, met, sent, spread, received}
 use Rattle.replica_space.specs.code.Runs.{NoneWaits}
 use Rattle.replica_space_lists.proofs.Stamps.{upto-trans, upto-self, upto-anti, lower-upto, later-upto, greater-left, greater-right, greatest-most}
 

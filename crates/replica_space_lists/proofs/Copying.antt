@@ -1,21 +1,21 @@
 -- A thread's copy has the last writes of its list.
-use Rattle.std.proofs.Common.{◌≡◌, ◌≢◌, ℕ, ◌+◌, ◌<◌, ◌≤◌, ◌==◌, ◌&&◌, Bool, true, false, cond, List, [], ◌∷◌, ◌++◌, Option, Some, None, refl, sym, ap, ◌∙◌, subst, inl, inr, ◌⊎◌, arith}
-use Rattle.std.proofs.lemmas.Bool.{false≢true, cond_both, cond-false, cases_Bool}
+use Rattle.std.proofs.Common.{◌≡◌, ℕ, ◌<◌, ◌≤◌, ◌&&◌, Bool, true, false, cond, List, [], ◌∷◌, ◌++◌, Option, Some, None, refl, sym, ap, ◌∙◌, subst, inl, inr, arith}
+use Rattle.std.proofs.lemmas.Bool.{false≢true, cond-false}
 use Rattle.block_layout.specs.declared.place.Loc.{Loc}
 use Rattle.upc_values.specs.declared.scalar.Scalar.{Scalar}
 use Rattle.upc_values.specs.Scalars.{same_loc, zero, value_or}
 use Rattle.upc_values.specs.Drain.{or_else}
-use Rattle.upc_values.specs.Lists.{Has, Each, Pairwise}
-use Rattle.upc_values.specs.Operations.{Operation, Cell, Sync, write_at}
+use Rattle.upc_values.specs.Lists.{Has, Pairwise}
+use Rattle.upc_values.specs.Operations.{Cell, Sync, write_at}
 use Rattle.upc_values.specs.Consistent.{last_write}
-use Rattle.upc_values.proofs.Membership.{has-cases, has-left, has-right, precedes-has, pairs-from}
+use Rattle.upc_values.proofs.Membership.{has-cases, precedes-has, pairs-from}
 use Rattle.upc_values.proofs.Values.{last_write-append}
 use Rattle.replica_space.specs.declared.message.Message.{Message}
 use Rattle.replica_space.specs.code.Spaces.{Space, is_later, with_message, with_mail}
-use Rattle.replica_space.specs.code.ReplicaOrders.{Placed, placed, write_of, is_write_of, operations}
-use Rattle.replica_space_lists.specs.layer.Keeping.{StandByStamps, Told, told_or, last_told, told}
+use Rattle.replica_space.specs.code.ReplicaOrders.{Placed, placed, is_write_of, operations}
+use Rattle.replica_space_lists.specs.layer.Keeping.{StandByStamps, told_or, last_told, told}
 use Rattle.replica_space_lists.proofs.Stamps.{lower-upto}
-use Rattle.replica_space_lists.proofs.Putting.{one_told, last_told-append, told_or-none, pairs-join, Puts, has-was, stamps-put, told-put}
+use Rattle.replica_space_lists.proofs.Putting.{one_told, last_told-append, pairs-join, Puts, has-was, stamps-put, told-put}
 use Rattle.replica_space_lists.proofs.Splitting.{operations-append, IsRelaxed}
 
 abbrev pub IsZero : Option Scalar → Type 0

@@ -1,5 +1,5 @@
 -- The operations in a list and in the mail: each once, in program order.
-use Rattle.std.proofs.Common.{◌≡◌, ◌≢◌, ℕ, ◌+◌, ◌*◌, ◌<◌, ◌≤◌, ◌==◌, ◌||◌, Bool, true, false, cond, List, [], ◌∷◌, ◌++◌, refl, sym, ap, ◌∙◌, subst, inl, inr, ◌⊎◌, arith}
+use Rattle.std.proofs.Common.{◌≡◌, ◌≢◌, ℕ, ◌+◌, ◌*◌, ◌<◌, ◌≤◌, ◌==◌, Bool, true, false, cond, List, [], ◌∷◌, ◌++◌, refl, sym, ap, ◌∙◌, subst, inl, inr, ◌⊎◌, arith}
 use Rattle.std.proofs.lemmas.Bool.{false≢true, or_right, cases_eq}
 use Rattle.block_layout.specs.declared.place.Loc.{Loc}
 use Rattle.upc_values.specs.declared.scalar.Scalar.{Scalar}
@@ -8,7 +8,7 @@ use Rattle.upc_values.specs.Lists.{Has, Each, Pairwise}
 use Rattle.upc_values.specs.Operations.{Operation}
 use Rattle.upc_values.specs.Orders.{is_shown, rank, name_of}
 use Rattle.upc_values.specs.Consistent.{ReadsLast, ReadsLastFrom}
-use Rattle.upc_values.proofs.Membership.{has-left, has-right, has-cases, each-has, pairs-weaker, pairs-at}
+use Rattle.upc_values.proofs.Membership.{has-left, has-right, has-cases, each-has, pairs-weaker}
 use Rattle.upc_values.proofs.Values.{reads-append}
 use Rattle.replica_space.specs.declared.message.Message.{Message}
 use Rattle.replica_space.specs.code.ReplicaOrders.{Placed, write_of, operations}

@@ -1,14 +1,14 @@
 -- A list with one more write in its place.
-use Rattle.std.proofs.Common.{◌≡◌, ◌≢◌, ℕ, ◌==◌, Bool, true, false, not, ◌&&◌, cond, List, [], ◌∷◌, ◌++◌, map, Option, Some, None, refl, sym, ap, ◌∙◌, subst, inl, inr, ◌⊎◌, append_assoc, append-nil, true≢false}
-use Rattle.std.proofs.lemmas.Bool.{cases_Bool, false≢true, cond-true, cond-false, cond_both, and_parts, and_from, and_cases, and_left, not_from_false, not_from_true, false_from_ne_true}
+use Rattle.std.proofs.Common.{◌≡◌, Bool, true, false, not, ◌&&◌, cond, List, [], ◌∷◌, ◌++◌, Option, Some, None, refl, sym, ap, ◌∙◌, subst, inl, inr, ◌⊎◌, append_assoc, true≢false}
+use Rattle.std.proofs.lemmas.Bool.{cases_Bool, false≢true, cond-true, cond-false, cond_both, and_parts, and_from, and_cases}
 use Rattle.block_layout.specs.declared.place.Loc.{Loc}
 use Rattle.upc_values.specs.declared.scalar.Scalar.{Scalar}
 use Rattle.upc_values.specs.Scalars.{same_loc, value_or}
 use Rattle.upc_values.specs.Drain.{or_else}
-use Rattle.upc_values.specs.Lists.{Has, Each, Pairwise, Precedes}
+use Rattle.upc_values.specs.Lists.{Has, Each, Pairwise}
 use Rattle.upc_values.specs.Operations.{Operation, Place, Cell, Sync}
 use Rattle.upc_values.specs.Consistent.{same_place, last_write, initial_at, ReadsLastFrom}
-use Rattle.upc_values.proofs.Membership.{has-left, has-right, has-cases, each-has, each-from, each-back, each-append, pairs-insert}
+use Rattle.upc_values.proofs.Membership.{has-left, has-right, has-cases, each-has, each-from, each-append, pairs-insert}
 use Rattle.upc_values.proofs.Values.{last_write-append}
 use Rattle.upc_values.proofs.Sameness.{same_loc-true, same_loc-itself}
 use Rattle.replica_space.specs.declared.message.Stamp.{Stamp}

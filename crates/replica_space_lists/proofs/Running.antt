@@ -1,6 +1,6 @@
 -- All events of a run, one after another.
-use Rattle.std.proofs.Common.{◌≡◌, ◌≢◌, ℕ, ◌+◌, ◌<◌, ◌≤◌, ◌==◌, Bool, true, false, cond, List, [], ◌∷◌, ◌++◌, length, filter, flat_map, Option, Some, None, refl, sym, ap, ◌∙◌, subst, inl, inr, arith, append_assoc, append-nil, length-append, eq-eqb}
-use Rattle.std.proofs.lemmas.Bool.{cond-true, cond-false}
+use Rattle.std.proofs.Common.{◌≡◌, ◌≢◌, ℕ, ◌+◌, ◌<◌, ◌≤◌, ◌==◌, true, List, [], ◌∷◌, ◌++◌, length, flat_map, Some, refl, sym, ap, ◌∙◌, subst, arith, append_assoc, append-nil, length-append, eq-eqb}
+use Rattle.std.proofs.lemmas.Bool.{cond-true}
 use Rattle.std.proofs.lemmas.List.Concat.{flat_map-append}
 use Rattle.std.proofs.lemmas.List.Elements.{filter_map-append, filter-append}
 use Rattle.block_layout.specs.declared.place.Loc.{Loc}
@@ -8,18 +8,16 @@ use Rattle.upc_values.specs.declared.scalar.Scalar.{Scalar}
 use Rattle.upc_values.specs.declared.action.Action.{Action}
 use Rattle.upc_values.specs.declared.action.Action.TheVariants as act
 use Rattle.upc_values.specs.declared.action.Reply.{Reply}
-use Rattle.upc_values.specs.declared.action.Reply.TheVariants.{Done}
 use Rattle.upc_values.specs.declared.journal.Entry.{Entry}
 use Rattle.upc_values.specs.Drain.{entries_of, entry_of, or_else}
 use Rattle.upc_values.specs.Openings.{Opening, initial_of}
 use Rattle.upc_values.specs.History.{objects, valued}
-use Rattle.upc_values.specs.Operations.{Operation, accesses}
+use Rattle.upc_values.specs.Operations.{accesses}
 use Rattle.upc_values.specs.Consistent.{begins}
-use Rattle.replica_space.specs.declared.message.Message.{Message}
 use Rattle.replica_space.specs.declared.event.Event.{Event}
 use Rattle.replica_space.specs.declared.event.Deed.{Deed}
 use Rattle.replica_space.specs.declared.event.Deed.TheVariants.{Did, Delivered}
-use Rattle.replica_space.specs.code.Events.{entry_by, history_in, did, delivered}
+use Rattle.replica_space.specs.code.Events.{entry_by, history_in}
 use Rattle.replica_space.specs.code.Spaces.{Space, begun, is_synchronising, space_from, space_after, done}
 use Rattle.replica_space.specs.code.Runs.{NoneWaits, value_in, replica_reply, MayDo, IsReplicaRunFrom, IsReplicaRun}
 use Rattle.replica_space.specs.code.ReplicaOrders.{Listed, listed, listed_from, listed_after, operations_in}
@@ -28,7 +26,6 @@ use Rattle.replica_space_lists.proofs.Stamps.{higher-later}
 use Rattle.replica_space_lists.proofs.Copies.{begun-made, agree}
 use Rattle.replica_space_lists.proofs.Splitting.{whole-strict, low-before}
 use Rattle.replica_space_lists.proofs.Naming.{apart}
-use Rattle.replica_space_lists.proofs.Turning.{Thread}
 use Rattle.replica_space_lists.proofs.Acting.{All, Answered, acted, delivered-all}
 
 listed-append : (n : ℕ) (x : Listed) (xs ys : List Event) → listed_from n x (xs ++ ys) ≡ listed_from n (listed_from n x xs) ys

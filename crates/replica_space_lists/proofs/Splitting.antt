@@ -1,15 +1,15 @@
 -- A list with what stands in it up to the last synchronising action, and what stands after that.
-use Rattle.std.proofs.Common.{◌≡◌, ℕ, ◌<◌, ◌≤◌, ◌&&◌, Bool, true, false, cond, List, [], ◌∷◌, ◌++◌, map, filter, refl, sym, ap, ◌∙◌, subst, inl, inr, ◌⊎◌, append_assoc, append-nil, arith}
+use Rattle.std.proofs.Common.{◌≡◌, ℕ, ◌<◌, ◌≤◌, true, false, List, [], ◌∷◌, ◌++◌, filter, refl, sym, ap, ◌∙◌, subst, inl, inr, ◌⊎◌, append_assoc, append-nil, arith}
 use Rattle.std.proofs.lemmas.Bool.{false≢true, cond-false, and_right, cases_Bool, and_left}
 use Rattle.std.proofs.lemmas.List.{map-append}
 use Rattle.std.proofs.lemmas.List.Elements.{filter-append}
 use Rattle.block_layout.specs.declared.place.Loc.{Loc}
-use Rattle.upc_values.specs.Lists.{Has, Each, Pairwise, Precedes}
+use Rattle.upc_values.specs.Lists.{Has, Each, Precedes}
 use Rattle.upc_values.specs.Operations.{Operation}
-use Rattle.upc_values.proofs.Membership.{has-left, has-right, has-cases, each-has, each-from, each-append, precedes-has}
+use Rattle.upc_values.proofs.Membership.{each-has, each-from, each-append, precedes-has}
 use Rattle.replica_space.specs.declared.message.Message.{Message}
 use Rattle.replica_space.specs.code.Spaces.{is_later}
-use Rattle.replica_space.specs.code.ReplicaOrders.{Placed, write_of, is_write_of, is_after, with_write, operations}
+use Rattle.replica_space.specs.code.ReplicaOrders.{Placed, is_write_of, is_after, with_write, operations}
 use Rattle.replica_space_lists.proofs.Stamps.{lower-upto}
 use Rattle.replica_space_lists.proofs.Putting.{cut, past, prefixed, Puts, has-was}
 

@@ -1,23 +1,23 @@
 -- One event, as one thread's list sees it.
-use Rattle.std.proofs.Common.{◌≡◌, ◌≢◌, ℕ, ◌+◌, ◌*◌, ◌<◌, ◌≤◌, ◌==◌, ◌&&◌, ◌||◌, Bool, true, false, not, cond, List, [], ◌∷◌, ◌++◌, map, filter, Option, Some, None, refl, sym, ap, ◌∙◌, subst, inl, inr, ◌⊎◌, arith, append-nil, eq-eqb, eqb-true, ne_eqb, true≢false}
-use Rattle.std.proofs.lemmas.Bool.{false≢true, cond-true, cond-false, cond_both, cases_eq, cases_Bool, and_parts, and_from, or_left, or_right, or_from, and_left, and_right}
+use Rattle.std.proofs.Common.{◌≡◌, ◌≢◌, ℕ, ◌+◌, ◌<◌, ◌≤◌, ◌==◌, ◌&&◌, ◌||◌, true, false, not, cond, List, [], ◌∷◌, ◌++◌, map, Option, Some, None, refl, sym, ap, ◌∙◌, subst, inl, inr, arith, append-nil, eq-eqb, eqb-true, ne_eqb, true≢false}
+use Rattle.std.proofs.lemmas.Bool.{false≢true, cond-true, cond-false, cond_both, cases_eq, and_from, or_left, or_right, or_from, and_left, and_right}
 use Rattle.block_layout.specs.declared.place.Loc.{Loc}
 use Rattle.upc_values.specs.declared.scalar.Scalar.{Scalar}
-use Rattle.upc_values.specs.Scalars.{zero, value_or}
+use Rattle.upc_values.specs.Scalars.{value_or}
 use Rattle.upc_values.specs.Drain.{or_else}
 use Rattle.upc_values.specs.Lists.{Has, Each, Pairwise}
-use Rattle.upc_values.specs.Operations.{Access, Nothing, Reads, Writes, Writes_sync, Reads_sync, Writes_and_reads_sync, Operation, Cell, Sync, read_at, write_at, operations_by}
+use Rattle.upc_values.specs.Operations.{Operation, Cell, Sync, read_at, write_at}
 use Rattle.upc_values.specs.Orders.{is_shown, rank}
 use Rattle.upc_values.specs.Consistent.{same_place, last_write, ReadsLastFrom}
-use Rattle.upc_values.proofs.Membership.{has-cases, each-from}
-use Rattle.upc_values.proofs.Values.{last_write-append, sync-accesses}
+use Rattle.upc_values.proofs.Membership.{has-cases}
+use Rattle.upc_values.proofs.Values.{last_write-append}
 use Rattle.replica_space.specs.declared.message.Stamp.{Stamp}
 use Rattle.replica_space.specs.declared.message.Message.{Message}
-use Rattle.replica_space.specs.code.Spaces.{Space, greatest, greater, with_message, with_mail, with_sent, met, next_stamp, sent, spread, received}
+use Rattle.replica_space.specs.code.Spaces.{Space, greatest, greater, with_message, with_mail, with_sent, met, sent, spread, received}
 use Rattle.replica_space.specs.code.Runs.{NoneWaits}
-use Rattle.replica_space.specs.code.ReplicaOrders.{Placed, placed, write_of, is_write_of, with_write, with_first, operations}
+use Rattle.replica_space.specs.code.ReplicaOrders.{Placed, placed, write_of, is_write_of, with_write, operations}
 use Rattle.replica_space_lists.proofs.Stamps.{greatest-most, greater-left, greater-right}
-use Rattle.replica_space_lists.proofs.Putting.{has-operations, Puts, has-was}
+use Rattle.replica_space_lists.proofs.Putting.{has-operations, Puts}
 use Rattle.replica_space_lists.proofs.Splitting.{Splits, IsRelaxed, operations-append, splits-hidden, splits-relaxed, splits-sync, splits-put, puts}
 use Rattle.replica_space_lists.proofs.Naming.{Names, names-hidden, names-sent, names-append, names-put}
 use Rattle.replica_space_lists.proofs.Copying.{Copied, IsZero, written, copied-same, copied-quiet, copied-write, copied-put}
