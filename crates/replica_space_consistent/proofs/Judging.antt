@@ -6,12 +6,13 @@ use Rattle.upc_values.specs.declared.scalar.Scalar.{Scalar}
 use Rattle.upc_values.specs.Drain.{entries_of}
 use Rattle.upc_values.specs.Lists.{Has, Pairwise}
 use Rattle.upc_values.specs.Openings.{Opening}
-use Rattle.upc_values.specs.Operations.{Access, Nothing, Reads, Writes, Writes_sync, Reads_sync, Writes_and_reads_sync, Operation, access, accesses_of, operations_by}
+use Rattle.upc_values.specs.Operations.{Operation, access, accesses_of, operations_by}
 use Rattle.upc_values.specs.Orders.{is_shown, rank, name_of}
 use Rattle.upc_values.specs.Consistent.{begins, IsOrderOf, IsConsistent, KeepsProgram}
 use Rattle.upc_values.proofs.Consistency.{or_turn}
-use Rattle.upc_values.proofs.Membership.{has-cases, has-filter, filter-has, pairs-from, pairs-weaker, precedes-total}
+use Rattle.upc_values.proofs.Membership.{each-has, has-cases, has-filter, filter-has, pairs-from, pairs-weaker, precedes-total}
 use Rattle.upc_verify_orders.specs.code.Strict.{StrictBy, As_listed, As_written, Through}
+use Rattle.upc_verify_orders.proofs.Below.{by-thread}
 use Rattle.upc_verify_orders.proofs.Reaching.{StrictOf, same-name}
 use Rattle.upc_verify_orders.proofs.Rising.{not-itself}
 use Rattle.replica_space.specs.declared.event.Event.{Event}
@@ -28,21 +29,6 @@ use Rattle.replica_space_consistent.proofs.Leading.{Before, pairs-operation, one
 
 -- ---- the threads of the operations
 
-one-of : (P : Operation → Type 0) (o x : Operation) → P o → Has (o ∷ []) x → P x
-one-of P o x p (inl e) = subst P e p
-one-of P o x p (inr h) = absurd h
-
-thread-by : (t i : ℕ) (a : Access) (x : Operation) → Has (operations_by t i a) x → x.thread ≡ t
-thread-by t i Nothing x h = absurd h
-thread-by t i (Reads l s v) x (inl e) = sym (ap (λ o. o.thread) e)
-thread-by t i (Writes l s v) x (inl e) = sym (ap (λ o. o.thread) e)
-thread-by t i Writes_sync x (inl e) = sym (ap (λ o. o.thread) e)
-thread-by t i Reads_sync x (inl e) = sym (ap (λ o. o.thread) e)
-thread-by t i Writes_and_reads_sync x (inl e) = sym (ap (λ o. o.thread) e)
-thread-by t i Writes_and_reads_sync x (inr (inl e)) = sym (ap (λ o. o.thread) e)
-thread-by t i Writes_and_reads_sync x (inr (inr h)) = absurd h
-thread-by t i a x (inr h) = absurd h
-
 below : (o : Opening) (before es : List Event) → IsReplicaRunFrom o before es → (x : Operation) → Has (operations_in es) x → x.thread < o.threads
 below o before [] r x h = absurd h
 below o before (e ∷ es) r x h = go e.deed h (λ w. below o (before ++ e ∷ []) es r.2 x w)
@@ -50,7 +36,7 @@ below o before (e ∷ es) r x h = go e.deed h (λ w. below o (before ++ e ∷ []
     go : (d : Deed) → Has (operations_in (record { by = e.by; deed = d } ∷ es)) x → (Has (operations_in es) x → x.thread < o.threads) → x.thread < o.threads
     go (Did i a y) w rest =
         elim (has-cases (accesses_of e.by i a y) (operations_in es) x w) [
-          | inl k ↦ subst (λ z. z < o.threads) (sym (thread-by e.by i (access a y) x k)) r.0
+          | inl k ↦ subst (λ z. z < o.threads) (sym (each-has (λ z. z.thread ≡ e.by) (operations_by e.by i (access a y)) (by-thread e.by i (access a y)) x k)) r.0
           | inr k ↦ rest k
         ]
     go (Delivered to from) w rest = rest w
