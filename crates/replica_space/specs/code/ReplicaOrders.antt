@@ -14,9 +14,9 @@ use Rattle.replica_space.specs.declared.message.Message.{Message}
 use Rattle.replica_space.specs.declared.event.Event.{Event}
 use Rattle.replica_space.specs.declared.event.Deed.{Deed}
 use Rattle.replica_space.specs.declared.event.Deed.TheVariants.{Did, Delivered}
-use Rattle.replica_space.specs.code.Events.{history_in}
-use Rattle.replica_space.specs.code.Spaces.{Space, begun, is_later, is_synchronising, met, next_stamp, done}
-use Rattle.replica_space.specs.code.Runs.{IsReplicaRun}
+use Rattle.replica_space.specs.layer.Events.{history_in}
+use Rattle.replica_space.specs.layer.Spaces.{Space, begun, is_later, is_synchronising, met, next_stamp, done}
+use Rattle.replica_space.specs.layer.Runs.{IsReplicaRun}
 
 -- An operation in a list; one that is a write has its stamp.
 pub record Placed : Type 0 where
