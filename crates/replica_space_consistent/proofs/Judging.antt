@@ -18,8 +18,8 @@ use Rattle.upc_verify_orders.proofs.Rising.{not-itself}
 use Rattle.replica_space.specs.declared.event.Event.{Event}
 use Rattle.replica_space.specs.declared.event.Deed.{Deed}
 use Rattle.replica_space.specs.declared.event.Deed.TheVariants.{Did, Delivered}
-use Rattle.replica_space.specs.code.Events.{history_in}
-use Rattle.replica_space.specs.code.Runs.{IsReplicaRun, IsReplicaRunFrom}
+use Rattle.replica_space.specs.layer.Events.{history_in}
+use Rattle.replica_space.specs.layer.Runs.{IsReplicaRun, IsReplicaRunFrom}
 use Rattle.replica_space.specs.code.ReplicaOrders.{Placed, operations, operations_in, listed_after, with_all_mail, replica_order, replica_strict_list}
 use Rattle.replica_space_lists.proofs.Putting.{operations-has}
 use Rattle.replica_space_lists.proofs.Running.{kept}

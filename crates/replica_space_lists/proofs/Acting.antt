@@ -21,9 +21,9 @@ use Rattle.replica_space.specs.declared.message.Stamp.{Stamp}
 use Rattle.replica_space.specs.declared.message.Message.{Message}
 use Rattle.replica_space.specs.declared.event.Deed.TheVariants.{Did}
 use Rattle.replica_space.specs.declared.event.Event.{Event}
-use Rattle.replica_space.specs.code.Events.{history_in}
-use Rattle.replica_space.specs.code.Spaces.{is_synchronising, met, next_stamp, sent, spread, received, done}
-use Rattle.replica_space.specs.code.Runs.{NoneWaits, value_in}
+use Rattle.replica_space.specs.layer.Events.{history_in}
+use Rattle.replica_space.specs.layer.Spaces.{is_synchronising, met, next_stamp, sent, spread, received, done}
+use Rattle.replica_space.specs.layer.Runs.{NoneWaits, value_in}
 use Rattle.replica_space.specs.code.ReplicaOrders.{placed, write_of, with_first, operations, stamp_of, listed, Listed}
 use Rattle.replica_space_lists.specs.layer.Keeping.{told}
 use Rattle.replica_space_lists.proofs.Copies.{Made, met-made, spread-made, sent-made, received-made, agree}

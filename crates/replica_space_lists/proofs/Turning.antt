@@ -13,8 +13,8 @@ use Rattle.upc_values.proofs.Membership.{has-cases}
 use Rattle.upc_values.proofs.Values.{last_write-append}
 use Rattle.replica_space.specs.declared.message.Stamp.{Stamp}
 use Rattle.replica_space.specs.declared.message.Message.{Message}
-use Rattle.replica_space.specs.code.Spaces.{Space, greatest, greater, with_message, with_mail, with_sent, met, sent, spread, received}
-use Rattle.replica_space.specs.code.Runs.{NoneWaits}
+use Rattle.replica_space.specs.layer.Spaces.{Space, greatest, greater, with_message, with_mail, with_sent, met, sent, spread, received}
+use Rattle.replica_space.specs.layer.Runs.{NoneWaits}
 use Rattle.replica_space.specs.code.ReplicaOrders.{Placed, placed, write_of, is_write_of, with_write, operations}
 use Rattle.replica_space_lists.proofs.Stamps.{greatest-most, greater-left, greater-right}
 use Rattle.replica_space_lists.proofs.Putting.{has-operations, Puts}

@@ -7,7 +7,7 @@ use Rattle.upc_values.specs.Lists.{Has, Each, Pairwise}
 use Rattle.upc_values.proofs.Membership.{has-left, has-right, each-has, each-from, each-append, each-back, each-front}
 use Rattle.upc_values.proofs.Sameness.{same_loc-true}
 use Rattle.replica_space.specs.declared.message.Message.{Message}
-use Rattle.replica_space.specs.code.Spaces.{is_later}
+use Rattle.replica_space.specs.layer.Spaces.{is_later}
 use Rattle.replica_space.specs.code.ReplicaOrders.{Placed, write_of, is_write_of, is_after, with_write}
 use Rattle.replica_space_lists.specs.layer.Keeping.{StandByStamps}
 use Rattle.replica_space_lists.proofs.Stamps.{upto-trans}

@@ -11,8 +11,8 @@ use Rattle.replica_space.specs.declared.message.Message.{Message}
 use Rattle.replica_space.specs.declared.event.Event.{Event}
 use Rattle.replica_space.specs.declared.event.Deed.{Deed}
 use Rattle.replica_space.specs.declared.event.Deed.TheVariants.{Did, Delivered}
-use Rattle.replica_space.specs.code.Events.{history_in}
-use Rattle.replica_space.specs.code.Spaces.{Space, begun, is_later, is_synchronising, met, next_stamp, done}
+use Rattle.replica_space.specs.layer.Events.{history_in}
+use Rattle.replica_space.specs.layer.Spaces.{Space, begun, is_later, is_synchronising, met, next_stamp, done}
 
 -- An operation in a list, with the stamp that the writes of its action have.
 pub record Placed : Type 0 where

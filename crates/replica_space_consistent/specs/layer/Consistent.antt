@@ -6,8 +6,8 @@ use Rattle.upc_values.specs.Openings.{Opening}
 use Rattle.upc_values.specs.Consistent.{begins, IsOrderOf, IsConsistent}
 use Rattle.upc_verify_orders.specs.code.Strict.{StrictBy}
 use Rattle.replica_space.specs.declared.event.Event.{Event}
-use Rattle.replica_space.specs.code.Events.{history_in}
-use Rattle.replica_space.specs.code.Runs.{IsReplicaRun}
+use Rattle.replica_space.specs.layer.Events.{history_in}
+use Rattle.replica_space.specs.layer.Runs.{IsReplicaRun}
 use Rattle.replica_space.specs.code.ReplicaOrders.{operations_in, replica_order, replica_strict_list}
 
 -- The operations of a run.

@@ -10,8 +10,8 @@ use Rattle.upc_values.specs.Openings.{Opening}
 use Rattle.replica_space.specs.declared.message.Stamp.{Stamp}
 use Rattle.replica_space.specs.declared.message.Message.{Message}
 use Rattle.replica_space.specs.declared.event.Event.{Event}
-use Rattle.replica_space.specs.code.Spaces.{Space, is_later, space_after}
-use Rattle.replica_space.specs.code.Runs.{IsReplicaRun, NoneWaits}
+use Rattle.replica_space.specs.layer.Spaces.{Space, is_later, space_after}
+use Rattle.replica_space.specs.layer.Runs.{IsReplicaRun, NoneWaits}
 use Rattle.replica_space.specs.code.ReplicaOrders.{Placed, write_of, is_write_of, operations, operations_in}
 use Rattle.replica_space.specs.code.ReplicaOrders.{listed_after, replica_strict_list}
 

@@ -1,7 +1,7 @@
 -- The place of a stamp among stamps that ascend.
 use Rattle.std.specs.Prelude.{ℕ, ◌≡◌, ◌≤◌, ◌<◌, true, false, List, length, slice_index_or}
 use Rattle.replica_space.specs.declared.message.Stamp.{Stamp}
-use Rattle.replica_space.specs.code.Spaces.{is_later}
+use Rattle.replica_space.specs.layer.Spaces.{is_later}
 
 -- No stamp is later than one that stands after it.
 abbrev pub Ascend : List Stamp → Type 0
