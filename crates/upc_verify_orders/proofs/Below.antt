@@ -10,7 +10,7 @@ use Rattle.upc_values.specs.Orders.{IsOf, operations_of, operations_from, record
 use Rattle.upc_values.proofs.Membership.{has-cases, has-left, has-right, each-append, each-has}
 use Rattle.upc_verify_orders.specs.code.Below.{operations_below}
 
-by-thread : (t i : ℕ) (a : Access) → Each (λ o. o.thread ≡ t) (operations_by t i a)
+pub by-thread : (t i : ℕ) (a : Access) → Each (λ o. o.thread ≡ t) (operations_by t i a)
 by-thread t i Nothing = tt
 by-thread t i (Reads l s v) = (refl, tt)
 by-thread t i (Writes l s v) = (refl, tt)

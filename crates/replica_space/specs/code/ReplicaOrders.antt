@@ -1,46 +1,50 @@
 -- The orders of a run with a copy of the shared memory for each thread: a strict list, and a list of each thread in
 -- which writes on one location stand by their stamps (UPC Appendix B).
-use Rattle.std.specs.Prelude.{ℕ, ◌≡◌, ◌<◌, ◌==◌, Bool, true, false, ◌&&◌, ◌||◌, cond, List, [], ◌∷◌, ◌++◌, map}
-use Rattle.std.specs.Prelude.{filter, Option, Some, None}
+use Rattle.std.specs.Prelude.{ℕ, ◌==◌, Bool, true, false, ◌&&◌, cond, List, [], ◌∷◌, ◌++◌, map, filter}
 use Rattle.std.specs.List.{flat_map}
+use Rattle.block_layout.specs.declared.place.Loc.{Loc}
 use Rattle.upc_values.specs.declared.action.Action.{Action}
-use Rattle.upc_values.specs.Lists.{Has, Precedes}
 use Rattle.upc_values.specs.Operations.{Operation, Cell, accesses, accesses_of, write_at}
-use Rattle.upc_values.specs.Consistent.{same_place, begins, IsConsistent}
-use Rattle.upc_values.specs.Openings.{Opening}
-use Rattle.upc_values.specs.Orders.{rank}
+use Rattle.upc_values.specs.Consistent.{same_place}
 use Rattle.replica_space.specs.declared.message.Stamp.{Stamp}
 use Rattle.replica_space.specs.declared.message.Message.{Message}
 use Rattle.replica_space.specs.declared.event.Event.{Event}
 use Rattle.replica_space.specs.declared.event.Deed.{Deed}
 use Rattle.replica_space.specs.declared.event.Deed.TheVariants.{Did, Delivered}
-use Rattle.replica_space.specs.code.Events.{history_in}
-use Rattle.replica_space.specs.code.Spaces.{Space, begun, is_later, is_synchronising, met, next_stamp, done}
-use Rattle.replica_space.specs.code.Runs.{IsReplicaRun}
+use Rattle.replica_space.specs.layer.Events.{history_in}
+use Rattle.replica_space.specs.layer.Spaces.{Space, begun, is_later, is_synchronising, met, next_stamp, done}
 
--- An operation in a list; one that is a write has its stamp.
+-- An operation in a list, with the stamp that the writes of its action have.
 pub record Placed : Type 0 where
   pub operation : Operation
-  pub stamp : Option Stamp
+  pub stamp : Stamp
 
 -- An operation by an action with this stamp.
 abbrev pub placed : Stamp → Operation → Placed
-placed s o = record { operation = o; stamp = cond o.write (Some s) None }
+placed s o = record { operation = o; stamp = s }
+
+-- The operations of some members.
+abbrev pub operations : List Placed → List Operation
+operations xs = map (λ x. x.operation) xs
 
 -- The write of a message.
 abbrev pub write_of : Message → Placed
 write_of m = placed m.stamp (write_at m.stamp.thread m.index (Cell m.loc) false m.value)
 
--- The member is a write on o's place with a later stamp.
-abbrev pub is_after : Stamp → Operation → Placed → Bool
-is_after s o x = elim x.stamp [ Some k ↦ same_place x.operation.place o.place && is_later k s | None ↦ false ]
+-- The member is a write of the location.
+abbrev pub is_write_of : Loc → Placed → Bool
+is_write_of l x = x.operation.write && same_place x.operation.place (Cell l)
+
+-- The member is a write of the message's location with a later stamp.
+abbrev pub is_after : Message → Placed → Bool
+is_after m x = is_write_of m.loc x && is_later x.stamp m.stamp
 
 -- The list with the write of a message directly before the first write on its location with a later stamp, or as its
 -- last member where there is none.
 abbrev pub with_write : Message → List Placed → List Placed
 with_write m [] = write_of m ∷ []
 with_write m (x ∷ xs) =
-    cond (is_after m.stamp (write_of m).operation x) (write_of m ∷ x ∷ xs) (x ∷ with_write m xs)
+    cond (is_after m x) (write_of m ∷ x ∷ xs) (x ∷ with_write m xs)
 
 -- The list with the writes of these messages, one after another.
 abbrev pub with_writes : List Message → List Placed → List Placed
@@ -93,7 +97,7 @@ with_all_mail (ℕ.suc n) mail xs = with_writes (mail n) (with_all_mail n mail x
 abbrev pub replica_order : ℕ → List Event → ℕ → List Operation
 replica_order n es t =
     let x = listed_after n es in
-    map (λ p. p.operation) (with_all_mail n (x.space.mail t) (x.lists t))
+    operations (with_all_mail n (x.space.mail t) (x.lists t))
 
 -- All operations of a run, in the order of its events.
 abbrev pub operations_in : List Event → List Operation
@@ -102,22 +106,3 @@ operations_in es = flat_map accesses (history_in es)
 -- The strict list: the strict operations in the order of the events.
 abbrev pub replica_strict_list : List Event → List Operation
 replica_strict_list es = filter (λ o. o.strict) (operations_in es)
-
--- The strict order: strict operations as in the events, operations of one thread, one of them strict, by program order,
--- and what follows by transitivity (UPC Appendix B).
-pub data ReplicaStrictOrder (es : List Event) : Operation → Operation → Type 0 where
-  As_done :
-      (a b : Operation) → a.strict ≡ true → b.strict ≡ true → Precedes (operations_in es) a b
-      → ReplicaStrictOrder es a b
-  As_written :
-      (a b : Operation) → Has (operations_in es) a → Has (operations_in es) b → a.thread ≡ b.thread
-      → (a.strict || b.strict) ≡ true → rank a < rank b → ReplicaStrictOrder es a b
-  Through :
-      (a b c : Operation) → ReplicaStrictOrder es a b → ReplicaStrictOrder es b c → ReplicaStrictOrder es a c
-
--- The orders of every replica run make its operations UPC consistent (UPC Appendix B).
-abbrev pub AreReplicasConsistent : Type 0
-AreReplicasConsistent =
-    (o : Opening) (es : List Event) → IsReplicaRun o es
-    → IsConsistent (begins o (history_in es)) o.threads (Has (operations_in es)) (ReplicaStrictOrder es)
-    (replica_order o.threads es)

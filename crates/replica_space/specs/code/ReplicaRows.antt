@@ -9,9 +9,9 @@ use Rattle.upc_values.specs.declared.action.Reply.TheVariants.{Done, Value}
 use Rattle.upc_values.specs.declared.order.Op.{Op}
 use Rattle.upc_values.specs.Orders.{name_of}
 use Rattle.replica_space.specs.declared.event.Event.{Event}
-use Rattle.replica_space.specs.code.Events.{did, delivered}
-use Rattle.replica_space.specs.code.Spaces.{space_after}
-use Rattle.replica_space.specs.code.Runs.{value_in}
+use Rattle.replica_space.specs.layer.Events.{did, delivered}
+use Rattle.replica_space.specs.layer.Spaces.{space_after}
+use Rattle.replica_space.specs.layer.Runs.{value_in}
 use Rattle.replica_space.specs.code.ReplicaOrders.{replica_order}
 
 -- A location.

@@ -22,9 +22,9 @@ use Rattle.replica_space.specs.declared.event.Event.{Event}
 use Rattle.replica_space.specs.declared.event.Deed.{Deed}
 use Rattle.replica_space.specs.declared.event.Deed.TheVariants.{Did, Delivered}
 use Rattle.replica_space.specs.declared.event.ReplicaJournal.{ReplicaJournal}
-use Rattle.replica_space.specs.code.Events.{history_in, did, delivered}
-use Rattle.replica_space.specs.code.Spaces.{is_synchronising, space_after}
-use Rattle.replica_space.specs.code.Runs.{IsReplicaRun}
+use Rattle.replica_space.specs.layer.Events.{history_in, did, delivered}
+use Rattle.replica_space.specs.layer.Spaces.{is_synchronising, space_after}
+use Rattle.replica_space.specs.layer.Runs.{IsReplicaRun}
 
 -- The journal of the same strands and actions, with the history in the events.
 abbrev pub as_journal : ReplicaJournal → Journal

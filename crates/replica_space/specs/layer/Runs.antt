@@ -12,8 +12,8 @@ use Rattle.replica_space.specs.declared.message.Message.{Message}
 use Rattle.replica_space.specs.declared.event.Event.{Event}
 use Rattle.replica_space.specs.declared.event.Deed.{Deed}
 use Rattle.replica_space.specs.declared.event.Deed.TheVariants.{Did, Delivered}
-use Rattle.replica_space.specs.code.Events.{history_in}
-use Rattle.replica_space.specs.code.Spaces.{Space, is_synchronising, space_after}
+use Rattle.replica_space.specs.layer.Events.{history_in}
+use Rattle.replica_space.specs.layer.Spaces.{Space, is_synchronising, space_after}
 
 -- The value of a message, if there is one.
 abbrev pub value_in : Option Message → Option Scalar

@@ -1,0 +1,9 @@
+pub mod Stamps
+pub mod Copies
+pub mod Putting
+pub mod Splitting
+pub mod Naming
+pub mod Copying
+pub mod Turning
+pub mod Acting
+pub mod Running

@@ -1,0 +1,109 @@
+-- Lists of deliveries, and the mail that is left after them.
+use Rattle.std.proofs.Common.{◌≡◌, ◌≢◌, ℕ, ◌+◌, ◌<◌, ◌==◌, ◌&&◌, zero, suc, Bool, nat_lt, true, false, cond, List, [], ◌∷◌, ◌++◌, drop, refl, sym, ap, ◌∙◌, inl, inr, append_assoc, add-one, arith, eq-eqb}
+use Rattle.std.proofs.lemmas.List.{append-nil}
+use Rattle.std.proofs.lemmas.Bool.{cases_Bool, cases_order, cond-true, cond-false, and_parts, eqb-true, ne_eqb, lt-ltb, le-ltb}
+use Rattle.replica_space.specs.declared.message.Message.{Message}
+use Rattle.replica_space.specs.declared.event.Event.{Event}
+use Rattle.replica_space.specs.layer.Events.{delivered}
+use Rattle.replica_space.specs.layer.Spaces.{Space, received}
+use Rattle.replica_space_mail.specs.layer.Deliveries.{deliveries, deliveries_to, all_deliveries}
+
+-- the first delivery, and the others
+pub one-more : (es : List Event) (t to from : ℕ) (ms : List Message) → ms ≢ []
+    → (es ++ delivered t to from ∷ []) ++ deliveries t to from (drop 1 ms) ≡ es ++ deliveries t to from ms
+one-more es t to from [] h = absurd (h refl)
+one-more es t to from (m ∷ ms) h = append_assoc es (delivered t to from ∷ []) (deliveries t to from ms)
+
+pub received-mail : (to from u v : ℕ) (ms : List Message) (s : Space) → s.mail to from ≡ ms
+    → (received to from ms s).mail u v ≡ cond ((u == to) && (v == from)) (drop 1 (s.mail u v)) (s.mail u v)
+received-mail to from u v [] s e =
+    elim (cases_Bool ((u == to) && (v == from))) [
+      | inl b ↦
+          let here = at b in
+          here ∙ sym (ap (drop 1) here) ∙ sym (cond-true ((u == to) && (v == from)) (drop 1 (s.mail u v)) (s.mail u v) b)
+      | inr b ↦ sym (cond-false ((u == to) && (v == from)) (drop 1 (s.mail u v)) (s.mail u v) b)
+    ]
+  where
+    at : ((u == to) && (v == from)) ≡ true → s.mail u v ≡ []
+    at b = let p = and_parts (u == to) (v == from) b in ap (λ k. s.mail k v) (eqb-true u to p.0) ∙ ap (s.mail to) (eqb-true v from p.1) ∙ e
+received-mail to from u v (m ∷ ms) s e =
+    elim (cases_Bool ((u == to) && (v == from))) [
+      | inl b ↦
+          cond-true ((u == to) && (v == from)) ms (s.mail u v) b
+          ∙ sym (ap (drop 1) (at b))
+          ∙ sym (cond-true ((u == to) && (v == from)) (drop 1 (s.mail u v)) (s.mail u v) b)
+      | inr b ↦
+          cond-false ((u == to) && (v == from)) ms (s.mail u v) b
+          ∙ sym (cond-false ((u == to) && (v == from)) (drop 1 (s.mail u v)) (s.mail u v) b)
+    ]
+  where
+    at : ((u == to) && (v == from)) ≡ true → s.mail u v ≡ m ∷ ms
+    at b = let p = and_parts (u == to) (v == from) b in ap (λ k. s.mail k v) (eqb-true u to p.0) ∙ ap (s.mail to) (eqb-true v from p.1) ∙ e
+
+pub to-same : (t to n : ℕ) (s r : Space) → ((v : ℕ) → v < n → s.mail to v ≡ r.mail to v) → deliveries_to t to n s ≡ deliveries_to t to n r
+to-same t to zero s r h = refl
+to-same t to (suc n) s r h =
+    ap (λ l. l ++ deliveries t to n (s.mail to n)) (to-same t to n s r (λ v l. h v (omega arith)))
+    ∙ ap (λ ms. deliveries_to t to n r ++ deliveries t to n ms) (h n (omega arith))
+
+-- one more sender
+pub to-next : (es now new : List Event) (t to n : ℕ) (s : Space) (ms : List Message) → now ≡ es ++ deliveries_to t to n s → ms ≡ s.mail to n
+    → new ≡ now ++ deliveries t to n ms → new ≡ es ++ deliveries_to t to (n + 1) s
+to-next es now new t to n s ms e k h =
+    h ∙ ap (λ l. now ++ deliveries t to n l) k ∙ ap (λ l. l ++ deliveries t to n (s.mail to n)) e
+    ∙ append_assoc es (deliveries_to t to n s) (deliveries t to n (s.mail to n))
+    ∙ rw add-one refl
+
+-- one more receiver
+pub all-next : (es now new : List Event) (t k n : ℕ) (s r : Space) → now ≡ es ++ all_deliveries t k n s → ((v : ℕ) → v < k → r.mail n v ≡ s.mail n v)
+    → new ≡ now ++ deliveries_to t n k r → new ≡ es ++ all_deliveries t k (n + 1) s
+all-next es now new t k n s r e m h =
+    h ∙ ap (λ l. now ++ l) (to-same t n k r s m) ∙ ap (λ l. l ++ deliveries_to t n k s) e
+    ∙ append_assoc es (all_deliveries t k n s) (deliveries_to t n k s)
+    ∙ rw add-one refl
+
+-- mail that is taken sender by sender
+pub row-next : (b : Bool) (v n : ℕ) (x now : List Message) → now ≡ cond (b && nat_lt v n) [] x
+    → cond (b && (v == n)) [] now ≡ cond (b && nat_lt v (n + 1)) [] x
+row-next false v n x now e = e
+row-next true v n x now e =
+    elim (cases_order v n) [
+      | inl q ↦ cond-true (v == n) [] now (eq-eqb v n q) ∙ sym (cond-true (nat_lt v (n + 1)) [] x (lt-ltb v (n + 1) (omega arith)))
+      | inr r ↦
+          elim r [
+            | inl q ↦
+                cond-false (v == n) [] now (ne_eqb v n (λ k. absurd (omega arith))) ∙ e
+                ∙ cond-true (nat_lt v n) [] x (lt-ltb v n q) ∙ sym (cond-true (nat_lt v (n + 1)) [] x (lt-ltb v (n + 1) (omega arith)))
+            | inr q ↦
+                cond-false (v == n) [] now (ne_eqb v n (λ k. absurd (omega arith))) ∙ e
+                ∙ cond-false (nat_lt v n) [] x (le-ltb v n (omega arith)) ∙ sym (cond-false (nat_lt v (n + 1)) [] x (le-ltb v (n + 1) (omega arith)))
+          ]
+    ]
+
+-- all senders are done
+pub row-end : (b : Bool) (v n : ℕ) (x : List Message) → v < n → cond (b && nat_lt v n) [] x ≡ cond b [] x
+row-end false v n x h = refl
+row-end true v n x h = cond-true (nat_lt v n) [] x (lt-ltb v n h)
+
+pub nil-from : (ms : List Message) → ¬ (ms ≢ []) → ms ≡ []
+nil-from [] h = refl
+nil-from (m ∷ ms) h = absurd (h (λ e. cc))
+
+-- where no mail waits, none is delivered
+pub none-more : (es : List Event) (t to from : ℕ) (ms : List Message) → ms ≡ []
+    → es ++ deliveries t to from (drop 1 ms) ≡ es ++ deliveries t to from ms
+none-more es t to from ms e =
+    ap (λ l. es ++ deliveries t to from (drop 1 l)) e ∙ sym (ap (λ l. es ++ deliveries t to from l) e)
+
+-- all mail is delivered where none is left
+pub all-gone : (es now new : List Event) (t to from : ℕ) (ms old : List Message) → ms ≡ []
+    → new ++ deliveries t to from (drop 1 ms) ≡ now ++ deliveries t to from ms → now ++ deliveries t to from ms ≡ es ++ deliveries t to from old
+    → new ≡ es ++ deliveries t to from old
+all-gone es now new t to from ms old e h k =
+    sym (append-nil new) ∙ sym (ap (λ l. new ++ deliveries t to from (drop 1 l)) e) ∙ h ∙ k
+
+-- mail of the one pair is gone, and all other mail is there
+pub gone-at : (b : Bool) (x now first : List Message) → (b ≡ true → now ≡ []) → (b ≡ false → now ≡ first) → x ≡ cond b (drop 1 now) now
+    → x ≡ cond b [] first
+gone-at true x now first h k e = e ∙ ap (drop 1) (h refl)
+gone-at false x now first h k e = e ∙ k refl

@@ -1,0 +1,64 @@
+//! What comes before a synchronising action.
+
+ghost use Rattle.std.specs.Prelude.{◌≡◌, ◌≤◌, ◌<◌, ◌+◌, ◌++◌, ◌^◌, ℕ, OnOk};
+ghost use Rattle.upc_values.specs.Openings.{Opening};
+ghost use Rattle.replica_space.specs.layer.Spaces as said;
+ghost use Rattle.replica_space_copies.specs.layer.Copies.{space_of, threads_of, IsSteady};
+ghost use Rattle.replica_space_mail.specs.layer.Deliveries.{Follows, all_deliveries};
+ghost use Rattle.replica_space_mail.specs.layer.Deliveries.{HaveMet};
+
+use crate::deliveries::deliver_all;
+use crate::roll::Roll;
+use replica_space_copies::Copies;
+use upc_text::OutOfMemory;
+use upc_values::Action;
+
+// How many events there may be, and one more.
+const LIMIT: u64 = 1 << 62;
+
+/// Whether the action is synchronising: a strict read or write, a fence, a notify, a wait, and what takes a lock, tries
+/// to, or lets it go.
+pub fn is_synchronising(action: &Action) -> bool
+    ensures { result ≡ said.is_synchronising action.now }
+{
+    match action {
+        Action::Read { strict, .. } | Action::Write { strict, .. } => *strict,
+        Action::Fence
+        | Action::Notify(_)
+        | Action::Wait(_)
+        | Action::Lock(_)
+        | Action::Attempt(_)
+        | Action::Unlock(_) => true,
+        _ => false,
+    }
+}
+
+/// Takes room for one more event, and for those in which all mail that waits is delivered. Want of memory comes also
+/// where there would be 2^62 events with them.
+pub fn make_room(copies: &Copies, events: &mut Roll, count: u64) -> Result<(), OutOfMemory>
+    ensures items { events.new.items ≡ events.old.items }
+    ensures room { OnOk result (1 + copies.now.waiting ≤ events.new.room) }
+    ensures few { OnOk result (count + copies.now.waiting + 1 < 2 ^ 62) }
+{
+    let waiting = copies.waiting();
+    let left = LIMIT - 1;
+    if waiting as u64 >= left || count >= left - waiting as u64 {
+        return Err(OutOfMemory);
+    }
+    events.reserve(waiting + 1)
+}
+
+/// The thread delivers all mail that waits, and then the clocks meet; there is room for the events. It takes no memory.
+pub fn synchronise(copies: &mut Copies, events: &mut Roll, thread: u32, threads: u32)
+    requires by { thread < threads_of copies.old }
+    requires all { threads ≡ threads_of copies.old }
+    requires room { copies.old.waiting ≤ events.old.room }
+    ensures steady { IsSteady copies.old copies.new }
+    ensures events { events.new.items
+        ≡ events.old.items ++ all_deliveries thread threads threads (space_of copies.old) }
+    ensures met { (o : Opening) → Follows o copies.old events.old.items → HaveMet o copies.new events.new.items }
+    ensures room { (k : ℕ) → k + copies.old.waiting ≤ events.old.room → k + copies.new.waiting ≤ events.new.room }
+{
+    deliver_all(copies, events, thread, threads);
+    copies.meet();
+}
