@@ -54,7 +54,7 @@ front-precedes (x ∷ front) r rest o (inr h) = inr (front-precedes front r rest
 rank-low : (o : Operation) → cond {A = ℕ} o.write 0 1 ≤ 1
 rank-low o = cond_both {A = ℕ} o.write 0 1 (λ z. z ≤ 1) (λ e. omega arith) (λ e. omega arith)
 
-cell-of : (p : Place) (l : Loc) → same_place p (Cell l) ≡ true → p ≡ Cell l
+pub cell-of : (p : Place) (l : Loc) → same_place p (Cell l) ≡ true → p ≡ Cell l
 cell-of (Cell k) l h = ap Cell (same_loc-true k l h)
 cell-of Sync l h = absurd (false≢true h)
 

@@ -12,20 +12,11 @@ use Rattle.upc_values.proofs.Membership.{has-cases, precedes-has}
 use Rattle.race_report.specs.layer.Races.{AreRacing}
 use Rattle.race_report.specs.layer.Serial.{IsRun}
 use Rattle.race_report.proofs.Lists.{has-map}
-use Rattle.race_report_clocks.specs.layer.Clocks.{Clock, Clocks, known, silent, advanced, clocks_from, clocks}
+use Rattle.race_report_clocks.specs.layer.Clocks.{Clock, Clocks, known, silent, advanced, clocks}
+use Rattle.race_report_clocks.proofs.Pushed.{clocks-push}
 use Rattle.race_report_bridge.specs.layer.Telling.{MightRace}
 use Rattle.race_report_bridge.proofs.Racing.{all-shown}
 use Rattle.race_report_places.specs.code.Sights.{Sight, seen_with, sights_from, sights, might_race, shows_race, ShowRaces, SightsShowRaces}
-
--- one more entry
-push-from : (before : List Entry) (c : Clocks) (es : List Entry) (e : Entry) → clocks_from before c (es ++ e ∷ []) ≡ advanced (before ++ es) (clocks_from before c es) e
-push-from before c [] e = ap (λ z. advanced z c e) (sym (append-nil before))
-push-from before c (x ∷ es) e =
-    push-from (before ++ x ∷ []) (advanced before c x) es e
-    ∙ ap (λ z. advanced z (clocks_from (before ++ x ∷ []) (advanced before c x) es) e) (append_assoc before (x ∷ []) es)
-
-clocks-push : (es : List Entry) (e : Entry) → clocks (es ++ e ∷ []) ≡ advanced es (clocks es) e
-clocks-push es e = push-from [] silent es e
 
 -- where a sight stands
 record Standing (j : Journal) (all : List Entry) (s : Sight) : Type 0 where
