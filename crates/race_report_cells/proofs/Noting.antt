@@ -1,5 +1,5 @@
 -- An operation is noted.
-use Rattle.std.proofs.Common.{◌≡◌, ℕ, ◌+◌, ◌<◌, ◌≤◌, List, [], ◌∷◌, ◌++◌, length, get_or, set, ◌⊎◌, refl, sym, ap, ◌∙◌, subst, inl, inr, arith}
+use Rattle.std.proofs.Common.{◌≡◌, ℕ, ◌<◌, ◌≤◌, List, [], ◌∷◌, ◌++◌, length, get_or, set, ◌⊎◌, refl, sym, subst, inl, inr, arith}
 use Rattle.upc_values.specs.Lists.{Has}
 use Rattle.upc_values.proofs.Membership.{has-left, has-right, has-cases}
 use Rattle.order_builder.specs.declared.names.Named.{Named}

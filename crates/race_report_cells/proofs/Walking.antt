@@ -1,5 +1,5 @@
 -- One more operation is seen.
-use Rattle.std.proofs.Common.{◌≡◌, ℕ, ◌+◌, ◌<◌, ◌≤◌, ◌==◌, nat_le, Bool, true, false, not, ◌&&◌, ◌||◌, cond, List, [], ◌∷◌, ◌++◌, map, length, get_or, take, Option, Some, None, is_some, slice_index, ◌⊎◌, refl, sym, ap, ◌∙◌, subst, inl, inr, append_assoc, append-nil, arith}
+use Rattle.std.proofs.Common.{◌≡◌, ℕ, ◌+◌, ◌<◌, ◌≤◌, ◌==◌, nat_le, Bool, true, false, not, ◌&&◌, ◌||◌, cond, List, [], ◌∷◌, ◌++◌, map, length, get_or, take, Option, Some, None, is_some, slice_index, refl, sym, ap, ◌∙◌, subst, inl, inr, append_assoc, arith}
 use Rattle.std.proofs.lemmas.Bool.{cases_Bool, false≢true, false_from_ne_true, and_from, and_parts, leb-true, le-leb, cond-true, cond-false}
 use Rattle.std.proofs.lemmas.List.{length-map, get_or-map, map_more}
 use Rattle.block_layout.specs.declared.place.Loc.{Loc}
@@ -15,12 +15,12 @@ use Rattle.order_builder.specs.code.Commits.{named}
 use Rattle.race_report_clocks.specs.layer.Clocks.{Clock}
 use Rattle.race_report_places.specs.declared.report.Race.{Race}
 use Rattle.race_report_places.specs.code.Sights.{Sight, seen_with, might_race, shows_race}
-use Rattle.race_report_places.specs.layer.Report.{IsFirstShown, IsQuiet}
+use Rattle.race_report_places.specs.layer.Report.{IsQuiet}
 use Rattle.race_report_places.proofs.Reporting.{cell-of}
-use Rattle.race_report_places.proofs.Walking.{quiet-none, quiet-next, shown-more}
+use Rattle.race_report_places.proofs.Walking.{quiet-next, shown-more}
 use Rattle.race_report_cells.specs.declared.cell.Cell as program
 use Rattle.race_report_cells.specs.declared.cells.Cells.{Cells}
-use Rattle.race_report_cells.specs.layer.Lasts.{IsSameKind, IsUpTo, AreNoted, IsFirst, IsFound, races_by}
+use Rattle.race_report_cells.specs.layer.Lasts.{IsUpTo, AreNoted, IsFirst, IsFound, races_by}
 use Rattle.race_report_cells.specs.layer.Found.{races_in, ArePut}
 use Rattle.race_report_cells.proofs.Noting.{get-has}
 use Rattle.race_report_cells.specs.layer.Cells.{IsOn, cell_at, Keeps, IsShown, IsKept, IsWalked}

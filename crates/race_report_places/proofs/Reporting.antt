@@ -1,12 +1,12 @@
 -- What the sights show first is reported.
-use Rattle.std.proofs.Common.{◌≡◌, ℕ, ◌+◌, ◌*◌, ◌<◌, ◌≤◌, ◌&&◌, ◌||◌, Bool, true, false, cond, List, [], ◌∷◌, ◌++◌, map, refl, sym, ap, ◌∙◌, subst, inl, inr, arith}
+use Rattle.std.proofs.Common.{◌≡◌, ℕ, ◌≤◌, true, cond, List, [], ◌∷◌, ◌++◌, map, refl, sym, ap, ◌∙◌, subst, inl, inr, arith}
 use Rattle.std.proofs.lemmas.Bool.{cases_order, cond_both, false≢true}
 use Rattle.std.proofs.lemmas.List.{map-append}
 use Rattle.block_layout.specs.declared.place.Loc.{Loc}
 use Rattle.upc_values.specs.declared.journal.Journal.{Journal}
 use Rattle.upc_values.specs.Lists.{Has, Precedes}
 use Rattle.upc_values.specs.Operations.{Operation, Place, Cell, Sync}
-use Rattle.upc_values.specs.Orders.{IsOf, rank, record_of, operations_from, global_order}
+use Rattle.upc_values.specs.Orders.{rank, record_of, operations_from}
 use Rattle.upc_values.specs.Consistent.{same_place}
 use Rattle.upc_values.proofs.Membership.{has-left, has-right}
 use Rattle.upc_values.proofs.Sameness.{same_loc-true}

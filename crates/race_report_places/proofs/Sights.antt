@@ -1,6 +1,6 @@
 -- The sights show the races.
-use Rattle.std.proofs.Common.{◌≡◌, ◌≢◌, ℕ, ◌+◌, ◌<◌, ◌≤◌, ◌==◌, nat_le, not, Bool, true, false, ◌&&◌, ◌||◌, List, [], ◌∷◌, ◌++◌, map, flat_map, refl, sym, ap, ◌∙◌, subst, inl, inr, append_assoc, append-nil, eq-eqb, eqb-true, arith}
-use Rattle.std.proofs.lemmas.Bool.{cases_Bool, false≢true, and_from, and_parts, leb-true, le-leb, not-true, not_from_false, ne_eqb, false_from_ne_true}
+use Rattle.std.proofs.Common.{◌≡◌, ◌≢◌, ◌≤◌, ◌==◌, nat_le, not, Bool, true, false, ◌&&◌, ◌||◌, List, [], ◌∷◌, ◌++◌, map, flat_map, refl, sym, ap, ◌∙◌, subst, inl, inr, append_assoc, eq-eqb}
+use Rattle.std.proofs.lemmas.Bool.{false≢true, and_from, and_parts, leb-true, le-leb, ne_eqb}
 use Rattle.std.proofs.lemmas.List.{map-append}
 use Rattle.upc_values.specs.declared.journal.Entry.{Entry}
 use Rattle.upc_values.specs.declared.journal.Journal.{Journal}
@@ -16,7 +16,7 @@ use Rattle.race_report_clocks.specs.layer.Clocks.{Clock, Clocks, known, silent, 
 use Rattle.race_report_clocks.proofs.Pushed.{clocks-push}
 use Rattle.race_report_bridge.specs.layer.Telling.{MightRace}
 use Rattle.race_report_bridge.proofs.Racing.{all-shown}
-use Rattle.race_report_places.specs.code.Sights.{Sight, seen_with, sights_from, sights, might_race, shows_race, ShowRaces, SightsShowRaces}
+use Rattle.race_report_places.specs.code.Sights.{Sight, seen_with, sights_from, sights, might_race, shows_race, SightsShowRaces}
 
 -- where a sight stands
 record Standing (j : Journal) (all : List Entry) (s : Sight) : Type 0 where

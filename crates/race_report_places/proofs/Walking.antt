@@ -1,6 +1,6 @@
 -- One more sight: what it shows, and what stays.
-use Rattle.std.proofs.Common.{◌≡◌, ◌≢◌, ℕ, ◌+◌, ◌-◌, ◌<◌, ◌≤◌, ◌==◌, nat_le, nat_lt, not, Bool, true, false, ◌&&◌, ◌||◌, List, [], ◌∷◌, ◌++◌, ◌⊎◌, map, refl, sym, ap, ◌∙◌, subst, inl, inr, append_assoc, arith}
-use Rattle.std.proofs.lemmas.Bool.{cases_Bool, cases_lt, false≢true, false_from_ne_true, and_from, and_parts, ltb-true, le-leb}
+use Rattle.std.proofs.Common.{◌≡◌, ◌≢◌, Bool, true, false, ◌&&◌, ◌||◌, List, [], ◌∷◌, ◌++◌, ◌⊎◌, refl, sym, ap, ◌∙◌, subst, inl, inr, append_assoc}
+use Rattle.std.proofs.lemmas.Bool.{false≢true}
 use Rattle.block_layout.specs.declared.place.Loc.{Loc}
 use Rattle.upc_values.specs.declared.journal.Journal.{Journal}
 use Rattle.upc_values.specs.Lists.{Has, Precedes}
@@ -12,11 +12,10 @@ use Rattle.upc_values.proofs.Sameness.{same_loc-true, same_loc-itself}
 use Rattle.race_report.specs.layer.Races.{AreRacing}
 use Rattle.race_report.specs.layer.Serial.{IsRun}
 use Rattle.upc_values.proofs.Consistency.{global-has}
-use Rattle.race_report_places.specs.code.Sights.{Sight, sights, might_race, shows_race, ShowRaces, nearest, is_raced}
+use Rattle.race_report_places.specs.code.Sights.{Sight, sights, shows_race, ShowRaces}
 use Rattle.race_report_places.specs.layer.Report.{IsFirstShown, IsQuiet}
-use Rattle.race_report_places.proofs.Sights.{all-sights, might}
-use Rattle.race_report_places.proofs.Nearest.{Near, near-has, near-all, raced-all}
-use Rattle.race_report_places.proofs.Reporting.{Behind, behind}
+use Rattle.race_report_places.proofs.Sights.{all-sights}
+use Rattle.race_report_places.proofs.Reporting.{behind}
 
 last-cases : {X : Type 0} (xs : List X) (b y : X) → Has (xs ++ b ∷ []) y → Has xs y ⊎ (b ≡ y)
 last-cases [] b y (inl e) = inr e
@@ -44,65 +43,6 @@ quiet-next l before b h k x y p q =
       | inr m ↦
           subst (λ z. shows_race x z ≡ false) m.1 (k (subst (λ z. z.operation.place ≡ Cell l) (sym m.1) q) x m.0)
     ]
-
--- where no other thread has one with which b races, none does
-pub unraced : (n : ℕ) (before : List Sight) (b : Sight) → ((u : ℕ) → u < n → (u ≢ b.operation.thread) → is_raced b u before ≡ false)
-    → (x : Sight) → Has before x → x.operation.thread < n → shows_race x b ≡ false
-unraced n before b h x m lt =
-    false_from_ne_true (shows_race x b)
-    (λ t.
-    let p = and_parts (might_race x.operation b.operation) (nat_le (b.known x.operation.thread) x.operation.index) t in
-    let k = h x.operation.thread lt (might x.operation b.operation p.0).threads in
-    false≢true (sym k ∙ raced-all b x.operation.thread before x m refl t))
-
--- one of thread u that might race with b, and whose number is the greatest
-pub record IsNearest (b : Operation) (u : ℕ) (before : List Sight) (a : Sight) : Type 0 where
-  pub has : Has before a
-  pub thread : a.operation.thread ≡ u
-  pub fits : might_race a.operation b ≡ true
-  pub is : a.operation.index + 1 ≡ nearest b u before
-
-pub nearest-one : (b : Operation) (u : ℕ) (before : List Sight) → 0 < nearest b u before → (a : Sight) × IsNearest b u before a
-nearest-one b u before lt =
-    let k = near-has b u (nearest b u before - 1) before (omega arith) in
-    let high = near-all b u before k.sight k.has k.thread k.might in
-    let low = k.low in
-    (k.sight, record { has = k.has; thread = k.thread; fits = k.might; is = omega arith })
-
--- the first race at a location
-pub shown-new : (l : Loc) (before : List Sight) (a b : Sight) (u : ℕ) → IsQuiet l before → b.operation.place ≡ Cell l
-    → is_raced b u before ≡ true → ((v : ℕ) → v < u → (v ≢ b.operation.thread) → is_raced b v before ≡ false)
-    → IsNearest b.operation u before a → IsFirstShown (before ++ b ∷ []) l a b
-shown-new l before a b u quiet q raced lower n =
-    let m = nearest b.operation u before in
-    let i = a.operation.index in
-    let lt : b.known u < m = ltb-true (b.known u) m raced in
-    let one : i + 1 ≡ m = n.is in
-    let le : b.known u ≤ i = omega arith in
-    let le' : b.known a.operation.thread ≤ i = subst (λ z. b.known z ≤ i) (sym n.thread) le in
-    record {
-      front = before;
-      rest = [];
-      is = refl;
-      place = q;
-      before = n.has;
-      race =
-          and_from (might_race a.operation b.operation) (nat_le (b.known a.operation.thread) i) n.fits
-          (le-leb (b.known a.operation.thread) i le');
-      none = quiet;
-      lowest = λ x h t.
-          let p = and_parts (might_race x.operation b.operation) (nat_le (b.known x.operation.thread) x.operation.index) t in
-          elim (cases_lt x.operation.thread u) [
-            | inl s ↦
-                absurd
-                (false≢true (sym (lower x.operation.thread s (might x.operation b.operation p.0).threads) ∙ raced-all b x.operation.thread before x h refl t))
-            | inr g ↦ subst (λ z. z ≤ x.operation.thread) (sym n.thread) g
-          ];
-      last = λ x h t s.
-          let p = and_parts (might_race x.operation b.operation) (nat_le (b.known x.operation.thread) x.operation.index) t in
-          let k : x.operation.index < m = near-all b.operation u before x h (s ∙ n.thread) p.0 in
-          omega arith;
-    }
 
 pub shown-more : (l : Loc) (before more : List Sight) (a b : Sight) → IsFirstShown before l a b → IsFirstShown (before ++ more) l a b
 shown-more l before more a b s =

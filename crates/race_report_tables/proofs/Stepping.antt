@@ -1,12 +1,12 @@
 -- One more entry.
 use Rattle.std.proofs.Common.{◌≡◌, ℕ, ◌+◌, ◌<◌, ◌==◌, ◌&&◌, Bool, true, false, cond, max, List, [], ◌∷◌, ◌++◌, Option, Some, None, slice_index, refl, sym, ap, ◌∙◌, subst, inl, inr, eq-eqb, arith}
 use Rattle.std.specs.List.{fold, count_by}
-use Rattle.std.proofs.lemmas.Bool.{cases_Bool, cases_eq, cond-true, cond-false, ne_eqb}
+use Rattle.std.proofs.lemmas.Bool.{cases_eq, cond-true, cond-false, ne_eqb}
 use Rattle.upc_values.specs.declared.journal.Entry.{Entry}
 use Rattle.upc_values.specs.History.{is_notify, is_wait, notifies, waits}
 use Rattle.race_report_clocks.specs.declared.channel.Channel.{Channel}
 use Rattle.race_report_clocks.specs.layer.Channels.{telling, hearing}
-use Rattle.race_report_clocks.specs.layer.Clocks.{heard, added, known, is_over, advanced, clocks}
+use Rattle.race_report_clocks.specs.layer.Clocks.{heard, added, known, is_over, clocks}
 use Rattle.race_report_clocks.proofs.Pushed.{clocks-push}
 use Rattle.race_report_tables.specs.declared.channels.Channels.{Channels}
 use Rattle.race_report_tables.specs.declared.tables.Tables.{Tables}

@@ -1,6 +1,6 @@
 //! What was told over channels.
 
-ghost use Rattle.std.specs.Prelude.{◌≡◌, ℕ, ◌+◌, ◌<◌, ◌==◌, max, cond, length, slice_index, Some, None, IfOk, OnOk};
+ghost use Rattle.std.specs.Prelude.{◌≡◌, ℕ, ◌<◌, ◌==◌, max, cond, length, slice_index, Some, None, IfOk, OnOk};
 ghost use Rattle.race_report_clocks.specs.declared.channel.Channel.{Channel};
 ghost use Rattle.race_report_clocks.specs.layer.Channels.{same_channel};
 ghost use Rattle.race_report_clocks.specs.layer.Clocks.{is_over};

@@ -1,6 +1,6 @@
 //! Places in a list, by channel.
 
-ghost use Rattle.std.specs.Prelude.{◌≡◌, cond, Some, None, OnOk, OnErr};
+ghost use Rattle.std.specs.Prelude.{◌≡◌, cond, Some, None, OnOk};
 ghost use Rattle.race_report_clocks.specs.declared.channel.Channel.{Channel};
 ghost use Rattle.race_report_clocks.specs.layer.Channels.{same_channel};
 ghost use Rattle.race_report_tables.specs.layer.Places.{place_of};

@@ -1,5 +1,5 @@
 -- The operations in an entry's place are on its location, or on none.
-use Rattle.std.proofs.Common.{◌≡◌, ℕ, ◌<◌, true, false, List, Option, Some, None, refl, sym, ap, ◌∙◌, subst, inl, inr}
+use Rattle.std.proofs.Common.{◌≡◌, ℕ, ◌<◌, true, false, Option, Some, None, sym, ap, ◌∙◌, subst, inl, inr}
 use Rattle.block_layout.specs.declared.place.Loc.{Loc}
 use Rattle.upc_values.specs.declared.action.Action.{Action}
 use Rattle.upc_values.specs.declared.action.Action.TheVariants.{Read, Write, Fence, Notify, Wait, Lock, Attempt, Unlock}
@@ -8,7 +8,7 @@ use Rattle.upc_values.specs.declared.action.Reply.TheVariants.{Value, Flag, Refu
 use Rattle.upc_values.specs.declared.journal.Entry.{Entry}
 use Rattle.upc_values.specs.declared.journal.Journal.{Journal}
 use Rattle.upc_values.specs.Lists.{Each, Has}
-use Rattle.upc_values.specs.Operations.{Operation, Place, Cell, Sync, accesses_of}
+use Rattle.upc_values.specs.Operations.{Operation, Cell, Sync, accesses_of}
 use Rattle.upc_values.specs.Orders.{placed}
 use Rattle.upc_values.specs.Consistent.{FollowsBuffers}
 use Rattle.upc_values.proofs.Membership.{each-weaker}

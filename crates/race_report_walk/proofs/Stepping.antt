@@ -1,7 +1,6 @@
 -- One more entry of the history.
-use Rattle.std.proofs.Common.{◌≡◌, ℕ, ◌+◌, ◌<◌, ◌==◌, List, [], ◌∷◌, ◌++◌, map, length, get_or, set, Option, Some, None, slice_index, refl, sym, ap, ◌∙◌, subst, inl, inr, append_assoc, append-nil, eq-eqb}
+use Rattle.std.proofs.Common.{◌≡◌, ℕ, ◌+◌, ◌<◌, ◌==◌, List, [], ◌∷◌, ◌++◌, map, get_or, set, None, slice_index, refl, sym, ap, ◌∙◌, subst, inl, append_assoc, append-nil, eq-eqb}
 use Rattle.std.proofs.lemmas.Bool.{cond-true}
-use Rattle.block_layout.specs.declared.place.Loc.{Loc}
 use Rattle.upc_values.specs.declared.journal.Entry.{Entry}
 use Rattle.upc_values.specs.declared.journal.Journal.{Journal}
 use Rattle.upc_values.specs.Lists.{Each, Has}
@@ -16,7 +15,7 @@ use Rattle.order_builder.proofs.Following.{Finds, finds, cursors-more}
 use Rattle.race_report_clocks.specs.layer.Clocks.{Clock, Clocks, known, silent, advanced, clocks_from, clocks}
 use Rattle.race_report_clocks.proofs.Pushed.{clocks-push}
 use Rattle.race_report_tables.specs.declared.tables.Tables.{Tables}
-use Rattle.race_report_tables.specs.layer.Tables.{clock_at, AreClocks}
+use Rattle.race_report_tables.specs.layer.Tables.{AreClocks}
 use Rattle.race_report_places.specs.code.Sights.{Sight, seen_with, sights_from}
 use Rattle.race_report_cells.specs.declared.cells.Cells.{Cells}
 use Rattle.race_report_cells.specs.layer.Cells.{IsWalked}

@@ -1,7 +1,7 @@
 -- What is kept of the operations on each location, after those that a walk has seen.
-use Rattle.std.specs.Prelude.{ℕ, ◌≡◌, true, false, List, [], length}
+use Rattle.std.specs.Prelude.{◌≡◌, true, false, List, [], length}
 use Rattle.block_layout.specs.declared.place.Loc.{Loc}
-use Rattle.upc_values.specs.Lists.{Each, Has}
+use Rattle.upc_values.specs.Lists.{Has}
 use Rattle.upc_values.specs.Operations.{Operation, Cell}
 use Rattle.upc_values.specs.Orders.{name_of}
 use Rattle.order_builder.specs.declared.names.Named.{Named}

@@ -1,5 +1,5 @@
 -- The last operations on a location, of each thread and kind, and the one with which a new one races.
-use Rattle.std.specs.Prelude.{ℕ, ◌≡◌, ◌≤◌, ◌⊎◌, ◌==◌, nat_le, nat_lt, Bool, true, false, not, ◌&&◌, ◌||◌, cond, List, []}
+use Rattle.std.specs.Prelude.{◌≡◌, ◌≤◌, ◌⊎◌, ◌==◌, nat_le, nat_lt, Bool, true, false, not, ◌&&◌, ◌||◌, cond, List}
 use Rattle.std.specs.Prelude.{Option, Some, None}
 use Rattle.upc_values.specs.Lists.{Has}
 use Rattle.order_builder.specs.declared.names.Named.{Named}

@@ -35,7 +35,8 @@ pub record IsEntry (j : Journal) (e : Entry) (names : List Named) : Type 0 where
   pub names_are : names ≡ map named (placed j e)
 
 -- The walk has gone through the entries before those that are left.
-pub record HasWalked (j : Journal) (left : List Entry) (cursors : List ℕ) (tables : Tables) (cells : Cells) : Type 0 where
+pub record HasWalked (j : Journal) (left : List Entry) (cursors : List ℕ) (tables : Tables) (cells : Cells)
+    : Type 0 where
   pub before : List Entry
   pub parts : before ++ left ≡ j.history
   pub cursors_are : AreCursors j before cursors

@@ -1,4 +1,4 @@
-use Rattle.std.proofs.Common.{sym, ◌∙◌, subst}
+use Rattle.std.proofs.Common.{sym, subst}
 use Rattle.upc_values.specs.Orders.{placed}
 use Rattle.race_report_clocks.specs.layer.Clocks.{known, clocks}
 use Rattle.race_report_cells.specs.layer.Cells.{IsWalked}

@@ -1,4 +1,4 @@
-use Rattle.std.proofs.Common.{◌≡◌, ℕ, ◌<◌, [], length, cond, max, sym, ap, ◌∙◌, slice_index, arith}
+use Rattle.std.proofs.Common.{◌≡◌, ℕ, ◌<◌, [], cond, max, ap, ◌∙◌, slice_index, arith}
 use Rattle.std.proofs.lemmas.List.{get_or_read}
 use Rattle.race_report_clocks.specs.declared.channel.Channel.{Channel}
 use Rattle.race_report_clocks.specs.layer.Channels.{telling, hearing, telling_by, hearing_by}
