@@ -26,6 +26,7 @@ impl Model for Lasts {
 }
 
 // Whether two operations are of one thread and kind.
+#[inline]
 fn is_same_kind(a: Named, b: Named) -> bool
     ensures { IsTrue result → IsSameKind a b }
 {
@@ -64,6 +65,7 @@ fn note(list: &mut Vec<Named>, now: Named) -> Result<(), OutOfMemory>
 }
 
 // Whether the operation, where so much is known, races with an earlier one on its location.
+#[inline]
 fn races_with(last: Named, now: Named, known: &Row) -> bool
     ensures { result ≡ races_by (λ u. slice_index known.now u) now last }
 {
@@ -74,6 +76,7 @@ fn races_with(last: Named, now: Named, known: &Row) -> bool
 }
 
 // Whether an operation is of a lower thread than the one that was found, or of the same thread and later.
+#[inline]
 fn is_before(last: Named, found: Option<Named>) -> bool
     ensures { result ≡ said.is_before last found }
 {
@@ -87,6 +90,7 @@ fn is_before(last: Named, found: Option<Named>) -> bool
 }
 
 // What is found with one more operation.
+#[inline]
 fn chosen(found: Option<Named>, last: Named, now: Named, known: &Row) -> Option<Named>
     ensures { result ≡ said.chosen (races_by (λ u. slice_index known.now u) now) found last }
 {

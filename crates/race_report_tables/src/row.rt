@@ -21,6 +21,7 @@ impl Model for Row {
 }
 
 // The list has a place with this number.
+#[inline]
 fn reach(numbers: &mut Vec<u32>, at: usize) -> Result<(), OutOfMemory>
     ensures same { OnOk result ((u : ℕ) → slice_index numbers.new.items u ≡ slice_index numbers.old.items u) }
     ensures within { OnOk result (at < length numbers.new.items) }
@@ -42,6 +43,7 @@ impl Row {
     }
 
     /// The number of a thread.
+    #[inline]
     pub fn at(&self, thread: u32) -> u32
         ensures { result ≡ slice_index self.now thread }
     {
@@ -54,6 +56,7 @@ impl Row {
     }
 
     /// The number of a thread is at least this one from now on.
+    #[inline]
     pub fn raise(&mut self, thread: usize, number: u32) -> Result<(), OutOfMemory>
         ensures { OnOk result ((u : ℕ) →
             slice_index self.new u ≡ max (slice_index self.old u) (cond (thread == u) number 0)) }
