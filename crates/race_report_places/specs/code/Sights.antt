@@ -1,13 +1,13 @@
 -- The operations of a journal in the order of the history, each with what its thread knows where it stands.
-use Rattle.std.specs.Prelude.{ℕ, ◌≡◌, ◌+◌, ◌==◌, ◌↔◌, nat_le, nat_lt, max, Bool, true, not, ◌&&◌, ◌||◌, cond}
+use Rattle.std.specs.Prelude.{◌≡◌, ◌==◌, ◌↔◌, nat_le, Bool, true, not, ◌&&◌, ◌||◌}
 use Rattle.std.specs.Prelude.{List, [], ◌∷◌, ◌++◌, map}
 use Rattle.upc_values.specs.declared.journal.Entry.{Entry}
 use Rattle.upc_values.specs.declared.journal.Journal.{Journal}
-use Rattle.upc_values.specs.Lists.{Has, Precedes}
+use Rattle.upc_values.specs.Lists.{Precedes}
 use Rattle.upc_values.specs.Operations.{Operation}
 use Rattle.upc_values.specs.Orders.{placed, global_order}
 use Rattle.upc_values.specs.Consistent.{same_place}
-use Rattle.race_report.specs.layer.Races.{Race}
+use Rattle.race_report.specs.layer.Races.{AreRacing}
 use Rattle.race_report.specs.layer.Serial.{IsRun}
 use Rattle.race_report_clocks.specs.layer.Clocks.{Clock, Clocks, known, silent, advanced}
 
@@ -45,18 +45,8 @@ shows_race a b =
 pub record ShowRaces (j : Journal) : Type 0 where
   pub whole : map (λ s. s.operation) (sights j) ≡ global_order j
   pub exact :
-      (a b : Sight) → Precedes (sights j) a b → (Race j a.operation b.operation ↔ (shows_race a b ≡ true))
+      (a b : Sight) → Precedes (sights j) a b → (AreRacing j a.operation b.operation ↔ (shows_race a b ≡ true))
 
 -- The sights of every run are so.
 abbrev pub SightsShowRaces : Type 0
 SightsShowRaces = (j : Journal) → IsRun j → ShowRaces j
-
--- One more than the greatest number of an operation of thread u among these that might race with b; 0 if there is none.
-abbrev pub nearest : Operation → ℕ → List Sight → ℕ
-nearest b u [] = 0
-nearest b u (a ∷ before) =
-    max (cond ((a.operation.thread == u) && might_race a.operation b) (a.operation.index + 1) 0) (nearest b u before)
-
--- A thread has an operation among these with which this one races.
-abbrev pub is_raced : Sight → ℕ → List Sight → Bool
-is_raced b u before = nat_lt (b.known u) (nearest b.operation u before)
