@@ -8,5 +8,3 @@ pub mod Found
 pub mod Numbers
 pub mod Keys
 pub mod Orders
-pub mod Strict
-pub mod Given
