@@ -19,15 +19,15 @@ none-turned (act.Notify m) = refl
 none-turned (act.Wait m) = refl
 none-turned a = refl
 
-none-turned_by : (xs : List Action) → turned_by None xs ≡ None
+pub none-turned_by : (xs : List Action) → turned_by None xs ≡ None
 none-turned_by [] = refl
 none-turned_by (a ∷ xs) = ap (λ s. turned_by s xs) (none-turned a) ∙ none-turned_by xs
 
+differ : (c : Bool) → None ≡ Some c → ⊥
+differ c q = cc
+
 pub no-turn : (xs : List Action) (c : Bool) → turned_by None xs ≡ Some c → ⊥
-no-turn xs c h = differ (sym (none-turned_by xs) ∙ h)
-  where
-    differ : None ≡ Some c → ⊥
-    differ q = cc
+no-turn xs c h = differ c (sym (none-turned_by xs) ∙ h)
 
 -- A notify that is open counts as one.
 abbrev open_one : Bool → ℕ
@@ -64,19 +64,19 @@ turn-count false c (a ∷ xs) h =
 turn-count true c (a ∷ xs) h =
     count-same a xs refl refl 1 (open_one c) (turn-count true c xs h)
 
+-- Before what may not stand after an open notify there are as many waits as notifies.
+pub closed-before : (xs ys : List Action) → turned_by (Some true) ys ≡ None → IsInTurn (xs ++ ys)
+    → count_by is_notify xs ≡ count_by is_wait xs
+closed-before xs ys shut h =
+    by_state (turned_by (Some false) xs) refl (sym (turned-append (Some false) xs ys) ∙ h.1)
+  where
+    by_state : (s : Option Bool) → turned_by (Some false) xs ≡ s → turned_by (turned_by (Some false) xs) ys ≡ Some h.0
+        → count_by is_notify xs ≡ count_by is_wait xs
+    by_state None q r = absurd (no-turn ys h.0 (ap (λ k. turned_by k ys) (sym q) ∙ r))
+    by_state (Some true) q r = absurd (differ h.0 (sym shut ∙ ap (λ k. turned_by k ys) (sym q) ∙ r))
+    by_state (Some false) q r = let e = turn-count false false xs q in omega arith
+
 -- Before a notify there are as many waits as notifies.
 pub in-turn : (xs ys : List Action) (c : ℕ) (args : List Scalar) (m : Mark)
     → IsInTurn (xs ++ act.Meet c args ∷ act.Notify m ∷ ys) → count_by is_notify xs ≡ count_by is_wait xs
-in-turn xs ys c args m h =
-    by_state (turned_by (Some false) xs) refl
-    (sym (turned-append (Some false) xs (act.Meet c args ∷ act.Notify m ∷ ys)) ∙ h.1)
-  where
-    by_state : (s : Option Bool) → turned_by (Some false) xs ≡ s
-        → turned_by (turned_by (Some false) xs) (act.Meet c args ∷ act.Notify m ∷ ys) ≡ Some h.0
-        → count_by is_notify xs ≡ count_by is_wait xs
-    by_state None q r =
-        absurd (no-turn (act.Meet c args ∷ act.Notify m ∷ ys) h.0
-        (ap (λ k. turned_by k (act.Meet c args ∷ act.Notify m ∷ ys)) (sym q) ∙ r))
-    by_state (Some true) q r =
-        absurd (no-turn ys h.0 (ap (λ k. turned_by k (act.Meet c args ∷ act.Notify m ∷ ys)) (sym q) ∙ r))
-    by_state (Some false) q r = let e = turn-count false false xs q in omega arith
+in-turn xs ys c args m h = closed-before xs (act.Meet c args ∷ act.Notify m ∷ ys) (none-turned_by ys) h

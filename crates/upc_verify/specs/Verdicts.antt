@@ -1,16 +1,12 @@
 -- The verdict on a record of a program.
-use Rattle.std.specs.Prelude.{ℕ, ◌<◌, ◌↔◌}
+use Rattle.std.specs.Prelude.{ℕ, ◌<◌, ◌↔◌, List}
+use Rattle.upc_values.specs.declared.action.Reply.{Reply}
 use Rattle.upc_values.specs.declared.journal.Journal.{Journal}
 use Rattle.upc_values.specs.declared.order.Orders.{Orders}
-use Rattle.upc_values.specs.Records.{replies_of}
-use Rattle.upc_values.specs.Orders.{record_of}
-use Rattle.upc_values.specs.Consistent.{begins}
-use Rattle.upc_values.specs.Sound.{IsSound}
+use Rattle.upc_values.specs.Outcomes.{Outcome}
 use Rattle.typed_tree.specs.Programs.{Checked}
 use Rattle.source_meaning.specs.Laws.{opening_of}
 use Rattle.source_meaning.specs.Threads.{thread_outcome}
-use Rattle.upc_verify_parts.specs.layer.Parts.{HasShape}
-use Rattle.upc_verify_orders.specs.layer.Given.{AreConsistentOrders}
 use Rattle.upc_verify_judge.specs.declared.verdict.Verdict.{Verdict}
 use Rattle.upc_verify_judge.specs.layer.Verdicts as judge
 use Rattle.upc_verify_judge.specs.layer.Verdicts.{Case, AllHold}
@@ -21,25 +17,21 @@ pub record Judged : Type 0 where
   pub journal : Journal
   pub orders : Orders
 
--- Each thread is to be what the program's source comes to on the replies of its record, with the journal's budget, from
--- what the program begins with.
+-- What each thread's source comes to, by budget, thread and replies (C99 5.1.2.3).
+abbrev pub meaning : Checked → (budget thread : ℕ) → List Reply → Outcome
+meaning program budget t = thread_outcome program t budget
+
+-- It is judged by what the program begins with and what its source means.
 abbrev pub case_of : Judged → Case
-case_of w = record {
-  opening = opening_of w.program;
-  outcome = λ t. thread_outcome w.program t w.journal.budget (replies_of (record_of w.journal t));
-  journal = w.journal;
-  orders = w.orders;
-}
+case_of w = judge.case_of (opening_of w.program) (meaning w.program) w.journal w.orders
 
 -- Sound: each part holds of each thread. Broken: the first part that fails, of the first thread of which it does.
 abbrev pub IsVerdict : Judged → Verdict → Type 0
 IsVerdict w v = judge.IsVerdict (case_of w) v
 
 -- The journal is one of a sound run of the program, and the orders make its operations UPC consistent (UPC Appendix B).
-pub record IsSoundRun (w : Judged) : Type 0 where
-  pub shape : HasShape w.program.threads w.journal w.orders
-  pub sound : IsSound (opening_of w.program) (λ budget t. thread_outcome w.program t budget) w.journal
-  pub orders : AreConsistentOrders (begins (opening_of w.program) w.journal.history) w.journal w.orders
+abbrev pub IsSoundRun : Judged → Type 0
+IsSoundRun w = judge.IsSoundRun (opening_of w.program) (meaning w.program) w.journal w.orders
 
 -- All parts hold of all threads just where it is so, for a program of at least one thread.
 abbrev pub SoundIsASoundRun : Type 0
