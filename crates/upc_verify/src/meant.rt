@@ -28,7 +28,7 @@ fn meant_of(
     requires budget { 1 ≤ journal.now.budget }
     ensures { IfOk result (λ one. outcome_of one
         ≡ meaning (view_program program.now) journal.now.budget thread
-            (records.replies_of (record_of journal.now thread))) }
+        (records.replies_of (record_of journal.now thread))) }
 {
     let items = &journal.strands.as_slice()[thread as usize].items;
     let replies = replies_of(alloc, items)?;

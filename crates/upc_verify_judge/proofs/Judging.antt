@@ -147,7 +147,7 @@ module _ (o : Opening) (j : Journal) (given : Orders) (meant : List Meant) (k : 
 module _ (o : Opening) (seen : List Entry) (j : Journal) (given : Orders) (f : ℕ → Outcome) (e : seen ≡ j.history)
     (many : j.threads ≡ o.threads) where
   abbrev OrderAt : List Entry → ℕ → Type 0
-  OrderAt history t = OrderHolds (begins o history) j given t
+  OrderAt es t = OrderHolds (begins o es) j given t
 
   pub ordered : (r : Option ℕ)
       → MatchOption r (OrdersHold (begins o seen) j given) (OrderBreaks (begins o seen) j given)

@@ -1,5 +1,5 @@
 -- A history whose threads' records emit their entries: its threads notify and wait in turn as their sources do.
-use Rattle.std.proofs.Common.{◌≡◌, ℕ, ◌<◌, ◌≤◌, ◌==◌, nat_lt, nat_le, Bool, true, false, cond, List, [], ◌∷◌, ◌++◌, length, map, filter, Option, Some, None, is_some, refl, sym, ap, subst, ◌∙◌, append_assoc, arith}
+use Rattle.std.proofs.Common.{◌≡◌, ℕ, ◌+◌, ◌<◌, ◌≤◌, ◌==◌, nat_lt, nat_le, Bool, true, false, ◌&&◌, cond, List, [], ◌∷◌, ◌++◌, length, map, filter, Option, Some, None, is_some, refl, sym, ap, subst, ◌∙◌, append_assoc, arith}
 use Rattle.std.specs.List.{count_by}
 use Rattle.std.proofs.lemmas.Bool.{cond_both, le-leb}
 use Rattle.std.proofs.lemmas.List.{map-append}
@@ -19,7 +19,7 @@ use Rattle.upc_values.proofs.Drained.{read-entries}
 use Rattle.upc_values.proofs.Membership.{each-append}
 use Rattle.upc_values.proofs.Walks.{entries_of-append, entries-own}
 use Rattle.thread_steps.specs.layer.Fronts.{turned, turned_by, IsInTurn}
-use Rattle.collective_laws_histories.proofs.Lists.{count-filter, filter-length, count-cons}
+use Rattle.collective_laws_histories.proofs.Lists.{count-filter, count-cons}
 use Rattle.collective_laws_histories.proofs.Turning.{turned-append, none-turned_by, closed-before}
 use Rattle.memory_history.specs.layer.Turns.{takes_turn}
 use Rattle.upc_verify_history.specs.layer.Turns.{AreInTurnFrom, AreInTurn}
@@ -158,7 +158,7 @@ entry-in_turn front rest e h =
     let own = entries_of t front in
     let is : acts (entries_of t (front ++ e ∷ rest)) ≡ acts own ++ e.action ∷ acts (entries_of t rest) =
     ap acts (entries_of-append t front (e ∷ rest) ∙ ap (λ l. own ++ l) (entries_of-append t (e ∷ []) rest)
-    ∙ ap (λ l. own ++ l ++ entries_of t rest) (entries-own t e refl))
+    ∙ ap (λ l. own ++ (l ++ entries_of t rest)) (entries-own t e refl))
     ∙ map-append (λ (x : Entry). x.action) own (e ∷ entries_of t rest) in
     next-in_turn t front e.action (acts (entries_of t rest)) (subst IsInTurn is h)
 

@@ -1,6 +1,7 @@
 -- What the threads want, as the program has it.
-use Rattle.std.proofs.Common.{◌≡◌, ℕ, ◌<◌, MatchOption, List, Option, None, Bor, length, map, get_or, sym, ap, subst, ◌∙◌}
-use Rattle.std.proofs.lemmas.List.{length-map, get_or-map}
+use Rattle.std.proofs.Common.{◌≡◌, ℕ, MatchOption, List, Option, None, Bor, length, map, get_or, sym, ap, subst, ◌∙◌}
+use lib.ListN.{get_or-map}
+use Rattle.std.proofs.lemmas.List.{length-map}
 use Rattle.std.specs.Option.{option_copied}
 use Rattle.upc_values.specs.declared.action.Action.{Action}
 use Rattle.upc_values.specs.declared.journal.Journal.{Journal}
@@ -10,7 +11,6 @@ use Rattle.upc_values.specs.Outcomes.{wanted}
 use Rattle.upc_values.specs.Strands.{StallsStand}
 use Rattle.upc_verify_parts.specs.layer.Parts.{StallsHold, FailsFirst, HoldsOfEach}
 use Rattle.upc_verify_stalls.specs.code.Wants.{want_of}
-use Rattle.upc_verify_stalls.proofs.Threads.{broken-so}
 use Rattle.upc_verify_judge.specs.declared.meant.Meant.{Meant}
 use Rattle.upc_verify_judge.specs.layer.Meanings.{none_meant, outcome_in}
 
@@ -23,35 +23,30 @@ pub wants-many : (wants : List (Option (Bor Action))) (meant : List Meant) → m
 wants-many wants meant e = sym (length-map wants option_copied) ∙ ap length e ∙ length-map meant want
 
 -- each is that of its thread's source
-want-at : (wants : List (Option (Bor Action))) (meant : List Meant) → map option_copied wants ≡ map want meant
-    → (t : ℕ) → t < length meant → want_of wants t ≡ wanted (outcome_in meant t).«end»
-want-at wants meant e t lt =
-    let within : t < length wants = subst (λ n. t < n) (sym (wants-many wants meant e)) lt in
-    sym (get_or-map option_copied wants t None None within) ∙ ap (λ l. get_or l t None) e
-    ∙ get_or-map want meant t none_meant None lt
+wants-are : (wants : List (Option (Bor Action))) (meant : List Meant) → map option_copied wants ≡ map want meant
+    → want_of wants ≡ (λ t. wanted (outcome_in meant t).«end»)
+wants-are wants meant e = λ i t. want-at t i
+  where
+    want-at : (t : ℕ) → want_of wants t ≡ wanted (outcome_in meant t).«end»
+    want-at t = sym (get_or-map option_copied wants t None) ∙ ap (λ l. get_or l t None) e ∙ get_or-map want meant t none_meant
 
 pub wants-stand : (j : Journal) (meant : List Meant) (wants : List (Option (Bor Action))) → map option_copied wants ≡ map want meant
-    → length meant ≡ j.threads
     → HoldsOfEach j.threads (λ t. StallsStand (wanted (outcome_in meant t).«end») (record_of j t))
     → HoldsOfEach j.threads (λ t. StallsStand (want_of wants t) (record_of j t))
-wants-stand j meant wants e many h t lt =
-    subst (λ w. StallsStand w (record_of j t)) (sym (want-at wants meant e t (subst (λ n. t < n) (sym many) lt))) (h t lt)
+wants-stand j meant wants e h =
+    subst (λ (f : ℕ → Option Action). HoldsOfEach j.threads (λ t. StallsStand (f t) (record_of j t)))
+    (sym (wants-are wants meant e)) h
 
--- what is found of the Stalls
+-- What is found of the Stalls.
+abbrev StallsFound : Opening → Journal → (ℕ → Option Action) → ℕ → Option ℕ → Type 0
+StallsFound o j f n r =
+    MatchOption r (HoldsOfEach n (λ t. StallsHold o j (f t) t)) (FailsFirst n (λ t. StallsHold o j (f t) t))
+
 pub wants-found : (p o : Opening) (j : Journal) (meant : List Meant) (wants : List (Option (Bor Action)))
-    → map option_copied wants ≡ map want meant → p ≡ o → length meant ≡ o.threads → j.threads ≡ o.threads → (r : Option ℕ)
-    → MatchOption r (HoldsOfEach j.threads (λ t. StallsHold p j (want_of wants t) t))
-    (FailsFirst j.threads (λ t. StallsHold p j (want_of wants t) t))
-    → MatchOption r (HoldsOfEach o.threads (λ t. StallsHold o j (wanted (outcome_in meant t).«end») t))
-    (FailsFirst o.threads (λ t. StallsHold o j (wanted (outcome_in meant t).«end») t))
-wants-found p o j meant wants e same many threads r h =
-    broken-so r j.threads o.threads (λ t. StallsHold p j (want_of wants t) t)
-    (λ t. StallsHold o j (wanted (outcome_in meant t).«end») t) threads
-    (λ t lt.
-    let is = want-at wants meant e t (subst (λ n. t < n) (threads ∙ sym many) lt) in (
-      λ x. subst (λ (q : Opening). StallsHold q j (wanted (outcome_in meant t).«end») t) same
-          (subst (λ w. StallsHold p j w t) is x),
-      λ x. subst (λ (q : Opening). StallsHold q j (want_of wants t) t) (sym same)
-          (subst (λ w. StallsHold o j w t) (sym is) x),
-    ))
-    h
+    → map option_copied wants ≡ map want meant → p ≡ o → j.threads ≡ o.threads → (r : Option ℕ)
+    → StallsFound p j (want_of wants) j.threads r
+    → StallsFound o j (λ t. wanted (outcome_in meant t).«end») o.threads r
+wants-found p o j meant wants e same threads r h =
+    subst (λ n. StallsFound o j (λ t. wanted (outcome_in meant t).«end») n r) threads
+    (subst (λ (f : ℕ → Option Action). StallsFound o j f j.threads r) (wants-are wants meant e)
+    (subst (λ (q : Opening). StallsFound q j (want_of wants) j.threads r) same h))

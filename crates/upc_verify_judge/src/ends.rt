@@ -23,9 +23,9 @@ pub(crate) fn broken_ends(world: &World, journal: &Journal, meant: &[Meant]) -> 
         StallsStand (wanted (outcome_in meant.now t).«end») (record_of journal.now t)) }
     ensures { MatchOption result
         (HoldsOfEach journal.now.threads (λ t.
-            EndHolds world.now.0 journal.now (outcome_in meant.now t).«end» t))
+        EndHolds world.now.0 journal.now (outcome_in meant.now t).«end» t))
         (FailsFirst journal.now.threads (λ t.
-            EndHolds world.now.0 journal.now (outcome_in meant.now t).«end» t)) }
+        EndHolds world.now.0 journal.now (outcome_in meant.now t).«end» t)) }
 {
     for thread in 0..journal.threads {
         let one = &meant[thread as usize];

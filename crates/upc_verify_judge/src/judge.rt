@@ -150,10 +150,10 @@ pub fn judge_by(
     requires many { length meant.now ≡ world.old.0.threads }
     requires turns { HoldsOfEach world.old.0.threads (λ t. IsInTurn (outcome_in meant.now t).actions) }
     ensures { IfOk result (IsVerdict (record {
-        opening = world.old.0;
-        outcome = outcome_in meant.now;
-        journal = journal.now;
-        orders = orders.now;
+      opening = world.old.0;
+      outcome = outcome_in meant.now;
+      journal = journal.now;
+      orders = orders.now;
     })) }
 {
     match broken_strands(journal, meant) {

@@ -17,10 +17,7 @@ pub struct Meant {
 }
 
 /// The action that each thread wants where it ends for want of a reply.
-pub(crate) fn wants_of(
-    alloc: Global,
-    meant: &[Meant],
-) -> Result<Vec<Option<&Action>>, OutOfMemory>
+pub(crate) fn wants_of(alloc: Global, meant: &[Meant]) -> Result<Vec<Option<&Action>>, OutOfMemory>
     ensures { IfOk result (λ wants. map option_copied wants.items ≡ map (λ m. outcomes.wanted m.«end») meant.now) }
 {
     let mut wants = Vec::new(alloc);

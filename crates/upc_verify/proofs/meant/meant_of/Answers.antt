@@ -11,9 +11,9 @@ use Rattle.typed_tree.specs.ViewProgram.{view_program}
 use Rattle.upc_verify.specs.Verdicts.{meaning}
 use Rattle.upc_verify.proofs.meant.meant_of.Goals as goal
 
-outcome-is : (as bs : List Action) (m n : ℕ) (e f : ToldEnd) → as ≡ bs → m ≡ n → e ≡ f
-    → (let o : Outcome = record { actions = as; ticks = m; «end» = e } in o ≡ record { actions = bs; ticks = n; «end» = f })
-outcome-is as bs m n e f p q r = λ i. record { actions = p i; ticks = q i; «end» = r i }
+outcome-is : (xs ys : List Action) (m n : ℕ) (e f : ToldEnd) → xs ≡ ys → m ≡ n → e ≡ f
+    → (let o : Outcome = record { actions = xs; ticks = m; «end» = e } in o ≡ record { actions = ys; ticks = n; «end» = f })
+outcome-is xs ys m n e f p q r = λ i. record { actions = p i; ticks = q i; «end» = r i }
 
 pub returns : goal.returns
 returns c =

@@ -35,8 +35,8 @@ returns-then-not-has_shape c =
       shape,
       refl,
       misshapen (case_of (record { program = view_program p; journal = j; orders = x })) p.least
-      (λ h. false≢true (sym c.if-not-has_shape.true
-      ∙ c.has_shape.ensures.1 (subst (λ n. HasShape n j x) (sym c.threads-threads.ensures) h))),
+          (λ h. false≢true (sym c.if-not-has_shape.true
+          ∙ c.has_shape.ensures.1 (subst (λ n. HasShape n j x) (sym c.threads-threads.ensures) h))),
     )
 
 pub judge_by-requires-clause-some : goal.judge_by-requires-clause-some

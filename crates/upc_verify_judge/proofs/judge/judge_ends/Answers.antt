@@ -38,13 +38,13 @@ judge_orders-requires-clause-some c = c.requires.judged.some
 pub judge_orders-requires-clause-shape : goal.judge_orders-requires-clause-shape
 judge_orders-requires-clause-shape c = c.requires.judged.shape
 
-pub returns-in-None : goal.returns-in-None
-returns-in-None c =
+pub returns-in_ok-verdict-in-None : goal.returns-in_ok-verdict-in-None
+returns-in_ok-verdict-in-None c =
     let o = c.args.world.now.0 in
     let j = c.args.journal.now in
     let meant = c.args.meant.now in
     let r = c.broken_ends.result in
-    c.in_ok-verdict.ensures (outcome_in meant)
+    c.in_ok-verdict-in-None.ensures (outcome_in meant)
     (passed (case_in o j c.args.orders.now meant) ends r c.in-None.is c.requires.judged.parts
     (sized j.threads o.threads (λ t. EndHolds o j (outcome_in meant t).«end» t) r c.requires.judged.shape.threads
     c.broken_ends.ensures))

@@ -1,7 +1,7 @@
 use Rattle.std.proofs.Common.{◌≡◌, ◌<◌, refl, sym, subst, ◌∙◌}
 use Rattle.upc_values.specs.Openings.{Opening}
 use Rattle.upc_values.specs.Outcomes.{Outcome}
-use Rattle.upc_verify_judge.specs.layer.Verdicts.{orders}
+use Rattle.upc_verify_judge.specs.layer.Verdicts.{Case, orders}
 use Rattle.upc_verify_judge.proofs.Judging.{passed, stopped, all-hold, ordered}
 use Rattle.upc_verify_judge.proofs.judge.judge_orders.Goals as goal
 
@@ -29,7 +29,7 @@ returns-in-None c = λ outcome b.
     let j = c.args.journal.now in
     let x = c.args.orders.now in
     let r = c.in_ok-broken.broken in
-    let case = record { opening = w.0; outcome = outcome; journal = j; orders = x } in
+    let case : Case = record { opening = w.0; outcome = outcome; journal = j; orders = x } in
     all-hold case
     (passed case orders r c.in-None.is b
     (ordered w.0 w.1 j x outcome c.requires.history c.requires.shape.threads r c.in_ok-broken.ensures))

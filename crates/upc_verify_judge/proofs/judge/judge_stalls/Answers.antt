@@ -43,7 +43,6 @@ broken_stalls-requires-clause-stalls c =
     let meant = c.args.meant.now in
     wants-stand j meant c.as_slice.result.now
     (ap (map option_copied) c.as_slice.ensures.value ∙ c.in_ok-wants.ensures)
-    (c.requires.judged.many ∙ sym c.requires.judged.shape.threads)
     (stalls-stand c.args.world.now.0 j c.args.orders.now meant 4 c.requires.judged (omega arith))
 
 pub returns-in-Some : goal.returns-in-Some
@@ -57,7 +56,7 @@ returns-in-Some c =
       stopped (case_in o j c.args.orders.now meant) stalls c.in-Some.thread r c.in-Some.is c.requires.judged.parts
           (wants-found c.args.again.now.0 o j meant c.as_slice.result.now
           (ap (map option_copied) c.as_slice.ensures.value ∙ c.in_ok-wants.ensures) c.requires.same
-          c.requires.judged.many c.requires.judged.shape.threads r c.in_ok-broken.ensures),
+          c.requires.judged.shape.threads r c.in_ok-broken.ensures),
     )
 
 pub judge_ends-requires-clause-judged : goal.judge_ends-requires-clause-judged
@@ -71,4 +70,4 @@ judge_ends-requires-clause-judged c =
     (passed (case_in o j x meant) stalls r c.in-None.is c.requires.judged.parts
     (wants-found c.args.again.now.0 o j meant c.as_slice.result.now
     (ap (map option_copied) c.as_slice.ensures.value ∙ c.in_ok-wants.ensures) c.requires.same
-    c.requires.judged.many c.requires.judged.shape.threads r c.in_ok-broken.ensures))
+    c.requires.judged.shape.threads r c.in_ok-broken.ensures))
