@@ -1,5 +1,5 @@
 -- All parts together are what a sound journal with consistent orders is.
-use Rattle.std.proofs.Common.{◌≡◌, ℕ, ◌<◌, ◌≤◌, List, length, get_or, refl, sym, subst}
+use Rattle.std.proofs.Common.{ℕ, ◌<◌, List, length, refl, sym, subst}
 use Rattle.std.proofs.lemmas.List.{get_or_default}
 use Rattle.upc_values.specs.declared.action.Reply.{Reply}
 use Rattle.upc_values.specs.declared.journal.Strand.{Strand}
@@ -12,7 +12,6 @@ use Rattle.upc_values.specs.Outcomes.{Outcome}
 use Rattle.upc_values.specs.Sound.{IsStrand, IsSound}
 use Rattle.upc_values.specs.Consistent.{begins}
 use Rattle.upc_verify_parts.specs.layer.Parts.{HasShape, HistoryHolds, strand_of}
-use Rattle.upc_verify_orders.specs.layer.Given.{AreConsistentOrders}
 use Rattle.upc_verify_orders.proofs.Deciding.{are-consistent}
 use Rattle.upc_verify_judge.specs.layer.Verdicts.{shape, strands, entries, history, stalls, ends, orders, AllHold, case_of, IsSoundRun, PartsAreASoundRun}
 

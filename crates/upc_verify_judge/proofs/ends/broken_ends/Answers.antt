@@ -1,4 +1,4 @@
-use Rattle.std.proofs.Common.{◌≡◌, ◌↔◌, ◌<◌, IsTrue, length, sym, subst, ◌∙◌, below_more, arith}
+use Rattle.std.proofs.Common.{◌↔◌, IsTrue, sym, subst, ◌∙◌, below_more, arith}
 use Rattle.std.proofs.lemmas.Bool.{false≢true}
 use Rattle.upc_values.specs.Outcomes.{wanted}
 use Rattle.upc_values.specs.Orders.{record_of}

@@ -1,4 +1,4 @@
-use Rattle.std.proofs.Common.{◌≡◌, ◌<◌, refl, sym, subst, ◌∙◌}
+use Rattle.std.proofs.Common.{refl, sym, ◌∙◌}
 use Rattle.upc_values.specs.Strands.{Conforms}
 use Rattle.upc_verify_parts.specs.layer.Parts.{strand_of}
 use Rattle.upc_verify_judge.specs.layer.Meanings.{outcome_in}

@@ -1,4 +1,4 @@
-use Rattle.std.proofs.Common.{◌≡◌, ◌<◌, refl, sym, subst, ◌∙◌, arith}
+use Rattle.std.proofs.Common.{refl, sym, ◌∙◌, arith}
 use Rattle.upc_verify_parts.specs.layer.Parts.{EndHolds}
 use Rattle.upc_verify_judge.specs.layer.Meanings.{outcome_in}
 use Rattle.upc_verify_judge.specs.layer.Verdicts.{ends}

@@ -1,4 +1,4 @@
-use Rattle.std.proofs.Common.{◌≡◌, ◌<◌, ℕ, MatchOption, refl, sym, subst, ◌∙◌}
+use Rattle.std.proofs.Common.{◌<◌, ℕ, MatchOption, refl, sym, subst, ◌∙◌}
 use Rattle.upc_verify_parts.specs.layer.Parts.{EntriesHold, FailsFirst, HoldsOfEach}
 use Rattle.upc_verify_judge.specs.layer.Verdicts.{entries}
 use Rattle.upc_verify_judge.specs.code.Judging.{case_in}

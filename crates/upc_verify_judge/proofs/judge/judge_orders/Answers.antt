@@ -1,6 +1,4 @@
-use Rattle.std.proofs.Common.{◌≡◌, ◌<◌, refl, sym, subst, ◌∙◌}
-use Rattle.upc_values.specs.Openings.{Opening}
-use Rattle.upc_values.specs.Outcomes.{Outcome}
+use Rattle.std.proofs.Common.{◌<◌, refl, sym, subst, ◌∙◌}
 use Rattle.upc_verify_judge.specs.layer.Verdicts.{Case, orders}
 use Rattle.upc_verify_judge.proofs.Judging.{passed, stopped, all-hold, ordered}
 use Rattle.upc_verify_judge.proofs.judge.judge_orders.Goals as goal

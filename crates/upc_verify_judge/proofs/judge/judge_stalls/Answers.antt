@@ -1,9 +1,8 @@
-use Rattle.std.proofs.Common.{◌≡◌, ◌<◌, ℕ, MatchOption, List, Option, length, map, refl, sym, ap, subst, ◌∙◌, arith}
+use Rattle.std.proofs.Common.{ℕ, length, map, refl, sym, ap, subst, ◌∙◌, arith}
 use Rattle.std.specs.Option.{option_copied}
 use Rattle.upc_values.specs.Openings.{Opening}
 use Rattle.upc_values.specs.History.{EachBelow}
-use Rattle.upc_verify_parts.specs.layer.Parts.{HistoryHolds, StallsHold, FailsFirst, HoldsOfEach}
-use Rattle.upc_verify_stalls.specs.code.Wants.{want_of}
+use Rattle.upc_verify_parts.specs.layer.Parts.{HistoryHolds}
 use Rattle.upc_verify_judge.specs.layer.Verdicts.{stalls, history}
 use Rattle.upc_verify_judge.specs.code.Judging.{case_in}
 use Rattle.upc_verify_judge.proofs.Judging.{passed, stopped, stalls-stand, drains-each, each-below, judged-more}

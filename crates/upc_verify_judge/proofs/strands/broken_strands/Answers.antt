@@ -1,13 +1,8 @@
-use Rattle.std.proofs.Common.{◌≡◌, ◌↔◌, ℕ, ◌<◌, IsTrue, List, length, get_or, refl, sym, ap, subst, ◌∙◌, below_more, arith}
+use Rattle.std.proofs.Common.{◌↔◌, IsTrue, sym, ◌∙◌, below_more, arith}
 use Rattle.std.proofs.lemmas.Bool.{false≢true}
-use Rattle.std.proofs.lemmas.List.{get_or_default}
-use Rattle.upc_values.specs.declared.action.Action.{Action}
-use Rattle.upc_values.specs.declared.journal.Strand.{Strand}
-use Rattle.upc_values.specs.Orders.{no_strand}
 use Rattle.upc_values.specs.Strands.{Conforms}
 use Rattle.upc_verify_parts.specs.layer.Parts.{strand_of}
-use Rattle.upc_verify_judge.specs.declared.meant.Meant.{Meant}
-use Rattle.upc_verify_judge.specs.layer.Meanings.{none_meant, outcome_in}
+use Rattle.upc_verify_judge.specs.layer.Meanings.{outcome_in}
 use Rattle.upc_verify_judge.proofs.Meanings.{conforms-in}
 use Rattle.upc_verify_judge.proofs.strands.broken_strands.Goals as goal
 
