@@ -22,8 +22,8 @@ returns c =
     let program = view_program c.args.program.now in
     let s = c.index-as_slice-thread.result in
     let within : t < length j.strands = subst (λ n. t < n) (sym c.requires.strands) c.requires.thread in
-    let is : s.items ≡ record_of j t =
-    ap (λ (x : Strand). x.items) (c.index-as_slice-thread.is ∙ ap (λ xs. get_or xs t s) c.as_slice.ensures
+    let is : (get_or c.as_slice.result.now t s).items ≡ record_of j t =
+    ap (λ (x : Strand). x.items) (ap (λ xs. get_or xs t s) c.as_slice.ensures
     ∙ get_or_default j.strands t s no_strand within) in
     let replies : c.as_slice-2.result.now ≡ records.replies_of (record_of j t) =
     c.as_slice-2.ensures.value ∙ c.in_ok-replies.ensures ∙ ap records.replies_of is in
