@@ -1,27 +1,23 @@
 -- The strands of a sound journal go through collective calls, and take turns, as the meaning of their sources does.
-use Rattle.std.proofs.Common.{◌≡◌, ◌<◌, Bool, false, List, [], ◌∷◌, ◌++◌, Option, Some, None, refl, sym, ap, ◌∙◌, subst}
+use Rattle.std.proofs.Common.{◌≡◌, ◌<◌, List, [], ◌∷◌, refl, ap, ◌∙◌, subst}
 use Rattle.std.specs.Prelude.{slice_index_or}
-use Rattle.upc_values.specs.declared.action.Action.{Action}
 use Rattle.upc_values.specs.declared.record.Item.{Item}
 use Rattle.upc_values.specs.declared.record.Item.TheVariants.{Did, Stall}
-use Rattle.upc_values.specs.declared.record.ToldEnd.{ToldEnd}
-use Rattle.upc_values.specs.declared.record.ToldEnd.TheVariants as told
 use Rattle.upc_values.specs.declared.journal.Journal.{Journal}
 use Rattle.upc_values.specs.Records.{actions_of, replies_of}
-use Rattle.upc_values.specs.Outcomes.{Outcome}
 use Rattle.upc_values.specs.Sound.{IsSound}
 use Rattle.typed_tree.specs.Programs.{Checked}
-use Rattle.thread_steps.specs.layer.Fronts.{turned_by, IsInTurn}
+use Rattle.thread_steps.specs.layer.Fronts.{IsInTurn}
 use Rattle.source_meaning.specs.Threads.{thread_outcome}
-use Rattle.source_meaning.specs.Laws.{IsSettled, KeepsTurns, opening_of}
+use Rattle.source_meaning.specs.Laws.{opening_of}
 use Rattle.collective_laws_words.specs.layer.Steps.{steps_in, steps_by, GoesTogether}
 use Rattle.source_meaning.proofs.InTurn.{all_keep_turns}
 use Rattle.collective_laws_source.proofs.Together.{all_go_together}
 use Rattle.collective_laws_histories.specs.layer.Laws.{StrandsGoTogether, AllTakeTurns}
-use Rattle.collective_laws_histories.proofs.Turning.{turned-append, no-turn}
 use Rattle.collective_laws_histories.proofs.Laws.{journals_hold}
 use Rattle.collective_laws_steps.proofs.Values.{values_hold}
 use Rattle.collective_laws_steps.proofs.Stays.{work_stays}
+use Rattle.collective_laws.proofs.InTurn.{outcome-in_turn}
 use Rattle.collective_laws.specs.code.Laws.{CollectivesHoldIn}
 
 -- The steps of items are their actions with their replies.
@@ -29,23 +25,6 @@ steps_are : (items : List Item) → steps_by (actions_of items) (replies_of item
 steps_are [] = refl
 steps_are (Did a r ∷ items) = ap (λ l. record { action = a; reply = r } ∷ l) (steps_are items)
 steps_are (Stall ∷ items) = steps_are items
-
--- What comes first is in turn too.
-front-in_turn : (xs ys : List Action) → IsInTurn (xs ++ ys) → IsInTurn xs
-front-in_turn xs ys h = by_state (turned_by (Some false) xs) refl
-  where
-    by_state : (s : Option Bool) → turned_by (Some false) xs ≡ s → IsInTurn xs
-    by_state (Some b) q = (b, q)
-    by_state None q =
-        absurd (no-turn ys h.0
-        (ap (λ s. turned_by s ys) (sym q) ∙ sym (turned-append (Some false) xs ys) ∙ h.1))
-
-kept : (outcome : Outcome) → KeepsTurns outcome → IsInTurn outcome.actions
-kept outcome k = by_end outcome.«end» refl
-  where
-    by_end : (e : ToldEnd) → outcome.«end» ≡ e → IsInTurn outcome.actions
-    by_end (told.Wants a) q = front-in_turn outcome.actions (a ∷ []) (k.wants a q)
-    by_end e q = k.settled (subst IsSettled (sym q) tt)
 
 module _ (program : Checked) (j : Journal)
     (sound : IsSound (opening_of program) (λ budget t. thread_outcome program t budget) j) (some : 0 < j.budget) where
@@ -64,7 +43,7 @@ module _ (program : Checked) (j : Journal)
       let replies = replies_of s.items in
       let conforms = (sound.strands t d within).conforms in
       subst IsInTurn conforms.actions
-      (kept (thread_outcome program t j.budget replies) ((all_keep_turns program).each t j.budget replies some))
+      (outcome-in_turn (thread_outcome program t j.budget replies) ((all_keep_turns program).each t j.budget replies some))
 
 pub collectives_hold : (program : Checked) → CollectivesHoldIn program
 collectives_hold program = record {

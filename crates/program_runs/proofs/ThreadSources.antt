@@ -25,7 +25,7 @@ use Rattle.upc_values.specs.Locks.{LocksExclude}
 use Rattle.collective_laws.proofs.Laws.{collectives_hold}
 use Rattle.order_builder.proofs.Satisfying.{sound-consistent}
 use Rattle.program_runs.specs.Runs.{IsRunOf}
-use Rattle.program_runs.proofs.Begun.{same_opening}
+use Rattle.upc_rounds.proofs.Begun.{same_opening}
 
 module _ (program : Program) where
   abbrev pub parts : Checked

@@ -7,6 +7,7 @@ pub mod Parts
 pub mod Teams
 pub mod Closings
 pub mod Openings
+pub mod Begun
 pub mod Beginnings
 pub mod Timing
 pub mod Ending
