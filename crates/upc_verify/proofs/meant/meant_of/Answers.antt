@@ -27,5 +27,5 @@ returns c =
     ∙ get_or_default j.strands t s no_strand within) in
     let replies : c.as_slice-2.result.now ≡ records.replies_of (record_of j t) =
     c.as_slice-2.ensures.value ∙ c.in_ok-replies.ensures ∙ ap records.replies_of is in
-    outcome-is _ _ _ _ _ _ c.in_ok-replay_whole.ensures.actions c.in_ok-replay_whole.ensures.ticks c.in_ok-replay_whole.ensures.«end»
+    outcome-is _ _ _ _ _ _ c.in_ok-actions.ensures.actions c.in_ok-actions.ensures.ticks c.in_ok-actions.ensures.«end»
     ∙ ap (meaning program j.budget t) replies
