@@ -12,7 +12,7 @@ use Rattle.upc_values.specs.Orders.{IsOf, record_of, operations_from, placed, gl
 use Rattle.upc_values.specs.Consistent.{same_place}
 use Rattle.upc_values.proofs.Membership.{each-has, each-append, precedes-has, precedes-strict, precedes-trans}
 use Rattle.race_report.specs.layer.Reach.{ComesBefore}
-use Rattle.race_report.specs.layer.Races.{Race}
+use Rattle.race_report.specs.layer.Races.{AreRacing}
 use Rattle.race_report.specs.layer.Serial.{IsRun}
 use Rattle.upc_values.proofs.Consistency.{global-only, global-distinct}
 use Rattle.race_report_clocks.specs.layer.Clocks.{known, clocks}

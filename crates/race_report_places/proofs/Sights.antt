@@ -9,7 +9,7 @@ use Rattle.upc_values.specs.Operations.{Operation}
 use Rattle.upc_values.specs.Orders.{placed, global_order}
 use Rattle.upc_values.specs.Consistent.{same_place}
 use Rattle.upc_values.proofs.Membership.{has-cases, precedes-has}
-use Rattle.race_report.specs.layer.Races.{Race}
+use Rattle.race_report.specs.layer.Races.{AreRacing}
 use Rattle.race_report.specs.layer.Serial.{IsRun}
 use Rattle.race_report.proofs.Lists.{has-map}
 use Rattle.race_report_clocks.specs.layer.Clocks.{Clock, Clocks, known, silent, advanced, clocks_from, clocks}
@@ -111,7 +111,7 @@ module _ (j : Journal) (run : IsRun j) where
       subst (λ l. Precedes l a.operation b.operation) (sight-operations j [] silent j.history)
       (map-precedes (λ (s : Sight). s.operation) (sights j) a b p)
 
-  shown : (a b : Sight) → Precedes (sights j) a b → Race j a.operation b.operation → shows_race a b ≡ true
+  shown : (a b : Sight) → Precedes (sights j) a b → AreRacing j a.operation b.operation → shows_race a b ≡ true
   shown a b p r =
       let s = standing j [] silent j.history b refl (precedes-has (sights j) a b p).1 in
       let k = (all-shown j s.front s.rest s.entry a.operation b.operation run s.is s.has (sights-precede a b p)).0 r in
@@ -120,7 +120,7 @@ module _ (j : Journal) (run : IsRun j) where
       and_from (might_race a.operation b.operation) (nat_le (b.known u) a.operation.index)
       (might-be a.operation b.operation k.0) (le-leb (b.known u) a.operation.index le)
 
-  races : (a b : Sight) → Precedes (sights j) a b → shows_race a b ≡ true → Race j a.operation b.operation
+  races : (a b : Sight) → Precedes (sights j) a b → shows_race a b ≡ true → AreRacing j a.operation b.operation
   races a b p t =
       let s = standing j [] silent j.history b refl (precedes-has (sights j) a b p).1 in
       let u = a.operation.thread in

@@ -9,7 +9,7 @@ use Rattle.upc_values.specs.Orders.{global_order}
 use Rattle.upc_values.specs.Consistent.{same_place}
 use Rattle.upc_values.proofs.Membership.{precedes-total}
 use Rattle.upc_values.proofs.Sameness.{same_loc-true, same_loc-itself}
-use Rattle.race_report.specs.layer.Races.{Race}
+use Rattle.race_report.specs.layer.Races.{AreRacing}
 use Rattle.race_report.specs.layer.Serial.{IsRun}
 use Rattle.upc_values.proofs.Consistency.{global-has}
 use Rattle.race_report_places.specs.code.Sights.{Sight, sights, might_race, shows_race, ShowRaces, nearest, is_raced}
@@ -141,7 +141,7 @@ swap_and false true h = refl
 swap_and false false h = refl
 
 -- a race the other way round
-turned : (j : Journal) (a b : Operation) → Race j a b → Race j b a
+turned : (j : Journal) (a b : Operation) → AreRacing j a b → AreRacing j b a
 turned j a b r =
     record {
       first = r.second;
@@ -155,15 +155,15 @@ turned j a b r =
     }
 
 -- where nothing is shown at a location, nothing races there
-pub quiet-all : (j : Journal) (l : Loc) (run : IsRun j) → IsQuiet l (sights j) → (a b : Operation) → Race j a b → a.place ≡ Cell l → ⊥
+pub quiet-all : (j : Journal) (l : Loc) (run : IsRun j) → IsQuiet l (sights j) → (a b : Operation) → AreRacing j a b → a.place ≡ Cell l → ⊥
 quiet-all j l run quiet a b r q =
     let seen : ShowRaces j = all-sights j run in
     let ne : a ≢ b = λ e. r.threads (ap (λ (z : Operation). z.thread) e) in
     let either = precedes-total (global_order j) a b ne (global-has j run.follows a r.first) (global-has j run.follows b r.second) in
-    let found : (x y : Operation) → y.place ≡ Cell l → Race j x y → Precedes (global_order j) x y → ⊥ =
+    let found : (x y : Operation) → y.place ≡ Cell l → AreRacing j x y → Precedes (global_order j) x y → ⊥ =
     λ x y e w p.
     let k = behind (λ (z : Sight). z.operation) (sights j) x y (subst (λ z. Precedes z x y) (sym seen.whole) p) in
-    let here = subst (λ z. Race j z k.second.operation) (sym k.first_is) (subst (λ z. Race j x z) (sym k.second_is) w) in
+    let here = subst (λ z. AreRacing j z k.second.operation) (sym k.first_is) (subst (λ z. AreRacing j x z) (sym k.second_is) w) in
     let no = quiet k.first k.second k.precedes (ap (λ (z : Operation). z.place) k.second_is ∙ e) in
     false≢true (sym no ∙ (seen.exact k.first k.second k.precedes).0 here) in
     elim either [

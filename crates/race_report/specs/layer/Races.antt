@@ -8,7 +8,7 @@ use Rattle.race_report.specs.layer.Reach.{ComesBefore}
 
 -- Two operations of a journal race: they are of different threads and at one place, one of them is a write, one of them
 -- is relaxed, and neither comes before the other.
-pub record Race (j : Journal) (a b : Operation) : Type 0 where
+pub record AreRacing (j : Journal) (a b : Operation) : Type 0 where
   pub first : IsOf j a
   pub second : IsOf j b
   pub threads : a.thread ≢ b.thread
@@ -20,4 +20,4 @@ pub record Race (j : Journal) (a b : Operation) : Type 0 where
 
 -- No two operations of the journal race.
 abbrev pub IsRaceFree : Journal → Type 0
-IsRaceFree j = (a b : Operation) → Race j a b → ⊥
+IsRaceFree j = (a b : Operation) → AreRacing j a b → ⊥

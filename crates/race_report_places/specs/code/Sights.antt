@@ -7,7 +7,7 @@ use Rattle.upc_values.specs.Lists.{Has, Precedes}
 use Rattle.upc_values.specs.Operations.{Operation}
 use Rattle.upc_values.specs.Orders.{placed, global_order}
 use Rattle.upc_values.specs.Consistent.{same_place}
-use Rattle.race_report.specs.layer.Races.{Race}
+use Rattle.race_report.specs.layer.Races.{AreRacing}
 use Rattle.race_report.specs.layer.Serial.{IsRun}
 use Rattle.race_report_clocks.specs.layer.Clocks.{Clock, Clocks, known, silent, advanced}
 
@@ -45,7 +45,7 @@ shows_race a b =
 pub record ShowRaces (j : Journal) : Type 0 where
   pub whole : map (λ s. s.operation) (sights j) ≡ global_order j
   pub exact :
-      (a b : Sight) → Precedes (sights j) a b → (Race j a.operation b.operation ↔ (shows_race a b ≡ true))
+      (a b : Sight) → Precedes (sights j) a b → (AreRacing j a.operation b.operation ↔ (shows_race a b ≡ true))
 
 -- The sights of every run are so.
 abbrev pub SightsShowRaces : Type 0

@@ -5,9 +5,9 @@ use Rattle.upc_values.specs.declared.journal.Journal.{Journal}
 use Rattle.upc_values.specs.Lists.{Each, Has, Precedes, Pairwise}
 use Rattle.upc_values.specs.Operations.{Operation, Cell}
 use Rattle.upc_values.specs.Orders.{rank, name_of, global_order}
-use Rattle.race_report.specs.layer.Races.{Race}
+use Rattle.race_report.specs.layer.Races.{AreRacing}
 use Rattle.race_report.specs.layer.Serial.{IsRun}
-use Rattle.race_report_places.specs.declared.report.RacePair.{RacePair}
+use Rattle.race_report_places.specs.declared.report.Race.{Race}
 use Rattle.race_report_places.specs.code.Sights.{Sight, sights, shows_race}
 
 -- One location stands before another: by object, then thread, then offset.
@@ -24,13 +24,13 @@ pub record IsFirstRace (j : Journal) (l : Loc) (a b : Operation) : Type 0 where
   pub is : global_order j ≡ front ++ b ∷ rest
   pub place : b.place ≡ Cell l
   pub before : Has front a
-  pub race : Race j a b
-  pub none : (x y : Operation) → Precedes front x y → y.place ≡ Cell l → Race j x y → ⊥
-  pub lowest : (x : Operation) → Has front x → Race j x b → a.thread ≤ x.thread
-  pub last : (x : Operation) → Has front x → Race j x b → x.thread ≡ a.thread → rank x ≤ rank a
+  pub race : AreRacing j a b
+  pub none : (x y : Operation) → Precedes front x y → y.place ≡ Cell l → AreRacing j x y → ⊥
+  pub lowest : (x : Operation) → Has front x → AreRacing j x b → a.thread ≤ x.thread
+  pub last : (x : Operation) → Has front x → AreRacing j x b → x.thread ≡ a.thread → rank x ≤ rank a
 
 -- The reported pair is the race of its location, by the names of its operations.
-pub record IsReported (j : Journal) (r : RacePair) : Type 0 where
+pub record IsReported (j : Journal) (r : Race) : Type 0 where
   pub first : Operation
   pub second : Operation
   pub race : IsFirstRace j r.loc first second
@@ -38,10 +38,10 @@ pub record IsReported (j : Journal) (r : RacePair) : Type 0 where
   pub second_name : name_of second ≡ r.second
 
 -- The report of a journal: one race for each location with one, ascending.
-pub record IsReport (j : Journal) (races : List RacePair) : Type 0 where
+pub record IsReport (j : Journal) (races : List Race) : Type 0 where
   pub ascending : Pairwise (λ r s. IsBelow r.loc s.loc) races
   pub each : Each (IsReported j) races
-  pub all : (l : Loc) (a b : Operation) → Race j a b → a.place ≡ Cell l → (r : RacePair) × Has races r × (r.loc ≡ l)
+  pub all : (l : Loc) (a b : Operation) → AreRacing j a b → a.place ≡ Cell l → (r : Race) × Has races r × (r.loc ≡ l)
 
 -- Of sights, the first at a location that shows a race with one before it, and of the lowest thread that has such a one
 -- the one with the greatest number.
