@@ -11,7 +11,7 @@ use Rattle.race_report_clocks.specs.layer.Knowing.{Knows, Itself, By_own, By_oth
 use Rattle.race_report_clocks.proofs.Splits.{At, no-cut, at-more, at-end, at-cases}
 
 -- channels
-channel-is : (k h : Channel) → same_channel k h ≡ true → k ≡ h
+pub channel-is : (k h : Channel) → same_channel k h ≡ true → k ≡ h
 channel-is (over.Phase n) (over.Phase m) e = ap over.Phase (eqb-true n m e)
 channel-is (over.Lock n) (over.Lock m) e = ap over.Lock (eqb-true n m e)
 channel-is (over.Cell l) (over.Cell k) e = ap over.Cell (same_loc-true l k e)
@@ -22,7 +22,7 @@ channel-is (over.Lock n) (over.Cell m) e = absurd (false≢true e)
 channel-is (over.Cell n) (over.Phase m) e = absurd (false≢true e)
 channel-is (over.Cell n) (over.Lock m) e = absurd (false≢true e)
 
-channel-itself : (k : Channel) → same_channel k k ≡ true
+pub channel-itself : (k : Channel) → same_channel k k ≡ true
 channel-itself (over.Phase n) = eq-eqb n n refl
 channel-itself (over.Lock n) = eq-eqb n n refl
 channel-itself (over.Cell l) = same_loc-itself l

@@ -1,21 +1,21 @@
 -- What the sights show first is reported.
-use Rattle.std.proofs.Common.{◌≡◌, ℕ, ◌+◌, ◌*◌, ◌<◌, ◌≤◌, ◌&&◌, ◌||◌, Bool, true, false, cond, List, [], ◌∷◌, ◌++◌, map, refl, sym, ap, ◌∙◌, subst, inl, inr, arith}
+use Rattle.std.proofs.Common.{◌≡◌, ℕ, ◌≤◌, true, cond, List, [], ◌∷◌, ◌++◌, map, refl, sym, ap, ◌∙◌, subst, inl, inr, arith}
 use Rattle.std.proofs.lemmas.Bool.{cases_order, cond_both, false≢true}
 use Rattle.std.proofs.lemmas.List.{map-append}
 use Rattle.block_layout.specs.declared.place.Loc.{Loc}
 use Rattle.upc_values.specs.declared.journal.Journal.{Journal}
 use Rattle.upc_values.specs.Lists.{Has, Precedes}
 use Rattle.upc_values.specs.Operations.{Operation, Place, Cell, Sync}
-use Rattle.upc_values.specs.Orders.{IsOf, rank, record_of, operations_from, global_order}
+use Rattle.upc_values.specs.Orders.{rank, record_of, operations_from}
 use Rattle.upc_values.specs.Consistent.{same_place}
 use Rattle.upc_values.proofs.Membership.{has-left, has-right}
 use Rattle.upc_values.proofs.Sameness.{same_loc-true}
-use Rattle.race_report.specs.layer.Races.{Race}
-use Rattle.race_report.specs.layer.Serial.{IsRun}
+use Rattle.race_report.specs.Races.{AreRacing}
+use Rattle.race_report.specs.Serial.{IsRun}
 use Rattle.race_report.proofs.Lists.{has-map}
 use Rattle.race_report_bridge.proofs.Knowing.{one-action}
-use Rattle.race_report_places.specs.code.Sights.{Sight, sights, shows_race, ShowRaces}
-use Rattle.race_report_places.specs.layer.Report.{IsFirstRace, IsFirstShown, ShownIsReported}
+use Rattle.race_report_places.specs.layer.Sights.{Sight, sights, shows_race, ShowRaces}
+use Rattle.race_report_places.specs.Report.{IsFirstRace, IsFirstShown, ShownIsReported}
 use Rattle.race_report_places.proofs.Sights.{all-sights, map-has}
 
 module _ {X Y : Type 0} (f : X → Y) where
@@ -54,7 +54,7 @@ front-precedes (x ∷ front) r rest o (inr h) = inr (front-precedes front r rest
 rank-low : (o : Operation) → cond {A = ℕ} o.write 0 1 ≤ 1
 rank-low o = cond_both {A = ℕ} o.write 0 1 (λ z. z ≤ 1) (λ e. omega arith) (λ e. omega arith)
 
-cell-of : (p : Place) (l : Loc) → same_place p (Cell l) ≡ true → p ≡ Cell l
+pub cell-of : (p : Place) (l : Loc) → same_place p (Cell l) ≡ true → p ≡ Cell l
 cell-of (Cell k) l h = ap Cell (same_loc-true k l h)
 cell-of Sync l h = absurd (false≢true h)
 
@@ -68,25 +68,25 @@ module _ (j : Journal) (l : Loc) (a b : Sight) (run : IsRun j) (s : IsFirstShown
   within : (x y : Sight) → Precedes s.front x y → Precedes (sights j) x y
   within x y p = subst (λ z. Precedes z x y) (sym s.is) (precedes-left s.front (b ∷ s.rest) x y p)
 
-  race : Race j a.operation b.operation
+  race : AreRacing j a.operation b.operation
   race = (seen.exact a b (in-front a s.before)).1 s.race
 
-  shows : (x : Sight) → Has s.front x → (o : Operation) → x.operation ≡ o → Race j o b.operation → shows_race x b ≡ true
-  shows x h o e r = (seen.exact x b (in-front x h)).0 (subst (λ z. Race j z b.operation) (sym e) r)
+  shows : (x : Sight) → Has s.front x → (o : Operation) → x.operation ≡ o → AreRacing j o b.operation → shows_race x b ≡ true
+  shows x h o e r = (seen.exact x b (in-front x h)).0 (subst (λ z. AreRacing j z b.operation) (sym e) r)
 
-  none : (x y : Operation) → Precedes (map (λ (z : Sight). z.operation) s.front) x y → y.place ≡ Cell l → Race j x y → ⊥
+  none : (x y : Operation) → Precedes (map (λ (z : Sight). z.operation) s.front) x y → y.place ≡ Cell l → AreRacing j x y → ⊥
   none x y p q r =
       let k = behind (λ (z : Sight). z.operation) s.front x y p in
       let no = s.none k.first k.second k.precedes (ap (λ (z : Operation). z.place) k.second_is ∙ q) in
-      let here = subst (λ z. Race j z k.second.operation) (sym k.first_is) (subst (λ z. Race j x z) (sym k.second_is) r) in
+      let here = subst (λ z. AreRacing j z k.second.operation) (sym k.first_is) (subst (λ z. AreRacing j x z) (sym k.second_is) r) in
       false≢true (sym no ∙ (seen.exact k.first k.second (within k.first k.second k.precedes)).0 here)
 
-  lowest : (x : Operation) → Has (map (λ (z : Sight). z.operation) s.front) x → Race j x b.operation → a.operation.thread ≤ x.thread
+  lowest : (x : Operation) → Has (map (λ (z : Sight). z.operation) s.front) x → AreRacing j x b.operation → a.operation.thread ≤ x.thread
   lowest x h r =
       let k = has-map (λ (z : Sight). z.operation) s.front x h in
       subst (λ z. a.operation.thread ≤ z) (ap (λ (z : Operation). z.thread) k.2) (s.lowest k.0 k.1 (shows k.0 k.1 x k.2 r))
 
-  last : (x : Operation) → Has (map (λ (z : Sight). z.operation) s.front) x → Race j x b.operation → x.thread ≡ a.operation.thread → rank x ≤ rank a.operation
+  last : (x : Operation) → Has (map (λ (z : Sight). z.operation) s.front) x → AreRacing j x b.operation → x.thread ≡ a.operation.thread → rank x ≤ rank a.operation
   last x h r t =
       let k = has-map (λ (z : Sight). z.operation) s.front x h in
       let y = a.operation in

@@ -1,6 +1,6 @@
 -- The sights show the races.
-use Rattle.std.proofs.Common.{◌≡◌, ◌≢◌, ℕ, ◌+◌, ◌<◌, ◌≤◌, ◌==◌, nat_le, not, Bool, true, false, ◌&&◌, ◌||◌, List, [], ◌∷◌, ◌++◌, map, flat_map, refl, sym, ap, ◌∙◌, subst, inl, inr, append_assoc, append-nil, eq-eqb, eqb-true, arith}
-use Rattle.std.proofs.lemmas.Bool.{cases_Bool, false≢true, and_from, and_parts, leb-true, le-leb, not-true, not_from_false, ne_eqb, false_from_ne_true}
+use Rattle.std.proofs.Common.{◌≡◌, ◌≢◌, ◌≤◌, ◌==◌, nat_le, not, Bool, true, false, ◌&&◌, ◌||◌, List, [], ◌∷◌, ◌++◌, map, flat_map, refl, sym, ap, ◌∙◌, subst, inl, inr, append_assoc, eq-eqb}
+use Rattle.std.proofs.lemmas.Bool.{false≢true, and_from, and_parts, leb-true, le-leb, ne_eqb}
 use Rattle.std.proofs.lemmas.List.{map-append}
 use Rattle.upc_values.specs.declared.journal.Entry.{Entry}
 use Rattle.upc_values.specs.declared.journal.Journal.{Journal}
@@ -9,23 +9,14 @@ use Rattle.upc_values.specs.Operations.{Operation}
 use Rattle.upc_values.specs.Orders.{placed, global_order}
 use Rattle.upc_values.specs.Consistent.{same_place}
 use Rattle.upc_values.proofs.Membership.{has-cases, precedes-has}
-use Rattle.race_report.specs.layer.Races.{Race}
-use Rattle.race_report.specs.layer.Serial.{IsRun}
+use Rattle.race_report.specs.Races.{AreRacing}
+use Rattle.race_report.specs.Serial.{IsRun}
 use Rattle.race_report.proofs.Lists.{has-map}
-use Rattle.race_report_clocks.specs.layer.Clocks.{Clock, Clocks, known, silent, advanced, clocks_from, clocks}
+use Rattle.race_report_clocks.specs.layer.Clocks.{Clock, Clocks, known, silent, advanced, clocks}
+use Rattle.race_report_clocks.proofs.Pushed.{clocks-push}
 use Rattle.race_report_bridge.specs.layer.Telling.{MightRace}
 use Rattle.race_report_bridge.proofs.Racing.{all-shown}
-use Rattle.race_report_places.specs.code.Sights.{Sight, seen_with, sights_from, sights, might_race, shows_race, ShowRaces, SightsShowRaces}
-
--- one more entry
-push-from : (before : List Entry) (c : Clocks) (es : List Entry) (e : Entry) → clocks_from before c (es ++ e ∷ []) ≡ advanced (before ++ es) (clocks_from before c es) e
-push-from before c [] e = ap (λ z. advanced z c e) (sym (append-nil before))
-push-from before c (x ∷ es) e =
-    push-from (before ++ x ∷ []) (advanced before c x) es e
-    ∙ ap (λ z. advanced z (clocks_from (before ++ x ∷ []) (advanced before c x) es) e) (append_assoc before (x ∷ []) es)
-
-clocks-push : (es : List Entry) (e : Entry) → clocks (es ++ e ∷ []) ≡ advanced es (clocks es) e
-clocks-push es e = push-from [] silent es e
+use Rattle.race_report_places.specs.layer.Sights.{Sight, seen_with, sights_from, sights, might_race, shows_race, SightsShowRaces}
 
 -- where a sight stands
 record Standing (j : Journal) (all : List Entry) (s : Sight) : Type 0 where
@@ -111,7 +102,7 @@ module _ (j : Journal) (run : IsRun j) where
       subst (λ l. Precedes l a.operation b.operation) (sight-operations j [] silent j.history)
       (map-precedes (λ (s : Sight). s.operation) (sights j) a b p)
 
-  shown : (a b : Sight) → Precedes (sights j) a b → Race j a.operation b.operation → shows_race a b ≡ true
+  shown : (a b : Sight) → Precedes (sights j) a b → AreRacing j a.operation b.operation → shows_race a b ≡ true
   shown a b p r =
       let s = standing j [] silent j.history b refl (precedes-has (sights j) a b p).1 in
       let k = (all-shown j s.front s.rest s.entry a.operation b.operation run s.is s.has (sights-precede a b p)).0 r in
@@ -120,7 +111,7 @@ module _ (j : Journal) (run : IsRun j) where
       and_from (might_race a.operation b.operation) (nat_le (b.known u) a.operation.index)
       (might-be a.operation b.operation k.0) (le-leb (b.known u) a.operation.index le)
 
-  races : (a b : Sight) → Precedes (sights j) a b → shows_race a b ≡ true → Race j a.operation b.operation
+  races : (a b : Sight) → Precedes (sights j) a b → shows_race a b ≡ true → AreRacing j a.operation b.operation
   races a b p t =
       let s = standing j [] silent j.history b refl (precedes-has (sights j) a b p).1 in
       let u = a.operation.thread in

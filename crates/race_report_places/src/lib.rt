@@ -5,4 +5,4 @@ mod law;
 mod report;
 
 pub use law::{shown_is_reported, sights_show_races};
-pub use report::{RacePair, Races};
+pub use report::{Race, Races, Report};
