@@ -14,7 +14,7 @@ use Rattle.order_builder.specs.declared.names.Named.{Named}
 use Rattle.order_builder.specs.declared.part.Part.{Part}
 use Rattle.order_builder.specs.declared.part.Part.TheVariants.{Whole, Strict, Shown}
 use Rattle.order_builder.specs.Named.{thread_names, orders_of}
-use Rattle.order_builder.specs.code.Commits.{named}
+use Rattle.order_builder.specs.layer.Commits.{named}
 use Rattle.order_builder.specs.code.Parts.{is_in, order_of, shown_below}
 
 abbrev orders_by : List Op → List (List Op) → Orders

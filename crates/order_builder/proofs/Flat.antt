@@ -8,7 +8,7 @@ use Rattle.std.proofs.Math.Seq.{take-append_seam, drop-append_seam, take-length,
 use Rattle.upc_values.specs.Drain.{Commit}
 use Rattle.order_builder.specs.declared.names.Named.{Named}
 use Rattle.order_builder.specs.declared.commits.Commits.{Commits}
-use Rattle.order_builder.specs.code.Commits.{named, operations_in, AreFlat, Holds, begin_of, names_at, HasCommit}
+use Rattle.order_builder.specs.layer.Commits.{named, operations_in, AreFlat, Holds, begin_of, names_at, HasCommit}
 
 -- a part of a list, between two others
 middle : {X : Type 0} (xs ys zs : List X) (from to : ℕ) → from ≡ length xs → to ≡ length xs + length ys → take (to - from) (drop from (xs ++ (ys ++ zs))) ≡ ys

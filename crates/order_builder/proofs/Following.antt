@@ -16,7 +16,7 @@ use Rattle.upc_values.proofs.Numbering.{counted, numbered-drained}
 use Rattle.upc_values.proofs.Placement.{agrees-of, drains-of}
 use Rattle.order_builder.specs.declared.names.Named.{Named}
 use Rattle.order_builder.specs.declared.commits.Commits.{Commits}
-use Rattle.order_builder.specs.code.Commits.{named, no_commits, AreCommits, HasCommit, names_at, AreCursors}
+use Rattle.order_builder.specs.layer.Commits.{named, no_commits, AreCommits, HasCommit, names_at, AreCursors}
 use Rattle.order_builder.specs.code.Views.{ArePlaced}
 use Rattle.order_builder.proofs.Flat.{has-commit, names-at}
 

@@ -11,7 +11,7 @@ use Rattle.order_builder.specs.declared.entry.EntryRef.{EntryRef}
 use Rattle.order_builder.specs.declared.entry.KeptCommit.{KeptCommit}
 use Rattle.order_builder.specs.declared.emitted.Emitted.{Emitted}
 use Rattle.order_builder.specs.declared.walk.Walk as program
-use Rattle.order_builder.specs.code.Commits.{named, AreFlat}
+use Rattle.order_builder.specs.layer.Commits.{named, AreFlat}
 use Rattle.order_builder.specs.code.Views.{counted, noted, Named_commit, by_names, entry_in, kept, kept_entries, AreKept, IsEmitted, IsPushed, IsShown, IsLast}
 use Rattle.order_builder.specs.code.Views as views
 use Rattle.order_builder.proofs.Finding.{is-place}

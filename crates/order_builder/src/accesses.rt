@@ -2,7 +2,7 @@
 
 ghost use Rattle.std.specs.Prelude.{◌≡◌, map, IfOk};
 ghost use Rattle.upc_values.specs.Operations.{accesses_of};
-ghost use Rattle.order_builder.specs.code.Commits.{named};
+ghost use Rattle.order_builder.specs.layer.Commits.{named};
 
 use crate::names::{Named, Names};
 use std::alloc::Global;

@@ -1,7 +1,7 @@
 //! The commits of a thread in flat lists.
 
 ghost use Rattle.std.specs.Prelude.{◌≡◌, ◌<◌};
-ghost use Rattle.order_builder.specs.code.Commits.{HasCommit, names_at};
+ghost use Rattle.order_builder.specs.layer.Commits.{HasCommit, names_at};
 
 use crate::names::{Named, Names};
 use upc_values::Listing;

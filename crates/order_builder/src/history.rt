@@ -3,7 +3,7 @@
 ghost use Rattle.std.specs.Prelude.{◌≡◌, map, IfOk};
 ghost use Rattle.upc_values.specs.Orders as said;
 ghost use Rattle.upc_values.specs.Consistent.{FollowsBuffers};
-ghost use Rattle.order_builder.specs.code.Commits.{named, AreCommits};
+ghost use Rattle.order_builder.specs.layer.Commits.{named, AreCommits};
 
 use crate::commits::Commits;
 use crate::names::Names;

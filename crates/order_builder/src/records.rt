@@ -2,7 +2,7 @@
 
 ghost use Rattle.std.specs.Prelude.{◌≡◌, length, IfOk};
 ghost use Rattle.upc_values.specs.Drain.{commits, drained};
-ghost use Rattle.order_builder.specs.code.Commits.{Holds, AreCommits};
+ghost use Rattle.order_builder.specs.layer.Commits.{Holds, AreCommits};
 ghost use Rattle.order_builder.specs.code.Views.{IsShown};
 
 use crate::commits::Commits;

@@ -4,7 +4,7 @@ ghost use Rattle.std.specs.Prelude.{◌≡◌, ◌<◌, length, map, OnOk, IfOk,
 ghost use Rattle.upc_values.specs.Drain as drain;
 ghost use Rattle.upc_values.specs.Drain.{last_written, pending_value};
 ghost use Rattle.upc_values.specs.Operations.{accesses};
-ghost use Rattle.order_builder.specs.code.Commits.{named};
+ghost use Rattle.order_builder.specs.layer.Commits.{named};
 ghost use Rattle.order_builder.specs.code.Views.{entry_in, by_names, kept, kept_entries};
 ghost use Rattle.order_builder.specs.code.Views.{IsShown, IsAfter, IsLast, IsChangedAt};
 ghost use Rattle.order_builder.specs.code.Views.{joined, combined, counted, noted};

@@ -6,7 +6,7 @@ use Rattle.upc_values.specs.Lists.{Has, Precedes}
 use Rattle.upc_values.specs.Operations.{Operation, accesses}
 use Rattle.upc_values.specs.Orders.{IsOf, rank, strict_list}
 use Rattle.upc_values.proofs.Membership.{precedes-trans, Distinct}
-use Rattle.race_report.specs.layer.Reach.{Releases, ComesBefore, As_written, Across, Through}
+use Rattle.race_report.specs.Reach.{Releases, ComesBefore, As_written, Across, Through}
 
 -- in one thread, in program order
 abbrev pub Written : Operation → Operation → Type 0

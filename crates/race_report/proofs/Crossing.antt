@@ -17,7 +17,7 @@ use Rattle.upc_values.specs.Orders.{placed, global_order}
 use Rattle.upc_values.specs.Consistent.{FollowsBuffers}
 use Rattle.upc_values.specs.Lists.{Each, Has, Precedes}
 use Rattle.upc_values.proofs.Membership.{each-has, filter-has, precedes-has, precedes-filter}
-use Rattle.race_report.specs.layer.Reach.{notifies_of, waits_of, Releases, At_barrier, By_lock, By_value}
+use Rattle.race_report.specs.Reach.{notifies_of, waits_of, Releases, At_barrier, By_lock, By_value}
 use Rattle.race_report.proofs.Lists.{counted, counted-is, slice-has, before, early, flat-precedes}
 use Rattle.race_report.proofs.Moved.{front-precedes}
 use Rattle.upc_values.proofs.Consistency.{global-only}

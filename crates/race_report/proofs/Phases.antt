@@ -10,7 +10,7 @@ use Rattle.upc_values.specs.Orders.{operations_from, rank}
 use Rattle.upc_values.specs.Lists.{Each, Has, Pairwise}
 use Rattle.upc_values.proofs.Membership.{each-has, each-from, each-append, each-weaker, pairs-insert}
 use Rattle.upc_values.proofs.Own.{IsNew, new-item}
-use Rattle.race_report.specs.layer.Serial.{until_strict, relaxed_after, begins_notified}
+use Rattle.race_report.specs.Serial.{until_strict, relaxed_after, begins_notified}
 
 -- in program order
 abbrev pub Sorted : List Operation → Type 0

@@ -11,7 +11,7 @@ use Rattle.upc_values.specs.Operations.{Operation}
 use Rattle.upc_values.specs.Orders.{IsOf, rank, name_of, no_strand, strict_list, global_order, record_of, operations_of}
 use Rattle.upc_values.specs.Consistent.{same_place}
 use Rattle.upc_values.proofs.Membership.{each-has, has-filter, filter-has, precedes-has, filter-precedes, pairs-at, pairs-from}
-use Rattle.race_report.specs.layer.Serial.{until_strict, relaxed_after, phase, serial_list, IsRun, NamesSerial}
+use Rattle.race_report.specs.Serial.{until_strict, relaxed_after, phase, serial_list, IsRun, NamesSerial}
 use Rattle.race_report.specs.declared.own.OwnOperation.{OwnOperation}
 use Rattle.race_report.specs.code.Own.{own, relaxed_first, AreOwn, IsNext, ArePlaced}
 use Rattle.upc_values.proofs.Consistency.{global-only, global-has, global-placed}

@@ -9,9 +9,9 @@ use Rattle.upc_values.specs.Operations.{Operation}
 use Rattle.upc_values.specs.Orders.{IsOf, rank, name_of, no_strand, record_of, global_order, strict_list, operations_of}
 use Rattle.upc_values.specs.Consistent.{FollowsBuffers, same_place, conflict, ReadsLast, begins}
 use Rattle.upc_values.proofs.Membership.{has-filter, filter-has, each-from, pairs-at, pairs-from, pairs-weaker, precedes-has, precedes-total, precedes-strict, precedes-trans, precedes-filter, filter-precedes, Distinct}
-use Rattle.race_report.specs.layer.Reach.{ComesBefore}
-use Rattle.race_report.specs.layer.Races.{IsRaceFree}
-use Rattle.race_report.specs.layer.Serial.{relaxed_after, phase, serial_list, IsRun, Leads, StandsBefore, AreInOrder, IsSerial, SerialIsRight}
+use Rattle.race_report.specs.Reach.{ComesBefore}
+use Rattle.race_report.specs.Races.{IsRaceFree}
+use Rattle.race_report.specs.Serial.{relaxed_after, phase, serial_list, IsRun, Leads, StandsBefore, AreInOrder, IsSerial, SerialIsRight}
 use Rattle.race_report.proofs.Lists.{has-flat, flat-has, flat-precedes, flat-pairs}
 use Rattle.race_report.proofs.Moved.{meets, reads-moved}
 use Rattle.upc_values.proofs.Consistency.{global-only, global-has, global-distinct, global-placed, written-precedes, all-answered}

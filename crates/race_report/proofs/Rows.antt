@@ -13,7 +13,7 @@ use Rattle.upc_values.specs.declared.journal.Journal.{Journal}
 use Rattle.upc_values.specs.declared.order.Op.{Op}
 use Rattle.upc_values.specs.Drain.{entry_of}
 use Rattle.upc_values.specs.Orders.{name_of}
-use Rattle.race_report.specs.layer.Serial.{serial_list}
+use Rattle.race_report.specs.Serial.{serial_list}
 
 -- the entry of a record's item
 abbrev entry_in : List Item → ℕ → ℕ → Entry

@@ -1,2 +1,4 @@
-pub mod layer
+pub mod Races
+pub mod Reach
+pub mod Serial
 pub mod code

@@ -3,7 +3,7 @@
 ghost use Rattle.std.specs.Prelude.{◌≡◌, ◌++◌, length, map, IfOk, OnOk};
 ghost use Rattle.upc_values.specs.Orders as said;
 ghost use Rattle.upc_values.specs.Orders.{name_of};
-ghost use Rattle.race_report.specs.layer.Serial.{serial_list, IsRun, NamesSerial};
+ghost use Rattle.race_report.specs.Serial.{serial_list, IsRun, NamesSerial};
 ghost use Rattle.race_report.specs.code.Own.{relaxed_first, AreOwn};
 
 use crate::own::{OwnOperation, OwnOperations, all_operations};

@@ -14,7 +14,7 @@ use Rattle.upc_values.specs.Drain.{commits}
 use Rattle.upc_values.specs.Consistent.{FollowsBuffers, same_place}
 use Rattle.upc_values.proofs.Membership.{has-cases, each-has, each-append, each-weaker, precedes-strict, precedes-trans}
 use Rattle.upc_values.proofs.Own.{IsNew, new-item}
-use Rattle.race_report.specs.layer.Reach.{ComesBefore, As_written, Across, Through}
+use Rattle.race_report.specs.Reach.{ComesBefore, As_written, Across, Through}
 use Rattle.race_report.proofs.Lists.{has-flat, flat-precedes}
 use Rattle.upc_values.proofs.Consistency.{global-only, global-distinct, global-placed}
 use Rattle.race_report.proofs.Covering.{placed-own}

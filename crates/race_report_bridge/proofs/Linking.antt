@@ -17,7 +17,7 @@ use Rattle.upc_values.specs.Scalars.{zero}
 use Rattle.upc_values.specs.Operations.{Operation, Cell, Sync, read_at, write_at, accesses_of, accesses}
 use Rattle.upc_values.specs.Consistent.{FollowsBuffers}
 use Rattle.upc_values.proofs.Membership.{each-has, filter-has}
-use Rattle.race_report.specs.layer.Reach.{notifies_of, waits_of, Releases, At_barrier, By_lock, By_value}
+use Rattle.race_report.specs.Reach.{notifies_of, waits_of, Releases, At_barrier, By_lock, By_value}
 use Rattle.race_report.proofs.Lists.{counted, counted-is, before as standing, Before, slice-has}
 use Rattle.race_report_clocks.specs.declared.channel.Channel.{Channel}
 use Rattle.race_report_clocks.specs.declared.channel.Channel.TheVariants as over

@@ -11,9 +11,9 @@ use Rattle.upc_values.specs.Operations.{Operation, Place, Cell, Sync, Access, No
 use Rattle.upc_values.specs.Orders.{IsOf, record_of, operations_from, placed, global_order}
 use Rattle.upc_values.specs.Consistent.{same_place}
 use Rattle.upc_values.proofs.Membership.{each-has, each-append, precedes-has, precedes-strict, precedes-trans}
-use Rattle.race_report.specs.layer.Reach.{ComesBefore}
-use Rattle.race_report.specs.layer.Races.{AreRacing}
-use Rattle.race_report.specs.layer.Serial.{IsRun}
+use Rattle.race_report.specs.Reach.{ComesBefore}
+use Rattle.race_report.specs.Races.{AreRacing}
+use Rattle.race_report.specs.Serial.{IsRun}
 use Rattle.upc_values.proofs.Consistency.{global-only, global-distinct}
 use Rattle.race_report_clocks.specs.layer.Clocks.{known, clocks}
 use Rattle.race_report_bridge.specs.layer.Telling.{MightRace, ClocksShowRaces}

@@ -6,8 +6,8 @@ use Rattle.upc_values.specs.Lists.{Precedes}
 use Rattle.upc_values.specs.Operations.{Operation}
 use Rattle.upc_values.specs.Orders.{IsOf, rank, global_order, strict_list}
 use Rattle.upc_values.proofs.Membership.{pairs-from, pairs-at, precedes-trans, precedes-filter, filter-precedes, Distinct}
-use Rattle.race_report.specs.layer.Reach.{ComesBefore}
-use Rattle.race_report.specs.layer.Serial.{IsRun}
+use Rattle.race_report.specs.Reach.{ComesBefore}
+use Rattle.race_report.specs.Serial.{IsRun}
 use Rattle.upc_values.proofs.Consistency.{global-distinct, written-precedes}
 use Rattle.race_report.proofs.Bridging.{Written, AtOrBefore, IsStrict, Way, Bridge, KeepsStrict, bridged}
 use Rattle.race_report.proofs.Crossing.{crosses}

@@ -4,7 +4,7 @@ use Rattle.std.proofs.lemmas.Bool.{cases_Bool, cases_lt, false≢true, and_from,
 use Rattle.upc_values.specs.Lists.{Has}
 use Rattle.upc_values.proofs.Membership.{has-left, has-right, has-cases}
 use Rattle.order_builder.specs.declared.names.Named.{Named}
-use Rattle.race_report_cells.specs.layer.Lasts.{is_before, chosen, IsFirst, IsFound}
+use Rattle.race_report_cells.specs.code.Lasts.{is_before, chosen, IsFirst, IsFound}
 
 module _ (test : Named → Bool) where
   -- the members with one more

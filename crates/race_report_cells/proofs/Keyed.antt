@@ -12,7 +12,7 @@ use Rattle.std.proofs.lemmas.Map.Keys.{sorted_head, sorted_tail}
 use Rattle.block_layout.specs.declared.place.Loc.{Loc}
 use Rattle.upc_values.specs.Lists.{Each, Has, Pairwise}
 use Rattle.race_report_places.specs.declared.report.Race.{Race}
-use Rattle.race_report_places.specs.layer.Report.{IsBelow}
+use Rattle.race_report_places.specs.Report.{IsBelow}
 use Rattle.race_report_cells.specs.declared.found.Spot.{Spot}
 use Rattle.race_report_cells.specs.layer.Found.{spot_of, spot_cmp, IsKeyedBy, ArePut}
 

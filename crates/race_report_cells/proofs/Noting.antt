@@ -3,7 +3,7 @@ use Rattle.std.proofs.Common.{◌≡◌, ℕ, ◌<◌, ◌≤◌, List, [], ◌�
 use Rattle.upc_values.specs.Lists.{Has}
 use Rattle.upc_values.proofs.Membership.{has-left, has-right, has-cases}
 use Rattle.order_builder.specs.declared.names.Named.{Named}
-use Rattle.race_report_cells.specs.layer.Lasts.{IsSameKind, IsUpTo, AreNoted}
+use Rattle.race_report_cells.specs.code.Lasts.{IsSameKind, IsUpTo, AreNoted}
 
 module _ {X : Type 0} where
   pub has-set : (xs : List X) (i : ℕ) (y x : X) → Has (set xs i y) x → Has xs x ⊎ (y ≡ x)

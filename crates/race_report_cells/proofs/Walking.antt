@@ -11,16 +11,16 @@ use Rattle.upc_values.specs.Consistent.{same_place}
 use Rattle.upc_values.proofs.Membership.{has-left, has-right, has-cases, each-has}
 use Rattle.upc_values.proofs.Sameness.{same_loc-true, same_loc-itself}
 use Rattle.order_builder.specs.declared.names.Named.{Named}
-use Rattle.order_builder.specs.code.Commits.{named}
+use Rattle.order_builder.specs.layer.Commits.{named}
 use Rattle.race_report_clocks.specs.layer.Clocks.{Clock}
 use Rattle.race_report_places.specs.declared.report.Race.{Race}
-use Rattle.race_report_places.specs.code.Sights.{Sight, seen_with, might_race, shows_race}
-use Rattle.race_report_places.specs.layer.Report.{IsQuiet}
+use Rattle.race_report_places.specs.layer.Sights.{Sight, seen_with, might_race, shows_race}
+use Rattle.race_report_places.specs.Report.{IsQuiet}
 use Rattle.race_report_places.proofs.Reporting.{cell-of}
 use Rattle.race_report_places.proofs.Walking.{quiet-next, shown-more}
 use Rattle.race_report_cells.specs.declared.cell.Cell as program
 use Rattle.race_report_cells.specs.declared.cells.Cells.{Cells}
-use Rattle.race_report_cells.specs.layer.Lasts.{IsUpTo, AreNoted, IsFirst, IsFound, races_by}
+use Rattle.race_report_cells.specs.code.Lasts.{IsUpTo, AreNoted, IsFirst, IsFound, races_by}
 use Rattle.race_report_cells.specs.layer.Found.{races_in, ArePut}
 use Rattle.race_report_cells.proofs.Noting.{get-has}
 use Rattle.race_report_cells.specs.layer.Cells.{IsOn, cell_at, Keeps, IsShown, IsKept, IsWalked}

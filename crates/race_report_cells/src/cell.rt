@@ -1,7 +1,7 @@
 //! What is kept of a location.
 
 ghost use Rattle.std.specs.Prelude.{◌≡◌, true, false, None, is_some, slice_index, IfOk};
-ghost use Rattle.race_report_cells.specs.layer.Lasts.{AreNoted, IsFound, races_by};
+ghost use Rattle.race_report_cells.specs.code.Lasts.{AreNoted, IsFound, races_by};
 ghost use Rattle.race_report_cells.specs.layer.Cells.{fresh};
 
 use crate::lasts::Lasts;

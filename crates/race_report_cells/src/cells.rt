@@ -4,12 +4,12 @@ ghost use Rattle.std.specs.Prelude.{◌≡◌, ℕ, [], ◌∷◌, ◌++◌, Lis
 ghost use Rattle.block_layout.specs.declared.place.Loc.{Loc};
 ghost use Rattle.upc_values.specs.Lists.{Each, Pairwise};
 ghost use Rattle.upc_values.specs.Operations.{Operation};
-ghost use Rattle.order_builder.specs.code.Commits.{named};
+ghost use Rattle.order_builder.specs.layer.Commits.{named};
 ghost use Rattle.race_report_clocks.specs.declared.channel.Channel.TheVariants as over;
 ghost use Rattle.race_report_clocks.specs.layer.Clocks.{Clock};
 ghost use Rattle.race_report_tables.specs.layer.Places.{place_of, ArePlaced};
-ghost use Rattle.race_report_places.specs.code.Sights.{Sight, seen_with};
-ghost use Rattle.race_report_places.specs.layer.Report.{IsBelow};
+ghost use Rattle.race_report_places.specs.layer.Sights.{Sight, seen_with};
+ghost use Rattle.race_report_places.specs.Report.{IsBelow};
 ghost use Rattle.race_report_cells.specs.layer.Found.{races_in};
 ghost use Rattle.race_report_cells.specs.layer.Cells.{cell_at, IsOn, IsKept, IsWalked};
 

@@ -3,7 +3,7 @@
 ghost use Rattle.std.specs.Prelude.{◌≡◌, [], map, IfOk, OnOk};
 ghost use Rattle.std.specs.List.Sorted.{IsStrictlySortedBy};
 ghost use Rattle.upc_values.specs.Lists.{Pairwise};
-ghost use Rattle.race_report_places.specs.layer.Report.{IsBelow};
+ghost use Rattle.race_report_places.specs.Report.{IsBelow};
 ghost use Rattle.race_report_cells.specs.layer.Found as said;
 ghost use Rattle.race_report_cells.specs.layer.Found.{IsKeyed, races_in, ArePut};
 

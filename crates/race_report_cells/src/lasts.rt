@@ -1,8 +1,8 @@
 //! The last operations on a location, of each thread and kind.
 
 ghost use Rattle.std.specs.Prelude.{◌≡◌, ◌<◌, [], length, slice_index, slice_index_or, IsTrue, IfSome, OnOk};
-ghost use Rattle.race_report_cells.specs.layer.Lasts as said;
-ghost use Rattle.race_report_cells.specs.layer.Lasts.{IsSameKind, AreNoted, IsFound, races_by};
+ghost use Rattle.race_report_cells.specs.code.Lasts as said;
+ghost use Rattle.race_report_cells.specs.code.Lasts.{IsSameKind, AreNoted, IsFound, races_by};
 
 use order_builder::Named;
 use race_report_tables::Row;

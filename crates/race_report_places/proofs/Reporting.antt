@@ -10,12 +10,12 @@ use Rattle.upc_values.specs.Orders.{rank, record_of, operations_from}
 use Rattle.upc_values.specs.Consistent.{same_place}
 use Rattle.upc_values.proofs.Membership.{has-left, has-right}
 use Rattle.upc_values.proofs.Sameness.{same_loc-true}
-use Rattle.race_report.specs.layer.Races.{AreRacing}
-use Rattle.race_report.specs.layer.Serial.{IsRun}
+use Rattle.race_report.specs.Races.{AreRacing}
+use Rattle.race_report.specs.Serial.{IsRun}
 use Rattle.race_report.proofs.Lists.{has-map}
 use Rattle.race_report_bridge.proofs.Knowing.{one-action}
-use Rattle.race_report_places.specs.code.Sights.{Sight, sights, shows_race, ShowRaces}
-use Rattle.race_report_places.specs.layer.Report.{IsFirstRace, IsFirstShown, ShownIsReported}
+use Rattle.race_report_places.specs.layer.Sights.{Sight, sights, shows_race, ShowRaces}
+use Rattle.race_report_places.specs.Report.{IsFirstRace, IsFirstShown, ShownIsReported}
 use Rattle.race_report_places.proofs.Sights.{all-sights, map-has}
 
 module _ {X Y : Type 0} (f : X → Y) where

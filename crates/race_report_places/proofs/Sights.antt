@@ -9,14 +9,14 @@ use Rattle.upc_values.specs.Operations.{Operation}
 use Rattle.upc_values.specs.Orders.{placed, global_order}
 use Rattle.upc_values.specs.Consistent.{same_place}
 use Rattle.upc_values.proofs.Membership.{has-cases, precedes-has}
-use Rattle.race_report.specs.layer.Races.{AreRacing}
-use Rattle.race_report.specs.layer.Serial.{IsRun}
+use Rattle.race_report.specs.Races.{AreRacing}
+use Rattle.race_report.specs.Serial.{IsRun}
 use Rattle.race_report.proofs.Lists.{has-map}
 use Rattle.race_report_clocks.specs.layer.Clocks.{Clock, Clocks, known, silent, advanced, clocks}
 use Rattle.race_report_clocks.proofs.Pushed.{clocks-push}
 use Rattle.race_report_bridge.specs.layer.Telling.{MightRace}
 use Rattle.race_report_bridge.proofs.Racing.{all-shown}
-use Rattle.race_report_places.specs.code.Sights.{Sight, seen_with, sights_from, sights, might_race, shows_race, SightsShowRaces}
+use Rattle.race_report_places.specs.layer.Sights.{Sight, seen_with, sights_from, sights, might_race, shows_race, SightsShowRaces}
 
 -- where a sight stands
 record Standing (j : Journal) (all : List Entry) (s : Sight) : Type 0 where

@@ -9,11 +9,11 @@ use Rattle.upc_values.specs.Orders.{global_order}
 use Rattle.upc_values.specs.Consistent.{same_place}
 use Rattle.upc_values.proofs.Membership.{precedes-total}
 use Rattle.upc_values.proofs.Sameness.{same_loc-true, same_loc-itself}
-use Rattle.race_report.specs.layer.Races.{AreRacing}
-use Rattle.race_report.specs.layer.Serial.{IsRun}
+use Rattle.race_report.specs.Races.{AreRacing}
+use Rattle.race_report.specs.Serial.{IsRun}
 use Rattle.upc_values.proofs.Consistency.{global-has}
-use Rattle.race_report_places.specs.code.Sights.{Sight, sights, shows_race, ShowRaces}
-use Rattle.race_report_places.specs.layer.Report.{IsFirstShown, IsQuiet}
+use Rattle.race_report_places.specs.layer.Sights.{Sight, sights, shows_race, ShowRaces}
+use Rattle.race_report_places.specs.Report.{IsFirstShown, IsQuiet}
 use Rattle.race_report_places.proofs.Sights.{all-sights}
 use Rattle.race_report_places.proofs.Reporting.{behind}
 

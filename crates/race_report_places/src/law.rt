@@ -1,7 +1,7 @@
 //! What the operations in the order of the history show, each with what its thread knows there.
 
-ghost use Rattle.race_report_places.specs.code.Sights.{SightsShowRaces};
-ghost use Rattle.race_report_places.specs.layer.Report.{ShownIsReported};
+ghost use Rattle.race_report_places.specs.layer.Sights.{SightsShowRaces};
+ghost use Rattle.race_report_places.specs.Report.{ShownIsReported};
 
 /// A law: they are the operations of the journal, and show just which of them race.
 pub fn sights_show_races()

@@ -1,7 +1,7 @@
 -- A journal with an empty report.
 use Rattle.race_report.proofs.Reading.{all-serial}
 use Rattle.race_report_bridge.proofs.Racing.{on-cell}
-use Rattle.race_report_serial.specs.code.Sequential.{EmptyIsRaceFree, EmptyIsSequential}
+use Rattle.race_report_serial.specs.Sequential.{EmptyIsRaceFree, EmptyIsSequential}
 
 pub empty-free : EmptyIsRaceFree
 empty-free j report a b race =

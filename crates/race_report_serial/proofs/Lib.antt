@@ -1,1 +1,1 @@
-mod Free
+pub mod Free

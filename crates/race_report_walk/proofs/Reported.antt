@@ -4,10 +4,10 @@ use Rattle.std.proofs.lemmas.Bool.{cases_Bool}
 use Rattle.upc_values.specs.declared.journal.Journal.{Journal}
 use Rattle.upc_values.specs.Lists.{Has, Pairwise}
 use Rattle.upc_values.proofs.Membership.{each-from}
-use Rattle.race_report.specs.layer.Serial.{IsRun}
+use Rattle.race_report.specs.Serial.{IsRun}
 use Rattle.race_report_places.specs.declared.report.Race.{Race}
-use Rattle.race_report_places.specs.code.Sights.{sights}
-use Rattle.race_report_places.specs.layer.Report.{IsBelow, IsReported, IsReport}
+use Rattle.race_report_places.specs.layer.Sights.{sights}
+use Rattle.race_report_places.specs.Report.{IsBelow, IsReported, IsReport}
 use Rattle.race_report_places.proofs.Reporting.{all-reported}
 use Rattle.race_report_places.proofs.Walking.{quiet-all}
 use Rattle.race_report_cells.specs.declared.cells.Cells.{Cells}

@@ -10,13 +10,13 @@ use Rattle.upc_values.specs.Consistent.{FollowsBuffers}
 use Rattle.upc_values.proofs.Membership.{has-right, each-back}
 use Rattle.order_builder.specs.declared.names.Named.{Named}
 use Rattle.order_builder.specs.declared.commits.Commits.{Commits}
-use Rattle.order_builder.specs.code.Commits.{named, AreCommits, AreCursors}
+use Rattle.order_builder.specs.layer.Commits.{named, AreCommits, AreCursors}
 use Rattle.order_builder.proofs.Following.{Finds, finds, cursors-more}
 use Rattle.race_report_clocks.specs.layer.Clocks.{Clock, Clocks, known, silent, advanced, clocks_from, clocks}
 use Rattle.race_report_clocks.proofs.Pushed.{clocks-push}
 use Rattle.race_report_tables.specs.declared.tables.Tables.{Tables}
 use Rattle.race_report_tables.specs.layer.Tables.{AreClocks}
-use Rattle.race_report_places.specs.code.Sights.{Sight, seen_with, sights_from}
+use Rattle.race_report_places.specs.layer.Sights.{Sight, seen_with, sights_from}
 use Rattle.race_report_cells.specs.declared.cells.Cells.{Cells}
 use Rattle.race_report_cells.specs.layer.Cells.{IsWalked}
 use Rattle.race_report_cells.proofs.Walking.{walked-skip}

@@ -4,11 +4,11 @@ ghost use Rattle.std.specs.Prelude.{◌≡◌, ℕ, [], ◌∷◌, ◌++◌, Lis
 ghost use Rattle.upc_values.specs.declared.journal.Entry.{Entry};
 ghost use Rattle.upc_values.specs.declared.journal.Journal.{Journal};
 ghost use Rattle.upc_values.specs.Consistent.{FollowsBuffers};
-ghost use Rattle.order_builder.specs.code.Commits.{AreCommits};
-ghost use Rattle.race_report.specs.layer.Serial.{IsRun};
+ghost use Rattle.order_builder.specs.layer.Commits.{AreCommits};
+ghost use Rattle.race_report.specs.Serial.{IsRun};
 ghost use Rattle.race_report_tables.specs.layer.Tables.{AreClocks, IsReady};
-ghost use Rattle.race_report_places.specs.code.Sights.{sights};
-ghost use Rattle.race_report_places.specs.layer.Report.{IsReport};
+ghost use Rattle.race_report_places.specs.layer.Sights.{sights};
+ghost use Rattle.race_report_places.specs.Report.{IsReport};
 ghost use Rattle.race_report_cells.specs.layer.Cells.{IsKept, IsWalked};
 ghost use Rattle.race_report_walk.specs.code.Walk.{location_of, sights_before, IsEntry};
 

@@ -8,9 +8,9 @@ use Rattle.upc_values.specs.declared.action.Action.{Action}
 use Rattle.upc_values.specs.declared.action.Action.TheVariants as action
 use Rattle.run_recorder_text.specs.Words.{Text, loc_text, pointer_text, scalar_text, mark_text, home_text, strict_text}
 use Rattle.run_recorder_text.specs.Words.{hex_text, action_words}
-use Rattle.run_recorder_parts.specs.layer.Bounds.{most_u8, most_u32, most_u64, most_i32}
-use Rattle.run_recorder.specs.code.Ranges.{IsWithin, FitsLoc, FitsPointer}
-use Rattle.run_recorder.specs.code.Ranges.{FitsScalar, FitsMark, FitsHome, FitsAction}
+use Rattle.run_recorder_parts.specs.Bounds.{most_u8, most_u32, most_u64, most_i32}
+use Rattle.run_recorder.specs.Ranges.{IsWithin, FitsLoc, FitsPointer}
+use Rattle.run_recorder.specs.Ranges.{FitsScalar, FitsMark, FitsHome, FitsAction}
 use Rattle.run_recorder_parts.specs.layer.Readers.{Reader, give, field, many, each, number_of, int_of}
 use Rattle.run_recorder_parts.specs.layer.Values.{word32, word64, signed32, loc_of, pointer_of, scalar_of}
 use Rattle.run_recorder_parts.specs.layer.Values.{mark_of, home_of}

@@ -8,7 +8,7 @@ use Rattle.upc_values.specs.declared.journal.Journal.{Journal}
 use Rattle.upc_values.specs.declared.order.Orders.{Orders}
 use Rattle.run_recorder_text.specs.Words.{Text}
 use Rattle.run_recorder_text.specs.Lines.{text, old_text}
-use Rattle.run_recorder.specs.code.Recorded.{IsRecordable, IsTextOf, IsNoText, TellsOneRun, OneRunEachText}
+use Rattle.run_recorder.specs.Recorded.{IsRecordable, IsTextOf, IsNoText, TellsOneRun, OneRunEachText}
 use Rattle.run_recorder.specs.code.Whole.{VersionedRun, run_of}
 use Rattle.run_recorder.proofs.Whole.{told, told_again}
 use Rattle.run_recorder.proofs.Forms.{some_is}

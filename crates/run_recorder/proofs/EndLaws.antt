@@ -4,7 +4,7 @@ use Rattle.upc_values.specs.declared.record.End.{End}
 use Rattle.upc_values.specs.declared.record.End.TheVariants as end
 use Rattle.upc_text.specs.declared.place.Place.{Place}
 use Rattle.run_recorder_text.specs.Words.{Text, place_text, end_words}
-use Rattle.run_recorder.specs.code.Ranges.{FitsPlace, FitsEnd}
+use Rattle.run_recorder.specs.Ranges.{FitsPlace, FitsEnd}
 use Rattle.run_recorder_parts.specs.layer.Readers.{Reader, give, field}
 use Rattle.run_recorder_parts.specs.layer.Values.{place_parts_of, place_of, valued_of, fault_of}
 use Rattle.run_recorder_parts.specs.layer.Values.{deadlocked_of, end_table}

@@ -10,7 +10,7 @@ use Rattle.upc_values.specs.declared.record.Item.{Item}
 use Rattle.upc_values.specs.declared.record.Item.TheVariants as item
 use Rattle.run_recorder_text.specs.Words.{Text, with_blanks, flag_text, action_words, reply_words, item_words}
 use Rattle.run_recorder_text.specs.Lines.{item_line}
-use Rattle.run_recorder.specs.code.Ranges.{FitsReply, FitsItem}
+use Rattle.run_recorder.specs.Ranges.{FitsReply, FitsItem}
 use Rattle.run_recorder_parts.specs.layer.Readers.{Reader, give, field, expect, whole, begins}
 use Rattle.run_recorder_parts.specs.layer.Values.{flag_of, value_of, flag_reply_of, refused_of, reply_table, reply_of}
 use Rattle.run_recorder_parts.specs.layer.Values.{did_of, stall_of, heads, item_words_of, item_of}

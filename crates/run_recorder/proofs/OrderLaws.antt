@@ -6,8 +6,8 @@ use Rattle.upc_values.specs.declared.order.Op.{Op}
 use Rattle.run_recorder_parts.specs.declared.names.Name.{Name}
 use Rattle.run_recorder_text.specs.Words.{Text, with_blanks, with_dots}
 use Rattle.run_recorder_text.specs.Lines.{access_text, op_line, section_lines, order_lines, numbered_lines}
-use Rattle.run_recorder_parts.specs.layer.Bounds.{most_u32, most_u64}
-use Rattle.run_recorder.specs.code.Ranges.{FitsOp, FitsOrder}
+use Rattle.run_recorder_parts.specs.Bounds.{most_u32, most_u64}
+use Rattle.run_recorder.specs.Ranges.{FitsOp, FitsOrder}
 use Rattle.run_recorder_parts.specs.layer.Readers.{field, many, each, expect, whole, begins}
 use Rattle.run_recorder_parts.specs.layer.Lines.{name_parts_of, name_of, access_of, op_parts_of, op_of, count_words_of}
 use Rattle.run_recorder_parts.specs.layer.Lines.{section_of, order_words_of, order_of}

@@ -7,9 +7,9 @@ use Rattle.block_layout.specs.declared.place.SharedPtr.{SharedPtr}
 use Rattle.upc_values.specs.declared.scalar.Scalar.{Scalar}
 use Rattle.upc_values.specs.declared.scalar.Scalar.TheVariants as scalar
 use Rattle.run_recorder_text.specs.Words.{Text, loc_text, object_parts, pointer_parts, pointer_text, scalar_text}
-use Rattle.run_recorder_parts.specs.layer.Bounds.{most_u32, most_i64, most_i128}
-use Rattle.run_recorder.specs.code.Ranges.{IsWithin, FitsLoc, FitsObject, FitsPointer}
-use Rattle.run_recorder.specs.code.Ranges.{FitsScalar}
+use Rattle.run_recorder_parts.specs.Bounds.{most_u32, most_i64, most_i128}
+use Rattle.run_recorder.specs.Ranges.{IsWithin, FitsLoc, FitsObject, FitsPointer}
+use Rattle.run_recorder.specs.Ranges.{FitsScalar}
 use Rattle.run_recorder_parts.specs.layer.Readers.{field, begins, number_of, int_of}
 use Rattle.run_recorder_parts.specs.layer.Values.{word32, loc_parts_of, loc_of, object_parts_of, pointer_parts_of}
 use Rattle.run_recorder_parts.specs.layer.Values.{pointer_of, lock_number_of, scalar_of}

@@ -6,8 +6,8 @@ use Rattle.run_recorder_parts.specs.declared.limits.Limits.{Limits}
 use Rattle.upc_values.specs.declared.journal.Strand.{Strand}
 use Rattle.run_recorder_text.specs.Words.{Text, end_words}
 use Rattle.run_recorder_text.specs.Lines.{limits_line, thread_line, item_line, strand_lines, numbered_lines}
-use Rattle.run_recorder_parts.specs.layer.Bounds.{most_u32, most_u64}
-use Rattle.run_recorder.specs.code.Ranges.{FitsItem, FitsEnd, FitsStrand}
+use Rattle.run_recorder_parts.specs.Bounds.{most_u32, most_u64}
+use Rattle.run_recorder.specs.Ranges.{FitsItem, FitsEnd, FitsStrand}
 use Rattle.run_recorder_parts.specs.layer.Readers.{field, many, each, expect}
 use Rattle.run_recorder_parts.specs.layer.Values.{item_of}
 use Rattle.run_recorder_parts.specs.layer.Lines.{header_words_of, header_of, strand_of, limits_words_of, limits_of}

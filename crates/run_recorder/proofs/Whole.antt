@@ -20,9 +20,9 @@ use Rattle.run_recorder_text.specs.Words.{Text, with_blanks}
 use Rattle.run_recorder_text.specs.Lines.{strand_lines, entry_line, op_line, section_lines, order_lines, numbered_lines}
 use Rattle.run_recorder_text.specs.Lines.{body_lines, run_lines, version_text}
 use Rattle.run_recorder_text.specs.Short.{is_short, item_count}
-use Rattle.run_recorder_parts.specs.layer.Bounds.{most_u32}
-use Rattle.run_recorder.specs.code.Ranges.{FitsStrand, FitsEntry, FitsOp, FitsOrder}
-use Rattle.run_recorder.specs.code.Recorded.{IsRecordable, IsTextOf}
+use Rattle.run_recorder_parts.specs.Bounds.{most_u32}
+use Rattle.run_recorder.specs.Ranges.{FitsStrand, FitsEntry, FitsOp, FitsOrder}
+use Rattle.run_recorder.specs.Recorded.{IsRecordable, IsTextOf}
 use Rattle.run_recorder_parts.specs.layer.Readers.{Reader, ◌>>=◌, each, expect, guarded, lift}
 use Rattle.run_recorder_parts.specs.layer.Lines.{name_of, op_of, section_of}
 use Rattle.run_recorder.specs.code.Finding.{entry_name, entries_of}

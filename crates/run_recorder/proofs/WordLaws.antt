@@ -8,8 +8,8 @@ use Rattle.std.proofs.lemmas.Fmt.{decimal_is_IsNumeral_wide}
 use Rattle.upc_values.specs.declared.scalar.Mark.{Mark}
 use Rattle.upc_values.specs.declared.scalar.Mark.TheVariants as mark
 use Rattle.run_recorder_text.specs.Words.{Text, mark_text, home_text, strict_text}
-use Rattle.run_recorder_parts.specs.layer.Bounds.{most_u32, most_i32}
-use Rattle.run_recorder.specs.code.Ranges.{IsWithin, FitsMark, FitsHome}
+use Rattle.run_recorder_parts.specs.Bounds.{most_u32, most_i32}
+use Rattle.run_recorder.specs.Ranges.{IsWithin, FitsMark, FitsHome}
 use Rattle.run_recorder_parts.specs.layer.Readers.{bind, constant, begins, number_of, negative, int_of}
 use Rattle.run_recorder_parts.specs.layer.Values.{mark_of, home_of, strict_of}
 use Rattle.run_recorder_parts.proofs.Bytes.{and_true, in_word, Passes, LetsDigits, decimal_passes, begins_not}

@@ -3,7 +3,7 @@
 ghost use Rattle.std.specs.Prelude.{ℕ, ◌≡◌, ◌≢◌, IfOk, IfErr, MatchResult};
 ghost use Rattle.upc_values.specs.declared.journal.Journal.{Journal};
 ghost use Rattle.upc_values.specs.declared.order.Orders.{Orders};
-ghost use Rattle.run_recorder.specs.code.Recorded.{IsRecordable, IsTextOf, IsNoText, OneRunEachText};
+ghost use Rattle.run_recorder.specs.Recorded.{IsRecordable, IsTextOf, IsNoText, OneRunEachText};
 ghost use Rattle.run_recorder_parts.specs.layer.Readers.{Gives, Reads, same, texts};
 ghost use Rattle.run_recorder.specs.code.Whole as reader;
 ghost use Rattle.run_recorder.specs.code.Told.{Tells};

@@ -1,7 +1,7 @@
 //! One word that is one value.
 
 ghost use Rattle.std.specs.Prelude.{◌≡◌, ◌<◌, ◌^◌, ◌≤◌};
-ghost use Rattle.run_recorder_parts.specs.layer.Bounds.{most_u8, most_u32, most_u64, most_i32, most_i64, most_i128};
+ghost use Rattle.run_recorder_parts.specs.Bounds.{most_u8, most_u32, most_u64, most_i32, most_i64, most_i128};
 ghost use Rattle.run_recorder_parts.specs.layer.Readers.{Gives, begins, int_of, negative, number_of, same};
 ghost use Rattle.run_recorder_parts.specs.layer.Values.{hex_of, home_of, mark_of, pairs_of, strict_of};
 

@@ -4,10 +4,12 @@
 mod actions;
 mod items;
 mod lines;
-mod put;
+pub mod put;
 mod short;
 mod values;
 mod writing;
 
+pub use lines::op;
 pub use short::{MOST_ENTRIES, MOST_ITEMS, is_short};
+pub use values::loc;
 pub use writing::render;

@@ -73,7 +73,8 @@ pub(crate) fn history(out: &mut Vec<u8>, all: &Entries) -> Result<(), OutOfMemor
     entries(out, all)
 }
 
-fn op(out: &mut Vec<u8>, op: &Op) -> Result<(), OutOfMemory>
+/// Adds the name of an operation.
+pub fn op(out: &mut Vec<u8>, op: &Op) -> Result<(), OutOfMemory>
     ensures { OnOk result (out.new.items ≡ out.old.items ++ op_line op.now) }
 {
     number(out, op.thread)?;

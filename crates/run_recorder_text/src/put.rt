@@ -6,7 +6,7 @@ use itoa::{Buffer, Integer};
 use upc_text::OutOfMemory;
 
 /// Adds the text.
-pub(crate) fn put(out: &mut Vec<u8>, text: &str) -> Result<(), OutOfMemory>
+pub fn put(out: &mut Vec<u8>, text: &str) -> Result<(), OutOfMemory>
     ensures { OnOk result (out.new.items ≡ out.old.items ++ text.now) }
 {
     out.extend_from_slice(text.as_bytes())?;
@@ -14,7 +14,7 @@ pub(crate) fn put(out: &mut Vec<u8>, text: &str) -> Result<(), OutOfMemory>
 }
 
 /// Adds the number in decimal.
-pub(crate) fn number<I: Integer>(out: &mut Vec<u8>, n: I) -> Result<(), OutOfMemory>
+pub fn number<I: Integer>(out: &mut Vec<u8>, n: I) -> Result<(), OutOfMemory>
     ensures { OnOk result (out.new.items ≡ out.old.items ++ I.text n) }
 {
     let mut buffer = Buffer::new();

@@ -11,7 +11,7 @@ use upc_text::{OutOfMemory, Place};
 use upc_values::{Mark, Scalar};
 
 /// Adds a location.
-pub(crate) fn loc(out: &mut Vec<u8>, loc: &Loc) -> Result<(), OutOfMemory>
+pub fn loc(out: &mut Vec<u8>, loc: &Loc) -> Result<(), OutOfMemory>
     ensures { OnOk result (out.new.items ≡ out.old.items ++ loc_text loc.now) }
 {
     put(out, "@")?;

@@ -9,11 +9,13 @@ use upc_top::upc_main;
 const SUM: &[u8] =
     b"strict shared int x; int main(){x = 6 * 7; upc_barrier; printf(\"%d\\n\", x); return 0;}";
 
-// One call: the words, the calls of the source and of the output that fail, and what it must answer.
+// One call: the words, the file and the record, the calls of the source and of the output that fail, and what it must
+// answer.
 #[derive(Clone, Copy)]
 struct Row {
     words: &'static [&'static str],
     source: &'static [u8],
+    record: &'static [u8],
     failing_reads: &'static [u64],
     failing_puts: &'static [u64],
     status: u8,
@@ -27,6 +29,7 @@ const ROWS: [Row; 6] = [
     Row {
         words: &["run", "-T", "1", "f.upc"],
         source: SUM,
+        record: b"",
         failing_reads: &[],
         failing_puts: &[],
         status: 0,
@@ -37,6 +40,7 @@ const ROWS: [Row; 6] = [
     Row {
         words: &["run", "-T", "2", "f.upc"],
         source: SUM,
+        record: b"",
         failing_reads: &[],
         failing_puts: &[],
         status: 0,
@@ -48,6 +52,7 @@ const ROWS: [Row; 6] = [
     Row {
         words: &["run", "-T", "1", "f.upc"],
         source: SUM,
+        record: b"",
         failing_reads: &[2],
         failing_puts: &[],
         status: 102,
@@ -59,6 +64,7 @@ const ROWS: [Row; 6] = [
     Row {
         words: &["run", "-T", "1", "f.upc"],
         source: SUM,
+        record: b"",
         failing_reads: &[],
         failing_puts: &[2],
         status: 103,
@@ -69,6 +75,7 @@ const ROWS: [Row; 6] = [
     Row {
         words: &["run", "-T", "1", "other.upc"],
         source: SUM,
+        record: b"",
         failing_reads: &[],
         failing_puts: &[],
         status: 102,
@@ -79,6 +86,7 @@ const ROWS: [Row; 6] = [
     Row {
         words: &["run", "-T", "1", "f.upc"],
         source: b"int main(){return y;}",
+        record: b"",
         failing_reads: &[],
         failing_puts: &[],
         status: 101,
@@ -89,7 +97,7 @@ const ROWS: [Row; 6] = [
 ];
 
 // Words that are refused.
-const USAGES: [&[&str]; 18] = [
+const USAGES: [&[&str]; 20] = [
     &[],
     &["run", "f.upc"],
     &["run", "-T", "1"],
@@ -108,6 +116,8 @@ const USAGES: [&[&str]; 18] = [
     &["--help"],
     &["sample", "-T", "1", "01"],
     &["sample", "-T", "1", "1001"],
+    &["verify", "-T", "1", "f.upc"],
+    &["races", "-T", "1", "f.upc", "f.rec"],
 ];
 
 // Words with a source, its status, and what it writes to the output and to the error output.
@@ -125,7 +135,7 @@ const OBJECTS: &[u8] = b"shared [3] int a[20]; shared [] int s[8]; int p; shared
 struct pair { int a; char c; }; shared [2] struct pair q[5]; shared [2] char m[3][4]; strict shared long x; \
 int main(void){int i; return 0;}";
 
-const CALLS: [Call; 15] = [
+const CALLS: [Call; 17] = [
     // However the words are spelled and ordered.
     (
         &["run", "-T", "+04", "f.upc"],
@@ -204,6 +214,15 @@ order 0 2\n0.0.w\n0.1.r\nend\n",
         b"stages 1 sum 120\n",
         b"",
     ),
+    // The races of a run, in place of what it prints.
+    (&["races", "-T", "1", "f.upc"], SUM, 0, b"races 0\n", b""),
+    (
+        &["races", "-T", "1", "f.upc"],
+        b"int main(){return 1 / 0;}",
+        105,
+        b"races 0\n",
+        b"upc: run error E2 at 1:19 on thread 0\n",
+    ),
     // Where shared objects lie.
     (
         &["layout", "-T", "4", "f.upc"],
@@ -238,6 +257,55 @@ x block 1 elements 1 size 8 pieces 8 0 0 0\n",
         b"",
         b"upc: refused at 1:1: syntax\n",
     ),
+];
+
+// A record of a source on one thread, its status, and what is written to the output and to the error output.
+type Record = (&'static [u8], u8, &'static [u8], &'static [u8]);
+
+const RECORDS: [Record; 5] = [
+    (
+        b"upc-record 2\nthreads 1 budget 100000000 actions 4194304\nrule places 64 combine\n\
+thread 0 items 4 ticks 0 ended 0\n\
+notify start -> done\nwait start -> done\nnotify finish -> done\nwait finish -> done\n\
+history 4\n0.0\n0.1\n0.2\n0.3\nstrict 4\n0.0.w\n0.1.r\n0.2.w\n0.3.r\n\
+order 0 4\n0.0.w\n0.1.r\n0.2.w\n0.3.r\nend\n",
+        0,
+        b"sound\n",
+        b"",
+    ),
+    // Another end, and entries out of program order.
+    (
+        b"upc-record 2\nthreads 1 budget 100000000 actions 4194304\nrule places 64 combine\n\
+thread 0 items 4 ticks 0 ended 1\n\
+notify start -> done\nwait start -> done\nnotify finish -> done\nwait finish -> done\n\
+history 4\n0.0\n0.1\n0.2\n0.3\nstrict 4\n0.0.w\n0.1.r\n0.2.w\n0.3.r\n\
+order 0 4\n0.0.w\n0.1.r\n0.2.w\n0.3.r\nend\n",
+        111,
+        b"",
+        b"upc: not sound: part 5 on thread 0\n",
+    ),
+    (
+        b"upc-record 2\nthreads 1 budget 100000000 actions 4194304\nrule places 64 combine\n\
+thread 0 items 4 ticks 0 ended 0\n\
+notify start -> done\nwait start -> done\nnotify finish -> done\nwait finish -> done\n\
+history 4\n0.0\n0.1\n0.3\n0.2\nstrict 4\n0.0.w\n0.1.r\n0.2.w\n0.3.r\n\
+order 0 4\n0.0.w\n0.1.r\n0.2.w\n0.3.r\nend\n",
+        111,
+        b"",
+        b"upc: not sound: part 2 on thread 0\n",
+    ),
+    // A text of version 1, and no text of a run.
+    (
+        b"upc-record 1\nthreads 1 budget 100000000 actions 4194304\n\
+thread 0 items 4 ticks 0 ended 0\n\
+notify start -> done\nwait start -> done\nnotify finish -> done\nwait finish -> done\n\
+history 4\n0.0\n0.1\n0.2\n0.3\nstrict 4\n0.0.w\n0.1.r\n0.2.w\n0.3.r\n\
+order 0 4\n0.0.w\n0.1.r\n0.2.w\n0.3.r\nend\n",
+        113,
+        b"",
+        b"upc: old record\n",
+    ),
+    (b"no record\n", 112, b"", b"upc: bad record at 1:1\n"),
 ];
 
 // A source on one thread, its status, and what it writes to the output and to the error output.
@@ -383,6 +451,7 @@ fn row_of((source, status, out, err): &Program) -> Row {
     Row {
         words: &ONE_THREAD,
         source,
+        record: b"",
         failing_reads: &[],
         failing_puts: &[],
         status: *status,
@@ -392,19 +461,34 @@ fn row_of((source, status, out, err): &Program) -> Row {
     }
 }
 
+fn record_of((record, status, out, err): &Record) -> Row {
+    Row {
+        words: &["verify", "-T", "1", "f.upc", "f.rec"],
+        source: b"int main(){return 0;}",
+        record,
+        failing_reads: &[],
+        failing_puts: &[],
+        status: *status,
+        out,
+        err,
+        ran: false,
+    }
+}
+
 fn usage_of(words: &&'static [&'static str]) -> Row {
     called(&(*words, SUM, 100, b"", b"upc: usage\n"))
 }
 
 // Whether the word is a mode that runs the source.
 fn runs(word: &str) -> bool {
-    word == "run" || word == "record" || word == "sample"
+    word == "run" || word == "record" || word == "sample" || word == "races"
 }
 
 fn called((words, source, status, out, err): &Call) -> Row {
     Row {
         words,
         source,
+        record: b"",
         failing_reads: &[],
         failing_puts: &[],
         status: *status,
@@ -432,6 +516,7 @@ fn answer_to<R: Threads + Wait + Sync>(rt: &R, alloc: Global, row: &Row) -> Resu
     }
     let mut files = MemFiles::make(alloc, row.failing_reads, 32)?;
     files.add("f.upc", row.source)?;
+    files.add("f.rec", row.record)?;
     let mut out = MemSink::make(alloc, row.failing_puts, 2)?;
     let mut err = MemSink::make(alloc, &[], 64)?;
     let done = upc_main(
@@ -478,6 +563,12 @@ fn answers(rt: HostRuntime) -> Result<(), Fail> {
         assert!(rt;
             is_answered(&rt, rt.alloc(), &usage_of(words))?,
             "usage {number}"
+        );
+    }
+    for (number, record) in RECORDS.iter().enumerate() {
+        assert!(rt;
+            is_answered(&rt, rt.alloc(), &record_of(record))?,
+            "record {number}"
         );
     }
     for (number, call) in CALLS.iter().enumerate() {

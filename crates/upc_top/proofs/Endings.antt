@@ -6,18 +6,20 @@ use Rattle.std.proofs.lemmas.Fmt.{decimal_injective}
 use Rattle.upc_text.specs.Outside.{Rose, IsWhole, IsLonger}
 use Rattle.typed_tree.specs.Programs.{Checked}
 use Rattle.upc_top_words.specs.declared.call.Mode.{Mode}
-use Rattle.upc_top_words.specs.declared.call.Mode.TheVariants.{Run, Record, Check, Layout, Sample}
+use Rattle.upc_top_words.specs.declared.call.Mode.TheVariants.{Run, Record, Check, Layout, Sample, Verify, Races}
 use Rattle.upc_top_words.specs.Values.{Asked, Asks}
 use Rattle.upc_top_words.proofs.Taken.{one_asked}
 use Rattle.upc_top.specs.declared.done.Done.{Done}
 use Rattle.upc_top.specs.declared.verdict.Verdict.{Verdict}
-use Rattle.upc_top.specs.declared.verdict.Verdict.TheVariants.{Usage, ReadFault, TooLong, Refused, Ran, Recorded, Overlong, Passed, Laid, NoMemory}
+use Rattle.upc_top.specs.declared.verdict.Verdict.TheVariants.{Usage, ReadFault, TooLong, Refused, Ran, Recorded, Overlong, Raced, Judged, Passed, Laid, NoMemory}
 use Rattle.upc_top.specs.Words.{prints, runs}
 use Rattle.upc_top_output.specs.Layout.{layout}
 use Rattle.upc_top.specs.Sources.{IsAccepted}
 use Rattle.upc_top.proofs.Readings.{never_both, same_checked}
-use Rattle.upc_top.specs.Verdicts.{Reading, IsSample, IsSource, Holds, Taken, Caused, CameTo, ComesFrom, FailedToRead, IsTooLong, status_for, text_of, journal_of, orders_in, without_memory, IsWritable}
-use Rattle.upc_top.specs.Delivery.{Writing, Gained, Delivered, Delivered.Whole, Delivered.Out_broke, Delivered.Err_broke, Delivers, Answered, RefusesOtherWords, RefusesLongFiles, SampleReadsNoFile, Succeeds, IsThere, IsToldWhole, HasRun, HasRecorded, IsOverlong, HasWritten, IsDone, IsComplete}
+use Rattle.upc_top_judging.specs.declared.judgment.Judgment.{Judgment}
+use Rattle.upc_top_judging.specs.Judgments.{IsJudgment}
+use Rattle.upc_top.specs.Verdicts.{Reading, OnRecord, JudgedFrom, IsSample, IsSource, Holds, Taken, Caused, CameTo, ComesFrom, FailedToRead, IsTooLong, status_for, text_of, journal_of, orders_in, without_memory, IsWritable}
+use Rattle.upc_top.specs.Delivery.{Writing, Gained, Delivered, Delivered.Whole, Delivered.Out_broke, Delivered.Err_broke, Delivers, Answered, RefusesOtherWords, RefusesLongFiles, SampleReadsNoFile, Succeeds, IsThere, IsToldWhole, HasRun, HasRecorded, HasRaced, IsOverlong, HasWritten, IsTold, HasJudged, HasJudged.Is_long, HasJudged.Is_found, IsDone, IsComplete}
 
 -- words that are taken ask for one thing
 same-asked : (words : List (List ℕ)) (a b : Asked) → Asks words a → Asks words b → b ≡ a
@@ -52,6 +54,8 @@ there-is Run r file bytes given h k = whole-is (r.told file) bytes given h.told 
 there-is Record r file bytes given h k = whole-is (r.told file) bytes given h.told k.whole
 there-is Check r file bytes given h k = whole-is (r.told file) bytes given h.told k.whole
 there-is Layout r file bytes given h k = whole-is (r.told file) bytes given h.told k.whole
+there-is Verify r file bytes given h k = whole-is (r.told file) bytes given h.told k.whole
+there-is Races r file bytes given h k = whole-is (r.told file) bytes given h.told k.whole
 
 -- the bytes of a file that is there are known
 there-file : (m : Mode) (r : Reading) (file bytes : List ℕ) → (m ≡ Sample → ⊥) → IsThere m r file bytes → IsToldWhole r file bytes
@@ -60,6 +64,8 @@ there-file Run r file bytes n h = h
 there-file Record r file bytes n h = h
 there-file Check r file bytes n h = h
 there-file Layout r file bytes n h = h
+there-file Verify r file bytes n h = h
+there-file Races r file bytes n h = h
 
 -- what is read of a file whose bytes are known is short
 source-short : (m : Mode) (told : Option (List ℕ)) (file bytes given : List ℕ) → (m ≡ Sample → ⊥) → told ≡ Some bytes
@@ -69,12 +75,14 @@ source-short Run told file bytes given n e h = subst (λ b. length b ≤ 1048576
 source-short Record told file bytes given n e h = subst (λ b. length b ≤ 1048576) (whole-is told bytes given e h.whole) h.short
 source-short Check told file bytes given n e h = subst (λ b. length b ≤ 1048576) (whole-is told bytes given e h.whole) h.short
 source-short Layout told file bytes given n e h = subst (λ b. length b ≤ 1048576) (whole-is told bytes given e h.whole) h.short
+source-short Verify told file bytes given n e h = subst (λ b. length b ≤ 1048576) (whole-is told bytes given e h.whole) h.short
+source-short Races told file bytes given n e h = subst (λ b. length b ≤ 1048576) (whole-is told bytes given e h.whole) h.short
 
 -- ---- the answer
 
 -- what had one verdict had another that follows from it
 came-on : (words : List (List ℕ)) (r : Reading) (v w : Verdict)
-    → ((a : Asked) (bytes : List ℕ) → ComesFrom a bytes v → ComesFrom a bytes w) → CameTo words r v → CameTo words r w
+    → ((a : Asked) (bytes : List ℕ) → ComesFrom r a bytes v → ComesFrom r a bytes w) → CameTo words r v → CameTo words r w
 came-on words r v w f c = record {
   asked = c.asked;
   asks = c.asks;
@@ -90,6 +98,8 @@ caused-without words r (Refused x) c = tt
 caused-without words r (Ran j) c = came-on words r (Ran j) (NoMemory (Some j)) (λ a bytes h. h.run) c
 caused-without words r (Recorded j o) c = came-on words r (Recorded j o) (NoMemory (Some j)) (λ a bytes h. h.run) c
 caused-without words r (Overlong j) c = came-on words r (Overlong j) (NoMemory (Some j)) (λ a bytes h. h.run) c
+caused-without words r (Raced j x) c = came-on words r (Raced j x) (NoMemory (Some j)) (λ a bytes h. h.run) c
+caused-without words r (Judged x) c = tt
 caused-without words r Passed c = tt
 caused-without words r (Laid p) c = tt
 caused-without words r (NoMemory None) c = tt
@@ -120,6 +130,8 @@ writable words r (Refused x) c = tt
 writable words r (Ran j) c = tt
 writable words r (Recorded j o) c = c.holds.holds.has
 writable words r (Overlong j) c = tt
+writable words r (Raced j x) c = tt
+writable words r (Judged x) c = tt
 writable words r Passed c = tt
 writable words r (Laid p) c = tt
 writable words r (NoMemory o) c = tt
@@ -144,11 +156,11 @@ module _ (words : List (List ℕ)) (r : Reading) (out err : Writing) (d : Done) 
   asked-same b h = same-asked words a b s.asks h
 
   -- what a verdict came from is what was asked for, and these bytes
-  came-from : (v : Verdict) → CameTo words r v → ComesFrom a bytes v
+  came-from : (v : Verdict) → CameTo words r v → ComesFrom r a bytes v
   came-from v c =
-      let P : Asked → Type 0 = λ b. Holds r b (λ held. ComesFrom b held v) in
-      let h : Holds r a (λ held. ComesFrom a held v) = subst P (asked-same c.asked c.asks) c.holds in
-      subst (λ held. ComesFrom a held v) (there-is a.mode r a.file bytes h.bytes s.source h.source) h.holds
+      let P : Asked → Type 0 = λ b. Holds r b (λ held. ComesFrom r b held v) in
+      let h : Holds r a (λ held. ComesFrom r a held v) = subst P (asked-same c.asked c.asks) c.holds in
+      subst (λ held. ComesFrom r a held v) (there-is a.mode r a.file bytes h.bytes s.source h.source) h.holds
 
   no-fault : Taken words (λ b. FailedToRead r b) → ⊥
   no-fault c =
@@ -163,72 +175,156 @@ module _ (words : List (List ℕ)) (r : Reading) (out err : Writing) (d : Done) 
       let short = t.short in
       omega arith
 
+  -- what a verdict on an accepted source has come from
+  abbrev Came : Verdict → Type 0
+  Came Usage = ⊥
+  Came (Refused x) = ⊥
+  Came (NoMemory o) = Unit {0}
+  Came v = ComesFrom r a bytes v
+
+  came : (program : Checked) → IsAccepted a.threads bytes program → (v : Verdict) → Caused words r v → Came v
+  came program h Usage c = c a s.asks
+  came program h ReadFault (inl c) = absurd (no-fault c)
+  came program h ReadFault (inr c) = came-from ReadFault c
+  came program h TooLong (inl c) = absurd (not-longer c)
+  came program h TooLong (inr c) = came-from TooLong c
+  came program h (Refused x) c = never_both a.threads bytes program x h (came-from (Refused x) c)
+  came program h (Ran j) c = came-from (Ran j) c
+  came program h (Recorded j o) c = came-from (Recorded j o) c
+  came program h (Overlong j) c = came-from (Overlong j) c
+  came program h (Raced j x) c = came-from (Raced j x) c
+  came program h (Judged x) c = came-from (Judged x) c
+  came program h Passed c = came-from Passed c
+  came program h (Laid p) c = came-from (Laid p) c
+  came program h (NoMemory o) c = tt
+
   -- a run of a mode that prints
-  done-run : prints a.mode ≡ true → (program : Checked) → IsAccepted a.threads bytes program → (v : Verdict) → Caused words r v → Written v out d → HasRun out d ⊎ (d.status ≡ 104)
-  done-run m program h Usage c w = absurd (c a s.asks)
-  done-run m program h ReadFault c w = absurd (no-fault c)
-  done-run m program h TooLong c w = absurd (not-longer c)
-  done-run m program h (Refused x) c w = absurd (never_both a.threads bytes program x h (came-from (Refused x) c))
-  done-run m program h (Ran j) c w = inl (record { journal = j; is = w.journal; status = w.status; text = w.text })
-  done-run m program h (Recorded j o) c w = absurd (not-both prints a.mode Record refl m (came-from (Recorded j o) c).mode)
-  done-run m program h (Overlong j) c w = absurd (not-both prints a.mode Record refl m (came-from (Overlong j) c).mode)
-  done-run m program h Passed c w = absurd (not-both prints a.mode Check refl m (came-from Passed c).mode)
-  done-run m program h (Laid p) c w = absurd (not-both prints a.mode Layout refl m (came-from (Laid p) c).mode)
-  done-run m program h (NoMemory o) c w = inr w.status
+  done-run : prints a.mode ≡ true → (v : Verdict) → Came v → Written v out d → HasRun out d ⊎ (d.status ≡ 104)
+  done-run m Usage c w = absurd c
+  done-run m (Refused x) c w = absurd c
+  done-run m ReadFault c w = absurd (not-both prints a.mode Verify refl m c.mode)
+  done-run m TooLong c w = absurd (not-both prints a.mode Verify refl m c.mode)
+  done-run m (Ran j) c w = inl (record { journal = j; is = w.journal; status = w.status; text = w.text })
+  done-run m (Recorded j o) c w = absurd (not-both prints a.mode Record refl m c.mode)
+  done-run m (Overlong j) c w = absurd (not-both prints a.mode Record refl m c.mode)
+  done-run m (Raced j x) c w = absurd (not-both prints a.mode Races refl m c.mode)
+  done-run m (Judged x) c w = absurd (not-both prints a.mode Verify refl m c.mode)
+  done-run m Passed c w = absurd (not-both prints a.mode Check refl m c.mode)
+  done-run m (Laid p) c w = absurd (not-both prints a.mode Layout refl m c.mode)
+  done-run m (NoMemory o) c w = inr w.status
 
-  done-record : a.mode ≡ Record → (program : Checked) → IsAccepted a.threads bytes program → (v : Verdict) → Caused words r v → Written v out d
+  done-record : a.mode ≡ Record → (v : Verdict) → Came v → Written v out d
       → HasRecorded out d ⊎ IsOverlong d ⊎ (d.status ≡ 104)
-  done-record m program h Usage c w = absurd (c a s.asks)
-  done-record m program h ReadFault c w = absurd (no-fault c)
-  done-record m program h TooLong c w = absurd (not-longer c)
-  done-record m program h (Refused x) c w = absurd (never_both a.threads bytes program x h (came-from (Refused x) c))
-  done-record m program h (Ran j) c w = absurd (not-both prints a.mode Record refl (came-from (Ran j) c).prints m)
-  done-record m program h (Recorded j o) c w =
+  done-record m Usage c w = absurd c
+  done-record m (Refused x) c w = absurd c
+  done-record m ReadFault c w = let bad = sym m ∙ c.mode in absurd cc
+  done-record m TooLong c w = let bad = sym m ∙ c.mode in absurd cc
+  done-record m (Ran j) c w = absurd (not-both prints a.mode Record refl c.prints m)
+  done-record m (Recorded j o) c w =
       inl (record { journal = j; is = w.journal; orders = o; are = w.orders; status = w.status; text = w.text })
-  done-record m program h (Overlong j) c w =
-      inr (inl (record { journal = j; is = w.journal; long = (came-from (Overlong j) c).long; status = w.status }))
-  done-record m program h Passed c w = let bad = sym m ∙ (came-from Passed c).mode in absurd cc
-  done-record m program h (Laid p) c w = let bad = sym m ∙ (came-from (Laid p) c).mode in absurd cc
-  done-record m program h (NoMemory o) c w = inr (inr w.status)
+  done-record m (Overlong j) c w =
+      inr (inl (record { journal = j; is = w.journal; long = c.long; status = w.status }))
+  done-record m (Raced j x) c w = let bad = sym m ∙ c.mode in absurd cc
+  done-record m (Judged x) c w = let bad = sym m ∙ c.mode in absurd cc
+  done-record m Passed c w = let bad = sym m ∙ c.mode in absurd cc
+  done-record m (Laid p) c w = let bad = sym m ∙ c.mode in absurd cc
+  done-record m (NoMemory o) c w = inr (inr w.status)
 
-  -- no run where the mode runs none
-  no-run : runs a.mode ≡ false → runs a.mode ≡ true → ⊥
-  no-run m k = let bad = sym m ∙ k in absurd cc
+  done-races : a.mode ≡ Races → (v : Verdict) → Came v → Written v out d → HasRaced out d ⊎ (d.status ≡ 104)
+  done-races m Usage c w = absurd c
+  done-races m (Refused x) c w = absurd c
+  done-races m ReadFault c w = let bad = sym m ∙ c.mode in absurd cc
+  done-races m TooLong c w = let bad = sym m ∙ c.mode in absurd cc
+  done-races m (Ran j) c w = absurd (not-both prints a.mode Races refl c.prints m)
+  done-races m (Recorded j o) c w = let bad = sym m ∙ c.mode in absurd cc
+  done-races m (Overlong j) c w = let bad = sym m ∙ c.mode in absurd cc
+  done-races m (Raced j x) c w =
+      inl (record { journal = j; is = w.journal; report = x; reports = c.reports; status = w.status; text = w.text })
+  done-races m (Judged x) c w = let bad = sym m ∙ c.mode in absurd cc
+  done-races m Passed c w = let bad = sym m ∙ c.mode in absurd cc
+  done-races m (Laid p) c w = let bad = sym m ∙ c.mode in absurd cc
+  done-races m (NoMemory o) c w = inr w.status
 
-  done-check : a.mode ≡ Check → (checked : Checked) → IsAccepted a.threads bytes checked → (v : Verdict) → Caused words r v → Written v out d
+  done-check : a.mode ≡ Check → (v : Verdict) → Came v → Written v out d
       → HasWritten out d (codes "ok\n") ⊎ (d.status ≡ 104)
-  done-check m checked h Usage c w = absurd (c a s.asks)
-  done-check m checked h ReadFault c w = absurd (no-fault c)
-  done-check m checked h TooLong c w = absurd (not-longer c)
-  done-check m checked h (Refused x) c w = absurd (never_both a.threads bytes checked x h (came-from (Refused x) c))
-  done-check m checked h (Ran j) c w = absurd (no-run (ap runs m) (came-from (Ran j) c).run.mode)
-  done-check m checked h (Recorded j o) c w = absurd (no-run (ap runs m) (came-from (Recorded j o) c).run.mode)
-  done-check m checked h (Overlong j) c w = absurd (no-run (ap runs m) (came-from (Overlong j) c).run.mode)
-  done-check m checked h Passed c w = inl (record { status = w.status; gained = w.text })
-  done-check m checked h (Laid p) c w = let bad = sym m ∙ (came-from (Laid p) c).mode in absurd cc
-  done-check m checked h (NoMemory o) c w = inr w.status
+  done-check m Usage c w = absurd c
+  done-check m (Refused x) c w = absurd c
+  done-check m ReadFault c w = let bad = sym m ∙ c.mode in absurd cc
+  done-check m TooLong c w = let bad = sym m ∙ c.mode in absurd cc
+  done-check m (Ran j) c w = absurd (not-both prints a.mode Check refl c.prints m)
+  done-check m (Recorded j o) c w = let bad = sym m ∙ c.mode in absurd cc
+  done-check m (Overlong j) c w = let bad = sym m ∙ c.mode in absurd cc
+  done-check m (Raced j x) c w = let bad = sym m ∙ c.mode in absurd cc
+  done-check m (Judged x) c w = let bad = sym m ∙ c.mode in absurd cc
+  done-check m Passed c w = inl (record { status = w.status; gained = w.text })
+  done-check m (Laid p) c w = let bad = sym m ∙ c.mode in absurd cc
+  done-check m (NoMemory o) c w = inr w.status
 
-  done-layout : a.mode ≡ Layout → (checked : Checked) → IsAccepted a.threads bytes checked → (v : Verdict) → Caused words r v → Written v out d
-      → HasWritten out d (layout checked) ⊎ (d.status ≡ 104)
-  done-layout m checked h Usage c w = absurd (c a s.asks)
-  done-layout m checked h ReadFault c w = absurd (no-fault c)
-  done-layout m checked h TooLong c w = absurd (not-longer c)
-  done-layout m checked h (Refused x) c w = absurd (never_both a.threads bytes checked x h (came-from (Refused x) c))
-  done-layout m checked h (Ran j) c w = absurd (no-run (ap runs m) (came-from (Ran j) c).run.mode)
-  done-layout m checked h (Recorded j o) c w = absurd (no-run (ap runs m) (came-from (Recorded j o) c).run.mode)
-  done-layout m checked h (Overlong j) c w = absurd (no-run (ap runs m) (came-from (Overlong j) c).run.mode)
-  done-layout m checked h Passed c w = let bad = sym m ∙ (came-from Passed c).mode in absurd cc
+  done-layout : a.mode ≡ Layout → (checked : Checked) → IsAccepted a.threads bytes checked → (v : Verdict) → Came v
+      → Written v out d → HasWritten out d (layout checked) ⊎ (d.status ≡ 104)
+  done-layout m checked h Usage c w = absurd c
+  done-layout m checked h (Refused x) c w = absurd c
+  done-layout m checked h ReadFault c w = let bad = sym m ∙ c.mode in absurd cc
+  done-layout m checked h TooLong c w = let bad = sym m ∙ c.mode in absurd cc
+  done-layout m checked h (Ran j) c w = absurd (not-both prints a.mode Layout refl c.prints m)
+  done-layout m checked h (Recorded j o) c w = let bad = sym m ∙ c.mode in absurd cc
+  done-layout m checked h (Overlong j) c w = let bad = sym m ∙ c.mode in absurd cc
+  done-layout m checked h (Raced j x) c w = let bad = sym m ∙ c.mode in absurd cc
+  done-layout m checked h (Judged x) c w = let bad = sym m ∙ c.mode in absurd cc
+  done-layout m checked h Passed c w = let bad = sym m ∙ c.mode in absurd cc
   done-layout m checked h (Laid p) c w =
-      let e = same_checked a.threads bytes _ checked (came-from (Laid p) c).accepted h in
+      let e = same_checked a.threads bytes _ checked c.accepted h in
       inl (record { status = w.status; gained = subst (λ x. Gained out (layout x)) e w.text })
   done-layout m checked h (NoMemory o) c w = inr w.status
 
-  done-by : (v : Verdict) → Caused words r v → Written v out d → (m : Mode) → a.mode ≡ m → IsDone m a.threads bytes out d
-  done-by v c w Run e = λ program h. done-run (ap prints e) program h v c w
-  done-by v c w Sample e = λ program h. done-run (ap prints e) program h v c w
-  done-by v c w Record e = λ program h. done-record e program h v c w
-  done-by v c w Check e = λ checked h. done-check e checked h v c w
-  done-by v c w Layout e = λ checked h. done-layout e checked h v c w
+  -- a record that is told
+  module _ (checked : Checked) (name held : List ℕ) (h : IsAccepted a.threads bytes checked) (named : a.recording ≡ Some name)
+      (t : IsTold r name held) where
+    same-name : (other : List ℕ) → a.recording ≡ Some other → other ≡ name
+    same-name other e = let both = sym e ∙ named in cc
+
+    is-found : (x : Judgment) → OnRecord a bytes (λ c n. JudgedFrom (r.told n) c x) → Written (Judged x) out d
+        → HasJudged checked held out d
+    is-found x c w =
+        let e = same_checked a.threads bytes c.checked checked c.accepted h in
+        let told : r.told c.name ≡ Some held = ap r.told (same-name c.name c.named) ∙ t.told in
+        let is : c.holds.bytes ≡ held = whole-is (r.told c.name) held c.holds.bytes told c.holds.whole in
+        let found : IsJudgment checked held x =
+        subst (λ b. IsJudgment checked b x) is (subst (λ p. IsJudgment p c.holds.bytes x) e c.holds.judged) in
+        Is_found x (subst (λ b. length b ≤ 67108864) is c.holds.short) found w.status w.text
+
+    is-long : OnRecord a bytes (λ c n. IsLonger (r.told n) 67108864) → d.status ≡ 110 → HasJudged checked held out d
+    is-long c w =
+        let told : r.told c.name ≡ Some held = ap r.told (same-name c.name c.named) ∙ t.told in
+        let P : Option (List ℕ) → Type 0 = λ o. IsLonger o 67108864 in
+        let long : 67108864 < length held = subst P told c.holds in
+        Is_long long w
+
+    no-record-fault : OnRecord a bytes (λ c n. Rose (r.before n) (r.after n)) → ⊥
+    no-record-fault c = t.read (subst (λ n. Rose (r.before n) (r.after n)) (same-name c.name c.named) c.holds)
+
+    done-verify : a.mode ≡ Verify → (v : Verdict) → Came v → Written v out d → HasJudged checked held out d ⊎ (d.status ≡ 104)
+    done-verify m Usage c w = absurd c
+    done-verify m (Refused x) c w = absurd c
+    done-verify m ReadFault c w = absurd (no-record-fault c)
+    done-verify m TooLong c w = inl (is-long c w.status)
+    done-verify m (Ran j) c w = absurd (not-both prints a.mode Verify refl c.prints m)
+    done-verify m (Recorded j o) c w = let bad = sym m ∙ c.mode in absurd cc
+    done-verify m (Overlong j) c w = let bad = sym m ∙ c.mode in absurd cc
+    done-verify m (Raced j x) c w = let bad = sym m ∙ c.mode in absurd cc
+    done-verify m (Judged x) c w = inl (is-found x c w)
+    done-verify m Passed c w = let bad = sym m ∙ c.mode in absurd cc
+    done-verify m (Laid p) c w = let bad = sym m ∙ c.mode in absurd cc
+    done-verify m (NoMemory o) c w = inr w.status
+
+  done-by : (v : Verdict) → Caused words r v → Written v out d → (m : Mode) → a.mode ≡ m → IsDone m r a bytes out d
+  done-by v c w Run e = λ program h. done-run (ap prints e) v (came program h v c) w
+  done-by v c w Sample e = λ program h. done-run (ap prints e) v (came program h v c) w
+  done-by v c w Record e = λ program h. done-record e v (came program h v c) w
+  done-by v c w Races e = λ program h. done-races e v (came program h v c) w
+  done-by v c w Check e = λ program h. done-check e v (came program h v c) w
+  done-by v c w Layout e = λ program h. done-layout e program h v (came program h v c) w
+  done-by v c w Verify e = λ program name held h named t. done-verify program name held h named t e v (came program h v c) w
 
 pub complete : (words : List (List ℕ)) (r : Reading) (out err : Writing) (d : Done) → Answered words r out err d → IsComplete words r out err d
 complete words r out err d x a bytes s =
@@ -241,12 +337,16 @@ other-words-by : (words : List (List ℕ)) (r : Reading) (out err : Writing) (d 
 other-words-by words r out err d v c (Out_broke e b l) n = inr (inl e)
 other-words-by words r out err d v c (Err_broke e o b) n = inr (inl e)
 other-words-by words r out err d Usage c (Whole e o l) n = inl e
-other-words-by words r out err d ReadFault c (Whole e o l) n = absurd (n c.asked c.asks)
-other-words-by words r out err d TooLong c (Whole e o l) n = absurd (n c.asked c.asks)
+other-words-by words r out err d ReadFault (inl c) (Whole e o l) n = absurd (n c.asked c.asks)
+other-words-by words r out err d ReadFault (inr c) (Whole e o l) n = absurd (n c.asked c.asks)
+other-words-by words r out err d TooLong (inl c) (Whole e o l) n = absurd (n c.asked c.asks)
+other-words-by words r out err d TooLong (inr c) (Whole e o l) n = absurd (n c.asked c.asks)
 other-words-by words r out err d (Refused x) c (Whole e o l) n = absurd (n c.asked c.asks)
 other-words-by words r out err d (Ran x) c (Whole e o l) n = absurd (n c.asked c.asks)
 other-words-by words r out err d (Recorded x y) c (Whole e o l) n = absurd (n c.asked c.asks)
 other-words-by words r out err d (Overlong x) c (Whole e o l) n = absurd (n c.asked c.asks)
+other-words-by words r out err d (Raced x y) c (Whole e o l) n = absurd (n c.asked c.asks)
+other-words-by words r out err d (Judged x) c (Whole e o l) n = absurd (n c.asked c.asks)
 other-words-by words r out err d Passed c (Whole e o l) n = absurd (n c.asked c.asks)
 other-words-by words r out err d (Laid x) c (Whole e o l) n = absurd (n c.asked c.asks)
 other-words-by words r out err d (NoMemory x) c (Whole e o l) n = inr (inr e)
@@ -260,8 +360,8 @@ other-words words r out err d a = other-words-by words r out err d a.verdict a.c
 not-long : (words : List (List ℕ)) (r : Reading) (a : Asked) (bytes : List ℕ) → Asks words a → (a.mode ≡ Sample → ⊥)
     → r.told a.file ≡ Some bytes → 1048576 < length bytes → (v : Verdict) → CameTo words r v → ⊥
 not-long words r a bytes asks file told long v c =
-    let P : Asked → Type 0 = λ b. Holds r b (λ held. ComesFrom b held v) in
-    let h : Holds r a (λ held. ComesFrom a held v) = subst P (same-asked words a c.asked asks c.asks) c.holds in
+    let P : Asked → Type 0 = λ b. Holds r b (λ held. ComesFrom r b held v) in
+    let h : Holds r a (λ held. ComesFrom r a held v) = subst P (same-asked words a c.asked asks c.asks) c.holds in
     let short = source-short a.mode (r.told a.file) a.file bytes h.bytes file told h.source in
     omega arith
 
@@ -276,6 +376,8 @@ long-files-by words r out err d (Refused x) c (Whole e o l) a bytes asks file to
 long-files-by words r out err d (Ran x) c (Whole e o l) a bytes asks file told long = absurd (not-long words r a bytes asks file told long (Ran x) c)
 long-files-by words r out err d (Recorded x y) c (Whole e o l) a bytes asks file told long = absurd (not-long words r a bytes asks file told long (Recorded x y) c)
 long-files-by words r out err d (Overlong x) c (Whole e o l) a bytes asks file told long = absurd (not-long words r a bytes asks file told long (Overlong x) c)
+long-files-by words r out err d (Raced x y) c (Whole e o l) a bytes asks file told long = absurd (not-long words r a bytes asks file told long (Raced x y) c)
+long-files-by words r out err d (Judged x) c (Whole e o l) a bytes asks file told long = absurd (not-long words r a bytes asks file told long (Judged x) c)
 long-files-by words r out err d Passed c (Whole e o l) a bytes asks file told long = absurd (not-long words r a bytes asks file told long Passed c)
 long-files-by words r out err d (Laid x) c (Whole e o l) a bytes asks file told long = absurd (not-long words r a bytes asks file told long (Laid x) c)
 long-files-by words r out err d (NoMemory x) c (Whole e o l) a bytes asks file told long = inr (inr (inr e))

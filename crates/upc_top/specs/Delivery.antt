@@ -7,8 +7,13 @@ use Rattle.run_recorder_text.specs.Short.{is_short}
 use Rattle.run_recorder_text.specs.Lines.{text}
 use Rattle.typed_tree.specs.Programs.{Checked}
 use Rattle.upc_top_words.specs.declared.call.Mode.{Mode}
-use Rattle.upc_top_words.specs.declared.call.Mode.TheVariants.{Run, Record, Check, Layout, Sample}
+use Rattle.upc_top_words.specs.declared.call.Mode.TheVariants.{Run, Record, Check, Layout, Sample, Verify, Races}
 use Rattle.upc_top_words.specs.Values.{Asked, Asks}
+use Rattle.race_report_places.specs.declared.report.Report.{Report}
+use Rattle.race_report_places.specs.Report.{IsReport}
+use Rattle.race_report_text.specs.Lines.{text_of_report}
+use Rattle.upc_top_judging.specs.declared.judgment.Judgment.{Judgment}
+use Rattle.upc_top_judging.specs.Judgments.{IsJudgment, judgment_text, judgment_status}
 use Rattle.upc_top.specs.declared.verdict.Verdict.{Verdict}
 use Rattle.upc_top.specs.declared.done.Done.{Done}
 use Rattle.upc_top.specs.Sources.{IsAccepted}
@@ -128,29 +133,58 @@ pub record IsOverlong (done : Done) : Type 0 where
   pub long : is_short journal ≡ false
   pub status : done.status ≡ 109
 
+-- There are a journal and the report of its races, with the journal's status, and the output gained the report's text.
+pub record HasRaced (out : Writing) (done : Done) : Type 0 where
+  pub journal : Journal
+  pub is : done.journal ≡ Some journal
+  pub report : Report
+  pub reports : IsReport journal report.races
+  pub status : done.status ≡ status_of journal
+  pub text : Gained out (text_of_report report)
+
+-- The bytes of a record are known, and no read of it failed.
+pub record IsTold (reading : Reading) (name bytes : List ℕ) : Type 0 where
+  pub told : reading.told name ≡ Some bytes
+  pub read : Rose (reading.before name) (reading.after name) → ⊥
+
+-- What is done about the bytes of a record, for a program.
+pub data HasJudged (checked : Checked) (bytes : List ℕ) (out : Writing) (done : Done) : Type 0 where
+  -- They are more than a record may have, and the status says so.
+  Is_long : 67108864 < length bytes → done.status ≡ 110 → HasJudged checked bytes out done
+  -- This is found of them; the output gained its text, and the status is that of it.
+  Is_found :
+      (judgment : Judgment) → length bytes ≤ 67108864 → IsJudgment checked bytes judgment
+      → done.status ≡ judgment_status judgment → Gained out (judgment_text judgment) → HasJudged checked bytes out done
+
 -- The status is 0, and the output gained this text.
 pub record HasWritten (out : Writing) (done : Done) (text : List ℕ) : Type 0 where
   pub status : done.status ≡ 0
   pub gained : Gained out text
 
 -- What is done with bytes in each mode, or memory was wanting: an accepted source is run, or run and recorded unless
--- its run is too long for a text, or is passed, or laid out.
-abbrev pub IsDone : Mode → ℕ → List ℕ → Writing → Done → Type 0
-IsDone Run threads bytes out done =
-    (checked : Checked) → IsAccepted threads bytes checked → HasRun out done ⊎ (done.status ≡ 104)
-IsDone Sample threads bytes out done =
-    (checked : Checked) → IsAccepted threads bytes checked → HasRun out done ⊎ (done.status ≡ 104)
-IsDone Record threads bytes out done =
-    (checked : Checked) → IsAccepted threads bytes checked
+-- its run is too long for a text, or run and its races told, or is passed, or laid out, or a record is judged on it, if
+-- the record's bytes are known and no read of it failed.
+abbrev pub IsDone : Mode → Reading → Asked → List ℕ → Writing → Done → Type 0
+IsDone Run r a bytes out done =
+    (checked : Checked) → IsAccepted a.threads bytes checked → HasRun out done ⊎ (done.status ≡ 104)
+IsDone Sample r a bytes out done =
+    (checked : Checked) → IsAccepted a.threads bytes checked → HasRun out done ⊎ (done.status ≡ 104)
+IsDone Record r a bytes out done =
+    (checked : Checked) → IsAccepted a.threads bytes checked
     → HasRecorded out done ⊎ IsOverlong done ⊎ (done.status ≡ 104)
-IsDone Check threads bytes out done =
-    (checked : Checked) → IsAccepted threads bytes checked → HasWritten out done (codes "ok\n") ⊎ (done.status ≡ 104)
-IsDone Layout threads bytes out done =
-    (checked : Checked) → IsAccepted threads bytes checked
+IsDone Check r a bytes out done =
+    (checked : Checked) → IsAccepted a.threads bytes checked → HasWritten out done (codes "ok\n") ⊎ (done.status ≡ 104)
+IsDone Layout r a bytes out done =
+    (checked : Checked) → IsAccepted a.threads bytes checked
     → HasWritten out done (layout checked) ⊎ (done.status ≡ 104)
+IsDone Races r a bytes out done =
+    (checked : Checked) → IsAccepted a.threads bytes checked → HasRaced out done ⊎ (done.status ≡ 104)
+IsDone Verify r a bytes out done =
+    (checked : Checked) (name record_bytes : List ℕ) → IsAccepted a.threads bytes checked → a.recording ≡ Some name
+    → IsTold r name record_bytes → HasJudged checked record_bytes out done ⊎ (done.status ≡ 104)
 
 -- Where the words were taken, their source is there and nothing failed, what its mode says is done with an accepted
 -- source.
 abbrev pub IsComplete : List (List ℕ) → Reading → Writing → Writing → Done → Type 0
 IsComplete words reading out err done =
-    (a : Asked) (bytes : List ℕ) → Succeeds words reading out err a bytes → IsDone a.mode a.threads bytes out done
+    (a : Asked) (bytes : List ℕ) → Succeeds words reading out err a bytes → IsDone a.mode reading a bytes out done

@@ -1,25 +1,35 @@
 -- The verdicts of the top call, their causes, and what each writes.
-use Rattle.std.specs.Prelude.{ℕ, ◌≡◌, ◌≤◌, true, false, List, [], length, Option, Some, None, codes, decimal}
+use Rattle.std.specs.Prelude.{ℕ, ◌≡◌, ◌≤◌, ◌⊎◌, true, false, List, [], length, Option, Some, None, codes, decimal}
 use Rattle.upc_text.specs.declared.place.Refusal.{Refusal}
 use Rattle.upc_text.specs.declared.faults.ReadEnd.{ReadEnd}
 use Rattle.upc_text.specs.declared.faults.ReadEnd.TheVariants as ends
 use Rattle.upc_text.specs.Outside.{Rose, IsWhole, IsLonger}
 use Rattle.upc_values.specs.declared.journal.Journal.{Journal}
 use Rattle.upc_values.specs.declared.order.Orders.{Orders}
+use Rattle.upc_values.specs.Consistent.{begins}
 use Rattle.typed_tree.specs.Programs.{Checked}
 use Rattle.typed_tree.specs.ViewProgram.{view_program}
 use Rattle.upc_top_words.specs.declared.call.Mode.{Mode}
-use Rattle.upc_top_words.specs.declared.call.Mode.TheVariants.{Record, Check, Layout, Sample}
+use Rattle.upc_top_words.specs.declared.call.Mode.TheVariants.{Record, Check, Layout, Sample, Verify, Races}
 use Rattle.upc_top_words.specs.Values.{Asked, Asks, IsInRange}
+use Rattle.source_meaning.specs.Laws.{opening_of}
 use Rattle.upc_task.specs.declared.limits.Limits.{Limits}
 use Rattle.program_runs.specs.Runs.{IsRunByRounds}
 use Rattle.order_builder.specs.Named.{orders_of}
 use Rattle.run_recorder_text.specs.Short.{HasText, is_short}
 use Rattle.run_recorder_text.specs.Lines.{text}
+use Rattle.race_report.specs.Serial.{serial_list}
+use Rattle.race_report_places.specs.declared.report.Report.{Report}
+use Rattle.race_report_places.specs.Report.{IsReport}
+use Rattle.race_report_serial.specs.Sequential.{IsSequential}
+use Rattle.race_report_text.specs.Lines.{text_of_report}
 use Rattle.upc_sample.specs.Sample.{sample}
+use Rattle.upc_top_judging.specs.declared.judgment.Judgment.{Judgment}
+use Rattle.upc_top_judging.specs.Judgments.{IsJudgment, judgment_text, judgment_line, judgment_status}
 use Rattle.upc_top.specs.declared.verdict.Verdict.{Verdict}
 use Rattle.upc_top.specs.declared.verdict.Verdict.TheVariants.{Usage, ReadFault, TooLong, Refused, Ran, Passed, Laid}
-use Rattle.upc_top.specs.declared.verdict.Verdict.TheVariants.{Recorded, Overlong, NoMemory}
+use Rattle.upc_top.specs.declared.verdict.Verdict.TheVariants.{Recorded, Overlong, Raced, Judged}
+use Rattle.upc_top.specs.declared.verdict.Verdict.TheVariants.{NoMemory}
 use Rattle.upc_top.specs.Words.{prints, runs}
 use Rattle.upc_top.specs.Sources.{IsAccepted, IsRefused}
 use Rattle.upc_top_output.specs.Layout.{layout}
@@ -75,17 +85,47 @@ pub record LaidFrom (a : Asked) (bytes : List ℕ) (checked : Checked) : Type 0 
   pub mode : a.mode ≡ Layout
   pub accepted : IsAccepted a.threads bytes checked
 
--- What each verdict says of the bytes of a source that was read whole or made.
-abbrev pub ComesFrom : Asked → List ℕ → Verdict → Type 0
-ComesFrom a bytes (Refused refusal) = IsRefused a.threads bytes refusal
-ComesFrom a bytes (Ran j) = RanFrom a bytes j
-ComesFrom a bytes (Recorded j o) = RecordedFrom a bytes j o
-ComesFrom a bytes (Overlong j) = OverlongFrom a bytes j
-ComesFrom a bytes Passed = PassedFrom a bytes
-ComesFrom a bytes (Laid program) = LaidFrom a bytes (view_program program)
-ComesFrom a bytes (NoMemory None) = Unit {0}
-ComesFrom a bytes (NoMemory (Some j)) = RunsAs a bytes j
-ComesFrom a bytes v = ⊥
+-- The races of a run were asked for, the journal is that run, and this is the report of them. Where it is empty, the
+-- serial order makes the run sequentially consistent (UPC Appendix B).
+pub record RacedFrom (a : Asked) (bytes : List ℕ) (j : Journal) (report : Report) : Type 0 where
+  pub mode : a.mode ≡ Races
+  pub run : RunsAs a bytes j
+  pub reports : IsReport j report.races
+  pub sequential :
+      report.races ≡ [] → IsSequential (begins (opening_of run.checked) j.history) j (serial_list j)
+
+-- A record was to be judged on the bytes, they are accepted as a program, and P holds of it and of the record's name.
+pub record OnRecord (a : Asked) (bytes : List ℕ) (P : Checked → List ℕ → Type 0) : Type 0 where
+  pub mode : a.mode ≡ Verify
+  pub checked : Checked
+  pub accepted : IsAccepted a.threads bytes checked
+  pub name : List ℕ
+  pub named : a.recording ≡ Some name
+  pub holds : P checked name
+
+-- A file's bytes, where they are known, are no more than a record may have, and this was found of them for the program.
+pub record JudgedFrom (told : Option (List ℕ)) (checked : Checked) (judgment : Judgment) : Type 0 where
+  pub bytes : List ℕ
+  pub whole : IsWhole told bytes
+  pub short : length bytes ≤ 67108864
+  pub judged : IsJudgment checked bytes judgment
+
+-- What each verdict says of the bytes of a source that was read whole or made, and where a record is judged, of the
+-- record: its count of faults rose, it has more bytes than a record may have, or this was found of it.
+abbrev pub ComesFrom : Reading → Asked → List ℕ → Verdict → Type 0
+ComesFrom r a bytes ReadFault = OnRecord a bytes (λ checked name. Rose (r.before name) (r.after name))
+ComesFrom r a bytes TooLong = OnRecord a bytes (λ checked name. IsLonger (r.told name) 67108864)
+ComesFrom r a bytes (Judged judgment) = OnRecord a bytes (λ checked name. JudgedFrom (r.told name) checked judgment)
+ComesFrom r a bytes (Raced j report) = RacedFrom a bytes j report
+ComesFrom r a bytes (Refused refusal) = IsRefused a.threads bytes refusal
+ComesFrom r a bytes (Ran j) = RanFrom a bytes j
+ComesFrom r a bytes (Recorded j o) = RecordedFrom a bytes j o
+ComesFrom r a bytes (Overlong j) = OverlongFrom a bytes j
+ComesFrom r a bytes Passed = PassedFrom a bytes
+ComesFrom r a bytes (Laid program) = LaidFrom a bytes (view_program program)
+ComesFrom r a bytes (NoMemory None) = Unit {0}
+ComesFrom r a bytes (NoMemory (Some j)) = RunsAs a bytes j
+ComesFrom r a bytes v = ⊥
 
 -- These are the file's bytes, where they are known, and no more than a source may have.
 pub record IsFile (told : Option (List ℕ)) (bytes : List ℕ) : Type 0 where
@@ -119,7 +159,7 @@ pub record Taken (words : List (List ℕ)) (P : Asked → Type 0) : Type 0 where
 
 -- The words were taken, the source was read whole or made, and this is the verdict on its bytes.
 abbrev pub CameTo : List (List ℕ) → Reading → Verdict → Type 0
-CameTo words r v = Taken words (λ a. Holds r a (λ bytes. ComesFrom a bytes v))
+CameTo words r v = Taken words (λ a. Holds r a (λ bytes. ComesFrom r a bytes v))
 
 -- A file is read in every mode but `sample`, and its count of faults rose.
 pub record FailedToRead (r : Reading) (a : Asked) : Type 0 where
@@ -137,11 +177,12 @@ NoSource r a ends.ReadFault = FailedToRead r a
 NoSource r a ends.TooLong = IsTooLong r a
 NoSource r a ends.Memory = Unit {0}
 
--- The cause of a verdict; want of memory needs none.
+-- The cause of a verdict: of a failed read and of too many bytes it lies in the file or in the record; want of memory
+-- needs none.
 abbrev pub Caused : List (List ℕ) → Reading → Verdict → Type 0
 Caused words r Usage = (a : Asked) → Asks words a → ⊥
-Caused words r ReadFault = Taken words (λ a. FailedToRead r a)
-Caused words r TooLong = Taken words (λ a. IsTooLong r a)
+Caused words r ReadFault = Taken words (λ a. FailedToRead r a) ⊎ CameTo words r ReadFault
+Caused words r TooLong = Taken words (λ a. IsTooLong r a) ⊎ CameTo words r TooLong
 Caused words r (NoMemory None) = Unit {0}
 Caused words r v = CameTo words r v
 
@@ -150,6 +191,7 @@ abbrev pub without_memory : Verdict → Verdict
 without_memory (Ran j) = NoMemory (Some j)
 without_memory (Recorded j o) = NoMemory (Some j)
 without_memory (Overlong j) = NoMemory (Some j)
+without_memory (Raced j report) = NoMemory (Some j)
 without_memory (NoMemory o) = NoMemory o
 without_memory v = NoMemory None
 
@@ -157,6 +199,8 @@ without_memory v = NoMemory None
 abbrev pub text_of : Verdict → List ℕ
 text_of (Ran j) = output j.history
 text_of (Recorded j o) = text j o
+text_of (Raced j report) = text_of_report report
+text_of (Judged judgment) = judgment_text judgment
 text_of Passed = codes "ok\n"
 text_of (Laid program) = layout (view_program program)
 text_of v = []
@@ -170,6 +214,8 @@ line_of (Refused r) = refusal_line r
 line_of (Ran j) = run_line j
 line_of (Recorded j o) = run_line j
 line_of (Overlong j) = codes "upc: too long for a text\n"
+line_of (Raced j report) = run_line j
+line_of (Judged judgment) = judgment_line judgment
 line_of Passed = []
 line_of (Laid program) = []
 line_of (NoMemory j) = codes "upc: no memory\n"
@@ -183,6 +229,8 @@ status_for (Refused r) = 101
 status_for (Ran j) = status_of j
 status_for (Recorded j o) = status_of j
 status_for (Overlong j) = 109
+status_for (Raced j report) = status_of j
+status_for (Judged judgment) = judgment_status judgment
 status_for Passed = 0
 status_for (Laid program) = 0
 status_for (NoMemory j) = 104
@@ -197,6 +245,7 @@ abbrev pub journal_of : Verdict → Option Journal
 journal_of (Ran j) = Some j
 journal_of (Recorded j o) = Some j
 journal_of (Overlong j) = Some j
+journal_of (Raced j report) = Some j
 journal_of (NoMemory o) = o
 journal_of v = None
 

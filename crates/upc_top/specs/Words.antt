@@ -1,7 +1,7 @@
 -- What the modes of the command line do with a program.
 use Rattle.std.specs.Prelude.{Bool, true, false}
 use Rattle.upc_top_words.specs.declared.call.Mode.{Mode}
-use Rattle.upc_top_words.specs.declared.call.Mode.TheVariants.{Run, Record, Check, Layout, Sample}
+use Rattle.upc_top_words.specs.declared.call.Mode.TheVariants.{Run, Record, Check, Layout, Sample, Verify, Races}
 
 -- The modes `run` and `sample` run a program, and write what it prints.
 abbrev pub prints : Mode → Bool
@@ -10,11 +10,15 @@ prints Sample = true
 prints Record = false
 prints Check = false
 prints Layout = false
+prints Verify = false
+prints Races = false
 
--- The modes `run`, `sample` and `record` run a program.
+-- The modes `run`, `sample`, `record` and `races` run a program.
 abbrev pub runs : Mode → Bool
 runs Run = true
 runs Sample = true
 runs Record = true
 runs Check = false
 runs Layout = false
+runs Verify = false
+runs Races = true

@@ -8,9 +8,11 @@ ghost use Rattle.upc_top.specs.Delivery.{writing, Delivered, Delivers};
 
 use crate::done::Done;
 use crate::verdict::Verdict;
+use race_report_text::report_text;
 use run_recorder_text::render;
 use std::alloc::{AllocError as OutOfMemory, Global};
 use upc_text::{Sink, put_all};
+use upc_top_judging::{judgment_line, judgment_status, judgment_text};
 use upc_top_output::layout::layout_text;
 use upc_top_output::status::status_of;
 use upc_top_output::text::{output_text, refusal_text, run_text};
@@ -22,6 +24,8 @@ fn text_for(alloc: Global, verdict: &Verdict) -> Result<Vec<u8>, OutOfMemory>
     match verdict {
         Verdict::Ran(journal) => output_text(alloc, &journal.history),
         Verdict::Recorded(journal, orders) => render(alloc, journal, orders),
+        Verdict::Raced(_, report) => report_text(alloc, report),
+        Verdict::Judged(judgment) => judgment_text(alloc, *judgment),
         Verdict::Passed => Vec::from_slice(alloc, b"ok\n"),
         Verdict::Laid(program) => layout_text(alloc, program),
         _ => Ok(Vec::new(alloc)),
@@ -38,6 +42,8 @@ fn line_for(alloc: Global, verdict: &Verdict) -> Result<Vec<u8>, OutOfMemory>
         Verdict::TooLong => Vec::from_slice(alloc, b"upc: source too long\n"),
         Verdict::Refused(refusal) => refusal_text(alloc, *refusal),
         Verdict::Ran(journal) | Verdict::Recorded(journal, _) => run_text(alloc, journal),
+        Verdict::Raced(journal, _) => run_text(alloc, journal),
+        Verdict::Judged(judgment) => judgment_line(alloc, *judgment),
         Verdict::Overlong(_) => Vec::from_slice(alloc, b"upc: too long for a text\n"),
         Verdict::Passed | Verdict::Laid(_) => Ok(Vec::new(alloc)),
         Verdict::NoMemory(_) => Vec::from_slice(alloc, b"upc: no memory\n"),
@@ -56,6 +62,8 @@ fn status_for(verdict: &Verdict) -> u8
         Verdict::Refused(_) => 101,
         Verdict::Ran(journal) => status_of(journal),
         Verdict::Recorded(journal, _) => status_of(journal),
+        Verdict::Raced(journal, _) => status_of(journal),
+        Verdict::Judged(judgment) => judgment_status(*judgment),
         Verdict::Overlong(_) => 109,
         Verdict::Passed | Verdict::Laid(_) => 0,
         Verdict::NoMemory(_) => 104,
@@ -73,6 +81,7 @@ fn done(verdict: Verdict, status: u8) -> Done
         Verdict::Refused(refusal) => (Some(refusal), None, None),
         Verdict::Ran(journal) | Verdict::Overlong(journal) => (None, Some(journal), None),
         Verdict::Recorded(journal, orders) => (None, Some(journal), Some(orders)),
+        Verdict::Raced(journal, _report) => (None, Some(journal), None),
         Verdict::NoMemory(journal) => (None, journal, None),
         Verdict::Laid(_program) => (None, None, None),
         _ => (None, None, None),
@@ -116,6 +125,7 @@ fn without_memory(verdict: Verdict) -> Verdict
     match verdict {
         Verdict::Ran(journal) => Verdict::NoMemory(Some(journal)),
         Verdict::Recorded(journal, _) => Verdict::NoMemory(Some(journal)),
+        Verdict::Raced(journal, _) => Verdict::NoMemory(Some(journal)),
         Verdict::Overlong(journal) => Verdict::NoMemory(Some(journal)),
         Verdict::NoMemory(journal) => Verdict::NoMemory(journal),
         _ => Verdict::NoMemory(None),

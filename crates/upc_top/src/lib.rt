@@ -5,6 +5,8 @@ mod deliver;
 mod done;
 mod front;
 mod judge;
+mod judged;
+mod raced;
 mod record;
 mod source;
 mod top;

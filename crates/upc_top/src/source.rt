@@ -1,6 +1,6 @@
 //! The source that the words ask for.
 
-ghost use Rattle.std.specs.Prelude.{◌≡◌, ◌≤◌, length, IfOk, IfErr};
+ghost use Rattle.std.specs.Prelude.{◌≡◌, ◌≤◌, ℕ, List, length, IfOk, IfErr};
 ghost use Rattle.upc_top_words.specs.declared.call.Mode.TheVariants.{Sample};
 ghost use Rattle.upc_top_words.specs.Values.{IsAllowed, view_call};
 ghost use Rattle.upc_top.specs.Verdicts.{reading, IsSource, NoSource};
@@ -24,6 +24,8 @@ pub fn source_of<S: Sources>(
         (reading (S.bytes_of files.old) (S.faults files.old) (S.faults files.new))
         (view_call call.now)) }
     ensures sample { call.now.mode ≡ Sample → files.new ≡ files.old }
+    ensures counts { (other : List ℕ) → S.faults files.old other ≤ S.faults files.new other }
+    ensures same { (other : List ℕ) → S.bytes_of files.new other ≡ S.bytes_of files.old other }
 {
     match call.mode {
         Mode::Sample => {

@@ -90,6 +90,15 @@ code_text (Limit n) = codes "limit " ++ decimal n
 abbrev pub refusal_line : Refusal → List ℕ
 refusal_line r = codes "upc: refused at " ++ place_text r.place ++ codes ": " ++ code_text r.code ++ codes "\n"
 
+-- The line of a record that is no run's text, with the place where that shows.
+abbrev pub bad_record_line : Place → List ℕ
+bad_record_line p = codes "upc: bad record at " ++ place_text p ++ codes "\n"
+
+-- The line of a record that is not sound, with the part that fails and the thread of which it does.
+abbrev pub broken_line : (part thread : ℕ) → List ℕ
+broken_line part thread =
+    codes "upc: not sound: part " ++ decimal part ++ codes " on thread " ++ decimal thread ++ codes "\n"
+
 -- The line of an end that ends the run.
 abbrev pub stop_line : ℕ → End → List ℕ
 stop_line t (Fault c p) =

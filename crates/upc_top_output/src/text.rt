@@ -2,6 +2,7 @@
 
 ghost use Rattle.std.specs.Prelude.{◌≡◌, ◌<◌, ◌^◌, ◌++◌, IfOk, length, decimal, codes};
 ghost use Rattle.upc_top_output.specs.Output.{output, place_text, code_text, refusal_line, stop_line, run_line};
+ghost use Rattle.upc_top_output.specs.Output.{bad_record_line, broken_line};
 
 use crate::status::{all_ended, first_stop};
 use itoa::Buffer;
@@ -78,6 +79,27 @@ pub fn refusal_text(alloc: Global, refusal: Refusal) -> Result<Vec<u8>, OutOfMem
     add(&mut line, place(alloc, refusal.place)?.as_slice())?;
     add(&mut line, b": ")?;
     add(&mut line, code(alloc, refusal.code)?.as_slice())?;
+    add(&mut line, b"\n")?;
+    Ok(line)
+}
+
+/// The line of a record that is no run's text.
+pub fn bad_record_text(alloc: Global, at: Place) -> Result<Vec<u8>, OutOfMemory>
+    ensures { IfOk result (λ line. line.items ≡ bad_record_line at) }
+{
+    let mut line = Vec::from_slice(alloc, b"upc: bad record at ")?;
+    add(&mut line, place(alloc, at)?.as_slice())?;
+    add(&mut line, b"\n")?;
+    Ok(line)
+}
+
+/// The line of a record that is not sound.
+pub fn broken_text(alloc: Global, part: u8, thread: u32) -> Result<Vec<u8>, OutOfMemory>
+    ensures { IfOk result (λ line. line.items ≡ broken_line part thread) }
+{
+    let mut line = numbered(alloc, b"upc: not sound: part ", part)?;
+    add(&mut line, b" on thread ")?;
+    add_number(&mut line, thread)?;
     add(&mut line, b"\n")?;
     Ok(line)
 }

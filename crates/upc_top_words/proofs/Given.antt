@@ -44,62 +44,74 @@ upc_plain c e =
     let groups = simple_groups c (ap (λ (a : App). list_all (λ r. r.is_simple) a.top.rules) e) in
     ((λ k d lt. ((free k d lt).exclusive, (free k d lt).conflicts, (free k d lt).overrides, groups k d lt)), simple.groups)
 
-five : (c : Command) → app_of c ≡ upc_app → length (args_of c) ≡ 5
-five c e = sym (length-map (args_of c) rule_of) ∙ ap (λ (a : App). length a.top.rules) e
+six : (c : Command) → app_of c ≡ upc_app → length (args_of c) ≡ 6
+six c e = sym (length-map (args_of c) rule_of) ∙ ap (λ (a : App). length a.top.rules) e
 
 -- the argument at each place
-rule_at : (c : Command) → app_of c ≡ upc_app → (k : ℕ) (d : Arg) → k < 5 → rule_of (slice_index_or (args_of c) k d) ≡ slice_index_or rules k (rule_of d)
+rule_at : (c : Command) → app_of c ≡ upc_app → (k : ℕ) (d : Arg) → k < 6 → rule_of (slice_index_or (args_of c) k d) ≡ slice_index_or rules k (rule_of d)
 rule_at c e k d lt =
-    let in_args : k < length (args_of c) = omega (arith, five c e) in
+    let in_args : k < length (args_of c) = omega (arith, six c e) in
     sym (get_or-map rule_of (args_of c) k d (rule_of d) in_args) ∙ ap (λ (a : App). slice_index_or a.top.rules k (rule_of d)) e
 
 -- no two have one id
-distinct : (j k : ℕ) (r q : Rule) → j < 5 → k < 5 → bytes_eq (slice_index_or rules j r).id (slice_index_or rules k q).id ≡ true → j ≡ k
-distinct (suc (suc (suc (suc (suc j))))) k r q low lt e = absurd (omega arith)
-distinct zero (suc (suc (suc (suc (suc k))))) r q low lt e = absurd (omega arith)
+distinct : (j k : ℕ) (r q : Rule) → j < 6 → k < 6 → bytes_eq (slice_index_or rules j r).id (slice_index_or rules k q).id ≡ true → j ≡ k
+distinct (suc (suc (suc (suc (suc (suc j)))))) k r q low lt e = absurd (omega arith)
+distinct zero (suc (suc (suc (suc (suc (suc k)))))) r q low lt e = absurd (omega arith)
 distinct zero zero r q low lt e = refl
 distinct zero (suc zero) r q low lt e = absurd cc
 distinct zero (suc (suc zero)) r q low lt e = absurd cc
 distinct zero (suc (suc (suc zero))) r q low lt e = absurd cc
 distinct zero (suc (suc (suc (suc zero)))) r q low lt e = absurd cc
-distinct (suc zero) (suc (suc (suc (suc (suc k))))) r q low lt e = absurd (omega arith)
+distinct zero (suc (suc (suc (suc (suc zero))))) r q low lt e = absurd cc
+distinct (suc zero) (suc (suc (suc (suc (suc (suc k)))))) r q low lt e = absurd (omega arith)
 distinct (suc zero) zero r q low lt e = absurd cc
 distinct (suc zero) (suc zero) r q low lt e = refl
 distinct (suc zero) (suc (suc zero)) r q low lt e = absurd cc
 distinct (suc zero) (suc (suc (suc zero))) r q low lt e = absurd cc
 distinct (suc zero) (suc (suc (suc (suc zero)))) r q low lt e = absurd cc
-distinct (suc (suc zero)) (suc (suc (suc (suc (suc k))))) r q low lt e = absurd (omega arith)
+distinct (suc zero) (suc (suc (suc (suc (suc zero))))) r q low lt e = absurd cc
+distinct (suc (suc zero)) (suc (suc (suc (suc (suc (suc k)))))) r q low lt e = absurd (omega arith)
 distinct (suc (suc zero)) zero r q low lt e = absurd cc
 distinct (suc (suc zero)) (suc zero) r q low lt e = absurd cc
 distinct (suc (suc zero)) (suc (suc zero)) r q low lt e = refl
 distinct (suc (suc zero)) (suc (suc (suc zero))) r q low lt e = absurd cc
 distinct (suc (suc zero)) (suc (suc (suc (suc zero)))) r q low lt e = absurd cc
-distinct (suc (suc (suc zero))) (suc (suc (suc (suc (suc k))))) r q low lt e = absurd (omega arith)
+distinct (suc (suc zero)) (suc (suc (suc (suc (suc zero))))) r q low lt e = absurd cc
+distinct (suc (suc (suc zero))) (suc (suc (suc (suc (suc (suc k)))))) r q low lt e = absurd (omega arith)
 distinct (suc (suc (suc zero))) zero r q low lt e = absurd cc
 distinct (suc (suc (suc zero))) (suc zero) r q low lt e = absurd cc
 distinct (suc (suc (suc zero))) (suc (suc zero)) r q low lt e = absurd cc
 distinct (suc (suc (suc zero))) (suc (suc (suc zero))) r q low lt e = refl
 distinct (suc (suc (suc zero))) (suc (suc (suc (suc zero)))) r q low lt e = absurd cc
-distinct (suc (suc (suc (suc zero)))) (suc (suc (suc (suc (suc k))))) r q low lt e = absurd (omega arith)
+distinct (suc (suc (suc zero))) (suc (suc (suc (suc (suc zero))))) r q low lt e = absurd cc
+distinct (suc (suc (suc (suc zero)))) (suc (suc (suc (suc (suc (suc k)))))) r q low lt e = absurd (omega arith)
 distinct (suc (suc (suc (suc zero)))) zero r q low lt e = absurd cc
 distinct (suc (suc (suc (suc zero)))) (suc zero) r q low lt e = absurd cc
 distinct (suc (suc (suc (suc zero)))) (suc (suc zero)) r q low lt e = absurd cc
 distinct (suc (suc (suc (suc zero)))) (suc (suc (suc zero))) r q low lt e = absurd cc
 distinct (suc (suc (suc (suc zero)))) (suc (suc (suc (suc zero)))) r q low lt e = refl
+distinct (suc (suc (suc (suc zero)))) (suc (suc (suc (suc (suc zero))))) r q low lt e = absurd cc
+distinct (suc (suc (suc (suc (suc zero))))) (suc (suc (suc (suc (suc (suc k)))))) r q low lt e = absurd (omega arith)
+distinct (suc (suc (suc (suc (suc zero))))) zero r q low lt e = absurd cc
+distinct (suc (suc (suc (suc (suc zero))))) (suc zero) r q low lt e = absurd cc
+distinct (suc (suc (suc (suc (suc zero))))) (suc (suc zero)) r q low lt e = absurd cc
+distinct (suc (suc (suc (suc (suc zero))))) (suc (suc (suc zero))) r q low lt e = absurd cc
+distinct (suc (suc (suc (suc (suc zero))))) (suc (suc (suc (suc zero)))) r q low lt e = absurd cc
+distinct (suc (suc (suc (suc (suc zero))))) (suc (suc (suc (suc (suc zero))))) r q low lt e = refl
 
-own_at : (c : Command) → app_of c ≡ upc_app → (k : ℕ) (d : Arg) → k < 5 → (f : ℕ) → slice_index (slice_index_or rules k (rule_of d)).id 0 ≡ f → (f == 0 || (f == 104 || f == 118)) ≡ false
+own_at : (c : Command) → app_of c ≡ upc_app → (k : ℕ) (d : Arg) → k < 6 → (f : ℕ) → slice_index (slice_index_or rules k (rule_of d)).id 0 ≡ f → (f == 0 || (f == 104 || f == 118)) ≡ false
     → (slice_index_or rules k (rule_of d)).action ≡ Some Set → 1 ≤ (unwrap_or_range (slice_index_or rules k (rule_of d)).range).start_inclusive
     → IsOwn c k d
 own_at c e k d lt f first other set least =
     let a = slice_index_or (args_of c) k d in
     let is = rule_at c e k d lt in
     let id_is : a.id.now ≡ (slice_index_or rules k (rule_of d)).id = ap (λ (r : Rule). r.id) is in
-    let here : k < length (args_of c) = omega (arith, five c e) in
+    let here : k < length (args_of c) = omega (arith, six c e) in
     let starts : (t : List ℕ) → a.id.now ≡ t → slice_index t 0 ≡ f = λ t h. ap (λ (u : List ℕ). slice_index u 0) (sym h ∙ id_is) ∙ first in
     record {
       place = here;
       unique = λ j x low same.
-          let below : j < 5 = omega (arith, five c e) in
+          let below : j < 6 = omega (arith, six c e) in
           let there : (slice_index_or (args_of c) j x).id.now ≡ (slice_index_or rules j (rule_of x)).id = ap (λ (r : Rule). r.id) (rule_at c e j x below) in
           distinct j k (rule_of x) (rule_of d) below lt (rw (← there, ← id_is) same);
       named = λ nil. bad f 0 (starts [] nil) refl other;
@@ -127,11 +139,11 @@ own_3 c e d = own_at c e 3 d (omega arith) 97 refl refl refl (omega arith)
 own_4 : (c : Command) → app_of c ≡ upc_app → (d : Arg) → IsOwn c 4 d
 own_4 c e d = own_at c e 4 d (omega arith) 70 refl refl refl (omega arith)
 
-id_at : (c : Command) → app_of c ≡ upc_app → (k : ℕ) (d : Arg) (id : Text) → k < 5 → (slice_index_or rules k (rule_of d)).id ≡ id → (slice_index_or (args_of c) k d).id.now ≡ id
+id_at : (c : Command) → app_of c ≡ upc_app → (k : ℕ) (d : Arg) (id : Text) → k < 6 → (slice_index_or rules k (rule_of d)).id ≡ id → (slice_index_or (args_of c) k d).id.now ≡ id
 id_at c e k d id lt is = ap (λ (r : Rule). r.id) (rule_at c e k d lt) ∙ is
 
 -- a required argument has a value
-required_given : (c : Command) (m : ArgMatches) → app_of c ≡ upc_app → IsParsedFrom c m → (k : ℕ) (d : Arg) (id : Text) → IsOwn c k d → k < 5
+required_given : (c : Command) (m : ArgMatches) → app_of c ≡ upc_app → IsParsedFrom c m → (k : ℕ) (d : Arg) (id : Text) → IsOwn c k d → k < 6
     → (slice_index_or rules k (rule_of d)).required ≡ true → (slice_index_or rules k (rule_of d)).id ≡ id → is_some (first_of id (rows_of (found_of m))) ≡ true
 required_given c m e p k d id own lt required is =
     let plain = upc_plain c e in
@@ -156,7 +168,7 @@ default_given c m e p d =
     ap (λ t. is_some (first_of t (rows_of (found_of m)))) (sym (id_at c e 2 d (codes "budget") (omega arith) refl)) ∙ ap is_some (sym (first_value-rows (found_of m) (slice_index_or (args_of c) 2 d).id.now)) ∙ value
 
 -- a number that is given lies in its range
-number_given : (c : Command) (m : ArgMatches) → app_of c ≡ upc_app → IsParsedFrom c m → (k : ℕ) (d : Arg) (id : Text) (most : ℕ) → IsOwn c k d → k < 5
+number_given : (c : Command) (m : ArgMatches) → app_of c ≡ upc_app → IsParsedFrom c m → (k : ℕ) (d : Arg) (id : Text) (most : ℕ) → IsOwn c k d → k < 6
     → (slice_index_or rules k (rule_of d)).parser ≡ Some (Unsigned 1 most) → (slice_index_or rules k (rule_of d)).id ≡ id
     → (t : Text) → first_of id (rows_of (found_of m)) ≡ Some t → IsNumber (number_of t) most
 number_given c m e p k d id most own lt parser is t first =
@@ -176,7 +188,7 @@ if_number : (o : Option Text) (most : ℕ) → ((t : Text) → o ≡ Some t → 
 if_number None most f = tt
 if_number (Some t) most f = f t refl
 
-an_arg : (xs : List Arg) → length xs ≡ 5 → Arg
+an_arg : (xs : List Arg) → length xs ≡ 6 → Arg
 an_arg [] e = absurd (omega arith)
 an_arg (x ∷ xs) e = x
 
@@ -192,4 +204,4 @@ given_from c m e p d = record {
 }
 
 pub is_given : (c : Command) (m : ArgMatches) → app_of c ≡ upc_app → IsParsedFrom c m → IsGiven (rows_of (found_of m))
-is_given c m e p = given_from c m e p (an_arg (args_of c) (five c e))
+is_given c m e p = given_from c m e p (an_arg (args_of c) (six c e))

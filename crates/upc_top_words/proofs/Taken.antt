@@ -27,17 +27,17 @@ value_is (Some k) n most e h =
     let same : h.n ≡ n = let both = sym h.is ∙ e in cc in
     (rw (← same) h.least, rw (← same) h.no_more)
 
-range_from : (mode : Option Mode) (threads budget actions : Option ℕ) (file : Option Text) (w : Asked) → IsNumber threads 32 → IsNumber budget 1000000000000 → IfSome actions IsItems
-    → asked_from mode threads budget actions file ≡ Some w → IsInRange w
-range_from None t b a f w ht hb ha e = absurd cc
-range_from (Some m) None b a f w ht hb ha e = absurd cc
-range_from (Some m) (Some t) None a f w ht hb ha e = absurd cc
-range_from (Some m) (Some t) (Some b) a None w ht hb ha e = absurd cc
-range_from (Some m) (Some t) (Some b) a (Some f) w ht hb ha e =
+range_from : (mode : Option Mode) (threads budget actions : Option ℕ) (file recording : Option Text) (w : Asked) → IsNumber threads 32 → IsNumber budget 1000000000000 → IfSome actions IsItems
+    → asked_from mode threads budget actions file recording ≡ Some w → IsInRange w
+range_from None t b a f g w ht hb ha e = absurd cc
+range_from (Some m) None b a f g w ht hb ha e = absurd cc
+range_from (Some m) (Some t) None a f g w ht hb ha e = absurd cc
+range_from (Some m) (Some t) (Some b) a None g w ht hb ha e = absurd cc
+range_from (Some m) (Some t) (Some b) a (Some f) g w ht hb ha e =
     let tr = value_is (Some t) t 32 refl ht in
     let br = value_is (Some b) b 1000000000000 refl hb in
     let ar = items a t tr.0 tr.1 ha in
-    let made : Asked = record { mode = m; threads = t; budget = b; actions = unwrap_or a (share t); file = f } in
+    let made : Asked = record { mode = m; threads = t; budget = b; actions = unwrap_or a (share t); file = f; recording = g } in
     subst IsInRange (is_value made w e) (record { one_thread = tr.0; threads = tr.1; one_tick = br.0; ticks = br.1; one_item = ar.0; items = ar.1 })
 
 items_in : (o : Option Text) → IfSome o (λ t. IsNumber (number_of t) 8388608) → IfSome (option_and_then number_of o) IsItems
@@ -49,16 +49,16 @@ items_in (Some t) h = go (number_of t) h
     go (Some n) h = value_is (Some n) n 8388608 refl h
 
 pub in_range : (rows : List Row) (w : Asked) → IsGiven rows → asked_by rows ≡ Some w → IsInRange w
-in_range rows w h e = range_from (mode_in rows) (number_in rows (codes "threads")) (number_in rows (codes "budget")) (number_in rows (codes "actions")) (first_of (codes "FILE") rows) w
+in_range rows w h e = range_from (mode_in rows) (number_in rows (codes "threads")) (number_in rows (codes "budget")) (number_in rows (codes "actions")) (first_of (codes "FILE") rows) (first_of (codes "RECORD") rows) w
     h.threads h.budget (items_in (first_of (codes "actions") rows) h.actions) e
 
-no_mode_from : (mode : Option Mode) (threads budget actions : Option ℕ) (file : Option Text) → IsNumber threads 32 → IsNumber budget 1000000000000 → is_some file ≡ true
-    → asked_from mode threads budget actions file ≡ None → mode ≡ None
-no_mode_from None t b a f ht hb hf e = refl
-no_mode_from (Some m) None b a f ht hb hf e = let bad = ht.is in absurd cc
-no_mode_from (Some m) (Some t) None a f ht hb hf e = let bad = hb.is in absurd cc
-no_mode_from (Some m) (Some t) (Some b) a None ht hb hf e = absurd (true≢false (sym hf))
-no_mode_from (Some m) (Some t) (Some b) a (Some f) ht hb hf e = absurd cc
+no_mode_from : (mode : Option Mode) (threads budget actions : Option ℕ) (file recording : Option Text) → IsNumber threads 32 → IsNumber budget 1000000000000 → is_some file ≡ true
+    → asked_from mode threads budget actions file recording ≡ None → mode ≡ None
+no_mode_from None t b a f g ht hb hf e = refl
+no_mode_from (Some m) None b a f g ht hb hf e = let bad = ht.is in absurd cc
+no_mode_from (Some m) (Some t) None a f g ht hb hf e = let bad = hb.is in absurd cc
+no_mode_from (Some m) (Some t) (Some b) a None g ht hb hf e = absurd (true≢false (sym hf))
+no_mode_from (Some m) (Some t) (Some b) a (Some f) g ht hb hf e = absurd cc
 
 word_of : (o : Option Text) → is_some o ≡ true → option_and_then mode_named o ≡ None → (t : Text) × (o ≡ Some t) × (mode_named t ≡ None)
 word_of None s e = absurd (true≢false (sym s))
@@ -66,7 +66,7 @@ word_of (Some t) s e = (t, refl, e)
 
 pub nothing_by_mode : (words : List Text) (rows : List Row) → rows ≡ found_in words → IsGiven rows → asked_by rows ≡ None → AsksNothing words
 nothing_by_mode words rows is h e =
-    let none = no_mode_from (mode_in rows) (number_in rows (codes "threads")) (number_in rows (codes "budget")) (number_in rows (codes "actions")) (first_of (codes "FILE") rows) h.threads h.budget h.file e in
+    let none = no_mode_from (mode_in rows) (number_in rows (codes "threads")) (number_in rows (codes "budget")) (number_in rows (codes "actions")) (first_of (codes "FILE") rows) (first_of (codes "RECORD") rows) h.threads h.budget h.file e in
     let word = word_of (first_of (codes "MODE") rows) h.mode none in
     no_mode word.0 (ap (first_of (codes "MODE")) (sym is) ∙ word.1) word.2
 
@@ -77,9 +77,9 @@ nothing_allowed words rows w is e fails = not_allowed w (ap asked_by (sym is) �
 pub one_asked : (words : List Text) (a b : Asked) → Asks words a → Asks words b → a ≡ b
 one_asked words a b h k = is_value a b (sym h.values ∙ k.values)
 
-none_without_mode : (mode : Option Mode) (threads budget actions : Option ℕ) (file : Option Text) (a : Asked) → mode ≡ None → asked_from mode threads budget actions file ≡ Some a → ⊥
-none_without_mode None t b f g a h e = absurd cc
-none_without_mode (Some m) t b f g a h e = absurd cc
+none_without_mode : (mode : Option Mode) (threads budget actions : Option ℕ) (file recording : Option Text) (a : Asked) → mode ≡ None → asked_from mode threads budget actions file recording ≡ Some a → ⊥
+none_without_mode None t b f g x a h e = absurd cc
+none_without_mode (Some m) t b f g x a h e = absurd cc
 
 -- where there is a reason, they ask for nothing
 pub nothing : (words : List Text) → AsksNothing words → (a : Asked) → Asks words a → ⊥
@@ -87,5 +87,5 @@ nothing words (refused_by_clap fails) a h = fails h.taken
 nothing words (no_mode word given names) a h =
     let rows = found_in words in
     let none : mode_in rows ≡ None = ap (option_and_then mode_named) given ∙ names in
-    none_without_mode (mode_in rows) (number_in rows (codes "threads")) (number_in rows (codes "budget")) (number_in rows (codes "actions")) (first_of (codes "FILE") rows) a none h.values
+    none_without_mode (mode_in rows) (number_in rows (codes "threads")) (number_in rows (codes "budget")) (number_in rows (codes "actions")) (first_of (codes "FILE") rows) (first_of (codes "RECORD") rows) a none h.values
 nothing words (not_allowed b e fails) a h = fails (subst IsAllowed (is_value a b (sym h.values ∙ e)) h.allowed)

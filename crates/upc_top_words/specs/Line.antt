@@ -1,4 +1,4 @@
--- The command line `upc MODE -T n [--budget n] [--actions n] FILE`, as `clap` reads it.
+-- The command line `upc MODE -T n [--budget n] [--actions n] FILE [RECORD]`, as `clap` reads it.
 use Rattle.std.specs.Prelude.{◌≡◌, ℕ, true, List, [], ◌∷◌, Some, codes}
 use Rattle.clap.specs.Words.{App, Row, Rule, Text, matches_of, new_app, new_rule, with_rule}
 use Rattle.clap.specs.Faults.{fault_of}
@@ -9,6 +9,10 @@ use Rattle.clap.specs.declared.builder.value_parser.ValueParser.TheVariants.{Uns
 -- The rule of a word that has to be there, known by its place.
 abbrev pub word_rule : Text → Rule
 word_rule id = record (new_rule id) { required = true; action = Some Set }
+
+-- The rule of the word that may stand after all others.
+abbrev pub record_rule : Rule
+record_rule = record (new_rule (codes "RECORD")) { action = Some Set }
 
 -- The rule of an option that is a number from 1 to `most`.
 abbrev pub number_rule : Text → ℕ → Rule
@@ -36,14 +40,16 @@ bare_app =
     on_top (λ s. record s { no_binary_name = true; disable_help_flag = true; disable_version_flag = true })
     (new_app (codes "upc"))
 
--- The command `upc MODE -T n [--budget n] [--actions n] FILE`.
+-- The command `upc MODE -T n [--budget n] [--actions n] FILE [RECORD]`.
 abbrev pub upc_app : App
 upc_app =
     with_rule
     (with_rule
+    (with_rule
     (with_rule (with_rule (with_rule bare_app (word_rule (codes "MODE"))) threads_rule) budget_rule)
     actions_rule)
-    (word_rule (codes "FILE"))
+    (word_rule (codes "FILE")))
+    record_rule
 
 -- `clap` takes the words.
 abbrev pub IsTakenByClap : List Text → Type 0

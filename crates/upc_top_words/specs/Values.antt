@@ -1,6 +1,6 @@
 -- What the words ask for, and when they ask for nothing.
-use Rattle.std.specs.Prelude.{◌≡◌, ◌≤◌, ◌*◌, ◌/◌, ◌-◌, ◌^◌, ℕ, List, Option, Some, None, codes, decimal}
-use Rattle.std.specs.Prelude.{option_and_then, unwrap_or, if◌then◌else◌}
+use Rattle.std.specs.Prelude.{◌≡◌, ◌≤◌, ◌*◌, ◌/◌, ◌-◌, ◌^◌, ℕ, Bool, true, false, List, Option, Some, None, codes}
+use Rattle.std.specs.Prelude.{decimal, is_some, option_and_then, option_map, unwrap_or, if◌then◌else◌}
 use Rattle.std.specs.Str.{bytes_eq}
 use Rattle.std.specs.Str.Parse.{digits_value, without_leading_plus}
 use Rattle.clap.specs.Words.{Row, Text, first_of}
@@ -8,15 +8,17 @@ use Rattle.clap.specs.ValueTests.{is_unsigned_in}
 use Rattle.upc_top_words.specs.Line.{IsTakenByClap, found_in}
 use Rattle.upc_top_words.specs.declared.call.Call.{Call}
 use Rattle.upc_top_words.specs.declared.call.Mode.{Mode}
-use Rattle.upc_top_words.specs.declared.call.Mode.TheVariants.{Run, Record, Check, Layout, Sample}
+use Rattle.upc_top_words.specs.declared.call.Mode.TheVariants.{Run, Record, Check, Layout, Sample, Verify, Races}
 
--- What the words ask for: a mode, the number of threads, the ticks and the items of each thread, and the FILE word.
+-- What the words ask for: a mode, the number of threads, the ticks and the items of each thread, the FILE word, and
+-- the RECORD word, if there is one.
 pub record Asked : Type 0 where
   pub mode : Mode
   pub threads : ℕ
   pub budget : ℕ
   pub actions : ℕ
   pub file : Text
+  pub recording : Option Text
 
 -- What the words ask for, by the call that the program has made of them.
 abbrev pub view_call : Call → Asked
@@ -27,6 +29,7 @@ view_call call =
       budget = call.budget;
       actions = call.actions;
       file = call.file.now;
+      recording = option_map (λ s. s.now) call.recording;
     }
 
 -- The mode that a word names.
@@ -36,7 +39,9 @@ mode_named text =
     else (if bytes_eq text (codes "record") then Some Record
     else (if bytes_eq text (codes "check") then Some Check
     else (if bytes_eq text (codes "layout") then Some Layout
-    else (if bytes_eq text (codes "sample") then Some Sample else None))))
+    else (if bytes_eq text (codes "sample") then Some Sample
+    else (if bytes_eq text (codes "verify") then Some Verify
+    else (if bytes_eq text (codes "races") then Some Races else None))))))
 
 -- The number that a text writes in decimal, where it fits 64 bits; `clap` takes a leading plus and leading zeros.
 abbrev pub number_of : Text → Option ℕ
@@ -55,6 +60,11 @@ mode_in rows = option_and_then mode_named (first_of (codes "MODE") rows)
 abbrev pub share : ℕ → ℕ
 share threads = 4194304 / threads
 
+-- In mode `verify` a record is judged.
+abbrev pub judges : Mode → Bool
+judges Verify = true
+judges mode = false
+
 -- First a value, and then, where there is one, what it leads to.
 infixl 10 ◌>>=◌
 abbrev pub ◌>>=◌ : {A B : Type 0} → Option A → (A → Option B) → Option B
@@ -62,19 +72,26 @@ None >>= f = None
 (Some x) >>= f = f x
 
 -- What these values ask for, where each that has to be there is.
-abbrev pub asked_from : Option Mode → Option ℕ → Option ℕ → Option ℕ → Option Text → Option Asked
-asked_from mode threads budget actions file = do
+abbrev pub asked_from : Option Mode → Option ℕ → Option ℕ → Option ℕ → Option Text → Option Text → Option Asked
+asked_from mode threads budget actions file recording = do
   m ← mode
   t ← threads
   b ← budget
   f ← file
-  Some (record { mode = m; threads = t; budget = b; actions = unwrap_or actions (share t); file = f })
+  Some (record {
+    mode = m;
+    threads = t;
+    budget = b;
+    actions = unwrap_or actions (share t);
+    file = f;
+    recording = recording;
+  })
 
 -- What the values found in the words ask for, where each that has to be there is.
 abbrev pub asked_by : List Row → Option Asked
 asked_by rows =
     asked_from (mode_in rows) (number_in rows (codes "threads")) (number_in rows (codes "budget"))
-    (number_in rows (codes "actions")) (first_of (codes "FILE") rows)
+    (number_in rows (codes "actions")) (first_of (codes "FILE") rows) (first_of (codes "RECORD") rows)
 
 -- The text is the plain decimal text of a number from 1 to 1,000.
 pub record IsSampleNumber (text : Text) : Type 0 where
@@ -83,11 +100,12 @@ pub record IsSampleNumber (text : Text) : Type 0 where
   pub most : stages ≤ 1000
   pub plain : text ≡ decimal stages
 
--- The two conditions of the command's own: all threads together have at most 8,388,608 items, and in mode `sample`
--- the FILE word is a number of stages.
+-- The conditions of the command's own: all threads together have at most 8,388,608 items, in mode `sample` the FILE
+-- word is a number of stages, and the RECORD word is there exactly in mode `verify`.
 pub record IsAllowed (a : Asked) : Type 0 where
   pub items : a.threads * a.actions ≤ 8388608
   pub sample : a.mode ≡ Sample → IsSampleNumber a.file
+  pub recording : is_some a.recording ≡ judges a.mode
 
 -- Each value that is asked for lies in its range.
 pub record IsInRange (a : Asked) : Type 0 where
@@ -98,13 +116,13 @@ pub record IsInRange (a : Asked) : Type 0 where
   pub one_item : 1 ≤ a.actions
   pub items : a.actions ≤ 8388608
 
--- The words ask for this: `clap` takes them, these are their values, and the two conditions hold.
+-- The words ask for this: `clap` takes them, these are their values, and the conditions hold.
 pub record Asks (words : List Text) (a : Asked) : Type 0 where
   pub taken : IsTakenByClap words
   pub values : asked_by (found_in words) ≡ Some a
   pub allowed : IsAllowed a
 
--- Why the words ask for nothing: `clap` refuses them, the MODE word names no mode, or one of the two conditions fails.
+-- Why the words ask for nothing: `clap` refuses them, the MODE word names no mode, or one of the conditions fails.
 pub data AsksNothing (words : List Text) : Type 0 where
   refused_by_clap : (IsTakenByClap words → ⊥) → AsksNothing words
   no_mode : (word : Text) → first_of (codes "MODE") (found_in words) ≡ Some word → mode_named word ≡ None

@@ -18,6 +18,10 @@ pub enum Mode {
     Layout,
     /// Run the sample source with so many stages.
     Sample,
+    /// Judge a record against it.
+    Verify,
+    /// Run it, and write its races.
+    Races,
 }
 
 /// What the words ask for.
@@ -32,6 +36,8 @@ pub struct Call<'a> {
     pub actions: u64,
     /// The FILE word.
     pub file: &'a str,
+    /// The RECORD word, which stands in mode `verify` alone.
+    pub recording: Option<&'a str>,
 }
 
 /// Why the words are no call.

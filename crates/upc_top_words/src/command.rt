@@ -2,7 +2,7 @@
 
 ghost use Rattle.std.specs.Prelude.{◌≡◌, IfOk, false, Some, None, [], ◌∷◌, codes};
 ghost use Rattle.clap.specs.Words.{app_of, rule_of, with_rule};
-ghost use Rattle.upc_top_words.specs.Line.{upc_app, bare_app, word_rule, number_rule};
+ghost use Rattle.upc_top_words.specs.Line.{upc_app, bare_app, word_rule, record_rule, number_rule};
 ghost use Rattle.upc_top_words.specs.Line.{threads_rule, budget_rule, actions_rule};
 
 use clap::builder::ValueParser;
@@ -15,6 +15,14 @@ fn word<'a>(alloc: Global, id: &'a str) -> Arg<'a>
     ensures own { result.global ≡ false }
 {
     Arg::new(alloc, id).required(true).action(ArgAction::Set)
+}
+
+// The word that may stand after all others.
+fn record<'a>(alloc: Global) -> Arg<'a>
+    ensures rule { rule_of result ≡ record_rule }
+    ensures own { result.global ≡ false }
+{
+    Arg::new(alloc, "RECORD").action(ArgAction::Set)
 }
 
 // A number from 1 to `most`.
@@ -66,7 +74,7 @@ fn with<'a>(command: Command<'a>, arg: Arg<'a>) -> Result<Command<'a>, OutOfMemo
     command.arg(arg)
 }
 
-/// `upc MODE -T n [--budget n] [--actions n] FILE`.
+/// `upc MODE -T n [--budget n] [--actions n] FILE [RECORD]`.
 pub(crate) fn command<'a>(alloc: Global) -> Result<Command<'a>, OutOfMemory>
     ensures { IfOk result (λ c. app_of c ≡ upc_app) }
 {
@@ -74,5 +82,6 @@ pub(crate) fn command<'a>(alloc: Global) -> Result<Command<'a>, OutOfMemory>
     let line = with(line, threads(alloc))?;
     let line = with(line, budget(alloc))?;
     let line = with(line, actions(alloc))?;
-    with(line, word(alloc, "FILE"))
+    let line = with(line, word(alloc, "FILE"))?;
+    with(line, record(alloc))
 }

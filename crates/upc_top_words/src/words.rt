@@ -8,7 +8,7 @@ ghost use Rattle.clap.specs.Built.{IsParsedFrom};
 ghost use Rattle.clap.specs.declared.parser.matches.ArgMatches.{ArgMatches};
 ghost use Rattle.upc_top_words.specs.Line.{IsTakenByClap, found_in, upc_app};
 ghost use Rattle.upc_top_words.specs.Values.{Asked, Asks, AsksNothing, IsAllowed, IsInRange, IsSampleNumber};
-ghost use Rattle.upc_top_words.specs.Values.{asked_by, mode_in, mode_named, number_in, number_of, view_call};
+ghost use Rattle.upc_top_words.specs.Values.{asked_by, judges, mode_in, mode_named, number_in, number_of, view_call};
 ghost use Rattle.upc_top_words.specs.code.Given.{IsGiven};
 ghost use Rattle.upc_top_words.specs.declared.call.NoCall.TheVariants.{Usage, Memory};
 
@@ -41,6 +41,12 @@ fn mode_of(word: &str) -> Option<Mode>
     }
     if word == "sample" {
         return Some(Mode::Sample);
+    }
+    if word == "verify" {
+        return Some(Mode::Verify);
+    }
+    if word == "races" {
+        return Some(Mode::Races);
     }
     None
 }
@@ -80,6 +86,16 @@ fn mode_at(matches: &ArgMatches<'_>) -> Option<Mode>
     }
 }
 
+// Whether a record is judged in this mode.
+fn judges_record(mode: Mode) -> bool
+    ensures { result ≡ judges mode }
+{
+    match mode {
+        Mode::Verify => true,
+        _ => false,
+    }
+}
+
 // The values of what was found.
 fn asked<'a>(matches: &ArgMatches<'a>) -> Option<Call<'a>>
     requires { IsGiven (rows_of (found_of matches.now)) }
@@ -96,6 +112,7 @@ fn asked<'a>(matches: &ArgMatches<'a>) -> Option<Call<'a>>
         budget,
         actions,
         file,
+        recording: first(matches, "RECORD"),
     })
 }
 
@@ -120,7 +137,9 @@ fn is_allowed(call: &Call<'_>) -> bool
     ensures { IsTrue result ↔ IsAllowed (view_call call.now) }
 {
     let items = u64::from(call.threads) * call.actions;
-    items <= MOST_ITEMS && (call.mode != Mode::Sample || sample_number(call.file).is_some())
+    items <= MOST_ITEMS
+        && (call.mode != Mode::Sample || sample_number(call.file).is_some())
+        && call.recording.is_some() == judges_record(call.mode)
 }
 
 // What `clap` finds in the words.
@@ -142,9 +161,9 @@ fn parsed<'a>(alloc: Global, words: &'a [String]) -> Result<ArgMatches<'a>, NoCa
     }
 }
 
-/// What the words after the program's name ask for: `clap` takes them as `MODE -T n [--budget n] [--actions n] FILE`,
-/// all threads together may have at most 8,388,608 items, and in mode `sample` FILE is a number from 1 to 1,000 in
-/// plain decimal. `Usage` exactly where the words ask for nothing.
+/// What the words after the program's name ask for: `clap` takes them as `MODE -T n [--budget n] [--actions n] FILE
+/// [RECORD]`, all threads together may have at most 8,388,608 items, in mode `sample` FILE is a number from 1 to 1,000
+/// in plain decimal, and RECORD is there exactly in mode `verify`. `Usage` exactly where the words ask for nothing.
 pub fn read_words<'a>(alloc: Global, words: &'a [String]) -> Result<Call<'a>, NoCall>
     // The words ask for this call.
     ensures asks { IfOk result (λ c. Asks (map string_bytes words.entry.now) (view_call c)) }

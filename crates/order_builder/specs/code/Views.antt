@@ -13,7 +13,7 @@ use Rattle.order_builder.specs.declared.entry.EntryRef.{EntryRef}
 use Rattle.order_builder.specs.declared.entry.KeptCommit.{KeptCommit}
 use Rattle.order_builder.specs.declared.emitted.Emitted.{Emitted}
 use Rattle.order_builder.specs.declared.walk.Walk as program
-use Rattle.order_builder.specs.code.Commits.{named, AreFlat, AreCursors}
+use Rattle.order_builder.specs.layer.Commits.{named, AreFlat, AreCursors}
 
 -- An entry, with the names of the operations in its place.
 pub record Named_commit : Type 0 where

@@ -6,7 +6,7 @@ use Rattle.upc_values.specs.declared.order.Op.{Op}
 use Rattle.upc_values.specs.Operations.{Operation}
 use Rattle.upc_values.specs.Orders.{name_of, strict_list, operations_of}
 use Rattle.race_report.specs.declared.own.OwnOperation.{OwnOperation}
-use Rattle.race_report.specs.layer.Serial.{until_strict, phase}
+use Rattle.race_report.specs.Serial.{until_strict, phase}
 
 -- An operation's name, and whether it is strict.
 abbrev pub own : Operation → OwnOperation

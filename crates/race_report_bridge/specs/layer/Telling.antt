@@ -7,9 +7,9 @@ use Rattle.upc_values.specs.Lists.{Has, Precedes}
 use Rattle.upc_values.specs.Operations.{Operation, Cell}
 use Rattle.upc_values.specs.Orders.{IsOf, placed, global_order}
 use Rattle.upc_values.specs.Consistent.{same_place}
-use Rattle.race_report.specs.layer.Reach.{ComesBefore}
-use Rattle.race_report.specs.layer.Races.{AreRacing}
-use Rattle.race_report.specs.layer.Serial.{IsRun}
+use Rattle.race_report.specs.Reach.{ComesBefore}
+use Rattle.race_report.specs.Races.{AreRacing}
+use Rattle.race_report.specs.Serial.{IsRun}
 use Rattle.race_report_clocks.specs.layer.Clocks.{known, clocks}
 
 -- An operation on a location comes before one of another thread just where its number is below what is known of its

@@ -5,15 +5,15 @@ use Rattle.upc_values.specs.Lists.{Has}
 use Rattle.upc_values.specs.Operations.{Operation, Cell}
 use Rattle.upc_values.specs.Orders.{name_of}
 use Rattle.order_builder.specs.declared.names.Named.{Named}
-use Rattle.order_builder.specs.code.Commits.{named}
+use Rattle.order_builder.specs.layer.Commits.{named}
 use Rattle.race_report_clocks.specs.declared.channel.Channel.TheVariants as over
 use Rattle.race_report_tables.specs.layer.Places.{place_of, member_at, ArePlaced}
 use Rattle.race_report_places.specs.declared.report.Race.{Race}
-use Rattle.race_report_places.specs.code.Sights.{Sight}
-use Rattle.race_report_places.specs.layer.Report.{IsFirstShown, IsQuiet}
+use Rattle.race_report_places.specs.layer.Sights.{Sight}
+use Rattle.race_report_places.specs.Report.{IsFirstShown, IsQuiet}
 use Rattle.race_report_cells.specs.declared.cell.Cell as program
 use Rattle.race_report_cells.specs.declared.cells.Cells.{Cells}
-use Rattle.race_report_cells.specs.layer.Lasts.{IsUpTo}
+use Rattle.race_report_cells.specs.code.Lasts.{IsUpTo}
 use Rattle.race_report_cells.specs.layer.Found.{IsKeyed, races_in}
 
 -- An operation is on a location.

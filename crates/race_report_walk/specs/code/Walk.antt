@@ -9,11 +9,11 @@ use Rattle.upc_values.specs.Lists.{Has}
 use Rattle.upc_values.specs.Orders.{placed}
 use Rattle.upc_values.specs.Consistent.{FollowsBuffers}
 use Rattle.order_builder.specs.declared.names.Named.{Named}
-use Rattle.order_builder.specs.code.Commits.{named, AreCursors}
+use Rattle.order_builder.specs.layer.Commits.{named, AreCursors}
 use Rattle.race_report_clocks.specs.layer.Clocks.{silent}
 use Rattle.race_report_tables.specs.declared.tables.Tables.{Tables}
 use Rattle.race_report_tables.specs.layer.Tables.{AreClocks}
-use Rattle.race_report_places.specs.code.Sights.{Sight, sights_from}
+use Rattle.race_report_places.specs.layer.Sights.{Sight, sights_from}
 use Rattle.race_report_cells.specs.declared.cells.Cells.{Cells}
 use Rattle.race_report_cells.specs.layer.Cells.{IsWalked}
 

@@ -21,7 +21,7 @@ use Rattle.upc_values.specs.declared.record.Item.TheVariants as item
 use Rattle.upc_values.specs.declared.record.End.{End}
 use Rattle.upc_values.specs.declared.record.End.TheVariants as end
 use Rattle.run_recorder_text.specs.Words.{Text}
-use Rattle.run_recorder_parts.specs.layer.Bounds.{most_u8, most_u32, most_u64, most_i32, most_i64, most_i128}
+use Rattle.run_recorder_parts.specs.Bounds.{most_u8, most_u32, most_u64, most_i32, most_i64, most_i128}
 use Rattle.run_recorder_parts.specs.layer.Readers.{bind, Reader, ◌>>=◌, give, field, many, each, tagged}
 use Rattle.run_recorder_parts.specs.layer.Readers.{constant, expect}
 use Rattle.run_recorder_parts.specs.layer.Readers.{whole, strip, begins, number_of, int_of}

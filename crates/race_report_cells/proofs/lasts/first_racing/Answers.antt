@@ -1,7 +1,7 @@
 use Rattle.std.proofs.Common.{◌+◌, Bool, false, get_or, take, slice_index, sym, subst}
 use Rattle.std.proofs.lemmas.List.{take_more}
 use Rattle.order_builder.specs.declared.names.Named.{Named}
-use Rattle.race_report_cells.specs.layer.Lasts.{races_by, chosen, IsFound}
+use Rattle.race_report_cells.specs.code.Lasts.{races_by, chosen, IsFound}
 use Rattle.race_report_cells.proofs.Choosing.{found-more}
 use Rattle.race_report_cells.proofs.lasts.first_racing.Goals as goal
 

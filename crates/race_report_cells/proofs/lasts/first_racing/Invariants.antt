@@ -1,5 +1,5 @@
 use Rattle.std.proofs.Common.{take, slice_index}
-use Rattle.race_report_cells.specs.layer.Lasts.{IsFound, races_by}
+use Rattle.race_report_cells.specs.code.Lasts.{IsFound, races_by}
 use Rattle.race_report_cells.proofs.lasts.first_racing.Given as goal
 
 abbrev pub invariant-loop-last : goal.invariant-loop-last

@@ -1,7 +1,7 @@
 use Rattle.std.proofs.Common.{◌<◌, ◌≤◌, length, get_or, sym, subst, arith}
 use Rattle.std.proofs.lemmas.List.{get_or_read}
 use Rattle.order_builder.specs.declared.names.Named.{Named}
-use Rattle.race_report_cells.specs.layer.Lasts.{IsSameKind, AreNoted}
+use Rattle.race_report_cells.specs.code.Lasts.{IsSameKind, AreNoted}
 use Rattle.race_report_cells.proofs.Noting.{noted-end, noted-set, noted-already}
 use Rattle.race_report_cells.proofs.lasts.note.Goals as goal
 

@@ -8,7 +8,7 @@ use Rattle.race_report_tables.specs.layer.Places.{member_at, ArePlaced}
 use Rattle.race_report_tables.proofs.Keys.{member-set}
 use Rattle.race_report_cells.specs.declared.cell.Cell.{Cell}
 use Rattle.race_report_cells.specs.declared.cells.Cells.{Cells}
-use Rattle.race_report_cells.specs.layer.Lasts.{AreNoted, IsFound, races_by}
+use Rattle.race_report_cells.specs.code.Lasts.{AreNoted, IsFound, races_by}
 use Rattle.race_report_cells.specs.layer.Found.{IsKeyed, races_in, ArePut}
 use Rattle.race_report_cells.specs.layer.Cells.{fresh, cell_at}
 use Rattle.race_report_cells.proofs.Walking.{looked-none, looked-some}

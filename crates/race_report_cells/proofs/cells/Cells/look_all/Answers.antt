@@ -1,8 +1,8 @@
 use Rattle.std.proofs.Common.{◌≡◌, ◌≤◌, ◌++◌, length, take, false, ap, ◌∙◌, subst, arith}
 use Rattle.std.proofs.lemmas.List.{length-map, take_all}
 use Rattle.order_builder.specs.declared.names.Named.{Named}
-use Rattle.order_builder.specs.code.Commits.{named}
-use Rattle.race_report_places.specs.code.Sights.{seen_with}
+use Rattle.order_builder.specs.layer.Commits.{named}
+use Rattle.race_report_places.specs.layer.Sights.{seen_with}
 use Rattle.race_report_cells.specs.layer.Cells.{IsWalked}
 use Rattle.race_report_cells.proofs.Walking.{walked-seen}
 use Rattle.race_report_cells.proofs.cells.Cells.look_all.Goals as goal

@@ -1,9 +1,9 @@
 use Rattle.std.proofs.Common.{◌≡◌, ℕ, ◌++◌, List, map, take, slice_index}
 use Rattle.upc_values.specs.Lists.{Each}
 use Rattle.upc_values.specs.Operations.{Operation}
-use Rattle.order_builder.specs.code.Commits.{named}
+use Rattle.order_builder.specs.layer.Commits.{named}
 use Rattle.race_report_clocks.specs.layer.Clocks.{Clock}
-use Rattle.race_report_places.specs.code.Sights.{Sight, seen_with}
+use Rattle.race_report_places.specs.layer.Sights.{Sight, seen_with}
 use Rattle.race_report_cells.specs.layer.Cells.{IsOn, IsKept, IsWalked}
 use Rattle.race_report_cells.proofs.cells.Cells.look_all.Given as goal
 

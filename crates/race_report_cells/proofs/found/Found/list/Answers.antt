@@ -1,6 +1,6 @@
 use Rattle.std.proofs.Common.{sym, subst}
 use Rattle.upc_values.specs.Lists.{Pairwise}
-use Rattle.race_report_places.specs.layer.Report.{IsBelow}
+use Rattle.race_report_places.specs.Report.{IsBelow}
 use Rattle.race_report_cells.proofs.Keyed.{ascends}
 use Rattle.race_report_cells.proofs.found.Found.list.Goals as goal
 

@@ -1,6 +1,0 @@
-use Rattle.std.proofs.Common.{subst}
-use Rattle.upc_top.specs.Sources.{StopsReading}
-use Rattle.upc_top.proofs.judge.stopped.Goals as goal
-
-pub returns-in-Refused : goal.returns-in-Refused
-returns-in-Refused c a bytes h = subst (StopsReading a.threads bytes) c.in-Refused.is h

@@ -1,0 +1,2 @@
+pub mod Judgments
+pub mod code
