@@ -7,8 +7,8 @@ use Rattle.typed_tree.specs.Programs.{Checked}
 use Rattle.run_recorder.proofs.Answering.{one_run_each}
 use Rattle.upc_verify_judge.specs.declared.verdict.Verdict.{Verdict}
 use Rattle.upc_verify_judge.specs.declared.verdict.Verdict.TheVariants.{Sound, Broken}
-use Rattle.upc_verify_judge.specs.layer.Verdicts as judge
-use Rattle.upc_verify_judge.specs.layer.Verdicts.{Case, Part, number, Breaks}
+use Rattle.upc_verify_judge.specs.Verdicts as judge
+use Rattle.upc_verify_judge.specs.Verdicts.{Case, Part, number, Breaks}
 use Rattle.upc_verify.specs.Verdicts.{IsVerdict, case_of}
 use Rattle.upc_top_judging.specs.declared.judgment.Judgment.{Judgment}
 use Rattle.upc_top_judging.specs.declared.judgment.Judgment.TheVariants.{BadText, OldText, Judged}

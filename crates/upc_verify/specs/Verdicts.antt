@@ -8,8 +8,8 @@ use Rattle.typed_tree.specs.Programs.{Checked}
 use Rattle.source_meaning.specs.Laws.{opening_of}
 use Rattle.source_meaning.specs.Threads.{thread_outcome}
 use Rattle.upc_verify_judge.specs.declared.verdict.Verdict.{Verdict}
-use Rattle.upc_verify_judge.specs.layer.Verdicts as judge
-use Rattle.upc_verify_judge.specs.layer.Verdicts.{Case, AllHold}
+use Rattle.upc_verify_judge.specs.Verdicts as judge
+use Rattle.upc_verify_judge.specs.Verdicts.{Case, AllHold}
 
 -- What is judged: a journal and orders, as a record of this program.
 pub record Judged : Type 0 where

@@ -5,7 +5,7 @@ use Rattle.upc_values.specs.Openings.{Opening}
 use Rattle.upc_values.specs.Formed.{IsWellFormed, AreWellFormedFrom}
 use Rattle.upc_values.proofs.Legality.{legal-at}
 use Rattle.memory_history.specs.layer.Turns.{takes_turn}
-use Rattle.upc_verify_parts.specs.layer.Parts.{HistoryHolds}
+use Rattle.upc_verify_parts.specs.Parts.{HistoryHolds}
 use Rattle.upc_verify_history.specs.layer.Turns.{AreInTurnFrom, AreInTurn}
 use Rattle.upc_verify_history.specs.layer.Lawful.{IsLawful}
 

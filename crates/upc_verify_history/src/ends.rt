@@ -5,7 +5,7 @@ ghost use Rattle.upc_values.specs.Ends.{SharedEnd};
 ghost use Rattle.upc_values.specs.Orders.{record_of};
 ghost use Rattle.upc_values.specs.Outcomes.{wanted};
 ghost use Rattle.upc_values.specs.Strands.{StallsStand};
-ghost use Rattle.upc_verify_parts.specs.layer.Parts.{EndHolds};
+ghost use Rattle.upc_verify_parts.specs.Parts.{EndHolds};
 ghost use Rattle.upc_verify_history.specs.code.Waiting.{MayWaitAt};
 
 use crate::waiting::has_reply;

@@ -3,7 +3,7 @@
 ghost use Rattle.std.specs.Prelude.{◌≡◌, ◌<◌, ◌↔◌, length, IsTrue, IfOk, MatchOption};
 ghost use Rattle.upc_values.specs.Drain.{entries_of};
 ghost use Rattle.upc_values.specs.History.{EachBelow};
-ghost use Rattle.upc_verify_parts.specs.layer.Parts.{Drains, EntriesHold, FailsFirst, HoldsOfEach};
+ghost use Rattle.upc_verify_parts.specs.Parts.{Drains, EntriesHold, FailsFirst, HoldsOfEach};
 
 use order_builder::drain;
 use std::alloc::Global;

@@ -3,7 +3,7 @@
 ghost use Rattle.std.specs.Prelude.{◌≡◌, ◌<◌, ◌↔◌, [], ◌∷◌, ◌++◌, true, IsTrue, IfOk};
 ghost use Rattle.upc_values.specs.History.{EachBelow};
 ghost use Rattle.memory_history.specs.layer.Turns.{takes_turn};
-ghost use Rattle.upc_verify_parts.specs.layer.Parts.{HistoryHolds};
+ghost use Rattle.upc_verify_parts.specs.Parts.{HistoryHolds};
 ghost use Rattle.upc_verify_history.specs.layer.Turns.{AreInTurn};
 ghost use Rattle.upc_verify_history.specs.layer.Lawful.{IsLawful};
 

@@ -5,10 +5,10 @@ use Rattle.upc_values.specs.declared.order.Orders.{Orders}
 use Rattle.upc_values.specs.Openings.{Opening}
 use Rattle.upc_values.specs.Outcomes.{Outcome, wanted}
 use Rattle.upc_values.specs.Strands.{Conforms}
-use Rattle.upc_verify_parts.specs.layer.Parts.{strand_of, StallsHold, EndHolds}
+use Rattle.upc_verify_parts.specs.Parts.{strand_of, StallsHold, EndHolds}
 use Rattle.upc_verify_judge.specs.declared.verdict.Verdict.{Verdict}
 use Rattle.upc_verify_judge.specs.declared.verdict.Verdict.TheVariants.{Sound, Broken}
-use Rattle.upc_verify_judge.specs.layer.Verdicts.{Case, Part, shape, strands, entries, history, stalls, ends, orders, Holds, IsVerdict}
+use Rattle.upc_verify_judge.specs.Verdicts.{Case, Part, shape, strands, entries, history, stalls, ends, orders, Holds, IsVerdict}
 
 module _ (o : Opening) (j : Journal) (given : Orders) where
   abbrev pub case_by : (ℕ → Outcome) → Case

@@ -11,12 +11,12 @@ use Rattle.upc_values.specs.Outcomes.{Outcome, wanted}
 use Rattle.upc_values.specs.Strands.{Conforms, StallsStand}
 use Rattle.upc_values.specs.Consistent.{begins}
 use Rattle.thread_steps.specs.layer.Fronts.{IsInTurn}
-use Rattle.upc_verify_parts.specs.layer.Parts.{strand_of, HasShape, Drains, HistoryHolds, FailsFirst, HoldsOfEach}
+use Rattle.upc_verify_parts.specs.Parts.{strand_of, HasShape, Drains, HistoryHolds, FailsFirst, HoldsOfEach}
 use Rattle.upc_verify_history.specs.layer.Turns.{AreInTurn}
-use Rattle.upc_verify_orders.specs.layer.Given.{OrderHolds, OrdersHold, OrderBreaks}
+use Rattle.upc_verify_orders.specs.Given.{OrderHolds, OrdersHold, OrderBreaks}
 use Rattle.upc_verify_judge.specs.declared.meant.Meant.{Meant}
 use Rattle.upc_verify_judge.specs.layer.Meanings.{outcome_in}
-use Rattle.upc_verify_judge.specs.layer.Verdicts.{Case, Part, shape, strands, entries, history, stalls, ends, orders, number, Holds, AllHold, Breaks}
+use Rattle.upc_verify_judge.specs.Verdicts.{Case, Part, shape, strands, entries, history, stalls, ends, orders, number, Holds, AllHold, Breaks}
 use Rattle.upc_verify_judge.specs.code.Judging.{case_in, HoldBelow, AreJudged}
 use Rattle.upc_verify_judge.proofs.Turns.{acts, drain-in_turn, turns-all}
 

@@ -9,8 +9,8 @@ use Rattle.upc_values.specs.Openings.{Opening}
 use Rattle.upc_values.specs.Orders.{record_of}
 use Rattle.upc_values.specs.Outcomes.{wanted}
 use Rattle.upc_values.specs.Strands.{StallsStand}
-use Rattle.upc_verify_parts.specs.layer.Parts.{StallsHold, FailsFirst, HoldsOfEach}
-use Rattle.upc_verify_stalls.specs.code.Wants.{want_of}
+use Rattle.upc_verify_parts.specs.Parts.{StallsHold, FailsFirst, HoldsOfEach}
+use Rattle.upc_verify_stalls.specs.layer.Wants.{want_of}
 use Rattle.upc_verify_judge.specs.declared.meant.Meant.{Meant}
 use Rattle.upc_verify_judge.specs.layer.Meanings.{none_meant, outcome_in}
 

@@ -4,7 +4,7 @@ ghost use Rattle.std.specs.Prelude.{◌≡◌, length, MatchOption};
 ghost use Rattle.upc_values.specs.Outcomes.{wanted};
 ghost use Rattle.upc_values.specs.Orders.{record_of};
 ghost use Rattle.upc_values.specs.Strands.{StallsStand};
-ghost use Rattle.upc_verify_parts.specs.layer.Parts.{EndHolds, FailsFirst, HoldsOfEach};
+ghost use Rattle.upc_verify_parts.specs.Parts.{EndHolds, FailsFirst, HoldsOfEach};
 ghost use Rattle.upc_verify_judge.specs.layer.Meanings.{outcome_in};
 
 use crate::meant::Meant;

@@ -3,10 +3,10 @@
 ghost use Rattle.std.specs.Prelude.{◌≡◌, ◌<◌, ℕ, [], length, IfOk};
 ghost use Rattle.upc_values.specs.Outcomes.{Outcome};
 ghost use Rattle.thread_steps.specs.layer.Fronts.{IsInTurn};
-ghost use Rattle.upc_verify_parts.specs.layer.Parts.{HasShape, HoldsOfEach};
+ghost use Rattle.upc_verify_parts.specs.Parts.{HasShape, HoldsOfEach};
 ghost use Rattle.upc_verify_history.specs.layer.Turns.{AreInTurn};
 ghost use Rattle.upc_verify_judge.specs.layer.Meanings.{outcome_in};
-ghost use Rattle.upc_verify_judge.specs.layer.Verdicts.{IsVerdict, PartsAreASoundRun};
+ghost use Rattle.upc_verify_judge.specs.Verdicts.{IsVerdict, PartsAreASoundRun};
 ghost use Rattle.upc_verify_judge.specs.code.Judging.{case_in, AreJudged, HoldBelow};
 
 use crate::ends::broken_ends;

@@ -2,9 +2,9 @@
 
 ghost use Rattle.std.specs.Prelude.{◌≡◌, ◌<◌, length, IfOk, MatchOption};
 ghost use Rattle.upc_values.specs.Consistent.{begins, initial_at};
-ghost use Rattle.upc_verify_orders.specs.layer.Given.{OrdersHold, OrderBreaks};
-ghost use Rattle.upc_verify_orders.specs.code.Numbers.{firsts_in};
-ghost use Rattle.upc_verify_orders.specs.code.Parts.{place_of};
+ghost use Rattle.upc_verify_orders.specs.Given.{OrdersHold, OrderBreaks};
+ghost use Rattle.upc_verify_orders.specs.layer.Numbers.{firsts_in};
+ghost use Rattle.upc_verify_orders.specs.layer.Parts.{place_of};
 
 use memory_history::World;
 use std::alloc::Global;

@@ -2,7 +2,7 @@
 
 ghost use Rattle.std.specs.Prelude.{◌≡◌, length, MatchOption};
 ghost use Rattle.upc_values.specs.Strands.{Conforms};
-ghost use Rattle.upc_verify_parts.specs.layer.Parts.{strand_of, FailsFirst, HoldsOfEach};
+ghost use Rattle.upc_verify_parts.specs.Parts.{strand_of, FailsFirst, HoldsOfEach};
 ghost use Rattle.upc_verify_judge.specs.layer.Meanings.{outcome_in};
 
 use crate::meant::Meant;

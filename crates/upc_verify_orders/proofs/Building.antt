@@ -8,7 +8,7 @@ use Rattle.upc_values.specs.Orders.{rank, name_of}
 use Rattle.upc_verify_orders.specs.declared.program.Mark.{Mark}
 use Rattle.upc_verify_orders.specs.declared.values.Access.{Access}
 use Rattle.upc_verify_orders.specs.code.Found.{AreFound, taken, nothing}
-use Rattle.upc_verify_orders.specs.code.Numbers.{number_in, marks_by}
+use Rattle.upc_verify_orders.specs.layer.Numbers.{number_in, marks_by}
 use Rattle.upc_verify_orders.specs.code.Tables.{op_rank}
 use Rattle.upc_verify_orders.specs.code.Values.{access_by}
 use Rattle.upc_verify_orders.proofs.Taken.{found-many}

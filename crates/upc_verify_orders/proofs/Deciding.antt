@@ -13,8 +13,8 @@ use Rattle.upc_values.specs.Orders.{IsOf, rank, name_of, is_shown}
 use Rattle.upc_values.specs.Consistent.{IsOrderOf, ReadsLast, KeepsProgram}
 use Rattle.upc_values.proofs.Membership.{each-from, pairs-at, pairs-from, precedes-has, precedes-total}
 use Rattle.upc_values.proofs.Consistency.{or_turn}
-use Rattle.upc_verify_orders.specs.layer.Strict.{StrictBy, As_listed, As_written, Through}
-use Rattle.upc_verify_orders.specs.layer.Given.{GivenStrict, GivenOrder, OrderHolds, OrdersHold, OrderBreaks, AreConsistentOrders, OrdersAreConsistent, names_at}
+use Rattle.upc_verify_orders.specs.Strict.{StrictBy, As_listed, As_written, Through}
+use Rattle.upc_verify_orders.specs.Given.{GivenStrict, GivenOrder, OrderHolds, OrdersHold, OrderBreaks, AreConsistentOrders, OrdersAreConsistent, names_at}
 use Rattle.upc_verify_orders.specs.code.Below.{operations_below}
 use Rattle.upc_verify_orders.specs.code.Found.{taken}
 use Rattle.upc_verify_orders.specs.code.Orders.{IsStrictFound, IsOrderFound, FirstBroken}

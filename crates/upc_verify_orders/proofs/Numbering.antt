@@ -14,7 +14,7 @@ use Rattle.upc_values.specs.Consistent.{same_place, initial_at, ReadsLast, Keeps
 use Rattle.upc_values.proofs.Sameness.{same_loc-true, same_loc-itself}
 use Rattle.upc_values.proofs.Membership.{each-has, pairs-at, pairs-from, precedes-has, precedes-filter, filter-precedes, filter-has}
 use Rattle.upc_verify_orders.specs.code.Found.{nothing}
-use Rattle.upc_verify_orders.specs.code.Numbers.{first_at, number_in, numbers_in, firsts_in, mark_by, marks_by}
+use Rattle.upc_verify_orders.specs.layer.Numbers.{first_at, number_in, numbers_in, firsts_in, mark_by, marks_by}
 use Rattle.upc_verify_orders.specs.code.Program.{conflict, InOrder}
 use Rattle.upc_verify_orders.specs.code.Values.{ReadsHeld, access_by}
 use Rattle.upc_verify_orders.proofs.Held.{Numbers, held-reads}

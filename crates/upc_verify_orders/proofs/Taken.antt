@@ -10,7 +10,7 @@ use Rattle.upc_values.specs.Consistent.{IsOrderOf}
 use Rattle.upc_values.proofs.Lists.{each-push, each-at}
 use Rattle.upc_values.proofs.Membership.{each-has, each-from}
 use Rattle.upc_verify_orders.specs.declared.part.Part.{Part}
-use Rattle.upc_verify_orders.specs.code.Parts.{is_in, IsPartOf}
+use Rattle.upc_verify_orders.specs.layer.Parts.{is_in, IsPartOf}
 use Rattle.upc_verify_orders.specs.code.Found.{IsBefore, AreSorted, AreWithin, AreFound, AreApart, IsMarked, HasNoOrder, taken, nothing}
 use Rattle.upc_verify_orders.proofs.Sorted.{before-not, pairs-get, one-name, one-number}
 

@@ -1,2 +1,4 @@
+pub mod Given
+pub mod Strict
 pub mod layer
 pub mod code

@@ -3,8 +3,6 @@ pub mod Tables
 pub mod Program
 pub mod Values
 pub mod Below
-pub mod Parts
 pub mod Found
-pub mod Numbers
 pub mod Keys
 pub mod Orders

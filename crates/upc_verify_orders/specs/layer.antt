@@ -1,2 +1,2 @@
-pub mod Strict
-pub mod Given
+pub mod Numbers
+pub mod Parts

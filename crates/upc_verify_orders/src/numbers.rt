@@ -3,8 +3,8 @@
 ghost use Rattle.std.specs.Prelude.{◌≡◌, cond, Some, OnOk, IfOk, unwrap_or};
 ghost use Rattle.upc_values.specs.Operations as said;
 ghost use Rattle.upc_values.specs.Consistent.{same_place};
-ghost use Rattle.upc_verify_orders.specs.code.Parts.{place_of};
-ghost use Rattle.upc_verify_orders.specs.code.Numbers.{numbers_in};
+ghost use Rattle.upc_verify_orders.specs.layer.Parts.{place_of};
+ghost use Rattle.upc_verify_orders.specs.layer.Numbers.{numbers_in};
 ghost use Rattle.upc_verify_orders.specs.code.Keys.{looked};
 ghost use Rattle.upc_verify_orders.specs.code.Keys as keys;
 

@@ -5,7 +5,7 @@ ghost use Rattle.upc_values.specs.Operations as operations;
 ghost use Rattle.upc_values.specs.Orders.{name_of};
 ghost use Rattle.upc_values.specs.Orders as orders;
 ghost use Rattle.upc_verify_orders.specs.code.Found.{IsBefore};
-ghost use Rattle.upc_verify_orders.specs.code.Parts.{place_of};
+ghost use Rattle.upc_verify_orders.specs.layer.Parts.{place_of};
 
 use crate::place::Place;
 use std::marker::Model;
@@ -24,7 +24,7 @@ pub struct Operation {
 
 impl Model for Operation {
     ghost use Rattle.upc_values.specs.Operations as operations;
-    ghost use Rattle.upc_verify_orders.specs.code.Parts.{place_of};
+    ghost use Rattle.upc_verify_orders.specs.layer.Parts.{place_of};
 
     ghost Value = { operations.Operation };
 

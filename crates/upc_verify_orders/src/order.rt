@@ -2,7 +2,7 @@
 
 ghost use Rattle.std.specs.Prelude.{◌≡◌, ◌<◌, ◌↔◌, ℕ, IsTrue, IfOk, MatchOption, true, false, length, slice_index_or};
 ghost use Rattle.upc_values.specs.Lists.{Each};
-ghost use Rattle.upc_verify_orders.specs.code.Parts as parts;
+ghost use Rattle.upc_verify_orders.specs.layer.Parts as parts;
 ghost use Rattle.upc_verify_orders.specs.code.Found.{AreSorted, AreWithin, AreApart, nothing};
 ghost use Rattle.upc_verify_orders.specs.code.Found.{IsPartFound, HasNoOrder, IsMarked};
 

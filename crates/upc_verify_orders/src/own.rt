@@ -4,7 +4,7 @@ ghost use Rattle.std.specs.Prelude.{◌≡◌, ◌↔◌, IsTrue, IfOk, length};
 ghost use Rattle.upc_values.specs.Lists.{Each, Pairwise};
 ghost use Rattle.upc_values.specs.Consistent.{KeepsProgram};
 ghost use Rattle.upc_verify_orders.specs.code.Found.{AreFound, taken};
-ghost use Rattle.upc_verify_orders.specs.code.Numbers.{number_in, numbers_in, marks_by};
+ghost use Rattle.upc_verify_orders.specs.layer.Numbers.{number_in, numbers_in, marks_by};
 ghost use Rattle.upc_verify_orders.specs.code.Program.{IsMark};
 
 use crate::operation::Operation;

@@ -1,7 +1,7 @@
 //! Which operations an order is of.
 
 ghost use Rattle.std.specs.Prelude.{◌≡◌};
-ghost use Rattle.upc_verify_orders.specs.code.Parts as parts;
+ghost use Rattle.upc_verify_orders.specs.layer.Parts as parts;
 
 use crate::operation::Operation;
 

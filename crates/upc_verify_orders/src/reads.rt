@@ -5,7 +5,7 @@ ghost use Rattle.block_layout.specs.declared.place.Loc.{Loc};
 ghost use Rattle.upc_values.specs.declared.scalar.Scalar.{Scalar};
 ghost use Rattle.upc_values.specs.Consistent.{ReadsLast};
 ghost use Rattle.upc_verify_orders.specs.code.Found.{AreWithin, taken};
-ghost use Rattle.upc_verify_orders.specs.code.Numbers.{number_in, numbers_in, firsts_in};
+ghost use Rattle.upc_verify_orders.specs.layer.Numbers.{number_in, numbers_in, firsts_in};
 ghost use Rattle.upc_verify_orders.specs.code.Values.{access_by};
 
 use crate::operation::Operation;

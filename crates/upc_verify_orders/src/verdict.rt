@@ -4,9 +4,9 @@ ghost use Rattle.std.specs.Prelude.{◌≡◌, ◌<◌, ℕ, [], IfOk, MatchOpti
 ghost use Rattle.block_layout.specs.declared.place.Loc.{Loc};
 ghost use Rattle.upc_values.specs.declared.scalar.Scalar.{Scalar};
 ghost use Rattle.upc_values.specs.Lists.{Each, Pairwise};
-ghost use Rattle.upc_verify_orders.specs.layer.Given.{OrdersHold, OrderBreaks, OrdersAreConsistent};
+ghost use Rattle.upc_verify_orders.specs.Given.{OrdersHold, OrderBreaks, OrdersAreConsistent};
 ghost use Rattle.upc_verify_orders.specs.code.Below.{operations_below};
-ghost use Rattle.upc_verify_orders.specs.code.Numbers.{AreKnown, firsts_in};
+ghost use Rattle.upc_verify_orders.specs.layer.Numbers.{AreKnown, firsts_in};
 ghost use Rattle.upc_verify_orders.specs.code.Orders.{IsOrderFound, FirstBroken};
 ghost use Rattle.upc_verify_orders.specs.code.Tables as said;
 ghost use Rattle.upc_verify_orders.specs.code.Tables.{InThread};

@@ -1,7 +1,7 @@
 //! Whether a journal and its orders are of so many threads.
 
 ghost use Rattle.std.specs.Prelude.{◌↔◌, IsTrue};
-ghost use Rattle.upc_verify_parts.specs.layer.Parts.{HasShape};
+ghost use Rattle.upc_verify_parts.specs.Parts.{HasShape};
 
 use upc_values::{Journal, Orders};
 

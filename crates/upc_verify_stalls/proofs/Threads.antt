@@ -9,12 +9,12 @@ use Rattle.upc_values.specs.Lists.{Each}
 use Rattle.upc_values.specs.Openings.{Opening}
 use Rattle.upc_values.specs.Orders.{record_of}
 use Rattle.upc_values.specs.Strands.{StallsStand}
-use Rattle.upc_verify_parts.specs.layer.Parts.{StallsHold, FailsFirst, HoldsOfEach}
+use Rattle.upc_verify_parts.specs.Parts.{StallsHold, FailsFirst, HoldsOfEach}
 use Rattle.upc_verify_stalls.specs.declared.points.Point.{Point}
 use Rattle.upc_verify_stalls.specs.declared.walk.Watch.{Watch}
 use Rattle.upc_verify_stalls.specs.code.Points.{waiting_of, waitings, WaitsOnce}
 use Rattle.upc_verify_stalls.specs.code.Watches.{AreDue, AreLooked, IsDone, StallsWait}
-use Rattle.upc_verify_stalls.specs.code.Wants.{want_of, ArePointsOf}
+use Rattle.upc_verify_stalls.specs.layer.Wants.{want_of, ArePointsOf}
 use Rattle.upc_verify_stalls.proofs.Pointing.{points-are, justified-each}
 use Rattle.upc_verify_stalls.proofs.Watching.{due-none, looked-all, looked-open}
 

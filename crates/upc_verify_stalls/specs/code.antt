@@ -1,4 +1,3 @@
 pub mod Points
 pub mod Searches
 pub mod Watches
-pub mod Wants

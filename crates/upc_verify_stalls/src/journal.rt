@@ -4,11 +4,11 @@ ghost use Rattle.std.specs.Prelude.{◌≡◌, ◌<◌, [], length, map, option_
 ghost use Rattle.upc_values.specs.History.{EachBelow};
 ghost use Rattle.upc_values.specs.Orders.{record_of};
 ghost use Rattle.upc_values.specs.Strands.{StallsStand};
-ghost use Rattle.upc_verify_parts.specs.layer.Parts.{Drains, HistoryHolds, StallsHold, FailsFirst, HoldsOfEach};
+ghost use Rattle.upc_verify_parts.specs.Parts.{Drains, HistoryHolds, StallsHold, FailsFirst, HoldsOfEach};
 ghost use Rattle.upc_verify_history.specs.layer.Turns.{AreInTurn};
 ghost use Rattle.upc_verify_stalls.specs.code.Points.{waiting_of, waitings};
 ghost use Rattle.upc_verify_stalls.specs.code.Watches.{AreDue, StallsWait};
-ghost use Rattle.upc_verify_stalls.specs.code.Wants.{want_of, ArePointsOf};
+ghost use Rattle.upc_verify_stalls.specs.layer.Wants.{want_of, ArePointsOf};
 
 use crate::points::{Point, points_of};
 use crate::walk::{Watch, first_unjustified, look_all, walk};

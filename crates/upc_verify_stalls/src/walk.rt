@@ -6,7 +6,7 @@ ghost use Rattle.upc_values.specs.Openings.{Opening};
 ghost use Rattle.upc_values.specs.History.{reply, EachBelow};
 ghost use Rattle.upc_values.specs.Strands.{may_wait};
 ghost use Rattle.memory_history.specs.layer.Turns.{takes_turn};
-ghost use Rattle.upc_verify_parts.specs.layer.Parts.{FailsFirst, HistoryHolds, HoldsOfEach};
+ghost use Rattle.upc_verify_parts.specs.Parts.{FailsFirst, HistoryHolds, HoldsOfEach};
 ghost use Rattle.upc_verify_history.specs.layer.Lawful.{IsLawful};
 ghost use Rattle.upc_verify_history.specs.layer.Turns.{AreInTurn};
 ghost use Rattle.upc_verify_stalls.specs.declared.points.Point.{Point};

@@ -4,10 +4,10 @@ use Rattle.upc_values.specs.declared.journal.Journal.{Journal}
 use Rattle.upc_values.specs.declared.order.Orders.{Orders}
 use Rattle.upc_values.specs.Openings.{Opening}
 use Rattle.thread_steps.specs.layer.Fronts.{IsInTurn}
-use Rattle.upc_verify_parts.specs.layer.Parts.{HasShape, HoldsOfEach}
+use Rattle.upc_verify_parts.specs.Parts.{HasShape, HoldsOfEach}
 use Rattle.upc_verify_judge.specs.declared.meant.Meant.{Meant}
 use Rattle.upc_verify_judge.specs.layer.Meanings.{outcome_in}
-use Rattle.upc_verify_judge.specs.layer.Verdicts.{Case, Part, number, Holds}
+use Rattle.upc_verify_judge.specs.Verdicts.{Case, Part, number, Holds}
 
 -- What is judged, by what the sources come to as the program has it.
 abbrev pub case_in : Opening → Journal → Orders → List Meant → Case

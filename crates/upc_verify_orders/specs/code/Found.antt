@@ -8,7 +8,7 @@ use Rattle.upc_values.specs.Orders.{rank, name_of}
 use Rattle.upc_values.specs.Consistent.{IsOrderOf}
 use Rattle.upc_verify_orders.specs.code.Tables.{op_rank}
 use Rattle.upc_verify_orders.specs.declared.part.Part.{Part}
-use Rattle.upc_verify_orders.specs.code.Parts.{IsPartOf}
+use Rattle.upc_verify_orders.specs.layer.Parts.{IsPartOf}
 
 -- An operation stands before the one with this name, where threads stand one after another.
 abbrev pub IsBefore : Operation → Op → Type 0

@@ -11,10 +11,10 @@ use Rattle.typed_tree.specs.declared.program.Program.{Program}
 use Rattle.source_meaning.specs.Laws.{opening_of}
 use Rattle.upc_rounds.specs.layer.Openings as rounds
 use Rattle.upc_rounds.proofs.Begun.{same_opening}
-use Rattle.upc_verify_parts.specs.layer.Parts.{HasShape, HoldsOfEach}
+use Rattle.upc_verify_parts.specs.Parts.{HasShape, HoldsOfEach}
 use Rattle.upc_verify_judge.specs.layer.Meanings.{outcome_in}
-use Rattle.upc_verify_judge.specs.layer.Verdicts.{shape}
-use Rattle.upc_verify_judge.specs.layer.Verdicts as judge
+use Rattle.upc_verify_judge.specs.Verdicts.{shape}
+use Rattle.upc_verify_judge.specs.Verdicts as judge
 use Rattle.upc_verify_judge.proofs.Judging.{misshapen}
 use Rattle.upc_verify_judge.proofs.Cases.{case_by, verdict-by}
 use Rattle.upc_verify.specs.Verdicts.{meaning, case_of}

@@ -1,5 +1,5 @@
 use Rattle.std.proofs.Common.{ℕ, ◌<◌}
-use Rattle.upc_verify_parts.specs.layer.Parts.{Drains}
+use Rattle.upc_verify_parts.specs.Parts.{Drains}
 use Rattle.upc_verify_history.proofs.entries.broken_entries.Given as goal
 
 -- the records of the threads so far emit their entries

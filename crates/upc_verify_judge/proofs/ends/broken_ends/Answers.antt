@@ -3,7 +3,7 @@ use Rattle.std.proofs.lemmas.Bool.{false≢true}
 use Rattle.upc_values.specs.Outcomes.{wanted}
 use Rattle.upc_values.specs.Orders.{record_of}
 use Rattle.upc_values.specs.Strands.{StallsStand}
-use Rattle.upc_verify_parts.specs.layer.Parts.{EndHolds}
+use Rattle.upc_verify_parts.specs.Parts.{EndHolds}
 use Rattle.upc_verify_judge.specs.declared.meant.Meant.{Meant}
 use Rattle.upc_verify_judge.specs.layer.Meanings.{outcome_in}
 use Rattle.upc_verify_judge.proofs.Meanings.{member-at}

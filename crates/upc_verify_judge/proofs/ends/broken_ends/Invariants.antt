@@ -1,5 +1,5 @@
 use Rattle.std.proofs.Common.{ℕ, ◌<◌}
-use Rattle.upc_verify_parts.specs.layer.Parts.{EndHolds}
+use Rattle.upc_verify_parts.specs.Parts.{EndHolds}
 use Rattle.upc_verify_judge.specs.layer.Meanings.{outcome_in}
 use Rattle.upc_verify_judge.proofs.ends.broken_ends.Given as goal
 

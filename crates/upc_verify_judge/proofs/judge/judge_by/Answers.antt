@@ -1,8 +1,8 @@
 use Rattle.std.proofs.Common.{refl, sym, ◌∙◌}
 use Rattle.upc_values.specs.Strands.{Conforms}
-use Rattle.upc_verify_parts.specs.layer.Parts.{strand_of}
+use Rattle.upc_verify_parts.specs.Parts.{strand_of}
 use Rattle.upc_verify_judge.specs.layer.Meanings.{outcome_in}
-use Rattle.upc_verify_judge.specs.layer.Verdicts.{strands}
+use Rattle.upc_verify_judge.specs.Verdicts.{strands}
 use Rattle.upc_verify_judge.specs.code.Judging.{case_in}
 use Rattle.upc_verify_judge.proofs.Judging.{shaped, passed, stopped, sized}
 use Rattle.upc_verify_judge.proofs.judge.judge_by.Goals as goal

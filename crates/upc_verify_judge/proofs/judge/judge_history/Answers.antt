@@ -1,8 +1,8 @@
 use Rattle.std.proofs.Common.{refl, sym, subst, ◌∙◌, arith}
 use Rattle.std.proofs.lemmas.Bool.{false≢true}
 use Rattle.upc_values.specs.Openings.{Opening}
-use Rattle.upc_verify_judge.specs.layer.Verdicts.{history}
-use Rattle.upc_verify_judge.specs.layer.Verdicts as verdicts
+use Rattle.upc_verify_judge.specs.Verdicts.{history}
+use Rattle.upc_verify_judge.specs.Verdicts as verdicts
 use Rattle.upc_verify_judge.specs.code.Judging.{case_in, AreJudged}
 use Rattle.upc_verify_judge.proofs.Judging.{lawful, unlawful, judged-more, in-turn, each-below}
 use Rattle.upc_verify_judge.proofs.judge.judge_history.Goals as goal

@@ -1,6 +1,6 @@
 use Rattle.std.proofs.Common.{◌≡◌, take}
 use Rattle.upc_values.specs.Consistent.{begins}
-use Rattle.upc_verify_orders.specs.code.Numbers.{firsts_in}
+use Rattle.upc_verify_orders.specs.layer.Numbers.{firsts_in}
 use Rattle.upc_verify_judge.proofs.orders.firsts_of.Given as goal
 
 -- what the places of those so far begin with

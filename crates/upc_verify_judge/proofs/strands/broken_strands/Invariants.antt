@@ -1,6 +1,6 @@
 use Rattle.std.proofs.Common.{ℕ, ◌<◌}
 use Rattle.upc_values.specs.Strands.{Conforms}
-use Rattle.upc_verify_parts.specs.layer.Parts.{strand_of}
+use Rattle.upc_verify_parts.specs.Parts.{strand_of}
 use Rattle.upc_verify_judge.specs.layer.Meanings.{outcome_in}
 use Rattle.upc_verify_judge.proofs.strands.broken_strands.Given as goal
 

@@ -3,7 +3,7 @@ use Rattle.std.proofs.lemmas.List.{get_or_default}
 use Rattle.std.specs.Option.{unwrap_or}
 use Rattle.upc_values.specs.Operations.{Operation, Place}
 use Rattle.upc_values.specs.Consistent.{same_place}
-use Rattle.upc_verify_orders.specs.code.Parts.{place_of}
+use Rattle.upc_verify_orders.specs.layer.Parts.{place_of}
 use Rattle.upc_verify_orders.specs.code.Found.{nothing}
 use Rattle.upc_verify_orders.specs.code.Keys.{looked}
 use Rattle.upc_verify_orders.proofs.Numbering.{kept-next, numbers-next}

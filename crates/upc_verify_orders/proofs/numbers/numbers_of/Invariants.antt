@@ -1,7 +1,7 @@
 use Rattle.std.proofs.Common.{◌≡◌, map, take}
 use Rattle.upc_values.specs.Operations.{Place}
 use Rattle.upc_verify_orders.specs.code.Keys.{looked}
-use Rattle.upc_verify_orders.specs.code.Numbers.{first_at, number_in}
+use Rattle.upc_verify_orders.specs.layer.Numbers.{first_at, number_in}
 use Rattle.upc_verify_orders.proofs.numbers.numbers_of.Given as goal
 
 abbrev pub invariant-loop-i : goal.invariant-loop-i

@@ -1,5 +1,5 @@
 use Rattle.std.proofs.Common.{◌≡◌, ◌<◌, ℕ, get_or, true, false}
-use Rattle.upc_verify_orders.specs.code.Parts.{is_in}
+use Rattle.upc_verify_orders.specs.layer.Parts.{is_in}
 use Rattle.upc_verify_orders.specs.code.Found.{nothing}
 use Rattle.upc_verify_orders.proofs.order.has_all.Given as goal
 

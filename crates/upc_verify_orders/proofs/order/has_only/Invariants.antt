@@ -1,6 +1,6 @@
 use Rattle.std.proofs.Common.{◌≡◌, ◌↔◌, drop, get_or, true}
 use Rattle.upc_values.specs.Lists.{Each}
-use Rattle.upc_verify_orders.specs.code.Parts.{is_in}
+use Rattle.upc_verify_orders.specs.layer.Parts.{is_in}
 use Rattle.upc_verify_orders.specs.code.Found.{nothing}
 use Rattle.upc_verify_orders.proofs.order.has_only.Given as goal
 

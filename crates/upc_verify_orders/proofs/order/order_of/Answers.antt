@@ -4,7 +4,7 @@ use Rattle.upc_values.specs.Lists.{Each, Has}
 use Rattle.upc_values.specs.Operations.{Operation}
 use Rattle.upc_values.specs.Orders.{name_of}
 use Rattle.upc_values.specs.Consistent.{IsOrderOf}
-use Rattle.upc_verify_orders.specs.code.Parts.{IsPartOf}
+use Rattle.upc_verify_orders.specs.layer.Parts.{IsPartOf}
 use Rattle.upc_verify_orders.specs.code.Found.{AreFound, AreApart, IsMarked, taken}
 use Rattle.upc_verify_orders.proofs.Taken.{none-found, none-twice, none-other, none-missing, whole-from}
 use Rattle.upc_verify_orders.proofs.order.order_of.Goals as goal

@@ -1,7 +1,7 @@
 use Rattle.std.proofs.Common.{◌≡◌, length, take}
 use Rattle.upc_values.specs.Lists.{Each}
 use Rattle.upc_verify_orders.specs.code.Found.{taken}
-use Rattle.upc_verify_orders.specs.code.Numbers.{number_in, marks_by}
+use Rattle.upc_verify_orders.specs.layer.Numbers.{number_in, marks_by}
 use Rattle.upc_verify_orders.specs.code.Program.{IsMark}
 use Rattle.upc_verify_orders.proofs.own.marks_of.Given as goal
 

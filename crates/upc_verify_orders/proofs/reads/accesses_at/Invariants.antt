@@ -1,6 +1,6 @@
 use Rattle.std.proofs.Common.{◌≡◌, map, take}
 use Rattle.upc_verify_orders.specs.code.Found.{taken}
-use Rattle.upc_verify_orders.specs.code.Numbers.{number_in}
+use Rattle.upc_verify_orders.specs.layer.Numbers.{number_in}
 use Rattle.upc_verify_orders.specs.code.Values.{access_by}
 use Rattle.upc_verify_orders.proofs.reads.accesses_at.Given as goal
 

@@ -2,7 +2,7 @@ use Rattle.std.proofs.Common.{◌≡◌, ◌<◌, ℕ, rules, List, length, map,
 use Rattle.upc_values.specs.Lists.{Each}
 use Rattle.upc_verify_orders.specs.declared.values.Access.{Access}
 use Rattle.upc_verify_orders.specs.code.Found.{taken}
-use Rattle.upc_verify_orders.specs.code.Numbers.{number_in}
+use Rattle.upc_verify_orders.specs.layer.Numbers.{number_in}
 use Rattle.upc_verify_orders.specs.code.Values.{ReadsHeld, access_by}
 use Rattle.upc_verify_orders.proofs.Taken.{taken-inside}
 use Rattle.upc_verify_orders.proofs.Numbering.{accesses-within, reads-so}

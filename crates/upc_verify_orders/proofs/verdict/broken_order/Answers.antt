@@ -9,7 +9,7 @@ use Rattle.upc_values.specs.Lists.{Each}
 use Rattle.upc_values.specs.Operations.{Operation}
 use Rattle.upc_verify_orders.specs.declared.table.Point.{Point}
 use Rattle.upc_verify_orders.specs.code.Below.{operations_below}
-use Rattle.upc_verify_orders.specs.code.Numbers.{firsts_in}
+use Rattle.upc_verify_orders.specs.layer.Numbers.{firsts_in}
 use Rattle.upc_verify_orders.specs.code.Orders.{IsStrictFound, IsOrderFound, FirstBroken}
 use Rattle.upc_verify_orders.specs.code.Tables.{tables, points}
 use Rattle.upc_verify_orders.proofs.Deciding.{breaks-first, judged, each-below}

@@ -1,7 +1,7 @@
 use Rattle.std.proofs.Common.{◌≡◌, ◌<◌, ℕ, [], get_or}
 use Rattle.block_layout.specs.declared.place.Loc.{Loc}
 use Rattle.upc_values.specs.declared.scalar.Scalar.{Scalar}
-use Rattle.upc_verify_orders.specs.code.Numbers.{firsts_in}
+use Rattle.upc_verify_orders.specs.layer.Numbers.{firsts_in}
 use Rattle.upc_verify_orders.specs.code.Orders.{IsOrderFound}
 use Rattle.upc_verify_orders.proofs.verdict.first_broken.Given as goal
 

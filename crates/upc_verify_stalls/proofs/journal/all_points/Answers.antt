@@ -5,7 +5,7 @@ use Rattle.upc_values.specs.declared.action.Action.{Action}
 use Rattle.upc_values.specs.Orders.{record_of}
 use Rattle.upc_values.specs.Strands.{StallsStand}
 use Rattle.upc_verify_stalls.specs.code.Points.{waiting_of, waitings}
-use Rattle.upc_verify_stalls.specs.code.Wants.{want_of}
+use Rattle.upc_verify_stalls.specs.layer.Wants.{want_of}
 use Rattle.upc_verify_stalls.proofs.Threads.{points-more}
 use Rattle.upc_verify_stalls.proofs.journal.all_points.Goals as goal
 

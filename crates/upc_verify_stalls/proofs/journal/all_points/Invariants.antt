@@ -1,7 +1,7 @@
 use Rattle.std.proofs.Common.{◌≡◌, ℕ, ◌<◌, [], length, map, get_or}
 use Rattle.upc_values.specs.Orders.{record_of}
 use Rattle.upc_verify_stalls.specs.code.Points.{waiting_of, waitings}
-use Rattle.upc_verify_stalls.specs.code.Wants.{want_of}
+use Rattle.upc_verify_stalls.specs.layer.Wants.{want_of}
 use Rattle.upc_verify_stalls.proofs.journal.all_points.Given as goal
 
 -- the Stalls of the threads so far

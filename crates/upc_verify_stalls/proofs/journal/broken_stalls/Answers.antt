@@ -3,7 +3,7 @@ use Rattle.std.specs.Prelude.{replicate}
 use Rattle.upc_values.specs.History.{EachBelow}
 use Rattle.upc_verify_stalls.specs.declared.points.Point.{Point}
 use Rattle.upc_verify_stalls.specs.declared.walk.Watch.{Watch}
-use Rattle.upc_verify_stalls.specs.code.Wants.{ArePointsOf}
+use Rattle.upc_verify_stalls.specs.layer.Wants.{ArePointsOf}
 use Rattle.upc_verify_stalls.proofs.Threads.{all-due, watch-new, broken-hold}
 use Rattle.upc_verify_stalls.proofs.journal.broken_stalls.Goals as goal
 

@@ -3,7 +3,7 @@ use Rattle.upc_values.specs.declared.journal.Entry.{Entry}
 use Rattle.upc_values.specs.Openings.{Opening}
 use Rattle.upc_values.specs.History.{EachBelow}
 use Rattle.upc_values.proofs.Membership.{each-back}
-use Rattle.upc_verify_parts.specs.layer.Parts.{HistoryHolds}
+use Rattle.upc_verify_parts.specs.Parts.{HistoryHolds}
 use Rattle.upc_verify_history.specs.layer.Turns.{AreInTurn}
 use Rattle.upc_verify_history.specs.layer.Lawful.{IsLawful}
 use Rattle.upc_verify_history.proofs.Playing.{turn-at, lawful-at, parted}

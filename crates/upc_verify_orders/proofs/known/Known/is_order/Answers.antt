@@ -5,7 +5,7 @@ use Rattle.upc_values.specs.Operations.{Operation}
 use Rattle.upc_values.specs.Consistent.{ReadsLast, KeepsProgram}
 use Rattle.upc_verify_orders.specs.declared.part.Part.TheVariants.{Shown}
 use Rattle.upc_verify_orders.specs.code.Found.{AreSorted, AreFound, HasNoOrder, IsPartFound, taken}
-use Rattle.upc_verify_orders.specs.code.Numbers.{AreKnown, firsts_in}
+use Rattle.upc_verify_orders.specs.layer.Numbers.{AreKnown, firsts_in}
 use Rattle.upc_verify_orders.specs.code.Orders.{IsOrderFound}
 use Rattle.upc_verify_orders.proofs.Taken.{names-below, same-taken}
 use Rattle.upc_verify_orders.proofs.known.Known.is_order.Goals as goal

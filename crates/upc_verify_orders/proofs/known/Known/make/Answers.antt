@@ -1,6 +1,6 @@
 use Rattle.std.proofs.Common.{sym, subst, ap, ◌∙◌}
 use Rattle.upc_verify_orders.specs.code.Found.{AreSorted}
-use Rattle.upc_verify_orders.specs.code.Numbers.{numbers_in}
+use Rattle.upc_verify_orders.specs.layer.Numbers.{numbers_in}
 use Rattle.upc_verify_orders.proofs.Sorted.{below-sorted}
 use Rattle.upc_verify_orders.proofs.known.Known.make.Goals as goal
 

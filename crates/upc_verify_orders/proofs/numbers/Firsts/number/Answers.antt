@@ -1,5 +1,5 @@
 use Rattle.std.proofs.Common.{sym}
-use Rattle.upc_verify_orders.specs.code.Parts.{place_of}
+use Rattle.upc_verify_orders.specs.layer.Parts.{place_of}
 use Rattle.upc_verify_orders.specs.code.Keys.{looked}
 use Rattle.upc_verify_orders.proofs.Keyed.{same-kept}
 use Rattle.upc_verify_orders.proofs.numbers.Firsts.number.Goals as goal

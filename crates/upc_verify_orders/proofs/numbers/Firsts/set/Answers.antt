@@ -3,7 +3,7 @@ use Rattle.std.specs.BTreeMap.{is_at, get}
 use Rattle.upc_values.specs.Operations.{Place}
 use Rattle.upc_values.specs.Consistent.{same_place}
 use Rattle.upc_verify_orders.specs.declared.numbers.Key.{Key}
-use Rattle.upc_verify_orders.specs.code.Parts.{place_of}
+use Rattle.upc_verify_orders.specs.layer.Parts.{place_of}
 use Rattle.upc_verify_orders.specs.code.Keys.{key_cmp, looked}
 use Rattle.upc_verify_orders.proofs.Keyed.{cell-set}
 use Rattle.upc_verify_orders.proofs.numbers.Firsts.set.Goals as goal

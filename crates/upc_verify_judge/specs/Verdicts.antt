@@ -10,8 +10,8 @@ use Rattle.upc_values.specs.Records.{replies_of}
 use Rattle.upc_values.specs.Orders.{record_of}
 use Rattle.upc_values.specs.Consistent.{begins}
 use Rattle.upc_values.specs.Sound.{IsSound}
-use Rattle.upc_verify_parts.specs.layer.Parts.{strand_of, HasShape, EntriesHold, HistoryHolds, StallsHold, EndHolds}
-use Rattle.upc_verify_orders.specs.layer.Given.{OrderHolds, AreConsistentOrders}
+use Rattle.upc_verify_parts.specs.Parts.{strand_of, HasShape, EntriesHold, HistoryHolds, StallsHold, EndHolds}
+use Rattle.upc_verify_orders.specs.Given.{OrderHolds, AreConsistentOrders}
 use Rattle.upc_verify_judge.specs.declared.verdict.Verdict.{Verdict}
 use Rattle.upc_verify_judge.specs.declared.verdict.Verdict.TheVariants.{Sound, Broken}
 
@@ -43,6 +43,7 @@ pub data Part : Type 0 where
   ends : Part
   orders : Part
 
+-- The number of a part.
 abbrev pub number : Part → ℕ
 number shape = 0
 number strands = 1

@@ -9,7 +9,7 @@ use Rattle.upc_values.specs.Lists.{Pairwise}
 use Rattle.upc_values.specs.Operations.{Operation}
 use Rattle.upc_values.specs.Orders.{IsOf, name_of, is_shown}
 use Rattle.upc_values.specs.Consistent.{ReadsLast, KeepsProgram, IsOrderOf, IsConsistent}
-use Rattle.upc_verify_orders.specs.layer.Strict.{StrictBy}
+use Rattle.upc_verify_orders.specs.Strict.{StrictBy}
 
 -- The names in the given order of thread t.
 abbrev pub names_at : Orders → ℕ → List Op
