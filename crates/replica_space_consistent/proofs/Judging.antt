@@ -11,7 +11,7 @@ use Rattle.upc_values.specs.Orders.{is_shown, rank, name_of}
 use Rattle.upc_values.specs.Consistent.{begins, IsOrderOf, IsConsistent, KeepsProgram}
 use Rattle.upc_values.proofs.Consistency.{or_turn}
 use Rattle.upc_values.proofs.Membership.{each-has, has-cases, has-filter, filter-has, pairs-from, pairs-weaker, precedes-total}
-use Rattle.upc_verify_orders.specs.code.Strict.{StrictBy, As_listed, As_written, Through}
+use Rattle.upc_verify_orders.specs.Strict.{StrictBy, As_listed, As_written, Through}
 use Rattle.upc_verify_orders.proofs.Below.{by-thread}
 use Rattle.upc_verify_orders.proofs.Reaching.{StrictOf, same-name}
 use Rattle.upc_verify_orders.proofs.Rising.{not-itself}

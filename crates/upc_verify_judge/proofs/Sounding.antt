@@ -11,9 +11,9 @@ use Rattle.upc_values.specs.Orders.{no_strand}
 use Rattle.upc_values.specs.Outcomes.{Outcome}
 use Rattle.upc_values.specs.Sound.{IsStrand, IsSound}
 use Rattle.upc_values.specs.Consistent.{begins}
-use Rattle.upc_verify_parts.specs.layer.Parts.{HasShape, HistoryHolds, strand_of}
+use Rattle.upc_verify_parts.specs.Parts.{HasShape, HistoryHolds, strand_of}
 use Rattle.upc_verify_orders.proofs.Deciding.{are-consistent}
-use Rattle.upc_verify_judge.specs.layer.Verdicts.{shape, strands, entries, history, stalls, ends, orders, AllHold, case_of, IsSoundRun, PartsAreASoundRun}
+use Rattle.upc_verify_judge.specs.Verdicts.{shape, strands, entries, history, stalls, ends, orders, AllHold, case_of, IsSoundRun, PartsAreASoundRun}
 
 module _ (o : Opening) (outcome : (budget thread : ℕ) → List Reply → Outcome) (j : Journal) (given : Orders) (some : 0 < o.threads) where
   abbrev IsStrandAt : ℕ → Strand → Type 0

@@ -4,7 +4,7 @@ use Rattle.upc_values.specs.Lists.{Has}
 use Rattle.upc_values.specs.Operations.{Operation}
 use Rattle.upc_values.specs.Openings.{Opening}
 use Rattle.upc_values.specs.Consistent.{begins, IsOrderOf, IsConsistent}
-use Rattle.upc_verify_orders.specs.code.Strict.{StrictBy}
+use Rattle.upc_verify_orders.specs.Strict.{StrictBy}
 use Rattle.replica_space.specs.declared.event.Event.{Event}
 use Rattle.replica_space.specs.layer.Events.{history_in}
 use Rattle.replica_space.specs.layer.Runs.{IsReplicaRun}

@@ -1,7 +1,7 @@
 use Rattle.std.proofs.Common.{refl, sym, ◌∙◌, arith}
-use Rattle.upc_verify_parts.specs.layer.Parts.{EndHolds}
+use Rattle.upc_verify_parts.specs.Parts.{EndHolds}
 use Rattle.upc_verify_judge.specs.layer.Meanings.{outcome_in}
-use Rattle.upc_verify_judge.specs.layer.Verdicts.{ends}
+use Rattle.upc_verify_judge.specs.Verdicts.{ends}
 use Rattle.upc_verify_judge.specs.code.Judging.{case_in}
 use Rattle.upc_verify_judge.proofs.Judging.{passed, stopped, sized, stalls-stand}
 use Rattle.upc_verify_judge.proofs.judge.judge_ends.Goals as goal

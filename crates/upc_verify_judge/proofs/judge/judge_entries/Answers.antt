@@ -1,6 +1,6 @@
 use Rattle.std.proofs.Common.{◌<◌, ℕ, MatchOption, refl, sym, subst, ◌∙◌}
-use Rattle.upc_verify_parts.specs.layer.Parts.{EntriesHold, FailsFirst, HoldsOfEach}
-use Rattle.upc_verify_judge.specs.layer.Verdicts.{entries}
+use Rattle.upc_verify_parts.specs.Parts.{EntriesHold, FailsFirst, HoldsOfEach}
+use Rattle.upc_verify_judge.specs.Verdicts.{entries}
 use Rattle.upc_verify_judge.specs.code.Judging.{case_in}
 use Rattle.upc_verify_judge.proofs.Judging.{passed, stopped, judged-more}
 use Rattle.upc_verify_judge.proofs.judge.judge_entries.Goals as goal

@@ -1,5 +1,5 @@
 use Rattle.std.proofs.Common.{◌<◌, refl, sym, subst, ◌∙◌}
-use Rattle.upc_verify_judge.specs.layer.Verdicts.{Case, orders}
+use Rattle.upc_verify_judge.specs.Verdicts.{Case, orders}
 use Rattle.upc_verify_judge.proofs.Judging.{passed, stopped, all-hold, ordered}
 use Rattle.upc_verify_judge.proofs.judge.judge_orders.Goals as goal
 

@@ -2,8 +2,8 @@ use Rattle.std.proofs.Common.{ℕ, length, map, refl, sym, ap, subst, ◌∙◌,
 use Rattle.std.specs.Option.{option_copied}
 use Rattle.upc_values.specs.Openings.{Opening}
 use Rattle.upc_values.specs.History.{EachBelow}
-use Rattle.upc_verify_parts.specs.layer.Parts.{HistoryHolds}
-use Rattle.upc_verify_judge.specs.layer.Verdicts.{stalls, history}
+use Rattle.upc_verify_parts.specs.Parts.{HistoryHolds}
+use Rattle.upc_verify_judge.specs.Verdicts.{stalls, history}
 use Rattle.upc_verify_judge.specs.code.Judging.{case_in}
 use Rattle.upc_verify_judge.proofs.Judging.{passed, stopped, stalls-stand, drains-each, each-below, judged-more}
 use Rattle.upc_verify_judge.proofs.Wants.{wants-many, wants-stand, wants-found}

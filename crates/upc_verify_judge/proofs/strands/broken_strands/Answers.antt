@@ -1,7 +1,7 @@
 use Rattle.std.proofs.Common.{◌↔◌, IsTrue, sym, ◌∙◌, below_more, arith}
 use Rattle.std.proofs.lemmas.Bool.{false≢true}
 use Rattle.upc_values.specs.Strands.{Conforms}
-use Rattle.upc_verify_parts.specs.layer.Parts.{strand_of}
+use Rattle.upc_verify_parts.specs.Parts.{strand_of}
 use Rattle.upc_verify_judge.specs.layer.Meanings.{outcome_in}
 use Rattle.upc_verify_judge.proofs.Meanings.{conforms-in}
 use Rattle.upc_verify_judge.proofs.strands.broken_strands.Goals as goal
