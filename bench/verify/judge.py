@@ -37,7 +37,7 @@ def piece(thing, thread, threads):
 
 
 class History:
-    """One history, seen at each of its prefixes: what the first n entries have made, and the lawful reply after them."""
+    """One history, seen after its first n entries: what they have made, and the lawful reply after them."""
 
     def __init__(self, opening, entries):
         self.opening, self.entries = opening, entries
@@ -225,7 +225,8 @@ class History:
         return not any(p) or (p[:6] in self.objects(n) and p[6] < self.opening.threads and abs(p[8]) <= 1 << 40)
 
     def is_whole(self, nblocks, nbytes, shape):
-        return nblocks * nbytes != 0 and shape < len(self.opening.shapes) and nbytes % self.opening.shapes[shape][0] == 0
+        shapes = self.opening.shapes
+        return nblocks * nbytes != 0 and shape < len(shapes) and nbytes % shapes[shape][0] == 0
 
     def is_call(self, n, call, args):
         tags = "".join(one[0] for one in args)

@@ -1,6 +1,6 @@
 """Runs of a source as docs/CONSISTENCY.md says that threads run, one step at a time in any order: `run(source, threads,
 chance)` gives a run that is sound. Nothing of the program is used, so the schedule may be any."""
-from judge import History, Operations, accesses, dids, drain
+from judge import History, accesses, dids, drain
 from text import STALL, Strand, Text
 
 STOPS = ("fault", "budget", "full", "exit")
@@ -102,7 +102,8 @@ class Machine:
         whole = []
         for thread, index, _, _ in self.entries:
             for number in sorted(groups[thread][index]):
-                whole += [(name, strict) for name, strict, _, _ in accesses(thread, number, *dids(strands[thread])[number])]
+                action, given = dids(strands[thread])[number]
+                whole += [(name, strict) for name, strict, _, _ in accesses(thread, number, action, given)]
         orders = [[name for name, strict in whole if name[0] == t or name[2] == "w" or strict]
                   for t in range(self.threads)]
         return Text(2, self.threads, self.budget, self.actions, strands, [one[:2] for one in self.entries],

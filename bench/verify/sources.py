@@ -1,11 +1,9 @@
-"""Sources with what they mean, by hand: each is a text in UPC, what a run of it begins with, and, as a Python generator,
-what one thread does on the replies that it is given. A thread asks by `yield (action, kind)`, where the kind is that of
-the cell that a read reads, and is sent the reply."""
+"""Sources with what they mean, by hand: each is a text in UPC, what a run of it begins with, and, as a generator, what
+one thread does on the replies that it is given. A thread asks by `yield (action, kind)`, where the kind is that of the
+cell that a read reads, and is sent the reply."""
 from judge import fits_kind
 
 INT, PAGE = "int", 16777216
-SIZES = {"char": 1, "uchar": 1, "short": 2, "ushort": 2, "int": 4, "uint": 4, "long": 8, "ulong": 8, "lock": 8}
-NULL = ("p", (0,) * 9)
 
 
 class Opening:
@@ -73,8 +71,8 @@ class Thread:
 
 
 class Source:
-    """`name`, its text, `main` of one thread, the shared objects as (total, block, home, shape) for so many threads, the
-    shapes, and for which numbers of threads it is meant; `limits` are words of the command."""
+    """Its name, its text, `main` of one thread, the shared objects as (total, block, home, shape) for a number of
+    threads, the shapes, and for which numbers of threads it is meant; `limits` are words of the command."""
 
     def __init__(self, name, text, main, objects, shapes, threads=(2,), limits=()):
         self.name, self.text, self.main, self.objects, self.shapes = name, text, main, objects, shapes
