@@ -1,0 +1,1 @@
+shared int x; int main(void){x = MYTHREAD; return 0;}

@@ -1,0 +1,1 @@
+shared int x; int main(void){ return x; }
