@@ -11,7 +11,7 @@ import tempfile
 import threading
 
 TOP = pathlib.Path(__file__).resolve().parent.parent
-MODES = ("run", "record", "races", "check", "layout", "sample")
+MODES = ("run", "record", "races", "check", "layout", "sample", "verify")
 INPUT = "/dev/stdin"  # the file that is what comes in
 WITH_NUMBER = {"-T": 32, "--budget": 1_000_000_000_000, "--actions": 8_388_608}  # each with the most that it takes
 
@@ -32,11 +32,11 @@ class Failed(Exception):
 class Call:
     """The words of a command line: mode, file and options, in any order; a word that is none of them is `unknown`.
 
-    After `--` stand mode and file alone. An option that is given again is in `twice`.
+    In mode `verify` a record follows the file. After `--` stand these alone. An option that is given again is in `twice`.
     """
 
     def __init__(self, words, modes=True):
-        self.mode, self.file, self.options, self.unknown, self.twice = None, None, {}, [], []
+        self.mode, self.file, self.record, self.options, self.unknown, self.twice = None, None, None, {}, [], []
         left, plain = list(words), False
         while left:
             word = left.pop(0)
@@ -54,6 +54,8 @@ class Call:
                 self.mode = word
             elif self.file is None:
                 self.file = word
+            elif self.mode == "verify" and self.record is None:
+                self.record = word
             else:
                 self.unknown.append(word)
 

@@ -2,7 +2,7 @@
 
 use crate::front::program_of;
 use std::test::Fail;
-use upc_meaning::replay;
+use upc_meaning::{replay, replay_whole};
 use upc_values::{Action, Reply, Scalar, ToldEnd};
 
 const READS: &[u8] = b"shared int x; int main(void){return x;}";
@@ -173,6 +173,48 @@ fn edges(rt: HostRuntime) -> Result<(), Fail> {
         assert!(rt; word == row.told.0, "{number}");
         assert!(rt; value == row.told.1, "{number}");
         assert!(rt; told.actions.len() == row.actions, "{number}");
+    }
+    Ok(())
+}
+
+// The only thread of a source, with these replies and a budget of ten ticks: its end, as a word, and its ticks.
+struct Ticked {
+    source: &'static [u8],
+    replies: &'static [Reply],
+    word: &'static str,
+    ticks: u64,
+}
+
+const TICKED: [Ticked; 3] = [
+    Ticked {
+        source: b"int main(void){while(1);return 0;}",
+        replies: &[Reply::Done, Reply::Done],
+        word: "out of ticks",
+        ticks: 10,
+    },
+    Ticked {
+        source: LOOPS,
+        replies: &[Reply::Done, Reply::Done, Reply::Done, Reply::Done],
+        word: "ended",
+        ticks: 4,
+    },
+    Ticked {
+        source: READS,
+        replies: &[Reply::Done, Reply::Done],
+        word: "wants read",
+        ticks: 0,
+    },
+];
+
+#[test]
+fn ticks(rt: HostRuntime) -> Result<(), Fail> {
+    for (number, row) in TICKED.iter().enumerate() {
+        let program = program_of(rt.alloc(), 1, row.source)?.expect(&rt, "a program");
+        assert!(rt; program.threads() == 1);
+        let outcome = replay_whole(rt.alloc(), &program, 0, row.replies, 10)?;
+        assert!(rt; told_as(&outcome.end).0 == row.word, "{number}");
+        assert!(rt; outcome.ticks == row.ticks, "{number}");
+        assert!(rt; outcome.actions.len() == row.replies.len(), "{number}");
     }
     Ok(())
 }
