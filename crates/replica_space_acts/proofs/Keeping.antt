@@ -52,13 +52,6 @@ delivered-one new old t to from (m ∷ ms) ne e =
     append_cancel_right new (old ++ delivered t to from ∷ []) (deliveries t to from ms)
     (e ∙ sym (append_assoc old (delivered t to from ∷ []) (deliveries t to from ms)))
 
--- none where no message waits
-pub delivered-none : (new old : List Event) (t to from : ℕ) (ms : List Message) → ms ≡ []
-    → new ++ deliveries t to from (drop 1 ms) ≡ old ++ deliveries t to from ms → new ≡ old
-delivered-none new old t to from ms n e =
-    sym (append-nil new) ∙ sym (ap (λ l. new ++ deliveries t to from (drop 1 l)) n) ∙ e
-    ∙ ap (λ l. old ++ deliveries t to from l) n ∙ append-nil old
-
 pub kept-delivery : (w : Opening × List Entry) (c d : CopiesState) (es new : List Event) (count t to from : ℕ) → AreReplicas w c es count
     → Follows w.0 d new → new ≡ es ++ delivered t to from ∷ [] → count + 1 < 2 ^ 62 → AreReplicas w d new (count + 1)
 kept-delivery w c d es new count t to from a f e lt =
@@ -72,14 +65,3 @@ kept-delivery w c d es new count t to from a f e lt =
       counted = omega (arith, ap length e, length_push es (delivered t to from), a.counted);
       short = lt;
     }
-
-pub kept-same : (w : Opening × List Entry) (c d : CopiesState) (es new : List Event) (count : ℕ) → AreReplicas w c es count
-    → Follows w.0 d new → new ≡ es → AreReplicas w d new count
-kept-same w c d es new count a f e = record {
-  opening = a.opening;
-  follows = f;
-  formed = subst (λ l. AreWellFormed w.0 (history_in l)) (sym e) a.formed;
-  world = a.world ∙ ap (λ l. loud (history_in l)) (sym e);
-  counted = a.counted ∙ sym (ap length e);
-  short = a.short;
-}

@@ -15,9 +15,9 @@ use std::marker::Model;
 use upc_text::OutOfMemory;
 use upc_values::{Loc, ObjectRef, Scalar, Shape};
 
-/// A run with a copy of the shared memory for each thread: what it began with, and the list of its events. Contracts see
-/// both. The opening is a valid one, the events are a replica run from it, and each action in them was well formed after
-/// the actions before it.
+/// A run with a copy of the shared memory for each thread: what it began with, and the list of its events. Contracts
+/// see both. The opening is a valid one, the events are a replica run from it, and each action in them was well formed
+/// after the actions before it.
 #[derive(Drop)]
 pub struct Replicas {
     // It has the actions other than reads and writes.
@@ -75,8 +75,8 @@ impl Replicas {
     }
 
     /// A thread delivers the oldest message that waits for `to` from `from`, with one event; false where none waits.
-    /// After want of memory, which also comes where there would be 2^62 events once all mail is delivered, the run is as
-    /// it was.
+    /// After want of memory, which also comes where there would be 2^62 events once all mail is delivered, the run is
+    /// as it was.
     pub fn deliver(&mut self, by: u32, to: u32, from: u32) -> Result<bool, OutOfMemory>
         requires by { by < self.old.0.threads }
         requires to { to < self.old.0.threads }

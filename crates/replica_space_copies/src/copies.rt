@@ -1,6 +1,7 @@
 //! What all threads have.
 
-ghost use Rattle.std.specs.Prelude.{◌≡◌, ◌≢◌, ◌+◌, ◌<◌, ◌≤◌, ◌==◌, ◌^◌, ◌↔◌, ℕ, cond, length, replicate, [], slice_index};
+ghost use Rattle.std.specs.Prelude.{◌≡◌, ◌≢◌, ◌+◌, ◌<◌, ◌≤◌, ◌==◌, ◌^◌};
+ghost use Rattle.std.specs.Prelude.{◌↔◌, ℕ, cond, length, replicate, [], slice_index};
 ghost use Rattle.std.specs.Prelude.{IsTrue, IfOk, OnOk, OnErr, if◌then◌else◌};
 ghost use Rattle.block_layout.specs.declared.place.Loc.{Loc};
 ghost use Rattle.replica_space.specs.layer.Spaces as said;

@@ -1,6 +1,7 @@
 //! The mail that a thread has sent.
 
-ghost use Rattle.std.specs.Prelude.{◌≡◌, ◌+◌, ◌<◌, ◌==◌, ◌∷◌, ◌++◌, ℕ, cond, length, drop, replicate, [], IfOk, OnOk, OnErr, None, slice_get};
+ghost use Rattle.std.specs.Prelude.{◌≡◌, ◌+◌, ◌<◌, ◌==◌, ◌∷◌, ◌++◌, ℕ, cond};
+ghost use Rattle.std.specs.Prelude.{length, drop, replicate, [], IfOk, OnOk, OnErr, None, slice_get};
 ghost use Rattle.replica_space_copies.specs.layer.Copies.{letters};
 
 use replica_space::Message;

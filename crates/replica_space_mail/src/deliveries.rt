@@ -79,7 +79,8 @@ pub fn deliver_all(copies: &mut Copies, events: &mut Roll, by: u32, threads: u32
     requires all { threads ≡ threads_of copies.old }
     requires room { copies.old.waiting ≤ events.old.room }
     ensures steady { IsSteady copies.old copies.new }
-    ensures events { events.new.items ≡ events.old.items ++ said.all_deliveries by threads threads (space_of copies.old) }
+    ensures events { events.new.items
+        ≡ events.old.items ++ said.all_deliveries by threads threads (space_of copies.old) }
     ensures none { NoneWaits threads (space_of copies.new) }
     ensures follows { (o : Opening) → Follows o copies.old events.old.items → Follows o copies.new events.new.items }
     ensures room { (k : ℕ) → k + copies.old.waiting ≤ events.old.room → k + copies.new.waiting ≤ events.new.room }

@@ -9,8 +9,8 @@ use Rattle.replica_space_quiet.specs.code.Loud.{loud}
 use Rattle.replica_space_copies.specs.layer.Copies.{CopiesState}
 use Rattle.replica_space_mail.specs.layer.Deliveries.{Follows}
 
--- The threads have what they have after the events, which are a replica run; each action was well formed; the memory has
--- the actions other than reads and writes; and the events are counted.
+-- The threads have what they have after the events, which are a replica run; each action was well formed; the memory
+-- has the actions other than reads and writes; and the events are counted.
 pub record AreReplicas (w : Opening × List Entry) (c : CopiesState) (es : List Event) (count : ℕ) : Type 0 where
   pub opening : IsOpening w.0
   pub follows : Follows w.0 c es

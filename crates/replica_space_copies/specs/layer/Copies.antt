@@ -1,5 +1,6 @@
 -- The copies and the mail of threads, as they are kept.
-use Rattle.std.specs.Prelude.{ℕ, ◌≡◌, ◌≤◌, ◌<◌, ◌^◌, ◌==◌, ◌&&◌, ◌+◌, ◌-◌, Bool, List, [], length, Option, slice_index, slice_index_or}
+use Rattle.std.specs.Prelude.{ℕ, ◌≡◌, ◌≤◌, ◌<◌, ◌^◌, ◌==◌, ◌&&◌, ◌+◌}
+use Rattle.std.specs.Prelude.{◌-◌, Bool, List, [], length, Option, slice_index, slice_index_or}
 use Rattle.std.specs.Map.{lookup}
 use Rattle.block_layout.specs.declared.place.Loc.{Loc}
 use Rattle.upc_values.specs.declared.scalar.Scalar.{Scalar}
