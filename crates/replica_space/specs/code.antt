@@ -1,3 +1,2 @@
-pub mod ReplicaOrders
 pub mod ReplicaSound
 pub mod ReplicaRows

@@ -1,3 +1,4 @@
 pub mod Events
 pub mod Runs
 pub mod Spaces
+pub mod ReplicaOrders

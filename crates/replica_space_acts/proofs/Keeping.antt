@@ -9,7 +9,7 @@ use Rattle.replica_space.specs.declared.message.Message.{Message}
 use Rattle.replica_space.specs.declared.event.Event.{Event}
 use Rattle.replica_space.specs.layer.Events.{delivered, entry_by, history_in}
 use Rattle.replica_space.specs.layer.Spaces.{begun}
-use Rattle.replica_space_quiet.specs.code.Loud.{loud}
+use Rattle.replica_space_quiet.specs.layer.Loud.{loud}
 use Rattle.replica_space_copies.specs.layer.Copies.{CopiesState, threads_of, space_of}
 use Rattle.replica_space_copies.specs.layer.Same.{IsSame}
 use Rattle.replica_space_mail.specs.layer.Deliveries.{Follows, deliveries}

@@ -7,10 +7,10 @@ use Rattle.upc_values.specs.Orders.{rank, name_of}
 use Rattle.upc_values.specs.Consistent.{IsOrderOf}
 use Rattle.upc_values.proofs.Membership.{each-has, filter-has, filter-precedes, pairs-at, pairs-from, pairs-weaker, precedes-has, precedes-total, precedes-strict, precedes-trans, Distinct}
 use Rattle.upc_verify_orders.specs.Strict.{StrictBy}
-use Rattle.upc_verify_orders.specs.code.Reach.{is_until, is_from, InThread}
+use Rattle.upc_verify_orders.specs.layer.Reach.{is_until, is_from, InThread}
 use Rattle.upc_verify_orders.proofs.Places.{links}
 use Rattle.upc_verify_orders.proofs.Reaching.{StrictOf, same-name, until-is, from-is, goes-on}
-use Rattle.replica_space.specs.code.ReplicaOrders.{Placed, operations}
+use Rattle.replica_space.specs.layer.ReplicaOrders.{Placed, operations}
 use Rattle.replica_space_lists.specs.layer.Keeping.{StandsBefore}
 use Rattle.replica_space_lists.proofs.Splitting.{strict_of}
 

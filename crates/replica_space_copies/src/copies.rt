@@ -7,7 +7,7 @@ ghost use Rattle.block_layout.specs.declared.place.Loc.{Loc};
 ghost use Rattle.replica_space.specs.layer.Spaces as said;
 ghost use Rattle.replica_space_copies.specs.layer.Copies.{space_of, threads_of, held_at, written, MaySpread, IsSteady};
 ghost use Rattle.replica_space_copies.specs.layer.Same.{IsSame};
-ghost use Rattle.replica_space_copies.specs.layer.Counts.{waiting_in};
+ghost use Rattle.replica_space_copies.specs.code.Counts.{waiting_in};
 
 use crate::clocks::{meet, raise, raise_to};
 use crate::held::Held;

@@ -24,7 +24,7 @@ use Rattle.replica_space.specs.declared.event.Event.{Event}
 use Rattle.replica_space.specs.layer.Events.{history_in}
 use Rattle.replica_space.specs.layer.Spaces.{is_synchronising, met, next_stamp, sent, spread, received, done}
 use Rattle.replica_space.specs.layer.Runs.{NoneWaits, value_in}
-use Rattle.replica_space.specs.code.ReplicaOrders.{placed, write_of, with_first, operations, stamp_of, listed, Listed}
+use Rattle.replica_space.specs.layer.ReplicaOrders.{placed, write_of, with_first, operations, stamp_of, listed, Listed}
 use Rattle.replica_space_lists.specs.layer.Keeping.{told}
 use Rattle.replica_space_lists.proofs.Copies.{Made, met-made, spread-made, sent-made, received-made, agree}
 use Rattle.replica_space_lists.proofs.Putting.{last-value, value_told}

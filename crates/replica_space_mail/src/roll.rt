@@ -20,7 +20,7 @@ pub struct Roll {
 impl Model for Roll {
     ghost use Rattle.std.specs.Prelude.{◌-◌, length, vec_capacity};
     ghost use Rattle.replica_space.specs.declared.event.Event.{Event};
-    ghost use Rattle.upc_values.specs.code.Chunks.{Roomy, roomy, joined};
+    ghost use Rattle.upc_values.specs.layer.Chunks.{Roomy, roomy, joined};
 
     ghost Value = { Roomy Event };
 

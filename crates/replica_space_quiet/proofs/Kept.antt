@@ -6,7 +6,7 @@ use Rattle.std.proofs.lemmas.List.{append-nil}
 use Rattle.std.proofs.lemmas.List.Sums.{length-filter}
 use Rattle.upc_values.specs.declared.journal.Entry.{Entry}
 use Rattle.upc_values.specs.History.{picked_from, each_thread}
-use Rattle.replica_space_quiet.specs.code.Loud.{is_access, loud}
+use Rattle.replica_space_quiet.specs.layer.Loud.{is_access, loud}
 
 -- the entry is a read or a write
 abbrev pub access : Entry → Bool

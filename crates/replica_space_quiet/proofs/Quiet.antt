@@ -22,7 +22,7 @@ use Rattle.upc_values.specs.Shapes.{fits_cell}
 use Rattle.upc_values.specs.History as history
 use Rattle.upc_values.specs.History.{reply, is_meet, meets, is_meet_of, Lead, leader_from, leader, led, makes, objects, object_of, releases, is_released, allocated, free_reply, makes_lock, locks, gives_up, is_given_up, all_met, is_freed, turns, holder, notifies, waits, marks, mark_of, is_any, picked, picked_from, asked, pointer_of, meet_reply, led_reply, agrees_with, all_notified, each_thread}
 use Rattle.upc_values.specs.Formed.{may_ask, may_call, knows, is_known}
-use Rattle.replica_space_quiet.specs.code.Loud.{is_access, loud}
+use Rattle.replica_space_quiet.specs.layer.Loud.{is_access, loud}
 use Rattle.replica_space_quiet.proofs.Kept.{access, loud-skips, loud-takes, loud-after-access, loud-after-other, filter-loud, filters-loud, maps-loud, counts-loud, IsDeaf, picked-loud, picked-same, each_thread-same}
 
 -- ---- a read or a write is nothing else

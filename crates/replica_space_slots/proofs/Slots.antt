@@ -8,11 +8,11 @@ use Rattle.upc_values.proofs.Membership.{has-left, has-right, each-has, each-fro
 use Rattle.upc_values.proofs.Sameness.{same_loc-true}
 use Rattle.replica_space.specs.declared.message.Message.{Message}
 use Rattle.replica_space.specs.layer.Spaces.{is_later}
-use Rattle.replica_space.specs.code.ReplicaOrders.{Placed, write_of, is_write_of, is_after, with_write}
+use Rattle.replica_space.specs.layer.ReplicaOrders.{Placed, write_of, is_write_of, is_after, with_write}
 use Rattle.replica_space_lists.specs.layer.Keeping.{StandByStamps}
 use Rattle.replica_space_lists.proofs.Stamps.{upto-trans}
 use Rattle.replica_space_lists.proofs.Putting.{cut, has-was, past, pairs-right}
-use Rattle.replica_space_slots.specs.layer.Slots.{Slot, slot_of, flat, with_slot, IsSlot, StandsForList, SlotsStandForLists}
+use Rattle.replica_space_slots.specs.code.Slots.{Slot, slot_of, flat, with_slot, IsSlot, StandsForList, SlotsStandForLists}
 
 abbrev Any : Placed → Type 0
 Any x = Unit {0}

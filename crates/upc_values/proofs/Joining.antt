@@ -4,7 +4,7 @@ use Rattle.std.proofs.lemmas.List.{length-append}
 use Rattle.std.proofs.lemmas.Option.{slice_get_past, slice_get_read}
 use Rattle.std.specs.declared.alloc.Global.{Global}
 use Rattle.std.specs.Option.{option_copied}
-use Rattle.upc_values.specs.code.Chunks.{joined, AreFull}
+use Rattle.upc_values.specs.layer.Chunks.{joined, AreFull}
 
 module _ {X : Type 0} where
   pub length-joined : (cs : List (Vec X Global)) (ys : List X) → AreFull cs → length (joined cs ys) ≡ length cs * 4096 + length ys

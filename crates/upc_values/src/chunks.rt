@@ -22,7 +22,7 @@ pub struct Chunks<T> {
 
 impl<T> Model for Chunks<T> {
     ghost use Rattle.std.specs.Prelude.{◌≡◌, ◌⊎◌, ◌-◌, ◌≤◌, ◌^◌, length, vec_capacity};
-    ghost use Rattle.upc_values.specs.code.Chunks.{Roomy, roomy, joined, AreFull};
+    ghost use Rattle.upc_values.specs.layer.Chunks.{Roomy, roomy, joined, AreFull};
 
     ghost Value = { Roomy T };
 

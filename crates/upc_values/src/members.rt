@@ -3,7 +3,7 @@
 ghost use Rattle.std.specs.Prelude.{◌≡◌, length};
 ghost use Rattle.std.specs.Iterator.{at_most};
 ghost use Rattle.std.specs.Map.Iter.{TakesFirst, deref};
-ghost use Rattle.upc_values.specs.code.Chunks.{joined, AreFull};
+ghost use Rattle.upc_values.specs.layer.Chunks.{joined, AreFull};
 
 use std::marker::Model;
 
@@ -17,7 +17,7 @@ pub struct Members<'a, T> {
 
 impl<'a, T> Model for Members<'a, T> {
     ghost use Rattle.std.specs.Prelude.{List, ◌++◌};
-    ghost use Rattle.upc_values.specs.code.Chunks.{joined, AreFull};
+    ghost use Rattle.upc_values.specs.layer.Chunks.{joined, AreFull};
 
     ghost Value = { List T };
 

@@ -18,7 +18,7 @@ use Rattle.upc_verify_orders.specs.Given.{GivenStrict, GivenOrder, OrderHolds, O
 use Rattle.upc_verify_orders.specs.code.Below.{operations_below}
 use Rattle.upc_verify_orders.specs.code.Found.{taken}
 use Rattle.upc_verify_orders.specs.code.Orders.{IsStrictFound, IsOrderFound, FirstBroken}
-use Rattle.upc_verify_orders.specs.code.Reach.{MayPrecede, InThread}
+use Rattle.upc_verify_orders.specs.layer.Reach.{MayPrecede, InThread}
 use Rattle.upc_verify_orders.specs.code.Tables as names
 use Rattle.upc_verify_orders.proofs.Below.{all-below, below-only}
 use Rattle.upc_verify_orders.proofs.Sorted.{below-sorted, one-name}

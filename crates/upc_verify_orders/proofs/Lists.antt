@@ -6,7 +6,7 @@ use Rattle.upc_values.specs.declared.order.Op.{Op}
 use Rattle.upc_values.specs.Lists.{Each, Pairwise}
 use Rattle.upc_values.specs.Operations.{Operation}
 use Rattle.upc_values.specs.Orders.{name_of}
-use Rattle.upc_verify_orders.specs.code.Reach as operations
+use Rattle.upc_verify_orders.specs.layer.Reach as operations
 use Rattle.upc_verify_orders.specs.code.Tables.{op_rank, InThread}
 
 -- each member stands at or behind what its thread has come to

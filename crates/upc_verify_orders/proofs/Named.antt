@@ -4,8 +4,8 @@ use Rattle.upc_values.specs.declared.order.Op.{Op}
 use Rattle.upc_values.specs.Lists.{Each, Pairwise}
 use Rattle.upc_values.specs.Operations.{Operation}
 use Rattle.upc_values.specs.Orders.{name_of}
-use Rattle.upc_verify_orders.specs.code.Reach.{one_more, behind_last, first_place, MayPrecede}
-use Rattle.upc_verify_orders.specs.code.Reach as operations
+use Rattle.upc_verify_orders.specs.layer.Reach.{one_more, behind_last, first_place, MayPrecede}
+use Rattle.upc_verify_orders.specs.layer.Reach as operations
 use Rattle.upc_verify_orders.specs.code.Tables as names
 
 behind-map : {X Y : Type 0} (f : X → Y) (test : Y → Bool) (xs : List X) → behind_last test (map f xs) ≡ behind_last (λ x. test (f x)) xs

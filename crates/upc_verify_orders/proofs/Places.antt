@@ -2,7 +2,7 @@
 use Rattle.std.proofs.Common.{◌≡◌, ℕ, ◌+◌, ◌<◌, ◌≤◌, Bool, true, false, cond, List, [], ◌∷◌, refl, ap, ◌∙◌, inl, inr, ◌⊎◌, arith}
 use Rattle.std.proofs.lemmas.Bool.{cases_Bool}
 use Rattle.upc_values.specs.Lists.{Each, Has, Precedes, Pairwise}
-use Rattle.upc_verify_orders.specs.code.Reach.{one_more, behind_last, first_place}
+use Rattle.upc_verify_orders.specs.layer.Reach.{one_more, behind_last, first_place}
 
 pub more-head : (b : Bool) (n : ℕ) → b ≡ true → 0 < one_more b n
 more-head true ℕ.zero e = omega arith

@@ -8,7 +8,7 @@ use Rattle.upc_values.specs.Consistent.{IsOrderOf}
 use Rattle.upc_values.proofs.Membership.{pairs-weaker}
 use Rattle.upc_verify_orders.specs.Strict.{StrictBy, As_listed, As_written, Through}
 use Rattle.upc_values.specs.declared.order.Op.{Op}
-use Rattle.upc_verify_orders.specs.code.Reach.{is_until, is_from, reached, reaches, MayPrecede, InThread}
+use Rattle.upc_verify_orders.specs.layer.Reach.{is_until, is_from, reached, reaches, MayPrecede, InThread}
 use Rattle.upc_verify_orders.proofs.Places.{before-places, at-place, near-places, links}
 
 -- the strict ones of some operations

@@ -7,7 +7,7 @@ use Rattle.upc_values.specs.Orders.{rank, name_of}
 use Rattle.upc_values.specs.Consistent.{IsOrderOf}
 use Rattle.upc_values.proofs.Membership.{each-has, pairs-at, pairs-from, pairs-weaker, precedes-has, precedes-trans, Distinct}
 use Rattle.upc_verify_orders.specs.Strict.{StrictBy, As_listed, As_written, Through}
-use Rattle.upc_verify_orders.specs.code.Reach.{one_more, behind_last, first_place, is_until, is_from, reached, reaches, InThread}
+use Rattle.upc_verify_orders.specs.layer.Reach.{one_more, behind_last, first_place, is_until, is_from, reached, reaches, InThread}
 use Rattle.upc_verify_orders.proofs.Places.{more-head, more-tail, more-most, cond-most, cond-zero, cond-next, more-none}
 use Rattle.upc_verify_orders.proofs.Reaching.{StrictOf, same-name, from-of, until-of, from-is, until-is, near, goes-on}
 

@@ -7,7 +7,7 @@ use Rattle.upc_values.specs.declared.order.Op.{Op}
 use Rattle.upc_values.specs.Lists.{Each, Pairwise}
 use Rattle.upc_values.proofs.Lists.{each-at}
 use Rattle.upc_verify_orders.specs.declared.table.Point.{Point}
-use Rattle.upc_verify_orders.specs.code.Reach.{one_more, behind_last, first_place}
+use Rattle.upc_verify_orders.specs.layer.Reach.{one_more, behind_last, first_place}
 use Rattle.upc_verify_orders.specs.code.Tables.{op_rank, is_until, is_from, reached, reaches, InThread, points, tables, up_to, from_on}
 
 abbrev pub point : ℕ → ℕ → Point

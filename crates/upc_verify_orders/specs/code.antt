@@ -1,4 +1,3 @@
-pub mod Reach
 pub mod Tables
 pub mod Program
 pub mod Values

@@ -4,7 +4,7 @@ ghost use Rattle.std.specs.Prelude.{◌≡◌, ◌<◌, ◌↔◌, List, IsTrue,
 ghost use Rattle.upc_values.specs.Lists.{Each, Pairwise};
 ghost use Rattle.upc_values.specs.Operations.{Operation};
 ghost use Rattle.upc_values.specs.Orders.{name_of};
-ghost use Rattle.upc_verify_orders.specs.code.Reach as operations;
+ghost use Rattle.upc_verify_orders.specs.layer.Reach as operations;
 ghost use Rattle.upc_verify_orders.specs.code.Tables.{InThread};
 
 use crate::table::rank_of;

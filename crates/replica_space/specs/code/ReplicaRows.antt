@@ -12,7 +12,7 @@ use Rattle.replica_space.specs.declared.event.Event.{Event}
 use Rattle.replica_space.specs.layer.Events.{did, delivered}
 use Rattle.replica_space.specs.layer.Spaces.{space_after}
 use Rattle.replica_space.specs.layer.Runs.{value_in}
-use Rattle.replica_space.specs.code.ReplicaOrders.{replica_order}
+use Rattle.replica_space.specs.layer.ReplicaOrders.{replica_order}
 
 -- A location.
 abbrev pub x : Loc

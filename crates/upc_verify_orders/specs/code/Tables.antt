@@ -4,7 +4,7 @@ use Rattle.std.specs.List.{range_with_len}
 use Rattle.upc_values.specs.declared.order.Op.{Op}
 use Rattle.upc_values.specs.Lists.{Each, Pairwise}
 use Rattle.upc_verify_orders.specs.declared.table.Point.{Point}
-use Rattle.upc_verify_orders.specs.code.Reach.{behind_last, first_place}
+use Rattle.upc_verify_orders.specs.layer.Reach.{behind_last, first_place}
 
 -- The place of an operation in program order, by its name.
 abbrev pub op_rank : Op → ℕ

@@ -1,5 +1,5 @@
 use Rattle.std.proofs.Common.{◌++◌, [], ◌∷◌, ap, ◌∙◌}
-use Rattle.upc_values.specs.code.Chunks.{joined}
+use Rattle.upc_values.specs.layer.Chunks.{joined}
 use Rattle.upc_values.proofs.Joining.{joined-behind}
 use Rattle.replica_space_mail.proofs.roll.Roll.push.Goals as goal
 

@@ -23,5 +23,5 @@ returns g c =
     let is = c.len.ensures in
     let last = c.len-2.ensures in
     let all = length-joined c.self.inside.full.items c.self.inside.last.items c.self.invariant.0 in
-    (let e : c.len.result * 4096 + c.len-2.result ≡ length (Rattle.upc_values.specs.code.Chunks.joined c.self.inside.full.items c.self.inside.last.items) = omega arith in e)
+    (let e : c.len.result * 4096 + c.len-2.result ≡ length (Rattle.upc_values.specs.layer.Chunks.joined c.self.inside.full.items c.self.inside.last.items) = omega arith in e)
     ∙ ap (λ l. length l.items) c.self.view_is

@@ -1,5 +1,5 @@
 use Rattle.std.proofs.Common.{◌++◌, [], ◌∷◌, ap, ◌∙◌}
-use Rattle.upc_values.specs.code.Chunks.{joined}
+use Rattle.upc_values.specs.layer.Chunks.{joined}
 use Rattle.upc_values.proofs.Joining.{joined-behind}
 use Rattle.upc_values.proofs.chunks.Chunks.push_reserved.Goals as goal
 

@@ -1,7 +1,7 @@
 use Rattle.std.proofs.Common.{◌≡◌, ◌≤◌, ◌<◌, ◌+◌, ◌^◌, ◌++◌, [], ◌∷◌, length, append-nil, sym, ap, subst, ◌∙◌, inr, arith}
 use Rattle.std.specs.Vec.{vec_capacity}
 use Rattle.std.proofs.lemmas.List.{length-append}
-use Rattle.upc_values.specs.code.Chunks.{joined, AreFull}
+use Rattle.upc_values.specs.layer.Chunks.{joined, AreFull}
 use Rattle.upc_values.proofs.Joining.{joined-push, full-push}
 use Rattle.upc_values.proofs.chunks.Chunks.reserve.Goals as goal
 

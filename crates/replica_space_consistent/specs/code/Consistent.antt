@@ -8,7 +8,7 @@ use Rattle.upc_verify_orders.specs.Strict.{StrictBy}
 use Rattle.replica_space.specs.declared.event.Event.{Event}
 use Rattle.replica_space.specs.layer.Events.{history_in}
 use Rattle.replica_space.specs.layer.Runs.{IsReplicaRun}
-use Rattle.replica_space.specs.code.ReplicaOrders.{operations_in, replica_order, replica_strict_list}
+use Rattle.replica_space.specs.layer.ReplicaOrders.{operations_in, replica_order, replica_strict_list}
 
 -- The operations of a run.
 abbrev pub IsIn : List Event → Operation → Type 0

@@ -5,7 +5,7 @@ use Rattle.std.specs.List.{flat_map}
 use Rattle.block_layout.specs.declared.place.Loc.{Loc}
 use Rattle.upc_values.specs.Lists.{Has, Each, Pairwise}
 use Rattle.replica_space.specs.declared.message.Message.{Message}
-use Rattle.replica_space.specs.code.ReplicaOrders.{Placed, write_of, is_write_of, is_after, with_write}
+use Rattle.replica_space.specs.layer.ReplicaOrders.{Placed, write_of, is_write_of, is_after, with_write}
 use Rattle.replica_space_lists.specs.layer.Keeping.{StandByStamps}
 
 -- An operation, and the writes put directly before it.
