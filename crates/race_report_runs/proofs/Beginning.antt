@@ -1,7 +1,6 @@
 -- The record of a thread of a sound journal begins with the notify before main, answered Done.
-use Rattle.std.proofs.Common.{◌≡◌, ◌∙◌, ◌≤◌, ◌<◌, ◌++◌, ◌==◌, ℕ, ℤ, suc, zero, Bool, true, false, not, List, [], ◌∷◌, length, Option, Some, None, refl, sym, ap, subst, ◌⊎◌, inl, inr, arith, true≢false}
+use Rattle.std.proofs.Common.{◌≡◌, ◌∙◌, ◌≤◌, ◌<◌, ◌++◌, ℕ, Bool, true, false, not, List, [], ◌∷◌, length, Some, None, refl, sym, ap, subst, ◌⊎◌, inl, inr, arith, true≢false}
 use Rattle.block_layout.specs.declared.kind.Shape.{Shape}
-use Rattle.block_layout.specs.declared.run_error.TheConstants.{PHASE_ORDER, BARRIER_IN_FORALL}
 use Rattle.upc_text.specs.declared.place.Place.{Place}
 use Rattle.upc_values.specs.declared.scalar.Mark.TheVariants.{Start}
 use Rattle.upc_values.specs.declared.action.Action.{Action}
@@ -14,28 +13,23 @@ use Rattle.upc_values.specs.declared.record.ToldEnd.{ToldEnd}
 use Rattle.upc_values.specs.declared.record.ToldEnd.TheVariants as told
 use Rattle.upc_values.specs.declared.record.End.{End}
 use Rattle.upc_values.specs.declared.record.End.TheVariants.{Ended, Fault, Budget, ActionsFull, Exit, Halted, Deadlocked}
-use Rattle.upc_values.specs.declared.journal.Journal.{Journal}
-use Rattle.upc_values.specs.declared.journal.Strand.{Strand}
 use Rattle.upc_values.specs.Records.{actions_of, replies_of}
 use Rattle.upc_values.specs.Outcomes.{Outcome, wanted}
 use Rattle.upc_values.specs.Formed.{fits}
-use Rattle.upc_values.specs.Strands.{may_wait, MayWait, StallsStand, Conforms}
+use Rattle.upc_values.specs.Strands.{may_wait, MayWait, StallsStand}
 use Rattle.upc_values.specs.Ends.{OwnEnd}
-use Rattle.upc_values.specs.Sound.{IsStrand, IsSound}
 use Rattle.typed_tree.specs.Programs.{Checked, start_of}
-use Rattle.typed_tree.specs.Tree.{Function}
 use Rattle.private_store.specs.Live.{Live, youngest, controls_in, controls}
-use Rattle.private_store.specs.Beginnings.{begun}
-use Rattle.thread_steps.specs.States.{Thread, State, Res, Val, Over, Unfinished, bind}
-use Rattle.thread_steps.specs.Actions.{ask, answered, answered_from, unless_refused, does, notify, wait, is_controlled}
+use Rattle.thread_steps.specs.States.{Thread, State, Over}
+use Rattle.thread_steps.specs.Actions.{ask, answered, does, notify}
 use Rattle.thread_steps.specs.layer.Fronts.{Begins}
 use Rattle.thread_steps.proofs.Depths.{depth}
-use Rattle.source_meaning.specs.Running.{Running, running}
-use Rattle.source_meaning.specs.Threads.{course, course_from, main_on, main_of, main_place, initial_state, thread_outcome, outcome_of}
-use Rattle.source_meaning.specs.Laws.{beginning, IsFramed, opening_of}
+use Rattle.source_meaning.specs.Running.{running}
+use Rattle.source_meaning.specs.Threads.{main_of, main_place, initial_state, thread_outcome}
+use Rattle.source_meaning.specs.Laws.{beginning}
 use Rattle.source_meaning.proofs.Finished.{begun_depth}
 use Rattle.source_meaning.proofs.Framed.{all_are_framed}
-use Rattle.race_report.specs.Serial.{begins_notified, IsRun}
+use Rattle.race_report.specs.Serial.{begins_notified}
 use Rattle.race_report_runs.specs.code.Sound.{SoundIsARun}
 
 abbrev first : Action

@@ -12,7 +12,7 @@ use Rattle.upc_top_words.proofs.Taken.{one_asked}
 use Rattle.upc_top.specs.declared.done.Done.{Done}
 use Rattle.upc_top.specs.declared.verdict.Verdict.{Verdict}
 use Rattle.upc_top.specs.declared.verdict.Verdict.TheVariants.{Usage, ReadFault, TooLong, Refused, Ran, Recorded, Overlong, Raced, Judged, Passed, Laid, NoMemory}
-use Rattle.upc_top.specs.Words.{prints, runs}
+use Rattle.upc_top.specs.Words.{prints}
 use Rattle.upc_top_output.specs.Layout.{layout}
 use Rattle.upc_top.specs.Sources.{IsAccepted}
 use Rattle.upc_top.proofs.Readings.{never_both, same_checked}

@@ -19,7 +19,7 @@ use Rattle.upc_top_words.specs.Values.{Asked, IsInRange}
 use Rattle.upc_top.specs.declared.verdict.Verdict.{Verdict}
 use Rattle.upc_top.specs.declared.verdict.Verdict.TheVariants.{Usage, ReadFault, TooLong, Refused, Ran, Recorded, Overlong, Raced, Judged, Passed, Laid, NoMemory}
 use Rattle.upc_top.specs.Words.{prints, runs}
-use Rattle.upc_top.specs.Verdicts.{Reading, RunsAs, RacedFrom, ComesFrom, limits_of}
+use Rattle.upc_top.specs.Verdicts.{Reading, RunsAs, RacedFrom, ComesFrom}
 use Rattle.upc_top.specs.code.Records.{IsRecordOf, IsReportOf, IsShown}
 use Rattle.upc_top.proofs.Agreement.{follows-agrees}
 

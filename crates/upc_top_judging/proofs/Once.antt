@@ -1,8 +1,6 @@
 -- Of a record one thing is found.
-use Rattle.std.proofs.Common.{◌≡◌, ◌∙◌, ◌<◌, ◌≤◌, ℕ, zero, suc, List, refl, sym, ap, subst, ◌⊎◌, inl, inr, arith}
+use Rattle.std.proofs.Common.{◌≡◌, ◌∙◌, ◌<◌, ℕ, zero, suc, List, refl, sym, ap, subst, ◌⊎◌, inl, inr, arith}
 use Rattle.std.proofs.lemmas.Bool.{cases_lt}
-use Rattle.upc_values.specs.declared.journal.Journal.{Journal}
-use Rattle.upc_values.specs.declared.order.Orders.{Orders}
 use Rattle.typed_tree.specs.Programs.{Checked}
 use Rattle.run_recorder.proofs.Answering.{one_run_each}
 use Rattle.upc_verify_judge.specs.declared.verdict.Verdict.{Verdict}
@@ -10,10 +8,9 @@ use Rattle.upc_verify_judge.specs.declared.verdict.Verdict.TheVariants.{Sound, B
 use Rattle.upc_verify_judge.specs.Verdicts as judge
 use Rattle.upc_verify_judge.specs.Verdicts.{Case, Part, number, Breaks}
 use Rattle.upc_verify.specs.Verdicts.{IsVerdict, case_of}
-use Rattle.upc_top_judging.specs.declared.judgment.Judgment.{Judgment}
 use Rattle.upc_top_judging.specs.declared.judgment.Judgment.TheVariants.{BadText, OldText, Judged}
-use Rattle.upc_top_judging.specs.Judgments.{IsJudgment, IsJudgedText}
-use Rattle.upc_top_judging.specs.code.Once.{IsLike, OneJudgment}
+use Rattle.upc_top_judging.specs.Judgments.{IsJudgedText}
+use Rattle.upc_top_judging.specs.code.Once.{OneJudgment}
 
 -- the part with a number
 abbrev numbered : ℕ → Part

@@ -2,7 +2,7 @@
 use Rattle.std.specs.Prelude.{ℕ, ◌≡◌, List}
 use Rattle.typed_tree.specs.Programs.{Checked}
 use Rattle.upc_top_judging.specs.declared.judgment.Judgment.{Judgment}
-use Rattle.upc_top_judging.specs.declared.judgment.Judgment.TheVariants.{BadText, OldText, Judged}
+use Rattle.upc_top_judging.specs.declared.judgment.Judgment.TheVariants.{BadText}
 use Rattle.upc_top_judging.specs.Judgments.{IsJudgment}
 
 -- Two judgments are the same, but perhaps for the place in a bad text.
