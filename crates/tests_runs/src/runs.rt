@@ -342,7 +342,6 @@ pub fn may_be(limits: Limits) -> bool
 }
 
 /// The run of a source by picks. Limits that no run may have count as want of memory.
-#[tactic(auto, using(crate::proofs::Running::picked_is_run))]
 pub fn run_of<R: Wait>(
     rt: &R,
     alloc: Global,
