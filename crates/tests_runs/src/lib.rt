@@ -10,6 +10,8 @@ mod machines;
 #[cfg(test)]
 mod orders;
 #[cfg(test)]
+mod races;
+#[cfg(test)]
 mod runs;
 #[cfg(test)]
 mod texts;

@@ -10,11 +10,11 @@ use std::test::Fail;
 use upc_task::Limits;
 use upc_values::Order;
 
-// The name of an operation: its thread, the number of its action there, and whether it is a write.
-type Name = (u32, u32, bool);
+/// The name of an operation: its thread, the number of its action there, and whether it is a write.
+pub type Name = (u32, u32, bool);
 
-// Whether the order has just these operations.
-fn has_names(order: &Order, names: &[Name]) -> bool {
+/// Whether the order has just these operations.
+pub fn has_names(order: &Order, names: &[Name]) -> bool {
     let operations = order.as_slice();
     if operations.len() != names.len() {
         return false;
@@ -51,9 +51,11 @@ struct Run {
     threads: &'static [&'static [Name]],
 }
 
-const R: bool = false;
+/// A read.
+pub const R: bool = false;
 
-const W: bool = true;
+/// A write.
+pub const W: bool = true;
 
 const RUNS: [Run; 7] = [
     // The two barriers of a thread that does nothing between them.

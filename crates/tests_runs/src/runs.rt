@@ -2,6 +2,7 @@
 
 ghost use Rattle.std.specs.Prelude.{◌≤◌, ◌*◌, IfOk, IsTrue};
 ghost use Rattle.upc_values.specs.Consistent.{FollowsBuffers};
+ghost use Rattle.race_report.specs.Serial.{IsRun};
 
 use crate::front::program_of;
 use program_runs::run_program_by;
@@ -348,7 +349,8 @@ pub fn run_of<R: Wait>(
     limits: Limits,
     picks: &[u32],
 ) -> Result<Journal, Stop>
-    ensures { IfOk result FollowsBuffers }
+    ensures follows { IfOk result FollowsBuffers }
+    ensures run { IfOk result IsRun }
 {
     if !may_be(limits) {
         return Err(Stop::Memory);
