@@ -1,3 +1,4 @@
+use Rattle.std.proofs.Common.{refl}
 use Rattle.tests_runs.proofs.Running.{picked_is_run}
 use Rattle.tests_runs.proofs.runs.run_of.Goals as goal
 
