@@ -10,8 +10,8 @@ use Rattle.replica_space.specs.declared.message.Stamp.{Stamp}
 use Rattle.replica_space.specs.declared.message.Message.{Message}
 use Rattle.replica_space.specs.layer.ReplicaOrders.{Placed, write_of, is_after, with_write}
 use Rattle.replica_space_rows.specs.declared.member.Member.{Member}
-use Rattle.replica_space_rows.specs.layer.Rows.{member_in, write_in, with_member}
-use Rattle.replica_space_rows.specs.layer.Rows as rows
+use Rattle.replica_space_rows.specs.code.Rows.{member_in, write_in, with_member}
+use Rattle.replica_space_rows.specs.code.Rows as rows
 
 -- the first place at which a test passes, else the length
 pub found-or-last : {X : Type 0} (p : X → Bool) (xs : List X) → unwrap_or (position p xs) (length xs) ≡ position_or_len p xs

@@ -1,1 +1,1 @@
-pub mod layer
+pub mod code

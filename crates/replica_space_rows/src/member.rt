@@ -1,7 +1,7 @@
 //! Operations in a thread's list.
 
 ghost use Rattle.std.specs.Prelude.{◌≡◌};
-ghost use Rattle.replica_space_rows.specs.layer.Rows as said;
+ghost use Rattle.replica_space_rows.specs.code.Rows as said;
 
 use replica_space::{Message, Stamp};
 use upc_values::{Loc, Op, same_loc};

@@ -3,8 +3,8 @@
 ghost use Rattle.std.specs.Prelude.{◌≡◌, ◌++◌, [], map, position, IfOk, OnOk};
 ghost use Rattle.upc_values.specs.Operations.{accesses_of};
 ghost use Rattle.replica_space.specs.layer.ReplicaOrders.{placed};
-ghost use Rattle.replica_space_rows.specs.layer.Rows as said;
-ghost use Rattle.replica_space_rows.specs.layer.Rows.{member_in};
+ghost use Rattle.replica_space_rows.specs.code.Rows as said;
+ghost use Rattle.replica_space_rows.specs.code.Rows.{member_in};
 
 use crate::member::{Member, Written, is_after, member_of};
 use replica_space::{Message, Stamp};

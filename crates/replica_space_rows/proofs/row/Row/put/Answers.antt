@@ -2,7 +2,7 @@ use Rattle.std.proofs.Common.{◌≡◌, ◌≤◌, not, length, sym, ap, ◌∙
 use Rattle.std.specs.List.{position, position_or_len, insert}
 use Rattle.std.specs.Option.{unwrap_or}
 use Rattle.std.proofs.lemmas.List.Sums.{prefix_len-le-length}
-use Rattle.replica_space_rows.specs.layer.Rows.{is_after, with_member}
+use Rattle.replica_space_rows.specs.code.Rows.{is_after, with_member}
 use Rattle.replica_space_rows.proofs.Members.{found-or-last, inserted}
 use Rattle.replica_space_rows.proofs.row.Row.put.Goals as goal
 
