@@ -1,4 +1,4 @@
-//! The orders of every run with a copy of the shared memory for each thread satisfy UPC's memory model (UPC Appendix B).
+//! The orders of every run with a copy of the memory for each thread satisfy UPC's memory model (UPC Appendix B).
 #![tactic(auto)]
 
 mod law;

@@ -32,8 +32,8 @@ with_slot m (s ∷ ss) =
 abbrev pub IsSlot : Slot → Type 0
 IsSlot s = (x : Placed) (l : Loc) → Has s.before x → is_write_of l x ≡ true → is_write_of l s.own ≡ true
 
--- What a list in slots keeps with the write of a message: it stands for the list with that write, and its own operations
--- that write one location stand by their stamps, so that the slot can be found by halving.
+-- What a list in slots keeps with the write of a message: it stands for the list with that write, and its own
+-- operations that write one location stand by their stamps, so that the slot can be found by halving.
 pub record StandsForList (m : Message) (ss : List Slot) : Type 0 where
   pub is : flat (with_slot m ss) ≡ with_write m (flat ss)
   pub slots : Each IsSlot (with_slot m ss)
