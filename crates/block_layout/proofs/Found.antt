@@ -157,16 +157,6 @@ run_any k start stride (suc n) place cells =
     ∙ ap (λ b. list_any (λ c. hits start stride n c.0 place && k c.1) cells || b) (any_moved k start (n * stride) place cells)
     ∙ any_split (λ c. hits start stride n c.0 place) (λ c. (start + (n * stride + c.0)) == place) k cells
 
--- No cell at a byte.
-pub none_under : (cells : List (ℕ × Kind)) (byte : ℕ) → list_any (λ c. c.0 == byte && true) cells ≡ false → under byte cells ≡ None
-none_under [] byte e = refl
-none_under (c ∷ cells) byte e = by_first (c.0 == byte) e (none_under cells byte)
-  where
-    by_first : (b : Bool) → ((b && true) || list_any (λ c. c.0 == byte && true) cells) ≡ false
-        → (list_any (λ c. c.0 == byte && true) cells ≡ false → under byte cells ≡ None) → cond b (Some c.1) (under byte cells) ≡ None
-    by_first true g f = absurd cc
-    by_first false g f = f g
-
 -- What is under a byte in the second list, where the first has nothing there.
 pub under_behind : (xs ys : List (ℕ × Kind)) (byte : ℕ) → under byte xs ≡ None → under byte (xs ++ ys) ≡ under byte ys
 under_behind [] ys byte e = refl
@@ -201,10 +191,3 @@ pub run_has_none : (r : Repeated) (cells : List (ℕ × Kind)) (place i : ℕ) (
 run_has_none r cells place i k l rest =
     let test : ℕ × Kind → Bool = λ c. hits r.start r.stride r.count c.0 place && same_kind c.1 k in
     run_any (λ x. same_kind x k) r.start r.stride r.count place r.cells ∙ sym rest ∙ ap (list_any test) (drop_all i cells l)
-
-pub run_none : (r : Repeated) (cells : List (ℕ × Kind)) (place i : ℕ) → length cells ≤ i
-    → list_any (λ c. hits r.start r.stride r.count c.0 place && true) (drop i cells) ≡ list_any (λ c. hits r.start r.stride r.count c.0 place && true) r.cells
-    → under place (run_cells r) ≡ None
-run_none r cells place i l rest =
-    let test : ℕ × Kind → Bool = λ c. hits r.start r.stride r.count c.0 place && true in
-    none_under (run_cells r) place (run_any (λ x. true) r.start r.stride r.count place r.cells ∙ sym rest ∙ ap (list_any test) (drop_all i cells l))

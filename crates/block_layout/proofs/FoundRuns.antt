@@ -1,14 +1,13 @@
 -- Which cells of a list of runs begin at a byte.
-use Rattle.std.proofs.Common.{◌≡◌, ℕ, zero, suc, ◌+◌, ◌<◌, ◌≤◌, ◌==◌, ◌&&◌, ◌||◌, ◌↔◌, Bool, true, false, List, [], ◌∷◌, ◌++◌, length, drop, get_or, Some, None, refl, sym, ap, ◌∙◌, arith}
+use Rattle.std.proofs.Common.{◌≡◌, ℕ, zero, suc, ◌+◌, ◌<◌, ◌≤◌, ◌==◌, ◌&&◌, ◌||◌, ◌↔◌, Bool, true, false, List, [], ◌∷◌, ◌++◌, length, drop, get_or, refl, sym, ap, ◌∙◌, arith}
 use Rattle.std.specs.List.{Contains}
 use Rattle.std.proofs.lemmas.List.{drop_all}
 use Rattle.std.proofs.lemmas.List.Folds.{list_any-append}
 use Rattle.block_layout.specs.declared.kind.Kind.{Kind}
-use Rattle.block_layout.specs.Lists.{under}
 use Rattle.block_layout.specs.code.Runs.{Repeated, run_cells, runs_cells}
-use Rattle.block_layout.specs.Shapes.{same_kind, has_cell, CellsWithin}
+use Rattle.block_layout.specs.Shapes.{same_kind, has_cell}
 use Rattle.block_layout.proofs.RunLists.{runs_drop}
-use Rattle.block_layout.proofs.Found.{cell_found, has_exact, under_behind}
+use Rattle.block_layout.proofs.Found.{has_exact}
 
 pub has_append : (xs ys : List (ℕ × Kind)) (place : ℕ) (k : Kind) → has_cell (xs ++ ys) place k ≡ (has_cell xs place k || has_cell ys place k)
 has_append xs ys place k = list_any-append (λ c. c.0 == place && same_kind c.1 k) xs ys
@@ -39,19 +38,6 @@ runs_has_next rs place i d k l is h =
 
 pub runs_has_end : (rs : List Repeated) (place i : ℕ) (k : Kind) → length rs ≤ i → has_cell (runs_cells (drop i rs)) place k ≡ false
 runs_has_end rs place i k l = ap (λ (ts : List Repeated). has_cell (runs_cells ts) place k) (drop_all i rs l)
-
-pub runs_under_next : (rs : List Repeated) (place i : ℕ) (d : Repeated) → i < length rs → d ≡ get_or rs i d → under place (run_cells d) ≡ None
-    → under place (runs_cells (drop (i + 1) rs)) ≡ under place (runs_cells (drop i rs))
-runs_under_next rs place i d l is h =
-    sym (ap (λ xs. under place xs) (runs_drop rs i d l)
-    ∙ under_behind (run_cells (get_or rs i d)) (runs_cells (drop (i + 1) rs)) place (ap (λ (x : Repeated). under place (run_cells x)) (sym is) ∙ h))
-
-pub runs_under_end : (rs : List Repeated) (place i : ℕ) → length rs ≤ i → under place (runs_cells (drop i rs)) ≡ None
-runs_under_end rs place i l = ap (λ (ts : List Repeated). under place (runs_cells ts)) (drop_all i rs l)
-
--- A cell among the first ones is the first at its byte, where the cells do not overlap.
-pub found_before : (xs ys : List (ℕ × Kind)) (size place : ℕ) (k : Kind) → CellsWithin (xs ++ ys) 0 size → has_cell xs place k ≡ true → under place (xs ++ ys) ≡ Some k
-found_before xs ys size place k h e = cell_found (xs ++ ys) 0 size place k h (has_before xs ys place k e)
 
 -- The answer for the whole, by the answers for its parts.
 pub exact_of : (cells : List (ℕ × Kind)) (place : ℕ) (k : Kind) (r : Bool) → r ≡ has_cell cells place k → (r ≡ true) ↔ Contains cells (place, k)

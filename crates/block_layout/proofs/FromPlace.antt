@@ -57,15 +57,11 @@ all_last xs [] from size place h l = refl
 all_last xs (c ∷ ys) from size place h l =
     from_above (c ∷ ys) c.0 size place (next_on xs c ys from size h) (let k = l (omega arith) in omega arith)
 
-pub from_middle : (xs ys zs : List (ℕ × Kind)) (from size place : ℕ) → CellsWithin (xs ++ (ys ++ zs)) from size
-    → (0 < length xs → (0 < length ys) × (first_of ys ≤ place)) → BeginsBehind place zs
-    → cells_from place (xs ++ (ys ++ zs)) ≡ cells_from place ys ++ zs
-from_middle xs ys zs from size place h first last =
-    filter-append (λ c. nat_le place c.0) xs (ys ++ zs)
-    ∙ ap (λ ws. ws ++ cells_from place (ys ++ zs)) (none_first xs (ys ++ zs) from size place h (λ k. (some_more ys zs (first k).0, omega (arith, (first k).1, first_more ys zs (first k).0))))
-    ∙ filter-append (λ c. nat_le place c.0) ys zs
-    ∙ ap (λ ws. cells_from place ys ++ ws)
-    (all_last (xs ++ ys) zs from size place (subst (λ ws. CellsWithin ws from size) (sym (append_assoc xs ys zs)) h) last)
+-- None of the first cells begins at a byte by which the next ones begin.
+pub none_before : (xs ys zs : List (ℕ × Kind)) (from size place : ℕ) → CellsWithin (xs ++ (ys ++ zs)) from size
+    → (0 < length xs → (0 < length ys) × (first_of ys ≤ place)) → cells_from place xs ≡ []
+none_before xs ys zs from size place h first =
+    none_first xs (ys ++ zs) from size place h (λ k. (some_more ys zs (first k).0, omega (arith, (first k).1, first_more ys zs (first k).0)))
   where
     some_more : (ys zs : List (ℕ × Kind)) → 0 < length ys → 0 < length (ys ++ zs)
     some_more [] zs l = absurd (omega arith)
@@ -74,6 +70,16 @@ from_middle xs ys zs from size place h first last =
     first_more : (ys zs : List (ℕ × Kind)) → 0 < length ys → first_of (ys ++ zs) ≡ first_of ys
     first_more [] zs l = absurd (omega arith)
     first_more (c ∷ ys) zs l = refl
+
+pub from_middle : (xs ys zs : List (ℕ × Kind)) (from size place : ℕ) → CellsWithin (xs ++ (ys ++ zs)) from size
+    → (0 < length xs → (0 < length ys) × (first_of ys ≤ place)) → BeginsBehind place zs
+    → cells_from place (xs ++ (ys ++ zs)) ≡ cells_from place ys ++ zs
+from_middle xs ys zs from size place h first last =
+    filter-append (λ c. nat_le place c.0) xs (ys ++ zs)
+    ∙ ap (λ ws. ws ++ cells_from place (ys ++ zs)) (none_before xs ys zs from size place h first)
+    ∙ filter-append (λ c. nat_le place c.0) ys zs
+    ∙ ap (λ ws. cells_from place ys ++ ws)
+    (all_last (xs ++ ys) zs from size place (subst (λ ws. CellsWithin ws from size) (sym (append_assoc xs ys zs)) h) last)
 
 -- Where a run begins.
 pub run_first : (r : Repeated) → 0 < r.count → 0 < length r.cells → (first_of (run_cells r) ≡ r.start + first_of r.cells) × (0 < length (run_cells r))
@@ -109,24 +115,30 @@ copies_behind (suc m) start stride place from size xs (c ∷ cells) some h l k =
     let near = l (omega (arith, less)) (omega arith) in
     omega (arith, first, near)
 
--- The copies of a run from a byte on.
-pub run_from : (r : Repeated) (size place i m : ℕ) → CellsWithin (run_cells r) 0 size → 0 < length r.cells → IsLastBy place i r → i + suc m ≡ r.count
-    → cells_from place (run_cells r) ≡ cells_from place (moved (r.start + i * r.stride) r.cells) ++ moved (r.start + i * r.stride + r.stride) (copies m r.stride r.cells)
-run_from r size place i m h some by all =
+-- A copy of a run, the last that begins by a byte, between those before it and those after it.
+pub record IsMiddle (r : Repeated) (place i m : ℕ) : Type 0 where
+  pub parts : run_cells r
+      ≡ moved r.start (copies i r.stride r.cells) ++ (moved (r.start + i * r.stride) r.cells ++ moved (r.start + i * r.stride + r.stride) (copies m r.stride r.cells))
+  pub by : 0 < length (moved r.start (copies i r.stride r.cells))
+      → (0 < length (moved (r.start + i * r.stride) r.cells)) × (first_of (moved (r.start + i * r.stride) r.cells) ≤ place)
+  pub behind : BeginsBehind place (moved (r.start + i * r.stride + r.stride) (copies m r.stride r.cells))
+
+pub run_middle : (r : Repeated) (size place i m : ℕ) → CellsWithin (run_cells r) 0 size → 0 < length r.cells → IsLastBy place i r → i + suc m ≡ r.count → IsMiddle r place i m
+run_middle r size place i m h some by all =
     let start = r.start + i * r.stride in
     let xs = moved r.start (copies i r.stride r.cells) in
     let zs = moved (start + r.stride) (copies m r.stride r.cells) in
     let parts : run_cells r ≡ xs ++ (moved start r.cells ++ zs) =
     sym (ap (λ n. moved r.start (copies n r.stride r.cells)) all) ∙ sym (copies_joined r.start i (suc m) r.stride r.cells)
     ∙ ap (λ ws. xs ++ ws) (copies_front m start r.stride r.cells) in
-    let within = subst (λ ws. CellsWithin ws 0 size) parts h in
     let further : start + r.stride ≡ r.start + (i + 1) * r.stride = grind arith in
-    let behind : BeginsBehind place zs = copies_behind m start r.stride place 0 size xs r.cells some within
-    (λ k l. let e = by.behind k (omega (arith, all, l)) in omega (arith, e, further)) in
     let first = first_moved start r.cells some in
-    ap (cells_from place) parts
-    ∙ from_middle xs (moved start r.cells) zs 0 size place within
-    (λ k. (first.1, let e = by.before (positive i r.start r.stride r.cells k) in omega (arith, e, first.0))) behind
+    record {
+      parts = parts;
+      by = λ k. (first.1, let e = by.before (positive i r.start r.stride r.cells k) in omega (arith, e, first.0));
+      behind = copies_behind m start r.stride place 0 size xs r.cells some (subst (λ ws. CellsWithin ws 0 size) parts h)
+          (λ k l. let e = by.behind k (omega (arith, all, l)) in omega (arith, e, further));
+    }
   where
     first_moved : (d : ℕ) (cells : List (ℕ × Kind)) → 0 < length cells → (first_of (moved d cells) ≡ d + first_of cells) × (0 < length (moved d cells))
     first_moved d [] l = absurd (omega arith)
@@ -135,6 +147,16 @@ run_from r size place i m h some by all =
     positive : (i start stride : ℕ) (cells : List (ℕ × Kind)) → 0 < length (moved start (copies i stride cells)) → 0 < i
     positive zero start stride cells l = absurd (omega arith)
     positive (suc i) start stride cells l = omega arith
+
+-- The copies of a run from a byte on.
+pub run_from : (r : Repeated) (size place i m : ℕ) → CellsWithin (run_cells r) 0 size → 0 < length r.cells → IsLastBy place i r → i + suc m ≡ r.count
+    → cells_from place (run_cells r) ≡ cells_from place (moved (r.start + i * r.stride) r.cells) ++ moved (r.start + i * r.stride + r.stride) (copies m r.stride r.cells)
+run_from r size place i m h some by all =
+    let start = r.start + i * r.stride in
+    let middle = run_middle r size place i m h some by all in
+    ap (cells_from place) middle.parts
+    ∙ from_middle (moved r.start (copies i r.stride r.cells)) (moved start r.cells) (moved (start + r.stride) (copies m r.stride r.cells)) 0 size place
+    (subst (λ ws. CellsWithin ws 0 size) middle.parts h) middle.by middle.behind
 
 -- Where the copies of a run begin.
 pub copy_fits : (r : Repeated) (i : ℕ) → IsRun r → i < r.count → r.start ≤ 4294967295 → r.start + i * r.stride ≤ 4294967295
@@ -244,7 +266,7 @@ last_is r place copy first q h e by some is least =
           omega (arith, next, whole, first_is, e);
     }
 
-within_left : (xs ys : List (ℕ × Kind)) (from size : ℕ) → CellsWithin (xs ++ ys) from size → CellsWithin xs from size
+pub within_left : (xs ys : List (ℕ × Kind)) (from size : ℕ) → CellsWithin (xs ++ ys) from size → CellsWithin xs from size
 within_left [] ys from size h = tt
 within_left (c ∷ xs) ys from size h = (h.0, h.1, within_left xs ys (c.0 + kind_size c.1) size h.2)
 
@@ -306,6 +328,17 @@ behind_more rs i d tail place l is some less =
     first_stays : (xs ys zs : List (ℕ × Kind)) (place : ℕ) → 0 < length xs → place < first_of xs → BeginsBehind place ((xs ++ ys) ++ zs)
     first_stays [] ys zs place l k = absurd (omega arith)
     first_stays (c ∷ xs) ys zs place l k = λ n. k
+
+-- Cells after which others begin behind a byte too.
+pub behind_append : (xs ys : List (ℕ × Kind)) (place : ℕ) → BeginsBehind place xs → BeginsBehind place ys → BeginsBehind place (xs ++ ys)
+behind_append [] ys place h k = k
+behind_append (c ∷ xs) ys place h k = λ l. h (omega arith)
+
+-- Runs from one on begin where it does.
+pub run_begins : (rs : List Repeated) (i : ℕ) (d : Repeated) (place : ℕ) → i < length rs → d ≡ get_or rs i d
+    → 0 < length (run_cells d) → place < first_of (run_cells d) → BeginsBehind place (runs_cells (drop i rs))
+run_begins rs i d place l is some less =
+    subst (λ ws. BeginsBehind place ws) (append-nil (runs_cells (drop i rs))) (behind_more rs i d [] place l is some less)
 
 pub from_all : (xs : List (ℕ × Kind)) (size place : ℕ) → CellsWithin xs 0 size → BeginsBehind place xs → xs ≡ cells_from place xs
 from_all xs size place h l = sym (all_last [] xs 0 size place h l)

@@ -16,3 +16,4 @@ pub mod FoundRuns
 pub mod SharableCells
 pub mod Told
 pub mod FromPlace
+pub mod UnderByte

@@ -71,16 +71,20 @@ pub(crate) fn list_has(cells: &[(u32, Kind)], place: u32, kind: Kind) -> bool
     cells.iter().any(|cell| cell.0 == place && cell.1.is(kind))
 }
 
-// The kind of the first cell that begins at this byte.
-pub(crate) fn kind_among(cells: &[(u32, Kind)], place: u32) -> Option<Kind>
-    ensures { result ≡ under place cells.now }
+// The kind of the cell that begins at a byte, where each of these cells is moved on by so many bytes.
+pub(crate) fn kind_among(cells: &[(u32, Kind)], start: u32, place: u32) -> Option<Kind>
+    requires { (size : ℕ) × CellsWithin (pure.moved start cells.now) 0 size }
+    ensures { result ≡ under place (pure.moved start cells.now) }
 {
-    for cell in cells {
-        if cell.0 == place {
-            return Some(cell.1);
-        }
+    let left = list_from(cells, start, place);
+    if left.is_empty() {
+        return None;
     }
-    None
+    let (first, kind) = left[0];
+    if u64::from(start) + u64::from(first) != u64::from(place) {
+        return None;
+    }
+    Some(kind)
 }
 
 // The byte at which the first of these cells begins.

@@ -7,7 +7,9 @@ ghost use Rattle.block_layout.specs.code.Runs.{AreNear, runs_cells};
 ghost use Rattle.block_layout.specs.Shapes.{CellsWithin, has_cell};
 ghost use Rattle.block_layout.specs.declared.kind.Kind.{Kind};
 
-use crate::cell_lists::{kind_among, list_has, push_lists, same_cell, same_lists, sharable_list};
+use crate::cell_lists::{
+    begins_by, kind_among, list_has, push_lists, same_cell, same_lists, sharable_list,
+};
 use crate::cells_iter::CellsIter;
 use crate::ends::{end_of_list, end_of_runs};
 use crate::kind::Kind;
@@ -50,16 +52,16 @@ fn are_few(before: usize, count: u32, cells: usize) -> bool {
 }
 
 impl Cells {
-    // The kind of the first cell that begins at this byte.
-    #[tactic(auto, using(crate::proofs::Found::under_behind, crate::proofs::FoundRuns::found_before))]
+    // The kind of the cell that begins at this byte: it is searched for among the last cells, or in one of the runs.
     pub(crate) fn kind_at(&self, place: u32) -> Option<Kind>
         requires { (size : ℕ) × CellsWithin self.now 0 size }
         ensures { result ≡ under place self.now }
     {
-        match kind_in_runs(self.runs.as_slice(), place) {
-            Some(kind) => Some(kind),
-            None => kind_among(self.tail.as_slice(), place),
+        let tail = self.tail.as_slice();
+        if begins_by(tail, place) {
+            return kind_among(tail, 0, place);
         }
+        kind_in_runs(self.runs.as_slice(), place)
     }
 
     /// No cell.

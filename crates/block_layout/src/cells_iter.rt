@@ -8,6 +8,7 @@ ghost use Rattle.block_layout.specs.code.Runs.{AreNear, run_cells, runs_cells};
 use crate::cell_lists::{begins_by, list_from};
 use crate::kind::Kind;
 use crate::run::Run;
+use crate::runs::runs_by;
 use std::marker::Model;
 
 /// The cells that are still to come, in order. Contracts see the list of them.
@@ -82,12 +83,11 @@ impl<'a> CellsIter<'a> {
         if begins_by(tail, place) {
             return CellsIter::of(&[], list_from(tail, 0, place));
         }
-        for at in (0..runs.len()).rev() {
-            if runs[at].first() <= u64::from(place) {
-                return CellsIter::in_run(&runs[at], place, &runs[at + 1..], tail);
-            }
+        let by = runs_by(runs, place);
+        if by == 0 {
+            return CellsIter::of(runs, tail);
         }
-        CellsIter::of(runs, tail)
+        CellsIter::in_run(&runs[by - 1], place, &runs[by..], tail)
     }
 
     // The cells of a run from a byte on, those of these runs, and these after them.

@@ -2,14 +2,14 @@
 
 ghost use Rattle.std.specs.Arc.{arc_value};
 ghost use Rattle.std.specs.List.{list_any};
-ghost use Rattle.std.specs.Prelude.{◌≡◌, ◌+◌, ◌*◌, ◌<◌, ◌≤◌, ◌++◌, IfOk, IfSome, MatchOption, None, true, length};
+ghost use Rattle.std.specs.Prelude.{◌≡◌, ℕ, ◌+◌, ◌*◌, ◌<◌, ◌≤◌, ◌++◌, IfOk, IfSome, length};
 ghost use Rattle.block_layout.specs.Cells as pure;
 ghost use Rattle.block_layout.specs.Lists.{under};
 ghost use Rattle.block_layout.specs.code.Runs.{AreNear, GoesOn, IsLastBy, IsRun};
 ghost use Rattle.block_layout.specs.code.Runs.{first_of, hits, repeated, run_cells};
 ghost use Rattle.block_layout.specs.Shapes.{CellsWithin, has_cell};
 
-use crate::cell_lists::{first_place, same_lists};
+use crate::cell_lists::{first_place, kind_among, same_lists};
 use crate::kind::Kind;
 use std::alloc::{AllocError as OutOfMemory, Global};
 use std::marker::Model;
@@ -214,16 +214,12 @@ impl Run {
         false
     }
 
-    /// The kind of a cell that begins at this byte.
+    /// The kind of the cell that begins at this byte: the copy is found by division, the cell of the pattern by search.
     pub(crate) fn kind_at(&self, place: u32) -> Option<Kind>
-        ensures { MatchOption result (under place (run_cells self.now) ≡ None)
-            (λ kind. has_cell (run_cells self.now) place kind ≡ true) }
+        requires { (size : ℕ) × CellsWithin (run_cells self.now) 0 size }
+        ensures { result ≡ under place (run_cells self.now) }
     {
-        for (offset, kind) in self.cells.as_slice() {
-            if self.reaches(*offset, place) {
-                return Some(*kind);
-            }
-        }
-        None
+        let start = self.start + self.last_by(place) * self.stride;
+        kind_among(self.cells.as_slice(), start, place)
     }
 }

@@ -1,9 +1,9 @@
 //! Lists of runs.
 
-ghost use Rattle.std.specs.Prelude.{◌≡◌, ◌++◌, ◌+◌, ◌*◌, ◌≤◌, [], IfOk, OnOk, MatchOption, None, true};
+ghost use Rattle.std.specs.Prelude.{◌≡◌, ℕ, ◌++◌, ◌+◌, ◌-◌, ◌*◌, ◌<◌, ◌≤◌, [], length, drop, slice_index_or, IfOk, OnOk};
 ghost use Rattle.block_layout.specs.Moved.{moved, copies};
 ghost use Rattle.block_layout.specs.Lists.{under};
-ghost use Rattle.block_layout.specs.code.Runs.{AreNear, run_cells, runs_cells};
+ghost use Rattle.block_layout.specs.code.Runs.{AreNear, BeginsBehind, Repeated, first_of, run_cells, runs_cells};
 ghost use Rattle.block_layout.specs.Shapes.{CellsWithin, has_cell};
 
 use crate::kind::Kind;
@@ -102,15 +102,35 @@ pub(crate) fn runs_have(runs: &[Run], place: u32, kind: Kind) -> bool
     false
 }
 
-// The kind of a cell of these runs that begins at this byte.
-pub(crate) fn kind_in_runs(runs: &[Run], place: u32) -> Option<Kind>
-    ensures { MatchOption result (under place (runs_cells runs.now) ≡ None)
-        (λ kind. has_cell (runs_cells runs.now) place kind ≡ true) }
+// How many of these runs begin at a byte or before it, where they ascend: the last of them does, and what follows it
+// begins after that byte.
+pub(crate) fn runs_by(runs: &[Run], place: u32) -> usize
+    ensures within { result ≤ length runs.now }
+    ensures by { (d : Repeated) → let last = run_cells (slice_index_or runs.now (result - 1) d) in
+        0 < result → (0 < length last) × (first_of last ≤ place) }
+    ensures behind { BeginsBehind place (runs_cells (drop result runs.now)) }
 {
-    for run in runs {
-        if let Some(kind) = run.kind_at(place) {
-            return Some(kind);
+    let mut low = 0;
+    let mut high = runs.len();
+    while low < high {
+        let middle = low + (high - low) / 2;
+        if runs[middle].first() <= u64::from(place) {
+            low = middle + 1;
+        } else {
+            high = middle;
         }
     }
-    None
+    low
+}
+
+// The kind of the cell of these runs that begins at this byte.
+pub(crate) fn kind_in_runs(runs: &[Run], place: u32) -> Option<Kind>
+    requires { (size : ℕ) × CellsWithin (runs_cells runs.now) 0 size }
+    ensures { result ≡ under place (runs_cells runs.now) }
+{
+    let by = runs_by(runs, place);
+    if by == 0 {
+        return None;
+    }
+    runs[by - 1].kind_at(place)
 }

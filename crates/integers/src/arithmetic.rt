@@ -1,16 +1,16 @@
 //! What operators give at integers.
 
-ghost use Rattle.std.specs.Prelude.{◌≡◌, ◌≢◌, ◌≤◌, ◌<◌, ◌^◌, ◌↔◌, ◌⊎◌, false, pos, ◌*ℤ◌, ◌≤ℤ◌, ◌<ℤ◌, int_div};
+ghost use Rattle.std.specs.Prelude.{◌≡◌, ◌≢◌, ◌≤◌, ◌<◌, ◌^◌, ◌↔◌, ◌⊎◌, pos, ◌+ℤ◌, ◌-ℤ◌, ◌*ℤ◌, ◌≤ℤ◌, ◌<ℤ◌, int_div};
 ghost use Rattle.std.specs.Prelude.{int_rem, neg_ℤ, unsigned_abs, IsTrue, IfOk, IfErr, IsErrOf};
-ghost use Rattle.integers.specs.Integers.{IsLost, width, is_signed, InKind, IsPromoted, converted, brought};
-ghost use Rattle.integers.specs.Operators.{truth, bits_of, is_count, quotient_of, remainder_of, left_shift_of};
+ghost use Rattle.integers.specs.Integers.{IsLost, width, InKind, IsPromoted, converted, brought};
+ghost use Rattle.integers.specs.Operators.{truth, is_count, quotient_of, remainder_of, left_shift_of};
 ghost use Rattle.integers.specs.Operators.{right_shift_of, binary_of, unary_of, binary_kind, unary_kind, RightFits};
 ghost use Rattle.integers.specs.Operators.{IsDivision, Overflows, LacksCount};
 
-use crate::integer::{bring, is_signed, lies_in, rest, values_of, wrap};
+use crate::integer::{bring, bring_int, is_signed, lies_in, low_bits, taken};
 use crate::operator::{BinOp, UnOp};
+use block_layout::Kind;
 use block_layout::run_error::{SHIFT_RANGE, SIGNED_OVERFLOW, ZERO_DIVISOR};
-use block_layout::{Kind, floor_quotient};
 
 /// What a binary operator gives at operands of a promoted kind (C99 6.5.5 to 6.5.12). A shift's count may be of any
 /// promoted kind. A comparison gives 0 or 1.
@@ -34,8 +34,8 @@ pub fn binary(op: BinOp, kind: Kind, a: i128, b: i128) -> Result<i128, u8>
         BinOp::Multiply => product(kind, a, b),
         BinOp::Divide => quotient(kind, a, b),
         BinOp::Remainder => remainder(kind, a, b),
-        BinOp::Add => bring(kind, a + b),
-        BinOp::Subtract => bring(kind, a - b),
+        BinOp::Add => sum(kind, a, b),
+        BinOp::Subtract => difference(kind, a, b),
         BinOp::ShiftLeft => shift_left(kind, a, b),
         BinOp::ShiftRight => shift_right(kind, a, b),
         BinOp::Less => Ok(truth(a < b)),
@@ -44,9 +44,9 @@ pub fn binary(op: BinOp, kind: Kind, a: i128, b: i128) -> Result<i128, u8>
         BinOp::GreaterEqual => Ok(truth(a >= b)),
         BinOp::Equal => Ok(truth(a == b)),
         BinOp::NotEqual => Ok(truth(a != b)),
-        BinOp::BitAnd => Ok(wrap(i128::from(bits(kind, a) & bits(kind, b)), kind)),
-        BinOp::BitXor => Ok(wrap(i128::from(bits(kind, a) ^ bits(kind, b)), kind)),
-        BinOp::BitOr => Ok(wrap(i128::from(bits(kind, a) | bits(kind, b)), kind)),
+        BinOp::BitAnd => Ok(taken(low_bits(a) & low_bits(b), kind)),
+        BinOp::BitXor => Ok(taken(low_bits(a) ^ low_bits(b), kind)),
+        BinOp::BitOr => Ok(taken(low_bits(a) | low_bits(b), kind)),
     }
 }
 
@@ -77,12 +77,36 @@ pub fn truth(holds: bool) -> i128
     if holds { 1 } else { 0 }
 }
 
-// The bits of a value in two's complement.
-fn bits(kind: Kind, v: i128) -> u64
-    requires { unsigned_abs v ≤ 2 ^ 64 }
-    ensures { result ≡ bits_of kind v }
+// The sum of two values of a kind; of int in 64 bits.
+#[inline(always)]
+fn sum(kind: Kind, a: i128, b: i128) -> Result<i128, u8>
+    requires left { InKind a kind }
+    requires right { InKind b kind }
+    ensures value { result ≡ brought kind (a +ℤ b) }
+    ensures range { IfOk result (λ r. InKind r kind) }
+    ensures overflow { IsErrOf result SIGNED_OVERFLOW ↔ IsLost kind (a +ℤ b) }
+    ensures code { IfErr result (λ code. code ≡ SIGNED_OVERFLOW) }
 {
-    rest(v, values_of(kind)) as u64
+    match kind {
+        Kind::Int => bring_int(a as i64 + b as i64),
+        _ => bring(kind, a + b),
+    }
+}
+
+// Their difference.
+#[inline(always)]
+fn difference(kind: Kind, a: i128, b: i128) -> Result<i128, u8>
+    requires left { InKind a kind }
+    requires right { InKind b kind }
+    ensures value { result ≡ brought kind (a -ℤ b) }
+    ensures range { IfOk result (λ r. InKind r kind) }
+    ensures overflow { IsErrOf result SIGNED_OVERFLOW ↔ IsLost kind (a -ℤ b) }
+    ensures code { IfErr result (λ code. code ≡ SIGNED_OVERFLOW) }
+{
+    match kind {
+        Kind::Int => bring_int(a as i64 - b as i64),
+        _ => bring(kind, a - b),
+    }
 }
 
 fn product(kind: Kind, a: i128, b: i128) -> Result<i128, u8>
@@ -94,10 +118,10 @@ fn product(kind: Kind, a: i128, b: i128) -> Result<i128, u8>
     ensures overflow { IsErrOf result SIGNED_OVERFLOW ↔ IsLost kind (a *ℤ b) }
     ensures code { IfErr result (λ code. code ≡ SIGNED_OVERFLOW) }
 {
-    if is_signed(kind) {
-        bring(kind, signed_product(a, b))
-    } else {
-        Ok(unsigned_product(kind, a, b))
+    match kind {
+        Kind::Int => bring_int(a as i64 * b as i64),
+        Kind::Long => bring(kind, signed_product(a, b)),
+        _ => Ok(unsigned_product(kind, a, b)),
     }
 }
 
@@ -111,15 +135,14 @@ fn signed_product(a: i128, b: i128) -> i128
     a * b
 }
 
-// The product of two numbers of up to 64 bits that are not negative, modulo the number of an unsigned kind's values.
+// The product of two numbers of up to 64 bits that are not negative, converted to a kind.
 fn unsigned_product(kind: Kind, a: i128, b: i128) -> i128
-    requires unsigned { is_signed kind ≡ false }
     requires left { (pos 0 ≤ℤ a) × (a <ℤ pos (2 ^ 64)) }
     requires right { (pos 0 ≤ℤ b) × (b <ℤ pos (2 ^ 64)) }
     ensures value { result ≡ converted kind (a *ℤ b) }
     ensures range { InKind result kind }
 {
-    (a as u128 * b as u128 % values_of(kind)) as i128
+    taken((a as u64).wrapping_mul(b as u64), kind)
 }
 
 fn quotient(kind: Kind, a: i128, b: i128) -> Result<i128, u8>
@@ -135,45 +158,23 @@ fn quotient(kind: Kind, a: i128, b: i128) -> Result<i128, u8>
     if b == 0 {
         return Err(ZERO_DIVISOR);
     }
-    bring(kind, divided(a, b))
+    bring(kind, divided(kind, a, b))
 }
 
-// Whether a number has at most 31 bits and is none of the ends of their range: such numbers are divided fast.
-fn is_short(v: i128) -> bool
-    ensures { IsTrue result ↔ (unsigned_abs v < 2 ^ 31) }
-{
-    -2_147_483_648 < v && v < 2_147_483_648
-}
-
-// The quotient of short numbers, rounded towards zero.
-fn short_quotient(dividend: i32, by: i32) -> i32
-    requires short { unsigned_abs dividend < 2 ^ 31 }
-    requires divisor { by ≢ pos 0 }
-    ensures { result ≡ int_div dividend by }
-{
-    dividend / by
-}
-
-// What it leaves.
-fn short_rest(dividend: i32, by: i32) -> i32
-    requires short { unsigned_abs dividend < 2 ^ 31 }
-    requires divisor { by ≢ pos 0 }
-    ensures { result ≡ int_rem dividend by }
-{
-    dividend % by
-}
-
-// The quotient, rounded towards zero.
-fn divided(a: i128, b: i128) -> i128
-    requires left { unsigned_abs a ≤ 2 ^ 64 }
+// The quotient, rounded towards zero: in 64 bits, but for that of the least number of 64 bits by -1.
+fn divided(kind: Kind, a: i128, b: i128) -> i128
+    requires left { InKind a kind }
+    requires right { InKind b kind }
     requires divisor { b ≢ pos 0 }
     ensures value { result ≡ int_div a b }
     ensures bound { unsigned_abs result ≤ unsigned_abs a }
 {
-    if is_short(a) && is_short(b) {
-        return i128::from(short_quotient(a as i32, b as i32));
+    match kind {
+        Kind::Int | Kind::UInt => i128::from(a as i64 / b as i64),
+        Kind::ULong => i128::from(a as u64 / b as u64),
+        Kind::Long if b != -1 => i128::from(a as i64 / b as i64),
+        _ => a / b,
     }
-    a / b
 }
 
 fn remainder(kind: Kind, a: i128, b: i128) -> Result<i128, u8>
@@ -189,22 +190,25 @@ fn remainder(kind: Kind, a: i128, b: i128) -> Result<i128, u8>
     if b == 0 {
         return Err(ZERO_DIVISOR);
     }
-    if !lies_in(kind, divided(a, b)) {
+    if !lies_in(kind, divided(kind, a, b)) {
         return Err(SIGNED_OVERFLOW);
     }
-    Ok(left_over(a, b))
+    Ok(left_over(kind, a, b))
 }
 
 // What the quotient rounded towards zero leaves.
-fn left_over(a: i128, b: i128) -> i128
-    requires left { unsigned_abs a ≤ 2 ^ 64 }
+fn left_over(kind: Kind, a: i128, b: i128) -> i128
+    requires left { InKind a kind }
+    requires right { InKind b kind }
     requires divisor { b ≢ pos 0 }
     ensures value { result ≡ int_rem a b }
 {
-    if is_short(a) && is_short(b) {
-        return i128::from(short_rest(a as i32, b as i32));
+    match kind {
+        Kind::Int | Kind::UInt => i128::from(a as i64 % b as i64),
+        Kind::ULong => i128::from(a as u64 % b as u64),
+        Kind::Long if b != -1 => i128::from(a as i64 % b as i64),
+        _ => a % b,
     }
-    a % b
 }
 
 fn shift_left(kind: Kind, a: i128, b: i128) -> Result<i128, u8>
@@ -222,11 +226,11 @@ fn shift_left(kind: Kind, a: i128, b: i128) -> Result<i128, u8>
     if !is_count(kind, b) {
         return Err(SHIFT_RANGE);
     }
-    let factor = power_of_two(b as u32);
+    let factor = i128::from(power_of_two(b as u32));
     if is_signed(kind) {
-        bring(kind, signed_product(a, i128::from(factor)))
+        bring(kind, signed_product(a, factor))
     } else {
-        Ok(unsigned_product(kind, a, i128::from(factor)))
+        Ok(unsigned_product(kind, a, factor))
     }
 }
 
@@ -251,7 +255,10 @@ fn shift_right(kind: Kind, a: i128, b: i128) -> Result<i128, u8>
     if !is_count(kind, b) {
         return Err(SHIFT_RANGE);
     }
-    Ok(floor_quotient(a, power_of_two(b as u32)))
+    match kind {
+        Kind::Int | Kind::Long => Ok(i128::from(a as i64 >> b as u32)),
+        _ => Ok(i128::from(a as u64 >> b as u32)),
+    }
 }
 
 // Whether a number is a count of bits below the width of a kind.

@@ -2,7 +2,7 @@
 
 ghost use Rattle.std.specs.Prelude.{◌≡◌, ◌≤◌, ◌<◌, ◌^◌, ◌↔◌, pos, unsigned_abs, IsTrue, IfOk, IfErr, IsErrOf};
 ghost use Rattle.block_layout.specs.Floor.{floor_mod};
-ghost use Rattle.integers.specs.Integers.{IsLost, is_signed, least, values, in_kind, InKind, IsInteger, AreCongruent};
+ghost use Rattle.integers.specs.Integers.{IsLost, is_signed, in_kind, InKind, IsInteger, AreCongruent};
 ghost use Rattle.integers.specs.Integers.{converted, brought};
 
 use block_layout::Kind;
@@ -20,7 +20,7 @@ pub fn convert(v: i128, kind: Kind) -> i128
     wrap(v, kind)
 }
 
-// The same for any number that arithmetic can give. Most lie in the range already, and a division takes long.
+// The same for any number that arithmetic can give.
 #[inline(always)]
 pub fn wrap(v: i128, kind: Kind) -> i128
     requires { unsigned_abs v ≤ 2 ^ 126 }
@@ -29,11 +29,35 @@ pub fn wrap(v: i128, kind: Kind) -> i128
     ensures congruent { AreCongruent result v kind }
     ensures bound { unsigned_abs result ≤ 2 ^ 64 }
 {
-    if lies_in(kind, v) {
-        return v;
+    taken(low_bits(v), kind)
+}
+
+// The lowest 64 bits of a number in two's complement.
+#[inline(always)]
+pub fn low_bits(v: i128) -> u64
+    ensures { result ≡ floor_mod v (2 ^ 64) }
+{
+    (v.cast_unsigned() & 18_446_744_073_709_551_615) as u64
+}
+
+// The number of a kind that has the lowest of these bits, as many as the kind is wide.
+#[inline(always)]
+pub fn taken(bits: u64, kind: Kind) -> i128
+    ensures value { result ≡ converted kind (pos bits) }
+    ensures range { InKind result kind }
+    ensures bound { unsigned_abs result ≤ 2 ^ 64 }
+{
+    match kind {
+        Kind::Char => i128::from(((bits & 255) as u8).cast_signed()),
+        Kind::UChar => i128::from(bits & 255),
+        Kind::Short => i128::from(((bits & 65_535) as u16).cast_signed()),
+        Kind::UShort => i128::from(bits & 65_535),
+        Kind::Int => i128::from(((bits & 4_294_967_295) as u32).cast_signed()),
+        Kind::UInt => i128::from(bits & 4_294_967_295),
+        Kind::Long => i128::from(bits.cast_signed()),
+        Kind::ULong => i128::from(bits),
+        _ => 0,
     }
-    let least = least_of(kind);
-    least + rest(v - least, values_of(kind))
 }
 
 // An exact result at a kind: an unsigned one wraps, a signed one has to lie in the range.
@@ -45,13 +69,26 @@ pub fn bring(kind: Kind, v: i128) -> Result<i128, u8>
     ensures overflow { IsErrOf result SIGNED_OVERFLOW ↔ IsLost kind v }
     ensures code { IfErr result (λ code. code ≡ SIGNED_OVERFLOW) }
 {
-    if !is_signed(kind) {
-        return Ok(wrap(v, kind));
-    }
-    if !lies_in(kind, v) {
+    let near = wrap(v, kind);
+    if is_signed(kind) && near != v {
         return Err(SIGNED_OVERFLOW);
     }
-    Ok(v)
+    Ok(near)
+}
+
+// The same at int, of a number of 64 bits.
+#[inline(always)]
+pub fn bring_int(v: i64) -> Result<i128, u8>
+    ensures value { result ≡ brought Kind.Int v }
+    ensures range { IfOk result (λ r. InKind r Kind.Int) }
+    ensures overflow { IsErrOf result SIGNED_OVERFLOW ↔ IsLost Kind.Int v }
+    ensures code { IfErr result (λ code. code ≡ SIGNED_OVERFLOW) }
+{
+    let near = ((v.cast_unsigned() & 4_294_967_295) as u32).cast_signed();
+    if i64::from(near) != v {
+        return Err(SIGNED_OVERFLOW);
+    }
+    Ok(i128::from(near))
 }
 
 // Whether a kind has negative values.
@@ -68,45 +105,5 @@ pub fn lies_in(kind: Kind, v: i128) -> bool
     ensures value { result ≡ in_kind kind v }
     ensures exact { IsTrue result ↔ InKind v kind }
 {
-    let least = least_of(kind);
-    least <= v && v < least + values_of(kind) as i128
-}
-
-// The least value of a kind.
-pub fn least_of(kind: Kind) -> i128
-    ensures value { result ≡ least kind }
-    ensures bound { unsigned_abs result ≤ 2 ^ 63 }
-{
-    match kind {
-        Kind::Char => -128,
-        Kind::Short => -32_768,
-        Kind::Int => -2_147_483_648,
-        Kind::Long => -9_223_372_036_854_775_808,
-        _ => 0,
-    }
-}
-
-// How many values a kind has.
-pub fn values_of(kind: Kind) -> u128
-    ensures value { result ≡ values kind }
-    ensures some { 0 < result }
-    ensures bound { result ≤ 2 ^ 64 }
-{
-    match kind {
-        Kind::Char | Kind::UChar => 256,
-        Kind::Short | Kind::UShort => 65_536,
-        Kind::Int | Kind::UInt => 4_294_967_296,
-        Kind::Long | Kind::ULong => 18_446_744_073_709_551_616,
-        _ => 1,
-    }
-}
-
-// What is left of a number by a divisor, rounding the quotient down.
-pub fn rest(z: i128, divisor: u128) -> i128
-    requires some { 0 < divisor }
-    requires small { divisor ≤ 2 ^ 64 }
-    ensures value { result ≡ pos (floor_mod z divisor) }
-    ensures bound { unsigned_abs result < divisor }
-{
-    z.rem_euclid(divisor as i128)
+    taken(low_bits(v), kind) == v
 }

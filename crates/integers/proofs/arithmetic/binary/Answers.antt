@@ -1,28 +1,8 @@
-use Rattle.std.proofs.Common.{arith, FitsSigned, bit_or, ◌<◌, ◌^◌}
-use Rattle.std.proofs.lemmas.Int.{ints, to_z-of_z}
+use Rattle.std.proofs.Common.{rules, FitsSigned, Ok, ap, ◌∙◌}
+use Rattle.std.proofs.lemmas.Int.{to_z-of_z}
 use Rattle.std.specs.Int.{w128}
-use Rattle.std.proofs.lemmas.Nat.{or_lt}
-use Rattle.integers.proofs.Conversions.{brought-as, lost-as, kind-near, right-near}
+use Rattle.integers.proofs.Conversions.{low-and, low-xor, low-or}
 use Rattle.integers.proofs.arithmetic.binary.Goals as goal
-
-pub returns-in-Add-clause-value : goal.returns-in-Add-clause-value
-returns-in-Add-clause-value c = rw c.in-Add.is (brought-as c.args.kind _ _ _ c.bring.ensures.value (omega (arith, ints, kind-near c.args.a c.args.kind c.requires.left, right-near c.args.op c.args.kind c.args.b c.requires.right)))
-
-pub returns-in-Subtract-clause-value : goal.returns-in-Subtract-clause-value
-returns-in-Subtract-clause-value c = rw c.in-Subtract.is (brought-as c.args.kind _ _ _ c.bring-in-Subtract.ensures.value (omega (arith, ints, kind-near c.args.a c.args.kind c.requires.left, right-near c.args.op c.args.kind c.args.b c.requires.right)))
-
-pub wrap-requires-in-BitOr : goal.wrap-requires-in-BitOr
-wrap-requires-in-BitOr c =
-    let ors : bit_or c.bits-in-BitOr.result c.bits-in-BitOr-2.result < 2 ^ 64 = or_lt 64 _ _ c.bits-in-BitOr.type_inv c.bits-in-BitOr-2.type_inv in
-    omega (arith, ints, ors, c.from-in-BitOr.ensures)
-
-pub returns-in-Add-clause-overflow : goal.returns-in-Add-clause-overflow
-returns-in-Add-clause-overflow c =
-    rw c.in-Add.is (lost-as c.args.kind _ _ _ c.bring.ensures.overflow (omega (arith, ints, kind-near c.args.a c.args.kind c.requires.left, right-near c.args.op c.args.kind c.args.b c.requires.right)))
-
-pub returns-in-Subtract-clause-overflow : goal.returns-in-Subtract-clause-overflow
-returns-in-Subtract-clause-overflow c =
-    rw c.in-Subtract.is (lost-as c.args.kind _ _ _ c.bring-in-Subtract.ensures.overflow (omega (arith, ints, kind-near c.args.a c.args.kind c.requires.left, right-near c.args.op c.args.kind c.args.b c.requires.right)))
 
 pub returns-in-Divide-clause-overflow : goal.returns-in-Divide-clause-overflow
 returns-in-Divide-clause-overflow c =
@@ -35,3 +15,27 @@ returns-in-ShiftLeft-clause-overflow c =
     let left : FitsSigned w128 c.args.a = c.ranges.a in
     let right : FitsSigned w128 c.args.b = c.ranges.b in
     rw c.in-ShiftLeft.is (simp to_z-of_z at c.shift_left.ensures.overflow)
+
+pub returns-in-BitAnd-clause-value : goal.returns-in-BitAnd-clause-value
+returns-in-BitAnd-clause-value c =
+    let left : FitsSigned w128 c.args.a = c.ranges.a in
+    let right : FitsSigned w128 c.args.b = c.ranges.b in
+    let mine : FitsSigned w128 c.taken.result = search rules in
+    let both = low-and c.args.a c.args.b c.args.kind c.low_bits.result c.low_bits-in-BitAnd.result (simp to_z-of_z at c.low_bits.ensures) (simp to_z-of_z at c.low_bits-in-BitAnd.ensures) in
+    rw c.in-BitAnd.is (ap Ok (to_z-of_z w128 c.taken.result mine ∙ c.taken.ensures.value ∙ both))
+
+pub returns-in-BitXor-clause-value : goal.returns-in-BitXor-clause-value
+returns-in-BitXor-clause-value c =
+    let left : FitsSigned w128 c.args.a = c.ranges.a in
+    let right : FitsSigned w128 c.args.b = c.ranges.b in
+    let mine : FitsSigned w128 c.taken-in-BitXor.result = search rules in
+    let both = low-xor c.args.a c.args.b c.args.kind c.low_bits-in-BitXor.result c.low_bits-in-BitXor-2.result (simp to_z-of_z at c.low_bits-in-BitXor.ensures) (simp to_z-of_z at c.low_bits-in-BitXor-2.ensures) in
+    rw c.in-BitXor.is (ap Ok (to_z-of_z w128 c.taken-in-BitXor.result mine ∙ c.taken-in-BitXor.ensures.value ∙ both))
+
+pub returns-in-BitOr-clause-value : goal.returns-in-BitOr-clause-value
+returns-in-BitOr-clause-value c =
+    let left : FitsSigned w128 c.args.a = c.ranges.a in
+    let right : FitsSigned w128 c.args.b = c.ranges.b in
+    let mine : FitsSigned w128 c.taken-in-BitOr.result = search rules in
+    let both = low-or c.args.a c.args.b c.args.kind c.low_bits-in-BitOr.result c.low_bits-in-BitOr-2.result (simp to_z-of_z at c.low_bits-in-BitOr.ensures) (simp to_z-of_z at c.low_bits-in-BitOr-2.ensures) in
+    rw c.in-BitOr.is (ap Ok (to_z-of_z w128 c.taken-in-BitOr.result mine ∙ c.taken-in-BitOr.ensures.value ∙ both))
