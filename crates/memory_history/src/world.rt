@@ -1,6 +1,8 @@
 //! The shared memory as a history.
 
-ghost use Rattle.std.specs.Prelude.{◌≡◌, ◌<◌, ◌^◌, [], length, true, ◌↔◌, IsTrue, IfOk, OnErr, IfSome, None, is_some};
+ghost use Rattle.std.specs.Prelude.{◌≡◌, ◌<◌, ◌^◌, [], length, true, false, ◌↔◌, IsTrue, IfOk, OnErr, IfSome};
+ghost use Rattle.std.specs.Prelude.{Some, None, is_some};
+ghost use Rattle.upc_values.specs.declared.action.Action.TheVariants.{Read};
 ghost use Rattle.upc_values.specs.Openings.{IsOpening};
 ghost use Rattle.upc_values.specs.History as history;
 ghost use Rattle.upc_values.specs.History.{IsLegal, EachBelow};
@@ -166,6 +168,14 @@ impl World {
             Action::Lock(lock) => !self.parts.would_wait(thread, *lock),
             _ => true,
         }
+    }
+
+    /// The last value written to a location, or the initial one. It takes no memory.
+    pub fn value_at(&self, loc: Loc) -> Scalar
+        requires { IsWellFormed self.now.0 self.now.1 (Read loc false) }
+        ensures { Some result ≡ history.held self.now.0 self.now.1 loc }
+    {
+        self.parts.heap.load(loc)
     }
 
     /// How many entries there are.

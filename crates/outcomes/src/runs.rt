@@ -26,9 +26,9 @@ fn row_of(alloc: Global, picks: &[u32], journal: &Journal) -> Result<Row, OutOfM
     Ok(Row {
         count: 1,
         picks: Vec::from_slice(alloc, picks)?,
-        status: status_of(journal),
+        status: status_of(journal.strands.as_slice()),
         text: output_text(alloc, &journal.history)?,
-        line: run_text(alloc, journal)?,
+        line: run_text(alloc, journal.strands.as_slice())?,
     })
 }
 

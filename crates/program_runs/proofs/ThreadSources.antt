@@ -13,7 +13,7 @@ use Rattle.gen_stmt.specs.layer.Meanings.{MeansProgram}
 use Rattle.upc_task.specs.declared.limits.Limits.{Limits}
 use Rattle.upc_task.specs.layer.Sources.{GivesOutcomes}
 use Rattle.upc_rounds.specs.layer.Openings as rounds
-use Rattle.upc_rounds.proofs.Openings.{kept_opening}
+use Rattle.upc_rounds_base.proofs.Openings.{kept_opening}
 use Rattle.upc_values.specs.declared.action.Reply.{Reply}
 use Rattle.upc_values.specs.declared.journal.Journal.{Journal}
 use Rattle.upc_values.specs.Outcomes.{Outcome}
@@ -25,7 +25,7 @@ use Rattle.upc_values.specs.Locks.{LocksExclude}
 use Rattle.collective_laws.proofs.Laws.{collectives_hold}
 use Rattle.order_builder.proofs.Satisfying.{sound-consistent}
 use Rattle.program_runs.specs.Runs.{IsRunOf}
-use Rattle.upc_rounds.proofs.Begun.{same_opening}
+use Rattle.upc_rounds_base.proofs.Begun.{same_opening}
 
 module _ (program : Program) where
   abbrev pub parts : Checked

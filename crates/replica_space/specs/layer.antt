@@ -1,4 +1,1 @@
-pub mod Events
-pub mod Runs
-pub mod Spaces
-pub mod ReplicaOrders
+pub mod ReplicaRows

@@ -1,7 +1,7 @@
 //! Writes with their stamps.
 
 ghost use Rattle.std.specs.Prelude.{◌≡◌};
-ghost use Rattle.replica_space.specs.layer.Spaces as said;
+ghost use Rattle.replica_space.specs.Spaces as said;
 
 use upc_values::{Loc, Scalar};
 

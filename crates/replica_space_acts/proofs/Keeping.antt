@@ -7,15 +7,15 @@ use Rattle.upc_values.specs.Openings.{Opening, IsOpening}
 use Rattle.upc_values.specs.Formed.{AreWellFormed}
 use Rattle.replica_space.specs.declared.message.Message.{Message}
 use Rattle.replica_space.specs.declared.event.Event.{Event}
-use Rattle.replica_space.specs.layer.Events.{delivered, entry_by, history_in}
-use Rattle.replica_space.specs.layer.Spaces.{begun}
+use Rattle.replica_space.specs.Events.{delivered, entry_by, history_in}
+use Rattle.replica_space.specs.Spaces.{begun}
 use Rattle.replica_space_quiet.specs.layer.Loud.{loud}
 use Rattle.replica_space_copies.specs.layer.Copies.{CopiesState, threads_of, space_of}
 use Rattle.replica_space_copies.specs.layer.Same.{IsSame}
 use Rattle.replica_space_mail.specs.layer.Deliveries.{Follows, deliveries}
 use Rattle.replica_space_acts.specs.code.Sound.{AreReplicas}
 
-cons-append : (e : Option Entry) (xs ys : List Entry) → cons_option e (xs ++ ys) ≡ cons_option e xs ++ ys
+pub cons-append : (e : Option Entry) (xs ys : List Entry) → cons_option e (xs ++ ys) ≡ cons_option e xs ++ ys
 cons-append (Some e) xs ys = refl
 cons-append None xs ys = refl
 
@@ -52,9 +52,9 @@ delivered-one new old t to from (m ∷ ms) ne e =
     append_cancel_right new (old ++ delivered t to from ∷ []) (deliveries t to from ms)
     (e ∙ sym (append_assoc old (delivered t to from ∷ []) (deliveries t to from ms)))
 
-pub kept-delivery : (w : Opening × List Entry) (c d : CopiesState) (es new : List Event) (count t to from : ℕ) → AreReplicas w c es count
-    → Follows w.0 d new → new ≡ es ++ delivered t to from ∷ [] → count + 1 < 2 ^ 62 → AreReplicas w d new (count + 1)
-kept-delivery w c d es new count t to from a f e lt =
+pub kept-delivery : (w : Opening × List Entry) (c d : CopiesState) (es new : List Event) (count more t to from : ℕ) → AreReplicas w c es count
+    → Follows w.0 d new → new ≡ es ++ delivered t to from ∷ [] → more ≡ count + 1 → more < 2 ^ 62 → AreReplicas w d new more
+kept-delivery w c d es new count more t to from a f e next lt =
     let history : history_in new ≡ history_in es =
     ap history_in e ∙ history-append es (delivered t to from ∷ []) ∙ append-nil (history_in es) in
     record {
@@ -62,6 +62,6 @@ kept-delivery w c d es new count t to from a f e lt =
       follows = f;
       formed = subst (AreWellFormed w.0) (sym history) a.formed;
       world = a.world ∙ ap loud (sym history);
-      counted = omega (arith, ap length e, length_push es (delivered t to from), a.counted);
+      counted = omega (arith, ap length e, length_push es (delivered t to from), a.counted, next);
       short = lt;
     }

@@ -8,7 +8,7 @@ use Rattle.upc_values.specs.Operations.{Operation}
 use Rattle.upc_values.specs.Orders.{is_shown}
 use Rattle.upc_values.specs.Consistent.{ReadsLast}
 use Rattle.replica_space.specs.declared.message.Message.{Message}
-use Rattle.replica_space.specs.layer.ReplicaOrders.{Placed, with_write, with_writes, with_all_mail, operations}
+use Rattle.replica_space.specs.ReplicaOrders.{Placed, with_write, with_writes, with_all_mail, operations}
 use Rattle.replica_space_lists.specs.layer.Keeping.{StandsBefore}
 use Rattle.replica_space_lists.proofs.Splitting.{Splits, strict_of, whole-strict, splits-put, puts}
 use Rattle.replica_space_lists.proofs.Naming.{Names, names-put}

@@ -18,12 +18,12 @@ use Rattle.upc_verify_orders.proofs.Rising.{not-itself}
 use Rattle.replica_space.specs.declared.event.Event.{Event}
 use Rattle.replica_space.specs.declared.event.Deed.{Deed}
 use Rattle.replica_space.specs.declared.event.Deed.TheVariants.{Did, Delivered}
-use Rattle.replica_space.specs.layer.Events.{history_in}
-use Rattle.replica_space.specs.layer.Runs.{IsReplicaRun, IsReplicaRunFrom}
-use Rattle.replica_space.specs.layer.ReplicaOrders.{Placed, operations, operations_in, listed_after, with_all_mail, replica_order, replica_strict_list}
+use Rattle.replica_space.specs.Events.{history_in}
+use Rattle.replica_space.specs.Runs.{IsReplicaRun, IsReplicaRunFrom}
+use Rattle.replica_space.specs.ReplicaOrders.{Placed, operations, operations_in, listed_after, with_all_mail, replica_order, replica_strict_list}
 use Rattle.replica_space_lists.proofs.Putting.{operations-has}
 use Rattle.replica_space_lists.proofs.Running.{kept}
-use Rattle.replica_space_consistent.specs.code.Consistent.{IsIn, OrdersAreConsistent}
+use Rattle.replica_space_consistent.specs.Consistent.{IsIn, OrdersAreConsistent}
 use Rattle.replica_space_consistent.proofs.Ending.{Whole, ended}
 use Rattle.replica_space_consistent.proofs.Leading.{Before, pairs-operation, one-member, StrictPairs, strict-pairs, agrees}
 

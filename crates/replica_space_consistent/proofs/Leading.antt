@@ -10,7 +10,7 @@ use Rattle.upc_verify_orders.specs.Strict.{StrictBy}
 use Rattle.upc_verify_orders.specs.layer.Reach.{is_until, is_from, InThread}
 use Rattle.upc_verify_orders.proofs.Places.{links}
 use Rattle.upc_verify_orders.proofs.Reaching.{StrictOf, same-name, until-is, from-is, goes-on}
-use Rattle.replica_space.specs.layer.ReplicaOrders.{Placed, operations}
+use Rattle.replica_space.specs.ReplicaOrders.{Placed, operations}
 use Rattle.replica_space_lists.specs.layer.Keeping.{StandsBefore}
 use Rattle.replica_space_lists.proofs.Splitting.{strict_of}
 

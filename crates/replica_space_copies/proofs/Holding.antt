@@ -6,7 +6,7 @@ use Rattle.block_layout.specs.declared.place.Loc.{Loc}
 use Rattle.upc_values.specs.Scalars.{same_loc}
 use Rattle.upc_values.proofs.Sameness.{same_loc-true}
 use Rattle.replica_space.specs.declared.message.Message.{Message}
-use Rattle.replica_space.specs.layer.Spaces.{is_behind, with_mail, with_message}
+use Rattle.replica_space.specs.Spaces.{is_behind, with_mail, with_message}
 use Rattle.replica_space_copies.specs.declared.held.Key.{Key}
 use Rattle.replica_space_copies.specs.layer.Copies.{same_key, key_of, HeldState, held_at}
 

@@ -1,7 +1,8 @@
 -- The messages that wait of those that one thread has sent.
-use Rattle.std.proofs.Common.{◌≡◌, ℕ, ◌+◌, ◌<◌, ◌≤◌, ◌==◌, cond, List, [], ◌∷◌, ◌++◌, length, map, drop, get_or, set, replicate, refl, sym, ap, ◌∙◌, inl, inr, arith, eq-eqb, zero, suc}
+use Rattle.std.proofs.Common.{◌≡◌, ℕ, ◌+◌, ◌<◌, ◌≤◌, ◌==◌, cond, List, [], ◌∷◌, ◌++◌, length, map, drop, get_or, set, replicate, slice_get, Some, refl, sym, ap, ◌∙◌, inl, inr, arith, eq-eqb, zero, suc}
 use Rattle.std.proofs.lemmas.Bool.{cases_eq, ne_eqb, cond-true, cond-false}
-use Rattle.std.proofs.lemmas.List.{get_or-map, map-set, get_or-set_same, get_or-set_other, drop-drop, drop_all, drop-append-le, length-map, length-set, length_push}
+use Rattle.std.proofs.lemmas.Option.{slice_get-get_or}
+use Rattle.std.proofs.lemmas.List.{get_or-drop, length-drop, get_or-map, map-set, get_or-set_same, get_or-set_other, drop-drop, drop_all, drop-append-le, length-map, length-set, length_push}
 use Rattle.replica_space.specs.declared.message.Message.{Message}
 use Rattle.replica_space_copies.specs.layer.Copies.{letters}
 use Rattle.replica_space_copies.specs.code.Taken.{AreTaken}
@@ -100,3 +101,16 @@ none_sent-yet (suc n) = ap (λ l. [] ∷ l) (none_sent-yet n)
 
 pub none_sent : (ms : List Message) (taken : List ℕ) (n : ℕ) → ms ≡ [] → taken ≡ replicate n 0 → waits ms taken ≡ replicate n []
 none_sent ms taken n e k = ap (λ l. waits l taken) e ∙ ap (waits []) k ∙ none_sent-yet n
+
+slice_get-drop : {X : Type 0} (xs : List X) (k i : ℕ) → k + i < length xs → slice_get xs (k + i) ≡ slice_get (drop k xs) i
+slice_get-drop [] k i h = absurd (omega (arith, h))
+slice_get-drop (x ∷ xs) k i h =
+    slice_get-get_or (x ∷ xs) (k + i) x h
+    ∙ ap Some (sym (get_or-drop k (x ∷ xs) i x))
+    ∙ sym (slice_get-get_or (drop k (x ∷ xs)) i x (omega (arith, length-drop k (x ∷ xs), h)))
+
+-- a message that waits, by its number
+pub letter-at : (ms : List Message) (taken : List ℕ) (to number : ℕ) → to < length taken → get_or taken to 0 + number < length ms
+    → slice_get ms (get_or taken to 0 + number) ≡ slice_get (letters to (waits ms taken)) number
+letter-at ms taken to number h lt =
+    slice_get-drop ms (get_or taken to 0) number lt ∙ ap (λ (l : List Message). slice_get l number) (sym (letters-at ms taken to h))

@@ -4,7 +4,7 @@ use Rattle.std.proofs.lemmas.Bool.{cases_eq, cond_both, cond-false, ne_eqb, and_
 use Rattle.upc_values.specs.Lists.{Each}
 use Rattle.upc_values.proofs.Membership.{each-append}
 use Rattle.replica_space.specs.declared.message.Message.{Message}
-use Rattle.replica_space.specs.layer.Spaces.{Space, greater, greatest, with_sent, sent, received, met, spread}
+use Rattle.replica_space.specs.Spaces.{Space, greater, greatest, with_sent, sent, received, met, spread}
 use Rattle.replica_space_copies.specs.layer.Same.{IsSame}
 use Rattle.replica_space_copies.specs.code.Sound.{IsLow}
 use Rattle.replica_space_copies.proofs.Waiting.{more-own}

@@ -1,7 +1,7 @@
 -- Spaces that are alike for the first threads, after like steps.
 use Rattle.std.proofs.Common.{◌≡◌, ℕ, ◌+◌, ◌<◌, ◌==◌, ◌&&◌, zero, suc, cond, List, [], ◌∷◌, refl, sym, ap, ◌∙◌, arith}
 use Rattle.replica_space.specs.declared.message.Message.{Message}
-use Rattle.replica_space.specs.layer.Spaces.{Space, greater, greatest, with_message, with_mail, with_sent, sent, received, met, spread}
+use Rattle.replica_space.specs.Spaces.{Space, greater, greatest, with_message, with_mail, with_sent, sent, received, met, spread}
 use Rattle.replica_space_copies.specs.layer.Same.{IsSame}
 
 pub same-itself : (n : ℕ) (s : Space) → IsSame n s s

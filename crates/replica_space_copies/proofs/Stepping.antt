@@ -6,9 +6,9 @@ use Rattle.block_layout.specs.declared.place.Loc.{Loc}
 use Rattle.upc_values.specs.Scalars.{same_loc}
 use Rattle.upc_values.specs.Lists.{Each}
 use Rattle.replica_space.specs.declared.message.Message.{Message}
-use Rattle.replica_space.specs.layer.Spaces.{Space, begun, greater, greatest, with_message, with_mail, with_sent, sent, received, met, spread}
+use Rattle.replica_space.specs.Spaces.{Space, begun, greater, greatest, with_message, with_mail, with_sent, sent, received, met, spread}
 use Rattle.replica_space_copies.specs.layer.Copies.{CopiesState, HeldState, threads_of, space_of, held_at, letters}
-use Rattle.replica_space_copies.specs.code.Counts.{sum_below, waiting_in}
+use Rattle.replica_space_copies.specs.layer.Counts.{sum_below, waiting_in}
 use Rattle.replica_space_copies.specs.layer.Same.{IsSame}
 use Rattle.replica_space_copies.specs.code.Sound.{AreCopies, IsLow}
 use Rattle.replica_space_copies.proofs.Waiting.{waiting-same, waiting-above, waiting-sent, waiting-received, more-own, more-of, more-at}

@@ -3,9 +3,9 @@ use Rattle.std.proofs.Common.{◌≡◌, ◌≢◌, ℕ, ◌+◌, ◌<◌, ◌�
 use Rattle.std.proofs.lemmas.Bool.{cases_eq, ne_eqb, cond-true, cond-false, and_from, and_left, and_right, not_from_true, not_from_false}
 use Rattle.std.proofs.lemmas.List.{length_push}
 use Rattle.replica_space.specs.declared.message.Message.{Message}
-use Rattle.replica_space.specs.layer.Spaces.{Space, with_sent, sent, received}
+use Rattle.replica_space.specs.Spaces.{Space, with_sent, sent, received}
 use Rattle.replica_space_copies.specs.layer.Same.{IsSame}
-use Rattle.replica_space_copies.specs.code.Counts.{sum_below, waiting_in}
+use Rattle.replica_space_copies.specs.layer.Counts.{sum_below, waiting_in}
 
 sum-same : (n : ℕ) (f g : ℕ → ℕ) → ((k : ℕ) → k < n → f k ≡ g k) → sum_below n f ≡ sum_below n g
 sum-same zero f g h = refl

@@ -1,7 +1,7 @@
 //! The clocks of all threads.
 
 ghost use Rattle.std.specs.Prelude.{◌≡◌, ◌+◌, ◌<◌, ◌==◌, ◌^◌, ℕ, cond, length, slice_index};
-ghost use Rattle.replica_space.specs.layer.Spaces as said;
+ghost use Rattle.replica_space.specs.Spaces as said;
 
 // The greatest clock, 0 where there is none.
 fn greatest(clocks: &[u64]) -> u64

@@ -1,13 +1,13 @@
 //! What all threads have.
 
 ghost use Rattle.std.specs.Prelude.{◌≡◌, ◌≢◌, ◌+◌, ◌<◌, ◌≤◌, ◌==◌, ◌^◌};
-ghost use Rattle.std.specs.Prelude.{◌↔◌, ℕ, cond, length, replicate, [], slice_index};
+ghost use Rattle.std.specs.Prelude.{◌↔◌, ℕ, cond, length, replicate, [], slice_get, slice_index};
 ghost use Rattle.std.specs.Prelude.{IsTrue, IfOk, OnOk, OnErr, if◌then◌else◌};
 ghost use Rattle.block_layout.specs.declared.place.Loc.{Loc};
-ghost use Rattle.replica_space.specs.layer.Spaces as said;
+ghost use Rattle.replica_space.specs.Spaces as said;
 ghost use Rattle.replica_space_copies.specs.layer.Copies.{space_of, threads_of, held_at, written, MaySpread, IsSteady};
 ghost use Rattle.replica_space_copies.specs.layer.Same.{IsSame};
-ghost use Rattle.replica_space_copies.specs.code.Counts.{waiting_in};
+ghost use Rattle.replica_space_copies.specs.layer.Counts.{waiting_in};
 
 use crate::clocks::{meet, raise, raise_to};
 use crate::held::Held;
@@ -103,6 +103,35 @@ impl Copies {
         ensures { result ≡ (space_of self.now).copy thread loc }
     {
         self.held.get(thread as usize, loc)
+    }
+
+    /// The stamp of a thread's next write. It wants memory where clocks can rise no more.
+    pub fn next_stamp(&self, thread: u32) -> Result<Stamp, OutOfMemory>
+        requires { thread < threads_of self.now }
+        ensures { IfOk result (λ s. s ≡ said.next_stamp thread (space_of self.now)) }
+    {
+        let clock = self.clocks[thread as usize]
+            .checked_add(1)
+            .ok_or(OutOfMemory)?;
+        Ok(Stamp { clock, thread })
+    }
+
+    /// How many messages wait for a thread from another one.
+    pub fn mail(&self, to: u32, from: u32) -> usize
+        requires to { to < threads_of self.now }
+        requires from { from < threads_of self.now }
+        ensures { result ≡ length ((space_of self.now).mail to from) }
+    {
+        self.boxes[from as usize].count(to as usize)
+    }
+
+    /// The message of this number of those that wait for a thread from another one, counted from the oldest.
+    pub fn letter(&self, to: u32, from: u32, number: usize) -> Option<Message>
+        requires to { to < threads_of self.now }
+        requires from { from < threads_of self.now }
+        ensures { result ≡ slice_get ((space_of self.now).mail to from) number }
+    {
+        self.boxes[from as usize].get(to as usize, number)
     }
 
     /// How many messages wait.

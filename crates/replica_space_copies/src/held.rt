@@ -3,7 +3,7 @@
 ghost use Rattle.std.specs.Prelude.{◌≡◌, ◌+◌, ◌<◌, ◌≤◌, ◌==◌, ◌&&◌, ℕ, cond, Some, IfOk, OnOk, IfSome, [], None};
 ghost use Rattle.block_layout.specs.declared.place.Loc.{Loc};
 ghost use Rattle.upc_values.specs.Scalars.{same_loc};
-ghost use Rattle.replica_space.specs.layer.Spaces.{is_behind, with_mail, with_message};
+ghost use Rattle.replica_space.specs.Spaces.{is_behind, with_mail, with_message};
 ghost use Rattle.replica_space_copies.specs.layer.Copies.{held_at};
 ghost use Rattle.replica_space_copies.specs.layer.Copies as said;
 

@@ -75,4 +75,24 @@ impl Outbox {
         self.taken[to] = next + 1;
         Some(message)
     }
+
+    // How many messages wait for a thread.
+    pub(crate) fn count(&self, to: usize) -> usize
+        requires { to < length self.now }
+        ensures { result ≡ length (letters to self.now) }
+    {
+        self.messages.len() - self.taken[to]
+    }
+
+    // The message of this number of those that wait for a thread, counted from the oldest.
+    pub(crate) fn get(&self, to: usize, number: usize) -> Option<Message>
+        requires { to < length self.now }
+        ensures { result ≡ slice_get (letters to self.now) number }
+    {
+        let first = self.taken[to];
+        if number >= self.messages.len() - first {
+            return None;
+        }
+        self.messages.get(first + number).copied()
+    }
 }

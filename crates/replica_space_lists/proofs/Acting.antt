@@ -21,10 +21,10 @@ use Rattle.replica_space.specs.declared.message.Stamp.{Stamp}
 use Rattle.replica_space.specs.declared.message.Message.{Message}
 use Rattle.replica_space.specs.declared.event.Deed.TheVariants.{Did}
 use Rattle.replica_space.specs.declared.event.Event.{Event}
-use Rattle.replica_space.specs.layer.Events.{history_in}
-use Rattle.replica_space.specs.layer.Spaces.{is_synchronising, met, next_stamp, sent, spread, received, done}
-use Rattle.replica_space.specs.layer.Runs.{NoneWaits, value_in}
-use Rattle.replica_space.specs.layer.ReplicaOrders.{placed, write_of, with_first, operations, stamp_of, listed, Listed}
+use Rattle.replica_space.specs.Events.{history_in}
+use Rattle.replica_space.specs.Spaces.{is_synchronising, met, next_stamp, sent, spread, received, done}
+use Rattle.replica_space.specs.Runs.{NoneWaits, value_in}
+use Rattle.replica_space.specs.ReplicaOrders.{placed, write_of, with_first, operations, stamp_of, listed, Listed}
 use Rattle.replica_space_lists.specs.layer.Keeping.{told}
 use Rattle.replica_space_lists.proofs.Copies.{Made, met-made, spread-made, sent-made, received-made, agree}
 use Rattle.replica_space_lists.proofs.Putting.{last-value, value_told}

@@ -8,8 +8,8 @@ use Rattle.upc_values.proofs.Membership.{has-left, has-right, has-cases}
 use Rattle.upc_values.proofs.Sameness.{same_loc-true, same_loc-itself}
 use Rattle.replica_space.specs.declared.message.Stamp.{Stamp}
 use Rattle.replica_space.specs.declared.message.Message.{Message}
-use Rattle.replica_space.specs.layer.Spaces.{Space, begun, is_later, greater, with_message, with_mail, is_behind, met, sent, spread, received}
-use Rattle.replica_space.specs.layer.Runs.{NoneWaits}
+use Rattle.replica_space.specs.Spaces.{Space, begun, is_later, greater, with_message, with_mail, is_behind, met, sent, spread, received}
+use Rattle.replica_space.specs.Runs.{NoneWaits}
 use Rattle.replica_space_lists.proofs.Stamps.{upto-trans, upto-self, upto-anti, lower-upto, later-upto, greater-left, greater-right, greatest-most}
 
 -- the message waits for thread t

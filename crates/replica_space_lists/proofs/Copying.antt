@@ -11,8 +11,8 @@ use Rattle.upc_values.specs.Consistent.{last_write}
 use Rattle.upc_values.proofs.Membership.{has-cases, precedes-has, pairs-from}
 use Rattle.upc_values.proofs.Values.{last_write-append}
 use Rattle.replica_space.specs.declared.message.Message.{Message}
-use Rattle.replica_space.specs.layer.Spaces.{Space, is_later, with_message, with_mail}
-use Rattle.replica_space.specs.layer.ReplicaOrders.{Placed, placed, is_write_of, operations}
+use Rattle.replica_space.specs.Spaces.{Space, is_later, with_message, with_mail}
+use Rattle.replica_space.specs.ReplicaOrders.{Placed, placed, is_write_of, operations}
 use Rattle.replica_space_lists.specs.layer.Keeping.{StandByStamps, told_or, last_told, told}
 use Rattle.replica_space_lists.proofs.Stamps.{lower-upto}
 use Rattle.replica_space_lists.proofs.Putting.{one_told, last_told-append, pairs-join, Puts, has-was, stamps-put, told-put}

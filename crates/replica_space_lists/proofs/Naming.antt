@@ -11,7 +11,7 @@ use Rattle.upc_values.specs.Consistent.{ReadsLast, ReadsLastFrom}
 use Rattle.upc_values.proofs.Membership.{has-left, has-right, has-cases, each-has, pairs-weaker}
 use Rattle.upc_values.proofs.Values.{reads-append}
 use Rattle.replica_space.specs.declared.message.Message.{Message}
-use Rattle.replica_space.specs.layer.ReplicaOrders.{Placed, write_of, operations}
+use Rattle.replica_space.specs.ReplicaOrders.{Placed, write_of, operations}
 use Rattle.replica_space_lists.specs.layer.Keeping.{StandsBefore, Waits, sent_by}
 use Rattle.replica_space_lists.proofs.Putting.{has-operations, operations-has, pairs-join, Puts, has-was, has-new, has-put, pairs-put, before-was, reads-put}
 use Rattle.replica_space_lists.proofs.Splitting.{operations-append, IsRelaxed}

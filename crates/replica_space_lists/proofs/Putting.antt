@@ -13,8 +13,8 @@ use Rattle.upc_values.proofs.Values.{last_write-append}
 use Rattle.upc_values.proofs.Sameness.{same_loc-true, same_loc-itself}
 use Rattle.replica_space.specs.declared.message.Stamp.{Stamp}
 use Rattle.replica_space.specs.declared.message.Message.{Message}
-use Rattle.replica_space.specs.layer.Spaces.{is_later, is_behind, with_mail}
-use Rattle.replica_space.specs.layer.ReplicaOrders.{Placed, write_of, is_write_of, is_after, with_write, operations}
+use Rattle.replica_space.specs.Spaces.{is_later, is_behind, with_mail}
+use Rattle.replica_space.specs.ReplicaOrders.{Placed, write_of, is_write_of, is_after, with_write, operations}
 use Rattle.replica_space_lists.specs.layer.Keeping.{StandByStamps, Told, told_or, last_told, told}
 use Rattle.replica_space_lists.proofs.Stamps.{upto-trans, upto-self, later-upto}
 

@@ -17,10 +17,10 @@ use Rattle.upc_values.specs.Consistent.{begins}
 use Rattle.replica_space.specs.declared.event.Event.{Event}
 use Rattle.replica_space.specs.declared.event.Deed.{Deed}
 use Rattle.replica_space.specs.declared.event.Deed.TheVariants.{Did, Delivered}
-use Rattle.replica_space.specs.layer.Events.{entry_by, history_in}
-use Rattle.replica_space.specs.layer.Spaces.{Space, begun, is_synchronising, space_from, space_after, done}
-use Rattle.replica_space.specs.layer.Runs.{NoneWaits, value_in, replica_reply, MayDo, IsReplicaRunFrom, IsReplicaRun}
-use Rattle.replica_space.specs.layer.ReplicaOrders.{Listed, listed, listed_from, listed_after, operations_in}
+use Rattle.replica_space.specs.Events.{entry_by, history_in}
+use Rattle.replica_space.specs.Spaces.{Space, begun, is_synchronising, space_from, space_after, done}
+use Rattle.replica_space.specs.Runs.{NoneWaits, value_in, replica_reply, MayDo, IsReplicaRunFrom, IsReplicaRun}
+use Rattle.replica_space.specs.ReplicaOrders.{Listed, listed, listed_from, listed_after, operations_in}
 use Rattle.replica_space_lists.specs.layer.Keeping.{IsKept, AreKept, CopiesAgree}
 use Rattle.replica_space_lists.proofs.Stamps.{higher-later}
 use Rattle.replica_space_lists.proofs.Copies.{begun-made, agree}

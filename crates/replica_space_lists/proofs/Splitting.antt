@@ -8,8 +8,8 @@ use Rattle.upc_values.specs.Lists.{Has, Each, Precedes}
 use Rattle.upc_values.specs.Operations.{Operation}
 use Rattle.upc_values.proofs.Membership.{each-has, each-from, each-append, precedes-has}
 use Rattle.replica_space.specs.declared.message.Message.{Message}
-use Rattle.replica_space.specs.layer.Spaces.{is_later}
-use Rattle.replica_space.specs.layer.ReplicaOrders.{Placed, is_write_of, is_after, with_write, operations}
+use Rattle.replica_space.specs.Spaces.{is_later}
+use Rattle.replica_space.specs.ReplicaOrders.{Placed, is_write_of, is_after, with_write, operations}
 use Rattle.replica_space_lists.proofs.Stamps.{lower-upto}
 use Rattle.replica_space_lists.proofs.Putting.{cut, past, prefixed, Puts, has-was}
 

@@ -2,7 +2,7 @@
 use Rattle.std.proofs.Common.{◌≡◌, ℕ, ◌<◌, ◌≤◌, ◌==◌, nat_lt, true, false, ◌&&◌, refl, sym, ap, ◌∙◌, subst, inl, inr, ◌⊎◌, arith, eq-eqb, eqb-true, ltb-true, ltb-false, lt-ltb, cond}
 use Rattle.std.proofs.lemmas.Bool.{cases_Bool, cases_order, false≢true, or_cases, or_left, or_right, and_parts, and_from, false_from_ne_true}
 use Rattle.replica_space.specs.declared.message.Stamp.{Stamp}
-use Rattle.replica_space.specs.layer.Spaces.{is_later, greater, greatest}
+use Rattle.replica_space.specs.Spaces.{is_later, greater, greatest}
 
 abbrev Later : Stamp → Stamp → Type 0
 Later a b = (b.clock < a.clock) ⊎ ((a.clock ≡ b.clock) × (b.thread < a.thread))

@@ -13,9 +13,9 @@ use Rattle.upc_values.proofs.Membership.{has-cases}
 use Rattle.upc_values.proofs.Values.{last_write-append}
 use Rattle.replica_space.specs.declared.message.Stamp.{Stamp}
 use Rattle.replica_space.specs.declared.message.Message.{Message}
-use Rattle.replica_space.specs.layer.Spaces.{Space, greatest, greater, with_message, with_mail, with_sent, met, sent, spread, received}
-use Rattle.replica_space.specs.layer.Runs.{NoneWaits}
-use Rattle.replica_space.specs.layer.ReplicaOrders.{Placed, placed, write_of, is_write_of, with_write, operations}
+use Rattle.replica_space.specs.Spaces.{Space, greatest, greater, with_message, with_mail, with_sent, met, sent, spread, received}
+use Rattle.replica_space.specs.Runs.{NoneWaits}
+use Rattle.replica_space.specs.ReplicaOrders.{Placed, placed, write_of, is_write_of, with_write, operations}
 use Rattle.replica_space_lists.proofs.Stamps.{greatest-most, greater-left, greater-right}
 use Rattle.replica_space_lists.proofs.Putting.{has-operations, Puts}
 use Rattle.replica_space_lists.proofs.Splitting.{Splits, IsRelaxed, operations-append, splits-hidden, splits-relaxed, splits-sync, splits-put, puts}

@@ -1,15 +1,17 @@
 -- Runs with one more event.
-use Rattle.std.proofs.Common.{◌≡◌, ◌≢◌, ℕ, ◌<◌, List, [], ◌∷◌, ◌++◌, refl, sym, ◌∙◌, subst, append_assoc, arith}
+use Rattle.std.proofs.Common.{◌≡◌, ◌≢◌, ℕ, ◌<◌, true, false, List, [], ◌∷◌, ◌++◌, refl, sym, ap, ◌∙◌, subst, append_assoc, arith}
+use Rattle.std.proofs.lemmas.Bool.{false≢true}
 use Rattle.std.proofs.lemmas.List.{append-nil}
 use Rattle.upc_values.specs.Openings.{Opening}
 use Rattle.replica_space.specs.declared.event.Event.{Event}
-use Rattle.replica_space.specs.layer.Events.{delivered}
-use Rattle.replica_space.specs.layer.Spaces.{Space, begun, received, met, done, space_from, space_after}
-use Rattle.replica_space.specs.layer.Runs.{IsReplicaRunFrom, MayDo, NoneWaits}
+use Rattle.replica_space.specs.Events.{delivered}
+use Rattle.replica_space.specs.Spaces.{Space, begun, received, met, done, space_from, space_after}
+use Rattle.replica_space.specs.Runs.{IsReplicaRunFrom, MayDo, NoneWaits}
 use Rattle.replica_space_copies.specs.layer.Copies.{CopiesState, threads_of, space_of, IsSteady}
 use Rattle.replica_space_copies.specs.layer.Same.{IsSame}
 use Rattle.replica_space_copies.proofs.Sames.{same-then, received-same, met-same}
-use Rattle.replica_space_mail.specs.layer.Deliveries.{Follows, HaveMet, mail_in}
+use Rattle.replica_space_mail.specs.layer.Deliveries.{Follows, IsReady, all_deliveries, mail_in}
+use Rattle.replica_space_mail.proofs.Lists.{all-same}
 
 space-append : (n : ℕ) (s : Space) (xs ys : List Event) → space_from n s (xs ++ ys) ≡ space_from n (space_from n s xs) ys
 space-append n s [] ys = refl
@@ -73,15 +75,24 @@ nothing-received c d to from e same =
     subst (λ ms. IsSame (threads_of c) (space_of d) (received to from ms (space_of c))) e same
 
 -- all mail is delivered, and then the clocks meet
-pub met-after : (o : Opening) (c d : CopiesState) (es : List Event) (n : ℕ) → Follows o c es → n ≡ threads_of c → NoneWaits n (space_of c)
-    → threads_of d ≡ threads_of c → IsSame (threads_of c) (space_of d) (met (threads_of c) (space_of c)) → HaveMet o d es
-met-after o c d es n f all none many same =
+pub met-after : (o : Opening) (c d e : CopiesState) (before es : List Event) (t n : ℕ) → Follows o c before → Follows o d es → n ≡ threads_of c
+    → es ≡ before ++ all_deliveries t n n (space_of c) → NoneWaits n (space_of d)
+    → threads_of e ≡ threads_of d → IsSame (threads_of d) (space_of e) (met (threads_of d) (space_of d)) → IsReady o true t before e es
+met-after o c d e before es t n f g all is none many same =
     let s = space_after o.threads es in
     let threads = f.many in
+    let here = g.many in
+    let n_is : n ≡ o.threads = all ∙ f.many in
     record {
-      many = many ∙ f.many;
-      run = f.run;
-      none = λ to from h k. sym (f.shows.mail to from h k) ∙ none to from (omega arith) (omega arith);
-      met = same-then o.threads (space_of d) (met o.threads (space_of c)) (met o.threads s)
-          (subst (λ k. IsSame k (space_of d) (met k (space_of c))) f.many same) (met-same o.threads (space_of c) s f.shows);
+      many = many ∙ g.many;
+      events = is ∙ ap (λ k. before ++ all_deliveries t k k (space_of c)) n_is
+          ∙ ap (λ l. before ++ l) (all-same t o.threads o.threads (space_of c) (space_after o.threads before) f.shows.mail);
+      run = g.run;
+      none = λ _ to from h k. sym (g.shows.mail to from h k) ∙ none to from (omega arith) (omega arith);
+      shows = same-then o.threads (space_of e) (met o.threads (space_of d)) (met o.threads s)
+          (subst (λ k. IsSame k (space_of e) (met k (space_of d))) g.many same) (met-same o.threads (space_of d) s g.shows);
     }
+
+-- nothing is due
+pub ready-itself : (o : Opening) (c : CopiesState) (es : List Event) (t : ℕ) → Follows o c es → IsReady o false t es c es
+ready-itself o c es t f = record { many = f.many; events = refl; run = f.run; none = λ h. absurd (false≢true h); shows = f.shows }

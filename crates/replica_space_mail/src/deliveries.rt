@@ -2,7 +2,7 @@
 
 ghost use Rattle.std.specs.Prelude.{◌≡◌, ◌≢◌, ◌≤◌, ◌<◌, ◌+◌, ◌++◌, ◌↔◌, ℕ, cond, ◌==◌, ◌&&◌, [], drop, IsTrue};
 ghost use Rattle.upc_values.specs.Openings.{Opening};
-ghost use Rattle.replica_space.specs.layer.Runs.{NoneWaits};
+ghost use Rattle.replica_space.specs.Runs.{NoneWaits};
 ghost use Rattle.replica_space_copies.specs.layer.Copies.{space_of, threads_of, IsSteady};
 ghost use Rattle.replica_space_mail.specs.layer.Deliveries as said;
 ghost use Rattle.replica_space_mail.specs.layer.Deliveries.{Follows, mail_in};
@@ -17,7 +17,7 @@ pub fn deliver_one(copies: &mut Copies, events: &mut Roll, by: u32, to: u32, fro
     requires by { by < threads_of copies.old }
     requires to { to < threads_of copies.old }
     requires from { from < threads_of copies.old }
-    requires room { copies.old.waiting ≤ events.old.room }
+    requires room { 0 < copies.old.waiting → 0 < events.old.room }
     ensures found { IsTrue result ↔ (mail_in copies.old to from ≢ []) }
     ensures steady { IsSteady copies.old copies.new }
     ensures events { events.new.items ++ said.deliveries by to from (drop 1 (mail_in copies.old to from))

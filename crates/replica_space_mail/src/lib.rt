@@ -6,5 +6,5 @@ mod ready;
 mod roll;
 
 pub use deliveries::{deliver_all, deliver_one};
-pub use ready::{is_synchronising, make_room, synchronise};
+pub use ready::{is_synchronising, make_room, prepare};
 pub use roll::Roll;

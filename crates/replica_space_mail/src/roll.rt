@@ -1,11 +1,14 @@
 //! The events of a run, with room for more.
 
-ghost use Rattle.std.specs.Prelude.{◌≡◌, ◌≤◌, ◌<◌, ◌+◌, [], ◌∷◌, ◌++◌, OnOk};
+ghost use Rattle.std.specs.Prelude.{◌≡◌, ◌≤◌, ◌<◌, ◌+◌, ◌^◌, [], ◌∷◌, ◌++◌, cond, length, IfOk, OnOk};
+ghost use Rattle.upc_values.specs.layer.Chunks.{joined};
+ghost use Rattle.replica_space.specs.Runs.{next_index};
 
-use replica_space::Event;
+use replica_space::{Deed, Event, Events};
 use std::alloc::{AllocError as OutOfMemory, Global};
 use std::marker::Model;
 use std::mem::replace;
+use upc_values::Chunks;
 
 // How many events a part has at least.
 const PART: usize = 4096;
@@ -38,6 +41,11 @@ impl Roll {
         }
     }
 
+    /// The allocator that the list takes its memory from.
+    pub fn allocator(&self) -> Global {
+        *self.last.allocator()
+    }
+
     /// Takes room for so many more events. No event is moved.
     pub fn reserve(&mut self, more: usize) -> Result<(), OutOfMemory>
         ensures items { self.new.items ≡ self.old.items }
@@ -62,4 +70,71 @@ impl Roll {
     {
         self.last.push_reserved(event);
     }
+    /// How many of the events are actions of the thread. It reads all events.
+    pub fn count_of(&self, thread: u32) -> u64
+        requires { length self.now.items < 2 ^ 62 }
+        ensures { result ≡ next_index thread self.now.items }
+    {
+        count_parts(self.full.as_slice(), thread) + count_in(self.last.as_slice(), thread)
+    }
+
+    /// Hands out the events, each moved into its chunk; a part that has been moved is given back.
+    pub fn into_events(self) -> Result<Events, OutOfMemory>
+        ensures { IfOk result (λ events. events ≡ self.items) }
+    {
+        let mut events = Chunks::new(self.allocator());
+        for part in self.full {
+            move_part(&mut events, part)?;
+        }
+        move_part(&mut events, self.last)?;
+        Ok(Events::from_chunks(events))
+    }
+}
+
+// The events of a part go to the end, each moved into its chunk.
+fn move_part(events: &mut Chunks<Event>, part: Vec<Event>) -> Result<(), OutOfMemory>
+    ensures { OnOk result (events.new.items ≡ events.old.items ++ part.items) }
+{
+    for event in part {
+        events.reserve()?;
+        events.push_reserved(event);
+    }
+    Ok(())
+}
+
+// Whether the event is an action of the thread.
+fn is_action_of(event: &Event, thread: u32) -> bool
+    ensures { cond result 1 0 ≡ next_index thread (event.now ∷ []) }
+{
+    match &event.deed {
+        Deed::Did { .. } => event.by == thread,
+        Deed::Delivered { .. } => false,
+    }
+}
+
+// How many of these events are actions of the thread.
+fn count_in(part: &[Event], thread: u32) -> u64
+    ensures count { result ≡ next_index thread part.now }
+    ensures most { result ≤ length part.now }
+{
+    let mut count = 0u64;
+    for event in part {
+        if is_action_of(event, thread) {
+            count += 1;
+        }
+    }
+    count
+}
+
+// How many of the events in these parts are actions of the thread.
+fn count_parts(parts: &[Vec<Event>], thread: u32) -> u64
+    requires { length (joined parts.now []) < 2 ^ 62 }
+    ensures count { result ≡ next_index thread (joined parts.now []) }
+    ensures most { result ≤ length (joined parts.now []) }
+{
+    let mut count = 0u64;
+    for part in parts {
+        count += count_in(part.as_slice(), thread);
+    }
+    count
 }

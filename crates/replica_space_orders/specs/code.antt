@@ -1,2 +1,1 @@
 pub mod Strict
-pub mod Finding

@@ -1,6 +1,6 @@
 //! The place of a stamp among others.
 
-ghost use Rattle.replica_space_orders.specs.code.Finding.{Ascend, IsFirstLater};
+ghost use Rattle.replica_space_orders.specs.layer.Finding.{Ascend, IsFirstLater};
 
 use replica_space::Stamp;
 

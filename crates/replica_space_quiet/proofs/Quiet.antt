@@ -4,6 +4,7 @@ use Rattle.std.specs.Prelude.{slice_get, pos}
 use Rattle.std.specs.List.{filter_map, last_or, list_any}
 use Rattle.std.specs.Option.{option_map}
 use Rattle.std.proofs.lemmas.Bool.{cases_Bool, cond-false, false≢true}
+use Rattle.block_layout.specs.declared.place.Loc.{Loc}
 use Rattle.block_layout.specs.declared.place.ObjectRef.{ObjectRef}
 use Rattle.block_layout.specs.declared.place.SharedPtr.{SharedPtr}
 use Rattle.block_layout.specs.Pointers.{null, is_null}
@@ -17,11 +18,13 @@ use Rattle.upc_values.specs.declared.action.Reply.{Reply}
 use Rattle.upc_values.specs.declared.action.Reply.TheVariants.{Done, Value, Flag, Refused}
 use Rattle.upc_values.specs.declared.journal.Entry.{Entry}
 use Rattle.upc_values.specs.Calls.{Call, Allocates, Makes_lock, Frees, Frees_lock, Copies, Permutes, Reduces, Reduces_prefixes, Other, call_of}
-use Rattle.upc_values.specs.Openings.{Opening, bytes_of, cell_of, is_named}
+use Rattle.upc_values.specs.Drain.{written, or_else, last_written}
+use Rattle.upc_values.specs.Openings.{Opening, bytes_of, cell_of, initial_of, is_named}
 use Rattle.upc_values.specs.Shapes.{fits_cell}
 use Rattle.upc_values.specs.History as history
-use Rattle.upc_values.specs.History.{reply, is_meet, meets, is_meet_of, Lead, leader_from, leader, led, makes, objects, object_of, releases, is_released, allocated, free_reply, makes_lock, locks, gives_up, is_given_up, all_met, is_freed, turns, holder, notifies, waits, marks, mark_of, is_any, picked, picked_from, asked, pointer_of, meet_reply, led_reply, agrees_with, all_notified, each_thread}
-use Rattle.upc_values.specs.Formed.{may_ask, may_call, knows, is_known}
+use Rattle.upc_values.specs.History.{reply, is_meet, meets, is_meet_of, Lead, leader_from, leader, led, makes, objects, object_of, releases, is_released, allocated, free_reply, makes_lock, locks, gives_up, is_given_up, all_met, is_freed, turns, holder, notifies, waits, marks, mark_of, is_any, picked, picked_from, asked, pointer_of, meet_reply, led_reply, agrees_with, all_notified, each_thread, held}
+use Rattle.upc_values.specs.Formed.{may_ask, may_call, knows, is_known, fits, fits_after}
+use Rattle.upc_values.specs.layer.Known.{gives_known}
 use Rattle.replica_space_quiet.specs.layer.Loud.{is_access, loud}
 use Rattle.replica_space_quiet.proofs.Kept.{access, loud-skips, loud-takes, loud-after-access, loud-after-other, filter-loud, filters-loud, maps-loud, counts-loud, IsDeaf, picked-loud, picked-same, each_thread-same}
 
@@ -292,7 +295,7 @@ replies-loud o es t a h = refl
 pub knows-loud : (o : Opening) (es : List Entry) (p : SharedPtr) → knows o (loud es) p ≡ knows o es p
 knows-loud o es p = ap (λ xs. is_named o.threads xs p) (objects-loud o es)
 
-known-loud : (o : Opening) (es : List Entry) (v : Scalar) → is_known o (loud es) v ≡ is_known o es v
+pub known-loud : (o : Opening) (es : List Entry) (v : Scalar) → is_known o (loud es) v ≡ is_known o es v
 known-loud o es (scalar.Int v) = refl
 known-loud o es (scalar.Shared p) = knows-loud o es p
 known-loud o es (scalar.Lock l) = ap (nat_le l) (locks-loud es)
@@ -329,3 +332,36 @@ formed-loud o es (act.LockFree l) = ap (λ k. nat_lt 0 l && nat_le l k) (locks-l
 formed-loud o es (act.Free p) = knows-loud o es p
 formed-loud o es (act.Meet c args) = call-loud o es (call_of c args)
 formed-loud o es a = refl
+
+-- ---- values
+
+pub gives-loud : (o : Opening) (es : List Entry) (r : Reply) → gives_known o (loud es) r ≡ gives_known o es r
+gives-loud o es (Value v) = known-loud o es v
+gives-loud o es Done = refl
+gives-loud o es (Flag b) = refl
+gives-loud o es (Refused c) = refl
+
+no-write : (l : Loc) (a : Action) → is_access a ≡ false → written l a ≡ None
+no-write l (act.Write s k v) h = absurd (false≢true (sym h))
+no-write l a h = refl
+
+-- nothing is written
+pub unwritten : (l : Loc) (es : List Entry) → last_written l (loud es) ≡ None
+unwritten l [] = refl
+unwritten l (e ∷ es) =
+    elim (cases_Bool (access e)) [
+      | inl h ↦ ap (last_written l) (loud-skips e es h) ∙ unwritten l es
+      | inr h ↦
+          ap (last_written l) (loud-takes e es h) ∙ ap (λ v. or_else v (written l e.action)) (unwritten l es)
+          ∙ no-write l e.action h
+    ]
+
+-- each location holds what it began with
+pub held-loud : (o : Opening) (es : List Entry) (l : Loc) → held o (loud es) l ≡ initial_of o (objects o es) l
+held-loud o es l =
+    ap (λ v. or_else v (initial_of o (objects o (loud es)) l)) (unwritten l es) ∙ ap (λ xs. initial_of o xs l) (objects-loud o es)
+
+-- the same replies fit
+pub fits-loud : (o : Opening) (es : List Entry) (a : Action) (r : Reply) → fits_after o (loud es) a r ≡ fits_after o es a r
+fits-loud o es (act.Read l s) r = ap (λ xs. fits o.threads o.shapes (cell_of o xs l) (act.Read l s) r) (objects-loud o es)
+fits-loud o es a r = refl

@@ -1,1 +1,6 @@
 pub mod Members
+pub mod Ends
+mod Sorting
+mod Keeping
+mod Opening
+mod Steps

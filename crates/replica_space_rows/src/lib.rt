@@ -3,6 +3,7 @@
 
 mod member;
 mod row;
+mod slotted;
 
 pub use member::{Member, Written};
 pub use row::Row;

@@ -1,10 +1,10 @@
 //! Operations in a thread's list.
 
 ghost use Rattle.std.specs.Prelude.{◌≡◌};
-ghost use Rattle.replica_space_rows.specs.code.Rows as said;
+ghost use Rattle.replica_space_rows.specs.layer.Rows as said;
 
 use replica_space::{Message, Stamp};
-use upc_values::{Loc, Op, same_loc};
+use upc_values::{Loc, Op};
 
 /// A location, and the stamp of a write there.
 #[derive(Clone, Copy)]
@@ -18,16 +18,6 @@ pub struct Written {
 pub struct Member {
     pub name: Op,
     pub written: Option<Written>,
-}
-
-// Whether the member is a write of the message's location with a later stamp.
-pub(crate) fn is_after(member: &Member, message: &Message) -> bool
-    ensures { result ≡ said.is_after message.now member.now }
-{
-    match &member.written {
-        Some(write) => same_loc(&write.loc, &message.loc) && write.stamp.is_later(&message.stamp),
-        None => false,
-    }
 }
 
 // The write of a message, as a member.

@@ -1,37 +1,37 @@
 //! The list of one thread.
 
-ghost use Rattle.std.specs.Prelude.{◌≡◌, ◌++◌, [], map, position, IfOk, OnOk};
-ghost use Rattle.upc_values.specs.Operations.{accesses_of};
-ghost use Rattle.replica_space.specs.layer.ReplicaOrders.{placed};
-ghost use Rattle.replica_space_rows.specs.code.Rows as said;
-ghost use Rattle.replica_space_rows.specs.code.Rows.{member_in};
+ghost use Rattle.std.specs.Prelude.{◌≡◌, ◌∷◌, ◌++◌, [], map, IfOk, OnOk};
+ghost use Rattle.upc_values.specs.Operations.{access};
+ghost use Rattle.replica_space_rows.specs.layer.Rows as said;
+ghost use Rattle.replica_space_rows.specs.layer.Rows.{other, with_access};
 
-use crate::member::{Member, Written, is_after, member_of};
+use crate::member::{Member, member_of};
+use crate::slotted::{Slotted, compare};
 use replica_space::{Message, Stamp};
+use replica_space_marks::Index;
 use std::alloc::{AllocError as OutOfMemory, Global};
 use std::marker::Model;
 use upc_values::{Action, Listing, Op, Order, Reply};
 
-/// The list of one thread. Contracts see its members.
+/// The list of one thread: its members as they came, each with its slot. Contracts see them in their places.
 #[derive(Drop)]
 pub struct Row {
-    members: Vec<Member>,
+    members: Vec<Slotted>,
+    slots: usize,
+    index: Index,
 }
 
 impl Model for Row {
     ghost use Rattle.std.specs.Prelude.{List};
+    ghost use Rattle.replica_space_marks.specs.layer.Index.{marks_at};
     ghost use Rattle.replica_space_rows.specs.declared.member.Member.{Member};
+    ghost use Rattle.replica_space_rows.specs.code.Places.{members_of, placed_all, ArePlaced};
 
     ghost Value = { List Member };
 
-    ghost view = { λ r. r.members.items };
-}
+    ghost view = { λ r. members_of r.members.items };
 
-// The number of the first member that is a later write of the message's location, if there is one.
-fn first_after(members: &[Member], message: &Message) -> Option<usize>
-    ensures { result ≡ position (said.is_after message.now) members.now }
-{
-    members.iter().position(|member| is_after(member, message))
+    ghost invariant = { λ r. ArePlaced (placed_all r.members.items) r.slots (marks_at r.index) };
 }
 
 impl Row {
@@ -41,10 +41,35 @@ impl Row {
     {
         Row {
             members: Vec::new(alloc),
+            slots: 0,
+            index: Index::new(alloc),
         }
     }
 
-    /// Adds the operations of an action with its reply and this stamp.
+    // Adds an operation that writes no location, at the end.
+    fn add(&mut self, thread: u32, index: u32, write: bool) -> Result<(), OutOfMemory>
+        ensures { OnOk result (self.new ≡ self.old ++ other thread index write ∷ []) }
+    {
+        let name = Op {
+            thread,
+            index,
+            write,
+        };
+        let member = Member {
+            name,
+            written: None,
+        };
+        let slot = self.slots;
+        if slot == usize::MAX {
+            return Err(OutOfMemory);
+        }
+        self.members.push(Slotted { member, slot })?;
+        self.slots = slot + 1;
+        Ok(())
+    }
+
+    /// Adds the operations of an action with its reply and this stamp: a write in its place by the stamp, others at the
+    /// end.
     pub fn push(
         &mut self,
         index: u32,
@@ -52,42 +77,30 @@ impl Row {
         reply: &Reply,
         stamp: Stamp,
     ) -> Result<(), OutOfMemory>
-        ensures { OnOk result (self.new
-            ≡ self.old ++ map member_in (map (placed stamp) (accesses_of stamp.thread index action.now reply.now))) }
+        ensures { OnOk result (self.new ≡ with_access stamp index (access action.now reply.now) self.old) }
     {
-        let write = Member {
-            name: Op {
-                thread: stamp.thread,
-                index,
-                write: true,
-            },
-            written: None,
-        };
-        let read = Member {
-            name: Op {
-                thread: stamp.thread,
-                index,
-                write: false,
-            },
-            written: None,
-        };
         match (action, reply) {
             (_, Reply::Refused(_)) => {}
             (Action::Read { .. }, Reply::Value(_))
             | (Action::Wait(_) | Action::Lock(_), _)
             | (Action::Attempt(_), Reply::Flag(true)) => {
-                self.members.push(read)?;
+                self.add(stamp.thread, index, false)?;
             }
-            (Action::Write { loc, .. }, _) => {
-                let written = Some(Written { loc: *loc, stamp });
-                self.members.push(Member { written, ..write })?;
+            (Action::Write { loc, value, .. }, _) => {
+                let message = Message {
+                    index,
+                    loc: *loc,
+                    value: *value,
+                    stamp,
+                };
+                self.put(&message)?;
             }
             (Action::Notify(_) | Action::Unlock(_), _) => {
-                self.members.push(write)?;
+                self.add(stamp.thread, index, true)?;
             }
             (Action::Fence, _) => {
-                self.members.push(write)?;
-                self.members.push(read)?;
+                self.add(stamp.thread, index, true)?;
+                self.add(stamp.thread, index, false)?;
             }
             _ => {}
         }
@@ -99,19 +112,32 @@ impl Row {
     pub fn put(&mut self, message: &Message) -> Result<(), OutOfMemory>
         ensures { OnOk result (self.new ≡ said.with_member message.now self.old) }
     {
-        let last = self.members.len();
-        let place = first_after(self.members.as_slice(), message).unwrap_or(last);
-        self.members.insert(place, member_of(message))?;
+        let member = member_of(message);
+        if let Some(slot) = self.index.find(message.loc, &message.stamp) {
+            self.members.push(Slotted { member, slot })?;
+            return Ok(());
+        }
+        let slot = self.slots;
+        if slot == usize::MAX {
+            return Err(OutOfMemory);
+        }
+        self.members.reserve(1)?;
+        let alloc = *self.members.allocator();
+        self.index.add(alloc, message.loc, message.stamp, slot)?;
+        self.members.push_reserved(Slotted { member, slot });
+        self.slots = slot + 1;
         Ok(())
     }
 
-    /// The names of the members, in their order.
-    pub fn names(&self, alloc: Global) -> Result<Order, OutOfMemory>
-        ensures { IfOk result (λ order. order ≡ map (λ m. m.name) self.now) }
+    /// The names of the members, in their places.
+    pub fn into_order(self, alloc: Global) -> Result<Order, OutOfMemory>
+        ensures { IfOk result (λ order. order ≡ map (λ m. m.name) self) }
     {
-        let mut names = Vec::with_capacity(alloc, self.members.len())?;
-        for member in self.members.iter() {
-            names.push(member.name)?;
+        let mut members = self.members;
+        members.sort_by(compare)?;
+        let mut names = Vec::with_capacity(alloc, members.len())?;
+        for slotted in members.iter() {
+            names.push(slotted.member.name)?;
         }
         Ok(Listing::from_vec(names))
     }

@@ -97,7 +97,7 @@ const ROWS: [Row; 6] = [
 ];
 
 // Words that are refused.
-const USAGES: [&[&str]; 20] = [
+const USAGES: [&[&str]; 22] = [
     &[],
     &["run", "f.upc"],
     &["run", "-T", "1"],
@@ -118,6 +118,8 @@ const USAGES: [&[&str]; 20] = [
     &["sample", "-T", "1", "1001"],
     &["verify", "-T", "1", "f.upc"],
     &["races", "-T", "1", "f.upc", "f.rec"],
+    &["replica", "-T", "1", "f.upc", "f.rec"],
+    &["replica", "-T", "2", "--actions", "2097153", "f.upc"],
 ];
 
 // Words with a source, its status, and what it writes to the output and to the error output.
@@ -135,7 +137,7 @@ const OBJECTS: &[u8] = b"shared [3] int a[20]; shared [] int s[8]; int p; shared
 struct pair { int a; char c; }; shared [2] struct pair q[5]; shared [2] char m[3][4]; strict shared long x; \
 int main(void){int i; return 0;}";
 
-const CALLS: [Call; 17] = [
+const CALLS: [Call; 19] = [
     // However the words are spelled and ordered.
     (
         &["run", "-T", "+04", "f.upc"],
@@ -221,6 +223,15 @@ order 0 2\n0.0.w\n0.1.r\nend\n",
         b"int main(){return 1 / 0;}",
         105,
         b"races 0\n",
+        b"upc: run error E2 at 1:19 on thread 0\n",
+    ),
+    // A run in which each thread has its own copy of the shared memory.
+    (&["replica", "-T", "2", "f.upc"], SUM, 0, b"42\n42\n", b""),
+    (
+        &["replica", "-T", "1", "f.upc"],
+        b"int main(){return 1 / 0;}",
+        105,
+        b"",
         b"upc: run error E2 at 1:19 on thread 0\n",
     ),
     // Where shared objects lie.
@@ -481,7 +492,12 @@ fn usage_of(words: &&'static [&'static str]) -> Row {
 
 // Whether the word is a mode that runs the source.
 fn runs(word: &str) -> bool {
-    word == "run" || word == "record" || word == "sample" || word == "races"
+    word == "run" || word == "record" || word == "sample" || word == "races" || word == "replica"
+}
+
+// Whether the source is to run with a copy of the shared memory for each thread.
+fn copies(words: &[&str]) -> bool {
+    words.iter().any(|word| *word == "replica")
 }
 
 fn called((words, source, status, out, err): &Call) -> Row {
@@ -532,7 +548,11 @@ fn answer_to<R: Threads + Wait + Sync>(rt: &R, alloc: Global, row: &Row) -> Resu
         status: done.status,
         out: out.taken() == row.out,
         err: err.taken() == row.err,
-        ran: done.journal.is_some(),
+        ran: if copies(row.words) {
+            done.replica.is_some() && done.journal.is_none()
+        } else {
+            done.journal.is_some() && done.replica.is_none()
+        },
         refused: done.refusal.is_some(),
     })
 }

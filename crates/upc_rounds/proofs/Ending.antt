@@ -10,7 +10,7 @@ use Rattle.upc_values.specs.Lists.{Numbered}
 use Rattle.upc_values.specs.Openings.{Opening}
 use Rattle.stack_code.specs.layer.Codes.{Codes}
 use Rattle.stack_machine.specs.declared.wish.Wish.TheVariants.{Act}
-use Rattle.upc_task.specs.declared.worker.Worker.{Worker}
+use Rattle.upc_task.specs.layer.Kept.{Worker}
 use Rattle.upc_task.specs.layer.Sources.{Outcomes}
 use Rattle.upc_rounds_teams.specs.declared.place.Place.{Place}
 use Rattle.upc_rounds_teams.specs.layer.Runs.{IsOver, AreEach, AreSame, Rested, StopsAt, NoneStops, Wanting, halted, halted_end, locked, locked_end}

@@ -1,13 +1,10 @@
 pub mod Running
-pub mod Outcomes
 pub mod Spending
 pub mod Standings
 pub mod Playing
 pub mod Parts
 pub mod Teams
 pub mod Closings
-pub mod Openings
-pub mod Begun
 pub mod Beginnings
 pub mod Timing
 pub mod Ending

@@ -8,7 +8,7 @@ use Rattle.upc_values.specs.Records.{last_item, is_beat_item}
 use Rattle.upc_values.proofs.Records.{last-push}
 use Rattle.stack_code.specs.layer.Codes.{Codes}
 use Rattle.turn_cell.specs.layer.Seats.{TableId, seen_of}
-use Rattle.upc_task.specs.declared.worker.Worker.{Worker}
+use Rattle.upc_task.specs.layer.Kept.{Worker}
 use Rattle.upc_task.specs.declared.worker.Pause.{Pause}
 use Rattle.upc_task.specs.declared.worker.Pause.TheVariants as pauses
 use Rattle.upc_task.specs.declared.seated.Task.{Task}

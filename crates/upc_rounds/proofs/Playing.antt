@@ -11,7 +11,7 @@ use Rattle.upc_values.specs.Records.{last_item, is_stall, is_beat}
 use Rattle.upc_values.proofs.Records.{last-push}
 use Rattle.upc_values.proofs.Walks.{entries_of-append, entries-all}
 use Rattle.stack_machine.specs.declared.wish.Wish.{Wish}
-use Rattle.upc_task.specs.declared.worker.Worker.{Worker}
+use Rattle.upc_task.specs.layer.Kept.{Worker}
 use Rattle.upc_task.specs.declared.worker.Pause.{Pause}
 use Rattle.upc_task.specs.declared.worker.Pause.TheVariants as pauses
 use Rattle.upc_task.specs.declared.worker.Pause.TheVariants.{Going, Stalled, Finished}

@@ -18,7 +18,7 @@ use Rattle.stack_code.specs.layer.Codes.{Codes}
 use Rattle.stack_machine.specs.declared.wish.Wish.{Wish}
 use Rattle.stack_machine.specs.declared.wish.Wish.TheVariants.{Act}
 use Rattle.upc_task.specs.declared.limits.Limits.{Limits}
-use Rattle.upc_task.specs.declared.worker.Worker.{Worker}
+use Rattle.upc_task.specs.layer.Kept.{Worker}
 use Rattle.upc_task.specs.declared.worker.Pause.{Pause}
 use Rattle.upc_task.specs.declared.worker.Pause.TheVariants as pauses
 use Rattle.upc_task.specs.layer.Sources.{Outcomes}
@@ -171,14 +171,14 @@ over-ended op p src seen ks r ended = record {
 strand-own : (op : Opening) (p : Codes) (src : Outcomes) (seen : List Entry) (k : Worker) (e : End) → IsKept op p src seen k → k.«end» ≡ Some e
     → IsStrand op k.thread k.limits.actions seen (src k.thread) (strand_of src k)
 strand-own op p src seen k e h q =
-    let he = h.ended e q in let ends : end_or k.«end» ≡ e = ap end_or q in
+    let he = h.recorded.ended e q in let ends : end_or k.«end» ≡ e = ap end_or q in
     let hw = subst (λ z. Holds op k.thread seen k.buffer k.next (settled z (walked k.thread k.items.items))) q h.holds in
     record {
-      conforms = record { actions = h.record_ok.did; stalls = h.record_ok.stalls; ticks = refl };
+      conforms = record { actions = h.recorded.did; stalls = h.recorded.stalls; ticks = refl };
       agrees = hw.agrees;
       drains = hw.out;
-      justified = h.record_ok.justified;
-      short = h.record_ok.short;
+      justified = h.justified;
+      short = h.recorded.short;
       «end» = subst (OwnEnd k.limits.actions (outcome_of src k).«end» k.items.items) (sym ends) he.own;
     }
 

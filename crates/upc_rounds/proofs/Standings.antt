@@ -19,7 +19,7 @@ use Rattle.upc_values.proofs.Walks.{stall-pauses, beat-pauses}
 use Rattle.stack_code.specs.layer.Codes.{Codes}
 use Rattle.stack_machine.specs.declared.wish.Wish.{Wish}
 use Rattle.stack_machine.specs.declared.wish.Wish.TheVariants.{Act}
-use Rattle.upc_task.specs.declared.worker.Worker.{Worker}
+use Rattle.upc_task.specs.layer.Kept.{Worker}
 use Rattle.upc_task.specs.declared.worker.Pause.{Pause}
 use Rattle.upc_task.specs.declared.worker.Pause.TheVariants as pauses
 use Rattle.upc_task.specs.layer.Sources.{Outcomes}
@@ -83,7 +83,7 @@ rests-rested op p f seen i k a idle h = λ q.
     elim (cases_Bool (is_stall last)) [
       | inl s ↦ elim (cases_Bool (is_some k.wish)) [
         | inl w ↦ inr (s, w)
-        | inr n ↦ absurd (false≢true (sym (a.kept.goes.idle (none-is k.wish n)) ∙ s))
+        | inr n ↦ absurd (false≢true (sym (a.kept.recorded.goes.idle (none-is k.wish n)) ∙ s))
       ]
       | inr off ↦
           let beat : is_beat_item last ≡ true = sym (cond-false (is_stall last) true (is_beat_item last) off) ∙ pause in

@@ -13,7 +13,7 @@ use Rattle.upc_values.specs.Openings.{Opening}
 use Rattle.upc_values.specs.Outcomes.{wanted}
 use Rattle.upc_values.specs.Records.{last_item, is_stall, replies_of}
 use Rattle.upc_values.specs.Ends.{stops}
-use Rattle.upc_task.specs.declared.worker.Worker.{Worker}
+use Rattle.upc_task.specs.layer.Kept.{Worker}
 use Rattle.upc_task.specs.Ends.{is_given}
 use Rattle.upc_task.specs.layer.Sources.{Outcomes}
 use Rattle.upc_task.specs.layer.Kept.{end_or, strand_of}

@@ -9,31 +9,18 @@ use Rattle.upc_values.specs.History.{IsLegal, EachBelow}
 use Rattle.upc_values.specs.Formed.{AreWellFormed}
 use Rattle.upc_values.specs.Sound.{IsSound}
 use Rattle.stack_code.specs.layer.Codes.{Codes}
-use Rattle.stack_code.specs.layer.Kept.{IsCode}
-use Rattle.stack_code_laws.specs.layer.Asking.{IsCodeFor}
-use Rattle.typed_tree.specs.declared.program.Program.{Program}
-use Rattle.upc_task.specs.declared.worker.Worker.{Worker}
+use Rattle.upc_task.specs.layer.Kept.{Worker}
 use Rattle.upc_task.specs.declared.limits.Limits.{Limits}
-use Rattle.upc_task.specs.layer.Sources.{Outcomes, HasOutcomes}
+use Rattle.upc_task.specs.layer.Sources.{Outcomes}
 use Rattle.upc_task.specs.layer.Kept.{IsKept, strand_of}
 use Rattle.upc_rounds_teams.specs.declared.place.Place.{Place}
-use Rattle.upc_rounds.specs.layer.Openings.{opening_of}
 use Rattle.upc_rounds_teams.specs.Rounds.{EndsInTime}
 use Rattle.upc_rounds_teams.specs.layer.Runs.{AreSame, IsAt, standing_of}
 use Rattle.upc_rounds_teams.specs.layer.Teams.{IsCrew, IsTeam, IsDone, HasEnded, workers_of, seen_at, seen_among}
-use Rattle.upc_rounds.proofs.Openings.{kept_opening}
-use Rattle.upc_rounds.proofs.Outcomes.{outcomes_there}
 use Rattle.upc_rounds.proofs.Running.{over-sound}
 use Rattle.upc_rounds_teams.proofs.Crews.{worker-at, many-workers}
 use Rattle.upc_rounds_teams.proofs.Rounding.{gone-start}
 use Rattle.upc_rounds.proofs.Timing.{gone-in-time}
-
--- The code has outcomes.
-pub there : (program : Program) (p : Codes) (l : Limits) → IsCode p → IsCodeFor (opening_of program) p
-    → program.threads ≡ l.threads → 1 ≤ l.budget → (f : Outcomes) × HasOutcomes (opening_of program) p l f
-there program p l code fits same some =
-    let o : Opening = opening_of program in
-    outcomes_there o p l (kept_opening o program.opening) code fits same some
 
 -- Tasks that have done nothing are a team before its first round.
 pub begun-team : (z : TableId) (o : Opening) (c : Codes) (f : Outcomes) (ks : List Place) → IsCrew z o c f ks × (seen_among ks ≡ [])

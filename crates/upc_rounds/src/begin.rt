@@ -1,6 +1,6 @@
 //! The beginning of a run.
 
-ghost use Rattle.std.specs.Prelude.{ℕ, ◌≡◌, ◌≤◌, [], IfOk, false, None, length, map};
+ghost use Rattle.std.specs.Prelude.{ℕ, ◌≡◌, ◌≤◌, [], IfOk, false, None, length};
 ghost use Rattle.upc_values.specs.Lists.{Numbered};
 ghost use Rattle.upc_values.specs.Openings.{Opening, IsOpening};
 ghost use Rattle.turn_cell.specs.layer.Seats.{TableId, AreNew};
@@ -10,25 +10,14 @@ ghost use Rattle.upc_rounds.specs.layer.Openings.{opening_of};
 ghost use Rattle.upc_rounds_teams.specs.layer.Runs.{standing_of};
 ghost use Rattle.upc_rounds_teams.specs.layer.Teams.{IsCrew, worker_of, workers_of, seen_among};
 
-use block_layout::ObjectRef;
 use memory_history::World;
 use stack_code::Code;
 use std::alloc::{AllocError as OutOfMemory, Global};
 use turn_cell::Seat;
-use typed_tree::{Program, SharedDecl};
+use typed_tree::Program;
+use upc_rounds_base::objects_of;
 use upc_rounds_teams::place::Place;
 use upc_task::{Limits, Task};
-
-// The declared shared objects, in order.
-fn objects_of(alloc: Global, shared: &[SharedDecl]) -> Result<Vec<ObjectRef>, OutOfMemory>
-    ensures { IfOk result (λ xs. xs.items ≡ map (λ x. x.object) shared.now) }
-{
-    let mut objects = Vec::new(alloc);
-    for declared in shared {
-        objects.push(declared.object)?;
-    }
-    Ok(objects)
-}
 
 /// The shared memory with which a program begins.
 pub fn begin(alloc: Global, program: &Program, threads: u32) -> Result<World, OutOfMemory>

@@ -5,7 +5,7 @@ use Rattle.std.proofs.lemmas.List.{get_or_past}
 use Rattle.turn_cell.specs.layer.Seats.{TableId}
 use Rattle.upc_values.specs.Openings.{Opening}
 use Rattle.stack_code.specs.layer.Codes.{Codes}
-use Rattle.upc_task.specs.declared.worker.Worker.{Worker}
+use Rattle.upc_task.specs.layer.Kept.{Worker}
 use Rattle.upc_rounds_teams.specs.declared.place.Place.{Place}
 use Rattle.upc_rounds_teams.specs.layer.Course.{Standing, Grows}
 use Rattle.upc_rounds_teams.specs.layer.Runs.{AreSame, OthersStay, GoesAt, standing_of}

@@ -5,7 +5,7 @@ ghost use Rattle.upc_values.specs.Lists.{Numbered};
 ghost use Rattle.turn_cell.specs.layer.Seats.{id_of, started};
 ghost use Rattle.upc_task.specs.layer.Sources.{Outcomes};
 ghost use Rattle.upc_task.specs.layer.Seated.{IsTask};
-ghost use Rattle.upc_task.specs.declared.worker.Worker.{Worker};
+ghost use Rattle.upc_task.specs.layer.Kept.{Worker};
 ghost use Rattle.upc_rounds_teams.specs.layer.Course as course;
 ghost use Rattle.upc_rounds_teams.specs.layer.Course.{Grows, Steps, TakesPart, InRound, ToRest, IsRound, ComesToRest};
 ghost use Rattle.upc_rounds_teams.specs.layer.Places.{Moved};

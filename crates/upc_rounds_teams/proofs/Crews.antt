@@ -10,7 +10,7 @@ use Rattle.upc_values.specs.Openings.{Opening}
 use Rattle.upc_values.specs.Drain.{entries_of}
 use Rattle.upc_values.specs.History.{EachBelow}
 use Rattle.stack_code.specs.layer.Codes.{Codes}
-use Rattle.upc_task.specs.declared.worker.Worker.{Worker}
+use Rattle.upc_task.specs.layer.Kept.{Worker}
 use Rattle.upc_task.specs.declared.seated.Task.{Task}
 use Rattle.upc_task.specs.layer.Sources.{Outcomes}
 use Rattle.upc_task.specs.layer.Kept.{IsKept, IsSame}

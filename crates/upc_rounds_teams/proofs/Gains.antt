@@ -21,7 +21,7 @@ use Rattle.stack_machine.specs.declared.wish.Wish.TheVariants.{Act}
 use Rattle.stack_code.specs.layer.Codes.{Codes}
 use Rattle.write_buffer.specs.declared.pending.Pending.{Pending}
 use Rattle.write_buffer.specs.layer.Buffer.{committed}
-use Rattle.upc_task.specs.declared.worker.Worker.{Worker}
+use Rattle.upc_task.specs.layer.Kept.{Worker}
 use Rattle.upc_task.specs.declared.worker.Pause.{Pause}
 use Rattle.upc_task.specs.declared.worker.Pause.TheVariants as pauses
 use Rattle.upc_task.specs.declared.worker.Pause.TheVariants.{Going, Stalled, Finished}
@@ -143,7 +143,7 @@ turned-step o c f p seen later k m h opened hm same g paused adds waits =
     let P : Pause → Type 0 = λ p. Paused p m → Adds p k.wish k.items.items m.items.items → Waits p o later m → Turned o f p t seen later k m in
     let did : (a : Action) (r : Reply) → m.«end» ≡ None → m.items.items ≡ k.items.items ++ Did a r ∷ [] → settled m.«end» (walked t m.items.items) ≡ stepped t w (Did a r) =
     λ a r q is. ap (λ e. settled e (walked t m.items.items)) q ∙ ap (walked t) is ∙ walked-push t k.items.items (Did a r) in
-    let wanting : (a : Action) → k.wish ≡ Some (Act a) → want_of f k ≡ Some a = λ a q. ap wanted (sym (h.goes.wished (Act a) q).1) in
+    let wanting : (a : Action) → k.wish ≡ Some (Act a) → want_of f k ≡ Some a = λ a q. ap wanted (sym (h.recorded.goes.wished (Act a) q).1) in
     let go : (p : Pause) → P p = λ p. elim p as P [
       | Going ↦ λ q a v. record {
         more = g.more;

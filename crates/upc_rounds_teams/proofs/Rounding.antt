@@ -25,7 +25,7 @@ use Rattle.stack_machine.specs.declared.wish.Wish.{Wish}
 use Rattle.stack_machine.specs.declared.wish.Wish.TheVariants.{Act}
 use Rattle.stack_machine.specs.declared.wish.Wish.TheVariants as wishes
 use Rattle.stack_machine.specs.layer.Machine.{told_of}
-use Rattle.upc_task.specs.declared.worker.Worker.{Worker}
+use Rattle.upc_task.specs.layer.Kept.{Worker}
 use Rattle.upc_task.specs.declared.worker.Pause.TheVariants.{Stalled}
 use Rattle.upc_task.specs.Ends.{is_given}
 use Rattle.upc_task.specs.layer.Sources.{Outcomes}
@@ -73,7 +73,7 @@ stands-now o c f before part now m is h q w =
       cut = sym (append-nil part);
       whole = here;
       action = w.0;
-      wants = ap wanted (sym (h.goes.wished (Act w.0) w.1).1);
+      wants = ap wanted (sym (h.recorded.goes.wished (Act w.0) w.1).1);
       none = subst (λ l. reply o l t w.0 ≡ None) is w.3;
     }
 
@@ -164,8 +164,8 @@ stall-end actions te items (Deadlocked a) h w g = absurd (false≢true (sym g))
 stalled-full : (o : Opening) (c : Codes) (f : Outcomes) (seen : List Entry) (m : Worker) (ahead : List Item) (e : End) → IsKept o c f seen m → HasOwnEnd m
     → m.items.items ≡ ahead ++ Stall ∷ [] → m.«end» ≡ Some e → e ≡ ActionsFull
 stalled-full o c f seen m ahead e h own is q =
-    let stands : StallsStand (want_of f m) (ahead ++ Stall ∷ []) = subst (StallsStand (want_of f m)) is h.record_ok.stalls in
-    stall-end m.limits.actions (outcome_of f m).«end» m.items.items e (h.ended e q).own (stalls-at (want_of f m) ahead [] stands).1 (own e q)
+    let stands : StallsStand (want_of f m) (ahead ++ Stall ∷ []) = subst (StallsStand (want_of f m)) is h.recorded.stalls in
+    stall-end m.limits.actions (outcome_of f m).«end» m.items.items e (h.recorded.ended e q).own (stalls-at (want_of f m) ahead [] stands).1 (own e q)
 
 -- ---- a round of all
 
@@ -229,7 +229,7 @@ full-never o c f i seen part now k m pl quiet own h many ne b p later r s = elim
           let more = grown-of k m (pl.takes q) in
           let whole : st.ahead ++ Stall ∷ (st.behind ++ more.0) ≡ s.ahead ++ Stall ∷ [] =
           sym (append_assoc st.ahead (Stall ∷ st.behind) more.0) ∙ ap (λ l. l ++ more.0) (sym st.is) ∙ sym more.1 ∙ s.is in
-          let stands : StallsStand (want_of f m) (s.ahead ++ Stall ∷ []) = subst (StallsStand (want_of f m)) s.is h.record_ok.stalls in
+          let stands : StallsStand (want_of f m) (s.ahead ++ Stall ∷ []) = subst (StallsStand (want_of f m)) s.is h.recorded.stalls in
           let none : st.behind ++ more.0 ≡ [] = same-stall i (want_of f m) st.ahead (st.behind ++ more.0) s.ahead whole stands (sym st.drained ∙ s.drained) in
           let empty : more.0 ≡ [] = right-empty st.behind more.0 none in
           let same : m.items.items ≡ k.items.items = more.1 ∙ ap (λ l. k.items.items ++ l) empty ∙ append-nil k.items.items in
@@ -361,7 +361,7 @@ goes-on o c f seen ks at quiet kept mv g =
             is = s.0.is;
             drained = s.0.drained;
             action = w.1;
-            wants = ap wanted (sym (h.0.goes.wished (Act w.1) w.2).1);
+            wants = ap wanted (sym (h.0.recorded.goes.wished (Act w.1) w.2).1);
             some = subst (λ l. is_some (reply o l at w.1) ≡ true) (sym (s.1 ∙ g.has.whole)) (subst (λ t. is_some (reply o seen t w.1) ≡ true) h.1 w.3);
           })))
           (last-whole (StandsLast at k.items.items) [] ps (g.stalls at d0 mv.within (mv.opened d0) w.0))
@@ -382,7 +382,7 @@ stalled-wish o c f seen k h s = go k.wish refl
     last = stall-last None k.items.items refl s
 
     waits : MayWait (want_of f k)
-    waits = (stalls-at (want_of f k) last.0 [] (subst (StallsStand (want_of f k)) last.1 h.record_ok.stalls)).1
+    waits = (stalls-at (want_of f k) last.0 [] (subst (StallsStand (want_of f k)) last.1 h.recorded.stalls)).1
 
     of-wish : (w : Wish) → told_of w ≡ (outcome_of f k).«end» → (a : Action) × (w ≡ Act a)
     of-wish (Act a) q = (a, refl)
@@ -392,5 +392,5 @@ stalled-wish o c f seen k h s = go k.wish refl
     of-wish wishes.Budget q = absurd (subst (λ e. MayWait (wanted e)) (sym q) waits)
 
     go : (w : Option Wish) → k.wish ≡ w → (a : Action) × (k.wish ≡ Some (Act a))
-    go None q = absurd (false≢true (sym (h.goes.idle q) ∙ s))
-    go (Some w) q = let a = of-wish w (h.goes.wished w q).1 in (a.0, q ∙ ap Some a.1)
+    go None q = absurd (false≢true (sym (h.recorded.goes.idle q) ∙ s))
+    go (Some w) q = let a = of-wish w (h.recorded.goes.wished w q).1 in (a.0, q ∙ ap Some a.1)

@@ -17,10 +17,9 @@ use Rattle.upc_values.proofs.Walks.{entries_of-append}
 use Rattle.stack_code.specs.layer.Codes.{Codes}
 use Rattle.write_buffer.specs.layer.Buffer.{committed}
 use Rattle.stack_machine.specs.declared.wish.Wish.{Wish}
-use Rattle.upc_task.specs.declared.worker.Worker.{Worker}
 use Rattle.upc_task.specs.declared.worker.Pause.{Pause}
 use Rattle.upc_task.specs.layer.Sources.{Outcomes}
-use Rattle.upc_task.specs.layer.Kept.{IsKept, Holds, settled, AllOf, Grew, Adds, Leaves}
+use Rattle.upc_task.specs.layer.Kept.{Worker, IsKept, Holds, settled, AllOf, Grew, Adds, Leaves}
 use Rattle.upc_task.specs.declared.seated.Task.{Task}
 use Rattle.upc_task.specs.layer.Seated.{IsLawful, IsTask, Gained, IsInOrder}
 use Rattle.upc_task.proofs.Buffers.{grew-same, front-own}

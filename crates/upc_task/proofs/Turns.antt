@@ -17,7 +17,7 @@ use Rattle.upc_values.specs.Lists.{Each}
 use Rattle.upc_values.specs.Drain.{Commit, commit_of, entries_in, Walk, start, emptied, oldest_out, with_room, passed, stored, pending_value, changed, combined, put, looked_up, gone, walked_from, walked, entry_of, entries_of}
 use Rattle.upc_values.specs.Openings.{Opening}
 use Rattle.upc_values.specs.History.{is_notify, is_wait, notifies, waits}
-use Rattle.upc_values.specs.Records.{actions_of, replies_of}
+use Rattle.upc_values.specs.Records.{actions_of}
 use Rattle.upc_values.proofs.Drained.{read-entries}
 use Rattle.upc_values.proofs.Membership.{each-append}
 use Rattle.upc_values.proofs.Walks.{entries-all}
@@ -27,14 +27,15 @@ use Rattle.stack_machine.specs.declared.wish.Wish.TheVariants.{Act}
 use Rattle.memory_history.specs.layer.Turns.{takes_turn}
 use Rattle.write_buffer.specs.declared.pending.Pending.{Pending}
 use Rattle.write_buffer.specs.layer.Buffer.{committed}
-use Rattle.upc_task.specs.declared.worker.Worker.{Worker}
 use Rattle.upc_task.specs.layer.Sources.{Outcomes}
-use Rattle.upc_task.specs.layer.Kept.{Holds, settled, IsKept}
+use Rattle.upc_task.specs.layer.Kept.{Worker, IsKept}
 use Rattle.upc_task.proofs.Buffers.{committed-own}
+use Rattle.upc_task.proofs.Recorders.{recorded-turns}
+use Rattle.upc_task.proofs.Workers.{kept-holds}
 
 -- ---- how many entries have an action that passes a test
 
-abbrev many : (Action → Bool) → List Entry → ℕ
+abbrev pub many : (Action → Bool) → List Entry → ℕ
 many test es = length (filter (λ e. test e.action) es)
 
 many-append : (test : Action → Bool) (xs ys : List Entry) → many test (xs ++ ys) ≡ many test xs + many test ys
@@ -60,19 +61,19 @@ filter-both own test (e ∷ es) =
       | false ↦ filter-both own test es
     ]
 
-notifies-many : (t : ℕ) (es : List Entry) → notifies t es ≡ many is_notify (entries_of t es)
+pub notifies-many : (t : ℕ) (es : List Entry) → notifies t es ≡ many is_notify (entries_of t es)
 notifies-many t es =
     sym (length-filter (λ e. (e.thread == t) && is_notify e.action) es)
     ∙ ap length (filter-both (λ e. e.thread == t) (λ e. is_notify e.action) es)
 
-waits-many : (t : ℕ) (es : List Entry) → waits t es ≡ many is_wait (entries_of t es)
+pub waits-many : (t : ℕ) (es : List Entry) → waits t es ≡ many is_wait (entries_of t es)
 waits-many t es =
     sym (length-filter (λ e. (e.thread == t) && is_wait e.action) es)
     ∙ ap length (filter-both (λ e. e.thread == t) (λ e. is_wait e.action) es)
 
 -- ---- how many of some actions pass it
 
-abbrev tally : (Action → Bool) → List Action → ℕ
+abbrev pub tally : (Action → Bool) → List Action → ℕ
 tally test [] = 0
 tally test (a ∷ acts) = cond (test a) 1 0 + tally test acts
 
@@ -245,27 +246,22 @@ before-notify (Some false) m c h = refl
 enough : (x y n w : ℕ) → n ≡ x → w ≡ y → x + 0 ≡ y + 0 → n ≤ w
 enough x y n w p q h = omega arith
 
--- a thread whose walk has emitted what it did may do what keeps its notifies and waits in turn
-in-turn : (t : ℕ) (seen : List Entry) (items : List Item) (a : Action)
-    → entries_of t seen ≡ entries_in (walked t items).emitted → IsInTurn (actions_of items ++ a ∷ []) → takes_turn seen t a ≡ true
-in-turn t seen items (Notify m) out h =
-    let acts = actions_of items in
-    let n : notifies t seen ≡ tally is_notify acts =
-    notifies-many t seen ∙ ap (many is_notify) out ∙ walked-many is_notify (λ s l v. refl) (λ l s. refl) t items in
-    let w : waits t seen ≡ tally is_wait acts =
-    waits-many t seen ∙ ap (many is_wait) out ∙ walked-many is_wait (λ s l v. refl) (λ l s. refl) t items in
+-- a thread of which the history has as many notifies and waits as it did may do what keeps them in turn
+pub in-turn : (t : ℕ) (seen : List Entry) (acts : List Action) (a : Action) → notifies t seen ≡ tally is_notify acts
+    → waits t seen ≡ tally is_wait acts → IsInTurn (acts ++ a ∷ []) → takes_turn seen t a ≡ true
+in-turn t seen acts (Notify m) n w h =
     let now : turned_by (Some false) acts ≡ Some false =
     before-notify (turned_by (Some false) acts) m h.0 (sym (turns-push (Some false) acts (Notify m)) ∙ h.1) in
     le-leb (notifies t seen) (waits t seen)
     (enough (tally is_notify acts) (tally is_wait acts) (notifies t seen) (waits t seen) n w (turns-tally acts false false now))
-in-turn t seen items a out h = refl
+in-turn t seen acts a n w h = refl
 
 -- what a task wishes to do keeps its notifies and waits in turn
 pub kept-turns : (o : Opening) (p : Codes) (f : Outcomes) (seen : List Entry) (k : Worker) (a : Action)
     → IsKept o p f seen k → k.«end» ≡ None → k.wish ≡ Some (Act a) → takes_turn seen k.thread a ≡ true
 kept-turns o p f seen k a h opened wants =
-    let t = k.thread in let items = k.items.items in let rs = replies_of items in
-    let hw : Holds o t seen k.buffer k.next (walked t items) =
-    subst (λ e. Holds o t seen k.buffer k.next (settled e (walked t items))) opened h.holds in
-    in-turn t seen items a hw.out
-    (subst (λ acts. IsInTurn (acts ++ a ∷ [])) h.record_ok.did (h.source.turns rs a (sym (h.goes.wished (Act a) wants).1)))
+    let t = k.thread in let items = k.items.items in let out = (kept-holds o p f seen k h opened).out in
+    in-turn t seen (actions_of items) a
+    (notifies-many t seen ∙ ap (many is_notify) out ∙ walked-many is_notify (λ s l v. refl) (λ l s. refl) t items)
+    (waits-many t seen ∙ ap (many is_wait) out ∙ walked-many is_wait (λ s l v. refl) (λ l s. refl) t items)
+    (recorded-turns o p f k a h.recorded wants)

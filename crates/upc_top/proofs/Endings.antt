@@ -6,20 +6,20 @@ use Rattle.std.proofs.lemmas.Fmt.{decimal_injective}
 use Rattle.upc_text.specs.Outside.{Rose, IsWhole, IsLonger}
 use Rattle.typed_tree.specs.Programs.{Checked}
 use Rattle.upc_top_words.specs.declared.call.Mode.{Mode}
-use Rattle.upc_top_words.specs.declared.call.Mode.TheVariants.{Run, Record, Check, Layout, Sample, Verify, Races}
+use Rattle.upc_top_words.specs.declared.call.Mode.TheVariants.{Run, Record, Check, Layout, Sample, Verify, Races, Replica}
 use Rattle.upc_top_words.specs.Values.{Asked, Asks}
 use Rattle.upc_top_words.proofs.Taken.{one_asked}
 use Rattle.upc_top.specs.declared.done.Done.{Done}
 use Rattle.upc_top.specs.declared.verdict.Verdict.{Verdict}
-use Rattle.upc_top.specs.declared.verdict.Verdict.TheVariants.{Usage, ReadFault, TooLong, Refused, Ran, Recorded, Overlong, Raced, Judged, Passed, Laid, NoMemory}
+use Rattle.upc_top.specs.declared.verdict.Verdict.TheVariants.{Usage, ReadFault, TooLong, Refused, Ran, Recorded, Overlong, Raced, Replicated, Unwritten, Judged, Passed, Laid, NoMemory}
 use Rattle.upc_top.specs.Words.{prints}
 use Rattle.upc_top_output.specs.Layout.{layout}
 use Rattle.upc_top.specs.Sources.{IsAccepted}
 use Rattle.upc_top.proofs.Readings.{never_both, same_checked}
 use Rattle.upc_top_judging.specs.declared.judgment.Judgment.{Judgment}
 use Rattle.upc_top_judging.specs.Judgments.{IsJudgment}
-use Rattle.upc_top.specs.Verdicts.{Reading, OnRecord, JudgedFrom, IsSample, IsSource, Holds, Taken, Caused, CameTo, ComesFrom, FailedToRead, IsTooLong, status_for, text_of, journal_of, orders_in, without_memory, IsWritable}
-use Rattle.upc_top.specs.Delivery.{Writing, Gained, Delivered, Delivered.Whole, Delivered.Out_broke, Delivered.Err_broke, Delivers, Answered, RefusesOtherWords, RefusesLongFiles, SampleReadsNoFile, Succeeds, IsThere, IsToldWhole, HasRun, HasRecorded, HasRaced, IsOverlong, HasWritten, IsTold, HasJudged, HasJudged.Is_long, HasJudged.Is_found, IsDone, IsComplete}
+use Rattle.upc_top.specs.Verdicts.{Reading, OnRecord, JudgedFrom, IsSample, IsSource, Holds, Taken, Caused, CameTo, ComesFrom, FailedToRead, IsTooLong, status_for, text_of, journal_of, orders_in, replica_of, without_memory, IsWritable}
+use Rattle.upc_top.specs.Delivery.{Writing, Gained, Delivered, Delivered.Whole, Delivered.Out_broke, Delivered.Err_broke, Delivers, Answered, RefusesOtherWords, RefusesLongFiles, SampleReadsNoFile, Succeeds, IsThere, IsToldWhole, HasRun, HasRecorded, HasRaced, HasReplicated, IsOverlong, HasWritten, IsTold, HasJudged, HasJudged.Is_long, HasJudged.Is_found, IsDone, IsComplete}
 
 -- words that are taken ask for one thing
 same-asked : (words : List (List ℕ)) (a b : Asked) → Asks words a → Asks words b → b ≡ a
@@ -56,6 +56,7 @@ there-is Check r file bytes given h k = whole-is (r.told file) bytes given h.tol
 there-is Layout r file bytes given h k = whole-is (r.told file) bytes given h.told k.whole
 there-is Verify r file bytes given h k = whole-is (r.told file) bytes given h.told k.whole
 there-is Races r file bytes given h k = whole-is (r.told file) bytes given h.told k.whole
+there-is Replica r file bytes given h k = whole-is (r.told file) bytes given h.told k.whole
 
 -- the bytes of a file that is there are known
 there-file : (m : Mode) (r : Reading) (file bytes : List ℕ) → (m ≡ Sample → ⊥) → IsThere m r file bytes → IsToldWhole r file bytes
@@ -66,6 +67,7 @@ there-file Check r file bytes n h = h
 there-file Layout r file bytes n h = h
 there-file Verify r file bytes n h = h
 there-file Races r file bytes n h = h
+there-file Replica r file bytes n h = h
 
 -- what is read of a file whose bytes are known is short
 source-short : (m : Mode) (told : Option (List ℕ)) (file bytes given : List ℕ) → (m ≡ Sample → ⊥) → told ≡ Some bytes
@@ -77,6 +79,7 @@ source-short Check told file bytes given n e h = subst (λ b. length b ≤ 10485
 source-short Layout told file bytes given n e h = subst (λ b. length b ≤ 1048576) (whole-is told bytes given e h.whole) h.short
 source-short Verify told file bytes given n e h = subst (λ b. length b ≤ 1048576) (whole-is told bytes given e h.whole) h.short
 source-short Races told file bytes given n e h = subst (λ b. length b ≤ 1048576) (whole-is told bytes given e h.whole) h.short
+source-short Replica told file bytes given n e h = subst (λ b. length b ≤ 1048576) (whole-is told bytes given e h.whole) h.short
 
 -- ---- the answer
 
@@ -99,6 +102,8 @@ caused-without words r (Ran j) c = came-on words r (Ran j) (NoMemory (Some j)) (
 caused-without words r (Recorded j o) c = came-on words r (Recorded j o) (NoMemory (Some j)) (λ a bytes h. h.run) c
 caused-without words r (Overlong j) c = came-on words r (Overlong j) (NoMemory (Some j)) (λ a bytes h. h.run) c
 caused-without words r (Raced j x) c = came-on words r (Raced j x) (NoMemory (Some j)) (λ a bytes h. h.run) c
+caused-without words r (Replicated j) c = came-on words r (Replicated j) (Unwritten j) (λ a bytes h. h) c
+caused-without words r (Unwritten j) c = c
 caused-without words r (Judged x) c = tt
 caused-without words r Passed c = tt
 caused-without words r (Laid p) c = tt
@@ -119,6 +124,7 @@ answered words r out err d v c h = record {
   refusal = h.refusal;
   journal = h.journal;
   orders = h.orders;
+  replica = h.replica;
 }
 
 -- what is written of a verdict with its cause can be
@@ -131,6 +137,8 @@ writable words r (Ran j) c = tt
 writable words r (Recorded j o) c = c.holds.holds.has
 writable words r (Overlong j) c = tt
 writable words r (Raced j x) c = tt
+writable words r (Replicated j) c = tt
+writable words r (Unwritten j) c = tt
 writable words r (Judged x) c = tt
 writable words r Passed c = tt
 writable words r (Laid p) c = tt
@@ -144,12 +152,13 @@ record Written (v : Verdict) (out : Writing) (d : Done) : Type 0 where
   text : Gained out (text_of v)
   journal : d.journal ≡ journal_of v
   orders : d.orders ≡ orders_in v
+  replica : d.replica ≡ replica_of v
 
 written : (v : Verdict) (out err : Writing) (d : Done) → Delivered v out err d.status → d.journal ≡ journal_of v → d.orders ≡ orders_in v
-    → (Rose out.faults_before out.faults_after → ⊥) → (Rose err.faults_before err.faults_after → ⊥) → Written v out d
-written v out err d (Whole e o l) j k ho he = record { status = e; text = o; journal = j; orders = k }
-written v out err d (Out_broke e b l) j k ho he = absurd (ho b.cause)
-written v out err d (Err_broke e o b) j k ho he = absurd (he b.cause)
+    → d.replica ≡ replica_of v → (Rose out.faults_before out.faults_after → ⊥) → (Rose err.faults_before err.faults_after → ⊥) → Written v out d
+written v out err d (Whole e o l) j k i ho he = record { status = e; text = o; journal = j; orders = k; replica = i }
+written v out err d (Out_broke e b l) j k i ho he = absurd (ho b.cause)
+written v out err d (Err_broke e o b) j k i ho he = absurd (he b.cause)
 
 module _ (words : List (List ℕ)) (r : Reading) (out err : Writing) (d : Done) (a : Asked) (bytes : List ℕ) (s : Succeeds words r out err a bytes) where
   asked-same : (b : Asked) → Asks words b → b ≡ a
@@ -193,6 +202,8 @@ module _ (words : List (List ℕ)) (r : Reading) (out err : Writing) (d : Done) 
   came program h (Recorded j o) c = came-from (Recorded j o) c
   came program h (Overlong j) c = came-from (Overlong j) c
   came program h (Raced j x) c = came-from (Raced j x) c
+  came program h (Replicated j) c = came-from (Replicated j) c
+  came program h (Unwritten j) c = came-from (Unwritten j) c
   came program h (Judged x) c = came-from (Judged x) c
   came program h Passed c = came-from Passed c
   came program h (Laid p) c = came-from (Laid p) c
@@ -208,6 +219,8 @@ module _ (words : List (List ℕ)) (r : Reading) (out err : Writing) (d : Done) 
   done-run m (Recorded j o) c w = absurd (not-both prints a.mode Record refl m c.mode)
   done-run m (Overlong j) c w = absurd (not-both prints a.mode Record refl m c.mode)
   done-run m (Raced j x) c w = absurd (not-both prints a.mode Races refl m c.mode)
+  done-run m (Replicated j) c w = absurd (not-both prints a.mode Replica refl m c.mode)
+  done-run m (Unwritten j) c w = inr w.status
   done-run m (Judged x) c w = absurd (not-both prints a.mode Verify refl m c.mode)
   done-run m Passed c w = absurd (not-both prints a.mode Check refl m c.mode)
   done-run m (Laid p) c w = absurd (not-both prints a.mode Layout refl m c.mode)
@@ -225,6 +238,8 @@ module _ (words : List (List ℕ)) (r : Reading) (out err : Writing) (d : Done) 
   done-record m (Overlong j) c w =
       inr (inl (record { journal = j; is = w.journal; long = c.long; status = w.status }))
   done-record m (Raced j x) c w = let bad = sym m ∙ c.mode in absurd cc
+  done-record m (Replicated j) c w = let bad = sym m ∙ c.mode in absurd cc
+  done-record m (Unwritten j) c w = inr (inr w.status)
   done-record m (Judged x) c w = let bad = sym m ∙ c.mode in absurd cc
   done-record m Passed c w = let bad = sym m ∙ c.mode in absurd cc
   done-record m (Laid p) c w = let bad = sym m ∙ c.mode in absurd cc
@@ -240,10 +255,28 @@ module _ (words : List (List ℕ)) (r : Reading) (out err : Writing) (d : Done) 
   done-races m (Overlong j) c w = let bad = sym m ∙ c.mode in absurd cc
   done-races m (Raced j x) c w =
       inl (record { journal = j; is = w.journal; report = x; reports = c.reports; status = w.status; text = w.text })
+  done-races m (Replicated j) c w = let bad = sym m ∙ c.mode in absurd cc
+  done-races m (Unwritten j) c w = inr w.status
   done-races m (Judged x) c w = let bad = sym m ∙ c.mode in absurd cc
   done-races m Passed c w = let bad = sym m ∙ c.mode in absurd cc
   done-races m (Laid p) c w = let bad = sym m ∙ c.mode in absurd cc
   done-races m (NoMemory o) c w = inr w.status
+
+  done-replica : a.mode ≡ Replica → (v : Verdict) → Came v → Written v out d → HasReplicated out d ⊎ (d.status ≡ 104)
+  done-replica m Usage c w = absurd c
+  done-replica m (Refused x) c w = absurd c
+  done-replica m ReadFault c w = let bad = sym m ∙ c.mode in absurd cc
+  done-replica m TooLong c w = let bad = sym m ∙ c.mode in absurd cc
+  done-replica m (Ran j) c w = absurd (not-both prints a.mode Replica refl c.prints m)
+  done-replica m (Recorded j o) c w = let bad = sym m ∙ c.mode in absurd cc
+  done-replica m (Overlong j) c w = let bad = sym m ∙ c.mode in absurd cc
+  done-replica m (Raced j x) c w = let bad = sym m ∙ c.mode in absurd cc
+  done-replica m (Replicated j) c w = inl (record { journal = j; is = w.replica; status = w.status; text = w.text })
+  done-replica m (Unwritten j) c w = inr w.status
+  done-replica m (Judged x) c w = let bad = sym m ∙ c.mode in absurd cc
+  done-replica m Passed c w = let bad = sym m ∙ c.mode in absurd cc
+  done-replica m (Laid p) c w = let bad = sym m ∙ c.mode in absurd cc
+  done-replica m (NoMemory o) c w = inr w.status
 
   done-check : a.mode ≡ Check → (v : Verdict) → Came v → Written v out d
       → HasWritten out d (codes "ok\n") ⊎ (d.status ≡ 104)
@@ -255,6 +288,8 @@ module _ (words : List (List ℕ)) (r : Reading) (out err : Writing) (d : Done) 
   done-check m (Recorded j o) c w = let bad = sym m ∙ c.mode in absurd cc
   done-check m (Overlong j) c w = let bad = sym m ∙ c.mode in absurd cc
   done-check m (Raced j x) c w = let bad = sym m ∙ c.mode in absurd cc
+  done-check m (Replicated j) c w = let bad = sym m ∙ c.mode in absurd cc
+  done-check m (Unwritten j) c w = inr w.status
   done-check m (Judged x) c w = let bad = sym m ∙ c.mode in absurd cc
   done-check m Passed c w = inl (record { status = w.status; gained = w.text })
   done-check m (Laid p) c w = let bad = sym m ∙ c.mode in absurd cc
@@ -270,6 +305,8 @@ module _ (words : List (List ℕ)) (r : Reading) (out err : Writing) (d : Done) 
   done-layout m checked h (Recorded j o) c w = let bad = sym m ∙ c.mode in absurd cc
   done-layout m checked h (Overlong j) c w = let bad = sym m ∙ c.mode in absurd cc
   done-layout m checked h (Raced j x) c w = let bad = sym m ∙ c.mode in absurd cc
+  done-layout m checked h (Replicated j) c w = let bad = sym m ∙ c.mode in absurd cc
+  done-layout m checked h (Unwritten j) c w = inr w.status
   done-layout m checked h (Judged x) c w = let bad = sym m ∙ c.mode in absurd cc
   done-layout m checked h Passed c w = let bad = sym m ∙ c.mode in absurd cc
   done-layout m checked h (Laid p) c w =
@@ -312,6 +349,8 @@ module _ (words : List (List ℕ)) (r : Reading) (out err : Writing) (d : Done) 
     done-verify m (Recorded j o) c w = let bad = sym m ∙ c.mode in absurd cc
     done-verify m (Overlong j) c w = let bad = sym m ∙ c.mode in absurd cc
     done-verify m (Raced j x) c w = let bad = sym m ∙ c.mode in absurd cc
+    done-verify m (Replicated j) c w = let bad = sym m ∙ c.mode in absurd cc
+    done-verify m (Unwritten j) c w = inr w.status
     done-verify m (Judged x) c w = inl (is-found x c w)
     done-verify m Passed c w = let bad = sym m ∙ c.mode in absurd cc
     done-verify m (Laid p) c w = let bad = sym m ∙ c.mode in absurd cc
@@ -322,13 +361,14 @@ module _ (words : List (List ℕ)) (r : Reading) (out err : Writing) (d : Done) 
   done-by v c w Sample e = λ program h. done-run (ap prints e) v (came program h v c) w
   done-by v c w Record e = λ program h. done-record e v (came program h v c) w
   done-by v c w Races e = λ program h. done-races e v (came program h v c) w
+  done-by v c w Replica e = λ program h. done-replica e v (came program h v c) w
   done-by v c w Check e = λ program h. done-check e v (came program h v c) w
   done-by v c w Layout e = λ program h. done-layout e program h v (came program h v c) w
   done-by v c w Verify e = λ program name held h named t. done-verify program name held h named t e v (came program h v c) w
 
 pub complete : (words : List (List ℕ)) (r : Reading) (out err : Writing) (d : Done) → Answered words r out err d → IsComplete words r out err d
 complete words r out err d x a bytes s =
-    done-by words r out err d a bytes s x.verdict x.caused (written x.verdict out err d x.delivered x.journal x.orders s.out_written s.err_written) a.mode refl
+    done-by words r out err d a bytes s x.verdict x.caused (written x.verdict out err d x.delivered x.journal x.orders x.replica s.out_written s.err_written) a.mode refl
 
 -- ---- other words
 
@@ -346,6 +386,8 @@ other-words-by words r out err d (Ran x) c (Whole e o l) n = absurd (n c.asked c
 other-words-by words r out err d (Recorded x y) c (Whole e o l) n = absurd (n c.asked c.asks)
 other-words-by words r out err d (Overlong x) c (Whole e o l) n = absurd (n c.asked c.asks)
 other-words-by words r out err d (Raced x y) c (Whole e o l) n = absurd (n c.asked c.asks)
+other-words-by words r out err d (Replicated x) c (Whole e o l) n = absurd (n c.asked c.asks)
+other-words-by words r out err d (Unwritten x) c (Whole e o l) n = absurd (n c.asked c.asks)
 other-words-by words r out err d (Judged x) c (Whole e o l) n = absurd (n c.asked c.asks)
 other-words-by words r out err d Passed c (Whole e o l) n = absurd (n c.asked c.asks)
 other-words-by words r out err d (Laid x) c (Whole e o l) n = absurd (n c.asked c.asks)
@@ -377,6 +419,8 @@ long-files-by words r out err d (Ran x) c (Whole e o l) a bytes asks file told l
 long-files-by words r out err d (Recorded x y) c (Whole e o l) a bytes asks file told long = absurd (not-long words r a bytes asks file told long (Recorded x y) c)
 long-files-by words r out err d (Overlong x) c (Whole e o l) a bytes asks file told long = absurd (not-long words r a bytes asks file told long (Overlong x) c)
 long-files-by words r out err d (Raced x y) c (Whole e o l) a bytes asks file told long = absurd (not-long words r a bytes asks file told long (Raced x y) c)
+long-files-by words r out err d (Replicated x) c (Whole e o l) a bytes asks file told long = absurd (not-long words r a bytes asks file told long (Replicated x) c)
+long-files-by words r out err d (Unwritten x) c (Whole e o l) a bytes asks file told long = absurd (not-long words r a bytes asks file told long (Unwritten x) c)
 long-files-by words r out err d (Judged x) c (Whole e o l) a bytes asks file told long = absurd (not-long words r a bytes asks file told long (Judged x) c)
 long-files-by words r out err d Passed c (Whole e o l) a bytes asks file told long = absurd (not-long words r a bytes asks file told long Passed c)
 long-files-by words r out err d (Laid x) c (Whole e o l) a bytes asks file told long = absurd (not-long words r a bytes asks file told long (Laid x) c)

@@ -1,4 +1,6 @@
 mod Endings
+mod Wanting
+mod Few
 pub mod Readings
 pub mod Stages
 mod Agreement

@@ -14,10 +14,10 @@ use Rattle.race_report_places.specs.Report.{IsReport}
 use Rattle.race_report_serial.proofs.Free.{empty-sequential}
 use Rattle.race_report_runs.proofs.Beginning.{sound-run}
 use Rattle.upc_top_words.specs.declared.call.Mode.{Mode}
-use Rattle.upc_top_words.specs.declared.call.Mode.TheVariants.{Run, Record, Check, Layout, Sample, Verify, Races}
+use Rattle.upc_top_words.specs.declared.call.Mode.TheVariants.{Run, Record, Check, Layout, Sample, Verify, Races, Replica}
 use Rattle.upc_top_words.specs.Values.{Asked, IsInRange}
 use Rattle.upc_top.specs.declared.verdict.Verdict.{Verdict}
-use Rattle.upc_top.specs.declared.verdict.Verdict.TheVariants.{Usage, ReadFault, TooLong, Refused, Ran, Recorded, Overlong, Raced, Judged, Passed, Laid, NoMemory}
+use Rattle.upc_top.specs.declared.verdict.Verdict.TheVariants.{Usage, ReadFault, TooLong, Refused, Ran, Recorded, Overlong, Raced, Replicated, Unwritten, Judged, Passed, Laid, NoMemory}
 use Rattle.upc_top.specs.Words.{prints, runs}
 use Rattle.upc_top.specs.Verdicts.{Reading, RunsAs, RacedFrom, ComesFrom}
 use Rattle.upc_top.specs.code.Records.{IsRecordOf, IsReportOf, IsShown}
@@ -59,6 +59,8 @@ record-comes r a bytes j Passed e h run = absurd h
 record-comes r a bytes j (Laid p) e h run = absurd h
 record-comes r a bytes j (Raced k x) e h run = absurd h
 record-comes r a bytes j (Judged x) e h run = absurd h
+record-comes r a bytes j (Replicated x) e h run = absurd h
+record-comes r a bytes j (Unwritten x) e h run = absurd h
 
 -- the report of a run's races, and what an empty one says
 raced-from : (a : Asked) (bytes : List ℕ) (j : Journal) (report : Report) → a.mode ≡ Races → IsReport j report.races
@@ -85,6 +87,8 @@ report-comes r a bytes j (Ran k) e h run is = absurd h
 report-comes r a bytes j (Recorded k o) e h run is = absurd h
 report-comes r a bytes j (Overlong k) e h run is = absurd h
 report-comes r a bytes j (Judged x) e h run is = absurd h
+report-comes r a bytes j (Replicated x) e h run is = absurd h
+report-comes r a bytes j (Unwritten x) e h run is = absurd h
 report-comes r a bytes j Passed e h run is = absurd h
 report-comes r a bytes j (Laid p) e h run is = absurd h
 
@@ -101,6 +105,7 @@ shown-comes r a bytes j v Sample e h run is = printed-comes r a bytes j v (ap pr
 shown-comes r a bytes j v Check e h run is = let bad = sym (ap runs e) ∙ run.mode in absurd cc
 shown-comes r a bytes j v Layout e h run is = let bad = sym (ap runs e) ∙ run.mode in absurd cc
 shown-comes r a bytes j v Verify e h run is = let bad = sym (ap runs e) ∙ run.mode in absurd cc
+shown-comes r a bytes j v Replica e h run is = let bad = sym (ap runs e) ∙ run.mode in absurd cc
 
 -- what was asked for is run with a tick and an item at least, so it is a run of which races are told
 pub run-is : (a : Asked) (bytes : List ℕ) (j : Journal) → IsInRange a → FollowsBuffers j → RunsAs a bytes j → IsRun j

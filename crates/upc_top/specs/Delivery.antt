@@ -8,7 +8,11 @@ use Rattle.run_recorder_text.specs.Lines.{text}
 use Rattle.typed_tree.specs.Programs.{Checked}
 use Rattle.upc_top_words.specs.declared.call.Mode.{Mode}
 use Rattle.upc_top_words.specs.declared.call.Mode.TheVariants.{Run, Record, Check, Layout, Sample, Verify, Races}
+use Rattle.upc_top_words.specs.declared.call.Mode.TheVariants.{Replica}
 use Rattle.upc_top_words.specs.Values.{Asked, Asks}
+use Rattle.replica_space.specs.declared.event.ReplicaJournal.{ReplicaJournal}
+use Rattle.replica_space.specs.Events.{history_in}
+use Rattle.replica_space.specs.ReplicaSound.{as_journal}
 use Rattle.race_report_places.specs.declared.report.Report.{Report}
 use Rattle.race_report_places.specs.Report.{IsReport}
 use Rattle.race_report_text.specs.Lines.{text_of_report}
@@ -20,7 +24,7 @@ use Rattle.upc_top.specs.Sources.{IsAccepted}
 use Rattle.upc_top_output.specs.Layout.{layout}
 use Rattle.upc_top_output.specs.Output.{output, status_of}
 use Rattle.upc_top.specs.Verdicts.{Reading, Caused, text_of, line_of, status_for, refusal_of, journal_of}
-use Rattle.upc_top.specs.Verdicts.{without_memory, orders_in, IsSample}
+use Rattle.upc_top.specs.Verdicts.{without_memory, orders_in, replica_of, IsSample}
 
 -- What a sink has taken, where that is known, and its count of faults, before and after.
 pub record Writing : Type 0 where
@@ -65,6 +69,7 @@ pub record Delivers (verdict : Verdict) (out err : Writing) (done : Done) : Type
   pub refusal : done.refusal ≡ refusal_of written
   pub journal : done.journal ≡ journal_of written
   pub orders : done.orders ≡ orders_in written
+  pub replica : done.replica ≡ replica_of written
 
 -- How the top call answers: some verdict, which has its cause, was delivered and handed out.
 pub record Answered (words : List (List ℕ)) (reading : Reading) (out err : Writing) (done : Done) : Type 0 where
@@ -74,6 +79,7 @@ pub record Answered (words : List (List ℕ)) (reading : Reading) (out err : Wri
   pub refusal : done.refusal ≡ refusal_of verdict
   pub journal : done.journal ≡ journal_of verdict
   pub orders : done.orders ≡ orders_in verdict
+  pub replica : done.replica ≡ replica_of verdict
 
 -- Where the words are not taken, the answer is usage, a failed write or want of memory.
 abbrev pub RefusesOtherWords : List (List ℕ) → Done → Type 0
@@ -142,6 +148,14 @@ pub record HasRaced (out : Writing) (done : Done) : Type 0 where
   pub status : done.status ≡ status_of journal
   pub text : Gained out (text_of_report report)
 
+-- There is a run with a copy of the shared memory for each thread, with its status, and the output gained what it
+-- prints.
+pub record HasReplicated (out : Writing) (done : Done) : Type 0 where
+  pub journal : ReplicaJournal
+  pub is : done.replica ≡ Some journal
+  pub status : done.status ≡ status_of (as_journal journal)
+  pub text : Gained out (output (history_in journal.events))
+
 -- The bytes of a record are known, and no read of it failed.
 pub record IsTold (reading : Reading) (name bytes : List ℕ) : Type 0 where
   pub told : reading.told name ≡ Some bytes
@@ -162,8 +176,8 @@ pub record HasWritten (out : Writing) (done : Done) (text : List ℕ) : Type 0 w
   pub gained : Gained out text
 
 -- What is done with bytes in each mode, or memory was wanting: an accepted source is run, or run and recorded unless
--- its run is too long for a text, or run and its races told, or is passed, or laid out, or a record is judged on it, if
--- the record's bytes are known and no read of it failed.
+-- its run is too long for a text, or run and its races told, or run with a copy of the memory for each thread, or is
+-- passed, or laid out, or a record is judged on it, if the record's bytes are known and no read of it failed.
 abbrev pub IsDone : Mode → Reading → Asked → List ℕ → Writing → Done → Type 0
 IsDone Run r a bytes out done =
     (checked : Checked) → IsAccepted a.threads bytes checked → HasRun out done ⊎ (done.status ≡ 104)
@@ -179,6 +193,8 @@ IsDone Layout r a bytes out done =
     → HasWritten out done (layout checked) ⊎ (done.status ≡ 104)
 IsDone Races r a bytes out done =
     (checked : Checked) → IsAccepted a.threads bytes checked → HasRaced out done ⊎ (done.status ≡ 104)
+IsDone Replica r a bytes out done =
+    (checked : Checked) → IsAccepted a.threads bytes checked → HasReplicated out done ⊎ (done.status ≡ 104)
 IsDone Verify r a bytes out done =
     (checked : Checked) (name record_bytes : List ℕ) → IsAccepted a.threads bytes checked → a.recording ≡ Some name
     → IsTold r name record_bytes → HasJudged checked record_bytes out done ⊎ (done.status ≡ 104)

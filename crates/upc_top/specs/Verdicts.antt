@@ -11,10 +11,15 @@ use Rattle.typed_tree.specs.Programs.{Checked}
 use Rattle.typed_tree.specs.ViewProgram.{view_program}
 use Rattle.upc_top_words.specs.declared.call.Mode.{Mode}
 use Rattle.upc_top_words.specs.declared.call.Mode.TheVariants.{Record, Check, Layout, Sample, Verify, Races}
+use Rattle.upc_top_words.specs.declared.call.Mode.TheVariants.{Replica}
 use Rattle.upc_top_words.specs.Values.{Asked, Asks, IsInRange}
 use Rattle.source_meaning.specs.Laws.{opening_of}
 use Rattle.upc_task.specs.declared.limits.Limits.{Limits}
 use Rattle.program_runs.specs.Runs.{IsRunByRounds}
+use Rattle.replica_space.specs.declared.event.ReplicaJournal.{ReplicaJournal}
+use Rattle.replica_space.specs.Events.{history_in}
+use Rattle.replica_space.specs.ReplicaSound.{as_journal}
+use Rattle.program_runs_replicas.specs.Runs.{IsRunOnReplicas}
 use Rattle.order_builder.specs.Named.{orders_of}
 use Rattle.run_recorder_text.specs.Short.{HasText, is_short}
 use Rattle.run_recorder_text.specs.Lines.{text}
@@ -28,7 +33,7 @@ use Rattle.upc_top_judging.specs.declared.judgment.Judgment.{Judgment}
 use Rattle.upc_top_judging.specs.Judgments.{IsJudgment, judgment_text, judgment_line, judgment_status}
 use Rattle.upc_top.specs.declared.verdict.Verdict.{Verdict}
 use Rattle.upc_top.specs.declared.verdict.Verdict.TheVariants.{Usage, ReadFault, TooLong, Refused, Ran, Passed, Laid}
-use Rattle.upc_top.specs.declared.verdict.Verdict.TheVariants.{Recorded, Overlong, Raced, Judged}
+use Rattle.upc_top.specs.declared.verdict.Verdict.TheVariants.{Recorded, Overlong, Raced, Replicated, Unwritten, Judged}
 use Rattle.upc_top.specs.declared.verdict.Verdict.TheVariants.{NoMemory}
 use Rattle.upc_top.specs.Words.{prints, runs}
 use Rattle.upc_top.specs.Sources.{IsAccepted, IsRefused}
@@ -94,6 +99,14 @@ pub record RacedFrom (a : Asked) (bytes : List ℕ) (j : Journal) (report : Repo
   pub sequential :
       report.races ≡ [] → IsSequential (begins (opening_of run.checked) j.history) j (serial_list j)
 
+-- A run on a memory in which each thread has its own copy was asked for, the bytes are accepted as a program, and the
+-- journal is such a run of it within what was asked for.
+pub record ReplicatedFrom (a : Asked) (bytes : List ℕ) (j : ReplicaJournal) : Type 0 where
+  pub mode : a.mode ≡ Replica
+  pub checked : Checked
+  pub accepted : IsAccepted a.threads bytes checked
+  pub run : IsRunOnReplicas checked (limits_of a) j
+
 -- A record was to be judged on the bytes, they are accepted as a program, and P holds of it and of the record's name.
 pub record OnRecord (a : Asked) (bytes : List ℕ) (P : Checked → List ℕ → Type 0) : Type 0 where
   pub mode : a.mode ≡ Verify
@@ -117,6 +130,8 @@ ComesFrom r a bytes ReadFault = OnRecord a bytes (λ checked name. Rose (r.befor
 ComesFrom r a bytes TooLong = OnRecord a bytes (λ checked name. IsLonger (r.told name) 67108864)
 ComesFrom r a bytes (Judged judgment) = OnRecord a bytes (λ checked name. JudgedFrom (r.told name) checked judgment)
 ComesFrom r a bytes (Raced j report) = RacedFrom a bytes j report
+ComesFrom r a bytes (Replicated j) = ReplicatedFrom a bytes j
+ComesFrom r a bytes (Unwritten j) = ReplicatedFrom a bytes j
 ComesFrom r a bytes (Refused refusal) = IsRefused a.threads bytes refusal
 ComesFrom r a bytes (Ran j) = RanFrom a bytes j
 ComesFrom r a bytes (Recorded j o) = RecordedFrom a bytes j o
@@ -192,6 +207,8 @@ without_memory (Ran j) = NoMemory (Some j)
 without_memory (Recorded j o) = NoMemory (Some j)
 without_memory (Overlong j) = NoMemory (Some j)
 without_memory (Raced j report) = NoMemory (Some j)
+without_memory (Replicated j) = Unwritten j
+without_memory (Unwritten j) = Unwritten j
 without_memory (NoMemory o) = NoMemory o
 without_memory v = NoMemory None
 
@@ -200,6 +217,7 @@ abbrev pub text_of : Verdict → List ℕ
 text_of (Ran j) = output j.history
 text_of (Recorded j o) = text j o
 text_of (Raced j report) = text_of_report report
+text_of (Replicated j) = output (history_in j.events)
 text_of (Judged judgment) = judgment_text judgment
 text_of Passed = codes "ok\n"
 text_of (Laid program) = layout (view_program program)
@@ -215,6 +233,8 @@ line_of (Ran j) = run_line j
 line_of (Recorded j o) = run_line j
 line_of (Overlong j) = codes "upc: too long for a text\n"
 line_of (Raced j report) = run_line j
+line_of (Replicated j) = run_line (as_journal j)
+line_of (Unwritten j) = codes "upc: no memory\n"
 line_of (Judged judgment) = judgment_line judgment
 line_of Passed = []
 line_of (Laid program) = []
@@ -230,6 +250,8 @@ status_for (Ran j) = status_of j
 status_for (Recorded j o) = status_of j
 status_for (Overlong j) = 109
 status_for (Raced j report) = status_of j
+status_for (Replicated j) = status_of (as_journal j)
+status_for (Unwritten j) = 104
 status_for (Judged judgment) = judgment_status judgment
 status_for Passed = 0
 status_for (Laid program) = 0
@@ -253,6 +275,12 @@ journal_of v = None
 abbrev pub orders_in : Verdict → Option Orders
 orders_in (Recorded j o) = Some o
 orders_in v = None
+
+-- The run with a copy of the memory for each thread that a verdict hands out, if there is one.
+abbrev pub replica_of : Verdict → Option ReplicaJournal
+replica_of (Replicated j) = Some j
+replica_of (Unwritten j) = Some j
+replica_of v = None
 
 -- What a verdict writes can be written: a record has a text.
 abbrev pub IsWritable : Verdict → Type 0

@@ -1,5 +1,6 @@
 //! What the top call hands out.
 
+use replica_space::ReplicaJournal;
 use upc_text::Refusal;
 use upc_values::{Journal, Orders};
 
@@ -10,8 +11,10 @@ pub struct Done {
     pub status: u8,
     /// Why the source was refused.
     pub refusal: Option<Refusal>,
-    /// The run, wherever one was had.
+    /// The run, wherever one was had; in mode `replica` it is `replica` that has it.
     pub journal: Option<Journal>,
     /// The orders of the run's operations, where the text of a record was made.
     pub orders: Option<Orders>,
+    /// The run on a memory in which each thread has its own copy, wherever one was had.
+    pub replica: Option<ReplicaJournal>,
 }

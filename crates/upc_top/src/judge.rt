@@ -17,6 +17,7 @@ use crate::front::{pass_source, read_source};
 use crate::judged::judge_source;
 use crate::raced::raced;
 use crate::record::recorded;
+use crate::replicated::run_replicated;
 use crate::source::source_of;
 use crate::verdict::{Verdict, stopped};
 use program_runs::run_program;
@@ -96,6 +97,7 @@ fn come_to<R: Threads + Wait + Sync, S: Sources, G: Gate>(
             Err(stop) => stopped(stop),
         },
         Mode::Verify => judge_source(alloc, call, bytes, files),
+        Mode::Replica => run_replicated(rt, alloc, call, bytes),
         _ => match read_source(alloc, call.threads, bytes) {
             Ok(program) => run_accepted(rt, alloc, call, bytes, &program, gate),
             Err(stop) => stopped(stop),

@@ -8,6 +8,7 @@ mod judge;
 mod judged;
 mod raced;
 mod record;
+mod replicated;
 mod source;
 mod top;
 mod verdict;

@@ -15,8 +15,9 @@ use upc_text::{Gate, Sink, Sources};
 
 /// Reads the words and the file, and does with its program what the mode says: `run` writes what it prints to `out`,
 /// `record` the record of its run, `races` the races of its run, `check` writes `ok`, and `layout` where its shared
-/// objects lie; `sample` reads no file, and runs the source of so many stages; `verify` reads a record too, and writes
-/// whether it is sound. A line on any other ending goes to `err`. The status is 0 to 99 where the program ended by
+/// objects lie; `replica` writes what it prints where each thread has its own copy of the shared memory; `sample` reads
+/// no file, and runs the source of so many stages; `verify` reads a record too, and writes whether it is sound. A line
+/// on any other ending goes to `err`. The status is 0 to 99 where the program ended by
 /// itself, and 0 in the modes `check` and `layout` and where a record is sound; 100 where the words are refused; 101
 /// where the source is; 102 where a read failed; 103 where a write failed; 104 where memory was wanting; 105 for a run
 /// error; 106 for a deadlock; 107 and 108 where a thread reached its limit of ticks or of items; 109 where a run is too
@@ -45,8 +46,8 @@ pub fn upc_main<R: Threads + Wait + Sync, S: Sources, O: Sink, E: Sink, G: Gate>
         result }
     // In mode `sample` no file is read.
     ensures sample { SampleReadsNoFile (map string_bytes words.now) files.old files.new }
-    // Where nothing fails, an accepted source is run, recorded, searched for races, passed or laid out, and a record is
-    // judged on it.
+    // Where nothing fails, an accepted source is run, with one copy of the shared memory or with many, recorded,
+    // searched for races, passed or laid out, and a record is judged on it.
     ensures complete { IsComplete (map string_bytes words.now)
         (reading (S.bytes_of files.old) (S.faults files.old) (S.faults files.new))
         (writing (O.taken out.old) (O.taken out.new) (O.faults out.old) (O.faults out.new))

@@ -6,6 +6,7 @@ ghost use Rattle.upc_top.specs.Sources.{StopsReading};
 ghost use Rattle.upc_top.specs.Verdicts.{Reading, ComesFrom};
 
 use race_report_walk::Report;
+use replica_space::ReplicaJournal;
 use typed_tree::Program;
 use upc_text::{Refusal, Stop};
 use upc_top_judging::Judgment;
@@ -30,6 +31,10 @@ pub enum Verdict {
     Overlong(Journal),
     /// The source ran, and its races were asked for: these.
     Raced(Journal, Report),
+    /// The source ran on a memory in which each thread has its own copy.
+    Replicated(ReplicaJournal),
+    /// It ran so, and memory was wanting for what it prints.
+    Unwritten(ReplicaJournal),
     /// The source is accepted, and this was found of the record.
     Judged(Judgment),
     /// The source is accepted, and no more was asked.

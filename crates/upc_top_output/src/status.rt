@@ -2,10 +2,10 @@
 
 ghost use Rattle.std.specs.Prelude.{◌≡◌, ◌<◌, ◌^◌, MatchOption, None, Some, length};
 ghost use Rattle.upc_values.specs.Ends;
-ghost use Rattle.upc_top_output.specs.Output.{clipped, first_stop, status_of, stop_status, all_ended, is_ended};
+ghost use Rattle.upc_top_output.specs.Output.{clipped, first_stop, status_by, stop_status, all_ended, is_ended};
 ghost use Rattle.upc_top_output.specs.Output.{first_value};
 
-use upc_values::{End, Journal, Strand};
+use upc_values::{End, Strand};
 
 /// A thread and its end.
 #[derive(Clone, Copy)]
@@ -87,12 +87,11 @@ fn stop_status(end: &End) -> u8
     }
 }
 
-/// The status of a run.
-pub fn status_of(journal: &Journal) -> u8
-    requires { length journal.now.strands < 2 ^ 32 }
-    ensures { result ≡ status_of journal.now }
+/// The status of a run with these strands.
+pub fn status_of(strands: &[Strand]) -> u8
+    requires { length strands.now < 2 ^ 32 }
+    ensures { result ≡ status_by (first_stop 0 strands.now) strands.now }
 {
-    let strands = journal.strands.as_slice();
     if let Some(stop) = first_stop(strands) {
         return stop_status(stop.end);
     }

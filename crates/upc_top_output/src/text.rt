@@ -1,14 +1,26 @@
 //! The text of a run, and the lines of the error output.
 
 ghost use Rattle.std.specs.Prelude.{◌≡◌, ◌<◌, ◌^◌, ◌++◌, IfOk, length, decimal, codes};
-ghost use Rattle.upc_top_output.specs.Output.{output, place_text, code_text, refusal_line, stop_line, run_line};
-ghost use Rattle.upc_top_output.specs.Output.{bad_record_line, broken_line};
+ghost use Rattle.replica_space.specs.Events.{history_in};
+ghost use Rattle.upc_top_output.specs.Output.{output, place_text, code_text, refusal_line, stop_line, line_by};
+ghost use Rattle.upc_top_output.specs.Output.{first_stop, printed, bad_record_line, broken_line};
 
 use crate::status::{all_ended, first_stop};
 use itoa::Buffer;
+use replica_space::{Deed, Events};
 use std::alloc::{AllocError as OutOfMemory, Global};
 use upc_text::{Code, Place, Refusal};
-use upc_values::{Action, End, Entries, Journal};
+use upc_values::{Action, End, Entries, Strand};
+
+// Appends the text of a Print; any other action has none.
+fn add_printed(text: &mut Vec<u8>, action: &Action) -> Result<(), OutOfMemory>
+    ensures { IfOk result (λ _. text.new.items ≡ text.old.items ++ printed action.now) }
+{
+    if let Action::Print(printed) = action {
+        text.extend_from_slice(printed.as_slice())?;
+    }
+    Ok(())
+}
 
 /// The texts of all Prints, in the order of the history.
 pub fn output_text(alloc: Global, history: &Entries) -> Result<Vec<u8>, OutOfMemory>
@@ -16,8 +28,19 @@ pub fn output_text(alloc: Global, history: &Entries) -> Result<Vec<u8>, OutOfMem
 {
     let mut text = Vec::new(alloc);
     for entry in history.iter() {
-        if let Action::Print(printed) = &entry.action {
-            text.extend_from_slice(printed.as_slice())?;
+        add_printed(&mut text, &entry.action)?;
+    }
+    Ok(text)
+}
+
+/// The texts of all Prints, in the order of the events.
+pub fn events_text(alloc: Global, events: &Events) -> Result<Vec<u8>, OutOfMemory>
+    ensures { IfOk result (λ text. text.items ≡ output (history_in events.now)) }
+{
+    let mut text = Vec::new(alloc);
+    for event in events.iter() {
+        if let Deed::Did { action, .. } = &event.deed {
+            add_printed(&mut text, action)?;
         }
     }
     Ok(text)
@@ -140,12 +163,11 @@ fn stop_text(alloc: Global, thread: u32, end: &End) -> Result<Vec<u8>, OutOfMemo
     }
 }
 
-/// The line of a run's status.
-pub fn run_text(alloc: Global, journal: &Journal) -> Result<Vec<u8>, OutOfMemory>
-    requires { length journal.now.strands < 2 ^ 32 }
-    ensures { IfOk result (λ line. line.items ≡ run_line journal.now) }
+/// The line of the status of a run with these strands.
+pub fn run_text(alloc: Global, strands: &[Strand]) -> Result<Vec<u8>, OutOfMemory>
+    requires { length strands.now < 2 ^ 32 }
+    ensures { IfOk result (λ line. line.items ≡ line_by (first_stop 0 strands.now) strands.now) }
 {
-    let strands = journal.strands.as_slice();
     if let Some(stop) = first_stop(strands) {
         return stop_text(alloc, stop.thread, stop.end);
     }

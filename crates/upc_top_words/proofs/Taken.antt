@@ -1,19 +1,40 @@
 -- What follows for the values that were given, and where there are none.
-use Rattle.std.proofs.Common.{◌≡◌, ◌∙◌, ◌≤◌, ℕ, true, List, is_some, Option, Some, None, refl, sym, ap, subst, arith, codes, true≢false, div-le_self}
+use Rattle.std.proofs.Common.{◌≡◌, ◌∙◌, ◌≤◌, ◌*◌, ℕ, true, List, is_some, Option, Some, None, refl, sym, ap, subst, arith, codes, true≢false, div-le_self}
 use Rattle.std.specs.Prelude.{IfSome, option_and_then, unwrap_or}
-use Rattle.std.proofs.lemmas.Nat.{le-div}
+use Rattle.std.proofs.lemmas.Nat.{le-div, mul-le}
+use Rattle.std.proofs.Math.Nat.{le-mul_of_pos_right, mul-le-mul_right}
 use Rattle.clap.specs.Words.{Row, Text, first_of}
 use Rattle.upc_top_words.specs.declared.call.Mode.{Mode}
+use Rattle.upc_top_words.specs.declared.call.Mode.TheVariants.{Run, Record, Check, Layout, Sample, Verify, Races, Replica}
 use Rattle.upc_top_words.specs.Line.{found_in}
-use Rattle.upc_top_words.specs.Values.{Asked, Asks, AsksNothing, IsAllowed, IsInRange, asked_by, asked_from, mode_in, mode_named, no_mode, not_allowed, number_in, number_of, refused_by_clap, share}
+use Rattle.upc_top_words.specs.Values.{Asked, Asks, AsksNothing, IsAllowed, IsInRange, asked_by, asked_from, copies, mode_in, mode_named, no_mode, not_allowed, number_in, number_of, refused_by_clap, share}
 use Rattle.upc_top_words.specs.code.Given.{IsGiven, IsNumber}
 
 abbrev IsItems : ℕ → Type 0
 IsItems n = (1 ≤ n) × (n ≤ 8388608)
 
-items : (a : Option ℕ) (t : ℕ) → 1 ≤ t → t ≤ 32 → IfSome a IsItems → IsItems (unwrap_or a (share t))
-items None t least most h = (le-div 1 4194304 t least (omega arith), omega (arith, div-le_self 4194304 t))
-items (Some n) t least most h = h
+-- the items of one thread are multiplied by the number of threads at least, and by 1,024 at most
+pub copies-range : (m : Mode) (t : ℕ) → 1 ≤ t → t ≤ 32 → (t ≤ copies m t) × (copies m t ≤ 1024)
+copies-range Run t least most = (omega arith, omega arith)
+copies-range Record t least most = (omega arith, omega arith)
+copies-range Check t least most = (omega arith, omega arith)
+copies-range Layout t least most = (omega arith, omega arith)
+copies-range Sample t least most = (omega arith, omega arith)
+copies-range Verify t least most = (omega arith, omega arith)
+copies-range Races t least most = (omega arith, omega arith)
+copies-range Replica t least most = (le-mul_of_pos_right t least, mul-le t t 32 32 most most)
+
+-- the items of all threads are among those that are limited
+pub all-items : (m : Mode) (t n : ℕ) → 1 ≤ t → t ≤ 32 → t * n ≤ copies m t * n
+all-items m t n least most = mul-le-mul_right n (copies-range m t least most).0
+
+items : (a : Option ℕ) (m : Mode) (t : ℕ) → 1 ≤ t → t ≤ 32 → IfSome a IsItems → IsItems (unwrap_or a (share m t))
+items None m t least most h =
+    let many = copies-range m t least most in
+    let low : t ≤ copies m t = many.0 in
+    let high : copies m t ≤ 1024 = many.1 in
+    (le-div 1 4194304 (copies m t) (omega arith) (omega arith), omega (arith, div-le_self 4194304 (copies m t)))
+items (Some n) m t least most h = h
 
 abbrev some : Asked → Option Asked
 some w = Some w
@@ -36,8 +57,8 @@ range_from (Some m) (Some t) (Some b) a None g w ht hb ha e = absurd cc
 range_from (Some m) (Some t) (Some b) a (Some f) g w ht hb ha e =
     let tr = value_is (Some t) t 32 refl ht in
     let br = value_is (Some b) b 1000000000000 refl hb in
-    let ar = items a t tr.0 tr.1 ha in
-    let made : Asked = record { mode = m; threads = t; budget = b; actions = unwrap_or a (share t); file = f; recording = g } in
+    let ar = items a m t tr.0 tr.1 ha in
+    let made : Asked = record { mode = m; threads = t; budget = b; actions = unwrap_or a (share m t); file = f; recording = g } in
     subst IsInRange (is_value made w e) (record { one_thread = tr.0; threads = tr.1; one_tick = br.0; ticks = br.1; one_item = ar.0; items = ar.1 })
 
 items_in : (o : Option Text) → IfSome o (λ t. IsNumber (number_of t) 8388608) → IfSome (option_and_then number_of o) IsItems

@@ -9,6 +9,7 @@ use Rattle.upc_top_words.specs.Line.{IsTakenByClap, found_in}
 use Rattle.upc_top_words.specs.declared.call.Call.{Call}
 use Rattle.upc_top_words.specs.declared.call.Mode.{Mode}
 use Rattle.upc_top_words.specs.declared.call.Mode.TheVariants.{Run, Record, Check, Layout, Sample, Verify, Races}
+use Rattle.upc_top_words.specs.declared.call.Mode.TheVariants.{Replica}
 
 -- What the words ask for: a mode, the number of threads, the ticks and the items of each thread, the FILE word, and
 -- the RECORD word, if there is one.
@@ -41,7 +42,8 @@ mode_named text =
     else (if bytes_eq text (codes "layout") then Some Layout
     else (if bytes_eq text (codes "sample") then Some Sample
     else (if bytes_eq text (codes "verify") then Some Verify
-    else (if bytes_eq text (codes "races") then Some Races else None))))))
+    else (if bytes_eq text (codes "races") then Some Races
+    else (if bytes_eq text (codes "replica") then Some Replica else None)))))))
 
 -- The number that a text writes in decimal, where it fits 64 bits; `clap` takes a leading plus and leading zeros.
 abbrev pub number_of : Text → Option ℕ
@@ -56,9 +58,16 @@ number_in rows id = option_and_then number_of (first_of id rows)
 abbrev pub mode_in : List Row → Option Mode
 mode_in rows = option_and_then mode_named (first_of (codes "MODE") rows)
 
--- The items that each thread's record may have where the words give no number: 4,194,304 over all threads.
-abbrev pub share : ℕ → ℕ
-share threads = 4194304 / threads
+-- By how much the items of one thread are multiplied where they are limited: the number of threads, and in mode
+-- `replica`, in which each thread has mail from every other, its square.
+abbrev pub copies : Mode → ℕ → ℕ
+copies Replica threads = threads * threads
+copies mode threads = threads
+
+-- The items that each thread's record may have where the words give no number: 4,194,304 over all threads, in mode
+-- `replica` over all pairs of threads.
+abbrev pub share : Mode → ℕ → ℕ
+share mode threads = 4194304 / copies mode threads
 
 -- In mode `verify` a record is judged.
 abbrev pub judges : Mode → Bool
@@ -82,7 +91,7 @@ asked_from mode threads budget actions file recording = do
     mode = m;
     threads = t;
     budget = b;
-    actions = unwrap_or actions (share t);
+    actions = unwrap_or actions (share m t);
     file = f;
     recording = recording;
   })
@@ -100,10 +109,11 @@ pub record IsSampleNumber (text : Text) : Type 0 where
   pub most : stages ≤ 1000
   pub plain : text ≡ decimal stages
 
--- The conditions of the command's own: all threads together have at most 8,388,608 items, in mode `sample` the FILE
--- word is a number of stages, and the RECORD word is there exactly in mode `verify`.
+-- The conditions of the command's own: all threads together, in mode `replica` all pairs of threads, have at most
+-- 8,388,608 items, in mode `sample` the FILE word is a number of stages, and the RECORD word is there exactly in mode
+-- `verify`.
 pub record IsAllowed (a : Asked) : Type 0 where
-  pub items : a.threads * a.actions ≤ 8388608
+  pub items : copies a.mode a.threads * a.actions ≤ 8388608
   pub sample : a.mode ≡ Sample → IsSampleNumber a.file
   pub recording : is_some a.recording ≡ judges a.mode
 

@@ -22,6 +22,8 @@ pub enum Mode {
     Verify,
     /// Run it, and write its races.
     Races,
+    /// Run it on a memory in which each thread has its own copy, and write what it prints.
+    Replica,
 }
 
 /// What the words ask for.
@@ -32,7 +34,8 @@ pub struct Call<'a> {
     pub threads: u32,
     /// The ticks at which a thread ends, from 1 to 1,000,000,000,000.
     pub budget: u64,
-    /// The items that each thread's record may have, at least 1; over all threads at most 8,388,608.
+    /// The items that each thread's record may have, at least 1; over all threads at most 8,388,608, in mode `replica`
+    /// over all pairs of threads.
     pub actions: u64,
     /// The FILE word.
     pub file: &'a str,

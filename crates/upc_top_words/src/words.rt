@@ -8,7 +8,8 @@ ghost use Rattle.clap.specs.Built.{IsParsedFrom};
 ghost use Rattle.clap.specs.declared.parser.matches.ArgMatches.{ArgMatches};
 ghost use Rattle.upc_top_words.specs.Line.{IsTakenByClap, found_in, upc_app};
 ghost use Rattle.upc_top_words.specs.Values.{Asked, Asks, AsksNothing, IsAllowed, IsInRange, IsSampleNumber};
-ghost use Rattle.upc_top_words.specs.Values.{asked_by, judges, mode_in, mode_named, number_in, number_of, view_call};
+ghost use Rattle.upc_top_words.specs.Values.{asked_by, copies, judges, mode_in, mode_named, number_in, number_of};
+ghost use Rattle.upc_top_words.specs.Values.{view_call};
 ghost use Rattle.upc_top_words.specs.code.Given.{IsGiven};
 ghost use Rattle.upc_top_words.specs.declared.call.NoCall.TheVariants.{Usage, Memory};
 
@@ -19,7 +20,8 @@ use clap::error::ErrorKind;
 use itoa::Buffer;
 use std::alloc::Global;
 
-// The items of all threads together where the words give no number, and at most.
+// The items of all threads together, in mode `replica` of all pairs of threads, where the words give no number, and at
+// most.
 const SHARED_ITEMS: u64 = 4_194_304;
 
 const MOST_ITEMS: u64 = 8_388_608;
@@ -47,6 +49,9 @@ fn mode_of(word: &str) -> Option<Mode>
     }
     if word == "races" {
         return Some(Mode::Races);
+    }
+    if word == "replica" {
+        return Some(Mode::Replica);
     }
     None
 }
@@ -96,6 +101,19 @@ fn judges_record(mode: Mode) -> bool
     }
 }
 
+// By how much the items of one thread are multiplied where they are limited.
+fn copies(mode: Mode, threads: u64) -> u64
+    requires { (1 ≤ threads) × (threads ≤ 32) }
+    ensures is { result ≡ copies mode threads }
+    ensures some { 1 ≤ result }
+    ensures few { result ≤ 1024 }
+{
+    match mode {
+        Mode::Replica => threads * threads,
+        _ => threads,
+    }
+}
+
 // The values of what was found.
 fn asked<'a>(matches: &ArgMatches<'a>) -> Option<Call<'a>>
     requires { IsGiven (rows_of (found_of matches.now)) }
@@ -104,7 +122,7 @@ fn asked<'a>(matches: &ArgMatches<'a>) -> Option<Call<'a>>
     let mode = mode_at(matches)?;
     let threads = number_at(matches, "threads")?;
     let budget = number_at(matches, "budget")?;
-    let actions = number_at(matches, "actions").unwrap_or(SHARED_ITEMS / threads);
+    let actions = number_at(matches, "actions").unwrap_or(SHARED_ITEMS / copies(mode, threads));
     let file = first(matches, "FILE")?;
     Some(Call {
         mode,
@@ -136,7 +154,7 @@ fn is_allowed(call: &Call<'_>) -> bool
     requires { IsInRange (view_call call.now) }
     ensures { IsTrue result ↔ IsAllowed (view_call call.now) }
 {
-    let items = u64::from(call.threads) * call.actions;
+    let items = copies(call.mode, u64::from(call.threads)) * call.actions;
     items <= MOST_ITEMS
         && (call.mode != Mode::Sample || sample_number(call.file).is_some())
         && call.recording.is_some() == judges_record(call.mode)
@@ -162,8 +180,9 @@ fn parsed<'a>(alloc: Global, words: &'a [String]) -> Result<ArgMatches<'a>, NoCa
 }
 
 /// What the words after the program's name ask for: `clap` takes them as `MODE -T n [--budget n] [--actions n] FILE
-/// [RECORD]`, all threads together may have at most 8,388,608 items, in mode `sample` FILE is a number from 1 to 1,000
-/// in plain decimal, and RECORD is there exactly in mode `verify`. `Usage` exactly where the words ask for nothing.
+/// [RECORD]`, all threads together, in mode `replica` all pairs of threads, may have at most 8,388,608 items, in mode
+/// `sample` FILE is a number from 1 to 1,000 in plain decimal, and RECORD is there exactly in mode `verify`. `Usage`
+/// exactly where the words ask for nothing.
 pub fn read_words<'a>(alloc: Global, words: &'a [String]) -> Result<Call<'a>, NoCall>
     // The words ask for this call.
     ensures asks { IfOk result (λ c. Asks (map string_bytes words.entry.now) (view_call c)) }

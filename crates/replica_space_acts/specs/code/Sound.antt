@@ -4,7 +4,7 @@ use Rattle.upc_values.specs.declared.journal.Entry.{Entry}
 use Rattle.upc_values.specs.Openings.{Opening, IsOpening}
 use Rattle.upc_values.specs.Formed.{AreWellFormed}
 use Rattle.replica_space.specs.declared.event.Event.{Event}
-use Rattle.replica_space.specs.layer.Events.{history_in}
+use Rattle.replica_space.specs.Events.{history_in}
 use Rattle.replica_space_quiet.specs.layer.Loud.{loud}
 use Rattle.replica_space_copies.specs.layer.Copies.{CopiesState}
 use Rattle.replica_space_mail.specs.layer.Deliveries.{Follows}

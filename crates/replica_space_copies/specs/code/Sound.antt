@@ -2,9 +2,9 @@
 use Rattle.std.specs.Prelude.{ℕ, ◌≡◌, ◌<◌, ◌≤◌, [], length, slice_index_or}
 use Rattle.upc_values.specs.Lists.{Each}
 use Rattle.replica_space.specs.declared.message.Message.{Message}
-use Rattle.replica_space.specs.layer.Spaces.{Space}
+use Rattle.replica_space.specs.Spaces.{Space}
 use Rattle.replica_space_copies.specs.layer.Copies.{CopiesState, threads_of, space_of}
-use Rattle.replica_space_copies.specs.code.Counts.{waiting_in}
+use Rattle.replica_space_copies.specs.layer.Counts.{waiting_in}
 
 -- No thread has mail from itself, and no clock, of a thread or of a waiting message, is above w.
 pub record IsLow (n w : ℕ) (s : Space) : Type 0 where

@@ -6,7 +6,7 @@ use Rattle.block_layout.specs.declared.place.Loc.{Loc}
 use Rattle.upc_values.specs.declared.scalar.Scalar.{Scalar}
 use Rattle.replica_space.specs.declared.message.Stamp.{Stamp}
 use Rattle.replica_space.specs.declared.message.Message.{Message}
-use Rattle.replica_space.specs.layer.Spaces.{Space}
+use Rattle.replica_space.specs.Spaces.{Space}
 use Rattle.replica_space_copies.specs.declared.held.Key.{Key}
 
 -- Both keys are one location in one thread's copy.

@@ -1,7 +1,7 @@
 -- When two spaces are alike for the first threads.
 use Rattle.std.specs.Prelude.{ℕ, ◌≡◌, ◌<◌}
 use Rattle.block_layout.specs.declared.place.Loc.{Loc}
-use Rattle.replica_space.specs.layer.Spaces.{Space}
+use Rattle.replica_space.specs.Spaces.{Space}
 
 -- Each of the first n threads has the same clock, copy and mail from each of them in both.
 pub record IsSame (n : ℕ) (s r : Space) : Type 0 where

@@ -10,10 +10,10 @@ use Rattle.upc_values.specs.Openings.{Opening}
 use Rattle.replica_space.specs.declared.message.Stamp.{Stamp}
 use Rattle.replica_space.specs.declared.message.Message.{Message}
 use Rattle.replica_space.specs.declared.event.Event.{Event}
-use Rattle.replica_space.specs.layer.Spaces.{Space, is_later, space_after}
-use Rattle.replica_space.specs.layer.Runs.{IsReplicaRun, NoneWaits}
-use Rattle.replica_space.specs.layer.ReplicaOrders.{Placed, write_of, is_write_of, operations, operations_in}
-use Rattle.replica_space.specs.layer.ReplicaOrders.{listed_after, replica_strict_list}
+use Rattle.replica_space.specs.Spaces.{Space, is_later, space_after}
+use Rattle.replica_space.specs.Runs.{IsReplicaRun, NoneWaits}
+use Rattle.replica_space.specs.ReplicaOrders.{Placed, write_of, is_write_of, operations, operations_in}
+use Rattle.replica_space.specs.ReplicaOrders.{listed_after, replica_strict_list}
 
 -- Two writes of one location of which the first stands before the second: the first one's stamp is not the later one.
 abbrev pub StandByStamps : Placed → Placed → Type 0

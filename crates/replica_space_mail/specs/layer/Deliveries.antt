@@ -1,11 +1,11 @@
 -- The events in which a thread delivers mail (UPC 5.1.2.3, Appendix B).
-use Rattle.std.specs.Prelude.{ℕ, ◌≡◌, List, [], ◌∷◌, ◌++◌}
+use Rattle.std.specs.Prelude.{ℕ, ◌≡◌, Bool, true, cond, List, [], ◌∷◌, ◌++◌}
 use Rattle.upc_values.specs.Openings.{Opening}
 use Rattle.replica_space.specs.declared.message.Message.{Message}
 use Rattle.replica_space.specs.declared.event.Event.{Event}
-use Rattle.replica_space.specs.layer.Events.{delivered}
-use Rattle.replica_space.specs.layer.Spaces.{Space, met, space_after}
-use Rattle.replica_space.specs.layer.Runs.{IsReplicaRun, NoneWaits}
+use Rattle.replica_space.specs.Events.{delivered}
+use Rattle.replica_space.specs.Spaces.{Space, met, space_after}
+use Rattle.replica_space.specs.Runs.{IsReplicaRun, NoneWaits}
 use Rattle.replica_space_copies.specs.layer.Copies.{CopiesState, threads_of, space_of}
 use Rattle.replica_space_copies.specs.layer.Same.{IsSame}
 
@@ -34,10 +34,21 @@ pub record Follows (o : Opening) (c : CopiesState) (es : List Event) : Type 0 wh
   pub run : IsReplicaRun o es
   pub shows : IsSame o.threads (space_of c) (space_after o.threads es)
 
--- The events are a replica run after which no message waits, and the threads have what they have after it, once their
--- clocks have met.
-pub record HaveMet (o : Opening) (c : CopiesState) (es : List Event) : Type 0 where
+-- How many messages are delivered before an action: where `meets`, all that wait.
+abbrev pub due : Bool → CopiesState → ℕ
+due meets c = cond meets c.waiting 0
+
+-- The events and, where `meets`, the deliveries of all mail that waits after them, among n threads, by thread t.
+abbrev pub with_due : Bool → ℕ → ℕ → List Event → List Event
+with_due meets t n es = cond meets (es ++ all_deliveries t n n (space_after n es)) es
+
+-- An action of thread t may come after these events, which are a replica run, and other ones before with what was due;
+-- where `meets`, no message waits after them, and the threads have what they have once their clocks have met.
+pub record IsReady (o : Opening) (meets : Bool) (t : ℕ) (before : List Event) (c : CopiesState) (es : List Event)
+    : Type 0 where
   pub many : threads_of c ≡ o.threads
+  pub events : es ≡ with_due meets t o.threads before
   pub run : IsReplicaRun o es
-  pub none : NoneWaits o.threads (space_after o.threads es)
-  pub met : IsSame o.threads (space_of c) (met o.threads (space_after o.threads es))
+  pub none : meets ≡ true → NoneWaits o.threads (space_after o.threads es)
+  pub shows : IsSame o.threads (space_of c)
+      (cond meets (met o.threads (space_after o.threads es)) (space_after o.threads es))

@@ -6,7 +6,7 @@ use Rattle.upc_values.specs.declared.order.Op.{Op}
 use Rattle.upc_values.specs.Operations.{accesses_of}
 use Rattle.upc_values.specs.Orders.{name_of}
 use Rattle.replica_space.specs.declared.event.Event.{Event}
-use Rattle.replica_space.specs.layer.ReplicaOrders.{replica_strict_list}
+use Rattle.replica_space.specs.ReplicaOrders.{replica_strict_list}
 
 -- The names of the strict operations of action i of thread t.
 abbrev pub strict_names_of : ℕ → ℕ → Action → Reply → List Op

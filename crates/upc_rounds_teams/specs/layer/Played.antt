@@ -14,7 +14,7 @@ use Rattle.upc_values.specs.Ends.{stops}
 use Rattle.upc_values.specs.Outcomes.{wanted}
 use Rattle.upc_values.specs.Records.{last_item, is_stall, is_beat}
 use Rattle.upc_values.specs.Strands.{next_action}
-use Rattle.upc_task.specs.declared.worker.Worker.{Worker}
+use Rattle.upc_task.specs.layer.Kept.{Worker}
 use Rattle.upc_task.specs.declared.worker.Pause.{Pause}
 use Rattle.upc_task.specs.declared.worker.Pause.TheVariants.{Beat, Stalled}
 use Rattle.upc_task.specs.layer.Sources.{Outcomes}

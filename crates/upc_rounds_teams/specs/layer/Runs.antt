@@ -13,7 +13,7 @@ use Rattle.upc_values.specs.Ends.{stops, settles}
 use Rattle.stack_code.specs.layer.Codes.{Codes}
 use Rattle.stack_machine.specs.declared.wish.Wish.{Wish}
 use Rattle.stack_machine.specs.declared.wish.Wish.TheVariants.{Act}
-use Rattle.upc_task.specs.declared.worker.Worker.{Worker}
+use Rattle.upc_task.specs.layer.Kept.{Worker}
 use Rattle.upc_task.specs.layer.Sources.{Outcomes}
 use Rattle.upc_task.specs.Ends.{is_given}
 use Rattle.upc_task.specs.layer.Kept.{IsKept, IsSame, IsPausing, strand_of}

@@ -11,7 +11,7 @@ use Rattle.stack_code.specs.layer.Codes.{Codes}
 use Rattle.stack_machine.specs.declared.wish.Wish.TheVariants.{Act}
 use Rattle.turn_cell.specs.declared.seat.Seat.{Seat}
 use Rattle.turn_cell.specs.layer.Seats.{TableId, cell_of, number_of, seen_of}
-use Rattle.upc_task.specs.declared.worker.Worker.{Worker}
+use Rattle.upc_task.specs.layer.Kept.{Worker}
 use Rattle.upc_task.specs.layer.Sources.{Outcomes}
 use Rattle.upc_task.specs.layer.Seated.{IsTask, IsLawful, IsSeatOf}
 use Rattle.upc_rounds_teams.specs.declared.place.Place.{Place}

@@ -3,9 +3,9 @@ use Rattle.std.proofs.lemmas.Bool.{not-true, not-false, not_from_false}
 use Rattle.std.proofs.lemmas.List.Sorted.{IsPartitionPoint-from_clause}
 use Rattle.std.specs.List.Sorted.{IsPartitionedBy}
 use Rattle.replica_space.specs.declared.message.Stamp.{Stamp}
-use Rattle.replica_space.specs.layer.Spaces.{is_later}
+use Rattle.replica_space.specs.Spaces.{is_later}
 use Rattle.replica_space_lists.proofs.Stamps.{upto-trans}
-use Rattle.replica_space_orders.specs.code.Finding.{Ascend}
+use Rattle.replica_space_orders.specs.layer.Finding.{Ascend}
 use Rattle.replica_space_orders.proofs.find.first_later.Goals as goal
 
 parted : (stamps : List Stamp) (s : Stamp) → Ascend stamps → IsPartitionedBy (λ k. not (is_later k s)) stamps

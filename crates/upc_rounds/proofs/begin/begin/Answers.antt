@@ -1,7 +1,7 @@
 use Rattle.std.proofs.Common.{◌≡◌, map, sym, subst, ap, ◌∙◌}
 use Rattle.upc_values.specs.Openings.{Opening, IsOpening}
 use Rattle.upc_rounds.specs.layer.Openings.{opening_of}
-use Rattle.upc_rounds.proofs.Openings.{kept_opening, opening_with, opens}
+use Rattle.upc_rounds_base.proofs.Openings.{kept_opening, opening_with, opens}
 use Rattle.upc_rounds.proofs.begin.begin.Goals as goal
 
 pub make-requires : goal.make-requires

@@ -5,7 +5,7 @@ use Rattle.std.proofs.lemmas.Bool.{false≢true}
 use Rattle.upc_values.specs.Lists.{Numbered}
 use Rattle.upc_values.specs.Openings.{Opening}
 use Rattle.turn_cell.specs.layer.Seats.{TableId, AreNew, IsNew, cell_of, seen_of}
-use Rattle.upc_task.specs.declared.worker.Worker.{Worker}
+use Rattle.upc_task.specs.layer.Kept.{Worker}
 use Rattle.upc_task.specs.layer.Seated.{IsTask}
 use Rattle.upc_task.proofs.Lists.{numbered-push}
 use Rattle.upc_task.proofs.Options.{none-some}

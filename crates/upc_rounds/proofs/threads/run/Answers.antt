@@ -12,12 +12,12 @@ use Rattle.upc_rounds_teams.specs.declared.place.Place.{Place}
 use Rattle.upc_rounds.specs.layer.Openings.{opening_of}
 use Rattle.upc_rounds_teams.specs.layer.Runs.{AreSame}
 use Rattle.upc_rounds_teams.specs.layer.Teams.{IsSeated, IsTeam, IsDone, HasEnded, workers_of, seen_at, seen_among}
-use Rattle.upc_rounds.proofs.Openings.{kept_opening}
-use Rattle.upc_rounds.proofs.Outcomes.{has_outcomes}
+use Rattle.upc_rounds_base.proofs.Openings.{kept_opening}
+use Rattle.upc_rounds_base.proofs.Outcomes.{has_outcomes, there}
 use Rattle.upc_rounds.proofs.Spending.{sound-spent}
 use Rattle.upc_rounds_teams.proofs.Crews.{many-workers}
 use Rattle.upc_rounds.proofs.Beginnings.{given-back}
-use Rattle.upc_rounds.proofs.Whole.{there, begun-team, done-kept, done-is-ended, done-sound, done-in-time}
+use Rattle.upc_rounds.proofs.Whole.{begun-team, done-kept, done-is-ended, done-sound, done-in-time}
 use Rattle.upc_rounds.proofs.threads.run.Goals as goal
 
 pub make_all-requires-clause-code : goal.make_all-requires-clause-code

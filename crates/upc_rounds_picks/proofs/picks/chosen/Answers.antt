@@ -1,5 +1,5 @@
 use Rattle.std.proofs.Common.{◌<◌, is_some, length, sym, subst, ap, ◌∙◌, arith}
-use Rattle.upc_task.specs.declared.worker.Worker.{Worker}
+use Rattle.upc_task.specs.layer.Kept.{Worker}
 use Rattle.upc_rounds_teams.specs.layer.Teams.{workers_of}
 use Rattle.upc_rounds.proofs.Running.{open-more, ended-more}
 use Rattle.upc_rounds_teams.proofs.Crews.{some-place, worker-at, many-workers}

@@ -13,13 +13,13 @@ use Rattle.upc_rounds.specs.layer.Openings.{opening_of}
 use Rattle.upc_rounds_teams.specs.layer.Course.{Moment, AreOf}
 use Rattle.upc_rounds_teams.specs.layer.Runs.{AreSame, moment_of}
 use Rattle.upc_rounds_teams.specs.layer.Teams.{IsSeated, IsCrew, IsDone, workers_of, seen_at, seen_among}
-use Rattle.upc_rounds.proofs.Openings.{kept_opening}
-use Rattle.upc_rounds.proofs.Outcomes.{has_outcomes}
+use Rattle.upc_rounds_base.proofs.Openings.{kept_opening}
+use Rattle.upc_rounds_base.proofs.Outcomes.{has_outcomes, there}
 use Rattle.upc_rounds.proofs.Standings.{outset-of}
 use Rattle.upc_rounds.proofs.Spending.{sound-spent}
 use Rattle.upc_rounds_teams.proofs.Crews.{many-workers}
 use Rattle.upc_rounds.proofs.Beginnings.{given-back}
-use Rattle.upc_rounds.proofs.Whole.{there, done-kept, done-is-ended, done-sound}
+use Rattle.upc_rounds.proofs.Whole.{done-kept, done-is-ended, done-sound}
 use Rattle.upc_rounds_picks.proofs.picks.run_by.Goals as goal
 
 pub make_all-requires-clause-code : goal.make_all-requires-clause-code

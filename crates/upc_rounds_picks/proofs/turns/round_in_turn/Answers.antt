@@ -4,7 +4,7 @@ use Rattle.std.proofs.lemmas.Bool.{cases_eq}
 use Rattle.turn_cell.specs.layer.Seats.{id_of, started}
 use Rattle.upc_values.specs.declared.journal.Entry.{Entry}
 use Rattle.upc_values.specs.Openings.{Opening}
-use Rattle.upc_task.specs.declared.worker.Worker.{Worker}
+use Rattle.upc_task.specs.layer.Kept.{Worker}
 use Rattle.upc_rounds_teams.specs.layer.Course.{InRound}
 use Rattle.upc_rounds_teams.specs.layer.Runs.{Rested, GoesAt, standing_of}
 use Rattle.upc_rounds_teams.specs.layer.Teams.{workers_of, seen_among}

@@ -1,7 +1,7 @@
 use Rattle.std.proofs.Common.{◌≡◌, ℕ, ◌<◌, ◌≤◌}
 use Rattle.std.specs.Prelude.{slice_index_or}
 use Rattle.turn_cell.specs.layer.Seats.{id_of, started}
-use Rattle.upc_task.specs.declared.worker.Worker.{Worker}
+use Rattle.upc_task.specs.layer.Kept.{Worker}
 use Rattle.upc_rounds_teams.specs.layer.Course.{Grows, InRound}
 use Rattle.upc_rounds_teams.specs.layer.Runs.{AreSame, Rested, GoesAt}
 use Rattle.upc_rounds_teams.specs.layer.Teams.{StaysCrew, workers_of, seen_among}

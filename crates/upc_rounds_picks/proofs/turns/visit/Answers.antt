@@ -1,7 +1,7 @@
 use Rattle.std.proofs.Common.{rules, ◌≡◌, true, false, is_some, refl, sym, ap, ◌∙◌, inl, get_or}
 use Rattle.std.specs.Prelude.{not}
 use Rattle.std.proofs.lemmas.Bool.{false≢true}
-use Rattle.upc_task.specs.declared.worker.Worker.{Worker}
+use Rattle.upc_task.specs.layer.Kept.{Worker}
 use Rattle.upc_rounds_teams.proofs.Crews.{some-place, worker-at}
 use Rattle.upc_rounds_picks.proofs.turns.visit.Goals as goal
 

@@ -1,5 +1,5 @@
 use Rattle.std.proofs.Common.{◌≡◌, ◌<◌, None, length, sym, ap, subst, ◌∙◌, arith, get_or}
-use Rattle.upc_task.specs.declared.worker.Worker.{Worker}
+use Rattle.upc_task.specs.layer.Kept.{Worker}
 use Rattle.upc_rounds_teams.specs.layer.Runs.{CanLock, locked}
 use Rattle.upc_rounds_teams.specs.layer.Teams.{workers_of}
 use Rattle.upc_rounds_teams.proofs.Crews.{worker-at, many-workers, both-workers}

@@ -4,7 +4,7 @@ use Rattle.turn_cell.specs.layer.Seats.{id_of, started}
 use Rattle.upc_values.specs.Lists.{Numbered}
 use Rattle.upc_values.specs.History.{reply}
 use Rattle.upc_values.specs.Records.{last_item, is_stall}
-use Rattle.upc_task.specs.declared.worker.Worker.{Worker}
+use Rattle.upc_task.specs.layer.Kept.{Worker}
 use Rattle.upc_task.proofs.Options.{match-some, match-none}
 use Rattle.upc_rounds_teams.specs.declared.place.Place.{Place}
 use Rattle.upc_rounds_teams.specs.layer.Runs.{Wanting, Moving}

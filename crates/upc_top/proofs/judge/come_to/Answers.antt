@@ -14,5 +14,8 @@ returns-in-Err-read_source-2-clause-comes g c =
     c.stopped-in-Err-read_source-2.ensures _ (view_call c.args.call.now) c.args.bytes.now
     c.in-Err-read_source-2.ensures.refused
 
+pub returns-in-Replica-clause-comes : goal.returns-in-Replica-clause-comes
+returns-in-Replica-clause-comes g c = c.run_replicated.ensures _
+
 pub returns-in-Ok-read_source-2 : goal.returns-in-Ok-read_source-2
 returns-in-Ok-read_source-2 g c = record { comes = c.run_accepted.ensures _; sample = λ m. refl }

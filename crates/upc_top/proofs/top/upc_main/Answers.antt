@@ -2,7 +2,14 @@ use Rattle.std.proofs.Common.{map, string_bytes, Global}
 use Rattle.upc_top.specs.Verdicts.{reading}
 use Rattle.upc_top.specs.Delivery.{writing, Answered}
 use Rattle.upc_top.proofs.Endings.{answered, writable, complete, other-words, long-files}
+use Rattle.upc_top.proofs.Few.{few, few-copies}
 use Rattle.upc_top.proofs.top.upc_main.Goals as goal
+
+pub deliver-requires-clause-few : goal.deliver-requires-clause-few
+deliver-requires-clause-few g c = few _ _ c.judge-verdict.result c.judge-verdict.ensures.caused
+
+pub deliver-requires-clause-few_copies : goal.deliver-requires-clause-few_copies
+deliver-requires-clause-few_copies g c = few-copies _ _ c.judge-verdict.result c.judge-verdict.ensures.caused
 
 pub deliver-requires-clause-writable : goal.deliver-requires-clause-writable
 deliver-requires-clause-writable g c = writable _ _ c.judge-verdict.result c.judge-verdict.ensures.caused

@@ -10,7 +10,7 @@ use Rattle.typed_tree.specs.ViewProgram.{view_program}
 use Rattle.typed_tree.specs.declared.program.Program.{Program}
 use Rattle.source_meaning.specs.Laws.{opening_of}
 use Rattle.upc_rounds.specs.layer.Openings as rounds
-use Rattle.upc_rounds.proofs.Begun.{same_opening}
+use Rattle.upc_rounds_base.proofs.Begun.{same_opening}
 use Rattle.upc_verify_parts.specs.Parts.{HasShape, HoldsOfEach}
 use Rattle.upc_verify_judge.specs.layer.Meanings.{outcome_in}
 use Rattle.upc_verify_judge.specs.Verdicts.{shape}

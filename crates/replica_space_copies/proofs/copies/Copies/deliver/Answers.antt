@@ -2,7 +2,7 @@ use Rattle.std.proofs.Common.{◌≡◌, ℕ, ◌+◌, ◌-◌, ◌<◌, ◌==�
 use Rattle.std.specs.Vec.{with_items}
 use Rattle.std.proofs.lemmas.List.{with_items_is, get_or_read}
 use Rattle.replica_space.specs.declared.message.Message.{Message}
-use Rattle.replica_space.specs.layer.Spaces.{greater, received}
+use Rattle.replica_space.specs.Spaces.{greater, received}
 use Rattle.replica_space_copies.specs.layer.Copies.{CopiesState, threads_of, space_of, letters, IsSteady}
 use Rattle.replica_space_copies.specs.layer.Same.{IsSame}
 use Rattle.replica_space_copies.specs.code.Sound.{AreCopies}

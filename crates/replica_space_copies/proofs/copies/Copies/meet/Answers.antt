@@ -1,7 +1,7 @@
 use Rattle.std.proofs.Common.{◌≡◌, ℕ, ◌<◌, List, length, get_or, sym, ap, ◌∙◌, subst, arith}
 use Rattle.std.specs.Vec.{with_items}
 use Rattle.std.proofs.lemmas.List.{with_items_is}
-use Rattle.replica_space.specs.layer.Spaces.{greatest, met}
+use Rattle.replica_space.specs.Spaces.{greatest, met}
 use Rattle.replica_space_copies.specs.layer.Copies.{CopiesState, threads_of, space_of}
 use Rattle.replica_space_copies.specs.layer.Same.{IsSame}
 use Rattle.replica_space_copies.specs.code.Sound.{AreCopies}

@@ -1,6 +1,6 @@
 use Rattle.std.proofs.Common.{◌≡◌, ℕ, ◌<◌, ◌≤◌, ◌+◌}
 use Rattle.block_layout.specs.declared.place.Loc.{Loc}
-use Rattle.replica_space.specs.layer.Spaces.{with_message}
+use Rattle.replica_space.specs.Spaces.{with_message}
 use Rattle.replica_space_copies.specs.layer.Copies.{held_at}
 use Rattle.replica_space_copies.proofs.held.Held.put_in_each.Given as goal
 

@@ -1,35 +1,44 @@
-use Rattle.std.proofs.Common.{◌≡◌, ◌≤◌, not, length, sym, ap, ◌∙◌, subst, arith}
-use Rattle.std.specs.List.{position, position_or_len, insert}
-use Rattle.std.specs.Option.{unwrap_or}
-use Rattle.std.proofs.lemmas.List.Sums.{prefix_len-le-length}
-use Rattle.replica_space_rows.specs.code.Rows.{is_after, with_member}
-use Rattle.replica_space_rows.proofs.Members.{found-or-last, inserted}
+use Rattle.std.proofs.Common.{◌∷◌, ◌++◌, [], sym, ap, ◌∙◌, subst}
+use Rattle.replica_space_marks.specs.layer.Index.{marks_at}
+use Rattle.replica_space_rows.specs.layer.Rows.{with_member}
+use Rattle.replica_space_rows.specs.code.Places.{placed_all, ArePlaced}
+use Rattle.replica_space_rows.proofs.Opening.{placed-same}
+use Rattle.replica_space_rows.proofs.Steps.{found-row, found-list, end-row, end-list}
 use Rattle.replica_space_rows.proofs.row.Row.put.Goals as goal
 
-pub insert-requires : goal.insert-requires
-insert-requires c =
-    let xs = c.self.inside.members.items in
-    let p = is_after c.args.message.now in
-    let at : c.unwrap_or-place.result ≡ position_or_len p xs =
-    c.unwrap_or-place.ensures
-    ∙ ap (λ o. unwrap_or o c.len-last.result) (c.first_after.ensures ∙ ap (position p) c.as_slice.ensures.value)
-    ∙ ap (unwrap_or (position p xs)) (c.len-last.ensures ∙ c.self.inside.members.ok.0)
-    ∙ found-or-last p xs in
-    let upto = prefix_len-le-length (λ x. not (p x)) xs in
-    omega (arith, at, upto, c.self.inside.members.ok.0)
+pub invariant_of-self-in-Some : goal.invariant_of-self-in-Some
+invariant_of-self-in-Some c =
+    let i = c.self.inside in
+    found-row i.members.items c.push.new.self.items i.slots (marks_at i.index) c.self.invariant c.args.message.now c.find.result c.find.ensures c.in-Some.slot c.in-Some.is
+    (c.in_ok-push.ensures.items ∙ ap (λ y. i.members.items ++ record { member = y; slot = c.in-Some.slot } ∷ []) c.member_of-member.ensures)
+
+pub returns-in-Some : goal.returns-in-Some
+returns-in-Some c =
+    let i = c.self.inside in
+    found-list i.members.items c.push.new.self.items i.slots (marks_at i.index) c.self.invariant c.args.message.now c.find.result c.find.ensures c.in-Some.slot c.in-Some.is
+    (c.in_ok-push.ensures.items ∙ ap (λ y. i.members.items ++ record { member = y; slot = c.in-Some.slot } ∷ []) c.member_of-member.ensures)
+    ∙ ap (with_member c.args.message.now) c.self.view_is
+
+pub invariant_of-self-in_err-add : goal.invariant_of-self-in_err-add
+invariant_of-self-in_err-add c =
+    let i = c.self.inside in
+    placed-same (placed_all c.reserve.new.self.items) i.slots (marks_at i.index)
+    (subst (λ l. ArePlaced (placed_all l) i.slots (marks_at i.index)) (sym c.reserve.ensures.items) c.self.invariant)
+    (marks_at c.add.new.self) c.in_err-add.ensures.kept
+
+pub invariant_of-self-2 : goal.invariant_of-self-2
+invariant_of-self-2 c =
+    let i = c.self.inside in
+    end-row i.members.items c.push_reserved.new.self.items i.slots (marks_at i.index) c.self.invariant c.args.message.now c.find.result c.find.ensures c.in_default.is
+    (c.push_reserved.ensures.items ∙ ap (λ l. l ++ record { member = c.member_of-member.result; slot = i.slots } ∷ []) c.reserve.ensures.items
+    ∙ ap (λ y. i.members.items ++ record { member = y; slot = i.slots } ∷ []) c.member_of-member.ensures)
+    (marks_at c.add.new.self) c.in_ok-add.ensures.added
 
 pub returns : goal.returns
 returns c =
-    let xs = c.self.inside.members.items in
-    let m = c.args.message.now in
-    let p = is_after m in
-    let at : c.unwrap_or-place.result ≡ position_or_len p xs =
-    c.unwrap_or-place.ensures
-    ∙ ap (λ o. unwrap_or o c.len-last.result) (c.first_after.ensures ∙ ap (position p) c.as_slice.ensures.value)
-    ∙ ap (unwrap_or (position p xs)) (c.len-last.ensures ∙ c.self.inside.members.ok.0)
-    ∙ found-or-last p xs in
-    c.in_ok-insert.ensures.items
-    ∙ ap (λ n. insert xs n c.member_of.result) at
-    ∙ ap (insert xs (position_or_len p xs)) c.member_of.ensures
-    ∙ inserted m xs
-    ∙ ap (with_member m) c.self.view_is
+    let i = c.self.inside in
+    end-list i.members.items c.push_reserved.new.self.items i.slots (marks_at i.index) c.self.invariant c.args.message.now c.find.result c.find.ensures c.in_default.is
+    (c.push_reserved.ensures.items ∙ ap (λ l. l ++ record { member = c.member_of-member.result; slot = i.slots } ∷ []) c.reserve.ensures.items
+    ∙ ap (λ y. i.members.items ++ record { member = y; slot = i.slots } ∷ []) c.member_of-member.ensures)
+    (marks_at c.add.new.self) c.in_ok-add.ensures.added
+    ∙ ap (with_member c.args.message.now) c.self.view_is

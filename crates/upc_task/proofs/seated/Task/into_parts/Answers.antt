@@ -1,5 +1,4 @@
-use Rattle.turn_cell.specs.layer.Seats.{seen_of}
 use Rattle.upc_task.proofs.seated.Task.into_parts.Goals as goal
 
 pub returns-clause-strand : goal.returns-clause-strand
-returns-clause-strand c = λ o p f h. c.into_strand.ensures o p f (seen_of c.args.self.seat) h
+returns-clause-strand c = λ o p f h. c.into_strand.ensures o p f h.recorded

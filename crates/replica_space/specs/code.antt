@@ -1,2 +1,0 @@
-pub mod ReplicaSound
-pub mod ReplicaRows

@@ -1,0 +1,4 @@
+pub mod Letters
+pub mod Stepping
+pub mod Walks
+pub mod Ending

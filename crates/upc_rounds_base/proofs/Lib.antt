@@ -1,0 +1,4 @@
+pub mod Openings
+pub mod Begun
+pub mod Outcomes
+pub mod Ending
