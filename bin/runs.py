@@ -11,7 +11,7 @@ import tempfile
 import threading
 
 TOP = pathlib.Path(__file__).resolve().parent.parent
-MODES = ("run", "record", "races", "check", "layout", "sample", "verify")
+MODES = ("run", "record", "races", "replica", "check", "layout", "sample", "verify")
 INPUT = "/dev/stdin"  # the file that is what comes in
 WITH_NUMBER = {"-T": 32, "--budget": 1_000_000_000_000, "--actions": 8_388_608}  # each with the most that it takes
 

@@ -29,7 +29,7 @@ _upc() {
   case $name in
     upc | why | try)
       for word in "${COMP_WORDS[@]:1:$((COMP_CWORD - 1))}"; do
-        case $word in run | record | races | check | layout | sample) moded=1 ;; verify) moded=2 ;; esac
+        case $word in run | record | races | replica | check | layout | sample) moded=1 ;; verify) moded=2 ;; esac
       done
       ;;
     story | traffic | draw) moded=1 words="$words --record" ;;
@@ -47,7 +47,7 @@ _upc() {
   if [[ $now == -* ]]; then
     _upc_takes -W "$words"
   elif [ -z "$moded" ]; then
-    _upc_takes -W "run record races check layout sample verify"
+    _upc_takes -W "run record races replica check layout sample verify"
   elif [ "$moded" = 2 ] && [[ $before == *.upc ]]; then
     _upc_takes_files ""
   else
