@@ -28,13 +28,13 @@ use Rattle.stack_code.specs.declared.instruction.Jump.TheVariants as jump
 use Rattle.stack_code.specs.declared.instruction.Instr.{Instr}
 use Rattle.gen_expr.specs.layer.Sources.{Source, running_of}
 use Rattle.gen_expr.specs.layer.Codes.{stacks, jumps, value_code}
-use Rattle.gen_stmt.specs.code.Ways.{Ways, all_past, all_inner, in_loop, in_switch, in_forall, in_function}
-use Rattle.gen_stmt.specs.code.Codes.{block_code, loop_code, label_code, cases, aside_code, test_code, declared_code}
-use Rattle.gen_stmt.specs.code.Codes.{first_code, guard_code, size, arms_size, switch_size}
-use Rattle.gen_stmt.specs.code.Codes.{cases_code, before_default, statement_code, kind_code, last_code, arms_code}
-use Rattle.gen_stmt.specs.code.Codes.{items_code}
-use Rattle.gen_stmt.specs.code.Codes.{switch_code, leaves}
-use Rattle.gen_stmt.specs.code.Programs.{receives, opened_code, entry_code, main_number}
+use Rattle.gen_stmt.specs.layer.Ways.{Ways, all_past, all_inner, in_loop, in_switch, in_forall, in_function}
+use Rattle.gen_stmt.specs.layer.Codes.{block_code, loop_code, label_code, cases, aside_code, test_code, declared_code}
+use Rattle.gen_stmt.specs.layer.Codes.{first_code, guard_code, size, arms_size, switch_size}
+use Rattle.gen_stmt.specs.layer.Codes.{cases_code, before_default, statement_code, kind_code, last_code, arms_code}
+use Rattle.gen_stmt.specs.layer.Codes.{items_code}
+use Rattle.gen_stmt.specs.layer.Codes.{switch_code, leaves}
+use Rattle.gen_stmt.specs.layer.Programs.{receives, opened_code, entry_code, main_number}
 use Rattle.gen_stmt.specs.code.Parts.{Labelled, labels_code, do_code, headed_code, forall_code, labelled_code}
 use Rattle.gen_stmt.specs.code.Parts.{barrier_code, opening_code, arm_code, before_items, before_parts, labelled_of}
 use Rattle.gen_stmt.specs.code.Parts.{within_code}

@@ -17,7 +17,7 @@ use Rattle.stack_code.specs.declared.instruction.Instr.{Instr}
 use Rattle.stack_code.specs.layer.Codes.{Codes}
 use Rattle.stack_code.specs.layer.Making.{Making, empty, with_function, with_instructions, with_object}
 use Rattle.gen_expr.specs.layer.Sources.{Source}
-use Rattle.gen_stmt.specs.code.Programs.{entry_code, function_code, program_code}
+use Rattle.gen_stmt.specs.layer.Programs.{entry_code, function_code, program_code}
 use Rattle.gen_expr.specs.layer.ViewSource.{source_with}
 use Rattle.gen_stmt.specs.code.Compiled.{made, with_functions, with_objects, with_initials}
 

@@ -46,10 +46,10 @@ use Rattle.stack_code.proofs.Meetings.{same_step, here, fetched}
 use Rattle.gen_expr.specs.layer.Sources.{Source, source_of, running_of}
 use Rattle.gen_expr.specs.layer.Codes.{pushes}
 use Rattle.gen_expr.specs.layer.Meanings.{CallsMeet, MeansValue, ExpressionsAreMeant}
-use Rattle.gen_stmt.specs.code.Ways.{in_function}
-use Rattle.gen_stmt.specs.code.Codes.{gives_back, leaves, enters, items_size, size, items_code, statement_code}
-use Rattle.gen_stmt.specs.code.Programs.{access_of, receives, parameter_access, opened_code, body_code, function_code}
-use Rattle.gen_stmt.specs.code.Programs.{counted, main_number, functions_code, program_code}
+use Rattle.gen_stmt.specs.layer.Ways.{in_function}
+use Rattle.gen_stmt.specs.layer.Codes.{gives_back, leaves, enters, items_size, size, items_code, statement_code}
+use Rattle.gen_stmt.specs.layer.Programs.{access_of, receives, parameter_access, opened_code, body_code, function_code}
+use Rattle.gen_stmt.specs.layer.Programs.{counted, main_number, functions_code, program_code}
 use Rattle.gen_stmt.specs.layer.Meanings.{MeansProgram}
 use Rattle.gen_stmt.proofs.Lengths.{items_long, statement_long}
 use Rattle.gen_stmt.proofs.Runs.{ways_at, conf_meets, flow_at, closes, items_run, statement_runs}

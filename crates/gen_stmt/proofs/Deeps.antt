@@ -34,16 +34,16 @@ use Rattle.stack_code.proofs.Deepenings.{onto, deep_append, lands_past, lands_en
 use Rattle.stack_code.proofs.Deepenings.{Then, joins, follows, single, begins_with, ends_with, under, no_code, whole}
 use Rattle.gen_expr.proofs.Deepening.{either_deepens}
 use Rattle.gen_expr.proofs.Depths.{value_deepens, put_deepens}
-use Rattle.gen_stmt.specs.code.Ways.{Ways, all_past, all_inner, in_loop, in_switch, in_forall, in_function}
-use Rattle.gen_stmt.specs.code.Codes.{leaves, enters, acts, gives_back, block_code, loop_code, control_code}
-use Rattle.gen_stmt.specs.code.Codes.{label_code, synchronise_code, synchronise_value_code, cases, converted_code}
-use Rattle.gen_stmt.specs.code.Codes.{aside_code}
-use Rattle.gen_stmt.specs.code.Codes.{test_code, listed_code, initial_code, declared_code, first_code, guard_code}
-use Rattle.gen_stmt.specs.code.Codes.{guard_size, size, last_size, arms_size, items_size, switch_size, cases_code}
-use Rattle.gen_stmt.specs.code.Codes.{before_default, statement_code, kind_code, last_code, arms_code, items_code}
-use Rattle.gen_stmt.specs.code.Codes.{switch_code}
-use Rattle.gen_stmt.specs.code.Programs.{receives, parameter_access, opened_code, body_code, function_code, entry_code}
-use Rattle.gen_stmt.specs.code.Programs.{source, program_code}
+use Rattle.gen_stmt.specs.layer.Ways.{Ways, all_past, all_inner, in_loop, in_switch, in_forall, in_function}
+use Rattle.gen_stmt.specs.layer.Codes.{leaves, enters, acts, gives_back, block_code, loop_code, control_code}
+use Rattle.gen_stmt.specs.layer.Codes.{label_code, synchronise_code, synchronise_value_code, cases, converted_code}
+use Rattle.gen_stmt.specs.layer.Codes.{aside_code}
+use Rattle.gen_stmt.specs.layer.Codes.{test_code, listed_code, initial_code, declared_code, first_code, guard_code}
+use Rattle.gen_stmt.specs.layer.Codes.{guard_size, size, last_size, arms_size, items_size, switch_size, cases_code}
+use Rattle.gen_stmt.specs.layer.Codes.{before_default, statement_code, kind_code, last_code, arms_code, items_code}
+use Rattle.gen_stmt.specs.layer.Codes.{switch_code}
+use Rattle.gen_stmt.specs.layer.Programs.{receives, parameter_access, opened_code, body_code, function_code, entry_code}
+use Rattle.gen_stmt.specs.layer.Programs.{source, program_code}
 use Rattle.gen_stmt.proofs.Lengths.{guard_long, cases_long, statement_long, last_long, arms_long, items_long}
 use Rattle.gen_stmt.proofs.Lengths.{switch_long}
 

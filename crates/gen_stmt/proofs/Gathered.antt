@@ -44,12 +44,12 @@ use Rattle.gen_expr.specs.layer.Sources.{Source, running_of}
 use Rattle.gen_expr.specs.layer.Codes as expr
 use Rattle.gen_expr.specs.layer.Gathered.{HoldsOfForms, PushesNone}
 use Rattle.gen_expr.proofs.Gathered.{value_gathers}
-use Rattle.gen_stmt.specs.code.Ways.{Ways, all_past, all_inner, in_loop, in_switch, in_forall, in_function}
-use Rattle.gen_stmt.specs.code.Codes as stmt
-use Rattle.gen_stmt.specs.code.Programs.{body_code, function_code, source, program_code}
+use Rattle.gen_stmt.specs.layer.Ways.{Ways, all_past, all_inner, in_loop, in_switch, in_forall, in_function}
+use Rattle.gen_stmt.specs.layer.Codes as stmt
+use Rattle.gen_stmt.specs.layer.Programs.{body_code, function_code, source, program_code}
 use Rattle.stack_code.specs.layer.Names.{PushedBy, Pushes}
 use Rattle.gen_stmt.specs.code.Pushes.{IsPushed, integer, private, shared, blank, PushesOnly}
-use Rattle.gen_stmt.specs.code.Enters.{EntersWithin, OnObject, EntersFew}
+use Rattle.gen_stmt.specs.layer.Enters.{EntersWithin, OnObject, EntersFew}
 
 -- Whether an instruction is none that begins a function without a tick, nor one that begins a block after more than so
 -- many objects in scope, and P holds of what it pushes.

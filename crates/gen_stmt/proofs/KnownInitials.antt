@@ -96,7 +96,7 @@ object_prop : (threads : ℕ) (shapes : List Shape) (x : ObjectRef) → IsProp (
 object_prop threads shapes x = hlevel le_prop
 
 -- The shared objects that a program declares are objects that its code may name.
-declared_objects : (threads : ℕ) (b : Beginning) → ∥ IsOpening (opening_in threads b) ∥₁
+pub declared_objects : (threads : ℕ) (b : Beginning) → ∥ IsOpening (opening_in threads b) ∥₁
     → Each (IsObject threads b.shapes) (opening_in threads b).declared
 declared_objects threads b h =
     let o = opening_in threads b in

@@ -18,15 +18,15 @@ use Rattle.stack_code.specs.declared.instruction.ThreadWork.TheVariants as threa
 use Rattle.stack_code.specs.declared.instruction.Instr.{Instr}
 use Rattle.gen_expr.specs.layer.Sources.{Source, running_of}
 use Rattle.gen_expr.specs.layer.Codes.{stacks, jumps, value_code}
-use Rattle.gen_stmt.specs.code.Ways.{Ways, all_past, all_inner, in_loop, in_switch, in_forall}
-use Rattle.gen_stmt.specs.code.Codes.{leaves, acts, gives_back, block_code}
-use Rattle.gen_stmt.specs.code.Codes.{loop_code, loop_size, control_code, label_code}
-use Rattle.gen_stmt.specs.code.Codes.{synchronise_value_code, cases, converted_code}
-use Rattle.gen_stmt.specs.code.Codes.{aside_code, test_code, declared_code}
-use Rattle.gen_stmt.specs.code.Codes.{first_code, guard_code, guard_size, size}
-use Rattle.gen_stmt.specs.code.Codes.{kind_size, last_size, arms_size, items_size}
-use Rattle.gen_stmt.specs.code.Codes.{switch_size, cases_code, before_default, statement_code, kind_code, last_code}
-use Rattle.gen_stmt.specs.code.Codes.{arms_code, items_code, switch_code}
+use Rattle.gen_stmt.specs.layer.Ways.{Ways, all_past, all_inner, in_loop, in_switch, in_forall}
+use Rattle.gen_stmt.specs.layer.Codes.{leaves, acts, gives_back, block_code}
+use Rattle.gen_stmt.specs.layer.Codes.{loop_code, loop_size, control_code, label_code}
+use Rattle.gen_stmt.specs.layer.Codes.{synchronise_value_code, cases, converted_code}
+use Rattle.gen_stmt.specs.layer.Codes.{aside_code, test_code, declared_code}
+use Rattle.gen_stmt.specs.layer.Codes.{first_code, guard_code, guard_size, size}
+use Rattle.gen_stmt.specs.layer.Codes.{kind_size, last_size, arms_size, items_size}
+use Rattle.gen_stmt.specs.layer.Codes.{switch_size, cases_code, before_default, statement_code, kind_code, last_code}
+use Rattle.gen_stmt.specs.layer.Codes.{arms_code, items_code, switch_code}
 
 pub block_long : (at : Place) (from : ℕ) (shapes : List Shape) (body : List Instr) (n : ℕ) → length body ≡ n
     → length (block_code at from shapes body) ≡ 1 + n + 1

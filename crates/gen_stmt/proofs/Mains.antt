@@ -7,7 +7,7 @@ use Rattle.typed_tree.specs.declared.tree.Function as f
 use Rattle.typed_tree.specs.ViewStatements.{view_function}
 use Rattle.source_meaning.specs.Threads.{is_main}
 use Rattle.source_meaning.proofs.Mains.{main_found, main_behind, main_nowhere}
-use Rattle.gen_stmt.specs.code.Programs.{counted, main_number}
+use Rattle.gen_stmt.specs.layer.Programs.{counted, main_number}
 
 pub number_found : (xs : List f.Function) (i : ℕ) (x : f.Function) → i < length xs → x ≡ get_or xs i x
     → is_main (view_function x) ≡ true → main_number (map view_function (drop i xs)) ≡ 0

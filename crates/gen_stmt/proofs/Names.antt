@@ -32,7 +32,7 @@ use Rattle.stack_code.specs.declared.instruction.StackWork.{StackWork}
 use Rattle.stack_code.specs.declared.instruction.StackWork.TheVariants as stack
 use Rattle.stack_code.specs.declared.instruction.Operation.{Operation}
 use Rattle.stack_code.specs.declared.instruction.Operation.TheVariants as work
-use Rattle.gen_stmt.specs.code.Programs.{source, program_code}
+use Rattle.gen_stmt.specs.layer.Programs.{source, program_code}
 use Rattle.stack_code.specs.layer.Names.{PushedBy, Pushes}
 use Rattle.gen_stmt.specs.code.Pushes.{IsPushed, integer, private, shared, blank}
 use Rattle.stack_code.specs.layer.Names.{NamesAmong, NamesOnly}

@@ -58,15 +58,15 @@ use Rattle.gen_expr.specs.layer.Codes.{stacks, jumps, pushes, casts}
 use Rattle.gen_expr.specs.layer.Codes.{saves, value_code, object_code, put_code, saved_code}
 use Rattle.gen_expr.specs.layer.Codes.{advance_code}
 use Rattle.gen_expr.specs.layer.Meanings.{MeansValue}
-use Rattle.gen_stmt.specs.code.Ways.{Ways, way, all_past, all_inner, in_loop, in_switch, in_forall}
-use Rattle.gen_stmt.specs.code.Codes.{leaves, enters, acts, gives_back, block_code, loop_code, loop_size, control_code}
-use Rattle.gen_stmt.specs.code.Codes.{label_code, synchronise_code, synchronise_value_code, cases, converted_code}
-use Rattle.gen_stmt.specs.code.Codes.{aside_code}
-use Rattle.gen_stmt.specs.code.Codes.{test_code, listed_code, initial_code, declared_code, first_code, guard_code}
-use Rattle.gen_stmt.specs.code.Codes.{guard_size, size, kind_size, last_size}
-use Rattle.gen_stmt.specs.code.Codes.{arms_size, items_size, switch_size, cases_code}
-use Rattle.gen_stmt.specs.code.Codes.{before_default, statement_code, kind_code, last_code, arms_code, items_code}
-use Rattle.gen_stmt.specs.code.Codes.{switch_code}
+use Rattle.gen_stmt.specs.layer.Ways.{Ways, way, all_past, all_inner, in_loop, in_switch, in_forall}
+use Rattle.gen_stmt.specs.layer.Codes.{leaves, enters, acts, gives_back, block_code, loop_code, loop_size, control_code}
+use Rattle.gen_stmt.specs.layer.Codes.{label_code, synchronise_code, synchronise_value_code, cases, converted_code}
+use Rattle.gen_stmt.specs.layer.Codes.{aside_code}
+use Rattle.gen_stmt.specs.layer.Codes.{test_code, listed_code, initial_code, declared_code, first_code, guard_code}
+use Rattle.gen_stmt.specs.layer.Codes.{guard_size, size, kind_size, last_size}
+use Rattle.gen_stmt.specs.layer.Codes.{arms_size, items_size, switch_size, cases_code}
+use Rattle.gen_stmt.specs.layer.Codes.{before_default, statement_code, kind_code, last_code, arms_code, items_code}
+use Rattle.gen_stmt.specs.layer.Codes.{switch_code}
 use Rattle.gen_stmt.proofs.Lengths.{loop_long, guard_long, cases_long, statement_long, last_long}
 use Rattle.gen_stmt.proofs.Lengths.{items_long}
 use Rattle.gen_stmt.proofs.Counts.{same_return}

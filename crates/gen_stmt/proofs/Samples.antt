@@ -26,9 +26,9 @@ use Rattle.stack_code.specs.declared.instruction.Operation.{Operation}
 use Rattle.stack_code.specs.declared.instruction.Operation.TheVariants as work
 use Rattle.stack_code.specs.declared.instruction.Instr.{Instr}
 use Rattle.gen_expr.specs.layer.Sources.{Source}
-use Rattle.gen_stmt.specs.code.Ways.{in_function}
-use Rattle.gen_stmt.specs.code.Codes.{statement_code}
-use Rattle.gen_stmt.specs.code.Programs.{program_code}
+use Rattle.gen_stmt.specs.layer.Ways.{in_function}
+use Rattle.gen_stmt.specs.layer.Codes.{statement_code}
+use Rattle.gen_stmt.specs.layer.Programs.{program_code}
 
 abbrev here : Place
 here = record { line = 1; column = 1 }

@@ -19,8 +19,8 @@ use Rattle.stack_code.specs.declared.instruction.CellAccess.{CellAccess}
 use Rattle.stack_code.specs.declared.instruction.Instr.{Instr}
 use Rattle.gen_expr.specs.layer.Sources.{Source}
 use Rattle.gen_expr.specs.layer.Codes.{pushes, object_code, put_code, advance_code}
-use Rattle.gen_stmt.specs.code.Programs.{parameter_access}
-use Rattle.gen_stmt.specs.code.Codes.{declared_code, initial_code, listed_code, converted_code}
+use Rattle.gen_stmt.specs.layer.Programs.{parameter_access}
+use Rattle.gen_stmt.specs.layer.Codes.{declared_code, initial_code, listed_code, converted_code}
 
 -- How many objects some parts declare.
 pub count_step : (xs : List m.Item) (i : ℕ) (x : m.Item) → i < length xs → x ≡ get_or xs i x →

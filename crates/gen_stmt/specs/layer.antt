@@ -1,1 +1,5 @@
 pub mod Meanings
+pub mod Codes
+pub mod Enters
+pub mod Programs
+pub mod Ways

@@ -8,7 +8,7 @@ ghost use Rattle.source_meaning.specs.Statements.{shapes_of, objects_in};
 ghost use Rattle.gen_expr.specs.layer.Codes.{jumps, value_code};
 ghost use Rattle.gen_expr.specs.layer.Sources.{running_of};
 ghost use Rattle.gen_expr.specs.layer.ViewSource.{view_source};
-ghost use Rattle.gen_stmt.specs.code.Codes as pure;
+ghost use Rattle.gen_stmt.specs.layer.Codes as pure;
 ghost use Rattle.gen_stmt.specs.code.Parts as parts;
 ghost use Rattle.gen_stmt.specs.code.Views.{view_labelled};
 

@@ -5,7 +5,7 @@ ghost use Rattle.typed_tree.specs.ViewStatements.{view_function};
 ghost use Rattle.source_meaning.specs.Running.{Running};
 ghost use Rattle.source_meaning.specs.Threads as threads;
 ghost use Rattle.gen_expr.specs.layer.ViewSource.{view_source};
-ghost use Rattle.gen_stmt.specs.code.Programs as pure;
+ghost use Rattle.gen_stmt.specs.layer.Programs as pure;
 ghost use Rattle.gen_stmt.specs.code.Parts as parts;
 
 use crate::exits::sum;

@@ -1,7 +1,7 @@
 //! How code leaves a statement before its end.
 
 ghost use Rattle.std.specs.Prelude.{◌≡◌, ◌+◌, IfOk};
-ghost use Rattle.gen_stmt.specs.code.Ways as pure;
+ghost use Rattle.gen_stmt.specs.layer.Ways as pure;
 ghost use Rattle.gen_stmt.specs.code.Views.{view_exit, view_exits};
 
 use upc_text::OutOfMemory;

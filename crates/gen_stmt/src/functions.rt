@@ -7,9 +7,9 @@ ghost use Rattle.source_meaning.specs.Running.{Running};
 ghost use Rattle.source_meaning.specs.Threads as threads;
 ghost use Rattle.gen_expr.specs.layer.Sources.{running_of};
 ghost use Rattle.gen_expr.specs.layer.ViewSource.{view_source};
-ghost use Rattle.gen_stmt.specs.code.Ways.{in_function};
-ghost use Rattle.gen_stmt.specs.code.Codes.{statement_code};
-ghost use Rattle.gen_stmt.specs.code.Programs as pure;
+ghost use Rattle.gen_stmt.specs.layer.Ways.{in_function};
+ghost use Rattle.gen_stmt.specs.layer.Codes.{statement_code};
+ghost use Rattle.gen_stmt.specs.layer.Programs as pure;
 ghost use Rattle.gen_stmt.specs.code.Parts as parts;
 ghost use Rattle.gen_stmt.specs.code.Views.{view_standing};
 

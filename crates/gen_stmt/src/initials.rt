@@ -5,7 +5,7 @@ ghost use Rattle.typed_tree.specs.Tree.{exprs_of, AndExpr, InitialValue, NoExprs
 ghost use Rattle.typed_tree.specs.ViewTree.{view_expr};
 ghost use Rattle.typed_tree.specs.ViewStatements.{view_head, view_initial, view_object};
 ghost use Rattle.gen_expr.specs.layer.ViewSource.{view_source};
-ghost use Rattle.gen_stmt.specs.code.Codes as pure;
+ghost use Rattle.gen_stmt.specs.layer.Codes as pure;
 
 use crate::values::{put_aside, put_converted};
 use gen_expr::{Source, put_advance, put_kept, put_object, put_push, put_stack};

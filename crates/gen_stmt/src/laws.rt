@@ -3,8 +3,8 @@
 ghost use Rattle.typed_tree.specs.Programs.{Checked};
 ghost use Rattle.upc_values.specs.Lists.{Each};
 ghost use Rattle.stack_code.specs.layer.Depths.{BeginsOnce, IsDeep};
-ghost use Rattle.gen_stmt.specs.code.Programs.{program_code};
-ghost use Rattle.gen_stmt.specs.code.Enters.{EntersFew};
+ghost use Rattle.gen_stmt.specs.layer.Programs.{program_code};
+ghost use Rattle.gen_stmt.specs.layer.Enters.{EntersFew};
 ghost use Rattle.gen_stmt.specs.code.Pushes.{PushesOnly};
 ghost use Rattle.gen_stmt.specs.layer.Meanings.{MeansProgram};
 

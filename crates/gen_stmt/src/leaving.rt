@@ -4,7 +4,7 @@ ghost use Rattle.std.specs.Prelude.{◌≡◌, ◌++◌, OnOk};
 ghost use Rattle.typed_tree.specs.Tree.{Return, Synchronise};
 ghost use Rattle.typed_tree.specs.ViewStatements.{view_value};
 ghost use Rattle.gen_expr.specs.layer.ViewSource.{view_source};
-ghost use Rattle.gen_stmt.specs.code.Codes as pure;
+ghost use Rattle.gen_stmt.specs.layer.Codes as pure;
 ghost use Rattle.gen_stmt.specs.code.Views.{view_exit, view_exits, view_standing};
 
 use crate::exits::{Exit, Exits};

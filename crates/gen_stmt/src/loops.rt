@@ -6,7 +6,7 @@ ghost use Rattle.typed_tree.specs.ViewStatements.{view_affinity, view_head};
 ghost use Rattle.gen_expr.specs.layer.Codes.{value_code};
 ghost use Rattle.gen_expr.specs.layer.ViewSource.{view_source};
 ghost use Rattle.typed_tree.specs.ViewTree.{view_expr};
-ghost use Rattle.gen_stmt.specs.code.Codes as pure;
+ghost use Rattle.gen_stmt.specs.layer.Codes as pure;
 ghost use Rattle.gen_stmt.specs.code.Parts as parts;
 ghost use Rattle.gen_stmt.specs.code.Views.{view_standing};
 

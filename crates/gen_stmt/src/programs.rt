@@ -4,7 +4,7 @@ ghost use Rattle.std.specs.Prelude.{◌≡◌, [], ◌∷◌, map, IfOk, OnOk};
 ghost use Rattle.typed_tree.specs.ViewProgram.{view_program};
 ghost use Rattle.typed_tree.specs.ViewStatements.{view_function};
 ghost use Rattle.gen_expr.specs.layer.ViewSource.{view_source};
-ghost use Rattle.gen_stmt.specs.code.Programs as pure;
+ghost use Rattle.gen_stmt.specs.layer.Programs as pure;
 ghost use Rattle.gen_stmt.specs.layer.Meanings.{MeansProgram};
 ghost use Rattle.upc_values.specs.Lists.{Each};
 ghost use Rattle.stack_code.specs.layer.Kept.{IsKnown};

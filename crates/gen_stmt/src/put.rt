@@ -2,7 +2,7 @@
 
 ghost use Rattle.std.specs.Prelude.{◌≡◌, [], ◌∷◌, ◌++◌, OnOk};
 ghost use Rattle.gen_expr.specs.layer.Codes.{instruction};
-ghost use Rattle.gen_stmt.specs.code.Codes.{enters, leaves, acts, gives_back};
+ghost use Rattle.gen_stmt.specs.layer.Codes.{enters, leaves, acts, gives_back};
 
 use block_layout::Shape;
 use stack_code::{CallWork, Instr, ObjectWork, Operation, ThreadWork};

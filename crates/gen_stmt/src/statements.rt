@@ -8,8 +8,8 @@ ghost use Rattle.typed_tree.specs.ViewStatements.{view_last};
 ghost use Rattle.typed_tree.specs.ViewStatements.{view_statement, view_switch_item, view_switch_items};
 ghost use Rattle.gen_expr.specs.layer.Codes.{value_code};
 ghost use Rattle.gen_expr.specs.layer.ViewSource.{view_source};
-ghost use Rattle.gen_stmt.specs.code.Ways.{all_past};
-ghost use Rattle.gen_stmt.specs.code.Codes as pure;
+ghost use Rattle.gen_stmt.specs.layer.Ways.{all_past};
+ghost use Rattle.gen_stmt.specs.layer.Codes as pure;
 ghost use Rattle.gen_stmt.specs.code.Parts as parts;
 ghost use Rattle.gen_stmt.specs.code.Views.{view_exits, view_labelled, view_standing};
 

@@ -6,7 +6,7 @@ ghost use Rattle.typed_tree.specs.ViewTree.{view_expr};
 ghost use Rattle.typed_tree.specs.ViewStatements.{view_value};
 ghost use Rattle.gen_expr.specs.layer.Codes.{value_code};
 ghost use Rattle.gen_expr.specs.layer.ViewSource.{view_source};
-ghost use Rattle.gen_stmt.specs.code.Codes as pure;
+ghost use Rattle.gen_stmt.specs.layer.Codes as pure;
 
 use gen_expr::{Source, put_cast, put_push, put_stack, put_value_code};
 use meaning_types::conversion;

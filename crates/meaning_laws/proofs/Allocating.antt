@@ -21,8 +21,8 @@ use Rattle.thread_steps.specs.Library.{has_shape}
 use Rattle.source_meaning.specs.Running.{running}
 use Rattle.source_meaning.specs.Expressions.{shape_number}
 use Rattle.source_meaning.specs.Laws.{AreSoMany, GivesIn, Gives}
-use Rattle.meaning_laws.specs.code.Values.{IsOf, Comes, Brings}
-use Rattle.meaning_laws.specs.code.Formed.{AtTarget, HasShape}
+use Rattle.meaning_laws.specs.layer.Values.{IsOf, Comes, Brings}
+use Rattle.meaning_laws.specs.layer.Formed.{AtTarget, HasShape}
 use Rattle.meaning_laws.proofs.Operations.{Fits}
 use Rattle.meaning_laws.proofs.Shapes.{there_is}
 

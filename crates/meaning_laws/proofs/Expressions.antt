@@ -60,9 +60,9 @@ use Rattle.source_meaning.specs.Running.{Running, running, start_in, shared_obje
 use Rattle.source_meaning.specs.Expressions as e
 use Rattle.source_meaning.specs.Expressions.{Calls, type_of}
 use Rattle.source_meaning.specs.Laws.{AreSoMany}
-use Rattle.meaning_laws.specs.code.Values.{FitsCell, IsNumber, IsOf, IsPlaceOf, IsGiven, IsGivenBy, IsFormedType}
-use Rattle.meaning_laws.specs.code.Values.{Brings}
-use Rattle.meaning_laws.specs.code.Formed.{LiesBy, MakesShaped, IsFormed, HasFormedParts, AreFormed, AreFor, CallsFit}
+use Rattle.meaning_laws.specs.layer.Values.{FitsCell, IsNumber, IsOf, IsPlaceOf, IsGiven, IsGivenBy, IsFormedType}
+use Rattle.meaning_laws.specs.layer.Values.{Brings}
+use Rattle.meaning_laws.specs.layer.Formed.{LiesBy, MakesShaped, IsFormed, HasFormedParts, AreFormed, AreFor, CallsFit}
 use Rattle.meaning_laws.specs.code.Laws.{ExpressionsKeepTypes}
 use Rattle.meaning_laws.proofs.Steps.{Any, give_brings, first_brings, weaker_brings, choose_brings, valued_brings}
 use Rattle.meaning_laws.proofs.Steps.{any_result, Answers, ask_brings}

@@ -20,12 +20,12 @@ use Rattle.typed_tree.specs.Tree.{AndObjects, AndStatement, SwitchItems, NoSwitc
 use Rattle.typed_tree.specs.Tree.{AndSwitchStatement, Function}
 use Rattle.typed_tree.specs.Allocated as a
 use Rattle.typed_tree.specs.Programs.{Checked, start_of}
-use Rattle.meaning_laws.specs.code.Formed.{AtTarget, MakesSized, HasShape, MakesShaped, IsFormed, HasFormedParts}
-use Rattle.meaning_laws.specs.code.Formed.{AreFormed}
-use Rattle.meaning_laws.specs.code.FormedStatements.{IsFormedInitial, AreFormedObjects, IsFormedValue}
-use Rattle.meaning_laws.specs.code.FormedStatements.{IsFormedAffinity, IsFormedHead, IsFormedStatement, IsFormedBy}
-use Rattle.meaning_laws.specs.code.FormedStatements.{IsFormedLast, AreFormedArms, AreFormedItems, AreFormedSwitch}
-use Rattle.meaning_laws.specs.code.FormedStatements.{IsFormedFunction}
+use Rattle.meaning_laws.specs.layer.Formed.{AtTarget, MakesSized, HasShape, MakesShaped, IsFormed, HasFormedParts}
+use Rattle.meaning_laws.specs.layer.Formed.{AreFormed}
+use Rattle.meaning_laws.specs.layer.FormedStatements.{IsFormedInitial, AreFormedObjects, IsFormedValue}
+use Rattle.meaning_laws.specs.layer.FormedStatements.{IsFormedAffinity, IsFormedHead, IsFormedStatement, IsFormedBy}
+use Rattle.meaning_laws.specs.layer.FormedStatements.{IsFormedLast, AreFormedArms, AreFormedItems, AreFormedSwitch}
+use Rattle.meaning_laws.specs.layer.FormedStatements.{IsFormedFunction}
 use Rattle.meaning_laws.proofs.Shapes.{allocated_shapes}
 
 module _ (program : Checked) where

@@ -15,7 +15,7 @@ use Rattle.typed_tree.specs.Objects.{shared_in, type_of, placed_from}
 use Rattle.typed_tree.specs.Tree.{DeclaredObject}
 use Rattle.typed_tree.specs.Allocated.{allocated_in}
 use Rattle.typed_tree.specs.Programs.{Checked, start_of}
-use Rattle.meaning_laws.specs.code.Formed.{HasShape}
+use Rattle.meaning_laws.specs.layer.Formed.{HasShape}
 use Rattle.meaning_laws.specs.code.Laws.{SharedHaveShapes}
 
 -- ---- equal shapes

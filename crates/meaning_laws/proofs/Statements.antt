@@ -49,13 +49,13 @@ use Rattle.source_meaning.specs.Expressions.{Calls, type_of}
 use Rattle.source_meaning.specs.Statements as s
 use Rattle.source_meaning.specs.Statements.{Flow, Next, Broke, Again, Gave, Does, Standing}
 use Rattle.source_meaning.specs.Threads as h
-use Rattle.meaning_laws.specs.code.Values.{FitsCell, IsOf, IsFormedType, Brings}
-use Rattle.meaning_laws.specs.code.Formed.{MakesShaped, IsFormed, AreFormed, CallsFit}
-use Rattle.meaning_laws.specs.code.FormedStatements.{IsFormedInitial, AreFormedObjects, IsFormedValue}
-use Rattle.meaning_laws.specs.code.FormedStatements.{IsFormedAffinity}
-use Rattle.meaning_laws.specs.code.FormedStatements.{IsFormedHead, IsFormedStatement, IsFormedBy, IsFormedLast}
-use Rattle.meaning_laws.specs.code.FormedStatements.{AreFormedArms, AreFormedItems, AreFormedSwitch, IsFormedFunction}
-use Rattle.meaning_laws.specs.code.FormedStatements.{LeavesBy}
+use Rattle.meaning_laws.specs.layer.Values.{FitsCell, IsOf, IsFormedType, Brings}
+use Rattle.meaning_laws.specs.layer.Formed.{MakesShaped, IsFormed, AreFormed, CallsFit}
+use Rattle.meaning_laws.specs.layer.FormedStatements.{IsFormedInitial, AreFormedObjects, IsFormedValue}
+use Rattle.meaning_laws.specs.layer.FormedStatements.{IsFormedAffinity}
+use Rattle.meaning_laws.specs.layer.FormedStatements.{IsFormedHead, IsFormedStatement, IsFormedBy, IsFormedLast}
+use Rattle.meaning_laws.specs.layer.FormedStatements.{AreFormedArms, AreFormedItems, AreFormedSwitch, IsFormedFunction}
+use Rattle.meaning_laws.specs.layer.FormedStatements.{LeavesBy}
 use Rattle.meaning_laws.specs.code.Laws.{FunctionsKeepTypes, MainsKeepTypes}
 use Rattle.meaning_laws.proofs.Steps.{Any, give_brings, skip_brings, first_brings, weaker_brings, choose_brings}
 use Rattle.meaning_laws.proofs.Operators.{IsNoArray, is_of, integer_kind, no_array_value, any_behind, put_brings}

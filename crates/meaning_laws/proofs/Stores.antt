@@ -25,7 +25,7 @@ use Rattle.private_store.specs.Beginnings.{fits_cell, private_cell, if_stored, b
 use Rattle.upc_values.specs.Lists.{Each}
 use Rattle.typed_tree.specs.Programs.{start_of}
 use Rattle.block_layout.proofs.Found.{kind_is}
-use Rattle.meaning_laws.specs.code.Values.{AreCellValues, AreFilled, IsFilled}
+use Rattle.meaning_laws.specs.layer.Values.{AreCellValues, AreFilled, IsFilled}
 use Rattle.meaning_laws.specs.code.Laws.{BeginningsAreFilled}
 use Rattle.thread_steps.proofs.Blanks.{blank_fits, kept_fits}
 

@@ -19,7 +19,7 @@ use Rattle.typing_rules.specs.Values.{plainly, value_type}
 use Rattle.thread_steps.specs.declared.cast.CastTo.{CastTo}
 use Rattle.thread_steps.specs.declared.cast.CastTo.TheVariants as to
 use Rattle.source_meaning.specs.Types.{pointer_conversion, conversion}
-use Rattle.meaning_laws.specs.code.Values.{IsNumber, IsOf}
+use Rattle.meaning_laws.specs.layer.Values.{IsNumber, IsOf}
 use Rattle.meaning_laws.specs.code.Uses.{IsTaken}
 use Rattle.meaning_laws.specs.code.Laws.{ConversionsAreTaken}
 use Rattle.meaning_laws.proofs.Operations.{Fits, kind_by, unlocked_kind, or_first}

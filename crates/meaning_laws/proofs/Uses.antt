@@ -40,7 +40,7 @@ use Rattle.source_meaning.specs.Types.{target_of, integer_of}
 use Rattle.thread_steps.specs.Values.{number}
 use Rattle.source_meaning.specs.Running.{Running}
 use Rattle.source_meaning.specs.Expressions.{type_of, step_operator}
-use Rattle.meaning_laws.specs.code.Values.{IsNumber, IsOf, IsPlaceOf, IsFormedType}
+use Rattle.meaning_laws.specs.layer.Values.{IsNumber, IsOf, IsPlaceOf, IsFormedType}
 use Rattle.meaning_laws.specs.code.Uses.{Leads, LeadAlike, Counts, IsOperand, ArePointers, IsStepped}
 use Rattle.meaning_laws.specs.code.Uses.{AreOperands, HasAffinity}
 use Rattle.meaning_laws.specs.code.Laws.{OperandsAreTaken}

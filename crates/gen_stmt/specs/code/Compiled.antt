@@ -9,7 +9,7 @@ use Rattle.stack_code.specs.declared.instruction.Instr.{Instr}
 use Rattle.stack_code.specs.layer.Codes.{codes_of}
 use Rattle.stack_code.specs.layer.Making.{Making}
 use Rattle.gen_expr.specs.layer.ViewSource.{source_with}
-use Rattle.gen_stmt.specs.code.Programs.{functions_code}
+use Rattle.gen_stmt.specs.layer.Programs.{functions_code}
 
 -- Code that is being made, with these functions after those that are ended.
 abbrev pub with_functions : List (List Instr) → Making → Making

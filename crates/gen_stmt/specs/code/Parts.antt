@@ -14,12 +14,12 @@ use Rattle.stack_code.specs.declared.instruction.ThreadWork.TheVariants as threa
 use Rattle.stack_code.specs.declared.instruction.Instr.{Instr}
 use Rattle.gen_expr.specs.layer.Sources.{Source, running_of}
 use Rattle.gen_expr.specs.layer.Codes.{stacks, jumps, value_code}
-use Rattle.gen_stmt.specs.code.Ways.{Ways, all_past, all_inner}
-use Rattle.gen_stmt.specs.code.Codes.{enters, acts, block_code, loop_code}
-use Rattle.gen_stmt.specs.code.Codes.{label_code, test_code, first_code, guard_code}
-use Rattle.gen_stmt.specs.code.Codes.{aside_code}
-use Rattle.gen_stmt.specs.code.Codes.{declared_code, statement_code, items_code}
-use Rattle.gen_stmt.specs.code.Programs.{receives, parameter_access}
+use Rattle.gen_stmt.specs.layer.Ways.{Ways, all_past, all_inner}
+use Rattle.gen_stmt.specs.layer.Codes.{enters, acts, block_code, loop_code}
+use Rattle.gen_stmt.specs.layer.Codes.{label_code, test_code, first_code, guard_code}
+use Rattle.gen_stmt.specs.layer.Codes.{aside_code}
+use Rattle.gen_stmt.specs.layer.Codes.{declared_code, statement_code, items_code}
+use Rattle.gen_stmt.specs.layer.Programs.{receives, parameter_access}
 
 -- The body of a switch: its code, its labels with values, and its `default`. Each has the number of instructions of the
 -- body that stand after it, 0 where there is no `default`.

@@ -11,7 +11,7 @@ use Rattle.thread_steps.specs.Values.{number}
 use Rattle.source_meaning.specs.Running.{shared_object}
 use Rattle.stack_code.specs.layer.Names.{Pushes}
 use Rattle.gen_expr.specs.layer.Sources.{Source, running_of}
-use Rattle.gen_stmt.specs.code.Programs.{source, program_code}
+use Rattle.gen_stmt.specs.layer.Programs.{source, program_code}
 
 -- What the code of a program may push: an integer, where a private object of the file or a declared shared object
 -- begins, and 0 or null.

@@ -6,7 +6,7 @@ use Rattle.gen_stmt.specs.declared.exits.Exit as exit
 use Rattle.gen_stmt.specs.declared.exits.Exits as es
 use Rattle.gen_stmt.specs.declared.labelled.Labelled as labelled_type
 use Rattle.gen_stmt.specs.declared.standing.Standing as standing_type
-use Rattle.gen_stmt.specs.code.Ways.{Way, Ways, way}
+use Rattle.gen_stmt.specs.layer.Ways.{Way, Ways, way}
 use Rattle.gen_stmt.specs.code.Parts.{Labelled}
 
 -- A way out of a statement in the code generator, as contracts see it.

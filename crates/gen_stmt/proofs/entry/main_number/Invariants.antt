@@ -1,6 +1,6 @@
 use Rattle.std.proofs.Common.{◌≡◌, ◌+◌, ◌≤◌, map, drop}
 use Rattle.typed_tree.specs.ViewStatements.{view_function}
-use Rattle.gen_stmt.specs.code.Programs.{main_number}
+use Rattle.gen_stmt.specs.layer.Programs.{main_number}
 use Rattle.gen_stmt.proofs.entry.main_number.Given as goal
 
 abbrev pub invariant-loop-function : goal.invariant-loop-function

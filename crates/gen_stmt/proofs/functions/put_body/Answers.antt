@@ -5,7 +5,7 @@ use Rattle.typed_tree.specs.Tree.{Stands}
 use Rattle.typed_tree.specs.ViewStatements.{view_function, view_items, view_statement, view_statement_kind}
 use Rattle.typed_tree.proofs.StatementRows.{block_is}
 use Rattle.gen_expr.specs.layer.ViewSource.{view_source}
-use Rattle.gen_stmt.specs.code.Programs.{body_code, opened_code}
+use Rattle.gen_stmt.specs.layer.Programs.{body_code, opened_code}
 use Rattle.gen_stmt.proofs.Behind.{on_ok, behind}
 use Rattle.gen_stmt.proofs.functions.put_body.Goals as goal
 

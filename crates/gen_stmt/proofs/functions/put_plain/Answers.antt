@@ -3,7 +3,7 @@ use Rattle.typed_tree.specs.declared.tree.Statement.{Statement}
 use Rattle.typed_tree.specs.ViewStatements.{view_function, view_statement}
 use Rattle.gen_expr.specs.layer.Sources.{running_of}
 use Rattle.gen_expr.specs.layer.ViewSource.{view_source}
-use Rattle.gen_stmt.specs.code.Codes.{statement_code}
+use Rattle.gen_stmt.specs.layer.Codes.{statement_code}
 use Rattle.gen_stmt.specs.code.Views.{view_exits, view_standing}
 use Rattle.gen_stmt.proofs.Behind.{on_ok, plain_whole}
 use Rattle.gen_stmt.proofs.functions.put_plain.Goals as goal

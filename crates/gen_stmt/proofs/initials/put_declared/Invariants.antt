@@ -1,7 +1,7 @@
 use Rattle.std.proofs.Common.{◌≡◌, ◌++◌, map, drop}
 use Rattle.typed_tree.specs.ViewStatements.{view_object}
 use Rattle.gen_expr.specs.layer.ViewSource.{view_source}
-use Rattle.gen_stmt.specs.code.Codes.{declared_code}
+use Rattle.gen_stmt.specs.layer.Codes.{declared_code}
 use Rattle.gen_stmt.proofs.initials.put_declared.Given as goal
 
 abbrev pub invariant-loop-object : goal.invariant-loop-object

@@ -3,7 +3,7 @@ use Rattle.typed_tree.specs.Tree.{exprs_of}
 use Rattle.typed_tree.specs.ViewTree.{view_expr}
 use Rattle.typed_tree.specs.ViewStatements.{view_object}
 use Rattle.gen_expr.specs.layer.ViewSource.{view_source}
-use Rattle.gen_stmt.specs.code.Codes.{listed_code}
+use Rattle.gen_stmt.specs.layer.Codes.{listed_code}
 use Rattle.gen_stmt.proofs.initials.put_listed.Given as goal
 
 abbrev pub invariant-loop-index : goal.invariant-loop-index

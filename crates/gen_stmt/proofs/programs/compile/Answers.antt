@@ -10,7 +10,7 @@ use Rattle.gen_expr.proofs.Simulation.{expressions_are_meant}
 use Rattle.source_meaning.specs.Laws.{opening_of}
 use Rattle.gen_stmt.specs.layer.Meanings.{MeansProgram}
 use Rattle.stack_code.specs.layer.Names.{NamesOnly}
-use Rattle.gen_stmt.specs.code.Programs.{program_code}
+use Rattle.gen_stmt.specs.layer.Programs.{program_code}
 use Rattle.gen_stmt.proofs.Gathered.{program_begins}
 use Rattle.source_meaning.proofs.Beginnings.{privates_begin}
 use Rattle.gen_stmt.proofs.Compiling.{codes_are, if_ok}

@@ -1,7 +1,7 @@
 use Rattle.std.proofs.Common.{◌≡◌, [], map, drop}
 use Rattle.typed_tree.specs.ViewStatements.{view_function}
 use Rattle.gen_expr.specs.layer.ViewSource.{view_source}
-use Rattle.gen_stmt.specs.code.Programs.{function_code}
+use Rattle.gen_stmt.specs.layer.Programs.{function_code}
 use Rattle.gen_stmt.specs.code.Compiled.{with_functions}
 use Rattle.gen_stmt.proofs.programs.put_functions.Given as goal
 

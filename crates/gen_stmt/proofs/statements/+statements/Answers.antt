@@ -13,7 +13,7 @@ use Rattle.typed_tree.specs.ViewStatements.{view_affinity, view_last}
 use Rattle.typed_tree.specs.ViewStatements.{view_switch_items}
 use Rattle.typed_tree.proofs.StatementRows.{block_is, if_is, switch_is}
 use Rattle.gen_expr.specs.layer.ViewSource.{view_source}
-use Rattle.gen_stmt.specs.code.Codes.{kind_code, loop_code, statement_code}
+use Rattle.gen_stmt.specs.layer.Codes.{kind_code, loop_code, statement_code}
 use Rattle.gen_stmt.specs.code.Views.{view_exits, view_labelled, view_standing}
 use Rattle.gen_stmt.proofs.Steps.{count_back}
 use Rattle.gen_stmt.proofs.Behind.{on_ok, instead, behind, items_back, arms_back, parts_back, within_whole, if_whole}

@@ -2,7 +2,7 @@ use Rattle.std.proofs.Common.{◌≡◌, ◌+◌, length, drop}
 use Rattle.typed_tree.specs.ViewStatements.{view_arms, view_items, view_switch_items}
 use Rattle.source_meaning.specs.Statements.{objects_in}
 use Rattle.gen_expr.specs.layer.ViewSource.{view_source}
-use Rattle.gen_stmt.specs.code.Codes.{arms_code, items_code}
+use Rattle.gen_stmt.specs.layer.Codes.{arms_code, items_code}
 use Rattle.gen_stmt.specs.code.Parts.{labelled_of}
 use Rattle.gen_stmt.specs.code.Views.{view_exits, view_labelled, view_standing, with_count}
 use Rattle.gen_stmt.proofs.statements.+statements.Given as goal

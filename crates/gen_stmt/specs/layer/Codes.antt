@@ -30,7 +30,7 @@ use Rattle.stack_code.specs.declared.instruction.Operation.TheVariants as work
 use Rattle.stack_code.specs.declared.instruction.Instr.{Instr}
 use Rattle.gen_expr.specs.layer.Sources.{Source, running_of}
 use Rattle.gen_expr.specs.layer.Codes.{stacks, jumps, pushes, casts, value_code, object_code, put_code, advance_code}
-use Rattle.gen_stmt.specs.code.Ways.{Way, Ways, all_past, all_inner, in_loop, in_switch, in_forall}
+use Rattle.gen_stmt.specs.layer.Ways.{Way, Ways, all_past, all_inner, in_loop, in_switch, in_forall}
 
 -- ---- instructions and forms that several statements take
 

@@ -17,8 +17,8 @@ use Rattle.stack_code.specs.declared.instruction.Instr.{Instr}
 use Rattle.stack_code.specs.layer.Codes.{Codes}
 use Rattle.gen_expr.specs.layer.Sources.{Source, source_of, running_of}
 use Rattle.gen_expr.specs.layer.Codes.{pushes}
-use Rattle.gen_stmt.specs.code.Ways.{in_function}
-use Rattle.gen_stmt.specs.code.Codes.{acts, gives_back, leaves, enters, statement_code, items_code}
+use Rattle.gen_stmt.specs.layer.Ways.{in_function}
+use Rattle.gen_stmt.specs.layer.Codes.{acts, gives_back, leaves, enters, statement_code, items_code}
 
 -- The access that keeps an argument in a parameter of this type, where the parameter is a cell of this kind; without a
 -- cell there is none (C99 6.5.2.2).

@@ -21,7 +21,7 @@ use Rattle.typed_tree.specs.Tree.{AndExpr, attr_of, Function}
 use Rattle.source_meaning.specs.Types.{cell_kind}
 use Rattle.source_meaning.specs.Running.{Running}
 use Rattle.source_meaning.specs.Expressions.{Calls, is_lvalue}
-use Rattle.meaning_laws.specs.code.Values.{FitsCell, IsOf, IsFormedType, Brings}
+use Rattle.meaning_laws.specs.layer.Values.{FitsCell, IsOf, IsFormedType, Brings}
 
 -- An object lies where its type says: among the shared ones exactly where it is shared (UPC 6.5.1).
 abbrev pub LiesBy : Home → Option ℕ → Type 0

@@ -6,7 +6,7 @@ use Rattle.stack_code.specs.declared.instruction.ObjectWork.{ObjectWork}
 use Rattle.stack_code.specs.declared.instruction.ObjectWork.TheVariants.{Enter}
 use Rattle.stack_code.specs.declared.instruction.Operation.{Operation}
 use Rattle.stack_code.specs.declared.instruction.Operation.TheVariants as work
-use Rattle.gen_stmt.specs.code.Programs.{program_code}
+use Rattle.gen_stmt.specs.layer.Programs.{program_code}
 
 -- A block that work on objects begins, if it begins one, begins after no more than so many objects of its function in
 -- scope (C99 6.2.1, 6.8.2).

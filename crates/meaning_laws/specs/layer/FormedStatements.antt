@@ -13,8 +13,8 @@ use Rattle.typed_tree.specs.Tree.{SwitchItems, NoSwitchItems, AndCase, AndDefaul
 use Rattle.typed_tree.specs.Tree as tree
 use Rattle.source_meaning.specs.Types.{cell_kind}
 use Rattle.source_meaning.specs.Statements.{Flow, Next, Broke, Again, Gave}
-use Rattle.meaning_laws.specs.code.Values.{FitsCell, IsFormedType}
-use Rattle.meaning_laws.specs.code.Formed.{IsFormed, AreFormed}
+use Rattle.meaning_laws.specs.layer.Values.{FitsCell, IsFormedType}
+use Rattle.meaning_laws.specs.layer.Formed.{IsFormed, AreFormed}
 
 -- Where the type of each call of upc_all_alloc passes this.
 module _ (makes : CType → Type 0) where

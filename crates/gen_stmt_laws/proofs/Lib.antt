@@ -1,0 +1,10 @@
+pub mod Sizes
+pub mod Conversions
+pub mod Moves
+pub mod Values
+pub mod Expressions
+pub mod Statements
+pub mod Laid
+pub mod Everywhere
+pub mod Tests
+pub mod Constants

@@ -1,0 +1,2 @@
+pub mod Throughout
+pub mod Fitting
