@@ -1,6 +1,6 @@
 -- What the rules say of calls that allocate.
-use Rattle.std.proofs.Common.{◌≡◌, ℕ, zero, suc, ◌<◌, ◌^◌, nat_eq, true, List, [], ◌∷◌, length, Option, Some, None}
-use Rattle.std.proofs.Common.{is_some, slice_get, refl, arith}
+use Rattle.std.proofs.Common.{◌≡◌, ℕ, zero, suc, ◌<◌, ◌^◌, nat_eq, true, length, Option, Some, None}
+use Rattle.std.proofs.Common.{refl, arith}
 use Rattle.std.proofs.lemmas.Bool.{false≢true, eqb-true, eq-eqb}
 use Rattle.block_layout.specs.declared.kind.Kind.TheVariants as kind
 use Rattle.upc_values.specs.declared.scalar.Value.{Value}
@@ -21,8 +21,8 @@ use Rattle.thread_steps.specs.Library.{has_shape}
 use Rattle.source_meaning.specs.Running.{running}
 use Rattle.source_meaning.specs.Expressions.{shape_number}
 use Rattle.source_meaning.specs.Laws.{AreSoMany, GivesIn, Gives}
-use Rattle.meaning_laws.specs.code.Values.{IsOf, Comes, Brings}
-use Rattle.meaning_laws.specs.code.Formed.{AtTarget, HasShape}
+use Rattle.meaning_laws.specs.layer.Values.{IsOf, Comes, Brings}
+use Rattle.meaning_laws.specs.layer.Formed.{AtTarget, HasShape}
 use Rattle.meaning_laws.proofs.Operations.{Fits}
 use Rattle.meaning_laws.proofs.Shapes.{there_is}
 

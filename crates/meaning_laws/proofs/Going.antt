@@ -16,7 +16,7 @@ use Rattle.thread_steps.specs.States.{Thread, State, ◌>>◌, skip, know, chang
 use Rattle.thread_steps.specs.States.{fault_if, valued}
 use Rattle.thread_steps.specs.Actions as a
 use Rattle.thread_steps.specs.Blocks as b
-use Rattle.meaning_laws.specs.code.Values.{IsFilled, Comes, Brings}
+use Rattle.meaning_laws.specs.layer.Values.{IsFilled, Comes, Brings}
 use Rattle.meaning_laws.proofs.Steps.{Any, give_brings, skip_brings, over_brings, first_brings, choose_brings}
 use Rattle.meaning_laws.proofs.Steps.{valued_brings, any_result, Answers, ask_brings}
 use Rattle.meaning_laws.proofs.Stores.{entered_filled, left_filled, returned_filled, recounted_filled}

@@ -36,7 +36,7 @@ use Rattle.thread_steps.specs.Values.{number, scalar_of}
 use Rattle.thread_steps.specs.Actions as a
 use Rattle.thread_steps.specs.Accesses as x
 use Rattle.thread_steps.specs.Library as l
-use Rattle.meaning_laws.specs.code.Values.{IsNumber, IsOf, Brings}
+use Rattle.meaning_laws.specs.layer.Values.{IsNumber, IsOf, Brings}
 use Rattle.meaning_laws.proofs.Steps.{Any, give_brings, skip_brings, over_brings, first_brings, weaker_brings}
 use Rattle.meaning_laws.proofs.Steps.{choose_brings, Answers, ask_brings}
 use Rattle.meaning_laws.proofs.Operations.{Fits, or_first, read_brings, load_private_brings, save_private_brings}

@@ -36,8 +36,8 @@ use Rattle.thread_steps.specs.Operators as o
 use Rattle.source_meaning.specs.Types.{target_of, integer_of, cell_kind, elements_of}
 use Rattle.source_meaning.specs.Running.{Running}
 use Rattle.source_meaning.specs.Expressions as e
-use Rattle.meaning_laws.specs.code.Values.{FitsCell, IsNumber, IsOf, IsOfBase, IsPlaceOf, IsGiven, IsGivenBy}
-use Rattle.meaning_laws.specs.code.Values.{HasIntegerKind, IsFormedType, Brings}
+use Rattle.meaning_laws.specs.layer.Values.{FitsCell, IsNumber, IsOf, IsOfBase, IsPlaceOf, IsGiven, IsGivenBy}
+use Rattle.meaning_laws.specs.layer.Values.{HasIntegerKind, IsFormedType, Brings}
 use Rattle.meaning_laws.proofs.Steps.{Any, give_brings, skip_brings, over_brings, first_brings, weaker_brings}
 use Rattle.meaning_laws.proofs.Steps.{choose_brings, valued_brings, any_result}
 use Rattle.meaning_laws.specs.code.Laws.{ChangesFit}

@@ -13,7 +13,7 @@ use Rattle.typing_rules.specs.Rules.{names_member}
 use Rattle.source_meaning.specs.Expressions as e
 use Rattle.typing_rules.specs.declared.attribute.Form.{Form}
 use Rattle.typing_rules.specs.declared.attribute.Form.TheVariants as form
-use Rattle.meaning_laws.specs.code.Values.{IsFormedType}
+use Rattle.meaning_laws.specs.layer.Values.{IsFormedType}
 use Rattle.meaning_laws.proofs.Operators.{IsNoArray}
 
 first_of : (r : ℕ) (broken : Bool) (rest : Option ℕ) → or_above r broken rest ≡ None

@@ -1,5 +1,6 @@
 -- The shapes of what a program allocates are among its shapes.
-use Rattle.std.proofs.Common.{◌≡◌, ℕ, zero, suc, ◌+◌, ◌<◌, ◌≤◌, ◌^◌, Bool, true, false, if◌then◌else◌, nat_lt, List, [], ◌∷◌}
+use Rattle.std.proofs.Common.{◌≡◌, ℕ, zero, suc, ◌+◌, ◌<◌, ◌≤◌, ◌^◌, Bool, true, false, if◌then◌else◌, nat_lt, List}
+use Rattle.std.proofs.Common.{[], ◌∷◌}
 use Rattle.std.proofs.Common.{◌++◌, is_some, slice_get, length, map, refl, sym, ap, subst, inl, inr, eq-eqb, arith}
 use Rattle.std.proofs.lemmas.Bool.{ltb-true}
 use Rattle.block_layout.specs.declared.kind.Kind.{Kind}
@@ -15,7 +16,7 @@ use Rattle.typed_tree.specs.Objects.{shared_in, type_of, placed_from}
 use Rattle.typed_tree.specs.Tree.{DeclaredObject}
 use Rattle.typed_tree.specs.Allocated.{allocated_in}
 use Rattle.typed_tree.specs.Programs.{Checked, start_of}
-use Rattle.meaning_laws.specs.code.Formed.{HasShape}
+use Rattle.meaning_laws.specs.layer.Formed.{HasShape}
 use Rattle.meaning_laws.specs.code.Laws.{SharedHaveShapes}
 
 -- ---- equal shapes

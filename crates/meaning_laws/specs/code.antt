@@ -1,6 +1,2 @@
-pub mod Values
-pub mod Formed
-pub mod FormedStatements
-pub mod Uses
 pub mod Scopes
 pub mod Laws

@@ -36,13 +36,13 @@ use Rattle.thread_steps.specs.Operators.{cast}
 use Rattle.source_meaning.specs.Types.{cell_kind, conversion, target_of, integer_of}
 use Rattle.source_meaning.specs.Running.{Running, running}
 use Rattle.source_meaning.specs.Expressions.{Calls, type_of, step_operator, value, address, binary, converted_to}
-use Rattle.meaning_laws.specs.code.Values.{FitsCell, IsOf, IsPlaceOf, IsGiven, HasIntegerKind, IsFormedType}
-use Rattle.meaning_laws.specs.code.Values.{IsFilled, Brings}
+use Rattle.meaning_laws.specs.layer.Values.{FitsCell, IsOf, IsPlaceOf, IsGiven, HasIntegerKind, IsFormedType}
+use Rattle.meaning_laws.specs.layer.Values.{IsFilled, Brings}
 use Rattle.source_meaning.specs.Threads.{called, main_of, main_called, initial_state}
-use Rattle.meaning_laws.specs.code.Formed.{MakesSized, MakesShaped, IsFormed, CallsFit}
+use Rattle.meaning_laws.specs.layer.Formed.{MakesSized, MakesShaped, IsFormed, CallsFit}
 use Rattle.meaning_laws.specs.code.Scopes.{HasScope}
-use Rattle.meaning_laws.specs.code.Uses.{Leads, Counts, IsOperand, AreOperands, HasAffinity, IsTaken}
-use Rattle.meaning_laws.specs.code.FormedStatements.{IsFormedFunction}
+use Rattle.meaning_laws.specs.layer.Uses.{Leads, Counts, IsOperand, AreOperands, HasAffinity, IsTaken}
+use Rattle.meaning_laws.specs.layer.FormedStatements.{IsFormedFunction}
 
 -- A cell keeps what fits it, in a private object and in a shared one (C99 6.5.16).
 pub record CellsKeep : Type 0 where

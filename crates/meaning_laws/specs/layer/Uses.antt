@@ -11,7 +11,7 @@ use Rattle.upc_values.specs.declared.scalar.Value.TheVariants as value
 use Rattle.upc_types.specs.Types.{CType}
 use Rattle.thread_steps.specs.declared.cast.CastTo.{CastTo}
 use Rattle.thread_steps.specs.declared.cast.CastTo.TheVariants as to
-use Rattle.meaning_laws.specs.code.Values.{IsNumber}
+use Rattle.meaning_laws.specs.layer.Values.{IsNumber}
 
 -- The value is a pointer that can be stepped: a pointer-to-shared or a pointer-to-local.
 abbrev pub Leads : Value → Type 0
