@@ -33,7 +33,8 @@ use Rattle.typing_rules.specs.Meanings as m
 use Rattle.typing_rules.specs.Nodes as n
 use Rattle.typing_rules.specs.Nodes.{Attr, Use, Node}
 use Rattle.typing_rules.specs.Rules.{judge, table, fits, is_modifiable, is_lvalue, points, target, target_names}
-use Rattle.typing_rules.specs.Rules.{names_member, allocates_well, is_allocated_at, rule_10, rule_29, rule_13, rule_14}
+use Rattle.typing_rules.specs.Rules.{names_member, allocates_well, is_allocated_at, rule_10, rule_29, rule_13}
+use Rattle.typing_rules.specs.Rules.{rule_14}
 use Rattle.typing_rules.specs.Rules.{rule_18, rule_19}
 use Rattle.typing_rules.specs.Rules.{rule_20}
 use Rattle.typed_tree.specs.declared.tree.StepOperator.{StepOperator}
@@ -62,14 +63,16 @@ use Rattle.source_meaning.specs.Expressions.{Calls, type_of}
 use Rattle.source_meaning.specs.Laws.{AreSoMany}
 use Rattle.meaning_laws.specs.layer.Values.{FitsCell, IsNumber, IsOf, IsPlaceOf, IsGiven, IsGivenBy, IsFormedType}
 use Rattle.meaning_laws.specs.layer.Values.{Brings}
-use Rattle.meaning_laws.specs.layer.Formed.{LiesBy, MakesShaped, IsFormed, HasFormedParts, AreFormed, AreFor, CallsFit}
+use Rattle.meaning_laws.specs.layer.Formed.{LiesBy, MakesShaped, IsFormed, HasFormedParts, AreFormed, AreFor}
+use Rattle.meaning_laws.specs.layer.Formed.{CallsFit}
 use Rattle.meaning_laws.specs.code.Laws.{ExpressionsKeepTypes}
 use Rattle.meaning_laws.proofs.Steps.{Any, give_brings, first_brings, weaker_brings, choose_brings, valued_brings}
 use Rattle.meaning_laws.proofs.Steps.{any_result, Answers, ask_brings}
 use Rattle.meaning_laws.proofs.Conversions.{PhaseFits, cast_fits, phase_cast_fits}
 use Rattle.meaning_laws.proofs.Operations.{Fits, kind_by, formed_kind, member_brings}
 use Rattle.meaning_laws.proofs.Operators.{IsNoArray, is_of, integer_kind, of_value_type, no_array_value, is_place}
-use Rattle.meaning_laws.proofs.Operators.{truth_brings, unary_brings, binary_brings, binary_phase, any_held, put_brings}
+use Rattle.meaning_laws.proofs.Operators.{truth_brings, unary_brings, binary_brings, binary_phase, any_held}
+use Rattle.meaning_laws.proofs.Operators.{put_brings}
 use Rattle.meaning_laws.proofs.Operators.{value_in_brings, within_row_brings, behind_brings}
 use Rattle.meaning_laws.proofs.Rules.{unbroken, holds, or_left, has_target, lvalue_form, modified, member_found}
 use Rattle.meaning_laws.proofs.Rules.{struct_formed, member_type_block}

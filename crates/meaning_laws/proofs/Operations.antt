@@ -45,7 +45,8 @@ use Rattle.upc_types.specs.Cells.{pointer_kind, number_of}
 use Rattle.typing_rules.specs.Attributes.{member_block}
 use Rattle.source_meaning.specs.Types.{elements_of}
 use Rattle.meaning_laws.specs.layer.Values.{IsFilled, Comes, Brings, IsPlaceOf, IsFormedType}
-use Rattle.meaning_laws.proofs.Steps.{ResultIs, Any, give_brings, skip_brings, first_brings, valued_brings, any_result}
+use Rattle.meaning_laws.proofs.Steps.{ResultIs, Any, give_brings, skip_brings, first_brings, valued_brings}
+use Rattle.meaning_laws.proofs.Steps.{any_result}
 use Rattle.meaning_laws.proofs.Steps.{Answers, ask_brings}
 use Rattle.meaning_laws.proofs.Stores.{FilledIn, kept_is, IsRead, loaded_is, stored_filled}
 

@@ -56,6 +56,15 @@ module _ (program : Checked) where
   abbrev s : Structs
   s = program.structs
 
+  -- What the arguments of a call that allocates, and the call itself, allocate.
+  sides : (t : CType) (args : Exprs)
+      → Have (a.allocated_exprs s args ++ a.laid_target s (base_target (base_of t)))
+      → Have (a.allocated_exprs s args) × Have (a.laid_target s (base_target (base_of t)))
+  sides t args h =
+      let p = a.allocated_exprs s args in
+      let made = a.laid_target s (base_target (base_of t)) in
+      (left p made h, right p made h)
+
   mutual
     shaped_expr : (e : Expr) → IsFormed Sized e → Have (a.allocated_expr s e) → IsFormed Shaped e
     shaped_expr (Is at attr kind) f h = (f.0, shaped_kind attr kind f.1 h)
@@ -113,12 +122,15 @@ module _ (program : Checked) where
     shaped_kind attr (Comma parts) f h = shaped_exprs parts f h
     shaped_kind attr (Call (callee.Function number) args) f h =
         shaped_exprs args f (left (a.allocated_exprs s args) [] h)
+    shaped_kind attr (Call (callee.Library c.GlobalAlloc) args) f h =
+        let r = sides attr.ctype args h in
+        (shaped_target (base_target (base_of attr.ctype)) f.0 r.1, shaped_exprs args f.1 r.0)
     shaped_kind attr (Call (callee.Library c.AllAlloc) args) f h =
-        let p = a.allocated_exprs s args in
-        let made = a.laid_target s (base_target (base_of attr.ctype)) in (
-          shaped_target (base_target (base_of attr.ctype)) f.0 (right p made h),
-          shaped_exprs args f.1 (left p made h),
-        )
+        let r = sides attr.ctype args h in
+        (shaped_target (base_target (base_of attr.ctype)) f.0 r.1, shaped_exprs args f.1 r.0)
+    shaped_kind attr (Call (callee.Library c.Alloc) args) f h =
+        let r = sides attr.ctype args h in
+        (shaped_target (base_target (base_of attr.ctype)) f.0 r.1, shaped_exprs args f.1 r.0)
     shaped_kind attr (Call (callee.Library call_) args) f h =
         let p = a.allocated_exprs s args in
         let made = a.allocated_call s attr.ctype (callee.Library call_) in
@@ -148,8 +160,14 @@ module _ (program : Checked) where
   shaped_objects [] f h = tt
   shaped_objects (x ∷ xs) f h =
       let p = a.allocated_initial s x.initial in
-      let q = a.allocated_objects s xs in
-      (shaped_initial x.initial f.0 (left p q h), shaped_objects xs f.1 (right p q h))
+      let q = a.allocated_objects s xs in (
+        record {
+          ctype = f.0.ctype;
+          elements = f.0.elements;
+          initial = shaped_initial x.initial f.0.initial (left p q h);
+        },
+        shaped_objects xs f.1 (right p q h),
+      )
 
   shaped_head : (head : Head) → IsFormedHead Sized head → Have (a.allocated_head s head) → IsFormedHead Shaped head
   shaped_head head f h =

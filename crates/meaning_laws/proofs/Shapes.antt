@@ -1,5 +1,6 @@
 -- The shapes of what a program allocates are among its shapes.
-use Rattle.std.proofs.Common.{◌≡◌, ℕ, zero, suc, ◌+◌, ◌<◌, ◌≤◌, ◌^◌, Bool, true, false, if◌then◌else◌, nat_lt, List, [], ◌∷◌}
+use Rattle.std.proofs.Common.{◌≡◌, ℕ, zero, suc, ◌+◌, ◌<◌, ◌≤◌, ◌^◌, Bool, true, false, if◌then◌else◌, nat_lt, List}
+use Rattle.std.proofs.Common.{[], ◌∷◌}
 use Rattle.std.proofs.Common.{◌++◌, is_some, slice_get, length, map, refl, sym, ap, subst, inl, inr, eq-eqb, arith}
 use Rattle.std.proofs.lemmas.Bool.{ltb-true}
 use Rattle.block_layout.specs.declared.kind.Kind.{Kind}

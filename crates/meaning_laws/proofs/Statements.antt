@@ -24,7 +24,8 @@ use Rattle.typed_tree.specs.declared.tree.Synchronises.TheVariants.{Notify, Wait
 use Rattle.typed_tree.specs.Tree.{Expr, Exprs, NoExprs, AndExpr, place_of, Initial, NoInitial, InitialValue}
 use Rattle.typed_tree.specs.Tree.{InitialList}
 use Rattle.typed_tree.specs.Tree.{DeclaredObject, Affinity, Everyone, AtValue, Head, Statement, Stands, StatementKind}
-use Rattle.typed_tree.specs.Tree.{Block, If, Switch, While, DoWhile, For, Forall, Break, Continue, Return, Synchronise}
+use Rattle.typed_tree.specs.Tree.{Block, If, Switch, While, DoWhile, For, Forall, Break, Continue, Return}
+use Rattle.typed_tree.specs.Tree.{Synchronise}
 use Rattle.typed_tree.specs.Tree.{Fence, StatementOption, NoStatement, TheStatement, Arms, NoArms, AndArm, Items}
 use Rattle.typed_tree.specs.Tree.{NoItems}
 use Rattle.typed_tree.specs.Tree.{AndObjects, AndStatement, SwitchItems, NoSwitchItems, AndCase, AndDefault}
@@ -33,8 +34,10 @@ use Rattle.typed_tree.specs.Tree as tree
 use Rattle.typed_tree.specs.Programs.{Checked}
 use Rattle.typed_tree.specs.Words.{in_loop, in_switch, in_forall, element_use}
 use Rattle.typed_tree.specs.layer.Judged.{facts_at}
-use Rattle.typed_tree.specs.layer.TypedNodes.{MeetsExpr, MeetsValue, MeetsValues, MeetsInitial, MeetsObjects, MeetsHead}
-use Rattle.typed_tree.specs.layer.TypedNodes.{MeetsAffinity, MeetsStatement, MeetsBy, MeetsLast, MeetsArms, MeetsItems}
+use Rattle.typed_tree.specs.layer.TypedNodes.{MeetsExpr, MeetsValue, MeetsValues, MeetsInitial, MeetsObjects}
+use Rattle.typed_tree.specs.layer.TypedNodes.{MeetsHead}
+use Rattle.typed_tree.specs.layer.TypedNodes.{MeetsAffinity, MeetsStatement, MeetsBy, MeetsLast, MeetsArms}
+use Rattle.typed_tree.specs.layer.TypedNodes.{MeetsItems}
 use Rattle.typed_tree.specs.layer.TypedNodes.{MeetsSwitch, MeetsFunction, MeetsRules, behind_all, behind, around}
 use Rattle.thread_steps.specs.States.{Doing, ◌>>◌, give, know}
 use Rattle.thread_steps.specs.Values.{number_of, is_zero}
@@ -54,7 +57,8 @@ use Rattle.meaning_laws.specs.layer.Formed.{MakesShaped, IsFormed, AreFormed, Ca
 use Rattle.meaning_laws.specs.layer.FormedStatements.{IsFormedInitial, AreFormedObjects, IsFormedValue}
 use Rattle.meaning_laws.specs.layer.FormedStatements.{IsFormedAffinity}
 use Rattle.meaning_laws.specs.layer.FormedStatements.{IsFormedHead, IsFormedStatement, IsFormedBy, IsFormedLast}
-use Rattle.meaning_laws.specs.layer.FormedStatements.{AreFormedArms, AreFormedItems, AreFormedSwitch, IsFormedFunction}
+use Rattle.meaning_laws.specs.layer.FormedStatements.{AreFormedArms, AreFormedItems, AreFormedSwitch}
+use Rattle.meaning_laws.specs.layer.FormedStatements.{IsFormedFunction}
 use Rattle.meaning_laws.specs.layer.FormedStatements.{LeavesBy}
 use Rattle.meaning_laws.specs.code.Laws.{FunctionsKeepTypes, MainsKeepTypes}
 use Rattle.meaning_laws.proofs.Steps.{Any, give_brings, skip_brings, first_brings, weaker_brings, choose_brings}
@@ -62,8 +66,10 @@ use Rattle.meaning_laws.proofs.Operators.{IsNoArray, is_of, integer_kind, no_arr
 use Rattle.meaning_laws.proofs.Rules.{unbroken, holds}
 use Rattle.meaning_laws.proofs.Shaped.{shaped_functions}
 use Rattle.meaning_laws.proofs.Expressions.{value_keeps, converted_fits, any_cast}
-use Rattle.meaning_laws.proofs.Going.{know_brings, open_brings, close_brings, begin_brings, end_brings, control_brings}
-use Rattle.meaning_laws.proofs.Going.{release_brings, any_local, tick_brings, notify_brings, wait_brings, fence_brings}
+use Rattle.meaning_laws.proofs.Going.{know_brings, open_brings, close_brings, begin_brings, end_brings}
+use Rattle.meaning_laws.proofs.Going.{control_brings}
+use Rattle.meaning_laws.proofs.Going.{release_brings, any_local, tick_brings, notify_brings, wait_brings}
+use Rattle.meaning_laws.proofs.Going.{fence_brings}
 use Rattle.meaning_laws.proofs.Going.{mine_brings}
 
 -- What is void has no cell.
@@ -252,7 +258,7 @@ module _ (program : Checked) (thread budget : ℕ) where
     declared_brings locals κ [] m f = skip_brings
     declared_brings locals κ (y ∷ ys) m f =
         first_brings Any Any (s.initialised ρ call κ y y.initial) _
-        (initialised_brings (behind locals y) κ y y.initial m.0.initial f.0) (λ u v.
+        (initialised_brings (behind locals y) κ y y.initial m.0.initial f.0.initial) (λ u v.
         declared_brings (behind locals y) κ ys m.1 f.1)
 
     headed_brings : (kind : Option Kind) (locals : List CType) (κ : Standing) (at : Place) (head : Head) (m : Does)

@@ -6,7 +6,8 @@ use Rattle.block_layout.specs.declared.kind.Kind.{Kind}
 use Rattle.upc_values.specs.declared.action.Action.{Action}
 use Rattle.upc_values.specs.declared.action.Reply.{Reply}
 use Rattle.upc_values.specs.Formed.{fits}
-use Rattle.thread_steps.specs.States.{Thread, State, Res, Val, Over, Unfinished, bind, Doing, ◌>>=◌, give, skip, choose}
+use Rattle.thread_steps.specs.States.{Thread, State, Res, Val, Over, Unfinished, bind, Doing, ◌>>=◌, give, skip}
+use Rattle.thread_steps.specs.States.{choose}
 use Rattle.thread_steps.specs.States.{valued}
 use Rattle.thread_steps.specs.Actions.{ask, answered, answered_from}
 use Rattle.meaning_laws.specs.layer.Values.{IsFilled, Comes, Brings}

@@ -1,5 +1,6 @@
 -- The cells of private objects hold values that fit them, whatever is written there.
-use Rattle.std.proofs.Common.{◌≡◌, ℕ, zero, suc, ◌+◌, ◌<◌, ◌==◌, ◌&&◌, ℤ, Bool, true, false, List, [], ◌∷◌, length, map}
+use Rattle.std.proofs.Common.{◌≡◌, ℕ, zero, suc, ◌+◌, ◌<◌, ◌==◌, ◌&&◌, ℤ, Bool, true, false, List, [], ◌∷◌, length}
+use Rattle.std.proofs.Common.{map}
 use Rattle.std.proofs.Common.{Option, Some, None, if◌then◌else◌, get_or, refl, sym, subst, arith}
 use Rattle.std.specs.Prelude.{Result, Ok, Err, unsigned_abs, fold, slice_index_or, slice_set}
 use Rattle.std.proofs.lemmas.Bool.{cond_both, and_parts}
@@ -16,7 +17,8 @@ use Rattle.upc_values.proofs.Membership.{each-append}
 use Rattle.thread_steps.specs.Values.{kept}
 use Rattle.private_store.specs.declared.frame.Block.{Block}
 use Rattle.private_store.specs.declared.frame.Call.{Call}
-use Rattle.private_store.specs.Live.{Live, Thing, thing, blank_things, entered, left_from, left, open_blocks, youngest}
+use Rattle.private_store.specs.Live.{Live, Thing, thing, blank_things, entered, left_from, left, open_blocks}
+use Rattle.private_store.specs.Live.{youngest}
 use Rattle.private_store.specs.Live.{returned_from, returned, recounted_from, recounted}
 use Rattle.private_store.specs.Cells.{Cell, lies_within, cell_place, cell_there, cell_in, reached, value_in, loaded}
 use Rattle.private_store.specs.Cells.{changed}

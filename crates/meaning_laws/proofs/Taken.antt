@@ -20,7 +20,7 @@ use Rattle.thread_steps.specs.declared.cast.CastTo.{CastTo}
 use Rattle.thread_steps.specs.declared.cast.CastTo.TheVariants as to
 use Rattle.source_meaning.specs.Types.{pointer_conversion, conversion}
 use Rattle.meaning_laws.specs.layer.Values.{IsNumber, IsOf}
-use Rattle.meaning_laws.specs.code.Uses.{IsTaken}
+use Rattle.meaning_laws.specs.layer.Uses.{IsTaken}
 use Rattle.meaning_laws.specs.code.Laws.{ConversionsAreTaken}
 use Rattle.meaning_laws.proofs.Operations.{Fits, kind_by, unlocked_kind, or_first}
 use Rattle.meaning_laws.proofs.Uses.{same_lock, back_lock}
@@ -72,7 +72,7 @@ module _ (same block keeps lock_from lock_into shared_from shared_into : Bool) w
 
 -- ---- values
 
-zero_taken : (into : CastTo) (v : Value) → IsNumber v → IsTaken true into v
+pub zero_taken : (into : CastTo) (v : Value) → IsNumber v → IsTaken true into v
 zero_taken (to.Integer k) v h = h
 zero_taken to.Nothing v h = tt
 zero_taken to.Shared (value.Scalar (Int i)) h = refl
@@ -84,13 +84,13 @@ zero_taken into (value.Scalar (Lock l)) h = absurd h
 zero_taken into (value.Local p) h = absurd h
 
 module _ (zero : Bool) where
-  lock_taken : (v : Value) → Fits kind.Lock v → IsTaken zero to.Lock v
+  pub lock_taken : (v : Value) → Fits kind.Lock v → IsTaken zero to.Lock v
   lock_taken (value.Scalar (Lock l)) h = tt
   lock_taken (value.Scalar (Int i)) h = absurd (false≢true h)
   lock_taken (value.Scalar (Shared p)) h = absurd (false≢true h)
   lock_taken (value.Local p) h = absurd (false≢true h)
 
-  either_taken : (b : Bool) (n block : ℕ) (v : Value) → Fits (kind.Shared n block) v
+  pub either_taken : (b : Bool) (n block : ℕ) (v : Value) → Fits (kind.Shared n block) v
       → IsTaken zero (if b then to.Shared else to.OtherBlock) v
   either_taken true n block (value.Scalar (Shared p)) h = tt
   either_taken false n block (value.Scalar (Shared p)) h = tt
@@ -98,7 +98,7 @@ module _ (zero : Bool) where
   either_taken b n block (value.Scalar (Lock l)) h = absurd (false≢true h)
   either_taken b n block (value.Local p) h = absurd (false≢true h)
 
-  local_taken : (s : Option ℕ) (n : ℕ) (v : Value) → Fits (kind_by s n) v → IsTaken zero to.Local v
+  pub local_taken : (s : Option ℕ) (n : ℕ) (v : Value) → Fits (kind_by s n) v → IsTaken zero to.Local v
   local_taken (Some b) n (value.Scalar (Shared p)) h = tt
   local_taken (Some b) n (value.Scalar (Int i)) h = absurd (false≢true h)
   local_taken (Some b) n (value.Scalar (Lock l)) h = absurd (false≢true h)
@@ -160,7 +160,7 @@ module _ (zero : Bool) where
 
 -- ---- the table
 
-stuck : (b : Bool) → ((b && false) || false) ≡ true → ⊥
+pub stuck : (b : Bool) → ((b && false) || false) ≡ true → ⊥
 stuck true h = absurd (false≢true h)
 stuck false h = absurd (false≢true h)
 

@@ -25,7 +25,8 @@ use Rattle.typing_rules.specs.Attributes as at_
 use Rattle.typing_rules.specs.Attributes.{base}
 use Rattle.typing_rules.specs.Nodes as n
 use Rattle.typing_rules.specs.Nodes.{Attr, Use}
-use Rattle.typing_rules.specs.Rules.{judge, table, fits, fits_unary, counts, points, target, is_loose, is_loose_target}
+use Rattle.typing_rules.specs.Rules.{judge, table, fits, fits_unary, counts, points, target, is_loose}
+use Rattle.typing_rules.specs.Rules.{is_loose_target}
 use Rattle.typing_rules.specs.Rules.{moves_loosely, mismatches, targets_differ, target_is_lock, rule_14, rule_15}
 use Rattle.typing_rules.specs.Rules.{rule_16, rule_18, rule_19, target_names, has_size, moves}
 use Rattle.typing_rules.specs.Rules.{names_member, is_zero, is_scalar, fits_compound, rule_23, rule_25}
@@ -41,8 +42,8 @@ use Rattle.thread_steps.specs.Values.{number}
 use Rattle.source_meaning.specs.Running.{Running}
 use Rattle.source_meaning.specs.Expressions.{type_of, step_operator}
 use Rattle.meaning_laws.specs.layer.Values.{IsNumber, IsOf, IsPlaceOf, IsFormedType}
-use Rattle.meaning_laws.specs.code.Uses.{Leads, LeadAlike, Counts, IsOperand, ArePointers, IsStepped}
-use Rattle.meaning_laws.specs.code.Uses.{AreOperands, HasAffinity}
+use Rattle.meaning_laws.specs.layer.Uses.{Leads, LeadAlike, Counts, IsOperand, ArePointers, IsStepped}
+use Rattle.meaning_laws.specs.layer.Uses.{AreOperands, HasAffinity}
 use Rattle.meaning_laws.specs.code.Laws.{OperandsAreTaken}
 use Rattle.meaning_laws.proofs.Operations.{Fits, kind_by, formed_kind, unlocked_kind}
 use Rattle.meaning_laws.proofs.Operators.{value_target, is_place}

@@ -1,3 +1,4 @@
 pub mod Values
 pub mod Formed
 pub mod FormedStatements
+pub mod Uses

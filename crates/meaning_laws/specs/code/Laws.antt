@@ -41,7 +41,7 @@ use Rattle.meaning_laws.specs.layer.Values.{IsFilled, Brings}
 use Rattle.source_meaning.specs.Threads.{called, main_of, main_called, initial_state}
 use Rattle.meaning_laws.specs.layer.Formed.{MakesSized, MakesShaped, IsFormed, CallsFit}
 use Rattle.meaning_laws.specs.code.Scopes.{HasScope}
-use Rattle.meaning_laws.specs.code.Uses.{Leads, Counts, IsOperand, AreOperands, HasAffinity, IsTaken}
+use Rattle.meaning_laws.specs.layer.Uses.{Leads, Counts, IsOperand, AreOperands, HasAffinity, IsTaken}
 use Rattle.meaning_laws.specs.layer.FormedStatements.{IsFormedFunction}
 
 -- A cell keeps what fits it, in a private object and in a shared one (C99 6.5.16).

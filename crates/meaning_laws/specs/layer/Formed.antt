@@ -3,7 +3,7 @@ use Rattle.std.specs.Prelude.{◌≡◌, ℕ, ◌<◌, ◌^◌, true, List, [], 
 use Rattle.upc_text.specs.declared.place.Place.{Place}
 use Rattle.upc_values.specs.declared.scalar.Value.{Value}
 use Rattle.upc_values.specs.declared.library.LibraryCall.{LibraryCall}
-use Rattle.upc_values.specs.declared.library.LibraryCall.TheVariants.{AllAlloc}
+use Rattle.upc_values.specs.declared.library.LibraryCall.TheVariants.{GlobalAlloc, AllAlloc, Alloc}
 use Rattle.upc_values.specs.Lists.{Each}
 use Rattle.upc_types.specs.Types.{CType, Structs, base_of, block_of}
 use Rattle.typing_rules.specs.declared.setting.Home.{Home}
@@ -53,15 +53,17 @@ HasShape program t =
 abbrev pub MakesShaped : Checked → CType → Type 0
 MakesShaped program t = AtTarget (HasShape program) (base_target (base_of t))
 
--- The type of a call of upc_all_alloc passes; any other call may have any type.
+-- The type of a call that allocates passes; any other call may have any type (UPC 7.2.2).
 abbrev pub MakesBy : (CType → Type 0) → LibraryCall → CType → Type 0
+MakesBy makes GlobalAlloc t = makes t
 MakesBy makes AllAlloc t = makes t
+MakesBy makes Alloc t = makes t
 MakesBy makes c t = Unit {0}
 
--- Where the type of each call of upc_all_alloc passes this.
+-- Where the type of each call that allocates passes this.
 module _ (makes : CType → Type 0) where
   -- Expressions whose types are formed, in which an object lies where its type says, a struct before `.` is an lvalue,
-  -- and the type of each call of upc_all_alloc passes. An operand of a size operator is not evaluated and may be any.
+  -- and the type of each call that allocates passes. An operand of a size operator is not evaluated and may be any.
   abbrev mutual
     -- The types in an expression are formed.
     pub IsFormed : Expr → Type 0

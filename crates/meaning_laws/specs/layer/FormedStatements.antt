@@ -2,7 +2,7 @@
 use Rattle.std.specs.Prelude.{List, [], ◌∷◌, Option, Some, None}
 use Rattle.block_layout.specs.declared.kind.Kind.{Kind}
 use Rattle.upc_values.specs.Lists.{Each}
-use Rattle.upc_types.specs.Types.{CType, Structs}
+use Rattle.upc_types.specs.Types.{CType, Structs, base_of}
 use Rattle.typed_tree.specs.Tree.{Expr, Initial, NoInitial, InitialValue, InitialList, DeclaredObject, Affinity}
 use Rattle.typed_tree.specs.Tree.{Everyone}
 use Rattle.typed_tree.specs.Tree.{AtValue, Head, Statement, Stands, StatementKind, Block, If, Switch, While, DoWhile}
@@ -12,11 +12,11 @@ use Rattle.typed_tree.specs.Tree.{TheStatement, Arms, NoArms, AndArm, Items, NoI
 use Rattle.typed_tree.specs.Tree.{SwitchItems, NoSwitchItems, AndCase, AndDefault, AndSwitchStatement, Function}
 use Rattle.typed_tree.specs.Tree as tree
 use Rattle.source_meaning.specs.Types.{cell_kind}
-use Rattle.source_meaning.specs.Statements.{Flow, Next, Broke, Again, Gave}
+use Rattle.source_meaning.specs.Statements.{Flow, Next, Broke, Again, Gave, element_type}
 use Rattle.meaning_laws.specs.layer.Values.{FitsCell, IsFormedType}
 use Rattle.meaning_laws.specs.layer.Formed.{IsFormed, AreFormed}
 
--- Where the type of each call of upc_all_alloc passes this.
+-- Where the type of each call that allocates passes this.
 module _ (makes : CType → Type 0) where
   -- The types in an initialiser are formed.
   abbrev pub IsFormedInitial : Initial → Type 0
@@ -24,10 +24,16 @@ module _ (makes : CType → Type 0) where
   IsFormedInitial (InitialValue value) = IsFormed makes value
   IsFormedInitial (InitialList values) = AreFormed makes values
 
-  -- The types in the initialisers of these objects are formed.
+  -- The type of an object, that of its elements where it is an array, and those in its initialiser are formed.
+  pub record IsFormedObject (x : DeclaredObject) : Type 0 where
+    pub ctype : IsFormedType x.ctype
+    pub elements : IsFormedType (element_type (base_of x.ctype) x.ctype)
+    pub initial : IsFormedInitial x.initial
+
+  -- The types of these objects, and those in their initialisers, are formed.
   abbrev pub AreFormedObjects : List DeclaredObject → Type 0
   AreFormedObjects [] = Unit {0}
-  AreFormedObjects (x ∷ xs) = IsFormedInitial x.initial × AreFormedObjects xs
+  AreFormedObjects (x ∷ xs) = IsFormedObject x × AreFormedObjects xs
 
   -- The types in an expression are formed, where there is one.
   abbrev pub IsFormedValue : Option Expr → Type 0

@@ -1,0 +1,220 @@
+-- Declarations: what the walk makes of them is formed, and so are the names in scope after them.
+use Rattle.std.proofs.Common.{◌≡◌, ℕ, Bool, true, false, not, ◌&&◌, List, [], ◌∷◌, Option, Some, None, refl}
+use Rattle.std.specs.List.{list_any}
+use Rattle.upc_text.specs.declared.place.Place.{Place}
+use Rattle.upc_tree.specs.Expression as t
+use Rattle.upc_tree.specs.Expression.{NextExprs, NoNextExprs, AndExpr, ObjectDeclarator, FunctionDeclarator}
+use Rattle.upc_tree.specs.Declaration as d
+use Rattle.upc_tree.specs.Declaration.{Declaration, DeclaredList, NoneDeclared, SomeDeclared, NextDeclareds}
+use Rattle.upc_tree.specs.Declaration.{NoNextDeclareds, AndDeclared, DeclaredAs}
+use Rattle.upc_values.specs.Lists.{Each}
+use Rattle.upc_values.proofs.Lists.{each-push}
+use Rattle.upc_types.specs.Types as types
+use Rattle.upc_types.specs.Types.{CType, Qualified, Structs, base_of, block_of}
+use Rattle.typing_rules.specs.Attributes.{Facts}
+use Rattle.typing_rules.specs.Library.{int}
+use Rattle.typing_rules.specs.Values.{base_target, is_lock, is_shared, is_struct}
+use Rattle.typing_rules.specs.Meanings as m
+use Rattle.typing_rules.specs.Meanings.{Signature}
+use Rattle.typing_rules.specs.Nodes as n
+use Rattle.typing_rules.specs.Nodes.{Use}
+use Rattle.typing_rules.specs.Rules.{lowest, table, judge, rule_4, rule_7, rule_11, declares_nothing, is_struct_type}
+use Rattle.typed_tree.specs.Scopes.{Setting, Env, is_file, inside, declare, with_entry}
+use Rattle.typed_tree.specs.Scopes.{with_function}
+use Rattle.typed_tree.specs.Tree.{Expr, DeclaredObject}
+use Rattle.upc_checker_scopes.specs.Walk.{facts_in}
+use Rattle.upc_checker_types.specs.Specifiers.{Shaped, formed}
+use Rattle.upc_checker_declarations.specs.Declarations.{signature_of, declares_function, initial_constant}
+use Rattle.upc_checker_declarations.specs.Declarations.{element_use}
+use Rattle.upc_checker_declarations.specs.Declarations.{walk_initial_value, walk_initial_values, walk_initial, Behind}
+use Rattle.upc_checker_declarations.specs.Declarations.{walk_declared, walk_next_declareds, walk_declared_list}
+use Rattle.upc_checker_declarations.specs.Declarations.{walk_declaration}
+use Rattle.source_meaning.specs.Statements.{element_type}
+use Rattle.meaning_laws.specs.layer.Values.{IsFormedType}
+use Rattle.meaning_laws.specs.layer.Formed.{AreFormed}
+use Rattle.meaning_laws.specs.layer.FormedStatements.{IsFormedInitial, IsFormedObject, AreFormedObjects}
+use Rattle.meaning_laws.proofs.Rules.{unbroken, or_left, or_right}
+use Rattle.meaning_laws_accepted.proofs.Types.{IsDeep, IsSoundType, IsNamed, LeadsToNamed, formed_type, sound_named}
+use Rattle.meaning_laws_accepted.proofs.Types.{deep_sound, deep_array, no_rows, element_named}
+use Rattle.meaning_laws_accepted.proofs.Declared.{specified_deep, formed_sound}
+use Rattle.meaning_laws_accepted.proofs.Scopes.{IsSignature, Knows, entry_knows, declare_knows}
+use Rattle.meaning_laws_accepted.proofs.Walks.{Keeps, keeps_then, keeps_give, keeps_weaken, keeps_judge, any_judge}
+use Rattle.meaning_laws_accepted.proofs.Walks.{keeps_enclosed, keeps_look, keeps_update, keeps_to_end}
+use Rattle.meaning_laws_accepted.proofs.Attributes.{UseFormed}
+use Rattle.meaning_laws_accepted.proofs.Nodes.{Makes}
+use Rattle.meaning_laws_accepted.proofs.Expressions.{FormedIn, Any, keeps_constantly, keeps_walk}
+use Rattle.meaning_laws_accepted.proofs.Expressions.{keeps_specs, keeps_pointers, keeps_sizes, keeps_parameters}
+
+-- ---- types
+
+pub type_named : (t : CType) → IsSoundType t → IsNamed (base_of t)
+type_named (Qualified b c s x) h = sound_named s b h
+
+elements_formed : (t : CType) → IsSoundType t → IsFormedType (element_type (base_of t) t)
+elements_formed (Qualified types.Void c s x) h = tt
+elements_formed (Qualified (types.Integer k) c s x) h = h
+elements_formed (Qualified (types.Struct number) c s x) h = tt
+elements_formed (Qualified (types.Array (Qualified b d t y) count) c s x) h = formed_type (Qualified b d t y) h.1
+elements_formed (Qualified (types.Pointer t) c s x) h = tt
+elements_formed (Qualified types.LockObject c s x) h = absurd h
+
+element_formed : (o : Option CType) → LeadsToNamed o → UseFormed (element_use o)
+element_formed None h = tt
+element_formed (Some t) h = h
+
+-- A declared object is of a type of objects, and shared in the file alone.
+abbrev IsObject : Env → CType → Type 0
+IsObject Γ t = IsSoundType t × ((is_shared t && not (is_file Γ)) ≡ false)
+
+object_rules : (φ : Facts) (Γ : Env) (again : Bool) (threads : ℕ) (s : Shaped) (sizes : List _)
+    → IsDeep (base_of s.ctype)
+    → lowest φ (n.DeclaresObject again (is_file Γ) (formed threads s sizes)) ≡ None
+    → IsObject Γ (formed threads s sizes).ctype
+object_rules φ Γ again threads s sizes h none =
+    let f = formed threads s sizes in
+    let x = n.DeclaresObject again (is_file Γ) f in
+    let nothing = unbroken (table φ x) 3 (judge 4 (rule_4 x)) refl none in (
+      formed_sound threads s sizes h (or_right (not f.forms) (declares_nothing f.ctype) nothing),
+      unbroken (table φ x) 6 (judge 7 (rule_7 x)) refl none,
+    )
+
+-- A function gives no lock and no struct.
+abbrev pub GivesValue : CType → Type 0
+GivesValue t = (is_lock t ≡ false) × (is_struct t ≡ false)
+
+declares_rules : (φ : Facts) (again forms : Bool) (s : Signature) → lowest φ (n.DeclaresFunction again forms s) ≡ None
+    → GivesValue s.result
+declares_rules φ again forms s none =
+    let x = n.DeclaresFunction again forms s in
+    let lock = unbroken (table φ x) 3 (judge 4 (rule_4 x)) refl none in
+    let struct = unbroken (table φ x) 10 (judge 11 (rule_11 x)) refl none in (
+      or_right (not forms) (is_lock s.result) lock,
+      or_left (is_struct s.result) (list_any is_struct_type s.parameters) struct,
+    )
+
+pub signature_formed : (s : Signature) → IsDeep (base_of s.result) → GivesValue s.result
+    → Each IsSoundType s.parameters → IsSignature s
+signature_formed s h g ps = record {
+  result = deep_sound (block_of s.result) (base_of s.result) h g.0;
+  rows = no_rows (base_of s.result) (deep_array (base_of s.result) h);
+  struct = g.1;
+  parameters = ps;
+}
+
+module _ (ξ : Setting) (σ : Structs) where
+  -- ---- initialisers
+
+  keeps_initial_constant : (file : Bool) (x : Expr) → Any ξ σ (initial_constant ξ file x)
+  keeps_initial_constant true x = keeps_then (keeps_constantly ξ σ x) (λ c. keeps_give _ (λ i. tt))
+  keeps_initial_constant false x = keeps_give _ tt
+
+  keeps_initial_value : (Γ : Env) (file : Bool) (how : Use) (x : t.Expr)
+      → Keeps σ.completed (walk_initial_value ξ Γ file how x) (FormedIn ξ σ Γ how)
+  keeps_initial_value Γ file how x =
+      keeps_then (keeps_walk ξ σ Γ how x) (λ a. keeps_then (keeps_initial_constant file a) (λ u.
+      keeps_give _ (λ i g. g)))
+
+  keeps_initial_values : (Γ : Env) (file : Bool) (how : Use) (xs : NextExprs)
+      → Keeps σ.completed (walk_initial_values ξ Γ file how xs)
+      (λ ys. Knows Γ → UseFormed how → AreFormed (Makes ξ σ) ys)
+  keeps_initial_values Γ file how NoNextExprs = keeps_give _ (λ k u. tt)
+  keeps_initial_values Γ file how (AndExpr comma value more) =
+      keeps_then (keeps_initial_value Γ file how value) (λ x. keeps_then (keeps_initial_values Γ file how more) (λ xs.
+      keeps_give _ (λ gs g k u. ((g k u).0, gs k u))))
+
+  keeps_initial : (Γ : Env) (place : Place) (object : Bool) (type : CType) (x : d.Initial)
+      → Keeps σ.completed (walk_initial ξ Γ place object type x)
+      (λ i. Knows Γ → IsSoundType type → IsFormedInitial (Makes ξ σ) i)
+  keeps_initial Γ place object type d.NoInitial = keeps_give _ (λ k h. tt)
+  keeps_initial Γ place object type (d.ValueInitial equal value) =
+      keeps_then (keeps_initial_value Γ (is_file Γ) (n.Into type) value) (λ a.
+      keeps_then (any_judge ξ _ _ (λ s. refl)) (λ u. keeps_give _ (λ i g k h. (g k (type_named type h)).0)))
+  keeps_initial Γ place object type (d.ListInitial equal left first more right) =
+      let how = element_use (base_target (base_of type)) in
+      keeps_then (keeps_initial_value Γ (is_file Γ) how first) (λ x.
+      keeps_then (keeps_initial_values Γ (is_file Γ) how more) (λ xs.
+      keeps_then (any_judge ξ _ _ (λ s. refl)) (λ u. keeps_give _ (λ i gs g k h.
+      let into = element_formed (base_target (base_of type)) (element_named type h) in
+      ((g k into).0, gs k into)))))
+
+  -- ---- objects
+
+  pub objects_formed : (xs : List DeclaredObject) → Each (IsFormedObject (Makes ξ σ)) xs
+      → AreFormedObjects (Makes ξ σ) xs
+  objects_formed [] h = tt
+  objects_formed (x ∷ xs) h = (h.0, objects_formed xs h.1)
+
+  -- What is declared so far is formed.
+  pub record AreDeclared (b : Behind) : Type 0 where
+    pub scope : Knows b.scope
+    pub objects : Each (IsFormedObject (Makes ξ σ)) b.objects
+
+  -- ---- declarators
+
+  keeps_declares : (Γ : Env) (at : Place) (name : ℕ) (forms : Bool) (s : Signature)
+      → Keeps σ.completed (declares_function ξ Γ at name forms s) (λ u. GivesValue s.result)
+  keeps_declares Γ at name forms s =
+      keeps_then {P = λ again. Unit {0}} (keeps_look _ (λ q. tt)) (λ again.
+      keeps_then {P = λ u. GivesValue s.result}
+      (keeps_judge ξ _ _ (λ q. refl) (λ q none. declares_rules (facts_in ξ q) again forms s none)) (λ u.
+      keeps_weaken (keeps_update (with_function name s false) (λ q. refl)) (λ v i g j. g)))
+
+  abbrev Declares : Behind → Shaped → Behind → Type 0
+  Declares before s b = IsDeep (base_of s.ctype) → AreDeclared before → AreDeclared b
+
+  keeps_declared : (place : Place) (s : Shaped) (before : Behind) (x : d.Declared)
+      → Keeps σ.completed (walk_declared ξ place s before x) (Declares before s)
+  keeps_declared place s before (DeclaredAs (ObjectDeclarator pointers name sizes) initial) =
+      let Γ = before.scope in
+      keeps_then (keeps_pointers ξ σ Γ _ s pointers) (λ p. keeps_then (keeps_sizes ξ σ Γ sizes) (λ ns.
+      let type = (formed ξ.threads p ns).ctype in
+      keeps_then {P = λ u. IsDeep (base_of p.ctype) → IsObject Γ type}
+      (keeps_judge ξ _ _ (λ q. refl) (λ q none h. object_rules (facts_in ξ q) Γ _ ξ.threads p ns h none)) (λ u.
+      keeps_then (keeps_initial (declare name.number type Γ) _ true type initial) (λ i.
+      keeps_give _ (λ gi go j gp h b.
+      let o = go (gp h) in
+      let known = declare_knows Γ name.number type o.0 o.1 b.scope in
+      record {
+        scope = known;
+        objects = each-push (IsFormedObject (Makes ξ σ)) before.objects _ b.objects (record {
+          ctype = formed_type type o.0;
+          elements = elements_formed type o.0;
+          initial = gi known o.0;
+        });
+      })))))
+  keeps_declared place s before (DeclaredAs (FunctionDeclarator pointers name ps) initial) =
+      let Γ = before.scope in
+      keeps_then (keeps_pointers ξ σ Γ false s pointers) (λ p.
+      keeps_then (keeps_enclosed (keeps_parameters ξ σ (inside Γ) ps)) (λ ds.
+      let signature = signature_of p ds in
+      keeps_then (keeps_declares Γ _ name.number p.forms signature) (λ u.
+      keeps_then (keeps_initial (with_entry name.number (m.Function signature) Γ) _ false int initial) (λ i.
+      keeps_give _ (λ gi gv gd gp h b.
+      let formed = signature_formed signature (gp h) gv (gd (tt, b.scope)).types in
+      record {
+        scope = entry_knows Γ name.number (m.Function signature) formed b.scope;
+        objects = b.objects;
+      })))))
+
+  keeps_next_declareds : (place : Place) (s : Shaped) (before : Behind) (x : NextDeclareds)
+      → Keeps σ.completed (walk_next_declareds ξ place s before x) (Declares before s)
+  keeps_next_declareds place s before NoNextDeclareds = keeps_give _ (λ h b. b)
+  keeps_next_declareds place s before (AndDeclared comma x more) =
+      keeps_then (keeps_declared place s before x) (λ b. keeps_weaken (keeps_next_declareds place s b more)
+      (λ c g f h a. g h (f h a)))
+
+  keeps_declared_list : (place : Place) (s : Shaped) (before : Behind) (x : DeclaredList)
+      → Keeps σ.completed (walk_declared_list ξ place s before x) (Declares before s)
+  keeps_declared_list place s before NoneDeclared = keeps_give _ (λ h b. b)
+  keeps_declared_list place s before (SomeDeclared first more) =
+      keeps_then (keeps_declared place s before first) (λ b. keeps_weaken (keeps_next_declareds place s b more)
+      (λ c g f h a. g h (f h a)))
+
+  -- A declaration declares what is formed.
+  pub keeps_declaration : (Γ : Env) (x : Declaration)
+      → Keeps σ.completed (walk_declaration ξ Γ x) (λ b. Knows Γ → AreDeclared b)
+  keeps_declaration Γ (d.Declares specs list semicolon) =
+      keeps_then (keeps_to_end ξ _ (keeps_specs ξ σ Γ _ specs)) (λ p.
+      keeps_then (keeps_declared_list _ _ (record { scope = Γ; objects = [] }) list) (λ b.
+      keeps_then (any_judge ξ _ _ (λ q. refl)) (λ u. keeps_give _ (λ i g j k.
+      g (specified_deep p) (record { scope = k; objects = tt })))))

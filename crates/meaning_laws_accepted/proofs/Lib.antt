@@ -1,0 +1,16 @@
+pub mod Types
+pub mod IntegerKinds
+pub mod Declared
+pub mod Scopes
+pub mod Structs
+pub mod Walks
+pub mod Attributes
+pub mod Nodes
+pub mod Expressions
+pub mod Declarations
+pub mod Statements
+pub mod Sources
+pub mod Conversions
+pub mod Library
+pub mod Defaults
+pub mod Laws

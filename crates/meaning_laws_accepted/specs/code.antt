@@ -1,0 +1,3 @@
+pub mod FormedPrograms
+pub mod Defaults
+pub mod Laws
