@@ -6,7 +6,6 @@ use Rattle.std.proofs.Common.{append_assoc, append-nil, Ok, Err, Result}
 use Rattle.std.proofs.lemmas.Bool.{false≢true, and_parts}
 use Rattle.upc_text.specs.declared.place.Place.{Place}
 use Rattle.block_layout.specs.declared.kind.Kind.{Kind}
-use Rattle.block_layout.specs.declared.kind.Kind.TheVariants as kind
 use Rattle.block_layout.specs.declared.place.LocalPtr.{LocalPtr}
 use Rattle.upc_values.specs.declared.library.LibraryCall.{LibraryCall}
 use Rattle.upc_values.specs.declared.library.LibraryCall.TheVariants as c
