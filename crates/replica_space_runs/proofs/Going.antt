@@ -1,36 +1,23 @@
 -- Workers that go on, step by step.
-use Rattle.std.proofs.Common.{◌≡◌, ℕ, true, false, cond, List, [], ◌∷◌, ◌++◌, length, take, drop, append-nil, arith, Option, Some, None, is_some, refl, sym, ap, subst, ◌∙◌, inl, inr, append_assoc}
+use Rattle.std.proofs.Common.{◌≡◌, ℕ, true, false, cond, List, [], ◌++◌, append-nil, None, is_some, refl, sym, ap, subst, ◌∙◌, inl, inr, append_assoc}
 use Rattle.std.proofs.lemmas.Bool.{cases_Bool, false≢true}
-use Rattle.std.proofs.lemmas.List.{take_all, drop_all}
-use Rattle.upc_values.specs.declared.record.End.{End}
 use Rattle.upc_values.specs.Openings.{Opening}
 use Rattle.upc_values.specs.Records.{is_stall, is_beat_item, last_item}
 use Rattle.upc_values.specs.Ends.{is_pause}
 use Rattle.upc_values.proofs.Membership.{each-append}
 use Rattle.stack_code.specs.layer.Codes.{Codes}
-use Rattle.stack_machine.specs.declared.wish.Wish.{Wish}
 use Rattle.replica_space.specs.declared.event.Event.{Event}
 use Rattle.upc_task.specs.declared.recorder.Recorder.{Recorder}
 use Rattle.upc_task.specs.declared.worker.Pause.{Pause}
 use Rattle.upc_task.specs.declared.worker.Pause.TheVariants as pauses
 use Rattle.upc_task.specs.layer.Sources.{Outcomes}
-use Rattle.upc_task.specs.layer.Recorded.{IsRecorded, IsPausing, Paused, Leaves}
+use Rattle.upc_task.specs.layer.Recorded.{IsRecorded, IsPausing, Paused}
 use Rattle.upc_task.proofs.Options.{none-some, none-is}
 use Rattle.upc_rounds_base.specs.layer.Ending.{IsIdle, Rested}
 use Rattle.upc_rounds_base.proofs.Ending.{stalled-wish}
 use Rattle.replica_space_tasks.specs.declared.worker.ReplicaWorker.{ReplicaWorker}
 use Rattle.replica_space_tasks.specs.layer.Kept.{Grew, AllOf}
 use Rattle.replica_space_crews.specs.layer.Crews.{Moved}
-
-no-wish : {W : Type 0} (w : Option W) → w ≡ None → is_some w ≡ true → ⊥
-no-wish w n s = false≢true (sym (ap is_some n) ∙ s)
-
--- After a step a thread has a wish only where it stands at a Stall, or has its end.
-pub stepped-idle : {B : Type 0} (p : Pause) (k : Recorder B) (wish : Option Wish) → Paused p k → Leaves p wish k.wish → IsIdle k
-stepped-idle pauses.Going k wish h left e s = absurd (no-wish k.wish left s)
-stepped-idle pauses.Beat k wish h left e s = absurd (no-wish k.wish left s)
-stepped-idle pauses.Stalled k wish h left e s = elim h.1 [ inl b ↦ absurd (no-wish k.wish b.1 s) | inr t ↦ t.0 ]
-stepped-idle pauses.Finished k wish h left e s = absurd (none-some k.«end» h.0 e h.1)
 
 -- After a step that came to a Beat, a Stall or the end a thread rests.
 pub rested-beat : {B : Type 0} (k : Recorder B) → Paused pauses.Beat k → Rested k
@@ -80,9 +67,3 @@ moved-then p w k x m y n a b = record {
   };
   opening = b.opening ∙ a.opening;
 }
-
--- ---- slices that are given back
-
--- A slice of all of a vector that is given back with as many members.
-pub given-back : (n : ℕ) (xs ys : List ReplicaWorker) → length ys ≡ length xs → n ≡ length xs → take n (ys ++ drop (length ys) xs) ≡ ys
-given-back n xs ys h e = ap (λ l. take n (ys ++ l)) (drop_all (length ys) xs (omega (arith, h))) ∙ ap (take n) (append-nil ys) ∙ take_all n ys (omega (arith, e, h))

@@ -4,7 +4,7 @@ use Rattle.upc_task.specs.layer.Sources.{Outcomes, HasOutcomes}
 use Rattle.replica_space_tasks.specs.declared.worker.ReplicaWorker.{ReplicaWorker}
 use Rattle.replica_space_tasks.specs.layer.Kept.{IsKept}
 use Rattle.replica_space_crews.specs.layer.Crews.{IsCrew, strands_of}
-use Rattle.replica_space_runs.proofs.Going.{given-back}
+use Rattle.replica_space_rounds.proofs.Going.{given-back}
 use Rattle.replica_space_runs.proofs.picks.run_all.Goals as goal
 
 pub go_all-requires : goal.go_all-requires

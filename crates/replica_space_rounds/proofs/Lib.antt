@@ -1,0 +1,4 @@
+mod Owning
+pub mod Resting
+mod Places
+pub mod Going

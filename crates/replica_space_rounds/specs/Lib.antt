@@ -1,0 +1,2 @@
+pub mod ReplicaRounds
+pub mod layer
