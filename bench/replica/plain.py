@@ -1,6 +1,6 @@
 """Runs of a source on a memory in which each thread has its own copy, as docs/CONSISTENCY.md says it: `run(source,
-threads, limits)` goes by rounds, in each by number of thread, and gives the machine with what was printed, the ends and
-the events. Copies, mail and clocks are lists and dicts, the strict and the thread orders whole lists; the replies of
+threads, limits, chance)` goes by rounds, in each by number of thread or, by chance, in some order of single steps, and
+gives the machine with what was printed, the ends and the events. Copies, mail and clocks are lists and dicts, the strict and the thread orders whole lists; the replies of
 all actions but reads are those of bench/verify/judge.py. None of it is proved."""
 import os
 import sys
@@ -126,11 +126,18 @@ class Run:
     def is_waiting(self, t):
         return self.items[t][-1:] == [STALL] and self.memory.lawful(t, self.outcome(t)[2][1]) is None
 
-    def go(self):
+    def part(self, chance):
+        """A round: each thread without an end goes on to its rest."""
+        going = [t for t in range(self.threads) if self.ends[t] is None]
+        weights = [chance.random() ** 3 + 0.001 for _ in range(self.threads)] if chance else []
+        while going:
+            t = chance.choices(going, [weights[t] for t in going])[0] if chance else going[0]
+            if self.step(t):
+                going.remove(t)
+
+    def go(self, chance=None):
         while True:
-            for t in range(self.threads):
-                while self.ends[t] is None and not self.step(t):
-                    pass
+            self.part(chance)
             left = [t for t in range(self.threads) if self.ends[t] is None]
             if any(end and end[0] in STOPS for end in self.ends):
                 for t in left:
@@ -168,8 +175,8 @@ class Run:
         return clipped(self.ends[0][1]) if all(end[0] == "ended" for end in self.ends) else 106
 
 
-def run(source, threads, limits=()):
-    return Run(source, threads, limits).go()
+def run(source, threads, limits=(), chance=None):
+    return Run(source, threads, limits).go(chance)
 
 
 def placed(line, new, stamps):

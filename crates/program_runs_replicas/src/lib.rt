@@ -3,4 +3,4 @@
 
 mod run;
 
-pub use run::run_program_replicas;
+pub use run::{run_program_replicas, run_program_replicas_by};

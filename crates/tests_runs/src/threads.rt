@@ -12,7 +12,8 @@ use upc_task::Limits;
 use upc_text::{Gate, OpenGate, Stop};
 use upc_values::{End, Journal};
 
-const SUM: &[u8] = b"#include <upc_relaxed.h>
+/// The sum of an array in parts, added up under a lock.
+pub const SUM: &[u8] = b"#include <upc_relaxed.h>
 #include <stdio.h>
 #define N 400
 shared int a[N];

@@ -133,11 +133,22 @@ type Call = (
 
 const FOREVER: &[u8] = b"strict shared int x; int main(void){while(1) { x = 1; } return 0;}";
 
+const LOCKED: &[u8] = b"#include <upc_relaxed.h>
+shared int n;
+int main(void) {
+  upc_lock_t *l = upc_all_lock_alloc();
+  upc_lock(l); n = n + MYTHREAD + 1; upc_unlock(l);
+  upc_barrier;
+  if (MYTHREAD == 0) printf(\"%d\\n\", n);
+  return 0;
+}
+";
+
 const OBJECTS: &[u8] = b"shared [3] int a[20]; shared [] int s[8]; int p; shared [*] int d[10]; \
 struct pair { int a; char c; }; shared [2] struct pair q[5]; shared [2] char m[3][4]; strict shared long x; \
 int main(void){int i; return 0;}";
 
-const CALLS: [Call; 19] = [
+const CALLS: [Call; 20] = [
     // However the words are spelled and ordered.
     (
         &["run", "-T", "+04", "f.upc"],
@@ -227,6 +238,7 @@ order 0 2\n0.0.w\n0.1.r\nend\n",
     ),
     // A run in which each thread has its own copy of the shared memory.
     (&["replica", "-T", "2", "f.upc"], SUM, 0, b"42\n42\n", b""),
+    (&["replica", "-T", "4", "f.upc"], LOCKED, 0, b"10\n", b""),
     (
         &["replica", "-T", "1", "f.upc"],
         b"int main(){return 1 / 0;}",

@@ -97,7 +97,7 @@ fn come_to<R: Threads + Wait + Sync, S: Sources, G: Gate>(
             Err(stop) => stopped(stop),
         },
         Mode::Verify => judge_source(alloc, call, bytes, files),
-        Mode::Replica => run_replicated(rt, alloc, call, bytes),
+        Mode::Replica => run_replicated(rt, alloc, call, bytes, gate),
         _ => match read_source(alloc, call.threads, bytes) {
             Ok(program) => run_accepted(rt, alloc, call, bytes, &program, gate),
             Err(stop) => stopped(stop),

@@ -10,11 +10,19 @@ use crate::verdict::{Verdict, stopped};
 use program_runs_replicas::run_program_replicas;
 use std::alloc::Global;
 use std::sync::Wait;
+use std::thread::Threads;
 use upc_task::Limits;
+use upc_text::Gate;
 use upc_top_words::Call;
 
 /// The verdict on a source that is to be run on a memory in which each thread has its own copy.
-pub fn run_replicated<R: Wait>(rt: &R, alloc: Global, call: &Call<'_>, bytes: &[u8]) -> Verdict
+pub fn run_replicated<R: Threads + Wait + Sync, G: Gate>(
+    rt: &R,
+    alloc: Global,
+    call: &Call<'_>,
+    bytes: &[u8],
+    gate: &G,
+) -> Verdict
     requires mode { call.now.mode ≡ Replica }
     requires range { IsInRange (view_call call.now) }
     requires allowed { IsAllowed (view_call call.now) }
@@ -30,7 +38,7 @@ pub fn run_replicated<R: Wait>(rt: &R, alloc: Global, call: &Call<'_>, bytes: &[
         budget: call.budget,
         actions: call.actions,
     };
-    match run_program_replicas(rt, alloc, &program, limits) {
+    match run_program_replicas(rt, alloc, &program, limits, gate) {
         Ok(journal) => Verdict::Replicated(journal),
         Err(_) => Verdict::NoMemory(None),
     }

@@ -9,10 +9,10 @@ pub returns-in-Err : goal.returns-in-Err
 returns-in-Err g c r = c.stopped.ensures r (view_call c.args.call.now) c.args.bytes.now c.in-Err.ensures.refused
 
 pub run_program_replicas-requires-clause-threads : goal.run_program_replicas-requires-clause-threads
-run_program_replicas-requires-clause-threads g c = accepted_threads _ _ _ c.in-Ok.ensures.accepted
+run_program_replicas-requires-clause-threads g c κs within = accepted_threads _ _ _ c.in-Ok.ensures.accepted
 
 pub run_program_replicas-requires-clause-actions : goal.run_program_replicas-requires-clause-actions
-run_program_replicas-requires-clause-actions g c =
+run_program_replicas-requires-clause-actions g c κs within =
     let call = view_call c.args.call.now in
     let range = c.requires.range in
     let all = all-items call.mode call.threads call.actions range.one_thread range.threads in
