@@ -8,3 +8,4 @@ pub mod Laid
 pub mod Everywhere
 pub mod Tests
 pub mod Constants
+pub mod Accepted

@@ -248,7 +248,7 @@ module _ (program : Checked) (kept : IsRanged program) (types : HasFormedTypes p
       → t.ThroughoutObjects IsConstant objects → Fit (stmt.declared_code ς strict objects)
   declared strict [] l k m f w = tt
   declared strict (x ∷ xs) l k m f w =
-      both (stmt.initial_code ς strict x x.initial) _ (initial strict x l x.initial m.0 k.0 m.0.initial f.0 w.0)
+      both (stmt.initial_code ς strict x x.initial) _ (initial strict x l x.initial m.0 k.0 m.0.initial f.0.initial w.0)
       (declared strict xs (behind l x) k.1 m.1 f.1 w.1)
 
   -- ---- heads and loops

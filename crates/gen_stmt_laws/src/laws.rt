@@ -3,6 +3,7 @@
 ghost use Rattle.typed_tree.specs.Programs.{Checked};
 ghost use Rattle.typed_tree.specs.ViewProgram.{view_program};
 ghost use Rattle.gen_stmt_laws.specs.code.Fitting.{HasFormedTypes, IsRanged, PassesTests};
+ghost use Rattle.gen_stmt_laws.specs.code.Accepted.{IsOfSource};
 
 use typed_tree::Program;
 
@@ -20,4 +21,16 @@ pub fn programs_are_ranged(program: &Program)
     ensures { ∥ IsRanged (view_program program.now) ∥₁ }
 {
     let _threads = program.threads();
+}
+
+/// The types in the program of each source that is accepted are formed, and none is a pointer to an array.
+pub fn accepted_have_formed_types()
+    ensures { (program : Checked) → IsOfSource program → HasFormedTypes program }
+{}
+
+/// So the tests hold of each program that the compiler is given, where it is that of a source that is accepted.
+pub fn accepted_pass_tests(program: &Program)
+    ensures { IsOfSource (view_program program.now) → ∥ PassesTests (view_program program.now) ∥₁ }
+{
+    programs_are_ranged(program);
 }

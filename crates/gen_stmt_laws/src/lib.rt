@@ -3,4 +3,4 @@
 
 mod laws;
 
-pub use laws::{programs_are_ranged, tests_hold};
+pub use laws::{accepted_have_formed_types, accepted_pass_tests, programs_are_ranged, tests_hold};

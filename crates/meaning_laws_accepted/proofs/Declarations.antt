@@ -1,5 +1,5 @@
 -- Declarations: what the walk makes of them is formed, and so are the names in scope after them.
-use Rattle.std.proofs.Common.{◌≡◌, ℕ, Bool, true, false, not, ◌&&◌, List, [], ◌∷◌, Option, Some, None, refl}
+use Rattle.std.proofs.Common.{◌≡◌, ℕ, Bool, true, false, not, ◌&&◌, List, [], Option, Some, None, refl}
 use Rattle.std.specs.List.{list_any}
 use Rattle.upc_text.specs.declared.place.Place.{Place}
 use Rattle.upc_tree.specs.Expression as t
@@ -9,7 +9,6 @@ use Rattle.upc_tree.specs.Declaration.{Declaration, DeclaredList, NoneDeclared, 
 use Rattle.upc_tree.specs.Declaration.{NoNextDeclareds, AndDeclared, DeclaredAs}
 use Rattle.upc_values.specs.Lists.{Each}
 use Rattle.upc_values.proofs.Lists.{each-push}
-use Rattle.upc_types.specs.Types as types
 use Rattle.upc_types.specs.Types.{CType, Qualified, Structs, base_of, block_of}
 use Rattle.typing_rules.specs.Attributes.{Facts}
 use Rattle.typing_rules.specs.Library.{int}
@@ -21,7 +20,7 @@ use Rattle.typing_rules.specs.Nodes.{Use}
 use Rattle.typing_rules.specs.Rules.{lowest, table, judge, rule_4, rule_7, rule_11, declares_nothing, is_struct_type}
 use Rattle.typed_tree.specs.Scopes.{Setting, Env, is_file, inside, declare, with_entry}
 use Rattle.typed_tree.specs.Scopes.{with_function}
-use Rattle.typed_tree.specs.Tree.{Expr, DeclaredObject}
+use Rattle.typed_tree.specs.Tree.{Expr}
 use Rattle.upc_checker_scopes.specs.Walk.{facts_in}
 use Rattle.upc_checker_types.specs.Specifiers.{Shaped, formed}
 use Rattle.upc_checker_declarations.specs.Declarations.{signature_of, declares_function, initial_constant}
@@ -29,13 +28,10 @@ use Rattle.upc_checker_declarations.specs.Declarations.{element_use}
 use Rattle.upc_checker_declarations.specs.Declarations.{walk_initial_value, walk_initial_values, walk_initial, Behind}
 use Rattle.upc_checker_declarations.specs.Declarations.{walk_declared, walk_next_declareds, walk_declared_list}
 use Rattle.upc_checker_declarations.specs.Declarations.{walk_declaration}
-use Rattle.source_meaning.specs.Statements.{element_type}
-use Rattle.meaning_laws.specs.layer.Values.{IsFormedType}
-use Rattle.meaning_laws.specs.layer.Formed.{AreFormed}
-use Rattle.meaning_laws.specs.layer.FormedStatements.{IsFormedInitial, IsFormedObject, AreFormedObjects}
 use Rattle.meaning_laws.proofs.Rules.{unbroken, or_left, or_right}
-use Rattle.meaning_laws_accepted.proofs.Types.{IsDeep, IsSoundType, IsNamed, LeadsToNamed, formed_type, sound_named}
+use Rattle.meaning_laws_accepted.proofs.Types.{IsDeep, IsSoundType, IsNamed, LeadsToNamed, sound_named}
 use Rattle.meaning_laws_accepted.proofs.Types.{deep_sound, deep_array, no_rows, element_named}
+use Rattle.meaning_laws_accepted.proofs.Sounds.{AreSoundExprs, IsSoundInitial, IsSoundObject}
 use Rattle.meaning_laws_accepted.proofs.Declared.{specified_deep, formed_sound}
 use Rattle.meaning_laws_accepted.proofs.Scopes.{IsSignature, Knows, entry_knows, declare_knows}
 use Rattle.meaning_laws_accepted.proofs.Walks.{Keeps, keeps_then, keeps_give, keeps_weaken, keeps_judge, any_judge}
@@ -49,14 +45,6 @@ use Rattle.meaning_laws_accepted.proofs.Expressions.{keeps_specs, keeps_pointers
 
 pub type_named : (t : CType) → IsSoundType t → IsNamed (base_of t)
 type_named (Qualified b c s x) h = sound_named s b h
-
-elements_formed : (t : CType) → IsSoundType t → IsFormedType (element_type (base_of t) t)
-elements_formed (Qualified types.Void c s x) h = tt
-elements_formed (Qualified (types.Integer k) c s x) h = h
-elements_formed (Qualified (types.Struct number) c s x) h = tt
-elements_formed (Qualified (types.Array (Qualified b d t y) count) c s x) h = formed_type (Qualified b d t y) h.1
-elements_formed (Qualified (types.Pointer t) c s x) h = tt
-elements_formed (Qualified types.LockObject c s x) h = absurd h
 
 element_formed : (o : Option CType) → LeadsToNamed o → UseFormed (element_use o)
 element_formed None h = tt
@@ -116,7 +104,7 @@ module _ (ξ : Setting) (σ : Structs) where
 
   keeps_initial_values : (Γ : Env) (file : Bool) (how : Use) (xs : NextExprs)
       → Keeps σ.completed (walk_initial_values ξ Γ file how xs)
-      (λ ys. Knows Γ → UseFormed how → AreFormed (Makes ξ σ) ys)
+      (λ ys. Knows Γ → UseFormed how → AreSoundExprs (Makes ξ σ) ys)
   keeps_initial_values Γ file how NoNextExprs = keeps_give _ (λ k u. tt)
   keeps_initial_values Γ file how (AndExpr comma value more) =
       keeps_then (keeps_initial_value Γ file how value) (λ x. keeps_then (keeps_initial_values Γ file how more) (λ xs.
@@ -124,7 +112,7 @@ module _ (ξ : Setting) (σ : Structs) where
 
   keeps_initial : (Γ : Env) (place : Place) (object : Bool) (type : CType) (x : d.Initial)
       → Keeps σ.completed (walk_initial ξ Γ place object type x)
-      (λ i. Knows Γ → IsSoundType type → IsFormedInitial (Makes ξ σ) i)
+      (λ i. Knows Γ → IsSoundType type → IsSoundInitial (Makes ξ σ) i)
   keeps_initial Γ place object type d.NoInitial = keeps_give _ (λ k h. tt)
   keeps_initial Γ place object type (d.ValueInitial equal value) =
       keeps_then (keeps_initial_value Γ (is_file Γ) (n.Into type) value) (λ a.
@@ -139,15 +127,10 @@ module _ (ξ : Setting) (σ : Structs) where
 
   -- ---- objects
 
-  pub objects_formed : (xs : List DeclaredObject) → Each (IsFormedObject (Makes ξ σ)) xs
-      → AreFormedObjects (Makes ξ σ) xs
-  objects_formed [] h = tt
-  objects_formed (x ∷ xs) h = (h.0, objects_formed xs h.1)
-
   -- What is declared so far is formed.
   pub record AreDeclared (b : Behind) : Type 0 where
     pub scope : Knows b.scope
-    pub objects : Each (IsFormedObject (Makes ξ σ)) b.objects
+    pub objects : Each (IsSoundObject (Makes ξ σ)) b.objects
 
   -- ---- declarators
 
@@ -176,11 +159,7 @@ module _ (ξ : Setting) (σ : Structs) where
       let known = declare_knows Γ name.number type o.0 o.1 b.scope in
       record {
         scope = known;
-        objects = each-push (IsFormedObject (Makes ξ σ)) before.objects _ b.objects (record {
-          ctype = formed_type type o.0;
-          elements = elements_formed type o.0;
-          initial = gi known o.0;
-        });
+        objects = each-push (IsSoundObject (Makes ξ σ)) before.objects _ b.objects (o.0, gi known o.0);
       })))))
   keeps_declared place s before (DeclaredAs (FunctionDeclarator pointers name ps) initial) =
       let Γ = before.scope in

@@ -1,4 +1,5 @@
 pub mod Types
+pub mod Sounds
 pub mod IntegerKinds
 pub mod Declared
 pub mod Scopes

@@ -39,10 +39,10 @@ use Rattle.upc_checker_nodes.specs.Called.{name_kind, target_by, uses_by, first_
 use Rattle.upc_checker_nodes.specs.Marks.{unary_node, unary_kind, binary_node, binary_kind, assign_node, assign_kind}
 use Rattle.upc_checker_nodes.specs.Marks.{right_use}
 use Rattle.upc_checker_nodes.specs.Parts.{member_of, member_kind, constant_node, constant_kind, last_of}
-use Rattle.meaning_laws.specs.layer.Values.{IsFormedType}
-use Rattle.meaning_laws.specs.layer.Formed.{AtTarget, MakesBy, IsFormed, HasFormedParts, AreFormed}
+use Rattle.meaning_laws.specs.layer.Formed.{AtTarget, MakesBy}
 use Rattle.meaning_laws.proofs.Rules.{unbroken, holds}
-use Rattle.meaning_laws_accepted.proofs.Types.{IsSoundType, formed_type, sound_named}
+use Rattle.meaning_laws_accepted.proofs.Types.{IsSoundType, sound_named}
+use Rattle.meaning_laws_accepted.proofs.Sounds.{IsSoundExpr, HasSoundParts, AreSoundExprs}
 use Rattle.meaning_laws_accepted.proofs.Structs.{AreFormedStructs, named_formed, complete_has_size}
 use Rattle.meaning_laws_accepted.proofs.Scopes.{StandsFormed}
 use Rattle.meaning_laws_accepted.proofs.Attributes.{Sound, UseFormed, plain_sound, number_sound, pointer_sound}
@@ -87,14 +87,14 @@ module _ (ξ : Setting) (σ : Structs) where
 
   -- An expression that is used so is formed, and of a type of objects.
   abbrev pub FormedAs : Use → Expr → Type 0
-  FormedAs how x = IsFormed Makes x × Sound how (attr_of x)
+  FormedAs how x = IsSoundExpr Makes x × Sound how (attr_of x)
 
   -- So are expressions, each with its use.
   abbrev pub AllFormed : List Use → Exprs → Type 0
   AllFormed uses NoExprs = Unit {0}
   AllFormed uses (AndExpr x more) = FormedAs (first_use uses) x × AllFormed (later_uses uses) more
 
-  pub are_formed : (uses : List Use) (xs : Exprs) → AllFormed uses xs → AreFormed Makes xs
+  pub are_formed : (uses : List Use) (xs : Exprs) → AllFormed uses xs → AreSoundExprs Makes xs
   are_formed uses NoExprs h = tt
   are_formed uses (AndExpr x more) h = (h.0.0, are_formed (later_uses uses) more h.1)
 
@@ -104,11 +104,11 @@ module _ (ξ : Setting) (σ : Structs) where
 
   -- So is an expression of this kind with this attribute.
   abbrev pub KindFormed : Use → Attr → ExprKind → Type 0
-  KindFormed how attr kind = (IsFormedType attr.ctype × HasFormedParts Makes attr kind) × Sound how attr
+  KindFormed how attr kind = (IsSoundType attr.ctype × HasSoundParts Makes attr kind) × Sound how attr
 
-  pub makes_as : (how : Use) (attr : Attr) (kind : ExprKind) → Sound how attr → HasFormedParts Makes attr kind
+  pub makes_as : (how : Use) (attr : Attr) (kind : ExprKind) → Sound how attr → HasSoundParts Makes attr kind
       → KindFormed how attr kind
-  makes_as how attr kind h parts = ((formed_type attr.ctype h.sound, parts), h)
+  makes_as how attr kind h parts = ((h.sound, parts), h)
 
   -- ---- names and constants
 
@@ -200,7 +200,7 @@ module _ (ξ : Setting) (σ : Structs) where
       by b.Or = makes_as how _ (k.Or x y) (number_sound how kind.Int _ _ tt) (h.0, i.0)
 
   pub assign_formed : (how : Use) (φ : Facts) (mark : AssignMark) (x y : Expr)
-      → lowest φ (assign_node mark (attr_of x) (attr_of y)) ≡ None → FormedAs n.Plain x → IsFormed Makes y
+      → lowest φ (assign_node mark (attr_of x) (attr_of y)) ≡ None → FormedAs n.Plain x → IsSoundExpr Makes y
       → KindFormed how (attr φ (assign_node mark (attr_of x) (attr_of y))) (assign_kind mark x y)
   assign_formed how φ mark x y none h i = by mark none
     where
@@ -266,7 +266,7 @@ module _ (ξ : Setting) (σ : Structs) where
   pub call_formed : (s : State) (how : Use) (x : Meaning) (name : Option Name) (runs : Bool)
       (format : Option (List ℕ)) (args : Exprs) → StandsFormed x → UseFormed how
       → Earlier σ.completed s.structs.completed → AreFormedStructs s.structs.completed
-      → lowest (facts_in ξ s) (n.Call how x runs format (attrs_of args)) ≡ None → AreFormed Makes args
+      → lowest (facts_in ξ s) (n.Call how x runs format (attrs_of args)) ≡ None → AreSoundExprs Makes args
       → KindFormed how (attr (facts_in ξ s) (n.Call how x runs format (attrs_of args)))
       (k.Call (target_by ξ x name) args)
   call_formed s how (m.Library call) name runs format args h converts e i none g =

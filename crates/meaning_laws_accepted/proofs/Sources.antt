@@ -7,7 +7,7 @@ use Rattle.upc_tree.specs.Expression.{Specs, Pointers, Parameters}
 use Rattle.upc_tree.specs.Statement.{Compound}
 use Rattle.upc_tree.specs.Unit.{External, PragmaPart, DeclarationPart, FunctionPart}
 use Rattle.upc_values.specs.Lists.{Each}
-use Rattle.upc_values.proofs.Lists.{each-push, each-grow}
+use Rattle.upc_values.proofs.Lists.{each-push}
 use Rattle.upc_values.proofs.Membership.{each-append}
 use Rattle.upc_types.specs.Types.{CType, Structs, base_of}
 use Rattle.typing_rules.specs.Attributes.{Facts}
@@ -27,12 +27,12 @@ use Rattle.upc_checker.specs.Units.{walk_function, walk_external, walk_externals
 use Rattle.upc_checker.specs.Limits.{limit_in}
 use Rattle.upc_checker.specs.Outcomes.{Accepted, outcome}
 use Rattle.upc_checker.proofs.Causes.{accepted_by}
-use Rattle.meaning_laws.specs.layer.Values.{IsFormedType}
-use Rattle.meaning_laws.specs.layer.FormedStatements.{IsFormedObject, IsFormedStatement, IsFormedFunction}
+use Rattle.meaning_laws.specs.layer.Formed.{MakesSized}
 use Rattle.meaning_laws.proofs.Rules.{unbroken, or_left, or_right}
-use Rattle.meaning_laws_accepted.specs.code.FormedPrograms.{IsFormedProgram}
 use Rattle.meaning_laws_accepted.specs.code.Laws.{AcceptedAreFormed}
-use Rattle.meaning_laws_accepted.proofs.Types.{IsDeep, IsSoundType, formed_type, value_sound}
+use Rattle.meaning_laws_accepted.proofs.Types.{IsDeep, value_sound}
+use Rattle.meaning_laws_accepted.proofs.Sounds.{IsSoundObject, IsSoundStatement, IsSoundFunction}
+use Rattle.meaning_laws_accepted.proofs.Sounds.{objects_formed, functions_formed}
 use Rattle.meaning_laws_accepted.proofs.Declared.{specified_deep}
 use Rattle.meaning_laws_accepted.proofs.Scopes.{IsSignature, Knows, entry_knows, outer_knows}
 use Rattle.meaning_laws_accepted.proofs.Walks.{Keeps, keeps_then, keeps_give, keeps_weaken, keeps_judge, any_judge}
@@ -40,7 +40,7 @@ use Rattle.meaning_laws_accepted.proofs.Walks.{keeps_enclosed, keeps_look, keeps
 use Rattle.meaning_laws_accepted.proofs.Nodes.{Makes}
 use Rattle.meaning_laws_accepted.proofs.Expressions.{keeps_specs, keeps_pointers, keeps_parameters}
 use Rattle.meaning_laws_accepted.proofs.Declarations.{GivesValue, type_named, signature_formed}
-use Rattle.meaning_laws_accepted.proofs.Declarations.{objects_formed, keeps_declaration}
+use Rattle.meaning_laws_accepted.proofs.Declarations.{keeps_declaration}
 use Rattle.meaning_laws_accepted.proofs.Statements.{keeps_block}
 
 defines_rules : (φ : Facts) (again differs forms : Bool) (s : Signature)
@@ -58,13 +58,13 @@ module _ (ξ : Setting) (σ : Structs) where
   -- What a source has declared and defined so far is formed.
   record IsMade (b : Made) : Type 0 where
     scope : Knows b.scope
-    objects : Each (IsFormedObject (Makes ξ σ)) b.objects
-    functions : Each (IsFormedFunction (Makes ξ σ)) b.functions
+    objects : Each (IsSoundObject (Makes ξ σ)) b.objects
+    functions : Each (IsSoundFunction (Makes ξ σ)) b.functions
 
   -- ---- definitions
 
   definition_made : (before : Made) (place : Place) (name : ℕ) (s : Signature) (x : Statement) → IsSignature s
-      → IsFormedStatement (Makes ξ σ) x → IsMade before → IsMade (with_definition ξ before place name s x)
+      → IsSoundStatement (Makes ξ σ) x → IsMade before → IsMade (with_definition ξ before place name s x)
   definition_made before place name s x signature body h =
       let f : Function = record {
         at = place;
@@ -73,15 +73,15 @@ module _ (ξ : Setting) (σ : Structs) where
         parameters = s.parameters;
         body = x;
       } in
-      let formed : IsFormedFunction (Makes ξ σ) f = record {
-        result = formed_type (value_type s.result) (value_sound s.result signature.result signature.rows);
-        parameters = each-grow IsSoundType IsFormedType s.parameters formed_type signature.parameters;
+      let formed : IsSoundFunction (Makes ξ σ) f = record {
+        result = value_sound s.result signature.result signature.rows;
+        parameters = signature.parameters;
         body = body;
       } in
       record {
         scope = entry_knows before.scope name (m.Function s) signature h.scope;
         objects = h.objects;
-        functions = each-push (IsFormedFunction (Makes ξ σ)) before.functions f h.functions formed;
+        functions = each-push (IsSoundFunction (Makes ξ σ)) before.functions f h.functions formed;
       }
 
   keeps_definition : (strict : Bool) (before : Made) (place : Place) (forms : Bool) (result : CType) (name : Name)
@@ -125,7 +125,7 @@ module _ (ξ : Setting) (σ : Structs) where
       let r = g h.scope in
       record {
         scope = r.scope;
-        objects = each-append (IsFormedObject (Makes ξ σ)) before.objects b.objects h.objects r.objects;
+        objects = each-append (IsSoundObject (Makes ξ σ)) before.objects b.objects h.objects r.objects;
         functions = h.functions;
       }))
   keeps_external strict before (FunctionPart specs pointers name ps body) =
@@ -144,23 +144,28 @@ module _ (ξ : Setting) (σ : Structs) where
       keeps_then (any_judge ξ _ _ (λ q. refl)) (λ u. keeps_give made (λ i g.
       g (record { scope = (tt, tt); objects = tt; functions = tt }))))
 
--- Where every node of a source meets its rules, the types in what it declares and defines are formed.
-unit_formed : (ξ : Setting) (unit : List External) → first_fault (walk_unit ξ unit begin).seen ≡ None
-    → IsFormedProgram (record {
+-- The objects and the functions of a program are of types of objects, with every expression in them.
+pub record IsSoundProgram (x : Checked) : Type 0 where
+  pub objects : Each (IsSoundObject (MakesSized x)) x.objects
+  pub functions : Each (IsSoundFunction (MakesSized x)) x.functions
+
+-- Where every node of a source meets its rules, what it declares and defines is so.
+unit_sound : (ξ : Setting) (unit : List External) → first_fault (walk_unit ξ unit begin).seen ≡ None
+    → IsSoundProgram (record {
       threads = ξ.threads;
       structs = without_targets (walk_unit ξ unit begin).state.structs;
       objects = (walk_unit ξ unit begin).value.objects;
       functions = (walk_unit ξ unit begin).value.functions;
     })
-unit_formed ξ unit fine =
-    let w = walk_unit ξ unit begin in
-    let σ = without_targets w.state.structs in
+unit_sound ξ unit fine =
+    let σ = without_targets (walk_unit ξ unit begin).state.structs in
     let made = ((keeps_unit ξ σ unit).made begin fine AtEnd tt).1 in
-    record { objects = objects_formed ξ σ w.value.objects made.objects; functions = made.functions }
+    record { objects = made.objects; functions = made.functions }
 
-source_formed : (names : List (List ℕ)) (threads : ℕ) (unit : List External) (x : Checked)
-    → outcome names threads unit ≡ Accepted x → IsFormedProgram x
-source_formed names threads unit x h =
+-- So is the program of each source that is accepted.
+pub source_sound : (names : List (List ℕ)) (threads : ℕ) (unit : List External) (x : Checked)
+    → outcome names threads unit ≡ Accepted x → IsSoundProgram x
+source_sound names threads unit x h =
     let ξ = setting names threads unit in
     let w = walk_unit ξ unit begin in
     let c : Checked = record {
@@ -170,7 +175,14 @@ source_formed names threads unit x h =
       functions = w.value.functions;
     } in
     let p = accepted_by (first_fault w.seen) (limit_in w) c x h in
-    subst IsFormedProgram p.2 (unit_formed ξ unit p.0)
+    subst IsSoundProgram p.2 (unit_sound ξ unit p.0)
 
 pub accepted_are_formed : AcceptedAreFormed
-accepted_are_formed = record { each = source_formed }
+accepted_are_formed = record {
+  each = λ names threads unit x h.
+      let s = source_sound names threads unit x h in
+      record {
+        objects = objects_formed (MakesSized x) x.objects s.objects;
+        functions = functions_formed (MakesSized x) x.functions s.functions;
+      };
+}
