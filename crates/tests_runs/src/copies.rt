@@ -40,14 +40,6 @@ fn prints(journal: &ReplicaJournal, line: &[u8]) -> bool {
     lines == 1
 }
 
-fn limits_for(threads: u32) -> Limits {
-    Limits {
-        threads,
-        budget: 100_000_000,
-        actions: 100_000,
-    }
-}
-
 // The run of a source on so many threads, 1 to 32, side by side.
 fn run_on<R: Threads + Wait + Sync>(
     rt: &R,
@@ -55,11 +47,15 @@ fn run_on<R: Threads + Wait + Sync>(
     source: &[u8],
     threads: u32,
 ) -> Result<ReplicaJournal, Stop> {
+    let limits = Limits {
+        threads,
+        budget: 100_000_000,
+        actions: 100_000,
+    };
     let program = program_of(alloc, threads, source)?;
     if threads > 32 || program.threads() != threads {
         return Err(Stop::Memory);
     }
-    let limits = limits_for(threads);
     let journal = run_program_replicas(rt, alloc, &program, limits, &OpenGate)?;
     Ok(journal)
 }
@@ -72,11 +68,15 @@ fn run_by<R: Wait>(
     threads: u32,
     picks: &[u32],
 ) -> Result<ReplicaJournal, Stop> {
+    let limits = Limits {
+        threads,
+        budget: 100_000_000,
+        actions: 100_000,
+    };
     let program = program_of(alloc, threads, source)?;
     if threads > 32 || program.threads() != threads {
         return Err(Stop::Memory);
     }
-    let limits = limits_for(threads);
     let journal = run_program_replicas_by(rt, alloc, &program, limits, picks)?;
     Ok(journal)
 }
