@@ -1,5 +1,7 @@
-//! Tests of the orders of runs with a copy of the shared memory for each thread.
+//! Tests of runs with a copy of the shared memory for each thread: replies, deliveries and orders.
 #![tactic(auto)]
 
 #[cfg(test)]
-mod orders;
+mod play;
+#[cfg(test)]
+mod runs;
