@@ -38,8 +38,8 @@ pub fn run_program_replicas<R: Threads + Wait + Sync, G: Gate>(
     Ok(journal)
 }
 
-/// Compiles a program and runs it on one thread of the machine, in an order that the picks choose, on such a memory (see
-/// `replica_space_runs::run_replicas_by`).
+/// Compiles a program and runs it on one thread of the machine, in an order that the picks choose, on such a memory
+/// (see `replica_space_runs::run_replicas_by`).
 pub fn run_program_replicas_by<R: Wait>(
     rt: &R,
     alloc: Global,

@@ -106,7 +106,8 @@ fn round_all<R: Threads + Wait + Sync, G: Gate>(
         &|_, place: &mut Seated|
             requires { (f : Outcomes)
                 × IsSeated (id_of cell.now) (begun_of (started cell.now)) code.now f place.old }
-            ensures { Did (id_of cell.entry.now) (begun_of (started cell.entry.now)) code.entry.now place.old place.new }
+            ensures { Did (id_of cell.entry.now) (begun_of (started cell.entry.now)) code.entry.now place.old
+                place.new }
         { play(rt, place, code, cell, gate, number) },
     );
 }

@@ -1,5 +1,5 @@
-//! Runs of code on a memory with a copy for each thread: by rounds, each thread on a thread of its own, and by picks, all
-//! on one thread of the machine.
+//! Runs of code on a memory with a copy for each thread: by rounds, each thread on a thread of its own, and by picks,
+//! all on one thread of the machine.
 #![tactic(auto)]
 
 mod begin;

@@ -10,7 +10,8 @@ ghost use Rattle.turn_cell.specs.layer.Seats.{id_of, started};
 ghost use Rattle.upc_task.specs.layer.Sources.{Outcomes, GivesOutcomes};
 ghost use Rattle.upc_rounds.specs.layer.Openings.{opening_of};
 ghost use Rattle.upc_rounds_teams.specs.layer.Course.{Obeys, ArePicked, IsCourse};
-ghost use Rattle.upc_rounds_teams.specs.layer.Runs.{AreSame, NoneStops, IsChosen, EndsOut, GoesPicked, open_among, moment_of};
+ghost use Rattle.upc_rounds_teams.specs.layer.Runs.{AreSame, NoneStops, IsChosen, EndsOut, GoesPicked, open_among};
+ghost use Rattle.upc_rounds_teams.specs.layer.Runs.{moment_of};
 ghost use Rattle.upc_rounds_teams.specs.layer.Teams.{GoesOn, StaysCrew, IsCrew, IsDone, workers_of, seen_among};
 
 use crate::turns::{finish_all, round_in_turn, turn};

@@ -14,8 +14,8 @@ ghost use Rattle.turn_cell.specs.layer.Seats.{id_of, started};
 ghost use Rattle.upc_task.specs.layer.Sources.{Outcomes};
 ghost use Rattle.upc_task.specs.layer.Seated.{IsTask};
 ghost use Rattle.upc_rounds_teams.specs.declared.place.Place.{Place};
-ghost use Rattle.upc_rounds_teams.specs.layer.Runs.{Rested, Stops, StopsAt, NoneStops, Wanting, Moving, AreEach, CanLock};
-ghost use Rattle.upc_rounds_teams.specs.layer.Runs.{halted, locked, IsOpenAt};
+ghost use Rattle.upc_rounds_teams.specs.layer.Runs.{Rested, Stops, StopsAt, NoneStops, Wanting, Moving, AreEach};
+ghost use Rattle.upc_rounds_teams.specs.layer.Runs.{CanLock, halted, locked, IsOpenAt};
 ghost use Rattle.upc_rounds_teams.specs.layer.Teams.{GoesOn, IsCrew, Met, AreMet, SameSeats, InVain, IsAllowed, Stands};
 ghost use Rattle.upc_rounds_teams.specs.layer.Teams.{worker_of, workers_of, seen_among};
 

@@ -33,7 +33,8 @@ fn judge_orders(
     requires history { world.now.1 ≡ journal.now.history }
     ensures { IfOk result (λ v. (outcome : ℕ → Outcome)
         → HoldBelow (record { opening = world.now.0; outcome = outcome; journal = journal.now; orders = orders.now }) 6
-        → IsVerdict (record { opening = world.now.0; outcome = outcome; journal = journal.now; orders = orders.now }) v) }
+        → IsVerdict (record { opening = world.now.0; outcome = outcome; journal = journal.now; orders = orders.now })
+        v) }
 {
     let broken = broken_orders(alloc, world, journal, orders)?;
     match broken {
