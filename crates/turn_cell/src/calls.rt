@@ -14,8 +14,13 @@ use crate::seat::Seat;
 use crate::view::{Begun, View};
 use atomic_table::Table;
 use std::alloc::{AllocError as OutOfMemory, Global};
+use std::hint::spin_loop;
 use std::snapshot::Snapshot;
 use std::sync::Wait;
+use std::time::Duration;
+
+// How often a seat looks for the turn before it sleeps.
+const LOOKS: u32 = 64;
 
 impl<W: Kept + Drop> TurnCell<W> {
     // A seat for each number, from the seat that has all of them.
@@ -96,6 +101,7 @@ impl<W: Kept + Drop> TurnCell<W> {
             × (own_of seat.new ≡ of W.number (number_of seat.old) (W.members result.world)) }
     {
         let shared = &self.table.shared;
+        let mut looks = 0;
         for _ in rt.forever() {
             let found = shared.peek(0);
             if found % 2 == 0 {
@@ -106,10 +112,25 @@ impl<W: Kept + Drop> TurnCell<W> {
                     return Turn { world, held: Held };
                 }
             } else {
-                shared.park(rt, 0, (found % (1 << 32)) as u32);
+                self.pause(rt, found, looks);
+                looks = looks.saturating_add(1);
             }
         }
         unreachable!()
+    }
+
+    // Waits a little while another seat has the turn: at first just long enough to look again, later asleep for up to a
+    // millisecond. So nobody has to be woken, and whoever has the turn loses no time by others that want it.
+    fn pause<R: Wait>(&self, rt: &R, found: u64, looks: u32) {
+        if looks < LOOKS {
+            spin_loop();
+        } else {
+            let longer = (looks - LOOKS).min(4);
+            let sleep = Duration::from_micros(50 << longer);
+            self.table
+                .shared
+                .park_timeout(rt, 0, (found % (1 << 32)) as u32, sleep);
+        }
     }
 
     /// Gives the turn back. The list begins with what `enter` handed over, what was added names the seat's number, and
@@ -136,7 +157,6 @@ impl<W: Kept + Drop> TurnCell<W> {
             unreachable!()
         };
         shared.store::<Leave>(&mut seat.place, 0, 2 * length);
-        shared.wake_one(0);
     }
 
     /// Ends the cell, and gives the world back. It takes all seats, at least one, in the order of their numbers. The
