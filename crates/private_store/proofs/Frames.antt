@@ -2,12 +2,11 @@
 use Rattle.std.proofs.Common.{◌≡◌, ℕ, ◌+◌, ◌-◌, ◌<◌, ◌≤◌, Bool, true, false, nat_le, cond, List, [], ◌∷◌, length, get_or, take, drop, reverse, Some, None, sym, ap, ◌∙◌, ◌^◌, All, arith, length-drop}
 use Rattle.std.specs.List.{find}
 use Rattle.std.proofs.lemmas.Bool.Decides.{nat_tests}
-use Rattle.std.proofs.lemmas.List.{take_more, take_rest, drop_all, get_or-drop, reverse-append}
+use Rattle.std.proofs.lemmas.List.{take_more, drop_all, get_or-drop, reverse-append}
 use Rattle.std.proofs.lemmas.List.Elements.{All-drop}
-use Rattle.std.proofs.lemmas.List.Sums.{sum_by-take-drop}
 use Rattle.std.proofs.lemmas.Option.{slice_get-get_or}
 use Rattle.private_store.specs.declared.frame.Block.{Block}
-use Rattle.private_store.specs.Live.{Live, Thing, youngest, bytes_of, blocks_before, open_blocks, left_from, left}
+use Rattle.private_store.specs.Live.{Live, youngest, blocks_before, open_blocks, left_from, left}
 
 pub youngest_open : (blocks : List Block) (n : ℕ) → n < length blocks → youngest (drop n blocks) ≡ youngest blocks
 youngest_open [] n lt = absurd (omega arith)
@@ -26,13 +25,6 @@ pub left_is : (s : Live) (n : ℕ) (b : Block) → n ≡ blocks_before (youngest
 left_is s n b e lt some =
     let last : youngest (open_blocks s) ≡ Some b = ap (λ k. youngest (drop k s.blocks)) (sym e) ∙ youngest_open s.blocks n lt ∙ sym some in
     ap (λ o. left_from o s) last
-
--- ---- bytes of what ends
-
-pub ended : (things : List Thing) (n : ℕ) → bytes_of (take (length things - n) (drop n things)) + bytes_of (take n things) ≡ bytes_of things
-ended things n =
-    let a = sum_by-take-drop (λ (x : Thing). x.shape.size) things n in
-    let b = ap bytes_of (take_rest things n) in omega arith
 
 -- ---- looking back
 

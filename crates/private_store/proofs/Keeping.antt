@@ -1,5 +1,5 @@
 -- What a store keeps through entering, leaving and writing.
-use Rattle.std.proofs.Common.{◌≡◌, ◌⊎◌, inl, inr, ℕ, ◌+◌, ◌-◌, ◌<◌, ◌≤◌, ◌^◌, List, [], ◌∷◌, ◌++◌, length, get_or, set, take, All, refl, sym, ap, ◌∙◌, arith, length-append}
+use Rattle.std.proofs.Common.{◌≡◌, ◌⊎◌, inl, inr, ℕ, ◌+◌, ◌-◌, ◌<◌, ◌≤◌, ◌^◌, List, [], ◌∷◌, ◌++◌, length, get_or, set, take, All, refl, sym, subst, ap, ◌∙◌, arith, length-append}
 use Rattle.std.proofs.lemmas.Bool.{cases_eq, cases_lt}
 use Rattle.std.proofs.lemmas.List.{get_or-take, length-take, length-set, get_or_append_left, get_or-append_right, get_or-set_same, get_or-set_other, get_or_default}
 use Rattle.std.proofs.lemmas.Grind.{common_steps}
@@ -151,6 +151,14 @@ kept_put objects blocks next space i x vs k lt is =
   where
     same_default : (d : Thing) → get_or objects i x ≡ get_or objects i d
     same_default d = get_or_default objects i x d lt
+
+pub kept_set : (objects os : List Thing) (blocks : List Block) (next space at place : ℕ) (v : Value) → IsKept objects blocks next space → at < length objects
+    → ((d : Thing) → let x = get_or objects at d in os ≡ set objects at (record x { values = set x.values place v })) → IsKept os blocks next space
+kept_set [] os blocks next space at place v k lt is = absurd (omega arith)
+kept_set (d ∷ ds) os blocks next space at place v k lt is =
+    let x = get_or (d ∷ ds) at d in
+    subst (λ l. IsKept l blocks next space) (sym (is d))
+    (kept_put (d ∷ ds) blocks next space at x (set x.values place v) k lt (get_or_default (d ∷ ds) at d x lt))
 
 -- ---- beginning
 

@@ -1,6 +1,8 @@
 pub mod Searches
 pub mod Places
 pub mod Objects
+pub mod RowCells
+pub mod Laid
 pub mod Things
 pub mod CellKinds
 pub mod Keeping

@@ -1,8 +1,8 @@
 -- Which live object has a number, and what an access reaches and changes.
-use Rattle.std.proofs.Common.{◌≡◌, ◌≢◌, ℕ, ◌<◌, ◌≤◌, ℤ, Bool, true, false, ◌==◌, nat_lt, cond, if◌then◌else◌, List, [], ◌∷◌, length, map, get_or, set, slice_set, slice_get, Some, None, Result, Ok, Err, refl, sym, subst, ap, ◌∙◌, arith}
+use Rattle.std.proofs.Common.{◌≡◌, ◌≢◌, ℕ, ◌<◌, ◌≤◌, ℤ, Bool, true, false, ◌==◌, nat_lt, cond, if◌then◌else◌, List, [], ◌∷◌, length, map, get_or, set, slice_set, slice_get, Option, Some, None, option_map, Result, Ok, Err, refl, sym, ap, ◌∙◌, arith}
 use Rattle.std.specs.List.{position, position_or_len}
 use Rattle.std.proofs.lemmas.Bool.Decides.{nat_tests}
-use Rattle.std.proofs.lemmas.List.{get_or_read}
+use Rattle.std.proofs.lemmas.List.{get_or_default}
 use Rattle.std.proofs.lemmas.List.Folds.{find_at}
 use Rattle.std.proofs.lemmas.List.Quantifiers.{position-Some}
 use Rattle.std.proofs.lemmas.Option.{slice_get-get_or, slice_get_past}
@@ -12,9 +12,10 @@ use Rattle.block_layout.specs.declared.place.LocalPtr.TheVariants as local
 use Rattle.block_layout.specs.declared.run_error.TheConstants.{PRIVATE_RANGE}
 use Rattle.upc_values.specs.declared.scalar.Value.{Value}
 use Rattle.upc_values.specs.Shapes.{blank_value}
+use Rattle.block_layout.specs.declared.kind.Shape.{Shape}
 use Rattle.private_store.specs.Live.{Live, Thing, thing}
-use Rattle.private_store.specs.Cells.{Cell, cell_in, reached, loaded, stored}
-use Rattle.private_store.specs.code.Kept.{AreNumbered, CellIs, Reaches}
+use Rattle.private_store.specs.Cells.{cell_in, reached, loaded, stored}
+use Rattle.private_store.specs.code.Kept.{AreNumbered, IsPlace, Reaches}
 use Rattle.private_store.proofs.Searches.{differs, equals, only_place}
 
 some_is : (b : Bool) (n i : ℕ) → Some i ≡ cond b (Some n) None → n ≡ i
@@ -42,12 +43,30 @@ a_thing number things i x e is =
     let lt = (position-Some t things i x (sym e)).0 in
     find_at t things ∙ ap (slice_get things) (some_is (nat_lt n (length things)) n i e) ∙ slice_get-get_or things i x lt ∙ ap Some (sym is)
 
-pub thing_here : (things : List Thing) (number : ℕ) → AreNumbered things → (i : ℕ) (x : Thing) → i < length things → x ≡ get_or things i x
-    → x.number ≡ number → Some i ≡ position (λ y. y.number == number) things
-thing_here things number up i x lt is here =
-    let there : (get_or things i x).number ≡ number = ap (λ (y : Thing). y.number) (sym is) ∙ here in
-    sym (only_place (λ (y : Thing). y.number) number things up (λ y. y.number == number) (λ y ne. differs y.number number ne)
-    i x lt there true (equals (get_or things i x).number number there))
+pub thing_here : (things : List Thing) (number : ℕ) → AreNumbered things → (i n : ℕ) → i < length things
+    → ((d : Thing) → n ≡ (get_or things i d).number) → n ≡ number → Some i ≡ position (λ y. y.number == number) things
+thing_here [] number up i n lt at here = absurd (omega arith)
+thing_here (x ∷ xs) number up i n lt at here =
+    let there : (get_or (x ∷ xs) i x).number ≡ number = sym (at x) ∙ here in
+    sym (only_place (λ (y : Thing). y.number) number (x ∷ xs) up (λ y. y.number == number) (λ y ne. differs y.number number ne)
+    i x lt there true (equals (get_or (x ∷ xs) i x).number number there))
+
+-- the object at the place that a search found
+found_thing : (number : ℕ) (things : List Thing) (i : ℕ) (d : Thing) → Some i ≡ position (λ y. y.number == number) things
+    → thing number things ≡ Some (get_or things i d)
+found_thing number things i d e =
+    let lt = (position-Some (λ (y : Thing). y.number == number) things i d (sym e)).0 in
+    a_thing number things i (get_or things i d) e (get_or_default things i d (get_or things i d) lt)
+
+pub shape_found : (number : ℕ) (things : List Thing) (i : ℕ) (s : Shape) → Some i ≡ position (λ y. y.number == number) things
+    → ((d : Thing) → s ≡ (get_or things i d).shape) → Some s ≡ option_map (λ x. x.shape) (thing number things)
+shape_found number [] i s e is = absurd cc
+shape_found number (x ∷ xs) i s e is =
+    let shaped : Option Thing → Option Shape = λ o. option_map (λ y. y.shape) o in
+    ap (λ t. shape_some t) (is x) ∙ ap shaped (sym (found_thing number (x ∷ xs) i x e))
+  where
+    shape_some : Shape → Option Shape
+    shape_some t = Some t
 
 -- ---- what an access reaches
 
@@ -55,20 +74,19 @@ pub reached_none : (things : List Thing) (number : ℕ) (offset : ℤ) (k : Kind
     → reached (local.Private number offset) k things ≡ Err PRIVATE_RANGE
 reached_none things number offset k e = rw (no_thing number things e) refl
 
-pub reached_err : (things : List Thing) (number : ℕ) (offset : ℤ) (k : Kind) (i : ℕ) (x : Thing) (code : ℕ) → Some i ≡ position (λ y. y.number == number) things
-    → x ≡ get_or things i x → cell_in (Some x) offset k ≡ Err code → reached (local.Private number offset) k things ≡ Err code
-reached_err things number offset k i x code e is out = rw (a_thing number things i x e is) out
+pub reached_err : (things : List Thing) (number : ℕ) (offset : ℤ) (k : Kind) (i code : ℕ) → Some i ≡ position (λ y. y.number == number) things
+    → ((d : Thing) → cell_in (Some (get_or things i d)) offset k ≡ Err code) → reached (local.Private number offset) k things ≡ Err code
+reached_err [] number offset k i code e out = absurd cc
+reached_err (x ∷ xs) number offset k i code e out = rw (found_thing number (x ∷ xs) i x e) (out x)
 
-pub reached_ok : (things : List Thing) (number : ℕ) (offset : ℤ) (k : Kind) (i place : ℕ) (x : Thing) → Some i ≡ position (λ y. y.number == number) things
-    → x ≡ get_or things i x → CellIs x.shape.cells place k × (cell_in (Some x) offset k ≡ Ok record { object = x; place = place })
-    → Reaches things (local.Private number offset) k (i, place)
-reached_ok things number offset k i place x e is at =
-    let lt = (position-Some (λ (y : Thing). y.number == number) things i x (sym e)).0 in
-    let seen : Thing → Result Cell ℕ = λ y. Ok record { object = y; place = place } in
+pub reached_ok : (things : List Thing) (number : ℕ) (offset : ℤ) (k : Kind) (i place : ℕ) → Some i ≡ position (λ y. y.number == number) things
+    → ((d : Thing) → IsPlace (get_or things i d) offset k (Ok place)) → Reaches things (local.Private number offset) k (i, place)
+reached_ok [] number offset k i place e at = absurd cc
+reached_ok (x ∷ xs) number offset k i place e at =
     record {
-      there = lt;
-      cell = λ d. subst (λ y. CellIs y.shape.cells place k) (get_or_read things i x lt is d) at.0;
-      is = λ d. rw (a_thing number things i x e is) (at.1 ∙ ap seen (get_or_read things i x lt is d));
+      there = (position-Some (λ (y : Thing). y.number == number) (x ∷ xs) i x (sym e)).0;
+      cell = λ d. (at d).0;
+      is = λ d. rw (found_thing number (x ∷ xs) i d e) (at d).1;
     }
 
 -- ---- what a write changes
@@ -106,21 +124,27 @@ put_is (y ∷ ys) (ℕ.suc i) x z up lt is =
     let head = if_false (y.number == x.number) z y (differs y.number x.number here) in
     ap (λ h. h ∷ map (λ y. if y.number == x.number then z else y) ys) head ∙ ap (λ t. y ∷ t) (put_is ys i x z (tail y ys up) (omega arith) is)
 
-there_is : (p : LocalPtr) (k : Kind) (things : List Thing) (at : ℕ × ℕ) (x : Thing) → Reaches things p k at → x ≡ get_or things at.0 x
-    → reached p k things ≡ Ok record { object = x; place = at.1 }
-there_is p k things at x r is =
-    let seen : Thing → Result Cell ℕ = λ y. Ok record { object = y; place = at.1 } in r.is x ∙ ap seen (sym is)
+pub stored_is : (p : LocalPtr) (k : Kind) (v : Value) (s : Live) (at : ℕ × ℕ) (os : List Thing) → AreNumbered s.objects → Reaches s.objects p k at
+    → ((d : Thing) → let x = get_or s.objects at.0 d in os ≡ set s.objects at.0 (record x { values = slice_set x.values at.1 v }))
+    → stored p k v s ≡ Ok (record s { objects = os })
+stored_is p k v s at os up r is = by s.objects refl
+  where
+    by : (things : List Thing) → things ≡ s.objects → stored p k v s ≡ Ok (record s { objects = os })
+    by [] e = absurd (let h = ap length e in omega (arith, r.there))
+    by (d ∷ ds) e =
+        let x = get_or s.objects at.0 d in
+        let seen : List Thing → Result Live ℕ = λ os. Ok (record s { objects = os }) in
+        rw (r.is d) (ap seen (put_is s.objects at.0 x (record x { values = slice_set x.values at.1 v }) up r.there (get_or_default s.objects at.0 d x r.there) ∙ sym (is d)))
 
-pub stored_is : (p : LocalPtr) (k : Kind) (v : Value) (s : Live) (at : ℕ × ℕ) (x : Thing) → AreNumbered s.objects → Reaches s.objects p k at
-    → x ≡ get_or s.objects at.0 x → stored p k v s ≡ Ok (record s { objects = set s.objects at.0 (record x { values = slice_set x.values at.1 v }) })
-stored_is p k v s at x up r is =
-    let seen : List Thing → Result Live ℕ = λ os. Ok (record s { objects = os }) in
-    rw (there_is p k s.objects at x r is) (ap seen (put_is s.objects at.0 x (record x { values = slice_set x.values at.1 v }) up r.there is))
-
-pub loaded_is : (p : LocalPtr) (k : Kind) (s : Live) (at : ℕ × ℕ) (x : Thing) → Reaches s.objects p k at → x ≡ get_or s.objects at.0 x
-    → loaded p k s ≡ Ok (get_or x.values at.1 (blank_value k))
-loaded_is p k s at x r is = rw (there_is p k s.objects at x r is) refl
-
-pub ruleset reaching_in = (reached_none, reached_err, reached_ok)
+pub loaded_is : (p : LocalPtr) (k : Kind) (s : Live) (at : ℕ × ℕ) (v : Value) → Reaches s.objects p k at
+    → ((d : Thing) (e : Value) → v ≡ get_or (get_or s.objects at.0 d).values at.1 e) → Ok v ≡ loaded p k s
+loaded_is p k s at v r is = by s.objects refl
+  where
+    by : (things : List Thing) → things ≡ s.objects → Ok v ≡ loaded p k s
+    by [] e = absurd (let h = ap length e in omega (arith, r.there))
+    by (d ∷ ds) e = rw (r.is d) (ap (λ u. ok u) (is d (blank_value k)))
+      where
+        ok : Value → Result Value ℕ
+        ok u = Ok u
 
 pub ruleset finding_things = (no_thing, a_thing)

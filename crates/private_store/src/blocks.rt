@@ -9,7 +9,7 @@ ghost use Rattle.private_store.specs.Live as live;
 ghost use Rattle.private_store.specs.Live.{youngest, bytes_of, bytes_in, blank_things};
 
 use crate::frame::{Block, Call};
-use crate::object::Object;
+use crate::object_list::ObjectList;
 use block_layout::Shape;
 use std::alloc::Global;
 use upc_text::OutOfMemory;
@@ -29,27 +29,13 @@ pub(crate) fn fit(shapes: &[Shape], most: usize) -> bool
     true
 }
 
-// The bytes of some objects.
-fn bytes_among(objects: &[Object]) -> usize
-    requires { bytes_of objects.now ≤ 1048576 }
-    ensures { result ≡ bytes_of objects.now }
-{
-    objects
-        .iter()
-        .map(|object| object.shape().size as usize)
-        .sum()
-}
-
 /// Ends all objects but the first `kept`, and answers how many bytes they had.
-pub(crate) fn end_objects(objects: &mut Vec<Object>, kept: usize) -> usize
-    requires { bytes_of objects.old.items ≤ 1048576 }
-    ensures items { objects.new.items ≡ take kept objects.old.items }
-    ensures bytes { bytes_of objects.new.items + result ≡ bytes_of objects.old.items }
+pub(crate) fn end_objects(objects: &mut ObjectList, kept: usize) -> usize
+    requires { bytes_of objects.old ≤ 1048576 }
+    ensures items { objects.new ≡ take kept objects.old }
+    ensures bytes { bytes_of objects.new + result ≡ bytes_of objects.old }
 {
-    if kept >= objects.len() {
-        return 0;
-    }
-    let bytes = bytes_among(&objects[kept..]);
+    let bytes = objects.bytes_behind(kept);
     objects.truncate(kept);
     bytes
 }
@@ -58,21 +44,21 @@ pub(crate) fn end_objects(objects: &mut Vec<Object>, kept: usize) -> usize
 #[tactic(auto, using(crate::proofs::Keeping::making))]
 pub(crate) fn add_objects(
     alloc: Global,
-    objects: &mut Vec<Object>,
+    objects: &mut ObjectList,
     first: u64,
     shapes: &[Shape],
 ) -> Result<usize, OutOfMemory>
     requires few { first + length shapes.now ≤ 2 ^ 63 }
     requires room { bytes_in shapes.now ≤ 1048576 }
     requires shapes { Each IsShape shapes.now }
-    ensures all { OnOk result (objects.new.items ≡ objects.old.items ++ blank_things first shapes.now) }
+    ensures all { OnOk result (objects.new ≡ objects.old ++ blank_things first shapes.now) }
     ensures bytes { IfOk result (λ bytes. bytes ≡ bytes_in shapes.now) }
-    ensures kept { take (length objects.old.items) objects.new.items ≡ objects.old.items }
+    ensures kept { take (length objects.old) objects.new ≡ objects.old }
 {
     let mut number = first;
     let mut bytes = 0;
     for shape in shapes {
-        objects.push(Object::make(alloc, number, shape)?)?;
+        objects.push(alloc, number, shape)?;
         number += 1;
         bytes += shape.size as usize;
     }
@@ -82,7 +68,7 @@ pub(crate) fn add_objects(
 /// Opens a block and makes its objects. The answer is how many bytes they have. After want of memory all is as it was.
 pub(crate) fn add_block(
     alloc: Global,
-    objects: &mut Vec<Object>,
+    objects: &mut ObjectList,
     blocks: &mut Vec<Block>,
     block: Block,
     shapes: &[Shape],
@@ -90,11 +76,11 @@ pub(crate) fn add_block(
     requires few { block.first + length shapes.now ≤ 2 ^ 63 }
     requires room { bytes_in shapes.now ≤ 1048576 }
     requires shapes { Each IsShape shapes.now }
-    requires before { block.objects ≡ length objects.old.items }
-    ensures objects { OnOk result (objects.new.items ≡ objects.old.items ++ blank_things block.first shapes.now) }
+    requires before { block.objects ≡ length objects.old }
+    ensures objects { OnOk result (objects.new ≡ objects.old ++ blank_things block.first shapes.now) }
     ensures blocks { OnOk result (blocks.new.items ≡ blocks.old.items ++ block ∷ []) }
     ensures bytes { IfOk result (λ bytes. bytes ≡ bytes_in shapes.now) }
-    ensures objects_kept { OnErr result (objects.new.items ≡ objects.old.items) }
+    ensures objects_kept { OnErr result (objects.new ≡ objects.old) }
     ensures blocks_kept { OnErr result (blocks.new.items ≡ blocks.old.items) }
 {
     match add_objects(alloc, objects, block.first, shapes) {

@@ -6,32 +6,38 @@ ghost use Rattle.private_store.specs.code.Kept.{AreNumbered, CellIs, IsByte, IsR
 ghost use Rattle.private_store.specs.Cells as pure;
 ghost use Rattle.private_store.specs.Cells.{IsPrivate};
 
-use crate::object::Object;
+use crate::object_list::ObjectList;
 use block_layout::run_error::{NULL_ACCESS, PRIVATE_RANGE};
 use block_layout::{Kind, LocalPtr};
+
+// The number of the youngest object.
+#[inline(always)]
+fn youngest_number(objects: &ObjectList) -> u64 {
+    let count = objects.len();
+    if count == 0 {
+        return 0;
+    }
+    objects.number(count - 1)
+}
 
 /// The place of the object with a number, where numbers rise. A look at two places finds it where no number before its
 /// own is that of an object that has ended, and where none after it is.
 #[inline(always)]
-pub(crate) fn object_place(objects: &[Object], number: u64) -> Option<usize>
+pub(crate) fn object_place(objects: &ObjectList, number: u64) -> Option<usize>
     requires { AreNumbered objects.now }
     ensures { result ≡ position (λ x. x.number == number) objects.now }
 {
     let first = number as usize;
-    if first < objects.len() && objects[first].number() == number {
+    if first < objects.len() && objects.number(first) == number {
         return Some(first);
     }
-    let behind = match objects.last() {
-        None => 0,
-        Some(youngest) => youngest.number().saturating_sub(number) as usize,
-    };
-    let second = objects.len().saturating_sub(1).saturating_sub(behind);
-    if second < objects.len() && objects[second].number() == number {
+    let last = objects.len().saturating_sub(1);
+    let behind = youngest_number(objects).saturating_sub(number) as usize;
+    let second = last.saturating_sub(behind);
+    if second < objects.len() && objects.number(second) == number {
         return Some(second);
     }
-    objects
-        .binary_search_by_key(&number, |object| object.number())
-        .ok()
+    objects.search(number)
 }
 
 /// The byte at an offset, where so many bytes from there on lie in an object of this size.
@@ -62,15 +68,20 @@ pub(crate) fn byte_place(cells: &[(u32, Kind)], byte: u32, guess: usize) -> Opti
 }
 
 // The places of the object with a number and of the cell that an access to it reaches, or the code of the run error.
-#[tactic(auto, using(crate::proofs::Things::reaching_in))]
+
 #[inline(always)]
-fn reach_in(objects: &[Object], number: u64, offset: i64, kind: Kind) -> Result<(usize, usize), u8>
+fn reach_in(
+    objects: &ObjectList,
+    number: u64,
+    offset: i64,
+    kind: Kind,
+) -> Result<(usize, usize), u8>
     requires { AreNumbered objects.now }
     ensures { IsReached objects.now (LocalPtr.Private number offset) kind result }
 {
     match object_place(objects, number) {
         None => Err(PRIVATE_RANGE),
-        Some(at) => match objects[at].place(offset, kind) {
+        Some(at) => match objects.place(at, offset, kind) {
             Err(code) => Err(code),
             Ok(place) => Ok((at, place)),
         },
@@ -79,7 +90,7 @@ fn reach_in(objects: &[Object], number: u64, offset: i64, kind: Kind) -> Result<
 
 /// The places of the object and of its cell that an access reaches, or the code of the run error, where numbers rise.
 #[inline(always)]
-pub(crate) fn reach(objects: &[Object], p: &LocalPtr, kind: Kind) -> Result<(usize, usize), u8>
+pub(crate) fn reach(objects: &ObjectList, p: &LocalPtr, kind: Kind) -> Result<(usize, usize), u8>
     requires numbered { AreNumbered objects.now }
     requires private { IsPrivate p.now }
     ensures { IsReached objects.now p.now kind result }

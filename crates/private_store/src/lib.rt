@@ -8,6 +8,8 @@ mod finding;
 mod frame;
 mod held;
 mod object;
+mod object_list;
+mod row_shapes;
 mod store;
 
 pub use block_layout::{Kind, LocalPtr, Shape};

@@ -16,7 +16,7 @@ use crate::blocks::{
 };
 use crate::finding::{object_place, reach};
 use crate::frame::{Block, Call};
-use crate::object::Object;
+use crate::object_list::ObjectList;
 use block_layout::run_error::{DEPTH, PRIVATE_SPACE};
 use block_layout::{Kind, LocalPtr, Shape, limits};
 use std::alloc::Global;
@@ -37,7 +37,7 @@ pub const MOST_OBJECTS: u64 = 0x8000_0000_0000_0000;
 #[derive(Drop)]
 pub struct Store {
     alloc: Global,
-    objects: Vec<Object>,
+    objects: ObjectList,
     blocks: Vec<Block>,
     calls: Vec<Call>,
     next: u64,
@@ -51,13 +51,13 @@ impl Model for Store {
     ghost Value = { Live };
 
     ghost view = { λ s. record {
-      objects = s.objects.items;
+      objects = s.objects;
       blocks = s.blocks.items;
       calls = s.calls.items;
       next = s.next;
     } };
 
-    ghost invariant = { λ s. IsKept s.objects.items s.blocks.items s.next s.space };
+    ghost invariant = { λ s. IsKept s.objects s.blocks.items s.next s.space };
 }
 
 // The file-scope objects of these shapes, numbered from 0, with 0 or null in each cell.
@@ -67,7 +67,7 @@ fn blank_store(alloc: Global, shapes: &[Shape]) -> Result<Store, OutOfMemory>
     requires room { bytes_in shapes.now ≤ 1048576 }
     ensures { IfOk result (λ store. store ≡ blank shapes.now) }
 {
-    let mut objects = Vec::new(alloc);
+    let mut objects = ObjectList::new(alloc);
     let space = add_objects(alloc, &mut objects, 0, shapes)?;
     Ok(Store {
         alloc,
@@ -106,7 +106,7 @@ impl Store {
     {
         match object_place(&self.objects, object) {
             None => None,
-            Some(at) => Some(self.objects[at].shape()),
+            Some(at) => Some(self.objects.shape(at)),
         }
     }
 
@@ -195,7 +195,7 @@ impl Store {
 
     /// What the cell of this kind holds. In this order: `NULL_ACCESS` for the null pointer, `PRIVATE_RANGE` where the
     /// object has ended or a byte of the cell lies outside it, `CELL_TYPE` where no cell of the kind begins there.
-    #[tactic(auto, using(crate::proofs::Things::loaded_is))]
+
     #[inline(always)]
     pub fn load(&self, p: &LocalPtr, kind: Kind) -> Result<Value, u8>
         requires { IsPrivate p.now }
@@ -204,12 +204,12 @@ impl Store {
     {
         match reach(&self.objects, p, kind) {
             Err(code) => Err(code),
-            Ok(spot) => Ok(self.objects[spot.0].get(spot.1, kind)),
+            Ok(spot) => Ok(self.objects.get(spot.0, spot.1, kind)),
         }
     }
 
     /// Another value in the cell of this kind, with the refusals of `load`. It takes no memory.
-    #[tactic(auto, using(crate::proofs::Keeping::kept_put))]
+
     #[inline(always)]
     pub fn store(&mut self, p: &LocalPtr, kind: Kind, v: Value) -> Result<(), u8>
         requires private { IsPrivate p.now }
@@ -221,7 +221,7 @@ impl Store {
         match reach(&self.objects, p, kind) {
             Err(code) => Err(code),
             Ok(spot) => {
-                self.objects[spot.0].set(spot.1, kind, v);
+                self.objects.set(spot.0, spot.1, kind, v);
                 Ok(())
             }
         }

@@ -9,9 +9,9 @@ invariant_of-self-in-Ok c =
     let o = c.self.inside in
     let shapes = c.args.shapes.now in
     let b : Block = record { from = c.args.from; first = o.next; objects = c.len.result } in
-    let objects : c.add_block.new.objects.items ≡ o.objects.items ++ blank_things o.next shapes = c.in-Ok.ensures.objects in
+    let objects : c.add_block.new.objects ≡ o.objects ++ blank_things o.next shapes = c.in-Ok.ensures.objects in
     let blocks : c.add_block.new.blocks.items ≡ o.blocks.items ++ b ∷ [] = c.in-Ok.ensures.blocks in
     let bytes : c.in-Ok.bytes ≡ bytes_in shapes = c.in-Ok.ensures.bytes in
     let within : bytes_in shapes ≤ 1048576 - o.space = search rules in
     let few : o.next + length shapes ≤ 2 ^ 63 = omega arith in
-    rw (objects, blocks, bytes) (kept_entered o.objects.items o.blocks.items o.next o.space shapes b c.self.invariant few (omega (arith, c.self.invariant.room)) refl)
+    rw (objects, blocks, bytes) (kept_entered o.objects o.blocks.items o.next o.space shapes b c.self.invariant few (omega (arith, c.self.invariant.room)) refl)

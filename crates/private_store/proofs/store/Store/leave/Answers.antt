@@ -19,5 +19,5 @@ returns-in-Some c =
     let seen : List Thing → List Block → Live = λ os bs. record { objects = os; blocks = bs; calls = o.calls.items; next = o.next } in
     rw (← c.self.view_is)
     (ap (λ os. seen os c.pop.new.self.items) c.end_objects.ensures.items
-    ∙ ap (seen (take b.objects o.objects.items)) (c.pop.ensures.rest ∙ ap (λ k. take k blocks) last)
-    ∙ sym (left_is (seen o.objects.items blocks) n b before within is_last))
+    ∙ ap (seen (take b.objects o.objects)) (c.pop.ensures.rest ∙ ap (λ k. take k blocks) last)
+    ∙ sym (left_is (seen o.objects blocks) n b before within is_last))
