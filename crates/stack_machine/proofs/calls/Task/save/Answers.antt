@@ -1,4 +1,4 @@
-use Rattle.std.proofs.Common.{rules, refl, ap, subst, drop, ◌∷◌}
+use Rattle.std.proofs.Common.{rules, refl, subst}
 use Rattle.upc_values.specs.declared.scalar.Value.{Value}
 use Rattle.stack_code.specs.declared.instruction.ObjectWork.TheVariants as objects
 use Rattle.stack_code.specs.declared.instruction.Operation.TheVariants as operation
