@@ -3,5 +3,4 @@ pub mod Meetings
 pub mod Deepenings
 pub mod Places
 mod Parts
-mod Preparing
 mod Samples

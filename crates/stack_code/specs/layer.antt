@@ -1,4 +1,3 @@
-pub mod Shorts
 pub mod Steps
 pub mod Outcomes
 pub mod Meets

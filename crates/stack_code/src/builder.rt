@@ -13,7 +13,6 @@ ghost use Rattle.stack_code.specs.layer.Making.{with_function, with_object, with
 use crate::code::Code;
 use crate::fitting::{are_fitting, is_known};
 use crate::instruction::Instr;
-use crate::short::all_shorts_of;
 use block_layout::{LocalPtr, Shape};
 use std::alloc::Global;
 use std::marker::Model;
@@ -188,12 +187,10 @@ impl Builder {
         if self.failed {
             return Err(OutOfMemory);
         }
-        let shorts = all_shorts_of(self.alloc, &self.functions)?;
         Ok(Code::of(
             self.threads,
             self.shapes,
             self.functions,
-            shorts,
             self.private_shapes,
             self.private_initials,
         ))

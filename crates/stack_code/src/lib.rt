@@ -6,7 +6,6 @@ mod code;
 mod fitting;
 mod instruction;
 mod laws;
-mod short;
 
 pub use builder::Builder;
 pub use code::Code;
@@ -15,4 +14,3 @@ pub use instruction::{
     CallWork, CellAccess, Instr, Jump, ObjectWork, Operation, StackWork, ThreadWork, ValueWork,
 };
 pub use laws::{ends_are_kept, one_outcome_at_most};
-pub use short::{LocalConstant, Short};

@@ -19,5 +19,4 @@ pub mod Asking
 pub mod Parameters
 pub mod Machines
 pub mod Putting
-pub mod Going
-pub mod Forming
+pub mod Nearing

@@ -5,10 +5,10 @@ pub mod Ahead
 pub mod Kept
 pub mod Libraries
 pub mod Steps
+pub mod Goes
 pub mod Runs
 pub mod Machines
 pub mod Receiving
-pub mod Shorts
 pub mod Bodies
 pub mod Standing
 pub mod Inside

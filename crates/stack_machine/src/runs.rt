@@ -56,13 +56,10 @@ impl Task {
             (the_call under_way.new) (task_seen self.new) }
     {
         loop {
-            match self.go(code, runner) {
-                Err(_) => return Halt::Memory,
-                Ok(true) => {}
-                Ok(false) => match self.turn(under_way, code, runner) {
-                    Err(halt) => return halt,
-                    Ok(()) => {}
-                },
+            self.go(code, runner);
+            match self.turn(under_way, code, runner) {
+                Err(halt) => return halt,
+                Ok(()) => {}
             }
         }
     }

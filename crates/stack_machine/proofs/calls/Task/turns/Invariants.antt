@@ -7,8 +7,8 @@ use Rattle.stack_machine.specs.code.Kept.{IsHolding}
 use Rattle.stack_machine.specs.code.Tasks.{task_seen}
 use Rattle.stack_machine.proofs.calls.Task.turns.Given as goal
 
-abbrev pub invariant-loop-self : goal.invariant-loop-self
-invariant-loop-self l = record {
+abbrev pub invariant-loop-halt : goal.invariant-loop-halt
+invariant-loop-halt l = record {
   along : (given : List Reply)
       → Stands l.code l.runner.number l.runner.budget given (listed l.initial.self.progress.reply) (task_seen l.initial.self)
       → Stands l.code l.runner.number l.runner.budget given (listed l.self.progress.reply) (task_seen l.self);
@@ -17,5 +17,5 @@ invariant-loop-self l = record {
   closed : l.under_way ≡ None;
 }
 
-abbrev pub decreases-loop-self : goal.decreases-loop-self
-decreases-loop-self l = weight l.code.functions l.runner.budget (task_seen l.self)
+abbrev pub decreases-loop-halt : goal.decreases-loop-halt
+decreases-loop-halt l = weight l.code.functions l.runner.budget (task_seen l.self)
