@@ -15,3 +15,5 @@ pub mod Uses
 pub mod Scopes
 pub mod Taken
 pub mod Scalars
+pub mod ZeroConstants
+pub mod Choices

@@ -2,7 +2,7 @@
 #![tactic(auto)]
 
 ghost use Rattle.meaning_laws.specs.code.Laws.{BeginningsAreFilled, CellsKeep, ChangesFit, ConversionsFit};
-ghost use Rattle.meaning_laws.specs.code.Laws.{ConversionsAreTaken};
+ghost use Rattle.meaning_laws.specs.code.Laws.{ChoicesAreTaken, ConversionsAreTaken};
 ghost use Rattle.meaning_laws.specs.code.Laws.{ExpressionsKeepTypes, FunctionsKeepTypes, MainsKeepTypes};
 ghost use Rattle.meaning_laws.specs.code.Laws.{NamesAreFound, OperandsAreTaken, ScalarsAreKept, SharedHaveShapes};
 
@@ -72,6 +72,13 @@ pub fn names_are_found()
 #[tactic(auto, using(crate::proofs::Taken::conversions_are_taken))]
 pub fn conversions_are_taken()
     ensures { ConversionsAreTaken }
+{}
+
+/// The conversion of the two last operands of `? :` into the type of the whole takes the value, so that no value counts
+/// as null or as 0 there but that of the constant 0.
+#[tactic(auto, using(crate::proofs::Choices::choices_are_taken))]
+pub fn choices_are_taken()
+    ensures { ChoicesAreTaken }
 {}
 
 /// What is written to a cell of a shared object is a scalar, where it fits the cell.

@@ -22,10 +22,12 @@ use Rattle.upc_types.specs.Conversions.{assignable, castable}
 use Rattle.typing_rules.specs.declared.attribute.Constant.{Constant}
 use Rattle.typing_rules.specs.Values.{value_type}
 use Rattle.typing_rules.specs.Library.{int}
+use Rattle.typing_rules.specs.Rules.{is_zero}
 use Rattle.typing_rules.specs.Nodes as node
 use Rattle.typing_rules.specs.Nodes.{Use, Attr}
 use Rattle.typed_tree.specs.declared.tree.StepOperator.{StepOperator}
-use Rattle.typed_tree.specs.Tree.{Expr, Subscript, MemberBehind, Step, Unary, Binary, Compound, Function, attr_of}
+use Rattle.typed_tree.specs.Tree.{Expr, Subscript, MemberBehind, Step, Unary, Binary, Compound}
+use Rattle.typed_tree.specs.Tree.{Conditional, Function, attr_of}
 use Rattle.typed_tree.specs.Programs.{Checked, start_of}
 use Rattle.typed_tree.specs.layer.Judged.{Meets}
 use Rattle.typed_tree.specs.layer.TypedNodes.{MeetsExpr, MeetsKind, MeetsRules}
@@ -181,6 +183,20 @@ pub record ConversionsAreTaken : Type 0 where
   pub cast :
       (structs : Structs) (from into : CType) (zero : Bool) (v : Value)
       → castable (value_type from) into zero ≡ true → IsOf structs from v → IsTaken zero (conversion from into) v
+
+-- The two last operands of `? :` are converted into the type of the whole, and the conversion takes each value of the
+-- operand's type, so that no value counts as null or as 0 there but that of the constant 0 (C99 6.5.15).
+pub record ChoicesAreTaken : Type 0 where
+  -- The operand that is taken where the test is not 0.
+  pub second :
+      (program : Checked) (locals : List CType) (how : Use) (attr : Attr) (test a b : Expr) (structs : Structs)
+      (v : Value) → MeetsKind program locals how attr (Conditional test a b) → IsOf structs (type_of a) v
+      → IsTaken (is_zero (attr_of a)) (conversion (type_of a) attr.ctype) v
+  -- The operand that is taken where it is 0.
+  pub third :
+      (program : Checked) (locals : List CType) (how : Use) (attr : Attr) (test a b : Expr) (structs : Structs)
+      (v : Value) → MeetsKind program locals how attr (Conditional test a b) → IsOf structs (type_of b) v
+      → IsTaken (is_zero (attr_of b)) (conversion (type_of b) attr.ctype) v
 
 -- The elements of each declared shared object have a shape that the program has (UPC 6.5.1.1).
 pub record SharedHaveShapes : Type 0 where
