@@ -17,3 +17,4 @@ pub mod Taken
 pub mod Scalars
 pub mod ZeroConstants
 pub mod Choices
+pub mod Copies

@@ -2,7 +2,7 @@
 #![tactic(auto)]
 
 ghost use Rattle.meaning_laws.specs.code.Laws.{BeginningsAreFilled, CellsKeep, ChangesFit, ConversionsFit};
-ghost use Rattle.meaning_laws.specs.code.Laws.{ChoicesAreTaken, ConversionsAreTaken};
+ghost use Rattle.meaning_laws.specs.code.Laws.{ChoicesAreTaken, ConversionsAreTaken, CopiesFit};
 ghost use Rattle.meaning_laws.specs.code.Laws.{ExpressionsKeepTypes, FunctionsKeepTypes, MainsKeepTypes};
 ghost use Rattle.meaning_laws.specs.code.Laws.{NamesAreFound, OperandsAreTaken, ScalarsAreKept, SharedHaveShapes};
 
@@ -85,6 +85,13 @@ pub fn choices_are_taken()
 #[tactic(auto, using(crate::proofs::Scalars::scalars_are_kept))]
 pub fn scalars_are_kept()
     ensures { ScalarsAreKept }
+{}
+
+/// A call of the library with arguments of its parameters' types reads scalars of private cells, and writes to them what
+/// fits, where what it reads of cells fits them; and what is read of a cell fits it.
+#[tactic(auto, using(crate::proofs::Copies::copies_fit))]
+pub fn copies_fit()
+    ensures { CopiesFit }
 {}
 
 /// The elements of each declared shared object have a shape that the program has.

@@ -1,16 +1,19 @@
 -- Why no default of the meaning is taken.
-use Rattle.std.specs.Prelude.{◌≡◌, ℕ, ◌≤◌, ◌^◌, pos, Bool, true, List, length, Some, Ok, is_some}
+use Rattle.std.specs.Prelude.{◌≡◌, ℕ, ◌≤◌, ◌^◌, pos, Bool, true, List, length, Option, Some, Ok, is_some}
 use Rattle.std.specs.Prelude.{slice_get}
 use Rattle.upc_text.specs.declared.place.Place.{Place}
 use Rattle.block_layout.specs.declared.kind.Kind.{Kind}
 use Rattle.block_layout.specs.declared.place.Loc.{Loc}
 use Rattle.block_layout.specs.declared.place.SharedPtr.{SharedPtr}
+use Rattle.block_layout.specs.declared.place.LocalPtr.{LocalPtr}
 use Rattle.integers.specs.declared.operator.BinOp.{BinOp}
 use Rattle.integers.specs.declared.operator.UnOp.{UnOp}
 use Rattle.upc_values.specs.declared.scalar.Scalar.{Scalar}
 use Rattle.upc_values.specs.declared.scalar.Value.{Value}
 use Rattle.upc_values.specs.declared.scalar.Value.TheVariants as value_of
 use Rattle.upc_values.specs.declared.action.Reply.{Reply}
+use Rattle.upc_values.specs.declared.library.LibraryCall.{LibraryCall}
+use Rattle.upc_values.specs.LibraryCalls.{library_call}
 use Rattle.block_layout.specs.declared.kind.Shape.{Shape}
 use Rattle.private_store.specs.Live as live
 use Rattle.private_store.specs.Live.{Live}
@@ -21,7 +24,7 @@ use Rattle.upc_types.specs.Types.{CType, Structs, base_of}
 use Rattle.upc_types.specs.Conversions.{assignable, castable}
 use Rattle.typing_rules.specs.declared.attribute.Constant.{Constant}
 use Rattle.typing_rules.specs.Values.{value_type}
-use Rattle.typing_rules.specs.Library.{int}
+use Rattle.typing_rules.specs.Library.{int, call_parameters}
 use Rattle.typing_rules.specs.Rules.{is_zero}
 use Rattle.typing_rules.specs.Nodes as node
 use Rattle.typing_rules.specs.Nodes.{Use, Attr}
@@ -33,7 +36,7 @@ use Rattle.typed_tree.specs.layer.Judged.{Meets}
 use Rattle.typed_tree.specs.layer.TypedNodes.{MeetsExpr, MeetsKind, MeetsRules}
 use Rattle.thread_steps.specs.States.{Thread, ◌>>=◌}
 use Rattle.thread_steps.specs.Values.{number, kept, kept_scalar}
-use Rattle.thread_steps.specs.Accesses.{cell}
+use Rattle.thread_steps.specs.Accesses.{cell, read, load_private}
 use Rattle.thread_steps.specs.Operators.{cast}
 use Rattle.source_meaning.specs.Types.{cell_kind, conversion, target_of, integer_of}
 use Rattle.source_meaning.specs.Running.{Running, running}
@@ -43,7 +46,8 @@ use Rattle.meaning_laws.specs.layer.Values.{IsFilled, Brings}
 use Rattle.source_meaning.specs.Threads.{called, main_of, main_called, initial_state}
 use Rattle.meaning_laws.specs.layer.Formed.{MakesSized, MakesShaped, IsFormed, CallsFit}
 use Rattle.meaning_laws.specs.code.Scopes.{HasScope}
-use Rattle.meaning_laws.specs.layer.Uses.{Leads, Counts, IsOperand, AreOperands, HasAffinity, IsTaken}
+use Rattle.meaning_laws.specs.layer.Copies.{TakesCells}
+use Rattle.meaning_laws.specs.layer.Uses.{Leads, Counts, IsOperand, AreOperands, HasAffinity, IsTaken, AreArguments}
 use Rattle.meaning_laws.specs.layer.FormedStatements.{IsFormedFunction}
 
 -- A cell keeps what fits it, in a private object and in a shared one (C99 6.5.16).
@@ -58,6 +62,21 @@ pub record ScalarsAreKept : Type 0 where
       (program : Checked) (thread budget : ℕ) (kind : Kind) (p : SharedPtr) (l : Loc) (v : Value)
       → cell (running program thread budget).thread kind p ≡ Ok l → value_fits v kind ≡ true
       → (s : Scalar) × (v ≡ value_of.Scalar s)
+
+-- A call of the library with arguments of its parameters' types reads scalars of private cells, so that none counts as
+-- 0, and what it writes to a private cell fits it, so that the cell keeps it (UPC 7.2.5).
+pub record CopiesFit : Type 0 where
+  -- What is read of a shared cell fits it.
+  pub read : (τ : Thread) (kind : Kind) (strict : Bool) (l : Loc)
+      → Brings Scalar (λ v. fits_kind v kind ≡ true) (read τ kind strict l)
+  -- What is read of a private cell fits it.
+  pub loaded : (τ : Thread) (kind : Kind) (at : Place) (p : LocalPtr)
+      → Brings Value (λ v. value_fits v kind ≡ true) (load_private kind at p)
+  -- Where this is so, the call reads scalars of private cells, and writes to them what fits.
+  pub taken :
+      (program : Checked) (thread budget : ℕ) (private : ℕ → Option Shape) (call : LibraryCall) (shape : ℕ)
+      (args : List Value) → AreArguments (call_parameters call) args
+      → TakesCells (library_call program.threads (start_of program).shapes thread private call shape args)
 
 -- What the conversion of a value of one type into another type gives fits a cell of that type, so that the cell keeps
 -- it (C99 6.3, 6.5.16.1).

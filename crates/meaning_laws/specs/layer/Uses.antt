@@ -1,5 +1,5 @@
 -- What operators take: values for which no default stands.
-use Rattle.std.specs.Prelude.{◌≡◌, Bool, true, Option, Some, None}
+use Rattle.std.specs.Prelude.{◌≡◌, Bool, true, List, [], ◌∷◌, Option, Some, None}
 use Rattle.block_layout.specs.declared.kind.Kind.{Kind}
 use Rattle.integers.specs.declared.operator.BinOp.{BinOp}
 use Rattle.integers.specs.declared.operator.BinOp.TheVariants as op
@@ -9,6 +9,8 @@ use Rattle.upc_values.specs.declared.scalar.Scalar.TheVariants.{Int, Shared, Loc
 use Rattle.upc_values.specs.declared.scalar.Value.{Value}
 use Rattle.upc_values.specs.declared.scalar.Value.TheVariants as value
 use Rattle.upc_types.specs.Types.{CType}
+use Rattle.typing_rules.specs.declared.library.LibraryParameter.{LibraryParameter}
+use Rattle.typing_rules.specs.declared.library.LibraryParameter.TheVariants as parameter
 use Rattle.thread_steps.specs.declared.cast.CastTo.{CastTo}
 use Rattle.thread_steps.specs.declared.cast.CastTo.TheVariants as to
 use Rattle.meaning_laws.specs.layer.Values.{IsNumber}
@@ -92,3 +94,19 @@ IsTaken zero to.Local (value.Local p) = Unit {0}
 IsTaken zero to.Lock (value.Scalar (Lock l)) = Unit {0}
 IsTaken zero into (value.Scalar (Int v)) = zero ≡ true
 IsTaken zero into v = ⊥
+
+-- A value is one that a parameter of the library has (UPC 7.2, 7.3).
+abbrev pub IsArgument : LibraryParameter → Value → Type 0
+IsArgument parameter.SharedPointer (value.Scalar (Shared p)) = Unit {0}
+IsArgument parameter.PrivatePointer (value.Local p) = Unit {0}
+IsArgument parameter.LockPointer (value.Scalar (Lock l)) = Unit {0}
+IsArgument parameter.Size (value.Scalar (Int v)) = Unit {0}
+IsArgument parameter.Int (value.Scalar (Int v)) = Unit {0}
+IsArgument parameter.NoFunction (value.Scalar (Int v)) = Unit {0}
+IsArgument x v = ⊥
+
+-- Values are those that the parameters of the library have, as many and in order.
+abbrev pub AreArguments : List LibraryParameter → List Value → Type 0
+AreArguments [] [] = Unit {0}
+AreArguments (x ∷ xs) (v ∷ vs) = IsArgument x v × AreArguments xs vs
+AreArguments xs vs = ⊥
