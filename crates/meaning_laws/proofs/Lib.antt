@@ -18,3 +18,4 @@ pub mod Scalars
 pub mod ZeroConstants
 pub mod Choices
 pub mod Copies
+pub mod Printed

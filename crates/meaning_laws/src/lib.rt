@@ -4,7 +4,8 @@
 ghost use Rattle.meaning_laws.specs.code.Laws.{BeginningsAreFilled, CellsKeep, ChangesFit, ConversionsFit};
 ghost use Rattle.meaning_laws.specs.code.Laws.{ChoicesAreTaken, ConversionsAreTaken, CopiesFit};
 ghost use Rattle.meaning_laws.specs.code.Laws.{ExpressionsKeepTypes, FunctionsKeepTypes, MainsKeepTypes};
-ghost use Rattle.meaning_laws.specs.code.Laws.{NamesAreFound, OperandsAreTaken, ScalarsAreKept, SharedHaveShapes};
+ghost use Rattle.meaning_laws.specs.code.Laws.{NamesAreFound, OperandsAreTaken, PrintedArePromoted, ScalarsAreKept};
+ghost use Rattle.meaning_laws.specs.code.Laws.{SharedHaveShapes};
 
 /// A cell keeps what fits it.
 #[tactic(auto, using(crate::proofs::Conversions::cells_keep))]
@@ -92,6 +93,13 @@ pub fn scalars_are_kept()
 #[tactic(auto, using(crate::proofs::Copies::copies_fit))]
 pub fn copies_fit()
     ensures { CopiesFit }
+{}
+
+/// The arguments of printf after its format are integers, whose types have kinds of integers, and so is what comes of
+/// them.
+#[tactic(auto, using(crate::proofs::Printed::printed_are_promoted))]
+pub fn printed_are_promoted()
+    ensures { PrintedArePromoted }
 {}
 
 /// The elements of each declared shared object have a shape that the program has.

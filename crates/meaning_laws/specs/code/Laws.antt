@@ -1,5 +1,6 @@
 -- Why no default of the meaning is taken.
-use Rattle.std.specs.Prelude.{◌≡◌, ℕ, ◌≤◌, ◌^◌, pos, Bool, true, List, length, Option, Some, Ok, is_some}
+use Rattle.std.specs.Prelude.{◌≡◌, ℕ, ◌≤◌, ◌^◌, pos, Bool, true, List, [], length, map, Option, Some, Ok}
+use Rattle.std.specs.Prelude.{is_some}
 use Rattle.std.specs.Prelude.{slice_get}
 use Rattle.upc_text.specs.declared.place.Place.{Place}
 use Rattle.block_layout.specs.declared.kind.Kind.{Kind}
@@ -13,6 +14,7 @@ use Rattle.upc_values.specs.declared.scalar.Value.{Value}
 use Rattle.upc_values.specs.declared.scalar.Value.TheVariants as value_of
 use Rattle.upc_values.specs.declared.action.Reply.{Reply}
 use Rattle.upc_values.specs.declared.library.LibraryCall.{LibraryCall}
+use Rattle.upc_values.specs.declared.library.LibraryCall.TheVariants.{Printf}
 use Rattle.upc_values.specs.LibraryCalls.{library_call}
 use Rattle.block_layout.specs.declared.kind.Shape.{Shape}
 use Rattle.private_store.specs.Live as live
@@ -30,7 +32,8 @@ use Rattle.typing_rules.specs.Nodes as node
 use Rattle.typing_rules.specs.Nodes.{Use, Attr}
 use Rattle.typed_tree.specs.declared.tree.StepOperator.{StepOperator}
 use Rattle.typed_tree.specs.Tree.{Expr, Subscript, MemberBehind, Step, Unary, Binary, Compound}
-use Rattle.typed_tree.specs.Tree.{Conditional, Function, attr_of}
+use Rattle.typed_tree.specs.declared.tree.Target.TheVariants as target
+use Rattle.typed_tree.specs.Tree.{Conditional, Call, Exprs, AndExpr, Function, attr_of}
 use Rattle.typed_tree.specs.Programs.{Checked, start_of}
 use Rattle.typed_tree.specs.layer.Judged.{Meets}
 use Rattle.typed_tree.specs.layer.TypedNodes.{MeetsExpr, MeetsKind, MeetsRules}
@@ -38,9 +41,11 @@ use Rattle.thread_steps.specs.States.{Thread, ◌>>=◌}
 use Rattle.thread_steps.specs.Values.{number, kept, kept_scalar}
 use Rattle.thread_steps.specs.Accesses.{cell, read, load_private}
 use Rattle.thread_steps.specs.Operators.{cast}
-use Rattle.source_meaning.specs.Types.{cell_kind, conversion, target_of, integer_of}
+use Rattle.source_meaning.specs.Types.{cell_kind, conversion, promotion, target_of, integer_of}
 use Rattle.source_meaning.specs.Running.{Running, running}
-use Rattle.source_meaning.specs.Expressions.{Calls, type_of, step_operator, value, address, binary, converted_to}
+use Rattle.source_meaning.specs.Expressions.{Calls, type_of, types_of, step_operator, value, address, binary}
+use Rattle.source_meaning.specs.Expressions.{converted_to, arguments}
+use Rattle.source_meaning.specs.Laws.{Gives}
 use Rattle.meaning_laws.specs.layer.Values.{FitsCell, IsOf, IsPlaceOf, IsGiven, HasIntegerKind, IsFormedType}
 use Rattle.meaning_laws.specs.layer.Values.{IsFilled, Brings}
 use Rattle.source_meaning.specs.Threads.{called, main_of, main_called, initial_state}
@@ -48,6 +53,7 @@ use Rattle.meaning_laws.specs.layer.Formed.{MakesSized, MakesShaped, IsFormed, C
 use Rattle.meaning_laws.specs.code.Scopes.{HasScope}
 use Rattle.meaning_laws.specs.layer.Copies.{TakesCells}
 use Rattle.meaning_laws.specs.layer.Uses.{Leads, Counts, IsOperand, AreOperands, HasAffinity, IsTaken, AreArguments}
+use Rattle.meaning_laws.specs.layer.Uses.{ArePromoted, AllNumbers}
 use Rattle.meaning_laws.specs.layer.FormedStatements.{IsFormedFunction}
 
 -- A cell keeps what fits it, in a private object and in a shared one (C99 6.5.16).
@@ -216,6 +222,18 @@ pub record ChoicesAreTaken : Type 0 where
       (program : Checked) (locals : List CType) (how : Use) (attr : Attr) (test a b : Expr) (structs : Structs)
       (v : Value) → MeetsKind program locals how attr (Conditional test a b) → IsOf structs (type_of b) v
       → IsTaken (is_zero (attr_of b)) (conversion (type_of b) attr.ctype) v
+
+-- The arguments of printf after its format are integers, whose types have kinds of integers; so each is promoted, and
+-- what comes of them are integers (C99 6.5.2.2, 7.19.6.3).
+pub record PrintedArePromoted : Type 0 where
+  pub each :
+      (program : Checked) (locals : List CType) (how : Use) (attr : Attr) (format : Expr) (args : Exprs)
+      (structs : Structs) → MeetsKind program locals how attr (Call (target.Library Printf) (AndExpr format args))
+      → ArePromoted structs args
+  -- What is promoted and printed is an integer.
+  pub given :
+      (ρ : Running) (call : Calls) (strict : Bool) (args : Exprs)
+      → Gives (List Value) AllNumbers (arguments ρ call strict (map promotion (types_of args)) args [])
 
 -- The elements of each declared shared object have a shape that the program has (UPC 6.5.1.1).
 pub record SharedHaveShapes : Type 0 where

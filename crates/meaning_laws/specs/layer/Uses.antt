@@ -8,12 +8,15 @@ use Rattle.integers.specs.declared.operator.UnOp.TheVariants as un
 use Rattle.upc_values.specs.declared.scalar.Scalar.TheVariants.{Int, Shared, Lock}
 use Rattle.upc_values.specs.declared.scalar.Value.{Value}
 use Rattle.upc_values.specs.declared.scalar.Value.TheVariants as value
-use Rattle.upc_types.specs.Types.{CType}
+use Rattle.upc_types.specs.Types.{CType, Structs}
 use Rattle.typing_rules.specs.declared.library.LibraryParameter.{LibraryParameter}
 use Rattle.typing_rules.specs.declared.library.LibraryParameter.TheVariants as parameter
+use Rattle.typed_tree.specs.Tree.{Exprs, NoExprs, AndExpr}
 use Rattle.thread_steps.specs.declared.cast.CastTo.{CastTo}
 use Rattle.thread_steps.specs.declared.cast.CastTo.TheVariants as to
-use Rattle.meaning_laws.specs.layer.Values.{IsNumber}
+use Rattle.source_meaning.specs.Types.{integer_of}
+use Rattle.source_meaning.specs.Expressions.{type_of}
+use Rattle.meaning_laws.specs.layer.Values.{IsNumber, IsOf}
 
 -- The value is a pointer that can be stepped: a pointer-to-shared or a pointer-to-local.
 abbrev pub Leads : Value → Type 0
@@ -110,3 +113,18 @@ abbrev pub AreArguments : List LibraryParameter → List Value → Type 0
 AreArguments [] [] = Unit {0}
 AreArguments (x ∷ xs) (v ∷ vs) = IsArgument x v × AreArguments xs vs
 AreArguments xs vs = ⊥
+
+-- A value of this type is an integer, and the type has a kind of integers, which is promoted (C99 6.3.1.1).
+pub record IsPromoted (structs : Structs) (t : CType) : Type 0 where
+  pub kind : (k : Kind) × (integer_of t ≡ Some k)
+  pub value : (v : Value) → IsOf structs t v → IsNumber v
+
+-- So is the type of each of these expressions.
+abbrev pub ArePromoted : Structs → Exprs → Type 0
+ArePromoted structs NoExprs = Unit {0}
+ArePromoted structs (AndExpr a more) = IsPromoted structs (type_of a) × ArePromoted structs more
+
+-- All of these values are integers.
+abbrev pub AllNumbers : List Value → Type 0
+AllNumbers [] = Unit {0}
+AllNumbers (v ∷ vs) = IsNumber v × AllNumbers vs
