@@ -1,12 +1,10 @@
 -- The calls of the library read scalars of private cells, and write to them what fits.
 use Rattle.std.proofs.Common.{◌≡◌, ℕ, zero, suc, ◌+◌, ◌==◌, ◌∷◌, Bool, true, false, not, ◌&&◌, ◌||◌, cond, List, [], ◌++◌}
-use Rattle.std.proofs.Common.{Option, Some, None, refl, sym, subst}
-use Rattle.std.proofs.Math.IntN.{ℤ, pos, ◌+ℤ◌}
+use Rattle.std.proofs.Common.{Option, Some, None, refl, subst}
+use Rattle.std.proofs.Math.IntN.{ℤ, pos}
 use Rattle.std.specs.Prelude.{Result, Ok, Err, unsigned_abs, ◌%◌, ◌/◌, ◌*◌, if◌then◌else◌, nat_le, slice_get}
 use Rattle.std.specs.List.{list_any, filter_map, cons_option, range_with_len}
-use Rattle.std.proofs.lemmas.Bool.{false≢true}
 use Rattle.block_layout.specs.declared.place.SharedPtr.{SharedPtr}
-use Rattle.block_layout.specs.declared.place.LocalPtr.TheVariants as local
 use Rattle.block_layout.specs.declared.kind.Kind.{Kind}
 use Rattle.block_layout.specs.declared.kind.Kind.TheVariants as kind
 use Rattle.block_layout.specs.declared.kind.Shape.{Shape}
@@ -37,7 +35,7 @@ use Rattle.upc_values.specs.Expansion.{Expansion, Gives, Fails, Reads, Asks, Loa
 use Rattle.upc_values.specs.Expansion.{unless_refused, does, barrier, each_in_turn, gathered, refused_by}
 use Rattle.upc_values.specs.Copying as m
 use Rattle.upc_values.specs.Copying.{Area, Nowhere, In_shared, In_private}
-use Rattle.upc_values.specs.Views.{location_behind, leaves_range, is_cell, byte_at, placed_kind, cells_within, shape_at}
+use Rattle.upc_values.specs.Views.{location_behind, leaves_range, is_cell, byte_at, placed_kind, shape_at}
 use Rattle.upc_values.specs.History.{each_thread}
 use Rattle.upc_values.specs.Shapes.{is_integer, fits_kind, kind_at}
 use Rattle.upc_values.specs.Scalars as sc
@@ -48,7 +46,6 @@ use Rattle.upc_values.specs.LibraryCalls as l
 use Rattle.typing_rules.specs.declared.library.LibraryParameter.TheVariants as parameter
 use Rattle.typing_rules.specs.Library.{call_parameters}
 use Rattle.typed_tree.specs.Programs.{start_of}
-use Rattle.source_meaning.specs.Running.{running}
 use Rattle.meaning_laws.specs.layer.Uses.{IsArgument, AreArguments}
 use Rattle.meaning_laws.specs.layer.Copies.{TakesCells}
 use Rattle.meaning_laws.specs.code.Laws.{CopiesFit}

@@ -1,5 +1,5 @@
 -- The arguments of printf after its format are integers.
-use Rattle.std.proofs.Common.{◌≡◌, ℕ, Bool, true, false, ◌&&◌, List, [], ◌∷◌, ◌++◌, map, Option, Some, None, refl}
+use Rattle.std.proofs.Common.{◌≡◌, ℕ, Bool, true, List, [], ◌∷◌, ◌++◌, map, Option, Some, None, refl}
 use Rattle.std.proofs.Math.IntN.{pos}
 use Rattle.std.proofs.lemmas.Bool.{false≢true, and_parts}
 use Rattle.upc_text.specs.declared.place.Place.{Place}
@@ -16,22 +16,19 @@ use Rattle.typing_rules.specs.Values.{base_kind, value_base}
 use Rattle.typing_rules.specs.Meanings as m
 use Rattle.typing_rules.specs.Nodes as n
 use Rattle.typing_rules.specs.Nodes.{Attr, Use}
-use Rattle.typing_rules.specs.Rules.{table, judge, rule_28, printf_fits, format_fits}
-use Rattle.typed_tree.specs.declared.tree.Target.TheVariants as target
-use Rattle.typed_tree.specs.Tree.{Expr, Exprs, NoExprs, AndExpr, Call, attr_of, attrs_of, place_of}
+use Rattle.typing_rules.specs.Rules.{table, judge, rule_28, format_fits}
+use Rattle.typed_tree.specs.Tree.{Exprs, NoExprs, AndExpr, attr_of, attrs_of, place_of}
 use Rattle.typed_tree.specs.Words.{format_in, text_in}
-use Rattle.typed_tree.specs.Programs.{Checked}
 use Rattle.typed_tree.specs.layer.Judged.{facts_at}
-use Rattle.typed_tree.specs.layer.TypedNodes.{MeetsKind}
-use Rattle.thread_steps.specs.States.{Thread, Res, Val, Over, Unfinished, bind, Doing, ◌>>=◌, give}
-use Rattle.thread_steps.specs.Values.{number, number_of}
+use Rattle.thread_steps.specs.States.{Thread, Res, Val, Over, Unfinished, bind, Doing, ◌>>=◌}
+use Rattle.thread_steps.specs.Values.{number}
 use Rattle.thread_steps.specs.Operators.{cast}
 use Rattle.source_meaning.specs.Types.{integer_of, promotion, promotion_of}
 use Rattle.source_meaning.specs.Running.{Running}
 use Rattle.source_meaning.specs.Expressions as e
 use Rattle.source_meaning.specs.Expressions.{Calls, type_of, types_of, arguments}
 use Rattle.source_meaning.specs.Laws.{GivesIn, Gives}
-use Rattle.meaning_laws.specs.layer.Values.{IsNumber, IsOf}
+use Rattle.meaning_laws.specs.layer.Values.{IsNumber}
 use Rattle.meaning_laws.specs.layer.Uses.{IsPromoted, ArePromoted, AllNumbers}
 use Rattle.meaning_laws.specs.code.Laws.{PrintedArePromoted}
 use Rattle.meaning_laws.proofs.Rules.{unbroken, holds}

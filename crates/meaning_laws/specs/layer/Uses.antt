@@ -30,6 +30,16 @@ LeadAlike (value.Scalar (Shared p)) (value.Scalar (Shared q)) = Unit {0}
 LeadAlike (value.Local p) (value.Local q) = Unit {0}
 LeadAlike v w = ⊥
 
+-- The value is a pointer: a pointer-to-shared, a pointer-to-local or a lock pointer.
+abbrev pub Points : Value → Type 0
+Points (value.Scalar (Int v)) = ⊥
+Points v = Unit {0}
+
+-- Both values are pointers-to-shared, or both pointers-to-local, or both lock pointers.
+abbrev pub PointAlike : Value → Value → Type 0
+PointAlike (value.Scalar (Lock l)) (value.Scalar (Lock m)) = Unit {0}
+PointAlike v w = LeadAlike v w
+
 -- The value is an integer, and its type has a kind of integers.
 abbrev pub Counts : Option Kind → Value → Type 0
 Counts (Some kind) v = IsNumber v
@@ -41,16 +51,16 @@ abbrev pub IsOperand : UnOp → Option Kind → Value → Type 0
 IsOperand un.Not kind v = Unit {0}
 IsOperand o kind v = Counts kind v
 
--- Two pointers are such as an operator takes: for an equality any, for a difference or an order both shared or both
--- local; any other operator takes none (C99 6.5.6, 6.5.8, 6.5.9).
+-- Two pointers are such as an operator takes: for an equality of one kind, for a difference or an order both shared or
+-- both local; any other operator takes none (C99 6.5.6, 6.5.8, 6.5.9).
 abbrev pub ArePointers : BinOp → Value → Value → Type 0
 ArePointers op.Subtract x y = LeadAlike x y
 ArePointers op.Less x y = LeadAlike x y
 ArePointers op.Greater x y = LeadAlike x y
 ArePointers op.LessEqual x y = LeadAlike x y
 ArePointers op.GreaterEqual x y = LeadAlike x y
-ArePointers op.Equal x y = Unit {0}
-ArePointers op.NotEqual x y = Unit {0}
+ArePointers op.Equal x y = PointAlike x y
+ArePointers op.NotEqual x y = PointAlike x y
 ArePointers o x y = ⊥
 
 -- A pointer and an integer are such as an operator takes: for a sum or a difference a pointer that can be stepped, for
@@ -58,16 +68,16 @@ ArePointers o x y = ⊥
 abbrev pub IsStepped : BinOp → Value → Value → Type 0
 IsStepped op.Add p i = Leads p × IsNumber i
 IsStepped op.Subtract p i = Leads p × IsNumber i
-IsStepped op.Equal p i = Unit {0}
-IsStepped op.NotEqual p i = Unit {0}
+IsStepped op.Equal p i = Points p × IsNumber i
+IsStepped op.NotEqual p i = Points p × IsNumber i
 IsStepped o p i = ⊥
 
 -- An integer and a pointer are such as an operator takes: as a pointer and an integer, but for a difference (C99 6.5.6,
 -- 6.5.9).
 abbrev pub IsSteppedBy : BinOp → Value → Value → Type 0
 IsSteppedBy op.Add i p = Leads p × IsNumber i
-IsSteppedBy op.Equal i p = Unit {0}
-IsSteppedBy op.NotEqual i p = Unit {0}
+IsSteppedBy op.Equal i p = Points p × IsNumber i
+IsSteppedBy op.NotEqual i p = Points p × IsNumber i
 IsSteppedBy o i p = ⊥
 
 -- Two values are such as a binary operator takes, by the target of each that is a pointer and the kind of each that is
