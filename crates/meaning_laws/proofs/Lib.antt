@@ -19,3 +19,4 @@ pub mod ZeroConstants
 pub mod Choices
 pub mod Copies
 pub mod Printed
+pub mod Layouts

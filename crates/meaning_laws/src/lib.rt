@@ -5,7 +5,8 @@ ghost use Rattle.meaning_laws.specs.code.Laws.{BeginningsAreFilled, CellsKeep, C
 ghost use Rattle.meaning_laws.specs.code.Laws.{ChoicesAreTaken, ConversionsAreTaken, CopiesFit};
 ghost use Rattle.meaning_laws.specs.code.Laws.{ExpressionsKeepTypes, FunctionsKeepTypes, MainsKeepTypes};
 ghost use Rattle.meaning_laws.specs.code.Laws.{NamesAreFound, OperandsAreTaken, PrintedArePromoted, ScalarsAreKept};
-ghost use Rattle.meaning_laws.specs.code.Laws.{SharedHaveShapes};
+ghost use Rattle.meaning_laws.specs.code.Laws.{PhasesStay, SharedAreThere, SharedHaveShapes, SizesAreKnown};
+ghost use Rattle.meaning_laws.specs.code.Laws.{SteppedAreLaid};
 
 /// A cell keeps what fits it.
 #[tactic(auto, using(crate::proofs::Conversions::cells_keep))]
@@ -106,4 +107,29 @@ pub fn printed_are_promoted()
 #[tactic(auto, using(crate::proofs::Shapes::shared_have_shapes))]
 pub fn shared_have_shapes()
     ensures { SharedHaveShapes }
+{}
+
+/// What `+`, `-`, `++`, `--` and subscripts step over has a layout.
+#[tactic(auto, using(crate::proofs::Layouts::stepped_are_laid))]
+pub fn stepped_are_laid()
+    ensures { SteppedAreLaid }
+{}
+
+/// A size operator has a known value.
+#[tactic(auto, using(crate::proofs::Layouts::sizes_are_known))]
+pub fn sizes_are_known()
+    ensures { SizesAreKnown }
+{}
+
+/// Each name of a shared object has the object.
+#[tactic(auto, using(crate::proofs::Layouts::shared_are_there))]
+pub fn shared_are_there()
+    ensures { SharedAreThere }
+{}
+
+/// A pointer-to-shared that fits a cell keeps its phase where it is stepped, if the block of what it leads to is at most
+/// 16,777,216 elements.
+#[tactic(auto, using(crate::proofs::Layouts::phases_stay))]
+pub fn phases_stay()
+    ensures { PhasesStay }
 {}

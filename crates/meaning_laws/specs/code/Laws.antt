@@ -1,6 +1,6 @@
 -- Why no default of the meaning is taken.
-use Rattle.std.specs.Prelude.{◌≡◌, ℕ, ◌≤◌, ◌^◌, pos, Bool, true, List, [], length, map, Option, Some, Ok}
-use Rattle.std.specs.Prelude.{is_some}
+use Rattle.std.specs.Prelude.{◌≡◌, ℕ, ℤ, ◌≤◌, ◌^◌, pos, Bool, true, List, [], length, map, Option, Some}
+use Rattle.std.specs.Prelude.{is_some, Ok}
 use Rattle.std.specs.Prelude.{slice_get}
 use Rattle.upc_text.specs.declared.place.Place.{Place}
 use Rattle.block_layout.specs.declared.kind.Kind.{Kind}
@@ -22,17 +22,27 @@ use Rattle.private_store.specs.Live.{Live}
 use Rattle.private_store.specs.Beginnings.{fits_cell, private_cell}
 use Rattle.upc_values.specs.Lists.{Each}
 use Rattle.upc_values.specs.Shapes.{fits_kind, value_fits}
-use Rattle.upc_types.specs.Types.{CType, Structs, base_of}
+use Rattle.upc_types.specs.Types.{CType, Structs, base_of, block_of}
+use Rattle.upc_types.specs.Cells.{pointer_kind}
+use Rattle.typing_rules.specs.Constants.{block_or_none}
+use Rattle.typing_rules.specs.declared.setting.Home.TheVariants as home
+use Rattle.typing_rules.specs.declared.setting.SizeOperator.{SizeOperator}
+use Rattle.typing_rules.specs.declared.attribute.Constant.TheVariants.{Known}
+use Rattle.typed_tree.specs.Initials.{numbered}
+use Rattle.thread_steps.specs.Pointers.{phased}
+use Rattle.block_layout.specs.declared.place.ObjectRef.{ObjectRef}
+use Rattle.upc_values.specs.declared.scalar.Scalar.TheVariants.{Shared}
 use Rattle.upc_types.specs.Conversions.{assignable, castable}
 use Rattle.typing_rules.specs.declared.attribute.Constant.{Constant}
 use Rattle.typing_rules.specs.Values.{value_type}
 use Rattle.typing_rules.specs.Library.{int, call_parameters}
-use Rattle.typing_rules.specs.Rules.{is_zero}
+use Rattle.typing_rules.specs.Rules.{is_zero, moves}
 use Rattle.typing_rules.specs.Nodes as node
 use Rattle.typing_rules.specs.Nodes.{Use, Attr}
 use Rattle.typed_tree.specs.declared.tree.StepOperator.{StepOperator}
 use Rattle.typed_tree.specs.Tree.{Expr, Subscript, MemberBehind, Step, Unary, Binary, Compound}
 use Rattle.typed_tree.specs.declared.tree.Target.TheVariants as target
+use Rattle.typed_tree.specs.Tree.{Object, SizeOf, SizeOfType}
 use Rattle.typed_tree.specs.Tree.{Conditional, Call, Exprs, AndExpr, Function, attr_of}
 use Rattle.typed_tree.specs.Programs.{Checked, start_of}
 use Rattle.typed_tree.specs.layer.Judged.{Meets}
@@ -42,6 +52,7 @@ use Rattle.thread_steps.specs.Values.{number, kept, kept_scalar}
 use Rattle.thread_steps.specs.Accesses.{cell, read, load_private}
 use Rattle.thread_steps.specs.Operators.{cast}
 use Rattle.source_meaning.specs.Types.{cell_kind, conversion, promotion, target_of, integer_of}
+use Rattle.source_meaning.specs.Types.{elements_of}
 use Rattle.source_meaning.specs.Running.{Running, running}
 use Rattle.source_meaning.specs.Expressions.{Calls, type_of, types_of, step_operator, value, address, binary}
 use Rattle.source_meaning.specs.Expressions.{converted_to, arguments}
@@ -53,7 +64,7 @@ use Rattle.meaning_laws.specs.layer.Formed.{MakesSized, MakesShaped, IsFormed, C
 use Rattle.meaning_laws.specs.code.Scopes.{HasScope}
 use Rattle.meaning_laws.specs.layer.Copies.{TakesCells}
 use Rattle.meaning_laws.specs.layer.Uses.{Leads, Counts, IsOperand, AreOperands, HasAffinity, IsTaken, AreArguments}
-use Rattle.meaning_laws.specs.layer.Uses.{ArePromoted, AllNumbers}
+use Rattle.meaning_laws.specs.layer.Uses.{ArePromoted, AllNumbers, IsLaid, LeadsLaid}
 use Rattle.meaning_laws.specs.layer.FormedStatements.{IsFormedFunction}
 
 -- A cell keeps what fits it, in a private object and in a shared one (C99 6.5.16).
@@ -234,6 +245,53 @@ pub record PrintedArePromoted : Type 0 where
   pub given :
       (ρ : Running) (call : Calls) (strict : Bool) (args : Exprs)
       → Gives (List Value) AllNumbers (arguments ρ call strict (map promotion (types_of args)) args [])
+
+-- What a program that meets the rules steps over has a layout, so that none counts as one byte (C99 6.5.2.1, 6.5.2.4,
+-- 6.5.6, 6.5.16.2). An order of two pointers to void, which steps over nothing, needs none.
+pub record SteppedAreLaid : Type 0 where
+  -- The objects over which a subscript steps.
+  pub subscript :
+      (program : Checked) (locals : List CType) (how : Use) (attr : Attr) (a i : Expr)
+      → MeetsKind program locals how attr (Subscript a i) → IsLaid program attr.ctype
+  -- What `+` and `-` step over: what the pointers among their operands lead to.
+  pub binary :
+      (program : Checked) (locals : List CType) (how : Use) (attr : Attr) (o : BinOp) (a b : Expr) → moves o ≡ true
+      → MeetsKind program locals how attr (Binary o a b)
+      → LeadsLaid program (target_of (type_of a)) × LeadsLaid program (target_of (type_of b))
+  -- What `+=` and `-=` step over.
+  pub compound :
+      (program : Checked) (locals : List CType) (how : Use) (attr : Attr) (o : BinOp) (a b : Expr) → moves o ≡ true
+      → MeetsKind program locals how attr (Compound o a b) → LeadsLaid program (target_of (type_of a))
+  -- What `++` and `--` step over.
+  pub step :
+      (program : Checked) (locals : List CType) (how : Use) (attr : Attr) (o : StepOperator) (a : Expr)
+      → MeetsKind program locals how attr (Step o a) → LeadsLaid program (target_of (type_of a))
+
+-- A size operator of a program that meets the rules has a known value (C99 6.5.3.4, UPC 6.4.1).
+pub record SizesAreKnown : Type 0 where
+  -- On an expression.
+  pub object :
+      (program : Checked) (locals : List CType) (how : Use) (attr : Attr) (o : SizeOperator) (a : Expr)
+      → MeetsKind program locals how attr (SizeOf o a) → (v : ℤ) × (attr.constant ≡ Known v)
+  -- On a type.
+  pub type :
+      (program : Checked) (locals : List CType) (how : Use) (attr : Attr) (o : SizeOperator) (t : CType)
+      → MeetsKind program locals how attr (SizeOfType o t) → (v : ℤ) × (attr.constant ≡ Known v)
+
+-- Each name of a shared object in a program that meets the rules has the object (UPC 6.5.1).
+pub record SharedAreThere : Type 0 where
+  pub each :
+      (program : Checked) (locals : List CType) (how : Use) (attr : Attr) (number : ℕ)
+      → MeetsKind program locals how attr (Object (home.Shared number))
+      → (o : ObjectRef) × (numbered (start_of program).shared_objects number ≡ Some o)
+
+-- A pointer-to-shared that fits a cell of pointers to a type keeps its phase where it is stepped, if the block of the
+-- type is at most 16,777,216 elements, as a declared one is (UPC 6.4.2, 6.5.1.1).
+pub record PhasesStay : Type 0 where
+  pub each :
+      (structs : Structs) (t : CType) (p : SharedPtr) → block_or_none (block_of t) ≤ 16777216
+      → value_fits (value_of.Scalar (Shared p)) (pointer_kind structs.targets t) ≡ true
+      → phased (elements_of structs t) p ≡ p
 
 -- The elements of each declared shared object have a shape that the program has (UPC 6.5.1.1).
 pub record SharedHaveShapes : Type 0 where

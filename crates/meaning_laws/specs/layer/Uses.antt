@@ -1,5 +1,5 @@
 -- What operators take: values for which no default stands.
-use Rattle.std.specs.Prelude.{◌≡◌, Bool, true, List, [], ◌∷◌, Option, Some, None}
+use Rattle.std.specs.Prelude.{◌≡◌, Bool, true, List, [], ◌∷◌, Option, Some, None, is_some}
 use Rattle.block_layout.specs.declared.kind.Kind.{Kind}
 use Rattle.integers.specs.declared.operator.BinOp.{BinOp}
 use Rattle.integers.specs.declared.operator.BinOp.TheVariants as op
@@ -8,10 +8,13 @@ use Rattle.integers.specs.declared.operator.UnOp.TheVariants as un
 use Rattle.upc_values.specs.declared.scalar.Scalar.TheVariants.{Int, Shared, Lock}
 use Rattle.upc_values.specs.declared.scalar.Value.{Value}
 use Rattle.upc_values.specs.declared.scalar.Value.TheVariants as value
-use Rattle.upc_types.specs.Types.{CType, Structs}
+use Rattle.upc_types.specs.Types.{CType, Structs, base_of}
+use Rattle.upc_types.specs.Layout.{base_within}
+use Rattle.upc_types.specs.Cells.{leaf_base}
 use Rattle.typing_rules.specs.declared.library.LibraryParameter.{LibraryParameter}
 use Rattle.typing_rules.specs.declared.library.LibraryParameter.TheVariants as parameter
 use Rattle.typed_tree.specs.Tree.{Exprs, NoExprs, AndExpr}
+use Rattle.typed_tree.specs.Programs.{Checked}
 use Rattle.thread_steps.specs.declared.cast.CastTo.{CastTo}
 use Rattle.thread_steps.specs.declared.cast.CastTo.TheVariants as to
 use Rattle.source_meaning.specs.Types.{integer_of}
@@ -138,3 +141,12 @@ ArePromoted structs (AndExpr a more) = IsPromoted structs (type_of a) × AreProm
 abbrev pub AllNumbers : List Value → Type 0
 AllNumbers [] = Unit {0}
 AllNumbers (v ∷ vs) = IsNumber v × AllNumbers vs
+
+-- The leaf elements of what has this type have a layout, so that none counts as one byte (C99 6.5.3.4).
+abbrev pub IsLaid : Checked → CType → Type 0
+IsLaid program t = is_some (base_within program.structs.completed (leaf_base (base_of t))) ≡ true
+
+-- So have those of a target, where there is one.
+abbrev pub LeadsLaid : Checked → Option CType → Type 0
+LeadsLaid program None = Unit {0}
+LeadsLaid program (Some t) = IsLaid program t
