@@ -15,3 +15,8 @@ pub mod Uses
 pub mod Scopes
 pub mod Taken
 pub mod Scalars
+pub mod ZeroConstants
+pub mod Choices
+pub mod Copies
+pub mod Printed
+pub mod Layouts

@@ -30,7 +30,7 @@ use Rattle.thread_steps.specs.Accesses.{shape_or_byte}
 use Rattle.meaning_laws.specs.code.Laws.{ScalarsAreKept}
 
 -- No cell of the shape is of pointers to private objects.
-abbrev IsSharable : Shape → Type 0
+abbrev pub IsSharable : Shape → Type 0
 IsSharable s = Each (λ c. is_private c.1 ≡ false) s.cells
 
 not_true : (b : Bool) → not b ≡ true → b ≡ false
@@ -58,7 +58,7 @@ all_elements : (structs : Structs) (ts : List CType) → Each IsSharable (map (e
 all_elements structs [] = tt
 all_elements structs (t ∷ ts) = (element_sharable structs t, all_elements structs ts)
 
-program_sharable : (program : Checked) → Each IsSharable (start_of program).shapes
+pub program_sharable : (program : Checked) → Each IsSharable (start_of program).shapes
 program_sharable program =
     let structs = (start_of program).structs in
     let types = map type_of (shared_in program.objects) ++ allocated_in program.structs program.functions in
@@ -91,7 +91,7 @@ reached false false there m l e = absurd cc
 reached false true false m l e = absurd cc
 reached false true true m l e = refl
 
-scalar_there : (k : Kind) (v : Value) → is_private k ≡ false → value_fits v k ≡ true
+pub scalar_there : (k : Kind) (v : Value) → is_private k ≡ false → value_fits v k ≡ true
     → (s : Scalar) × (v ≡ value.Scalar s)
 scalar_there k (value.Scalar s) p h = (s, refl)
 scalar_there (kind.Private n) (value.Local q) p h = absurd (false≢true (sym p))

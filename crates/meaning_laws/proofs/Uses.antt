@@ -1,6 +1,6 @@
 -- What operators take in a program that meets the rules.
 use Rattle.std.proofs.Common.{◌≡◌, ℕ, Bool, true, false, not, ◌&&◌, ◌||◌, List, Option, Some, None, refl, sym, ◌∙◌}
-use Rattle.std.proofs.Common.{subst}
+use Rattle.std.proofs.Common.{subst, ap}
 use Rattle.std.proofs.Math.IntN.{pos}
 use Rattle.std.proofs.lemmas.Bool.{false≢true, and_parts}
 use Rattle.block_layout.specs.declared.kind.Kind.{Kind}
@@ -17,7 +17,7 @@ use Rattle.upc_types.specs.Types as types
 use Rattle.upc_types.specs.Types.{CType, Base, Qualified, Structs, base_of, block_of}
 use Rattle.upc_types.specs.Same.{is_lock_object, same_base, same_block}
 use Rattle.upc_types.specs.Conversions.{is_integer}
-use Rattle.upc_types.specs.Cells.{number_of}
+use Rattle.upc_types.specs.Cells.{number_of, kind_to, pointer_kind}
 use Rattle.typing_rules.specs.Values.{base_target, base_kind, value_base, present, equal_targets}
 use Rattle.typing_rules.specs.declared.attribute.Constant.{Constant}
 use Rattle.typing_rules.specs.Library.{int}
@@ -42,11 +42,13 @@ use Rattle.thread_steps.specs.Values.{number}
 use Rattle.source_meaning.specs.Running.{Running}
 use Rattle.source_meaning.specs.Expressions.{type_of, step_operator}
 use Rattle.meaning_laws.specs.layer.Values.{IsNumber, IsOf, IsPlaceOf, IsFormedType}
+use Rattle.meaning_laws.specs.layer.Uses.{Points, PointAlike, IsSteppedBy}
 use Rattle.meaning_laws.specs.layer.Uses.{Leads, LeadAlike, Counts, IsOperand, ArePointers, IsStepped}
 use Rattle.meaning_laws.specs.layer.Uses.{AreOperands, HasAffinity}
 use Rattle.meaning_laws.specs.code.Laws.{OperandsAreTaken}
 use Rattle.meaning_laws.proofs.Operations.{Fits, kind_by, formed_kind, unlocked_kind}
 use Rattle.meaning_laws.proofs.Operators.{value_target, is_place}
+use Rattle.meaning_laws.proofs.ZeroConstants.{expr_numbered}
 use Rattle.meaning_laws.proofs.Rules.{unbroken, holds, fails, or_left, or_right, has_target}
 
 -- ---- pointers
@@ -79,6 +81,47 @@ led_alike None None i j (value.Scalar (Int x)) w e h g = absurd (false≢true h)
 led_alike None None i j (value.Scalar (Lock x)) w e h g = absurd (false≢true h)
 led_alike (Some b) None i j v w e h g = absurd (false≢true e)
 led_alike None (Some c) i j v w e h g = absurd (false≢true e)
+
+lead_points : (v w : Value) → LeadAlike v w → PointAlike v w
+lead_points (value.Scalar (Shared p)) (value.Scalar (Shared q)) h = tt
+lead_points (value.Local p) (value.Local q) h = tt
+lead_points (value.Scalar (Lock l)) (value.Scalar (Lock m)) h = tt
+lead_points v w h = absurd h
+
+locks_alike : (v w : Value) → Fits kind.Lock v → Fits kind.Lock w → PointAlike v w
+locks_alike (value.Scalar (Lock l)) (value.Scalar (Lock m)) h g = tt
+locks_alike (value.Scalar (Lock l)) (value.Scalar (Int i)) h g = absurd (false≢true g)
+locks_alike (value.Scalar (Lock l)) (value.Scalar (Shared q)) h g = absurd (false≢true g)
+locks_alike (value.Scalar (Lock l)) (value.Local q) h g = absurd (false≢true g)
+locks_alike (value.Scalar (Int i)) w h g = absurd (false≢true h)
+locks_alike (value.Scalar (Shared p)) w h g = absurd (false≢true h)
+locks_alike (value.Local p) w h g = absurd (false≢true h)
+
+-- A value of a kind of pointers is a pointer.
+point_kind : (b : Base) (s : Option ℕ) (i : ℕ) (v : Value) → Fits (kind_to b s i) v → Points v
+point_kind b s i (value.Scalar (Shared p)) h = tt
+point_kind b s i (value.Scalar (Lock l)) h = tt
+point_kind b s i (value.Local p) h = tt
+point_kind types.LockObject s i (value.Scalar (Int w)) h = absurd (false≢true h)
+point_kind types.Void (Some d) i (value.Scalar (Int w)) h = absurd (false≢true h)
+point_kind types.Void None i (value.Scalar (Int w)) h = absurd (false≢true h)
+point_kind (types.Integer k) (Some d) i (value.Scalar (Int w)) h = absurd (false≢true h)
+point_kind (types.Integer k) None i (value.Scalar (Int w)) h = absurd (false≢true h)
+point_kind (types.Struct m) (Some d) i (value.Scalar (Int w)) h = absurd (false≢true h)
+point_kind (types.Struct m) None i (value.Scalar (Int w)) h = absurd (false≢true h)
+point_kind (types.Array u j) (Some d) i (value.Scalar (Int w)) h = absurd (false≢true h)
+point_kind (types.Array u j) None i (value.Scalar (Int w)) h = absurd (false≢true h)
+point_kind (types.Pointer u) (Some d) i (value.Scalar (Int w)) h = absurd (false≢true h)
+point_kind (types.Pointer u) None i (value.Scalar (Int w)) h = absurd (false≢true h)
+
+locked_kind : (targets : List CType) (t : CType) → is_lock_object (base_of t) ≡ true
+    → pointer_kind targets t ≡ kind.Lock
+locked_kind targets (Qualified types.LockObject c s x) h = refl
+locked_kind targets (Qualified types.Void c s x) h = absurd (false≢true h)
+locked_kind targets (Qualified (types.Integer k) c s x) h = absurd (false≢true h)
+locked_kind targets (Qualified (types.Struct m) c s x) h = absurd (false≢true h)
+locked_kind targets (Qualified (types.Array u i) c s x) h = absurd (false≢true h)
+locked_kind targets (Qualified (types.Pointer u) c s x) h = absurd (false≢true h)
 
 -- What has a size is no lock.
 sized_unlocked : (σ : Structs) (t : CType) → has_size σ t ≡ true → is_lock_object (base_of t) ≡ false
@@ -308,6 +351,15 @@ module _ (σ structs : Structs) (a b : Attr) (x y : Value) (fa : IsFormedType a.
       led_alike (block_of t) (block_of u) (number_of structs.targets t) (number_of structs.targets u) x y block
       (pointer_fits structs a.ctype t x ea free.0 of_a) (pointer_fits structs b.ctype u y eb free.1 of_b)
 
+  place_a : (t : CType) → target_of a.ctype ≡ Some t → IsPlaceOf structs t x
+  place_a t e = is_place structs (base_of a.ctype) t x (value_target (base_of a.ctype) ∙ e) of_a
+
+  place_b : (u : CType) → target_of b.ctype ≡ Some u → IsPlaceOf structs u y
+  place_b u e = is_place structs (base_of b.ctype) u y (value_target (base_of b.ctype) ∙ e) of_b
+
+  point_fits : (t : CType) (v : Value) → IsPlaceOf structs t v → Points v
+  point_fits (Qualified c i s q) v h = point_kind c s (number_of structs.targets (Qualified c i s q)) v h
+
   at_a : (l : Option CType) → target a ≡ l → target_of a.ctype ≡ l
   at_a l e = sym (value_target (base_of a.ctype)) ∙ e
 
@@ -391,21 +443,65 @@ module _ (σ structs : Structs) (a b : Attr) (x y : Value) (fa : IsFormedType a.
       (holds (equal_targets t u) (or_left (not (equal_targets t u)) locks m))
       (or_right (not (equal_targets t u)) locks m))
 
-  equal_by : (zero_a zero_b : Bool) (l r : Option CType)
-      → (((counts a && counts b) || (present l && present r)) || ((present l && zero_b) || (zero_a && present r)))
-      ≡ true → Taken op.Equal l r
-  equal_by i j None None h = both_numbers op.Equal (neither (counts a && counts b) i h)
-  equal_by i j (Some t) None h = tt
-  equal_by i j None (Some u) h = tt
-  equal_by i j (Some t) (Some u) h = tt
+  -- Two pointers with equal targets.
+  point_alike : (t u : CType) → target_of a.ctype ≡ Some t → target_of b.ctype ≡ Some u → equal_targets t u ≡ true
+      → PointAlike x y
+  point_alike t u ea eb e = by (is_lock_object (base_of t)) refl
+    where
+      same : same_base (base_of t) (base_of u) ≡ true
+      same = (and_parts (same_block (block_of t) (block_of u)) (same_base (base_of t) (base_of u)) e).1
 
-  unequal_by : (zero_a zero_b : Bool) (l r : Option CType)
-      → (((counts a && counts b) || (present l && present r)) || ((present l && zero_b) || (zero_a && present r)))
-      ≡ true → Taken op.NotEqual l r
-  unequal_by i j None None h = both_numbers op.NotEqual (neither (counts a && counts b) i h)
-  unequal_by i j (Some t) None h = tt
-  unequal_by i j None (Some u) h = tt
-  unequal_by i j (Some t) (Some u) h = tt
+      by : (l : Bool) → is_lock_object (base_of t) ≡ l → PointAlike x y
+      by true q =
+          locks_alike x y
+          (subst (λ (k : Kind). Fits k x) (locked_kind structs.targets t q) (place_a t ea))
+          (subst (λ (k : Kind). Fits k y)
+          (locked_kind structs.targets u (same_lock (base_of t) (base_of u) same q)) (place_b u eb))
+      by false q =
+          lead_points x y (alike t u ea eb e (ap (λ (l : Bool). l && is_lock_object (base_of u)) q))
+
+  one_zero : (p zero_b zero_a : Bool) → p ≡ false → ((p || false) || (zero_b || (zero_a && false))) ≡ true
+      → zero_b ≡ true
+  one_zero true zero_b zero_a e h = absurd (false≢true (sym e))
+  one_zero false true zero_a e h = refl
+  one_zero false false true e h = absurd (false≢true h)
+  one_zero false false false e h = absurd (false≢true h)
+
+  other_zero : (p zero_a : Bool) → p ≡ false → ((p || false) || (false || (zero_a && true))) ≡ true → zero_a ≡ true
+  other_zero true zero_a e h = absurd (false≢true (sym e))
+  other_zero false true e h = refl
+  other_zero false false e h = absurd (false≢true h)
+
+  not_both : (p q : Bool) → (p ≡ true → ⊥) → (p && q) ≡ false
+  not_both true q f = absurd (f refl)
+  not_both false q f = refl
+
+  not_last : (p q : Bool) → (q ≡ true → ⊥) → (p && q) ≡ false
+  not_last true true f = absurd (f refl)
+  not_last true false f = refl
+  not_last false q f = refl
+
+  -- An equality, by what the operator takes of two pointers, and of a pointer and an integer.
+  equal_by : (o : BinOp) → ((v w : Value) → PointAlike v w → ArePointers o v w)
+      → ((v w : Value) → Points v × IsNumber w → IsStepped o v w)
+      → ((v w : Value) → Points w × IsNumber v → IsSteppedBy o v w) → (is_zero a ≡ true → counts a ≡ true)
+      → (is_zero b ≡ true → counts b ≡ true) → (l r : Option CType) → target a ≡ l → target b ≡ r
+      → (((counts a && counts b) || (present l && present r))
+      || ((present l && is_zero b) || (is_zero a && present r))) ≡ true
+      → (targets_differ l r || false) ≡ false → Taken o l r
+  equal_by o two one other na nb None None ea eb h m = both_numbers o (neither (counts a && counts b) (is_zero a) h)
+  equal_by o two one other na nb (Some t) None ea eb h m =
+      let counted_a = not_both (counts a) (counts b) (no_pointer a t ea) in
+      let zero = one_zero (counts a && counts b) (is_zero b) (is_zero a) counted_a h in
+      one x y (point_fits t x (place_a t (at_a (Some t) ea)), number_b (nb zero))
+  equal_by o two one other na nb None (Some u) ea eb h m =
+      let counted_b = not_last (counts a) (counts b) (no_pointer b u eb) in
+      let zero = other_zero (counts a && counts b) (is_zero a) counted_b h in
+      other x y (point_fits u y (place_b u (at_b (Some u) eb)), number_a (na zero))
+  equal_by o two one other na nb (Some t) (Some u) ea eb h m =
+      two x y
+      (point_alike t u (at_a (Some t) ea) (at_b (Some u) eb)
+      (holds (equal_targets t u) (or_left (not (equal_targets t u)) false m)))
 
   -- By what the operands point to, which is what their types do.
   as_types : (o : BinOp) → Taken o (target a) (target b) → Taken o (target_of a.ctype) (target_of b.ctype)
@@ -413,28 +509,33 @@ module _ (σ structs : Structs) (a b : Attr) (x y : Value) (fa : IsFormedType a.
       subst (λ (l : Option CType). Taken o l (target_of b.ctype)) (value_target (base_of a.ctype))
       (subst (λ (r : Option CType). Taken o (target a) r) (value_target (base_of b.ctype)) h)
 
-  operands : (o : BinOp) → fits o a b ≡ true → moves_loosely σ o a b ≡ false → mismatches o a b ≡ false
+  operands : (is_zero a ≡ true → counts a ≡ true) → (is_zero b ≡ true → counts b ≡ true) → (o : BinOp)
+      → fits o a b ≡ true → moves_loosely σ o a b ≡ false → mismatches o a b ≡ false
       → Taken o (target_of a.ctype) (target_of b.ctype)
-  operands op.Add h g m = as_types op.Add (add_by (target a) (target b) refl refl h g)
-  operands op.Subtract h g m = as_types op.Subtract (subtract_by (target a) (target b) refl refl h g m)
-  operands op.Less h g m =
+  operands na nb op.Add h g m = as_types op.Add (add_by (target a) (target b) refl refl h g)
+  operands na nb op.Subtract h g m = as_types op.Subtract (subtract_by (target a) (target b) refl refl h g m)
+  operands na nb op.Less h g m =
       as_types op.Less (order_by op.Less (λ v w k. k) (target a) (target b) refl refl h m)
-  operands op.Greater h g m =
+  operands na nb op.Greater h g m =
       as_types op.Greater (order_by op.Greater (λ v w k. k) (target a) (target b) refl refl h m)
-  operands op.LessEqual h g m =
+  operands na nb op.LessEqual h g m =
       as_types op.LessEqual (order_by op.LessEqual (λ v w k. k) (target a) (target b) refl refl h m)
-  operands op.GreaterEqual h g m =
+  operands na nb op.GreaterEqual h g m =
       as_types op.GreaterEqual (order_by op.GreaterEqual (λ v w k. k) (target a) (target b) refl refl h m)
-  operands op.Equal h g m = as_types op.Equal (equal_by (is_zero a) (is_zero b) (target a) (target b) h)
-  operands op.NotEqual h g m = as_types op.NotEqual (unequal_by (is_zero a) (is_zero b) (target a) (target b) h)
-  operands op.Multiply h g m = both_count op.Multiply h
-  operands op.Divide h g m = both_count op.Divide h
-  operands op.Remainder h g m = both_count op.Remainder h
-  operands op.ShiftLeft h g m = both_count op.ShiftLeft h
-  operands op.ShiftRight h g m = both_count op.ShiftRight h
-  operands op.BitAnd h g m = both_count op.BitAnd h
-  operands op.BitXor h g m = both_count op.BitXor h
-  operands op.BitOr h g m = both_count op.BitOr h
+  operands na nb op.Equal h g m =
+      as_types op.Equal
+      (equal_by op.Equal (λ v w k. k) (λ v w k. k) (λ v w k. k) na nb (target a) (target b) refl refl h m)
+  operands na nb op.NotEqual h g m =
+      as_types op.NotEqual
+      (equal_by op.NotEqual (λ v w k. k) (λ v w k. k) (λ v w k. k) na nb (target a) (target b) refl refl h m)
+  operands na nb op.Multiply h g m = both_count op.Multiply h
+  operands na nb op.Divide h g m = both_count op.Divide h
+  operands na nb op.Remainder h g m = both_count op.Remainder h
+  operands na nb op.ShiftLeft h g m = both_count op.ShiftLeft h
+  operands na nb op.ShiftRight h g m = both_count op.ShiftRight h
+  operands na nb op.BitAnd h g m = both_count op.BitAnd h
+  operands na nb op.BitXor h g m = both_count op.BitXor h
+  operands na nb op.BitOr h g m = both_count op.BitOr h
 
   -- ---- operators that change an object
 
@@ -568,8 +669,9 @@ operands_are_taken = record {
       let r14 = unbroken (table φ z) 13 (judge 14 (rule_14 z)) refl h.0.1.rules in
       let r15 = unbroken (table φ z) 14 (judge 15 (rule_15 φ z)) refl h.0.1.rules in
       let r16 = unbroken (table φ z) 15 (judge 16 (rule_16 z)) refl h.0.1.rules in
-      operands h.0.0 structs (attr_of a) (attr_of b) x y fa fb of_a of_b o (holds (fits o (attr_of a) (attr_of b)) r14)
-      r15 r16;
+      operands h.0.0 structs (attr_of a) (attr_of b) x y fa fb of_a of_b
+      (expr_numbered program locals n.Plain a h.1).value (expr_numbered program locals n.Plain b h.2).value o
+      (holds (fits o (attr_of a) (attr_of b)) r14) r15 r16;
   compound = λ program locals how attr o a b structs x y h fa fb of_a of_b.
       let z = n.Compound o (attr_of a) (attr_of b) in
       let φ = facts_at program h.0.0 in

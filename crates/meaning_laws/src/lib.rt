@@ -2,9 +2,11 @@
 #![tactic(auto)]
 
 ghost use Rattle.meaning_laws.specs.code.Laws.{BeginningsAreFilled, CellsKeep, ChangesFit, ConversionsFit};
-ghost use Rattle.meaning_laws.specs.code.Laws.{ConversionsAreTaken};
+ghost use Rattle.meaning_laws.specs.code.Laws.{ChoicesAreTaken, ConversionsAreTaken, CopiesFit};
 ghost use Rattle.meaning_laws.specs.code.Laws.{ExpressionsKeepTypes, FunctionsKeepTypes, MainsKeepTypes};
-ghost use Rattle.meaning_laws.specs.code.Laws.{NamesAreFound, OperandsAreTaken, ScalarsAreKept, SharedHaveShapes};
+ghost use Rattle.meaning_laws.specs.code.Laws.{NamesAreFound, OperandsAreTaken, PrintedArePromoted, ScalarsAreKept};
+ghost use Rattle.meaning_laws.specs.code.Laws.{PhasesStay, SharedAreThere, SharedHaveShapes, SizesAreKnown};
+ghost use Rattle.meaning_laws.specs.code.Laws.{SteppedAreLaid};
 
 /// A cell keeps what fits it.
 #[tactic(auto, using(crate::proofs::Conversions::cells_keep))]
@@ -74,14 +76,60 @@ pub fn conversions_are_taken()
     ensures { ConversionsAreTaken }
 {}
 
+/// The conversion of the two last operands of `? :` into the type of the whole takes the value, so that no value counts
+/// as null or as 0 there but that of the constant 0.
+#[tactic(auto, using(crate::proofs::Choices::choices_are_taken))]
+pub fn choices_are_taken()
+    ensures { ChoicesAreTaken }
+{}
+
 /// What is written to a cell of a shared object is a scalar, where it fits the cell.
 #[tactic(auto, using(crate::proofs::Scalars::scalars_are_kept))]
 pub fn scalars_are_kept()
     ensures { ScalarsAreKept }
 {}
 
+/// A call of the library with arguments of its parameters' types reads scalars of private cells, and writes to them what
+/// fits, where what it reads of cells fits them; and what is read of a cell fits it.
+#[tactic(auto, using(crate::proofs::Copies::copies_fit))]
+pub fn copies_fit()
+    ensures { CopiesFit }
+{}
+
+/// The arguments of printf after its format are integers, whose types have kinds of integers, and so is what comes of
+/// them.
+#[tactic(auto, using(crate::proofs::Printed::printed_are_promoted))]
+pub fn printed_are_promoted()
+    ensures { PrintedArePromoted }
+{}
+
 /// The elements of each declared shared object have a shape that the program has.
 #[tactic(auto, using(crate::proofs::Shapes::shared_have_shapes))]
 pub fn shared_have_shapes()
     ensures { SharedHaveShapes }
+{}
+
+/// What `+`, `-`, `++`, `--` and subscripts step over has a layout.
+#[tactic(auto, using(crate::proofs::Layouts::stepped_are_laid))]
+pub fn stepped_are_laid()
+    ensures { SteppedAreLaid }
+{}
+
+/// A size operator has a known value.
+#[tactic(auto, using(crate::proofs::Layouts::sizes_are_known))]
+pub fn sizes_are_known()
+    ensures { SizesAreKnown }
+{}
+
+/// Each name of a shared object has the object.
+#[tactic(auto, using(crate::proofs::Layouts::shared_are_there))]
+pub fn shared_are_there()
+    ensures { SharedAreThere }
+{}
+
+/// A pointer-to-shared that fits a cell keeps its phase where it is stepped, if the block of what it leads to is at most
+/// 16,777,216 elements.
+#[tactic(auto, using(crate::proofs::Layouts::phases_stay))]
+pub fn phases_stay()
+    ensures { PhasesStay }
 {}

@@ -45,6 +45,7 @@ use Rattle.meaning_laws.specs.layer.FormedStatements.{IsFormedFunction}
 use Rattle.meaning_laws.proofs.Operators.{changes_fit, integer_kind}
 use Rattle.meaning_laws.proofs.Expressions.{expressions_keep_types}
 use Rattle.meaning_laws.proofs.Uses.{operands_are_taken}
+use Rattle.meaning_laws.proofs.Choices.{choices_are_taken}
 use Rattle.meaning_laws.proofs.Rules.{unbroken, holds, or_left}
 use Rattle.meaning_laws_accepted.specs.code.Defaults.{KeepsType, ConvertFits, IsConverted, AreConverted, AllConverted}
 use Rattle.meaning_laws_accepted.specs.code.Defaults.{ChangeFits}
@@ -221,8 +222,14 @@ module _ (program : Checked) (thread budget : ℕ) where
         takes_expr locals n.Plain b g.2 f.1,
       )
       takes_kind locals how attr (typed.Conditional test a b) own g f = (
-        convert_fits locals n.Plain attr.ctype a g.2 f.1 own,
-        convert_fits locals n.Plain attr.ctype b g.3 f.2 own,
+        record {
+          taken = λ v o. choices_are_taken.second program locals how attr test a b ρ.structs v g o;
+          fits = convert_fits locals n.Plain attr.ctype a g.2 f.1 own;
+        },
+        record {
+          taken = λ v o. choices_are_taken.third program locals how attr test a b ρ.structs v g o;
+          fits = convert_fits locals n.Plain attr.ctype b g.3 f.2 own;
+        },
         takes_expr locals n.Plain test g.1 f.0,
         takes_expr locals n.Plain a g.2 f.1,
         takes_expr locals n.Plain b g.3 f.2,

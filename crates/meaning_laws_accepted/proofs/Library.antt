@@ -10,6 +10,8 @@ use Rattle.block_layout.specs.declared.place.LocalPtr.{LocalPtr}
 use Rattle.upc_values.specs.declared.library.LibraryCall.{LibraryCall}
 use Rattle.upc_values.specs.declared.library.LibraryCall.TheVariants as c
 use Rattle.upc_values.specs.declared.scalar.Scalar.TheVariants.{Int, Shared, Lock}
+use Rattle.block_layout.specs.declared.kind.Shape.{Shape}
+use Rattle.upc_values.specs.LibraryCalls.{library_call}
 use Rattle.upc_values.specs.declared.scalar.Value.{Value}
 use Rattle.upc_values.specs.declared.scalar.Value.TheVariants as value
 use Rattle.upc_types.specs.declared.ctype.Access.{Access}
@@ -31,14 +33,15 @@ use Rattle.typing_rules.specs.Nodes.{Attr, Use}
 use Rattle.typing_rules.specs.Rules as rules
 use Rattle.typing_rules.specs.Rules.{table, judge, rule_10, rule_12, rule_29, takes, all_taken, library_passes}
 use Rattle.typing_rules.specs.Rules.{target_leads_to_lock, is_zero, counts, allocates_well, is_allocated_at}
-use Rattle.typed_tree.specs.Tree.{Expr, Exprs, NoExprs, AndExpr, attr_of, attrs_of, place_of}
+use Rattle.typed_tree.specs.declared.tree.Target.TheVariants as target
+use Rattle.typed_tree.specs.Tree.{Expr, Exprs, NoExprs, AndExpr, Call, attr_of, attrs_of, place_of}
 use Rattle.typed_tree.specs.Words.{uses_by, first_use, later_uses, format_in}
 use Rattle.typed_tree.specs.Programs.{Checked}
 use Rattle.typed_tree.specs.layer.Judged.{JudgedAt, facts_at}
-use Rattle.typed_tree.specs.layer.TypedNodes.{MeetsExprs}
+use Rattle.typed_tree.specs.layer.TypedNodes.{MeetsKind, MeetsExprs}
 use Rattle.upc_types.specs.Types.{Structs}
 use Rattle.thread_steps.specs.declared.cast.CastTo.TheVariants as to
-use Rattle.thread_steps.specs.States.{Thread}
+use Rattle.thread_steps.specs.States.{Thread, Doing}
 use Rattle.thread_steps.specs.Operators.{cast, cast_value}
 use Rattle.thread_steps.specs.Pointers.{local_value}
 use Rattle.thread_steps.specs.Library.{is_formed}
@@ -51,15 +54,18 @@ use Rattle.source_meaning.specs.Threads.{called}
 use Rattle.source_meaning.specs.Laws.{AreSoMany, Gives, FormsCalls}
 use Rattle.source_meaning.proofs.Forming.{all_form_calls}
 use Rattle.meaning_laws.specs.layer.Values.{IsNumber, IsOf, Brings}
-use Rattle.meaning_laws.specs.layer.Uses.{IsTaken}
+use Rattle.meaning_laws.specs.layer.Uses.{IsTaken, IsArgument, AreArguments}
+use Rattle.meaning_laws.specs.layer.Copies.{TakesCells}
 use Rattle.meaning_laws.specs.layer.Formed.{MakesBy, MakesShaped, AreFormed, CallsFit}
-use Rattle.meaning_laws.proofs.Steps.{ResultIs, give_brings, first_brings, valued_brings}
+use Rattle.meaning_laws.proofs.Steps.{ResultIs, give_brings, first_brings, valued_brings, weaker_brings}
+use Rattle.meaning_laws.proofs.Copies.{copies_fit}
+use Rattle.meaning_laws.proofs.Printed.{printed_are_promoted}
 use Rattle.meaning_laws.proofs.Operations.{Fits, unlocked_kind}
 use Rattle.meaning_laws.proofs.Allocating.{so_many, made_target, shape_there}
 use Rattle.meaning_laws.proofs.Expressions.{expressions_keep_types}
 use Rattle.meaning_laws.proofs.Rules.{unbroken, holds}
 use Rattle.meaning_laws.proofs.Taken.{zero_taken, lock_taken, either_taken, local_taken}
-use Rattle.meaning_laws_accepted.specs.code.Defaults.{IsArgument, AreArguments, IsPassed, ArePassed, LibraryTakes}
+use Rattle.meaning_laws_accepted.specs.code.Defaults.{IsPassed, ArePassed, ArePrinted, LibraryTakes}
 
 -- ---- what conversions take
 
@@ -293,6 +299,26 @@ module _ (program : Checked) (thread budget : ℕ) where
         let few : 0 < 2 ^ 64 = omega arith in
         forms.formed (called ρ calls) strict call 0 args many refl few
 
+    printed_takes : (how : Use) (attr : Attr) (call : LibraryCall) (args : Exprs)
+        → MeetsKind program locals how attr (Call (target.Library call) args) → ArePrinted ρ call args
+    printed_takes how attr c.Printf (AndExpr format more) h = (
+      printed_are_promoted.each program locals how attr format more ρ.structs h,
+      λ calls strict. printed_are_promoted.given ρ (called ρ calls) strict more,
+    )
+    printed_takes how attr c.Printf NoExprs h = tt
+    printed_takes how attr call args h = tt
+
+    -- The cells that a call reads and writes, by its arguments.
+    cells_by : (call : LibraryCall) (t : CType) (m : Doing (List Value))
+        → Brings (List Value) (AreArguments (call_parameters call)) m
+        → Brings (List Value)
+        (λ vs. (private : ℕ → Option Shape)
+        → TakesCells (library_call ρ.thread.threads ρ.thread.shapes ρ.thread.number private call
+        (allocated_shape ρ call t) vs)) m
+    cells_by call t m h =
+        weaker_brings (AreArguments (call_parameters call)) _ m h (λ vs g private.
+        copies_fit.taken program thread budget private call (allocated_shape ρ call t) vs g)
+
     pub library_takes : (how : Use) (attr : Attr) (call : LibraryCall) (args : Exprs) (σ : Structs)
         → JudgedAt program σ (n.Call how (m.Library call) true (format_in args) (attrs_of args)) attr
         → MeetsExprs program locals (uses_by (m.Library call)) args
@@ -310,10 +336,16 @@ module _ (program : Checked) (thread budget : ℕ) where
         so_many (length (call_parameters call)) args (takes_many call (length (attrs_of args)) p count) in
         let has : is_allocation call ≡ true → HasIts call attr.ctype = λ a.
         has_its call σ how attr.ctype a well (ap (λ (y : Attr). y.ctype) j.is) f.0 in
+        let given_ : (p : is_printf call ≡ false) (calls : ℕ) (strict : Bool)
+            → Brings (List Value) (AreArguments (call_parameters call))
+            (arguments ρ (called ρ calls) strict (map parameter_conversion (call_parameters call)) args []) =
+        λ p calls strict.
+            given_after calls strict [] (call_parameters call) (uses_by (m.Library call)) args [] g f.1 (many p) tt in
         record {
           passed = are_passed ρ (call_parameters call) args (passes_taken call (attrs_of args) types_fit);
-          given = λ p calls strict.
-              given_after calls strict [] (call_parameters call) (uses_by (m.Library call)) args [] g f.1 (many p) tt;
+          given = given_;
+          cells = λ p calls strict. cells_by call attr.ctype _ (given_ p calls strict);
+          printed = printed_takes how attr call args ((σ, j), g);
           formed = λ p calls strict. formed_by call attr.ctype args (many p) has calls strict;
           shape = λ a. (has a).0;
         }

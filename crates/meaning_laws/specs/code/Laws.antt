@@ -1,47 +1,70 @@
 -- Why no default of the meaning is taken.
-use Rattle.std.specs.Prelude.{◌≡◌, ℕ, ◌≤◌, ◌^◌, pos, Bool, true, List, length, Some, Ok, is_some}
+use Rattle.std.specs.Prelude.{◌≡◌, ℕ, ℤ, ◌≤◌, ◌^◌, pos, Bool, true, List, [], length, map, Option, Some}
+use Rattle.std.specs.Prelude.{is_some, Ok}
 use Rattle.std.specs.Prelude.{slice_get}
 use Rattle.upc_text.specs.declared.place.Place.{Place}
 use Rattle.block_layout.specs.declared.kind.Kind.{Kind}
 use Rattle.block_layout.specs.declared.place.Loc.{Loc}
 use Rattle.block_layout.specs.declared.place.SharedPtr.{SharedPtr}
+use Rattle.block_layout.specs.declared.place.LocalPtr.{LocalPtr}
 use Rattle.integers.specs.declared.operator.BinOp.{BinOp}
 use Rattle.integers.specs.declared.operator.UnOp.{UnOp}
 use Rattle.upc_values.specs.declared.scalar.Scalar.{Scalar}
 use Rattle.upc_values.specs.declared.scalar.Value.{Value}
 use Rattle.upc_values.specs.declared.scalar.Value.TheVariants as value_of
 use Rattle.upc_values.specs.declared.action.Reply.{Reply}
+use Rattle.upc_values.specs.declared.library.LibraryCall.{LibraryCall}
+use Rattle.upc_values.specs.declared.library.LibraryCall.TheVariants.{Printf}
+use Rattle.upc_values.specs.LibraryCalls.{library_call}
 use Rattle.block_layout.specs.declared.kind.Shape.{Shape}
 use Rattle.private_store.specs.Live as live
 use Rattle.private_store.specs.Live.{Live}
 use Rattle.private_store.specs.Beginnings.{fits_cell, private_cell}
 use Rattle.upc_values.specs.Lists.{Each}
 use Rattle.upc_values.specs.Shapes.{fits_kind, value_fits}
-use Rattle.upc_types.specs.Types.{CType, Structs, base_of}
+use Rattle.upc_types.specs.Types.{CType, Structs, base_of, block_of}
+use Rattle.upc_types.specs.Cells.{pointer_kind}
+use Rattle.typing_rules.specs.Constants.{block_or_none}
+use Rattle.typing_rules.specs.declared.setting.Home.TheVariants as home
+use Rattle.typing_rules.specs.declared.setting.SizeOperator.{SizeOperator}
+use Rattle.typing_rules.specs.declared.attribute.Constant.TheVariants.{Known}
+use Rattle.typed_tree.specs.Initials.{numbered}
+use Rattle.thread_steps.specs.Pointers.{phased}
+use Rattle.block_layout.specs.declared.place.ObjectRef.{ObjectRef}
+use Rattle.upc_values.specs.declared.scalar.Scalar.TheVariants.{Shared}
 use Rattle.upc_types.specs.Conversions.{assignable, castable}
 use Rattle.typing_rules.specs.declared.attribute.Constant.{Constant}
 use Rattle.typing_rules.specs.Values.{value_type}
-use Rattle.typing_rules.specs.Library.{int}
+use Rattle.typing_rules.specs.Library.{int, call_parameters}
+use Rattle.typing_rules.specs.Rules.{is_zero, moves}
 use Rattle.typing_rules.specs.Nodes as node
 use Rattle.typing_rules.specs.Nodes.{Use, Attr}
 use Rattle.typed_tree.specs.declared.tree.StepOperator.{StepOperator}
-use Rattle.typed_tree.specs.Tree.{Expr, Subscript, MemberBehind, Step, Unary, Binary, Compound, Function, attr_of}
+use Rattle.typed_tree.specs.Tree.{Expr, Subscript, MemberBehind, Step, Unary, Binary, Compound}
+use Rattle.typed_tree.specs.declared.tree.Target.TheVariants as target
+use Rattle.typed_tree.specs.Tree.{Object, SizeOf, SizeOfType}
+use Rattle.typed_tree.specs.Tree.{Conditional, Call, Exprs, AndExpr, Function, attr_of}
 use Rattle.typed_tree.specs.Programs.{Checked, start_of}
 use Rattle.typed_tree.specs.layer.Judged.{Meets}
 use Rattle.typed_tree.specs.layer.TypedNodes.{MeetsExpr, MeetsKind, MeetsRules}
 use Rattle.thread_steps.specs.States.{Thread, ◌>>=◌}
 use Rattle.thread_steps.specs.Values.{number, kept, kept_scalar}
-use Rattle.thread_steps.specs.Accesses.{cell}
+use Rattle.thread_steps.specs.Accesses.{cell, read, load_private}
 use Rattle.thread_steps.specs.Operators.{cast}
-use Rattle.source_meaning.specs.Types.{cell_kind, conversion, target_of, integer_of}
+use Rattle.source_meaning.specs.Types.{cell_kind, conversion, promotion, target_of, integer_of}
+use Rattle.source_meaning.specs.Types.{elements_of}
 use Rattle.source_meaning.specs.Running.{Running, running}
-use Rattle.source_meaning.specs.Expressions.{Calls, type_of, step_operator, value, address, binary, converted_to}
+use Rattle.source_meaning.specs.Expressions.{Calls, type_of, types_of, step_operator, value, address, binary}
+use Rattle.source_meaning.specs.Expressions.{converted_to, arguments}
+use Rattle.source_meaning.specs.Laws.{Gives}
 use Rattle.meaning_laws.specs.layer.Values.{FitsCell, IsOf, IsPlaceOf, IsGiven, HasIntegerKind, IsFormedType}
 use Rattle.meaning_laws.specs.layer.Values.{IsFilled, Brings}
 use Rattle.source_meaning.specs.Threads.{called, main_of, main_called, initial_state}
 use Rattle.meaning_laws.specs.layer.Formed.{MakesSized, MakesShaped, IsFormed, CallsFit}
 use Rattle.meaning_laws.specs.code.Scopes.{HasScope}
-use Rattle.meaning_laws.specs.layer.Uses.{Leads, Counts, IsOperand, AreOperands, HasAffinity, IsTaken}
+use Rattle.meaning_laws.specs.layer.Copies.{TakesCells}
+use Rattle.meaning_laws.specs.layer.Uses.{Leads, Counts, IsOperand, AreOperands, HasAffinity, IsTaken, AreArguments}
+use Rattle.meaning_laws.specs.layer.Uses.{ArePromoted, AllNumbers, IsLaid, LeadsLaid}
 use Rattle.meaning_laws.specs.layer.FormedStatements.{IsFormedFunction}
 
 -- A cell keeps what fits it, in a private object and in a shared one (C99 6.5.16).
@@ -56,6 +79,21 @@ pub record ScalarsAreKept : Type 0 where
       (program : Checked) (thread budget : ℕ) (kind : Kind) (p : SharedPtr) (l : Loc) (v : Value)
       → cell (running program thread budget).thread kind p ≡ Ok l → value_fits v kind ≡ true
       → (s : Scalar) × (v ≡ value_of.Scalar s)
+
+-- A call of the library with arguments of its parameters' types reads scalars of private cells, so that none counts as
+-- 0, and what it writes to a private cell fits it, so that the cell keeps it (UPC 7.2.5).
+pub record CopiesFit : Type 0 where
+  -- What is read of a shared cell fits it.
+  pub read : (τ : Thread) (kind : Kind) (strict : Bool) (l : Loc)
+      → Brings Scalar (λ v. fits_kind v kind ≡ true) (read τ kind strict l)
+  -- What is read of a private cell fits it.
+  pub loaded : (τ : Thread) (kind : Kind) (at : Place) (p : LocalPtr)
+      → Brings Value (λ v. value_fits v kind ≡ true) (load_private kind at p)
+  -- Where this is so, the call reads scalars of private cells, and writes to them what fits.
+  pub taken :
+      (program : Checked) (thread budget : ℕ) (private : ℕ → Option Shape) (call : LibraryCall) (shape : ℕ)
+      (args : List Value) → AreArguments (call_parameters call) args
+      → TakesCells (library_call program.threads (start_of program).shapes thread private call shape args)
 
 -- What the conversion of a value of one type into another type gives fits a cell of that type, so that the cell keeps
 -- it (C99 6.3, 6.5.16.1).
@@ -181,6 +219,79 @@ pub record ConversionsAreTaken : Type 0 where
   pub cast :
       (structs : Structs) (from into : CType) (zero : Bool) (v : Value)
       → castable (value_type from) into zero ≡ true → IsOf structs from v → IsTaken zero (conversion from into) v
+
+-- The two last operands of `? :` are converted into the type of the whole, and the conversion takes each value of the
+-- operand's type, so that no value counts as null or as 0 there but that of the constant 0 (C99 6.5.15).
+pub record ChoicesAreTaken : Type 0 where
+  -- The operand that is taken where the test is not 0.
+  pub second :
+      (program : Checked) (locals : List CType) (how : Use) (attr : Attr) (test a b : Expr) (structs : Structs)
+      (v : Value) → MeetsKind program locals how attr (Conditional test a b) → IsOf structs (type_of a) v
+      → IsTaken (is_zero (attr_of a)) (conversion (type_of a) attr.ctype) v
+  -- The operand that is taken where it is 0.
+  pub third :
+      (program : Checked) (locals : List CType) (how : Use) (attr : Attr) (test a b : Expr) (structs : Structs)
+      (v : Value) → MeetsKind program locals how attr (Conditional test a b) → IsOf structs (type_of b) v
+      → IsTaken (is_zero (attr_of b)) (conversion (type_of b) attr.ctype) v
+
+-- The arguments of printf after its format are integers, whose types have kinds of integers; so each is promoted, and
+-- what comes of them are integers (C99 6.5.2.2, 7.19.6.3).
+pub record PrintedArePromoted : Type 0 where
+  pub each :
+      (program : Checked) (locals : List CType) (how : Use) (attr : Attr) (format : Expr) (args : Exprs)
+      (structs : Structs) → MeetsKind program locals how attr (Call (target.Library Printf) (AndExpr format args))
+      → ArePromoted structs args
+  -- What is promoted and printed is an integer.
+  pub given :
+      (ρ : Running) (call : Calls) (strict : Bool) (args : Exprs)
+      → Gives (List Value) AllNumbers (arguments ρ call strict (map promotion (types_of args)) args [])
+
+-- What a program that meets the rules steps over has a layout, so that none counts as one byte (C99 6.5.2.1, 6.5.2.4,
+-- 6.5.6, 6.5.16.2). An order of two pointers to void, which steps over nothing, needs none.
+pub record SteppedAreLaid : Type 0 where
+  -- The objects over which a subscript steps.
+  pub subscript :
+      (program : Checked) (locals : List CType) (how : Use) (attr : Attr) (a i : Expr)
+      → MeetsKind program locals how attr (Subscript a i) → IsLaid program attr.ctype
+  -- What `+` and `-` step over: what the pointers among their operands lead to.
+  pub binary :
+      (program : Checked) (locals : List CType) (how : Use) (attr : Attr) (o : BinOp) (a b : Expr) → moves o ≡ true
+      → MeetsKind program locals how attr (Binary o a b)
+      → LeadsLaid program (target_of (type_of a)) × LeadsLaid program (target_of (type_of b))
+  -- What `+=` and `-=` step over.
+  pub compound :
+      (program : Checked) (locals : List CType) (how : Use) (attr : Attr) (o : BinOp) (a b : Expr) → moves o ≡ true
+      → MeetsKind program locals how attr (Compound o a b) → LeadsLaid program (target_of (type_of a))
+  -- What `++` and `--` step over.
+  pub step :
+      (program : Checked) (locals : List CType) (how : Use) (attr : Attr) (o : StepOperator) (a : Expr)
+      → MeetsKind program locals how attr (Step o a) → LeadsLaid program (target_of (type_of a))
+
+-- A size operator of a program that meets the rules has a known value (C99 6.5.3.4, UPC 6.4.1).
+pub record SizesAreKnown : Type 0 where
+  -- On an expression.
+  pub object :
+      (program : Checked) (locals : List CType) (how : Use) (attr : Attr) (o : SizeOperator) (a : Expr)
+      → MeetsKind program locals how attr (SizeOf o a) → (v : ℤ) × (attr.constant ≡ Known v)
+  -- On a type.
+  pub type :
+      (program : Checked) (locals : List CType) (how : Use) (attr : Attr) (o : SizeOperator) (t : CType)
+      → MeetsKind program locals how attr (SizeOfType o t) → (v : ℤ) × (attr.constant ≡ Known v)
+
+-- Each name of a shared object in a program that meets the rules has the object (UPC 6.5.1).
+pub record SharedAreThere : Type 0 where
+  pub each :
+      (program : Checked) (locals : List CType) (how : Use) (attr : Attr) (number : ℕ)
+      → MeetsKind program locals how attr (Object (home.Shared number))
+      → (o : ObjectRef) × (numbered (start_of program).shared_objects number ≡ Some o)
+
+-- A pointer-to-shared that fits a cell of pointers to a type keeps its phase where it is stepped, if the block of the
+-- type is at most 16,777,216 elements, as a declared one is (UPC 6.4.2, 6.5.1.1).
+pub record PhasesStay : Type 0 where
+  pub each :
+      (structs : Structs) (t : CType) (p : SharedPtr) → block_or_none (block_of t) ≤ 16777216
+      → value_fits (value_of.Scalar (Shared p)) (pointer_kind structs.targets t) ≡ true
+      → phased (elements_of structs t) p ≡ p
 
 -- The elements of each declared shared object have a shape that the program has (UPC 6.5.1.1).
 pub record SharedHaveShapes : Type 0 where

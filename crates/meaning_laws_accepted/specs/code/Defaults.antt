@@ -3,7 +3,10 @@ use Rattle.std.specs.Prelude.{◌≡◌, ℕ, Bool, true, false, List, [], ◌�
 use Rattle.std.specs.Prelude.{pos}
 use Rattle.upc_text.specs.declared.place.Place.{Place}
 use Rattle.integers.specs.declared.operator.BinOp.{BinOp}
+use Rattle.block_layout.specs.declared.kind.Shape.{Shape}
 use Rattle.upc_values.specs.declared.library.LibraryCall.{LibraryCall}
+use Rattle.upc_values.specs.declared.library.LibraryCall.TheVariants.{Printf}
+use Rattle.upc_values.specs.LibraryCalls.{library_call}
 use Rattle.upc_values.specs.declared.scalar.Scalar.TheVariants.{Int, Shared, Lock}
 use Rattle.upc_values.specs.declared.scalar.Value.{Value}
 use Rattle.upc_values.specs.declared.scalar.Value.TheVariants as value_of
@@ -28,31 +31,17 @@ use Rattle.thread_steps.specs.States.{◌>>=◌}
 use Rattle.thread_steps.specs.Operators.{cast}
 use Rattle.thread_steps.specs.Values.{number}
 use Rattle.thread_steps.specs.Library.{is_formed}
-use Rattle.source_meaning.specs.Types.{cell_kind, conversion, parameter_conversion, target_of, integer_of}
+use Rattle.source_meaning.specs.Types.{cell_kind, conversion, parameter_conversion, promotion, target_of, integer_of}
 use Rattle.source_meaning.specs.Running.{Running, parameters_of}
-use Rattle.source_meaning.specs.Expressions.{type_of, value, address, binary, converted_to, step_operator}
+use Rattle.source_meaning.specs.Expressions.{type_of, types_of, value, address, binary, converted_to, step_operator}
 use Rattle.source_meaning.specs.Expressions.{arguments, allocated_shape, is_printf}
 use Rattle.source_meaning.specs.Laws.{Gives}
 use Rattle.source_meaning.specs.Statements.{element_type}
 use Rattle.source_meaning.specs.Threads.{called}
 use Rattle.meaning_laws.specs.layer.Values.{FitsCell, IsOf, IsPlaceOf, IsGiven, Brings}
-use Rattle.meaning_laws.specs.layer.Uses.{Leads, Counts, IsOperand, AreOperands, HasAffinity, IsTaken}
-
--- A value is one that a parameter of the library has (UPC 7.2, 7.3).
-abbrev pub IsArgument : LibraryParameter → Value → Type 0
-IsArgument parameter.SharedPointer (value_of.Scalar (Shared p)) = Unit {0}
-IsArgument parameter.PrivatePointer (value_of.Local p) = Unit {0}
-IsArgument parameter.LockPointer (value_of.Scalar (Lock l)) = Unit {0}
-IsArgument parameter.Size (value_of.Scalar (Int v)) = Unit {0}
-IsArgument parameter.Int (value_of.Scalar (Int v)) = Unit {0}
-IsArgument parameter.NoFunction (value_of.Scalar (Int v)) = Unit {0}
-IsArgument x v = ⊥
-
--- Values are those that the parameters of the library have, as many and in order.
-abbrev pub AreArguments : List LibraryParameter → List Value → Type 0
-AreArguments [] [] = Unit {0}
-AreArguments (x ∷ xs) (v ∷ vs) = IsArgument x v × AreArguments xs vs
-AreArguments xs vs = ⊥
+use Rattle.meaning_laws.specs.layer.Uses.{Leads, Counts, IsOperand, AreOperands, HasAffinity, IsTaken, AreArguments}
+use Rattle.meaning_laws.specs.layer.Uses.{ArePromoted, AllNumbers}
+use Rattle.meaning_laws.specs.layer.Copies.{TakesCells}
 
 -- As a thread runs the program.
 module _ (ρ : Running) where
@@ -101,14 +90,31 @@ module _ (ρ : Running) where
   ArePassed (x ∷ xs) (AndExpr a more) = IsPassed x a × ArePassed xs more
   ArePassed xs args = Unit {0}
 
+  -- The arguments of printf after its format are integers, whose types have kinds of integers, and so is what comes of
+  -- them; any other call has parameters instead (C99 6.5.2.2, 7.19.6.3).
+  abbrev pub ArePrinted : LibraryCall → Exprs → Type 0
+  ArePrinted Printf (AndExpr format more) =
+      ArePromoted ρ.structs more
+      × ((calls : ℕ) (strict : Bool)
+      → Gives (List Value) AllNumbers (arguments ρ (called ρ calls) strict (map promotion (types_of more)) more []))
+  ArePrinted c args = Unit {0}
+
   -- What comes of the arguments of a call of the library, whose value has this type, is what its parameters have, and
-  -- all threads may meet with it; and the program has the shape of what the call allocates. printf has a format instead
-  -- of parameters (UPC 7.2, 7.3).
+  -- all threads may meet with it; what the call reads of private cells are then scalars, and what it writes to them fits
+  -- them; and the program has the shape of what the call allocates. printf has a format instead of parameters (UPC 7.2,
+  -- 7.3).
   pub record LibraryTakes (c : LibraryCall) (t : CType) (args : Exprs) : Type 0 where
     pub passed : ArePassed (call_parameters c) args
     pub given : is_printf c ≡ false → (calls : ℕ) (strict : Bool)
         → Brings (List Value) (AreArguments (call_parameters c))
         (arguments ρ (called ρ calls) strict (map parameter_conversion (call_parameters c)) args [])
+    pub cells : is_printf c ≡ false → (calls : ℕ) (strict : Bool)
+        → Brings (List Value)
+        (λ vs. (private : ℕ → Option Shape)
+        → TakesCells (library_call ρ.thread.threads ρ.thread.shapes ρ.thread.number private c
+        (allocated_shape ρ c t) vs))
+        (arguments ρ (called ρ calls) strict (map parameter_conversion (call_parameters c)) args [])
+    pub printed : ArePrinted c args
     pub formed : is_printf c ≡ false → (calls : ℕ) (strict : Bool)
         → Gives (List Value) (λ vs. is_formed ρ.thread.shapes c (allocated_shape ρ c t) vs ≡ true)
         (arguments ρ (called ρ calls) strict (map parameter_conversion (call_parameters c)) args [])
@@ -170,7 +176,7 @@ module _ (ρ : Running) where
     TakesKind attr (Compound o a b) =
         OperatorTakes o (type_of a) (type_of b) × ChangeFits o (type_of a) (type_of b) × TakesExpr a × TakesExpr b
     TakesKind attr (Conditional test a b) =
-        ConvertFits attr.ctype a × ConvertFits attr.ctype b × TakesExpr test × TakesExpr a × TakesExpr b
+        IsConverted attr.ctype a × IsConverted attr.ctype b × TakesExpr test × TakesExpr a × TakesExpr b
     TakesKind attr (Comma parts) = TakesExprs parts
 
     -- Each of these expressions is so.
