@@ -22,6 +22,7 @@ use Rattle.typed_tree.specs.Tree.{Call, Member, MemberBehind, Step, Address, Der
 use Rattle.typed_tree.specs.Tree.{Cast, Binary, And, Or, Assign, Compound, Conditional, Comma, Exprs, NoExprs}
 use Rattle.typed_tree.specs.Tree.{AndExpr, place_of}
 use Rattle.thread_steps.specs.declared.cast.CastTo.{CastTo}
+use Rattle.thread_steps.specs.declared.cast.CastTo.TheVariants as to
 use Rattle.thread_steps.specs.Values.{number}
 use Rattle.source_meaning.specs.Types as type
 use Rattle.source_meaning.specs.Running.{parameters_of}
@@ -36,7 +37,7 @@ use Rattle.stack_code.specs.layer.Depths.{raised}
 use Rattle.gen_expr.specs.layer.Sources.{Source, running_of}
 use Rattle.gen_expr.specs.layer.Codes as code
 use Rattle.gen_expr.specs.layer.Codes.{pushes, casts, makes, stacks, arguments_count}
-use Rattle.gen_expr.specs.code.Depths.{ExpressionsAreDeep}
+use Rattle.gen_expr.specs.code.Depths.{ExpressionsAreDeep, EffectsAreDeep}
 use Rattle.stack_code.proofs.Deepenings.{Deepens, Then, follows, single, begins_with, ends_with, under, no_code}
 use Rattle.stack_code.proofs.Deepenings.{raised_more, whole}
 use Rattle.gen_expr.proofs.Deepening.{either_deepens}
@@ -46,6 +47,16 @@ pushed_deepens at v d = single (pushes at v) d d _ refl (λ f more l. l)
 
 pub cast_deepens : (at : Place) (into : CastTo) (d : ℕ) → Deepens (casts at into ∷ []) (suc d) (Then (suc d))
 cast_deepens at into d = single (casts at into) d (suc d) _ refl (λ f more l. l)
+
+-- What a part leaves is removed.
+popped_deepens : (at : Place) (c : List Instr) (e d : ℕ) → Deepens c e (Then (suc d))
+    → Deepens (code.popped_code at c) e (Then d)
+popped_deepens at c e d x = ends_with c (stacks at stack.Pop) e d (suc d) _ x refl (λ f more l. l)
+
+cast_effect_deepens : (at : Place) (into : CastTo) (operand value : List Instr) (d : ℕ) → Deepens operand d (Then d)
+    → Deepens value d (Then (suc d)) → Deepens (code.cast_effect_code at into operand value) d (Then d)
+cast_effect_deepens at to.Nothing operand value d x y = x
+cast_effect_deepens at into operand value d x y = popped_deepens at value d d y
 
 unary_deepens : (at : Place) (o : UnOp) (kind : Option Kind) (d : ℕ)
     → Deepens (code.unary_code at o kind) (suc d) (Then (suc d))
@@ -182,6 +193,26 @@ module _ (ς : Source) where
   step_deepens strict at step.IncrementAfter t d = after_step_deepens strict at op.Add t d
   step_deepens strict at step.DecrementAfter t d = after_step_deepens strict at op.Subtract t d
 
+  plain_step_deepens : (strict : Bool) (at : Place) (o : BinOp) (t : CType) (d : ℕ)
+      → Deepens (code.plain_step_code ς strict at o t) (suc d) (Then d)
+  plain_step_deepens strict at o t d =
+      let two = suc (suc d) in
+      let three = suc (suc (suc d)) in
+      begins_with (stacks at stack.Copy) _ d (suc d) two _ refl (λ f more l. l)
+      (follows (code.held_code ς strict at t) _ two two _ (held_deepens strict at t (suc d))
+      (begins_with (pushes at (number (pos 1))) _ two two three _ refl (λ f more l. l)
+      (follows (code.binary_code ς at o t int) _ three two _ (binary_deepens at o t int (suc d))
+      (begins_with (casts at (type.conversion t t)) _ (suc d) two two _ refl (λ f more l. l)
+      (ends_with (code.put_code ς strict at t) (stacks at stack.Pop) two d (suc d) _
+      (put_deepens strict at t d) refl (λ f more l. l))))))
+
+  step_effect_deepens : (strict : Bool) (at : Place) (o : StepOperator) (t : CType) (d : ℕ)
+      → Deepens (code.step_effect_code ς strict at o t) (suc d) (Then d)
+  step_effect_deepens strict at step.IncrementFirst t d = plain_step_deepens strict at op.Add t d
+  step_effect_deepens strict at step.DecrementFirst t d = plain_step_deepens strict at op.Subtract t d
+  step_effect_deepens strict at step.IncrementAfter t d = plain_step_deepens strict at op.Add t d
+  step_effect_deepens strict at step.DecrementAfter t d = plain_step_deepens strict at op.Subtract t d
+
   compound_deepens : (strict : Bool) (at : Place) (o : BinOp) (t u : CType) (d : ℕ)
       → Deepens (code.compound_code ς strict at o t u) (suc (suc d)) (Then (suc d))
   compound_deepens strict at o t u d =
@@ -301,17 +332,60 @@ module _ (ς : Source) where
           → Deepens (code.last_code ς strict at parts) d (Then (suc d))
       last_deepens at NoExprs d = pushed_deepens at _ d
       last_deepens at (AndExpr a more) d =
-          follows (code.value_code ς strict a) _ d (suc d) _ (value_deepens a d) (further_deepens more d)
+          further_deepens more (code.value_code ς strict a) _ d (value_deepens a d)
+          (dropped_deepens a _ d (address_deepens a d))
 
-      further_deepens : (parts : Exprs) (d : ℕ)
-          → Deepens (code.further_code ς strict parts) (suc d) (Then (suc d))
-      further_deepens NoExprs d = no_code (suc d)
-      further_deepens (AndExpr a more) d =
-          begins_with (stacks (place_of a) stack.Pop) _ d (suc d) d _ refl (λ f more l. l)
-          (follows (code.value_code ς strict a) _ d (suc d) _ (value_deepens a d) (further_deepens more d))
+      further_deepens : (parts : Exprs) (value effect : List Instr) (d : ℕ) → Deepens value d (Then (suc d))
+          → Deepens effect d (Then d) → Deepens (code.further_code ς strict value effect parts) d (Then (suc d))
+      further_deepens NoExprs value effect d x y = x
+      further_deepens (AndExpr a more) value effect d x y =
+          follows effect _ d d _ y
+          (further_deepens more (code.value_code ς strict a) _ d (value_deepens a d)
+          (dropped_deepens a _ d (address_deepens a d)))
+
+      -- An expression for what it does alone leaves no operand.
+      pub dropped_deepens : (e : Expr) (given : List Instr) (d : ℕ) → Deepens given d (Then (suc d))
+          → Deepens (code.dropped_code ς strict e given) d (Then d)
+      dropped_deepens (Is at attr kind) given d x =
+          chosen_deepens (mean.is_lvalue attr.form) _ _ d d
+          (follows given _ d (suc d) _ x
+          (popped_deepens at _ (suc d) d (held_deepens strict (mean.inner_place_in at kind) attr.ctype d)))
+          (dropped_kind_deepens at attr kind given d x)
+
+      dropped_address_deepens : (e : Expr) (given : List Instr) (d : ℕ) → Deepens given d (Then (suc d))
+          → Deepens (code.dropped_address_code ς strict e given) d (Then d)
+      dropped_address_deepens (Is at attr kind) given d x = dropped_kind_deepens at attr kind given d x
+
+      dropped_kind_deepens : (at : Place) (attr : Attr) (kind : ExprKind) (given : List Instr) (d : ℕ)
+          → Deepens given d (Then (suc d)) → Deepens (code.dropped_kind_code ς strict at attr kind given) d (Then d)
+      dropped_kind_deepens at attr (Paren a) given d x = dropped_address_deepens a given d x
+      dropped_kind_deepens at attr (Step o a) given d x =
+          follows (code.address_code ς strict a) _ d (suc d) _ (address_deepens a d)
+          (step_effect_deepens strict at o (type_of a) d)
+      dropped_kind_deepens at attr (Cast a) given d x =
+          cast_effect_deepens at (type.conversion (type_of a) attr.ctype) _ given d
+          (dropped_deepens a _ d (address_deepens a d)) x
+      dropped_kind_deepens at attr (Comma parts) given d x = effects_deepen parts d
+      dropped_kind_deepens at attr kind given d x = popped_deepens at given d d x
+
+      effects_deepen : (parts : Exprs) (d : ℕ) → Deepens (code.effects_code ς strict parts) d (Then d)
+      effects_deepen NoExprs d = no_code d
+      effects_deepen (AndExpr a more) d =
+          follows (code.dropped_code ς strict a (code.address_code ς strict a)) _ d d _
+          (dropped_deepens a _ d (address_deepens a d)) (effects_deepen more d)
+
+    pub effect_deepens : (e : Expr) (d : ℕ) → Deepens (code.effect_code ς strict e) d (Then d)
+    effect_deepens e d = dropped_deepens e _ d (address_deepens e d)
 
 pub expressions_are_deep : ExpressionsAreDeep
 expressions_are_deep ς strict e at =
     let gives : Instr = record { place = at; does = work.Call (GiveBack 0) } in
     whole _ (ends_with (code.value_code ς strict e) gives 0 0 1 (λ more. Unit {0}) (value_deepens ς strict e 0) refl
     (λ f more l. tt))
+
+pub effects_are_deep : EffectsAreDeep
+effects_are_deep ς strict e at =
+    let gives : Instr = record { place = at; does = work.Call (GiveBack 0) } in
+    whole _ (follows (code.effect_code ς strict e) _ 0 0 (λ more. Unit {0}) (effect_deepens ς strict e 0)
+    (begins_with (pushes at mean.no_value) (gives ∷ []) 0 0 1 (λ more. Unit {0}) refl (λ f more l. l)
+    (single gives 0 1 (λ more. Unit {0}) refl (λ f more l. tt))))

@@ -23,6 +23,7 @@ use Rattle.typed_tree.specs.Tree.{Call, Member, MemberBehind, Step, Address, Der
 use Rattle.typed_tree.specs.Tree.{Cast, Binary, And, Or, Assign, Compound, Conditional, Comma, Exprs, NoExprs}
 use Rattle.typed_tree.specs.Tree.{AndExpr, place_of}
 use Rattle.thread_steps.specs.declared.cast.CastTo.{CastTo}
+use Rattle.thread_steps.specs.declared.cast.CastTo.TheVariants as to
 use Rattle.thread_steps.specs.Values.{number}
 use Rattle.source_meaning.specs.Types as type
 use Rattle.source_meaning.specs.Running.{parameters_of}
@@ -154,6 +155,31 @@ module _ (ς : Source) (Q : Instr → Type 0) (h : HoldsOfForms ς Q) where
   stepped strict at step.IncrementAfter t = after_step strict at op.Add t
   stepped strict at step.DecrementAfter t = after_step strict at op.Subtract t
 
+  plain_step : (strict : Bool) (at : Place) (o : BinOp) (t : CType) → Each Q (code.plain_step_code ς strict at o t)
+  plain_step strict at o t = (
+    h.stack_work at stack.Copy tt,
+    joined (code.held_code ς strict at t) _ (held strict at t) (
+      h.numbers at (pos 1),
+      joined (code.binary_code ς at o t int) _ (binary at o t int)
+          (joined (code.again_code ς strict at t) _ (again strict at t) (h.stack_work at stack.Pop tt, tt)),
+    ),
+  )
+
+  step_effect : (strict : Bool) (at : Place) (o : StepOperator) (t : CType)
+      → Each Q (code.step_effect_code ς strict at o t)
+  step_effect strict at step.IncrementFirst t = plain_step strict at op.Add t
+  step_effect strict at step.DecrementFirst t = plain_step strict at op.Subtract t
+  step_effect strict at step.IncrementAfter t = plain_step strict at op.Add t
+  step_effect strict at step.DecrementAfter t = plain_step strict at op.Subtract t
+
+  popped : (at : Place) (c : List Instr) → Each Q c → Each Q (code.popped_code at c)
+  popped at c p = joined c _ p (h.stack_work at stack.Pop tt, tt)
+
+  cast_effect : (at : Place) (into : CastTo) (operand value : List Instr) → Each Q operand → Each Q value
+      → Each Q (code.cast_effect_code at into operand value)
+  cast_effect at to.Nothing operand value p q = p
+  cast_effect at into operand value p q = popped at value q
+
   compound : (strict : Bool) (at : Place) (o : BinOp) (t u : CType) → Each Q (code.compound_code ς strict at o t u)
   compound strict at o t u = (
     h.stack_work at stack.Over tt,
@@ -255,11 +281,42 @@ module _ (ς : Source) (Q : Instr → Type 0) (h : HoldsOfForms ς Q) where
 
       last : (at : Place) (parts : Exprs) → Each Q (code.last_code ς strict at parts)
       last at NoExprs = nothing at
-      last at (AndExpr a more) = joined (code.value_code ς strict a) _ (value_gathers a) (further more)
+      last at (AndExpr a more) =
+          further more (code.value_code ς strict a) _ (value_gathers a) (dropped a _ (address_gathers a))
 
-      further : (parts : Exprs) → Each Q (code.further_code ς strict parts)
-      further NoExprs = tt
-      further (AndExpr a more) = (
-        h.stack_work (place_of a) stack.Pop tt,
-        joined (code.value_code ς strict a) _ (value_gathers a) (further more),
-      )
+      further : (parts : Exprs) (value effect : List Instr) → Each Q value → Each Q effect
+          → Each Q (code.further_code ς strict value effect parts)
+      further NoExprs value effect p q = p
+      further (AndExpr a more) value effect p q =
+          joined effect _ q
+          (further more (code.value_code ς strict a) _ (value_gathers a) (dropped a _ (address_gathers a)))
+
+      dropped : (e : Expr) (front : List Instr) → Each Q front → Each Q (code.dropped_code ς strict e front)
+      dropped (Is at attr kind) front p =
+          chosen (mean.is_lvalue attr.form) _ _
+          (joined front _ p (popped at _ (held strict (mean.inner_place_in at kind) attr.ctype)))
+          (dropped_kind at attr kind front p)
+
+      dropped_address : (e : Expr) (front : List Instr) → Each Q front
+          → Each Q (code.dropped_address_code ς strict e front)
+      dropped_address (Is at attr kind) front p = dropped_kind at attr kind front p
+
+      dropped_kind : (at : Place) (attr : Attr) (kind : ExprKind) (front : List Instr) → Each Q front
+          → Each Q (code.dropped_kind_code ς strict at attr kind front)
+      dropped_kind at attr (Paren a) front p = dropped_address a front p
+      dropped_kind at attr (Step o a) front p =
+          joined (code.address_code ς strict a) _ (address_gathers a) (step_effect strict at o (type_of a))
+      dropped_kind at attr (Cast a) front p =
+          cast_effect at (type.conversion (type_of a) attr.ctype) _ front (dropped a _ (address_gathers a)) p
+      dropped_kind at attr (Comma parts) front p = effects parts
+      dropped_kind at attr kind front p = popped at front p
+
+      effects : (parts : Exprs) → Each Q (code.effects_code ς strict parts)
+      effects NoExprs = tt
+      effects (AndExpr a more) =
+          joined (code.dropped_code ς strict a (code.address_code ς strict a)) _ (dropped a _ (address_gathers a))
+          (effects more)
+
+    -- Each instruction of the code of an expression for what it does alone.
+    pub effect_gathers : (e : Expr) → Each Q (code.effect_code ς strict e)
+    effect_gathers e = dropped e _ (address_gathers e)

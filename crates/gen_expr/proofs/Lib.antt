@@ -6,3 +6,4 @@ pub mod Deepening
 pub mod Depths
 pub mod Gathered
 pub mod Appended
+pub mod Commas

@@ -1,6 +1,6 @@
 -- The code of expressions does what they do.
 use Rattle.std.proofs.Common.{◌≡◌, ℕ, suc, ◌+◌, List, [], ◌∷◌, ◌++◌, length, map, Option, Some, None}
-use Rattle.std.proofs.Common.{Bool, true, false, refl, ap, ◌∙◌, subst, arith, ℤ, pos}
+use Rattle.std.proofs.Common.{Bool, true, false, refl, sym, ap, ◌∙◌, subst, arith, ℤ, pos}
 use Rattle.std.specs.Prelude.{drop, if◌then◌else◌}
 use Rattle.upc_text.specs.declared.place.Place.{Place}
 use Rattle.block_layout.specs.declared.kind.Kind.{Kind}
@@ -24,7 +24,8 @@ use Rattle.typed_tree.specs.Tree.{Call, Member, MemberBehind, Step, Address, Der
 use Rattle.typed_tree.specs.Tree.{Cast, Binary, And, Or, Assign, Compound, Conditional, Comma, Exprs, NoExprs}
 use Rattle.typed_tree.specs.Tree.{AndExpr, place_of}
 use Rattle.thread_steps.specs.declared.cast.CastTo.{CastTo}
-use Rattle.thread_steps.specs.States.{State, Doing, ◌>>=◌, ◌>>◌, give, choose}
+use Rattle.thread_steps.specs.declared.cast.CastTo.TheVariants as to
+use Rattle.thread_steps.specs.States.{Thread, State, Res, Val, Over, Unfinished, bind, Doing, ◌>>=◌, ◌>>◌, give, choose}
 use Rattle.thread_steps.specs.Values.{number, number_of, truth_value, is_zero}
 use Rattle.thread_steps.specs.Pointers.{in_row, same}
 use Rattle.thread_steps.specs.Operators.{cast}
@@ -45,13 +46,31 @@ use Rattle.stack_code.proofs.Meetings.{piled_more, youngest_piled, below_piled}
 use Rattle.gen_expr.specs.layer.Sources.{source_of}
 use Rattle.gen_expr.specs.layer.Codes as code
 use Rattle.gen_expr.specs.layer.Codes.{pushes, casts, makes, stacks, arguments_count}
-use Rattle.gen_expr.specs.layer.Meanings.{CallsMeet, ExpressionsAreMeant}
+use Rattle.gen_expr.specs.layer.Meanings.{CallsMeet, ExpressionsAreMeant, EffectsAreMeant}
 use Rattle.gen_expr.proofs.Parts as part
 use Rattle.gen_expr.proofs.Parts.{Runs, Gives, then_gives}
 
 -- A value over other operands.
 abbrev pub onto : List Value → Value → List Value
 onto operands v = v ∷ operands
+
+-- No value over other operands.
+abbrev pub none_onto : List Value → Value → List Value
+none_onto operands v = operands
+
+-- A value that is given as it came.
+bind_give : {A : Type 0} (r : Res A) → r ≡ bind r give
+bind_give (Val a σ) = refl
+bind_give (Over told σ) = refl
+bind_give Unfinished = refl
+
+-- A cast into void has no run error.
+cast_nothing : (τ : Thread) (at : Place) (r : Res Value)
+    → bind r (λ v. give (number (pos 0))) ≡ bind r (λ v. cast τ to.Nothing at v)
+unfolding cast
+cast_nothing τ at (Val v σ) = refl
+cast_nothing τ at (Over told σ) = refl
+cast_nothing τ at Unfinished = refl
 
 -- The test of a row, as the instruction has it.
 row_same : (at : Place) (count : ℕ) (p : Value) (i : ℤ) (σ : State)
@@ -70,6 +89,33 @@ module _ (ρ : Running) (functions : List (List Instr)) where
       → act ρ.thread (Some i) at [] given calls σ ≡ conf_of (m σ) (λ v. there (further 1 at) (v ∷ operands) calls))
       → Runs ρ.thread functions Value (i ∷ []) given (onto operands) m
   makes_one i given operands m e = part.one_runs ρ.thread functions Value i given (onto operands) m e
+
+  -- The code does m and leaves no operand.
+  abbrev pub Drops : List Instr → List Value → Doing Value → Type 0
+  Drops c operands m = Runs ρ.thread functions Value c operands (none_onto operands) m
+
+  -- What m gives is removed.
+  popped_runs : (at : Place) (c : List Instr) (given operands : List Value) (m : Doing Value)
+      → Runs ρ.thread functions Value c given (onto operands) m
+      → Runs ρ.thread functions Value (code.popped_code at c) given (none_onto operands) m
+  popped_runs at c given operands m x =
+      part.told_runs ρ.thread functions Value _ given (none_onto operands) (m >>= give) m
+      (λ σ. sym (bind_give (m σ)))
+      (part.then_runs ρ.thread functions Value Value c (stacks at stack.Pop ∷ []) given (onto operands)
+      (none_onto operands) m give x
+      (λ v. part.stack_runs ρ.thread functions Value at stack.Pop [] (v ∷ operands) (none_onto operands) _
+      (part.none_runs ρ.thread functions Value v (none_onto operands))))
+
+  -- A conversion, from what its operand does and from its value.
+  cast_effect_runs : (at : Place) (into : CastTo) (operand value : List Instr) (operands : List Value)
+      (m : Doing Value) → Drops operand operands m → Leaves value operands (m >>= (λ v. cast ρ.thread into at v))
+      → Drops (code.cast_effect_code at into operand value) operands (m >>= (λ v. cast ρ.thread into at v))
+  cast_effect_runs at to.Nothing operand value operands m x y =
+      part.told_runs ρ.thread functions Value operand operands (none_onto operands)
+      (m >>= (λ v. give (number (pos 0)))) _ (λ σ. cast_nothing ρ.thread at (m σ))
+      (part.ends_runs ρ.thread functions Value Value operand operands (none_onto operands) (none_onto operands) m
+      (λ v. number (pos 0)) (λ v. refl) x)
+  cast_effect_runs at into operand value operands m x y = popped_runs at value operands operands _ y
 
   -- A value that is known.
   pub pushed : (at : Place) (v : Value) (operands : List Value) → Leaves (pushes at v ∷ []) operands (give v)
@@ -291,6 +337,40 @@ module _ (ρ : Running) (functions : List (List Instr)) where
   step_runs strict at step.IncrementAfter t p operands = after_step_runs strict at op.Add t p operands
   step_runs strict at step.DecrementAfter t p operands = after_step_runs strict at op.Subtract t p operands
 
+  plain_step_runs : (strict : Bool) (at : Place) (o : BinOp) (t : CType) (p : Value) (choice : Value → Value → Value)
+      (operands : List Value)
+      → Runs ρ.thread functions Value (code.plain_step_code (source_of ρ) strict at o t) (p ∷ operands)
+      (none_onto operands) (Stepped strict at o t p choice)
+  plain_step_runs strict at o t p choice operands =
+      let one = number (pos 1) in
+      part.stack_runs ρ.thread functions Value at stack.Copy _ (p ∷ operands) (none_onto operands) _
+      (part.then_runs ρ.thread functions Value Value (code.held_code (source_of ρ) strict at t) _ (p ∷ (p ∷ operands))
+      (onto (p ∷ operands)) (none_onto operands) (mean.held ρ strict at t p) _ (held_runs strict at t p (p ∷ operands))
+      (λ v. part.stack_runs ρ.thread functions Value at (stack.Push one) _ (v ∷ (p ∷ operands)) (none_onto operands) _
+      (part.then_runs ρ.thread functions Value Value (code.binary_code (source_of ρ) at o t int) _
+      (one ∷ (v ∷ (p ∷ operands))) (onto (p ∷ operands)) (none_onto operands)
+      (mean.binary ρ at o t int v one) _ (binary_runs at o t int v one (p ∷ operands))
+      (λ w. part.then_runs ρ.thread functions Value Value (casts at (type.conversion t t) ∷ []) _ (w ∷ (p ∷ operands))
+      (onto (p ∷ operands)) (none_onto operands) (cast ρ.thread (type.conversion t t) at w) _
+      (cast_runs at (type.conversion t t) w (p ∷ operands))
+      (λ u. part.then_runs ρ.thread functions (Unit {0}) Value (code.put_code (source_of ρ) strict at t) _
+      (u ∷ (p ∷ operands)) (λ _. u ∷ operands) (none_onto operands) (mean.put ρ strict at t p u) _
+      (put_runs strict at t p u operands)
+      (λ _. part.stack_runs ρ.thread functions Value at stack.Pop [] (u ∷ operands) (none_onto operands) _
+      (part.none_runs ρ.thread functions Value (choice v u) (none_onto operands))))))))
+
+  step_effect_runs : (strict : Bool) (at : Place) (o : StepOperator) (t : CType) (p : Value) (operands : List Value)
+      → Runs ρ.thread functions Value (code.step_effect_code (source_of ρ) strict at o t) (p ∷ operands)
+      (none_onto operands) (Stepped strict at (mean.step_operator ρ o) t p (mean.step_value ρ o))
+  step_effect_runs strict at step.IncrementFirst t p operands =
+      plain_step_runs strict at op.Add t p (λ v u. u) operands
+  step_effect_runs strict at step.DecrementFirst t p operands =
+      plain_step_runs strict at op.Subtract t p (λ v u. u) operands
+  step_effect_runs strict at step.IncrementAfter t p operands =
+      plain_step_runs strict at op.Add t p (λ v u. v) operands
+  step_effect_runs strict at step.DecrementAfter t p operands =
+      plain_step_runs strict at op.Subtract t p (λ v u. v) operands
+
   compound_runs : (strict : Bool) (at : Place) (o : BinOp) (t u : CType) (p y : Value) (operands : List Value)
       → Runs ρ.thread functions Value (code.compound_code (source_of ρ) strict at o t u) (y ∷ (p ∷ operands))
       (onto operands)
@@ -330,6 +410,18 @@ module _ (ρ : Running) (functions : List (List Instr)) where
       → Leaves d operands n → Leaves (if b then c else d) operands (choose b m n)
   chosen_runs true c d operands m n x y = x
   chosen_runs false c d operands m n x y = y
+
+  -- An expression for what it does, where an lvalue is read.
+  dropped_in_runs : (strict : Bool) (at inner : Place) (t : CType) (b : Bool) (given effect : List Instr)
+      (operands : List Value) (m : Doing Value) → Leaves given operands m → Drops effect operands m
+      → Drops (if b then given ++ code.popped_code at (code.held_code (source_of ρ) strict inner t) else effect) operands
+      (m >>= (λ v. choose b (mean.held ρ strict inner t v) (give v)))
+  dropped_in_runs strict at inner t true given effect operands m x y =
+      part.then_runs ρ.thread functions Value Value given _ operands (onto operands) (none_onto operands) m _ x
+      (λ v. popped_runs at _ (v ∷ operands) operands _ (held_runs strict inner t v operands))
+  dropped_in_runs strict at inner t false given effect operands m x y =
+      part.told_runs ρ.thread functions Value effect operands (none_onto operands) m (m >>= give)
+      (λ σ. bind_give (m σ)) y
 
   -- A call of the library, or of printf, with its arguments on top.
   library_runs : (at : Place) (c : LibraryCall) (shape n : ℕ) (vs operands : List Value) → length vs ≡ n
@@ -526,20 +618,63 @@ module _ (ρ : Running) (functions : List (List Instr)) where
           → Leaves (code.last_code (source_of ρ) strict at parts) operands (mean.last ρ call strict no_value parts)
       last_runs at NoExprs operands = pushed at _ operands
       last_runs at (AndExpr a more) operands =
-          part.then_runs ρ.thread functions Value Value (code.value_code (source_of ρ) strict a) _ operands
-          (onto operands) (onto operands) (mean.value ρ call strict a) _ (value_runs a operands)
-          (λ w. further_run w more operands)
+          further_run more (code.value_code (source_of ρ) strict a) _ operands (mean.value ρ call strict a)
+          (value_runs a operands) (dropped_runs a _ operands (address_runs a operands))
 
-      further_run : (w : Value) (parts : Exprs) (operands : List Value)
-          → Runs ρ.thread functions Value (code.further_code (source_of ρ) strict parts) (w ∷ operands) (onto operands)
-          (mean.last ρ call strict w parts)
-      further_run w NoExprs operands = part.none_runs ρ.thread functions Value w (onto operands)
-      further_run w (AndExpr a more) operands =
-          part.stack_runs ρ.thread functions Value (place_of a) stack.Pop _ (w ∷ operands) (onto operands) _
-          (part.then_runs ρ.thread functions Value Value (code.value_code (source_of ρ) strict a) _ operands
-          (onto operands) (onto operands) (mean.value ρ call strict a) _ (value_runs a operands)
-          (λ v. further_run v more operands))
+      further_run : (parts : Exprs) (value effect : List Instr) (operands : List Value) (m : Doing Value)
+          → Leaves value operands m → Drops effect operands m
+          → Leaves (code.further_code (source_of ρ) strict value effect parts) operands
+          (m >>= (λ w. mean.last ρ call strict w parts))
+      further_run NoExprs value effect operands m x y =
+          part.told_runs ρ.thread functions Value value operands (onto operands) m (m >>= give)
+          (λ σ. bind_give (m σ)) x
+      further_run (AndExpr a more) value effect operands m x y =
+          part.then_runs ρ.thread functions Value Value effect _ operands (none_onto operands) (onto operands) m _ y
+          (λ v. further_run more (code.value_code (source_of ρ) strict a) _ operands (mean.value ρ call strict a)
+          (value_runs a operands) (dropped_runs a _ operands (address_runs a operands)))
+
+      -- An expression for what it does alone.
+      pub dropped_runs : (e : Expr) (given : List Instr) (operands : List Value)
+          → Leaves given operands (mean.address ρ call strict e)
+          → Drops (code.dropped_code (source_of ρ) strict e given) operands (mean.value ρ call strict e)
+      dropped_runs (Is at attr kind) given operands x =
+          dropped_in_runs strict at (mean.inner_place_in at kind) attr.ctype (mean.is_lvalue attr.form) given _ operands
+          (mean.given ρ call strict at attr kind) x (dropped_kind_runs at attr kind given operands x)
+
+      dropped_address_runs : (e : Expr) (given : List Instr) (operands : List Value)
+          → Leaves given operands (mean.address ρ call strict e)
+          → Drops (code.dropped_address_code (source_of ρ) strict e given) operands (mean.address ρ call strict e)
+      dropped_address_runs (Is at attr kind) given operands x = dropped_kind_runs at attr kind given operands x
+
+      dropped_kind_runs : (at : Place) (attr : Attr) (kind : ExprKind) (given : List Instr) (operands : List Value)
+          → Leaves given operands (mean.given ρ call strict at attr kind)
+          → Drops (code.dropped_kind_code (source_of ρ) strict at attr kind given) operands
+          (mean.given ρ call strict at attr kind)
+      dropped_kind_runs at attr (Paren a) given operands x = dropped_address_runs a given operands x
+      dropped_kind_runs at attr (Step o a) given operands x =
+          part.then_runs ρ.thread functions Value Value (code.address_code (source_of ρ) strict a) _ operands
+          (onto operands) (none_onto operands) (mean.address ρ call strict a) _ (address_runs a operands)
+          (λ p. step_effect_runs strict at o (type_of a) p operands)
+      dropped_kind_runs at attr (Cast a) given operands x =
+          cast_effect_runs at (type.conversion (type_of a) attr.ctype) _ given operands (mean.value ρ call strict a)
+          (dropped_runs a _ operands (address_runs a operands)) x
+      dropped_kind_runs at attr (Comma parts) given operands x = effects_run no_value parts operands
+      dropped_kind_runs at attr kind given operands x = popped_runs at given operands operands _ x
+
+      -- Some expressions, each for what it does alone.
+      effects_run : (w : Value) (parts : Exprs) (operands : List Value)
+          → Drops (code.effects_code (source_of ρ) strict parts) operands (mean.last ρ call strict w parts)
+      effects_run w NoExprs operands = part.none_runs ρ.thread functions Value w (none_onto operands)
+      effects_run w (AndExpr a more) operands =
+          part.then_runs ρ.thread functions Value Value _ _ operands (none_onto operands) (none_onto operands)
+          (mean.value ρ call strict a) _ (dropped_runs a _ operands (address_runs a operands))
+          (λ v. effects_run v more operands)
 
 pub expressions_are_meant : ExpressionsAreMeant
 expressions_are_meant ρ functions call strict e calls here operands active σ has =
     (value_runs ρ functions call calls strict e operands).by here active σ has
+
+pub effects_are_meant : EffectsAreMeant
+effects_are_meant ρ functions call strict e calls here operands active σ has =
+    (dropped_runs ρ functions call calls strict e _ operands
+    (address_runs ρ functions call calls strict e operands)).by here active σ has

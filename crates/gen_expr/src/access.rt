@@ -153,6 +153,47 @@ fn put_after_step(
     put_stack(code, place, StackWork::Pop)
 }
 
+fn put_plain_step(
+    code: &mut Vec<Instr>,
+    source: Source<'_>,
+    strict: bool,
+    place: Place,
+    operator: BinOp,
+    t: &CType,
+) -> Result<(), OutOfMemory>
+    ensures { OnOk result (code.new.items
+        ≡ code.old.items ++ pure.plain_step_code (view_source source.entry) strict place operator (view t.now)) }
+{
+    put_stack(code, place, StackWork::Copy)?;
+    put_held(code, source, strict, place, t)?;
+    put_push(code, place, Value::Scalar(Scalar::Int(1)))?;
+    put_binary(code, source, place, operator, t, &int_type())?;
+    put_cast_kept(code, source, strict, place, t)?;
+    put_stack(code, place, StackWork::Pop)
+}
+
+/// Appends the code of what `++` and `--` do to the place on top.
+pub(crate) fn put_step_effect(
+    code: &mut Vec<Instr>,
+    source: Source<'_>,
+    strict: bool,
+    place: Place,
+    operator: StepOperator,
+    t: &CType,
+) -> Result<(), OutOfMemory>
+    ensures { OnOk result (code.new.items
+        ≡ code.old.items ++ pure.step_effect_code (view_source source.entry) strict place operator (view t.now)) }
+{
+    match operator {
+        StepOperator::IncrementFirst | StepOperator::IncrementAfter => {
+            put_plain_step(code, source, strict, place, BinOp::Add, t)
+        }
+        StepOperator::DecrementFirst | StepOperator::DecrementAfter => {
+            put_plain_step(code, source, strict, place, BinOp::Subtract, t)
+        }
+    }
+}
+
 /// Appends the code of `++` and `--` on the place on top.
 pub(crate) fn put_step(
     code: &mut Vec<Instr>,

@@ -12,7 +12,9 @@ ghost use Rattle.gen_expr.specs.layer.ViewSource.{view_source};
 ghost use Rattle.gen_expr.specs.code.Groups.{is_leaf, is_unary, is_infix, is_assignment, is_choice};
 ghost use Rattle.gen_expr.specs.code.Calls.{function_call_code, library_call_code};
 
-use crate::access::{put_compound, put_kept, put_step, put_subscript, put_value_in};
+use crate::access::{
+    put_compound, put_held, put_kept, put_step, put_step_effect, put_subscript, put_value_in,
+};
 use crate::branches::{constant_part, put_branches};
 use crate::calls::{
     call_casts, count, library_casts, promotions, put_call_to, put_library, put_print,
@@ -30,7 +32,7 @@ use stack_code::{Instr, StackWork, ValueWork};
 use std::alloc::Global;
 use thread_steps::CastTo;
 use typed_tree::{Expr, ExprKind, Target};
-use typing_rules::Attr;
+use typing_rules::{Attr, Form};
 use upc_text::{OutOfMemory, Place};
 use upc_types::CType;
 use upc_values::LibraryCall;
@@ -442,7 +444,7 @@ fn put_arguments(
     Ok(())
 }
 
-// The last of some expressions after the others (C99 6.5.17).
+// The value of the last of some expressions, after what the others do (C99 6.5.17).
 #[cycle(expression_code)]
 fn put_parts(
     code: &mut Vec<Instr>,
@@ -455,30 +457,94 @@ fn put_parts(
         ≡ code.old.items ++ pure.last_code (view_source source.entry) strict place
         (exprs_of (map view_expr parts.now))) }
 {
-    match parts.split_first() {
-        None => put_nothing(code, place),
-        Some((first, _)) => {
-            put_value_code(code, source, strict, first)?;
-            put_further(code, source, strict, parts)
+    if parts.is_empty() {
+        return put_nothing(code, place);
+    }
+    let last = parts.len() - 1;
+    for i in 0..last {
+        put_effect_code(code, source, strict, &parts[i])?;
+    }
+    put_value_code(code, source, strict, &parts[last])
+}
+
+/// Appends the code of an expression for what it does: it leaves no operand.
+#[cycle(expression_code)]
+pub fn put_effect_code(
+    code: &mut Vec<Instr>,
+    source: Source<'_>,
+    strict: bool,
+    e: &Expr,
+) -> Result<(), OutOfMemory>
+    ensures { OnOk result (code.new.items
+        ≡ code.old.items ++ pure.effect_code (view_source source.entry) strict (view_expr e.now)) }
+{
+    match e.attr.form {
+        Form::Lvalue(_) => {
+            put_address_code(code, source, strict, e)?;
+            put_held(code, source, strict, inner_place(e), &e.attr.ctype)?;
+            put_stack(code, e.place, StackWork::Pop)
         }
+        _ => put_done(code, source, strict, e),
     }
 }
 
-// All but the first.
+// An expression for what it does, where nothing is read.
 #[cycle(expression_code)]
-fn put_further(
+fn put_done(
+    code: &mut Vec<Instr>,
+    source: Source<'_>,
+    strict: bool,
+    e: &Expr,
+) -> Result<(), OutOfMemory>
+    ensures { OnOk result (code.new.items
+        ≡ code.old.items ++ pure.dropped_address_code (view_source source.entry) strict (view_expr e.now)
+        (pure.address_code (view_source source.entry) strict (view_expr e.now))) }
+{
+    match &e.kind {
+        ExprKind::Paren(a) => put_done(code, source, strict, a),
+        ExprKind::Step(operator, a) => {
+            put_address_code(code, source, strict, a)?;
+            put_step_effect(code, source, strict, e.place, *operator, &a.attr.ctype)
+        }
+        ExprKind::Cast(a) => match conversion(&a.attr.ctype, &e.attr.ctype) {
+            CastTo::Nothing => put_effect_code(code, source, strict, a),
+            _ => put_popped(code, source, strict, e),
+        },
+        ExprKind::Comma(parts) => put_effects(code, source, strict, parts.as_slice()),
+        _ => put_popped(code, source, strict, e),
+    }
+}
+
+// What an expression gives, which is removed.
+#[cycle(expression_code)]
+fn put_popped(
+    code: &mut Vec<Instr>,
+    source: Source<'_>,
+    strict: bool,
+    e: &Expr,
+) -> Result<(), OutOfMemory>
+    ensures { OnOk result (code.new.items
+        ≡ code.old.items ++ pure.popped_code e.now.place
+        (pure.address_code (view_source source.entry) strict (view_expr e.now))) }
+{
+    put_address_code(code, source, strict, e)?;
+    put_stack(code, e.place, StackWork::Pop)
+}
+
+// Some expressions, each for what it does (C99 6.5.17).
+#[cycle(expression_code)]
+fn put_effects(
     code: &mut Vec<Instr>,
     source: Source<'_>,
     strict: bool,
     parts: &[Expr],
 ) -> Result<(), OutOfMemory>
     ensures { OnOk result (code.new.items
-        ≡ code.old.items ++ pure.further_code (view_source source.entry) strict
-        (exprs_of (map view_expr (drop 1 parts.now)))) }
+        ≡ code.old.items ++ pure.effects_code (view_source source.entry) strict
+        (exprs_of (map view_expr parts.now))) }
 {
-    for i in 1..parts.len() {
-        put_stack(code, parts[i].place, StackWork::Pop)?;
-        put_value_code(code, source, strict, &parts[i])?;
+    for i in 0..parts.len() {
+        put_effect_code(code, source, strict, &parts[i])?;
     }
     Ok(())
 }

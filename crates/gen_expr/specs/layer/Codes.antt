@@ -28,6 +28,7 @@ use Rattle.typed_tree.specs.Tree.{Call, Member, MemberBehind, Step, Address, Der
 use Rattle.typed_tree.specs.Tree.{Cast, Binary, And, Or, Assign, Compound, Conditional, Comma, Exprs, NoExprs}
 use Rattle.typed_tree.specs.Tree.{AndExpr, place_of}
 use Rattle.thread_steps.specs.declared.cast.CastTo.{CastTo}
+use Rattle.thread_steps.specs.declared.cast.CastTo.TheVariants as to
 use Rattle.thread_steps.specs.Values.{number, truth_value}
 use Rattle.source_meaning.specs.Types.{target_of, integer_of, is_strict, conversion, conversions}
 use Rattle.source_meaning.specs.Types.{parameter_conversion, promotion, cell_kind, elements_of, member_offset}
@@ -120,6 +121,16 @@ integers_code at o j k = no_value_code at
 abbrev pub arguments_count : List CastTo → Exprs → ℕ
 arguments_count (c ∷ cs) (AndExpr a more) = 1 + arguments_count cs more
 arguments_count cs args = 0
+
+-- The code of what a part does, from the code of its value: that value is removed.
+abbrev pub popped_code : Place → (value : List Instr) → List Instr
+popped_code at value = value ++ (stacks at stack.Pop ∷ [])
+
+-- The code of a conversion for what it does alone, from that of its operand and of its value: into void it does only
+-- what its operand does, and any other conversion may be a run error (C99 6.3.2.2, 6.5.4).
+abbrev pub cast_effect_code : Place → CastTo → (operand value : List Instr) → List Instr
+cast_effect_code at to.Nothing operand value = operand
+cast_effect_code at into operand value = popped_code at value
 
 module _ (ς : Source) where
   -- The code of a pointer plus the integer on top of it: the place so many objects of a type after it (C99 6.5.6,
@@ -233,6 +244,21 @@ module _ (ς : Source) where
   step_code strict at step.IncrementAfter t = after_step_code strict at op.Add t
   step_code strict at step.DecrementAfter t = after_step_code strict at op.Subtract t
 
+  -- The code of `++` or `--` for what it does alone, from the place on top: neither value stays (C99 6.5.2.4, 6.5.3.1).
+  abbrev pub plain_step_code : Bool → Place → BinOp → CType → List Instr
+  plain_step_code strict at o t =
+      stacks at stack.Copy
+      ∷ (held_code strict at t
+      ++ (pushes at (number (pos 1))
+      ∷ (binary_code at o t int ++ (again_code strict at t ++ (stacks at stack.Pop ∷ [])))))
+
+  -- The same, by its operator.
+  abbrev pub step_effect_code : Bool → Place → StepOperator → CType → List Instr
+  step_effect_code strict at step.IncrementFirst t = plain_step_code strict at op.Add t
+  step_effect_code strict at step.DecrementFirst t = plain_step_code strict at op.Subtract t
+  step_effect_code strict at step.IncrementAfter t = plain_step_code strict at op.Add t
+  step_effect_code strict at step.DecrementAfter t = plain_step_code strict at op.Subtract t
+
   -- The code of a compound assignment, from the place of its left operand and the value of the right one on top
   -- (C99 6.5.16.2).
   abbrev pub compound_code : Bool → Place → BinOp → (left right : CType) → List Instr
@@ -339,12 +365,46 @@ module _ (ς : Source) where
       arguments_code (c ∷ cs) (AndExpr a more) = value_code a ++ (casts (place_of a) c ∷ arguments_code cs more)
       arguments_code cs args = []
 
-      -- The code of the value of the last of some expressions, which are evaluated in order (C99 6.5.17).
+      -- The code of the value of the last of some expressions, before which the others are done in order (C99 6.5.17).
       pub last_code : Place → Exprs → List Instr
       last_code at NoExprs = pushes at no_value ∷ []
-      last_code at (AndExpr a more) = value_code a ++ further_code more
+      last_code at (AndExpr a more) = further_code (value_code a) (dropped_code a (address_code a)) more
 
-      -- The code of the further parts of a comma expression, each after the value before it is removed (C99 6.5.17).
-      pub further_code : Exprs → List Instr
-      further_code NoExprs = []
-      further_code (AndExpr a more) = stacks (place_of a) stack.Pop ∷ (value_code a ++ further_code more)
+      -- The code of the value of the last of some expressions, where the code of the first one is this for its value,
+      -- and this for what it does alone (C99 6.5.17).
+      pub further_code : (value effect : List Instr) → Exprs → List Instr
+      further_code value effect NoExprs = value
+      further_code value effect (AndExpr a more) =
+          effect ++ further_code (value_code a) (dropped_code a (address_code a)) more
+
+      -- The code of an expression for what it does alone, from the code of what it gives: an lvalue is read, as where
+      -- its value is wanted, and no operand is left (C99 6.3.2.1, 6.8.3).
+      pub dropped_code : Expr → (given : List Instr) → List Instr
+      dropped_code (Is at attr kind) given =
+          if is_lvalue attr.form
+          then given ++ popped_code at (held_code strict (inner_place_in at kind) attr.ctype)
+          else dropped_kind_code at attr kind given
+
+      -- The code of an expression for what it does alone, from the code of what it gives; nothing is read.
+      pub dropped_address_code : Expr → (given : List Instr) → List Instr
+      dropped_address_code (Is at attr kind) given = dropped_kind_code at attr kind given
+
+      -- The code of an expression of each kind for what it does alone, from the code of what it gives: parentheses, `++`
+      -- and `--`, casts to void and comma expressions leave nothing that has to be removed, and of any other what it
+      -- gives is removed (C99 6.5).
+      pub dropped_kind_code : Place → Attr → ExprKind → (given : List Instr) → List Instr
+      dropped_kind_code at attr (Paren a) given = dropped_address_code a given
+      dropped_kind_code at attr (Step o a) given = address_code a ++ step_effect_code strict at o (type_of a)
+      dropped_kind_code at attr (Cast a) given =
+          cast_effect_code at (conversion (type_of a) attr.ctype) (dropped_code a (address_code a)) given
+      dropped_kind_code at attr (Comma parts) given = effects_code parts
+      dropped_kind_code at attr kind given = popped_code at given
+
+      -- The code of some expressions, in order and each for what it does alone (C99 6.5.17).
+      pub effects_code : Exprs → List Instr
+      effects_code NoExprs = []
+      effects_code (AndExpr a more) = dropped_code a (address_code a) ++ effects_code more
+
+    -- The code of an expression for what it does alone: it leaves no operand (C99 6.8.3).
+    abbrev pub effect_code : Expr → List Instr
+    effect_code e = dropped_code e (address_code e)

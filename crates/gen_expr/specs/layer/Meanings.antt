@@ -14,7 +14,7 @@ use Rattle.stack_code.specs.layer.Steps.{Spot, further}
 use Rattle.stack_code.specs.layer.Meets.{HasFrom, Meets, piled, there, value_at}
 use Rattle.stack_code.specs.layer.Making.{Making, with_instructions}
 use Rattle.gen_expr.specs.layer.Sources.{Source, source_of}
-use Rattle.gen_expr.specs.layer.Codes.{value_code}
+use Rattle.gen_expr.specs.layer.Codes.{value_code, effect_code}
 
 -- In these functions an instruction that calls function n + 1 does what a call of function n does.
 abbrev pub CallsMeet : Running → List (List Instr) → Calls → Type 0
@@ -36,6 +36,27 @@ GivesValue ρ functions call strict e code =
 -- Wherever functions have the code of an expression, it does what the expression does, and leaves its value.
 abbrev pub MeansValue : Running → List (List Instr) → Calls → Bool → Expr → Type 0
 MeansValue ρ functions call strict e = GivesValue ρ functions call strict e (value_code (source_of ρ) strict e)
+
+-- Wherever functions have this code, it does what the expression does, and leaves no operand.
+abbrev pub LeavesNothing : Running → List (List Instr) → Calls → Bool → Expr → List Instr → Type 0
+LeavesNothing ρ functions call strict e code =
+    (here : Spot) (operands : List Value) (calls : List Spot) (σ : State)
+    → HasFrom functions here code
+    → Meets ρ.thread functions Value (there here operands calls σ)
+    (λ v. there (further (length code) here) operands calls) (value ρ call strict e σ)
+
+-- Wherever functions have the code of an expression for what it does alone, it does what the expression does, and
+-- leaves no operand.
+abbrev pub MeansEffect : Running → List (List Instr) → Calls → Bool → Expr → Type 0
+MeansEffect ρ functions call strict e =
+    LeavesNothing ρ functions call strict e (effect_code (source_of ρ) strict e)
+
+-- The code of every expression for what it does alone does what the expression does, in every program, whatever the
+-- calls do that its own calls meet: all that its value's code and the removal of that value do.
+abbrev pub EffectsAreMeant : Type 0
+EffectsAreMeant =
+    (ρ : Running) (functions : List (List Instr)) (call : Calls) (strict : Bool) (e : Expr)
+    → CallsMeet ρ functions call → MeansEffect ρ functions call strict e
 
 -- The code of every expression does what the expression does, in every program, whatever the calls do that its own
 -- calls meet.

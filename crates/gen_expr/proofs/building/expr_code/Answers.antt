@@ -2,8 +2,6 @@ use Rattle.std.proofs.Common.{◌≡◌, ◌∙◌, OnOk, List, sym, subst}
 use Rattle.stack_code.specs.declared.instruction.Instr.{Instr}
 use Rattle.stack_code.specs.layer.Making.{with_instructions}
 use Rattle.gen_expr.specs.layer.Codes as pure
-use Rattle.typed_tree.specs.Beginnings.{view_beginning}
-use Rattle.typed_tree.specs.ViewProgram.{view_program}
 use Rattle.typed_tree.specs.ViewTree.{view_expr}
 use Rattle.gen_expr.specs.layer.Sources.{Source}
 use Rattle.gen_expr.specs.layer.Meanings.{AppendsMeaning}
