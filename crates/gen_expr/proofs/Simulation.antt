@@ -414,7 +414,8 @@ module _ (ρ : Running) (functions : List (List Instr)) where
   -- An expression for what it does, where an lvalue is read.
   dropped_in_runs : (strict : Bool) (at inner : Place) (t : CType) (b : Bool) (given effect : List Instr)
       (operands : List Value) (m : Doing Value) → Leaves given operands m → Drops effect operands m
-      → Drops (if b then given ++ code.popped_code at (code.held_code (source_of ρ) strict inner t) else effect) operands
+      → Drops (if b then given ++ code.popped_code at (code.held_code (source_of ρ) strict inner t) else effect)
+      operands
       (m >>= (λ v. choose b (mean.held ρ strict inner t v) (give v)))
   dropped_in_runs strict at inner t true given effect operands m x y =
       part.then_runs ρ.thread functions Value Value given _ operands (onto operands) (none_onto operands) m _ x

@@ -45,14 +45,14 @@ use Rattle.stack_code.proofs.Meetings.{has_front, has_back, has_past, leads_on, 
 use Rattle.stack_code.proofs.Meetings.{same_step, here, fetched}
 use Rattle.gen_expr.specs.layer.Sources.{Source, source_of, running_of}
 use Rattle.gen_expr.specs.layer.Codes.{pushes}
-use Rattle.gen_expr.specs.layer.Meanings.{CallsMeet, MeansValue, ExpressionsAreMeant}
+use Rattle.gen_expr.specs.layer.Meanings.{CallsMeet, ExpressionsAreMeant, EffectsAreMeant}
 use Rattle.gen_stmt.specs.layer.Ways.{in_function}
 use Rattle.gen_stmt.specs.layer.Codes.{gives_back, leaves, enters, items_size, size, items_code, statement_code}
 use Rattle.gen_stmt.specs.layer.Programs.{access_of, receives, parameter_access, opened_code, body_code, function_code}
 use Rattle.gen_stmt.specs.layer.Programs.{counted, main_number, functions_code, program_code}
 use Rattle.gen_stmt.specs.layer.Meanings.{MeansProgram}
 use Rattle.gen_stmt.proofs.Lengths.{items_long, statement_long}
-use Rattle.gen_stmt.proofs.Runs.{ways_at, conf_meets, flow_at, closes, items_run, statement_runs}
+use Rattle.gen_stmt.proofs.Runs.{AllMeant, ways_at, conf_meets, flow_at, closes, items_run, statement_runs}
 
 -- Code stands at its own begin.
 has_all : (is before : List Instr) → HasAt (before ++ is) (length before) is
@@ -104,9 +104,8 @@ module _ (ρ : Running) where
       ∙ then_same (put ρ false at t p v τ) _ _ (λ _ υ. received_same ts vs (i + 1) at υ))
 
 -- A function, inside a call that leads back.
-module _ (ρ : Running) (fs : List (List Instr)) (calling : Calls)
-    (values : (strict : Bool) (e : tree.Expr) → MeansValue ρ fs calling strict e) (fn : ℕ) (back : Spot)
-    (calls : List Spot) where
+module _ (ρ : Running) (fs : List (List Instr)) (calling : Calls) (values : AllMeant ρ fs calling) (fn : ℕ)
+    (back : Spot) (calls : List Spot) where
   abbrev θ : Thread
   θ = ρ.thread
 
@@ -273,7 +272,7 @@ module _ (ρ : Running) (fs : List (List Instr)) (calling : Calls)
       (λ flow τ. record { by = gives (length cb) ops blank f.at flow τ end })
 
 -- ---- calls, by how many may still become active
-module _ (meant : ExpressionsAreMeant) (ρ : Running) where
+module _ (meant : ExpressionsAreMeant × EffectsAreMeant) (ρ : Running) where
   abbrev functions : List (List Instr)
   functions = functions_code (source_of ρ)
 
@@ -291,7 +290,10 @@ module _ (meant : ExpressionsAreMeant) (ρ : Running) where
       ((begin_call at >> (function ρ calling o args >>= (λ v. end_call >> give v))) σ)
   entered calling meets o fn is at back args ops calls σ =
       let θ = ρ.thread in
-      let values = λ (strict : Bool) (e : tree.Expr). meant ρ functions calling strict e meets in
+      let values : AllMeant ρ functions calling = λ strict e. (
+        meant.0 ρ functions calling strict e meets,
+        meant.1 ρ functions calling strict e meets,
+      ) in
       let go = value_at back ops calls in
       then_meets θ functions (Unit {0}) Value _
       (λ _ τ. At (record { function = fn; place = 0 }) args ops (back ∷ calls) τ) go (begin_call at σ) _
@@ -386,7 +388,7 @@ module _ (meant : ExpressionsAreMeant) (ρ : Running) where
       })))))
 
 -- ---- programs
-module _ (meant : ExpressionsAreMeant) (program : Checked) where
+module _ (meant : ExpressionsAreMeant × EffectsAreMeant) (program : Checked) where
   -- A thread that has a result.
   coded : (thread budget : ℕ) (replies : List Reply) (r : Res ℤ) → IsFinished r
       → Meets (running program thread budget).thread (program_code program).functions ℤ

@@ -33,7 +33,7 @@ use Rattle.gen_expr.specs.layer.Codes.{stacks, jumps, pushes, casts, value_code,
 use Rattle.stack_code.proofs.Deepenings.{onto, deep_append, lands_past, lands_end, lands_assoc, back_past, Deepens}
 use Rattle.stack_code.proofs.Deepenings.{Then, joins, follows, single, begins_with, ends_with, under, no_code, whole}
 use Rattle.gen_expr.proofs.Deepening.{either_deepens}
-use Rattle.gen_expr.proofs.Depths.{value_deepens, put_deepens}
+use Rattle.gen_expr.proofs.Depths.{value_deepens, effect_deepens, put_deepens}
 use Rattle.gen_stmt.specs.layer.Ways.{Ways, all_past, all_inner, in_loop, in_switch, in_forall, in_function}
 use Rattle.gen_stmt.specs.layer.Codes.{leaves, enters, acts, gives_back, block_code, loop_code, control_code}
 use Rattle.gen_stmt.specs.layer.Codes.{label_code, synchronise_code, synchronise_value_code, cases, converted_code}
@@ -242,9 +242,7 @@ module _ (ς : Source) where
 
   aside_deepens : (strict : Bool) (e : Option Expr) (d : ℕ) → Deepens (aside_code ς strict e) d (Then d)
   aside_deepens strict None d = no_code d
-  aside_deepens strict (Some e) d =
-      ends_with (value_code ς strict e) (stacks (place_of e) stack.Pop) d d (suc d) _ (value_deepens ς strict e d) refl
-      (λ f more l. l)
+  aside_deepens strict (Some e) d = effect_deepens ς strict e d
 
   test_deepens : (at : Place) (strict : Bool) (e : Option Expr) (d : ℕ)
       → Deepens (test_code ς at strict e) d (Then (suc d))

@@ -43,7 +43,7 @@ use Rattle.stack_code.specs.layer.Depths.{OnCall, BeginsNone, BeginsOnce}
 use Rattle.gen_expr.specs.layer.Sources.{Source, running_of}
 use Rattle.gen_expr.specs.layer.Codes as expr
 use Rattle.gen_expr.specs.layer.Gathered.{HoldsOfForms, PushesNone}
-use Rattle.gen_expr.proofs.Gathered.{value_gathers}
+use Rattle.gen_expr.proofs.Gathered.{value_gathers, effect_gathers}
 use Rattle.gen_stmt.specs.layer.Ways.{Ways, all_past, all_inner, in_loop, in_switch, in_forall, in_function}
 use Rattle.gen_stmt.specs.layer.Codes as stmt
 use Rattle.gen_stmt.specs.layer.Programs.{body_code, function_code, source, program_code}
@@ -138,7 +138,7 @@ module _ (ς : Source) (P : Value → Type 0) (p : HoldsOf ς P) (most : ℕ) wh
 
   aside_hold : (strict : Bool) (e : Option Expr) → Holds (stmt.aside_code ς strict e)
   aside_hold strict None = tt
-  aside_hold strict (Some e) = behind (expr.value_code ς strict e) _ (value_hold strict e) tt
+  aside_hold strict (Some e) = effect_gathers ς (λ i. Fine P most i.does) forms strict e
 
   test_hold : (at : Place) (strict : Bool) (e : Option Expr) → Holds (stmt.test_code ς at strict e)
   test_hold at strict None = (p.integer _, tt)

@@ -55,9 +55,9 @@ use Rattle.stack_code.proofs.Meetings.{has_front, has_back, has_past, leads_on, 
 use Rattle.stack_code.proofs.Meetings.{same_step, here, lands, chooses, fetched}
 use Rattle.gen_expr.specs.layer.Sources.{Source, source_of, running_of}
 use Rattle.gen_expr.specs.layer.Codes.{stacks, jumps, pushes, casts}
-use Rattle.gen_expr.specs.layer.Codes.{saves, value_code, object_code, put_code, saved_code}
+use Rattle.gen_expr.specs.layer.Codes.{saves, value_code, effect_code, object_code, put_code, saved_code}
 use Rattle.gen_expr.specs.layer.Codes.{advance_code}
-use Rattle.gen_expr.specs.layer.Meanings.{MeansValue}
+use Rattle.gen_expr.specs.layer.Meanings.{MeansValue, MeansEffect}
 use Rattle.gen_stmt.specs.layer.Ways.{Ways, way, all_past, all_inner, in_loop, in_switch, in_forall}
 use Rattle.gen_stmt.specs.layer.Codes.{leaves, enters, acts, gives_back, block_code, loop_code, loop_size, control_code}
 use Rattle.gen_stmt.specs.layer.Codes.{label_code, synchronise_code, synchronise_value_code, cases, converted_code}
@@ -119,8 +119,12 @@ module _ (θ : Thread) (fs : List (List Instr)) where
   conf_meets A go (Over told σ) = record { by = stays θ fs (Halt told σ) }
   conf_meets A go Unfinished = record { by = tt }
 
-module _ (ρ : Running) (fs : List (List Instr)) (call : Calls)
-    (values : (strict : Bool) (e : Expr) → MeansValue ρ fs call strict e) (fn : ℕ) (back : Spot)
+-- The code of each expression does what the expression does, where its value is wanted and where it is not.
+abbrev pub AllMeant : Running → List (List Instr) → Calls → Type 0
+AllMeant ρ fs call =
+    (strict : Bool) (e : Expr) → MeansValue ρ fs call strict e × MeansEffect ρ fs call strict e
+
+module _ (ρ : Running) (fs : List (List Instr)) (call : Calls) (values : AllMeant ρ fs call) (fn : ℕ) (back : Spot)
     (calls : List Spot) where
   abbrev θ : Thread
   θ = ρ.thread
@@ -179,7 +183,14 @@ module _ (ρ : Running) (fs : List (List Instr)) (call : Calls)
   value_runs : (strict : Bool) (e : Expr) (pc : ℕ) (ops : List Value) (σ : State)
       → HasAt code pc (value_code ς strict e)
       → Meet Value (on pc ops σ) (val_on (pc + length (value_code ς strict e)) ops) (value ρ call strict e σ)
-  value_runs strict e pc ops σ has = values strict e (record { function = fn; place = pc }) ops (back ∷ calls) σ has
+  value_runs strict e pc ops σ has =
+      (values strict e).0 (record { function = fn; place = pc }) ops (back ∷ calls) σ has
+
+  effect_runs : (strict : Bool) (e : Expr) (pc : ℕ) (ops : List Value) (σ : State)
+      → HasAt code pc (effect_code ς strict e)
+      → Meet Value (on pc ops σ) (any_on (pc + length (effect_code ς strict e)) ops) (value ρ call strict e σ)
+  effect_runs strict e pc ops σ has =
+      (values strict e).1 (record { function = fn; place = pc }) ops (back ∷ calls) σ has
 
   -- An instruction that takes a value.
   used : (A : Type 0) (go : A → State → Conf) (pc : ℕ) (part : List Instr) (i : Instr) (ops : List Value)
@@ -254,12 +265,10 @@ module _ (ρ : Running) (fs : List (List Instr)) (call : Calls)
       let e1 : pc ≡ out = omega arith in
       record { by = subst (λ c. Leads θ fs (on pc ops σ) c) (same σ) (moved pc out ops σ e1) }
   aside_runs (Some e) κ pc out ops σ go same has eo =
-      let ce = value_code ς κ.strict e in
-      let i = stacks (place_of e) stack.Pop in
-      let len : pc + length ce + 1 ≡ out = omega (arith, length-append ce (i ∷ [])) in
-      used Flow go pc ce i ops (value ρ call κ.strict e σ) _ _ has
-      (value_runs κ.strict e pc ops σ (has_front code pc ce _ has))
-      (λ v τ. ap (λ q. on q ops τ) len ∙ same τ)
+      let end = pc + length (effect_code ς κ.strict e) in
+      then_meets θ fs Value Flow _ (any_on end ops) go (value ρ call κ.strict e σ) _
+      (effect_runs κ.strict e pc ops σ has)
+      (λ v τ. record { by = subst (λ c. Leads θ fs (on end ops τ) c) (same τ) (moved end out ops τ eo) })
 
   -- The test of a loop.
   test_runs : (test : Option Expr) (κ : Standing) (at : Place) (pc : ℕ) (ops : List Value) (σ : State)

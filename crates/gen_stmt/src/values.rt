@@ -8,9 +8,9 @@ ghost use Rattle.gen_expr.specs.layer.Codes.{value_code};
 ghost use Rattle.gen_expr.specs.layer.ViewSource.{view_source};
 ghost use Rattle.gen_stmt.specs.layer.Codes as pure;
 
-use gen_expr::{Source, put_cast, put_push, put_stack, put_value_code};
+use gen_expr::{Source, put_cast, put_effect_code, put_push, put_value_code};
 use meaning_types::conversion;
-use stack_code::{Instr, StackWork};
+use stack_code::Instr;
 use std::alloc::Global;
 use typed_tree::Expr;
 use upc_text::{OutOfMemory, Place};
@@ -58,10 +58,7 @@ pub(crate) fn put_aside(
 {
     match value {
         None => Ok(()),
-        Some(e) => {
-            put_value_code(code, source, strict, e)?;
-            put_stack(code, e.place, StackWork::Pop)
-        }
+        Some(e) => put_effect_code(code, source, strict, e),
     }
 }
 

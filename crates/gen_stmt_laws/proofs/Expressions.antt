@@ -27,6 +27,7 @@ use Rattle.typed_tree.specs.Tree.{AndExpr, place_of, attr_of, Function}
 use Rattle.typed_tree.specs.Words.{first_use, later_uses}
 use Rattle.typed_tree.specs.layer.TypedNodes.{MeetsExpr, MeetsKind, MeetsExprs}
 use Rattle.thread_steps.specs.declared.cast.CastTo.{CastTo}
+use Rattle.thread_steps.specs.declared.cast.CastTo.TheVariants as to
 use Rattle.thread_steps.specs.Values.{truth_value}
 use Rattle.source_meaning.specs.Types as type
 use Rattle.source_meaning.specs.Running.{parameters_of, parameters_in}
@@ -191,6 +192,32 @@ module _ (program : Checked) (kept : IsRanged program) (types : HasFormedTypes p
   stepped strict at step.IncrementAfter t f h = after_step strict at op.Add t f (h op.Add)
   stepped strict at step.DecrementAfter t f h = after_step strict at op.Subtract t f (h op.Subtract)
 
+  plain_step : (strict : Bool) (at : Place) (o : BinOp) (t : CType) → IsFormedType t
+      → MovesFew o (type.target_of t) (type.target_of int) → Fit (code.plain_step_code ς strict at o t)
+  plain_step strict at o t f h = (
+    tt,
+    joined (code.held_code ς strict at t) _ (held strict at t) (
+      small_number 1 (omega arith),
+      joined (code.binary_code ς at o t int) _ (binary at o t int h)
+          (joined (code.again_code ς strict at t) _ (again strict at t f) (tt, tt)),
+    ),
+  )
+
+  step_effect : (strict : Bool) (at : Place) (o : StepOperator) (t : CType) → IsFormedType t
+      → ((b : BinOp) → MovesFew b (type.target_of t) (type.target_of int)) → Fit (code.step_effect_code ς strict at o t)
+  step_effect strict at step.IncrementFirst t f h = plain_step strict at op.Add t f (h op.Add)
+  step_effect strict at step.DecrementFirst t f h = plain_step strict at op.Subtract t f (h op.Subtract)
+  step_effect strict at step.IncrementAfter t f h = plain_step strict at op.Add t f (h op.Add)
+  step_effect strict at step.DecrementAfter t f h = plain_step strict at op.Subtract t f (h op.Subtract)
+
+  popped : (at : Place) (c : List Instr) → Fit c → Fit (code.popped_code at c)
+  popped at c p = joined c _ p (tt, tt)
+
+  cast_effect : (at : Place) (into : CastTo) (operand value : List Instr) → Fit operand → Fit value
+      → Fit (code.cast_effect_code at into operand value)
+  cast_effect at to.Nothing operand value p q = p
+  cast_effect at into operand value p q = popped at value q
+
   compound : (strict : Bool) (at : Place) (o : BinOp) (t u : CType) → IsFormedType t
       → MovesFew o (type.target_of t) (type.target_of u) → Fit (code.compound_code ς strict at o t u)
   compound strict at o t u f h = (
@@ -317,7 +344,8 @@ module _ (program : Checked) (kept : IsRanged program) (types : HasFormedTypes p
           (compound_moves program kept.layouts attr (attr_of a) (attr_of b) o m.0)))
       given at attr (Comma NoExprs) l how m t f c w = absurd m
       given at attr (Comma (AndExpr a more)) l how m t f c w =
-          joined (code.value_code ς strict a) _ (value_fits a l _ m.1 f.0 w.0) (further more l _ m.2 f.1 w.1)
+          further more (code.value_code ς strict a) _ l _ m.2 f.1 w.1 (value_fits a l _ m.1 f.0 w.0)
+          (dropped a _ l _ m.1 f.0 w.0 (address_fits a l _ m.1 f.0 w.0))
 
       printed : (at : Place) (es : Exprs) (locals : List CType) (uses : List Use) → MeetsExprs program locals uses es
           → AreFormed Makes es → ThroughoutAll IsConstant es → Fit (code.printed_code ς strict at es)
@@ -336,11 +364,56 @@ module _ (program : Checked) (kept : IsRanged program) (types : HasFormedTypes p
       arguments (c ∷ cs) NoExprs l uses g m f w = tt
       arguments [] es l uses g m f w = tt
 
-      further : (es : Exprs) (locals : List CType) (uses : List Use) → MeetsExprs program locals uses es
-          → AreFormed Makes es → ThroughoutAll IsConstant es → Fit (code.further_code ς strict es)
-      further NoExprs l uses m f w = tt
-      further (AndExpr a more) l uses m f w = (
-        tt,
-        joined (code.value_code ς strict a) _ (value_fits a l (first_use uses) m.0 f.0 w.0)
-            (further more l (later_uses uses) m.1 f.1 w.1),
-      )
+      further : (es : Exprs) (value effect : List Instr) (locals : List CType) (uses : List Use)
+          → MeetsExprs program locals uses es → AreFormed Makes es → ThroughoutAll IsConstant es → Fit value
+          → Fit effect → Fit (code.further_code ς strict value effect es)
+      further NoExprs value effect l uses m f w p q = p
+      further (AndExpr a more) value effect l uses m f w p q =
+          let how = first_use uses in
+          joined effect _ q
+          (further more (code.value_code ς strict a) _ l (later_uses uses) m.1 f.1 w.1
+          (value_fits a l how m.0 f.0 w.0) (dropped a _ l how m.0 f.0 w.0 (address_fits a l how m.0 f.0 w.0)))
+
+      -- The code of an expression for what it does alone, from the code of what it gives.
+      dropped : (e : Expr) (front : List Instr) (locals : List CType) (how : Use) → MeetsExpr program locals how e
+          → IsFormed Makes e → Throughout IsConstant e → Fit front → Fit (code.dropped_code ς strict e front)
+      dropped (Is at attr kind) front l how m f w p =
+          chosen (mean.is_lvalue attr.form) _ _
+          (joined front _ p (popped at _ (held strict (mean.inner_place_in at kind) attr.ctype)))
+          (dropped_kind at attr kind front l how m f.1 w.1 p)
+
+      dropped_address : (e : Expr) (front : List Instr) (locals : List CType) (how : Use)
+          → MeetsExpr program locals how e → IsFormed Makes e → Throughout IsConstant e → Fit front
+          → Fit (code.dropped_address_code ς strict e front)
+      dropped_address (Is at attr kind) front l how m f w p = dropped_kind at attr kind front l how m f.1 w.1 p
+
+      dropped_kind : (at : Place) (attr : Attr) (kind : ExprKind) (front : List Instr) (locals : List CType)
+          (how : Use) → MeetsKind program locals how attr kind → HasFormedParts Makes attr kind
+          → ThroughoutParts IsConstant kind → Fit front → Fit (code.dropped_kind_code ς strict at attr kind front)
+      dropped_kind at attr (Paren a) front l how m f w p = dropped_address a front l how m.1 f w p
+      dropped_kind at attr (Step o a) front l how m f w p =
+          joined (code.address_code ς strict a) _ (address_fits a l _ m.1 f w)
+          (step_effect strict at o (type_of a) (formed_type a f)
+          (λ b. step_moves program kept.layouts attr (attr_of a) b m.0))
+      dropped_kind at attr (Cast a) front l how m f w p =
+          cast_effect at (type.conversion (type_of a) attr.ctype) _ front
+          (dropped a _ l _ m.2 f w (address_fits a l _ m.2 f w)) p
+      dropped_kind at attr (Comma NoExprs) front l how m f w p = tt
+      dropped_kind at attr (Comma (AndExpr a more)) front l how m f w p =
+          joined (code.dropped_code ς strict a (code.address_code ς strict a)) _
+          (dropped a _ l _ m.1 f.0 w.0 (address_fits a l _ m.1 f.0 w.0)) (effects more l _ m.2 f.1 w.1)
+      dropped_kind at attr kind front l how m f w p = popped at front p
+
+      effects : (es : Exprs) (locals : List CType) (uses : List Use) → MeetsExprs program locals uses es
+          → AreFormed Makes es → ThroughoutAll IsConstant es → Fit (code.effects_code ς strict es)
+      effects NoExprs l uses m f w = tt
+      effects (AndExpr a more) l uses m f w =
+          let how = first_use uses in
+          joined (code.dropped_code ς strict a (code.address_code ς strict a)) _
+          (dropped a _ l how m.0 f.0 w.0 (address_fits a l how m.0 f.0 w.0))
+          (effects more l (later_uses uses) m.1 f.1 w.1)
+
+    -- The code of an expression for what it does alone.
+    pub effect_fits : (e : Expr) (locals : List CType) (how : Use) → MeetsExpr program locals how e
+        → IsFormed Makes e → Throughout IsConstant e → Fit (code.effect_code ς strict e)
+    effect_fits e l how m f w = dropped e _ l how m f w (address_fits e l how m f w)

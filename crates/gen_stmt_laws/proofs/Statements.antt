@@ -174,7 +174,7 @@ module _ (program : Checked) (kept : IsRanged program) (types : HasFormedTypes p
   aside : (strict : Bool) (o : Option Expr) (locals : List CType) → MeetsValue program locals o
       → IsFormedValue Makes o → t.ThroughoutValue IsConstant o → Fit (stmt.aside_code ς strict o)
   aside strict None l m f w = tt
-  aside strict (Some x) l m f w = after (expr.value_code ς strict x) _ (value strict x l n.Plain m f w) tt
+  aside strict (Some x) l m f w = e.effect_fits program kept types strict x l n.Plain m f w
 
   tested : (at : Place) (strict : Bool) (o : Option Expr) (locals : List CType) → MeetsValue program locals o
       → IsFormedValue Makes o → t.ThroughoutValue IsConstant o → Fit (stmt.test_code ς at strict o)

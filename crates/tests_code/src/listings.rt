@@ -118,28 +118,25 @@ const LISTED: [Listed; 7] = [
 3:15 Load int relaxed
 3:19 Push 9
 3:15 Operate < int int
-3:3 SkipIfZero 21
+3:3 SkipIfZero 18
 3:27 Enter 1
 4:9 Local 0
 4:9 Load int relaxed
 4:14 Push 5
 4:9 Operate == int int
 4:5 SkipIfZero 2
-5:7 Exit 1 14
+5:7 Exit 1 11
 4:5 GoOn 0
 3:27 Leave
 3:22 Local 0
 3:22 Copy
 3:22 Load int relaxed
-3:22 Swap
-3:22 Over
 3:22 Push 1
 3:22 Operate + int int
 3:22 Cast int
 3:22 Save int relaxed
 3:22 Pop
-3:22 Pop
-3:3 GoBack 25
+3:3 GoBack 22
 3:3 Leave
 7:10 Local 0
 7:10 Load int relaxed
@@ -260,7 +257,7 @@ const LISTED: [Listed; 7] = [
 4:22 Load int relaxed
 4:26 Push 8
 4:22 Operate < int int
-4:3 SkipIfZero 30
+4:3 SkipIfZero 27
 4:3 SkipIfControlled 6
 4:35 Push shared 1
 4:37 Local 0
@@ -282,15 +279,12 @@ const LISTED: [Listed; 7] = [
 4:29 Local 0
 4:29 Copy
 4:29 Load int relaxed
-4:29 Swap
-4:29 Over
 4:29 Push 1
 4:29 Operate + int int
 4:29 Cast int
 4:29 Save int relaxed
 4:29 Pop
-4:29 Pop
-4:3 GoBack 34
+4:3 GoBack 31
 4:3 Leave
 6:10 Push 0
 6:10 Cast int

@@ -389,8 +389,8 @@ module _ (ς : Source) where
       pub dropped_address_code : Expr → (given : List Instr) → List Instr
       dropped_address_code (Is at attr kind) given = dropped_kind_code at attr kind given
 
-      -- The code of an expression of each kind for what it does alone, from the code of what it gives: parentheses, `++`
-      -- and `--`, casts to void and comma expressions leave nothing that has to be removed, and of any other what it
+      -- The code of an expression of each kind for what it does alone, from the code of what it gives: `++` and `--`,
+      -- casts into void and comma expressions leave nothing to be removed, and of any other but parentheses what it
       -- gives is removed (C99 6.5).
       pub dropped_kind_code : Place → Attr → ExprKind → (given : List Instr) → List Instr
       dropped_kind_code at attr (Paren a) given = dropped_address_code a given

@@ -29,7 +29,8 @@ use Rattle.stack_code.specs.declared.instruction.ThreadWork.TheVariants as threa
 use Rattle.stack_code.specs.declared.instruction.Operation.TheVariants as work
 use Rattle.stack_code.specs.declared.instruction.Instr.{Instr}
 use Rattle.gen_expr.specs.layer.Sources.{Source, running_of}
-use Rattle.gen_expr.specs.layer.Codes.{stacks, jumps, pushes, casts, value_code, object_code, put_code, advance_code}
+use Rattle.gen_expr.specs.layer.Codes.{stacks, jumps, pushes, casts, value_code, effect_code, object_code, put_code}
+use Rattle.gen_expr.specs.layer.Codes.{advance_code}
 use Rattle.gen_stmt.specs.layer.Ways.{Way, Ways, all_past, all_inner, in_loop, in_switch, in_forall}
 
 -- ---- instructions and forms that several statements take
@@ -109,7 +110,7 @@ module _ (ς : Source) where
   -- The code of an expression that is evaluated for what it does alone (C99 6.8.3).
   abbrev pub aside_code : Bool → Option Expr → List Instr
   aside_code strict None = []
-  aside_code strict (Some e) = value_code ς strict e ++ (stacks (place_of e) stack.Pop ∷ [])
+  aside_code strict (Some e) = effect_code ς strict e
 
   -- The code of the test of a loop; an absent one is as 1 (C99 6.8.5.3).
   abbrev pub test_code : Place → Bool → Option Expr → List Instr

@@ -6,7 +6,7 @@ use Rattle.typed_tree.specs.ViewProgram.{view_program}
 use Rattle.stack_code.specs.layer.Codes.{Codes}
 use Rattle.stack_code.specs.layer.Depths.{IsDeep, BeginsOnce}
 use Rattle.stack_code.specs.layer.Making.{Making}
-use Rattle.gen_expr.proofs.Simulation.{expressions_are_meant}
+use Rattle.gen_expr.proofs.Simulation.{expressions_are_meant, effects_are_meant}
 use Rattle.source_meaning.specs.Laws.{opening_of}
 use Rattle.gen_stmt.specs.layer.Meanings.{MeansProgram}
 use Rattle.stack_code.specs.layer.Names.{NamesOnly}
@@ -56,7 +56,8 @@ returns-clause-means c =
     let x = view_program p in
     let e = codes_are x (view_beginning p.beginning) c.in_ok-builder.builder p.begins c.in_ok-builder.ensures in
     if_ok c.finish.result (λ code. code ≡ c.in_ok-builder.builder.codes) (λ code. MeansProgram code x)
-    (λ code h. subst (λ (y : Codes). MeansProgram y x) (sym (h ∙ e)) (program_means expressions_are_meant x))
+    (λ code h. subst (λ (y : Codes). MeansProgram y x) (sym (h ∙ e))
+    (program_means (expressions_are_meant, effects_are_meant) x))
     c.finish.ensures.done
 
 pub returns-clause-threads : goal.returns-clause-threads
