@@ -1,5 +1,5 @@
 -- What the rules say of calls that allocate.
-use Rattle.std.proofs.Common.{◌≡◌, ℕ, zero, suc, ◌<◌, ◌^◌, nat_eq, true, length, Option, Some, None}
+use Rattle.std.proofs.Common.{List, ◌≡◌, ℕ, zero, suc, ◌<◌, ◌^◌, nat_eq, true, length, Option, Some, None}
 use Rattle.std.proofs.Common.{refl, arith}
 use Rattle.std.proofs.lemmas.Bool.{false≢true, eqb-true, eq-eqb}
 use Rattle.block_layout.specs.declared.kind.Kind.TheVariants as kind
@@ -21,6 +21,7 @@ use Rattle.thread_steps.specs.Library.{has_shape}
 use Rattle.source_meaning.specs.Running.{running}
 use Rattle.source_meaning.specs.Expressions.{shape_number}
 use Rattle.source_meaning.specs.Laws.{AreSoMany, GivesIn, Gives}
+use Rattle.private_store.specs.declared.frame.Call.{Call}
 use Rattle.meaning_laws.specs.layer.Values.{IsOf, Comes, Brings}
 use Rattle.meaning_laws.specs.layer.Formed.{AtTarget, HasShape}
 use Rattle.meaning_laws.proofs.Operations.{Fits}
@@ -94,9 +95,9 @@ shape_there program thread budget None u e h = absurd cc
 -- Both what comes of steps and what they give.
 pub both_brings : {A : Type 0} (V W : A → Type 0) (m : Doing A) → Brings A V m → Gives A W m
     → Brings A (λ v. V v × W v) m
-both_brings {A = A} V W m h g = record { by = λ σ i. in_result (m σ) (h.by σ i) (g.by σ) }
+both_brings {A = A} V W m h g = record { by = λ σ i. in_result σ.store.calls (m σ) (h.by σ i) (g.by σ) }
   where
-    in_result : (r : Res A) → Comes V r → GivesIn W r → Comes (λ v. V v × W v) r
-    in_result (Val v υ) p q = ((p.0, q), p.1)
-    in_result (Over end υ) p q = tt
-    in_result Unfinished p q = tt
+    in_result : (calls : List Call) (r : Res A) → Comes V calls r → GivesIn W r → Comes (λ v. V v × W v) calls r
+    in_result calls (Val v υ) p q = ((p.0, q), p.1, p.2)
+    in_result calls (Over end υ) p q = tt
+    in_result calls Unfinished p q = tt

@@ -201,6 +201,7 @@ module _ (program : Checked) (thread budget : ℕ) where
           at_kind ρ.structs a.ctype (b.pointer_to (local_number i σ.store)) f None (by (block_of a.ctype) h)
               (local_fits (kind_number a) (local_number i σ.store)),
           filled,
+          refl,
         );
       }
     where

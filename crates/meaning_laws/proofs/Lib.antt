@@ -1,3 +1,4 @@
+pub mod Calls
 pub mod Steps
 pub mod Stores
 pub mod Conversions

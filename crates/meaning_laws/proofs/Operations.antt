@@ -48,6 +48,7 @@ use Rattle.meaning_laws.specs.layer.Values.{IsFilled, Comes, Brings, IsPlaceOf, 
 use Rattle.meaning_laws.proofs.Steps.{ResultIs, Any, give_brings, skip_brings, first_brings, valued_brings}
 use Rattle.meaning_laws.proofs.Steps.{any_result}
 use Rattle.meaning_laws.proofs.Steps.{Answers, ask_brings}
+use Rattle.meaning_laws.proofs.Calls.{HasCalls, stored_calls}
 use Rattle.meaning_laws.proofs.Stores.{FilledIn, kept_is, IsRead, loaded_is, stored_filled}
 
 -- ---- reads
@@ -81,8 +82,8 @@ module _ (τ : Thread) (kind : Kind) (strict : Bool) where
       give_brings FitsIt (value.Scalar v) h))
 
   load_private_result : (at : Place) (r : Result Value ℕ) (σ : State) → IsRead kind r → IsFilled σ.store
-      → Comes FitsIt (valued at r σ)
-  load_private_result at (Ok v) σ h i = (h, i)
+      → Comes FitsIt σ.store.calls (valued at r σ)
+  load_private_result at (Ok v) σ h i = (h, i, refl)
   load_private_result at (Err code) σ h i = tt
 
   pub load_private_brings : (at : Place) (q : LocalPtr) → Brings Value FitsIt (x.load_private kind at q)
@@ -105,15 +106,17 @@ load_brings τ kind strict at (value.Local local.Null) = load_private_brings τ 
 -- ---- writes
 
 module _ (τ : Thread) (kind : Kind) where
-  saved_result : (at : Place) (r : Result Live ℕ) (σ : State) → FilledIn r → Comes Any (x.with_store at σ r)
-  saved_result at (Ok s) σ h = (tt, h)
-  saved_result at (Err code) σ h = tt
+  saved_result : (at : Place) (r : Result Live ℕ) (σ : State) → FilledIn r → HasCalls σ.store.calls r
+      → Comes Any σ.store.calls (x.with_store at σ r)
+  saved_result at (Ok s) σ h k = (tt, h, k)
+  saved_result at (Err code) σ h k = tt
 
   pub save_private_brings : (at : Place) (q : LocalPtr) (v : Value) → Brings (Unit {0}) Any (x.save_private kind at q v)
   save_private_brings at q v =
       record {
         by = λ σ i. saved_result at (stored q kind (kept kind v) σ.store) σ
-            (stored_filled q kind (kept kind v) σ.store (kept_is kind v) i);
+            (stored_filled q kind (kept kind v) σ.store (kept_is kind v) i)
+            (stored_calls q kind (kept kind v) σ.store);
       }
 
   save_shared_brings : (strict : Bool) (at : Place) (q : SharedPtr) (v : Value)

@@ -1,11 +1,11 @@
 -- Where the block of a function is open, each local name has a block.
 use Rattle.std.proofs.Common.{◌≡◌, inl, inr, ℕ, zero, suc, ◌+◌, ◌-◌, nat_le, Bool, true, false, List, [], ◌∷◌}
-use Rattle.std.proofs.Common.{◌++◌, length, drop, reverse, Option, Some, slice_get, refl, sym, ap, ◌∙◌, subst, arith}
+use Rattle.std.proofs.Common.{◌++◌, length, drop, reverse, Option, Some, refl, sym, ap, ◌∙◌, subst, arith}
 use Rattle.std.proofs.Common.{le-leb}
 use Rattle.std.specs.Prelude.{if◌then◌else◌, option_map}
 use Rattle.std.specs.List.{find}
 use Rattle.std.proofs.lemmas.Bool.{false≢true}
-use Rattle.std.proofs.lemmas.List.{reverse-append, length-append}
+use Rattle.std.proofs.lemmas.List.{reverse-append}
 use Rattle.std.proofs.Math.Seq.{drop-append_seam}
 use Rattle.block_layout.specs.declared.kind.Shape.{Shape}
 use Rattle.private_store.specs.declared.frame.Block.{Block}
@@ -14,6 +14,7 @@ use Rattle.private_store.specs.Live.{Live, youngest, blocks_before, controls, en
 use Rattle.private_store.specs.Live.{open_blocks, local_number}
 use Rattle.meaning_laws.specs.code.Scopes.{HasOuter, HasScope}
 use Rattle.meaning_laws.specs.code.Laws.{NamesAreFound}
+use Rattle.meaning_laws.proofs.Calls.{youngest_last}
 
 outer_left : (xs ys : List Block) → HasOuter xs → HasOuter (xs ++ ys)
 outer_left [] ys h = absurd h
@@ -59,15 +60,6 @@ module _ (n : ℕ) where
   number_found s h =
       let found = outer_found (reverse (open_blocks s)) (outer_reverse (open_blocks s) h) in
       (found.0.first + (n - found.0.from), ap (option_map (λ (b : Block). b.first + (n - b.from))) found.1)
-
-last_got : {X : Type 0} (xs : List X) (x : X) → slice_get (xs ++ (x ∷ [])) (length xs) ≡ Some x
-last_got [] x = refl
-last_got (y ∷ xs) x = last_got xs x
-
-youngest_last : {X : Type 0} (xs : List X) (x : X) → youngest (xs ++ (x ∷ [])) ≡ Some x
-youngest_last xs x =
-    let many : length (xs ++ (x ∷ [])) - 1 ≡ length xs = omega (arith, length-append xs (x ∷ [])) in
-    ap (slice_get (xs ++ (x ∷ []))) many ∙ last_got xs x
 
 called_scope : (shapes : List Shape) (s : Live) → HasScope (entered 0 shapes (called s))
 called_scope shapes s =

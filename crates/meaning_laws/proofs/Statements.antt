@@ -1,6 +1,6 @@
 -- Statements keep the cells of private objects, and functions give values of the types of their results.
 use Rattle.std.proofs.Common.{◌≡◌, ℕ, zero, suc, ◌+◌, Bool, true, false, List, [], ◌∷◌, Option, Some, None}
-use Rattle.std.proofs.Common.{slice_get, refl, sym, subst}
+use Rattle.std.proofs.Common.{slice_get, refl, sym, ap, subst}
 use Rattle.std.proofs.Math.IntN.{ℤ, pos}
 use Rattle.std.specs.Ordering.{int_eq}
 use Rattle.std.specs.List.{find}
@@ -60,15 +60,16 @@ use Rattle.meaning_laws.specs.layer.FormedStatements.{IsFormedHead, IsFormedStat
 use Rattle.meaning_laws.specs.layer.FormedStatements.{AreFormedArms, AreFormedItems, AreFormedSwitch}
 use Rattle.meaning_laws.specs.layer.FormedStatements.{IsFormedFunction}
 use Rattle.meaning_laws.specs.layer.FormedStatements.{LeavesBy}
-use Rattle.meaning_laws.specs.code.Laws.{FunctionsKeepTypes, MainsKeepTypes}
+use Rattle.meaning_laws.specs.code.Laws.{BodiesAreCounted, FunctionsKeepTypes, MainsKeepTypes}
 use Rattle.meaning_laws.proofs.Steps.{Any, give_brings, skip_brings, first_brings, weaker_brings, choose_brings}
 use Rattle.meaning_laws.proofs.Operators.{IsNoArray, is_of, integer_kind, no_array_value, any_behind, put_brings}
 use Rattle.meaning_laws.proofs.Rules.{unbroken, holds}
 use Rattle.meaning_laws.proofs.Shaped.{shaped_functions}
 use Rattle.meaning_laws.proofs.Expressions.{value_keeps, converted_fits, any_cast}
-use Rattle.meaning_laws.proofs.Going.{know_brings, open_brings, close_brings, begin_brings, end_brings}
-use Rattle.meaning_laws.proofs.Going.{control_brings}
-use Rattle.meaning_laws.proofs.Going.{release_brings, any_local, tick_brings, notify_brings, wait_brings}
+use Rattle.private_store.specs.Live.{controls_in}
+use Rattle.meaning_laws.proofs.Calls.{control_counts}
+use Rattle.meaning_laws.proofs.Going.{know_brings, open_brings, close_brings, call_brings, controlled_brings}
+use Rattle.meaning_laws.proofs.Going.{any_local, tick_brings, notify_brings, wait_brings}
 use Rattle.meaning_laws.proofs.Going.{fence_brings}
 use Rattle.meaning_laws.proofs.Going.{mine_brings}
 
@@ -153,10 +154,7 @@ module _ (kind : Option Kind) where
 
     controlling_brings : (m : Does) → Brings Flow Flows m → Brings Flow Flows (s.controlling ρ m)
     controlling_brings m pm =
-        first_brings Any Flows b.control _ control_brings (λ u v.
-        first_brings Flows Flows m _ pm (λ f g.
-        first_brings Any Flows b.release _ release_brings (λ w x.
-        give_brings Flows (s.finished f) (finished_flows f g))))
+        controlled_brings Flows Flows m s.finished pm finished_flows
 
     blocked_brings : (from : ℕ) (objects : List DeclaredObject) (at : Place) (m : Does) → Brings Flow Flows m
         → Brings Flow Flows (s.blocked ρ from objects at m)
@@ -503,9 +501,7 @@ module _ (program : Checked) (thread budget : ℕ) where
           (each_got (IsFormedFunction Makes) program.functions i f are q) args)
           in
           first_brings Any V (a.tick ρ.thread) _ (tick_brings ρ.thread) (λ u v.
-          first_brings Any V (b.begin_call at) _ (begin_brings at) (λ w x.
-          first_brings V V function _ brings (λ y z.
-          first_brings Any V b.end_call _ end_brings (λ r s_. give_brings V y z))));
+          call_brings V at function brings);
     }
 
     main_brings : (f : Function) → h.main_of program.functions ≡ Some f
@@ -513,12 +509,10 @@ module _ (program : Checked) (thread budget : ℕ) where
     main_brings f q =
         let V = IsOf ρ.structs f.result in
         let call = h.called ρ (h.most_calls ρ) in
-        first_brings Any V (b.begin_call (h.main_place ρ (Some f))) _ (begin_brings (h.main_place ρ (Some f))) (λ u v.
-        first_brings V V (h.function ρ call (Some f) []) _
+        call_brings V (h.main_place ρ (Some f)) (h.function ρ call (Some f) [])
         (function_brings call (called_fit (h.most_calls ρ)) f
         (each_found (MeetsFunction program) h.is_main program.functions f meets.functions q)
-        (each_found (IsFormedFunction Makes) h.is_main program.functions f are q) []) (λ w x.
-        first_brings Any V b.end_call _ end_brings (λ y z. give_brings V w x)))
+        (each_found (IsFormedFunction Makes) h.is_main program.functions f are q) [])
 
 pub mains_keep_types : MainsKeepTypes
 mains_keep_types = record {
@@ -530,4 +524,12 @@ pub functions_keep_types : FunctionsKeepTypes
 functions_keep_types = record {
   each = λ program thread budget meets are few k.
       called_fit program thread budget meets (shaped_functions program are few) k;
+}
+
+pub bodies_are_counted : BodiesAreCounted
+bodies_are_counted = record {
+  statement = λ program thread budget call fit c locals κ z formed q m f.
+      weaker_brings _ Any _
+      (run_brings program thread budget call fit c.result formed c locals κ z q refl m f) (λ v h. tt);
+  counted = λ s_ t_ c e g. ap controls_in (control_counts s_ c e t_ g);
 }

@@ -1,7 +1,7 @@
 //! What holds of the meaning of every program that meets the typing rules.
 #![tactic(auto)]
 
-ghost use Rattle.meaning_laws.specs.code.Laws.{BeginningsAreFilled, CellsKeep, ChangesFit, ConversionsFit};
+ghost use Rattle.meaning_laws.specs.code.Laws.{BeginningsAreFilled, BodiesAreCounted, CellsKeep, ChangesFit, ConversionsFit};
 ghost use Rattle.meaning_laws.specs.code.Laws.{ChoicesAreTaken, ConversionsAreTaken, CopiesFit};
 ghost use Rattle.meaning_laws.specs.code.Laws.{ExpressionsKeepTypes, FunctionsKeepTypes, MainsKeepTypes};
 ghost use Rattle.meaning_laws.specs.code.Laws.{NamesAreFound, OperandsAreTaken, PrintedArePromoted, ScalarsAreKept};
@@ -132,4 +132,11 @@ pub fn shared_are_there()
 #[tactic(auto, using(crate::proofs::Layouts::phases_stay))]
 pub fn phases_stay()
     ensures { PhasesStay }
+{}
+
+/// A statement is left in the calls in which it was reached, each in as many controlling bodies; so a controlling body is
+/// left only where one was entered.
+#[tactic(auto, using(crate::proofs::Statements::bodies_are_counted))]
+pub fn bodies_are_counted()
+    ensures { BodiesAreCounted }
 {}

@@ -337,10 +337,10 @@ module _ (program : Checked) (thread budget : ℕ) where
         let has : is_allocation call ≡ true → HasIts call attr.ctype = λ a.
         has_its call σ how attr.ctype a well (ap (λ (y : Attr). y.ctype) j.is) f.0 in
         let given_ : (p : is_printf call ≡ false) (calls : ℕ) (strict : Bool)
-            → Brings (List Value) (AreArguments (call_parameters call))
-            (arguments ρ (called ρ calls) strict (map parameter_conversion (call_parameters call)) args []) =
+        → Brings (List Value) (AreArguments (call_parameters call))
+        (arguments ρ (called ρ calls) strict (map parameter_conversion (call_parameters call)) args []) =
         λ p calls strict.
-            given_after calls strict [] (call_parameters call) (uses_by (m.Library call)) args [] g f.1 (many p) tt in
+        given_after calls strict [] (call_parameters call) (uses_by (m.Library call)) args [] g f.1 (many p) tt in
         record {
           passed = are_passed ρ (call_parameters call) args (passes_taken call (attrs_of args) types_fit);
           given = given_;

@@ -1,5 +1,5 @@
 -- Why no default of the meaning is taken.
-use Rattle.std.specs.Prelude.{◌≡◌, ℕ, ℤ, ◌≤◌, ◌^◌, pos, Bool, true, List, [], length, map, Option, Some}
+use Rattle.std.specs.Prelude.{◌≡◌, ℕ, suc, ℤ, ◌≤◌, ◌^◌, pos, Bool, true, List, [], length, map, Option, Some}
 use Rattle.std.specs.Prelude.{is_some, Ok}
 use Rattle.std.specs.Prelude.{slice_get}
 use Rattle.upc_text.specs.declared.place.Place.{Place}
@@ -17,6 +17,7 @@ use Rattle.upc_values.specs.declared.library.LibraryCall.{LibraryCall}
 use Rattle.upc_values.specs.declared.library.LibraryCall.TheVariants.{Printf}
 use Rattle.upc_values.specs.LibraryCalls.{library_call}
 use Rattle.block_layout.specs.declared.kind.Shape.{Shape}
+use Rattle.private_store.specs.declared.frame.Call.{Call as PrivateCall}
 use Rattle.private_store.specs.Live as live
 use Rattle.private_store.specs.Live.{Live}
 use Rattle.private_store.specs.Beginnings.{fits_cell, private_cell}
@@ -38,15 +39,15 @@ use Rattle.typing_rules.specs.Values.{value_type}
 use Rattle.typing_rules.specs.Library.{int, call_parameters}
 use Rattle.typing_rules.specs.Rules.{is_zero, moves}
 use Rattle.typing_rules.specs.Nodes as node
-use Rattle.typing_rules.specs.Nodes.{Use, Attr}
+use Rattle.typing_rules.specs.Nodes.{Use, Attr, Around}
 use Rattle.typed_tree.specs.declared.tree.StepOperator.{StepOperator}
 use Rattle.typed_tree.specs.Tree.{Expr, Subscript, MemberBehind, Step, Unary, Binary, Compound}
 use Rattle.typed_tree.specs.declared.tree.Target.TheVariants as target
-use Rattle.typed_tree.specs.Tree.{Object, SizeOf, SizeOfType}
+use Rattle.typed_tree.specs.Tree.{Object, SizeOf, SizeOfType, Statement}
 use Rattle.typed_tree.specs.Tree.{Conditional, Call, Exprs, AndExpr, Function, attr_of}
 use Rattle.typed_tree.specs.Programs.{Checked, start_of}
 use Rattle.typed_tree.specs.layer.Judged.{Meets}
-use Rattle.typed_tree.specs.layer.TypedNodes.{MeetsExpr, MeetsKind, MeetsRules}
+use Rattle.typed_tree.specs.layer.TypedNodes.{MeetsExpr, MeetsKind, MeetsStatement, MeetsRules}
 use Rattle.thread_steps.specs.States.{Thread, ◌>>=◌}
 use Rattle.thread_steps.specs.Values.{number, kept, kept_scalar}
 use Rattle.thread_steps.specs.Accesses.{cell, read, load_private}
@@ -56,7 +57,9 @@ use Rattle.source_meaning.specs.Types.{elements_of}
 use Rattle.source_meaning.specs.Running.{Running, running}
 use Rattle.source_meaning.specs.Expressions.{Calls, type_of, types_of, step_operator, value, address, binary}
 use Rattle.source_meaning.specs.Expressions.{converted_to, arguments}
+use Rattle.source_meaning.specs.Statements.{Flow, Standing, run}
 use Rattle.source_meaning.specs.Laws.{Gives}
+use Rattle.thread_steps.specs.Blocks.{one_more}
 use Rattle.meaning_laws.specs.layer.Values.{FitsCell, IsOf, IsPlaceOf, IsGiven, HasIntegerKind, IsFormedType}
 use Rattle.meaning_laws.specs.layer.Values.{IsFilled, Brings}
 use Rattle.source_meaning.specs.Threads.{called, main_of, main_called, initial_state}
@@ -65,7 +68,7 @@ use Rattle.meaning_laws.specs.code.Scopes.{HasScope}
 use Rattle.meaning_laws.specs.layer.Copies.{TakesCells}
 use Rattle.meaning_laws.specs.layer.Uses.{Leads, Counts, IsOperand, AreOperands, HasAffinity, IsTaken, AreArguments}
 use Rattle.meaning_laws.specs.layer.Uses.{ArePromoted, AllNumbers, IsLaid, LeadsLaid}
-use Rattle.meaning_laws.specs.layer.FormedStatements.{IsFormedFunction}
+use Rattle.meaning_laws.specs.layer.FormedStatements.{IsFormedStatement, IsFormedFunction}
 
 -- A cell keeps what fits it, in a private object and in a shared one (C99 6.5.16).
 pub record CellsKeep : Type 0 where
@@ -292,6 +295,21 @@ pub record PhasesStay : Type 0 where
       (structs : Structs) (t : CType) (p : SharedPtr) → block_or_none (block_of t) ≤ 16777216
       → value_fits (value_of.Scalar (Shared p)) (pointer_kind structs.targets t) ≡ true
       → phased (elements_of structs t) p ≡ p
+
+-- A controlling body is left only where one was entered: a statement of a program that meets the rules is left in the
+-- calls in which it was reached, each in as many controlling bodies; and where they are those of the body's begin, the
+-- youngest is in one body at least, so that its count is one less than before (UPC 6.6.2).
+pub record BodiesAreCounted : Type 0 where
+  -- The calls in which a statement is left.
+  pub statement :
+      (program : Checked) (thread budget : ℕ) (call : Calls) → CallsFit (running program thread budget) call
+      → (c : Around) (locals : List CType) (κ : Standing) (s : Statement) → IsFormedType c.result
+      → κ.result ≡ c.result → MeetsStatement program c locals s → IsFormedStatement (MakesShaped program) s
+      → Brings Flow (λ f. Unit {0}) (run (running program thread budget) call κ s)
+  -- What is counted at the end of the body.
+  pub counted :
+      (s t : Live) (c : PrivateCall) → live.youngest s.calls ≡ Some c → t.calls ≡ (one_more s).calls
+      → live.controls t ≡ suc (live.controls s)
 
 -- The elements of each declared shared object have a shape that the program has (UPC 6.5.1.1).
 pub record SharedHaveShapes : Type 0 where

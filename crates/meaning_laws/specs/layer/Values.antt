@@ -11,6 +11,7 @@ use Rattle.upc_types.specs.Types.{CType, Base, Qualified, Integer, Array, Pointe
 use Rattle.upc_types.specs.Same.{is_lock_object}
 use Rattle.upc_types.specs.Cells.{pointer_kind}
 use Rattle.typing_rules.specs.Nodes.{Attr}
+use Rattle.private_store.specs.declared.frame.Call.{Call}
 use Rattle.private_store.specs.Live.{Live, Thing}
 use Rattle.thread_steps.specs.States.{State, Res, Val, Over, Unfinished, Doing}
 use Rattle.source_meaning.specs.Expressions.{is_lvalue}
@@ -86,13 +87,15 @@ IsFilled s = AreFilled s.objects
 
 -- ---- steps
 
--- The value of a result passes, and the cells of private objects then hold values that fit them.
-abbrev pub Comes : {A : Type 0} → (A → Type 0) → Res A → Type 0
-Comes V (Val v σ) = V v × IsFilled σ.store
-Comes V (Over e σ) = Unit {0}
-Comes V Unfinished = Unit {0}
+-- The value of a result passes, the cells of private objects then hold values that fit them, and these are the active
+-- calls, each in as many bodies of controlling upc_foralls.
+abbrev pub Comes : {A : Type 0} → (A → Type 0) → List Call → Res A → Type 0
+Comes V calls (Val v σ) = V v × IsFilled σ.store × (σ.store.calls ≡ calls)
+Comes V calls (Over e σ) = Unit {0}
+Comes V calls Unfinished = Unit {0}
 
--- Where the cells of private objects hold values that fit them, whatever value comes of what is done passes, and the
--- cells then hold values that fit them.
+-- Where the cells of private objects hold values that fit them, whatever value comes of what is done passes, the cells
+-- then hold values that fit them, and the active calls are as before, each in as many bodies of controlling
+-- upc_foralls (UPC 6.6.2).
 pub record Brings (A : Type 0) (V : A → Type 0) (m : Doing A) : Type 0 where
-  pub by : (σ : State) → IsFilled σ.store → Comes V (m σ)
+  pub by : (σ : State) → IsFilled σ.store → Comes V σ.store.calls (m σ)

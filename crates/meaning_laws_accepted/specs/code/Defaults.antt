@@ -7,9 +7,7 @@ use Rattle.block_layout.specs.declared.kind.Shape.{Shape}
 use Rattle.upc_values.specs.declared.library.LibraryCall.{LibraryCall}
 use Rattle.upc_values.specs.declared.library.LibraryCall.TheVariants.{Printf}
 use Rattle.upc_values.specs.LibraryCalls.{library_call}
-use Rattle.upc_values.specs.declared.scalar.Scalar.TheVariants.{Int, Shared, Lock}
 use Rattle.upc_values.specs.declared.scalar.Value.{Value}
-use Rattle.upc_values.specs.declared.scalar.Value.TheVariants as value_of
 use Rattle.upc_types.specs.Types.{CType, base_of}
 use Rattle.typing_rules.specs.declared.library.LibraryParameter.{LibraryParameter}
 use Rattle.typing_rules.specs.declared.library.LibraryParameter.TheVariants as parameter
