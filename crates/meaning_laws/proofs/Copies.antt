@@ -1,6 +1,6 @@
 -- The calls of the library read scalars of private cells, and write to them what fits.
-use Rattle.std.proofs.Common.{◌≡◌, ℕ, zero, suc, ◌+◌, ◌==◌, ◌∷◌, Bool, true, false, not, ◌&&◌, ◌||◌, cond, List, [], ◌++◌}
-use Rattle.std.proofs.Common.{Option, Some, None, refl, subst}
+use Rattle.std.proofs.Common.{◌≡◌, ℕ, zero, suc, ◌+◌, ◌==◌, ◌∷◌, Bool, true, false, not, ◌&&◌, ◌||◌, cond}
+use Rattle.std.proofs.Common.{List, [], ◌++◌, Option, Some, None, refl, subst}
 use Rattle.std.proofs.Math.IntN.{ℤ, pos}
 use Rattle.std.specs.Prelude.{Result, Ok, Err, unsigned_abs, ◌%◌, ◌/◌, ◌*◌, if◌then◌else◌, nat_le, slice_get}
 use Rattle.std.specs.List.{list_any, filter_map, cons_option, range_with_len}

@@ -1,7 +1,7 @@
 -- What is stepped over has a layout, a size operator a known value, a shared object its place, and a pointer its phase.
 use Rattle.std.proofs.Common.{◌≡◌, ℕ, zero, suc, ◌-◌, ◌*◌, ◌<◌, ◌≤◌, nat_lt, nat_le, ◌==◌, min, Bool, true, false}
-use Rattle.std.proofs.Common.{◌&&◌, ◌||◌, not, is_some, List, [], ◌∷◌, map, Option, Some, None, slice_get, refl, sym, ap}
-use Rattle.std.proofs.Common.{subst, ◌∙◌, arith}
+use Rattle.std.proofs.Common.{◌&&◌, ◌||◌, not, is_some, List, [], ◌∷◌, map, Option, Some, None, slice_get}
+use Rattle.std.proofs.Common.{refl, sym, ap, subst, ◌∙◌, arith}
 use Rattle.std.specs.Prelude.{if◌then◌else◌}
 use Rattle.std.proofs.lemmas.Bool.{false≢true, and_parts, and_from, eqb-true, leb-true, le-leb, ltb-true}
 use Rattle.block_layout.specs.declared.kind.Shape.{Shape}
@@ -24,8 +24,8 @@ use Rattle.typing_rules.specs.Attributes.{base, object_at, element_address}
 use Rattle.typing_rules.specs.Values.{base_target, present}
 use Rattle.typing_rules.specs.Nodes as n
 use Rattle.typing_rules.specs.Nodes.{Attr, Use}
-use Rattle.typing_rules.specs.Rules.{table, judge, has_size, is_loose, is_loose_target, target, rule_15, rule_16, rule_18}
-use Rattle.typing_rules.specs.Rules.{points, moves, moves_loosely, mismatches, are_locks, targets_differ}
+use Rattle.typing_rules.specs.Rules.{table, judge, has_size, is_loose, is_loose_target, target, rule_15, rule_16}
+use Rattle.typing_rules.specs.Rules.{rule_18, points, moves, moves_loosely, mismatches, are_locks, targets_differ}
 use Rattle.typed_tree.specs.Tree.{attr_of, DeclaredObject}
 use Rattle.typed_tree.specs.Objects.{shared_in, type_of, object_of, placed_from}
 use Rattle.typed_tree.specs.Initials.{numbered}

@@ -30,7 +30,8 @@ give_brings V v h = record { by = λ σ i. (h, i, refl) }
 pub skip_brings : Brings (Unit {0}) Any skip
 skip_brings = give_brings Any tt tt
 
-pub over_brings : {A : Type 0} (V : A → Type 0) (m : Doing A) → ((σ : State) → Comes V σ.store.calls (m σ)) → Brings A V m
+pub over_brings : {A : Type 0} (V : A → Type 0) (m : Doing A) → ((σ : State) → Comes V σ.store.calls (m σ))
+    → Brings A V m
 over_brings V m h = record { by = λ σ i. h σ }
 
 pub first_brings : {A B : Type 0} (V : A → Type 0) (W : B → Type 0) (m : Doing A) (f : A → Doing B) → Brings A V m

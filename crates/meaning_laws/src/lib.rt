@@ -1,8 +1,8 @@
 //! What holds of the meaning of every program that meets the typing rules.
 #![tactic(auto)]
 
-ghost use Rattle.meaning_laws.specs.code.Laws.{BeginningsAreFilled, BodiesAreCounted, CellsKeep, ChangesFit, ConversionsFit};
-ghost use Rattle.meaning_laws.specs.code.Laws.{ChoicesAreTaken, ConversionsAreTaken, CopiesFit};
+ghost use Rattle.meaning_laws.specs.code.Laws.{BeginningsAreFilled, BodiesAreCounted, CellsKeep, ChangesFit};
+ghost use Rattle.meaning_laws.specs.code.Laws.{ChoicesAreTaken, ConversionsAreTaken, ConversionsFit, CopiesFit};
 ghost use Rattle.meaning_laws.specs.code.Laws.{ExpressionsKeepTypes, FunctionsKeepTypes, MainsKeepTypes};
 ghost use Rattle.meaning_laws.specs.code.Laws.{NamesAreFound, OperandsAreTaken, PrintedArePromoted, ScalarsAreKept};
 ghost use Rattle.meaning_laws.specs.code.Laws.{PhasesStay, SharedAreThere, SharedHaveShapes, SizesAreKnown};
@@ -89,8 +89,8 @@ pub fn scalars_are_kept()
     ensures { ScalarsAreKept }
 {}
 
-/// A call of the library with arguments of its parameters' types reads scalars of private cells, and writes to them what
-/// fits, where what it reads of cells fits them; and what is read of a cell fits it.
+/// A call of the library with arguments of its parameters' types reads scalars of private cells, and writes to them
+/// what fits, where what it reads of cells fits them; and what is read of a cell fits it.
 #[tactic(auto, using(crate::proofs::Copies::copies_fit))]
 pub fn copies_fit()
     ensures { CopiesFit }
@@ -127,15 +127,15 @@ pub fn shared_are_there()
     ensures { SharedAreThere }
 {}
 
-/// A pointer-to-shared that fits a cell keeps its phase where it is stepped, if the block of what it leads to is at most
-/// 16,777,216 elements.
+/// A pointer-to-shared that fits a cell keeps its phase where it is stepped, if the block of what it leads to is at
+/// most 16,777,216 elements.
 #[tactic(auto, using(crate::proofs::Layouts::phases_stay))]
 pub fn phases_stay()
     ensures { PhasesStay }
 {}
 
-/// A statement is left in the calls in which it was reached, each in as many controlling bodies; so a controlling body is
-/// left only where one was entered.
+/// A statement is left in the calls in which it was reached, each in as many controlling bodies; so a controlling body
+/// is left only where one was entered.
 #[tactic(auto, using(crate::proofs::Statements::bodies_are_counted))]
 pub fn bodies_are_counted()
     ensures { BodiesAreCounted }

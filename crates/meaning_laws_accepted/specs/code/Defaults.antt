@@ -98,9 +98,9 @@ module _ (ρ : Running) where
   ArePrinted c args = Unit {0}
 
   -- What comes of the arguments of a call of the library, whose value has this type, is what its parameters have, and
-  -- all threads may meet with it; what the call reads of private cells are then scalars, and what it writes to them fits
-  -- them; and the program has the shape of what the call allocates. printf has a format instead of parameters (UPC 7.2,
-  -- 7.3).
+  -- all threads may meet with it; what the call reads of private cells are then scalars, and what it writes to them
+  -- fits them; and the program has the shape of what the call allocates. printf has a format instead of parameters (UPC
+  -- 7.2, 7.3).
   pub record LibraryTakes (c : LibraryCall) (t : CType) (args : Exprs) : Type 0 where
     pub passed : ArePassed (call_parameters c) args
     pub given : is_printf c ≡ false → (calls : ℕ) (strict : Bool)
