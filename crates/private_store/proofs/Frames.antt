@@ -6,7 +6,8 @@ use Rattle.std.proofs.lemmas.List.{take_more, drop_all, get_or-drop, reverse-app
 use Rattle.std.proofs.lemmas.List.Elements.{All-drop}
 use Rattle.std.proofs.lemmas.Option.{slice_get-get_or}
 use Rattle.private_store.specs.declared.frame.Block.{Block}
-use Rattle.private_store.specs.Live.{Live, youngest, blocks_before, open_blocks, left_from, left}
+use Rattle.private_store.specs.Live.{Live, youngest, blocks_before, older, open_blocks, left_from, left, returned_from, returned}
+use Rattle.private_store.specs.declared.frame.Call.{Call}
 
 pub youngest_open : (blocks : List Block) (n : ℕ) → n < length blocks → youngest (drop n blocks) ≡ youngest blocks
 youngest_open [] n lt = absurd (omega arith)
@@ -25,6 +26,10 @@ pub left_is : (s : Live) (n : ℕ) (b : Block) → n ≡ blocks_before (youngest
 left_is s n b e lt some =
     let last : youngest (open_blocks s) ≡ Some b = ap (λ k. youngest (drop k s.blocks)) (sym e) ∙ youngest_open s.blocks n lt ∙ sym some in
     ap (λ o. left_from o s) last
+
+pub returned_is : (s : Live) (c : Call) → Some c ≡ youngest s.calls
+    → returned s ≡ record s { objects = take c.objects s.objects; blocks = take c.blocks s.blocks; calls = older s.calls }
+returned_is s c some = ap (λ o. returned_from o s) (sym some)
 
 -- ---- looking back
 

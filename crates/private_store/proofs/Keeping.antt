@@ -126,7 +126,7 @@ kept_taken objects blocks next space n m ended k e =
 
 -- ---- writing
 
-renumbered : (objects : List Thing) (i : ℕ) (z : Thing) (k : ℕ) (d : Thing) → i < length objects → z.number ≡ (get_or objects i d).number
+pub renumbered : (objects : List Thing) (i : ℕ) (z : Thing) (k : ℕ) (d : Thing) → i < length objects → z.number ≡ (get_or objects i d).number
     → (get_or (set objects i z) k d).number ≡ (get_or objects k d).number
 renumbered objects i z k d lt same =
     elim (cases_eq k i) [
@@ -159,6 +159,20 @@ kept_set (d ∷ ds) os blocks next space at place v k lt is =
     let x = get_or (d ∷ ds) at d in
     subst (λ l. IsKept l blocks next space) (sym (is d))
     (kept_put (d ∷ ds) blocks next space at x (set x.values place v) k lt (get_or_default (d ∷ ds) at d x lt))
+
+-- ---- how many live
+
+at_least : (things : List Thing) → AreNumbered things → (k : ℕ) (d : Thing) → k < length things → k ≤ (get_or things k d).number
+at_least things up ℕ.zero d lt = omega arith
+at_least things up (ℕ.suc k) d lt =
+    let h = at_least things up k d (omega arith) in
+    let u = up k (ℕ.suc k) d (omega arith) lt in omega arith
+
+pub few_objects : (things : List Thing) (next : ℕ) → AreNumbered things → All (λ x. x.number < next) things → length things ≤ next
+few_objects [] next up below = omega arith
+few_objects (x ∷ xs) next up below =
+    let h = at_least (x ∷ xs) up (length xs) x (omega arith) in
+    let b = below (length xs) x (omega arith) in omega arith
 
 -- ---- beginning
 

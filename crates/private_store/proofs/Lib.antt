@@ -7,3 +7,4 @@ pub mod Things
 pub mod CellKinds
 pub mod Keeping
 pub mod Frames
+pub mod Straight

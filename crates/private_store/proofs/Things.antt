@@ -1,5 +1,5 @@
 -- Which live object has a number, and what an access reaches and changes.
-use Rattle.std.proofs.Common.{◌≡◌, ◌≢◌, ℕ, ◌<◌, ◌≤◌, ℤ, Bool, true, false, ◌==◌, nat_lt, cond, if◌then◌else◌, List, [], ◌∷◌, length, map, get_or, set, slice_set, slice_get, Option, Some, None, option_map, Result, Ok, Err, refl, sym, ap, ◌∙◌, arith}
+use Rattle.std.proofs.Common.{◌≡◌, ◌≢◌, ℕ, ◌<◌, ◌≤◌, ℤ, pos, Bool, true, false, ◌==◌, nat_lt, cond, if◌then◌else◌, List, [], ◌∷◌, length, map, get_or, set, slice_set, slice_get, Option, Some, None, option_map, Result, Ok, Err, refl, sym, ap, ◌∙◌, arith}
 use Rattle.std.specs.List.{position, position_or_len}
 use Rattle.std.proofs.lemmas.Bool.Decides.{nat_tests}
 use Rattle.std.proofs.lemmas.List.{get_or_default}
@@ -146,5 +146,40 @@ loaded_is p k s at v r is = by s.objects refl
       where
         ok : Value → Result Value ℕ
         ok u = Ok u
+
+-- ---- the first byte of the object at a place
+
+module _ (s : Live) (up : AreNumbered s.objects) (at : ℕ) (lt : at < length s.objects) (k : Kind) where
+  at_place : (d : Thing) → Some at ≡ position (λ y. y.number == (get_or s.objects at d).number) s.objects
+  at_place d =
+      thing_here s.objects (get_or s.objects at d).number up at (get_or s.objects at d).number lt
+      (λ e. ap (λ (y : Thing). y.number) (get_or_default s.objects at d e lt)) refl
+
+  refused_at : (code : ℕ) → ((d : Thing) → cell_in (Some (get_or s.objects at d)) (pos 0) k ≡ Err code)
+      → (d : Thing) → reached (local.Private (get_or s.objects at d).number (pos 0)) k s.objects ≡ Err code
+  refused_at code out d = reached_err s.objects (get_or s.objects at d).number (pos 0) k at code (at_place d) out
+
+  reaches_at : (place : ℕ) → ((d : Thing) → IsPlace (get_or s.objects at d) (pos 0) k (Ok place))
+      → (d : Thing) → Reaches s.objects (local.Private (get_or s.objects at d).number (pos 0)) k (at, place)
+  reaches_at place is d = reached_ok s.objects (get_or s.objects at d).number (pos 0) k at place (at_place d) is
+
+  pub unloaded_at : (code : ℕ) → ((d : Thing) → cell_in (Some (get_or s.objects at d)) (pos 0) k ≡ Err code)
+      → (d : Thing) → Err code ≡ loaded (local.Private (get_or s.objects at d).number (pos 0)) k s
+  unloaded_at code out d = rw (refused_at code out d) refl
+
+  pub loaded_at : (place : ℕ) (v : Value) → ((d : Thing) → IsPlace (get_or s.objects at d) (pos 0) k (Ok place))
+      → ((d : Thing) (e : Value) → v ≡ get_or (get_or s.objects at d).values place e)
+      → (d : Thing) → Ok v ≡ loaded (local.Private (get_or s.objects at d).number (pos 0)) k s
+  loaded_at place v is value d = loaded_is (local.Private (get_or s.objects at d).number (pos 0)) k s (at, place) v (reaches_at place is d) value
+
+  pub unstored_at : (code : ℕ) (v : Value) → ((d : Thing) → cell_in (Some (get_or s.objects at d)) (pos 0) k ≡ Err code)
+      → (d : Thing) → stored (local.Private (get_or s.objects at d).number (pos 0)) k v s ≡ Err code
+  unstored_at code v out d = rw (refused_at code out d) refl
+
+  pub stored_at : (place : ℕ) (v : Value) (os : List Thing) → ((d : Thing) → IsPlace (get_or s.objects at d) (pos 0) k (Ok place))
+      → ((d : Thing) → let x = get_or s.objects at d in os ≡ set s.objects at (record x { values = slice_set x.values place v }))
+      → (d : Thing) → stored (local.Private (get_or s.objects at d).number (pos 0)) k v s ≡ Ok (record s { objects = os })
+  stored_at place v os is written d =
+      stored_is (local.Private (get_or s.objects at d).number (pos 0)) k v s (at, place) os up (reaches_at place is d) written
 
 pub ruleset finding_things = (no_thing, a_thing)

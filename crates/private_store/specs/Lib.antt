@@ -2,3 +2,4 @@ pub mod Live
 pub mod Cells
 pub mod Beginnings
 pub mod code
+pub mod layer

@@ -7,6 +7,7 @@ ghost use Rattle.block_layout.specs.Shapes.{IsShape};
 ghost use Rattle.upc_values.specs.Lists.{Each};
 ghost use Rattle.private_store.specs.Live as live;
 ghost use Rattle.private_store.specs.Live.{youngest, bytes_of, bytes_in, blank_things};
+ghost use Rattle.private_store.specs.code.Straight.{recounted_calls};
 
 use crate::frame::{Block, Call};
 use crate::object_list::ObjectList;
@@ -116,6 +117,15 @@ pub(crate) fn controls_of(calls: &[Call]) -> u64
     match calls.last() {
         None => 0,
         Some(call) => call.controls,
+    }
+}
+
+/// The youngest call is in so many controlling bodies.
+pub(crate) fn recount(calls: &mut Vec<Call>, count: u64)
+    ensures { calls.new.items ≡ recounted_calls (youngest calls.old.items) count calls.old.items }
+{
+    if let Some(call) = calls.last_mut() {
+        call.controls = count;
     }
 }
 

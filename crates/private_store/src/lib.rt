@@ -7,6 +7,7 @@ mod blocks;
 mod finding;
 mod frame;
 mod held;
+mod marks;
 mod object;
 mod object_list;
 mod row_shapes;

@@ -1,6 +1,7 @@
 //! The live objects, with one list of the values of all.
 
-ghost use Rattle.std.specs.Prelude.{◌≡◌, ◌+◌, ◌<◌, ◌≤◌, ◌∷◌, ◌++◌, ◌==◌, [], true, length, take, slice_index_or, slice_set};
+ghost use Rattle.std.specs.Prelude.{◌≡◌, ◌+◌, ◌<◌, ◌≤◌, ◌∷◌, ◌++◌, ◌==◌, [], true, length, take};
+ghost use Rattle.std.specs.Prelude.{slice_index_or, slice_set};
 ghost use Rattle.std.specs.Prelude.{OnOk, OnErr};
 ghost use Rattle.std.specs.List.{position};
 ghost use Rattle.block_layout.specs.Shapes.{IsShape};
@@ -103,7 +104,8 @@ impl ObjectList {
     pub(crate) fn get(&self, at: usize, place: usize, kind: Kind) -> Value
         requires there { at < length self.now }
         requires cell { (d : Thing) → CellIs (slice_index_or self.now at d).shape.cells place kind }
-        ensures value { (d : Thing) (e : Value) → result ≡ slice_index_or (slice_index_or self.now at d).values place e }
+        ensures value { (d : Thing) (e : Value)
+            → result ≡ slice_index_or (slice_index_or self.now at d).values place e }
         ensures fits { shapes.value_fits result kind ≡ true }
     {
         self.held[self.list[at].first + place].value()

@@ -135,7 +135,8 @@ pub(crate) fn known_place(
 /// The place of the cell that an access reaches in a row of its kind, or the code of the run error.
 #[inline(always)]
 pub(crate) fn place_in_row(kind: Kind, size: u32, offset: i64) -> Result<usize, u8>
-    ensures { (x : Thing) (n : ℕ) → x.shape ≡ row_shape kind n → size ≡ x.shape.size → IsPlace x offset kind result }
+    ensures { (x : Thing) (n : ℕ) → x.shape ≡ row_shape kind n → size ≡ x.shape.size
+        → IsPlace x offset kind result }
 {
     let width = kind.size();
     match byte_at(offset, width, size) {

@@ -2,6 +2,7 @@
 
 ghost use Rattle.std.specs.Prelude.{◌≡◌, ◌+◌, ◌-◌, ◌<◌, ◌≤◌, ◌^◌, ◌⊎◌, ◌↔◌, ◌++◌, ◌==◌, nat_lt, true, length, IsTrue};
 ghost use Rattle.std.specs.Prelude.{IfOk, IfErr, IfSome, IsErrOf, OnOk, OnErr, option_map, option_copied};
+ghost use Rattle.std.specs.Prelude.{slice_index_or};
 ghost use Rattle.block_layout.specs.Shapes.{IsShape};
 ghost use Rattle.upc_values.specs.Lists.{Each};
 ghost use Rattle.upc_values.specs.Shapes as shapes;
@@ -9,13 +10,17 @@ ghost use Rattle.private_store.specs.Live.{thing, bytes_of, bytes_in, entered, l
 ghost use Rattle.private_store.specs.Live.{recounted, local_number};
 ghost use Rattle.private_store.specs.Beginnings.{IsBeginning, begun, blank};
 ghost use Rattle.private_store.specs.Cells.{loaded, stored, IsPrivate};
+ghost use Rattle.private_store.specs.layer.Locals.{IsStored, IsStoredBy, first_byte, local_loaded};
+ghost use Rattle.private_store.specs.Live.{Thing};
+ghost use Rattle.private_store.specs.code.Straight.{IsNamed};
 
 use crate::beginning::cell_kind;
 use crate::blocks::{
-    add_block, add_objects, blocks_before, controls_of, end_objects, fit, innermost_from,
+    add_block, add_objects, blocks_before, controls_of, end_objects, fit, innermost_from, recount,
 };
 use crate::finding::{object_place, reach};
 use crate::frame::{Block, Call};
+use crate::marks::{Mark, back_to, mark_of, names_with};
 use crate::object_list::ObjectList;
 use block_layout::run_error::{DEPTH, PRIVATE_SPACE};
 use block_layout::{Kind, LocalPtr, Shape, limits};
@@ -42,11 +47,16 @@ pub struct Store {
     calls: Vec<Call>,
     next: u64,
     space: usize,
+    // So many names of the youngest call stand for objects one by one, from this place on.
+    straight: usize,
+    base: usize,
+    // How that was when each block was entered and each call began.
+    marks: Vec<Mark>,
 }
 
 impl Model for Store {
     ghost use Rattle.private_store.specs.Live.{Live};
-    ghost use Rattle.private_store.specs.code.Kept.{IsKept};
+    ghost use Rattle.private_store.specs.code.Straight.{IsStanding};
 
     ghost Value = { Live };
 
@@ -57,7 +67,9 @@ impl Model for Store {
       next = s.next;
     } };
 
-    ghost invariant = { λ s. IsKept s.objects s.blocks.items s.next s.space };
+    ghost invariant = { λ s. IsStanding
+        (record { objects = s.objects; blocks = s.blocks.items; calls = s.calls.items; next = s.next })
+        s.space s.straight s.base s.marks.items };
 }
 
 // The file-scope objects of these shapes, numbered from 0, with 0 or null in each cell.
@@ -76,6 +88,9 @@ fn blank_store(alloc: Global, shapes: &[Shape]) -> Result<Store, OutOfMemory>
         calls: Vec::new(alloc),
         next: shapes.len() as u64,
         space,
+        straight: 0,
+        base: 0,
+        marks: Vec::new(alloc),
     })
 }
 
@@ -114,7 +129,6 @@ impl Store {
     /// number. `from` is how many objects of the function were in scope before. Numbers rise and none is used again;
     /// where too few are left the answer is `Memory`. Where the live bytes would pass `MOST_BYTES` it is
     /// `PRIVATE_SPACE`.
-    #[tactic(auto, using(crate::proofs::Keeping::kept_entered))]
     pub fn enter(&mut self, from: u32, shapes: &[Shape]) -> Result<u64, Refused>
         requires { Each IsShape shapes.now }
         ensures first { IfOk result (λ first. first ≡ self.old.next) }
@@ -130,6 +144,15 @@ impl Store {
         if shapes.len() as u64 > MOST_OBJECTS - self.next {
             return Err(Refused::Memory);
         }
+        let mark = mark_of(
+            self.straight,
+            self.base,
+            &self.calls,
+            &self.blocks,
+            &self.objects,
+        );
+        self.marks.push(mark)?;
+        let names = names_with(&mark, from, shapes.len());
         let block = Block {
             from,
             first: self.next,
@@ -146,19 +169,22 @@ impl Store {
             Ok(bytes) => {
                 self.next += shapes.len() as u64;
                 self.space += bytes;
+                self.straight = names;
                 Ok(block.first)
             }
         }
     }
 
     /// Leaves the youngest block of the youngest call: its objects end. Where none is open nothing changes.
-    #[tactic(auto, using(crate::proofs::Keeping::kept_taken))]
     pub fn leave(&mut self)
         ensures { self.new ≡ left self.old }
     {
         if blocks_before(&self.calls) < self.blocks.len() {
             if let Some(block) = self.blocks.pop() {
                 self.space -= end_objects(&mut self.objects, block.objects);
+                let back = back_to(&mut self.marks, &self.objects, &self.blocks, &self.calls);
+                self.straight = back.names;
+                self.base = back.base;
             }
         }
     }
@@ -173,23 +199,35 @@ impl Store {
         if self.calls.len() >= MOST_CALLS {
             return Err(Refused::Error(DEPTH));
         }
+        let mark = mark_of(
+            self.straight,
+            self.base,
+            &self.calls,
+            &self.blocks,
+            &self.objects,
+        );
+        self.marks.push(mark)?;
         let call = Call {
             controls: controls_of(&self.calls),
             blocks: self.blocks.len(),
             objects: self.objects.len(),
         };
         self.calls.push(call)?;
+        self.straight = 0;
+        self.base = self.objects.len();
         Ok(())
     }
 
     /// Ends the youngest call, with its blocks and their objects. Where none is active nothing changes.
-    #[tactic(auto, using(crate::proofs::Keeping::kept_taken))]
     pub fn pop_call(&mut self)
         ensures { self.new ≡ returned self.old }
     {
         if let Some(call) = self.calls.pop() {
             self.space -= end_objects(&mut self.objects, call.objects);
             self.blocks.truncate(call.blocks);
+            let back = back_to(&mut self.marks, &self.objects, &self.blocks, &self.calls);
+            self.straight = back.names;
+            self.base = back.base;
         }
     }
 
@@ -227,15 +265,120 @@ impl Store {
         }
     }
 
+    // The place of the object that the `n`th local name in scope stands for, where that is known by the name.
+    #[inline(always)]
+    fn straight_place(&self, n: u32) -> Option<usize>
+        ensures { IfSome result (λ at. IsNamed self.now n at) }
+    {
+        let name = n as usize;
+        if name < self.straight {
+            Some(self.base + name)
+        } else {
+            None
+        }
+    }
+
+    // The number of the object that the `n`th local name in scope stands for, whichever it is.
+    #[inline(never)]
+    fn other_local(&self, n: u32) -> Option<u64>
+        ensures { result ≡ local_number n self.now }
+    {
+        match innermost_from(&self.blocks, blocks_before(&self.calls), n) {
+            None => None,
+            Some(block) => Some(block.first + u64::from(n - block.from)),
+        }
+    }
+
     /// The number of the object that the `n`th local name in scope stands for, None where no open block of the youngest
     /// call was entered with at most `n` names in scope.
     #[inline(always)]
     pub fn local(&self, n: u32) -> Option<u64>
         ensures { result ≡ local_number n self.now }
     {
-        match innermost_from(&self.blocks, blocks_before(&self.calls), n) {
+        match self.straight_place(n) {
+            None => self.other_local(n),
+            Some(at) => Some(self.objects.number(at)),
+        }
+    }
+
+    // What `load` gives for the first byte of the object at a place.
+    #[inline(always)]
+    fn load_at(&self, at: usize, kind: Kind) -> Result<Value, u8>
+        requires { at < length self.now.objects }
+        ensures value { (d : Thing) → let p = first_byte (slice_index_or self.now.objects at d).number in
+            result ≡ loaded p kind self.now }
+        ensures fits { IfOk result (λ v. shapes.value_fits v kind ≡ true) }
+    {
+        match self.objects.place(at, 0, kind) {
+            Err(code) => Err(code),
+            Ok(place) => Ok(self.objects.get(at, place, kind)),
+        }
+    }
+
+    // What `store` does at the first byte of the object at a place.
+    #[inline(always)]
+    fn store_at(&mut self, at: usize, kind: Kind, v: Value) -> Result<(), u8>
+        requires there { at < length self.old.objects }
+        requires fits { shapes.value_fits v kind ≡ true }
+        ensures { (d : Thing) → let p = first_byte (slice_index_or self.old.objects at d).number in
+            IsStored result p kind v self.old self.new }
+    {
+        match self.objects.place(at, 0, kind) {
+            Err(code) => Err(code),
+            Ok(place) => {
+                self.objects.set(at, place, kind, v);
+                Ok(())
+            }
+        }
+    }
+
+    // The same as `load_local` for any name.
+    #[inline(never)]
+    fn load_other(&self, n: u32, kind: Kind) -> Option<Result<Value, u8>>
+        ensures value { result ≡ local_loaded n kind self.now }
+        ensures fits { IfSome result (λ r. IfOk r (λ v. shapes.value_fits v kind ≡ true)) }
+    {
+        match self.other_local(n) {
             None => None,
-            Some(block) => Some(block.first + u64::from(n - block.from)),
+            Some(object) => Some(self.load(&LocalPtr::Private { object, offset: 0 }, kind)),
+        }
+    }
+
+    // The same as `store_local` for any name.
+    #[inline(never)]
+    fn store_other(&mut self, n: u32, kind: Kind, v: Value) -> Option<Result<(), u8>>
+        requires { shapes.value_fits v kind ≡ true }
+        ensures { IsStoredBy result (local_number n self.old) kind v self.old self.new }
+    {
+        match self.other_local(n) {
+            None => None,
+            Some(object) => Some(self.store(&LocalPtr::Private { object, offset: 0 }, kind, v)),
+        }
+    }
+
+    /// What `load` gives for the first byte of the object that the `n`th local name in scope stands for, None exactly
+    /// where there is no such object. A name that is straight is not looked for.
+    #[inline(always)]
+    pub fn load_local(&self, n: u32, kind: Kind) -> Option<Result<Value, u8>>
+        ensures value { result ≡ local_loaded n kind self.now }
+        ensures fits { IfSome result (λ r. IfOk r (λ v. shapes.value_fits v kind ≡ true)) }
+    {
+        match self.straight_place(n) {
+            None => self.load_other(n, kind),
+            Some(at) => Some(self.load_at(at, kind)),
+        }
+    }
+
+    /// What `store` does at the first byte of the object that the `n`th local name in scope stands for, None exactly
+    /// where there is no such object. It takes no memory.
+    #[inline(always)]
+    pub fn store_local(&mut self, n: u32, kind: Kind, v: Value) -> Option<Result<(), u8>>
+        requires { shapes.value_fits v kind ≡ true }
+        ensures { IsStoredBy result (local_number n self.old) kind v self.old self.new }
+    {
+        match self.straight_place(n) {
+            None => self.store_other(n, kind, v),
+            Some(at) => Some(self.store_at(at, kind, v)),
         }
     }
 
@@ -251,24 +394,19 @@ impl Store {
         ensures ok { OnOk result (self.new ≡ recounted (controls self.old + 1) self.old) }
         ensures err { OnErr result (self.new ≡ self.old) }
     {
-        match self.calls.last_mut() {
-            None => Ok(()),
-            Some(call) => {
-                if call.controls == u64::MAX {
-                    return Err(OutOfMemory);
-                }
-                call.controls += 1;
-                Ok(())
-            }
+        let count = controls_of(&self.calls);
+        if count == u64::MAX {
+            return Err(OutOfMemory);
         }
+        recount(&mut self.calls, count + 1);
+        Ok(())
     }
 
     /// The youngest call leaves one such body. Where it is in none nothing changes.
     pub fn release(&mut self)
         ensures { self.new ≡ recounted (controls self.old - 1) self.old }
     {
-        if let Some(call) = self.calls.last_mut() {
-            call.controls = call.controls.saturating_sub(1);
-        }
+        let count = controls_of(&self.calls);
+        recount(&mut self.calls, count.saturating_sub(1));
     }
 }

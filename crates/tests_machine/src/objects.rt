@@ -234,6 +234,67 @@ fn local_names_count_objects_in_scope(rt: HostRuntime) -> Result<(), Fail> {
     Ok(())
 }
 
+// What an int holds that a local name stands for.
+fn int_of(store: &Store, n: u32) -> Option<Result<Value, u8>> {
+    store.load_local(n, Kind::Int)
+}
+
+// The answer of a local name that stands for this int.
+const fn holds(n: i128) -> Option<Result<Value, u8>> {
+    Some(Ok(Value::Scalar(Scalar::Int(n))))
+}
+
+// A store where name 0 is of the outer block, which declares a second object behind the inner block. In the inner block
+// name 1 is its own; in the outer block it is the second object.
+fn nested(alloc: Global) -> Result<Store, Fail> {
+    let mut store = Store::make(alloc, &[], &[])?;
+    store.push_call()?;
+    let outer = enter_two(&mut store, alloc, 0)?;
+    let inner = enter_row(&mut store, alloc, 1, Kind::Int, 1)?;
+    if outer.is_err() || inner.is_err() {
+        return Err(Fail::from(OutOfMemory));
+    }
+    Ok(store)
+}
+
+#[test]
+fn locals_are_found_by_name(rt: HostRuntime) -> Result<(), Fail> {
+    let alloc = rt.alloc();
+    let mut store = nested(alloc)?;
+    let seven = Value::Scalar(Scalar::Int(7));
+    let eight = Value::Scalar(Scalar::Int(8));
+    assert_eq!(rt; store.store_local(0, Kind::Int, seven), Some(Ok(())));
+    assert_eq!(rt; store.store_local(1, Kind::Int, eight), Some(Ok(())));
+    assert_eq!(rt; int_of(&store, 0), holds(7));
+    assert_eq!(rt; int_of(&store, 1), holds(8));
+    assert_eq!(rt; int_at(&store, 2, 0), Ok(8));
+    store.leave();
+    assert_eq!(rt; int_of(&store, 0), holds(7));
+    assert_eq!(rt; int_of(&store, 1), holds(0));
+    Ok(())
+}
+
+#[test]
+fn locals_of_a_call_are_its_own(rt: HostRuntime) -> Result<(), Fail> {
+    let alloc = rt.alloc();
+    let mut store = nested(alloc)?;
+    let seven = Value::Scalar(Scalar::Int(7));
+    store.push_call()?;
+    assert_eq!(rt; int_of(&store, 0), None);
+    assert_eq!(rt; store.store_local(0, Kind::Int, seven), None);
+    assert_eq!(rt; enter_row(&mut store, alloc, 0, Kind::Char, 1)?, Ok(3));
+    assert_eq!(rt; int_of(&store, 0), Some(Err(PRIVATE_RANGE)));
+    assert_eq!(rt;
+        store.store_local(0, Kind::Int, seven),
+        Some(Err(PRIVATE_RANGE))
+    );
+    store.pop_call();
+    assert_eq!(rt; store.store_local(0, Kind::Int, seven), Some(Ok(())));
+    assert_eq!(rt; int_at(&store, 0, 0), Ok(7));
+    assert_eq!(rt; store.local(1), Some(2));
+    Ok(())
+}
+
 #[test]
 fn calls_inherit_controls(rt: HostRuntime) -> Result<(), Fail> {
     let mut store = Store::make(rt.alloc(), &[], &[])?;
