@@ -252,7 +252,7 @@ ended 100, ticks 5
     Row {
         source: b"shared int a[4]; strict shared int s; int main(void) { int i; int j; int n = 0; \
 upc_notify 3; upc_wait 3; upc_barrier 4; upc_fence; \
-upc_forall (i = 0; i < 4; i++; i) upc_forall (j = 0; j < 2; j++; j) n++; \
+upc_forall (i = 0; i < 4; i++; i) upc_forall (j = 0; j < 2; j++; j) n += 1; \
 s = n; a[3] = s; printf(\"%d\\n\", (int)upc_threadof(&a[3])); return MYTHREAD; }",
         made: Made::Whole,
         threads: 2,
