@@ -16,7 +16,7 @@ use Rattle.block_layout.specs.declared.place.LocalPtr.TheVariants as local
 use Rattle.upc_values.specs.declared.scalar.Value.{Value}
 use Rattle.private_store.specs.Cells.{loaded}
 use Rattle.private_store.specs.Live.{Live, Thing, blank_things, blocks_before, bytes_in, bytes_of, local_number, recounted, recounted_from, youngest}
-use Rattle.private_store.specs.layer.Locals.{IsStored, IsStoredBy}
+use Rattle.private_store.specs.code.Locals.{IsStored, IsStoredBy}
 use Rattle.private_store.specs.code.Straight.{AreMarked, IsBack, IsNamed, IsNames, IsStanding, IsStraight, IsWithin, here, name_in, recounted_calls}
 use Rattle.private_store.proofs.Keeping.{blank_length, blank_number, few_objects, kept_entered, kept_set, kept_taken, renumbered}
 

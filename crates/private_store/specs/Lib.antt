@@ -2,4 +2,3 @@ pub mod Live
 pub mod Cells
 pub mod Beginnings
 pub mod code
-pub mod layer

@@ -1,4 +1,5 @@
 pub mod Kept
 pub mod Held
 pub mod Laid
+pub mod Locals
 pub mod Straight

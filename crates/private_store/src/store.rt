@@ -10,7 +10,7 @@ ghost use Rattle.private_store.specs.Live.{thing, bytes_of, bytes_in, entered, l
 ghost use Rattle.private_store.specs.Live.{recounted, local_number};
 ghost use Rattle.private_store.specs.Beginnings.{IsBeginning, begun, blank};
 ghost use Rattle.private_store.specs.Cells.{loaded, stored, IsPrivate};
-ghost use Rattle.private_store.specs.layer.Locals.{IsStored, IsStoredBy, first_byte, local_loaded};
+ghost use Rattle.private_store.specs.code.Locals.{IsStored, IsStoredBy, first_byte, local_loaded};
 ghost use Rattle.private_store.specs.Live.{Thing};
 ghost use Rattle.private_store.specs.code.Straight.{IsNamed};
 
