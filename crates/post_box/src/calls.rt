@@ -23,8 +23,12 @@ const DONE: u64 = 3;
 const DISMISSED: u64 = 4;
 
 impl<W: Work> PostBox<W> {
-    /// A box for this work, with its two places.
-    pub fn make(alloc: Global, work: &W) -> Result<(PostBox<W>, Owner<W>, Doer<W>), OutOfMemory>
+    /// A box for this work, with its two places. Each looks so many times before it sleeps.
+    pub fn make(
+        alloc: Global,
+        work: &W,
+        looks: u32,
+    ) -> Result<(PostBox<W>, Owner<W>, Doer<W>), OutOfMemory>
         ensures work { IfOk result (λ r. work_of r.0 ≡ work.now) }
         ensures places { IfOk result (λ r. IsIdle r.0 r.1 × IsFree r.0 r.2) }
     {
@@ -36,7 +40,11 @@ impl<W: Work> PostBox<W> {
         table.shared.load::<Begin>(&mut first, 0);
         let place = table.shared.split_seat::<Deal>(&mut first);
         let post = PostBox { table };
-        Ok((post, Owner { place: first }, Doer { place }))
+        let owner = Owner {
+            place: first,
+            looks,
+        };
+        Ok((post, owner, Doer { place, looks }))
     }
 
     /// Posts an item. The number goes with it.
@@ -54,9 +62,7 @@ impl<W: Work> PostBox<W> {
     }
 
     /// Waits for an item, and takes it. After the owner has dismissed the doer there is none.
-    ///
-    /// It looks this many times before it sleeps.
-    pub fn take<R: Wait>(&self, rt: &R, doer: &mut Doer<W>, looks: u32) -> Option<(W::Item, u64)>
+    pub fn take<R: Wait>(&self, rt: &R, doer: &mut Doer<W>) -> Option<(W::Item, u64)>
         requires { IsFree self.now doer.old }
         ensures some { IfSome result (λ r. HasItem self.now doer.new r.0 × W.takes (work_of self.now) r.0) }
         ensures none { IfNone result (IsFree self.now doer.new) }
@@ -76,7 +82,7 @@ impl<W: Work> PostBox<W> {
                     return Some(posted);
                 }
             } else {
-                self.pause(rt, found, looked, looks);
+                self.pause(rt, found, looked, doer.looks);
                 looked = looked.saturating_add(1);
             }
         }
@@ -96,8 +102,8 @@ impl<W: Work> PostBox<W> {
         shared.wake_one(0);
     }
 
-    /// Waits until the item that was posted is given back, and has it. It looks this many times before it sleeps.
-    pub fn back<R: Wait>(&self, rt: &R, owner: &mut Owner<W>, looks: u32) -> W::Item
+    /// Waits until the item that was posted is given back, and has it.
+    pub fn back<R: Wait>(&self, rt: &R, owner: &mut Owner<W>) -> W::Item
         requires { (x : W.Item) × WaitsFor self.now owner.old x }
         ensures idle { IsIdle self.now owner.new }
         ensures did { (x : W.Item) → WaitsFor self.now owner.old x → W.did (work_of self.now) x result }
@@ -114,7 +120,7 @@ impl<W: Work> PostBox<W> {
                     return item;
                 }
             } else {
-                self.pause(rt, found, looked, looks);
+                self.pause(rt, found, looked, owner.looks);
                 looked = looked.saturating_add(1);
             }
         }

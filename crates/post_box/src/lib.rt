@@ -4,8 +4,10 @@
 mod calls;
 mod plays;
 mod post;
+mod row;
 mod view;
 mod work;
 
 pub use post::{Doer, Owner, PostBox};
+pub use row::{Row, dismiss_all, make_row, post_all};
 pub use work::Work;

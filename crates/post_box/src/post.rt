@@ -7,16 +7,6 @@ use crate::work::Work;
 use atomic_table::{Seat, Table};
 use std::alloc::Global;
 
-pub(crate) type Board<W> = Table<
-    Option<(<W as Work>::Item, u64)>,
-    View<<W as Work>::Item, W>,
-    W,
-    Law,
-    Global,
->;
-
-pub(crate) type Place<W> = Seat<Option<(<W as Work>::Item, u64)>, View<<W as Work>::Item, W>>;
-
 /// A box between two threads, for one item at a time.
 #[derive(Drop)]
 pub struct PostBox<W: Work> {
@@ -24,14 +14,16 @@ pub struct PostBox<W: Work> {
     ghost sized: { (table.shared.table_id.words ≡ 1) × (table.shared.table_id.slots ≡ 1) },
 }
 
-/// The place of the thread that posts items and has them back. It has no bytes.
+/// The place of the thread that posts items and has them back, and how often it looks before it sleeps.
 #[derive(Drop)]
 pub struct Owner<W: Work> {
     pub(crate) place: Seat<Option<(W::Item, u64)>, View<W::Item, W>>,
+    pub(crate) looks: u32,
 }
 
-/// The place of the thread that takes items, works on them and gives them back. It has no bytes.
+/// The place of the thread that takes items, works on them and gives them back, and how often it looks before it sleeps.
 #[derive(Drop)]
 pub struct Doer<W: Work> {
     pub(crate) place: Seat<Option<(W::Item, u64)>, View<W::Item, W>>,
+    pub(crate) looks: u32,
 }
